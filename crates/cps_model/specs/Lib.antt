@@ -1,0 +1,11 @@
+pub mod Values
+pub mod Within
+pub mod Booleans
+pub mod Meaning
+pub mod Solutions
+pub mod Reach
+pub mod Start
+pub mod Statuses
+pub mod Rules
+pub mod Validity
+pub mod Ready

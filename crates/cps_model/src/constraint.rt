@@ -1,0 +1,34 @@
+//! A constraint and the kinds that there are.
+use crate::listed::Listed;
+use crate::text::Text;
+
+/// What a constraint demands. Literals and variables are given by references.
+#[derive(Debug, Drop)]
+pub enum Kind {
+    /// Nothing.
+    Empty,
+    /// At least one literal is true.
+    BoolOr(Listed<i32>),
+    /// Every literal is true.
+    BoolAnd(Listed<i32>),
+    /// At most one position has a true literal.
+    AtMostOne(Listed<i32>),
+    /// Exactly one position has a true literal.
+    ExactlyOne(Listed<i32>),
+    /// An odd number of positions have a true literal.
+    BoolXor(Listed<i32>),
+    /// The sum of coefficients times values lies in the domain, a list of bounds that is nowhere where it is empty.
+    Linear {
+        vars: Listed<i32>,
+        coeffs: Listed<i64>,
+        domain: Listed<i64>,
+    },
+}
+
+/// A constraint, in force where all its enforcement literals are true.
+#[derive(Debug, Drop)]
+pub struct Constraint {
+    pub name: Text,
+    pub enforcement: Listed<i32>,
+    pub kind: Kind,
+}
