@@ -19,34 +19,54 @@ use Rattle.cps_port.specs.declared.part.Part.{Part}
 use Rattle.cps_port.specs.Order.{BoundLe, IsBelow, lesser, greater}
 use Rattle.cps_port.specs.Incumbents.{IsAttained, IsIncumbent}
 use Rattle.cps_port.specs.Entries.{most_atoms, entry_clause, IsShareable}
-use Rattle.cps_port.specs.Parts.{newcomer, with_row, with_past, with_mine, with_taken, with_misses, after_upper, after_lower, after_offer, after_raise}
+use Rattle.cps_port.specs.Parts.{no_rows, no_bounds, with_row, with_past, with_mine, with_taken, with_misses, after_upper, after_lower, after_offer, after_raise}
+
+-- the board: an entry for each row that is published, and none for each other row; how many rows were drawn, with the draws
+-- past the last row; and what each actor knows of it
+pub record BoardState : Type 0 where
+  pub rows : List (Option Entry)
+  pub next : ℕ
+  pub parts : List BoardPart
+
+-- the two bounds, and what each actor knows of them
+pub record BoundsState : Type 0 where
+  pub upper : Bound
+  pub lower : Bound
+  pub parts : List BoundsPart
 
 pub record Core : Type 0 where
   pub model : CpModel
-  -- an entry for each row that is published, and none for each other row
-  pub rows : List (Option Entry)
-  -- how many rows were drawn, with the draws past the last row
-  pub next : ℕ
-  pub upper : Bound
-  pub lower : Bound
-  pub actors : List Part
+  pub board : BoardState
+  pub bounds : BoundsState
 
 abbrev pub first_core : CpModel → ℕ → ℕ → Core
-first_core m actors rows =
-    record { model = m; rows = replicate rows None; next = 0; upper = Infinite; lower = At (objective_start m); actors = replicate actors newcomer }
+first_core m actors rows = record {
+  model = m;
+  board = record { rows = replicate rows None; next = 0; parts = replicate actors no_rows };
+  bounds = record { upper = Infinite; lower = At (objective_start m); parts = replicate actors no_bounds };
+}
 
--- an actor's part; an actor that is none has the part of a newcomer
+-- what an actor knows; an actor that is none knows what a newcomer knows
+abbrev pub board_part : BoardState → ℕ → BoardPart
+board_part b actor = slice_index_or b.parts actor no_rows
+
+abbrev pub bounds_part : BoundsState → ℕ → BoundsPart
+bounds_part s actor = slice_index_or s.parts actor no_bounds
+
 abbrev pub part_at : Core → ℕ → Part
-part_at c actor = slice_index_or c.actors actor newcomer
+part_at c actor = record { board = board_part c.board actor; bounds = bounds_part c.bounds actor }
 
-abbrev pub row_at : Core → ℕ → Option Entry
-row_at c row = slice_index_or c.rows row None
+abbrev pub actor_count : Core → ℕ
+actor_count c = length c.board.parts
 
-abbrev pub with_board : Core → ℕ → BoardPart → Core
-with_board c actor p = record c { actors = slice_set c.actors actor (record (part_at c actor) { board = p }) }
+abbrev pub row_at : BoardState → ℕ → Option Entry
+row_at b row = slice_index_or b.rows row None
 
-abbrev pub with_bounds : Core → ℕ → BoundsPart → Core
-with_bounds c actor p = record c { actors = slice_set c.actors actor (record (part_at c actor) { bounds = p }) }
+abbrev pub with_board : BoardState → ℕ → BoardPart → BoardState
+with_board b actor p = record b { parts = slice_set b.parts actor p }
+
+abbrev pub with_bounds : BoundsState → ℕ → BoundsPart → BoundsState
+with_bounds s actor p = record s { parts = slice_set s.parts actor p }
 
 -- a count of 64 bits rises, or stands still at its last value
 abbrev pub counted : ℕ → ℕ
@@ -59,30 +79,46 @@ abbrev pub looked_by : BoardPart → Option Entry → BoardPart
 looked_by p None = with_misses p (counted p.misses)
 looked_by p (Some e) = with_taken p e
 
--- the state after an event of an actor
+-- the row at which an actor looks
+abbrev pub next_row : BoardState → ℕ → Option Entry
+next_row b actor = row_at b (length (board_part b actor).taken)
+
+-- the board after an event of an actor
+abbrev pub board_after : BoardState → ℕ → Event → BoardState
+board_after b i Draw = record (with_board b i (drawn_by (board_part b i) b.next (length b.rows))) { next = b.next + 1 }
+board_after b i (Publish e) = record (with_board b i (with_mine (board_part b i) e)) { rows = slice_set b.rows e.row (Some e) }
+board_after b i Look = with_board b i (looked_by (board_part b i) (next_row b i))
+board_after b i (Offer v) = b
+board_after b i (Raise l) = b
+board_after b i SeeUpper = b
+board_after b i SeeLower = b
+
+-- the bounds after an event of an actor
+abbrev pub bounds_after : BoundsState → ℕ → Event → BoundsState
+bounds_after s i (Offer v) = record (with_bounds s i (after_offer (bounds_part s i) (At v) (lesser s.upper (At v)))) { upper = lesser s.upper (At v) }
+bounds_after s i (Raise l) = record (with_bounds s i (after_raise (bounds_part s i) l (greater s.lower l))) { lower = greater s.lower l }
+bounds_after s i SeeUpper = with_bounds s i (after_upper (bounds_part s i) s.upper (counted (bounds_part s i).upper_loads))
+bounds_after s i SeeLower = with_bounds s i (after_lower (bounds_part s i) s.lower (counted (bounds_part s i).lower_loads))
+bounds_after s i Draw = s
+bounds_after s i (Publish e) = s
+bounds_after s i Look = s
+
 abbrev pub after : Core → ℕ → Event → Core
-after c i Draw = record (with_board c i (drawn_by (part_at c i).board c.next (length c.rows))) { next = c.next + 1 }
-after c i (Publish e) = record (with_board c i (with_mine (part_at c i).board e)) { rows = slice_set c.rows e.row (Some e) }
-after c i Look = with_board c i (looked_by (part_at c i).board (row_at c (length (part_at c i).board.taken)))
-after c i (Offer v) =
-    record (with_bounds c i (after_offer (part_at c i).bounds (At v) (lesser c.upper (At v)))) { upper = lesser c.upper (At v) }
-after c i (Raise l) = record (with_bounds c i (after_raise (part_at c i).bounds l (greater c.lower l))) { lower = greater c.lower l }
-after c i SeeUpper = with_bounds c i (after_upper (part_at c i).bounds c.upper (counted (part_at c i).bounds.upper_loads))
-after c i SeeLower = with_bounds c i (after_lower (part_at c i).bounds c.lower (counted (part_at c i).bounds.lower_loads))
+after c i event = record c { board = board_after c.board i event; bounds = bounds_after c.bounds i event }
 
 abbrev pub looked_at : Option Entry → Seen
 looked_at None = sights.Shut
 looked_at (Some e) = sights.Open e
 
--- what the actor sees of it
+-- what the actor sees of its event
 abbrev pub seen : Core → ℕ → Event → Seen
-seen c i Draw = if nat_lt c.next (length c.rows) then sights.Row c.next else sights.Past
+seen c i Draw = if nat_lt c.board.next (length c.board.rows) then sights.Row c.board.next else sights.Past
 seen c i (Publish e) = sights.Done
-seen c i Look = looked_at (row_at c (length (part_at c i).board.taken))
-seen c i (Offer v) = sights.Word (lesser c.upper (At v))
-seen c i (Raise l) = sights.Word (greater c.lower l)
-seen c i SeeUpper = sights.Word c.upper
-seen c i SeeLower = sights.Word c.lower
+seen c i Look = looked_at (next_row c.board i)
+seen c i (Offer v) = sights.Word (lesser c.bounds.upper (At v))
+seen c i (Raise l) = sights.Word (greater c.bounds.lower l)
+seen c i SeeUpper = sights.Word c.bounds.upper
+seen c i SeeLower = sights.Word c.bounds.lower
 
 -- of the entries, those that hold below at least the bound are true at the assignment
 abbrev pub AreTrueBelow : List Entry → Bound → List ℤ → Type 0
@@ -107,10 +143,10 @@ pub record MayRaise (m : CpModel) (p : BoardPart) (l : Bound) : Type 0 where
 
 -- an event that the actor may make
 abbrev pub IsLawful : Core → ℕ → Event → Type 0
-IsLawful c i Draw = ((part_at c i).board.full ≡ false) × ((part_at c i).board.drawn ≡ None)
-IsLawful c i (Publish e) = MayPublish c.model (part_at c i).board e
-IsLawful c i Look = length (part_at c i).board.taken < length c.rows
+IsLawful c i Draw = ((board_part c.board i).full ≡ false) × ((board_part c.board i).drawn ≡ None)
+IsLawful c i (Publish e) = MayPublish c.model (board_part c.board i) e
+IsLawful c i Look = length (board_part c.board i).taken < length c.board.rows
 IsLawful c i (Offer v) = IsAttained c.model v
-IsLawful c i (Raise l) = MayRaise c.model (part_at c i).board l
+IsLawful c i (Raise l) = MayRaise c.model (board_part c.board i) l
 IsLawful c i SeeUpper = Unit {0}
 IsLawful c i SeeLower = Unit {0}

@@ -6,3 +6,4 @@ pub mod Parts
 pub mod Says
 pub mod Cores
 pub mod Sound
+pub mod Kept

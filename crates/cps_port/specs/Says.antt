@@ -21,7 +21,7 @@ OwnEntry p row fact = (e : Entry) → Contains p.mine e → e.row ≡ row → fa
 -- a row was there, and has the clause for good
 pub record SharedIn (rows row : ℕ) (below : Bound) (c : List Atom) (old new : BoardPart) : Type 0 where
   pub within : row < rows
-  pub open : old.full ≡ false
+  pub had_room : old.full ≡ false
   pub adds : new ≡ with_mine old (entry_of row below c)
 
 abbrev pub ShareSays : ℕ → Bound → List Atom → BoardPart → BoardPart → Share → Type 0

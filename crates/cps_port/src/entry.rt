@@ -1,11 +1,18 @@
 //! Entries of the board, and what a port answers of them.
 ghost use Rattle.std.specs.Prelude.{◌≡◌, ◌≤◌, length};
 
-use cps_literal::Atom;
+use cps_literal::{Atom, Op};
 use cps_model::Bound;
 
 /// The most atoms of a clause that is shared.
 pub const MOST_ATOMS: usize = 16;
+
+// What stands in the places that a clause leaves free.
+const BLANK: Atom = Atom {
+    subject: 0,
+    op: Op::Le,
+    value: 0,
+};
 
 /// A clause on the board: the first `len` atoms. It holds in each assignment that is better than `below`.
 #[derive(Clone, Copy, Debug, PartialEq, Eq)]
@@ -47,7 +54,7 @@ impl Entry {
         requires { length clause.now ≤ MOST_ATOMS }
         ensures { result ≡ entry_of row below clause.now }
     {
-        let mut atoms = [Atom::default(); MOST_ATOMS];
+        let mut atoms = [BLANK; MOST_ATOMS];
         atoms[..clause.len()].copy_from_slice(clause);
         Entry {
             row,
