@@ -1,3 +1,4 @@
 pub mod Bounding
 pub mod Lists
 pub mod Boarding
+pub mod SoundCore
