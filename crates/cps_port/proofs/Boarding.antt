@@ -41,7 +41,7 @@ taken_all P (t ∷ ts) (r ∷ rs) e h zero d l = h 0 t (ap (λ (xs : List (Optio
 taken_all P (t ∷ ts) (r ∷ rs) e h (suc k) d l = taken_all P ts rs (let tails : map Some ts ≡ take (length ts) rs = cc in tails) (λ row f g. h (suc row) f g) k d (omega arith)
 
 -- a row that is closed was not taken
-taken_before : (taken : List Entry) (rows : List (Option Entry)) (row : ℕ) → map Some taken ≡ take (length taken) rows → get_or rows row None ≡ None → length taken ≤ row
+pub taken_before : (taken : List Entry) (rows : List (Option Entry)) (row : ℕ) → map Some taken ≡ take (length taken) rows → get_or rows row None ≡ None → length taken ≤ row
 taken_before [] rows row e h = omega arith
 taken_before (t ∷ ts) [] row e h = cc
 taken_before (t ∷ ts) (r ∷ rs) zero e h = absurd (not_none t (sym h ∙ ap (λ (xs : List (Option Entry)). get_or xs 0 None) (sym e)))
@@ -194,7 +194,7 @@ module _ (m : CpModel) (b : BoardState) (k : BoardKept m b) (i : ℕ) (h : i < l
       let prefix : (j : ℕ) → map Some (board_part b j).taken ≡ take (length (board_part b j).taken) rows' = λ j. k.sound.taken j ∙ sym (take-set-le (length (board_part b j).taken) b.rows row (Some e) (taken_before (board_part b j).taken b.rows row (k.sound.taken j) d.closed)) in
       let b' : BoardState = record { rows = rows'; next = b.next; parts = set b.parts i p } in
       let drawn_still : (j r : ℕ) → j ≢ i → (board_part b j).drawn ≡ Some r → IsDrawn b' r = λ j r n g. let o = k.drawn j r g in let w = o.within in let long = length-set b.rows row (Some e) in
-          record { within = omega arith; claimed = o.claimed; closed = others r (λ q. n (k.apart j i r g (may.drawn ∙ ap Some (sym q)))) ∙ o.closed } in
+      record { within = omega arith; claimed = o.claimed; closed = others r (λ q. n (k.apart j i r g (may.drawn ∙ ap Some (sym q)))) ∙ o.closed } in
       let idle : (r : ℕ) → p.drawn ≡ Some r → ⊥ = λ r g. not_none r g in record {
         sound = record {
           rows = λ r x g. dite (ℕ_discrete r row) (λ q. let is : e ≡ x = same_some e x (sym same ∙ (ap (λ (n : ℕ). get_or rows' n None) (sym q) ∙ g)) in (ap (λ (y : Entry). y.row) (sym is) ∙ sym q, subst (IsSoundEntry m) is (published_sound m b k.sound i e may)))

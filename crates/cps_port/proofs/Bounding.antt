@@ -162,22 +162,22 @@ module _ (m : CpModel) (s : BoundsState) (i : ℕ) (k : BoundsKept m s) (h : i <
   keeps_offer v shown =
       let p : BoundsPart = after_offer (bounds_part s i) (At v) (lesser s.upper (At v)) in
       moved m s i p (lesser s.upper (At v)) s.lower k h (ap (λ (b : Bound). lesser b (At v)) k.sound.upper ∙ sym (least_offer-set s.parts i p (At v) h refl)) (k.sound.lower ∙ sym (greatest_raise-same (At (objective_start m)) s.parts i p refl))
-          (lesser-first s.upper (At v)) (BoundLe-refl s.lower) (BoundLe-refl (lesser s.upper (At v))) (k.saw_lower i) (lesser_is (IsIncumbent m) s.upper (At v) k.sound.shown (attained_shown m v shown)) k.sound.floor
+      (lesser-first s.upper (At v)) (BoundLe-refl s.lower) (BoundLe-refl (lesser s.upper (At v))) (k.saw_lower i) (lesser_is (IsIncumbent m) s.upper (At v) k.sound.shown (attained_shown m v shown)) k.sound.floor
 
   pub keeps_raise : (l : Bound) → IsLowerBound m l → BoundsKept m (bounds_after s i (Raise l))
   keeps_raise l floor =
       let p : BoundsPart = after_raise (bounds_part s i) l (greater s.lower l) in
       moved m s i p s.upper (greater s.lower l) k h (k.sound.upper ∙ sym (least_offer-same s.parts i p refl)) (ap (λ (b : Bound). greater b l) k.sound.lower ∙ sym (greatest_raise-set (At (objective_start m)) s.parts i p l h refl))
-          (BoundLe-refl s.upper) (greater-first s.lower l) (k.saw_upper i) (BoundLe-refl (greater s.lower l)) k.sound.shown (greater_is (IsLowerBound m) s.lower l k.sound.floor floor)
+      (BoundLe-refl s.upper) (greater-first s.lower l) (k.saw_upper i) (BoundLe-refl (greater s.lower l)) k.sound.shown (greater_is (IsLowerBound m) s.lower l k.sound.floor floor)
 
   pub keeps_upper : BoundsKept m (bounds_after s i SeeUpper)
   keeps_upper =
       let p : BoundsPart = after_upper (bounds_part s i) s.upper (counted (bounds_part s i).upper_loads) in
       moved m s i p s.upper s.lower k h (k.sound.upper ∙ sym (least_offer-same s.parts i p refl)) (k.sound.lower ∙ sym (greatest_raise-same (At (objective_start m)) s.parts i p refl))
-          (BoundLe-refl s.upper) (BoundLe-refl s.lower) (BoundLe-refl s.upper) (k.saw_lower i) k.sound.shown k.sound.floor
+      (BoundLe-refl s.upper) (BoundLe-refl s.lower) (BoundLe-refl s.upper) (k.saw_lower i) k.sound.shown k.sound.floor
 
   pub keeps_lower : BoundsKept m (bounds_after s i SeeLower)
   keeps_lower =
       let p : BoundsPart = after_lower (bounds_part s i) s.lower (counted (bounds_part s i).lower_loads) in
       moved m s i p s.upper s.lower k h (k.sound.upper ∙ sym (least_offer-same s.parts i p refl)) (k.sound.lower ∙ sym (greatest_raise-same (At (objective_start m)) s.parts i p refl))
-          (BoundLe-refl s.upper) (BoundLe-refl s.lower) (k.saw_upper i) (BoundLe-refl s.lower) k.sound.shown k.sound.floor
+      (BoundLe-refl s.upper) (BoundLe-refl s.lower) (k.saw_upper i) (BoundLe-refl s.lower) k.sound.shown k.sound.floor

@@ -2,3 +2,4 @@ pub mod Bounding
 pub mod Lists
 pub mod Boarding
 pub mod SoundCore
+pub mod Storing

@@ -7,3 +7,4 @@ pub mod Says
 pub mod Cores
 pub mod Sound
 pub mod Kept
+pub mod Views

@@ -9,10 +9,15 @@
 
 pub mod entry;
 pub mod event;
+pub mod order;
 pub mod part;
 pub mod port;
+mod seat;
+pub mod state;
 
 pub use entry::{Entry, MOST_ATOMS, Share, Taken};
 pub use event::{Event, Seen};
+pub use order::{greater, is_closed, lesser, raised_to};
 pub use part::{BoardPart, BoundsPart, Part};
 pub use port::Port;
+pub use state::CoreState;

@@ -1,0 +1,188 @@
+//! The state that all actors share, in one value.
+ghost use Rattle.std.specs.Prelude.{◌≡◌, ◌<◌, ◌≤◌, ◌^◌, IfOk};
+ghost use Rattle.cps_model.specs.Start.{objective_start};
+ghost use Rattle.cps_port.specs.Cores.{first_core, actor_count, after, seen, counted, IsLawful};
+ghost use Rattle.cps_port.specs.Sound.{IsSoundCore};
+ghost use Rattle.cps_port.specs.Kept.{IsKept};
+
+use crate::entry::Entry;
+use crate::event::{Event, Seen};
+use crate::order::{greater, lesser, raised_to};
+use crate::part::BoundsPart;
+use crate::seat::{Row, Seat};
+use cps_model::Bound;
+use cps_validate::ValidModel;
+use std::alloc::{AllocError, Global};
+use std::marker::Model;
+
+/// The bounds, the board, and what each actor knows of them. Only `new` takes memory.
+#[derive(Drop)]
+pub struct CoreState<'a> {
+    model: &'a ValidModel,
+    rows: Vec<Row>,
+    /// How many rows were drawn, with the draws past the last row.
+    next: u64,
+    seats: Vec<Seat>,
+    upper: Bound,
+    lower: Bound,
+    bounds: Vec<BoundsPart>,
+}
+
+impl<'a> Model for CoreState<'a> {
+    ghost use Rattle.cps_port.specs.Cores.{Core};
+
+    ghost Value = { Core };
+
+    ghost use Rattle.cps_port.specs.Views.{core_of, IsWhole};
+
+    ghost view = { λ s. core_of s.model.now s.rows.items s.next s.seats.items s.upper s.lower s.bounds.items };
+
+    ghost invariant = { λ s. IsWhole (core_of s.model.now s.rows.items s.next s.seats.items s.upper s.lower s.bounds.items) s.rows.items s.seats.items };
+}
+
+/// One more, up to the type's last value.
+fn counted(count: u64) -> u64
+    ensures { result ≡ counted count }
+{
+    if count < u64::MAX {
+        count + 1
+    } else {
+        count
+    }
+}
+
+impl CoreState<'_> {
+    /// Makes one step of an actor.
+    pub fn step(&mut self, actor: u32, event: Event) -> Seen
+        requires actor { actor < actor_count self.old }
+        requires lawful { IsLawful self.old actor event }
+        ensures state { self.new ≡ after self.old actor event }
+        ensures seen { result ≡ seen self.old actor event }
+        ensures sound { IsSoundCore self.new }
+    {
+        match event {
+            Event::Draw => self.draw(actor),
+            Event::Publish(entry) => self.publish(actor, entry),
+            Event::Look => self.look(actor),
+            Event::Offer(value) => self.offer(actor, value),
+            Event::Raise(bound) => self.raise(actor, bound),
+            Event::SeeUpper => self.see_upper(actor),
+            Event::SeeLower => self.see_lower(actor),
+        }
+    }
+
+    fn draw(&mut self, actor: u32) -> Seen
+        requires actor { actor < actor_count self.old }
+        requires lawful { IsLawful self.old actor Event.Draw }
+        ensures state { self.new ≡ after self.old actor Event.Draw }
+        ensures seen { result ≡ seen self.old actor Event.Draw }
+        ensures sound { IsSoundCore self.new }
+    {
+        let mut seat = self.seats[actor as usize];
+        let row = self.next;
+        self.next = row + 1;
+        if row >= self.rows.len() as u64 {
+            seat.full = true;
+            self.seats[actor as usize] = seat;
+            return Seen::Past;
+        }
+        seat.drawn = Some(row as u32);
+        self.seats[actor as usize] = seat;
+        Seen::Row(row as u32)
+    }
+
+    fn publish(&mut self, actor: u32, entry: Entry) -> Seen
+        requires actor { actor < actor_count self.old }
+        requires lawful { IsLawful self.old actor (Event.Publish entry) }
+        ensures state { self.new ≡ after self.old actor (Event.Publish entry) }
+        ensures seen { result ≡ seen self.old actor (Event.Publish entry) }
+        ensures sound { IsSoundCore self.new }
+    {
+        let mut seat = self.seats[actor as usize];
+        seat.drawn = None;
+        self.seats[actor as usize] = seat;
+        self.rows[entry.row as usize] = Row {
+            published: true,
+            owner: actor,
+            entry,
+        };
+        Seen::Done
+    }
+
+    fn look(&mut self, actor: u32) -> Seen
+        requires actor { actor < actor_count self.old }
+        requires lawful { IsLawful self.old actor Event.Look }
+        ensures state { self.new ≡ after self.old actor Event.Look }
+        ensures seen { result ≡ seen self.old actor Event.Look }
+        ensures sound { IsSoundCore self.new }
+    {
+        let mut seat = self.seats[actor as usize];
+        let row = self.rows[seat.taken as usize];
+        if row.published {
+            seat.taken += 1;
+            self.seats[actor as usize] = seat;
+            return Seen::Open(row.entry);
+        }
+        seat.misses = counted(seat.misses);
+        self.seats[actor as usize] = seat;
+        Seen::Shut
+    }
+
+    fn see_upper(&mut self, actor: u32) -> Seen
+        requires actor { actor < actor_count self.old }
+        ensures state { self.new ≡ after self.old actor Event.SeeUpper }
+        ensures seen { result ≡ seen self.old actor Event.SeeUpper }
+        ensures sound { IsSoundCore self.new }
+    {
+        let mut part = self.bounds[actor as usize];
+        part.saw_upper = self.upper;
+        part.upper_loads = counted(part.upper_loads);
+        part.upper_last = Some(self.upper);
+        self.bounds[actor as usize] = part;
+        Seen::Word(self.upper)
+    }
+
+    fn see_lower(&mut self, actor: u32) -> Seen
+        requires actor { actor < actor_count self.old }
+        ensures state { self.new ≡ after self.old actor Event.SeeLower }
+        ensures seen { result ≡ seen self.old actor Event.SeeLower }
+        ensures sound { IsSoundCore self.new }
+    {
+        let mut part = self.bounds[actor as usize];
+        part.saw_lower = Some(self.lower);
+        part.lower_loads = counted(part.lower_loads);
+        part.lower_last = Some(self.lower);
+        self.bounds[actor as usize] = part;
+        Seen::Word(self.lower)
+    }
+
+    fn offer(&mut self, actor: u32, value: i64) -> Seen
+        requires actor { actor < actor_count self.old }
+        requires lawful { IsLawful self.old actor (Event.Offer value) }
+        ensures state { self.new ≡ after self.old actor (Event.Offer value) }
+        ensures seen { result ≡ seen self.old actor (Event.Offer value) }
+        ensures sound { IsSoundCore self.new }
+    {
+        self.upper = lesser(self.upper, Bound::At(value));
+        let mut part = self.bounds[actor as usize];
+        part.saw_upper = self.upper;
+        part.offered = lesser(part.offered, Bound::At(value));
+        self.bounds[actor as usize] = part;
+        Seen::Word(self.upper)
+    }
+
+    fn raise(&mut self, actor: u32, bound: Bound) -> Seen
+        requires actor { actor < actor_count self.old }
+        requires lawful { IsLawful self.old actor (Event.Raise bound) }
+        ensures state { self.new ≡ after self.old actor (Event.Raise bound) }
+        ensures seen { result ≡ seen self.old actor (Event.Raise bound) }
+        ensures sound { IsSoundCore self.new }
+    {
+        self.lower = greater(self.lower, bound);
+        let mut part = self.bounds[actor as usize];
+        part.saw_lower = Some(self.lower);
+        part.raised = raised_to(part.raised, bound);
+        self.bounds[actor as usize] = part;
+        Seen::Word(self.lower)
+    }
+}
