@@ -1,13 +1,15 @@
 -- Events on the state as it is stored.
-use Rattle.std.proofs.Common.{◌≡◌, ◌≢◌, ℕ, zero, suc, ◌+◌, ◌<◌, ◌≤◌, ◌^◌, ◌==◌, nat_lt, ◌⊎◌, ⊎_elim, inl, inr, Bool, true, false, ◌&&◌, if◌then◌else◌, ℤ, Option, Some, None, List, [], ◌∷◌, ◌++◌, map, take, length, get_or, set, sym, refl, ap, ◌∙◌, subst, arith, get_or-set_same, get_or-set_other, length-set, length-append}
+use Rattle.std.proofs.Common.{◌≡◌, ◌≢◌, ℕ, zero, suc, ◌+◌, ◌<◌, ◌≤◌, ◌^◌, ◌==◌, nat_lt, ◌⊎◌, ⊎_elim, inl, inr, Bool, true, false, ◌&&◌, if◌then◌else◌, ℤ, Option, Some, None, List, [], ◌∷◌, ◌++◌, map, take, replicate, length, get_or, set, sym, refl, ap, ◌∙◌, subst, arith, get_or-set_same, get_or-set_other, length-set, length-append}
 use Rattle.std.proofs.lemmas.Bool.Decides.{nat_tests}
-use Rattle.std.proofs.lemmas.List.{take-set-le, take_more, map-set, length-map, length-take}
+use Rattle.std.proofs.lemmas.List.{length-replicate, take-set-le, take_more, map-set, length-map, length-take}
 use Rattle.std.proofs.Math.ListN.{get_or-map}
 use mathlib.Core.Logic.{dite}
 use native.Mathlib.Decide.{dec_le, ℕ_discrete}
 use Rattle.cps_model.specs.declared.bound.Bound.{Bound}
 use Rattle.cps_model.specs.declared.bound.Bound.TheVariants.{At, Infinite}
 use Rattle.cps_model.specs.declared.model.CpModel.{CpModel}
+use Rattle.cps_model.specs.Start.{objective_start}
+use Rattle.cps_model.specs.Validity.{IsValid}
 use Rattle.cps_port.specs.declared.entry.Entry.{Entry}
 use Rattle.cps_port.specs.declared.event.Event.{Event}
 use Rattle.cps_port.specs.declared.event.Event.TheVariants.{Draw, Publish, Look, Offer, Raise, SeeUpper, SeeLower}
@@ -19,14 +21,14 @@ use Rattle.cps_port.specs.declared.seat.Row.{Row}
 use Rattle.cps_port.specs.declared.seat.Seat.{Seat}
 use Rattle.cps_port.specs.Order.{lesser, greater, raised_to}
 use Rattle.cps_port.specs.Parts.{no_rows, no_bounds, with_row, with_past, with_mine, with_taken, with_misses, after_upper, after_lower, after_offer, after_raise}
-use Rattle.cps_port.specs.Cores.{BoardState, BoundsState, Core, board_part, bounds_part, row_at, next_row, counted, drawn_by, looked_by, looked_at, actor_count, board_after, after, seen, IsLawful}
+use Rattle.cps_port.specs.Cores.{BoardState, BoundsState, Core, first_core, board_part, bounds_part, row_at, next_row, counted, drawn_by, looked_by, looked_at, actor_count, board_after, after, seen, IsLawful}
 use Rattle.cps_port.specs.Sound.{IsSoundCore}
 use Rattle.cps_port.specs.Totals.{total, one_if}
 use Rattle.cps_port.specs.Kept.{full_count, IsKept}
 use Rattle.cps_port.specs.Views.{no_row, no_seat, row_entry, is_own, own_entries, first_entries, seat_part, seat_parts, core_of, row_of, seat_of, IsStored, IsWhole}
 use Rattle.cps_port.proofs.Lists.{at_each}
 use Rattle.cps_port.proofs.Boarding.{taken_before}
-use Rattle.cps_port.proofs.SoundCore.{keeps, sound_of}
+use Rattle.cps_port.proofs.SoundCore.{get_or-replicate, starts, keeps, sound_of}
 
 -- an element that is there does not depend on what stands for one that is not
 pub get_or-there : {A : Type 0} (l : List A) (i : ℕ) (x d : A) → i < length l → x ≡ get_or l i x → get_or l i d ≡ x
@@ -314,3 +316,37 @@ module _ (m : CpModel) (rows : List Row) (next : ℕ) (seats : List Seat) (upper
                 ordered = λ j row k. at_each seats i s no_seat j (λ (q : Seat). q.drawn ≡ Some row → row ≤ k → is_own j (row_of rows' k) ≡ false) among (λ _ g _. absurd (none_some row g))
                     (λ ne g l. at_each rows e.row r no_row k (λ (y : Row). is_own j y ≡ false) within (λ _. own_other i j e (λ same. ne (sym same))) (λ _. w.stored.ordered j row k g l));
               })
+
+-- the state before the first event
+own_replicate : (i n : ℕ) → own_entries i (replicate n no_row) ≡ []
+own_replicate i zero = refl
+own_replicate i (suc n) = own_replicate i n
+
+map-replicate : {A B : Type 0} (f : A → B) (n : ℕ) (x : A) → map f (replicate n x) ≡ replicate n (f x)
+map-replicate f zero x = refl
+map-replicate {B = B} f (suc n) x = ap (λ (l : List B). f x ∷ l) (map-replicate f n x)
+
+seat_parts-replicate : (rows b n : ℕ) → seat_parts (replicate rows no_row) b (replicate n no_seat) ≡ replicate n no_rows
+seat_parts-replicate rows b zero = refl
+seat_parts-replicate rows b (suc n) = ap (λ (l : List Entry). record no_rows { mine = l } ∷ seat_parts (replicate rows no_row) (b + 1) (replicate n no_seat)) (own_replicate b rows)
+    ∙ ap (λ (l : List BoardPart). no_rows ∷ l) (seat_parts-replicate rows (b + 1) n)
+
+module _ (m : CpModel) (actors n : ℕ) (rows : List Row) (seats : List Seat) (bounds : List BoundsPart) (start : ℤ) (r : rows ≡ replicate n no_row) (s : seats ≡ replicate actors no_seat) (b : bounds ≡ replicate actors no_bounds) (is : start ≡ objective_start m) where
+  pub begins : core_of m rows 0 seats Infinite (At start) bounds ≡ first_core m actors n
+  begins =
+      ap (λ (l : List Row). core_of m l 0 seats Infinite (At start) bounds) r ∙ (ap (λ (l : List Seat). core_of m (replicate n no_row) 0 l Infinite (At start) bounds) s
+      ∙ (ap (λ (l : List BoundsPart). core_of m (replicate n no_row) 0 (replicate actors no_seat) Infinite (At start) l) b ∙ (ap (λ (z : ℤ). core_of m (replicate n no_row) 0 (replicate actors no_seat) Infinite (At z) (replicate actors no_bounds)) is
+      ∙ (ap (λ (l : List (Option Entry)). record (first_core m actors n) { board = record { rows = l; next = 0; parts = seat_parts (replicate n no_row) 0 (replicate actors no_seat) } }) (map-replicate row_entry n no_row)
+      ∙ ap (λ (l : List BoardPart). record (first_core m actors n) { board = record { rows = replicate n None; next = 0; parts = l } }) (seat_parts-replicate n 0 actors)))))
+
+  pub begins_whole : IsValid m → n ≤ 4096 → actors < 2 ^ 32 → IsWhole (core_of m rows 0 seats Infinite (At start) bounds) rows seats
+  begins_whole valid few small =
+      let seat : (i : ℕ) → seat_of seats i ≡ no_seat = λ i. ap (λ (l : List Seat). seat_of l i) s ∙ get_or-replicate actors i no_seat in
+      let row : (k : ℕ) → row_of rows k ≡ no_row = λ k. ap (λ (l : List Row). row_of l k) r ∙ get_or-replicate n k no_row in record {
+        kept = subst IsKept (sym begins) (starts m actors n valid few);
+        stored = record {
+          actors = let l = ap (λ (l : List Seat). length l) s in let h = length-replicate actors no_seat in omega arith;
+          taken = λ i. subst (λ (q : Seat). q.taken ≤ length rows) (sym (seat i)) (omega arith);
+          ordered = λ i x k _ _. subst (λ (q : Row). is_own i q ≡ false) (sym (row k)) refl;
+        };
+      }

@@ -8,7 +8,7 @@ use cps_model::Bound;
 pub const MOST_ATOMS: usize = 16;
 
 // What stands in the places that a clause leaves free.
-const BLANK: Atom = Atom {
+pub(crate) const BLANK: Atom = Atom {
     subject: 0,
     op: Op::Le,
     value: 0,

@@ -41,3 +41,15 @@ pub struct Part {
     pub board: BoardPart,
     pub bounds: BoundsPart,
 }
+
+/// What an actor knows of the bounds before its first event.
+pub(crate) const NO_BOUNDS: BoundsPart = BoundsPart {
+    saw_upper: Bound::Infinite,
+    offered: Bound::Infinite,
+    saw_lower: None,
+    raised: None,
+    upper_loads: 0,
+    upper_last: None,
+    lower_loads: 0,
+    lower_last: None,
+};

@@ -1,5 +1,6 @@
 //! Rows and actors as the shared state stores them.
-use crate::entry::Entry;
+use crate::entry::{BLANK, Entry, MOST_ATOMS};
+use cps_model::Bound;
 
 /// A row of the board.
 #[derive(Clone, Copy)]
@@ -22,3 +23,23 @@ pub struct Seat {
     /// How often it found the next row closed.
     pub misses: u64,
 }
+
+/// A row that is not published.
+pub const NO_ROW: Row = Row {
+    published: false,
+    owner: 0,
+    entry: Entry {
+        row: 0,
+        below: Bound::Infinite,
+        len: 0,
+        atoms: [BLANK; MOST_ATOMS],
+    },
+};
+
+/// An actor before its first event.
+pub const NO_SEAT: Seat = Seat {
+    drawn: None,
+    taken: 0,
+    full: false,
+    misses: 0,
+};

@@ -8,8 +8,9 @@ ghost use Rattle.cps_port.specs.Kept.{IsKept};
 use crate::entry::Entry;
 use crate::event::{Event, Seen};
 use crate::order::{greater, lesser, raised_to};
-use crate::part::BoundsPart;
-use crate::seat::{Row, Seat};
+use crate::part::{BoundsPart, NO_BOUNDS};
+use crate::seat::{NO_ROW, NO_SEAT, Row, Seat};
+use cps_eval::objective_start;
 use cps_model::Bound;
 use cps_validate::ValidModel;
 use std::alloc::{AllocError, Global};
@@ -51,7 +52,36 @@ fn counted(count: u64) -> u64
     }
 }
 
-impl CoreState<'_> {
+impl<'a> CoreState<'a> {
+    /// The state before the first event, of so many actors and rows. The upper bound begins `Infinite`, and the lower one
+    /// at the least objective that the domains allow.
+    pub fn new(
+        alloc: Global,
+        model: &'a ValidModel,
+        actors: u32,
+        rows: u32,
+    ) -> Result<CoreState<'a>, AllocError>
+        requires { (1 ≤ rows) × (rows ≤ 4096) }
+        ensures first { IfOk result (λ core. core ≡ first_core model.now actors rows) }
+        ensures sound { IfOk result IsSoundCore }
+    {
+        // Only here is it known that the model keeps every rule.
+        let _ = model.model();
+        let start = objective_start(model);
+        let rows = vec![in alloc; NO_ROW; rows as usize]?;
+        let seats = vec![in alloc; NO_SEAT; actors as usize]?;
+        let bounds = vec![in alloc; NO_BOUNDS; actors as usize]?;
+        Ok(CoreState {
+            model,
+            rows,
+            next: 0,
+            seats,
+            upper: Bound::Infinite,
+            lower: Bound::At(start),
+            bounds,
+        })
+    }
+
     /// Makes one step of an actor.
     pub fn step(&mut self, actor: u32, event: Event) -> Seen
         requires actor { actor < actor_count self.old }
