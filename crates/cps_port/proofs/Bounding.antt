@@ -15,8 +15,7 @@ use Rattle.cps_port.specs.Order.{BoundLe, IsBelow, lesser, greater, raised_to, r
 use Rattle.cps_port.specs.Incumbents.{IsAttained, IsIncumbent, IsLowerBound}
 use Rattle.cps_port.specs.Parts.{no_bounds, after_upper, after_lower, after_offer, after_raise}
 use Rattle.cps_port.specs.Cores.{BoundsState, bounds_part, counted, bounds_after}
-use Rattle.cps_port.specs.Sound.{least_offer, greatest_raise}
-use Rattle.cps_port.specs.Kept.{BoundsKept}
+use Rattle.cps_port.specs.Sound.{least_offer, greatest_raise, IsSoundBounds}
 
 same_int : (x y : ℤ) → x ≤ℤ y → y ≤ℤ x → x ≡ y
 same_int x y p q = omega (arith, ints)
@@ -141,12 +140,15 @@ greatest_raise-same start (x ∷ xs) zero p e = ap (λ (o : Option Bound). raise
 greatest_raise-same start (x ∷ xs) (suc i) p e = ap (raised_above x.raised) (greatest_raise-same start xs i p e)
 
 -- A step of one actor on the bounds, which never rise above what an actor saw, or fall below it.
-moved : (m : CpModel) (s : BoundsState) (i : ℕ) (p : BoundsPart) (u l : Bound) → BoundsKept m s → i < length s.parts → u ≡ least_offer (set s.parts i p) → l ≡ greatest_raise (At (objective_start m)) (set s.parts i p)
-    → BoundLe u s.upper → BoundLe s.lower l → BoundLe u p.saw_upper → IsNoLower p.saw_lower l → IsIncumbent m u → IsLowerBound m l → BoundsKept m record { upper = u; lower = l; parts = set s.parts i p }
+moved : (m : CpModel) (s : BoundsState) (i : ℕ) (p : BoundsPart) (u l : Bound) → IsSoundBounds m s → i < length s.parts → u ≡ least_offer (set s.parts i p) → l ≡ greatest_raise (At (objective_start m)) (set s.parts i p)
+    → BoundLe u s.upper → BoundLe s.lower l → BoundLe u p.saw_upper → IsNoLower p.saw_lower l → IsIncumbent m u → IsLowerBound m l → IsSoundBounds m record { upper = u; lower = l; parts = set s.parts i p }
 moved m s i p u l k h offers raises down up saw_u saw_l shown floor =
     let mine : (j : ℕ) → j ≡ i → get_or (set s.parts i p) j no_bounds ≡ p = λ j e. ap (λ (n : ℕ). get_or (set s.parts i p) n no_bounds) e ∙ get_or-set_same s.parts i p no_bounds h in
     let others : (j : ℕ) → j ≢ i → get_or (set s.parts i p) j no_bounds ≡ get_or s.parts j no_bounds = λ j n. get_or-set_other s.parts i j p no_bounds n in record {
-      sound = record { upper = offers; shown = shown; lower = raises; floor = floor };
+      upper = offers;
+      shown = shown;
+      lower = raises;
+      floor = floor;
       saw_upper = λ j. dite (ℕ_discrete j i) (λ e. subst (λ (q : BoundsPart). BoundLe u q.saw_upper) (sym (mine j e)) saw_u)
           (λ n. subst (λ (q : BoundsPart). BoundLe u q.saw_upper) (sym (others j n)) (BoundLe-trans u s.upper (bounds_part s j).saw_upper down (k.saw_upper j)));
       saw_lower = λ j. dite (ℕ_discrete j i) (λ e. subst (λ (q : BoundsPart). IsNoLower q.saw_lower l) (sym (mine j e)) saw_l)
@@ -157,27 +159,27 @@ pub attained_shown : (m : CpModel) (v : ℤ) → IsAttained m v → IsIncumbent 
 unfolding IsIncumbent
 attained_shown m v h = h
 
-module _ (m : CpModel) (s : BoundsState) (i : ℕ) (k : BoundsKept m s) (h : i < length s.parts) where
-  pub keeps_offer : (v : ℤ) → IsAttained m v → BoundsKept m (bounds_after s i (Offer v))
+module _ (m : CpModel) (s : BoundsState) (i : ℕ) (k : IsSoundBounds m s) (h : i < length s.parts) where
+  pub keeps_offer : (v : ℤ) → IsAttained m v → IsSoundBounds m (bounds_after s i (Offer v))
   keeps_offer v shown =
       let p : BoundsPart = after_offer (bounds_part s i) (At v) (lesser s.upper (At v)) in
-      moved m s i p (lesser s.upper (At v)) s.lower k h (ap (λ (b : Bound). lesser b (At v)) k.sound.upper ∙ sym (least_offer-set s.parts i p (At v) h refl)) (k.sound.lower ∙ sym (greatest_raise-same (At (objective_start m)) s.parts i p refl))
-      (lesser-first s.upper (At v)) (BoundLe-refl s.lower) (BoundLe-refl (lesser s.upper (At v))) (k.saw_lower i) (lesser_is (IsIncumbent m) s.upper (At v) k.sound.shown (attained_shown m v shown)) k.sound.floor
+      moved m s i p (lesser s.upper (At v)) s.lower k h (ap (λ (b : Bound). lesser b (At v)) k.upper ∙ sym (least_offer-set s.parts i p (At v) h refl)) (k.lower ∙ sym (greatest_raise-same (At (objective_start m)) s.parts i p refl))
+      (lesser-first s.upper (At v)) (BoundLe-refl s.lower) (BoundLe-refl (lesser s.upper (At v))) (k.saw_lower i) (lesser_is (IsIncumbent m) s.upper (At v) k.shown (attained_shown m v shown)) k.floor
 
-  pub keeps_raise : (l : Bound) → IsLowerBound m l → BoundsKept m (bounds_after s i (Raise l))
+  pub keeps_raise : (l : Bound) → IsLowerBound m l → IsSoundBounds m (bounds_after s i (Raise l))
   keeps_raise l floor =
       let p : BoundsPart = after_raise (bounds_part s i) l (greater s.lower l) in
-      moved m s i p s.upper (greater s.lower l) k h (k.sound.upper ∙ sym (least_offer-same s.parts i p refl)) (ap (λ (b : Bound). greater b l) k.sound.lower ∙ sym (greatest_raise-set (At (objective_start m)) s.parts i p l h refl))
-      (BoundLe-refl s.upper) (greater-first s.lower l) (k.saw_upper i) (BoundLe-refl (greater s.lower l)) k.sound.shown (greater_is (IsLowerBound m) s.lower l k.sound.floor floor)
+      moved m s i p s.upper (greater s.lower l) k h (k.upper ∙ sym (least_offer-same s.parts i p refl)) (ap (λ (b : Bound). greater b l) k.lower ∙ sym (greatest_raise-set (At (objective_start m)) s.parts i p l h refl))
+      (BoundLe-refl s.upper) (greater-first s.lower l) (k.saw_upper i) (BoundLe-refl (greater s.lower l)) k.shown (greater_is (IsLowerBound m) s.lower l k.floor floor)
 
-  pub keeps_upper : BoundsKept m (bounds_after s i SeeUpper)
+  pub keeps_upper : IsSoundBounds m (bounds_after s i SeeUpper)
   keeps_upper =
       let p : BoundsPart = after_upper (bounds_part s i) s.upper (counted (bounds_part s i).upper_loads) in
-      moved m s i p s.upper s.lower k h (k.sound.upper ∙ sym (least_offer-same s.parts i p refl)) (k.sound.lower ∙ sym (greatest_raise-same (At (objective_start m)) s.parts i p refl))
-      (BoundLe-refl s.upper) (BoundLe-refl s.lower) (BoundLe-refl s.upper) (k.saw_lower i) k.sound.shown k.sound.floor
+      moved m s i p s.upper s.lower k h (k.upper ∙ sym (least_offer-same s.parts i p refl)) (k.lower ∙ sym (greatest_raise-same (At (objective_start m)) s.parts i p refl))
+      (BoundLe-refl s.upper) (BoundLe-refl s.lower) (BoundLe-refl s.upper) (k.saw_lower i) k.shown k.floor
 
-  pub keeps_lower : BoundsKept m (bounds_after s i SeeLower)
+  pub keeps_lower : IsSoundBounds m (bounds_after s i SeeLower)
   keeps_lower =
       let p : BoundsPart = after_lower (bounds_part s i) s.lower (counted (bounds_part s i).lower_loads) in
-      moved m s i p s.upper s.lower k h (k.sound.upper ∙ sym (least_offer-same s.parts i p refl)) (k.sound.lower ∙ sym (greatest_raise-same (At (objective_start m)) s.parts i p refl))
-      (BoundLe-refl s.upper) (BoundLe-refl s.lower) (k.saw_upper i) (BoundLe-refl s.lower) k.sound.shown k.sound.floor
+      moved m s i p s.upper s.lower k h (k.upper ∙ sym (least_offer-same s.parts i p refl)) (k.lower ∙ sym (greatest_raise-same (At (objective_start m)) s.parts i p refl))
+      (BoundLe-refl s.upper) (BoundLe-refl s.lower) (k.saw_upper i) (BoundLe-refl s.lower) k.shown k.floor

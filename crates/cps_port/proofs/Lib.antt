@@ -3,3 +3,4 @@ pub mod Lists
 pub mod Boarding
 pub mod SoundCore
 pub mod Storing
+pub mod Porting

@@ -18,7 +18,7 @@ use Rattle.cps_port.specs.Incumbents.{IsIncumbent, IsLowerBound}
 use Rattle.cps_port.specs.Parts.{no_rows, no_bounds}
 use Rattle.cps_port.specs.Cores.{BoardState, BoundsState, Core, first_core, board_part, bounds_part, row_at, actor_count, board_after, bounds_after, after, IsLawful}
 use Rattle.cps_port.specs.Sound.{least_offer, greatest_raise, IsSoundBoard, IsSoundBounds, IsSoundCore, run, AreLawful}
-use Rattle.cps_port.specs.Kept.{BoardKept, BoundsKept, IsKept}
+use Rattle.cps_port.specs.Kept.{BoardKept, IsKept}
 use Rattle.cps_port.proofs.Bounding.{keeps_offer, keeps_raise, keeps_upper, keeps_lower}
 use Rattle.cps_port.proofs.Boarding.{raise_sound, keeps_draw, keeps_publish, keeps_look}
 
@@ -64,11 +64,14 @@ first_board m actors rows =
       apart = λ i j row g _. absurd (not_none row (sym (ap (λ (p : BoardPart). p.drawn) (idle i)) ∙ g));
     }
 
-first_bounds : (m : CpModel) (actors rows : ℕ) → IsValid m → BoundsKept m (first_core m actors rows).bounds
+first_bounds : (m : CpModel) (actors rows : ℕ) → IsValid m → IsSoundBounds m (first_core m actors rows).bounds
 first_bounds m actors rows valid =
     let s : BoundsState = (first_core m actors rows).bounds in
     let idle : (i : ℕ) → bounds_part s i ≡ no_bounds = λ i. get_or-replicate actors i no_bounds in record {
-      sound = record { upper = sym (least_offer-replicate actors); shown = shown_infinite m; lower = sym (greatest_raise-replicate (At (objective_start m)) actors); floor = start_floor m valid };
+      upper = sym (least_offer-replicate actors);
+      shown = shown_infinite m;
+      lower = sym (greatest_raise-replicate (At (objective_start m)) actors);
+      floor = start_floor m valid;
       saw_upper = λ i. subst (λ (p : BoundsPart). BoundLe Infinite p.saw_upper) (sym (idle i)) tt;
       saw_lower = λ i. subst (λ (p : BoundsPart). IsNoLower p.saw_lower s.lower) (sym (idle i)) tt;
     }
@@ -94,7 +97,7 @@ keeps_board c i SeeLower k h l = k.board
 among : (c : Core) (i : ℕ) → IsKept c → i < actor_count c → i < length c.bounds.parts
 among c i k h = let b = k.both in omega arith
 
-pub keeps_bounds : (c : Core) (i : ℕ) (event : Event) → IsKept c → i < actor_count c → IsLawful c i event → BoundsKept c.model (bounds_after c.bounds i event)
+pub keeps_bounds : (c : Core) (i : ℕ) (event : Event) → IsKept c → i < actor_count c → IsLawful c i event → IsSoundBounds c.model (bounds_after c.bounds i event)
 keeps_bounds c i Draw k h l = k.bounds
 keeps_bounds c i (Publish e) k h l = k.bounds
 keeps_bounds c i Look k h l = k.bounds
@@ -140,7 +143,7 @@ keeps c i event k h l = let few = k.few in let long = same_rows c.board i event 
 }
 
 pub sound_of : (c : Core) → IsKept c → IsSoundCore c
-sound_of c k = record { board = k.board.sound; bounds = k.bounds.sound }
+sound_of c k = record { few = k.few; both = k.both; board = k.board.sound; bounds = k.bounds }
 
 run_kept : (c : Core) (events : List (ℕ × Event)) → IsKept c → AreLawful c events → IsKept (run c events)
 run_kept c [] k l = k

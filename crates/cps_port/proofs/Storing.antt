@@ -13,15 +13,13 @@ use Rattle.cps_model.specs.Validity.{IsValid}
 use Rattle.cps_port.specs.declared.entry.Entry.{Entry}
 use Rattle.cps_port.specs.declared.event.Event.{Event}
 use Rattle.cps_port.specs.declared.event.Event.TheVariants.{Draw, Publish, Look, Offer, Raise, SeeUpper, SeeLower}
-use Rattle.cps_port.specs.declared.event.Seen.{Seen}
-use Rattle.cps_port.specs.declared.event.Seen.TheVariants as sights
 use Rattle.cps_port.specs.declared.part.BoardPart.{BoardPart}
 use Rattle.cps_port.specs.declared.part.BoundsPart.{BoundsPart}
 use Rattle.cps_port.specs.declared.seat.Row.{Row}
 use Rattle.cps_port.specs.declared.seat.Seat.{Seat}
 use Rattle.cps_port.specs.Order.{lesser, greater, raised_to}
 use Rattle.cps_port.specs.Parts.{no_rows, no_bounds, with_row, with_past, with_mine, with_taken, with_misses, after_upper, after_lower, after_offer, after_raise}
-use Rattle.cps_port.specs.Cores.{BoardState, BoundsState, Core, first_core, board_part, bounds_part, row_at, next_row, counted, drawn_by, looked_by, looked_at, actor_count, board_after, after, seen, IsLawful}
+use Rattle.cps_port.specs.Cores.{BoardState, BoundsState, Core, first_core, board_part, bounds_part, row_at, next_row, counted, drawn_by, looked_by, actor_count, board_after, after, IsLawful}
 use Rattle.cps_port.specs.Sound.{IsSoundCore}
 use Rattle.cps_port.specs.Totals.{total, one_if}
 use Rattle.cps_port.specs.Kept.{full_count, IsKept}
@@ -135,9 +133,9 @@ own_more i (x ∷ xs) zero r h mine after_ =
 own_more i (x ∷ xs) (suc row) r h mine after_ =
     let rest = own_more i xs row r (omega arith) mine (λ k l. after_ (suc k) (omega arith)) in
     ap (λ (l : List Entry). if is_own i x then x.entry ∷ l else l) rest ∙ if_append (is_own i x) x.entry (own_entries i xs) (r.entry ∷ []) where
-  if_append : (t : Bool) (e : Entry) (l m : List Entry) → (if t then e ∷ (l ++ m) else l ++ m) ≡ (if t then e ∷ l else l) ++ m
-  if_append true e l m = refl
-  if_append false e l m = refl
+      if_append : (t : Bool) (e : Entry) (l m : List Entry) → (if t then e ∷ (l ++ m) else l ++ m) ≡ (if t then e ∷ l else l) ++ m
+      if_append true e l m = refl
+      if_append false e l m = refl
 
 own_same : (i : ℕ) (rows : List Row) (row : ℕ) (r : Row) → is_own i r ≡ false → is_own i (row_of rows row) ≡ false → own_entries i (set rows row r) ≡ own_entries i rows
 own_same i [] row r new old = refl
@@ -148,7 +146,7 @@ own_same i (x ∷ xs) (suc row) r new old = ap (λ (l : List Entry). if is_own i
 pub record Stepped (c c' : Core) (rows : List Row) (seats : List Seat) (i : ℕ) (event : Event) : Type 0 where
   pub state : c' ≡ after c i event
   pub whole : IsWhole c' rows seats
-  pub sound : IsSoundCore c'
+  pub sound : IsSoundCore c × IsSoundCore c'
 
 module _ (m : CpModel) (rows : List Row) (next : ℕ) (seats : List Seat) (upper lower : Bound) (bounds : List BoundsPart) where
   abbrev C : Core
@@ -175,7 +173,7 @@ module _ (m : CpModel) (rows : List Row) (next : ℕ) (seats : List Seat) (upper
     stepped : (event : Event) (c' : Core) (rows' : List Row) (seats' : List Seat) → IsLawful C i event → c' ≡ after C i event → IsStored rows' seats' → Stepped c c' rows' seats' i event
     stepped event c' rows' seats' lawful e stored =
         let kept : IsKept c' = subst IsKept (sym e) (keeps C i event w.kept here lawful) in
-        record { state = e ∙ ap (λ (x : Core). after x i event) is; whole = record { kept = kept; stored = stored }; sound = sound_of c' kept }
+        record { state = e ∙ ap (λ (x : Core). after x i event) is; whole = record { kept = kept; stored = stored }; sound = (subst IsSoundCore is (sound_of C w.kept), sound_of c' kept) }
 
     lawful_here : (event : Event) → IsLawful c i event → IsLawful C i event
     lawful_here event l = subst (λ (x : Core). IsLawful x i event) (sym is) l
@@ -241,7 +239,7 @@ module _ (m : CpModel) (rows : List Row) (next : ℕ) (seats : List Seat) (upper
           let test : nat_lt next (length (map row_entry rows)) ≡ true = let l = length-rows in is_below next (length (map row_entry rows)) (omega arith) in
           let p : drawn_by (board_part C.board i) next (length (map row_entry rows)) ≡ seat_part rows i s = ap (λ (t : Bool). if t then with_row (board_part C.board i) next else with_past (board_part C.board i)) test ∙ ap (λ (q : BoardPart). with_row q next) board_is in
           stepped Draw _ rows (set seats i s) (lawful_here Draw lawful) (board_same (next + 1) s (drawn_by (board_part C.board i) next (length (map row_entry rows))) p)
-              (stored_as s seat_taken (λ row k g l. let same : next ≡ row = some_same next row g in ⊎_elim (λ t. let below = w.kept.board.claimed k (row_of rows k).entry (row_at-stored rows k ∙ own_entry i (row_of rows k) t) in absurd (omega arith)) (λ f. f) (bool_cases (is_own i (row_of rows k)))))
+          (stored_as s seat_taken (λ row k g l. let same : next ≡ row = some_same next row g in ⊎_elim (λ t. let below = w.kept.board.claimed k (row_of rows k).entry (row_at-stored rows k ∙ own_entry i (row_of rows k) t) in absurd (omega arith)) (λ f. f) (bool_cases (is_own i (row_of rows k)))))
 
       pub draws_past : IsLawful c i Draw → length rows ≤ next → Stepped c (core_of m rows (next + 1) (set seats i (record x { full = true })) upper lower bounds) rows (set seats i (record x { full = true })) i Draw
       draws_past lawful past =
@@ -249,6 +247,15 @@ module _ (m : CpModel) (rows : List Row) (next : ℕ) (seats : List Seat) (upper
           let test : nat_lt next (length (map row_entry rows)) ≡ false = let l = length-rows in not_below next (length (map row_entry rows)) (omega arith) in
           let p : drawn_by (board_part C.board i) next (length (map row_entry rows)) ≡ seat_part rows i s = ap (λ (t : Bool). if t then with_row (board_part C.board i) next else with_past (board_part C.board i)) test ∙ ap with_past board_is in
           stepped Draw _ rows (set seats i s) (lawful_here Draw lawful) (board_same (next + 1) s (drawn_by (board_part C.board i) next (length (map row_entry rows))) p) (stored_as s seat_taken seat_ordered)
+
+      pub full_is : x.full ≡ (board_part c.board i).full
+      full_is = ap (λ (p : BoardPart). p.full) (sym board_is) ∙ ap (λ (d : Core). (board_part d.board i).full) is
+
+      pub taken_is : length (board_part c.board i).taken ≡ x.taken
+      taken_is = ap (λ (d : Core). length (board_part d.board i).taken) (sym is) ∙ (ap (λ (p : BoardPart). length p.taken) board_is ∙ length-first_entries rows x.taken seat_taken)
+
+      pub rows_is : length c.board.rows ≡ length rows
+      rows_is = ap (λ (d : Core). length d.board.rows) (sym is) ∙ length-rows
 
       -- how far the actor took
       pub looks_within : IsLawful c i Look → x.taken < length rows
@@ -264,21 +271,21 @@ module _ (m : CpModel) (rows : List Row) (next : ℕ) (seats : List Seat) (upper
           ap (λ (n : ℕ). get_or (map row_entry rows) n None) a ∙ (row_at-stored rows x.taken ∙ ap row_entry (get_or-there rows x.taken r no_row l e))
 
       pub looks_closed : (r : Row) (count : ℕ) → r ≡ get_or rows x.taken r → IsLawful c i Look → r.published ≡ false → count ≡ counted x.misses
-          → Stepped c (core_of m rows next (set seats i (record x { misses = count })) upper lower bounds) rows (set seats i (record x { misses = count })) i Look × (sights.Shut ≡ seen c i Look)
+          → Stepped c (core_of m rows next (set seats i (record x { misses = count })) upper lower bounds) rows (set seats i (record x { misses = count })) i Look × (None ≡ next_row c.board i)
       looks_closed r count e lawful closed counts =
           let s : Seat = record x { misses = count } in
           let none : next_row C.board i ≡ None = next_is r e (looks_within lawful) ∙ ap (λ (t : Bool). if t then Some r.entry else None) closed in
           let p : looked_by (board_part C.board i) (next_row C.board i) ≡ seat_part rows i s = ap (looked_by (board_part C.board i)) none ∙ (ap (λ (q : BoardPart). with_misses q (counted q.misses)) board_is ∙ ap (with_misses (seat_part rows i x)) (sym counts)) in
-          (stepped Look _ rows (set seats i s) (lawful_here Look lawful) (board_same next s (looked_by (board_part C.board i) (next_row C.board i)) p) (stored_as s seat_taken seat_ordered), ap looked_at (sym none) ∙ ap (λ (d : Core). looked_at (next_row d.board i)) is)
+          (stepped Look _ rows (set seats i s) (lawful_here Look lawful) (board_same next s (looked_by (board_part C.board i) (next_row C.board i)) p) (stored_as s seat_taken seat_ordered), sym none ∙ ap (λ (d : Core). next_row d.board i) is)
 
       pub looks_open : (r : Row) → r ≡ get_or rows x.taken r → IsLawful c i Look → r.published ≡ true
-          → Stepped c (core_of m rows next (set seats i (record x { taken = x.taken + 1 })) upper lower bounds) rows (set seats i (record x { taken = x.taken + 1 })) i Look × (sights.Open r.entry ≡ seen c i Look)
+          → Stepped c (core_of m rows next (set seats i (record x { taken = x.taken + 1 })) upper lower bounds) rows (set seats i (record x { taken = x.taken + 1 })) i Look × (Some r.entry ≡ next_row c.board i)
       looks_open r e lawful open_ =
           let s : Seat = record x { taken = x.taken + 1 } in let l = looks_within lawful in
           let some_ : next_row C.board i ≡ Some r.entry = next_is r e l ∙ ap (λ (t : Bool). if t then Some r.entry else None) open_ in
           let more : with_taken (seat_part rows i x) r.entry ≡ seat_part rows i s = ap (λ (t : List Entry). record (seat_part rows i x) { taken = t }) (sym (first_entries-more rows x.taken r l e)) in
           let p : looked_by (board_part C.board i) (next_row C.board i) ≡ seat_part rows i s = ap (looked_by (board_part C.board i)) some_ ∙ (ap (λ (q : BoardPart). with_taken q r.entry) board_is ∙ more) in
-          (stepped Look _ rows (set seats i s) (lawful_here Look lawful) (board_same next s (looked_by (board_part C.board i) (next_row C.board i)) p) (stored_as s (omega arith) seat_ordered), ap looked_at (sym some_) ∙ ap (λ (d : Core). looked_at (next_row d.board i)) is)
+          (stepped Look _ rows (set seats i s) (lawful_here Look lawful) (board_same next s (looked_by (board_part C.board i) (next_row C.board i)) p) (stored_as s (omega arith) seat_ordered), sym some_ ∙ ap (λ (d : Core). next_row d.board i) is)
 
       pub publishes : (e : Entry) → IsLawful c i (Publish e)
           → Stepped c (core_of m (set rows e.row (record { published = true; owner = i; entry = e })) next (set seats i (record x { drawn = None })) upper lower bounds) (set rows e.row (record { published = true; owner = i; entry = e })) (set seats i (record x { drawn = None })) i (Publish e)
@@ -292,30 +299,30 @@ module _ (m : CpModel) (rows : List Row) (next : ℕ) (seats : List Seat) (upper
           let within : e.row < length rows = let a = d.within in let b = length-rows in omega arith in
           let closed : row_entry (row_of rows e.row) ≡ None = sym (row_at-stored rows e.row) ∙ d.closed in
           let taken_below : (j : ℕ) → j < length seats → (seat_of seats j).taken ≤ e.row = λ j l.
-              let q : Seat = seat_of seats j in
-              let part_j : board_part C.board j ≡ seat_part rows j q = seat_parts-at rows 0 seats j j q (omega arith) l (get_or-default seats j no_seat l) in
-              let long : length (board_part C.board j).taken ≡ q.taken = ap (λ (p : BoardPart). length p.taken) part_j ∙ length-first_entries rows q.taken (w.stored.taken j) in
-              let b = taken_before (board_part C.board j).taken (map row_entry rows) e.row (w.kept.board.sound.taken j) d.closed in omega arith in
+          let q : Seat = seat_of seats j in
+          let part_j : board_part C.board j ≡ seat_part rows j q = seat_parts-at rows 0 seats j j q (omega arith) l (get_or-default seats j no_seat l) in
+          let long : length (board_part C.board j).taken ≡ q.taken = ap (λ (p : BoardPart). length p.taken) part_j ∙ length-first_entries rows q.taken (w.stored.taken j) in
+          let b = taken_before (board_part C.board j).taken (map row_entry rows) e.row (w.kept.board.sound.taken j) d.closed in omega arith in
           let mine : seat_part rows' i s ≡ with_mine (board_part C.board i) e =
-              ap (λ (l : List Entry). record (seat_part rows' i s) { mine = l }) (own_more i rows e.row r within (own_here i e) (λ k l. seat_ordered e.row k is_drawn l))
-              ∙ (ap (λ (l : List Entry). record (with_mine (seat_part rows i x) e) { taken = l }) (first_entries-set rows e.row x.taken r (subst (λ (q : Seat). q.taken ≤ e.row) seat_is (taken_below i among)))
-              ∙ ap (λ (p : BoardPart). with_mine p e) (sym board_is)) in
+          ap (λ (l : List Entry). record (seat_part rows' i s) { mine = l }) (own_more i rows e.row r within (own_here i e) (λ k l. seat_ordered e.row k is_drawn l))
+          ∙ (ap (λ (l : List Entry). record (with_mine (seat_part rows i x) e) { taken = l }) (first_entries-set rows e.row x.taken r (subst (λ (q : Seat). q.taken ≤ e.row) seat_is (taken_below i among)))
+          ∙ ap (λ (p : BoardPart). with_mine p e) (sym board_is)) in
           let parts : seat_parts rows' 0 (set seats i s) ≡ set (seat_parts rows 0 seats) i (with_mine (board_part C.board i) e) =
-              seat_parts-set rows rows' 0 seats i s (with_mine (board_part C.board i) e) among (λ n q. ap (λ (k : ℕ). seat_part rows' k s) (let same : n ≡ i = omega arith in same) ∙ mine)
-              (λ j n q ne l.
-                let apart : is_own n r ≡ false = own_other i n e (λ same. ne (omega arith)) in
-                let old : is_own n (row_of rows e.row) ≡ false = not_own n (row_of rows e.row) closed in
-                ap (λ (k : List Entry). record (seat_part rows' n (seat_of seats j)) { mine = k }) (own_same n rows e.row r apart old)
-                ∙ ap (λ (k : List Entry). record (seat_part rows n (seat_of seats j)) { taken = k }) (first_entries-set rows e.row (seat_of seats j).taken r (taken_below j l))) in
+          seat_parts-set rows rows' 0 seats i s (with_mine (board_part C.board i) e) among (λ n q. ap (λ (k : ℕ). seat_part rows' k s) (let same : n ≡ i = omega arith in same) ∙ mine)
+          (λ j n q ne l.
+          let apart : is_own n r ≡ false = own_other i n e (λ same. ne (omega arith)) in
+          let old : is_own n (row_of rows e.row) ≡ false = not_own n (row_of rows e.row) closed in
+          ap (λ (k : List Entry). record (seat_part rows' n (seat_of seats j)) { mine = k }) (own_same n rows e.row r apart old)
+          ∙ ap (λ (k : List Entry). record (seat_part rows n (seat_of seats j)) { taken = k }) (first_entries-set rows e.row (seat_of seats j).taken r (taken_below j l))) in
           stepped (Publish e) _ rows' (set seats i s) may
-              (ap (λ (l : List (Option Entry)). record C { board = record { rows = l; next = next; parts = seat_parts rows' 0 (set seats i s) } }) (map-set row_entry rows e.row r)
-              ∙ ap (λ (l : List BoardPart). record C { board = record { rows = set (map row_entry rows) e.row (Some e); next = next; parts = l } }) parts)
-              (record {
-                actors = let l = length-set seats i s in let a = w.stored.actors in omega arith;
-                taken = λ j. at_each seats i s no_seat j (λ (q : Seat). q.taken ≤ length rows') among (λ _. let l = length-set rows e.row r in let t = seat_taken in omega arith) (λ _. let l = length-set rows e.row r in let t = w.stored.taken j in omega arith);
-                ordered = λ j row k. at_each seats i s no_seat j (λ (q : Seat). q.drawn ≡ Some row → row ≤ k → is_own j (row_of rows' k) ≡ false) among (λ _ g _. absurd (none_some row g))
-                    (λ ne g l. at_each rows e.row r no_row k (λ (y : Row). is_own j y ≡ false) within (λ _. own_other i j e (λ same. ne (sym same))) (λ _. w.stored.ordered j row k g l));
-              })
+          (ap (λ (l : List (Option Entry)). record C { board = record { rows = l; next = next; parts = seat_parts rows' 0 (set seats i s) } }) (map-set row_entry rows e.row r)
+          ∙ ap (λ (l : List BoardPart). record C { board = record { rows = set (map row_entry rows) e.row (Some e); next = next; parts = l } }) parts)
+          (record {
+            actors = let l = length-set seats i s in let a = w.stored.actors in omega arith;
+            taken = λ j. at_each seats i s no_seat j (λ (q : Seat). q.taken ≤ length rows') among (λ _. let l = length-set rows e.row r in let t = seat_taken in omega arith) (λ _. let l = length-set rows e.row r in let t = w.stored.taken j in omega arith);
+            ordered = λ j row k. at_each seats i s no_seat j (λ (q : Seat). q.drawn ≡ Some row → row ≤ k → is_own j (row_of rows' k) ≡ false) among (λ _ g _. absurd (none_some row g))
+                (λ ne g l. at_each rows e.row r no_row k (λ (y : Row). is_own j y ≡ false) within (λ _. own_other i j e (λ same. ne (sym same))) (λ _. w.stored.ordered j row k g l));
+          })
 
 -- the state before the first event
 own_replicate : (i n : ℕ) → own_entries i (replicate n no_row) ≡ []

@@ -1,6 +1,6 @@
 -- The state that all actors share, and what each event makes of it. An event is one step: events of several actors may
 -- come in any order.
-use Rattle.std.specs.Prelude.{◌≡◌, ℕ, ◌+◌, ◌-◌, ◌<◌, ◌≤◌, ◌^◌, min, nat_lt, Bool, true, false, if◌then◌else◌, ℤ, List, All, replicate, length, slice_index_or, slice_set, Option, Some, None, IsTrue}
+use Rattle.std.specs.Prelude.{◌≡◌, ℕ, ◌+◌, ◌-◌, ◌<◌, ◌≤◌, ◌^◌, nat_lt, Bool, true, false, if◌then◌else◌, ℤ, List, All, replicate, length, slice_index_or, slice_set, Option, Some, None, IsTrue}
 use Rattle.cps_model.specs.declared.bound.Bound.{Bound}
 use Rattle.cps_model.specs.declared.bound.Bound.TheVariants.{At, Infinite}
 use Rattle.cps_model.specs.declared.model.CpModel.{CpModel}
@@ -70,7 +70,7 @@ with_bounds s actor p = record s { parts = slice_set s.parts actor p }
 
 -- a count of 64 bits rises, or stands still at its last value
 abbrev pub counted : ℕ → ℕ
-counted n = min (n + 1) (2 ^ 64 - 1)
+counted n = if nat_lt n (2 ^ 64 - 1) then n + 1 else n
 
 abbrev pub drawn_by : BoardPart → ℕ → ℕ → BoardPart
 drawn_by p next rows = if nat_lt next rows then with_row p next else with_past p
@@ -82,6 +82,10 @@ looked_by p (Some e) = with_taken p e
 -- the row at which an actor looks
 abbrev pub next_row : BoardState → ℕ → Option Entry
 next_row b actor = row_at b (length (board_part b actor).taken)
+
+-- the row that a draw gives
+abbrev pub row_drawn : BoardState → Option ℕ
+row_drawn b = if nat_lt b.next (length b.rows) then Some b.next else None
 
 -- the board after an event of an actor
 abbrev pub board_after : BoardState → ℕ → Event → BoardState
@@ -106,13 +110,17 @@ bounds_after s i Look = s
 abbrev pub after : Core → ℕ → Event → Core
 after c i event = record c { board = board_after c.board i event; bounds = bounds_after c.bounds i event }
 
+abbrev pub drawn_now : Option ℕ → Seen
+drawn_now None = sights.Past
+drawn_now (Some row) = sights.Row row
+
 abbrev pub looked_at : Option Entry → Seen
 looked_at None = sights.Shut
 looked_at (Some e) = sights.Open e
 
 -- what the actor sees of its event
 abbrev pub seen : Core → ℕ → Event → Seen
-seen c i Draw = if nat_lt c.board.next (length c.board.rows) then sights.Row c.board.next else sights.Past
+seen c i Draw = drawn_now (row_drawn c.board)
 seen c i (Publish e) = sights.Done
 seen c i Look = looked_at (next_row c.board i)
 seen c i (Offer v) = sights.Word (lesser c.bounds.upper (At v))

@@ -4,9 +4,8 @@ use Rattle.cps_model.specs.declared.model.CpModel.{CpModel}
 use Rattle.cps_model.specs.Validity.{IsValid}
 use Rattle.cps_port.specs.declared.entry.Entry.{Entry}
 use Rattle.cps_port.specs.declared.part.BoardPart.{BoardPart}
-use Rattle.cps_port.specs.Order.{BoundLe, IsNoLower}
 use Rattle.cps_port.specs.Totals.{total, one_if}
-use Rattle.cps_port.specs.Cores.{BoardState, BoundsState, Core, board_part, bounds_part, row_at}
+use Rattle.cps_port.specs.Cores.{BoardState, Core, board_part, row_at}
 use Rattle.cps_port.specs.Sound.{IsSoundBoard, IsSoundBounds}
 
 -- a row that is drawn and not published
@@ -26,14 +25,9 @@ pub record BoardKept (m : CpModel) (b : BoardState) : Type 0 where
   pub drawn : (i row : ℕ) → (board_part b i).drawn ≡ Some row → IsDrawn b row
   pub apart : (i j row : ℕ) → (board_part b i).drawn ≡ Some row → (board_part b j).drawn ≡ Some row → i ≡ j
 
-pub record BoundsKept (m : CpModel) (s : BoundsState) : Type 0 where
-  pub sound : IsSoundBounds m s
-  pub saw_upper : (i : ℕ) → BoundLe s.upper (bounds_part s i).saw_upper
-  pub saw_lower : (i : ℕ) → IsNoLower (bounds_part s i).saw_lower s.lower
-
 pub record IsKept (c : Core) : Type 0 where
   pub valid : IsValid c.model
   pub few : length c.board.rows ≤ 4096
   pub both : length c.bounds.parts ≡ length c.board.parts
   pub board : BoardKept c.model c.board
-  pub bounds : BoundsKept c.model c.bounds
+  pub bounds : IsSoundBounds c.model c.bounds

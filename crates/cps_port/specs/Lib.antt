@@ -8,3 +8,4 @@ pub mod Cores
 pub mod Sound
 pub mod Kept
 pub mod Views
+pub mod Others

@@ -1,5 +1,5 @@
 -- What holds of the shared state after every list of lawful events.
-use Rattle.std.specs.Prelude.{◌≡◌, ℕ, ◌<◌, List, [], ◌∷◌, Contains, map, take, length, Some}
+use Rattle.std.specs.Prelude.{◌≡◌, ℕ, ◌<◌, ◌≤◌, List, [], ◌∷◌, Contains, map, take, length, Some}
 use Rattle.cps_model.specs.declared.bound.Bound.{Bound}
 use Rattle.cps_model.specs.declared.bound.Bound.TheVariants.{At, Infinite}
 use Rattle.cps_model.specs.declared.model.CpModel.{CpModel}
@@ -8,11 +8,11 @@ use Rattle.cps_port.specs.declared.entry.Entry.{Entry}
 use Rattle.cps_port.specs.declared.event.Event.{Event}
 use Rattle.cps_port.specs.declared.part.BoardPart.{BoardPart}
 use Rattle.cps_port.specs.declared.part.BoundsPart.{BoundsPart}
-use Rattle.cps_port.specs.Order.{lesser, raised_above}
+use Rattle.cps_port.specs.Order.{BoundLe, IsNoLower, lesser, raised_above}
 use Rattle.cps_port.specs.Incumbents.{IsIncumbent, IsLowerBound}
 use Rattle.cps_port.specs.Entries.{IsSoundEntry}
 use Rattle.cps_port.specs.Totals.{total, times}
-use Rattle.cps_port.specs.Cores.{BoardState, BoundsState, Core, board_part, row_at, actor_count, after, IsLawful}
+use Rattle.cps_port.specs.Cores.{BoardState, BoundsState, Core, board_part, bounds_part, row_at, actor_count, after, IsLawful}
 
 -- the least of the actors' least offers, `Infinite` without one
 abbrev pub least_offer : List BoundsPart → Bound
@@ -44,8 +44,13 @@ pub record IsSoundBounds (m : CpModel) (s : BoundsState) : Type 0 where
   -- the lower bound is the greatest raise, and no solution's objective is below it
   pub lower : s.lower ≡ greatest_raise (At (objective_start m)) s.parts
   pub floor : IsLowerBound m s.lower
+  -- neither was ever better than it is
+  pub saw_upper : (i : ℕ) → BoundLe s.upper (bounds_part s i).saw_upper
+  pub saw_lower : (i : ℕ) → IsNoLower (bounds_part s i).saw_lower s.lower
 
 pub record IsSoundCore (c : Core) : Type 0 where
+  pub few : length c.board.rows ≤ 4096
+  pub both : length c.bounds.parts ≡ length c.board.parts
   pub board : IsSoundBoard c.model c.board
   pub bounds : IsSoundBounds c.model c.bounds
 

@@ -1,9 +1,9 @@
 //! The state that all actors share, in one value.
-ghost use Rattle.std.specs.Prelude.{◌≡◌, ◌<◌, ◌≤◌, ◌^◌, IfOk};
+ghost use Rattle.std.specs.Prelude.{◌≡◌, ◌<◌, ◌≤◌, ◌^◌, ◌↔◌, IfOk, IsTrue, length};
 ghost use Rattle.cps_model.specs.Start.{objective_start};
-ghost use Rattle.cps_port.specs.Cores.{first_core, actor_count, after, seen, counted, IsLawful};
+ghost use Rattle.cps_port.specs.Cores.{first_core, actor_count, board_part, next_row, row_drawn, after, seen, counted, IsLawful};
 ghost use Rattle.cps_port.specs.Sound.{IsSoundCore};
-ghost use Rattle.cps_port.specs.Kept.{IsKept};
+ghost use Rattle.cps_port.specs.Order.{lesser, greater};
 
 use crate::entry::Entry;
 use crate::event::{Event, Seen};
@@ -45,11 +45,7 @@ impl<'a> Model for CoreState<'a> {
 fn counted(count: u64) -> u64
     ensures { result ≡ counted count }
 {
-    if count < u64::MAX {
-        count + 1
-    } else {
-        count
-    }
+    if count < u64::MAX { count + 1 } else { count }
 }
 
 impl<'a> CoreState<'a> {
@@ -88,25 +84,52 @@ impl<'a> CoreState<'a> {
         requires lawful { IsLawful self.old actor event }
         ensures state { self.new ≡ after self.old actor event }
         ensures seen { result ≡ seen self.old actor event }
-        ensures sound { IsSoundCore self.new }
+        ensures sound { IsSoundCore self.old × IsSoundCore self.new }
     {
         match event {
-            Event::Draw => self.draw(actor),
-            Event::Publish(entry) => self.publish(actor, entry),
-            Event::Look => self.look(actor),
-            Event::Offer(value) => self.offer(actor, value),
-            Event::Raise(bound) => self.raise(actor, bound),
-            Event::SeeUpper => self.see_upper(actor),
-            Event::SeeLower => self.see_lower(actor),
+            Event::Draw => match self.draw(actor) {
+                Some(row) => Seen::Row(row),
+                None => Seen::Past,
+            },
+            Event::Publish(entry) => {
+                self.publish(actor, entry);
+                Seen::Done
+            }
+            Event::Look => match self.look(actor) {
+                Some(entry) => Seen::Open(entry),
+                None => Seen::Shut,
+            },
+            Event::Offer(value) => Seen::Word(self.offer(actor, value)),
+            Event::Raise(bound) => Seen::Word(self.raise(actor, bound)),
+            Event::SeeUpper => Seen::Word(self.see_upper(actor)),
+            Event::SeeLower => Seen::Word(self.see_lower(actor)),
         }
     }
 
-    fn draw(&mut self, actor: u32) -> Seen
+    /// Whether an actor drew past the last row.
+    pub(crate) fn is_full(&self, actor: u32) -> bool
+        requires { actor < actor_count self.now }
+        ensures { result ≡ (board_part self.now.board actor).full }
+    {
+        self.seats[actor as usize].full
+    }
+
+    /// Whether there is a row that an actor has not taken.
+    pub(crate) fn has_more(&self, actor: u32) -> bool
+        requires { actor < actor_count self.now }
+        ensures more { IsTrue result ↔ (length (board_part self.now.board actor).taken < length self.now.board.rows) }
+        ensures at_most { length (board_part self.now.board actor).taken ≤ length self.now.board.rows }
+    {
+        (self.seats[actor as usize].taken as usize) < self.rows.len()
+    }
+
+    /// The row that is drawn, where one is left.
+    pub(crate) fn draw(&mut self, actor: u32) -> Option<u32>
         requires actor { actor < actor_count self.old }
         requires lawful { IsLawful self.old actor Event.Draw }
         ensures state { self.new ≡ after self.old actor Event.Draw }
-        ensures seen { result ≡ seen self.old actor Event.Draw }
-        ensures sound { IsSoundCore self.new }
+        ensures row { result ≡ row_drawn self.old.board }
+        ensures sound { IsSoundCore self.old × IsSoundCore self.new }
     {
         let mut seat = self.seats[actor as usize];
         let row = self.next;
@@ -114,19 +137,18 @@ impl<'a> CoreState<'a> {
         if row >= self.rows.len() as u64 {
             seat.full = true;
             self.seats[actor as usize] = seat;
-            return Seen::Past;
+            return None;
         }
         seat.drawn = Some(row as u32);
         self.seats[actor as usize] = seat;
-        Seen::Row(row as u32)
+        Some(row as u32)
     }
 
-    fn publish(&mut self, actor: u32, entry: Entry) -> Seen
+    pub(crate) fn publish(&mut self, actor: u32, entry: Entry)
         requires actor { actor < actor_count self.old }
         requires lawful { IsLawful self.old actor (Event.Publish entry) }
         ensures state { self.new ≡ after self.old actor (Event.Publish entry) }
-        ensures seen { result ≡ seen self.old actor (Event.Publish entry) }
-        ensures sound { IsSoundCore self.new }
+        ensures sound { IsSoundCore self.old × IsSoundCore self.new }
     {
         let mut seat = self.seats[actor as usize];
         seat.drawn = None;
@@ -136,83 +158,83 @@ impl<'a> CoreState<'a> {
             owner: actor,
             entry,
         };
-        Seen::Done
     }
 
-    fn look(&mut self, actor: u32) -> Seen
+    /// The entry of the next row, where it is published.
+    pub(crate) fn look(&mut self, actor: u32) -> Option<Entry>
         requires actor { actor < actor_count self.old }
         requires lawful { IsLawful self.old actor Event.Look }
         ensures state { self.new ≡ after self.old actor Event.Look }
-        ensures seen { result ≡ seen self.old actor Event.Look }
-        ensures sound { IsSoundCore self.new }
+        ensures entry { result ≡ next_row self.old.board actor }
+        ensures sound { IsSoundCore self.old × IsSoundCore self.new }
     {
         let mut seat = self.seats[actor as usize];
         let row = self.rows[seat.taken as usize];
         if row.published {
             seat.taken += 1;
             self.seats[actor as usize] = seat;
-            return Seen::Open(row.entry);
+            return Some(row.entry);
         }
         seat.misses = counted(seat.misses);
         self.seats[actor as usize] = seat;
-        Seen::Shut
+        None
     }
 
-    fn see_upper(&mut self, actor: u32) -> Seen
+    pub(crate) fn see_upper(&mut self, actor: u32) -> Bound
         requires actor { actor < actor_count self.old }
         ensures state { self.new ≡ after self.old actor Event.SeeUpper }
-        ensures seen { result ≡ seen self.old actor Event.SeeUpper }
-        ensures sound { IsSoundCore self.new }
+        ensures bound { result ≡ self.old.bounds.upper }
+        ensures sound { IsSoundCore self.old × IsSoundCore self.new }
     {
         let mut part = self.bounds[actor as usize];
         part.saw_upper = self.upper;
         part.upper_loads = counted(part.upper_loads);
         part.upper_last = Some(self.upper);
         self.bounds[actor as usize] = part;
-        Seen::Word(self.upper)
+        self.upper
     }
 
-    fn see_lower(&mut self, actor: u32) -> Seen
+    pub(crate) fn see_lower(&mut self, actor: u32) -> Bound
         requires actor { actor < actor_count self.old }
         ensures state { self.new ≡ after self.old actor Event.SeeLower }
-        ensures seen { result ≡ seen self.old actor Event.SeeLower }
-        ensures sound { IsSoundCore self.new }
+        ensures bound { result ≡ self.old.bounds.lower }
+        ensures sound { IsSoundCore self.old × IsSoundCore self.new }
     {
         let mut part = self.bounds[actor as usize];
         part.saw_lower = Some(self.lower);
         part.lower_loads = counted(part.lower_loads);
         part.lower_last = Some(self.lower);
         self.bounds[actor as usize] = part;
-        Seen::Word(self.lower)
+        self.lower
     }
 
-    fn offer(&mut self, actor: u32, value: i64) -> Seen
+    pub(crate) fn offer(&mut self, actor: u32, value: i64) -> Bound
         requires actor { actor < actor_count self.old }
         requires lawful { IsLawful self.old actor (Event.Offer value) }
         ensures state { self.new ≡ after self.old actor (Event.Offer value) }
-        ensures seen { result ≡ seen self.old actor (Event.Offer value) }
-        ensures sound { IsSoundCore self.new }
+        ensures bound { result ≡ lesser self.old.bounds.upper (Bound.At value) }
+        ensures sound { IsSoundCore self.old × IsSoundCore self.new }
     {
         self.upper = lesser(self.upper, Bound::At(value));
         let mut part = self.bounds[actor as usize];
         part.saw_upper = self.upper;
         part.offered = lesser(part.offered, Bound::At(value));
         self.bounds[actor as usize] = part;
-        Seen::Word(self.upper)
+        self.upper
     }
 
-    fn raise(&mut self, actor: u32, bound: Bound) -> Seen
+    pub(crate) fn raise(&mut self, actor: u32, bound: Bound) -> Bound
         requires actor { actor < actor_count self.old }
         requires lawful { IsLawful self.old actor (Event.Raise bound) }
         ensures state { self.new ≡ after self.old actor (Event.Raise bound) }
-        ensures seen { result ≡ seen self.old actor (Event.Raise bound) }
-        ensures sound { IsSoundCore self.new }
+        ensures bound { result ≡ greater self.old.bounds.lower bound }
+        ensures sound { IsSoundCore self.old × IsSoundCore self.new }
     {
         self.lower = greater(self.lower, bound);
         let mut part = self.bounds[actor as usize];
         part.saw_lower = Some(self.lower);
         part.raised = raised_to(part.raised, bound);
         self.bounds[actor as usize] = part;
-        Seen::Word(self.lower)
+        self.lower
     }
 }

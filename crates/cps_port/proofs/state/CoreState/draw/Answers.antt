@@ -3,16 +3,16 @@ use Rattle.cps_port.proofs.Storing.{among, next_small, draws_row, draws_past}
 use Rattle.cps_port.proofs.state.CoreState.draw.Goals as goal
 
 pub index-seat-requires : goal.index-seat-requires
-index-seat-requires c = let s = c.self.inside in let n = among s.model.now s.rows.items s.next s.seats.items s.upper s.lower s.bounds.items c.args.self.now c.self.view_is c.self.invariant c.args.actor c.requires.actor  in omega arith
+index-seat-requires c = let s = c.self.inside in let n = among s.model.now s.rows.items s.next s.seats.items s.upper s.lower s.bounds.items c.args.self.now c.self.view_is c.self.invariant c.args.actor c.requires.actor in omega arith
 
 pub index_mut-requires : goal.index_mut-requires
-index_mut-requires c = let s = c.self.inside in let n = among s.model.now s.rows.items s.next s.seats.items s.upper s.lower s.bounds.items c.args.self.now c.self.view_is c.self.invariant c.args.actor c.requires.actor  in omega arith
+index_mut-requires c = let s = c.self.inside in let n = among s.model.now s.rows.items s.next s.seats.items s.upper s.lower s.bounds.items c.args.self.now c.self.view_is c.self.invariant c.args.actor c.requires.actor in omega arith
 
 pub index_mut-requires-2 : goal.index_mut-requires-2
-index_mut-requires-2 c = let s = c.self.inside in let n = among s.model.now s.rows.items s.next s.seats.items s.upper s.lower s.bounds.items c.args.self.now c.self.view_is c.self.invariant c.args.actor c.requires.actor  in omega arith
+index_mut-requires-2 c = let s = c.self.inside in let n = among s.model.now s.rows.items s.next s.seats.items s.upper s.lower s.bounds.items c.args.self.now c.self.view_is c.self.invariant c.args.actor c.requires.actor in omega arith
 
 pub overflow_add-self : goal.overflow_add-self
-overflow_add-self c = let s = c.self.inside in let n = next_small s.model.now s.rows.items s.next s.seats.items s.upper s.lower s.bounds.items c.args.self.now c.self.view_is c.self.invariant c.args.actor c.requires.actor  in omega arith
+overflow_add-self c = let s = c.self.inside in let n = next_small s.model.now s.rows.items s.next s.seats.items s.upper s.lower s.bounds.items c.args.self.now c.self.view_is c.self.invariant c.args.actor c.requires.actor in omega arith
 
 pub invariant_of-self : goal.invariant_of-self
 invariant_of-self c = let s = c.self.inside in let k = draws_past s.model.now s.rows.items s.next s.seats.items s.upper s.lower s.bounds.items c.args.self.now c.self.view_is c.self.invariant c.args.actor c.requires.actor c.index-seat.result.now c.index-seat.ensures c.requires.lawful (omega arith) in k.whole
