@@ -1,6 +1,6 @@
 -- Events on the board keep it sound.
 use Rattle.std.proofs.Common.{◌≡◌, ◌≢◌, ℕ, zero, suc, ◌+◌, ◌<◌, ◌≤◌, ◌==◌, nat_lt, ◌⊎◌, ⊎_elim, inl, inr, Bool, true, false, if◌then◌else◌, ℤ, ◌≤ℤ◌, ◌<ℤ◌, Option, Some, None, List, [], ◌∷◌, ◌++◌, map, take, length, get_or, set, sym, refl, ap, ◌∙◌, subst, arith, get_or-set_same, get_or-set_other, length-set, length-append}
-use Rattle.std.specs.Prelude.{All, Contains, IsTrue}
+use Rattle.std.specs.Prelude.{Contains, IsTrue}
 use Rattle.std.proofs.lemmas.Int.{ints}
 use Rattle.std.proofs.lemmas.Bool.Decides.{nat_tests}
 use Rattle.std.proofs.lemmas.List.{take-set-le, take_more, map-append}
@@ -18,11 +18,11 @@ use Rattle.cps_port.specs.declared.entry.Entry.{Entry}
 use Rattle.cps_port.specs.declared.event.Event.TheVariants.{Draw, Publish, Look}
 use Rattle.cps_port.specs.declared.part.BoardPart.{BoardPart}
 use Rattle.cps_port.specs.Order.{BoundLe, IsBelow}
-use Rattle.cps_port.specs.Incumbents.{HoldsBelow, IsIncumbent, IsLowerBound}
+use Rattle.cps_port.specs.Incumbents.{HoldsBelow, IsLowerBound}
 use Rattle.cps_port.specs.Entries.{entry_clause, IsSoundEntry}
 use Rattle.cps_port.specs.Parts.{no_rows, with_row, with_past, with_mine, with_taken, with_misses}
 use Rattle.cps_port.specs.Totals.{total, one_if, times}
-use Rattle.cps_port.specs.Cores.{BoardState, board_part, row_at, next_row, counted, drawn_by, looked_by, board_after, AreTrueBelow, MayPublish, MayRaise}
+use Rattle.cps_port.specs.Cores.{BoardState, board_part, row_at, next_row, counted, looked_by, board_after, AreTrueBelow, MayPublish, MayRaise}
 use Rattle.cps_port.specs.Sound.{owners, IsSoundBoard}
 use Rattle.cps_port.specs.Kept.{IsDrawn, full_count, BoardKept}
 use Rattle.cps_port.proofs.Lists.{at_each, total-set, total-none, one_if-same, one_if-other, times-append, times-none}

@@ -1,5 +1,5 @@
 -- Laws of bounds, and that events on the bounds keep them.
-use Rattle.std.proofs.Common.{◌≡◌, ◌≢◌, ℕ, zero, suc, ◌+◌, ◌<◌, ◌≤◌, ℤ, ◌≤ℤ◌, ◌<ℤ◌, Option, Some, None, List, [], ◌∷◌, length, get_or, set, sym, refl, ap, ◌∙◌, subst, arith, get_or-set_same, get_or-set_other, length-set}
+use Rattle.std.proofs.Common.{◌≡◌, ◌≢◌, ℕ, zero, suc, ◌<◌, ℤ, ◌≤ℤ◌, Option, Some, None, List, [], ◌∷◌, length, get_or, set, sym, refl, ap, ◌∙◌, subst, arith, get_or-set_same, get_or-set_other}
 use Rattle.std.specs.Prelude.{Bool, true, false, cond, int_lt}
 use Rattle.std.specs.Int.{int_min, int_max}
 use Rattle.std.proofs.lemmas.Int.{ints, int_min_is, int_max_is}
@@ -11,7 +11,7 @@ use Rattle.cps_model.specs.declared.model.CpModel.{CpModel}
 use Rattle.cps_model.specs.Start.{objective_start}
 use Rattle.cps_port.specs.declared.event.Event.TheVariants.{Offer, Raise, SeeUpper, SeeLower}
 use Rattle.cps_port.specs.declared.part.BoundsPart.{BoundsPart}
-use Rattle.cps_port.specs.Order.{BoundLe, IsBelow, lesser, greater, raised_to, raised_above, IsNoLower}
+use Rattle.cps_port.specs.Order.{BoundLe, lesser, greater, raised_to, raised_above, IsNoLower}
 use Rattle.cps_port.specs.Incumbents.{IsAttained, IsIncumbent, IsLowerBound}
 use Rattle.cps_port.specs.Parts.{no_bounds, after_upper, after_lower, after_offer, after_raise}
 use Rattle.cps_port.specs.Cores.{BoundsState, bounds_part, counted, bounds_after}

@@ -4,3 +4,5 @@ pub mod Boarding
 pub mod SoundCore
 pub mod Storing
 pub mod Porting
+pub mod Attained
+pub mod Places

@@ -1,5 +1,5 @@
 -- What an event of an actor means to its port.
-use Rattle.std.proofs.Common.{◌≡◌, ◌≢◌, ℕ, ◌+◌, ◌-◌, ◌<◌, ◌≤◌, ◌^◌, nat_lt, Bool, true, false, if◌then◌else◌, ℤ, Option, Some, None, List, [], ◌∷◌, ◌++◌, take, replicate, length, get_or, set, sym, refl, ap, ◌∙◌, subst, arith, get_or-set_same}
+use Rattle.std.proofs.Common.{◌≡◌, ℕ, ◌+◌, ◌-◌, ◌<◌, ◌≤◌, ◌^◌, nat_lt, Bool, true, false, if◌then◌else◌, ℤ, Option, Some, None, List, [], ◌∷◌, ◌++◌, take, replicate, length, set, sym, refl, ap, ◌∙◌, subst, arith, get_or-set_same}
 use Rattle.std.specs.Prelude.{Contains, IsTrue}
 use Rattle.std.proofs.lemmas.Bool.Decides.{nat_tests}
 use mathlib.Core.Logic.{dite}
@@ -7,21 +7,18 @@ use native.Mathlib.Decide.{dec_le}
 use Rattle.cps_model.specs.declared.bound.Bound.{Bound}
 use Rattle.cps_model.specs.declared.bound.Bound.TheVariants.{At, Infinite}
 use Rattle.cps_model.specs.declared.model.CpModel.{CpModel}
-use Rattle.cps_model.specs.Solutions.{objective_value, IsFree, IsSolution}
-use Rattle.cps_model.specs.Statuses.{IsAtMost}
 use Rattle.cps_literal.specs.declared.atom.Atom.{Atom}
 use Rattle.cps_literal.specs.Truth.{clause_holds}
 use Rattle.cps_port.specs.declared.entry.Entry.{Entry}
-use Rattle.cps_port.specs.declared.event.Event.{Event}
-use Rattle.cps_port.specs.declared.event.Event.TheVariants.{Draw, Publish, Look, Offer, Raise, SeeUpper, SeeLower}
+use Rattle.cps_port.specs.declared.event.Event.TheVariants.{Draw, Look, Offer, Raise, SeeUpper, SeeLower}
 use Rattle.cps_port.specs.declared.part.BoardPart.{BoardPart}
 use Rattle.cps_port.specs.declared.part.BoundsPart.{BoundsPart}
-use Rattle.cps_port.specs.Order.{BoundLe, IsBelow, Rises, lesser, greater}
+use Rattle.cps_port.specs.Order.{BoundLe, Rises, lesser, greater}
 use Rattle.cps_port.specs.Incumbents.{HoldsBelow, IsIncumbent, IsLowerBound}
-use Rattle.cps_port.specs.Entries.{most_atoms, blank, padded, entry_of, entry_clause, IsShareable, IsSoundEntry}
-use Rattle.cps_port.specs.Parts.{no_rows, no_bounds, with_row, with_past, with_taken, with_misses, after_upper, after_lower, after_offer, after_raise}
-use Rattle.cps_port.specs.Says.{OwnEntry, TookEntry, FoundClosed}
-use Rattle.cps_port.specs.Cores.{BoundsState, Core, board_part, bounds_part, row_at, next_row, row_drawn, counted, drawn_by, looked_by, actor_count, bounds_after, after, MayPublish, MayRaise}
+use Rattle.cps_port.specs.Entries.{most_atoms, blank, entry_of, entry_clause, IsShareable}
+use Rattle.cps_port.specs.Parts.{no_rows, no_bounds, with_row, with_past, with_misses, after_upper, after_lower, after_offer, after_raise}
+use Rattle.cps_port.specs.Says.{TookEntry, FoundClosed}
+use Rattle.cps_port.specs.Cores.{BoundsState, Core, board_part, bounds_part, row_at, next_row, row_drawn, counted, drawn_by, looked_by, actor_count, after, MayPublish, MayRaise}
 use Rattle.cps_port.specs.Sound.{IsSoundCore}
 
 same_some : {X : Type 0} (x y : X) → Some x ≡ Some y → x ≡ y
@@ -37,10 +34,11 @@ counted_by n false e = absurd (omega arith)
 pub counted_rises : (n : ℕ) → Rises n (counted n)
 counted_rises n = dite (dec_le (2 ^ 64 - 1) n) (λ h. let e : counted n ≡ n = ap (λ (t : Bool). if t then n + 1 else n) (let q : nat_lt n (2 ^ 64 - 1) ≡ false = not_below n (2 ^ 64 - 1) h in q) in record { rose = λ l. absurd (omega arith); never_falls = omega arith })
     (λ h. let e : counted n ≡ n + 1 = ap (λ (t : Bool). if t then n + 1 else n) (let q : nat_lt n (2 ^ 64 - 1) ≡ true = is_below n (2 ^ 64 - 1) (omega arith) in q) in record { rose = λ _. e; never_falls = omega arith }) where
-  is_below : (n c : ℕ) → n < c → nat_lt n c ≡ true
-  is_below n c h = grind (arith, nat_tests)
-  not_below : (n c : ℕ) → c ≤ n → nat_lt n c ≡ false
-  not_below n c h = grind (arith, nat_tests)
+      is_below : (n c : ℕ) → n < c → nat_lt n c ≡ true
+      is_below n c h = grind (arith, nat_tests)
+
+      not_below : (n c : ℕ) → c ≤ n → nat_lt n c ≡ false
+      not_below n c h = grind (arith, nat_tests)
 
 below_infinite : (b : Bound) → BoundLe b Infinite
 below_infinite (At x) = tt
@@ -70,9 +68,9 @@ may_publish c d i row below clause e h is drawn entry fits holds shown =
       follows = λ a free less _. subst (λ (l : List Atom). IsTrue (clause_holds l a)) (sym same) (holds a free less);
     } in
     subst (λ (x : Core). MayPublish x.model (board_part x.board i) e) (sym is) (subst (MayPublish c.model (board_part (after c i Draw).board i)) (sym entry) made) where
-  row_of : (t : Bool) (p : BoardPart) (next row : ℕ) → Some row ≡ (if t then Some next else None) → (if t then Some next else None) ≡ (if t then with_row p next else with_past p).drawn
-  row_of true p next row e = refl
-  row_of false p next row e = absurd (none_some row (sym e))
+      row_of : (t : Bool) (p : BoardPart) (next row : ℕ) → Some row ≡ (if t then Some next else None) → (if t then Some next else None) ≡ (if t then with_row p next else with_past p).drawn
+      row_of true p next row e = refl
+      row_of false p next row e = absurd (none_some row (sym e))
 
 module _ (c d : Core) (i : ℕ) (sound : IsSoundCore c) (h : i < actor_count c) where
   among : i < length c.bounds.parts

@@ -1,5 +1,5 @@
 -- The state is sound from its beginning on, after every list of lawful events.
-use Rattle.std.proofs.Common.{◌≡◌, ℕ, zero, suc, ◌<◌, ◌≤◌, ℤ, Option, Some, None, List, [], ◌∷◌, map, take, length, get_or, replicate, set, sym, refl, ap, ◌∙◌, subst, arith, length-set}
+use Rattle.std.proofs.Common.{◌≡◌, ℕ, zero, suc, ◌<◌, ◌≤◌, Option, Some, None, List, [], ◌∷◌, map, take, length, get_or, replicate, sym, refl, ap, ◌∙◌, subst, arith, length-set}
 use Rattle.std.specs.Prelude.{Contains}
 use Rattle.std.proofs.lemmas.List.{length-replicate}
 use Rattle.cps_model.specs.declared.bound.Bound.{Bound}
@@ -17,7 +17,7 @@ use Rattle.cps_port.specs.Order.{BoundLe, IsNoLower, lesser, raised_above}
 use Rattle.cps_port.specs.Incumbents.{IsIncumbent, IsLowerBound}
 use Rattle.cps_port.specs.Parts.{no_rows, no_bounds}
 use Rattle.cps_port.specs.Cores.{BoardState, BoundsState, Core, first_core, board_part, bounds_part, row_at, actor_count, board_after, bounds_after, after, IsLawful}
-use Rattle.cps_port.specs.Sound.{least_offer, greatest_raise, IsSoundBoard, IsSoundBounds, IsSoundCore, run, AreLawful}
+use Rattle.cps_port.specs.Sound.{least_offer, greatest_raise, IsSoundBounds, IsSoundCore, run, AreLawful}
 use Rattle.cps_port.specs.Kept.{BoardKept, IsKept}
 use Rattle.cps_port.proofs.Bounding.{keeps_offer, keeps_raise, keeps_upper, keeps_lower}
 use Rattle.cps_port.proofs.Boarding.{raise_sound, keeps_draw, keeps_publish, keeps_look}

@@ -1,6 +1,6 @@
 -- What a plain port leaves of the shared state: all that the other actors know.
 use Rattle.std.specs.Prelude.{◌≡◌, ◌≢◌, ℕ, refl}
-use Rattle.std.proofs.Common.{◌∙◌, sym, ap, subst}
+use Rattle.std.proofs.Common.{◌∙◌}
 use Rattle.cps_port.specs.Cores.{Core, part_at, actor_count}
 
 pub record OthersStay (actor actor' : ℕ) (old new : Core) : Type 0 where

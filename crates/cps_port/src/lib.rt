@@ -15,6 +15,8 @@ pub mod plain_port;
 pub mod port;
 mod seat;
 pub mod state;
+#[cfg(test)]
+mod tests;
 
 pub use entry::{Entry, MOST_ATOMS, Share, Taken};
 pub use event::{Event, Seen};

@@ -1,8 +1,7 @@
 -- The state before the first event, as it is stored.
-use Rattle.std.proofs.Common.{◌≡◌, ◌∙◌, ◌<◌, ◌^◌, subst, sym, arith, to_z, of_z, w64, unsigned_abs, ℤ}
+use Rattle.std.proofs.Common.{◌≡◌, ◌∙◌, ◌<◌, ◌^◌, subst, arith, to_z, of_z, w64, unsigned_abs, ℤ}
 use Rattle.std.proofs.lemmas.Int.{ints}
 use Rattle.cps_model.specs.Validity.{IsValid}
-use Rattle.cps_port.specs.Sound.{IsSoundCore}
 use Rattle.cps_port.proofs.SoundCore.{sound_of}
 use Rattle.cps_port.proofs.Storing.{begins, begins_whole}
 use Rattle.cps_port.proofs.state.CoreState.new.Goals as goal

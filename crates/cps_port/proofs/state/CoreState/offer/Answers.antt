@@ -1,6 +1,5 @@
-use Rattle.std.proofs.Common.{ℤ, ◌≡◌, ap, ◌∙◌}
+use Rattle.std.proofs.Common.{ℤ, ap, ◌∙◌}
 use mir.Facts.{to_z-of_z}
-use Rattle.cps_model.specs.declared.bound.Bound.{Bound}
 use Rattle.cps_model.specs.declared.bound.Bound.TheVariants.{At}
 use Rattle.cps_port.specs.Order.{lesser}
 use Rattle.cps_port.proofs.Storing.{offers}
