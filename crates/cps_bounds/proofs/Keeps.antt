@@ -58,12 +58,28 @@ module _ (m : CpModel) where
   of_model : (v : View) → v.model ≡ Some m → (P : CpModel → Type 0) → P m → OfModel v P
   of_model v e P h q d = let same : m ≡ q = cc in subst P same h
 
+infinite_last : (b : Bound) → BoundLe b Infinite
+infinite_last (At x) = tt
+infinite_last Infinite = tt
+
+module _ (m : CpModel) where
+  abbrev start_word : ℕ
+  start_word = value_word (objective_start m)
+
+  shown_infinite : IsIncumbent m Infinite
+  unfolding IsIncumbent
+  shown_infinite = tt
+
+  -- what the last state tells of its words
+  pub record Closes (v : View) (a b : ℕ) : Type 0 where
+    pub shown : IsIncumbent m (bound_of a)
+    pub floor : IsLowerBound m (bound_of b)
+    pub upper : v.splits ≡ all_splits → bound_of a ≡ v.part.offered
+    pub lower : v.splits ≡ all_splits → bound_of b ≡ raised_above v.part.raised (At (objective_start m))
+
 module _ {S : Type 0} (m : CpModel) where
   abbrev Rule : State S View → Type 0
   Rule = Kept m
-
-  abbrev start_word : ℕ
-  start_word = value_word (objective_start m)
 
   -- a step of one seat, after which the upper word is the lesser of itself and k, and the lower word the greater of itself and j
   moved : (s : State S View) (r : Rule s) (id i n : ℕ) (cs : List (ℕ × S)) (v w : View) (u l k j : ℕ) → set s.words i n ≡ u ∷ l ∷ [] → get_elem? s.views id ≡ some v → w.model ≡ v.model → w.splits ≡ v.splits
@@ -78,7 +94,7 @@ module _ {S : Type 0} (m : CpModel) where
     start = r.start;
     splits = let t = total_set splits_of s.views id v w at in let e = r.splits in omega arith;
     least_is = let t = least_set offer_of top s.views id v w k at offered in down ∙ (ap (λ (z : ℕ). min z k) r.least_is ∙ sym t);
-    greatest_is = let t = greatest_set raise_of start_word s.views id v w j at raised in up ∙ (ap (λ (z : ℕ). max z j) r.greatest_is ∙ sym t);
+    greatest_is = let t = greatest_set raise_of (start_word m) s.views id v w j at raised in up ∙ (ap (λ (z : ℕ). max z j) r.greatest_is ∙ sym t);
     each = fits_set m s.views id w r.upper r.lower u l (omega arith) high (omega arith) fits (record { model = λ _. model ∙ q; idle = λ none. absurd (omega arith); offered = has_offered; raised = has_raised; upper = saw_u; lower = saw_l }) r.each;
     shown = shown;
     floor = floor;
@@ -88,7 +104,7 @@ module _ {S : Type 0} (m : CpModel) where
     pub sees_upper : Allows Rule slots id me 0 (λ n. n) (upper_seen (step slots 0 0 0 none) me)
     sees_upper s r len at small = let v : View = me.0 in let n : ℕ = get_or s.words 0 0 in let is : n ≡ r.upper = ap (λ (ws : List ℕ). get_or ws 0 0) r.words in
         let f = r.each id v at in let p : BoundsPart = after_upper v.part (bound_of n) (v.part.upper_loads + 1) in let low = r.lower_fits in
-        let lo = least_at offer_of top s.views id v at in let hi = greatest_at raise_of start_word s.views id v at in let li = r.least_is in let gi = r.greatest_is in
+        let lo = least_at offer_of top s.views id v at in let hi = greatest_at raise_of (start_word m) s.views id v at in let li = r.least_is in let gi = r.greatest_is in
         let shown = subst (λ (z : ℕ). IsIncumbent m (bound_of z)) (sym is) r.shown in (
           with_part v p,
           keeps,
@@ -100,7 +116,7 @@ module _ {S : Type 0} (m : CpModel) where
     pub sees_lower : Allows Rule slots id me 1 (λ n. n) (lower_seen (step slots 1 0 0 none) me)
     sees_lower s r len at small = let v : View = me.0 in let n : ℕ = get_or s.words 1 0 in let is : n ≡ r.lower = ap (λ (ws : List ℕ). get_or ws 1 0) r.words in
         let f = r.each id v at in let p : BoundsPart = after_lower v.part (bound_of n) (v.part.lower_loads + 1) in
-        let lo = least_at offer_of top s.views id v at in let hi = greatest_at raise_of start_word s.views id v at in let li = r.least_is in let gi = r.greatest_is in
+        let lo = least_at offer_of top s.views id v at in let hi = greatest_at raise_of (start_word m) s.views id v at in let li = r.least_is in let gi = r.greatest_is in
         let floor = subst (λ (z : ℕ). IsLowerBound m (bound_of z)) (sym is) r.floor in (
           with_part v p,
           keeps,
@@ -112,7 +128,7 @@ module _ {S : Type 0} (m : CpModel) where
     pub offers : (k : ℕ) → k ≤ top → IsIncumbent m (bound_of k) → Allows Rule slots id me 0 (λ n. min n k) (value_offered (step slots 0 k 0 none) me)
     offers k fits good s r len at small = let v : View = me.0 in let n : ℕ = get_or s.words 0 0 in let is : n ≡ r.upper = ap (λ (ws : List ℕ). get_or ws 0 0) r.words in
         let f = r.each id v at in let p : BoundsPart = after_offer v.part (bound_of k) (bound_of (min n k)) in let low = r.lower_fits in let of = f.offered.fits in
-        let hi = greatest_at raise_of start_word s.views id v at in let gi = r.greatest_is in
+        let hi = greatest_at raise_of (start_word m) s.views id v at in let gi = r.greatest_is in
         let word = word_of-bound_of k fits in let less = word_of-lesser v.part.offered (bound_of k) of (omega arith) in
         let shown = subst (λ (z : ℕ). IsIncumbent m (bound_of z)) (sym is) r.shown in (
           with_part v p,
@@ -148,16 +164,12 @@ module _ {S : Type 0} (m : CpModel) where
         start = r.start;
         splits = let t = total_set splits_of s.views id v a at in let n = total_snoc splits_of (set s.views id a) b in let e = r.splits in omega arith;
         least_is = let t = least_set offer_of top s.views id v a (offer_of v) at (omega arith) in let n = least_snoc offer_of top (set s.views id a) b in let h = least_top offer_of top s.views in let lo = least_at offer_of top s.views id v at in let e = r.least_is in omega arith;
-        greatest_is = let t = greatest_set raise_of start_word s.views id v a (raise_of v) at (omega arith) in let n = greatest_snoc raise_of start_word (set s.views id a) b in let hi = greatest_at raise_of start_word s.views id v at in let e = r.greatest_is in omega arith;
+        greatest_is = let t = greatest_set raise_of (start_word m) s.views id v a (raise_of v) at (omega arith) in let n = greatest_snoc raise_of (start_word m) (set s.views id a) b in let hi = greatest_at raise_of (start_word m) s.views id v at in let e = r.greatest_is in omega arith;
         each = λ j d e. ⊎_elim (fits_set m s.views id a r.upper r.lower r.upper r.lower (omega arith) high (omega arith) low (record { model = λ _. q; idle = λ none. absurd (omega arith); offered = f.offered; raised = f.raised; upper = f.upper; lower = f.lower }) r.each j d)
             (λ (t : b ≡ d). subst (λ (z : View). Fits m r.upper r.lower z) t (record { model = λ _. q; idle = λ none. absurd (omega arith); offered = has_word_infinite; raised = tt; upper = f.upper; lower = f.lower })) (at_snoc (set s.views id a) b d j e);
         shown = r.shown;
         floor = r.floor;
       }
-
-  infinite_last : (b : Bound) → BoundLe b Infinite
-  infinite_last (At x) = tt
-  infinite_last Infinite = tt
 
   pub joins : (id : ℕ) (v : View) (other : ℕ) (w : View) → 0 < v.splits → Joins Rule id v other w (joined v w) spent
   joins id v other w part s r at apart there = let a : View = joined v w in let vs : List View = set s.views id a in
@@ -165,7 +177,7 @@ module _ {S : Type 0} (m : CpModel) where
       let in_ : get_elem? vs id ≡ some a = here s.views id v a at in
       let f = r.each id v at in let g = r.each other w at' in let q = f.model part in let high = r.upper_fits in let low = r.lower_fits in
       let jo = word_of-lesser v.part.offered w.part.offered f.offered.fits g.offered.fits in let jr = raise_word-greater_of v.part.raised w.part.raised (raise_fits v.part.raised f.raised) (raise_fits w.part.raised g.raised) in
-      let lo = least_at offer_of top s.views other w at' in let hi = greatest_at raise_of start_word s.views other w at' in record {
+      let lo = least_at offer_of top s.views other w at' in let hi = greatest_at raise_of (start_word m) s.views other w at' in record {
         upper = r.upper;
         lower = r.lower;
         words = r.words;
@@ -174,7 +186,7 @@ module _ {S : Type 0} (m : CpModel) where
         start = r.start;
         splits = let two = total_two splits_of s.views id other v w at at' apart in let t = total_set splits_of s.views id v a at in let n = total_set splits_of vs other w spent there in let e = r.splits in omega arith;
         least_is = let t = least_set offer_of top s.views id v a (offer_of w) at jo in let n = least_spent offer_of top vs id other a w spent in_ there apart (omega arith) refl in let e = r.least_is in omega arith;
-        greatest_is = let t = greatest_set raise_of start_word s.views id v a (raise_of w) at jr in let n = greatest_spent raise_of start_word vs id other a w spent in_ there apart (omega arith) refl in let e = r.greatest_is in omega arith;
+        greatest_is = let t = greatest_set raise_of (start_word m) s.views id v a (raise_of w) at jr in let n = greatest_spent raise_of (start_word m) vs id other a w spent in_ there apart (omega arith) refl in let e = r.greatest_is in omega arith;
         each = fits_set m vs other spent r.upper r.lower r.upper r.lower (omega arith) high (omega arith) low
             (record { model = λ none. absurd (omega arith); idle = λ _. (refl, refl); offered = has_word_infinite; raised = tt; upper = infinite_last (bound_of r.upper); lower = tt })
             (fits_set m s.views id a r.upper r.lower r.upper r.lower (omega arith) high (omega arith) low (record {
@@ -189,14 +201,10 @@ module _ {S : Type 0} (m : CpModel) where
         floor = r.floor;
       }
 
-  shown_infinite : IsIncumbent m Infinite
-  unfolding IsIncumbent
-  shown_infinite = tt
-
-  pub opens : (hs : List S) → IsLowerBound m (At (objective_start m)) → HasWord (At (objective_start m)) → Rule (opening (top ∷ start_word ∷ []) hs (first_view m))
+  pub opens : (hs : List S) → IsLowerBound m (At (objective_start m)) → HasWord (At (objective_start m)) → Rule (opening (top ∷ (start_word m) ∷ []) hs (first_view m))
   opens hs good word = record {
     upper = top;
-    lower = start_word;
+    lower = (start_word m);
     words = refl;
     upper_fits = omega arith;
     lower_fits = word.fits;
@@ -204,9 +212,9 @@ module _ {S : Type 0} (m : CpModel) where
     splits = refl;
     least_is = omega arith;
     greatest_is = omega arith;
-    each = λ i v e. ⊎_elim (λ t. absurd (nothing i v t)) (λ (t : first_view m ≡ v). subst (λ (z : View). Fits m top start_word z) t
+    each = λ i v e. ⊎_elim (λ t. absurd (nothing i v t)) (λ (t : first_view m ≡ v). subst (λ (z : View). Fits m top (start_word m) z) t
         (record { model = λ _. refl; idle = λ none. absurd (omega arith); offered = has_word_infinite; raised = tt; upper = tt; lower = tt })) (at_snoc [] (first_view m) v i e);
-    shown = shown_infinite;
+    shown = shown_infinite m;
     floor = subst (IsLowerBound m) (sym word.back) good;
   }
 
@@ -214,29 +222,22 @@ module _ {S : Type 0} (m : CpModel) where
   idles s r id v at all i u e other = let t = total_two splits_of s.views id i v u at e other in let n = r.splits in (r.each i u e).idle (omega arith)
 
   -- the seat with all splits knows both words
-  whole : (s : State S View) (r : Rule s) (id : ℕ) (v : View) → get_elem? s.views id ≡ some v → v.splits ≡ all_splits → (r.upper ≡ offer_of v) × (r.lower ≡ max start_word (raise_of v))
+  whole : (s : State S View) (r : Rule s) (id : ℕ) (v : View) → get_elem? s.views id ≡ some v → v.splits ≡ all_splits → (r.upper ≡ offer_of v) × (r.lower ≡ max (start_word m) (raise_of v))
   whole s r id v at all = let o = (r.each id v at).offered.fits in
       let lo : offer_of v ≤ least top offer_of s.views = below_least offer_of top s.views (offer_of v) o (λ i u e. dite (ℕ_discrete i id) (λ same. let q : v ≡ u = one_there s.views i id v u same at e in let z : offer_of v ≡ offer_of u = ap offer_of q in omega arith)
       (λ other. let z : offer_of u ≡ top = ap word_of (idles s r id v at all i u e other).0 in omega arith)) in
-      let hi : greatest start_word raise_of s.views ≤ max start_word (raise_of v) = greatest_below raise_of start_word s.views (max start_word (raise_of v)) (omega arith)
+      let hi : greatest (start_word m) raise_of s.views ≤ max (start_word m) (raise_of v) = greatest_below raise_of (start_word m) s.views (max (start_word m) (raise_of v)) (omega arith)
       (λ i u e. dite (ℕ_discrete i id) (λ same. let q : v ≡ u = one_there s.views i id v u same at e in let z : raise_of v ≡ raise_of u = ap raise_of q in omega arith) (λ other. let z : raise_of u ≡ 0 = ap raise_word (idles s r id v at all i u e other).1 in omega arith)) in
-      let a = least_at offer_of top s.views id v at in let b = greatest_at raise_of start_word s.views id v at in let c = greatest_base raise_of start_word s.views in
+      let a = least_at offer_of top s.views id v at in let b = greatest_at raise_of (start_word m) s.views id v at in let c = greatest_base raise_of (start_word m) s.views in
       let x = r.least_is in let y = r.greatest_is in (omega arith, omega arith)
 
-  -- what the last state tells of its words
-  pub record Closes (v : View) (a b : ℕ) : Type 0 where
-    pub shown : IsIncumbent m (bound_of a)
-    pub floor : IsLowerBound m (bound_of b)
-    pub upper : v.splits ≡ all_splits → bound_of a ≡ v.part.offered
-    pub lower : v.splits ≡ all_splits → bound_of b ≡ raised_above v.part.raised (At (objective_start m))
-
-  pub closes : (s : State S View) (id : ℕ) (v : View) (ws : List ℕ) (a b : ℕ) → Rule s → get_elem? s.views id ≡ some v → s.words ≡ ws → get_elem? ws 0 ≡ some a → get_elem? ws 1 ≡ some b → Closes v a b
+  pub closes : (s : State S View) (id : ℕ) (v : View) (ws : List ℕ) (a b : ℕ) → Rule s → get_elem? s.views id ≡ some v → s.words ≡ ws → get_elem? ws 0 ≡ some a → get_elem? ws 1 ≡ some b → Closes m v a b
   closes s id v ws a b r at is e d = let w : ws ≡ r.upper ∷ r.lower ∷ [] = sym is ∙ r.words in let f = r.each id v at in
       let x : r.upper ≡ a = some-injective r.upper a (sym (ap (λ (l : List ℕ). get_elem? l 0) w) ∙ e) in
       let y : r.lower ≡ b = some-injective r.lower b (sym (ap (λ (l : List ℕ). get_elem? l 1) w) ∙ d) in
       let start : Bound = At (objective_start m) in
       let both = has_word-raised_above v.part.raised start f.raised r.start in
-      let word : word_of (raised_above v.part.raised start) ≡ max start_word (raise_of v) = word_of-raised_above v.part.raised start (raise_fits v.part.raised f.raised) r.start.fits in record {
+      let word : word_of (raised_above v.part.raised start) ≡ max (start_word m) (raise_of v) = word_of-raised_above v.part.raised start (raise_fits v.part.raised f.raised) r.start.fits in record {
         shown = subst (λ (z : ℕ). IsIncumbent m (bound_of z)) x r.shown;
         floor = subst (λ (z : ℕ). IsLowerBound m (bound_of z)) y r.floor;
         upper = λ all. ap bound_of (sym x ∙ (whole s r id v at all).0) ∙ f.offered.back;
