@@ -1,6 +1,6 @@
 -- How a row stands for an entry: the clause's length, its bound, and two words for each of its atoms, which are the subject
 -- with the comparison, and the number.
-use Rattle.std.specs.Prelude.{◌≡◌, ℕ, ◌+◌, ◌*◌, ◌/◌, ◌%◌, ◌≤◌, ◌==◌, if◌then◌else◌, List, [], ◌∷◌, length, slice_index, drop}
+use Rattle.std.specs.Prelude.{◌≡◌, ℕ, ◌+◌, ◌*◌, ◌/◌, ◌%◌, ◌<◌, ◌≤◌, ◌^◌, ◌==◌, if◌then◌else◌, List, [], ◌∷◌, All, length, slice_index, drop}
 use Rattle.cps_model.specs.declared.bound.Bound.{Bound}
 use Rattle.cps_literal.specs.declared.atom.Atom.{Atom}
 use Rattle.cps_literal.specs.declared.atom.Op.{Op}
@@ -47,6 +47,7 @@ pub record IsCoded (below : Bound) (c : List Atom) : Type 0 where
   pub few : length c ≤ most_atoms
   pub below_back : bound_of (word_of below) ≡ below
   pub atoms_back : atoms_of (atom_words c) ≡ c
+  pub subjects : All (λ (t : Atom). t.subject < 2 ^ 32) c
 
 -- the same of an entry
 pub record IsCodedEntry (e : Entry) : Type 0 where

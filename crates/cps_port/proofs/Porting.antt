@@ -49,7 +49,7 @@ pub may_raise : (m : CpModel) (p : BoardPart) (l : Bound) → IsLowerBound m l �
 unfolding IsIncumbent IsLowerBound
 may_raise m p l floor = record { better_than = Infinite; incumbent = tt; within = below_infinite l; follows = λ a s _ _. floor a s }
 
-take-front : (c more : List Atom) → take (length c) (c ++ more) ≡ c
+pub take-front : (c more : List Atom) → take (length c) (c ++ more) ≡ c
 take-front [] more = refl
 take-front (t ∷ ts) more = ap (λ (l : List Atom). t ∷ l) (take-front ts more)
 

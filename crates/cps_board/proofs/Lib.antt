@@ -1,0 +1,4 @@
+pub mod Basics
+pub mod Coded
+pub mod Keeps
+pub mod Filling
