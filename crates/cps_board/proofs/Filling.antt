@@ -5,16 +5,20 @@ use Rattle.std.proofs.lemmas.List.{length-take-le, take_more, take_all}
 use mathlib.Core.Option.{some, none, some-injective}
 use lib.ListN.{get_elem?}
 use Rattle.atomic_table.specs.Table.{State, Me, Step, step, Allows}
+use Rattle.atomic_table.proofs.Lists.{at_last}
 use Rattle.cps_model.specs.declared.bound.Bound.{Bound}
 use Rattle.cps_model.specs.declared.model.CpModel.{CpModel}
 use Rattle.cps_literal.specs.declared.atom.Atom.{Atom}
 use Rattle.cps_port.specs.declared.entry.Entry.{Entry}
 use Rattle.cps_port.specs.Entries.{most_atoms, blank, padded, entry_of, entry_clause, IsSoundEntry}
-use Rattle.cps_port.specs.Parts.{with_mine}
+use Rattle.cps_port.specs.declared.part.BoardPart.{BoardPart}
+use Rattle.cps_port.specs.Order.{Rises}
+use Rattle.cps_port.specs.Parts.{with_mine, with_taken, with_misses}
+use Rattle.cps_port.specs.Says.{OwnEntry, TookEntry, FoundClosed}
 use Rattle.cps_port.specs.Words.{value_word, word_of, bound_of}
 use Rattle.cps_board.specs.declared.view.View.{View}
 use Rattle.cps_board.specs.Coding.{op_code, head_word, atom_words, entry_words, atom_of, atoms_of, entry_from, IsCoded, IsCodedEntry}
-use Rattle.cps_board.specs.Rows.{row_words, data_words, Kept, with_part, filling, word_put, row_opened, word_read}
+use Rattle.cps_board.specs.Rows.{row_words, data_words, Kept, Took, with_part, filling, word_put, row_opened, word_read}
 use Rattle.cps_board.proofs.Coded.{op_small, entry_back, length-atom_words, head_at, number_at, atom_back_at}
 use Rattle.cps_board.proofs.Keeps.{puts, publishes}
 
@@ -100,3 +104,30 @@ module _ (old : Token) (row : ℕ) (e : Entry) (at : get_elem? old.0.part.taken 
 
   pub atom_told : (head number i : ℕ) (t : Atom) → IsCodedEntry e → i < length C → head ≡ head_word (get_or C i t) → number ≡ value_word (get_or C i t).value → atom_of head number ≡ get_or C i t
   atom_told head number i t coded less h n = ap (λ (x : ℕ). atom_of x number) h ∙ (ap (atom_of (head_word (get_or C i t))) n ∙ atom_back_at C i t coded.coded.atoms_back less)
+
+-- what a look at the next row means to its seat
+pub found_closed : (old next : Token) (rows : ℕ) → length old.0.part.taken < rows → next ≡ (with_part old.0 (with_misses old.0.part (old.0.part.misses + 1)), old.1) → OwnEntry old.0.part (length old.0.part.taken) (λ _. ⊥) → FoundClosed rows old.0.part next.0.part
+found_closed old next rows left e foreign =
+    let p : BoardPart = old.0.part in
+    let here : next.0.part ≡ with_misses p (p.misses + 1) = ap (λ (z : Token). z.0.part) e in
+    record {
+      left = left;
+      foreign = foreign;
+      misses = subst (λ (q : BoardPart). Rises p.misses q.misses) (sym here) (record { rose = λ _. refl; never_falls = omega arith });
+      counts = here ∙ sym (ap (λ (q : BoardPart). with_misses p q.misses) here);
+    }
+
+pub taken_here : (old next : Token) (row : ℕ) (e : Entry) → row ≡ length old.0.part.taken → next ≡ (with_part old.0 (with_taken old.0.part e), old.1) → get_elem? next.0.part.taken row ≡ some e
+taken_here old next row e at is = ap (λ (z : Token). get_elem? z.0.part.taken row) is ∙ at_last old.0.part.taken e row (sym at)
+
+pub took_entry : (m : CpModel) (old next : Token) (rows row : ℕ) (e read : Entry) → old.0.model ≡ Some m → row < rows → row ≡ length old.0.part.taken → next ≡ (with_part old.0 (with_taken old.0.part e), old.1) → Took old.0 e → get_elem? next.0.part.taken row ≡ some read
+    → TookEntry m rows old.0.part next.0.part read
+took_entry m old next rows row e read of left at is took got =
+    let same : e ≡ read = some-injective e read (sym (taken_here old next row e at is) ∙ got) in
+    subst (TookEntry m rows old.0.part next.0.part) same (record {
+      left = omega arith;
+      next = took.next;
+      sound = took.sound m of;
+      own = took.own;
+      takes = ap (λ (z : Token). z.0.part) is;
+    })
