@@ -7,7 +7,6 @@ use native.Mathlib.Decide.{dec_le, ℕ_discrete}
 use lib.ListN.{get_elem?}
 use Rattle.cps_port.specs.Totals.{total, one_if}
 use Rattle.cps_port.proofs.Lists.{one_if-same, one_if-other}
-use Rattle.cps_port.proofs.Places.{total_at}
 use Rattle.cps_board.specs.Rows.{row_words, data_words, gate, datum, longer}
 
 module _ {A : Type 0} where

@@ -1,6 +1,6 @@
 -- Clauses come back from their words.
-use Rattle.std.proofs.Common.{◌≡◌, ℕ, zero, suc, ◌+◌, ◌-◌, ◌*◌, ◌/◌, ◌%◌, ◌<◌, ◌≤◌, ◌^◌, ◌==◌, Bool, true, false, if◌then◌else◌, ℤ, pos, negsuc, ◌≤ℤ◌, unsigned_abs, List, [], ◌∷◌, ◌++◌, length, get_or, take, drop, replicate, sym, refl, ap, ◌∙◌, subst, arith}
-use Rattle.std.specs.Prelude.{All, nat_le, Option, None, ◌&&◌}
+use Rattle.std.proofs.Common.{◌≡◌, ℕ, zero, suc, ◌+◌, ◌-◌, ◌*◌, ◌/◌, ◌%◌, ◌<◌, ◌≤◌, ◌^◌, true, ℤ, pos, negsuc, ◌≤ℤ◌, List, [], ◌∷◌, length, get_or, replicate, sym, refl, ap, ◌∙◌, subst, arith}
+use Rattle.std.specs.Prelude.{All, nat_le, None, ◌&&◌}
 use Rattle.std.proofs.lemmas.Int.{ints}
 use Rattle.std.proofs.lemmas.Bool.Decides.{nat_tests}
 use Rattle.std.proofs.lemmas.List.Elements.{All-head, All-tail}
@@ -8,16 +8,16 @@ use Rattle.cps_model.specs.declared.bound.Bound.{Bound}
 use Rattle.cps_model.specs.declared.bound.Bound.TheVariants.{At, Infinite}
 use Rattle.cps_model.specs.declared.model.CpModel.{CpModel}
 use Rattle.cps_model.specs.declared.place.Place.TheVariants as places
-use Rattle.cps_model.specs.Validity.{most_items, most_entries, entry_count, or_else, at_place, size_fault, first_invalid, IsValid}
+use Rattle.cps_model.specs.Validity.{most_items, most_entries, entry_count, at_place, size_fault, IsValid}
 use Rattle.cps_model.proofs.Faults.{rule_kept, or_else-none, at_place-none}
 use Rattle.cps_model.proofs.Tests.{and_true}
 use Rattle.cps_literal.specs.declared.atom.Atom.{Atom}
 use Rattle.cps_literal.specs.declared.atom.Op.{Op}
 use Rattle.cps_literal.specs.declared.atom.Op.TheVariants.{Le, Ge, Eq, Ne}
 use Rattle.cps_port.specs.declared.entry.Entry.{Entry}
-use Rattle.cps_port.specs.Entries.{most_atoms, blank, padded, entry_of, entry_clause, IsModelAtom, IsShareable}
+use Rattle.cps_port.specs.Entries.{most_atoms, blank, entry_of, entry_clause, IsModelAtom, IsShareable}
 use Rattle.cps_port.specs.Incumbents.{IsIncumbent}
-use Rattle.cps_port.specs.Words.{top, value_word, value_of, word_of, bound_of}
+use Rattle.cps_port.specs.Words.{value_word, value_of, word_of, bound_of}
 use Rattle.cps_port.proofs.Attained.{attained_small}
 use Rattle.cps_port.proofs.InOrder.{has_word_at}
 use Rattle.cps_port.proofs.Porting.{take-front}

@@ -1,24 +1,23 @@
 -- A row is filled word by word, and read again atom by atom.
-use Rattle.std.proofs.Common.{◌≡◌, ◌≢◌, ℕ, zero, suc, ◌+◌, ◌-◌, ◌*◌, ◌<◌, ◌≤◌, ◌^◌, ℤ, Some, None, List, [], ◌∷◌, ◌++◌, take, replicate, length, get_or, set, sym, refl, ap, ◌∙◌, subst, arith, append_assoc, length-append}
-use Rattle.std.specs.Prelude.{All}
-use Rattle.std.proofs.lemmas.List.{length-take-le, take_more, take_all}
+use Rattle.std.proofs.Common.{◌≡◌, ℕ, zero, suc, ◌+◌, ◌-◌, ◌*◌, ◌<◌, ◌≤◌, ◌^◌, Some, List, [], ◌∷◌, ◌++◌, take, replicate, length, get_or, set, sym, refl, ap, ◌∙◌, subst, arith, append_assoc}
+use Rattle.std.proofs.lemmas.List.{length-take-le, take_more}
 use mathlib.Core.Option.{some, none, some-injective}
 use lib.ListN.{get_elem?}
-use Rattle.atomic_table.specs.Table.{State, Me, Step, step, Allows}
+use Rattle.atomic_table.specs.Table.{Me, step, Allows}
 use Rattle.atomic_table.proofs.Lists.{at_last}
 use Rattle.cps_model.specs.declared.bound.Bound.{Bound}
 use Rattle.cps_model.specs.declared.model.CpModel.{CpModel}
 use Rattle.cps_literal.specs.declared.atom.Atom.{Atom}
 use Rattle.cps_port.specs.declared.entry.Entry.{Entry}
-use Rattle.cps_port.specs.Entries.{most_atoms, blank, padded, entry_of, entry_clause, IsSoundEntry}
+use Rattle.cps_port.specs.Entries.{blank, entry_of, entry_clause, IsSoundEntry}
 use Rattle.cps_port.specs.declared.part.BoardPart.{BoardPart}
 use Rattle.cps_port.specs.Order.{Rises}
 use Rattle.cps_port.specs.Parts.{with_mine, with_taken, with_misses}
 use Rattle.cps_port.specs.Says.{OwnEntry, TookEntry, FoundClosed}
-use Rattle.cps_port.specs.Words.{value_word, word_of, bound_of}
+use Rattle.cps_port.specs.Words.{value_word}
 use Rattle.cps_board.specs.declared.view.View.{View}
-use Rattle.cps_board.specs.Coding.{op_code, head_word, atom_words, entry_words, atom_of, atoms_of, entry_from, IsCoded, IsCodedEntry}
-use Rattle.cps_board.specs.Rows.{row_words, data_words, Kept, Took, with_part, filling, word_put, row_opened, word_read}
+use Rattle.cps_board.specs.Coding.{head_word, atom_words, entry_words, atom_of, entry_from, IsCoded, IsCodedEntry}
+use Rattle.cps_board.specs.Rows.{row_words, data_words, Kept, Took, with_part, filling, word_put, row_opened}
 use Rattle.cps_board.proofs.Coded.{op_small, entry_back, length-atom_words, head_at, number_at, atom_back_at}
 use Rattle.cps_board.proofs.Keeps.{puts, publishes}
 

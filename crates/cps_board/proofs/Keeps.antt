@@ -13,16 +13,14 @@ use Rattle.cps_model.specs.declared.bound.Bound.{Bound}
 use Rattle.cps_model.specs.declared.model.CpModel.{CpModel}
 use Rattle.cps_literal.specs.declared.atom.Atom.{Atom}
 use Rattle.cps_port.specs.declared.entry.Entry.{Entry}
-use Rattle.cps_port.specs.declared.part.BoardPart.{BoardPart}
 use Rattle.cps_port.specs.Entries.{entry_of, entry_clause, IsSoundEntry}
-use Rattle.cps_port.specs.Parts.{no_rows, with_row, with_past, with_mine, with_taken, with_misses}
-use Rattle.cps_port.specs.Says.{OwnEntry}
-use Rattle.cps_port.specs.Totals.{total, one_if, one_if_some, times}
-use Rattle.cps_port.proofs.Lists.{one_if-same, one_if-other, times-append}
+use Rattle.cps_port.specs.Parts.{with_row, with_past, with_mine, with_taken, with_misses}
+use Rattle.cps_port.specs.Totals.{total, one_if, one_if_some}
+use Rattle.cps_port.proofs.Lists.{one_if-same, times-append}
 use Rattle.cps_port.proofs.Places.{total_set, total_snoc, total_at, total_two}
 use Rattle.cps_board.specs.declared.view.View.{View}
 use Rattle.cps_board.specs.Coding.{entry_words, entry_from, IsCoded, IsCodedEntry}
-use Rattle.cps_board.specs.Rows.{all_splits, row_words, data_words, gate, datum, HasData, IsOpen, IsFilling, owns, past, Fits, HasSound, Kept, first_view, spent, kept_half, given_half, newly, both_parts, joined, with_part, drawing, filling, OfModel, Took, row_drawn, word_put, row_opened, row_looked_at, word_read}
+use Rattle.cps_board.specs.Rows.{all_splits, row_words, data_words, gate, datum, HasData, IsOpen, IsFilling, owns, past, Fits, HasSound, Kept, first_view, spent, kept_half, given_half, joined, with_part, drawing, filling, OfModel, row_drawn, word_put, row_opened, row_looked_at, word_read}
 use Rattle.cps_board.proofs.Basics.{at_end, at_append, at_longer_of, total_le, alone, one_below, one_not_below, one_more, at_most_one, below_of_one, beyond, zeros, early, last, long_snoc, same_list, Away, away_gate, away_word, away_claim}
 use Rattle.cps_board.proofs.Coded.{entry_back, coded_entry, words_of_entry, length-entry_words, same_entry}
 
@@ -306,12 +304,19 @@ module _ {S : Type 0} (m : CpModel) where
             mine = f.mine;
             taken = λ q x h. ⊎_elim (f.taken q x) (λ (z : (q ≡ t) × (e ≡ x)). subst (λ (y : Entry). IsOpen n s.words q y) z.1 (subst (λ (r : ℕ). IsOpen n s.words r e) (sym z.0) o.1)) (at_end v.part.taken e x q h);
           }),
-          ((λ z. absurd (open_ z)), (λ _. (e, refl, record {
-            next = o.1.named;
-            coded = o.1.coded;
-            own = λ x c row. one_entry n s.words t x e (own_open m n s.words v t x f c row) o.1;
-            sound = of_model m v (f.model part) (λ q. IsSoundEntry q e) o.2;
-          }))),
+          (
+            (λ z. absurd (open_ z)),
+            (λ _. (
+              e,
+              refl,
+              record {
+                next = o.1.named;
+                coded = o.1.coded;
+                own = λ x c row. one_entry n s.words t x e (own_open m n s.words v t x f c row) o.1;
+                sound = of_model m v (f.model part) (λ q. IsSoundEntry q e) o.2;
+              },
+            )),
+          ),
         ))
 
     -- looks at the gate of the next row

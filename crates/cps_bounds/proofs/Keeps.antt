@@ -1,7 +1,7 @@
 -- Each step keeps the rule of the two words.
-use Rattle.std.proofs.Common.{◌≡◌, ◌≢◌, ℕ, zero, suc, ◌+◌, ◌/◌, ◌<◌, ◌≤◌, min, max, Some, None, List, [], ◌∷◌, get_or, set, sym, refl, ap, ◌∙◌, subst, ⊎_elim, arith}
+use Rattle.std.proofs.Common.{◌≡◌, ◌≢◌, ℕ, ◌+◌, ◌/◌, ◌<◌, ◌≤◌, min, max, Some, None, List, [], ◌∷◌, get_or, set, sym, refl, ap, ◌∙◌, subst, ⊎_elim, arith}
 use mathlib.Core.Logic.{dite}
-use mathlib.Core.Option.{some, none, some-ne-none, some-injective}
+use mathlib.Core.Option.{some, none, some-injective}
 use native.Mathlib.Decide.{dec_le, ℕ_discrete}
 use lib.ListN.{get_elem?}
 use Rattle.atomic_table.specs.Table.{State, Me, step, keeps, stepped, Allows, Splits, Joins, opening}
@@ -11,15 +11,14 @@ use Rattle.cps_model.specs.declared.bound.Bound.TheVariants.{At, Infinite}
 use Rattle.cps_model.specs.declared.model.CpModel.{CpModel}
 use Rattle.cps_model.specs.Start.{objective_start}
 use Rattle.cps_port.specs.declared.part.BoundsPart.{BoundsPart}
-use Rattle.cps_port.specs.Order.{BoundLe, IsNoLower, lesser, raised_above}
+use Rattle.cps_port.specs.Order.{BoundLe, IsNoLower, raised_above}
 use Rattle.cps_port.specs.Incumbents.{IsIncumbent, IsLowerBound}
-use Rattle.cps_port.specs.Parts.{no_bounds, after_upper, after_lower, after_offer, after_raise}
-use Rattle.cps_port.specs.Totals.{total}
+use Rattle.cps_port.specs.Parts.{after_upper, after_lower, after_offer, after_raise}
 use Rattle.cps_port.proofs.Bounding.{BoundLe-refl, BoundLe-trans, IsNoLower-trans, lesser_is}
 use Rattle.cps_port.proofs.Places.{here, one_there, nothing, total_set, total_snoc, total_two}
 use Rattle.cps_bounds.specs.declared.view.View.{View}
 use Rattle.cps_port.specs.Words.{top, value_word, word_of, raise_word, bound_of, HasWord, HasWords}
-use Rattle.cps_bounds.specs.Rule.{all_splits, least, greatest, Fits, Kept, first_view, spent, kept_half, given_half, newly, both_parts, joined, with_part, OfModel, upper_seen, lower_seen, value_offered, bound_raised}
+use Rattle.cps_bounds.specs.Rule.{all_splits, least, greatest, Fits, Kept, first_view, spent, kept_half, given_half, joined, with_part, OfModel, upper_seen, lower_seen, value_offered, bound_raised}
 use Rattle.cps_port.proofs.InOrder.{word_of-bound_of, word_of-lesser, word_of-raised_above, raise_word-raised_to, raise_word-greater_of, raise_fits, has_word_infinite, has_word_of, has_words-raised_to, has_words-greater_of, has_word-raised_above, no_lower-greater_of, bound_of-grows}
 use Rattle.cps_bounds.proofs.Folds.{least_top, least_at, below_least, least_set, least_snoc, least_spent, greatest_base, greatest_at, greatest_below, greatest_set, greatest_snoc, greatest_spent}
 

@@ -1,14 +1,14 @@
 -- Words and bounds have one order.
-use Rattle.std.proofs.Common.{◌≡◌, ◌≢◌, ℕ, ◌+◌, ◌-◌, ◌<◌, ◌≤◌, ◌^◌, ◌==◌, nat_lt, min, max, Bool, true, false, if◌then◌else◌, ◌⊎◌, ⊎_elim, inl, inr, ℤ, pos, negsuc, ◌≤ℤ◌, ◌<ℤ◌, unsigned_abs, Option, Some, None, refl, sym, ap, ◌∙◌, subst, arith}
+use Rattle.std.proofs.Common.{◌≡◌, ◌≢◌, ℕ, ◌-◌, ◌<◌, ◌≤◌, ◌^◌, ◌==◌, nat_lt, min, max, Bool, true, false, if◌then◌else◌, ◌⊎◌, ⊎_elim, inl, inr, ℤ, pos, negsuc, ◌≤ℤ◌, unsigned_abs, Option, Some, None, refl, sym, ap, ◌∙◌, arith}
 use Rattle.std.specs.Int.{int_min, int_max}
 use Rattle.std.proofs.lemmas.Int.{ints, int_min_is, int_max_is}
 use Rattle.std.proofs.lemmas.Bool.Decides.{nat_tests}
 use mathlib.Core.Logic.{dite}
-use native.Mathlib.Decide.{dec_le, ℕ_discrete}
+use native.Mathlib.Decide.{dec_le}
 use Rattle.cps_model.specs.declared.bound.Bound.{Bound}
 use Rattle.cps_model.specs.declared.bound.Bound.TheVariants.{At, Infinite}
 use Rattle.cps_port.specs.Order.{BoundLe, IsNoLower, IsSmallBound, lesser, greater, raised_to, raised_above, greater_of}
-use Rattle.cps_port.proofs.Bounding.{lesser_is, greater_is}
+use Rattle.cps_port.proofs.Bounding.{greater_is}
 use Rattle.cps_port.specs.Words.{top, value_word, word_of, raise_word, value_of, bound_of, HasWord, HasWords}
 
 pub word_of-bound_of : (n : ℕ) → n ≤ top → word_of (bound_of n) ≡ n

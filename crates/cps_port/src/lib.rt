@@ -15,9 +15,9 @@ pub mod plain_port;
 pub mod port;
 mod seat;
 pub mod state;
-pub mod word;
 #[cfg(test)]
 mod tests;
+pub mod word;
 
 pub use entry::{Entry, MOST_ATOMS, Share, Taken};
 pub use event::{Event, Seen};

@@ -1,11 +1,11 @@
-use Rattle.std.proofs.Common.{rules, arith, ◌≡◌, ◌+◌, ◌*◌, ◌<◌, ◌≤◌, ℕ, List, [], ◌∷◌, ◌++◌, take, length, get_or, sym, refl, ap, ◌∙◌, subst, length-append}
+use Rattle.std.proofs.Common.{rules, arith, ◌≡◌, ◌+◌, ◌*◌, ◌≤◌, ℕ, List, [], ◌∷◌, ◌++◌, take, length, get_or, refl, ap, ◌∙◌, length-append}
 use Rattle.std.proofs.lemmas.List.{take_all}
 use Rattle.cps_port.specs.Entries.{blank}
 use Rattle.cps_port.specs.Words.{word_of}
 use Rattle.cps_literal.specs.declared.atom.Atom.{Atom}
-use Rattle.cps_board.specs.Coding.{head_word, atom_words, entry_words}
+use Rattle.cps_board.specs.Coding.{head_word, atom_words}
 use Rattle.cps_board.specs.Rows.{filling}
-use Rattle.cps_board.proofs.Filling.{Fills, puts_more, put_more, atom_words-more, length-atom_words-take, publishes_row, published}
+use Rattle.cps_board.proofs.Filling.{puts_more, put_more, atom_words-more, length-atom_words-take, publishes_row, published}
 use Rattle.cps_board.proofs.row.fill.Goals as goal
 
 pub store-requires : goal.store-requires
@@ -32,8 +32,7 @@ pub store-requires-in-loop-i : goal.store-requires-in-loop-i
 store-requires-in-loop-i c =
     let i : ℕ = c.loop-i.i in
     let clause : List Atom = c.args.clause.now in
-    let long = length-atom_words-take clause i (omega arith) in
-    (
+    let long = length-atom_words-take clause i (omega arith) in (
       search rules,
       omega arith,
       puts_more _ _ _ c.args.seat.now.me _ (length clause ∷ word_of c.args.below ∷ atom_words (take i clause)) c.args.row (2 + 2 * i) _ _ c.loop-i.invariant.view c.requires.part c.requires.drawn.0 (omega arith) (omega arith) (omega arith),
@@ -61,8 +60,8 @@ loop-i-preserved c =
     let next = put_more old c.loop-i.seat.me c.store-in-loop-i.new.seat.me words c.head_word.result c.loop-i.invariant.view c.store-in-loop-i.ensures.2 in
     let last = put_more old c.store-in-loop-i.new.seat.me c.store-in-loop-i-2.new.seat.me (words ++ c.head_word.result ∷ []) c.number_word.result next c.store-in-loop-i-2.ensures.2 in
     let same : (front ++ c.head_word.result ∷ []) ++ c.number_word.result ∷ [] ≡ atom_words (take (i + 1) clause) =
-        ap (λ (x : ℕ). (front ++ x ∷ []) ++ c.number_word.result ∷ []) c.head_word.ensures
-        ∙ (ap (λ (x : ℕ). (front ++ head_word t ∷ []) ++ x ∷ []) c.number_word.ensures ∙ atom_words-more clause i t blank c.loop-i-test.true refl) in
+    ap (λ (x : ℕ). (front ++ x ∷ []) ++ c.number_word.result ∷ []) c.head_word.ensures
+    ∙ (ap (λ (x : ℕ). (front ++ head_word t ∷ []) ++ x ∷ []) c.number_word.ensures ∙ atom_words-more clause i t blank c.loop-i-test.true refl) in
     record {
       table = c.store-in-loop-i-2.ensures.0 ∙ (c.store-in-loop-i.ensures.0 ∙ c.loop-i.invariant.table);
       id = c.store-in-loop-i-2.ensures.1 ∙ (c.store-in-loop-i.ensures.1 ∙ c.loop-i.invariant.id);

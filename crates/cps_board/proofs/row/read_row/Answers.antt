@@ -1,11 +1,9 @@
-use Rattle.std.proofs.Common.{rules, arith, ◌≡◌, ◌+◌, ◌*◌, ◌<◌, ◌≤◌, ◌^◌, ◌-◌, ◌++◌, ℕ, List, length, take, replicate, get_or, set, sym, refl, ap, ◌∙◌, subst}
-use mathlib.Core.Option.{some}
-use lib.ListN.{get_elem?}
+use Rattle.std.proofs.Common.{rules, arith, ◌≡◌, ◌+◌, ◌<◌, ◌-◌, ◌++◌, ℕ, List, length, take, replicate, set, sym, refl, ap, ◌∙◌, subst}
 use Rattle.atomic_table.specs.Table.{Me}
 use Rattle.cps_literal.specs.declared.atom.Atom.{Atom}
 use Rattle.cps_port.specs.declared.entry.Entry.{Entry}
 use Rattle.cps_port.specs.Entries.{blank, entry_clause}
-use Rattle.cps_port.specs.Words.{word_of, bound_of}
+use Rattle.cps_port.specs.Words.{bound_of}
 use Rattle.cps_board.specs.declared.view.View.{View}
 use Rattle.cps_board.proofs.Keeps.{reads}
 use Rattle.cps_board.proofs.Filling.{tells, only, head_told, number_told, head_small, atom_told, fill_next}

@@ -1,4 +1,4 @@
-use Rattle.std.proofs.Common.{rules, arith, ◌≡◌, ◌<◌, ℕ, length, sym, ap, ◌∙◌}
+use Rattle.std.proofs.Common.{rules, arith, sym, ap, ◌∙◌}
 use lib.ListN.{get_elem?}
 use Rattle.cps_board.proofs.Keeps.{looks}
 use Rattle.cps_board.proofs.Filling.{Token, found_closed, taken_here, took_entry}

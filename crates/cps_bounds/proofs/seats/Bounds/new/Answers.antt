@@ -1,4 +1,4 @@
-use Rattle.std.proofs.Common.{◌≡◌, ◌∙◌, ◌<◌, ◌^◌, ℕ, ℤ, List, [], ◌∷◌, ap, sym, subst, arith, to_z, of_z, w64, unsigned_abs}
+use Rattle.std.proofs.Common.{◌≡◌, ◌∙◌, ◌<◌, ◌^◌, ℕ, ℤ, [], ◌∷◌, ap, sym, subst, arith, to_z, of_z, w64, unsigned_abs}
 use Rattle.std.proofs.lemmas.Int.{ints}
 use Rattle.atomic_table.specs.Table.{opening}
 use Rattle.cps_model.specs.declared.bound.Bound.TheVariants.{At}
@@ -20,5 +20,5 @@ of_words-requires c =
     let m = c.args.model.now in
     let valid : IsValid m = subst IsValid c.model.ensures.same c.model.ensures.valid in
     let word : c.word_of.result ≡ word_of (At (objective_start m)) =
-        c.word_of.ensures ∙ ap (λ (z : ℤ). word_of (At z)) (stays c.objective_start.result c.objective_start.ensures.near ∙ c.objective_start.ensures.value) in
+    c.word_of.ensures ∙ ap (λ (z : ℤ). word_of (At z)) (stays c.objective_start.result c.objective_start.ensures.near ∙ c.objective_start.ensures.value) in
     subst (λ (k : ℕ). Kept {S = Unit {0}} m (opening (top ∷ k ∷ []) [] (first_view m))) (sym word) (opens m [] (start_floor m valid) (has_word_at (objective_start m) (objective_start-small m valid)))

@@ -1,4 +1,4 @@
-use Rattle.std.proofs.Common.{rules, arith, ◌≡◌, ◌≤◌, ℕ, ℤ, min, sym, ap, ◌∙◌, subst}
+use Rattle.std.proofs.Common.{rules, arith, ◌≡◌, ℕ, ℤ, min, sym, ap, ◌∙◌, subst}
 use mir.Facts.{to_z-of_z}
 use Rattle.atomic_table.specs.Table.{Me}
 use Rattle.cps_model.specs.declared.bound.Bound.{Bound}
@@ -6,7 +6,7 @@ use Rattle.cps_model.specs.declared.bound.Bound.TheVariants.{At}
 use Rattle.cps_port.specs.Order.{lesser}
 use Rattle.cps_port.specs.Incumbents.{IsIncumbent}
 use Rattle.cps_port.specs.Parts.{after_offer}
-use Rattle.cps_port.specs.Words.{top, word_of, bound_of}
+use Rattle.cps_port.specs.Words.{word_of, bound_of}
 use Rattle.cps_port.proofs.Bounding.{attained_shown, lesser_is}
 use Rattle.cps_bounds.specs.declared.view.View.{View}
 use Rattle.cps_bounds.proofs.Keeps.{offers}

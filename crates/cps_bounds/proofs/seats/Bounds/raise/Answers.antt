@@ -1,4 +1,4 @@
-use Rattle.std.proofs.Common.{rules, arith, ◌≡◌, ◌≤◌, ℕ, max, sym, ap, ◌∙◌, subst}
+use Rattle.std.proofs.Common.{rules}
 use Rattle.cps_bounds.proofs.Keeps.{raises}
 use Rattle.cps_bounds.proofs.Offers.{handed_bound, floor_word}
 use Rattle.cps_bounds.proofs.seats.Bounds.raise.Goals as goal
