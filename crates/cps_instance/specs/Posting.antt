@@ -1,0 +1,81 @@
+-- How the parts of a model are written as tasks.
+use Rattle.std.specs.Prelude.{ℕ, ◌-◌, ◌^◌, ℤ, pos, negsuc, neg_ℤ, Bool, if◌then◌else◌, Option, Some, None, List, [], ◌∷◌, ◌++◌, map}
+use Rattle.cps_model.specs.declared.model.Objective.{Objective}
+use Rattle.cps_model.specs.declared.constraint.Constraint.{Constraint}
+use Rattle.cps_model.specs.declared.constraint.Kind.{Kind}
+use Rattle.cps_model.specs.declared.constraint.Kind.TheVariants as kinds
+use Rattle.cps_domain.specs.Window.{equals}
+use Rattle.cps_literal.specs.declared.atom.Atom.{Atom}
+use Rattle.cps_literal.specs.declared.atom.Op.TheVariants.{Le, Ge}
+use Rattle.cps_instance.specs.declared.term.Term.{Term}
+use Rattle.cps_instance.specs.declared.task.Task.{Task}
+use Rattle.cps_instance.specs.declared.task.Body.{Body}
+use Rattle.cps_instance.specs.declared.task.Body.TheVariants as bodies
+use Rattle.cps_instance.specs.Sums.{DefinedSum}
+
+-- a literal is true where its variable is at least 1, and its opposite where it is at most 0
+abbrev pub atom_of : ℤ → Atom
+atom_of (pos i) = record { subject = i; op = Ge; value = pos 1 }
+atom_of (negsuc i) = record { subject = i; op = Le; value = pos 0 }
+
+abbrev pub term_of : ℤ → ℕ → Term
+term_of c i = record { coeff = c; subject = i }
+
+-- the one coefficient whose opposite is not in its type
+abbrev pub has_no_opposite : ℤ → Bool
+has_no_opposite c = equals c (negsuc (2 ^ 63 - 1))
+
+-- a reference below 0 is its variable with the opposite coefficient, which is given in two halves where it is 2 ^ 63
+abbrev pub terms_of_reference : ℤ → ℤ → List Term
+terms_of_reference c (pos i) = term_of c i ∷ []
+terms_of_reference c (negsuc i) =
+    if has_no_opposite c then term_of (pos (2 ^ 62)) i ∷ term_of (pos (2 ^ 62)) i ∷ [] else term_of (neg_ℤ c) i ∷ []
+
+abbrev pub terms_of : List ℤ → List ℤ → List Term
+terms_of [] cs = []
+terms_of (r ∷ rs) [] = []
+terms_of (r ∷ rs) (c ∷ cs) = terms_of_reference c r ++ terms_of rs cs
+
+abbrev pub body_of : Kind → Body
+body_of kinds.Empty = bodies.Empty
+body_of (kinds.BoolOr literals) = bodies.BoolOr (map atom_of literals)
+body_of (kinds.BoolAnd literals) = bodies.BoolAnd (map atom_of literals)
+body_of (kinds.AtMostOne literals) = bodies.AtMostOne (map atom_of literals)
+body_of (kinds.ExactlyOne literals) = bodies.ExactlyOne (map atom_of literals)
+body_of (kinds.BoolXor literals) = bodies.BoolXor (map atom_of literals)
+body_of (kinds.Linear vars coeffs domain) = bodies.Linear (terms_of vars coeffs) domain
+
+abbrev pub task_of : Constraint → Task
+task_of c = record { enforcement = map atom_of c.enforcement; body = body_of c.kind }
+
+-- without an objective its sum is 0 and its list empty
+abbrev pub objective_terms : Option Objective → List Term
+objective_terms None = []
+objective_terms (Some o) = terms_of o.vars o.coeffs
+
+abbrev pub objective_bounds : Option Objective → List ℤ
+objective_bounds None = []
+objective_bounds (Some o) = o.domain
+
+abbrev pub list_task : Option Objective → Task
+list_task o = record { enforcement = []; body = bodies.ObjectiveList (objective_terms o) (objective_bounds o) }
+
+abbrev pub cut_task : Option Objective → Task
+cut_task o = record { enforcement = []; body = bodies.Cut (objective_terms o) None }
+
+-- the sums that tasks define
+abbrev pub sums_of_body : Body → List DefinedSum
+sums_of_body (bodies.Sum subject terms offset) = record { terms = terms; offset = offset } ∷ []
+sums_of_body bodies.Empty = []
+sums_of_body (bodies.BoolOr atoms) = []
+sums_of_body (bodies.BoolAnd atoms) = []
+sums_of_body (bodies.AtMostOne atoms) = []
+sums_of_body (bodies.ExactlyOne atoms) = []
+sums_of_body (bodies.BoolXor atoms) = []
+sums_of_body (bodies.Linear terms bounds) = []
+sums_of_body (bodies.ObjectiveList terms bounds) = []
+sums_of_body (bodies.Cut terms upper) = []
+
+abbrev pub sums_in : List Task → List DefinedSum
+sums_in [] = []
+sums_in (t ∷ ts) = sums_of_body t.body ++ sums_in ts
