@@ -1,12 +1,15 @@
 -- How the parts of a model are written as tasks.
-use Rattle.std.specs.Prelude.{ℕ, ◌-◌, ◌^◌, ℤ, pos, negsuc, neg_ℤ, Bool, if◌then◌else◌, Option, Some, None, List, [], ◌∷◌, ◌++◌, map}
+use Rattle.std.specs.Prelude.{◌≡◌, ℕ, ◌-◌, ◌^◌, ℤ, pos, negsuc, neg_ℤ, Bool, if◌then◌else◌, Option, Some, None, List, [], ◌∷◌, ◌++◌, map}
 use Rattle.cps_model.specs.declared.model.Objective.{Objective}
 use Rattle.cps_model.specs.declared.constraint.Constraint.{Constraint}
 use Rattle.cps_model.specs.declared.constraint.Kind.{Kind}
 use Rattle.cps_model.specs.declared.constraint.Kind.TheVariants as kinds
-use Rattle.cps_domain.specs.Window.{equals}
+use Rattle.cps_model.specs.declared.model.Variable.{Variable}
+use Rattle.cps_model.specs.Within.{is_within}
+use Rattle.cps_domain.specs.Window.{Window, IsDomain, contains, equals}
 use Rattle.cps_literal.specs.declared.atom.Atom.{Atom}
 use Rattle.cps_literal.specs.declared.atom.Op.TheVariants.{Le, Ge}
+use Rattle.std.specs.List.{AllZip}
 use Rattle.cps_instance.specs.declared.term.Term.{Term}
 use Rattle.cps_instance.specs.declared.task.Task.{Task}
 use Rattle.cps_instance.specs.declared.task.Body.{Body}
@@ -79,3 +82,11 @@ sums_of_body (bodies.Cut terms upper) = []
 abbrev pub sums_in : List Task → List DefinedSum
 sums_in [] = []
 sums_in (t ∷ ts) = sums_of_body t.body ++ sums_in ts
+
+-- the domain has exactly the variable's values
+pub record HasValuesOf (v : Variable) (d : Window) : Type 0 where
+  pub sound : IsDomain d
+  pub values : (x : ℤ) → contains d x ≡ is_within v.domain x
+
+abbrev pub HaveValuesOf : List Variable → List Window → Type 0
+HaveValuesOf vs ds = AllZip HasValuesOf vs ds
