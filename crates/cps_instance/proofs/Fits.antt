@@ -29,7 +29,7 @@ use Rattle.cps_instance.specs.Tasks.{atom_subjects, subjects_of, subjects_of_bod
 use Rattle.cps_instance.specs.Fitting.{IsLiteral, AreSmall, AreSmallWithin, IsFitting, IsFittingBody}
 use Rattle.cps_instance.specs.Posting.{atom_of, terms_of_reference, has_no_opposite, term_of, terms_of, body_of, task_of, list_task, cut_task, objective_terms, objective_bounds, HaveValuesOf}
 use Rattle.cps_instance.proofs.Summing.{terms_of_reference-reach, terms_reach-append}
-use Rattle.cps_instance.proofs.Domains.{magnitudes_le, boolean_at, length-values}
+use Rattle.cps_instance.proofs.VariableDomains.{magnitudes_le, boolean_at, length-values}
 
 -- the domains of variables without faults
 record AreOf (vs : List Variable) (ds : List Window) : Type 0 where

@@ -1,7 +1,10 @@
 pub mod Agreeing
 pub mod Extending
-pub mod Literals
+pub mod LiteralAtoms
 pub mod Summing
 pub mod Meaning
-pub mod Domains
+pub mod VariableDomains
 pub mod Fits
+pub mod Growing
+pub mod Instances
+pub mod Boundings

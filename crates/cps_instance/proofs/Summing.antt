@@ -1,7 +1,8 @@
 -- The terms of references are worth what the references are, and go as far.
 use Rattle.std.specs.Prelude.{map, unsigned_abs, if◌then◌else◌, neg_ℤ, ◌*◌, All}
-use Rattle.std.proofs.Common.{◌≡◌, ℕ, zero, suc, ◌+◌, ◌-◌, ◌<◌, ◌≤◌, ◌^◌, List, [], ◌∷◌, ◌++◌, Bool, true, false, length, refl, sym, ◌∙◌, ap, arith, ℤ, pos, negsuc, ◌+ℤ◌, ◌*ℤ◌}
+use Rattle.std.proofs.Common.{◌≡◌, ℕ, zero, suc, ◌+◌, ◌-◌, ◌<◌, ◌≤◌, ◌^◌, List, [], ◌∷◌, ◌++◌, Bool, true, false, length, drop, get_or, refl, sym, ◌∙◌, ap, arith, ℤ, pos, negsuc, ◌+ℤ◌, ◌*ℤ◌}
 use Rattle.std.proofs.lemmas.Int.{ints, unsigned_abs-mul}
+use Rattle.std.proofs.lemmas.List.{append_assoc, drop_more}
 use Rattle.cps_model.specs.Values.{variable_of, reference_value, sum_of}
 use Rattle.cps_literal.specs.Truth.{value_at}
 use Rattle.cps_domain.specs.Window.{Window, equals}
@@ -60,3 +61,14 @@ terms_of_reference-reach ds c (negsuc i) = elim (has_no_opposite c) as (λ b. ha
     | true ↦ λ e. (let l = least_of c e in rw l (omega arith))
     | false ↦ λ e. (let o = unsigned_abs-opposite c in omega (arith, ap (λ (n : ℕ). n * magnitude (domain_at ds i)) o))
   ] refl
+
+-- one more reference of a loop
+pub terms_of-more : (ts us : List Term) (rs cs : List ℤ) (k : ℕ) (r c : ℤ) (whole : List Term) → k < length rs → k < length cs → r ≡ get_or rs k (pos 0) → c ≡ get_or cs k (pos 0) → us ≡ ts ++ terms_of_reference c r → ts ++ terms_of (drop k rs) (drop k cs) ≡ whole → us ++ terms_of (drop (k + 1) rs) (drop (k + 1) cs) ≡ whole
+terms_of-more ts us rs cs k r c whole p q er ec eu h =
+    let left : drop k rs ≡ r ∷ drop (k + 1) rs = drop_more rs k (pos 0) p ∙ ap (λ (x : ℤ). x ∷ drop (k + 1) rs) (sym er) in
+    let right : drop k cs ≡ c ∷ drop (k + 1) cs = drop_more cs k (pos 0) q ∙ ap (λ (x : ℤ). x ∷ drop (k + 1) cs) (sym ec) in
+    let both : terms_of (drop k rs) (drop k cs) ≡ terms_of_reference c r ++ terms_of (drop (k + 1) rs) (drop (k + 1) cs) = rw (left, right) refl in
+    ap (λ ws. ws ++ terms_of (drop (k + 1) rs) (drop (k + 1) cs)) eu
+    ∙ append_assoc ts (terms_of_reference c r) (terms_of (drop (k + 1) rs) (drop (k + 1) cs))
+    ∙ ap (λ ws. ts ++ ws) (sym both)
+    ∙ h

@@ -1,5 +1,6 @@
 -- How the parts of a model are written as tasks.
-use Rattle.std.specs.Prelude.{◌≡◌, ℕ, ◌-◌, ◌^◌, ℤ, pos, negsuc, neg_ℤ, Bool, if◌then◌else◌, Option, Some, None, List, [], ◌∷◌, ◌++◌, map}
+use Rattle.std.specs.Prelude.{◌≡◌, ℕ, ◌-◌, ◌^◌, ℤ, pos, negsuc, neg_ℤ, Bool, if◌then◌else◌, IsTrue, length, Option, Some, None, List, [], ◌∷◌, ◌++◌, map}
+use Rattle.cps_model.specs.declared.model.CpModel.{CpModel}
 use Rattle.cps_model.specs.declared.model.Objective.{Objective}
 use Rattle.cps_model.specs.declared.constraint.Constraint.{Constraint}
 use Rattle.cps_model.specs.declared.constraint.Kind.{Kind}
@@ -9,7 +10,9 @@ use Rattle.cps_model.specs.Within.{is_within}
 use Rattle.cps_domain.specs.Window.{Window, IsDomain, contains, equals}
 use Rattle.cps_literal.specs.declared.atom.Atom.{Atom}
 use Rattle.cps_literal.specs.declared.atom.Op.TheVariants.{Le, Ge}
-use Rattle.std.specs.List.{AllZip}
+use Rattle.std.specs.List.{AllZip, list_all}
+use Rattle.cps_model.specs.Rules.{is_paired, sums_of}
+use Rattle.cps_instance.specs.Problem.{Problem}
 use Rattle.cps_instance.specs.declared.term.Term.{Term}
 use Rattle.cps_instance.specs.declared.task.Task.{Task}
 use Rattle.cps_instance.specs.declared.task.Body.{Body}
@@ -66,6 +69,10 @@ list_task o = record { enforcement = []; body = bodies.ObjectiveList (objective_
 abbrev pub cut_task : Option Objective → Task
 cut_task o = record { enforcement = []; body = bodies.Cut (objective_terms o) None }
 
+-- the tasks of a model: of its constraints, its objective's list and its cut
+abbrev pub first_tasks : CpModel → List Task
+first_tasks m = map task_of m.constraints ++ (list_task m.objective ∷ (cut_task m.objective ∷ []))
+
 -- the sums that tasks define
 abbrev pub sums_of_body : Body → List DefinedSum
 sums_of_body (bodies.Sum subject terms offset) = record { terms = terms; offset = offset } ∷ []
@@ -82,6 +89,18 @@ sums_of_body (bodies.Cut terms upper) = []
 abbrev pub sums_in : List Task → List DefinedSum
 sums_in [] = []
 sums_in (t ∷ ts) = sums_of_body t.body ++ sums_in ts
+
+-- the value of an instance with this model, these domains and these tasks
+abbrev pub problem_of : CpModel → List Window → List Task → Problem
+problem_of m ds ts = record { model = m; defs = sums_in ts; domains = ds; tasks = ts }
+
+-- the sums of a constraint have a coefficient for each reference, and so has the objective's
+abbrev pub IsPaired : Constraint → Type 0
+IsPaired c = IsTrue (list_all is_paired (sums_of c.kind))
+
+abbrev pub IsPairedObjective : Option Objective → Type 0
+IsPairedObjective None = Unit {0}
+IsPairedObjective (Some o) = length o.vars ≡ length o.coeffs
 
 -- the domain has exactly the variable's values
 pub record HasValuesOf (v : Variable) (d : Window) : Type 0 where

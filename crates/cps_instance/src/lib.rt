@@ -7,8 +7,14 @@
 //! subjects: no sum in it leaves its type, so that a propagator needs no test for it.
 #![tactic(auto)]
 
+mod domains;
+mod instance;
+mod literals;
 mod task;
+mod tasks;
 mod term;
+mod terms;
 
+pub use instance::Instance;
 pub use task::{Body, Task};
 pub use term::Term;
