@@ -1,7 +1,9 @@
 -- A valid model begins an instance, and a defined sum keeps one.
-use Rattle.std.specs.Prelude.{All, map, unsigned_abs, Option, None, nat_le, ◌&&◌}
-use Rattle.std.specs.List.{AllZip}
-use Rattle.std.proofs.Common.{◌≡◌, ℕ, ◌+◌, ◌<◌, ◌≤◌, ◌^◌, List, [], ◌∷◌, ◌++◌, length, Bool, true, refl, sym, ◌∙◌, ap, subst, arith, ℤ}
+use Rattle.std.specs.Prelude.{All, map, unsigned_abs, Option, None, Some, nat_le, ◌==◌, ◌&&◌}
+use Rattle.std.specs.List.{AllZip, list_all}
+use Rattle.cps_model.specs.declared.model.Objective.{Objective}
+use Rattle.cps_model.specs.Rules.{is_paired, sums_of, has_matching_lists}
+use Rattle.std.proofs.Common.{◌≡◌, ℕ, ◌+◌, ◌<◌, ◌≤◌, ◌^◌, List, [], ◌∷◌, ◌++◌, length, Bool, true, refl, sym, ◌∙◌, ap, subst, arith, ℤ, ◌+ℤ◌}
 use Rattle.std.proofs.Math.ListN.{length-append}
 use Rattle.std.proofs.lemmas.List.{append_assoc}
 use Rattle.std.proofs.lemmas.List.Elements.{All-nil, All-cons, All-head, All-tail, All-append, All-push, All-weaker, All-map, All-same}
@@ -10,17 +12,18 @@ use Rattle.cps_model.specs.declared.model.Variable.{Variable}
 use Rattle.cps_model.specs.declared.constraint.Constraint.{Constraint}
 use Rattle.cps_model.specs.declared.constraint.Kind.{Kind}
 use Rattle.cps_model.specs.declared.constraint.Kind.TheVariants as kinds
-use Rattle.cps_model.specs.Validity.{IsValid, variable_fault, constraint_fault, size_fault, most_items, most_entries, entry_count}
+use Rattle.cps_model.specs.Validity.{IsValid, variable_fault, constraint_fault, objective_fault, size_fault, most_items, most_entries, entry_count}
 use Rattle.cps_model.proofs.Faults.{parts_of, or_else-none, at_place-none, rule_kept}
 use Rattle.cps_model.proofs.Tests.{and_true}
 use Rattle.cps_domain.specs.Window.{Window, IsDomain, contains, intervals}
 use Rattle.cps_instance.specs.declared.task.Task.{Task}
-use Rattle.cps_instance.specs.Terms.{term_subjects, terms_reach}
+use Rattle.cps_instance.specs.declared.term.Term.{Term}
+use Rattle.cps_instance.specs.Terms.{term_subjects, terms_reach, least_of_terms, greatest_of_terms}
 use Rattle.cps_instance.specs.Sums.{DefinedSum, least_sum_of, greatest_sum_of, IsSumOf}
 use Rattle.cps_instance.specs.Tasks.{subjects_of}
 use Rattle.cps_instance.specs.Fitting.{IsLiteral, IsFitting}
 use Rattle.cps_instance.specs.Problem.{Problem, variable_count, AreDomains, AreTasks, IsInstance, Means, Defines, sum_task, sum_tasks}
-use Rattle.cps_instance.specs.Posting.{task_of, body_of, list_task, cut_task, first_tasks, sums_in, sums_of_body, HaveValuesOf}
+use Rattle.cps_instance.specs.Posting.{task_of, body_of, list_task, cut_task, first_tasks, sums_in, sums_of_body, problem_of, IsPaired, IsPairedObjective, HaveValuesOf}
 use Rattle.cps_instance.proofs.Agreeing.{All-append_left, All-append_right}
 use Rattle.cps_instance.proofs.Extending.{value_at-extended_push}
 use Rattle.cps_instance.proofs.VariableDomains.{length-values, values_at, sound_values}
@@ -208,4 +211,69 @@ grown_defines p s d i = record {
   domains = refl;
   tasks = refl;
   value = λ a long. value_at-extended_push p.defs s a (length p.domains) (let count = i.domains.count in omega arith);
+}
+
+same_problem : (m : CpModel) (ss ss' : List DefinedSum) (ds ds' : List Window) (ts ts' : List Task) → ss ≡ ss' → ds ≡ ds' → ts ≡ ts'
+    → (let p : Problem = record { model = m; defs = ss; domains = ds; tasks = ts } in p) ≡ (let q : Problem = record { model = m; defs = ss'; domains = ds'; tasks = ts' } in q)
+same_problem m ss ss' ds ds' ts ts' e f g = cc
+
+-- what is left of a defined sum
+pub record Grows (old new : Problem) (s : DefinedSum) (subject : ℕ) : Type 0 where
+  pub instance : IsInstance new
+  pub defines : Defines old new s subject
+
+pub grows : (p : Problem) (m : CpModel) (ds ds' : List Window) (ts ts' : List Task) (s : DefinedSum) (d : Window) (subject : ℕ) → problem_of m ds ts ≡ p → IsInstance (problem_of m ds ts) → subject ≡ length ds → CanDefine (problem_of m ds ts) s d
+    → ds' ≡ ds ++ d ∷ [] → ts' ≡ ts ++ sum_task subject s ∷ [] → Grows p (problem_of m ds' ts') s subject
+grows p m ds ds' ts ts' s d subject view i es h ed et =
+    let old = problem_of m ds ts in
+    let last = et ∙ ap (λ (n : ℕ). ts ++ sum_task n s ∷ []) es in
+    let sums = ap sums_in last ∙ sums_in-push ts (length ds) s in
+    let same : problem_of m ds' ts' ≡ grown old s d = same_problem m (sums_in ts') (sums_in ts ++ s ∷ []) ds' (ds ++ d ∷ []) ts' (ts ++ sum_task (length ds) s ∷ []) sums ed last in
+    record {
+      instance = subst (λ q. IsInstance q) (sym same) (grown_instance old s d i h);
+      defines = subst (λ o. Defines o (problem_of m ds' ts') s subject) view
+        (subst (λ n. Defines old (problem_of m ds' ts') s n) (sym es) (subst (λ q. Defines old q s (length ds)) (sym same) (grown_defines old s d i)));
+    }
+
+pub constraint_paired : (vs : List Variable) (cs : List Constraint) (c : Constraint) → constraint_fault vs cs c ≡ None → IsPaired c
+constraint_paired vs cs c e =
+    let three = rule_kept 3 _ _ e in
+    let four = rule_kept 4 _ _ three.1 in
+    let five = rule_kept 5 _ _ four.1 in
+    (and_true (list_all is_paired (sums_of c.kind)) (has_matching_lists c.kind) five.0).0
+
+nat_eq_of : (m n : ℕ) → (m == n) ≡ true → m ≡ n
+nat_eq_of m n h = grind arith
+
+objective_paired : (vs : List Variable) (o : Option Objective) → objective_fault vs o ≡ None → IsPairedObjective o
+objective_paired vs None e = tt
+objective_paired vs (Some o) e =
+    let three = rule_kept 3 _ _ e in
+    let five = rule_kept 5 _ _ three.1 in
+    nat_eq_of (length o.vars) (length o.coeffs) five.0
+
+-- what the parts of a valid model need to be written as tasks
+pub record CanPost (m : CpModel) : Type 0 where
+  pub variables : All (λ v. variable_fault v ≡ None) m.variables
+  pub constraints : All IsPaired m.constraints
+  pub objective : IsPairedObjective m.objective
+
+pub can_post : (m : CpModel) → IsValid m → CanPost m
+can_post m valid =
+    let parts = parts_of m valid in
+    record {
+      variables = parts.variables;
+      constraints = All-weaker (λ c. constraint_fault m.variables m.constraints c ≡ None) IsPaired (λ c e. constraint_paired m.variables m.constraints c e) m.constraints parts.constraints;
+      objective = objective_paired m.variables m.objective parts.objective;
+    }
+
+-- what `define` knows of the sum when it has its domain
+pub can_define : (p : Problem) (m : CpModel) (ds es : List Window) (us : List Task) (terms : List Term) (offset raw : ℤ) (d : Window) → p.domains ≡ ds → es ≡ ds → raw ≡ offset → All (λ t. t.subject < length p.domains) terms → terms_reach p.domains terms + unsigned_abs offset < 2 ^ 62 → length p.domains < 2 ^ 31
+    → IsDomain d → intervals d ≡ (least_of_terms es terms +ℤ raw, greatest_of_terms es terms +ℤ raw) ∷ [] → CanDefine (problem_of m ds us) (record { terms = terms; offset = offset }) d
+can_define p m ds es us terms offset raw d old read same subjects small room sound ends = record {
+  room = subst (λ (ws : List Window). length ws < 2 ^ 31) old room;
+  sound = sound;
+  subjects = All-map (λ (j : ℕ). j < length ds) (λ t. t.subject) terms (subst (λ (ws : List Window). All (λ t. t.subject < length ws) terms) old subjects);
+  small = subst (λ ws. terms_reach ws terms + unsigned_abs offset < 2 ^ 62) old small;
+  ends = ends ∙ ap (λ ws. (least_of_terms ws terms +ℤ raw, greatest_of_terms ws terms +ℤ raw) ∷ []) read ∙ ap (λ (z : ℤ). (least_of_terms ds terms +ℤ z, greatest_of_terms ds terms +ℤ z) ∷ []) same;
 }

@@ -34,10 +34,10 @@ pub fn domains_of(alloc: Global, variables: &[Variable]) -> Result<Vec<Domain>, 
 }
 
 /// The least and the greatest value of a sum.
-#[derive(Clone, Copy, Debug)]
-pub struct Ends {
-    pub low: i64,
-    pub high: i64,
+#[derive(Clone, Copy)]
+struct Ends {
+    low: i64,
+    high: i64,
 }
 
 /// The ends of a product with a value in the domain.
@@ -68,7 +68,7 @@ fn sum_ends(one: &Ends, other: &Ends) -> Ends
 }
 
 /// The ends of a sum of terms and an offset, by the domains.
-pub fn ends_of(domains: &[Domain], terms: &[Term], offset: i64) -> Ends
+fn ends_of(domains: &[Domain], terms: &[Term], offset: i64) -> Ends
     requires subjects { All (λ t. t.subject < length domains.now) terms.now }
     requires small { terms_reach domains.now terms.now + unsigned_abs offset < 2 ^ 62 }
     ensures low { result.low ≡ least_of_terms domains.now terms.now +ℤ offset }
@@ -85,7 +85,7 @@ pub fn ends_of(domains: &[Domain], terms: &[Term], offset: i64) -> Ends
 }
 
 /// The domain of every number between two ends.
-pub fn domain_between(alloc: Global, ends: &Ends) -> Result<Domain, AllocError>
+fn domain_between(alloc: Global, ends: &Ends) -> Result<Domain, AllocError>
     requires ordered { ends.now.low ≤ℤ ends.now.high }
     requires low { unsigned_abs ends.now.low < 2 ^ 62 }
     requires high { unsigned_abs ends.now.high < 2 ^ 62 }
@@ -95,4 +95,20 @@ pub fn domain_between(alloc: Global, ends: &Ends) -> Result<Domain, AllocError>
     let domain = Domain::of_bounds(alloc, &[ends.low, ends.high])?;
     prove!(domain.min() <= domain.max());
     Ok(domain)
+}
+
+/// The domain of a sum: every number from the least to the greatest value by the domains of its subjects.
+pub fn sum_domain(
+    alloc: Global,
+    domains: &[Domain],
+    terms: &[Term],
+    offset: i64,
+) -> Result<Domain, AllocError>
+    requires subjects { All (λ t. t.subject < length domains.now) terms.now }
+    requires small { terms_reach domains.now terms.now + unsigned_abs offset < 2 ^ 62 }
+    ensures sound { IfOk result IsDomain }
+    ensures whole { IfOk result (λ domain. intervals domain ≡ (least_of_terms domains.now terms.now +ℤ offset, greatest_of_terms domains.now terms.now +ℤ offset) ∷ []) }
+{
+    let ends = ends_of(domains, terms, offset);
+    domain_between(alloc, &ends)
 }

@@ -3,12 +3,11 @@ ghost use Rattle.std.specs.Prelude.{◌≡◌, ◌+◌, ◌<◌, ◌≤◌, ◌^
 ghost use Rattle.cps_instance.specs.Terms.{terms_reach};
 ghost use Rattle.cps_instance.specs.Problem.{IsInstance, Defines};
 
-use crate::domains::{domain_between, domains_of, ends_of};
-use crate::task::{Body, Task};
-use crate::tasks::tasks_of;
+use crate::domains::{domains_of, sum_domain};
+use crate::task::Task;
+use crate::tasks::{sum_task, tasks_of};
 use crate::term::Term;
 use cps_domain::Domain;
-use cps_model::Listed;
 use cps_validate::ValidModel;
 use std::alloc::{AllocError, Global};
 use std::marker::Model;
@@ -88,18 +87,10 @@ impl<'a> Instance<'a> {
     {
         let alloc = *self.tasks.allocator();
         let subject = self.domains.len() as u32;
-        let ends = ends_of(self.domains.as_slice(), terms, offset);
-        let domain = domain_between(alloc, &ends)?;
-        let task = Task {
-            enforcement: Listed::new(alloc),
-            body: Body::Sum {
-                subject,
-                terms: Listed::from_vec(Vec::from_slice(alloc, terms)?),
-                offset,
-            },
-        };
         self.domains.reserve(1)?;
         self.tasks.reserve(1)?;
+        let domain = sum_domain(alloc, self.domains.as_slice(), terms, offset)?;
+        let task = sum_task(alloc, subject, terms, offset)?;
         self.domains.push_reserved(domain);
         self.tasks.push_reserved(task);
         Ok(subject)

@@ -4,6 +4,7 @@ ghost use Rattle.std.specs.List.{list_all};
 ghost use Rattle.cps_model.specs.Rules.{is_paired, sums_of, sum_of_objective};
 ghost use Rattle.cps_model.specs.Validity.{IsValid};
 ghost use Rattle.cps_instance.specs.Posting.{body_of, task_of, objective_terms, objective_bounds, list_task, cut_task, first_tasks, IsPaired, IsPairedObjective};
+ghost use Rattle.cps_instance.specs.Problem.{sum_task};
 
 use crate::literals::atoms_of;
 use crate::task::{Body, Task};
@@ -107,6 +108,25 @@ fn cut_task(alloc: Global, objective: &Option<Objective>) -> Result<Task, AllocE
         body: Body::Cut {
             terms: objective_terms(alloc, objective)?,
             upper: None,
+        },
+    })
+}
+
+/// The task of a defined sum.
+pub fn sum_task(
+    alloc: Global,
+    subject: u32,
+    terms: &[Term],
+    offset: i64,
+) -> Result<Task, AllocError>
+    ensures { IfOk result (λ task. task ≡ sum_task subject (record { terms = terms.now; offset = offset })) }
+{
+    Ok(Task {
+        enforcement: Listed::new(alloc),
+        body: Body::Sum {
+            subject,
+            terms: Listed::from_vec(Vec::from_slice(alloc, terms)?),
+            offset,
         },
     })
 }
