@@ -16,9 +16,9 @@ use Rattle.cps_model.specs.Validity.{variable_fault}
 use Rattle.cps_model.proofs.Tests.{and_true}
 use Rattle.cps_model.proofs.Faults.{rule_kept}
 use Rattle.cps_model.proofs.Sums.{unsigned_abs-add}
-use Rattle.cps_domain.specs.Window.{Window, contains, intervals, within, is_among, IsRising, IsDomain, least, greatest, pairs_of}
+use Rattle.cps_domain.specs.Window.{within, is_among, IsRising, pairs_of}
 use Rattle.cps_instance.specs.declared.term.Term.{Term}
-use Rattle.cps_instance.specs.Terms.{magnitude, domain_at, terms_reach, least_of_terms, greatest_of_terms}
+use Rattle.cps_instance.specs.Terms.{Intervals, Domains, AreIntervals, least_of, greatest_of, magnitude, domain_at, terms_reach, least_of_terms, greatest_of_terms}
 use Rattle.cps_instance.specs.Posting.{HasValuesOf, HaveValuesOf}
 
 -- well shaped bounds are pairs
@@ -95,11 +95,10 @@ shaped_of v e =
     }
 
 -- a domain with the pairs of a variable's bounds has its values
-pub has_values : (v : Variable) (d : Window) → IsDomain d → intervals d ≡ pairs_of v.domain → HasValuesOf v d
-unfolding contains
+pub has_values : (v : Variable) (d : Intervals) → AreIntervals d → d ≡ pairs_of v.domain → HasValuesOf v d
 has_values v d s e = record { sound = s; values = λ x. (ap (λ ps. is_among ps x) e ∙ among_pairs v.domain x) }
 
-pub values-push : (vs : List Variable) (ds : List Window) (v : Variable) (d : Window) → HaveValuesOf vs ds → HasValuesOf v d → HaveValuesOf (vs ++ v ∷ []) (ds ++ d ∷ [])
+pub values-push : (vs : List Variable) (ds : Domains) (v : Variable) (d : Intervals) → HaveValuesOf vs ds → HasValuesOf v d → HaveValuesOf (vs ++ v ∷ []) (ds ++ d ∷ [])
 values-push [] [] v d h k = (k, tt)
 values-push [] (e ∷ ds) v d h k = absurd h
 values-push (u ∷ vs) [] v d h k = absurd h
@@ -112,10 +111,10 @@ times_end c v m h k = let e = unsigned_abs-mul c v in let l = mul-le-mul_left (u
 pub fits_small : (z : ℤ) → unsigned_abs z < 2 ^ 62 → FitsSigned w64 z
 fits_small z h = fits_signed_from_abs w64 z (let e : 2 ^ 62 < 2 ^ hbits w64 = lit< tt in omega arith)
 
-pub times_least : (c : ℤ) (d : Window) (v : ℤ) → unsigned_abs c * magnitude d < 2 ^ 62 → v ≡ least d → unsigned_abs (c *ℤ v) < 2 ^ 62
+pub times_least : (c : ℤ) (d : Intervals) (v : ℤ) → unsigned_abs c * magnitude d < 2 ^ 62 → v ≡ least_of d → unsigned_abs (c *ℤ v) < 2 ^ 62
 times_least c d v h e = times_end c v (magnitude d) h (let a = ap (λ (z : ℤ). unsigned_abs z) e in omega arith)
 
-pub times_greatest : (c : ℤ) (d : Window) (v : ℤ) → unsigned_abs c * magnitude d < 2 ^ 62 → v ≡ greatest d → unsigned_abs (c *ℤ v) < 2 ^ 62
+pub times_greatest : (c : ℤ) (d : Intervals) (v : ℤ) → unsigned_abs c * magnitude d < 2 ^ 62 → v ≡ greatest_of d → unsigned_abs (c *ℤ v) < 2 ^ 62
 times_greatest c d v h e = times_end c v (magnitude d) h (let a = ap (λ (z : ℤ). unsigned_abs z) e in omega arith)
 
 end_size : (c v : ℤ) (m : ℕ) → unsigned_abs v ≤ m → unsigned_abs (c *ℤ v) ≤ unsigned_abs c * m
@@ -127,44 +126,44 @@ min_size x y n p q = grind arith
 max_size : (x y : ℤ) (n : ℕ) → unsigned_abs x ≤ n → unsigned_abs y ≤ n → unsigned_abs (int_max x y) ≤ n
 max_size x y n p q = grind arith
 
-abbrev pub low_end : Term → Window → ℤ
-low_end t d = int_min (t.coeff *ℤ least d) (t.coeff *ℤ greatest d)
+abbrev pub low_end : Term → Intervals → ℤ
+low_end t d = int_min (t.coeff *ℤ least_of d) (t.coeff *ℤ greatest_of d)
 
-abbrev pub high_end : Term → Window → ℤ
-high_end t d = int_max (t.coeff *ℤ least d) (t.coeff *ℤ greatest d)
+abbrev pub high_end : Term → Intervals → ℤ
+high_end t d = int_max (t.coeff *ℤ least_of d) (t.coeff *ℤ greatest_of d)
 
-low_end-size : (t : Term) (d : Window) → unsigned_abs (low_end t d) ≤ unsigned_abs t.coeff * magnitude d
-low_end-size t d = min_size (t.coeff *ℤ least d) (t.coeff *ℤ greatest d) (unsigned_abs t.coeff * magnitude d) (end_size t.coeff (least d) (magnitude d) (omega arith)) (end_size t.coeff (greatest d) (magnitude d) (omega arith))
+low_end-size : (t : Term) (d : Intervals) → unsigned_abs (low_end t d) ≤ unsigned_abs t.coeff * magnitude d
+low_end-size t d = min_size (t.coeff *ℤ least_of d) (t.coeff *ℤ greatest_of d) (unsigned_abs t.coeff * magnitude d) (end_size t.coeff (least_of d) (magnitude d) (omega arith)) (end_size t.coeff (greatest_of d) (magnitude d) (omega arith))
 
-high_end-size : (t : Term) (d : Window) → unsigned_abs (high_end t d) ≤ unsigned_abs t.coeff * magnitude d
-high_end-size t d = max_size (t.coeff *ℤ least d) (t.coeff *ℤ greatest d) (unsigned_abs t.coeff * magnitude d) (end_size t.coeff (least d) (magnitude d) (omega arith)) (end_size t.coeff (greatest d) (magnitude d) (omega arith))
+high_end-size : (t : Term) (d : Intervals) → unsigned_abs (high_end t d) ≤ unsigned_abs t.coeff * magnitude d
+high_end-size t d = max_size (t.coeff *ℤ least_of d) (t.coeff *ℤ greatest_of d) (unsigned_abs t.coeff * magnitude d) (end_size t.coeff (least_of d) (magnitude d) (omega arith)) (end_size t.coeff (greatest_of d) (magnitude d) (omega arith))
 
 -- the ends so far and those of the terms that are left make the whole, and none of it is large
-pub record EndsSoFar (ds : List Window) (ts : List Term) (offset : ℤ) (k : ℕ) (low high : ℤ) : Type 0 where
+pub record EndsSoFar (ds : Domains) (ts : List Term) (offset : ℤ) (k : ℕ) (low high : ℤ) : Type 0 where
   pub low_is : low +ℤ least_of_terms ds (drop k ts) ≡ least_of_terms ds ts +ℤ offset
   pub high_is : high +ℤ greatest_of_terms ds (drop k ts) ≡ greatest_of_terms ds ts +ℤ offset
   pub low_size : unsigned_abs low + terms_reach ds (drop k ts) ≤ terms_reach ds ts + unsigned_abs offset
   pub high_size : unsigned_abs high + terms_reach ds (drop k ts) ≤ terms_reach ds ts + unsigned_abs offset
 
 -- the ends of one more term
-pub record TermEnds (t : Term) (d : Window) (low high : ℤ) : Type 0 where
+pub record TermEnds (t : Term) (d : Intervals) (low high : ℤ) : Type 0 where
   pub low_is : low ≡ low_end t d
   pub high_is : high ≡ high_end t d
 
-least_of_terms-drop : (ds : List Window) (ts : List Term) (k : ℕ) (t : Term) → k < length ts → t ≡ get_or ts k t → least_of_terms ds (drop k ts) ≡ low_end t (domain_at ds t.subject) +ℤ least_of_terms ds (drop (k + 1) ts)
+least_of_terms-drop : (ds : Domains) (ts : List Term) (k : ℕ) (t : Term) → k < length ts → t ≡ get_or ts k t → least_of_terms ds (drop k ts) ≡ low_end t (domain_at ds t.subject) +ℤ least_of_terms ds (drop (k + 1) ts)
 least_of_terms-drop ds ts k t l e = ap (λ us. least_of_terms ds us) (drop_more ts k t l ∙ ap (λ u. u ∷ drop (k + 1) ts) (sym e))
 
-greatest_of_terms-drop : (ds : List Window) (ts : List Term) (k : ℕ) (t : Term) → k < length ts → t ≡ get_or ts k t → greatest_of_terms ds (drop k ts) ≡ high_end t (domain_at ds t.subject) +ℤ greatest_of_terms ds (drop (k + 1) ts)
+greatest_of_terms-drop : (ds : Domains) (ts : List Term) (k : ℕ) (t : Term) → k < length ts → t ≡ get_or ts k t → greatest_of_terms ds (drop k ts) ≡ high_end t (domain_at ds t.subject) +ℤ greatest_of_terms ds (drop (k + 1) ts)
 greatest_of_terms-drop ds ts k t l e = ap (λ us. greatest_of_terms ds us) (drop_more ts k t l ∙ ap (λ u. u ∷ drop (k + 1) ts) (sym e))
 
-terms_reach-drop : (ds : List Window) (ts : List Term) (k : ℕ) (t : Term) → k < length ts → t ≡ get_or ts k t → terms_reach ds (drop k ts) ≡ unsigned_abs t.coeff * magnitude (domain_at ds t.subject) + terms_reach ds (drop (k + 1) ts)
+terms_reach-drop : (ds : Domains) (ts : List Term) (k : ℕ) (t : Term) → k < length ts → t ≡ get_or ts k t → terms_reach ds (drop k ts) ≡ unsigned_abs t.coeff * magnitude (domain_at ds t.subject) + terms_reach ds (drop (k + 1) ts)
 terms_reach-drop ds ts k t l e = ap (λ us. terms_reach ds us) (drop_more ts k t l ∙ ap (λ u. u ∷ drop (k + 1) ts) (sym e))
 
 -- there is room for the next term
-pub term_room : (ds : List Window) (ts : List Term) (offset : ℤ) (k : ℕ) (low high : ℤ) (t : Term) → terms_reach ds ts + unsigned_abs offset < 2 ^ 62 → EndsSoFar ds ts offset k low high → k < length ts → t ≡ get_or ts k t → unsigned_abs t.coeff * magnitude (domain_at ds t.subject) < 2 ^ 62
+pub term_room : (ds : Domains) (ts : List Term) (offset : ℤ) (k : ℕ) (low high : ℤ) (t : Term) → terms_reach ds ts + unsigned_abs offset < 2 ^ 62 → EndsSoFar ds ts offset k low high → k < length ts → t ≡ get_or ts k t → unsigned_abs t.coeff * magnitude (domain_at ds t.subject) < 2 ^ 62
 term_room ds ts offset k low high t small h l e = let step = terms_reach-drop ds ts k t l e in let s = h.low_size in omega arith
 
-pub low_room : (ds : List Window) (ts : List Term) (offset : ℤ) (k : ℕ) (low high : ℤ) (t : Term) (more : ℤ) → terms_reach ds ts + unsigned_abs offset < 2 ^ 62 → EndsSoFar ds ts offset k low high → k < length ts → t ≡ get_or ts k t → more ≡ low_end t (domain_at ds t.subject) → unsigned_abs low + unsigned_abs more < 2 ^ 62
+pub low_room : (ds : Domains) (ts : List Term) (offset : ℤ) (k : ℕ) (low high : ℤ) (t : Term) (more : ℤ) → terms_reach ds ts + unsigned_abs offset < 2 ^ 62 → EndsSoFar ds ts offset k low high → k < length ts → t ≡ get_or ts k t → more ≡ low_end t (domain_at ds t.subject) → unsigned_abs low + unsigned_abs more < 2 ^ 62
 low_room ds ts offset k low high t more small h l e m =
     let step = terms_reach-drop ds ts k t l e in
     let s = h.low_size in
@@ -172,7 +171,7 @@ low_room ds ts offset k low high t more small h l e m =
     let same = ap (λ (z : ℤ). unsigned_abs z) m in
     omega arith
 
-pub high_room : (ds : List Window) (ts : List Term) (offset : ℤ) (k : ℕ) (low high : ℤ) (t : Term) (more : ℤ) → terms_reach ds ts + unsigned_abs offset < 2 ^ 62 → EndsSoFar ds ts offset k low high → k < length ts → t ≡ get_or ts k t → more ≡ high_end t (domain_at ds t.subject) → unsigned_abs high + unsigned_abs more < 2 ^ 62
+pub high_room : (ds : Domains) (ts : List Term) (offset : ℤ) (k : ℕ) (low high : ℤ) (t : Term) (more : ℤ) → terms_reach ds ts + unsigned_abs offset < 2 ^ 62 → EndsSoFar ds ts offset k low high → k < length ts → t ≡ get_or ts k t → more ≡ high_end t (domain_at ds t.subject) → unsigned_abs high + unsigned_abs more < 2 ^ 62
 high_room ds ts offset k low high t more small h l e m =
     let step = terms_reach-drop ds ts k t l e in
     let s = h.high_size in
@@ -183,7 +182,7 @@ high_room ds ts offset k low high t more small h l e m =
 next_end : (low low' here all rest whole : ℤ) → low' ≡ low +ℤ here → all ≡ here +ℤ rest → low +ℤ all ≡ whole → low' +ℤ rest ≡ whole
 next_end low low' here all rest whole e f g = omega (arith, ints)
 
-pub ends_more : (ds : List Window) (ts : List Term) (offset : ℤ) (k : ℕ) (low high low' high' : ℤ) (t : Term) → EndsSoFar ds ts offset k low high → k < length ts → t ≡ get_or ts k t → low' ≡ low +ℤ low_end t (domain_at ds t.subject) → high' ≡ high +ℤ high_end t (domain_at ds t.subject) → EndsSoFar ds ts offset (k + 1) low' high'
+pub ends_more : (ds : Domains) (ts : List Term) (offset : ℤ) (k : ℕ) (low high low' high' : ℤ) (t : Term) → EndsSoFar ds ts offset k low high → k < length ts → t ≡ get_or ts k t → low' ≡ low +ℤ low_end t (domain_at ds t.subject) → high' ≡ high +ℤ high_end t (domain_at ds t.subject) → EndsSoFar ds ts offset (k + 1) low' high'
 ends_more ds ts offset k low high low' high' t h l e el eh =
     let d = domain_at ds t.subject in
     let step = terms_reach-drop ds ts k t l e in
@@ -210,14 +209,14 @@ ends_more ds ts offset k low high low' high' t h l e el eh =
 ordered_ends : (c x y : ℤ) → int_min (c *ℤ x) (c *ℤ y) ≤ℤ int_max (c *ℤ x) (c *ℤ y)
 ordered_ends c x y = grind (arith, ints)
 
-pub ends_ordered : (ds : List Window) (ts : List Term) → least_of_terms ds ts ≤ℤ greatest_of_terms ds ts
+pub ends_ordered : (ds : Domains) (ts : List Term) → least_of_terms ds ts ≤ℤ greatest_of_terms ds ts
 ends_ordered ds [] = omega (arith, ints)
 ends_ordered ds (t ∷ ts) =
-    let here = ordered_ends t.coeff (least (domain_at ds t.subject)) (greatest (domain_at ds t.subject)) in
+    let here = ordered_ends t.coeff (least_of (domain_at ds t.subject)) (greatest_of (domain_at ds t.subject)) in
     let rest = ends_ordered ds ts in
     omega (arith, ints)
 
-pub least-reach : (ds : List Window) (ts : List Term) → unsigned_abs (least_of_terms ds ts) ≤ terms_reach ds ts
+pub least-reach : (ds : Domains) (ts : List Term) → unsigned_abs (least_of_terms ds ts) ≤ terms_reach ds ts
 least-reach ds [] = omega arith
 least-reach ds (t ∷ ts) =
     let here = low_end-size t (domain_at ds t.subject) in
@@ -225,7 +224,7 @@ least-reach ds (t ∷ ts) =
     let both = unsigned_abs-add (low_end t (domain_at ds t.subject)) (least_of_terms ds ts) in
     omega arith
 
-pub greatest-reach : (ds : List Window) (ts : List Term) → unsigned_abs (greatest_of_terms ds ts) ≤ terms_reach ds ts
+pub greatest-reach : (ds : Domains) (ts : List Term) → unsigned_abs (greatest_of_terms ds ts) ≤ terms_reach ds ts
 greatest-reach ds [] = omega arith
 greatest-reach ds (t ∷ ts) =
     let here = high_end-size t (domain_at ds t.subject) in
@@ -239,7 +238,7 @@ pub record AreEnds (low high : ℤ) : Type 0 where
   pub low_small : unsigned_abs low < 2 ^ 62
   pub high_small : unsigned_abs high < 2 ^ 62
 
-pub are_ends : (ds : List Window) (ts : List Term) (offset low high : ℤ) → terms_reach ds ts + unsigned_abs offset < 2 ^ 62 → low ≡ least_of_terms ds ts +ℤ offset → high ≡ greatest_of_terms ds ts +ℤ offset → AreEnds low high
+pub are_ends : (ds : Domains) (ts : List Term) (offset low high : ℤ) → terms_reach ds ts + unsigned_abs offset < 2 ^ 62 → low ≡ least_of_terms ds ts +ℤ offset → high ≡ greatest_of_terms ds ts +ℤ offset → AreEnds low high
 are_ends ds ts offset low high small el eh =
     let order = ends_ordered ds ts in
     let a = least-reach ds ts in

@@ -21,10 +21,9 @@ use Rattle.cps_model.specs.Rules.{names, names_boolean, names_variables, is_pair
 use Rattle.cps_model.specs.Validity.{variable_fault, constraint_fault, objective_fault}
 use Rattle.cps_model.proofs.Faults.{rule_kept}
 use Rattle.cps_model.proofs.Tests.{and_true}
-use Rattle.cps_domain.specs.Window.{Window, contains}
 use Rattle.cps_literal.specs.declared.atom.Atom.{Atom}
 use Rattle.cps_instance.specs.declared.task.Task.{Task}
-use Rattle.cps_instance.specs.Terms.{domain_at, magnitude, terms_reach, term_subjects}
+use Rattle.cps_instance.specs.Terms.{Domains, domain_at, magnitude, terms_reach, term_subjects}
 use Rattle.cps_instance.specs.Tasks.{atom_subjects, subjects_of, subjects_of_body}
 use Rattle.cps_instance.specs.Fitting.{IsLiteral, AreSmall, AreSmallWithin, IsFitting, IsFittingBody}
 use Rattle.cps_instance.specs.Posting.{atom_of, terms_of_reference, has_no_opposite, term_of, terms_of, body_of, task_of, list_task, cut_task, objective_terms, objective_bounds, HaveValuesOf}
@@ -32,11 +31,11 @@ use Rattle.cps_instance.proofs.Summing.{terms_of_reference-reach, terms_reach-ap
 use Rattle.cps_instance.proofs.VariableDomains.{magnitudes_le, boolean_at, length-values}
 
 -- the domains of variables without faults
-record AreOf (vs : List Variable) (ds : List Window) : Type 0 where
+record AreOf (vs : List Variable) (ds : Domains) : Type 0 where
   faults : All (λ v. variable_fault v ≡ None) vs
   values : HaveValuesOf vs ds
 
-terms_of-reach : (vs : List Variable) (ds : List Window) (rs cs : List ℤ) → AreOf vs ds → terms_reach ds (terms_of rs cs) ≤ reach_of vs rs cs
+terms_of-reach : (vs : List Variable) (ds : Domains) (rs cs : List ℤ) → AreOf vs ds → terms_reach ds (terms_of rs cs) ≤ reach_of vs rs cs
 terms_of-reach vs ds [] cs h = omega arith
 terms_of-reach vs ds (r ∷ rs) [] h = omega arith
 terms_of-reach vs ds (r ∷ rs) (c ∷ cs) h =
@@ -75,7 +74,7 @@ literal_subjects n (r ∷ ls) h =
     let here : (atom_of r).subject < n = rw (atom_of-subject r) named in
     All-cons (λ (s : ℕ). s < n) (atom_of r).subject (atom_subjects (map atom_of ls)) here (literal_subjects n ls both.1)
 
-is_literal : (vs : List Variable) (ds : List Window) (r : ℤ) → AreOf vs ds → names_boolean vs r ≡ true → IsLiteral ds (atom_of r)
+is_literal : (vs : List Variable) (ds : Domains) (r : ℤ) → AreOf vs ds → names_boolean vs r ≡ true → IsLiteral ds (atom_of r)
 is_literal vs ds (pos i) h b = record {
   low = omega (arith, ints);
   high = omega (arith, ints);
@@ -89,7 +88,7 @@ is_literal vs ds (negsuc i) h b = record {
   greatest = λ x c. (boolean_at vs ds h.faults h.values i x b c).1;
 }
 
-are_literals : (vs : List Variable) (ds : List Window) (ls : List ℤ) → AreOf vs ds → list_all (names_boolean vs) ls ≡ true → All (IsLiteral ds) (map atom_of ls)
+are_literals : (vs : List Variable) (ds : Domains) (ls : List ℤ) → AreOf vs ds → list_all (names_boolean vs) ls ≡ true → All (IsLiteral ds) (map atom_of ls)
 are_literals vs ds [] h b = All-nil (IsLiteral ds)
 are_literals vs ds (r ∷ ls) h b =
     let both = and_true (names_boolean vs r) (list_all (names_boolean vs) ls) b in
@@ -114,13 +113,13 @@ body_subjects vs (kinds.Linear vars coeffs domain) h =
     terms_subjects (length vs) vars coeffs (and_true (list_all (names (length vs)) vars) true h.sums).0
 
 -- a sum without offset that has a small reach
-small_terms : (vs : List Variable) (ds : List Window) (rs cs : List ℤ) → AreOf vs ds → has_small_reach vs (record { vars = rs; coeffs = cs; offset = pos 0 }) ≡ true → terms_reach ds (terms_of rs cs) < 2 ^ 62
+small_terms : (vs : List Variable) (ds : Domains) (rs cs : List ℤ) → AreOf vs ds → has_small_reach vs (record { vars = rs; coeffs = cs; offset = pos 0 }) ≡ true → terms_reach ds (terms_of rs cs) < 2 ^ 62
 small_terms vs ds rs cs h s =
     let below : reach_of vs rs cs + unsigned_abs (pos 0) < 2 ^ 62 = ltb-true _ _ s in
     let less = terms_of-reach vs ds rs cs h in
     omega arith
 
-body_fits : (vs : List Variable) (ds : List Window) (k : Kind) → AreOf vs ds → Keeps vs k → IsFittingBody ds (body_of k)
+body_fits : (vs : List Variable) (ds : Domains) (k : Kind) → AreOf vs ds → Keeps vs k → IsFittingBody ds (body_of k)
 body_fits vs ds kinds.Empty h k = tt
 body_fits vs ds (kinds.BoolOr ls) h k = are_literals vs ds ls h k.booleans
 body_fits vs ds (kinds.BoolAnd ls) h k = are_literals vs ds ls h k.booleans
@@ -132,7 +131,7 @@ body_fits vs ds (kinds.Linear vars coeffs domain) h k = record {
   shaped = k.shaped;
 }
 
-pub task_fits : (vs : List Variable) (cs : List Constraint) (ds : List Window) (c : Constraint) → All (λ v. variable_fault v ≡ None) vs → HaveValuesOf vs ds → constraint_fault vs cs c ≡ None → IsFitting ds (task_of c)
+pub task_fits : (vs : List Variable) (cs : List Constraint) (ds : Domains) (c : Constraint) → All (λ v. variable_fault v ≡ None) vs → HaveValuesOf vs ds → constraint_fault vs cs c ≡ None → IsFitting ds (task_of c)
 task_fits vs cs ds c f v e =
     let h : AreOf vs ds = record { faults = f; values = v } in
     let three = rule_kept 3 _ _ e in
@@ -152,12 +151,12 @@ task_fits vs cs ds c f v e =
     }
 
 -- what an objective that keeps the rules gives
-pub record ObjectiveFits (n : ℕ) (ds : List Window) (o : Option Objective) : Type 0 where
+pub record ObjectiveFits (n : ℕ) (ds : Domains) (o : Option Objective) : Type 0 where
   pub subjects : All (λ s. s < n) (term_subjects (objective_terms o))
   pub small : terms_reach ds (objective_terms o) < 2 ^ 62
   pub shaped : IsTrue (is_well_shaped (objective_bounds o))
 
-pub objective_fits : (vs : List Variable) (ds : List Window) (o : Option Objective) → All (λ v. variable_fault v ≡ None) vs → HaveValuesOf vs ds → objective_fault vs o ≡ None → ObjectiveFits (length vs) ds o
+pub objective_fits : (vs : List Variable) (ds : Domains) (o : Option Objective) → All (λ v. variable_fault v ≡ None) vs → HaveValuesOf vs ds → objective_fault vs o ≡ None → ObjectiveFits (length vs) ds o
 objective_fits vs ds None f v e = record { subjects = All-nil (λ (s : ℕ). s < length vs); small = lit< tt; shaped = refl }
 objective_fits vs ds (Some o) f v e =
     let h : AreOf vs ds = record { faults = f; values = v } in
@@ -167,8 +166,8 @@ objective_fits vs ds (Some o) f v e =
     let last = rule_kept 16 _ _ six.1 in
     record { subjects = terms_subjects (length vs) o.vars o.coeffs three.0; small = small_terms vs ds o.vars o.coeffs h six.0; shaped = last.0 }
 
-pub list_fits : (n : ℕ) (ds : List Window) (o : Option Objective) → length ds ≡ n → ObjectiveFits n ds o → IsFitting ds (list_task o)
+pub list_fits : (n : ℕ) (ds : Domains) (o : Option Objective) → length ds ≡ n → ObjectiveFits n ds o → IsFitting ds (list_task o)
 list_fits n ds o long h = record { subjects = rw long h.subjects; enforcement = All-nil (IsLiteral ds); body = record { small = h.small; shaped = h.shaped } }
 
-pub cut_fits : (n : ℕ) (ds : List Window) (o : Option Objective) → length ds ≡ n → ObjectiveFits n ds o → IsFitting ds (cut_task o)
+pub cut_fits : (n : ℕ) (ds : Domains) (o : Option Objective) → length ds ≡ n → ObjectiveFits n ds o → IsFitting ds (cut_task o)
 cut_fits n ds o long h = record { subjects = rw long h.subjects; enforcement = All-nil (IsLiteral ds); body = record { small = h.small } }

@@ -10,13 +10,13 @@ use Rattle.cps_model.specs.declared.model.CpModel.{CpModel}
 use Rattle.cps_model.specs.declared.constraint.Constraint.{Constraint}
 use Rattle.cps_model.specs.Meaning.{IsSatisfied}
 use Rattle.cps_model.specs.Solutions.{objective_value, meets_objective}
-use Rattle.cps_domain.specs.Window.{Window, contains, intervals, least, greatest}
+use Rattle.cps_domain.specs.Window.{is_among}
 use Rattle.cps_literal.specs.declared.atom.Atom.{Atom}
 use Rattle.cps_instance.specs.declared.term.Term.{Term}
 use Rattle.cps_instance.specs.declared.task.Task.{Task}
 use Rattle.cps_instance.specs.declared.task.Body.{Body}
 use Rattle.cps_instance.specs.declared.task.Body.TheVariants.{Empty, BoolOr, BoolAnd, AtMostOne, ExactlyOne, BoolXor, Linear, Sum, ObjectiveList, Cut}
-use Rattle.cps_instance.specs.Terms.{terms_value, term_subjects, terms_reach, least_of_terms, greatest_of_terms, magnitude, domain_at, no_domain}
+use Rattle.cps_instance.specs.Terms.{terms_value, term_subjects, terms_reach, least_of_terms, greatest_of_terms, magnitude, domain_at, Intervals, Domains, least_of, greatest_of}
 use Rattle.cps_instance.specs.Sums.{DefinedSum, sum_value, extended, least_sum_of, greatest_sum_of, IsSumOf, AreSumsFrom}
 use Rattle.cps_instance.specs.Tasks.{HoldsTask, subjects_of, subjects_of_body, atom_subjects}
 use Rattle.cps_instance.specs.Fitting.{IsLiteral, IsFitting, IsFittingBody}
@@ -25,13 +25,13 @@ use Rattle.cps_instance.proofs.Agreeing.{AgreeAt, terms_value-agree, All-append_
 use Rattle.cps_instance.proofs.Extending.{length-extended, extended-push, HoldsTask-shorter, HoldsTask-longer, agree-append}
 
 -- two lists of domains have the same for a subject
-abbrev pub SameAt : List Window → List Window → ℕ → Type 0
+abbrev pub SameAt : Domains → Domains → ℕ → Type 0
 SameAt ds es s = domain_at ds s ≡ domain_at es s
 
-pub same-append : (ds es : List Window) (s : ℕ) → s < length ds → SameAt ds (ds ++ es) s
-same-append ds es s h = sym (get_or-append ds es no_domain s h)
+pub same-append : (ds es : Domains) (s : ℕ) → s < length ds → SameAt ds (ds ++ es) s
+same-append ds es s h = sym (get_or-append ds es [] s h)
 
-pub terms_reach-same : (ds es : List Window) (ts : List Term) → All (SameAt ds es) (term_subjects ts) → terms_reach ds ts ≡ terms_reach es ts
+pub terms_reach-same : (ds es : Domains) (ts : List Term) → All (SameAt ds es) (term_subjects ts) → terms_reach ds ts ≡ terms_reach es ts
 terms_reach-same ds es [] h = refl
 terms_reach-same ds es (t ∷ ts) h =
     let first : unsigned_abs t.coeff * magnitude (domain_at ds t.subject) ≡ unsigned_abs t.coeff * magnitude (domain_at es t.subject) = ap (λ w. unsigned_abs t.coeff * magnitude w) (All-head (SameAt ds es) t.subject (term_subjects ts) h) in
@@ -44,45 +44,45 @@ added a b c d e f = cc
 ends : (a b c d : ℤ) → a ≡ b → c ≡ d → (let ps : List (ℤ × ℤ) = (a, c) ∷ [] in ps) ≡ (let qs : List (ℤ × ℤ) = (b, d) ∷ [] in qs)
 ends a b c d e f = cc
 
-least_of_terms-same : (ds es : List Window) (ts : List Term) → All (SameAt ds es) (term_subjects ts) → least_of_terms ds ts ≡ least_of_terms es ts
+least_of_terms-same : (ds es : Domains) (ts : List Term) → All (SameAt ds es) (term_subjects ts) → least_of_terms ds ts ≡ least_of_terms es ts
 least_of_terms-same ds es [] h = refl
 least_of_terms-same ds es (t ∷ ts) h =
-    let first = ap (λ w. int_min (t.coeff *ℤ least w) (t.coeff *ℤ greatest w)) (All-head (SameAt ds es) t.subject (term_subjects ts) h) in
+    let first = ap (λ w. int_min (t.coeff *ℤ least_of w) (t.coeff *ℤ greatest_of w)) (All-head (SameAt ds es) t.subject (term_subjects ts) h) in
     let rest = least_of_terms-same ds es ts (All-tail (SameAt ds es) t.subject (term_subjects ts) h) in
     added _ _ _ _ first rest
 
-greatest_of_terms-same : (ds es : List Window) (ts : List Term) → All (SameAt ds es) (term_subjects ts) → greatest_of_terms ds ts ≡ greatest_of_terms es ts
+greatest_of_terms-same : (ds es : Domains) (ts : List Term) → All (SameAt ds es) (term_subjects ts) → greatest_of_terms ds ts ≡ greatest_of_terms es ts
 greatest_of_terms-same ds es [] h = refl
 greatest_of_terms-same ds es (t ∷ ts) h =
-    let first = ap (λ w. int_max (t.coeff *ℤ least w) (t.coeff *ℤ greatest w)) (All-head (SameAt ds es) t.subject (term_subjects ts) h) in
+    let first = ap (λ w. int_max (t.coeff *ℤ least_of w) (t.coeff *ℤ greatest_of w)) (All-head (SameAt ds es) t.subject (term_subjects ts) h) in
     let rest = greatest_of_terms-same ds es ts (All-tail (SameAt ds es) t.subject (term_subjects ts) h) in
     added _ _ _ _ first rest
 
-below_same : (ds es : List Window) (ss : List ℕ) → All (λ s. s < length ds) ss → All (SameAt ds (ds ++ es)) ss
+below_same : (ds es : Domains) (ss : List ℕ) → All (λ s. s < length ds) ss → All (SameAt ds (ds ++ es)) ss
 below_same ds es ss h = All-weaker (λ (s : ℕ). s < length ds) (SameAt ds (ds ++ es)) (same-append ds es) ss h
 
 -- with more domains a literal stays one, and a sum stays small and keeps its ends
-pub IsLiteral-longer : (ds es : List Window) (u : Atom) → u.subject < length ds → IsLiteral ds u → IsLiteral (ds ++ es) u
+pub IsLiteral-longer : (ds es : Domains) (u : Atom) → u.subject < length ds → IsLiteral ds u → IsLiteral (ds ++ es) u
 IsLiteral-longer ds es u l h =
     let e = same-append ds es u.subject l in
     record {
       low = h.low;
       high = h.high;
-      least = λ x c. h.least x (ap (λ w. contains w x) e ∙ c);
-      greatest = λ x c. h.greatest x (ap (λ w. contains w x) e ∙ c);
+      least = λ x c. h.least x (ap (λ w. is_among w x) e ∙ c);
+      greatest = λ x c. h.greatest x (ap (λ w. is_among w x) e ∙ c);
     }
 
-are_literals-longer : (ds es : List Window) (us : List Atom) → All (λ s. s < length ds) (atom_subjects us) → All (IsLiteral ds) us → All (IsLiteral (ds ++ es)) us
+are_literals-longer : (ds es : Domains) (us : List Atom) → All (λ s. s < length ds) (atom_subjects us) → All (IsLiteral ds) us → All (IsLiteral (ds ++ es)) us
 are_literals-longer ds es [] l h = All-nil (IsLiteral (ds ++ es))
 are_literals-longer ds es (u ∷ us) l h =
     All-cons (IsLiteral (ds ++ es)) u us
     (IsLiteral-longer ds es u (All-head (λ (s : ℕ). s < length ds) u.subject (atom_subjects us) l) (All-head (IsLiteral ds) u us h))
     (are_literals-longer ds es us (All-tail (λ (s : ℕ). s < length ds) u.subject (atom_subjects us) l) (All-tail (IsLiteral ds) u us h))
 
-small-longer : (ds es : List Window) (ts : List Term) → All (λ s. s < length ds) (term_subjects ts) → terms_reach ds ts < 2 ^ 62 → terms_reach (ds ++ es) ts < 2 ^ 62
+small-longer : (ds es : Domains) (ts : List Term) → All (λ s. s < length ds) (term_subjects ts) → terms_reach ds ts < 2 ^ 62 → terms_reach (ds ++ es) ts < 2 ^ 62
 small-longer ds es ts l h = let e = terms_reach-same ds (ds ++ es) ts (below_same ds es (term_subjects ts) l) in omega arith
 
-pub IsSumOf-longer : (ds es : List Window) (subject : ℕ) (s : DefinedSum) → subject < length ds → IsSumOf ds subject s → IsSumOf (ds ++ es) subject s
+pub IsSumOf-longer : (ds es : Domains) (subject : ℕ) (s : DefinedSum) → subject < length ds → IsSumOf ds subject s → IsSumOf (ds ++ es) subject s
 IsSumOf-longer ds es subject s l h =
     let inside = All-weaker (λ (j : ℕ). j < subject) (SameAt ds (ds ++ es)) (λ j k. same-append ds es j (omega arith)) (term_subjects s.terms) h.earlier in
     let reach = terms_reach-same ds (ds ++ es) s.terms inside in
@@ -92,12 +92,12 @@ IsSumOf-longer ds es subject s l h =
     record {
       earlier = h.earlier;
       small = omega arith;
-      domain = ap (λ w. intervals w) (sym (same-append ds es subject l)) ∙ h.domain ∙ ends _ _ _ _ low high;
+      domain = sym (same-append ds es subject l) ∙ h.domain ∙ ends _ _ _ _ low high;
     }
 
 -- the sum that a new domain is of
-pub IsSumOf-last : (ds : List Window) (d : Window) (s : DefinedSum) → All (λ j. j < length ds) (term_subjects s.terms) → terms_reach ds s.terms + unsigned_abs s.offset < 2 ^ 62
-    → intervals d ≡ (least_sum_of ds s, greatest_sum_of ds s) ∷ [] → IsSumOf (ds ++ d ∷ []) (length ds) s
+pub IsSumOf-last : (ds : Domains) (d : Intervals) (s : DefinedSum) → All (λ j. j < length ds) (term_subjects s.terms) → terms_reach ds s.terms + unsigned_abs s.offset < 2 ^ 62
+    → d ≡ (least_sum_of ds s, greatest_sum_of ds s) ∷ [] → IsSumOf (ds ++ d ∷ []) (length ds) s
 IsSumOf-last ds d s l h e =
     let inside = below_same ds (d ∷ []) (term_subjects s.terms) l in
     let reach = terms_reach-same ds (ds ++ d ∷ []) s.terms inside in
@@ -106,15 +106,15 @@ IsSumOf-last ds d s l h e =
     record {
       earlier = l;
       small = omega arith;
-      domain = ap (λ w. intervals w) (get_or-append_seam ds d [] no_domain) ∙ e ∙ ends _ _ _ _ low high;
+      domain = get_or-append_seam ds d [] [] ∙ e ∙ ends _ _ _ _ low high;
     }
 
-pub AreSumsFrom-longer : (ds es : List Window) (subject : ℕ) (ss : List DefinedSum) → subject + length ss ≤ length ds → AreSumsFrom ds subject ss → AreSumsFrom (ds ++ es) subject ss
+pub AreSumsFrom-longer : (ds es : Domains) (subject : ℕ) (ss : List DefinedSum) → subject + length ss ≤ length ds → AreSumsFrom ds subject ss → AreSumsFrom (ds ++ es) subject ss
 AreSumsFrom-longer ds es subject [] l h = tt
 AreSumsFrom-longer ds es subject (s ∷ ss) l h =
     (IsSumOf-longer ds es subject s (omega arith) h.0, AreSumsFrom-longer ds es (subject + 1) ss (omega arith) h.1)
 
-pub AreSumsFrom-push : (ds : List Window) (subject : ℕ) (ss : List DefinedSum) (s : DefinedSum) (n : ℕ) → n ≡ subject + length ss → AreSumsFrom ds subject ss → IsSumOf ds n s → AreSumsFrom ds subject (ss ++ s ∷ [])
+pub AreSumsFrom-push : (ds : Domains) (subject : ℕ) (ss : List DefinedSum) (s : DefinedSum) (n : ℕ) → n ≡ subject + length ss → AreSumsFrom ds subject ss → IsSumOf ds n s → AreSumsFrom ds subject (ss ++ s ∷ [])
 AreSumsFrom-push ds subject [] s n e h k = (let same : n ≡ subject = omega arith in subst (λ (i : ℕ). IsSumOf ds i s) same k, tt)
 AreSumsFrom-push ds subject (r ∷ ss) s n e h k = (h.0, AreSumsFrom-push ds (subject + 1) ss s n (omega arith) h.1 k)
 
@@ -122,7 +122,7 @@ pub sum_tasks-push : (subject : ℕ) (ss : List DefinedSum) (s : DefinedSum) (n 
 sum_tasks-push subject [] s n e = let same : subject ≡ n = omega arith in ap (λ (i : ℕ). sum_task i s ∷ []) same
 sum_tasks-push subject (r ∷ ss) s n e = ap (λ ts. sum_task subject r ∷ ts) (sum_tasks-push (subject + 1) ss s n (omega arith))
 
-body_fits-longer : (ds es : List Window) (b : Body) → All (λ s. s < length ds) (subjects_of_body b) → IsFittingBody ds b → IsFittingBody (ds ++ es) b
+body_fits-longer : (ds es : Domains) (b : Body) → All (λ s. s < length ds) (subjects_of_body b) → IsFittingBody ds b → IsFittingBody (ds ++ es) b
 body_fits-longer ds es Empty l h = tt
 body_fits-longer ds es (BoolOr atoms) l h = are_literals-longer ds es atoms l h
 body_fits-longer ds es (BoolAnd atoms) l h = are_literals-longer ds es atoms l h
@@ -136,7 +136,7 @@ body_fits-longer ds es (ObjectiveList terms bounds) l h = record { small = small
 body_fits-longer ds es (Cut terms upper) l h = record { small = small-longer ds es terms l h.small }
 
 -- a task that fits some domains fits them where more come after
-pub IsFitting-longer : (ds es : List Window) (t : Task) → IsFitting ds t → IsFitting (ds ++ es) t
+pub IsFitting-longer : (ds es : Domains) (t : Task) → IsFitting ds t → IsFitting (ds ++ es) t
 IsFitting-longer ds es t h =
     let long = length-append ds es in
     record {

@@ -15,10 +15,10 @@ use Rattle.cps_model.specs.declared.constraint.Kind.TheVariants as kinds
 use Rattle.cps_model.specs.Validity.{IsValid, variable_fault, constraint_fault, objective_fault, size_fault, most_items, most_entries, entry_count}
 use Rattle.cps_model.proofs.Faults.{parts_of, or_else-none, at_place-none, rule_kept}
 use Rattle.cps_model.proofs.Tests.{and_true}
-use Rattle.cps_domain.specs.Window.{Window, IsDomain, contains, intervals}
+use Rattle.cps_domain.specs.Window.{is_among}
 use Rattle.cps_instance.specs.declared.task.Task.{Task}
 use Rattle.cps_instance.specs.declared.term.Term.{Term}
-use Rattle.cps_instance.specs.Terms.{term_subjects, terms_reach, least_of_terms, greatest_of_terms}
+use Rattle.cps_instance.specs.Terms.{Intervals, Domains, AreIntervals, term_subjects, terms_reach, least_of_terms, greatest_of_terms}
 use Rattle.cps_instance.specs.Sums.{DefinedSum, least_sum_of, greatest_sum_of, IsSumOf}
 use Rattle.cps_instance.specs.Tasks.{subjects_of}
 use Rattle.cps_instance.specs.Fitting.{IsLiteral, IsFitting}
@@ -64,13 +64,13 @@ few_variables m valid =
     let inner = and_true (nat_le (length m.variables) most_items) (nat_le (length m.constraints) most_items) outer.0 in
     le_of (length m.variables) (2 ^ 20) inner.0
 
-means_all : (m : CpModel) (ds : List Window) (cs : List Constraint) → length ds ≡ length m.variables → All (λ c. IsFitting ds (task_of c)) cs → AllZip (Means m []) cs (map task_of cs)
+means_all : (m : CpModel) (ds : Domains) (cs : List Constraint) → length ds ≡ length m.variables → All (λ c. IsFitting ds (task_of c)) cs → AllZip (Means m []) cs (map task_of cs)
 means_all m ds [] long h = tt
 means_all m ds (c ∷ cs) long h =
     let here = (All-head (λ b. IsFitting ds (task_of b)) c cs h).subjects in
     (means_of m [] c (rw (← long) here), means_all m ds cs long (All-tail (λ b. IsFitting ds (task_of b)) c cs h))
 
-first_instance : (m : CpModel) (ds : List Window) → IsValid m → HaveValuesOf m.variables ds → IsInstance (record { model = m; defs = []; domains = ds; tasks = first_tasks m })
+first_instance : (m : CpModel) (ds : Domains) → IsValid m → HaveValuesOf m.variables ds → IsInstance (record { model = m; defs = []; domains = ds; tasks = first_tasks m })
 first_instance m ds valid h =
     let parts = parts_of m valid in
     let long = length-values m.variables ds h in
@@ -106,14 +106,14 @@ first_instance m ds valid h =
     }
 
 -- the instance of a valid model, with its sums read off its tasks
-pub begins : (m : CpModel) (ds : List Window) (ts : List Task) → IsValid m → HaveValuesOf m.variables ds → ts ≡ first_tasks m → IsInstance (record { model = m; defs = sums_in ts; domains = ds; tasks = ts })
+pub begins : (m : CpModel) (ds : Domains) (ts : List Task) → IsValid m → HaveValuesOf m.variables ds → ts ≡ first_tasks m → IsInstance (record { model = m; defs = sums_in ts; domains = ds; tasks = ts })
 begins m ds ts valid h e =
     let none = ap sums_in e ∙ sums_in-first m in
     subst (λ us. IsInstance (record { model = m; defs = sums_in us; domains = ds; tasks = us })) (sym e)
     (subst (λ ss. IsInstance (record { model = m; defs = ss; domains = ds; tasks = first_tasks m })) (sym (sums_in-first m)) (first_instance m ds valid h))
 
 -- one more sum, with its domain and its task
-abbrev pub grown : Problem → DefinedSum → Window → Problem
+abbrev pub grown : Problem → DefinedSum → Intervals → Problem
 grown p s d = record {
   model = p.model;
   defs = p.defs ++ s ∷ [];
@@ -122,12 +122,12 @@ grown p s d = record {
 }
 
 -- what a sum that can be defined keeps
-pub record CanDefine (p : Problem) (s : DefinedSum) (d : Window) : Type 0 where
+pub record CanDefine (p : Problem) (s : DefinedSum) (d : Intervals) : Type 0 where
   pub room : length p.domains < 2 ^ 31
-  pub sound : IsDomain d
+  pub sound : AreIntervals d
   pub subjects : All (λ j. j < length p.domains) (term_subjects s.terms)
   pub small : terms_reach p.domains s.terms + unsigned_abs s.offset < 2 ^ 62
-  pub ends : intervals d ≡ (least_sum_of p.domains s, greatest_sum_of p.domains s) ∷ []
+  pub ends : d ≡ (least_sum_of p.domains s, greatest_sum_of p.domains s) ∷ []
 
 means_later : (m : CpModel) (ss : List DefinedSum) (s : DefinedSum) (cs : List Constraint) (ts : List Task) → All (λ t. All (λ i. i < length m.variables + length ss) (subjects_of t)) ts → AllZip (Means m ss) cs ts → AllZip (Means m (ss ++ s ∷ [])) cs ts
 means_later m ss s [] [] h k = tt
@@ -137,7 +137,7 @@ means_later m ss s (c ∷ cs) (t ∷ ts) h k =
     let P : Task → Type 0 = λ u. All (λ i. i < length m.variables + length ss) (subjects_of u) in
     (Means-later m ss s c t (All-head P t ts h) k.0, means_later m ss s cs ts (All-tail P t ts h) k.1)
 
-sum_fits : (p : Problem) (s : DefinedSum) (d : Window) → CanDefine p s d → IsFitting (p.domains ++ d ∷ []) (sum_task (length p.domains) s)
+sum_fits : (p : Problem) (s : DefinedSum) (d : Intervals) → CanDefine p s d → IsFitting (p.domains ++ d ∷ []) (sum_task (length p.domains) s)
 sum_fits p s d h =
     let long = length-append p.domains (d ∷ []) in
     let here : length p.domains < length (p.domains ++ d ∷ []) = omega arith in
@@ -151,7 +151,7 @@ sum_fits p s d h =
 in_order : (ts us : List Task) (x y : Task) (vs : List Task) (z : Task) → (ts ++ (us ++ (x ∷ (y ∷ vs)))) ++ z ∷ [] ≡ ts ++ (us ++ (x ∷ (y ∷ (vs ++ z ∷ []))))
 in_order ts us x y vs z = simp append_assoc
 
-tasks_later : (p : Problem) (s : DefinedSum) (d : Window) → IsInstance p → AreTasks (grown p s d)
+tasks_later : (p : Problem) (s : DefinedSum) (d : Intervals) → IsInstance p → AreTasks (grown p s d)
 tasks_later p s d i =
     let t = i.tasks in
     let count = i.domains.count in
@@ -180,7 +180,7 @@ tasks_later p s d i =
       is_cut = IsCutTask-later p.model p.defs s t.cut (All-head P t.cut (sum_tasks (n + length t.first) t.later) after) t.is_cut;
     }
 
-grown_instance : (p : Problem) (s : DefinedSum) (d : Window) → IsInstance p → CanDefine p s d → IsInstance (grown p s d)
+grown_instance : (p : Problem) (s : DefinedSum) (d : Intervals) → IsInstance p → CanDefine p s d → IsInstance (grown p s d)
 grown_instance p s d i h =
     let dom = i.domains in
     let count = dom.count in
@@ -192,8 +192,8 @@ grown_instance p s d i h =
       domains = record {
         count = omega arith;
         few = omega arith;
-        sound = All-push IsDomain p.domains d dom.sound h.sound;
-        variables = λ j x l. (ap (λ w. contains w x) (sym (same-append p.domains (d ∷ []) j (omega arith))) ∙ dom.variables j x l);
+        sound = All-push AreIntervals p.domains d dom.sound h.sound;
+        variables = λ j x l. (ap (λ w. is_among w x) (sym (same-append p.domains (d ∷ []) j (omega arith))) ∙ dom.variables j x l);
         sums = AreSumsFrom-push (p.domains ++ d ∷ []) (variable_count p) p.defs s (length p.domains) count (AreSumsFrom-longer p.domains (d ∷ []) (variable_count p) p.defs (omega arith) dom.sums) (IsSumOf-last p.domains d s h.subjects h.small h.ends);
       };
       tasks = tasks_later p s d i;
@@ -202,7 +202,7 @@ grown_instance p s d i h =
         (sum_fits p s d h);
     }
 
-grown_defines : (p : Problem) (s : DefinedSum) (d : Window) → IsInstance p → Defines p (grown p s d) s (length p.domains)
+grown_defines : (p : Problem) (s : DefinedSum) (d : Intervals) → IsInstance p → Defines p (grown p s d) s (length p.domains)
 grown_defines p s d i = record {
   subject_is = refl;
   model = refl;
@@ -213,7 +213,7 @@ grown_defines p s d i = record {
   value = λ a long. value_at-extended_push p.defs s a (length p.domains) (let count = i.domains.count in omega arith);
 }
 
-same_problem : (m : CpModel) (ss ss' : List DefinedSum) (ds ds' : List Window) (ts ts' : List Task) → ss ≡ ss' → ds ≡ ds' → ts ≡ ts'
+same_problem : (m : CpModel) (ss ss' : List DefinedSum) (ds ds' : Domains) (ts ts' : List Task) → ss ≡ ss' → ds ≡ ds' → ts ≡ ts'
     → (let p : Problem = record { model = m; defs = ss; domains = ds; tasks = ts } in p) ≡ (let q : Problem = record { model = m; defs = ss'; domains = ds'; tasks = ts' } in q)
 same_problem m ss ss' ds ds' ts ts' e f g = cc
 
@@ -222,7 +222,7 @@ pub record Grows (old new : Problem) (s : DefinedSum) (subject : ℕ) : Type 0 w
   pub instance : IsInstance new
   pub defines : Defines old new s subject
 
-pub grows : (p : Problem) (m : CpModel) (ds ds' : List Window) (ts ts' : List Task) (s : DefinedSum) (d : Window) (subject : ℕ) → problem_of m ds ts ≡ p → IsInstance (problem_of m ds ts) → subject ≡ length ds → CanDefine (problem_of m ds ts) s d
+pub grows : (p : Problem) (m : CpModel) (ds ds' : Domains) (ts ts' : List Task) (s : DefinedSum) (d : Intervals) (subject : ℕ) → problem_of m ds ts ≡ p → IsInstance (problem_of m ds ts) → subject ≡ length ds → CanDefine (problem_of m ds ts) s d
     → ds' ≡ ds ++ d ∷ [] → ts' ≡ ts ++ sum_task subject s ∷ [] → Grows p (problem_of m ds' ts') s subject
 grows p m ds ds' ts ts' s d subject view i es h ed et =
     let old = problem_of m ds ts in
@@ -268,12 +268,12 @@ can_post m valid =
     }
 
 -- what `define` knows of the sum when it has its domain
-pub can_define : (p : Problem) (m : CpModel) (ds es : List Window) (us : List Task) (terms : List Term) (offset raw : ℤ) (d : Window) → p.domains ≡ ds → es ≡ ds → raw ≡ offset → All (λ t. t.subject < length p.domains) terms → terms_reach p.domains terms + unsigned_abs offset < 2 ^ 62 → length p.domains < 2 ^ 31
-    → IsDomain d → intervals d ≡ (least_of_terms es terms +ℤ raw, greatest_of_terms es terms +ℤ raw) ∷ [] → CanDefine (problem_of m ds us) (record { terms = terms; offset = offset }) d
+pub can_define : (p : Problem) (m : CpModel) (ds es : Domains) (us : List Task) (terms : List Term) (offset raw : ℤ) (d : Intervals) → p.domains ≡ ds → es ≡ ds → raw ≡ offset → All (λ t. t.subject < length p.domains) terms → terms_reach p.domains terms + unsigned_abs offset < 2 ^ 62 → length p.domains < 2 ^ 31
+    → AreIntervals d → d ≡ (least_of_terms es terms +ℤ raw, greatest_of_terms es terms +ℤ raw) ∷ [] → CanDefine (problem_of m ds us) (record { terms = terms; offset = offset }) d
 can_define p m ds es us terms offset raw d old read same subjects small room sound ends = record {
-  room = subst (λ (ws : List Window). length ws < 2 ^ 31) old room;
+  room = subst (λ (ws : Domains). length ws < 2 ^ 31) old room;
   sound = sound;
-  subjects = All-map (λ (j : ℕ). j < length ds) (λ t. t.subject) terms (subst (λ (ws : List Window). All (λ t. t.subject < length ws) terms) old subjects);
+  subjects = All-map (λ (j : ℕ). j < length ds) (λ t. t.subject) terms (subst (λ (ws : Domains). All (λ t. t.subject < length ws) terms) old subjects);
   small = subst (λ ws. terms_reach ws terms + unsigned_abs offset < 2 ^ 62) old small;
   ends = ends ∙ ap (λ ws. (least_of_terms ws terms +ℤ raw, greatest_of_terms ws terms +ℤ raw) ∷ []) read ∙ ap (λ (z : ℤ). (least_of_terms ds terms +ℤ z, greatest_of_terms ds terms +ℤ z) ∷ []) same;
 }

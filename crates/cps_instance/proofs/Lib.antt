@@ -1,3 +1,4 @@
+pub mod Intervals
 pub mod Agreeing
 pub mod Extending
 pub mod LiteralAtoms

@@ -5,16 +5,16 @@ use Rattle.std.proofs.lemmas.Int.{ints, unsigned_abs-mul}
 use Rattle.std.proofs.lemmas.List.{append_assoc, drop_more}
 use Rattle.cps_model.specs.Values.{variable_of, reference_value, sum_of}
 use Rattle.cps_literal.specs.Truth.{value_at}
-use Rattle.cps_domain.specs.Window.{Window, equals}
+use Rattle.cps_domain.specs.Window.{equals}
 use Rattle.cps_instance.specs.declared.term.Term.{Term}
-use Rattle.cps_instance.specs.Terms.{terms_value, terms_reach, magnitude, domain_at}
+use Rattle.cps_instance.specs.Terms.{Domains, terms_value, terms_reach, magnitude, domain_at}
 use Rattle.cps_instance.specs.Posting.{term_of, has_no_opposite, terms_of_reference, terms_of}
 
 pub terms_value-append : (xs : List ℤ) (ts us : List Term) → terms_value xs (ts ++ us) ≡ terms_value xs ts +ℤ terms_value xs us
 terms_value-append xs [] us = omega (arith, ints)
 terms_value-append xs (t ∷ ts) us = let rest = terms_value-append xs ts us in omega (arith, ints)
 
-pub terms_reach-append : (ds : List Window) (ts us : List Term) → terms_reach ds (ts ++ us) ≡ terms_reach ds ts + terms_reach ds us
+pub terms_reach-append : (ds : Domains) (ts us : List Term) → terms_reach ds (ts ++ us) ≡ terms_reach ds ts + terms_reach ds us
 terms_reach-append ds [] us = omega arith
 terms_reach-append ds (t ∷ ts) us = let rest = terms_reach-append ds ts us in omega arith
 
@@ -55,7 +55,7 @@ terms_of-value xs (r ∷ rs) (c ∷ cs) =
     omega (arith, ints)
 
 -- and go as far
-pub terms_of_reference-reach : (ds : List Window) (c r : ℤ) → terms_reach ds (terms_of_reference c r) ≡ unsigned_abs c * magnitude (domain_at ds (variable_of r))
+pub terms_of_reference-reach : (ds : Domains) (c r : ℤ) → terms_reach ds (terms_of_reference c r) ≡ unsigned_abs c * magnitude (domain_at ds (variable_of r))
 terms_of_reference-reach ds c (pos i) = omega arith
 terms_of_reference-reach ds c (negsuc i) = elim (has_no_opposite c) as (λ b. has_no_opposite c ≡ b → terms_reach ds (if b then term_of (pos (2 ^ 62)) i ∷ term_of (pos (2 ^ 62)) i ∷ [] else term_of (neg_ℤ c) i ∷ []) ≡ unsigned_abs c * magnitude (domain_at ds i)) [
     | true ↦ λ e. (let l = least_of c e in rw l (omega arith))

@@ -10,55 +10,55 @@ use Rattle.cps_model.specs.Rules.{is_boolean, is_some_boolean}
 use Rattle.cps_model.specs.Validity.{variable_fault}
 use Rattle.cps_model.proofs.Inside.{between_of, shape_of, unsigned_abs-between}
 use Rattle.cps_model.proofs.Tests.{and_true}
-use Rattle.cps_domain.specs.Window.{Window, IsDomain, contains, least, greatest}
-use Rattle.cps_domain.proofs.Windows.{least_in, greatest_in}
-use Rattle.cps_instance.specs.Terms.{domain_at, magnitude}
+use Rattle.cps_domain.specs.Window.{is_among}
+use Rattle.cps_instance.proofs.Intervals.{least_among, greatest_among}
+use Rattle.cps_instance.specs.Terms.{Intervals, Domains, AreIntervals, domain_at, least_of, greatest_of, magnitude}
 use Rattle.cps_instance.specs.Problem.{bounds_at}
 use Rattle.cps_instance.specs.Posting.{HasValuesOf, HaveValuesOf}
 
-pub length-values : (vs : List Variable) (ds : List Window) → HaveValuesOf vs ds → length ds ≡ length vs
+pub length-values : (vs : List Variable) (ds : Domains) → HaveValuesOf vs ds → length ds ≡ length vs
 length-values [] [] h = refl
 length-values [] (d ∷ ds) h = absurd h
 length-values (v ∷ vs) [] h = absurd h
 length-values (v ∷ vs) (d ∷ ds) h = ap suc (length-values vs ds h.1)
 
-pub values_at : (vs : List Variable) (ds : List Window) → HaveValuesOf vs ds → (i : ℕ) (x : ℤ) → i < length vs → contains (domain_at ds i) x ≡ is_within (bounds_at vs i) x
+pub values_at : (vs : List Variable) (ds : Domains) → HaveValuesOf vs ds → (i : ℕ) (x : ℤ) → i < length vs → is_among (domain_at ds i) x ≡ is_within (bounds_at vs i) x
 values_at [] [] h i x l = absurd (omega arith)
 values_at [] (d ∷ ds) h i x l = absurd h
 values_at (v ∷ vs) [] h i x l = absurd h
 values_at (v ∷ vs) (d ∷ ds) h zero x l = h.0.values x
 values_at (v ∷ vs) (d ∷ ds) h (suc i) x l = values_at vs ds h.1 i x (omega arith)
 
-pub sound_values : (vs : List Variable) (ds : List Window) → HaveValuesOf vs ds → All IsDomain ds
-sound_values [] [] h = All-nil IsDomain
+pub sound_values : (vs : List Variable) (ds : Domains) → HaveValuesOf vs ds → All AreIntervals ds
+sound_values [] [] h = All-nil AreIntervals
 sound_values [] (d ∷ ds) h = absurd h
 sound_values (v ∷ vs) [] h = absurd h
-sound_values (v ∷ vs) (d ∷ ds) h = All-cons IsDomain d ds h.0.sound (sound_values vs ds h.1)
+sound_values (v ∷ vs) (d ∷ ds) h = All-cons AreIntervals d ds h.0.sound (sound_values vs ds h.1)
 
 -- a value lies between the ends of its variable's bounds
 record LiesWithin (v : Variable) (x : ℤ) : Type 0 where
   low : low_of v ≤ℤ x
   high : x ≤ℤ high_of v
 
-lies_within : (v : Variable) (d : Window) (x : ℤ) → variable_fault v ≡ None → HasValuesOf v d → contains d x ≡ true → LiesWithin v x
+lies_within : (v : Variable) (d : Intervals) (x : ℤ) → variable_fault v ≡ None → HasValuesOf v d → is_among d x ≡ true → LiesWithin v x
 lies_within v d x f h c =
     let b = between_of v.domain x (shape_of v f) (sym (h.values x) ∙ c) in
     record { low = b.low; high = b.high }
 
-value_size : (v : Variable) (d : Window) (x : ℤ) → variable_fault v ≡ None → HasValuesOf v d → contains d x ≡ true → unsigned_abs x ≤ magnitude_of v
+value_size : (v : Variable) (d : Intervals) (x : ℤ) → variable_fault v ≡ None → HasValuesOf v d → is_among d x ≡ true → unsigned_abs x ≤ magnitude_of v
 value_size v d x f h c = let b = lies_within v d x f h c in unsigned_abs-between (low_of v) x (high_of v) b.low b.high
 
 max_le : (m n k : ℕ) → m ≤ k → n ≤ k → max m n ≤ k
 max_le m n k p q = omega arith
 
-magnitude_le : (v : Variable) (d : Window) → variable_fault v ≡ None → HasValuesOf v d → magnitude d ≤ magnitude_of v
+magnitude_le : (v : Variable) (d : Intervals) → variable_fault v ≡ None → HasValuesOf v d → magnitude d ≤ magnitude_of v
 magnitude_le v d f h =
-    let low = value_size v d (least d) f h (least_in d h.sound) in
-    let high = value_size v d (greatest d) f h (greatest_in d h.sound) in
-    max_le (unsigned_abs (least d)) (unsigned_abs (greatest d)) (magnitude_of v) low high
+    let low = value_size v d (least_of d) f h (least_among d h.sound) in
+    let high = value_size v d (greatest_of d) f h (greatest_among d h.sound) in
+    max_le (unsigned_abs (least_of d)) (unsigned_abs (greatest_of d)) (magnitude_of v) low high
 
 -- no domain goes further than the bounds of its variable
-pub magnitudes_le : (vs : List Variable) (ds : List Window) → All (λ v. variable_fault v ≡ None) vs → HaveValuesOf vs ds → (i : ℕ) → magnitude (domain_at ds i) ≤ get_or (map magnitude_of vs) i 0
+pub magnitudes_le : (vs : List Variable) (ds : Domains) → All (λ v. variable_fault v ≡ None) vs → HaveValuesOf vs ds → (i : ℕ) → magnitude (domain_at ds i) ≤ get_or (map magnitude_of vs) i 0
 magnitudes_le [] [] f h i = omega arith
 magnitudes_le [] (d ∷ ds) f h i = absurd h
 magnitudes_le (v ∷ vs) [] f h i = absurd h
@@ -69,7 +69,7 @@ between_ends : (l x h : ℤ) → int_le (pos 0) l ≡ true → int_le h (pos 1) 
 between_ends l x h p q r s = (grind (arith, ints), grind (arith, ints))
 
 -- the values of a variable that literals may name are 0 and 1
-pub boolean_at : (vs : List Variable) (ds : List Window) → All (λ v. variable_fault v ≡ None) vs → HaveValuesOf vs ds → (i : ℕ) (x : ℤ) → is_some_boolean (slice_get vs i) ≡ true → contains (domain_at ds i) x ≡ true → (pos 0 ≤ℤ x) × (x ≤ℤ pos 1)
+pub boolean_at : (vs : List Variable) (ds : Domains) → All (λ v. variable_fault v ≡ None) vs → HaveValuesOf vs ds → (i : ℕ) (x : ℤ) → is_some_boolean (slice_get vs i) ≡ true → is_among (domain_at ds i) x ≡ true → (pos 0 ≤ℤ x) × (x ≤ℤ pos 1)
 boolean_at [] [] f h i x b c = cc
 boolean_at [] (d ∷ ds) f h i x b c = absurd h
 boolean_at (v ∷ vs) [] f h i x b c = absurd h

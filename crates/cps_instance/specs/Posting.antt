@@ -7,7 +7,7 @@ use Rattle.cps_model.specs.declared.constraint.Kind.{Kind}
 use Rattle.cps_model.specs.declared.constraint.Kind.TheVariants as kinds
 use Rattle.cps_model.specs.declared.model.Variable.{Variable}
 use Rattle.cps_model.specs.Within.{is_within}
-use Rattle.cps_domain.specs.Window.{Window, IsDomain, contains, equals}
+use Rattle.cps_domain.specs.Window.{is_among, equals}
 use Rattle.cps_literal.specs.declared.atom.Atom.{Atom}
 use Rattle.cps_literal.specs.declared.atom.Op.TheVariants.{Le, Ge}
 use Rattle.std.specs.List.{AllZip, list_all}
@@ -17,6 +17,7 @@ use Rattle.cps_instance.specs.declared.term.Term.{Term}
 use Rattle.cps_instance.specs.declared.task.Task.{Task}
 use Rattle.cps_instance.specs.declared.task.Body.{Body}
 use Rattle.cps_instance.specs.declared.task.Body.TheVariants as bodies
+use Rattle.cps_instance.specs.Terms.{Intervals, Domains, AreIntervals}
 use Rattle.cps_instance.specs.Sums.{DefinedSum}
 
 -- a literal is true where its variable is at least 1, and its opposite where it is at most 0
@@ -91,7 +92,7 @@ sums_in [] = []
 sums_in (t ∷ ts) = sums_of_body t.body ++ sums_in ts
 
 -- the value of an instance with this model, these domains and these tasks
-abbrev pub problem_of : CpModel → List Window → List Task → Problem
+abbrev pub problem_of : CpModel → Domains → List Task → Problem
 problem_of m ds ts = record { model = m; defs = sums_in ts; domains = ds; tasks = ts }
 
 -- the sums of a constraint have a coefficient for each reference, and so has the objective's
@@ -103,9 +104,9 @@ IsPairedObjective None = Unit {0}
 IsPairedObjective (Some o) = length o.vars ≡ length o.coeffs
 
 -- the domain has exactly the variable's values
-pub record HasValuesOf (v : Variable) (d : Window) : Type 0 where
-  pub sound : IsDomain d
-  pub values : (x : ℤ) → contains d x ≡ is_within v.domain x
+pub record HasValuesOf (v : Variable) (ps : Intervals) : Type 0 where
+  pub sound : AreIntervals ps
+  pub values : (x : ℤ) → is_among ps x ≡ is_within v.domain x
 
-abbrev pub HaveValuesOf : List Variable → List Window → Type 0
+abbrev pub HaveValuesOf : List Variable → Domains → Type 0
 HaveValuesOf vs ds = AllZip HasValuesOf vs ds

@@ -8,12 +8,12 @@ use Rattle.cps_model.specs.Within.{is_within}
 use Rattle.cps_model.specs.Meaning.{IsSatisfied}
 use Rattle.cps_model.specs.Solutions.{objective_value, meets_objective}
 use Rattle.cps_model.specs.Validity.{IsValid}
-use Rattle.cps_domain.specs.Window.{Window, IsDomain, contains}
+use Rattle.cps_domain.specs.Window.{is_among}
 use Rattle.cps_literal.specs.Truth.{value_at}
 use Rattle.cps_instance.specs.declared.term.Term.{Term}
 use Rattle.cps_instance.specs.declared.task.Task.{Task}
 use Rattle.cps_instance.specs.declared.task.Body.TheVariants.{Sum, ObjectiveList, Cut}
-use Rattle.cps_instance.specs.Terms.{terms_value, domain_at}
+use Rattle.cps_instance.specs.Terms.{Intervals, Domains, AreIntervals, terms_value, domain_at}
 use Rattle.cps_instance.specs.Sums.{DefinedSum, sum_value, extended, IsSumOf, AreSumsFrom}
 use Rattle.cps_instance.specs.Tasks.{HoldsTask, lowered}
 use Rattle.cps_instance.specs.Fitting.{IsFitting}
@@ -22,7 +22,7 @@ use Rattle.cps_instance.specs.Fitting.{IsFitting}
 pub record Problem : Type 0 where
   pub model : CpModel
   pub defs : List DefinedSum
-  pub domains : List Window
+  pub domains : Domains
   pub tasks : List Task
 
 -- how many variables the model has, which is the first subject that a sum can have
@@ -37,8 +37,8 @@ bounds_at vs i = slice_index_or (map (λ v. v.domain) vs) i []
 pub record AreDomains (p : Problem) : Type 0 where
   pub count : length p.domains ≡ variable_count p + length p.defs
   pub few : length p.domains ≤ 2 ^ 31
-  pub sound : All IsDomain p.domains
-  pub variables : (i : ℕ) (x : ℤ) → i < variable_count p → contains (domain_at p.domains i) x ≡ is_within (bounds_at p.model.variables i) x
+  pub sound : All AreIntervals p.domains
+  pub variables : (i : ℕ) (x : ℤ) → i < variable_count p → is_among (domain_at p.domains i) x ≡ is_within (bounds_at p.model.variables i) x
   pub sums : AreSumsFrom p.domains (variable_count p) p.defs
 
 -- the task of a defined sum
@@ -94,7 +94,7 @@ pub record Defines (old new : Problem) (s : DefinedSum) (subject : ℕ) : Type 0
   pub subject_is : subject ≡ length old.domains
   pub model : new.model ≡ old.model
   pub sums : new.defs ≡ old.defs ++ s ∷ []
-  pub added : Window
+  pub added : Intervals
   pub domains : new.domains ≡ old.domains ++ added ∷ []
   pub tasks : new.tasks ≡ old.tasks ++ sum_task subject s ∷ []
   pub value : (a : List ℤ) → IsAssignment old.model a → value_at (extended new.defs a) subject ≡ sum_value (extended old.defs a) s

@@ -1,5 +1,6 @@
 //! A model over subjects, with tasks that mean its constraints.
-ghost use Rattle.std.specs.Prelude.{◌≡◌, ◌+◌, ◌<◌, ◌≤◌, ◌^◌, unsigned_abs, All, length, [], IfOk, OnErr};
+ghost use Rattle.std.specs.Prelude.{◌≡◌, ◌+◌, ◌<◌, ◌^◌, unsigned_abs, map, All, length, [], IfOk, OnErr};
+ghost use Rattle.cps_domain.specs.Window.{intervals};
 ghost use Rattle.cps_instance.specs.Terms.{terms_reach};
 ghost use Rattle.cps_instance.specs.Problem.{IsInstance, Defines};
 
@@ -23,13 +24,15 @@ pub struct Instance<'a> {
 
 impl<'a> Model for Instance<'a> {
     ghost use Rattle.cps_instance.specs.Problem.{Problem, IsInstance};
+    ghost use Rattle.std.specs.Prelude.{map};
+    ghost use Rattle.cps_domain.specs.Window.{intervals};
     ghost use Rattle.cps_instance.specs.Posting.{problem_of};
 
     ghost Value = { Problem };
 
-    ghost view = { λ i. problem_of i.model.now i.domains.items i.tasks.items };
+    ghost view = { λ i. problem_of i.model.now (map intervals i.domains.items) i.tasks.items };
 
-    ghost invariant = { λ i. IsInstance (problem_of i.model.now i.domains.items i.tasks.items) };
+    ghost invariant = { λ i. IsInstance (problem_of i.model.now (map intervals i.domains.items) i.tasks.items) };
 }
 
 impl<'a> Instance<'a> {
@@ -60,7 +63,7 @@ impl<'a> Instance<'a> {
 
     /// A domain for each subject.
     pub fn domains(&self) -> &[Domain]
-        ensures list { result.now ≡ self.now.domains }
+        ensures list { map intervals result.now ≡ self.now.domains }
         ensures sound { IsInstance self.now }
     {
         self.domains.as_slice()

@@ -1,4 +1,5 @@
-use Rattle.std.proofs.Common.{◌∙◌, ap, subst}
+use Rattle.std.proofs.Common.{map, ◌∙◌, ap, subst}
+use Rattle.cps_domain.specs.Window.{intervals}
 use Rattle.cps_instance.specs.Problem.{IsInstance}
 use Rattle.cps_instance.specs.Posting.{problem_of, sums_in, HaveValuesOf}
 use Rattle.cps_instance.proofs.Instances.{begins, can_post, sums_in-first}
@@ -15,7 +16,7 @@ tasks_of-requires-clause-objective c = (can_post c.model-model.result.now c.mode
 
 pub invariant_of-result : goal.invariant_of-result
 invariant_of-result c =
-    let ds = c.in_ok-domains.domains.items in
+    let ds = map intervals c.in_ok-domains.domains.items in
     let ts = c.in_ok-tasks.tasks.items in
     let values = subst (λ vs. HaveValuesOf vs ds) c.as_slice.ensures c.in_ok-domains.ensures in
     subst (λ m. IsInstance (problem_of m ds ts)) c.model-model.ensures.same
@@ -26,7 +27,7 @@ returns-clause-no_sums c = ap sums_in c.in_ok-tasks.ensures ∙ sums_in-first c.
 
 pub returns-clause-sound : goal.returns-clause-sound
 returns-clause-sound c =
-    let ds = c.in_ok-domains.domains.items in
+    let ds = map intervals c.in_ok-domains.domains.items in
     let ts = c.in_ok-tasks.tasks.items in
     let values = subst (λ vs. HaveValuesOf vs ds) c.as_slice.ensures c.in_ok-domains.ensures in
     subst (λ m. IsInstance (problem_of m ds ts)) c.model-model.ensures.same
