@@ -9,3 +9,5 @@ pub mod Fits
 pub mod Growing
 pub mod Instances
 pub mod Boundings
+pub mod Solving
+pub mod Lowering

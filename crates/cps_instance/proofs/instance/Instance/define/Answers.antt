@@ -18,7 +18,7 @@ invariant_of-self-2 c =
     let old = sym (ap (λ (p : Problem). p.domains) c.self.view_is) in
     let read = ap (λ vs. map intervals vs) (c.as_slice.ensures.value ∙ c.in_ok-reserve.ensures.items) in
     let same = to_z-of_z w64 c.args.offset c.ranges.offset in
-    let place : c.len-subject.result ≡ length ds = (let e = length-map intervals ws in omega arith) in
+    let place : c.len-subject.result ≡ length ds = (let e = length-map ws intervals in omega arith) in
     let can = can_define c.args.self.now c.self.inside.model.now ds (map intervals c.as_slice.result.now) us c.args.terms.now c.args.offset (to_z w64 (of_z w64 c.args.offset)) d old read same c.requires.subjects c.requires.small c.requires.room c.in_ok-domain.ensures.sound c.in_ok-domain.ensures.whole in
     let ed = ap (λ vs. map intervals vs) (c.push_reserved.ensures.items ∙ ap (λ vs. vs ++ w ∷ []) c.in_ok-reserve.ensures.items) ∙ map-append intervals ws (w ∷ []) in
     let task = rw same at c.in_ok-task.ensures in
@@ -36,7 +36,7 @@ returns c =
     let old = sym (ap (λ (p : Problem). p.domains) c.self.view_is) in
     let read = ap (λ vs. map intervals vs) (c.as_slice.ensures.value ∙ c.in_ok-reserve.ensures.items) in
     let same = to_z-of_z w64 c.args.offset c.ranges.offset in
-    let place : c.len-subject.result ≡ length ds = (let e = length-map intervals ws in omega arith) in
+    let place : c.len-subject.result ≡ length ds = (let e = length-map ws intervals in omega arith) in
     let can = can_define c.args.self.now c.self.inside.model.now ds (map intervals c.as_slice.result.now) us c.args.terms.now c.args.offset (to_z w64 (of_z w64 c.args.offset)) d old read same c.requires.subjects c.requires.small c.requires.room c.in_ok-domain.ensures.sound c.in_ok-domain.ensures.whole in
     let ed = ap (λ vs. map intervals vs) (c.push_reserved.ensures.items ∙ ap (λ vs. vs ++ w ∷ []) c.in_ok-reserve.ensures.items) ∙ map-append intervals ws (w ∷ []) in
     let task = rw same at c.in_ok-task.ensures in
