@@ -23,12 +23,13 @@ use Rattle.cps_model.proofs.Faults.{rule_kept}
 use Rattle.cps_model.proofs.Tests.{and_true}
 use Rattle.cps_literal.specs.declared.atom.Atom.{Atom}
 use Rattle.cps_instance.specs.declared.task.Task.{Task}
-use Rattle.cps_instance.specs.Terms.{Domains, domain_at, magnitude, terms_reach, term_subjects}
+use Rattle.cps_instance.specs.Terms.{Domains, AreIntervals, domain_at, magnitude, terms_reach, term_subjects}
 use Rattle.cps_instance.specs.Tasks.{atom_subjects, subjects_of, subjects_of_body}
 use Rattle.cps_instance.specs.Fitting.{IsLiteral, AreSmall, AreSmallWithin, IsFitting, IsFittingBody}
 use Rattle.cps_instance.specs.Posting.{atom_of, terms_of_reference, has_no_opposite, term_of, terms_of, body_of, task_of, list_task, cut_task, objective_terms, objective_bounds, HaveValuesOf}
 use Rattle.cps_instance.proofs.Summing.{terms_of_reference-reach, terms_reach-append}
-use Rattle.cps_instance.proofs.VariableDomains.{magnitudes_le, boolean_at, length-values}
+use Rattle.cps_instance.proofs.VariableDomains.{magnitudes_le, boolean_at, length-values, sound_values}
+use Rattle.cps_instance.proofs.Intervals.{sound_at}
 
 -- the domains of variables without faults
 record AreOf (vs : List Variable) (ds : Domains) : Type 0 where
@@ -144,8 +145,10 @@ task_fits vs cs ds c f v e =
     let booleans = and_true (list_all (names_boolean vs) c.enforcement) (list_all (names_boolean vs) (literals_of c.kind)) (sym (list_all-append (names_boolean vs) c.enforcement (literals_of c.kind)) ∙ four.0) in
     let keeps : Keeps vs c.kind = record { literals = names'.1; sums = named.1; booleans = booleans.1; small = six.0; shaped = seven.0 } in
     let long = length-values vs ds v in
+    let subjects : All (λ s. s < length ds) (subjects_of (task_of c)) = rw long (All-append (λ (s : ℕ). s < length vs) (atom_subjects (map atom_of c.enforcement)) (subjects_of_body (body_of c.kind)) (literal_subjects (length vs) c.enforcement names'.0) (body_subjects vs c.kind keeps)) in
     record {
-      subjects = rw long (All-append (λ (s : ℕ). s < length vs) (atom_subjects (map atom_of c.enforcement)) (subjects_of_body (body_of c.kind)) (literal_subjects (length vs) c.enforcement names'.0) (body_subjects vs c.kind keeps));
+      subjects = subjects;
+      sound = sound_at ds (subjects_of (task_of c)) (sound_values vs ds v) subjects;
       enforcement = are_literals vs ds c.enforcement h booleans.0;
       body = body_fits vs ds c.kind h keeps;
     }
@@ -166,8 +169,12 @@ objective_fits vs ds (Some o) f v e =
     let last = rule_kept 16 _ _ six.1 in
     record { subjects = terms_subjects (length vs) o.vars o.coeffs three.0; small = small_terms vs ds o.vars o.coeffs h six.0; shaped = last.0 }
 
-pub list_fits : (n : ℕ) (ds : Domains) (o : Option Objective) → length ds ≡ n → ObjectiveFits n ds o → IsFitting ds (list_task o)
-list_fits n ds o long h = record { subjects = rw long h.subjects; enforcement = All-nil (IsLiteral ds); body = record { small = h.small; shaped = h.shaped } }
+pub list_fits : (n : ℕ) (ds : Domains) (o : Option Objective) → length ds ≡ n → All AreIntervals ds → ObjectiveFits n ds o → IsFitting ds (list_task o)
+list_fits n ds o long sound h =
+    let subjects : All (λ s. s < length ds) (term_subjects (objective_terms o)) = rw long h.subjects in
+    record { subjects = subjects; sound = sound_at ds (term_subjects (objective_terms o)) sound subjects; enforcement = All-nil (IsLiteral ds); body = record { small = h.small; shaped = h.shaped } }
 
-pub cut_fits : (n : ℕ) (ds : Domains) (o : Option Objective) → length ds ≡ n → ObjectiveFits n ds o → IsFitting ds (cut_task o)
-cut_fits n ds o long h = record { subjects = rw long h.subjects; enforcement = All-nil (IsLiteral ds); body = record { small = h.small } }
+pub cut_fits : (n : ℕ) (ds : Domains) (o : Option Objective) → length ds ≡ n → All AreIntervals ds → ObjectiveFits n ds o → IsFitting ds (cut_task o)
+cut_fits n ds o long sound h =
+    let subjects : All (λ s. s < length ds) (term_subjects (objective_terms o)) = rw long h.subjects in
+    record { subjects = subjects; sound = sound_at ds (term_subjects (objective_terms o)) sound subjects; enforcement = All-nil (IsLiteral ds); body = record { small = h.small } }

@@ -16,7 +16,7 @@ use Rattle.cps_instance.specs.declared.term.Term.{Term}
 use Rattle.cps_instance.specs.declared.task.Task.{Task}
 use Rattle.cps_instance.specs.declared.task.Body.{Body}
 use Rattle.cps_instance.specs.declared.task.Body.TheVariants.{Empty, BoolOr, BoolAnd, AtMostOne, ExactlyOne, BoolXor, Linear, Sum, ObjectiveList, Cut}
-use Rattle.cps_instance.specs.Terms.{terms_value, term_subjects, terms_reach, least_of_terms, greatest_of_terms, magnitude, domain_at, Intervals, Domains, least_of, greatest_of}
+use Rattle.cps_instance.specs.Terms.{terms_value, term_subjects, terms_reach, least_of_terms, greatest_of_terms, magnitude, domain_at, Intervals, Domains, AreIntervals, least_of, greatest_of}
 use Rattle.cps_instance.specs.Sums.{DefinedSum, sum_value, extended, least_sum_of, greatest_sum_of, IsSumOf, AreSumsFrom}
 use Rattle.cps_instance.specs.Tasks.{HoldsTask, subjects_of, subjects_of_body, atom_subjects}
 use Rattle.cps_instance.specs.Fitting.{IsLiteral, IsFitting, IsFittingBody}
@@ -135,12 +135,20 @@ body_fits-longer ds es (Sum subject terms offset) l h =
 body_fits-longer ds es (ObjectiveList terms bounds) l h = record { small = small-longer ds es terms l h.small; shaped = h.shaped }
 body_fits-longer ds es (Cut terms upper) l h = record { small = small-longer ds es terms l h.small }
 
+sound-longer : (ds es : Domains) (ss : List ℕ) → All (λ s. s < length ds) ss → All (λ s. AreIntervals (domain_at ds s)) ss → All (λ s. AreIntervals (domain_at (ds ++ es) s)) ss
+sound-longer ds es [] l h = All-nil (λ s. AreIntervals (domain_at (ds ++ es) s))
+sound-longer ds es (s ∷ ss) l h =
+    All-cons (λ i. AreIntervals (domain_at (ds ++ es) i)) s ss
+    (subst (λ ps. AreIntervals ps) (same-append ds es s (All-head (λ (i : ℕ). i < length ds) s ss l)) (All-head (λ i. AreIntervals (domain_at ds i)) s ss h))
+    (sound-longer ds es ss (All-tail (λ (i : ℕ). i < length ds) s ss l) (All-tail (λ i. AreIntervals (domain_at ds i)) s ss h))
+
 -- a task that fits some domains fits them where more come after
 pub IsFitting-longer : (ds es : Domains) (t : Task) → IsFitting ds t → IsFitting (ds ++ es) t
 IsFitting-longer ds es t h =
     let long = length-append ds es in
     record {
       subjects = All-weaker (λ (s : ℕ). s < length ds) (λ (s : ℕ). s < length (ds ++ es)) (λ s l. omega arith) (subjects_of t) h.subjects;
+      sound = sound-longer ds es (subjects_of t) h.subjects h.sound;
       enforcement = are_literals-longer ds es t.enforcement (All-append_left (λ (s : ℕ). s < length ds) (atom_subjects t.enforcement) (subjects_of_body t.body) h.subjects) h.enforcement;
       body = body_fits-longer ds es t.body (All-append_right (λ (s : ℕ). s < length ds) (atom_subjects t.enforcement) (subjects_of_body t.body) h.subjects) h.body;
     }

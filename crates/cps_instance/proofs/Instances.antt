@@ -27,6 +27,7 @@ use Rattle.cps_instance.specs.Posting.{task_of, body_of, list_task, cut_task, fi
 use Rattle.cps_instance.proofs.Agreeing.{All-append_left, All-append_right}
 use Rattle.cps_instance.proofs.Extending.{value_at-extended_push}
 use Rattle.cps_instance.proofs.VariableDomains.{length-values, values_at, sound_values}
+use Rattle.cps_instance.proofs.Intervals.{sound_at}
 use Rattle.cps_instance.proofs.Meaning.{means_of, is_list_task, is_cut_task}
 use Rattle.cps_instance.proofs.Fits.{task_fits, objective_fits, list_fits, cut_fits}
 use Rattle.cps_instance.proofs.Growing.{same-append, IsFitting-longer, IsSumOf-last, AreSumsFrom-longer, AreSumsFrom-push, sum_tasks-push, Means-later, IsListTask-later, IsCutTask-later}
@@ -77,14 +78,15 @@ first_instance m ds valid h =
     let few = few_variables m valid in
     let constraints = All-weaker (λ c. constraint_fault m.variables m.constraints c ≡ None) (λ c. IsFitting ds (task_of c)) (λ c e. task_fits m.variables m.constraints ds c parts.variables h e) m.constraints parts.constraints in
     let objective = objective_fits m.variables ds m.objective parts.variables h parts.objective in
-    let list = list_fits (length m.variables) ds m.objective long objective in
-    let cut = cut_fits (length m.variables) ds m.objective long objective in
+    let sound = sound_values m.variables ds h in
+    let list = list_fits (length m.variables) ds m.objective long sound objective in
+    let cut = cut_fits (length m.variables) ds m.objective long sound objective in
     record {
       valid = valid;
       domains = record {
         count = omega arith;
         few = omega arith;
-        sound = sound_values m.variables ds h;
+        sound = sound;
         variables = values_at m.variables ds h;
         sums = tt;
       };
@@ -137,13 +139,15 @@ means_later m ss s (c ∷ cs) (t ∷ ts) h k =
     let P : Task → Type 0 = λ u. All (λ i. i < length m.variables + length ss) (subjects_of u) in
     (Means-later m ss s c t (All-head P t ts h) k.0, means_later m ss s cs ts (All-tail P t ts h) k.1)
 
-sum_fits : (p : Problem) (s : DefinedSum) (d : Intervals) → CanDefine p s d → IsFitting (p.domains ++ d ∷ []) (sum_task (length p.domains) s)
-sum_fits p s d h =
+sum_fits : (p : Problem) (s : DefinedSum) (d : Intervals) → All AreIntervals p.domains → CanDefine p s d → IsFitting (p.domains ++ d ∷ []) (sum_task (length p.domains) s)
+sum_fits p s d sound h =
     let long = length-append p.domains (d ∷ []) in
     let here : length p.domains < length (p.domains ++ d ∷ []) = omega arith in
+    let subjects = All-cons (λ (i : ℕ). i < length (p.domains ++ d ∷ [])) (length p.domains) (term_subjects s.terms) here
+        (All-weaker (λ (j : ℕ). j < length p.domains) (λ (i : ℕ). i < length (p.domains ++ d ∷ [])) (λ j l. omega arith) (term_subjects s.terms) h.subjects) in
     record {
-      subjects = All-cons (λ (i : ℕ). i < length (p.domains ++ d ∷ [])) (length p.domains) (term_subjects s.terms) here
-        (All-weaker (λ (j : ℕ). j < length p.domains) (λ (i : ℕ). i < length (p.domains ++ d ∷ [])) (λ j l. omega arith) (term_subjects s.terms) h.subjects);
+      subjects = subjects;
+      sound = sound_at (p.domains ++ d ∷ []) (length p.domains ∷ term_subjects s.terms) (All-push AreIntervals p.domains d sound h.sound) subjects;
       enforcement = All-nil (IsLiteral (p.domains ++ d ∷ []));
       body = IsSumOf-last p.domains d s h.subjects h.small h.ends;
     }
@@ -199,7 +203,7 @@ grown_instance p s d i h =
       tasks = tasks_later p s d i;
       fits = All-push (IsFitting (p.domains ++ d ∷ [])) p.tasks (sum_task (length p.domains) s)
         (All-weaker (IsFitting p.domains) (IsFitting (p.domains ++ d ∷ [])) (λ t f. IsFitting-longer p.domains (d ∷ []) t f) p.tasks i.fits)
-        (sum_fits p s d h);
+        (sum_fits p s d dom.sound h);
     }
 
 grown_defines : (p : Problem) (s : DefinedSum) (d : Intervals) → IsInstance p → Defines p (grown p s d) s (length p.domains)

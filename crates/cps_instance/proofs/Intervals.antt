@@ -1,5 +1,7 @@
 -- The least and the greatest value of rising intervals.
-use Rattle.std.specs.Prelude.{◌||◌}
+use Rattle.std.specs.Prelude.{◌||◌, All, max, unsigned_abs}
+use Rattle.std.proofs.lemmas.List.Elements.{All-weaker, All-get_or}
+use Rattle.cps_model.proofs.Inside.{unsigned_abs-between}
 use Rattle.std.proofs.Common.{◌≡◌, ℕ, ◌+◌, ◌<◌, ◌≤◌, ◌-◌, ◌^◌, Bool, false, List, [], ◌∷◌, length, take, drop, get_or, true, inl, inr, refl, sym, ◌∙◌, ap, subst, arith, sub-one, ℤ, pos, negsuc, ◌+ℤ◌, ◌≤ℤ◌, ◌<ℤ◌}
 use Rattle.std.proofs.lemmas.Int.{ints}
 use Rattle.std.proofs.lemmas.List.{length-take, length-drop}
@@ -7,7 +9,7 @@ use Rattle.cps_domain.specs.Window.{Window, within, is_among, contains, interval
 use Rattle.cps_domain.proofs.Tests.{within_low, within_high, is_within, or_cases, or_right}
 use Rattle.cps_domain.proofs.Rising.{above_low}
 use Rattle.cps_domain.proofs.Windows.{least_in, greatest_in, least_below, greatest_above}
-use Rattle.cps_instance.specs.Terms.{Intervals, AreIntervals, least_of, greatest_of}
+use Rattle.cps_instance.specs.Terms.{Intervals, Domains, AreIntervals, domain_at, least_of, greatest_of, magnitude}
 
 here : (a b : Bool) → a ≡ true → (a || b) ≡ true
 here a b e = rw e refl
@@ -86,3 +88,34 @@ unfolding contains
 greatest-intervals d h =
     let i = intervals_rise d h in
     same_end (greatest d) (greatest_of (intervals d)) (greatest_of-greatest (intervals d) (greatest d) i (greatest_in d h)) (greatest_above d (greatest_of (intervals d)) h (greatest_among (intervals d) i))
+
+-- a value is at most as far from 0 as the ends
+pub value_size : (ps : Intervals) (x : ℤ) → AreIntervals ps → is_among ps x ≡ true → unsigned_abs x ≤ magnitude ps
+value_size ps x h e = unsigned_abs-between (least_of ps) x (greatest_of ps) (least_of-least ps x h e) (greatest_of-greatest ps x h e)
+
+rising_size : (low : ℤ) (ps : Intervals) (x : ℤ) → IsRising low ps → is_among ps x ≡ true → x <ℤ pos (2 ^ 62)
+rising_size low [] x h e = cc
+rising_size low (p ∷ ps) x h e = elim (or_cases (within x p) (is_among ps x) e) [
+    | inl w ↦ (let a = within_high x p w in let b = h.2 in omega (arith, ints))
+    | inr w ↦ rising_size (p.1 +ℤ pos 1) ps x h.3 w
+  ]
+
+size_of : (x : ℤ) → negsuc (2 ^ 62 - 1) <ℤ x → x <ℤ pos (2 ^ 62) → unsigned_abs x < 2 ^ 62
+size_of (pos n) p q = omega (arith, ints)
+size_of (negsuc n) p q = omega (arith, ints)
+
+both_small : (m n : ℕ) → m < 2 ^ 62 → n < 2 ^ 62 → max m n < 2 ^ 62
+both_small m n p q = omega arith
+
+-- and so less than 2 ^ 62
+pub magnitude_small : (ps : Intervals) → AreIntervals ps → magnitude ps < 2 ^ 62
+magnitude_small ps h =
+    let low = above_low (negsuc (2 ^ 62 - 1)) (least_of ps) ps h.rising (least_among ps h) in
+    let low' = rising_size (negsuc (2 ^ 62 - 1)) ps (least_of ps) h.rising (least_among ps h) in
+    let high = above_low (negsuc (2 ^ 62 - 1)) (greatest_of ps) ps h.rising (greatest_among ps h) in
+    let high' = rising_size (negsuc (2 ^ 62 - 1)) ps (greatest_of ps) h.rising (greatest_among ps h) in
+    both_small (unsigned_abs (least_of ps)) (unsigned_abs (greatest_of ps)) (size_of (least_of ps) low low') (size_of (greatest_of ps) high high')
+
+-- the domains of subjects that there are
+pub sound_at : (ds : Domains) (ss : List ℕ) → All AreIntervals ds → All (λ s. s < length ds) ss → All (λ s. AreIntervals (domain_at ds s)) ss
+sound_at ds ss h l = All-weaker (λ (s : ℕ). s < length ds) (λ (s : ℕ). AreIntervals (domain_at ds s)) (λ s k. All-get_or AreIntervals ds s [] k h) ss l

@@ -95,6 +95,7 @@ body_fits-lowered ds upper (Cut terms old) h = record { small = h.small }
 pub IsFitting-lowered : (ds : Domains) (upper : ℤ) (t : Task) → IsFitting ds t → IsFitting ds (lowered upper t)
 IsFitting-lowered ds upper t h = record {
   subjects = rw (subjects_of-lowered upper t) h.subjects;
+  sound = rw (subjects_of-lowered upper t) h.sound;
   enforcement = h.enforcement;
   body = body_fits-lowered ds upper t.body h.body;
 }

@@ -7,7 +7,7 @@ use Rattle.cps_instance.specs.declared.term.Term.{Term}
 use Rattle.cps_instance.specs.declared.task.Task.{Task}
 use Rattle.cps_instance.specs.declared.task.Body.{Body}
 use Rattle.cps_instance.specs.declared.task.Body.TheVariants.{Empty, BoolOr, BoolAnd, AtMostOne, ExactlyOne, BoolXor, Linear, Sum, ObjectiveList, Cut}
-use Rattle.cps_instance.specs.Terms.{Domains, domain_at, terms_reach}
+use Rattle.cps_instance.specs.Terms.{Domains, AreIntervals, domain_at, terms_reach}
 use Rattle.cps_instance.specs.Sums.{DefinedSum, IsSumOf}
 use Rattle.cps_instance.specs.Tasks.{subjects_of}
 
@@ -39,8 +39,9 @@ IsFittingBody domains (Sum subject terms offset) = IsSumOf domains subject (reco
 IsFittingBody domains (ObjectiveList terms bounds) = AreSmallWithin domains terms bounds
 IsFittingBody domains (Cut terms upper) = AreSmall domains terms
 
--- the task's subjects are among those with these domains, and it fits them
+-- the task's subjects are among those with these domains, whose intervals rise, and it fits them
 pub record IsFitting (domains : Domains) (t : Task) : Type 0 where
   pub subjects : All (λ s. s < length domains) (subjects_of t)
+  pub sound : All (λ s. AreIntervals (domain_at domains s)) (subjects_of t)
   pub enforcement : All (IsLiteral domains) t.enforcement
   pub body : IsFittingBody domains t.body

@@ -2,7 +2,7 @@
 ghost use Rattle.std.specs.Prelude.{◌≡◌, ◌+◌, ◌<◌, ◌^◌, unsigned_abs, map, All, length, [], IfOk, OnErr};
 ghost use Rattle.cps_domain.specs.Window.{intervals};
 ghost use Rattle.cps_instance.specs.Terms.{terms_reach};
-ghost use Rattle.cps_instance.specs.Problem.{IsInstance, Defines};
+ghost use Rattle.cps_instance.specs.Problem.{IsInstance, Defines, variable_count};
 
 use crate::domains::{domains_of, sum_domain};
 use crate::task::Task;
@@ -59,6 +59,13 @@ impl<'a> Instance<'a> {
         ensures { result.now ≡ self.now.model }
     {
         self.model
+    }
+
+    /// How many variables the model has. The first subject that a defined sum can be is this one.
+    pub fn variable_count(&self) -> usize
+        ensures { result ≡ variable_count self.now }
+    {
+        self.model.model().variables.len()
     }
 
     /// A domain for each subject.
