@@ -51,9 +51,9 @@ terms_of-reach vs ds (r ∷ rs) (c ∷ cs) h =
 reference_subjects : (n : ℕ) (c r : ℤ) → variable_of r < n → All (λ s. s < n) (term_subjects (terms_of_reference c r))
 reference_subjects n c (pos i) h = All-cons (λ (s : ℕ). s < n) i [] h (All-nil (λ (s : ℕ). s < n))
 reference_subjects n c (negsuc i) h = elim (has_no_opposite c) as (λ b. All (λ s. s < n) (term_subjects (if b then term_of (pos (2 ^ 62)) i ∷ term_of (pos (2 ^ 62)) i ∷ [] else term_of (neg_ℤ c) i ∷ []))) [
-    | true ↦ All-cons (λ (s : ℕ). s < n) i (i ∷ []) h (All-cons (λ (s : ℕ). s < n) i [] h (All-nil (λ (s : ℕ). s < n)))
-    | false ↦ All-cons (λ (s : ℕ). s < n) i [] h (All-nil (λ (s : ℕ). s < n))
-  ]
+  | true ↦ All-cons (λ (s : ℕ). s < n) i (i ∷ []) h (All-cons (λ (s : ℕ). s < n) i [] h (All-nil (λ (s : ℕ). s < n)))
+  | false ↦ All-cons (λ (s : ℕ). s < n) i [] h (All-nil (λ (s : ℕ). s < n))
+]
 
 terms_subjects : (n : ℕ) (rs cs : List ℤ) → list_all (names n) rs ≡ true → All (λ s. s < n) (term_subjects (terms_of rs cs))
 terms_subjects n [] cs h = All-nil (λ (s : ℕ). s < n)

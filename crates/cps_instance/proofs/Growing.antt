@@ -157,27 +157,28 @@ IsFitting-longer ds es t h =
 later_holds : (ss : List DefinedSum) (s : DefinedSum) (a : List ℤ) (t : Task) → All (λ i. i < length a + length ss) (subjects_of t) → HoldsTask t (extended (ss ++ s ∷ []) a) ↔ HoldsTask t (extended ss a)
 later_holds ss s a t h =
     let e = extended-push ss s a in
-    let inside : All (λ i. i < length (extended ss a)) (subjects_of t) = rw (length-extended ss a) h in
-    ( (λ k. HoldsTask-shorter t (extended ss a) (sum_value (extended ss a) s ∷ []) inside (subst (λ xs. HoldsTask t xs) e k))
-    , (λ k. subst (λ xs. HoldsTask t xs) (sym e) (HoldsTask-longer t (extended ss a) (sum_value (extended ss a) s ∷ []) inside k)))
+    let inside : All (λ i. i < length (extended ss a)) (subjects_of t) = rw (length-extended ss a) h in (
+      (λ k. HoldsTask-shorter t (extended ss a) (sum_value (extended ss a) s ∷ []) inside (subst (λ xs. HoldsTask t xs) e k)),
+      (λ k. subst (λ xs. HoldsTask t xs) (sym e) (HoldsTask-longer t (extended ss a) (sum_value (extended ss a) s ∷ []) inside k)),
+    )
 
 pub Means-later : (m : CpModel) (ss : List DefinedSum) (s : DefinedSum) (c : Constraint) (t : Task) → All (λ i. i < length m.variables + length ss) (subjects_of t) → Means m ss c t → Means m (ss ++ s ∷ []) c t
 Means-later m ss s c t h k = record {
   holds = λ a long.
-    (let inside : All (λ i. i < length a + length ss) (subjects_of t) = rw long h in
-    let same = later_holds ss s a t inside in
-    let old = k.holds a long in
-    ((λ w. old.0 (same.0 w)), (λ w. same.1 (old.1 w))));
+      (let inside : All (λ i. i < length a + length ss) (subjects_of t) = rw long h in
+      let same = later_holds ss s a t inside in
+      let old = k.holds a long in
+      ((λ w. old.0 (same.0 w)), (λ w. same.1 (old.1 w))));
   stays = k.stays;
 }
 
 pub IsListTask-later : (m : CpModel) (ss : List DefinedSum) (s : DefinedSum) (t : Task) → All (λ i. i < length m.variables + length ss) (subjects_of t) → IsListTask m ss t → IsListTask m (ss ++ s ∷ []) t
 IsListTask-later m ss s t h k = record {
   holds = λ a long.
-    (let inside : All (λ i. i < length a + length ss) (subjects_of t) = rw long h in
-    let same = later_holds ss s a t inside in
-    let old = k.holds a long in
-    ((λ w. old.0 (same.0 w)), (λ w. same.1 (old.1 w))));
+      (let inside : All (λ i. i < length a + length ss) (subjects_of t) = rw long h in
+      let same = later_holds ss s a t inside in
+      let old = k.holds a long in
+      ((λ w. old.0 (same.0 w)), (λ w. same.1 (old.1 w))));
   stays = k.stays;
 }
 
@@ -188,8 +189,8 @@ IsCutTask-later m ss s t h k =
       terms = k.terms;
       is = k.is;
       value = λ a long.
-        (let inside : All (λ i. i < length (extended ss a)) (term_subjects k.terms) = rw (length-extended ss a, long) own in
-        ap (λ xs. terms_value xs k.terms) (extended-push ss s a)
-        ∙ sym (terms_value-agree (extended ss a) (extended ss a ++ sum_value (extended ss a) s ∷ []) k.terms (All-weaker (λ (i : ℕ). i < length (extended ss a)) (AgreeAt (extended ss a) (extended ss a ++ sum_value (extended ss a) s ∷ [])) (agree-append (extended ss a) (sum_value (extended ss a) s ∷ [])) (term_subjects k.terms) inside))
-        ∙ k.value a long);
+          (let inside : All (λ i. i < length (extended ss a)) (term_subjects k.terms) = rw (length-extended ss a, long) own in
+          ap (λ xs. terms_value xs k.terms) (extended-push ss s a)
+          ∙ sym (terms_value-agree (extended ss a) (extended ss a ++ sum_value (extended ss a) s ∷ []) k.terms (All-weaker (λ (i : ℕ). i < length (extended ss a)) (AgreeAt (extended ss a) (extended ss a ++ sum_value (extended ss a) s ∷ [])) (agree-append (extended ss a) (sum_value (extended ss a) s ∷ [])) (term_subjects k.terms) inside))
+          ∙ k.value a long);
     }

@@ -103,8 +103,8 @@ first_instance m ds valid h =
         is_cut = is_cut_task m [] objective.subjects;
       };
       fits = All-append (IsFitting ds) (map task_of m.constraints) (list_task m.objective ∷ (cut_task m.objective ∷ []))
-        (All-map (IsFitting ds) task_of m.constraints constraints)
-        (All-cons (IsFitting ds) (list_task m.objective) (cut_task m.objective ∷ []) list (All-cons (IsFitting ds) (cut_task m.objective) [] cut (All-nil (IsFitting ds))));
+          (All-map (IsFitting ds) task_of m.constraints constraints)
+          (All-cons (IsFitting ds) (list_task m.objective) (cut_task m.objective ∷ []) list (All-cons (IsFitting ds) (cut_task m.objective) [] cut (All-nil (IsFitting ds))));
     }
 
 -- the instance of a valid model, with its sums read off its tasks
@@ -144,7 +144,7 @@ sum_fits p s d sound h =
     let long = length-append p.domains (d ∷ []) in
     let here : length p.domains < length (p.domains ++ d ∷ []) = omega arith in
     let subjects = All-cons (λ (i : ℕ). i < length (p.domains ++ d ∷ [])) (length p.domains) (term_subjects s.terms) here
-        (All-weaker (λ (j : ℕ). j < length p.domains) (λ (i : ℕ). i < length (p.domains ++ d ∷ [])) (λ j l. omega arith) (term_subjects s.terms) h.subjects) in
+    (All-weaker (λ (j : ℕ). j < length p.domains) (λ (i : ℕ). i < length (p.domains ++ d ∷ [])) (λ j l. omega arith) (term_subjects s.terms) h.subjects) in
     record {
       subjects = subjects;
       sound = sound_at (p.domains ++ d ∷ []) (length p.domains ∷ term_subjects s.terms) (All-push AreIntervals p.domains d sound h.sound) subjects;
@@ -176,9 +176,9 @@ tasks_later p s d i =
       later = t.later ++ s ∷ [];
       sums = ap (λ ss. ss ++ s ∷ []) t.sums ∙ append_assoc t.first t.later (s ∷ []);
       order =
-        ap (λ us. us ++ sum_task (length p.domains) s ∷ []) t.order
-        ∙ in_order t.constraints (sum_tasks n t.first) t.list t.cut (sum_tasks (n + length t.first) t.later) (sum_task (length p.domains) s)
-        ∙ ap (λ us. t.constraints ++ (sum_tasks n t.first ++ (t.list ∷ (t.cut ∷ us)))) (sym (sum_tasks-push (n + length t.first) t.later s (length p.domains) (omega arith)));
+          ap (λ us. us ++ sum_task (length p.domains) s ∷ []) t.order
+          ∙ in_order t.constraints (sum_tasks n t.first) t.list t.cut (sum_tasks (n + length t.first) t.later) (sum_task (length p.domains) s)
+          ∙ ap (λ us. t.constraints ++ (sum_tasks n t.first ++ (t.list ∷ (t.cut ∷ us)))) (sym (sum_tasks-push (n + length t.first) t.later s (length p.domains) (omega arith)));
       mean = means_later p.model p.defs s p.model.constraints t.constraints (All-append_left P t.constraints (sum_tasks n t.first ++ (t.list ∷ (t.cut ∷ sum_tasks (n + length t.first) t.later))) parts) t.mean;
       is_list = IsListTask-later p.model p.defs s t.list (All-head P t.list (t.cut ∷ sum_tasks (n + length t.first) t.later) rest) t.is_list;
       is_cut = IsCutTask-later p.model p.defs s t.cut (All-head P t.cut (sum_tasks (n + length t.first) t.later) after) t.is_cut;
@@ -202,8 +202,8 @@ grown_instance p s d i h =
       };
       tasks = tasks_later p s d i;
       fits = All-push (IsFitting (p.domains ++ d ∷ [])) p.tasks (sum_task (length p.domains) s)
-        (All-weaker (IsFitting p.domains) (IsFitting (p.domains ++ d ∷ [])) (λ t f. IsFitting-longer p.domains (d ∷ []) t f) p.tasks i.fits)
-        (sum_fits p s d dom.sound h);
+          (All-weaker (IsFitting p.domains) (IsFitting (p.domains ++ d ∷ [])) (λ t f. IsFitting-longer p.domains (d ∷ []) t f) p.tasks i.fits)
+          (sum_fits p s d dom.sound h);
     }
 
 grown_defines : (p : Problem) (s : DefinedSum) (d : Intervals) → IsInstance p → Defines p (grown p s d) s (length p.domains)
@@ -236,7 +236,7 @@ grows p m ds ds' ts ts' s d subject view i es h ed et =
     record {
       instance = subst (λ q. IsInstance q) (sym same) (grown_instance old s d i h);
       defines = subst (λ o. Defines o (problem_of m ds' ts') s subject) view
-        (subst (λ n. Defines old (problem_of m ds' ts') s n) (sym es) (subst (λ q. Defines old q s (length ds)) (sym same) (grown_defines old s d i)));
+          (subst (λ n. Defines old (problem_of m ds' ts') s n) (sym es) (subst (λ q. Defines old q s (length ds)) (sym same) (grown_defines old s d i)));
     }
 
 pub constraint_paired : (vs : List Variable) (cs : List Constraint) (c : Constraint) → constraint_fault vs cs c ≡ None → IsPaired c

@@ -44,9 +44,9 @@ greatest_among (p ∷ ps) h = rising_greatest (negsuc (2 ^ 62 - 1)) p ps h.risin
 
 rising_above : (low : ℤ) (p : ℤ × ℤ) (ps : Intervals) (x : ℤ) → IsRising low (p ∷ ps) → is_among (p ∷ ps) x ≡ true → p.0 ≤ℤ x
 rising_above low p ps x h e = elim (or_cases (within x p) (is_among ps x) e) [
-    | inl w ↦ within_low x p w
-    | inr w ↦ (let a = above_low (p.1 +ℤ pos 1) x ps h.3 w in let o = h.1 in omega (arith, ints))
-  ]
+  | inl w ↦ within_low x p w
+  | inr w ↦ (let a = above_low (p.1 +ℤ pos 1) x ps h.3 w in let o = h.1 in omega (arith, ints))
+]
 
 pub least_of-least : (ps : Intervals) (x : ℤ) → AreIntervals ps → is_among ps x ≡ true → least_of ps ≤ℤ x
 least_of-least [] x h e = cc
@@ -96,9 +96,9 @@ value_size ps x h e = unsigned_abs-between (least_of ps) x (greatest_of ps) (lea
 rising_size : (low : ℤ) (ps : Intervals) (x : ℤ) → IsRising low ps → is_among ps x ≡ true → x <ℤ pos (2 ^ 62)
 rising_size low [] x h e = cc
 rising_size low (p ∷ ps) x h e = elim (or_cases (within x p) (is_among ps x) e) [
-    | inl w ↦ (let a = within_high x p w in let b = h.2 in omega (arith, ints))
-    | inr w ↦ rising_size (p.1 +ℤ pos 1) ps x h.3 w
-  ]
+  | inl w ↦ (let a = within_high x p w in let b = h.2 in omega (arith, ints))
+  | inr w ↦ rising_size (p.1 +ℤ pos 1) ps x h.3 w
+]
 
 size_of : (x : ℤ) → negsuc (2 ^ 62 - 1) <ℤ x → x <ℤ pos (2 ^ 62) → unsigned_abs x < 2 ^ 62
 size_of (pos n) p q = omega (arith, ints)

@@ -60,9 +60,10 @@ stays_of c upper (kinds.Linear vars coeffs domain) = refl
 pub means_of : (m : CpModel) (ss : List DefinedSum) (c : Constraint) → All (λ s. s < length m.variables) (subjects_of (task_of c)) → Means m ss c (task_of c)
 means_of m ss c h = record {
   holds = λ a long.
-    (let inside : All (λ s. s < length a) (subjects_of (task_of c)) = rw long h in
-    ( (λ k. is_satisfied m.constraints c a (HoldsTask-unextended (task_of c) ss a inside k))
-    , (λ k. HoldsTask-extended (task_of c) ss a inside (task_holds m.constraints c a k))));
+      (let inside : All (λ s. s < length a) (subjects_of (task_of c)) = rw long h in (
+        (λ k. is_satisfied m.constraints c a (HoldsTask-unextended (task_of c) ss a inside k)),
+        (λ k. HoldsTask-extended (task_of c) ss a inside (task_holds m.constraints c a k)),
+      ));
   stays = λ upper. stays_of c upper c.kind;
 }
 
@@ -81,9 +82,10 @@ list_met (Some o) xs h = ap (λ (v : ℤ). is_allowed o.domain v) (sym (terms_of
 pub is_list_task : (m : CpModel) (ss : List DefinedSum) → All (λ s. s < length m.variables) (subjects_of (list_task m.objective)) → IsListTask m ss (list_task m.objective)
 is_list_task m ss h = record {
   holds = λ a long.
-    (let inside : All (λ s. s < length a) (subjects_of (list_task m.objective)) = rw long h in
-    ( (λ k. list_met m.objective a (HoldsTask-unextended (list_task m.objective) ss a inside k))
-    , (λ k. HoldsTask-extended (list_task m.objective) ss a inside (list_holds m.objective a k))));
+      (let inside : All (λ s. s < length a) (subjects_of (list_task m.objective)) = rw long h in (
+        (λ k. list_met m.objective a (HoldsTask-unextended (list_task m.objective) ss a inside k)),
+        (λ k. HoldsTask-extended (list_task m.objective) ss a inside (list_holds m.objective a k)),
+      ));
   stays = λ upper. refl;
 }
 
@@ -92,7 +94,7 @@ is_cut_task m ss h = record {
   terms = objective_terms m.objective;
   is = refl;
   value = λ a long.
-    (let inside : All (λ s. s < length a) (term_subjects (objective_terms m.objective)) = rw long h in
-    terms_value-agree (extended ss a) a (objective_terms m.objective) (All-weaker (λ (s : ℕ). s < length a) (AgreeAt (extended ss a) a) (agree-extended ss a) (term_subjects (objective_terms m.objective)) inside)
-    ∙ objective_terms-value m.objective a);
+      (let inside : All (λ s. s < length a) (term_subjects (objective_terms m.objective)) = rw long h in
+      terms_value-agree (extended ss a) a (objective_terms m.objective) (All-weaker (λ (s : ℕ). s < length a) (AgreeAt (extended ss a) a) (agree-extended ss a) (term_subjects (objective_terms m.objective)) inside)
+      ∙ objective_terms-value m.objective a);
 }

@@ -98,13 +98,13 @@ sum_among ds n xs s sound l h k =
 among_push : (ds : Domains) (n : ℕ) (xs : List ℤ) (v : ℤ) → length xs ≡ n → AreAmong ds n xs → is_among (domain_at ds n) v ≡ true → AreAmong ds (n + 1) (xs ++ v ∷ [])
 unfolding AreAmong
 among_push ds n xs v long h k = λ i l. elim (cases_lt i n) [
-    | inl below ↦ ap (λ (z : ℤ). is_among (domain_at ds i) z) (sym (agree-append xs (v ∷ []) i (omega arith))) ∙ h i below
-    | inr above ↦ (
-        let here : i ≡ length xs = omega arith in
-        let last : value_at (xs ++ v ∷ []) i ≡ v = ap (λ (j : ℕ). value_at (xs ++ v ∷ []) j) here ∙ get_or-append_seam xs v [] (pos 0) in
-        let place : i ≡ n = omega arith in
-        ap (λ (z : ℤ). is_among (domain_at ds i) z) last ∙ ap (λ (j : ℕ). is_among (domain_at ds j) v) place ∙ k)
-  ]
+  | inl below ↦ ap (λ (z : ℤ). is_among (domain_at ds i) z) (sym (agree-append xs (v ∷ []) i (omega arith))) ∙ h i below
+  | inr above ↦ (
+      let here : i ≡ length xs = omega arith in
+      let last : value_at (xs ++ v ∷ []) i ≡ v = ap (λ (j : ℕ). value_at (xs ++ v ∷ []) j) here ∙ get_or-append_seam xs v [] (pos 0) in
+      let place : i ≡ n = omega arith in
+      ap (λ (z : ℤ). is_among (domain_at ds i) z) last ∙ ap (λ (j : ℕ). is_among (domain_at ds j) v) place ∙ k)
+]
 
 among_extended : (ds : Domains) (n : ℕ) (ss : List DefinedSum) (xs : List ℤ) → All AreIntervals ds → length xs ≡ n → n + length ss ≤ length ds → AreAmong ds n xs → AreSumsFrom ds n ss → AreAmong ds (n + length ss) (extended ss xs)
 unfolding AreAmong

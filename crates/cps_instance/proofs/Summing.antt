@@ -40,9 +40,9 @@ unsigned_abs-opposite c = omega (arith, ints)
 pub terms_of_reference-value : (xs : List ℤ) (c r : ℤ) → terms_value xs (terms_of_reference c r) ≡ c *ℤ reference_value xs r
 terms_of_reference-value xs c (pos i) = omega (arith, ints)
 terms_of_reference-value xs c (negsuc i) = elim (has_no_opposite c) as (λ b. has_no_opposite c ≡ b → terms_value xs (if b then term_of (pos (2 ^ 62)) i ∷ term_of (pos (2 ^ 62)) i ∷ [] else term_of (neg_ℤ c) i ∷ []) ≡ c *ℤ neg_ℤ (value_at xs i)) [
-    | true ↦ λ e. (let l = least_of c e in let h = two_halves (value_at xs i) in rw l (omega (arith, ints)))
-    | false ↦ λ e. (let o = opposites c (value_at xs i) in omega (arith, ints))
-  ] refl
+  | true ↦ λ e. (let l = least_of c e in let h = two_halves (value_at xs i) in rw l (omega (arith, ints)))
+  | false ↦ λ e. (let o = opposites c (value_at xs i) in omega (arith, ints))
+] refl
 
 -- terms are worth what their references are
 pub terms_of-value : (xs rs cs : List ℤ) → terms_value xs (terms_of rs cs) ≡ sum_of xs rs cs
@@ -58,9 +58,9 @@ terms_of-value xs (r ∷ rs) (c ∷ cs) =
 pub terms_of_reference-reach : (ds : Domains) (c r : ℤ) → terms_reach ds (terms_of_reference c r) ≡ unsigned_abs c * magnitude (domain_at ds (variable_of r))
 terms_of_reference-reach ds c (pos i) = omega arith
 terms_of_reference-reach ds c (negsuc i) = elim (has_no_opposite c) as (λ b. has_no_opposite c ≡ b → terms_reach ds (if b then term_of (pos (2 ^ 62)) i ∷ term_of (pos (2 ^ 62)) i ∷ [] else term_of (neg_ℤ c) i ∷ []) ≡ unsigned_abs c * magnitude (domain_at ds i)) [
-    | true ↦ λ e. (let l = least_of c e in rw l (omega arith))
-    | false ↦ λ e. (let o = unsigned_abs-opposite c in omega (arith, ap (λ (n : ℕ). n * magnitude (domain_at ds i)) o))
-  ] refl
+  | true ↦ λ e. (let l = least_of c e in rw l (omega arith))
+  | false ↦ λ e. (let o = unsigned_abs-opposite c in omega (arith, ap (λ (n : ℕ). n * magnitude (domain_at ds i)) o))
+] refl
 
 -- one more reference of a loop
 pub terms_of-more : (ts us : List Term) (rs cs : List ℤ) (k : ℕ) (r c : ℤ) (whole : List Term) → k < length rs → k < length cs → r ≡ get_or rs k (pos 0) → c ≡ get_or cs k (pos 0) → us ≡ ts ++ terms_of_reference c r → ts ++ terms_of (drop k rs) (drop k cs) ≡ whole → us ++ terms_of (drop (k + 1) rs) (drop (k + 1) cs) ≡ whole

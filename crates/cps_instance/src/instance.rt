@@ -71,6 +71,7 @@ impl<'a> Instance<'a> {
     /// A domain for each subject.
     pub fn domains(&self) -> &[Domain]
         ensures list { map intervals result.now ≡ self.now.domains }
+        ensures count { length result.now ≡ length self.now.domains }
         ensures sound { IsInstance self.now }
     {
         self.domains.as_slice()

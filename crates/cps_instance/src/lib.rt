@@ -14,6 +14,8 @@ mod task;
 mod tasks;
 mod term;
 mod terms;
+#[cfg(test)]
+mod tests;
 
 pub use instance::Instance;
 pub use task::{Body, Task};

@@ -54,10 +54,7 @@ fn task_of(alloc: Global, constraint: &Constraint) -> Result<Task, AllocError>
 }
 
 /// The terms of the objective's sum; none without an objective.
-fn objective_terms(
-    alloc: Global,
-    objective: &Option<Objective>,
-) -> Result<Listed<Term>, AllocError>
+fn objective_terms(alloc: Global, objective: &Option<Objective>) -> Result<Listed<Term>, AllocError>
     requires { IsPairedObjective objective.now }
     ensures { IfOk result (λ terms. terms ≡ objective_terms objective.now) }
 {
@@ -72,10 +69,7 @@ fn objective_terms(
 }
 
 /// The bounds of the objective's sum; none without an objective.
-fn objective_bounds(
-    alloc: Global,
-    objective: &Option<Objective>,
-) -> Result<Listed<i64>, AllocError>
+fn objective_bounds(alloc: Global, objective: &Option<Objective>) -> Result<Listed<i64>, AllocError>
     ensures { IfOk result (λ bounds. bounds ≡ objective_bounds objective.now) }
 {
     match objective {
