@@ -1,5 +1,5 @@
 -- Cuts one after the other, cuts by tests that agree, and intersections.
-use Rattle.std.proofs.Common.{ℕ, ◌+◌, ◌-◌, ◌^◌, ℤ, negsuc, ◌≡◌, Bool, true, false, ◌&&◌, ◌||◌, ◌⊎◌, inl, inr, List, length, refl, sym, ◌∙◌, ap, subst, true≢false, arith}
+use Rattle.std.proofs.Common.{◌+◌, ◌-◌, ◌^◌, ℤ, negsuc, ◌≡◌, Bool, true, false, ◌&&◌, ◌||◌, ◌⊎◌, inl, inr, List, length, refl, sym, ◌∙◌, ap, subst, true≢false, arith}
 use Rattle.std.specs.Prelude.{not}
 use Rattle.std.proofs.lemmas.List.{nil_from_length}
 use Rattle.cps_domain.specs.Window.{Window, contains, intervals, within, is_among, IsDomain, interval_at, least, greatest}
@@ -11,7 +11,7 @@ use Rattle.cps_domain.proofs.Tests.{both, and_all, first_of_both, second_of_both
 use Rattle.cps_domain.proofs.Slices.{slice_range-none}
 use Rattle.cps_domain.proofs.Windows.{at, after, contains_parts, least_in}
 use Rattle.cps_domain.proofs.Cutting.{cuts_wiped, cuts_same, cuts_narrowed}
-use Rattle.cps_domain.proofs.Meeting.{Compared, same, differ, compared, same_pair}
+use Rattle.cps_domain.proofs.Meeting.{same, differ, compared, same_pair}
 
 or_false : (a : Bool) → (a || false) ≡ a
 or_false true = refl

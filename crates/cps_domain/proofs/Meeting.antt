@@ -1,5 +1,5 @@
 -- The intervals that two rising lists share, and that a rising list is fixed by its numbers.
-use Rattle.std.proofs.Common.{ℕ, zero, suc, ◌+◌, ◌≤◌, ◌<◌, ◌-◌, ℤ, pos, negsuc, ◌+ℤ◌, ◌≤ℤ◌, ◌<ℤ◌, ◌≡◌, Bool, true, false, ◌&&◌, ◌||◌, ◌⊎◌, inl, inr, List, [], ◌∷◌, ◌++◌, length, get_or, drop, drop-cons, add-one, refl, sym, ◌∙◌, ap, subst, true≢false, arith, ◌^◌}
+use Rattle.std.proofs.Common.{ℕ, zero, suc, ◌+◌, ◌≤◌, ◌<◌, ◌-◌, ℤ, pos, negsuc, ◌+ℤ◌, ◌≤ℤ◌, ◌<ℤ◌, ◌≡◌, Bool, true, false, ◌&&◌, ◌||◌, inl, inr, List, [], ◌∷◌, ◌++◌, length, get_or, drop, drop-cons, refl, sym, ◌∙◌, ap, subst, true≢false, arith, ◌^◌}
 use Rattle.std.specs.Prelude.{int_le, not}
 use Rattle.std.specs.Bool.{Decides}
 use Rattle.std.specs.Ordering.{int_eq}
@@ -8,10 +8,10 @@ use Rattle.std.proofs.lemmas.Int.{ints, by_lt_z}
 use Rattle.std.proofs.lemmas.List.Folds.{list_any-append}
 use Rattle.cps_domain.specs.Window.{within, is_among, IsRising}
 use Rattle.cps_domain.specs.Cuts.{IsUpTo, IsFromOn}
-use Rattle.cps_domain.specs.Meeting.{IsShared, AddsShared, AreShared}
-use Rattle.cps_domain.proofs.Tests.{within_low, within_high, is_within, or_cases, or_right, both, first_of_both, second_of_both, test_false, up_to_keeps, from_on_keeps}
+use Rattle.cps_domain.specs.Meeting.{AddsShared, AreShared}
+use Rattle.cps_domain.proofs.Tests.{within_low, within_high, is_within, or_cases, or_right, first_of_both, second_of_both, test_false, up_to_keeps, from_on_keeps}
 use Rattle.cps_domain.proofs.Slices.{pair_same}
-use Rattle.cps_domain.proofs.Rising.{rising_left, rising_lower, above_low}
+use Rattle.cps_domain.proofs.Rising.{rising_lower, above_low}
 
 -- the part of one interval from the low end and up to the high end of another is what they share
 and_three : (a b c : Bool) → ((a && b) && c) ≡ (a && (b && c))

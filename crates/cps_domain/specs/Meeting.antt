@@ -1,5 +1,5 @@
 -- What two lists of intervals share.
-use Rattle.std.specs.Prelude.{ℤ, ◌≡◌, ◌≤ℤ◌, ◌⊎◌, Bool, false, negsuc, ◌&&◌, ◌-◌, ◌^◌, ◌++◌, [], ◌∷◌, List}
+use Rattle.std.specs.Prelude.{ℤ, ◌≡◌, ◌≤ℤ◌, ◌⊎◌, false, negsuc, ◌&&◌, ◌-◌, ◌^◌, ◌++◌, [], ◌∷◌, List}
 use Rattle.cps_domain.specs.Window.{within, is_among, IsRising}
 
 -- an interval has the numbers that lie in both of two others, and has some

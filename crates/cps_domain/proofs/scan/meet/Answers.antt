@@ -1,4 +1,4 @@
-use Rattle.std.proofs.Common.{arith, pos, rules, get_or, FitsSigned, w64, ◌≤ℤ◌}
+use Rattle.std.proofs.Common.{arith, pos, rules, get_or, FitsSigned, w64}
 use Rattle.std.proofs.lemmas.Int.{ints}
 use Rattle.cps_domain.proofs.Meeting.{walk_left, walk_right}
 use Rattle.cps_domain.proofs.scan.meet.Goals as goal

@@ -1,4 +1,4 @@
-use Rattle.std.proofs.Common.{arith, refl, true≢false, ap, sym, subst, ◌∙◌, ◌≡◌, length}
+use Rattle.std.proofs.Common.{arith, refl, true≢false, ap, sym, ◌∙◌, ◌≡◌, length}
 use Rattle.std.proofs.lemmas.Int.{ints}
 use Rattle.std.proofs.lemmas.Bool.{eqb-true}
 use Rattle.cps_domain.specs.Window.{within, contains, intervals}
