@@ -54,7 +54,10 @@ fn cuts_texts(rt: HostRuntime) -> Result<(), Fail> {
 fn refuses_texts(rt: HostRuntime) -> Result<(), Fail> {
     let alloc = rt.alloc();
     // A number that a letter, a digit, `_` or `.` follows is a fault at its first byte.
-    assert_eq!(rt; fault(&rt, alloc, b"variables { domain: [089, 90] }")?, Some(21));
+    assert_eq!(rt;
+        fault(&rt, alloc, b"variables { domain: [089, 90] }")?,
+        Some(21)
+    );
     assert_eq!(rt; fault(&rt, alloc, b"a: 1b")?, Some(3));
     assert_eq!(rt; fault(&rt, alloc, b"a: 1_")?, Some(3));
     assert_eq!(rt; fault(&rt, alloc, b"a: 1..2")?, Some(3));
