@@ -1,5 +1,5 @@
 -- The numbers in a document's tree are those of its tokens.
-use Rattle.std.proofs.Common.{◌≡◌, ℕ, zero, suc, ◌+◌, ◌≤◌, ◌<◌, Bool, true, false, List, [], ◌∷◌, length, refl, sym, ◌∙◌, ap, subst, arith}
+use Rattle.std.proofs.Common.{◌≡◌, ℕ, suc, ◌+◌, ◌≤◌, ◌<◌, Bool, true, false, List, [], ◌∷◌, length, refl, sym, ap, subst, arith}
 use Rattle.std.proofs.lemmas.List.{length-map}
 use Rattle.cps_lex.specs.declared.types.Token.{Token}
 use Rattle.cps_textproto.specs.declared.symbol.Symbol.{Symbol}
@@ -105,10 +105,11 @@ fields_below (scalar v s more) k count within =
     let last = past_scalar v (suc (suc k)) in
     let next = past_separator s last in
     let later = fields_forward more next in
-    let behind = separator_forward s last in
-    ( omega (arith, within, later, behind, scalar_forward v (suc (suc k))),
+    let behind = separator_forward s last in (
+      omega (arith, within, later, behind, scalar_forward v (suc (suc k))),
       scalar_below v (suc (suc k)) count no_values (omega (arith, within, later, behind)) tt,
-      fields_below more next count within )
+      fields_below more next count within,
+    )
 fields_below (scalars v vs s more) k count within =
     let first = suc (suc (suc k)) in
     let others = past_scalar v first in
@@ -116,28 +117,33 @@ fields_below (scalars v vs s more) k count within =
     let next = past_separator s last in
     let later = fields_forward more next in
     let behind = separator_forward s last in
-    let forward = others_forward vs others in
-    ( omega (arith, within, later, behind, forward, scalar_forward v first),
+    let forward = others_forward vs others in (
+      omega (arith, within, later, behind, forward, scalar_forward v first),
       scalar_below v first count _ (omega (arith, within, later, behind, forward)) (others_below vs others count (omega (arith, within, later, behind))),
-      fields_below more next count within )
+      fields_below more next count within,
+    )
 fields_below (nothing c s more) k count within =
     let last = suc (suc (past_colon c (suc k))) in
-    let next = past_separator s last in
-    ( omega (arith, within, fields_forward more next, separator_forward s last, colon_forward c (suc k)),
+    let next = past_separator s last in (
+      omega (arith, within, fields_forward more next, separator_forward s last, colon_forward c (suc k)),
       tt,
-      fields_below more next count within )
+      fields_below more next count within,
+    )
 fields_below (message c inner s more) k count within =
     let opening = past_colon c (suc k) in
     let last = suc (past_fields inner (suc opening)) in
     let next = past_separator s last in
     let later = fields_forward more next in
     let behind = separator_forward s last in
-    let inside = fields_forward inner (suc opening) in
-    ( omega (arith, within, later, behind, inside, colon_forward c (suc k)),
-      ( omega (arith, within, later, behind, inside),
+    let inside = fields_forward inner (suc opening) in (
+      omega (arith, within, later, behind, inside, colon_forward c (suc k)),
+      (
+        omega (arith, within, later, behind, inside),
         fields_below inner (suc opening) count (omega (arith, within, later, behind)),
-        tt ),
-      fields_below more next count within )
+        tt,
+      ),
+      fields_below more next count within,
+    )
 
 numbers_below : (s : List Symbol) (tree : Tree) → HasTree s tree → NumbersBelow (length s) tree
 numbers_below s tree (fs, document, is) =

@@ -6,7 +6,7 @@ ghost use Rattle.cps_textproto.specs.Trees.{Tree, NumbersBelow, tree_of};
 ghost use Rattle.cps_textproto.specs.Reading.{HasTree, IsRefusal, Gives};
 ghost use Rattle.cps_textproto.specs.Building.{Ends, build_of, empty_build};
 
-use super::builder::{Builder, act, deed_of, node_of};
+use super::builder::{Builder, act, action_of, node_of};
 use super::machine::{DEPTH, Mode, State, is_done, step};
 use super::symbol::symbol_of;
 use super::tree::Node;
@@ -90,7 +90,7 @@ fn built(alloc: Global, bytes: &[u8], tokens: &[Token]) -> Result<Builder, TextE
         let Some(next) = step(state, symbol) else {
             return Err(TextError::NotADocument { token: i });
         };
-        act(&mut builder, alloc, deed_of(state.mode, symbol), i as u32)?;
+        act(&mut builder, alloc, action_of(state.mode, symbol), i as u32)?;
         state = next;
     }
     if is_done(state) {
