@@ -9,6 +9,7 @@ use Rattle.cps_model.specs.declared.bound.Bound.TheVariants.{At, Infinite}
 use Rattle.cps_model.specs.declared.status.Status.{Status}
 use Rattle.cps_model.specs.declared.status.Status.TheVariants.{Optimal, Feasible, Infeasible, Unknown}
 use Rattle.cps_model.specs.Values.{sum_of}
+use Rattle.cps_model.specs.Solutions.{shown_value}
 use Rattle.cps_model.specs.Ready.{is_ready_objective}
 use Rattle.cps_print.specs.declared.response.Response.{Response}
 
@@ -35,10 +36,6 @@ shown_lower Optimal lower = lower
 shown_lower Feasible lower = lower
 shown_lower Infeasible lower = Infinite
 shown_lower Unknown lower = lower
-
--- an objective's sum as it is shown
-abbrev pub shown_value : Objective → ℤ → ℤ
-shown_value o sum = o.scaling *ℤ (sum +ℤ o.offset)
 
 abbrev pub solution_line : ℤ → List ℕ
 solution_line value = line_of (codes "solution") (signed_decimal value)

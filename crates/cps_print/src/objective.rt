@@ -4,7 +4,8 @@ ghost use Rattle.std.specs.List.{list_all};
 ghost use Rattle.cps_model.specs.Values.{reference_value, sum_of};
 ghost use Rattle.cps_model.specs.Reach.{weight_of};
 ghost use Rattle.cps_model.specs.Rules.{names};
-ghost use Rattle.cps_print.specs.Responses.{shown_value, HasLimits};
+ghost use Rattle.cps_model.specs.Solutions.{shown_value};
+ghost use Rattle.cps_print.specs.Responses.{HasLimits};
 
 use cps_model::{Objective, variable_of};
 

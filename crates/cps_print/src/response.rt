@@ -3,7 +3,7 @@ ghost use Rattle.std.specs.Prelude.{◌≡◌, ◌++◌, ◌<◌, ◌^◌, IsTru
 ghost use Rattle.std.specs.List.{flat_map};
 ghost use Rattle.std.specs.Fmt.{signed_decimal};
 ghost use Rattle.cps_model.specs.Ready.{is_ready_objective};
-ghost use Rattle.cps_print.specs.Responses.{status_name, line_of, solution_line, solution_lines, shown_solution, shown_lower, shown_value, value_lines, bound_lines, objective_lines, answer_lines, response_text, HasLimits, IsShowable, IsSummable, IsSolved, IsSmallBound, IsBounded};
+ghost use Rattle.cps_print.specs.Responses.{status_name, line_of, solution_line, solution_lines, shown_solution, shown_lower, value_lines, bound_lines, objective_lines, answer_lines, response_text, HasLimits, IsShowable, IsSummable, IsSolved, IsSmallBound, IsBounded};
 
 use crate::layout::put_number;
 use crate::objective::{shown_value, sum_of};

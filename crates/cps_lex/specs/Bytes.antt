@@ -1,0 +1,39 @@
+-- What a byte is.
+use Rattle.std.specs.Prelude.{ℕ, Bool, ◌==◌, ◌||◌, ◌&&◌, nat_le, not, if◌then◌else◌}
+use Rattle.std.specs.Char.{is_ascii_alphabetic, is_ascii_alphanumeric, is_ascii_digit}
+
+-- space, tab, line feed, vertical tab, form feed, carriage return
+unfoldable pub is_space : ℕ → Bool
+is_space b = b == 32 || (nat_le 9 b && nat_le b 13)
+
+-- a letter or `_`
+unfoldable pub is_word_start : ℕ → Bool
+is_word_start b = is_ascii_alphabetic b || b == 95
+
+-- a letter, a digit or `_`
+unfoldable pub is_word : ℕ → Bool
+is_word b = is_ascii_alphanumeric b || b == 95
+
+unfoldable pub is_digit : ℕ → Bool
+is_digit b = is_ascii_digit b
+
+-- one of `, - : ; < > [ ] { }`
+unfoldable pub is_sign : ℕ → Bool
+is_sign b =
+    b == 44 || b == 45 || b == 58 || b == 59 || b == 60 || b == 62 || b == 91 || b == 93 || b == 123 || b == 125
+
+-- what a number may begin with
+abbrev pub is_number_start : ℕ → Bool
+is_number_start b = is_digit b
+
+-- a letter, a digit, `_` or `.`: a number that it follows is none
+abbrev pub is_number_part : ℕ → Bool
+is_number_part b = is_word b || b == 46
+
+-- the byte belongs to white space or to a comment; inside: a comment is open before it
+abbrev pub is_blank : Bool → ℕ → Bool
+is_blank inside b = (inside || b == 35) || is_space b
+
+-- a comment is open behind this blank byte: it ends with its line
+abbrev pub opens_comment : Bool → ℕ → Bool
+opens_comment inside b = if inside then not (b == 10) else b == 35

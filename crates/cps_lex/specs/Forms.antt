@@ -1,0 +1,48 @@
+-- How each kind of token is written.
+use Rattle.std.specs.Prelude.{ℕ, Bool, true, false, ◌==◌, ◌&&◌, not, if◌then◌else◌, List, [], ◌∷◌, Option, Some, None}
+use Rattle.std.specs.List.{list_all}
+use Rattle.cps_lex.specs.declared.types.TokenKind.{TokenKind}
+use Rattle.cps_lex.specs.declared.types.TokenKind.TheVariants.{Identifier, Decimal, Sign}
+use Rattle.cps_lex.specs.Bytes.{is_word_start, is_word, is_digit, is_sign, is_number_part}
+
+abbrev pub is_nothing : List ℕ → Bool
+is_nothing [] = true
+is_nothing (b ∷ bs) = false
+
+-- a letter or `_`, then letters, digits, `_`
+abbrev pub is_identifier : List ℕ → Bool
+is_identifier [] = false
+is_identifier (b ∷ bs) = is_word_start b && list_all is_word bs
+
+-- `0`, or a digit from 1 to 9 and further digits
+abbrev pub is_decimal : List ℕ → Bool
+is_decimal [] = false
+is_decimal (b ∷ bs) = is_digit b && (if b == 48 then is_nothing bs else list_all is_digit bs)
+
+-- the kind of number that the whole text is
+abbrev pub number_kind : List ℕ → Option TokenKind
+number_kind text =
+    if is_decimal text then Some Decimal
+    else None
+
+abbrev pub is_one_sign : List ℕ → Bool
+is_one_sign [] = false
+is_one_sign (b ∷ bs) = is_sign b && is_nothing bs
+
+-- the kind of token that the whole text is. No text is of two kinds.
+abbrev pub kind_of : List ℕ → Option TokenKind
+kind_of text =
+    if is_identifier text then Some Identifier
+    else (if is_one_sign text then Some Sign
+    else number_kind text)
+
+-- a letter, a digit, `_` or `.` is next
+abbrev pub goes_on : List ℕ → Bool
+goes_on [] = false
+goes_on (b ∷ bs) = is_number_part b
+
+-- a number ends only where none of these is next
+abbrev pub may_end : TokenKind → List ℕ → Bool
+may_end Identifier after = true
+may_end Decimal after = not (goes_on after)
+may_end Sign after = true

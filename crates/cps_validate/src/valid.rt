@@ -1,0 +1,119 @@
+//! A model that keeps every rule.
+ghost use Rattle.std.specs.Prelude.{◌≡◌, ◌≤◌, ◌<◌, ◌^◌, IfOk, IfErr, length};
+ghost use Rattle.cps_model.specs.Validity.{most_items, variable_fault, constraint_fault, assumption_fault, first_faulty, first_invalid, IsValid};
+ghost use Rattle.cps_validate.specs.Refusals.{IsRefusalOf};
+
+use crate::places::{assumption_fault, constraint_fault, objective_fault, variable_fault};
+use crate::size::size_fault;
+use cps_model::{Constraint, CpModel, Place, Variable};
+use std::alloc::Global;
+use std::marker::Model;
+use thiserror::Error;
+
+/// A model that keeps every rule. Contracts see it as the model that it keeps.
+#[derive(Debug, Drop)]
+pub struct ValidModel {
+    model: CpModel,
+}
+
+impl Model for ValidModel {
+    ghost use Rattle.cps_model.specs.declared.model.CpModel.{CpModel};
+    ghost use Rattle.cps_model.specs.Validity.{IsValid};
+
+    ghost Value = { CpModel };
+
+    ghost view = { λ v. v.model };
+
+    ghost invariant = { λ v. IsValid v.model };
+}
+
+impl ValidModel {
+    /// The model, of which the caller learns here that it keeps every rule.
+    pub fn model(&self) -> &CpModel
+        ensures same { result.now ≡ self.now }
+        ensures valid { IsValid result.now }
+    {
+        &self.model
+    }
+}
+
+/// Why a model is refused.
+#[derive(Debug, Drop, Error)]
+pub enum ValidateError {
+    /// The rule that is broken first, by number, and the place where it is broken.
+    #[error("rule {rule} is broken")]
+    Invalid { rule: u8, place: Place },
+    #[error("out of memory")]
+    OutOfMemory,
+}
+
+/// The first variable that breaks a rule.
+fn variables_fault(variables: &[Variable]) -> Option<(u8, Place)>
+    requires { length variables.now ≤ most_items }
+    ensures { result ≡ first_faulty variable_fault Place.Variable 0 variables.now }
+{
+    for (i, variable) in variables.iter().enumerate() {
+        if let Some(rule) = variable_fault(variable) {
+            return Some((rule, Place::Variable(i as u32)));
+        }
+    }
+    None
+}
+
+/// The first constraint that breaks a rule.
+fn constraints_fault(variables: &[Variable], constraints: &[Constraint]) -> Option<(u8, Place)>
+    requires { length constraints.now ≤ most_items }
+    ensures { result ≡ first_faulty (constraint_fault variables.now constraints.now) Place.Constraint 0 constraints.now }
+{
+    for (i, constraint) in constraints.iter().enumerate() {
+        if let Some(rule) = constraint_fault(variables, constraints, constraint) {
+            return Some((rule, Place::Constraint(i as u32)));
+        }
+    }
+    None
+}
+
+/// The first assumption that breaks a rule.
+fn assumptions_fault(variables: &[Variable], assumptions: &[i32]) -> Option<(u8, Place)>
+    requires { length assumptions.now < 2 ^ 32 }
+    ensures { result ≡ first_faulty (assumption_fault variables.now) Place.Assumption 0 assumptions.now }
+{
+    for (i, literal) in assumptions.iter().enumerate() {
+        if let Some(rule) = assumption_fault(variables, *literal) {
+            return Some((rule, Place::Assumption(i as u32)));
+        }
+    }
+    None
+}
+
+/// The rule that is broken first, with its place.
+fn first_invalid(model: &CpModel) -> Option<(u8, Place)>
+    ensures { result ≡ first_invalid model.now }
+{
+    if let Some(rule) = size_fault(model) {
+        return Some((rule, Place::Model));
+    }
+    let variables = model.variables.as_slice();
+    if let Some(fault) = variables_fault(variables) {
+        return Some(fault);
+    }
+    if let Some(fault) = constraints_fault(variables, model.constraints.as_slice()) {
+        return Some(fault);
+    }
+    if let Some(rule) = objective_fault(variables, &model.objective) {
+        return Some((rule, Place::Objective));
+    }
+    assumptions_fault(variables, model.assumptions.as_slice())
+}
+
+/// Keeps a model that breaks no rule, and refuses every other, with the rule that is broken first. A refused model is
+/// given up. `OutOfMemory` comes where memory runs out.
+pub fn validate(_alloc: Global, model: CpModel) -> Result<ValidModel, ValidateError>
+    ensures ok { IfOk result (λ v. (v ≡ model) × IsValid model) }
+    ensures err { IfErr result (λ e. IsRefusalOf e model) }
+{
+    match first_invalid(&model) {
+        None => Ok(ValidModel { model }),
+        Some((rule, place)) => Err(ValidateError::Invalid { rule, place }),
+    }
+}
