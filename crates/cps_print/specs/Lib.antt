@@ -1,0 +1,6 @@
+pub mod Quoting
+pub mod Layout
+pub mod Fields
+pub mod Models
+pub mod Responses
+pub mod Faults
