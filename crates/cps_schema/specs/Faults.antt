@@ -1,45 +1,14 @@
 -- Which field of a document is refused, why, and at which token.
-use Rattle.std.specs.Prelude.{◌≡◌, ℕ, ◌+◌, Bool, true, false, ◌&&◌, not, if◌then◌else◌, List, [], ◌∷◌, Option, Some, None, ℤ, pos, negsuc, int_le, codes}
+use Rattle.std.specs.Prelude.{◌≡◌, ℕ, ◌+◌, Bool, true, false, ◌&&◌, not, if◌then◌else◌, List, [], ◌∷◌, Option, Some, None, codes}
 use Rattle.std.specs.Option.{option_or, option_map}
 use Rattle.std.specs.List.{list_any}
 use Rattle.std.specs.Str.{bytes_eq}
-use Rattle.cps_lex.specs.declared.types.TokenKind.{TokenKind}
-use Rattle.cps_lex.specs.declared.types.TokenKind.TheVariants.{Identifier, Decimal, Sign}
 use Rattle.cps_textproto.specs.Trees.{Tree, no_fields, field, Values, no_values, scalar_value, message_value}
 use Rattle.cps_model.specs.declared.fault.FaultName.{FaultName}
-use Rattle.cps_model.specs.declared.fault.FaultName.TheVariants.{UnknownField, Unsupported, Repeated, TwoKinds, WrongKind, OutOfRange, NotWhole}
-use Rattle.cps_schema.specs.Written.{Written, token_text, token_kind, number_at, unsigned_token}
-use Rattle.cps_schema.specs.Tables.{Number, i64, i32, exact, Message, model_message, Content, number, message, Use, single, repeated, one_kind, untaken, use_of, content_of}
-
-abbrev pub least : Number → ℤ
-least i64 = negsuc 9223372036854775807
-least i32 = negsuc 2147483647
-least exact = negsuc 9007199254740991
-
-abbrev pub greatest : Number → ℤ
-greatest i64 = pos 9223372036854775807
-greatest i32 = pos 2147483647
-greatest exact = pos 9007199254740992
-
-unfoldable pub fits : Number → ℤ → Bool
-fits type z = int_le (least type) z && int_le z (greatest type)
-
--- what is wrong with a number that does not fit
-abbrev pub misfit : Number → FaultName
-misfit i64 = OutOfRange
-misfit i32 = OutOfRange
-misfit exact = NotWhole
-
--- what is wrong with a scalar of this kind of token as a number. An exact number may be written as a word, such as
--- `inf`, which is none.
-abbrev pub kind_fault : Number → Bool → Option TokenKind → Option FaultName
-kind_fault type fit (Some Decimal) = if fit then None else Some (misfit type)
-kind_fault exact fit (Some Identifier) = Some NotWhole
-kind_fault type fit other = Some WrongKind
-
--- what is wrong with the scalar that begins at this token as a number of this type
-unfoldable pub number_fault : Written → Number → ℕ → Option FaultName
-number_fault w type first = kind_fault type (fits type (number_at w first)) (token_kind w (unsigned_token w first))
+use Rattle.cps_model.specs.declared.fault.FaultName.TheVariants.{UnknownField, Unsupported, Repeated, TwoKinds, WrongKind}
+use Rattle.cps_schema.specs.Written.{Written, token_text}
+use Rattle.cps_schema.specs.Numbers.{number_fault}
+use Rattle.cps_schema.specs.Tables.{Message, model_message, Content, number, message, Use, single, repeated, one_kind, untaken, use_of, content_of}
 
 -- with the token at which it is refused
 abbrev pub refused_at : ℕ → Option FaultName → Option (FaultName × ℕ)

@@ -1,4 +1,6 @@
 pub mod Written
+pub mod Sources
+pub mod Numbers
 pub mod Tables
 pub mod Faults
 pub mod Readings

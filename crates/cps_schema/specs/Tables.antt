@@ -1,13 +1,8 @@
 -- The messages of a model, and what each of their fields takes.
 use Rattle.std.specs.Prelude.{ℕ, if◌then◌else◌, List, [], ◌∷◌, Option, Some, None, codes}
 use Rattle.std.specs.Str.{bytes_eq}
-
--- the types of numbers
-pub data Number : Type 0 where
-  i64 : Number
-  i32 : Number
-  -- a whole number of magnitude at most 2 ^ 53, up to which a float counts by ones
-  exact : Number
+use Rattle.cps_schema.specs.declared.number.Number.{Number}
+use Rattle.cps_schema.specs.declared.number.Number.TheVariants.{Int64, Int32, Exact}
 
 -- the messages whose fields are read
 pub data Message : Type 0 where
@@ -51,13 +46,13 @@ model_table =
 
 abbrev pub variable_table : Table
 variable_table =
-    (codes "domain", repeated (number i64))
+    (codes "domain", repeated (number Int64))
     ∷ (codes "name", untaken)
     ∷ []
 
 abbrev pub constraint_table : Table
 constraint_table =
-    (codes "enforcement_literal", repeated (number i32))
+    (codes "enforcement_literal", repeated (number Int32))
     ∷ (codes "bool_or", one_kind literals_message)
     ∷ (codes "linear", one_kind linear_message)
     ∷ (codes "name", untaken)
@@ -86,23 +81,23 @@ constraint_table =
 
 abbrev pub literals_table : Table
 literals_table =
-    (codes "literals", repeated (number i32))
+    (codes "literals", repeated (number Int32))
     ∷ []
 
 abbrev pub linear_table : Table
 linear_table =
-    (codes "vars", repeated (number i32))
-    ∷ (codes "coeffs", repeated (number i64))
-    ∷ (codes "domain", repeated (number i64))
+    (codes "vars", repeated (number Int32))
+    ∷ (codes "coeffs", repeated (number Int64))
+    ∷ (codes "domain", repeated (number Int64))
     ∷ []
 
 abbrev pub objective_table : Table
 objective_table =
-    (codes "vars", repeated (number i32))
-    ∷ (codes "coeffs", repeated (number i64))
-    ∷ (codes "offset", single (number exact))
-    ∷ (codes "scaling_factor", single (number exact))
-    ∷ (codes "domain", repeated (number i64))
+    (codes "vars", repeated (number Int32))
+    ∷ (codes "coeffs", repeated (number Int64))
+    ∷ (codes "offset", single (number Exact))
+    ∷ (codes "scaling_factor", single (number Exact))
+    ∷ (codes "domain", repeated (number Int64))
     ∷ (codes "scaling_was_exact", untaken)
     ∷ (codes "integer_before_offset", untaken)
     ∷ (codes "integer_after_offset", untaken)

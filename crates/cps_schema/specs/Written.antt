@@ -32,13 +32,17 @@ unfoldable pub is_negative : Written → ℕ → Bool
 is_negative w first = bytes_eq (token_text w first) (codes "-")
 
 -- the token of its number or word, behind the `-` where it has one
-unfoldable pub unsigned_token : Written → ℕ → ℕ
+abbrev pub unsigned_token : Written → ℕ → ℕ
 unsigned_token w first = if is_negative w first then first + 1 else first
 
 -- the size of the number, without its sign
 unfoldable pub magnitude : Written → ℕ → ℕ
 magnitude w first = decimal_value (token_text w (unsigned_token w first))
 
+-- the number of a size, below 0 or from 0 on
+abbrev pub signed_value : Bool → ℕ → ℤ
+signed_value negative size = if negative then neg_ℤ (pos size) else pos size
+
 -- the number that the scalar is worth
 unfoldable pub number_at : Written → ℕ → ℤ
-number_at w first = if is_negative w first then neg_ℤ (pos (magnitude w first)) else pos (magnitude w first)
+number_at w first = signed_value (is_negative w first) (magnitude w first)

@@ -10,6 +10,8 @@
 #![tactic(auto)]
 
 mod error;
+mod number;
+mod source;
 
 pub use cps_model::FaultName;
 pub use error::SchemaError;
