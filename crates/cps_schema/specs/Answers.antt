@@ -8,6 +8,11 @@ use Rattle.cps_schema.specs.declared.error.SchemaError.TheVariants.{Fault, OutOf
 use Rattle.cps_schema.specs.Written.{Written}
 use Rattle.cps_schema.specs.Faults.{FirstFault}
 
+-- a refusal is this fault, unless memory ran out
+abbrev pub Refuses : Option (FaultName × ℕ) → SchemaError → Type 0
+Refuses fault (Fault name token) = fault ≡ Some (name, token)
+Refuses fault OutOfMemory = Unit {0}
+
 -- a refusal is the document's first fault, unless memory ran out
 abbrev pub IsRefusal : Written → Tree → SchemaError → Type 0
 IsRefusal w tree (Fault name token) = FirstFault w tree name token

@@ -10,6 +10,7 @@
 #![tactic(auto)]
 
 mod error;
+mod lists;
 mod number;
 mod source;
 
