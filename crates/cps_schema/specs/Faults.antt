@@ -8,7 +8,7 @@ use Rattle.cps_model.specs.declared.fault.FaultName.{FaultName}
 use Rattle.cps_model.specs.declared.fault.FaultName.TheVariants.{UnknownField, Unsupported, Repeated, TwoKinds, WrongKind}
 use Rattle.cps_schema.specs.Written.{Written, token_text}
 use Rattle.cps_schema.specs.Numbers.{number_fault}
-use Rattle.cps_schema.specs.Tables.{Message, model_message, Content, number, message, Use, single, repeated, one_kind, untaken, use_of, content_of}
+use Rattle.cps_schema.specs.Tables.{Message, model_message, Content, number, message, Use, single, repeated, one_kind, unread, is_given, use_of, content_of}
 
 -- with the token at which it is refused
 abbrev pub refused_at : ℕ → Option FaultName → Option (FaultName × ℕ)
@@ -27,16 +27,12 @@ message_fault None first inner = None
 message_fault (Some (number type)) first inner = Some (WrongKind, first)
 message_fault (Some (message m)) first inner = inner m
 
--- the name is one of these
-unfoldable pub is_given : List (List ℕ) → List ℕ → Bool
-is_given names name = list_any (bytes_eq name) names
-
 abbrev pub is_kind : Option Use → Bool
 is_kind None = false
 is_kind (Some (single content)) = false
 is_kind (Some (repeated content)) = false
 is_kind (Some (one_kind m)) = true
-is_kind (Some untaken) = false
+is_kind (Some unread) = false
 
 -- one of the names is that of a kind
 unfoldable pub has_kind : Message → List (List ℕ) → Bool
@@ -45,7 +41,7 @@ has_kind m names = list_any (λ name. is_kind (use_of m name)) names
 -- what is wrong with a field's name, given the names of the fields before it in the same message
 abbrev pub name_fault : Message → List (List ℕ) → List ℕ → Option Use → Option FaultName
 name_fault m before name None = Some UnknownField
-name_fault m before name (Some untaken) = Some Unsupported
+name_fault m before name (Some unread) = Some Unsupported
 name_fault m before name (Some (repeated content)) = None
 name_fault m before name (Some (single content)) = if is_given before name then Some Repeated else None
 name_fault m before name (Some (one_kind k)) =
@@ -68,12 +64,15 @@ unfoldable pub bracket : Written → ℕ → ℕ
 bracket w name = if bytes_eq (token_text w (name + 1)) (codes ":") then name + 2 else name + 1
 
 -- a list where one value is taken
+abbrev pub alone_fault : Written → ℕ → Bool → Option (FaultName × ℕ)
+alone_fault w name alone = if alone then None else Some (WrongKind, bracket w name)
+
 abbrev pub list_fault : Written → Option Use → ℕ → Bool → Option (FaultName × ℕ)
 list_fault w None name alone = None
-list_fault w (Some (single content)) name alone = if alone then None else Some (WrongKind, bracket w name)
+list_fault w (Some (single content)) name alone = alone_fault w name alone
 list_fault w (Some (repeated content)) name alone = None
-list_fault w (Some (one_kind m)) name alone = if alone then None else Some (WrongKind, bracket w name)
-list_fault w (Some untaken) name alone = None
+list_fault w (Some (one_kind m)) name alone = alone_fault w name alone
+list_fault w (Some unread) name alone = None
 
 -- what is wrong with a field, its values apart
 abbrev pub field_fault : Written → Message → List (List ℕ) → ℕ → Bool → Values → Option (FaultName × ℕ)

@@ -5,3 +5,4 @@ pub mod Tables
 pub mod Faults
 pub mod Readings
 pub mod Answers
+pub mod Values

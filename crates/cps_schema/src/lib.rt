@@ -11,7 +11,9 @@
 
 mod error;
 mod lists;
+mod names;
 mod number;
+mod single;
 mod source;
 
 pub use cps_model::FaultName;

@@ -103,6 +103,27 @@ pub(crate) fn number_at(source: &Source, number: Number, first: u32) -> Result<i
     }
 }
 
+/// The number as one of 32 bits.
+#[tactic(auto, unfolding(crate::specs::Numbers::fits))]
+fn narrow(value: i64) -> i32
+    requires { IsTrue (fits Number.Int32 value) }
+    ensures { result ≡ value }
+{
+    value as i32
+}
+
+/// The number of 32 bits that the scalar at token `first` is worth.
+pub(crate) fn int32_at(source: &Source, first: u32) -> Result<i32, FaultName>
+    ensures fault { IfOk result (λ _. number_fault (written_of source.now) Number.Int32 first ≡ None) }
+    ensures value { IfOk result (λ z. z ≡ number_at (written_of source.now) first) }
+    ensures err { IfErr result (λ name. number_fault (written_of source.now) Number.Int32 first ≡ Some name) }
+{
+    match number_at(source, Number::Int32, first) {
+        Ok(value) => Ok(narrow(value)),
+        Err(name) => Err(name),
+    }
+}
+
 /// What is wrong with a number outside the type.
 fn misfit(number: Number) -> FaultName
     ensures { result ≡ misfit number }
