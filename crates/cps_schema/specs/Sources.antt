@@ -1,5 +1,6 @@
 -- What the code holds of a document, seen as what is written, and what it asks of one field.
-use Rattle.std.specs.Prelude.{ℕ, Option, Some}
+use Rattle.std.specs.Prelude.{ℕ, List, map, Option, Some}
+use denote.Ref.{Bor}
 use Rattle.std.specs.Option.{option_or}
 use Rattle.cps_textproto.specs.declared.tree.Field.{Field}
 use Rattle.cps_textproto.specs.Trees.{values_of}
