@@ -6,3 +6,4 @@ pub mod Faults
 pub mod Readings
 pub mod Answers
 pub mod Values
+pub mod Steps

@@ -15,6 +15,7 @@ mod names;
 mod number;
 mod single;
 mod source;
+mod variable;
 
 pub use cps_model::FaultName;
 pub use error::SchemaError;
