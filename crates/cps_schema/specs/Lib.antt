@@ -7,3 +7,4 @@ pub mod Readings
 pub mod Answers
 pub mod Values
 pub mod Steps
+pub mod Parts

@@ -10,7 +10,9 @@
 #![tactic(auto)]
 
 mod error;
+mod linear;
 mod lists;
+mod literals;
 mod names;
 mod number;
 mod single;
