@@ -15,6 +15,7 @@ mod lists;
 mod literals;
 mod names;
 mod number;
+mod objective;
 mod single;
 mod source;
 mod variable;
