@@ -1,3 +1,4 @@
 pub mod Decimals
 pub mod Values
 pub mod Steps
+pub mod Objectives

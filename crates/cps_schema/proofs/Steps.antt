@@ -1,7 +1,7 @@
 -- What a field of each use does to the first fault of a message.
 use Rattle.std.specs.Str.{bytes_eq}
 use Rattle.std.specs.Option.{option_or}
-use Rattle.std.proofs.Common.{◌≡◌, ℕ, List, ◌∷◌, Bool, true, false, Option, Some, None, Result, Ok, Err, if◌then◌else◌, OnOk, IfOk, IfErr, nat_eq, refl, sym, ◌∙◌}
+use Rattle.std.proofs.Common.{◌≡◌, ℕ, List, ◌∷◌, ◌||◌, Bool, true, false, Option, Some, None, Result, Ok, Err, if◌then◌else◌, OnOk, IfOk, IfErr, nat_eq, refl, sym, ◌∙◌}
 use Rattle.std.specs.Cmp.Lexicographic.{pointwise}
 use Rattle.std.proofs.lemmas.Slice.Eq.{bytes_eq-Decides}
 use Rattle.cps_textproto.specs.declared.tree.Field.{Field}
@@ -111,3 +111,22 @@ pub second_kind : (w : Written) (m : Message) (before : List (List ℕ)) (f : Fi
     use_of m (token_text w f.name) ≡ Some (one_kind k) → is_given before (token_text w f.name) ≡ false → has_kind m before ≡ true →
     Stops w m before f (Fault TwoKinds f.name)
 second_kind w m before f k takes first second rest = rw (takes, first, second) refl
+
+-- one name more
+pub next_given : (name given : List ℕ) (before : List (List ℕ)) → is_given (given ∷ before) name ≡ (bytes_eq name given || is_given before name)
+unfolding is_given
+next_given name given before = refl
+
+-- with a fact about the names before that the field keeps
+pub if_passes : (w : Written) (m : Message) (f : Field) (G H : List (List ℕ) → Type 0) (r : Result (Unit {0}) SchemaError) →
+    OnOk r ((before : List (List ℕ)) → Passes w m before f) →
+    ((before : List (List ℕ)) → G before → H (token_text w f.name ∷ before)) →
+    OnOk r ((before : List (List ℕ)) → G before → Passes w m before f × H (token_text w f.name ∷ before))
+if_passes w m f G H (Ok x) passes kept = λ before given. (passes before, kept before given)
+if_passes w m f G H (Err e) passes kept = passes
+
+pub if_stops : (w : Written) (m : Message) (f : Field) (G : List (List ℕ) → Type 0) (r : Result (Unit {0}) SchemaError) →
+    IfErr r (λ e. (before : List (List ℕ)) → Stops w m before f e) →
+    IfErr r (λ e. (before : List (List ℕ)) → G before → Stops w m before f e)
+if_stops w m f G (Ok x) stops = stops
+if_stops w m f G (Err e) stops = λ before given. stops before

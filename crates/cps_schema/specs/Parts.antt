@@ -1,5 +1,5 @@
 -- What the parts that were read so far and further fields give together.
-use Rattle.std.specs.Prelude.{◌≡◌, ◌++◌, ℕ, List, is_some, pos, codes}
+use Rattle.std.specs.Prelude.{◌≡◌, ◌++◌, ℕ, List, Option, is_some, ℤ, pos, codes}
 use Rattle.std.specs.Option.{option_to_list}
 use Rattle.cps_textproto.specs.Trees.{Tree}
 use Rattle.cps_model.specs.declared.model.Objective.{Objective}
@@ -27,6 +27,6 @@ objective_from w parts rest = record {
 }
 
 -- the single fields that were read are those with one of these names
-pub record IsGiven (parts : ObjectiveParts) (before : List (List ℕ)) : Type 0 where
-  pub offset : is_given before (codes "offset") ≡ is_some parts.offset
-  pub scaling : is_given before (codes "scaling_factor") ≡ is_some parts.scaling
+pub record IsGiven (offset scaling : Option ℤ) (before : List (List ℕ)) : Type 0 where
+  pub offset_given : is_given before (codes "offset") ≡ is_some offset
+  pub scaling_given : is_given before (codes "scaling_factor") ≡ is_some scaling
