@@ -2,3 +2,4 @@ pub mod Decimals
 pub mod Values
 pub mod Steps
 pub mod Objectives
+pub mod GivenKinds

@@ -20,6 +20,10 @@ use Rattle.cps_schema.specs.Steps.{Passes, Stops, field_then}
 pub same_text : (a b : List ℕ) (r : Bool) → r ≡ pointwise nat_eq a b → r ≡ true → a ≡ b
 same_text a b r e t = (bytes_eq-Decides a b).0 (sym e ∙ t)
 
+-- and one that came out false, of texts that are other names of these
+pub other_text : (a b text name : List ℕ) (r : Bool) → r ≡ pointwise nat_eq a b → r ≡ false → a ≡ text → b ≡ name → bytes_eq text name ≡ false
+other_text a b text name r e t s n = rw (← s, ← n) (sym e ∙ t)
+
 -- what a field takes whose name is in its message's table
 pub table_use : (m : Message) (text name : List ℕ) (takes : Use) → text ≡ name → use_in (table_of m) name ≡ Some takes → use_of m text ≡ Some takes
 unfolding use_of
@@ -130,3 +134,13 @@ pub if_stops : (w : Written) (m : Message) (f : Field) (G : List (List ℕ) → 
     IfErr r (λ e. (before : List (List ℕ)) → G before → Stops w m before f e)
 if_stops w m f G (Ok x) stops = stops
 if_stops w m f G (Err e) stops = λ before given. stops before
+
+-- the message of a field of the first kind
+pub first_kind_stops : {T : Type 0} (w : Written) (f : Field) (same given : Bool) (r : Result T SchemaError) →
+    same ≡ false → given ≡ false →
+    IfErr r (λ e. (k : Message) → Refuses (single_fault w (message k) f) e) →
+    IfErr r (λ e. (m k : Message) (before : List (List ℕ)) → use_of m (token_text w f.name) ≡ Some (one_kind k) →
+        is_given before (token_text w f.name) ≡ same → has_kind m before ≡ given → Stops w m before f e)
+first_kind_stops w f same given (Ok x) different first stops = stops
+first_kind_stops w f same given (Err e) different first stops = λ m k before takes again kinds.
+    kind_stops w m before f k takes (again ∙ different) (kinds ∙ first) e (stops k)

@@ -9,6 +9,7 @@
 //! Field names, types and their meaning are those of the public message definitions of CP-SAT models.
 #![tactic(auto)]
 
+mod constraint;
 mod error;
 mod linear;
 mod lists;
