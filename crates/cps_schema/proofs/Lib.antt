@@ -3,3 +3,4 @@ pub mod Values
 pub mod Steps
 pub mod Objectives
 pub mod GivenKinds
+pub mod ModelFields

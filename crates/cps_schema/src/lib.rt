@@ -14,6 +14,7 @@ mod error;
 mod linear;
 mod lists;
 mod literals;
+mod model;
 mod names;
 mod number;
 mod objective;
@@ -23,3 +24,4 @@ mod variable;
 
 pub use cps_model::FaultName;
 pub use error::SchemaError;
+pub use model::model_of;
