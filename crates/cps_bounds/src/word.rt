@@ -1,0 +1,34 @@
+//! A bound as a word.
+ghost use Rattle.std.specs.Prelude.{◌≡◌};
+ghost use Rattle.cps_bounds.specs.Words.{word_of, bound_of};
+
+use cps_model::Bound;
+
+/// The word that stands for a bound.
+pub fn word_of(bound: Bound) -> u64
+    ensures { result ≡ word_of bound }
+{
+    match bound {
+        Bound::At(value) => {
+            if value >= 0 {
+                value as u64 + (1 << 63)
+            } else {
+                (1 << 63) - 1 - (-(value + 1)) as u64
+            }
+        }
+        Bound::Infinite => u64::MAX,
+    }
+}
+
+/// The bound for which a word stands.
+pub fn bound_of(word: u64) -> Bound
+    ensures { result ≡ bound_of word }
+{
+    if word == u64::MAX {
+        Bound::Infinite
+    } else if word >= 1 << 63 {
+        Bound::At((word - (1 << 63)) as i64)
+    } else {
+        Bound::At(-(((1 << 63) - 1 - word) as i64) - 1)
+    }
+}
