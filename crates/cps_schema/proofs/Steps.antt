@@ -1,7 +1,7 @@
 -- What a field of each use does to the first fault of a message.
 use Rattle.std.specs.Str.{bytes_eq}
 use Rattle.std.specs.Option.{option_or}
-use Rattle.std.proofs.Common.{◌≡◌, ℕ, List, ◌∷◌, Bool, true, false, Option, Some, None, Result, Ok, Err, if◌then◌else◌, OnOk, IfOk, IfErr, nat_eq, refl, sym, ◌∙◌}
+use Rattle.std.proofs.Common.{◌≡◌, ℕ, List, ◌∷◌, ◌||◌, Bool, true, false, Option, Some, None, Result, Ok, Err, if◌then◌else◌, OnOk, IfOk, IfErr, nat_eq, refl, sym, ◌∙◌}
 use Rattle.std.specs.Cmp.Lexicographic.{pointwise}
 use Rattle.std.proofs.lemmas.Slice.Eq.{bytes_eq-Decides}
 use Rattle.cps_textproto.specs.declared.tree.Field.{Field}
@@ -19,6 +19,10 @@ use Rattle.cps_schema.specs.Steps.{Passes, Stops, field_then}
 -- a test of a name that came out true
 pub same_text : (a b : List ℕ) (r : Bool) → r ≡ pointwise nat_eq a b → r ≡ true → a ≡ b
 same_text a b r e t = (bytes_eq-Decides a b).0 (sym e ∙ t)
+
+-- and one that came out false, of texts that are other names of these
+pub other_text : (a b text name : List ℕ) (r : Bool) → r ≡ pointwise nat_eq a b → r ≡ false → a ≡ text → b ≡ name → bytes_eq text name ≡ false
+other_text a b text name r e t s n = rw (← s, ← n) (sym e ∙ t)
 
 -- what a field takes whose name is in its message's table
 pub table_use : (m : Message) (text name : List ℕ) (takes : Use) → text ≡ name → use_in (table_of m) name ≡ Some takes → use_of m text ≡ Some takes
@@ -111,3 +115,32 @@ pub second_kind : (w : Written) (m : Message) (before : List (List ℕ)) (f : Fi
     use_of m (token_text w f.name) ≡ Some (one_kind k) → is_given before (token_text w f.name) ≡ false → has_kind m before ≡ true →
     Stops w m before f (Fault TwoKinds f.name)
 second_kind w m before f k takes first second rest = rw (takes, first, second) refl
+
+-- one name more
+pub next_given : (name given : List ℕ) (before : List (List ℕ)) → is_given (given ∷ before) name ≡ (bytes_eq name given || is_given before name)
+unfolding is_given
+next_given name given before = refl
+
+-- with a fact about the names before that the field keeps
+pub if_passes : (w : Written) (m : Message) (f : Field) (G H : List (List ℕ) → Type 0) (r : Result (Unit {0}) SchemaError) →
+    OnOk r ((before : List (List ℕ)) → Passes w m before f) →
+    ((before : List (List ℕ)) → G before → H (token_text w f.name ∷ before)) →
+    OnOk r ((before : List (List ℕ)) → G before → Passes w m before f × H (token_text w f.name ∷ before))
+if_passes w m f G H (Ok x) passes kept = λ before given. (passes before, kept before given)
+if_passes w m f G H (Err e) passes kept = passes
+
+pub if_stops : (w : Written) (m : Message) (f : Field) (G : List (List ℕ) → Type 0) (r : Result (Unit {0}) SchemaError) →
+    IfErr r (λ e. (before : List (List ℕ)) → Stops w m before f e) →
+    IfErr r (λ e. (before : List (List ℕ)) → G before → Stops w m before f e)
+if_stops w m f G (Ok x) stops = stops
+if_stops w m f G (Err e) stops = λ before given. stops before
+
+-- the message of a field of the first kind
+pub first_kind_stops : {T : Type 0} (w : Written) (f : Field) (same given : Bool) (r : Result T SchemaError) →
+    same ≡ false → given ≡ false →
+    IfErr r (λ e. (k : Message) → Refuses (single_fault w (message k) f) e) →
+    IfErr r (λ e. (m k : Message) (before : List (List ℕ)) → use_of m (token_text w f.name) ≡ Some (one_kind k) →
+        is_given before (token_text w f.name) ≡ same → has_kind m before ≡ given → Stops w m before f e)
+first_kind_stops w f same given (Ok x) different first stops = stops
+first_kind_stops w f same given (Err e) different first stops = λ m k before takes again kinds.
+    kind_stops w m before f k takes (again ∙ different) (kinds ∙ first) e (stops k)

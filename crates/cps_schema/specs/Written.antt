@@ -46,3 +46,7 @@ signed_value negative size = if negative then neg_ℤ (pos size) else pos size
 -- the number that the scalar is worth
 unfoldable pub number_at : Written → ℕ → ℤ
 number_at w first = signed_value (is_negative w first) (magnitude w first)
+
+-- the document of bytes and their tokens
+abbrev pub written : List ℕ → List Token → Written
+written bytes tokens = record { bytes = bytes; tokens = tokens }

@@ -9,10 +9,12 @@
 //! Field names, types and their meaning are those of the public message definitions of CP-SAT models.
 #![tactic(auto)]
 
+mod constraint;
 mod error;
 mod linear;
 mod lists;
 mod literals;
+mod model;
 mod names;
 mod number;
 mod objective;
@@ -22,3 +24,4 @@ mod variable;
 
 pub use cps_model::FaultName;
 pub use error::SchemaError;
+pub use model::model_of;
