@@ -1,1 +1,4 @@
 pub mod Lines
+pub mod Digits
+pub mod Pieces
+pub mod Cuts

@@ -16,3 +16,6 @@ mod response;
 pub use fault::{Fault, fault_text};
 pub use model::model_text;
 pub use response::{Response, response_text};
+
+#[cfg(test)]
+mod tests;
