@@ -1,6 +1,6 @@
 -- How the normal form of a clause is made, one atom after another.
-use Rattle.std.proofs.Common.{ℕ, pos, zero, suc, ◌+◌, ◌-◌, ◌<◌, ◌≤◌, ℤ, ◌≤ℤ◌, ◌<ℤ◌, ◌≡◌, ◌≢◌, Bool, true, false, ◌&&◌, ◌||◌, ◌⊎◌, inl, inr, List, [], ◌∷◌, ◌++◌, length, get_or, take, refl, sym, ◌∙◌, ap, subst, true≢false, arith}
-use Rattle.std.specs.Prelude.{◌==◌, nat_lt, int_lt, All, Any, AllPairs, Contains}
+use Rattle.std.proofs.Common.{ℕ, pos, zero, suc, ◌+◌, ◌<◌, ◌≤◌, ℤ, ◌≤ℤ◌, ◌<ℤ◌, ◌≡◌, Bool, true, false, ◌&&◌, ◌||◌, ◌⊎◌, inl, inr, List, [], ◌∷◌, ◌++◌, length, get_or, take, refl, sym, ◌∙◌, ap, subst, true≢false, arith}
+use Rattle.std.specs.Prelude.{◌==◌, nat_lt, int_lt, All, Any, Contains}
 use Rattle.std.specs.List.{remove, refill}
 use Rattle.std.specs.List.Sorted.{IsSortedBy, IsPermutation}
 use Rattle.std.specs.Cmp.{IsStrictWeakOrder}
@@ -94,9 +94,15 @@ at_most_core s r s' r' v v' e =
     (λ l. absurd (true≢false (sym (or_left (nat_lt s s') _ (lt_yes s s' l)) ∙ e)))
     (λ q. by_order r r'
     (λ l. absurd (true≢false (sym (or_right (nat_lt s s') _ (both (s == s') _ (eq-eqb s s' q) (or_left (nat_lt r r') _ (lt_yes r r' l)))) ∙ e)))
-    (λ p. inr (sym q, inr (sym p, by_lt_z v v'
-    (λ l. absurd (true≢false (sym (or_right (nat_lt s s') _ (both (s == s') _ (eq-eqb s s' q) (or_right (nat_lt r r') _ (both (r == r') _ (eq-eqb r r' p) (lt_yes_z v v' l))))) ∙ e)))
-    (λ l. l))))
+    (λ p. inr (
+      sym q,
+      inr (
+        sym p,
+        by_lt_z v v'
+            (λ l. absurd (true≢false (sym (or_right (nat_lt s s') _ (both (s == s') _ (eq-eqb s s' q) (or_right (nat_lt r r') _ (both (r == r') _ (eq-eqb r r' p) (lt_yes_z v v' l))))) ∙ e)))
+            (λ l. l),
+      ),
+    ))
     (λ l. inr (sym q, inl l)))
     (λ l. inl l)
 

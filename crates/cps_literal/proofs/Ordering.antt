@@ -1,5 +1,5 @@
 -- The derived order and equality of atoms.
-use Rattle.std.proofs.Common.{ℕ, ℤ, ◌≡◌, Bool, true, false, ◌&&◌, ◌||◌, cond, Ordering, Less, Equal, Greater, is_lt, nat_cmp, int_cmp, refl, sym, ◌∙◌, ap, subst, List, get_or, ◌+◌}
+use Rattle.std.proofs.Common.{◌≡◌, Bool, true, false, ◌&&◌, ◌||◌, cond, Ordering, Less, Equal, Greater, is_lt, nat_cmp, int_cmp, refl, sym, ◌∙◌, ap, List, get_or, ◌+◌}
 use Rattle.std.specs.Prelude.{◌==◌, nat_lt, int_lt}
 use Rattle.std.specs.Bool.{Decides}
 use Rattle.std.specs.Ordering.{ordering_then, int_eq}
@@ -13,6 +13,7 @@ use Rattle.cps_literal.specs.contracts.atom.OpOrd.TheImpl as op_ord
 use Rattle.cps_literal.specs.contracts.atom.AtomPartialEq.TheImpl as atom_eq
 use Rattle.cps_literal.specs.contracts.atom.OpPartialEq.TheImpl as op_eq
 use Rattle.cps_literal.specs.Normal.{comes_before, rank}
+use Rattle.cps_literal.specs.Index.{same_atom}
 use Rattle.cps_literal.proofs.Normalizing.{atom_same}
 
 op_cmp : (o p : Op) → (op_ord.ghosts).cmp o p ≡ nat_cmp (rank o) (rank p)
@@ -78,7 +79,14 @@ op_eq_is Ne Ne = refl
 pub eq_Decides : (t u : Atom) → Decides ((atom_eq.ghosts).eq t u) (t ≡ u)
 eq_Decides t u =
     let d = Decides-and (t.subject == u.subject) _ (Decides-eqb t.subject u.subject)
-        (Decides-and ((op_eq.ghosts).eq t.op u.op) (int_eq t.value u.value)
-        (Decides-at ((op_eq.ghosts).eq t.op u.op) (rank t.op == rank u.op) (op_eq_is t.op u.op) (Decides-eqb (rank t.op) (rank u.op)))
-        (Decides-int_eq t.value u.value)) in
+    (Decides-and ((op_eq.ghosts).eq t.op u.op) (int_eq t.value u.value)
+    (Decides-at ((op_eq.ghosts).eq t.op u.op) (rank t.op == rank u.op) (op_eq_is t.op u.op) (Decides-eqb (rank t.op) (rank u.op)))
+    (Decides-int_eq t.value u.value)) in
     Decides-like _ (λ e. atom_same t u e.0 e.1.0 e.1.1) (λ e. (ap (λ (a : Atom). a.subject) e, (ap (λ (a : Atom). rank a.op) e, ap (λ (a : Atom). a.value) e))) d
+
+-- `==` of two atoms, as a test
+pub eq_same : (atom_eq.ghosts).eq ≡ same_atom
+eq_same = λ i t u. (ap (λ b. t.subject == u.subject && (b && int_eq t.value u.value)) (op_eq_is t.op u.op)) i
+
+pub same_Decides : (t u : Atom) → Decides (same_atom t u) (t ≡ u)
+same_Decides t u = Decides-at (same_atom t u) ((atom_eq.ghosts).eq t u) (sym (ap (λ b. t.subject == u.subject && (b && int_eq t.value u.value)) (op_eq_is t.op u.op))) (eq_Decides t u)

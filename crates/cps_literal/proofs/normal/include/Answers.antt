@@ -1,5 +1,4 @@
-use Rattle.std.proofs.Common.{arith, refl, ap, sym, subst, ◌∙◌, ◌-◌, ◌+◌, ◌<◌, ◌≡◌, ◌≤◌, length, get_or, true≢false}
-use Rattle.cps_literal.specs.Truth.{Implies}
+use Rattle.std.proofs.Common.{arith, refl, ◌-◌, ◌<◌, length, get_or}
 use Rattle.cps_literal.proofs.Normalizing.{none, read_is, included_already, included_remove, included_push, free_below, free_all}
 use Rattle.cps_literal.proofs.normal.include.Goals as goal
 use Rattle.cps_literal.proofs.normal.include.Goals.{else-loop-place-test, then-loop-place-test+then-other-atom}

@@ -1,4 +1,4 @@
-use Rattle.std.proofs.Common.{ℕ, ◌≤◌}
+use Rattle.std.proofs.Common.{◌≤◌}
 use Rattle.smallvec.specs.SmallVec.{small_vec_len}
 use Rattle.cps_literal.proofs.Normalizing.{IncludedSoFar}
 use Rattle.cps_literal.proofs.normal.include.Given as goal

@@ -1,9 +1,5 @@
-use Rattle.std.proofs.Common.{arith, ◌≡◌, length, take, refl, sym, ◌∙◌, ap, subst, ◌++◌, drop}
-use Rattle.std.specs.Prelude.{IsPermutation}
+use Rattle.std.proofs.Common.{arith, ◌≡◌, length, sym, ◌∙◌, ap, subst}
 use Rattle.std.specs.List.Sorted.{IsSortedBy}
-use Rattle.std.specs.List.{refill}
-use Rattle.std.proofs.lemmas.List.Sorted.{length_permutation}
-use Rattle.cps_literal.specs.Truth.{clause_holds}
 use Rattle.cps_literal.specs.Normal.{IsNormal, IsNormalOf, comes_before}
 use Rattle.cps_literal.proofs.Normalizing.{none, next_order, normal_more, normal_done, IsNormalOf-truth, NormalSoFar, made_of, refill_all}
 use Rattle.cps_literal.proofs.Ordering.{sorted_is}
