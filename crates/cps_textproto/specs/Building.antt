@@ -14,6 +14,7 @@ use Rattle.cps_textproto.specs.Machine.{step, from_next, stops, start}
 use Rattle.cps_textproto.specs.declared.reading.TextError.{TextError}
 use Rattle.cps_textproto.specs.declared.reading.TextError.TheVariants.{NotADocument, OutOfMemory}
 
+-- what a symbol adds, by what was before it
 abbrev pub action_of : Mode → Symbol → Action
 action_of Between Name = actions.Name
 action_of Between Close = actions.Close
@@ -56,6 +57,8 @@ pub record Outer : Type 0 where
   pub name : ℕ
   pub first : ℕ
 
+-- the innermost message's fields, the open messages from the inside out, and what is known of a field that is not
+-- finished: its name, the token that its scalar begins with, the values of its list
 pub record Build : Type 0 where
   pub fields : Tree
   pub outer : List Outer
@@ -63,12 +66,15 @@ pub record Build : Type 0 where
   pub first : ℕ
   pub items : Values
 
+-- one more field
 abbrev pub with_field : Build → Bool → Values → Build
 with_field b list items = record b { fields = then_fields b.fields (field b.name list items no_fields) }
 
+-- one more value of the list
 abbrev pub with_item : Build → ℕ → ℕ → Build
 with_item b first end = record b { items = then_values b.items (scalar_value first end no_values) }
 
+-- the innermost message is a field of the next
 abbrev pub closed : List Outer → Build → Build
 closed [] b = b
 closed (o ∷ os) b = record {
@@ -79,6 +85,7 @@ closed (o ∷ os) b = record {
   items = b.items;
 }
 
+-- what the token number k makes of it
 abbrev pub act : Action → ℕ → Build → Build
 act actions.Name k b = record b { name = k }
 act actions.Sign k b = record b { first = k }
@@ -100,11 +107,12 @@ abbrev pub built : State → Build → ℕ → List Symbol → Build
 built state b k [] = b
 built state b k (x ∷ xs) = from_next (step state x) b (λ next. built next (act (action_of state.mode x) k b) (suc k) xs)
 
--- a builder without where it lies in memory
+-- the same as the code keeps it
 
 abbrev pub outer_of : Opened → Outer
 outer_of o = record { before = field_list o.fields.items; name = o.name; first = o.first }
 
+-- a stack with its top at the end, as a list with the top in front
 abbrev pub outer_onto : List Opened → List Outer → List Outer
 outer_onto [] outer = outer
 outer_onto (o ∷ os) outer = outer_onto os (outer_of o ∷ outer)
