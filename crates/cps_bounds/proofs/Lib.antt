@@ -1,3 +1,3 @@
 pub mod Folds
-pub mod InOrder
 pub mod Keeps
+pub mod Offers

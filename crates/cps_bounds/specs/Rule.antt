@@ -12,7 +12,7 @@ use Rattle.cps_port.specs.Incumbents.{IsIncumbent, IsLowerBound}
 use Rattle.cps_port.specs.Parts.{no_bounds, after_upper, after_lower, after_offer, after_raise}
 use Rattle.cps_port.specs.Totals.{total}
 use Rattle.cps_bounds.specs.declared.view.View.{View}
-use Rattle.cps_bounds.specs.Words.{top, value_word, word_of, raise_word, bound_of, HasWord, HasWords}
+use Rattle.cps_port.specs.Words.{top, value_word, word_of, raise_word, bound_of, HasWord, HasWords}
 
 -- all splits of a table
 abbrev pub all_splits : ℕ

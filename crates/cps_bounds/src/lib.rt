@@ -11,6 +11,5 @@ mod rule;
 mod seats;
 mod table;
 mod view;
-mod word;
 
 pub use seats::{Bounds, BoundsSeat};

@@ -10,7 +10,7 @@ ghost use Rattle.cps_bounds.specs.Seats.{model_of, part_of, splits_of, IsSeatOf}
 
 use crate::plays::{Both, Halves, Offer, Raise, SeeLower, SeeUpper};
 use crate::seats::{Bounds, BoundsSeat};
-use crate::word::{bound_of, word_of};
+use cps_port::word::{bound_of, word_of};
 use atomic_table::Table;
 use cps_eval::objective_start;
 use cps_model::Bound;

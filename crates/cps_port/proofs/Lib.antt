@@ -6,3 +6,4 @@ pub mod Storing
 pub mod Porting
 pub mod Attained
 pub mod Places
+pub mod InOrder

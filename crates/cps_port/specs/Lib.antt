@@ -9,3 +9,4 @@ pub mod Sound
 pub mod Kept
 pub mod Views
 pub mod Others
+pub mod Words

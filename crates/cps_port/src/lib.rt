@@ -15,6 +15,7 @@ pub mod plain_port;
 pub mod port;
 mod seat;
 pub mod state;
+pub mod word;
 #[cfg(test)]
 mod tests;
 

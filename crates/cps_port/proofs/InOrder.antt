@@ -9,7 +9,7 @@ use Rattle.cps_model.specs.declared.bound.Bound.{Bound}
 use Rattle.cps_model.specs.declared.bound.Bound.TheVariants.{At, Infinite}
 use Rattle.cps_port.specs.Order.{BoundLe, IsNoLower, IsSmallBound, lesser, greater, raised_to, raised_above, greater_of}
 use Rattle.cps_port.proofs.Bounding.{lesser_is, greater_is}
-use Rattle.cps_bounds.specs.Words.{top, value_word, word_of, raise_word, value_of, bound_of, HasWord, HasWords}
+use Rattle.cps_port.specs.Words.{top, value_word, word_of, raise_word, value_of, bound_of, HasWord, HasWords}
 
 pub word_of-bound_of : (n : ℕ) → n ≤ top → word_of (bound_of n) ≡ n
 word_of-bound_of n h = grind (arith, nat_tests)

@@ -1,0 +1,14 @@
+//! The rule of the board. The table has a slot of no bytes for each row, so that a step knows how many rows there are.
+use crate::view::View;
+use atomic_table::TableRule;
+use cps_validate::ValidModel;
+
+pub struct OpenRows;
+
+impl TableRule<(), View, ValidModel> for OpenRows {
+    ghost use Rattle.cps_board.specs.Rows.{Kept, first_view};
+
+    ghost holds = { Kept };
+
+    ghost first = { first_view };
+}
