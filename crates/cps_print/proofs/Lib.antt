@@ -2,3 +2,4 @@ pub mod Lines
 pub mod Digits
 pub mod Pieces
 pub mod Cuts
+pub mod Shown
