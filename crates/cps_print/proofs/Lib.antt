@@ -3,3 +3,4 @@ pub mod Digits
 pub mod Pieces
 pub mod Cuts
 pub mod Shown
+pub mod Readable
