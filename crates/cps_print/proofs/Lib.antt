@@ -4,3 +4,4 @@ pub mod Pieces
 pub mod Cuts
 pub mod Shown
 pub mod Readable
+pub mod Fitting
