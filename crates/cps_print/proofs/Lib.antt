@@ -5,3 +5,4 @@ pub mod Cuts
 pub mod Shown
 pub mod Readable
 pub mod Fitting
+pub mod RoundTrip

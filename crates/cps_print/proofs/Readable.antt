@@ -161,10 +161,11 @@ bool_or_readable w t e = numbers_fit w literals_message [] (codes "literals") In
 
 linear_readable : (w : Written) (t : Tree) → fields_fault w linear_message [] t ≡ None → IsReadableKind (read_linear w t)
 unfolding use_of
-linear_readable w t e =
-    (numbers_fit w linear_message [] (codes "vars") Int32 t refl e,
-     numbers_fit w linear_message [] (codes "coeffs") Int64 t refl e,
-     numbers_fit w linear_message [] (codes "domain") Int64 t refl e)
+linear_readable w t e = (
+  numbers_fit w linear_message [] (codes "vars") Int32 t refl e,
+  numbers_fit w linear_message [] (codes "coeffs") Int64 t refl e,
+  numbers_fit w linear_message [] (codes "domain") Int64 t refl e,
+)
 
 linear_by : (w : Written) (name : List ℕ) (values : Values) → values_fault w (content_of (use_of constraint_message name)) values ≡ None → (same : Bool) → bytes_eq name (codes "linear") ≡ same → Each IsReadableKind (if same then map (read_linear w) (value_messages values) else [])
 unfolding use_of
