@@ -108,7 +108,7 @@ spelled-pieces room level (number name n more) rest p =
 spelled-pieces room level (numbers name n ns more) rest p =
     let after = spelled-pieces room level more rest p.3 in
     let items : spelled (number_pieces n (others_pieces ns (sign 93 ∷ blank 10 ∷ pieces level more rest))) ≡ signed_decimal n ++ (flat_map (behind_comma signed_decimal) ns ++ 93 ∷ 10 ∷ (text_of level more ++ spelled rest)) =
-        spelled-number n _ ∙ ap (λ xs. signed_decimal n ++ xs) (spelled-others ns _ ∙ ap (λ xs. flat_map (behind_comma signed_decimal) ns ++ 93 ∷ 10 ∷ xs) after) in
+    spelled-number n _ ∙ ap (λ xs. signed_decimal n ++ xs) (spelled-others ns _ ∙ ap (λ xs. flat_map (behind_comma signed_decimal) ns ++ 93 ∷ 10 ∷ xs) after) in
     spelled-indent level _
     ∙ (ap (λ xs. indent level ++ (name ++ 58 ∷ 32 ∷ 91 ∷ xs)) items
     ∙ (ap (λ xs. indent level ++ (name ++ 58 ∷ 32 ∷ xs)) (list_value (signed_decimal n) (flat_map (behind_comma signed_decimal) ns) (text_of level more ++ spelled rest))
@@ -121,7 +121,7 @@ spelled-pieces (suc room) level (message name fields more) rest p =
     let inner = spelled-pieces room (suc level) fields (indent_pieces level (sign 125 ∷ blank 10 ∷ pieces level more rest)) p.1 in
     spelled-indent level _
     ∙ (ap (λ xs. indent level ++ (name ++ 32 ∷ 123 ∷ 10 ∷ xs))
-        (inner ∙ ap (λ xs. text_of (suc level) fields ++ xs) (spelled-indent level _ ∙ ap (λ xs. indent level ++ 125 ∷ 10 ∷ xs) after))
+    (inner ∙ ap (λ xs. text_of (suc level) fields ++ xs) (spelled-indent level _ ∙ ap (λ xs. indent level ++ 125 ∷ 10 ∷ xs) after))
     ∙ message_lines level name (text_of (suc level) fields) (text_of level more) (spelled rest))
 
 -- each piece is cut off where it ends
@@ -271,25 +271,52 @@ pub pieces_sound : (room level : ℕ) (m : Message) (rest : List Piece) → IsPl
 pieces_sound room level empty rest p s = s
 pieces_sound room level (number name n more) rest p s =
     let after = pieces_sound room level more rest p.2 s in
-    indent_sound level _
-    (name_before_colon name _ p.0, (colon _, (space,
-     number_sound n (blank 10 ∷ pieces level more rest) p.1 (ends_line (pieces level more rest)) (line_end, after))))
+    indent_sound level _ (
+      name_before_colon name _ p.0,
+      (
+        colon _,
+        (
+          space,
+          number_sound n (blank 10 ∷ pieces level more rest) p.1 (ends_line (pieces level more rest)) (line_end, after),
+        ),
+      ),
+    )
 pieces_sound room level (numbers name n ns more) rest p s =
     let after = pieces_sound room level more rest p.3 s in
     let last : List Piece = sign 93 ∷ blank 10 ∷ pieces level more rest in
     let others = others_sound ns last p.2 (ends_list (blank 10 ∷ pieces level more rest)) (list_end _, (line_end, after)) in
-    indent_sound level _
-    (name_before_colon name _ p.0, (colon _, (space, (list_begin _,
-     number_sound n (others_pieces ns last) p.1 (others_end ns last (ends_list (blank 10 ∷ pieces level more rest))) others))))
+    indent_sound level _ (
+      name_before_colon name _ p.0,
+      (
+        colon _,
+        (
+          space,
+          (
+            list_begin _,
+            number_sound n (others_pieces ns last) p.1 (others_end ns last (ends_list (blank 10 ∷ pieces level more rest))) others,
+          ),
+        ),
+      ),
+    )
 pieces_sound room level (word name w more) rest p s = absurd p
 pieces_sound room level (quoted name bytes more) rest p s = absurd p
 pieces_sound zero level (message name fields more) rest p s = absurd p
 pieces_sound (suc room) level (message name fields more) rest p s =
     let after = pieces_sound (suc room) level more rest p.2 s in
     let close = indent_sound level (sign 125 ∷ blank 10 ∷ pieces level more rest) (message_end _, (line_end, after)) in
-    indent_sound level _
-    (name_before_space name _ p.0, (space, (message_begin _, (line_end,
-     pieces_sound room (suc level) fields (indent_pieces level (sign 125 ∷ blank 10 ∷ pieces level more rest)) p.1 close))))
+    indent_sound level _ (
+      name_before_space name _ p.0,
+      (
+        space,
+        (
+          message_begin _,
+          (
+            line_end,
+            pieces_sound room (suc level) fields (indent_pieces level (sign 125 ∷ blank 10 ∷ pieces level more rest)) p.1 close,
+          ),
+        ),
+      ),
+    )
 
 -- their symbols are fields of the grammar
 

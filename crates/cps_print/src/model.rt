@@ -1,9 +1,10 @@
 //! The canonical text of a model.
-ghost use Rattle.std.specs.Prelude.{◌≡◌, ◌++◌, IfOk, OnOk, codes, string_bytes};
+ghost use Rattle.std.specs.Prelude.{◌≡◌, ℕ, List, ◌++◌, IfOk, OnOk, codes, string_bytes};
 ghost use Rattle.std.specs.List.{flat_map};
 ghost use Rattle.cps_print.specs.Layout.{text_of};
 ghost use Rattle.cps_print.specs.Fields.{list_field, message_field, repeated_field};
 ghost use Rattle.cps_print.specs.Models.{printed_variable, printed_literals, printed_linear, kind_field, printed_constraint, scaling_field, printed_objective, objective_field, printed_expression, choose_name, select_name, printed_strategy, printed_hint, hint_field, model_text};
+ghost use Rattle.cps_print.specs.ReadBack.{IsReadAs};
 
 use crate::layout::{
     close_message, open_message, put_list_field, put_number_field, put_word_field,
@@ -249,7 +250,10 @@ fn put_hint_field(text: &mut String, hint: &Option<Hint>) -> Result<(), AllocErr
 /// The canonical text of a model.
 #[tactic(auto, using(crate::proofs::Lines::layout))]
 pub fn model_text(alloc: Global, model: &CpModel) -> Result<String, AllocError>
-    ensures { IfOk result (λ text. string_bytes text ≡ model_text model.now) }
+    ensures text { IfOk result (λ text. string_bytes text ≡ model_text model.now) }
+
+    // Where a document is read as the model, its canonical text is read as the model again.
+    ensures back { (bytes : List ℕ) → IsReadAs bytes model.now → IfOk result (λ text. IsReadAs (string_bytes text) model.now) }
 {
     let mut text = String::new(alloc);
     put_text_field(&mut text, 0, "name", model.name.as_str())?;
