@@ -8,7 +8,7 @@ use Rattle.cps_schema.specs.declared.error.SchemaError.{SchemaError}
 use Rattle.cps_schema.specs.Written.{Written, token_text}
 use Rattle.cps_schema.specs.Tables.{Message, constraint_message, literals_message, linear_message, one_kind, use_in, table_of, use_of, is_given}
 use Rattle.cps_schema.specs.Faults.{is_kind, has_kind}
-use Rattle.cps_schema.specs.Steps.{Passes, Stops}
+use Rattle.cps_schema.specs.Steps.{Passes, Stops, KindPasses, KindStops}
 use Rattle.cps_schema.specs.Parts.{is_bool_or, is_linear, IsKindGiven}
 use Rattle.cps_schema.proofs.Steps.{next_given, table_use}
 
@@ -38,19 +38,8 @@ pub enforcement_given : (kind : Option Kind) (text : List ℕ) → text ≡ code
 enforcement_given kind text e before given = rw e (record {
   bool_or_given = next_given (codes "bool_or") (codes "enforcement_literal") before ∙ given.bool_or_given;
   linear_given = next_given (codes "linear") (codes "enforcement_literal") before ∙ given.linear_given;
-  kind_given = next_kind constraint_message (codes "enforcement_literal") before ∙ rw enforcement_is_no_kind given.kind_given
+  kind_given = next_kind constraint_message (codes "enforcement_literal") before ∙ rw enforcement_is_no_kind given.kind_given;
 })
-
--- what the readers of kinds say of a field
-abbrev KindPasses : Written → Field → Message → Bool → Bool → Type 0
-KindPasses w f k same given = (m : Message) (before : List (List ℕ)) →
-    use_of m (token_text w f.name) ≡ Some (one_kind k) →
-    is_given before (token_text w f.name) ≡ same → has_kind m before ≡ given → Passes w m before f
-
-abbrev KindStops : Written → Field → Message → Bool → Bool → SchemaError → Type 0
-KindStops w f k same given e = (m : Message) (before : List (List ℕ)) →
-    use_of m (token_text w f.name) ≡ Some (one_kind k) →
-    is_given before (token_text w f.name) ≡ same → has_kind m before ≡ given → Stops w m before f e
 
 no_kind : (kind : Option Kind) → is_some kind ≡ false → (is_bool_or kind ≡ false) × (is_linear kind ≡ false)
 no_kind None e = (refl, refl)
@@ -73,28 +62,30 @@ pub bool_or_passes : (w : Written) (f : Field) (r : Result (Unit {0}) SchemaErro
     token_text w f.name ≡ codes "bool_or" → OnOk r (KindPasses w f literals_message (is_bool_or old) (is_some old)) →
     OnOk r (is_some old ≡ false) → OnOk r (is_bool_or new ≡ true) →
     OnOk r ((before : List (List ℕ)) → IsKindGiven old before →
-        Passes w constraint_message before f × IsKindGiven new (token_text w f.name ∷ before))
-bool_or_passes w f (Ok x) old new name passes none some = λ before given.
-    (passes constraint_message before (table_use _ _ _ _ name refl) (rw name given.bool_or_given) given.kind_given,
-    rw name (record {
-      bool_or_given = next_given (codes "bool_or") (codes "bool_or") before ∙ rw some refl;
-      linear_given = next_given (codes "linear") (codes "bool_or") before ∙ given.linear_given ∙ (no_kind old none).1 ∙ sym (only_bool_or new some).0;
-      kind_given = next_kind constraint_message (codes "bool_or") before ∙ rw (bool_or_is_kind, (only_bool_or new some).1) refl
-    }))
+    Passes w constraint_message before f × IsKindGiven new (token_text w f.name ∷ before))
+bool_or_passes w f (Ok x) old new name passes none some = λ before given. (
+  passes constraint_message before (table_use _ _ _ _ name refl) (rw name given.bool_or_given) given.kind_given,
+  rw name (record {
+    bool_or_given = next_given (codes "bool_or") (codes "bool_or") before ∙ rw some refl;
+    linear_given = next_given (codes "linear") (codes "bool_or") before ∙ given.linear_given ∙ (no_kind old none).1 ∙ sym (only_bool_or new some).0;
+    kind_given = next_kind constraint_message (codes "bool_or") before ∙ rw (bool_or_is_kind, (only_bool_or new some).1) refl;
+  }),
+)
 bool_or_passes w f (Err e) old new name passes none some = passes
 
 pub linear_passes : (w : Written) (f : Field) (r : Result (Unit {0}) SchemaError) (old new : Option Kind) →
     token_text w f.name ≡ codes "linear" → OnOk r (KindPasses w f linear_message (is_linear old) (is_some old)) →
     OnOk r (is_some old ≡ false) → OnOk r (is_linear new ≡ true) →
     OnOk r ((before : List (List ℕ)) → IsKindGiven old before →
-        Passes w constraint_message before f × IsKindGiven new (token_text w f.name ∷ before))
-linear_passes w f (Ok x) old new name passes none some = λ before given.
-    (passes constraint_message before (table_use _ _ _ _ name refl) (rw name given.linear_given) given.kind_given,
-    rw name (record {
-      bool_or_given = next_given (codes "bool_or") (codes "linear") before ∙ given.bool_or_given ∙ (no_kind old none).0 ∙ sym (only_linear new some).0;
-      linear_given = next_given (codes "linear") (codes "linear") before ∙ rw some refl;
-      kind_given = next_kind constraint_message (codes "linear") before ∙ rw (linear_is_kind, (only_linear new some).1) refl
-    }))
+    Passes w constraint_message before f × IsKindGiven new (token_text w f.name ∷ before))
+linear_passes w f (Ok x) old new name passes none some = λ before given. (
+  passes constraint_message before (table_use _ _ _ _ name refl) (rw name given.linear_given) given.kind_given,
+  rw name (record {
+    bool_or_given = next_given (codes "bool_or") (codes "linear") before ∙ given.bool_or_given ∙ (no_kind old none).0 ∙ sym (only_linear new some).0;
+    linear_given = next_given (codes "linear") (codes "linear") before ∙ rw some refl;
+    kind_given = next_kind constraint_message (codes "linear") before ∙ rw (linear_is_kind, (only_linear new some).1) refl;
+  }),
+)
 linear_passes w f (Err e) old new name passes none some = passes
 
 pub bool_or_stops : (w : Written) (f : Field) (r : Result (Unit {0}) SchemaError) (old : Option Kind) →

@@ -4,3 +4,4 @@ pub mod Steps
 pub mod Objectives
 pub mod GivenKinds
 pub mod ModelFields
+pub mod Laws

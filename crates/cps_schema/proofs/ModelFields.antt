@@ -8,7 +8,7 @@ use Rattle.cps_schema.specs.declared.error.SchemaError.{SchemaError}
 use Rattle.cps_schema.specs.Written.{Written, token_text}
 use Rattle.cps_schema.specs.Tables.{Message, model_message, objective_message, message, single, use_in, table_of, use_of, is_given}
 use Rattle.cps_schema.specs.Readings.{first_of}
-use Rattle.cps_schema.specs.Steps.{Passes, Stops}
+use Rattle.cps_schema.specs.Steps.{Passes, Stops, SinglePasses, SingleStops}
 use Rattle.cps_schema.specs.Parts.{IsObjectiveGiven}
 use Rattle.cps_schema.proofs.Steps.{next_given, table_use}
 
@@ -23,31 +23,21 @@ no_model_field text a b c = rw (a, b, c) refl
 pub part_given : (objective : Option Objective) (text name : List ℕ) → text ≡ name → bytes_eq (codes "objective") name ≡ false →
     (before : List (List ℕ)) → IsObjectiveGiven objective before → IsObjectiveGiven objective (text ∷ before)
 part_given objective text name e other before given = rw e (record {
-  objective_given = next_given (codes "objective") name before ∙ rw other given.objective_given
+  objective_given = next_given (codes "objective") name before ∙ rw other given.objective_given;
 })
 
--- what `set_objective` says of a field
-abbrev ObjectivePasses : Written → Field → Option Objective → Type 0
-ObjectivePasses w f old = (m : Message) (before : List (List ℕ)) →
-    use_of m (token_text w f.name) ≡ Some (single (message objective_message)) →
-    is_given before (token_text w f.name) ≡ is_some old → Passes w m before f
-
-abbrev ObjectiveStops : Written → Field → Option Objective → SchemaError → Type 0
-ObjectiveStops w f old e = (m : Message) (before : List (List ℕ)) →
-    use_of m (token_text w f.name) ≡ Some (single (message objective_message)) →
-    is_given before (token_text w f.name) ≡ is_some old → Stops w m before f e
-
 pub objective_passes : (w : Written) (f : Field) (r : Result (Unit {0}) SchemaError) (old new : Option Objective) →
-    token_text w f.name ≡ codes "objective" → OnOk r (ObjectivePasses w f old) → OnOk r (is_some new ≡ true) →
+    token_text w f.name ≡ codes "objective" → OnOk r (SinglePasses w f (message objective_message) (is_some old)) → OnOk r (is_some new ≡ true) →
     OnOk r ((before : List (List ℕ)) → IsObjectiveGiven old before →
-        Passes w model_message before f × IsObjectiveGiven new (token_text w f.name ∷ before))
-objective_passes w f (Ok x) old new name passes some = λ before given.
-    (passes model_message before (table_use _ _ _ _ name refl) (rw name given.objective_given),
-    rw name (record { objective_given = next_given (codes "objective") (codes "objective") before ∙ rw some refl }))
+    Passes w model_message before f × IsObjectiveGiven new (token_text w f.name ∷ before))
+objective_passes w f (Ok x) old new name passes some = λ before given. (
+  passes model_message before (table_use _ _ _ _ name refl) (rw name given.objective_given),
+  rw name (record { objective_given = next_given (codes "objective") (codes "objective") before ∙ rw some refl }),
+)
 objective_passes w f (Err e) old new name passes some = passes
 
 pub objective_stops : (w : Written) (f : Field) (r : Result (Unit {0}) SchemaError) (old : Option Objective) →
-    token_text w f.name ≡ codes "objective" → IfErr r (ObjectiveStops w f old) →
+    token_text w f.name ≡ codes "objective" → IfErr r (SingleStops w f (message objective_message) (is_some old)) →
     IfErr r (λ e. (before : List (List ℕ)) → IsObjectiveGiven old before → Stops w model_message before f e)
 objective_stops w f (Ok x) old name stops = stops
 objective_stops w f (Err e) old name stops = λ before given.

@@ -8,7 +8,7 @@ use Rattle.cps_schema.specs.declared.error.SchemaError.{SchemaError}
 use Rattle.cps_schema.specs.Written.{Written, token_text}
 use Rattle.cps_schema.specs.Tables.{Message, objective_message, number, single, use_of, is_given}
 use Rattle.cps_schema.specs.Readings.{first_or}
-use Rattle.cps_schema.specs.Steps.{Passes, Stops}
+use Rattle.cps_schema.specs.Steps.{Passes, Stops, SinglePasses, SingleStops}
 use Rattle.cps_schema.specs.Parts.{IsGiven}
 use Rattle.cps_schema.proofs.Steps.{next_given, table_use}
 
@@ -17,53 +17,44 @@ pub other_given : (offset scaling : Option ℤ) (text name : List ℕ) → text 
     (before : List (List ℕ)) → IsGiven offset scaling before → IsGiven offset scaling (text ∷ before)
 other_given offset scaling text name e no_offset no_scaling before given = rw e (record {
   offset_given = next_given (codes "offset") name before ∙ rw no_offset given.offset_given;
-  scaling_given = next_given (codes "scaling_factor") name before ∙ rw no_scaling given.scaling_given
+  scaling_given = next_given (codes "scaling_factor") name before ∙ rw no_scaling given.scaling_given;
 })
 
--- what `set_number` says of a field
-abbrev NumberPasses : Written → Field → Option ℤ → Type 0
-NumberPasses w f old = (m : Message) (before : List (List ℕ)) →
-    use_of m (token_text w f.name) ≡ Some (single (number Exact)) →
-    is_given before (token_text w f.name) ≡ is_some old → Passes w m before f
-
-abbrev NumberStops : Written → Field → Option ℤ → SchemaError → Type 0
-NumberStops w f old e = (m : Message) (before : List (List ℕ)) →
-    use_of m (token_text w f.name) ≡ Some (single (number Exact)) →
-    is_given before (token_text w f.name) ≡ is_some old → Stops w m before f e
-
 pub offset_passes : (w : Written) (f : Field) (r : Result (Unit {0}) SchemaError) (old new scaling : Option ℤ) →
-    token_text w f.name ≡ codes "offset" → OnOk r (NumberPasses w f old) → OnOk r (is_some new ≡ true) →
+    token_text w f.name ≡ codes "offset" → OnOk r (SinglePasses w f (number Exact) (is_some old)) → OnOk r (is_some new ≡ true) →
     OnOk r ((before : List (List ℕ)) → IsGiven old scaling before →
-        Passes w objective_message before f × IsGiven new scaling (token_text w f.name ∷ before))
-offset_passes w f (Ok x) old new scaling name passes some = λ before given.
-    (passes objective_message before (table_use _ _ _ _ name refl) (rw name given.offset_given),
-    rw name (record {
-      offset_given = next_given (codes "offset") (codes "offset") before ∙ rw some refl;
-      scaling_given = next_given (codes "scaling_factor") (codes "offset") before ∙ given.scaling_given
-    }))
+    Passes w objective_message before f × IsGiven new scaling (token_text w f.name ∷ before))
+offset_passes w f (Ok x) old new scaling name passes some = λ before given. (
+  passes objective_message before (table_use _ _ _ _ name refl) (rw name given.offset_given),
+  rw name (record {
+    offset_given = next_given (codes "offset") (codes "offset") before ∙ rw some refl;
+    scaling_given = next_given (codes "scaling_factor") (codes "offset") before ∙ given.scaling_given;
+  }),
+)
 offset_passes w f (Err e) old new scaling name passes some = passes
 
 pub scaling_passes : (w : Written) (f : Field) (r : Result (Unit {0}) SchemaError) (old new offset : Option ℤ) →
-    token_text w f.name ≡ codes "scaling_factor" → OnOk r (NumberPasses w f old) → OnOk r (is_some new ≡ true) →
+    token_text w f.name ≡ codes "scaling_factor" → OnOk r (SinglePasses w f (number Exact) (is_some old)) → OnOk r (is_some new ≡ true) →
     OnOk r ((before : List (List ℕ)) → IsGiven offset old before →
-        Passes w objective_message before f × IsGiven offset new (token_text w f.name ∷ before))
-scaling_passes w f (Ok x) old new offset name passes some = λ before given.
-    (passes objective_message before (table_use _ _ _ _ name refl) (rw name given.scaling_given),
-    rw name (record {
-      offset_given = next_given (codes "offset") (codes "scaling_factor") before ∙ given.offset_given;
-      scaling_given = next_given (codes "scaling_factor") (codes "scaling_factor") before ∙ rw some refl
-    }))
+    Passes w objective_message before f × IsGiven offset new (token_text w f.name ∷ before))
+scaling_passes w f (Ok x) old new offset name passes some = λ before given. (
+  passes objective_message before (table_use _ _ _ _ name refl) (rw name given.scaling_given),
+  rw name (record {
+    offset_given = next_given (codes "offset") (codes "scaling_factor") before ∙ given.offset_given;
+    scaling_given = next_given (codes "scaling_factor") (codes "scaling_factor") before ∙ rw some refl;
+  }),
+)
 scaling_passes w f (Err e) old new offset name passes some = passes
 
 pub offset_stops : (w : Written) (f : Field) (r : Result (Unit {0}) SchemaError) (old scaling : Option ℤ) →
-    token_text w f.name ≡ codes "offset" → IfErr r (NumberStops w f old) →
+    token_text w f.name ≡ codes "offset" → IfErr r (SingleStops w f (number Exact) (is_some old)) →
     IfErr r (λ e. (before : List (List ℕ)) → IsGiven old scaling before → Stops w objective_message before f e)
 offset_stops w f (Ok x) old scaling name stops = stops
 offset_stops w f (Err e) old scaling name stops = λ before given.
     stops objective_message before (table_use _ _ _ _ name refl) (rw name given.offset_given)
 
 pub scaling_stops : (w : Written) (f : Field) (r : Result (Unit {0}) SchemaError) (old offset : Option ℤ) →
-    token_text w f.name ≡ codes "scaling_factor" → IfErr r (NumberStops w f old) →
+    token_text w f.name ≡ codes "scaling_factor" → IfErr r (SingleStops w f (number Exact) (is_some old)) →
     IfErr r (λ e. (before : List (List ℕ)) → IsGiven offset old before → Stops w objective_message before f e)
 scaling_stops w f (Ok x) old offset name stops = stops
 scaling_stops w f (Err e) old offset name stops = λ before given.

@@ -14,7 +14,7 @@ use Rattle.cps_schema.specs.Tables.{Message, Content, message, Use, single, repe
 use Rattle.cps_schema.specs.Faults.{has_kind, is_alone, alone_fault, values_fault, fields_fault}
 use Rattle.cps_schema.specs.Sources.{single_fault}
 use Rattle.cps_schema.specs.Answers.{Refuses}
-use Rattle.cps_schema.specs.Steps.{Passes, Stops, field_then}
+use Rattle.cps_schema.specs.Steps.{Passes, Stops, KindStops, field_then}
 
 -- a test of a name that came out true
 pub same_text : (a b : List ℕ) (r : Bool) → r ≡ pointwise nat_eq a b → r ≡ true → a ≡ b
@@ -51,7 +51,7 @@ pub not_read_stops : (w : Written) (m : Message) (f : Field) → use_in (table_o
 unfolding use_of
 not_read_stops w m f none before rest = by_test (is_given (unread_names m) (token_text w f.name)) refl where
   by_test : (known : Bool) → is_given (unread_names m) (token_text w f.name) ≡ known →
-    Refuses (fields_fault w m before (field_then f rest)) (Fault (if is_given (unread_names m) (token_text w f.name) then Unsupported else UnknownField) f.name)
+      Refuses (fields_fault w m before (field_then f rest)) (Fault (if is_given (unread_names m) (token_text w f.name) then Unsupported else UnknownField) f.name)
   by_test true e = rw (none, e) refl
   by_test false e = rw (none, e) refl
 
@@ -63,11 +63,11 @@ or_assoc (Some x) b c = refl
 single_step : (w : Written) (m : Message) (before : List (List ℕ)) (f : Field) (content : Content) →
     use_of m (token_text w f.name) ≡ Some (single content) → is_given before (token_text w f.name) ≡ false →
     (rest : Tree) → fields_fault w m before (field_then f rest)
-        ≡ option_or (single_fault w content f) (fields_fault w m (token_text w f.name ∷ before) rest)
+    ≡ option_or (single_fault w content f) (fields_fault w m (token_text w f.name ∷ before) rest)
 single_step w m before f content takes first rest =
     rw (takes, first)
     (sym (or_assoc (alone_fault w f.name (is_alone f.list (values_of f.items))) (values_fault w (Some content) (values_of f.items))
-        (fields_fault w m (token_text w f.name ∷ before) rest)))
+    (fields_fault w m (token_text w f.name ∷ before) rest)))
 
 pub single_passes : (w : Written) (m : Message) (before : List (List ℕ)) (f : Field) (content : Content) →
     use_of m (token_text w f.name) ≡ Some (single content) → is_given before (token_text w f.name) ≡ false →
@@ -89,11 +89,11 @@ single_again w m before f content takes again rest = rw (takes, again) refl
 kind_step : (w : Written) (m : Message) (before : List (List ℕ)) (f : Field) (k : Message) →
     use_of m (token_text w f.name) ≡ Some (one_kind k) → is_given before (token_text w f.name) ≡ false → has_kind m before ≡ false →
     (rest : Tree) → fields_fault w m before (field_then f rest)
-        ≡ option_or (single_fault w (message k) f) (fields_fault w m (token_text w f.name ∷ before) rest)
+    ≡ option_or (single_fault w (message k) f) (fields_fault w m (token_text w f.name ∷ before) rest)
 kind_step w m before f k takes first alone rest =
     rw (takes, first, alone)
     (sym (or_assoc (alone_fault w f.name (is_alone f.list (values_of f.items))) (values_fault w (Some (message k)) (values_of f.items))
-        (fields_fault w m (token_text w f.name ∷ before) rest)))
+    (fields_fault w m (token_text w f.name ∷ before) rest)))
 
 pub kind_passes : (w : Written) (m : Message) (before : List (List ℕ)) (f : Field) (k : Message) →
     use_of m (token_text w f.name) ≡ Some (one_kind k) → is_given before (token_text w f.name) ≡ false → has_kind m before ≡ false →
@@ -139,8 +139,7 @@ if_stops w m f G (Err e) stops = λ before given. stops before
 pub first_kind_stops : {T : Type 0} (w : Written) (f : Field) (same given : Bool) (r : Result T SchemaError) →
     same ≡ false → given ≡ false →
     IfErr r (λ e. (k : Message) → Refuses (single_fault w (message k) f) e) →
-    IfErr r (λ e. (m k : Message) (before : List (List ℕ)) → use_of m (token_text w f.name) ≡ Some (one_kind k) →
-        is_given before (token_text w f.name) ≡ same → has_kind m before ≡ given → Stops w m before f e)
+    IfErr r (λ e. (k : Message) → KindStops w f k same given e)
 first_kind_stops w f same given (Ok x) different first stops = stops
-first_kind_stops w f same given (Err e) different first stops = λ m k before takes again kinds.
+first_kind_stops w f same given (Err e) different first stops = λ k m before takes again kinds.
     kind_stops w m before f k takes (again ∙ different) (kinds ∙ first) e (stops k)

@@ -50,4 +50,3 @@ kind_fault type fit other = Some WrongKind
 -- what is wrong with the scalar that begins at this token as a number of this type
 unfoldable pub number_fault : Written → Number → ℕ → Option FaultName
 number_fault w type first = kind_fault type (fits type (number_at w first)) (token_kind w (unsigned_token w first))
-

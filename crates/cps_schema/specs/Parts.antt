@@ -19,8 +19,8 @@ use Rattle.cps_schema.specs.Readings.{first_or, first_of, numbers, messages, giv
 abbrev pub linear_from : Written → LinearParts → Tree → Kind
 linear_from w parts rest =
     Linear (parts.vars.items ++ numbers w (codes "vars") rest)
-        (parts.coeffs.items ++ numbers w (codes "coeffs") rest)
-        (parts.domain.items ++ numbers w (codes "domain") rest)
+    (parts.coeffs.items ++ numbers w (codes "coeffs") rest)
+    (parts.domain.items ++ numbers w (codes "domain") rest)
 
 abbrev pub objective_from : Written → ObjectiveParts → Tree → Objective
 objective_from w parts rest = record {
@@ -28,7 +28,7 @@ objective_from w parts rest = record {
   coeffs = parts.coeffs.items ++ numbers w (codes "coeffs") rest;
   offset = first_or (pos 0) (option_to_list parts.offset ++ numbers w (codes "offset") rest);
   scaling = scaling_of (first_or (pos 0) (option_to_list parts.scaling ++ numbers w (codes "scaling_factor") rest));
-  domain = parts.domain.items ++ numbers w (codes "domain") rest
+  domain = parts.domain.items ++ numbers w (codes "domain") rest;
 }
 
 -- the single fields that were read are those with one of these names
@@ -40,7 +40,7 @@ abbrev pub constraint_from : Written → ConstraintParts → Tree → Constraint
 constraint_from w parts rest = record {
   name = [];
   enforcement = parts.enforcement.items ++ numbers w (codes "enforcement_literal") rest;
-  kind = first_or Empty (option_to_list parts.kind ++ given_kinds w rest)
+  kind = first_or Empty (option_to_list parts.kind ++ given_kinds w rest);
 }
 
 abbrev pub is_bool_or : Option Kind → Bool
@@ -65,7 +65,7 @@ model_from w parts rest = record {
   objective = first_of (option_to_list parts.objective ++ map (read_objective w) (messages w (codes "objective") rest));
   strategies = [];
   hint = None;
-  assumptions = []
+  assumptions = [];
 }
 
 -- an objective was read where a field has its name

@@ -72,7 +72,7 @@ abbrev pub read_constraint : Written → Tree → Constraint
 read_constraint w tree = record {
   name = [];
   enforcement = numbers w (codes "enforcement_literal") tree;
-  kind = first_or Empty (given_kinds w tree)
+  kind = first_or Empty (given_kinds w tree);
 }
 
 -- a scaling factor of 0 counts as 1
@@ -87,7 +87,7 @@ read_objective w tree = record {
   coeffs = numbers w (codes "coeffs") tree;
   offset = first_or (pos 0) (numbers w (codes "offset") tree);
   scaling = scaling_of (first_or (pos 0) (numbers w (codes "scaling_factor") tree));
-  domain = numbers w (codes "domain") tree
+  domain = numbers w (codes "domain") tree;
 }
 
 abbrev pub read_model : Written → Tree → CpModel
@@ -98,7 +98,7 @@ read_model w tree = record {
   objective = first_of (map (read_objective w) (messages w (codes "objective") tree));
   strategies = [];
   hint = None;
-  assumptions = []
+  assumptions = [];
 }
 
 -- no field is refused, and this is the model that the fields give

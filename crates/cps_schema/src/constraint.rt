@@ -4,11 +4,11 @@ ghost use Rattle.std.specs.Option.{option_or};
 ghost use Rattle.cps_textproto.specs.Trees.{Tree, no_fields, tree_of, values_of};
 ghost use Rattle.cps_schema.specs.Written.{Written, token_text};
 ghost use Rattle.cps_schema.specs.Sources.{written_of, single_fault};
-ghost use Rattle.cps_schema.specs.Tables.{Message, constraint_message, literals_message, linear_message, message, one_kind, use_of, is_given};
-ghost use Rattle.cps_schema.specs.Faults.{has_kind, fields_fault};
+ghost use Rattle.cps_schema.specs.Tables.{Message, constraint_message, literals_message, linear_message, message};
+ghost use Rattle.cps_schema.specs.Faults.{fields_fault};
 ghost use Rattle.cps_schema.specs.Readings.{value_messages, read_bool_or, read_linear, read_constraint};
 ghost use Rattle.cps_schema.specs.Answers.{Refuses};
-ghost use Rattle.cps_schema.specs.Steps.{field_then, Passes, Stops};
+ghost use Rattle.cps_schema.specs.Steps.{field_then, Passes, Stops, KindPasses, KindStops};
 ghost use Rattle.cps_schema.specs.Parts.{constraint_from, is_bool_or, is_linear, IsKindGiven};
 
 use super::error::SchemaError;
@@ -56,17 +56,18 @@ pub struct ConstraintParts {
 
 /// The message of a field of a kind. same: a field of its name was before it, and given: a field of any kind was.
 #[tactic(auto, using(crate::proofs::Steps::kind_again, crate::proofs::Steps::second_kind, crate::proofs::Steps::kind_stops))]
-fn kind_message<'a>(source: &Source, same: bool, given: bool, field: &'a Field) -> Result<&'a Node, SchemaError>
+fn kind_message<'a>(
+    source: &Source,
+    same: bool,
+    given: bool,
+    field: &'a Field,
+) -> Result<&'a Node, SchemaError>
     ensures different { IfOk result (λ _. same ≡ false) }
     ensures first { IfOk result (λ _. given ≡ false) }
     ensures messages { IfOk result (λ node. value_messages (values_of field.now.items) ≡ tree_of node.now ∷ []) }
     ensures inner { IfOk result (λ node. (k : Message) →
         single_fault (written_of source.now) (message k) field.now ≡ option_or (fields_fault (written_of source.now) k [] (tree_of node.now)) None) }
-    ensures err { IfErr result (λ e. (m k : Message) (before : List (List ℕ)) →
-        use_of m (token_text (written_of source.now) field.now.name) ≡ Some (one_kind k) →
-        is_given before (token_text (written_of source.now) field.now.name) ≡ same →
-        has_kind m before ≡ given →
-        Stops (written_of source.now) m before field.now e) }
+    ensures err { IfErr result (λ e. (k : Message) → KindStops (written_of source.now) field.now k same given e) }
 {
     let token = field.name as usize;
     if same {
@@ -98,21 +99,18 @@ fn is_linear(kind: &Option<Kind>) -> bool
 
 /// Reads a disjunction, which must be the first kind.
 #[tactic(auto, using(crate::proofs::Steps::kind_passes, crate::proofs::Steps::kind_stops))]
-fn set_bool_or(alloc: Global, source: &Source, kind: &mut Option<Kind>, field: &Field) -> Result<(), SchemaError>
-    ensures passes { OnOk result ((m : Message) (before : List (List ℕ)) →
-        use_of m (token_text (written_of source.now) field.now.name) ≡ Some (one_kind literals_message) →
-        is_given before (token_text (written_of source.now) field.now.name) ≡ is_bool_or kind.old →
-        has_kind m before ≡ is_some kind.old →
-        Passes (written_of source.now) m before field.now) }
+fn set_bool_or(
+    alloc: Global,
+    source: &Source,
+    kind: &mut Option<Kind>,
+    field: &Field,
+) -> Result<(), SchemaError>
+    ensures passes { OnOk result (KindPasses (written_of source.now) field.now literals_message (is_bool_or kind.old) (is_some kind.old)) }
     ensures added { OnOk result (option_to_list kind.new
         ≡ option_to_list kind.old ++ map (read_bool_or (written_of source.now)) (value_messages (values_of field.now.items))) }
     ensures none { OnOk result (is_some kind.old ≡ false) }
     ensures set { OnOk result (is_bool_or kind.new ≡ true) }
-    ensures err { IfErr result (λ e. (m : Message) (before : List (List ℕ)) →
-        use_of m (token_text (written_of source.now) field.now.name) ≡ Some (one_kind literals_message) →
-        is_given before (token_text (written_of source.now) field.now.name) ≡ is_bool_or kind.old →
-        has_kind m before ≡ is_some kind.old →
-        Stops (written_of source.now) m before field.now e) }
+    ensures err { IfErr result (KindStops (written_of source.now) field.now literals_message (is_bool_or kind.old) (is_some kind.old)) }
 {
     match kind_message(source, is_bool_or(kind), kind.is_some(), field) {
         Ok(node) => match read_literals(alloc, source, node) {
@@ -128,21 +126,18 @@ fn set_bool_or(alloc: Global, source: &Source, kind: &mut Option<Kind>, field: &
 
 /// Reads a linear constraint, which must be the first kind.
 #[tactic(auto, using(crate::proofs::Steps::kind_passes, crate::proofs::Steps::kind_stops))]
-fn set_linear(alloc: Global, source: &Source, kind: &mut Option<Kind>, field: &Field) -> Result<(), SchemaError>
-    ensures passes { OnOk result ((m : Message) (before : List (List ℕ)) →
-        use_of m (token_text (written_of source.now) field.now.name) ≡ Some (one_kind linear_message) →
-        is_given before (token_text (written_of source.now) field.now.name) ≡ is_linear kind.old →
-        has_kind m before ≡ is_some kind.old →
-        Passes (written_of source.now) m before field.now) }
+fn set_linear(
+    alloc: Global,
+    source: &Source,
+    kind: &mut Option<Kind>,
+    field: &Field,
+) -> Result<(), SchemaError>
+    ensures passes { OnOk result (KindPasses (written_of source.now) field.now linear_message (is_linear kind.old) (is_some kind.old)) }
     ensures added { OnOk result (option_to_list kind.new
         ≡ option_to_list kind.old ++ map (read_linear (written_of source.now)) (value_messages (values_of field.now.items))) }
     ensures none { OnOk result (is_some kind.old ≡ false) }
     ensures set { OnOk result (is_linear kind.new ≡ true) }
-    ensures err { IfErr result (λ e. (m : Message) (before : List (List ℕ)) →
-        use_of m (token_text (written_of source.now) field.now.name) ≡ Some (one_kind linear_message) →
-        is_given before (token_text (written_of source.now) field.now.name) ≡ is_linear kind.old →
-        has_kind m before ≡ is_some kind.old →
-        Stops (written_of source.now) m before field.now e) }
+    ensures err { IfErr result (KindStops (written_of source.now) field.now linear_message (is_linear kind.old) (is_some kind.old)) }
 {
     match kind_message(source, is_linear(kind), kind.is_some(), field) {
         Ok(node) => match read_linear(alloc, source, node) {
@@ -157,7 +152,12 @@ fn set_linear(alloc: Global, source: &Source, kind: &mut Option<Kind>, field: &F
 }
 
 /// Reads a field of a constraint.
-fn add_field(alloc: Global, source: &Source, parts: &mut ConstraintParts, field: &Field) -> Result<(), SchemaError>
+fn add_field(
+    alloc: Global,
+    source: &Source,
+    parts: &mut ConstraintParts,
+    field: &Field,
+) -> Result<(), SchemaError>
     ensures passes { OnOk result ((before : List (List ℕ)) → IsKindGiven parts.old.kind before →
         Passes (written_of source.now) constraint_message before field.now
         × IsKindGiven parts.new.kind (token_text (written_of source.now) field.now.name ∷ before)) }
@@ -195,7 +195,11 @@ fn constraint_of(alloc: Global, parts: ConstraintParts) -> Constraint
 }
 
 /// The constraint that a message gives.
-pub(crate) fn read_constraint(alloc: Global, source: &Source, node: &Node) -> Result<Constraint, SchemaError>
+pub(crate) fn read_constraint(
+    alloc: Global,
+    source: &Source,
+    node: &Node,
+) -> Result<Constraint, SchemaError>
     ensures accepted { IfOk result (λ _. fields_fault (written_of source.now) constraint_message [] (tree_of node.now) ≡ None) }
     ensures reading { IfOk result (λ constraint. constraint ≡ read_constraint (written_of source.now) (tree_of node.now)) }
     ensures err { IfErr result (Refuses (fields_fault (written_of source.now) constraint_message [] (tree_of node.now))) }

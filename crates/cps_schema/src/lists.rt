@@ -51,7 +51,11 @@ fn add_int_spans(source: &Source, list: &mut Vec<i64>, spans: &[Span]) -> Result
 }
 
 /// Adds the numbers of a field.
-pub(crate) fn add_ints(source: &Source, list: &mut Vec<i64>, field: &Field) -> Result<(), SchemaError>
+pub(crate) fn add_ints(
+    source: &Source,
+    list: &mut Vec<i64>,
+    field: &Field,
+) -> Result<(), SchemaError>
     ensures fault { OnOk result (values_fault (written_of source.now) (Some (number Int64)) (values_of field.now.items) ≡ None) }
     ensures added { OnOk result (list.new.items
         ≡ list.old.items ++ value_numbers (written_of source.now) (values_of field.now.items)) }
@@ -107,7 +111,11 @@ fn add_ref_spans(source: &Source, list: &mut Vec<i32>, spans: &[Span]) -> Result
 }
 
 /// Adds the references of a field.
-pub(crate) fn add_refs(source: &Source, list: &mut Vec<i32>, field: &Field) -> Result<(), SchemaError>
+pub(crate) fn add_refs(
+    source: &Source,
+    list: &mut Vec<i32>,
+    field: &Field,
+) -> Result<(), SchemaError>
     ensures fault { OnOk result (values_fault (written_of source.now) (Some (number Int32)) (values_of field.now.items) ≡ None) }
     ensures added { OnOk result (list.new.items
         ≡ list.old.items ++ value_numbers (written_of source.now) (values_of field.now.items)) }

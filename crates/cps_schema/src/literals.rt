@@ -35,7 +35,11 @@ fn add_field(source: &Source, literals: &mut Vec<i32>, field: &Field) -> Result<
 }
 
 /// The literals that a message gives.
-pub(crate) fn read_literals(alloc: Global, source: &Source, node: &Node) -> Result<Listed<i32>, SchemaError>
+pub(crate) fn read_literals(
+    alloc: Global,
+    source: &Source,
+    node: &Node,
+) -> Result<Listed<i32>, SchemaError>
     ensures accepted { IfOk result (λ _. fields_fault (written_of source.now) literals_message [] (tree_of node.now) ≡ None) }
     ensures reading { IfOk result (λ literals. literals ≡ numbers (written_of source.now) (codes "literals") (tree_of node.now)) }
     ensures err { IfErr result (Refuses (fields_fault (written_of source.now) literals_message [] (tree_of node.now))) }

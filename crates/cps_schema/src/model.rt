@@ -4,11 +4,11 @@ ghost use Rattle.cps_textproto.specs.Trees.{Tree, no_fields, tree_of, values_of}
 ghost use Rattle.cps_model.specs.declared.model.CpModel.{CpModel};
 ghost use Rattle.cps_schema.specs.Written.{Written, written, token_text};
 ghost use Rattle.cps_schema.specs.Sources.{written_of};
-ghost use Rattle.cps_schema.specs.Tables.{Message, model_message, variable_message, constraint_message, objective_message, message, single, use_of, is_given};
+ghost use Rattle.cps_schema.specs.Tables.{model_message, variable_message, constraint_message, objective_message, message};
 ghost use Rattle.cps_schema.specs.Faults.{values_fault, fields_fault};
 ghost use Rattle.cps_schema.specs.Readings.{ReadsAs, value_messages, read_variable, read_constraint, read_objective, read_model};
 ghost use Rattle.cps_schema.specs.Answers.{Refuses, IsRefusal, Gives};
-ghost use Rattle.cps_schema.specs.Steps.{field_then, Passes, Stops};
+ghost use Rattle.cps_schema.specs.Steps.{field_then, Passes, Stops, SinglePasses, SingleStops};
 ghost use Rattle.cps_schema.specs.Parts.{model_from, IsObjectiveGiven};
 
 use super::constraint::read_constraint;
@@ -41,7 +41,12 @@ pub struct ModelParts {
 }
 
 /// Adds the variable of a field.
-fn add_variable(alloc: Global, source: &Source, variables: &mut Vec<Variable>, field: &Field) -> Result<(), SchemaError>
+fn add_variable(
+    alloc: Global,
+    source: &Source,
+    variables: &mut Vec<Variable>,
+    field: &Field,
+) -> Result<(), SchemaError>
     ensures fault { OnOk result (values_fault (written_of source.now) (Some (message variable_message)) (values_of field.now.items) ≡ None) }
     ensures added { OnOk result (variables.new.items
         ≡ variables.old.items ++ map (read_variable (written_of source.now)) (value_messages (values_of field.now.items))) }
@@ -64,7 +69,12 @@ fn add_variable(alloc: Global, source: &Source, variables: &mut Vec<Variable>, f
 }
 
 /// Adds the constraint of a field.
-fn add_constraint(alloc: Global, source: &Source, constraints: &mut Vec<Constraint>, field: &Field) -> Result<(), SchemaError>
+fn add_constraint(
+    alloc: Global,
+    source: &Source,
+    constraints: &mut Vec<Constraint>,
+    field: &Field,
+) -> Result<(), SchemaError>
     ensures fault { OnOk result (values_fault (written_of source.now) (Some (message constraint_message)) (values_of field.now.items) ≡ None) }
     ensures added { OnOk result (constraints.new.items
         ≡ constraints.old.items ++ map (read_constraint (written_of source.now)) (value_messages (values_of field.now.items))) }
@@ -88,18 +98,17 @@ fn add_constraint(alloc: Global, source: &Source, constraints: &mut Vec<Constrai
 
 /// Reads the objective, which may not have been read before.
 #[tactic(auto, using(crate::proofs::Steps::single_passes, crate::proofs::Steps::single_stops))]
-fn set_objective(alloc: Global, source: &Source, objective: &mut Option<Objective>, field: &Field) -> Result<(), SchemaError>
-    ensures passes { OnOk result ((m : Message) (before : List (List ℕ)) →
-        use_of m (token_text (written_of source.now) field.now.name) ≡ Some (single (message objective_message)) →
-        is_given before (token_text (written_of source.now) field.now.name) ≡ is_some objective.old →
-        Passes (written_of source.now) m before field.now) }
+fn set_objective(
+    alloc: Global,
+    source: &Source,
+    objective: &mut Option<Objective>,
+    field: &Field,
+) -> Result<(), SchemaError>
+    ensures passes { OnOk result (SinglePasses (written_of source.now) field.now (message objective_message) (is_some objective.old)) }
     ensures added { OnOk result (option_to_list objective.new
         ≡ option_to_list objective.old ++ map (read_objective (written_of source.now)) (value_messages (values_of field.now.items))) }
     ensures some { OnOk result (is_some objective.new ≡ true) }
-    ensures err { IfErr result (λ e. (m : Message) (before : List (List ℕ)) →
-        use_of m (token_text (written_of source.now) field.now.name) ≡ Some (single (message objective_message)) →
-        is_given before (token_text (written_of source.now) field.now.name) ≡ is_some objective.old →
-        Stops (written_of source.now) m before field.now e) }
+    ensures err { IfErr result (SingleStops (written_of source.now) field.now (message objective_message) (is_some objective.old)) }
 {
     if objective.is_some() {
         return Err(SchemaError::Fault {
@@ -120,7 +129,12 @@ fn set_objective(alloc: Global, source: &Source, objective: &mut Option<Objectiv
 }
 
 /// Reads a field of a model.
-fn add_field(alloc: Global, source: &Source, parts: &mut ModelParts, field: &Field) -> Result<(), SchemaError>
+fn add_field(
+    alloc: Global,
+    source: &Source,
+    parts: &mut ModelParts,
+    field: &Field,
+) -> Result<(), SchemaError>
     ensures passes { OnOk result ((before : List (List ℕ)) → IsObjectiveGiven parts.old.objective before →
         Passes (written_of source.now) model_message before field.now
         × IsObjectiveGiven parts.new.objective (token_text (written_of source.now) field.now.name ∷ before)) }
@@ -181,7 +195,12 @@ fn read_model(alloc: Global, source: &Source, node: &Node) -> Result<CpModel, Sc
 }
 
 /// The model of a document, given its bytes, its tokens and its tree.
-pub fn model_of(alloc: Global, bytes: &[u8], tokens: &[Token], node: &Node) -> Result<CpModel, SchemaError>
+pub fn model_of(
+    alloc: Global,
+    bytes: &[u8],
+    tokens: &[Token],
+    node: &Node,
+) -> Result<CpModel, SchemaError>
     ensures ok { IfOk result (λ model. ReadsAs (written bytes.now tokens.now) (tree_of node.now) model) }
     ensures err { IfErr result (IsRefusal (written bytes.now tokens.now) (tree_of node.now)) }
 

@@ -47,11 +47,7 @@ fn negated(size: u64) -> i64
     requires { size ≤ 2 ^ 63 }
     ensures { result ≡ neg_ℤ (pos size) }
 {
-    if size == 0 {
-        0
-    } else {
-        -1 - (size - 1) as i64
-    }
+    if size == 0 { 0 } else { -1 - (size - 1) as i64 }
 }
 
 /// The number of this size and sign, if the type has it.

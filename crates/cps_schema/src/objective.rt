@@ -3,11 +3,11 @@ ghost use Rattle.std.specs.Prelude.{◌≡◌, ◌++◌, ℕ, List, [], ◌∷�
 ghost use Rattle.cps_textproto.specs.Trees.{Tree, no_fields, tree_of, values_of};
 ghost use Rattle.cps_schema.specs.Written.{Written, token_text};
 ghost use Rattle.cps_schema.specs.Sources.{written_of};
-ghost use Rattle.cps_schema.specs.Tables.{Message, objective_message, number, single, use_of, is_given};
+ghost use Rattle.cps_schema.specs.Tables.{objective_message, number};
 ghost use Rattle.cps_schema.specs.Faults.{fields_fault};
 ghost use Rattle.cps_schema.specs.Readings.{scaling_of, value_numbers, read_objective};
 ghost use Rattle.cps_schema.specs.Answers.{Refuses};
-ghost use Rattle.cps_schema.specs.Steps.{field_then, Passes, Stops};
+ghost use Rattle.cps_schema.specs.Steps.{field_then, Passes, Stops, SinglePasses, SingleStops};
 ghost use Rattle.cps_schema.specs.Parts.{objective_from, IsGiven};
 
 use super::error::SchemaError;
@@ -39,17 +39,11 @@ pub struct ObjectiveParts {
 
 /// Reads the number of a single field, which may not have been read before.
 fn set_number(source: &Source, slot: &mut Option<i64>, field: &Field) -> Result<(), SchemaError>
-    ensures passes { OnOk result ((m : Message) (before : List (List ℕ)) →
-        use_of m (token_text (written_of source.now) field.now.name) ≡ Some (single (number Number.Exact)) →
-        is_given before (token_text (written_of source.now) field.now.name) ≡ is_some slot.old →
-        Passes (written_of source.now) m before field.now) }
+    ensures passes { OnOk result (SinglePasses (written_of source.now) field.now (number Number.Exact) (is_some slot.old)) }
     ensures added { OnOk result (option_to_list slot.new
         ≡ option_to_list slot.old ++ value_numbers (written_of source.now) (values_of field.now.items)) }
     ensures some { OnOk result (is_some slot.new ≡ true) }
-    ensures err { IfErr result (λ e. (m : Message) (before : List (List ℕ)) →
-        use_of m (token_text (written_of source.now) field.now.name) ≡ Some (single (number Number.Exact)) →
-        is_given before (token_text (written_of source.now) field.now.name) ≡ is_some slot.old →
-        Stops (written_of source.now) m before field.now e) }
+    ensures err { IfErr result (SingleStops (written_of source.now) field.now (number Number.Exact) (is_some slot.old)) }
 {
     if slot.is_some() {
         return Err(SchemaError::Fault {
@@ -122,7 +116,11 @@ fn objective_of(parts: ObjectiveParts) -> Objective
 }
 
 /// The objective that a message gives.
-pub(crate) fn read_objective(alloc: Global, source: &Source, node: &Node) -> Result<Objective, SchemaError>
+pub(crate) fn read_objective(
+    alloc: Global,
+    source: &Source,
+    node: &Node,
+) -> Result<Objective, SchemaError>
     ensures accepted { IfOk result (λ _. fields_fault (written_of source.now) objective_message [] (tree_of node.now) ≡ None) }
     ensures reading { IfOk result (λ objective. objective ≡ read_objective (written_of source.now) (tree_of node.now)) }
     ensures err { IfErr result (Refuses (fields_fault (written_of source.now) objective_message [] (tree_of node.now))) }

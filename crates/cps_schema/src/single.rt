@@ -88,7 +88,11 @@ fn alone(field: &Field) -> Option<Value<'_>>
 }
 
 /// The number of a field that takes one.
-pub(crate) fn single_number(source: &Source, kind: Number, field: &Field) -> Result<i64, SchemaError>
+pub(crate) fn single_number(
+    source: &Source,
+    kind: Number,
+    field: &Field,
+) -> Result<i64, SchemaError>
     ensures fault { IfOk result (λ _. single_fault (written_of source.now) (number kind) field.now ≡ None) }
     ensures value { IfOk result (λ z. value_numbers (written_of source.now) (values_of field.now.items) ≡ z ∷ []) }
     ensures err { IfErr result (Refuses (single_fault (written_of source.now) (number kind) field.now)) }

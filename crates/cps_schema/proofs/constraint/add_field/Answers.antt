@@ -17,8 +17,8 @@ returns-then-eq-clause-passes c =
     let f = c.args.field.now in
     let name : token_text w f.name ≡ codes "enforcement_literal" = grind (arith, same_text c.token_text-name.result.now c.as_slice.result.now c.eq.result) in
     if_passes w constraint_message f (IsKindGiven c.args.parts.now.kind) (IsKindGiven c.args.parts.now.kind) c.add_refs.result
-      (repeated_passes w constraint_message f (number Int32) c.add_refs.result (table_use _ _ _ _ name refl) c.add_refs.ensures.fault)
-      (enforcement_given c.args.parts.now.kind (token_text w f.name) name)
+    (repeated_passes w constraint_message f (number Int32) c.add_refs.result (table_use _ _ _ _ name refl) c.add_refs.ensures.fault)
+    (enforcement_given c.args.parts.now.kind (token_text w f.name) name)
 
 pub returns-then-eq-clause-read : goal.returns-then-eq-clause-read
 returns-then-eq-clause-read c =
@@ -26,9 +26,9 @@ returns-then-eq-clause-read c =
     let f = c.args.field.now in
     let name : token_text w f.name ≡ codes "enforcement_literal" = grind (arith, same_text c.token_text-name.result.now c.as_slice.result.now c.eq.result) in
     on_ok_weaker c.add_refs.result
-      (λ (added : c.add_refs.new.list.items ≡ c.args.parts.now.enforcement.items ++ value_numbers w (values_of f.items)) rest.
-        simp (name, added, append_assoc))
-      c.add_refs.ensures.added
+    (λ (added : c.add_refs.new.list.items ≡ c.args.parts.now.enforcement.items ++ value_numbers w (values_of f.items)) rest.
+    simp (name, added, append_assoc))
+    c.add_refs.ensures.added
 
 pub returns-then-eq-clause-err : goal.returns-then-eq-clause-err
 returns-then-eq-clause-err c =
@@ -36,7 +36,7 @@ returns-then-eq-clause-err c =
     let f = c.args.field.now in
     let name : token_text w f.name ≡ codes "enforcement_literal" = grind (arith, same_text c.token_text-name.result.now c.as_slice.result.now c.eq.result) in
     if_stops w constraint_message f (IsKindGiven c.args.parts.now.kind) c.add_refs.result
-      (repeated_stops w constraint_message f (number Int32) c.add_refs.result (table_use _ _ _ _ name refl) c.add_refs.ensures.err)
+    (repeated_stops w constraint_message f (number Int32) c.add_refs.result (table_use _ _ _ _ name refl) c.add_refs.ensures.err)
 
 pub returns-then-eq-2-clause-passes : goal.returns-then-eq-2-clause-passes
 returns-then-eq-2-clause-passes c =
@@ -73,7 +73,7 @@ returns-else-eq-3-clause-err c = λ before given.
     let text = token_text w f.name in
     let name = c.token_text-name in
     let other = no_constraint_field text
-      (other_text name.result.now c.as_slice.result.now text (codes "enforcement_literal") c.eq.result c.eq.ensures c.if-eq.false name.ensures c.as_slice.ensures)
-      (other_text name.result.now c.as_slice-else-eq.result.now text (codes "bool_or") c.eq-else-eq.result c.eq-else-eq.ensures c.if-eq-2.false name.ensures c.as_slice-else-eq.ensures)
-      (other_text name.result.now c.as_slice-else-eq-2.result.now text (codes "linear") c.eq-else-eq-2.result c.eq-else-eq-2.ensures c.if-eq-3.false name.ensures c.as_slice-else-eq-2.ensures) in
+    (other_text name.result.now c.as_slice.result.now text (codes "enforcement_literal") c.eq.result c.eq.ensures c.if-eq.false name.ensures c.as_slice.ensures)
+    (other_text name.result.now c.as_slice-else-eq.result.now text (codes "bool_or") c.eq-else-eq.result c.eq-else-eq.ensures c.if-eq-2.false name.ensures c.as_slice-else-eq.ensures)
+    (other_text name.result.now c.as_slice-else-eq-2.result.now text (codes "linear") c.eq-else-eq-2.result c.eq-else-eq-2.ensures c.if-eq-3.false name.ensures c.as_slice-else-eq-2.ensures) in
     rw c.not_read.ensures (not_read_stops w constraint_message f other before)

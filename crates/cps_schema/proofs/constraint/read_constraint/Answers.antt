@@ -23,5 +23,5 @@ returns-clause-reading c =
     let items = c.fields_of-field-items.result.now in
     let past : drop c.loop-field.field-index items ≡ [] = grind (arith, common_steps) in
     let read : read_constraint w (field_list items) ≡ constraint_from w c.loop-field.parts no_fields =
-        c.loop-field.invariant.1 ∙ ap (λ fs. constraint_from w c.loop-field.parts (field_list fs)) past in
+    c.loop-field.invariant.1 ∙ ap (λ fs. constraint_from w c.loop-field.parts (field_list fs)) past in
     c.constraint_of.ensures w ∙ sym read ∙ ap (read_constraint w) c.fields_of-field-items.ensures

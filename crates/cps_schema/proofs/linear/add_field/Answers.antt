@@ -32,9 +32,9 @@ returns-then-eq-2-clause-read c =
     let w = written_of c.args.source.now in
     let name : token_text w c.args.field.now.name ≡ codes "coeffs" = grind (arith, same_text c.token_text-name.result.now c.as_slice-else-eq.result.now c.eq-else-eq.result) in
     on_ok_weaker c.add_ints.result
-      (λ (added : c.add_ints.new.list.items ≡ c.args.parts.now.coeffs.items ++ value_numbers w (values_of c.args.field.now.items)) rest.
-        simp (name, added, append_assoc))
-      c.add_ints.ensures.added
+    (λ (added : c.add_ints.new.list.items ≡ c.args.parts.now.coeffs.items ++ value_numbers w (values_of c.args.field.now.items)) rest.
+    simp (name, added, append_assoc))
+    c.add_ints.ensures.added
 
 pub returns-then-eq-2-clause-err : goal.returns-then-eq-2-clause-err
 returns-then-eq-2-clause-err c =

@@ -10,6 +10,6 @@ use Rattle.cps_schema.proofs.linear.read_linear.Given as goal
 abbrev pub invariant-loop-field : goal.invariant-loop-field
 invariant-loop-field l =
     ((before : List (List ℕ)) × (fields_fault (written_of l.source) linear_message [] (field_list l.field-items)
-        ≡ fields_fault (written_of l.source) linear_message before (field_list (drop l.field-index l.field-items))))
+    ≡ fields_fault (written_of l.source) linear_message before (field_list (drop l.field-index l.field-items))))
     × (read_linear (written_of l.source) (field_list l.field-items)
-        ≡ linear_from (written_of l.source) l.parts (field_list (drop l.field-index l.field-items)))
+    ≡ linear_from (written_of l.source) l.parts (field_list (drop l.field-index l.field-items)))

@@ -10,6 +10,6 @@ use Rattle.cps_schema.proofs.lists.add_int_spans.Given as goal
 abbrev pub invariant-loop-span : goal.invariant-loop-span
 invariant-loop-span l =
     (values_fault (written_of l.source) (Some (number Int64)) (span_values l.spans)
-        ≡ values_fault (written_of l.source) (Some (number Int64)) (span_values (drop l.span-index l.spans)))
+    ≡ values_fault (written_of l.source) (Some (number Int64)) (span_values (drop l.span-index l.spans)))
     × (l.initial.list.items ++ value_numbers (written_of l.source) (span_values l.spans)
-        ≡ l.list.items ++ value_numbers (written_of l.source) (span_values (drop l.span-index l.spans)))
+    ≡ l.list.items ++ value_numbers (written_of l.source) (span_values (drop l.span-index l.spans)))

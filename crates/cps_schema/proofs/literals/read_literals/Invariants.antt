@@ -9,6 +9,6 @@ use Rattle.cps_schema.proofs.literals.read_literals.Given as goal
 abbrev pub invariant-loop-field : goal.invariant-loop-field
 invariant-loop-field l =
     ((before : List (List ℕ)) × (fields_fault (written_of l.source) literals_message [] (field_list l.field-items)
-        ≡ fields_fault (written_of l.source) literals_message before (field_list (drop l.field-index l.field-items))))
+    ≡ fields_fault (written_of l.source) literals_message before (field_list (drop l.field-index l.field-items))))
     × (numbers (written_of l.source) (codes "literals") (field_list l.field-items)
-        ≡ l.literals.items ++ numbers (written_of l.source) (codes "literals") (field_list (drop l.field-index l.field-items)))
+    ≡ l.literals.items ++ numbers (written_of l.source) (codes "literals") (field_list (drop l.field-index l.field-items)))

@@ -10,7 +10,7 @@ use Rattle.cps_schema.proofs.model.read_model.Given as goal
 abbrev pub invariant-loop-field : goal.invariant-loop-field
 invariant-loop-field l =
     ((before : List (List ℕ)) × (fields_fault (written_of l.source) model_message [] (field_list l.field-items)
-            ≡ fields_fault (written_of l.source) model_message before (field_list (drop l.field-index l.field-items)))
-        × IsObjectiveGiven l.parts.objective before)
+    ≡ fields_fault (written_of l.source) model_message before (field_list (drop l.field-index l.field-items)))
+    × IsObjectiveGiven l.parts.objective before)
     × (read_model (written_of l.source) (field_list l.field-items)
-        ≡ model_from (written_of l.source) l.parts (field_list (drop l.field-index l.field-items)))
+    ≡ model_from (written_of l.source) l.parts (field_list (drop l.field-index l.field-items)))

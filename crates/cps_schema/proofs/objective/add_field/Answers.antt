@@ -17,8 +17,8 @@ returns-then-eq-clause-passes c =
     let f = c.args.field.now in
     let name : token_text w f.name ≡ codes "vars" = grind (arith, same_text c.token_text-name.result.now c.as_slice.result.now c.eq.result) in
     if_passes w objective_message f (IsGiven c.args.parts.now.offset c.args.parts.now.scaling) (IsGiven c.args.parts.now.offset c.args.parts.now.scaling) c.add_refs.result
-      (repeated_passes w objective_message f (number Int32) c.add_refs.result (table_use _ _ _ _ name refl) c.add_refs.ensures.fault)
-      (other_given c.args.parts.now.offset c.args.parts.now.scaling (token_text w f.name) (codes "vars") name refl refl)
+    (repeated_passes w objective_message f (number Int32) c.add_refs.result (table_use _ _ _ _ name refl) c.add_refs.ensures.fault)
+    (other_given c.args.parts.now.offset c.args.parts.now.scaling (token_text w f.name) (codes "vars") name refl refl)
 
 pub returns-then-eq-clause-read : goal.returns-then-eq-clause-read
 returns-then-eq-clause-read c =
@@ -26,9 +26,9 @@ returns-then-eq-clause-read c =
     let f = c.args.field.now in
     let name : token_text w f.name ≡ codes "vars" = grind (arith, same_text c.token_text-name.result.now c.as_slice.result.now c.eq.result) in
     on_ok_weaker c.add_refs.result
-      (λ (added : c.add_refs.new.list.items ≡ c.args.parts.now.vars.items ++ value_numbers w (values_of f.items)) rest.
-        simp (name, added, append_assoc))
-      c.add_refs.ensures.added
+    (λ (added : c.add_refs.new.list.items ≡ c.args.parts.now.vars.items ++ value_numbers w (values_of f.items)) rest.
+    simp (name, added, append_assoc))
+    c.add_refs.ensures.added
 
 pub returns-then-eq-clause-err : goal.returns-then-eq-clause-err
 returns-then-eq-clause-err c =
@@ -36,7 +36,7 @@ returns-then-eq-clause-err c =
     let f = c.args.field.now in
     let name : token_text w f.name ≡ codes "vars" = grind (arith, same_text c.token_text-name.result.now c.as_slice.result.now c.eq.result) in
     if_stops w objective_message f (IsGiven c.args.parts.now.offset c.args.parts.now.scaling) c.add_refs.result
-      (repeated_stops w objective_message f (number Int32) c.add_refs.result (table_use _ _ _ _ name refl) c.add_refs.ensures.err)
+    (repeated_stops w objective_message f (number Int32) c.add_refs.result (table_use _ _ _ _ name refl) c.add_refs.ensures.err)
 
 pub returns-then-eq-2-clause-passes : goal.returns-then-eq-2-clause-passes
 returns-then-eq-2-clause-passes c =
@@ -44,8 +44,8 @@ returns-then-eq-2-clause-passes c =
     let f = c.args.field.now in
     let name : token_text w f.name ≡ codes "coeffs" = grind (arith, same_text c.token_text-name.result.now c.as_slice-else-eq.result.now c.eq-else-eq.result) in
     if_passes w objective_message f (IsGiven c.args.parts.now.offset c.args.parts.now.scaling) (IsGiven c.args.parts.now.offset c.args.parts.now.scaling) c.add_ints.result
-      (repeated_passes w objective_message f (number Int64) c.add_ints.result (table_use _ _ _ _ name refl) c.add_ints.ensures.fault)
-      (other_given c.args.parts.now.offset c.args.parts.now.scaling (token_text w f.name) (codes "coeffs") name refl refl)
+    (repeated_passes w objective_message f (number Int64) c.add_ints.result (table_use _ _ _ _ name refl) c.add_ints.ensures.fault)
+    (other_given c.args.parts.now.offset c.args.parts.now.scaling (token_text w f.name) (codes "coeffs") name refl refl)
 
 pub returns-then-eq-2-clause-read : goal.returns-then-eq-2-clause-read
 returns-then-eq-2-clause-read c =
@@ -53,9 +53,9 @@ returns-then-eq-2-clause-read c =
     let f = c.args.field.now in
     let name : token_text w f.name ≡ codes "coeffs" = grind (arith, same_text c.token_text-name.result.now c.as_slice-else-eq.result.now c.eq-else-eq.result) in
     on_ok_weaker c.add_ints.result
-      (λ (added : c.add_ints.new.list.items ≡ c.args.parts.now.coeffs.items ++ value_numbers w (values_of f.items)) rest.
-        simp (name, added, append_assoc))
-      c.add_ints.ensures.added
+    (λ (added : c.add_ints.new.list.items ≡ c.args.parts.now.coeffs.items ++ value_numbers w (values_of f.items)) rest.
+    simp (name, added, append_assoc))
+    c.add_ints.ensures.added
 
 pub returns-then-eq-2-clause-err : goal.returns-then-eq-2-clause-err
 returns-then-eq-2-clause-err c =
@@ -63,7 +63,7 @@ returns-then-eq-2-clause-err c =
     let f = c.args.field.now in
     let name : token_text w f.name ≡ codes "coeffs" = grind (arith, same_text c.token_text-name.result.now c.as_slice-else-eq.result.now c.eq-else-eq.result) in
     if_stops w objective_message f (IsGiven c.args.parts.now.offset c.args.parts.now.scaling) c.add_ints.result
-      (repeated_stops w objective_message f (number Int64) c.add_ints.result (table_use _ _ _ _ name refl) c.add_ints.ensures.err)
+    (repeated_stops w objective_message f (number Int64) c.add_ints.result (table_use _ _ _ _ name refl) c.add_ints.ensures.err)
 
 pub returns-then-eq-3-clause-passes : goal.returns-then-eq-3-clause-passes
 returns-then-eq-3-clause-passes c =
@@ -99,8 +99,8 @@ returns-then-eq-5-clause-passes c =
     let f = c.args.field.now in
     let name : token_text w f.name ≡ codes "domain" = grind (arith, same_text c.token_text-name.result.now c.as_slice-else-eq-4.result.now c.eq-else-eq-4.result) in
     if_passes w objective_message f (IsGiven c.args.parts.now.offset c.args.parts.now.scaling) (IsGiven c.args.parts.now.offset c.args.parts.now.scaling) c.add_ints-then-eq-5.result
-      (repeated_passes w objective_message f (number Int64) c.add_ints-then-eq-5.result (table_use _ _ _ _ name refl) c.add_ints-then-eq-5.ensures.fault)
-      (other_given c.args.parts.now.offset c.args.parts.now.scaling (token_text w f.name) (codes "domain") name refl refl)
+    (repeated_passes w objective_message f (number Int64) c.add_ints-then-eq-5.result (table_use _ _ _ _ name refl) c.add_ints-then-eq-5.ensures.fault)
+    (other_given c.args.parts.now.offset c.args.parts.now.scaling (token_text w f.name) (codes "domain") name refl refl)
 
 pub returns-then-eq-5-clause-err : goal.returns-then-eq-5-clause-err
 returns-then-eq-5-clause-err c =
@@ -108,7 +108,7 @@ returns-then-eq-5-clause-err c =
     let f = c.args.field.now in
     let name : token_text w f.name ≡ codes "domain" = grind (arith, same_text c.token_text-name.result.now c.as_slice-else-eq-4.result.now c.eq-else-eq-4.result) in
     if_stops w objective_message f (IsGiven c.args.parts.now.offset c.args.parts.now.scaling) c.add_ints-then-eq-5.result
-      (repeated_stops w objective_message f (number Int64) c.add_ints-then-eq-5.result (table_use _ _ _ _ name refl) c.add_ints-then-eq-5.ensures.err)
+    (repeated_stops w objective_message f (number Int64) c.add_ints-then-eq-5.result (table_use _ _ _ _ name refl) c.add_ints-then-eq-5.ensures.err)
 
 pub returns-else-eq-5-clause-err : goal.returns-else-eq-5-clause-err
 returns-else-eq-5-clause-err c = λ before given.
