@@ -1,12 +1,12 @@
 -- The kinds among a constraint's fields.
 use Rattle.std.specs.Str.{bytes_eq}
-use Rattle.std.proofs.Common.{◌≡◌, ℕ, List, ◌∷◌, ◌||◌, Bool, true, false, Option, Some, None, is_some, Result, Ok, Err, OnOk, IfErr, codes, refl, sym, ◌∙◌}
+use Rattle.std.proofs.Common.{◌≡◌, ℕ, List, ◌∷◌, ◌||◌, true, false, Option, Some, None, is_some, Result, Ok, Err, OnOk, IfErr, codes, refl, sym, ◌∙◌}
 use Rattle.cps_textproto.specs.declared.tree.Field.{Field}
 use Rattle.cps_model.specs.declared.constraint.Kind.{Kind}
-use Rattle.cps_model.specs.declared.constraint.Kind.TheVariants.{Empty, BoolOr, BoolAnd, AtMostOne, ExactlyOne, BoolXor, Linear}
+use Rattle.cps_model.specs.declared.constraint.Kind.TheVariants.{BoolOr, Linear}
 use Rattle.cps_schema.specs.declared.error.SchemaError.{SchemaError}
 use Rattle.cps_schema.specs.Written.{Written, token_text}
-use Rattle.cps_schema.specs.Tables.{Message, constraint_message, literals_message, linear_message, one_kind, use_in, table_of, use_of, is_given}
+use Rattle.cps_schema.specs.Tables.{Message, constraint_message, literals_message, linear_message, use_in, table_of, use_of}
 use Rattle.cps_schema.specs.Faults.{is_kind, has_kind}
 use Rattle.cps_schema.specs.Steps.{Passes, Stops, KindPasses, KindStops}
 use Rattle.cps_schema.specs.Parts.{is_bool_or, is_linear, IsKindGiven}

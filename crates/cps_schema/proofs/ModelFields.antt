@@ -6,7 +6,7 @@ use Rattle.cps_textproto.specs.declared.tree.Field.{Field}
 use Rattle.cps_model.specs.declared.model.Objective.{Objective}
 use Rattle.cps_schema.specs.declared.error.SchemaError.{SchemaError}
 use Rattle.cps_schema.specs.Written.{Written, token_text}
-use Rattle.cps_schema.specs.Tables.{Message, model_message, objective_message, message, single, use_in, table_of, use_of, is_given}
+use Rattle.cps_schema.specs.Tables.{model_message, objective_message, message, use_in, table_of}
 use Rattle.cps_schema.specs.Readings.{first_of}
 use Rattle.cps_schema.specs.Steps.{Passes, Stops, SinglePasses, SingleStops}
 use Rattle.cps_schema.specs.Parts.{IsObjectiveGiven}

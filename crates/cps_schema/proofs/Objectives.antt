@@ -6,7 +6,7 @@ use Rattle.cps_textproto.specs.declared.tree.Field.{Field}
 use Rattle.cps_schema.specs.declared.number.Number.TheVariants.{Exact}
 use Rattle.cps_schema.specs.declared.error.SchemaError.{SchemaError}
 use Rattle.cps_schema.specs.Written.{Written, token_text}
-use Rattle.cps_schema.specs.Tables.{Message, objective_message, number, single, use_of, is_given}
+use Rattle.cps_schema.specs.Tables.{objective_message, number}
 use Rattle.cps_schema.specs.Readings.{first_or}
 use Rattle.cps_schema.specs.Steps.{Passes, Stops, SinglePasses, SingleStops}
 use Rattle.cps_schema.specs.Parts.{IsGiven}

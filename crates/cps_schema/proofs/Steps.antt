@@ -1,16 +1,16 @@
 -- What a field of each use does to the first fault of a message.
 use Rattle.std.specs.Str.{bytes_eq}
 use Rattle.std.specs.Option.{option_or}
-use Rattle.std.proofs.Common.{◌≡◌, ℕ, List, ◌∷◌, ◌||◌, Bool, true, false, Option, Some, None, Result, Ok, Err, if◌then◌else◌, OnOk, IfOk, IfErr, nat_eq, refl, sym, ◌∙◌}
+use Rattle.std.proofs.Common.{◌≡◌, ℕ, List, ◌∷◌, ◌||◌, Bool, true, false, Option, Some, None, Result, Ok, Err, if◌then◌else◌, OnOk, IfErr, nat_eq, refl, sym, ◌∙◌}
 use Rattle.std.specs.Cmp.Lexicographic.{pointwise}
 use Rattle.std.proofs.lemmas.Slice.Eq.{bytes_eq-Decides}
 use Rattle.cps_textproto.specs.declared.tree.Field.{Field}
-use Rattle.cps_textproto.specs.Trees.{Tree, values_of, tree_of}
+use Rattle.cps_textproto.specs.Trees.{Tree, values_of}
 use Rattle.cps_model.specs.declared.fault.FaultName.TheVariants.{UnknownField, Unsupported, Repeated, TwoKinds}
 use Rattle.cps_schema.specs.declared.error.SchemaError.{SchemaError}
 use Rattle.cps_schema.specs.declared.error.SchemaError.TheVariants.{Fault, OutOfMemory}
 use Rattle.cps_schema.specs.Written.{Written, token_text}
-use Rattle.cps_schema.specs.Tables.{Message, Content, message, Use, single, repeated, one_kind, unread, table_of, use_in, use_of, unread_names, is_given}
+use Rattle.cps_schema.specs.Tables.{Message, Content, message, Use, single, repeated, one_kind, table_of, use_in, use_of, unread_names, is_given}
 use Rattle.cps_schema.specs.Faults.{has_kind, is_alone, alone_fault, values_fault, fields_fault}
 use Rattle.cps_schema.specs.Sources.{single_fault}
 use Rattle.cps_schema.specs.Answers.{Refuses}

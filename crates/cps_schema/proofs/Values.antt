@@ -1,5 +1,5 @@
 -- Lists that have not one item.
-use Rattle.std.proofs.Common.{◌≡◌, ◌≢◌, List, [], ◌∷◌, length, false, refl, arith}
+use Rattle.std.proofs.Common.{◌≡◌, ◌≢◌, List, [], ◌∷◌, length, false, refl}
 use Rattle.cps_textproto.specs.declared.tree.Span.{Span}
 use Rattle.cps_textproto.specs.Trees.{span_values}
 use Rattle.cps_schema.specs.Faults.{is_alone}

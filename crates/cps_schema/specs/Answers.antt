@@ -1,5 +1,5 @@
 -- What an answer says of a document.
-use Rattle.std.specs.Prelude.{◌≡◌, ℕ, Option, Some, None, Result, Ok, Err}
+use Rattle.std.specs.Prelude.{◌≡◌, ℕ, Option, Some, Result, Ok, Err}
 use Rattle.cps_textproto.specs.Trees.{Tree}
 use Rattle.cps_model.specs.declared.fault.FaultName.{FaultName}
 use Rattle.cps_model.specs.declared.model.CpModel.{CpModel}

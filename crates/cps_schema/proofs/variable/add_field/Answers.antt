@@ -1,8 +1,8 @@
-use Rattle.std.proofs.Common.{◌≡◌, codes, Some, None, refl, arith}
+use Rattle.std.proofs.Common.{◌≡◌, codes, None, refl, arith}
 use Rattle.cps_schema.specs.declared.number.Number.TheVariants.{Int64}
 use Rattle.cps_schema.specs.Sources.{written_of}
 use Rattle.cps_schema.specs.Written.{token_text}
-use Rattle.cps_schema.specs.Tables.{variable_message, number, repeated, use_of, use_in, table_of}
+use Rattle.cps_schema.specs.Tables.{variable_message, number, use_in, table_of}
 use Rattle.cps_schema.proofs.Steps.{same_text, table_use, repeated_passes, repeated_stops, not_read_stops}
 use Rattle.cps_schema.proofs.variable.add_field.Goals as goal
 

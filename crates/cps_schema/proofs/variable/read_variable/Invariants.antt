@@ -1,5 +1,5 @@
 use Rattle.std.specs.Prelude.{◌≡◌, ◌++◌, List, ℕ, [], drop, codes}
-use Rattle.cps_textproto.specs.Trees.{tree_of, field_list}
+use Rattle.cps_textproto.specs.Trees.{field_list}
 use Rattle.cps_schema.specs.Sources.{written_of}
 use Rattle.cps_schema.specs.Tables.{variable_message}
 use Rattle.cps_schema.specs.Faults.{fields_fault}
