@@ -10,8 +10,8 @@ use Rattle.cps_model.specs.declared.model.CpModel.{CpModel}
 use Rattle.cps_model.specs.declared.fault.FaultName.{FaultName}
 use Rattle.cps_model.specs.Validity.{first_invalid, IsValid}
 use Rattle.cps_schema.specs.Written.{written}
-use Rattle.cps_schema.specs.Readings.{ReadsAs}
 use Rattle.cps_schema.specs.Faults.{FirstFault}
+use Rattle.cps_print.specs.ReadBack.{IsReadAs}
 use Rattle.cps_print.specs.declared.fault.Fault.{Fault}
 use Rattle.cps_print.specs.declared.fault.Fault.TheVariants.{Text, Field, Rule, TooLong}
 
@@ -27,18 +27,6 @@ start_or end (Some t) = t.start
 abbrev pub byte_of : List ℕ → List Token → ℕ → ℕ
 byte_of bytes ts token = start_or (length bytes) (slice_get ts token)
 
--- the bytes are these tokens, and these the document with this tree
-pub record HasDocument (bytes : List ℕ) (ts : List Token) (t : Tree) : Type 0 where
-  pub tokens : AreTokens bytes ts
-  pub tree : HasTree (symbols bytes ts) t
-
--- the bytes are the text of this model
-pub record Reads (bytes : List ℕ) (m : CpModel) : Type 0 where
-  pub tokens : List Token
-  pub tree : Tree
-  pub document : HasDocument bytes tokens tree
-  pub meaning : ReadsAs (written bytes tokens) tree m
-
 -- the bytes are no document: no token stands at this byte, or with the token there no document goes on
 pub data IsTextFault (bytes : List ℕ) (byte : ℕ) : Type 0 where
   no_token : HasNoTokenAt bytes byte → IsTextFault bytes byte
@@ -48,7 +36,8 @@ pub data IsTextFault (bytes : List ℕ) (byte : ℕ) : Type 0 where
 pub record IsFieldFault (bytes : List ℕ) (name : FaultName) (byte : ℕ) : Type 0 where
   pub tokens : List Token
   pub tree : Tree
-  pub document : HasDocument bytes tokens tree
+  pub cut : AreTokens bytes tokens
+  pub parsed : HasTree (symbols bytes tokens) tree
   pub token : ℕ
   pub fault : FirstFault (written bytes tokens) tree name token
   pub place : byte ≡ byte_of bytes tokens token
@@ -56,7 +45,7 @@ pub record IsFieldFault (bytes : List ℕ) (name : FaultName) (byte : ℕ) : Typ
 -- the input is the text of this valid model
 pub record IsInput (bytes : List ℕ) (m : CpModel) : Type 0 where
   pub short : length bytes ≤ most_bytes
-  pub reads : Reads bytes m
+  pub reads : IsReadAs bytes m
   pub valid : IsValid m
 
 -- the input is the text of no valid model
@@ -67,5 +56,5 @@ IsNoInput bytes = (m : CpModel) → IsInput bytes m → ⊥
 abbrev pub HasFault : List ℕ → Fault → Type 0
 HasFault bytes (Text byte) = (length bytes ≤ most_bytes) × IsTextFault bytes byte
 HasFault bytes (Field name byte) = (length bytes ≤ most_bytes) × IsFieldFault bytes name byte
-HasFault bytes (Rule rule place) = (length bytes ≤ most_bytes) × ((m : CpModel) × Reads bytes m × (first_invalid m ≡ Some (rule, place)))
+HasFault bytes (Rule rule place) = (length bytes ≤ most_bytes) × ((m : CpModel) × IsReadAs bytes m × (first_invalid m ≡ Some (rule, place)))
 HasFault bytes TooLong = most_bytes < length bytes

@@ -6,9 +6,10 @@ use Rattle.cps_textproto.specs.Symbols.{symbols}
 use Rattle.cps_textproto.specs.Trees.{Tree}
 use Rattle.cps_textproto.specs.Reading.{HasTree}
 use Rattle.cps_model.specs.declared.model.CpModel.{CpModel}
+use Rattle.cps_print.specs.ReadBack.{IsReadAs}
 use Rattle.cpsolve.specs.declared.input.Unread.{Unread}
 use Rattle.cpsolve.specs.declared.input.Unread.TheVariants.{Fault, OutOfMemory}
-use Rattle.cpsolve.specs.Inputs.{Reads, HasFault, IsNoInput}
+use Rattle.cpsolve.specs.Inputs.{HasFault, IsNoInput}
 
 -- the only tokens of the bytes
 pub record IsCut (bytes : List ℕ) (ts : List Token) : Type 0 where
@@ -23,8 +24,8 @@ pub record IsParsed (bytes : List ℕ) (ts : List Token) (tree : Tree) : Type 0 
 
 -- the only model that the bytes are the text of
 pub record IsMeant (bytes : List ℕ) (m : CpModel) : Type 0 where
-  pub this : Reads bytes m
-  pub alone : (other : CpModel) → Reads bytes other → m ≡ other
+  pub this : IsReadAs bytes m
+  pub alone : (other : CpModel) → IsReadAs bytes other → m ≡ other
 
 -- a fault is right, and there is no valid model then
 abbrev pub IsRefusal : List ℕ → Unread → Type 0
