@@ -4,3 +4,6 @@ pub mod Marks
 pub mod Inferring
 pub mod Times
 pub mod Falls
+pub mod Undoing
+pub mod Keeping
+pub mod Noting

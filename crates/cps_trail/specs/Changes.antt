@@ -1,5 +1,5 @@
 -- What a history keeps so that its narrowings can be taken back.
-use Rattle.std.specs.Prelude.{ℕ, zero, suc, ◌+◌, ◌≤◌, ◌<◌, ◌≡◌, ◌≢◌, ℤ, pos, ◌≤ℤ◌, Bool, true, false, ◌&&◌, List, [], ◌∷◌, ◌++◌, length, map, reverse, slice_index, slice_index_or, slice_set, take, ⊥}
+use Rattle.std.specs.Prelude.{ℕ, zero, suc, ◌+◌, ◌≤◌, ◌<◌, ◌≡◌, ◌≢◌, ℤ, pos, ◌≤ℤ◌, Bool, true, false, ◌&&◌, List, [], ◌∷◌, ◌++◌, length, map, reverse, slice_index, slice_index_or, slice_set, take}
 use Rattle.std.specs.List.{All}
 use Rattle.cps_domain.specs.Window.{Window, contains, intervals, IsDomain}
 use Rattle.cps_domain.specs.Cuts.{CanUndo, LeadsBack, restored}
@@ -52,6 +52,7 @@ Unwinds first ds [] (c ∷ cs) = ⊥
 Unwinds first ds (e ∷ es) [] = ⊥
 Unwinds first ds (e ∷ es) (c ∷ cs) =
     IsCurrent first ds (e ∷ es)
+    × (e.atom.subject < length first)
     × CanUndo c.undo (window_of ds e.atom.subject)
     × Unwinds first (slice_set ds e.atom.subject (restored c.undo (window_of ds e.atom.subject))) es cs
 
@@ -62,11 +63,11 @@ pub record IsKept (first : Domains) (before : List Entry) (e : Entry) (c : Chang
   pub hull : IsHull (admits first before e.atom.subject) c.hull
   pub previous : IsLastOn before e.atom.subject c.previous
 
-pub record AreKept (first : Domains) (es : List Entry) (cs : List Change) (last : List ℕ) : Type 0 where
+pub record AreKept (first : Domains) (es : List Entry) (cs : List Change) (lasts : List ℕ) : Type 0 where
   pub sizes : length cs ≡ length es
   pub each : (k : ℕ) (d : Entry) (c : Change) → k < length es → IsKept first (take k es) (slice_index_or es k d) (slice_index_or cs k c)
-  pub subjects : length last ≡ length first
-  pub last : (i : ℕ) → i < length first → IsLastOn es i (slice_index last i)
+  pub subjects : length lasts ≡ length first
+  pub last : (i : ℕ) → i < length first → IsLastOn es i (slice_index lasts i)
 
 -- the fields of a history belong together
 pub record IsHistory (firsts ds : List Window) (last : List ℕ) (views : List EntryView) (cs : List Change) (atoms : List Atom) : Type 0 where

@@ -6,7 +6,7 @@ ghost use Rattle.cps_domain.specs.Window.{contains, intervals};
 use crate::change::Change;
 use crate::cutting::{cut_one, excludes};
 use crate::entry::{EntryView, ReasonView};
-use crate::reasons::note;
+use crate::reasons::{kept_atoms, note};
 use cps_domain::{Cut, Domain};
 use cps_literal::{Atom, Op, Truth};
 use std::alloc::{AllocError, Global};
@@ -146,7 +146,7 @@ impl History {
         ensures same { IfOk result (λ cut. (cut ≡ Cut.NoChange) ↔ IsTrueAfter self.old.first self.old.entries atom) }
         ensures wiped { IfOk result (λ cut. (cut ≡ Cut.Wiped) ↔ IsFalseAfter self.old.first self.old.entries atom) }
         ensures kept { IfOk result (λ cut. cut ≢ Cut.Narrowed → self.new ≡ self.old) }
-        ensures narrowed { result ≡ Ok Cut.Narrowed → self.new ≡ record self.old { entries = self.old.entries ++ record { atom = atom; level = level; reason = given reason } ∷ [] } }
+        ensures narrowed { result ≡ Ok Cut.Narrowed → self.new ≡ record self.old { entries = self.old.entries ++ record { atom = atom; level = level; reason = given reason.entry } ∷ [] } }
         ensures fewer { result ≡ Ok Cut.Narrowed → open_values self.new.first self.new.entries + 1 ≤ open_values self.old.first self.old.entries }
         ensures err { OnErr result (self.new ≡ self.old) }
     {
@@ -196,9 +196,8 @@ impl History {
         let subject = entry.subject as usize;
         self.domains[subject].undo(change.undo);
         self.last[subject] = change.previous;
-        if let ReasonView::Because(span) = entry.reason {
-            self.reasons.truncate(span.from as usize);
-        }
+        let atoms = kept_atoms(entry.reason, self.reasons.len());
+        self.reasons.truncate(atoms);
     }
 
     /// After how many entries an atom that is false became so.
