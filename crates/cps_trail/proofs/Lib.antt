@@ -7,3 +7,4 @@ pub mod Falls
 pub mod Undoing
 pub mod Keeping
 pub mod Noting
+pub mod Ends
