@@ -8,3 +8,4 @@ pub mod Undoing
 pub mod Keeping
 pub mod Noting
 pub mod Ends
+pub mod Facts

@@ -6,7 +6,7 @@ ghost use Rattle.cps_domain.specs.Window.{contains, intervals};
 use crate::change::Change;
 use crate::cutting::{cut_one, excludes};
 use crate::entry::{EntryView, ReasonView};
-use crate::reasons::{kept_atoms, note};
+use crate::reasons::{atoms_of, kept_atoms, note};
 use cps_domain::{Cut, Domain};
 use cps_literal::{Atom, Op, Truth};
 use std::alloc::{AllocError, Global};
@@ -105,9 +105,7 @@ impl History {
     {
         match self.entries[place].reason {
             ReasonView::Decision => None,
-            ReasonView::Because(span) => {
-                Some(&self.reasons[span.from as usize..span.to as usize])
-            }
+            ReasonView::Because(span) => Some(atoms_of(self.reasons.as_slice(), span)),
         }
     }
 

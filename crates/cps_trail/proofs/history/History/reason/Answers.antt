@@ -1,0 +1,1 @@
+use Rattle.cps_trail.proofs.history.History.reason.Goals as goal
