@@ -14,8 +14,9 @@ use Rattle.cps_trail.specs.declared.change.Change.{Change}
 use Rattle.cps_trail.specs.declared.change.Cutting.{Cutting}
 use Rattle.cps_trail.specs.declared.entry.EntryView.{EntryView}
 use Rattle.cps_trail.specs.declared.entry.ReasonView.{ReasonView}
+use Rattle.cps_trail.specs.declared.entry.Span.{Span}
 use Rattle.cps_trail.specs.declared.entry.ReasonView.TheVariants as views
-use Rattle.cps_trail.specs.Trail.{Domains, Entry, Reason, Decision, admits, IsInside, IsLastOn, IsTrueAfter, IsFalseAfter, open_values}
+use Rattle.cps_trail.specs.Trail.{Domains, Entry, Reason, Decision, Because, admits, IsInside, IsLastOn, IsTrueAfter, IsFalseAfter, open_values}
 use Rattle.cps_trail.specs.Reasons.{reason_of, entry_of, begin_of, end_of, IsNoted, AreStacked}
 use Rattle.cps_trail.specs.Changes.{Past, no_window, window_of, IsHull, CutsOne, IsCurrent, Unwinds, IsKept, AreKept, IsHistory, IsPast}
 use Rattle.cps_trail.proofs.Undoing.{admits-reverse, reverse-push, Unwinds-current, Unwinds-push, Unwinds-pop, Unwinds-add}
@@ -197,3 +198,11 @@ window_read ds i w l e = e ∙ get_or_default ds i w no_window l
 pub history_popped : (ws ds : List Window) (ls : List ℕ) (vs' vs : List EntryView) (cs' cs : List Change) (atoms : List Atom) (v : EntryView) (c : Change) → vs' ≡ vs ++ v ∷ [] → cs' ≡ cs ++ c ∷ [] → IsHistory ws ds ls vs' cs' atoms → PopsTo ws ds ls vs cs atoms v c
 history_popped ws ds ls vs' vs cs' cs atoms v c e f h =
     history_pop ws ds ls vs cs atoms v c (subst (λ b. IsHistory ws ds ls (vs ++ v ∷ []) b atoms) f (subst (λ a. IsHistory ws ds ls a cs' atoms) e h))
+
+because_not : (clause : List Atom) → Because clause ≡ Decision → ⊥
+because_not clause e = cc
+
+pub no_decision : (atoms : List Atom) (vs : List EntryView) (k : ℕ) (v : EntryView) (span : Span) → k < length vs → v ≡ get_or vs k v → v.reason ≡ views.Because span → ((d : Entry) → (get_or (entries_of atoms vs) k d).reason ≡ Decision) → ⊥
+no_decision atoms vs k v span l e f h =
+    let x = entry_of atoms v in
+    because_not (slice_range atoms span.from span.to) (sym (reason_at atoms vs k v x (views.Because span) l e f) ∙ h x)
