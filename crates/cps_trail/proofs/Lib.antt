@@ -9,3 +9,4 @@ pub mod Keeping
 pub mod Noting
 pub mod Ends
 pub mod Facts
+pub mod Walks
