@@ -16,7 +16,7 @@ use Rattle.cps_trail.specs.declared.entry.EntryView.{EntryView}
 use Rattle.cps_trail.specs.declared.entry.ReasonView.{ReasonView}
 use Rattle.cps_trail.specs.declared.entry.Span.{Span}
 use Rattle.cps_trail.specs.declared.entry.ReasonView.TheVariants as views
-use Rattle.cps_trail.specs.Trail.{Domains, Entry, Reason, Decision, Because, admits, IsInside, IsLastOn, IsTrueAfter, IsFalseAfter, open_values}
+use Rattle.cps_trail.specs.Trail.{Domains, Entry, first_of, Reason, Decision, Because, admits, IsInside, IsLastOn, IsTrueAfter, IsFalseAfter, open_values}
 use Rattle.cps_trail.specs.Reasons.{reason_of, entry_of, begin_of, end_of, IsNoted, AreStacked}
 use Rattle.cps_trail.specs.Changes.{Past, no_window, window_of, IsHull, CutsOne, IsCurrent, Unwinds, IsKept, AreKept, IsHistory, IsPast}
 use Rattle.cps_trail.proofs.Undoing.{admits-reverse, reverse-push, Unwinds-current, Unwinds-push, Unwinds-pop, Unwinds-add}
@@ -206,3 +206,29 @@ pub no_decision : (atoms : List Atom) (vs : List EntryView) (k : ℕ) (v : Entry
 no_decision atoms vs k v span l e f h =
     let x = entry_of atoms v in
     because_not (slice_range atoms span.from span.to) (sym (reason_at atoms vs k v x (views.Because span) l e f) ∙ h x)
+
+-- a first domain, and an entry's atom, as contracts see them
+map_get_empty : (ws : List Window) (i : ℕ) → i < length ws → first_of (firsts_of ws) i ≡ intervals (window_of ws i)
+map_get_empty ws i l = map_get intervals ws i no_window [] l
+
+values_of : (w : Window) (x : ℤ) → contains w x ≡ is_among (intervals w) x
+unfolding contains
+values_of w x = refl
+
+pub first_contains : (ws : List Window) (i : ℕ) (w : Window) (x : ℤ) → i < length ws → w ≡ get_or ws i w → contains w x ≡ is_among (first_of (firsts_of ws) i) x
+first_contains ws i w x l e = ap (λ v. contains v x) (window_read ws i w l e) ∙ values_of (window_of ws i) x ∙ ap (λ ps. is_among ps x) (sym (map_get_empty ws i l))
+
+pub atom_read : (atoms : List Atom) (vs : List EntryView) (k : ℕ) (v : EntryView) (d : Entry) → k < length vs → v ≡ get_or vs k v → (get_or (entries_of atoms vs) k d).atom ≡ v.atom
+atom_read atoms vs k v d l e = ap (λ (x : Entry). x.atom) (entries_get atoms vs k v d l) ∙ ap (λ (w : EntryView). w.atom) (sym e)
+
+-- the ends before an entry about a subject
+pub hull_before : (ws ds : List Window) (ls : List ℕ) (vs : List EntryView) (cs : List Change) (atoms : List Atom) (k : ℕ) (c : Change) (i : ℕ) → IsHistory ws ds ls vs cs atoms → k < length (entries_of atoms vs) → c ≡ get_or cs k c
+    → ((d : Entry) → (get_or (entries_of atoms vs) k d).atom.subject ≡ i) → IsHull (admits (firsts_of ws) (take k (entries_of atoms vs)) i) c.hull
+hull_before ws ds ls vs cs atoms k c i h l e on =
+    let d : Entry = some_entry (entries_of atoms vs) k l in
+    let kept = h.kept.each k d c l in
+    subst (λ (x : Change). IsHull (admits (firsts_of ws) (take k (entries_of atoms vs)) i) x.hull) (sym e) (subst (λ j. IsHull (admits (firsts_of ws) (take k (entries_of atoms vs)) j) (get_or cs k c).hull) (on d) kept.hull)
+  where
+    some_entry : (fs : List Entry) (j : ℕ) → j < length fs → Entry
+    some_entry [] j b = absurd (omega (arith, b))
+    some_entry (f ∷ fs) j b = f
