@@ -1,5 +1,5 @@
 -- What the fields of a history give.
-use Rattle.std.proofs.Common.{ℕ, zero, suc, ◌+◌, ◌-◌, ◌≤◌, ◌<◌, ℤ, ◌≤ℤ◌, ◌<ℤ◌, ◌≡◌, ◌≢◌, Bool, true, false, ◌&&◌, List, [], ◌∷◌, ◌++◌, length, take, get_or, set, refl, sym, ◌∙◌, ap, subst, inl, inr, ◌⊎◌, arith, true≢false, length-append, length-set}
+use Rattle.std.proofs.Common.{Result, Ok, Err, OnErr, ℕ, zero, suc, ◌+◌, ◌-◌, ◌≤◌, ◌<◌, ℤ, ◌≤ℤ◌, ◌<ℤ◌, ◌≡◌, ◌≢◌, Bool, true, false, ◌&&◌, List, [], ◌∷◌, ◌++◌, length, take, get_or, set, refl, sym, ◌∙◌, ap, subst, inl, inr, ◌⊎◌, arith, true≢false, length-append, length-set}
 use Rattle.std.specs.Prelude.{reverse, map, All, slice_index, slice_range, slice_set}
 use Rattle.std.proofs.lemmas.List.{get_or_default, get_or_append_left}
 use Rattle.std.proofs.Math.Seq.{get_or-append_seam, take-append_seam}
@@ -21,7 +21,7 @@ use Rattle.cps_trail.specs.Reasons.{reason_of, entry_of, begin_of, end_of, IsNot
 use Rattle.cps_trail.specs.Changes.{Past, no_window, window_of, IsHull, CutsOne, IsCurrent, Unwinds, IsKept, AreKept, IsHistory, IsPast}
 use Rattle.cps_trail.proofs.Undoing.{admits-reverse, reverse-push, Unwinds-current, Unwinds-push, Unwinds-pop, Unwinds-add}
 use Rattle.cps_trail.proofs.Keeping.{AreKept-push, AreKept-pop, AreKept-add, hull_same}
-use Rattle.cps_trail.proofs.Noting.{entries_push, stacked_push, given_up, views_push}
+use Rattle.cps_trail.proofs.Noting.{entries_same, stacked_more, noted_longer, entries_push, stacked_push, given_up, views_push}
 
 -- the lists that contracts see
 abbrev pub firsts_of : List Window → Domains
@@ -232,3 +232,26 @@ hull_before ws ds ls vs cs atoms k c i h l e on =
     some_entry : (fs : List Entry) (j : ℕ) → j < length fs → Entry
     some_entry [] j b = absurd (omega (arith, b))
     some_entry (f ∷ fs) j b = f
+
+-- more atoms at the end, and no entry
+pub record IsGrown (ws ds : List Window) (ls : List ℕ) (vs : List EntryView) (cs : List Change) (atoms atoms' : List Atom) : Type 0 where
+  pub entries : entries_of atoms' vs ≡ entries_of atoms vs
+  pub history : IsHistory ws ds ls vs cs atoms'
+
+pub history_grown : (ws ds : List Window) (ls : List ℕ) (vs : List EntryView) (cs : List Change) (atoms atoms' : List Atom) (v : ReasonView) (r : Reason) → IsHistory ws ds ls vs cs atoms → IsNoted atoms atoms' v r → IsGrown ws ds ls vs cs atoms atoms'
+history_grown ws ds ls vs cs atoms atoms' v r h n =
+    let e = entries_same atoms atoms' (length atoms) vs n.kept h.stacked in
+    record {
+      entries = e;
+      history = record {
+        domains = h.domains;
+        unwinds = subst (λ fs. Unwinds (firsts_of ws) ds (reverse fs) (reverse cs)) (sym e) h.unwinds;
+        kept = subst (λ fs. AreKept (firsts_of ws) fs cs ls) (sym e) h.kept;
+        stacked = stacked_more (length atoms) (length atoms') (reverse vs) (noted_longer atoms atoms' v r n) h.stacked;
+        subjects = h.subjects;
+      };
+    }
+
+pub on_err : {A E : Type 0} (r : Result A E) (P : Type 0) → P → OnErr r P
+on_err (Ok x) P p = tt
+on_err (Err e) P p = p

@@ -153,7 +153,9 @@ impl History {
             Truth::No => return Ok(Cut::Wiped),
             Truth::Undecided => {}
         }
-        let count = u32::try_from(self.entries.len() + 1).map_err(|_| AllocError)?;
+        let Ok(count) = u32::try_from(self.entries.len() + 1) else {
+            return Err(AllocError);
+        };
         self.entries.reserve(1)?;
         self.changes.reserve(1)?;
         let reason = note(&mut self.reasons, reason)?;
