@@ -1,5 +1,5 @@
 -- The tree of a document, without where it lies in memory.
-use Rattle.std.specs.Prelude.{ℕ, Bool, List, [], ◌∷◌}
+use Rattle.std.specs.Prelude.{ℕ, ◌<◌, ◌≤◌, Bool, List, [], ◌∷◌}
 use Rattle.cps_textproto.specs.declared.tree.Node.{Node, Node', Row_of-Field, end_of-Field, more_of-Field}
 use Rattle.cps_textproto.specs.declared.tree.Field.{Field}
 use Rattle.cps_textproto.specs.declared.tree.Items.{Items}
@@ -19,6 +19,19 @@ mutual
     no_values : Values
     scalar_value : ℕ → ℕ → Values → Values
     message_value : ℕ → Tree → Values → Values
+
+-- each number in it is that of one of so many tokens
+abbrev mutual
+  pub NumbersBelow : ℕ → Tree → Type 0
+  NumbersBelow count no_fields = Unit {0}
+  NumbersBelow count (field name list values rest) = (name < count) × ValuesBelow count values × NumbersBelow count rest
+
+  pub ValuesBelow : ℕ → Values → Type 0
+  ValuesBelow count no_values = Unit {0}
+  ValuesBelow count (scalar_value first end rest) = (first < end) × (end ≤ count) × ValuesBelow count rest
+  ValuesBelow count (message_value first tree rest) = (first < count) × NumbersBelow count tree × ValuesBelow count rest
+
+-- the tree of a node, in its memory
 
 abbrev pub span_values : List Span → Values
 span_values [] = no_values

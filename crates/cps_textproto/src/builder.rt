@@ -2,7 +2,7 @@
 ghost use Rattle.std.specs.Prelude.{◌≡◌, ◌+◌, ◌<◌, ◌^◌, false, OnOk, IfOk, [], ◌∷◌};
 ghost use Rattle.cps_textproto.specs.declared.tree.Field.{Field};
 ghost use Rattle.cps_textproto.specs.Trees.{tree_of, field_list, values_of, span_values, then_fields, then_values, field, scalar_value, message_value, no_fields, no_values};
-ghost use Rattle.cps_textproto.specs.Building.{deed_of, act, build_of, with_field, with_item, closed};
+ghost use Rattle.cps_textproto.specs.Building.{action_of, act, build_of, with_field, with_item, closed};
 
 use super::machine::Mode;
 use super::symbol::Symbol;
@@ -12,7 +12,7 @@ use std::mem;
 
 /// What a token adds to the tree.
 #[derive(Clone, Copy, Debug, PartialEq, Eq)]
-pub enum Deed {
+pub enum Action {
     Nothing,
     /// It names a field.
     Name,
@@ -55,47 +55,47 @@ pub struct Builder {
     pub scalars: Vec<Span>,
 }
 
-pub(crate) fn deed_of(mode: Mode, symbol: Symbol) -> Deed
-    ensures { result ≡ deed_of mode symbol }
+pub(crate) fn action_of(mode: Mode, symbol: Symbol) -> Action
+    ensures { result ≡ action_of mode symbol }
 {
     match mode {
         Mode::Between | Mode::After => match symbol {
-            Symbol::Name => Deed::Name,
-            Symbol::Close => Deed::Close,
-            _ => Deed::Nothing,
+            Symbol::Name => Action::Name,
+            Symbol::Close => Action::Close,
+            _ => Action::Nothing,
         },
         Mode::Named => match symbol {
-            Symbol::Open => Deed::Open,
-            Symbol::OpenList => Deed::Begin,
-            _ => Deed::Nothing,
+            Symbol::Open => Action::Open,
+            Symbol::OpenList => Action::Begin,
+            _ => Action::Nothing,
         },
         Mode::Valued => match symbol {
-            Symbol::Name | Symbol::Number => Deed::Scalar,
-            Symbol::Minus => Deed::Sign,
-            Symbol::Open => Deed::Open,
-            Symbol::OpenList => Deed::Begin,
-            _ => Deed::Nothing,
+            Symbol::Name | Symbol::Number => Action::Scalar,
+            Symbol::Minus => Action::Sign,
+            Symbol::Open => Action::Open,
+            Symbol::OpenList => Action::Begin,
+            _ => Action::Nothing,
         },
         Mode::Signed => match symbol {
-            Symbol::Name | Symbol::Number => Deed::SignedScalar,
-            _ => Deed::Nothing,
+            Symbol::Name | Symbol::Number => Action::SignedScalar,
+            _ => Action::Nothing,
         },
         Mode::ListFirst | Mode::ListNext => match symbol {
-            Symbol::Name | Symbol::Number => Deed::Item,
-            Symbol::Minus => Deed::Sign,
+            Symbol::Name | Symbol::Number => Action::Item,
+            Symbol::Minus => Action::Sign,
             Symbol::CloseList => match mode {
-                Mode::ListFirst => Deed::End,
-                _ => Deed::Nothing,
+                Mode::ListFirst => Action::End,
+                _ => Action::Nothing,
             },
-            _ => Deed::Nothing,
+            _ => Action::Nothing,
         },
         Mode::ListSigned => match symbol {
-            Symbol::Name | Symbol::Number => Deed::SignedItem,
-            _ => Deed::Nothing,
+            Symbol::Name | Symbol::Number => Action::SignedItem,
+            _ => Action::Nothing,
         },
         Mode::Empty | Mode::ListItem => match symbol {
-            Symbol::CloseList => Deed::End,
-            _ => Deed::Nothing,
+            Symbol::CloseList => Action::End,
+            _ => Action::Nothing,
         },
     }
 }
@@ -170,7 +170,7 @@ fn end_scalar(builder: &mut Builder, first: u32, end: u32) -> Result<(), AllocEr
 
 /// Adds the field with the list.
 fn end_list(builder: &mut Builder, alloc: Global) -> Result<(), AllocError>
-    ensures { OnOk result (build_of builder.new ≡ act Deed.End 0 (build_of builder.old)) }
+    ensures { OnOk result (build_of builder.new ≡ act Action.End 0 (build_of builder.old)) }
 {
     let items = list_of(alloc, &builder.scalars)?;
     builder.scalars.clear();
@@ -180,7 +180,7 @@ fn end_list(builder: &mut Builder, alloc: Global) -> Result<(), AllocError>
 /// Puts the fields so far aside.
 #[tactic(auto, using(crate::proofs::Pushes::outer_onto_more))]
 fn open_message(builder: &mut Builder, alloc: Global, first: u32) -> Result<(), AllocError>
-    ensures { OnOk result (build_of builder.new ≡ act Deed.Open first (build_of builder.old)) }
+    ensures { OnOk result (build_of builder.new ≡ act Action.Open first (build_of builder.old)) }
 {
     let fields = mem::replace(&mut builder.fields, Vec::new(alloc));
     let name = builder.name;
@@ -195,7 +195,7 @@ fn open_message(builder: &mut Builder, alloc: Global, first: u32) -> Result<(), 
 /// Adds the message to the fields that were put aside.
 #[tactic(auto, using(crate::proofs::Pushes::outer_onto_more))]
 fn close_message(builder: &mut Builder) -> Result<(), AllocError>
-    ensures { OnOk result (build_of builder.new ≡ act Deed.Close 0 (build_of builder.old)) }
+    ensures { OnOk result (build_of builder.new ≡ act Action.Close 0 (build_of builder.old)) }
 {
     let Some(opened) = builder.opened.pop() else {
         return Ok(());
@@ -213,35 +213,35 @@ fn close_message(builder: &mut Builder) -> Result<(), AllocError>
 pub(crate) fn act(
     builder: &mut Builder,
     alloc: Global,
-    deed: Deed,
+    action: Action,
     token: u32,
 ) -> Result<(), AllocError>
     requires { token + 1 < 2 ^ 32 }
-    ensures { OnOk result (build_of builder.new ≡ act deed token (build_of builder.old)) }
+    ensures { OnOk result (build_of builder.new ≡ act action token (build_of builder.old)) }
 {
-    match deed {
-        Deed::Nothing => Ok(()),
-        Deed::Name => {
+    match action {
+        Action::Nothing => Ok(()),
+        Action::Name => {
             builder.name = token;
             Ok(())
         }
-        Deed::Sign => {
+        Action::Sign => {
             builder.first = token;
             Ok(())
         }
-        Deed::Scalar => end_scalar(builder, token, token + 1),
-        Deed::SignedScalar => {
+        Action::Scalar => end_scalar(builder, token, token + 1),
+        Action::SignedScalar => {
             let first = builder.first;
             end_scalar(builder, first, token + 1)
         }
-        Deed::Begin => {
+        Action::Begin => {
             builder.scalars.clear();
             Ok(())
         }
-        Deed::Item => push_scalar(&mut builder.scalars, token, token + 1),
-        Deed::SignedItem => push_scalar(&mut builder.scalars, builder.first, token + 1),
-        Deed::End => end_list(builder, alloc),
-        Deed::Open => open_message(builder, alloc, token),
-        Deed::Close => close_message(builder),
+        Action::Item => push_scalar(&mut builder.scalars, token, token + 1),
+        Action::SignedItem => push_scalar(&mut builder.scalars, builder.first, token + 1),
+        Action::End => end_list(builder, alloc),
+        Action::Open => open_message(builder, alloc, token),
+        Action::Close => close_message(builder),
     }
 }

@@ -2,11 +2,11 @@
 ghost use Rattle.std.specs.Prelude.{◌≡◌, ◌<◌, ◌^◌, length, IfOk, IfErr};
 ghost use Rattle.cps_textproto.specs.declared.reading.TextError.TheVariants.{OutOfMemory};
 ghost use Rattle.cps_textproto.specs.Symbols.{symbols};
-ghost use Rattle.cps_textproto.specs.Trees.{Tree, tree_of};
+ghost use Rattle.cps_textproto.specs.Trees.{Tree, NumbersBelow, tree_of};
 ghost use Rattle.cps_textproto.specs.Reading.{HasTree, IsRefusal, Gives};
 ghost use Rattle.cps_textproto.specs.Building.{Ends, build_of, empty_build};
 
-use super::builder::{Builder, act, deed_of, node_of};
+use super::builder::{Builder, act, action_of, node_of};
 use super::machine::{DEPTH, Mode, State, is_done, step};
 use super::symbol::symbol_of;
 use super::tree::Node;
@@ -50,6 +50,9 @@ pub fn document(alloc: Global, bytes: &[u8], tokens: &[Token]) -> Result<Node, T
 
     // Tokens that are a document are read as its tree, unless memory runs out.
     ensures only { (tree : Tree) → HasTree (symbols bytes.now tokens.now) tree → Gives result tree }
+
+    // What a caller needs to look up the tokens.
+    ensures below { IfOk result (λ node. NumbersBelow (length tokens.now) (tree_of node)) }
 {
     match built(alloc, bytes, tokens) {
         Ok(builder) => {
@@ -87,7 +90,7 @@ fn built(alloc: Global, bytes: &[u8], tokens: &[Token]) -> Result<Builder, TextE
         let Some(next) = step(state, symbol) else {
             return Err(TextError::NotADocument { token: i });
         };
-        act(&mut builder, alloc, deed_of(state.mode, symbol), i as u32)?;
+        act(&mut builder, alloc, action_of(state.mode, symbol), i as u32)?;
         state = next;
     }
     if is_done(state) {

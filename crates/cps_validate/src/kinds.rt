@@ -42,7 +42,7 @@ pub fn sums_are_paired(kind: &Kind) -> bool
     }
 }
 
-/// Whether the lists of a kind that go together, beside those of its sums, are equally long.
+/// Whether the lists of a kind that go together, beside those of its sums, are equally long. No present kind has such lists.
 pub fn has_matching_lists(kind: &Kind) -> bool
     ensures { result ≡ has_matching_lists kind.now }
 {

@@ -25,7 +25,7 @@ pub fn variable_fault(variable: &Variable) -> Option<u8>
     None
 }
 
-/// The first rule that a constraint breaks, among all constraints. No rule looks at the others yet.
+/// The first rule that a constraint breaks, among all constraints of its model.
 pub fn constraint_fault(
     variables: &[Variable],
     _constraints: &[Constraint],

@@ -1,0 +1,21 @@
+//! Whether an assignment is a solution of a model, where it first fails, and what its objective is.
+//!
+//! `satisfies` says exactly whether an assignment is a solution, and `first_violated` the first place at which it is none:
+//! domains, constraints, objective and assumptions in order. Domains are tested first, so that the rules of a valid model
+//! keep every later sum below 2^62. Each call is linear in the model.
+#![tactic(auto)]
+
+mod kinds;
+mod objectives;
+mod solution;
+mod start;
+mod values;
+mod violation;
+
+pub use objectives::{display_value, objective};
+pub use solution::satisfies;
+pub use start::objective_start;
+pub use violation::first_violated;
+
+#[cfg(test)]
+mod tests;

@@ -1,0 +1,10 @@
+use Rattle.cps_port.proofs.Porting.{took, found_closed}
+use Rattle.cps_port.proofs.plain_port.PlainPortPort.take.Goals as goal
+
+pub returns-in-Some-clause-said : goal.returns-in-Some-clause-said
+returns-in-Some-clause-said c =
+    took c.args.self.now.core.now c.look.new.self c.args.self.now.actor c.in-Some.ensures.sound.0 c.args.self.now.known c.in-Some.entry c.in-Some.ensures.state c.in-Some.ensures.entry (c.has_more.ensures.more.0 c.if-not-has_more.false)
+
+pub returns-in-None-clause-said : goal.returns-in-None-clause-said
+returns-in-None-clause-said c =
+    found_closed c.args.self.now.core.now c.look.new.self c.args.self.now.actor c.in-None.ensures.sound.0 c.args.self.now.known c.in-None.ensures.state c.in-None.ensures.entry (c.has_more.ensures.more.0 c.if-not-has_more.false)

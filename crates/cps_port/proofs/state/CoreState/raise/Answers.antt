@@ -1,0 +1,8 @@
+use Rattle.cps_port.proofs.Storing.{raises}
+use Rattle.cps_port.proofs.state.CoreState.raise.Goals as goal
+
+pub invariant_of-self : goal.invariant_of-self
+invariant_of-self c = let s = c.self.inside in let k = raises s.model.now s.rows.items s.next s.seats.items s.upper s.lower s.bounds.items c.args.self.now c.self.view_is c.self.invariant c.args.actor c.requires.actor c.index-part.result.now c.index-part.ensures c.args.bound c.greater-self-inside.result c.raised_to-part.result c.requires.lawful c.greater-self-inside.ensures c.raised_to-part.ensures in k.whole
+
+pub returns-clause-sound : goal.returns-clause-sound
+returns-clause-sound c = let s = c.self.inside in let k = raises s.model.now s.rows.items s.next s.seats.items s.upper s.lower s.bounds.items c.args.self.now c.self.view_is c.self.invariant c.args.actor c.requires.actor c.index-part.result.now c.index-part.ensures c.args.bound c.greater-self-inside.result c.raised_to-part.result c.requires.lawful c.greater-self-inside.ensures c.raised_to-part.ensures in k.sound

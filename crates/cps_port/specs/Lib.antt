@@ -1,0 +1,12 @@
+pub mod Order
+pub mod Totals
+pub mod Incumbents
+pub mod Entries
+pub mod Parts
+pub mod Says
+pub mod Cores
+pub mod Sound
+pub mod Kept
+pub mod Views
+pub mod Others
+pub mod Words

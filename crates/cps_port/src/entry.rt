@@ -1,0 +1,74 @@
+//! Entries of the board, and what a port answers of them.
+ghost use Rattle.std.specs.Prelude.{◌≡◌, ◌≤◌, length};
+
+use cps_literal::{Atom, Op};
+use cps_model::Bound;
+
+/// The most atoms of a clause that is shared.
+pub const MOST_ATOMS: usize = 16;
+
+// What stands in the places that a clause leaves free.
+pub(crate) const BLANK: Atom = Atom {
+    subject: 0,
+    op: Op::Le,
+    value: 0,
+};
+
+/// A clause on the board: the first `len` atoms. It holds in each assignment that is better than `below`.
+#[derive(Clone, Copy, Debug, PartialEq, Eq)]
+pub struct Entry {
+    /// The number of its row.
+    pub row: u32,
+    /// The incumbent's objective when the clause was learnt.
+    pub below: Bound,
+    /// How many atoms it has, at most `MOST_ATOMS`.
+    pub len: u32,
+    pub atoms: [Atom; MOST_ATOMS],
+}
+
+/// The answer of `share`.
+#[derive(Clone, Copy, Debug, PartialEq, Eq)]
+pub enum Share {
+    /// The clause stands in the row of this number.
+    Row(u32),
+    /// There is no row left.
+    Full,
+}
+
+/// The answer of `take`.
+#[derive(Clone, Copy, Debug, PartialEq, Eq)]
+pub enum Taken {
+    /// The entry of the first row that was not taken.
+    Entry(Entry),
+    /// That row is not published.
+    NotYet,
+    /// Every row was taken.
+    End,
+}
+
+impl Entry {
+    ghost use Rattle.cps_port.specs.Entries.{entry_of, entry_clause};
+
+    /// The entry of a clause of at most `MOST_ATOMS` atoms.
+    pub fn of(row: u32, below: Bound, clause: &[Atom]) -> Entry
+        requires { length clause.now ≤ MOST_ATOMS }
+        ensures { result ≡ entry_of row below clause.now }
+    {
+        let mut atoms = [BLANK; MOST_ATOMS];
+        atoms[..clause.len()].copy_from_slice(clause);
+        Entry {
+            row,
+            below,
+            len: clause.len() as u32,
+            atoms,
+        }
+    }
+
+    /// The atoms of its clause.
+    pub fn clause(&self) -> &[Atom]
+        requires { self.now.len ≤ MOST_ATOMS }
+        ensures { result.now ≡ entry_clause self.now }
+    {
+        &self.atoms[..self.len as usize]
+    }
+}
