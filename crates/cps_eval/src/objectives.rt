@@ -2,7 +2,7 @@
 ghost use Rattle.std.specs.Prelude.{◌≡◌, ◌<◌, ◌≤◌, ◌^◌, ◌+ℤ◌, ◌*ℤ◌, IsTrue, unsigned_abs};
 ghost use Rattle.cps_model.specs.Solutions.{meets_objective, objective_sum, objective_value, IsWithinDomains};
 ghost use Rattle.cps_model.specs.Ready.{are_small, is_ready_objective};
-ghost use Rattle.cps_eval.specs.Shown.{shown_value, IsShowable};
+ghost use Rattle.cps_eval.specs.Shown.{shown_objective, IsShowable};
 
 use crate::values::{is_allowed, sum_of};
 use cps_model::{CpModel, Objective};
@@ -77,7 +77,7 @@ fn scaled(scaling: i64, value: i128) -> i128
 pub fn display_value(model: &CpModel, sum: i64) -> i128
     requires showable { IsShowable model.now.objective }
     requires sum { unsigned_abs sum < 2 ^ 62 }
-    ensures { result ≡ shown_value model.now.objective sum }
+    ensures { result ≡ shown_objective model.now.objective sum }
 {
     match &model.objective {
         None => 0,

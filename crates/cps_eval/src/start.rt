@@ -5,7 +5,7 @@ ghost use Rattle.std.specs.List.{list_all};
 ghost use Rattle.cps_model.specs.Reach.{low_of, high_of, magnitude_of, reach_of};
 ghost use Rattle.cps_model.specs.Rules.{names};
 ghost use Rattle.cps_model.specs.Solutions.{objective_value, IsSolution};
-ghost use Rattle.cps_model.specs.Start.{least_sum, start_of, objective_start};
+ghost use Rattle.cps_model.specs.Start.{least_sum, least_objective, objective_start};
 ghost use Rattle.cps_model.specs.Validity.{objective_fault};
 ghost use Rattle.cps_eval.specs.Signs.{with_sign_of};
 
@@ -80,9 +80,9 @@ fn least_sum(variables: &[Variable], vars: &[i32], coeffs: &[i64]) -> i64
 }
 
 /// The least sum of an objective that keeps the rules, 0 without an objective.
-fn start_of(variables: &[Variable], objective: &Option<Objective>) -> i64
+fn least_objective(variables: &[Variable], objective: &Option<Objective>) -> i64
     requires { objective_fault variables.now objective.now ≡ None }
-    ensures { result ≡ start_of variables.now objective.now }
+    ensures { result ≡ least_objective variables.now objective.now }
 {
     match objective {
         None => 0,
@@ -101,5 +101,5 @@ pub fn objective_start(model: &ValidModel) -> i64
     ensures least { (a : List ℤ) → IsSolution model.now a → result ≤ℤ objective_value model.now a }
 {
     let model = model.model();
-    start_of(model.variables.as_slice(), &model.objective)
+    least_objective(model.variables.as_slice(), &model.objective)
 }

@@ -89,3 +89,8 @@ pub leads_within : (bytes : List ℕ) (from to : ℕ) (ts : List Token) → Lead
 leads_within bytes from to [] leads k d lt = absurd (omega (arith, lt))
 leads_within bytes from to (t ∷ ts) (here, rest) zero d lt = token_within bytes _ t here
 leads_within bytes from to (t ∷ ts) (here, rest) (suc k) d lt = leads_within bytes t.end to ts rest k d (omega (arith, lt))
+
+-- bytes are refused at one place
+pub refused_once : (bytes : List ℕ) (a b : ℕ) → HasNoTokenAt bytes a → HasNoTokenAt bytes b → a ≡ b
+refused_once bytes a b (ts, leads, within, none) (us, leads', within', none') =
+    (leads_once bytes 0 a b ts us none none' leads leads').1

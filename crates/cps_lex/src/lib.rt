@@ -19,3 +19,6 @@ mod types;
 
 pub use lexer::tokens;
 pub use types::{LexError, Token, TokenKind};
+
+#[cfg(test)]
+mod tests;

@@ -9,8 +9,10 @@
 
 pub mod atom;
 pub mod clause;
+pub mod normal;
 pub mod table;
 
 pub use atom::{Atom, Op, Truth};
 pub use clause::Clause;
+pub use normal::normal_clause;
 pub use table::LiteralTable;

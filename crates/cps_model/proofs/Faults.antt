@@ -28,7 +28,7 @@ first_faulty-none fault place i (x ∷ xs) e =
 -- the parts of a valid model
 pub record Parts (m : CpModel) : Type 0 where
   pub variables : All (λ v. variable_fault v ≡ None) m.variables
-  pub constraints : All (λ c. constraint_fault m.variables c ≡ None) m.constraints
+  pub constraints : All (λ c. constraint_fault m.variables m.constraints c ≡ None) m.constraints
   pub objective : objective_fault m.variables m.objective ≡ None
   pub assumptions : All (λ r. assumption_fault m.variables r ≡ None) m.assumptions
 

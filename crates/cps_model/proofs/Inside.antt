@@ -171,22 +171,22 @@ sums_ready vs a (e ∷ es) inside long n p r =
     let r' = and_true (has_small_reach vs e) _ r in
     both_true _ _ (sum_ready vs a e inside long n'.0 p'.0 r'.0) (sums_ready vs a es inside long n'.1 p'.1 r'.1)
 
-pub constraint_ready : (vs : List Variable) (a : List ℤ) (c : Constraint) → AreInside vs a → length a ≡ length vs → constraint_fault vs c ≡ None → is_ready_constraint a c ≡ true
-constraint_ready vs a c inside long e =
+pub constraint_ready : (vs : List Variable) (all : List Constraint) (a : List ℤ) (c : Constraint) → AreInside vs a → length a ≡ length vs → constraint_fault vs all c ≡ None → is_ready_constraint a c ≡ true
+constraint_ready vs all a c inside long e =
     let named = rule_kept 3 _ _ e in
     let boolean = rule_kept 4 _ _ named.1 in
     let paired = rule_kept 5 _ _ boolean.1 in
     let reach = rule_kept 6 _ _ paired.1 in
     let names_all = and_true (list_all (names (length vs)) (c.enforcement ++ literals_of c.kind)) _ named.0 in
     let literals : (are_named a c.enforcement && are_named a (literals_of c.kind)) ≡ true = rw long (sym (list_all-append (names (length vs)) c.enforcement (literals_of c.kind)) ∙ names_all.0) in
-    both_true _ _ literals (sums_ready vs a (sums_of c.kind) inside long names_all.1 paired.0 reach.0)
+    both_true _ _ literals (sums_ready vs a (sums_of c.kind) inside long names_all.1 (and_true _ _ paired.0).0 reach.0)
 
-constraints_ready : (vs : List Variable) (a : List ℤ) (cs : List Constraint) → AreInside vs a → length a ≡ length vs → All (λ c. constraint_fault vs c ≡ None) cs → list_all (is_ready_constraint a) cs ≡ true
-constraints_ready vs a [] inside long f = refl
-constraints_ready vs a (c ∷ cs) inside long f =
+constraints_ready : (vs : List Variable) (all : List Constraint) (a : List ℤ) (cs : List Constraint) → AreInside vs a → length a ≡ length vs → All (λ c. constraint_fault vs all c ≡ None) cs → list_all (is_ready_constraint a) cs ≡ true
+constraints_ready vs all a [] inside long f = refl
+constraints_ready vs all a (c ∷ cs) inside long f =
     both_true _ _
-    (constraint_ready vs a c inside long (All-head (λ d. constraint_fault vs d ≡ None) c cs f))
-    (constraints_ready vs a cs inside long (All-tail (λ d. constraint_fault vs d ≡ None) c cs f))
+    (constraint_ready vs all a c inside long (All-head (λ d. constraint_fault vs all d ≡ None) c cs f))
+    (constraints_ready vs all a cs inside long (All-tail (λ d. constraint_fault vs all d ≡ None) c cs f))
 
 objective_ready : (vs : List Variable) (a : List ℤ) (o : Option Objective) → AreInside vs a → length a ≡ length vs → objective_fault vs o ≡ None → is_ready_objective a o ≡ true
 objective_ready vs a None inside long e = refl
@@ -211,7 +211,7 @@ model_ready m a valid w =
     let long = length-are_within m.variables a w in
     record {
       small = inside.small;
-      constraints = constraints_ready m.variables a m.constraints inside long parts.constraints;
+      constraints = constraints_ready m.variables m.constraints a m.constraints inside long parts.constraints;
       objective = objective_ready m.variables a m.objective inside long parts.objective;
       assumptions = assumptions_ready m.variables a m.assumptions long parts.assumptions;
     }

@@ -22,7 +22,7 @@ pub record AreInside (vs : List Variable) (a : List ℤ) : Type 0 where
   pub bounded : AreBounded vs a
   pub small : IsTrue (are_small a)
 
--- an expression whose references have values, and whose sum is small
+-- an expression whose references have values, whose lists are equally long, and whose weight is small
 abbrev pub is_ready : List ℤ → LinearExpr → Bool
 is_ready a e =
     list_all (names (length a)) e.vars && is_paired e && is_small (weight_of a e.vars e.coeffs + unsigned_abs e.offset)

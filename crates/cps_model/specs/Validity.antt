@@ -6,7 +6,8 @@
 --    3  each reference names a variable
 --    4  each literal's variable has its domain within 0 and 1
 --    5  lists that go together are equally long
---    6  each sum stays below 2 ^ 62 in magnitude, whatever values the domains allow
+--    6  of each sum, the coefficients' magnitudes times the greatest magnitudes of their variables' bounds, and the offset's
+--       magnitude, add up to less than 2 ^ 62 (the objective's sum without its offset)
 --    7  a linear constraint's domain is well shaped
 --   16  the objective's domain is well shaped
 --   18  the model is not too large
@@ -15,14 +16,13 @@ use Rattle.std.specs.List.{list_all}
 use Rattle.cps_model.specs.declared.model.CpModel.{CpModel}
 use Rattle.cps_model.specs.declared.model.Objective.{Objective}
 use Rattle.cps_model.specs.declared.model.Variable.{Variable}
-use Rattle.cps_model.specs.declared.model.LinearExpr.{LinearExpr}
 use Rattle.cps_model.specs.declared.steering.Hint.{Hint}
 use Rattle.cps_model.specs.declared.steering.Strategy.{Strategy}
 use Rattle.cps_model.specs.declared.constraint.Constraint.{Constraint}
 use Rattle.cps_model.specs.declared.place.Place.{Place}
 use Rattle.cps_model.specs.declared.place.Place.TheVariants as places
 use Rattle.cps_model.specs.Within.{is_well_shaped}
-use Rattle.cps_model.specs.Rules.{is_small, names, names_boolean, literals_of, sums_of, sum_of_objective, names_variables, is_paired, has_small_reach, has_well_shaped_domain, kind_entries}
+use Rattle.cps_model.specs.Rules.{is_small, names, names_boolean, literals_of, sums_of, sum_of_objective, names_variables, is_paired, has_small_reach, has_matching_lists, has_well_shaped_domain, expression_entries, kind_entries}
 
 -- the number of the first rule that fails, of rules in order
 abbrev pub first_broken : List (ℕ × Bool) → Option ℕ
@@ -33,12 +33,12 @@ abbrev pub variable_fault : Variable → Option ℕ
 variable_fault v =
     first_broken ((1, is_well_shaped v.domain && not (length v.domain == 0)) ∷ (2, list_all (λ b. is_small (unsigned_abs b)) v.domain) ∷ [])
 
-abbrev pub constraint_fault : List Variable → Constraint → Option ℕ
-constraint_fault vs c =
+abbrev pub constraint_fault : List Variable → List Constraint → Constraint → Option ℕ
+constraint_fault vs cs c =
     first_broken
     ((3, list_all (names (length vs)) (c.enforcement ++ literals_of c.kind) && list_all (names_variables vs) (sums_of c.kind))
     ∷ (4, list_all (names_boolean vs) (c.enforcement ++ literals_of c.kind))
-    ∷ (5, list_all is_paired (sums_of c.kind))
+    ∷ (5, list_all is_paired (sums_of c.kind) && has_matching_lists c.kind)
     ∷ (6, list_all (has_small_reach vs) (sums_of c.kind))
     ∷ (7, has_well_shaped_domain c.kind)
     ∷ [])
@@ -85,9 +85,6 @@ variable_entries v = length v.domain
 abbrev pub constraint_entries : Constraint → ℕ
 constraint_entries c = length c.enforcement + kind_entries c.kind
 
-abbrev pub expression_entries : LinearExpr → ℕ
-expression_entries e = 1 + length e.vars
-
 abbrev pub objective_entries : Option Objective → ℕ
 objective_entries None = 0
 objective_entries (Some o) = length o.vars + length o.domain
@@ -115,7 +112,7 @@ abbrev pub first_invalid : CpModel → Option (ℕ × Place)
 first_invalid m =
     or_else (at_place places.Model (size_fault m))
     (or_else (first_faulty variable_fault places.Variable 0 m.variables)
-    (or_else (first_faulty (constraint_fault m.variables) places.Constraint 0 m.constraints)
+    (or_else (first_faulty (constraint_fault m.variables m.constraints) places.Constraint 0 m.constraints)
     (or_else (at_place places.Objective (objective_fault m.variables m.objective))
     (first_faulty (assumption_fault m.variables) places.Assumption 0 m.assumptions))))
 

@@ -17,7 +17,7 @@ pub enum Kind {
     ExactlyOne(Listed<i32>),
     /// An odd number of positions have a true literal.
     BoolXor(Listed<i32>),
-    /// The sum of coefficients times values lies in the domain, a list of bounds that is nowhere where it is empty.
+    /// The sum of coefficients times values lies in one of the domain's intervals. An empty domain admits no sum.
     Linear {
         vars: Listed<i32>,
         coeffs: Listed<i64>,

@@ -1,7 +1,7 @@
 //! What the kinds have: literals, sums, domains. A later kind adds an arm to each function.
 ghost use Rattle.std.specs.Prelude.{◌≡◌, IsTrue};
 ghost use Rattle.std.specs.List.{list_all};
-ghost use Rattle.cps_model.specs.Rules.{names, names_boolean, names_variables, is_paired, has_small_reach, sums_of, literals_of, has_well_shaped_domain};
+ghost use Rattle.cps_model.specs.Rules.{names, names_boolean, names_variables, is_paired, has_small_reach, sums_of, literals_of, has_matching_lists, has_well_shaped_domain};
 
 use crate::bounds::is_well_shaped;
 use crate::reach::has_small_reach;
@@ -39,6 +39,21 @@ pub fn sums_are_paired(kind: &Kind) -> bool
     match kind {
         Kind::Linear { vars, coeffs, .. } => vars.len() == coeffs.len(),
         _ => true,
+    }
+}
+
+/// Whether the lists of a kind that go together, beside those of its sums, are equally long. No present kind has such lists.
+pub fn has_matching_lists(kind: &Kind) -> bool
+    ensures { result ≡ has_matching_lists kind.now }
+{
+    match kind {
+        Kind::Empty
+        | Kind::BoolOr(_)
+        | Kind::BoolAnd(_)
+        | Kind::AtMostOne(_)
+        | Kind::ExactlyOne(_)
+        | Kind::BoolXor(_)
+        | Kind::Linear { .. } => true,
     }
 }
 

@@ -4,8 +4,8 @@ ghost use Rattle.cps_model.specs.Validity.{variable_fault, constraint_fault, obj
 
 use crate::bounds::{are_small, is_well_shaped};
 use crate::kinds::{
-    has_well_shaped_domain, literals_of, sums_are_paired, sums_have_small_reach,
-    sums_name_variables,
+    has_matching_lists, has_well_shaped_domain, literals_of, sums_are_paired,
+    sums_have_small_reach, sums_name_variables,
 };
 use crate::reach::has_small_reach;
 use crate::references::{are_named, name_booleans, names_boolean};
@@ -25,9 +25,13 @@ pub fn variable_fault(variable: &Variable) -> Option<u8>
     None
 }
 
-/// The first rule that a constraint breaks.
-pub fn constraint_fault(variables: &[Variable], constraint: &Constraint) -> Option<u8>
-    ensures { result ≡ constraint_fault variables.now constraint.now }
+/// The first rule that a constraint breaks, among all constraints of its model.
+pub fn constraint_fault(
+    variables: &[Variable],
+    _constraints: &[Constraint],
+    constraint: &Constraint,
+) -> Option<u8>
+    ensures { result ≡ constraint_fault variables.now _constraints.now constraint.now }
 {
     let count = variables.len();
     let kind = &constraint.kind;
@@ -42,7 +46,7 @@ pub fn constraint_fault(variables: &[Variable], constraint: &Constraint) -> Opti
     if !name_booleans(variables, enforcement) || !name_booleans(variables, literals) {
         return Some(4);
     }
-    if !sums_are_paired(kind) {
+    if !sums_are_paired(kind) || !has_matching_lists(kind) {
         return Some(5);
     }
     if !sums_have_small_reach(variables, kind) {

@@ -1,8 +1,8 @@
 //! How large a model may be. Entries are counted down from the most that are allowed, and the count stops where no room
 //! is left, so that it cannot overflow.
 ghost use Rattle.std.specs.Prelude.{◌≡◌, ◌+◌, ◌<◌, sum_by, length, MatchOption};
-ghost use Rattle.cps_model.specs.Rules.{kind_entries};
-ghost use Rattle.cps_model.specs.Validity.{variable_entries, constraint_entries, expression_entries, objective_entries, strategy_entries, hint_entries, entry_count, size_fault};
+ghost use Rattle.cps_model.specs.Rules.{kind_entries, expression_entries};
+ghost use Rattle.cps_model.specs.Validity.{variable_entries, constraint_entries, objective_entries, strategy_entries, hint_entries, entry_count, size_fault};
 
 use cps_model::{Constraint, CpModel, Hint, Kind, LinearExpr, Objective, Strategy, Variable};
 

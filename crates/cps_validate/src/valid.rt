@@ -63,10 +63,10 @@ fn variables_fault(variables: &[Variable]) -> Option<(u8, Place)>
 /// The first constraint that breaks a rule.
 fn constraints_fault(variables: &[Variable], constraints: &[Constraint]) -> Option<(u8, Place)>
     requires { length constraints.now ≤ most_items }
-    ensures { result ≡ first_faulty (constraint_fault variables.now) Place.Constraint 0 constraints.now }
+    ensures { result ≡ first_faulty (constraint_fault variables.now constraints.now) Place.Constraint 0 constraints.now }
 {
     for (i, constraint) in constraints.iter().enumerate() {
-        if let Some(rule) = constraint_fault(variables, constraint) {
+        if let Some(rule) = constraint_fault(variables, constraints, constraint) {
             return Some((rule, Place::Constraint(i as u32)));
         }
     }

@@ -1,7 +1,7 @@
 -- What is left is the room for what is still to come.
 use Rattle.std.specs.Prelude.{sum_by}
 use Rattle.std.proofs.Common.{◌≡◌, ◌+◌, drop}
-use Rattle.cps_model.specs.Validity.{expression_entries}
+use Rattle.cps_model.specs.Rules.{expression_entries}
 use Rattle.cps_validate.proofs.size.after_strategy.Given as goal
 
 abbrev pub invariant-loop-expr : goal.invariant-loop-expr

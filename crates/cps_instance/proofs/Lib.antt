@@ -1,0 +1,13 @@
+pub mod Intervals
+pub mod Agreeing
+pub mod Extending
+pub mod LiteralAtoms
+pub mod Summing
+pub mod Meaning
+pub mod VariableDomains
+pub mod Fits
+pub mod Growing
+pub mod Instances
+pub mod Boundings
+pub mod Solving
+pub mod Lowering

@@ -1,0 +1,47 @@
+-- What a propagator may count on: a task whose subjects have domains in which none of its sums leaves its type.
+use Rattle.std.specs.Prelude.{◌≡◌, ℕ, ◌<◌, ◌^◌, ℤ, pos, ◌≤ℤ◌, IsTrue, true, Option, List, length, All}
+use Rattle.cps_model.specs.Within.{is_well_shaped}
+use Rattle.cps_domain.specs.Window.{is_among}
+use Rattle.cps_literal.specs.declared.atom.Atom.{Atom}
+use Rattle.cps_instance.specs.declared.term.Term.{Term}
+use Rattle.cps_instance.specs.declared.task.Task.{Task}
+use Rattle.cps_instance.specs.declared.task.Body.{Body}
+use Rattle.cps_instance.specs.declared.task.Body.TheVariants.{Empty, BoolOr, BoolAnd, AtMostOne, ExactlyOne, BoolXor, Linear, Sum, ObjectiveList, Cut}
+use Rattle.cps_instance.specs.Terms.{Domains, AreIntervals, domain_at, terms_reach}
+use Rattle.cps_instance.specs.Sums.{DefinedSum, IsSumOf}
+use Rattle.cps_instance.specs.Tasks.{subjects_of}
+
+-- an atom that stands for a literal: it compares with 0 or 1, and its subject's values are among 0 and 1
+pub record IsLiteral (domains : Domains) (u : Atom) : Type 0 where
+  pub low : pos 0 ≤ℤ u.value
+  pub high : u.value ≤ℤ pos 1
+  pub least : (x : ℤ) → is_among (domain_at domains u.subject) x ≡ true → pos 0 ≤ℤ x
+  pub greatest : (x : ℤ) → is_among (domain_at domains u.subject) x ≡ true → x ≤ℤ pos 1
+
+-- terms whose sum stays below 2 ^ 62 in magnitude
+pub record AreSmall (domains : Domains) (terms : List Term) : Type 0 where
+  pub small : terms_reach domains terms < 2 ^ 62
+
+-- such terms, and a list of bounds in order for their sum
+pub record AreSmallWithin (domains : Domains) (terms : List Term) (bounds : List ℤ) : Type 0 where
+  pub small : terms_reach domains terms < 2 ^ 62
+  pub shaped : IsTrue (is_well_shaped bounds)
+
+abbrev pub IsFittingBody : Domains → Body → Type 0
+IsFittingBody domains Empty = Unit {0}
+IsFittingBody domains (BoolOr atoms) = All (IsLiteral domains) atoms
+IsFittingBody domains (BoolAnd atoms) = All (IsLiteral domains) atoms
+IsFittingBody domains (AtMostOne atoms) = All (IsLiteral domains) atoms
+IsFittingBody domains (ExactlyOne atoms) = All (IsLiteral domains) atoms
+IsFittingBody domains (BoolXor atoms) = All (IsLiteral domains) atoms
+IsFittingBody domains (Linear terms bounds) = AreSmallWithin domains terms bounds
+IsFittingBody domains (Sum subject terms offset) = IsSumOf domains subject (record { terms = terms; offset = offset })
+IsFittingBody domains (ObjectiveList terms bounds) = AreSmallWithin domains terms bounds
+IsFittingBody domains (Cut terms upper) = AreSmall domains terms
+
+-- the task's subjects are among those with these domains, whose intervals rise, and it fits them
+pub record IsFitting (domains : Domains) (t : Task) : Type 0 where
+  pub subjects : All (λ s. s < length domains) (subjects_of t)
+  pub sound : All (λ s. AreIntervals (domain_at domains s)) (subjects_of t)
+  pub enforcement : All (IsLiteral domains) t.enforcement
+  pub body : IsFittingBody domains t.body

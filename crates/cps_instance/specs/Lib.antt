@@ -1,0 +1,6 @@
+pub mod Terms
+pub mod Sums
+pub mod Tasks
+pub mod Fitting
+pub mod Problem
+pub mod Posting

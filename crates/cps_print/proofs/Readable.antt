@@ -1,0 +1,256 @@
+-- What a model is like that a document is read as.
+use Rattle.std.specs.Prelude.{map, if◌then◌else◌, codes}
+use Rattle.std.specs.List.{list_all}
+use Rattle.std.specs.Str.{bytes_eq}
+use Rattle.std.specs.Option.{option_or}
+use Rattle.std.proofs.lemmas.Slice.Eq.{bytes_eq-Decides}
+use Rattle.std.proofs.lemmas.List.Folds.{list_all-append}
+use Rattle.std.proofs.Common.{◌≡◌, ◌≢◌, ℕ, zero, suc, Bool, true, false, ◌&&◌, ℤ, pos, negsuc, List, [], ◌∷◌, ◌++◌, Option, Some, None, refl, sym, subst, ap, ◌∙◌}
+use Rattle.cps_lex.specs.declared.types.TokenKind.{TokenKind}
+use Rattle.cps_lex.specs.declared.types.TokenKind.TheVariants.{Identifier, Decimal, Sign}
+use Rattle.cps_textproto.specs.Trees.{Tree, no_fields, field, Values, no_values, scalar_value, message_value}
+use Rattle.cps_model.specs.declared.fault.FaultName.{FaultName}
+use Rattle.cps_model.specs.declared.model.CpModel.{CpModel}
+use Rattle.cps_model.specs.declared.model.Variable.{Variable}
+use Rattle.cps_model.specs.declared.model.Objective.{Objective}
+use Rattle.cps_model.specs.declared.constraint.Constraint.{Constraint}
+use Rattle.cps_model.specs.declared.constraint.Kind.{Kind}
+use Rattle.cps_model.specs.declared.constraint.Kind.TheVariants.{Empty, BoolOr, Linear}
+use Rattle.cps_schema.specs.Written.{Written, token_text, token_kind, unsigned_token, number_at}
+use Rattle.cps_schema.specs.declared.number.Number.{Number}
+use Rattle.cps_schema.specs.declared.number.Number.TheVariants.{Int64, Int32, Exact}
+use Rattle.cps_schema.specs.Numbers.{fits, kind_fault, number_fault}
+use Rattle.cps_schema.specs.Tables as tables
+use Rattle.cps_schema.specs.Tables.{use_of, content_of, model_message, variable_message, constraint_message, literals_message, linear_message, objective_message}
+use Rattle.cps_schema.specs.Faults.{refused_at, fields_fault, values_fault}
+use Rattle.cps_schema.specs.Readings as readings
+use Rattle.cps_schema.specs.Readings.{first_or, first_of, value_numbers, value_messages, messages, read_variable, read_bool_or, read_linear, kinds_of, given_kinds, read_constraint, scaling_of, read_objective, read_model}
+
+abbrev pub Each : {X : Type 0} → (X → Type 0) → List X → Type 0
+Each P [] = Unit {0}
+Each P (x ∷ xs) = P x × Each P xs
+
+abbrev pub AreFit : Number → List ℤ → Type 0
+AreFit type ns = list_all (fits type) ns ≡ true
+
+pub record IsReadableVariable (v : Variable) : Type 0 where
+  pub name : v.name ≡ []
+  pub domain : AreFit Int64 v.domain
+
+abbrev pub IsReadableKind : Kind → Type 0
+IsReadableKind Empty = Unit {0}
+IsReadableKind (BoolOr literals) = AreFit Int32 literals
+IsReadableKind (Linear vars coeffs domain) = AreFit Int32 vars × AreFit Int64 coeffs × AreFit Int64 domain
+IsReadableKind k = ⊥
+
+pub record IsReadableConstraint (c : Constraint) : Type 0 where
+  pub name : c.name ≡ []
+  pub enforcement : AreFit Int32 c.enforcement
+  pub kind : IsReadableKind c.kind
+
+pub record IsReadableObjective (o : Objective) : Type 0 where
+  pub vars : AreFit Int32 o.vars
+  pub coeffs : AreFit Int64 o.coeffs
+  pub offset : fits Exact o.offset ≡ true
+  pub scaling : fits Exact o.scaling ≡ true
+  pub scaled : o.scaling ≢ pos 0
+  pub domain : AreFit Int64 o.domain
+
+abbrev pub IsReadableOption : Option Objective → Type 0
+IsReadableOption None = Unit {0}
+IsReadableOption (Some o) = IsReadableObjective o
+
+pub record IsReadable (m : CpModel) : Type 0 where
+  pub name : m.name ≡ []
+  pub variables : Each IsReadableVariable m.variables
+  pub constraints : Each IsReadableConstraint m.constraints
+  pub objective : IsReadableOption m.objective
+  pub strategies : m.strategies ≡ []
+  pub hint : m.hint ≡ None
+  pub assumptions : m.assumptions ≡ []
+
+each_append : {X : Type 0} (P : X → Type 0) (xs ys : List X) → Each P xs → Each P ys → Each P (xs ++ ys)
+each_append P [] ys p q = q
+each_append P (x ∷ xs) ys p q = (p.0, each_append P xs ys p.1 q)
+
+each_map : {X Y : Type 0} (P : X → Type 0) (Q : Y → Type 0) (f : X → Y) → ((x : X) → P x → Q (f x)) → (xs : List X) → Each P xs → Each Q (map f xs)
+each_map P Q f h [] p = tt
+each_map P Q f h (x ∷ xs) p = (h x p.0, each_map P Q f h xs p.1)
+
+or_none : {X : Type 0} (a b : Option X) → option_or a b ≡ None → (a ≡ None) × (b ≡ None)
+or_none None b e = (refl, e)
+or_none (Some x) b e = cc
+
+refused_none : (k : ℕ) (o : Option FaultName) → refused_at k o ≡ None → o ≡ None
+refused_none k None e = refl
+refused_none k (Some name) e = cc
+
+kind_fit : (type : Number) (fit : Bool) (kind : Option TokenKind) → kind_fault type fit kind ≡ None → fit ≡ true
+kind_fit type true (Some Decimal) e = refl
+kind_fit type false (Some Decimal) e = cc
+kind_fit type fit (Some Identifier) e = cc
+kind_fit type fit _ e = cc
+
+number_fit : (w : Written) (type : Number) (first : ℕ) → number_fault w type first ≡ None → fits type (number_at w first) ≡ true
+unfolding number_fault
+number_fit w type first e = kind_fit type (fits type (number_at w first)) (token_kind w (unsigned_token w first)) e
+
+both_true : (a b : Bool) → a ≡ true → b ≡ true → (a && b) ≡ true
+both_true a b p q = rw (p, q) refl
+
+values_fit : (w : Written) (type : Number) (values : Values) → values_fault w (Some (tables.number type)) values ≡ None → AreFit type (value_numbers w values)
+values_fit w type no_values e = refl
+values_fit w type (scalar_value first end rest) e =
+    let parts = or_none (refused_at first (number_fault w type first)) _ e in
+    both_true _ _ (number_fit w type first (refused_none first (number_fault w type first) parts.0)) (values_fit w type rest parts.1)
+values_fit w type (message_value first inner rest) e = cc
+
+values_sound : (w : Written) (k : tables.Message) (values : Values) → values_fault w (Some (tables.message k)) values ≡ None → Each (λ t. fields_fault w k [] t ≡ None) (value_messages values)
+values_sound w k no_values e = tt
+values_sound w k (scalar_value first end rest) e = cc
+values_sound w k (message_value first inner rest) e =
+    let parts = or_none (fields_fault w k [] inner) _ e in
+    (parts.0, values_sound w k rest parts.1)
+
+same_name : (a b : List ℕ) → bytes_eq a b ≡ true → a ≡ b
+same_name a b e = (bytes_eq-Decides a b).0 e
+
+-- the numbers of a name fit, where no field is refused
+pub numbers_fit : (w : Written) (m : tables.Message) (before : List (List ℕ)) (name : List ℕ) (type : Number) (t : Tree) → content_of (use_of m name) ≡ Some (tables.number type) → fields_fault w m before t ≡ None → AreFit type (readings.numbers w name t)
+numbers_fit w m before name type no_fields takes e = refl
+numbers_fit w m before name type (field token list values rest) takes e =
+    let parts = or_none _ _ e in
+    let inner = or_none (values_fault w (content_of (use_of m (token_text w token))) values) _ parts.1 in
+    here w m name type token values (readings.numbers w name rest) takes inner.0
+    (numbers_fit w m (token_text w token ∷ before) name type rest takes inner.1) (bytes_eq (token_text w token) name) refl
+  where
+    here : (w : Written) (m : tables.Message) (name : List ℕ) (type : Number) (token : ℕ) (values : Values) (others : List ℤ) → content_of (use_of m name) ≡ Some (tables.number type) → values_fault w (content_of (use_of m (token_text w token))) values ≡ None → AreFit type others → (same : Bool) → bytes_eq (token_text w token) name ≡ same → AreFit type ((if same then value_numbers w values else []) ++ others)
+    here w m name type token values others takes e rest true same =
+        let is = same_name (token_text w token) name same in
+        let content : content_of (use_of m (token_text w token)) ≡ Some (tables.number type) = ap (λ n. content_of (use_of m n)) is ∙ takes in
+        let clean : values_fault w (Some (tables.number type)) values ≡ None = sym (ap (λ c. values_fault w c values) content) ∙ e in
+        list_all-append (fits type) (value_numbers w values) others ∙ both_true _ _ (values_fit w type values clean) rest
+    here w m name type token values others takes e rest false same = rest
+
+-- and the messages of a name have no fault
+pub messages_sound : (w : Written) (m : tables.Message) (before : List (List ℕ)) (name : List ℕ) (k : tables.Message) (t : Tree) → content_of (use_of m name) ≡ Some (tables.message k) → fields_fault w m before t ≡ None → Each (λ t. fields_fault w k [] t ≡ None) (messages w name t)
+messages_sound w m before name k no_fields takes e = tt
+messages_sound w m before name k (field token list values rest) takes e =
+    let parts = or_none _ _ e in
+    let inner = or_none (values_fault w (content_of (use_of m (token_text w token))) values) _ parts.1 in
+    here w m name k token values (messages w name rest) takes inner.0
+    (messages_sound w m (token_text w token ∷ before) name k rest takes inner.1) (bytes_eq (token_text w token) name) refl
+  where
+    here : (w : Written) (m : tables.Message) (name : List ℕ) (k : tables.Message) (token : ℕ) (values : Values) (others : List Tree) → content_of (use_of m name) ≡ Some (tables.message k) → values_fault w (content_of (use_of m (token_text w token))) values ≡ None → Each (λ t. fields_fault w k [] t ≡ None) others → (same : Bool) → bytes_eq (token_text w token) name ≡ same → Each (λ t. fields_fault w k [] t ≡ None) ((if same then value_messages values else []) ++ others)
+    here w m name k token values others takes e rest true same =
+        let is = same_name (token_text w token) name same in
+        let content : content_of (use_of m (token_text w token)) ≡ Some (tables.message k) = ap (λ n. content_of (use_of m n)) is ∙ takes in
+        let clean : values_fault w (Some (tables.message k)) values ≡ None = sym (ap (λ c. values_fault w c values) content) ∙ e in
+        each_append (λ t. fields_fault w k [] t ≡ None) (value_messages values) others (values_sound w k values clean) rest
+    here w m name k token values others takes e rest false same = rest
+
+-- what each message is read as
+
+variable_readable : (w : Written) (t : Tree) → fields_fault w variable_message [] t ≡ None → IsReadableVariable (read_variable w t)
+unfolding use_of
+variable_readable w t e = record { name = refl; domain = numbers_fit w variable_message [] (codes "domain") Int64 t refl e }
+
+bool_or_readable : (w : Written) (t : Tree) → fields_fault w literals_message [] t ≡ None → IsReadableKind (read_bool_or w t)
+unfolding use_of
+bool_or_readable w t e = numbers_fit w literals_message [] (codes "literals") Int32 t refl e
+
+linear_readable : (w : Written) (t : Tree) → fields_fault w linear_message [] t ≡ None → IsReadableKind (read_linear w t)
+unfolding use_of
+linear_readable w t e = (
+  numbers_fit w linear_message [] (codes "vars") Int32 t refl e,
+  numbers_fit w linear_message [] (codes "coeffs") Int64 t refl e,
+  numbers_fit w linear_message [] (codes "domain") Int64 t refl e,
+)
+
+linear_by : (w : Written) (name : List ℕ) (values : Values) → values_fault w (content_of (use_of constraint_message name)) values ≡ None → (same : Bool) → bytes_eq name (codes "linear") ≡ same → Each IsReadableKind (if same then map (read_linear w) (value_messages values) else [])
+unfolding use_of
+linear_by w name values e true same =
+    let is = same_name name (codes "linear") same in
+    let clean : values_fault w (Some (tables.message linear_message)) values ≡ None = sym (ap (λ n. values_fault w (content_of (use_of constraint_message n)) values) is) ∙ e in
+    each_map (λ t. fields_fault w linear_message [] t ≡ None) IsReadableKind (read_linear w) (linear_readable w) (value_messages values) (values_sound w linear_message values clean)
+linear_by w name values e false same = tt
+
+bool_or_by : (w : Written) (name : List ℕ) (values : Values) (others : List Kind) → values_fault w (content_of (use_of constraint_message name)) values ≡ None → Each IsReadableKind others → (same : Bool) → bytes_eq name (codes "bool_or") ≡ same → Each IsReadableKind (if same then map (read_bool_or w) (value_messages values) else others)
+unfolding use_of
+bool_or_by w name values others e rest true same =
+    let is = same_name name (codes "bool_or") same in
+    let clean : values_fault w (Some (tables.message literals_message)) values ≡ None = sym (ap (λ n. values_fault w (content_of (use_of constraint_message n)) values) is) ∙ e in
+    each_map (λ t. fields_fault w literals_message [] t ≡ None) IsReadableKind (read_bool_or w) (bool_or_readable w) (value_messages values) (values_sound w literals_message values clean)
+bool_or_by w name values others e rest false same = rest
+
+kinds_readable : (w : Written) (before : List (List ℕ)) (t : Tree) → fields_fault w constraint_message before t ≡ None → Each IsReadableKind (given_kinds w t)
+kinds_readable w before no_fields e = tt
+kinds_readable w before (field token list values rest) e =
+    let parts = or_none _ _ e in
+    let inner = or_none (values_fault w (content_of (use_of constraint_message (token_text w token))) values) _ parts.1 in
+    let name = token_text w token in
+    let linear = linear_by w name values inner.0 (bytes_eq name (codes "linear")) refl in
+    let here = bool_or_by w name values _ inner.0 linear (bytes_eq name (codes "bool_or")) refl in
+    each_append IsReadableKind (kinds_of w name (value_messages values)) (given_kinds w rest) here (kinds_readable w (name ∷ before) rest inner.1)
+
+first_kind : (ks : List Kind) → Each IsReadableKind ks → IsReadableKind (first_or Empty ks)
+first_kind [] e = tt
+first_kind (k ∷ ks) e = e.0
+
+constraint_readable : (w : Written) (t : Tree) → fields_fault w constraint_message [] t ≡ None → IsReadableConstraint (read_constraint w t)
+unfolding use_of
+constraint_readable w t e = record {
+  name = refl;
+  enforcement = numbers_fit w constraint_message [] (codes "enforcement_literal") Int32 t refl e;
+  kind = first_kind (given_kinds w t) (kinds_readable w [] t e);
+}
+
+first_fit : (ns : List ℤ) → AreFit Exact ns → fits Exact (first_or (pos 0) ns) ≡ true
+unfolding fits
+first_fit [] e = refl
+first_fit (n ∷ ns) e = left (fits Exact n) _ e
+  where
+    left : (a b : Bool) → (a && b) ≡ true → a ≡ true
+    left true b e = refl
+    left false b e = cc
+
+scaling_fit : (z : ℤ) → fits Exact z ≡ true → fits Exact (scaling_of z) ≡ true
+unfolding fits
+scaling_fit (pos zero) e = refl
+scaling_fit (pos (suc n)) e = e
+scaling_fit (negsuc n) e = e
+
+scaling_nonzero : (z : ℤ) → scaling_of z ≢ pos 0
+scaling_nonzero (pos zero) = λ e. cc
+scaling_nonzero (pos (suc n)) = λ e. cc
+scaling_nonzero (negsuc n) = λ e. cc
+
+objective_readable : (w : Written) (t : Tree) → fields_fault w objective_message [] t ≡ None → IsReadableObjective (read_objective w t)
+unfolding use_of
+objective_readable w t e = record {
+  vars = numbers_fit w objective_message [] (codes "vars") Int32 t refl e;
+  coeffs = numbers_fit w objective_message [] (codes "coeffs") Int64 t refl e;
+  offset = first_fit _ (numbers_fit w objective_message [] (codes "offset") Exact t refl e);
+  scaling = scaling_fit _ (first_fit _ (numbers_fit w objective_message [] (codes "scaling_factor") Exact t refl e));
+  scaled = scaling_nonzero _;
+  domain = numbers_fit w objective_message [] (codes "domain") Int64 t refl e;
+}
+
+option_readable : (w : Written) (ts : List Tree) → Each (λ t. fields_fault w objective_message [] t ≡ None) ts → IsReadableOption (first_of (map (read_objective w) ts))
+option_readable w [] e = tt
+option_readable w (t ∷ ts) e = objective_readable w t e.0
+
+model_readable : (w : Written) (t : Tree) → fields_fault w model_message [] t ≡ None → IsReadable (read_model w t)
+unfolding use_of
+model_readable w t e = record {
+  name = refl;
+  variables = each_map (λ t. fields_fault w variable_message [] t ≡ None) IsReadableVariable (read_variable w) (variable_readable w) (messages w (codes "variables") t) (messages_sound w model_message [] (codes "variables") variable_message t refl e);
+  constraints = each_map (λ t. fields_fault w constraint_message [] t ≡ None) IsReadableConstraint (read_constraint w) (constraint_readable w) (messages w (codes "constraints") t) (messages_sound w model_message [] (codes "constraints") constraint_message t refl e);
+  objective = option_readable w (messages w (codes "objective") t) (messages_sound w model_message [] (codes "objective") objective_message t refl e);
+  strategies = refl;
+  hint = refl;
+  assumptions = refl;
+}
+
+pub read_is_readable : (w : Written) (t : Tree) (m : CpModel) → readings.ReadsAs w t m → IsReadable m
+read_is_readable w t m r = subst IsReadable (sym r.reading) (model_readable w t r.accepted)

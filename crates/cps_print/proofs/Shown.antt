@@ -1,0 +1,240 @@
+-- The tree of a printed message shows its fields, and what is read of it is what was printed.
+use Rattle.std.specs.Prelude.{map, if◌then◌else◌}
+use Rattle.std.specs.List.{list_all, AllZip}
+use Rattle.std.specs.Str.{bytes_eq}
+use Rattle.std.specs.Option.{option_or}
+use Rattle.std.specs.Fmt.{decimal}
+use Rattle.std.proofs.lemmas.Bool.Decides.{nat_tests}
+use Rattle.std.proofs.Common.{◌≡◌, ℕ, zero, suc, ◌+◌, ◌^◌, ◌<◌, Bool, true, false, ◌==◌, ◌&&◌, ℤ, pos, negsuc, unsigned_abs, List, [], ◌∷◌, ◌++◌, Option, Some, None, refl, sym, ap, ◌∙◌, add-one, append-nil, append_assoc, arith}
+use Rattle.cps_lex.specs.declared.types.TokenKind.TheVariants.{Decimal}
+use Rattle.cps_lex.specs.Bytes.{is_digit}
+use Rattle.cps_textproto.specs.Trees.{Tree, no_fields, field, Values, no_values, scalar_value, message_value}
+use Rattle.cps_textproto.specs.Reading.{past_scalar, past_others, past_fields, others_at, tree_at}
+use Rattle.cps_schema.specs.Written.{Written, token_text, token_kind, decimal_value, is_negative, unsigned_token, magnitude, number_at}
+use Rattle.cps_schema.specs.Numbers.{fits, number_fault}
+use Rattle.cps_schema.specs.declared.number.Number.{Number}
+use Rattle.cps_schema.specs.Tables as tables
+use Rattle.cps_schema.specs.Tables.{use_of, content_of, is_given}
+use Rattle.cps_schema.specs.Faults.{has_kind, fields_fault, values_fault}
+use Rattle.cps_schema.specs.Readings as readings
+use Rattle.cps_schema.specs.Readings.{value_numbers, value_messages, messages}
+use Rattle.cps_print.specs.Layout.{Message, empty, number, numbers, word, quoted, message}
+use Rattle.cps_print.proofs.Digits.{decimal_text, decimal_value-decimal, and_true}
+use Rattle.cps_print.proofs.Pieces.{Piece, blank, AreWritten}
+use Rattle.cps_print.proofs.Cuts.{IsShort, AreShort, IsPlain, sign, number_pieces, others_pieces, indent_pieces, pieces, scalar_of, fields_of}
+
+-- a scalar that begins at this token is this number
+pub record ShowsNumber (w : Written) (n : ℤ) (first : ℕ) : Type 0 where
+  pub worth : number_at w first ≡ n
+  pub kind : token_kind w (unsigned_token w first) ≡ Some Decimal
+
+abbrev pub ShowNumbers : Written → List ℤ → Values → Type 0
+ShowNumbers w [] no_values = Unit {0}
+ShowNumbers w (n ∷ ns) (scalar_value first end rest) = ShowsNumber w n first × ShowNumbers w ns rest
+ShowNumbers w _ _ = ⊥
+
+abbrev pub Shows : Written → Message → Tree → Type 0
+Shows w empty no_fields = Unit {0}
+Shows w (number name n more) (field token false values rest) =
+    (token_text w token ≡ name) × ShowNumbers w (n ∷ []) values × Shows w more rest
+Shows w (numbers name n ns more) (field token true values rest) =
+    (token_text w token ≡ name) × ShowNumbers w (n ∷ ns) values × Shows w more rest
+Shows w (message name inner more) (field token false (message_value first tree no_values) rest) =
+    (token_text w token ≡ name) × Shows w inner tree × Shows w more rest
+Shows w _ _ = ⊥
+
+-- the tree shows what is written on the tokens
+
+not_minus : (b : ℕ) → is_digit b ≡ true → (b == 45) ≡ false
+unfolding is_digit
+not_minus b e = grind (arith, nat_tests)
+
+decimal_positive : (n : ℕ) → n < 2 ^ 64 → bytes_eq (decimal n) (45 ∷ []) ≡ false
+decimal_positive n h =
+    let t = decimal_text n h in
+    rw (t.is, not_minus t.first t.digit) refl
+
+positive_shown : (w : Written) (k n : ℕ) → n < 2 ^ 64 → token_text w k ≡ decimal n → token_kind w k ≡ Some Decimal → ShowsNumber w (pos n) k
+unfolding number_at is_negative magnitude
+positive_shown w k n h text kind =
+    let positive = decimal_positive n h in
+    let value = decimal_value-decimal n h in
+    record {
+      worth = rw (text, positive, text, value) refl;
+      kind = rw (text, positive) kind;
+    }
+
+negative_shown : (w : Written) (k n : ℕ) → suc n < 2 ^ 64 → token_text w k ≡ 45 ∷ [] → token_text w (suc k) ≡ decimal (suc n) → token_kind w (suc k) ≡ Some Decimal → ShowsNumber w (negsuc n) k
+unfolding number_at is_negative magnitude
+negative_shown w k n h minus text kind =
+    let value = decimal_value-decimal (suc n) h in
+    record {
+      worth = rw (minus, add-one, text, value) refl;
+      kind = rw (minus, add-one) kind;
+    }
+
+number_shown : (w : Written) (k : ℕ) (n : ℤ) (rest : List Piece) → IsShort n → AreWritten w k (number_pieces n rest) → ShowsNumber w n k × AreWritten w (past_scalar (scalar_of n) k) rest
+number_shown w k (pos n) rest h s = (positive_shown w k n h s.0 s.1, s.2)
+number_shown w k (negsuc n) rest h s = (negative_shown w k n h s.0 s.2.0 s.2.1, s.2.2)
+
+others_shown : (w : Written) (k : ℕ) (ns : List ℤ) (rest : List Piece) → AreShort ns → AreWritten w k (others_pieces ns rest) → ShowNumbers w ns (others_at k (map scalar_of ns)) × AreWritten w (past_others (map scalar_of ns) k) rest
+others_shown w k [] rest h s = (tt, s)
+others_shown w k (n ∷ ns) rest h s =
+    let here = number_shown w (suc k) n (others_pieces ns rest) h.0 s.2 in
+    let others = others_shown w (past_scalar (scalar_of n) (suc k)) ns rest h.1 here.1 in
+    ((here.0, others.0), others.1)
+
+past_indent : (w : Written) (k level : ℕ) (ps : List Piece) → AreWritten w k (indent_pieces level ps) → AreWritten w k ps
+past_indent w k zero ps s = s
+past_indent w k (suc level) ps s = past_indent w k level ps s
+
+pub tree_shows : (room : ℕ) (w : Written) (k level : ℕ) (m : Message) (rest : List Piece) → IsPlain room m → AreWritten w k (pieces level m rest) → Shows w m (tree_at k (fields_of m)) × AreWritten w (past_fields (fields_of m) k) rest
+tree_shows room w k level empty rest p s = (tt, s)
+tree_shows room w k level (number name n more) rest p s =
+    let line = past_indent w k level _ s in
+    let here = number_shown w (suc (suc k)) n (blank 10 ∷ pieces level more rest) p.1 line.2.2 in
+    let others = tree_shows room w (past_scalar (scalar_of n) (suc (suc k))) level more rest p.2 here.1 in
+    ((line.0, (here.0, tt), others.0), others.1)
+tree_shows room w k level (numbers name n ns more) rest p s =
+    let line = past_indent w k level _ s in
+    let last : List Piece = sign 93 ∷ blank 10 ∷ pieces level more rest in
+    let here = number_shown w (suc (suc (suc k))) n (others_pieces ns last) p.1 line.2.2.2 in
+    let items = others_shown w (past_scalar (scalar_of n) (suc (suc (suc k)))) ns last p.2 here.1 in
+    let others = tree_shows room w (suc (past_others (map scalar_of ns) (past_scalar (scalar_of n) (suc (suc (suc k)))))) level more rest p.3 items.1.2 in
+    ((line.0, (here.0, items.0), others.0), others.1)
+tree_shows room w k level (word name x more) rest p s = absurd p
+tree_shows room w k level (quoted name bytes more) rest p s = absurd p
+tree_shows zero w k level (message name fields more) rest p s = absurd p
+tree_shows (suc room) w k level (message name fields more) rest p s =
+    let line = past_indent w k level _ s in
+    let close : List Piece = sign 125 ∷ blank 10 ∷ pieces level more rest in
+    let inner = tree_shows room w (suc (suc k)) (suc level) fields (indent_pieces level close) p.1 line.2.2 in
+    let behind = past_indent w (past_fields (fields_of fields) (suc (suc k))) level close inner.1 in
+    let others = tree_shows (suc room) w (suc (past_fields (fields_of fields) (suc (suc k)))) level more rest p.2 behind.2 in
+    ((line.0, inner.0, others.0), others.1)
+
+-- what is printed under a name
+
+abbrev pub printed_numbers : List ℕ → Message → List ℤ
+printed_numbers name empty = []
+printed_numbers name (number other n more) = (if bytes_eq other name then n ∷ [] else []) ++ printed_numbers name more
+printed_numbers name (numbers other n ns more) = (if bytes_eq other name then n ∷ ns else []) ++ printed_numbers name more
+printed_numbers name (word other w more) = printed_numbers name more
+printed_numbers name (quoted other bytes more) = printed_numbers name more
+printed_numbers name (message other inner more) = printed_numbers name more
+
+abbrev pub printed_messages : List ℕ → Message → List Message
+printed_messages name empty = []
+printed_messages name (number other n more) = printed_messages name more
+printed_messages name (numbers other n ns more) = printed_messages name more
+printed_messages name (word other w more) = printed_messages name more
+printed_messages name (quoted other bytes more) = printed_messages name more
+printed_messages name (message other inner more) = (if bytes_eq other name then inner ∷ [] else []) ++ printed_messages name more
+
+value_numbers-shown : (w : Written) (ns : List ℤ) (values : Values) → ShowNumbers w ns values → value_numbers w values ≡ ns
+value_numbers-shown w [] no_values s = refl
+value_numbers-shown w [] (scalar_value first end rest) s = absurd s
+value_numbers-shown w [] (message_value first tree rest) s = absurd s
+value_numbers-shown w (n ∷ ns) no_values s = absurd s
+value_numbers-shown w (n ∷ ns) (scalar_value first end rest) s = rw (s.0.worth, value_numbers-shown w ns rest s.1) refl
+value_numbers-shown w (n ∷ ns) (message_value first tree rest) s = absurd s
+
+pub value_messages-shown : (w : Written) (ns : List ℤ) (values : Values) → ShowNumbers w ns values → value_messages values ≡ []
+value_messages-shown w [] no_values s = refl
+value_messages-shown w [] (scalar_value first end rest) s = absurd s
+value_messages-shown w [] (message_value first tree rest) s = absurd s
+value_messages-shown w (n ∷ ns) no_values s = absurd s
+value_messages-shown w (n ∷ ns) (scalar_value first end rest) s = value_messages-shown w ns rest s.1
+value_messages-shown w (n ∷ ns) (message_value first tree rest) s = absurd s
+
+same_choice : {X : Type 0} (b : Bool) (x : X) → (if b then x else x) ≡ x
+same_choice true x = refl
+same_choice false x = refl
+
+pub numbers-shown : (w : Written) (name : List ℕ) (m : Message) (t : Tree) → Shows w m t → readings.numbers w name t ≡ printed_numbers name m
+numbers-shown w name empty no_fields s = refl
+numbers-shown w name (number other n more) (field token false values rest) s =
+    rw (s.0, value_numbers-shown w (n ∷ []) values s.1, numbers-shown w name more rest s.2) refl
+numbers-shown w name (numbers other n ns more) (field token true values rest) s =
+    rw (s.0, value_numbers-shown w (n ∷ ns) values s.1, numbers-shown w name more rest s.2) refl
+numbers-shown w name (message other inner more) (field token false (message_value first tree no_values) rest) s =
+    rw (same_choice {X = List ℤ} (bytes_eq (token_text w token) name) [], numbers-shown w name more rest s.2) refl
+numbers-shown w name _ _ s = absurd s
+
+zip_then : {X Y : Type 0} (R : X → Y → Type 0) (b : Bool) (x : X) (y : Y) (xs : List X) (ys : List Y) → R x y → AllZip R xs ys → AllZip R ((if b then x ∷ [] else []) ++ xs) ((if b then y ∷ [] else []) ++ ys)
+zip_then R true x y xs ys r rs = (r, rs)
+zip_then R false x y xs ys r rs = rs
+
+pub messages-shown : (w : Written) (name : List ℕ) (m : Message) (t : Tree) → Shows w m t → AllZip (Shows w) (printed_messages name m) (messages w name t)
+messages-shown w name empty no_fields s = tt
+messages-shown w name (number other n more) (field token false values rest) s =
+    rw (value_messages-shown w (n ∷ []) values s.1, same_choice {X = List Tree} (bytes_eq (token_text w token) name) []) (messages-shown w name more rest s.2)
+messages-shown w name (numbers other n ns more) (field token true values rest) s =
+    rw (value_messages-shown w (n ∷ ns) values s.1, same_choice {X = List Tree} (bytes_eq (token_text w token) name) []) (messages-shown w name more rest s.2)
+messages-shown w name (message other inner more) (field token false (message_value first tree no_values) rest) s =
+    rw s.0 (zip_then (Shows w) (bytes_eq other name) inner tree (printed_messages name more) (messages w name rest) s.1 (messages-shown w name more rest s.2))
+messages-shown w name _ _ s = absurd s
+
+-- the tables admit what is printed
+
+pub record TakesNumber (m : tables.Message) (before : List (List ℕ)) (name : List ℕ) (n : ℤ) : Type 0 where
+  pub type : Number
+  pub takes : use_of m name ≡ Some (tables.single (tables.number type))
+  pub first : is_given before name ≡ false
+  pub fit : fits type n ≡ true
+
+pub record TakesNumbers (m : tables.Message) (name : List ℕ) (ns : List ℤ) : Type 0 where
+  pub type : Number
+  pub takes : use_of m name ≡ Some (tables.repeated (tables.number type))
+  pub fit : list_all (fits type) ns ≡ true
+
+pub data TakesMessage (m : tables.Message) (before : List (List ℕ)) (name : List ℕ) (Admits : tables.Message → Type 0) : Type 0 where
+  each : (k : tables.Message) → use_of m name ≡ Some (tables.repeated (tables.message k)) → Admits k → TakesMessage m before name Admits
+  alone : (k : tables.Message) → use_of m name ≡ Some (tables.single (tables.message k)) → is_given before name ≡ false → Admits k → TakesMessage m before name Admits
+  kind : (k : tables.Message) → use_of m name ≡ Some (tables.one_kind k) → is_given before name ≡ false → has_kind m before ≡ false → Admits k → TakesMessage m before name Admits
+
+abbrev pub IsAdmitted : tables.Message → List (List ℕ) → Message → Type 0
+IsAdmitted m before empty = Unit {0}
+IsAdmitted m before (number name n more) = TakesNumber m before name n × IsAdmitted m (name ∷ before) more
+IsAdmitted m before (numbers name n ns more) = TakesNumbers m name (n ∷ ns) × IsAdmitted m (name ∷ before) more
+IsAdmitted m before (word name w more) = ⊥
+IsAdmitted m before (quoted name bytes more) = ⊥
+IsAdmitted m before (message name inner more) =
+    TakesMessage m before name (λ k. IsAdmitted k [] inner) × IsAdmitted m (name ∷ before) more
+
+number_admitted : (w : Written) (type : Number) (n : ℤ) (first : ℕ) → ShowsNumber w n first → fits type n ≡ true → number_fault w type first ≡ None
+unfolding number_fault
+number_admitted w type n first s f = rw (s.kind, s.worth, f) refl
+
+numbers_admitted : (w : Written) (type : Number) (ns : List ℤ) (values : Values) → ShowNumbers w ns values → list_all (fits type) ns ≡ true → values_fault w (Some (tables.number type)) values ≡ None
+numbers_admitted w type [] no_values s f = refl
+numbers_admitted w type [] (scalar_value first end rest) s f = absurd s
+numbers_admitted w type [] (message_value first tree rest) s f = absurd s
+numbers_admitted w type (n ∷ ns) no_values s f = absurd s
+numbers_admitted w type (n ∷ ns) (scalar_value first end rest) s f =
+    let both = and_true (fits type n) (list_all (fits type) ns) f in
+    rw (number_admitted w type n first s.0 both.0, numbers_admitted w type ns rest s.1 both.1) refl
+numbers_admitted w type (n ∷ ns) (message_value first tree rest) s f = absurd s
+
+pub no_fault : (w : Written) (m : tables.Message) (before : List (List ℕ)) (p : Message) (t : Tree) → Shows w p t → IsAdmitted m before p → fields_fault w m before t ≡ None
+no_fault w m before empty no_fields s a = refl
+no_fault w m before (number name n more) (field token false (scalar_value first end no_values) rest) s a =
+    let here = number_admitted w a.0.type n first s.1.0 a.0.fit in
+    let others = no_fault w m (name ∷ before) more rest s.2 a.1 in
+    rw (s.0, a.0.takes, a.0.first, here, others) refl
+no_fault w m before (number name n more) (field token false no_values rest) s a = absurd s.1
+no_fault w m before (number name n more) (field token false (scalar_value first end (scalar_value f e others)) rest) s a = absurd s.1.1
+no_fault w m before (number name n more) (field token false (scalar_value first end (message_value f tree others)) rest) s a = absurd s.1.1
+no_fault w m before (number name n more) (field token false (message_value first tree others) rest) s a = absurd s.1
+no_fault w m before (numbers name n ns more) (field token true values rest) s a =
+    let here = numbers_admitted w a.0.type (n ∷ ns) values s.1 a.0.fit in
+    let others = no_fault w m (name ∷ before) more rest s.2 a.1 in
+    rw (s.0, a.0.takes, here, others) refl
+no_fault w m before (message name inner more) (field token false (message_value first tree no_values) rest) s a =
+    let others = no_fault w m (name ∷ before) more rest s.2 a.1 in
+    elim a.0 [
+      | each k takes admits ↦ (let here = no_fault w k [] inner tree s.1 admits in rw (s.0, takes, here, others) refl)
+      | alone k takes once admits ↦ (let here = no_fault w k [] inner tree s.1 admits in rw (s.0, takes, once, here, others) refl)
+      | kind k takes once only admits ↦ (let here = no_fault w k [] inner tree s.1 admits in rw (s.0, takes, once, only, here, others) refl)
+    ]
+no_fault w m before _ _ s a = absurd s

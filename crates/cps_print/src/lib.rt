@@ -1,0 +1,21 @@
+//! The texts that are written: a model in its canonical form, a response to it, and the two lines that say why an
+//! input is no valid model.
+//!
+//! The contract of each function says its text exactly. A message is laid out by one definition for all kinds (`text_of`
+//! in `specs/Layout.antt`), and each kind adds only which fields it has (`specs/Models.antt`). Every function appends to
+//! one text, so that a model is printed without a copy of any of its parts.
+#![tactic(auto)]
+
+mod fault;
+mod layout;
+mod model;
+mod objective;
+mod quoting;
+mod response;
+
+pub use fault::{Fault, fault_text};
+pub use model::model_text;
+pub use response::{Response, response_text};
+
+#[cfg(test)]
+mod tests;

@@ -1,0 +1,145 @@
+-- What a field of each use does to the first fault of a message.
+use Rattle.std.specs.Str.{bytes_eq}
+use Rattle.std.specs.Option.{option_or}
+use Rattle.std.proofs.Common.{◌≡◌, ℕ, List, ◌∷◌, ◌||◌, Bool, true, false, Option, Some, None, Result, Ok, Err, if◌then◌else◌, OnOk, IfErr, nat_eq, refl, sym, ◌∙◌}
+use Rattle.std.specs.Cmp.Lexicographic.{pointwise}
+use Rattle.std.proofs.lemmas.Slice.Eq.{bytes_eq-Decides}
+use Rattle.cps_textproto.specs.declared.tree.Field.{Field}
+use Rattle.cps_textproto.specs.Trees.{Tree, values_of}
+use Rattle.cps_model.specs.declared.fault.FaultName.TheVariants.{UnknownField, Unsupported, Repeated, TwoKinds}
+use Rattle.cps_schema.specs.declared.error.SchemaError.{SchemaError}
+use Rattle.cps_schema.specs.declared.error.SchemaError.TheVariants.{Fault, OutOfMemory}
+use Rattle.cps_schema.specs.Written.{Written, token_text}
+use Rattle.cps_schema.specs.Tables.{Message, Content, message, Use, single, repeated, one_kind, table_of, use_in, use_of, unread_names, is_given}
+use Rattle.cps_schema.specs.Faults.{has_kind, is_alone, alone_fault, values_fault, fields_fault}
+use Rattle.cps_schema.specs.Sources.{single_fault}
+use Rattle.cps_schema.specs.Answers.{Refuses}
+use Rattle.cps_schema.specs.Steps.{Passes, Stops, KindStops, field_then}
+
+-- a test of a name that came out true
+pub same_text : (a b : List ℕ) (r : Bool) → r ≡ pointwise nat_eq a b → r ≡ true → a ≡ b
+same_text a b r e t = (bytes_eq-Decides a b).0 (sym e ∙ t)
+
+-- and one that came out false, of texts that are other names of these
+pub other_text : (a b text name : List ℕ) (r : Bool) → r ≡ pointwise nat_eq a b → r ≡ false → a ≡ text → b ≡ name → bytes_eq text name ≡ false
+other_text a b text name r e t s n = rw (← s, ← n) (sym e ∙ t)
+
+-- what a field takes whose name is in its message's table
+pub table_use : (m : Message) (text name : List ℕ) (takes : Use) → text ≡ name → use_in (table_of m) name ≡ Some takes → use_of m text ≡ Some takes
+unfolding use_of
+table_use m text name takes e u = rw (e, u) refl
+
+pub repeated_passes : (w : Written) (m : Message) (f : Field) (content : Content) (r : Result (Unit {0}) SchemaError) →
+    use_of m (token_text w f.name) ≡ Some (repeated content) →
+    OnOk r (values_fault w (Some content) (values_of f.items) ≡ None) →
+    OnOk r ((before : List (List ℕ)) → Passes w m before f)
+repeated_passes w m f content (Ok x) takes clean = λ before rest. rw (takes, clean) refl
+repeated_passes w m f content (Err e) takes clean = clean
+
+pub repeated_stops : (w : Written) (m : Message) (f : Field) (content : Content) (r : Result (Unit {0}) SchemaError) →
+    use_of m (token_text w f.name) ≡ Some (repeated content) →
+    IfErr r (Refuses (values_fault w (Some content) (values_of f.items))) →
+    IfErr r (λ e. (before : List (List ℕ)) → Stops w m before f e)
+repeated_stops w m f content (Ok x) takes refused = refused
+repeated_stops w m f content (Err (Fault name token)) takes refused = λ before rest. rw (takes, refused) refl
+repeated_stops w m f content (Err OutOfMemory) takes refused = λ before rest. tt
+
+-- a name that the table has not
+pub not_read_stops : (w : Written) (m : Message) (f : Field) → use_in (table_of m) (token_text w f.name) ≡ None →
+    (before : List (List ℕ)) →
+    Stops w m before f (Fault (if is_given (unread_names m) (token_text w f.name) then Unsupported else UnknownField) f.name)
+unfolding use_of
+not_read_stops w m f none before rest = by_test (is_given (unread_names m) (token_text w f.name)) refl where
+  by_test : (known : Bool) → is_given (unread_names m) (token_text w f.name) ≡ known →
+      Refuses (fields_fault w m before (field_then f rest)) (Fault (if is_given (unread_names m) (token_text w f.name) then Unsupported else UnknownField) f.name)
+  by_test true e = rw (none, e) refl
+  by_test false e = rw (none, e) refl
+
+or_assoc : {X : Type 0} (a b c : Option X) → option_or (option_or a b) c ≡ option_or a (option_or b c)
+or_assoc None b c = refl
+or_assoc (Some x) b c = refl
+
+-- a single field, the first of its name
+single_step : (w : Written) (m : Message) (before : List (List ℕ)) (f : Field) (content : Content) →
+    use_of m (token_text w f.name) ≡ Some (single content) → is_given before (token_text w f.name) ≡ false →
+    (rest : Tree) → fields_fault w m before (field_then f rest)
+    ≡ option_or (single_fault w content f) (fields_fault w m (token_text w f.name ∷ before) rest)
+single_step w m before f content takes first rest =
+    rw (takes, first)
+    (sym (or_assoc (alone_fault w f.name (is_alone f.list (values_of f.items))) (values_fault w (Some content) (values_of f.items))
+    (fields_fault w m (token_text w f.name ∷ before) rest)))
+
+pub single_passes : (w : Written) (m : Message) (before : List (List ℕ)) (f : Field) (content : Content) →
+    use_of m (token_text w f.name) ≡ Some (single content) → is_given before (token_text w f.name) ≡ false →
+    single_fault w content f ≡ None → Passes w m before f
+single_passes w m before f content takes first clean rest = single_step w m before f content takes first rest ∙ rw clean refl
+
+pub single_stops : (w : Written) (m : Message) (before : List (List ℕ)) (f : Field) (content : Content) →
+    use_of m (token_text w f.name) ≡ Some (single content) → is_given before (token_text w f.name) ≡ false →
+    (e : SchemaError) → Refuses (single_fault w content f) e → Stops w m before f e
+single_stops w m before f content takes first (Fault name token) refused rest = single_step w m before f content takes first rest ∙ rw refused refl
+single_stops w m before f content takes first OutOfMemory refused rest = tt
+
+pub single_again : (w : Written) (m : Message) (before : List (List ℕ)) (f : Field) (content : Content) →
+    use_of m (token_text w f.name) ≡ Some (single content) → is_given before (token_text w f.name) ≡ true →
+    Stops w m before f (Fault Repeated f.name)
+single_again w m before f content takes again rest = rw (takes, again) refl
+
+-- a field of a kind, the first of the kinds
+kind_step : (w : Written) (m : Message) (before : List (List ℕ)) (f : Field) (k : Message) →
+    use_of m (token_text w f.name) ≡ Some (one_kind k) → is_given before (token_text w f.name) ≡ false → has_kind m before ≡ false →
+    (rest : Tree) → fields_fault w m before (field_then f rest)
+    ≡ option_or (single_fault w (message k) f) (fields_fault w m (token_text w f.name ∷ before) rest)
+kind_step w m before f k takes first alone rest =
+    rw (takes, first, alone)
+    (sym (or_assoc (alone_fault w f.name (is_alone f.list (values_of f.items))) (values_fault w (Some (message k)) (values_of f.items))
+    (fields_fault w m (token_text w f.name ∷ before) rest)))
+
+pub kind_passes : (w : Written) (m : Message) (before : List (List ℕ)) (f : Field) (k : Message) →
+    use_of m (token_text w f.name) ≡ Some (one_kind k) → is_given before (token_text w f.name) ≡ false → has_kind m before ≡ false →
+    single_fault w (message k) f ≡ None → Passes w m before f
+kind_passes w m before f k takes first alone clean rest = kind_step w m before f k takes first alone rest ∙ rw clean refl
+
+pub kind_stops : (w : Written) (m : Message) (before : List (List ℕ)) (f : Field) (k : Message) →
+    use_of m (token_text w f.name) ≡ Some (one_kind k) → is_given before (token_text w f.name) ≡ false → has_kind m before ≡ false →
+    (e : SchemaError) → Refuses (single_fault w (message k) f) e → Stops w m before f e
+kind_stops w m before f k takes first alone (Fault name token) refused rest = kind_step w m before f k takes first alone rest ∙ rw refused refl
+kind_stops w m before f k takes first alone OutOfMemory refused rest = tt
+
+pub kind_again : (w : Written) (m : Message) (before : List (List ℕ)) (f : Field) (k : Message) →
+    use_of m (token_text w f.name) ≡ Some (one_kind k) → is_given before (token_text w f.name) ≡ true →
+    Stops w m before f (Fault Repeated f.name)
+kind_again w m before f k takes again rest = rw (takes, again) refl
+
+pub second_kind : (w : Written) (m : Message) (before : List (List ℕ)) (f : Field) (k : Message) →
+    use_of m (token_text w f.name) ≡ Some (one_kind k) → is_given before (token_text w f.name) ≡ false → has_kind m before ≡ true →
+    Stops w m before f (Fault TwoKinds f.name)
+second_kind w m before f k takes first second rest = rw (takes, first, second) refl
+
+-- one name more
+pub next_given : (name given : List ℕ) (before : List (List ℕ)) → is_given (given ∷ before) name ≡ (bytes_eq name given || is_given before name)
+unfolding is_given
+next_given name given before = refl
+
+-- with a fact about the names before that the field keeps
+pub if_passes : (w : Written) (m : Message) (f : Field) (G H : List (List ℕ) → Type 0) (r : Result (Unit {0}) SchemaError) →
+    OnOk r ((before : List (List ℕ)) → Passes w m before f) →
+    ((before : List (List ℕ)) → G before → H (token_text w f.name ∷ before)) →
+    OnOk r ((before : List (List ℕ)) → G before → Passes w m before f × H (token_text w f.name ∷ before))
+if_passes w m f G H (Ok x) passes kept = λ before given. (passes before, kept before given)
+if_passes w m f G H (Err e) passes kept = passes
+
+pub if_stops : (w : Written) (m : Message) (f : Field) (G : List (List ℕ) → Type 0) (r : Result (Unit {0}) SchemaError) →
+    IfErr r (λ e. (before : List (List ℕ)) → Stops w m before f e) →
+    IfErr r (λ e. (before : List (List ℕ)) → G before → Stops w m before f e)
+if_stops w m f G (Ok x) stops = stops
+if_stops w m f G (Err e) stops = λ before given. stops before
+
+-- the message of a field of the first kind
+pub first_kind_stops : {T : Type 0} (w : Written) (f : Field) (same given : Bool) (r : Result T SchemaError) →
+    same ≡ false → given ≡ false →
+    IfErr r (λ e. (k : Message) → Refuses (single_fault w (message k) f) e) →
+    IfErr r (λ e. (k : Message) → KindStops w f k same given e)
+first_kind_stops w f same given (Ok x) different first stops = stops
+first_kind_stops w f same given (Err e) different first stops = λ k m before takes again kinds.
+    kind_stops w m before f k takes (again ∙ different) (kinds ∙ first) e (stops k)

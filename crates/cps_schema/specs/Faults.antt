@@ -1,0 +1,102 @@
+-- Which field of a document is refused, why, and at which token.
+use Rattle.std.specs.Prelude.{◌≡◌, ℕ, ◌+◌, Bool, true, false, if◌then◌else◌, List, [], ◌∷◌, Option, Some, None, codes}
+use Rattle.std.specs.Option.{option_or}
+use Rattle.std.specs.List.{list_any}
+use Rattle.std.specs.Str.{bytes_eq}
+use Rattle.cps_textproto.specs.Trees.{Tree, no_fields, field, Values, no_values, scalar_value, message_value}
+use Rattle.cps_model.specs.declared.fault.FaultName.{FaultName}
+use Rattle.cps_model.specs.declared.fault.FaultName.TheVariants.{UnknownField, Unsupported, Repeated, TwoKinds, WrongKind}
+use Rattle.cps_schema.specs.Written.{Written, token_text}
+use Rattle.cps_schema.specs.Numbers.{number_fault}
+use Rattle.cps_schema.specs.Tables.{Message, model_message, Content, number, message, Use, single, repeated, one_kind, unread, is_given, use_of, content_of}
+
+-- with the token at which it is refused
+abbrev pub refused_at : ℕ → Option FaultName → Option (FaultName × ℕ)
+refused_at token None = None
+refused_at token (Some name) = Some (name, token)
+
+-- a scalar's fault is at its first token, the `-` of a signed one
+abbrev pub scalar_fault : Written → Option Content → ℕ → Option (FaultName × ℕ)
+scalar_fault w None first = None
+scalar_fault w (Some (number type)) first = refused_at first (number_fault w type first)
+scalar_fault w (Some (message m)) first = Some (WrongKind, first)
+
+-- a message's fault, by the fault of its fields as each message's
+abbrev pub message_fault : Option Content → ℕ → (Message → Option (FaultName × ℕ)) → Option (FaultName × ℕ)
+message_fault None first inner = None
+message_fault (Some (number type)) first inner = Some (WrongKind, first)
+message_fault (Some (message m)) first inner = inner m
+
+abbrev pub is_kind : Option Use → Bool
+is_kind None = false
+is_kind (Some (single content)) = false
+is_kind (Some (repeated content)) = false
+is_kind (Some (one_kind m)) = true
+is_kind (Some unread) = false
+
+-- one of the names is that of a kind
+unfoldable pub has_kind : Message → List (List ℕ) → Bool
+has_kind m names = list_any (λ name. is_kind (use_of m name)) names
+
+-- what is wrong with a field's name, given the names of the fields before it in the same message
+abbrev pub name_fault : Message → List (List ℕ) → List ℕ → Option Use → Option FaultName
+name_fault m before name None = Some UnknownField
+name_fault m before name (Some unread) = Some Unsupported
+name_fault m before name (Some (repeated content)) = None
+name_fault m before name (Some (single content)) = if is_given before name then Some Repeated else None
+name_fault m before name (Some (one_kind k)) =
+    if is_given before name then Some Repeated
+    else (if has_kind m before then Some TwoKinds else None)
+
+-- one value that stands in no list
+abbrev pub is_alone : Bool → Values → Bool
+is_alone true _ = false
+is_alone false no_values = false
+is_alone false (scalar_value first end no_values) = true
+is_alone false (scalar_value first end (scalar_value f e more)) = false
+is_alone false (scalar_value first end (message_value f tree more)) = false
+is_alone false (message_value first inner no_values) = true
+is_alone false (message_value first inner (scalar_value f e more)) = false
+is_alone false (message_value first inner (message_value f tree more)) = false
+
+-- the `[` of a field's list: the second token behind the name where a colon is the first, and else the first
+unfoldable pub bracket : Written → ℕ → ℕ
+bracket w name = if bytes_eq (token_text w (name + 1)) (codes ":") then name + 2 else name + 1
+
+-- a list where one value is taken
+abbrev pub alone_fault : Written → ℕ → Bool → Option (FaultName × ℕ)
+alone_fault w name alone = if alone then None else Some (WrongKind, bracket w name)
+
+abbrev pub list_fault : Written → Option Use → ℕ → Bool → Option (FaultName × ℕ)
+list_fault w None name alone = None
+list_fault w (Some (single content)) name alone = alone_fault w name alone
+list_fault w (Some (repeated content)) name alone = None
+list_fault w (Some (one_kind m)) name alone = alone_fault w name alone
+list_fault w (Some unread) name alone = None
+
+-- what is wrong with a field, its values apart
+abbrev pub field_fault : Written → Message → List (List ℕ) → ℕ → Bool → Values → Option (FaultName × ℕ)
+field_fault w m before name list values =
+    option_or (refused_at name (name_fault m before (token_text w name) (use_of m (token_text w name))))
+    (list_fault w (use_of m (token_text w name)) name (is_alone list values))
+
+abbrev mutual
+  -- the first fault of a message's fields, each before its values; before: the names of the fields before these
+  pub fields_fault : Written → Message → List (List ℕ) → Tree → Option (FaultName × ℕ)
+  fields_fault w m before no_fields = None
+  fields_fault w m before (field name list values rest) =
+      option_or (field_fault w m before name list values)
+      (option_or (values_fault w (content_of (use_of m (token_text w name))) values)
+      (fields_fault w m (token_text w name ∷ before) rest))
+
+  -- the first fault of a field's values, in order
+  pub values_fault : Written → Option Content → Values → Option (FaultName × ℕ)
+  values_fault w content no_values = None
+  values_fault w content (scalar_value first end rest) =
+      option_or (scalar_fault w content first) (values_fault w content rest)
+  values_fault w content (message_value first inner rest) =
+      option_or (message_fault content first (λ m. fields_fault w m [] inner)) (values_fault w content rest)
+
+-- the first field in document order that is refused: with this name, at this token
+abbrev pub FirstFault : Written → Tree → FaultName → ℕ → Type 0
+FirstFault w tree name token = fields_fault w model_message [] tree ≡ Some (name, token)

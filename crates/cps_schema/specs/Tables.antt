@@ -1,0 +1,132 @@
+-- The messages of a model, and what each of their fields takes.
+use Rattle.std.specs.Prelude.{ℕ, Bool, if◌then◌else◌, List, [], ◌∷◌, Option, Some, None, codes}
+use Rattle.std.specs.Option.{option_or}
+use Rattle.std.specs.List.{list_any}
+use Rattle.std.specs.Str.{bytes_eq}
+use Rattle.cps_schema.specs.declared.number.Number.{Number}
+use Rattle.cps_schema.specs.declared.number.Number.TheVariants.{Int64, Int32, Exact}
+
+-- the messages whose fields are read
+pub data Message : Type 0 where
+  model_message : Message
+  variable_message : Message
+  constraint_message : Message
+  literals_message : Message
+  linear_message : Message
+  objective_message : Message
+
+pub data Content : Type 0 where
+  number : Number → Content
+  message : Message → Content
+
+-- what a field takes
+pub data Use : Type 0 where
+  -- one value, in one field of the name
+  single : Content → Use
+  -- values, and those of all fields of the name add up in order
+  repeated : Content → Use
+  -- one message, and a constraint has at most one field of this use
+  one_kind : Message → Use
+  -- the field is known, and not read
+  unread : Use
+
+abbrev pub Table : Type 0
+Table = List (List ℕ × Use)
+
+-- the fields that are read
+abbrev pub table_of : Message → Table
+table_of model_message =
+    (codes "variables", repeated (message variable_message))
+    ∷ (codes "constraints", repeated (message constraint_message))
+    ∷ (codes "objective", single (message objective_message))
+    ∷ []
+table_of variable_message =
+    (codes "domain", repeated (number Int64))
+    ∷ []
+table_of constraint_message =
+    (codes "enforcement_literal", repeated (number Int32))
+    ∷ (codes "bool_or", one_kind literals_message)
+    ∷ (codes "linear", one_kind linear_message)
+    ∷ []
+table_of literals_message =
+    (codes "literals", repeated (number Int32))
+    ∷ []
+table_of linear_message =
+    (codes "vars", repeated (number Int32))
+    ∷ (codes "coeffs", repeated (number Int64))
+    ∷ (codes "domain", repeated (number Int64))
+    ∷ []
+table_of objective_message =
+    (codes "vars", repeated (number Int32))
+    ∷ (codes "coeffs", repeated (number Int64))
+    ∷ (codes "offset", single (number Exact))
+    ∷ (codes "scaling_factor", single (number Exact))
+    ∷ (codes "domain", repeated (number Int64))
+    ∷ []
+
+-- the fields that are known, and not read
+abbrev pub unread_names : Message → List (List ℕ)
+unread_names model_message =
+    codes "name"
+    ∷ codes "search_strategy"
+    ∷ codes "solution_hint"
+    ∷ codes "assumptions"
+    ∷ codes "floating_point_objective"
+    ∷ codes "symmetry"
+    ∷ []
+unread_names variable_message =
+    codes "name"
+    ∷ []
+unread_names constraint_message =
+    codes "name"
+    ∷ codes "bool_and"
+    ∷ codes "at_most_one"
+    ∷ codes "exactly_one"
+    ∷ codes "bool_xor"
+    ∷ codes "int_div"
+    ∷ codes "int_mod"
+    ∷ codes "int_prod"
+    ∷ codes "lin_max"
+    ∷ codes "all_diff"
+    ∷ codes "element"
+    ∷ codes "circuit"
+    ∷ codes "table"
+    ∷ codes "interval"
+    ∷ codes "no_overlap"
+    ∷ codes "cumulative"
+    ∷ codes "automaton"
+    ∷ codes "inverse"
+    ∷ codes "reservoir"
+    ∷ codes "no_overlap_2d"
+    ∷ codes "routes"
+    ∷ codes "dummy_constraint"
+    ∷ []
+unread_names literals_message = []
+unread_names linear_message = []
+unread_names objective_message =
+    codes "scaling_was_exact"
+    ∷ codes "integer_before_offset"
+    ∷ codes "integer_after_offset"
+    ∷ codes "integer_scaling_factor"
+    ∷ []
+
+-- the name is one of these
+unfoldable pub is_given : List (List ℕ) → List ℕ → Bool
+is_given names name = list_any (bytes_eq name) names
+
+abbrev pub use_in : Table → List ℕ → Option Use
+use_in [] name = None
+use_in (entry ∷ entries) name = if bytes_eq name entry.0 then Some entry.1 else use_in entries name
+
+-- what the field of this name takes in a message. A name that the message has not is unknown.
+unfoldable pub use_of : Message → List ℕ → Option Use
+use_of m name =
+    option_or (use_in (table_of m) name) (if is_given (unread_names m) name then Some unread else None)
+
+-- of which sort the values of a field are
+abbrev pub content_of : Option Use → Option Content
+content_of None = None
+content_of (Some (single content)) = Some content
+content_of (Some (repeated content)) = Some content
+content_of (Some (one_kind m)) = Some (message m)
+content_of (Some unread) = None

@@ -1,0 +1,30 @@
+//! The meaning of a document: a tree of fields to a model.
+//!
+//! Each message has a table of its fields, which says of each whether it is single or repeated and what
+//! its values are (`specs/Tables`). A document is refused at its first field, in document order, that
+//! its table does not admit (`specs/Faults`), and else is read as the model that its fields give by
+//! name (`specs/Readings`). The contract is exact both ways. The code goes once over the fields of each
+//! message, and has a file for each.
+//!
+//! Field names, types and their meaning are those of the public message definitions of CP-SAT models.
+#![tactic(auto)]
+
+mod constraint;
+mod error;
+mod linear;
+mod lists;
+mod literals;
+mod model;
+mod names;
+mod number;
+mod objective;
+mod single;
+mod source;
+mod variable;
+
+pub use cps_model::FaultName;
+pub use error::SchemaError;
+pub use model::model_of;
+
+#[cfg(test)]
+mod tests;

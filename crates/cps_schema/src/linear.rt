@@ -1,0 +1,74 @@
+//! Linear constraints.
+ghost use Rattle.std.specs.Prelude.{◌≡◌, ℕ, List, [], None, OnOk, IfOk, IfErr};
+ghost use Rattle.cps_textproto.specs.Trees.{Tree, tree_of};
+ghost use Rattle.cps_schema.specs.Sources.{written_of};
+ghost use Rattle.cps_schema.specs.Tables.{linear_message};
+ghost use Rattle.cps_schema.specs.Faults.{fields_fault};
+ghost use Rattle.cps_schema.specs.Readings.{read_linear};
+ghost use Rattle.cps_schema.specs.Answers.{Refuses};
+ghost use Rattle.cps_schema.specs.Steps.{field_then, Passes, Stops};
+ghost use Rattle.cps_schema.specs.Parts.{linear_from};
+
+use super::error::SchemaError;
+use super::lists::{add_ints, add_refs};
+use super::names::not_read;
+use super::single::fields_of;
+use super::source::{Source, token_text};
+use cps_model::{Kind, Listed};
+use cps_textproto::{Field, Node};
+use std::alloc::Global;
+
+const UNREAD: [&[u8]; 0] = [];
+
+/// What was read so far of a linear constraint.
+#[derive(Drop)]
+pub struct LinearParts {
+    pub vars: Vec<i32>,
+    pub coeffs: Vec<i64>,
+    pub domain: Vec<i64>,
+}
+
+/// Reads a field of a linear constraint.
+fn add_field(source: &Source, parts: &mut LinearParts, field: &Field) -> Result<(), SchemaError>
+    ensures passes { OnOk result ((before : List (List ℕ)) → Passes (written_of source.now) linear_message before field.now) }
+    ensures read { OnOk result ((rest : Tree) →
+        linear_from (written_of source.now) parts.old (field_then field.now rest) ≡ linear_from (written_of source.now) parts.new rest) }
+    ensures err { IfErr result (λ e. (before : List (List ℕ)) → Stops (written_of source.now) linear_message before field.now e) }
+{
+    let name = token_text(source, field.name as usize);
+    if name == b"vars".as_slice() {
+        add_refs(source, &mut parts.vars, field)
+    } else if name == b"coeffs".as_slice() {
+        add_ints(source, &mut parts.coeffs, field)
+    } else if name == b"domain".as_slice() {
+        add_ints(source, &mut parts.domain, field)
+    } else {
+        Err(not_read(source, &UNREAD, field.name))
+    }
+}
+
+/// The linear constraint that a message gives.
+pub(crate) fn read_linear(alloc: Global, source: &Source, node: &Node) -> Result<Kind, SchemaError>
+    ensures accepted { IfOk result (λ _. fields_fault (written_of source.now) linear_message [] (tree_of node.now) ≡ None) }
+    ensures reading { IfOk result (λ kind. kind ≡ read_linear (written_of source.now) (tree_of node.now)) }
+    ensures err { IfErr result (Refuses (fields_fault (written_of source.now) linear_message [] (tree_of node.now))) }
+{
+    let mut parts = LinearParts {
+        vars: Vec::new(alloc),
+        coeffs: Vec::new(alloc),
+        domain: Vec::new(alloc),
+    };
+    for field in fields_of(node) {
+        add_field(source, &mut parts, field)?;
+    }
+    let LinearParts {
+        vars,
+        coeffs,
+        domain,
+    } = parts;
+    Ok(Kind::Linear {
+        vars: Listed::from_vec(vars),
+        coeffs: Listed::from_vec(coeffs),
+        domain: Listed::from_vec(domain),
+    })
+}

@@ -1,0 +1,212 @@
+//! Models.
+ghost use Rattle.std.specs.Prelude.{◌≡◌, ◌++◌, ℕ, List, [], ◌∷◌, true, Some, None, map, is_some, OnOk, IfOk, IfErr, option_to_list};
+ghost use Rattle.cps_textproto.specs.Trees.{Tree, no_fields, tree_of, values_of};
+ghost use Rattle.cps_model.specs.declared.model.CpModel.{CpModel};
+ghost use Rattle.cps_schema.specs.Written.{Written, written, token_text};
+ghost use Rattle.cps_schema.specs.Sources.{written_of};
+ghost use Rattle.cps_schema.specs.Tables.{model_message, variable_message, constraint_message, objective_message, message};
+ghost use Rattle.cps_schema.specs.Faults.{values_fault, fields_fault};
+ghost use Rattle.cps_schema.specs.Readings.{ReadsAs, value_messages, read_variable, read_constraint, read_objective, read_model};
+ghost use Rattle.cps_schema.specs.Answers.{Refuses, IsRefusal, Gives};
+ghost use Rattle.cps_schema.specs.Steps.{field_then, Passes, Stops, SinglePasses, SingleStops};
+ghost use Rattle.cps_schema.specs.Parts.{model_from, IsObjectiveGiven};
+
+use super::constraint::read_constraint;
+use super::error::SchemaError;
+use super::names::not_read;
+use super::objective::read_objective;
+use super::single::{fields_of, repeated_message, single_message};
+use super::source::{Source, token_text};
+use super::variable::read_variable;
+use cps_lex::Token;
+use cps_model::{Constraint, CpModel, FaultName, Listed, Objective, Text, Variable};
+use cps_textproto::{Field, Node};
+use std::alloc::Global;
+
+const UNREAD: [&[u8]; 6] = [
+    b"name",
+    b"search_strategy",
+    b"solution_hint",
+    b"assumptions",
+    b"floating_point_objective",
+    b"symmetry",
+];
+
+/// What was read so far of a model.
+#[derive(Drop)]
+pub struct ModelParts {
+    pub variables: Vec<Variable>,
+    pub constraints: Vec<Constraint>,
+    pub objective: Option<Objective>,
+}
+
+/// Adds the variable of a field.
+fn add_variable(
+    alloc: Global,
+    source: &Source,
+    variables: &mut Vec<Variable>,
+    field: &Field,
+) -> Result<(), SchemaError>
+    ensures fault { OnOk result (values_fault (written_of source.now) (Some (message variable_message)) (values_of field.now.items) ≡ None) }
+    ensures added { OnOk result (variables.new.items
+        ≡ variables.old.items ++ map (read_variable (written_of source.now)) (value_messages (values_of field.now.items))) }
+    ensures err { IfErr result (Refuses (values_fault (written_of source.now) (Some (message variable_message)) (values_of field.now.items))) }
+{
+    let found = match repeated_message(field) {
+        Ok(found) => found,
+        Err(error) => return Err(error),
+    };
+    let Some(node) = found else {
+        return Ok(());
+    };
+    match read_variable(alloc, source, node) {
+        Ok(variable) => {
+            variables.push(variable)?;
+            Ok(())
+        }
+        Err(error) => Err(error),
+    }
+}
+
+/// Adds the constraint of a field.
+fn add_constraint(
+    alloc: Global,
+    source: &Source,
+    constraints: &mut Vec<Constraint>,
+    field: &Field,
+) -> Result<(), SchemaError>
+    ensures fault { OnOk result (values_fault (written_of source.now) (Some (message constraint_message)) (values_of field.now.items) ≡ None) }
+    ensures added { OnOk result (constraints.new.items
+        ≡ constraints.old.items ++ map (read_constraint (written_of source.now)) (value_messages (values_of field.now.items))) }
+    ensures err { IfErr result (Refuses (values_fault (written_of source.now) (Some (message constraint_message)) (values_of field.now.items))) }
+{
+    let found = match repeated_message(field) {
+        Ok(found) => found,
+        Err(error) => return Err(error),
+    };
+    let Some(node) = found else {
+        return Ok(());
+    };
+    match read_constraint(alloc, source, node) {
+        Ok(constraint) => {
+            constraints.push(constraint)?;
+            Ok(())
+        }
+        Err(error) => Err(error),
+    }
+}
+
+/// Reads the objective, which may not have been read before.
+#[tactic(auto, using(crate::proofs::Steps::single_passes, crate::proofs::Steps::single_stops))]
+fn set_objective(
+    alloc: Global,
+    source: &Source,
+    objective: &mut Option<Objective>,
+    field: &Field,
+) -> Result<(), SchemaError>
+    ensures passes { OnOk result (SinglePasses (written_of source.now) field.now (message objective_message) (is_some objective.old)) }
+    ensures added { OnOk result (option_to_list objective.new
+        ≡ option_to_list objective.old ++ map (read_objective (written_of source.now)) (value_messages (values_of field.now.items))) }
+    ensures some { OnOk result (is_some objective.new ≡ true) }
+    ensures err { IfErr result (SingleStops (written_of source.now) field.now (message objective_message) (is_some objective.old)) }
+{
+    if objective.is_some() {
+        return Err(SchemaError::Fault {
+            name: FaultName::Repeated,
+            token: field.name as usize,
+        });
+    }
+    match single_message(source, field) {
+        Ok(node) => match read_objective(alloc, source, node) {
+            Ok(read) => {
+                *objective = Some(read);
+                Ok(())
+            }
+            Err(error) => Err(error),
+        },
+        Err(error) => Err(error),
+    }
+}
+
+/// Reads a field of a model.
+fn add_field(
+    alloc: Global,
+    source: &Source,
+    parts: &mut ModelParts,
+    field: &Field,
+) -> Result<(), SchemaError>
+    ensures passes { OnOk result ((before : List (List ℕ)) → IsObjectiveGiven parts.old.objective before →
+        Passes (written_of source.now) model_message before field.now
+        × IsObjectiveGiven parts.new.objective (token_text (written_of source.now) field.now.name ∷ before)) }
+    ensures read { OnOk result ((rest : Tree) →
+        model_from (written_of source.now) parts.old (field_then field.now rest)
+        ≡ model_from (written_of source.now) parts.new rest) }
+    ensures err { IfErr result (λ e. (before : List (List ℕ)) → IsObjectiveGiven parts.old.objective before →
+        Stops (written_of source.now) model_message before field.now e) }
+{
+    let name = token_text(source, field.name as usize);
+    if name == b"variables".as_slice() {
+        add_variable(alloc, source, &mut parts.variables, field)
+    } else if name == b"constraints".as_slice() {
+        add_constraint(alloc, source, &mut parts.constraints, field)
+    } else if name == b"objective".as_slice() {
+        set_objective(alloc, source, &mut parts.objective, field)
+    } else {
+        Err(not_read(source, &UNREAD, field.name))
+    }
+}
+
+/// The model of these parts alone.
+#[tactic(auto, using(crate::proofs::ModelFields::first_objective))]
+fn model_of_parts(alloc: Global, parts: ModelParts) -> CpModel
+    ensures { (w : Written) → result ≡ model_from w parts no_fields }
+{
+    let ModelParts {
+        variables,
+        constraints,
+        objective,
+    } = parts;
+    CpModel {
+        name: Text::new(alloc),
+        variables: Listed::from_vec(variables),
+        constraints: Listed::from_vec(constraints),
+        objective,
+        strategies: Listed::new(alloc),
+        hint: None,
+        assumptions: Listed::new(alloc),
+    }
+}
+
+/// The model that a document's fields give.
+fn read_model(alloc: Global, source: &Source, node: &Node) -> Result<CpModel, SchemaError>
+    ensures accepted { IfOk result (λ _. fields_fault (written_of source.now) model_message [] (tree_of node.now) ≡ None) }
+    ensures reading { IfOk result (λ model. model ≡ read_model (written_of source.now) (tree_of node.now)) }
+    ensures err { IfErr result (Refuses (fields_fault (written_of source.now) model_message [] (tree_of node.now))) }
+{
+    let mut parts = ModelParts {
+        variables: Vec::new(alloc),
+        constraints: Vec::new(alloc),
+        objective: None,
+    };
+    for field in fields_of(node) {
+        add_field(alloc, source, &mut parts, field)?;
+    }
+    Ok(model_of_parts(alloc, parts))
+}
+
+/// The model of a document, given its bytes, its tokens and its tree.
+pub fn model_of(
+    alloc: Global,
+    bytes: &[u8],
+    tokens: &[Token],
+    node: &Node,
+) -> Result<CpModel, SchemaError>
+    ensures ok { IfOk result (λ model. ReadsAs (written bytes.now tokens.now) (tree_of node.now) model) }
+    ensures err { IfErr result (IsRefusal (written bytes.now tokens.now) (tree_of node.now)) }
+
+    // A document that has a model is read as it, unless memory runs out.
+    ensures only { (model : CpModel) → ReadsAs (written bytes.now tokens.now) (tree_of node.now) model → Gives result model }
+{
+    let source = Source { bytes, tokens };
+    read_model(alloc, &source, node)
+}

@@ -1,0 +1,139 @@
+//! Objectives.
+ghost use Rattle.std.specs.Prelude.{◌≡◌, ◌++◌, ℕ, List, [], ◌∷◌, true, Some, None, is_some, OnOk, IfOk, IfErr, option_to_list};
+ghost use Rattle.cps_textproto.specs.Trees.{Tree, no_fields, tree_of, values_of};
+ghost use Rattle.cps_schema.specs.Written.{Written, token_text};
+ghost use Rattle.cps_schema.specs.Sources.{written_of};
+ghost use Rattle.cps_schema.specs.Tables.{objective_message, number};
+ghost use Rattle.cps_schema.specs.Faults.{fields_fault};
+ghost use Rattle.cps_schema.specs.Readings.{scaling_of, value_numbers, read_objective};
+ghost use Rattle.cps_schema.specs.Answers.{Refuses};
+ghost use Rattle.cps_schema.specs.Steps.{field_then, Passes, Stops, SinglePasses, SingleStops};
+ghost use Rattle.cps_schema.specs.Parts.{objective_from, IsGiven};
+
+use super::error::SchemaError;
+use super::lists::{add_ints, add_refs};
+use super::names::not_read;
+use super::number::Number;
+use super::single::{fields_of, single_number};
+use super::source::{Source, token_text};
+use cps_model::{FaultName, Listed, Objective};
+use cps_textproto::{Field, Node};
+use std::alloc::Global;
+
+const UNREAD: [&[u8]; 4] = [
+    b"scaling_was_exact",
+    b"integer_before_offset",
+    b"integer_after_offset",
+    b"integer_scaling_factor",
+];
+
+/// What was read so far of an objective.
+#[derive(Drop)]
+pub struct ObjectiveParts {
+    pub vars: Vec<i32>,
+    pub coeffs: Vec<i64>,
+    pub offset: Option<i64>,
+    pub scaling: Option<i64>,
+    pub domain: Vec<i64>,
+}
+
+/// Reads the number of a single field, which may not have been read before.
+fn set_number(source: &Source, slot: &mut Option<i64>, field: &Field) -> Result<(), SchemaError>
+    ensures passes { OnOk result (SinglePasses (written_of source.now) field.now (number Number.Exact) (is_some slot.old)) }
+    ensures added { OnOk result (option_to_list slot.new
+        ≡ option_to_list slot.old ++ value_numbers (written_of source.now) (values_of field.now.items)) }
+    ensures some { OnOk result (is_some slot.new ≡ true) }
+    ensures err { IfErr result (SingleStops (written_of source.now) field.now (number Number.Exact) (is_some slot.old)) }
+{
+    if slot.is_some() {
+        return Err(SchemaError::Fault {
+            name: FaultName::Repeated,
+            token: field.name as usize,
+        });
+    }
+    match single_number(source, Number::Exact, field) {
+        Ok(value) => {
+            *slot = Some(value);
+            Ok(())
+        }
+        Err(error) => Err(error),
+    }
+}
+
+/// Reads a field of an objective.
+fn add_field(source: &Source, parts: &mut ObjectiveParts, field: &Field) -> Result<(), SchemaError>
+    ensures passes { OnOk result ((before : List (List ℕ)) → IsGiven parts.old.offset parts.old.scaling before →
+        Passes (written_of source.now) objective_message before field.now
+        × IsGiven parts.new.offset parts.new.scaling (token_text (written_of source.now) field.now.name ∷ before)) }
+    ensures read { OnOk result ((rest : Tree) →
+        objective_from (written_of source.now) parts.old (field_then field.now rest)
+        ≡ objective_from (written_of source.now) parts.new rest) }
+    ensures err { IfErr result (λ e. (before : List (List ℕ)) → IsGiven parts.old.offset parts.old.scaling before →
+        Stops (written_of source.now) objective_message before field.now e) }
+{
+    let name = token_text(source, field.name as usize);
+    if name == b"vars".as_slice() {
+        add_refs(source, &mut parts.vars, field)
+    } else if name == b"coeffs".as_slice() {
+        add_ints(source, &mut parts.coeffs, field)
+    } else if name == b"offset".as_slice() {
+        set_number(source, &mut parts.offset, field)
+    } else if name == b"scaling_factor".as_slice() {
+        set_number(source, &mut parts.scaling, field)
+    } else if name == b"domain".as_slice() {
+        add_ints(source, &mut parts.domain, field)
+    } else {
+        Err(not_read(source, &UNREAD, field.name))
+    }
+}
+
+/// The scaling factor that a number gives: 0 counts as 1.
+fn scaling_of(number: i64) -> i64
+    ensures { result ≡ scaling_of number }
+{
+    if number == 0 { 1 } else { number }
+}
+
+/// The objective of these parts alone.
+#[tactic(auto, using(crate::proofs::Objectives::first_number))]
+fn objective_of(parts: ObjectiveParts) -> Objective
+    ensures { (w : Written) → result ≡ objective_from w parts no_fields }
+{
+    let ObjectiveParts {
+        vars,
+        coeffs,
+        offset,
+        scaling,
+        domain,
+    } = parts;
+    Objective {
+        vars: Listed::from_vec(vars),
+        coeffs: Listed::from_vec(coeffs),
+        offset: offset.unwrap_or(0),
+        scaling: scaling_of(scaling.unwrap_or(0)),
+        domain: Listed::from_vec(domain),
+    }
+}
+
+/// The objective that a message gives.
+pub(crate) fn read_objective(
+    alloc: Global,
+    source: &Source,
+    node: &Node,
+) -> Result<Objective, SchemaError>
+    ensures accepted { IfOk result (λ _. fields_fault (written_of source.now) objective_message [] (tree_of node.now) ≡ None) }
+    ensures reading { IfOk result (λ objective. objective ≡ read_objective (written_of source.now) (tree_of node.now)) }
+    ensures err { IfErr result (Refuses (fields_fault (written_of source.now) objective_message [] (tree_of node.now))) }
+{
+    let mut parts = ObjectiveParts {
+        vars: Vec::new(alloc),
+        coeffs: Vec::new(alloc),
+        offset: None,
+        scaling: None,
+        domain: Vec::new(alloc),
+    };
+    for field in fields_of(node) {
+        add_field(source, &mut parts, field)?;
+    }
+    Ok(objective_of(parts))
+}

@@ -1,0 +1,143 @@
+//! The values of fields that take one, and the messages of those that take any number.
+ghost use Rattle.std.specs.Prelude.{◌≡◌, [], ◌∷◌, false, Some, None, IfOk, IfErr, IfSome, IfNone, Ok};
+ghost use Rattle.std.specs.Option.{option_or};
+ghost use Rattle.cps_textproto.specs.Trees.{tree_of, field_list, values_of, span_values, no_values, scalar_value};
+ghost use Rattle.cps_schema.specs.Written.{Written};
+ghost use Rattle.cps_schema.specs.Sources.{written_of, single_fault};
+ghost use Rattle.cps_schema.specs.Tables.{Message, number, message};
+ghost use Rattle.cps_schema.specs.Faults.{bracket, is_alone, values_fault, fields_fault};
+ghost use Rattle.cps_schema.specs.Readings.{value_numbers, value_messages};
+ghost use Rattle.cps_schema.specs.Answers.{Refuses};
+ghost use Rattle.cps_schema.specs.Values.{value_of};
+
+use super::error::SchemaError;
+use super::number::{Number, number_at};
+use super::source::{Source, token_text};
+use cps_model::FaultName;
+use cps_textproto::{Field, Item, Items, Node, Span};
+
+/// The fields of a message.
+#[tactic(auto, using(cps_textproto::proofs::Views::tree_of_node))]
+pub(crate) fn fields_of(node: &Node) -> &[Field]
+    ensures { field_list result.now ≡ tree_of node.now }
+{
+    node.fields.as_slice()
+}
+
+/// The token of the `[` of a field's list.
+#[tactic(auto, unfolding(crate::specs::Faults::bracket))]
+fn bracket(source: &Source, name: u32) -> usize
+    ensures { result ≡ bracket (written_of source.now) name }
+{
+    let name = name as usize;
+    if token_text(source, name + 1) == b":".as_slice() {
+        name + 2
+    } else {
+        name + 1
+    }
+}
+
+fn wrong_kind(token: usize) -> SchemaError
+    ensures { result ≡ SchemaError.Fault FaultName.WrongKind token }
+{
+    SchemaError::Fault {
+        name: FaultName::WrongKind,
+        token,
+    }
+}
+
+/// A value: a scalar, or a message with the token that opens it.
+enum Value<'a> {
+    Scalar(Span),
+    Message(u32, &'a Node),
+}
+
+/// The scalar of a list that has one.
+#[tactic(auto, using(crate::proofs::Values::not_alone))]
+fn only(spans: &[Span]) -> Option<Span>
+    ensures none { IfNone result (is_alone false (span_values spans.now) ≡ false) }
+    ensures some { IfSome result (λ span. span_values spans.now ≡ scalar_value span.first span.end no_values) }
+{
+    if spans.len() == 1 {
+        Some(spans[0])
+    } else {
+        None
+    }
+}
+
+/// The value of a field that has one, in no list.
+fn alone(field: &Field) -> Option<Value<'_>>
+    ensures none { IfNone result (is_alone field.now.list (values_of field.now.items) ≡ false) }
+    ensures outside { IfSome result (λ _. field.now.list ≡ false) }
+    ensures value { IfSome result (λ v. values_of field.now.items ≡ value_of v) }
+{
+    if field.list {
+        return None;
+    }
+    match &field.items {
+        Items::One(Item::Scalar { first, end }) => Some(Value::Scalar(Span {
+            first: *first,
+            end: *end,
+        })),
+        Items::One(Item::Message { first, node }) => Some(Value::Message(*first, node)),
+        Items::Scalars(spans) => match only(spans) {
+            Some(span) => Some(Value::Scalar(span)),
+            None => None,
+        },
+    }
+}
+
+/// The number of a field that takes one.
+pub(crate) fn single_number(
+    source: &Source,
+    kind: Number,
+    field: &Field,
+) -> Result<i64, SchemaError>
+    ensures fault { IfOk result (λ _. single_fault (written_of source.now) (number kind) field.now ≡ None) }
+    ensures value { IfOk result (λ z. value_numbers (written_of source.now) (values_of field.now.items) ≡ z ∷ []) }
+    ensures err { IfErr result (Refuses (single_fault (written_of source.now) (number kind) field.now)) }
+{
+    match alone(field) {
+        Some(Value::Scalar(span)) => match number_at(source, kind, span.first) {
+            Ok(value) => Ok(value),
+            Err(name) => Err(SchemaError::Fault {
+                name,
+                token: span.first as usize,
+            }),
+        },
+        Some(Value::Message(first, _)) => Err(wrong_kind(first as usize)),
+        None => Err(wrong_kind(bracket(source, field.name))),
+    }
+}
+
+/// The message of a field that takes one.
+pub(crate) fn single_message<'a>(source: &Source, field: &'a Field) -> Result<&'a Node, SchemaError>
+    ensures messages { IfOk result (λ node. value_messages (values_of field.now.items) ≡ tree_of node.now ∷ []) }
+    ensures inner { IfOk result (λ node. (m : Message) →
+        single_fault (written_of source.now) (message m) field.now ≡ option_or (fields_fault (written_of source.now) m [] (tree_of node.now)) None) }
+    ensures err { IfErr result (λ e. (m : Message) → Refuses (single_fault (written_of source.now) (message m) field.now) e) }
+{
+    match alone(field) {
+        Some(Value::Message(_, node)) => Ok(node),
+        Some(Value::Scalar(span)) => Err(wrong_kind(span.first as usize)),
+        None => Err(wrong_kind(bracket(source, field.name))),
+    }
+}
+
+/// The message of a field that takes any number, and none where its list is empty.
+pub(crate) fn repeated_message(field: &Field) -> Result<Option<&Node>, SchemaError>
+    ensures none { result ≡ Ok None → values_of field.now.items ≡ no_values }
+    ensures messages { IfOk result (λ found. IfSome found (λ node. value_messages (values_of field.now.items) ≡ tree_of node.now ∷ [])) }
+    ensures inner { IfOk result (λ found. IfSome found (λ node. (w : Written) (m : Message) →
+        values_fault w (Some (message m)) (values_of field.now.items) ≡ option_or (fields_fault w m [] (tree_of node.now)) None)) }
+    ensures err { IfErr result (λ e. (w : Written) (m : Message) → Refuses (values_fault w (Some (message m)) (values_of field.now.items)) e) }
+{
+    match &field.items {
+        Items::One(Item::Message { node, .. }) => Ok(Some(node)),
+        Items::One(Item::Scalar { first, .. }) => Err(wrong_kind(*first as usize)),
+        Items::Scalars(spans) => match spans.first() {
+            None => Ok(None),
+            Some(span) => Err(wrong_kind(span.first as usize)),
+        },
+    }
+}

@@ -1,0 +1,39 @@
+//! What is written on tokens.
+ghost use Rattle.std.specs.Prelude.{◌≡◌, ◌-◌, take, drop};
+ghost use Rattle.cps_schema.specs.Written.{token_text, token_kind};
+ghost use Rattle.cps_schema.specs.Sources.{written_of};
+
+use cps_lex::{Token, TokenKind};
+
+/// The bytes of a document, and its tokens.
+#[derive(Clone, Copy)]
+pub struct Source<'a> {
+    pub bytes: &'a [u8],
+    pub tokens: &'a [Token],
+}
+
+/// The text of a token, empty where there is no token of this number.
+#[tactic(auto, unfolding(crate::specs::Written::token_text))]
+pub(crate) fn token_text<'a>(source: &Source<'a>, token: usize) -> &'a [u8]
+    ensures { result.now ≡ token_text (written_of source.now) token }
+{
+    match source.tokens.get(token) {
+        Some(found) => span_text(source.bytes, found.start as usize, found.end as usize),
+        None => &[],
+    }
+}
+
+/// The bytes `start..end`, as far as there are any.
+fn span_text(bytes: &[u8], start: usize, end: usize) -> &[u8]
+    ensures { result.now ≡ take (end - start) (drop start bytes.now) }
+{
+    let rest = &bytes[start.min(bytes.len())..];
+    &rest[..end.saturating_sub(start).min(rest.len())]
+}
+
+#[tactic(auto, unfolding(crate::specs::Written::token_kind))]
+pub(crate) fn token_kind(source: &Source, token: usize) -> Option<TokenKind>
+    ensures { result ≡ token_kind (written_of source.now) token }
+{
+    source.tokens.get(token).map(|found| found.kind)
+}

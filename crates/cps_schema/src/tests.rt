@@ -1,0 +1,295 @@
+//! Whole documents.
+use super::{FaultName, SchemaError, model_of};
+use cps_lex::tokens;
+use cps_model::{Constraint, CpModel, Kind, Objective, Variable};
+use cps_textproto::document;
+use std::alloc::Global;
+use std::process::Abort;
+use std::test::Fail;
+
+/// What a text is read as, or its refusal with the byte of the token.
+#[derive(Drop)]
+enum Reading {
+    Model(CpModel),
+    Refusal(FaultName, u32),
+    Nothing,
+}
+
+fn answer_of(rt: &impl Abort, alloc: Global, text: &str) -> Result<Reading, Fail> {
+    let bytes = text.as_bytes();
+    assert!(rt; bytes.len() < 1000);
+    let tokens = tokens(alloc, bytes)?;
+    assert!(rt; tokens.len() < 1000);
+    let node = document(alloc, bytes, &tokens)?;
+    match model_of(alloc, bytes, &tokens, &node) {
+        Ok(model) => Ok(Reading::Model(model)),
+        Err(SchemaError::Fault { name, token }) => match tokens.get(token) {
+            Some(found) => Ok(Reading::Refusal(name, found.start)),
+            None => Ok(Reading::Nothing),
+        },
+        Err(error) => Err(Fail::from(error)),
+    }
+}
+
+/// Asserts that a text is refused so, at this byte.
+fn refused(
+    rt: &impl Abort,
+    alloc: Global,
+    text: &str,
+    name: FaultName,
+    byte: u32,
+) -> Result<(), Fail> {
+    match answer_of(rt, alloc, text)? {
+        Reading::Refusal(told, at) => assert!(rt; told == name && at == byte, "{text}"),
+        _ => assert!(rt; false, "{text}"),
+    }
+    Ok(())
+}
+
+#[test]
+fn refuses_names(rt: HostRuntime) -> Result<(), Fail> {
+    let alloc = rt.alloc();
+    refused(
+        &rt,
+        alloc,
+        "variables { domian: 0 }",
+        FaultName::UnknownField,
+        12,
+    )?;
+    refused(
+        &rt,
+        alloc,
+        "objective { offset: 1 offset: 2 }",
+        FaultName::Repeated,
+        22,
+    )?;
+    refused(
+        &rt,
+        alloc,
+        "objective { offset: 1 offset: x }",
+        FaultName::Repeated,
+        22,
+    )?;
+    refused(
+        &rt,
+        alloc,
+        "objective { } objective: 0",
+        FaultName::Repeated,
+        14,
+    )?;
+    refused(&rt, alloc, "name: 0", FaultName::Unsupported, 0)?;
+    refused(
+        &rt,
+        alloc,
+        "constraints { all_diff { } }",
+        FaultName::Unsupported,
+        14,
+    )?;
+    refused(
+        &rt,
+        alloc,
+        "constraints { bool_or { } bool_or: 0 }",
+        FaultName::Repeated,
+        26,
+    )?;
+    refused(
+        &rt,
+        alloc,
+        "constraints { bool_or { } linear: 0 }",
+        FaultName::TwoKinds,
+        26,
+    )?;
+    Ok(())
+}
+
+#[test]
+fn refuses_forms(rt: HostRuntime) -> Result<(), Fail> {
+    let alloc = rt.alloc();
+    refused(
+        &rt,
+        alloc,
+        "objective { offset: [1] }",
+        FaultName::WrongKind,
+        20,
+    )?;
+    refused(&rt, alloc, "objective [ ]", FaultName::WrongKind, 10)?;
+    refused(&rt, alloc, "objective: [ ]", FaultName::WrongKind, 11)?;
+    refused(
+        &rt,
+        alloc,
+        "objective { offset { } }",
+        FaultName::WrongKind,
+        19,
+    )?;
+    refused(&rt, alloc, "variables: 0", FaultName::WrongKind, 11)?;
+    refused(&rt, alloc, "variables: [0]", FaultName::WrongKind, 12)?;
+    refused(
+        &rt,
+        alloc,
+        "variables { domain: - x }",
+        FaultName::WrongKind,
+        20,
+    )?;
+    Ok(())
+}
+
+#[test]
+fn refuses_numbers(rt: HostRuntime) -> Result<(), Fail> {
+    let alloc = rt.alloc();
+    refused(
+        &rt,
+        alloc,
+        "variables { domain: [9223372036854775807, 9223372036854775808] }",
+        FaultName::OutOfRange,
+        42,
+    )?;
+    refused(
+        &rt,
+        alloc,
+        "variables { domain: [-9223372036854775808, -9223372036854775809] }",
+        FaultName::OutOfRange,
+        43,
+    )?;
+    refused(
+        &rt,
+        alloc,
+        "variables { domain: [9223372036854775808, x] }",
+        FaultName::OutOfRange,
+        21,
+    )?;
+    refused(
+        &rt,
+        alloc,
+        "variables { domain: 100000000000000000000000000000000000000000 }",
+        FaultName::OutOfRange,
+        20,
+    )?;
+    refused(
+        &rt,
+        alloc,
+        "constraints { bool_or { literals: 2147483648 } }",
+        FaultName::OutOfRange,
+        34,
+    )?;
+    refused(
+        &rt,
+        alloc,
+        "constraints { linear { vars: -2147483649 x: 0 } }",
+        FaultName::OutOfRange,
+        29,
+    )?;
+    refused(
+        &rt,
+        alloc,
+        "objective { offset: -inf }",
+        FaultName::NotWhole,
+        20,
+    )?;
+    refused(
+        &rt,
+        alloc,
+        "objective { offset: 9007199254740993 }",
+        FaultName::NotWhole,
+        20,
+    )?;
+    refused(
+        &rt,
+        alloc,
+        "objective { scaling_factor: - 9007199254740993 }",
+        FaultName::NotWhole,
+        28,
+    )?;
+    Ok(())
+}
+
+fn is_variable(variable: &Variable, domain: &[i64]) -> bool {
+    variable.name.as_str().is_empty() && variable.domain.as_slice() == domain
+}
+
+fn is_bool_or(constraint: &Constraint, enforcement: &[i32], literals: &[i32]) -> bool {
+    match &constraint.kind {
+        Kind::BoolOr(read) => {
+            constraint.enforcement.as_slice() == enforcement && read.as_slice() == literals
+        }
+        _ => false,
+    }
+}
+
+fn is_empty(constraint: &Constraint) -> bool {
+    matches!(constraint.kind, Kind::Empty)
+}
+
+fn is_linear(constraint: &Constraint, refs: &[i32], factors: &[i64], bounds: &[i64]) -> bool {
+    match &constraint.kind {
+        Kind::Linear {
+            vars,
+            coeffs,
+            domain,
+        } => {
+            vars.as_slice() == refs && coeffs.as_slice() == factors && domain.as_slice() == bounds
+        }
+        _ => false,
+    }
+}
+
+fn is_objective(objective: &Objective, refs: &[i32], factors: &[i64], bounds: &[i64]) -> bool {
+    objective.vars.as_slice() == refs
+        && objective.coeffs.as_slice() == factors
+        && objective.domain.as_slice() == bounds
+}
+
+/// The model of a text.
+fn read(rt: &impl Abort, alloc: Global, text: &str) -> Result<CpModel, Fail> {
+    match answer_of(rt, alloc, text)? {
+        Reading::Model(model) => Ok(model),
+        _ => Err(Fail::from("no model")),
+    }
+}
+
+#[test]
+fn reads_variables(rt: HostRuntime) -> Result<(), Fail> {
+    let model = read(
+        &rt,
+        rt.alloc(),
+        "variables { domain: [0, - 1] domain: 9223372036854775807; domain: [ ] } variables { } variables: [ ]",
+    )?;
+    let [first, second] = model.variables.as_slice() else {
+        return Err(Fail::from("variables"));
+    };
+    assert!(rt; is_variable(first, &[0, -1, i64::MAX]));
+    assert!(rt; is_variable(second, &[]));
+    assert!(rt; model.objective.is_none());
+    Ok(())
+}
+
+#[test]
+fn reads_constraints(rt: HostRuntime) -> Result<(), Fail> {
+    let model = read(
+        &rt,
+        rt.alloc(),
+        "constraints { enforcement_literal: [0, -2147483648] bool_or { literals: 2147483647 } } constraints { } constraints { linear: { vars: 0 vars: [1], coeffs: -3, domain: -9223372036854775808 } }",
+    )?;
+    let [first, second, third] = model.constraints.as_slice() else {
+        return Err(Fail::from("constraints"));
+    };
+    assert!(rt; is_bool_or(first, &[0, i32::MIN], &[i32::MAX]));
+    assert!(rt; is_empty(second));
+    assert!(rt; is_linear(third, &[0, 1], &[-3], &[i64::MIN]));
+    Ok(())
+}
+
+#[test]
+fn reads_objectives(rt: HostRuntime) -> Result<(), Fail> {
+    let model = read(
+        &rt,
+        rt.alloc(),
+        "objective { coeffs: 7 offset: -9007199254740992 scaling_factor: 0 domain: [2, 3] vars: 5 }",
+    )?;
+    let Some(objective) = &model.objective else {
+        return Err(Fail::from("objective"));
+    };
+    assert!(rt; is_objective(objective, &[5], &[7], &[2, 3]));
+    assert_eq!(rt; objective.offset, -9007199254740992);
+    assert_eq!(rt; objective.scaling, 1);
+    Ok(())
+}

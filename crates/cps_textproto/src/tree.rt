@@ -1,0 +1,40 @@
+//! The tree of a document, by token numbers.
+
+/// The fields of a message, or of the whole document, in order.
+#[cycle(tree)]
+#[derive(Debug, Drop)]
+pub struct Node {
+    pub fields: Vec<Field>,
+}
+
+/// A field: the token of its name, whether its values stand in a list, and the values.
+#[cycle(tree)]
+#[derive(Debug, Drop)]
+pub struct Field {
+    pub name: u32,
+    pub list: bool,
+    pub items: Items,
+}
+
+/// The values of a field. One value takes no memory of its own.
+#[cycle(tree)]
+#[derive(Debug, Drop)]
+pub enum Items {
+    One(Item),
+    Scalars(Vec<Span>),
+}
+
+/// A value: the scalar on the tokens `first..end`, or a message with the token that opens it.
+#[cycle(tree)]
+#[derive(Debug, Drop)]
+pub enum Item {
+    Scalar { first: u32, end: u32 },
+    Message { first: u32, node: Node },
+}
+
+/// The scalar on the tokens `first..end`.
+#[derive(Clone, Copy, Debug, PartialEq, Eq)]
+pub struct Span {
+    pub first: u32,
+    pub end: u32,
+}

@@ -1,0 +1,73 @@
+-- What was left to read, and what it is answered with.
+use Rattle.std.specs.Prelude.{IfSome, Option, Some, None, Ok, Err, length}
+use Rattle.std.proofs.Common.{◌≡◌, ℕ, zero, suc, ◌<◌, ◌≤◌, List, [], ◌∷◌, drop, arith, refl, sym, ap, ◌∙◌}
+use Rattle.std.specs.declared.vec.Vec.{Vec}
+use Rattle.std.specs.declared.alloc.Global.{Global}
+use Rattle.cps_outer.specs.Transfers.{ReadsAll}
+use Rattle.cps_outer.specs.declared.transfer.ReadError.TheVariants as reads
+use Rattle.cps_model.specs.declared.model.CpModel.{CpModel}
+use Rattle.cps_print.specs.declared.fault.Fault.TheVariants.{TooLong}
+use Rattle.cps_print.specs.Faults.{fault_text}
+use Rattle.cpsolve.specs.declared.answer.Answer.{Answer}
+use Rattle.cpsolve.specs.declared.command.Command.{Command}
+use Rattle.cpsolve.specs.declared.command.Command.TheVariants.{Solve}
+use Rattle.cpsolve.specs.Commands.{CommandLine, IsUsageFault}
+use Rattle.cpsolve.specs.Inputs.{most_bytes, IsInput}
+use Rattle.cpsolve.specs.Answers.{usage_text, IsText, Answers, Does}
+use Rattle.cpsolve.specs.Answers.Answers.{usage, command}
+use Rattle.cpsolve.specs.Answers.AnswersInput.{invalid}
+use Rattle.cpsolve.specs.Runs.{AreLeft}
+
+-- some bytes are left
+some_left : (left : Option (List ℕ)) → (bytes : List ℕ) × AreLeft left bytes
+some_left None = ([], tt)
+some_left (Some left) = (left, refl)
+
+-- the bytes that were read to the end are those that were left
+read_whole : (limit : ℕ) (old new : Option (List ℕ)) (read : Vec ℕ Global) → IfSome old (λ bytes. ReadsAll limit bytes new (Ok read)) → AreLeft old read.items
+read_whole limit None new read h = tt
+read_whole limit (Some bytes) new read h = sym h.0
+
+drop_short : (n : ℕ) (bytes : List ℕ) → length bytes ≤ n → drop n bytes ≡ []
+drop_short zero [] h = refl
+drop_short zero (b ∷ bytes) h = absurd (omega arith)
+drop_short (suc n) [] h = refl
+drop_short (suc n) (b ∷ bytes) h = drop_short n bytes (omega arith)
+
+-- at the end of what was left, nothing is left behind any number of bytes that is as long
+pub read_through : (limit more : ℕ) (old new : Option (List ℕ)) (read : Vec ℕ Global) → limit ≤ more → IfSome old (λ bytes. ReadsAll limit bytes new (Ok read)) → IfSome old (λ bytes. new ≡ Some (drop more bytes))
+read_through limit more None new read n h = tt
+read_through limit more (Some bytes) new read n h = h.2 ∙ ap Some (sym (drop_short more bytes (omega (arith, h.1))))
+
+long_list : (n : ℕ) → (bytes : List ℕ) × (n < length bytes)
+long_list zero = (0 ∷ [], omega arith)
+long_list (suc n) = let rest = long_list n in (0 ∷ rest.0, omega (arith, rest.1))
+
+-- more bytes than the limit were left
+long_left : (limit : ℕ) (old new : Option (List ℕ)) → IfSome old (λ bytes. ReadsAll limit bytes new (Err reads.TooLong)) → (bytes : List ℕ) × AreLeft old bytes × (limit < length bytes)
+long_left limit None new h = let some = long_list limit in (some.0, tt, some.1)
+long_left limit (Some bytes) new h = (bytes, refl, h.0)
+
+-- an answer of the words to the bytes that were left
+abbrev pub Given : List (List ℕ) → Option (List ℕ) → Answer → Type 0
+Given words left answer = (bytes : List ℕ) × AreLeft left bytes × Answers words bytes answer
+
+pub usage_given : (words : List (List ℕ)) (left : Option (List ℕ)) (answer : Answer) → IsUsageFault words → IsText 2 usage_text answer → Given words left answer
+usage_given words left answer fault text = let some = some_left left in (some.0, some.1, usage fault text)
+
+pub command_given : (words : List (List ℕ)) (old new : Option (List ℕ)) (read : Vec ℕ Global) (answer : Answer) (c : Command) → CommandLine words c
+    → IfSome old (λ bytes. ReadsAll most_bytes bytes new (Ok read)) → Does c read.items answer → Given words old answer
+command_given words old new read answer c line h does = (read.items, read_whole most_bytes old new read h, command c line does)
+
+-- a long input is no valid model
+no_long_input : (limit : ℕ) (bytes : List ℕ) (m : CpModel) → limit ≡ most_bytes → limit < length bytes → IsInput bytes m → ⊥
+no_long_input limit bytes m e long i = let short = i.short in omega arith
+
+-- a command that reads refuses a long input
+refuses_long : (c : Command) (bytes : List ℕ) (answer : Answer) → most_bytes < length bytes → IsText 1 (fault_text TooLong) answer → Does c bytes answer
+refuses_long Solve bytes answer long text = invalid TooLong long (λ m i. no_long_input most_bytes bytes m refl long i) text
+
+pub long_given : (words : List (List ℕ)) (old new : Option (List ℕ)) (answer : Answer) (c : Command) → CommandLine words c
+    → IfSome old (λ bytes. ReadsAll most_bytes bytes new (Err reads.TooLong)) → IsText 1 (fault_text TooLong) answer → Given words old answer
+long_given words old new answer c line h text =
+    let long = long_left most_bytes old new h in (long.0, long.1, command c line (refuses_long c long.0 answer long.2 text))

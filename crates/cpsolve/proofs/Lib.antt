@@ -1,0 +1,4 @@
+pub mod Inputs
+pub mod Given
+pub mod Limits
+pub mod Outcomes

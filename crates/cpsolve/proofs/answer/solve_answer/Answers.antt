@@ -1,0 +1,19 @@
+-- The outcome is good, and so it keeps its promise.
+use Rattle.cpsolve.proofs.Outcomes.{promise_kept, solved}
+use Rattle.std.proofs.Common.{rules, refl}
+use Rattle.cpsolve.proofs.answer.solve_answer.Goals as goal
+
+pub response_text-requires-clause-solved : goal.response_text-requires-clause-solved
+response_text-requires-clause-solved g c =
+    solved c.args.model.now c.model.result.now 0 _ c.model.ensures.same c.model.ensures.valid c.in_ok-status.ensures.good
+
+pub returns : goal.returns
+returns g c =
+    record {
+      found = _;
+      exit = refl;
+      outcome = refl;
+      text = search rules;
+      good = c.in_ok-status.ensures.good;
+      promise = promise_kept c.args.model.now 0 _ c.in_ok-status.ensures.good;
+    }

@@ -1,0 +1,23 @@
+-- The answer to the bytes that were left.
+use Rattle.std.proofs.Common.{◌+◌, arith}
+use Rattle.cpsolve.specs.Inputs.{most_bytes}
+use Rattle.cpsolve.proofs.Given.{usage_given, command_given, long_given, read_through}
+use Rattle.cpsolve.proofs.solve.answer_of.Goals as goal
+
+pub returns-in_default-clause-right : goal.returns-in_default-clause-right
+returns-in_default-clause-right g c =
+    usage_given _ (g.S.Source.left c.args.source.now) c.in_ok-usage_answer.field-0 c.in_default.ensures c.in_ok-usage_answer.ensures
+
+pub returns-in_ok-command_answer-in-Ok-clause-right : goal.returns-in_ok-command_answer-in-Ok-clause-right
+returns-in_ok-command_answer-in-Ok-clause-right g c =
+    command_given _ (g.S.Source.left c.args.source.now) (g.S.Source.left c.read_all.new.source) c.in-Ok.bytes c.in_ok-command_answer-in-Ok.field-0 c.in-Some.command
+    c.in-Some.ensures c.in-Ok.ensures.bytes (rw c.deref.ensures.value at c.in_ok-command_answer-in-Ok.ensures)
+
+pub returns-in_ok-command_answer-in-Ok-clause-read : goal.returns-in_ok-command_answer-in-Ok-clause-read
+returns-in_ok-command_answer-in-Ok-clause-read g c =
+    λ line. read_through most_bytes (most_bytes + 1) (g.S.Source.left c.args.source.now) (g.S.Source.left c.read_all.new.source) c.in-Ok.bytes (omega arith) c.in-Ok.ensures.bytes
+
+pub returns-in_ok-fault_answer-in-Err-TooLong-clause-right : goal.returns-in_ok-fault_answer-in-Err-TooLong-clause-right
+returns-in_ok-fault_answer-in-Err-TooLong-clause-right g c =
+    long_given _ (g.S.Source.left c.args.source.now) (g.S.Source.left c.read_all.new.source) c.in_ok-fault_answer-in-Err-TooLong.field-0 c.in-Some.command
+    c.in-Some.ensures (rw c.in-Err-TooLong.field-0-is at c.in-Err-TooLong.ensures.bytes) c.in_ok-fault_answer-in-Err-TooLong.ensures

@@ -1,0 +1,50 @@
+-- What the program answers to a command line and an input: an exit status, an outcome and a text.
+use Rattle.std.specs.Prelude.{◌≡◌, ℕ, List, [], ◌∷◌, ◌++◌, codes, Some, None}
+use Rattle.cps_model.specs.declared.model.CpModel.{CpModel}
+use Rattle.cps_print.specs.declared.fault.Fault.{Fault}
+use Rattle.cps_print.specs.declared.response.Response.{Response}
+use Rattle.cps_print.specs.Faults.{fault_text}
+use Rattle.cps_print.specs.Responses.{response_text}
+use Rattle.cpsolve.specs.declared.answer.Answer.{Answer}
+use Rattle.cpsolve.specs.declared.command.Command.{Command}
+use Rattle.cpsolve.specs.declared.command.Command.TheVariants.{Solve}
+use Rattle.cpsolve.specs.declared.outcome.Outcome.{Outcome}
+use Rattle.cpsolve.specs.Commands.{CommandLine, IsUsageFault}
+use Rattle.cpsolve.specs.Inputs.{HasFault, IsInput, IsNoInput}
+use Rattle.cpsolve.specs.Outcomes.{IsGoodOutcome, KeepsPromise}
+
+abbrev pub usage_text : List ℕ
+usage_text = codes "usage: cpsolve solve|validate|print|gen|demo|check" ++ 10 ∷ []
+
+-- a text with no outcome
+pub record IsText (status : ℕ) (bytes : List ℕ) (answer : Answer) : Type 0 where
+  pub exit : answer.exit ≡ status
+  pub outcome : answer.outcome ≡ None
+  pub text : answer.text ≡ bytes
+
+-- what is written of an outcome
+abbrev pub response_of : Outcome → Response
+response_of o = record { status = o.status; solution = o.solution; lower = o.lower }
+
+-- `solve` of a valid model: the response of an outcome that is good
+pub record Solves (m : CpModel) (answer : Answer) : Type 0 where
+  pub found : Outcome
+  pub exit : answer.exit ≡ 0
+  pub outcome : answer.outcome ≡ Some found
+  pub text : answer.text ≡ response_text m (response_of found)
+  pub good : IsGoodOutcome m 0 found
+  pub promise : KeepsPromise m 0 found
+
+-- a command that reads a valid model: what it does with the one that the input is, and else the input's fault
+pub data AnswersInput (does : CpModel → Answer → Type 0) (bytes : List ℕ) (answer : Answer) : Type 0 where
+  valid : (m : CpModel) → IsInput bytes m → does m answer → AnswersInput does bytes answer
+  invalid : (fault : Fault) → HasFault bytes fault → IsNoInput bytes → IsText 1 (fault_text fault) answer → AnswersInput does bytes answer
+
+-- what each command does
+abbrev pub Does : Command → List ℕ → Answer → Type 0
+Does Solve bytes answer = AnswersInput Solves bytes answer
+
+-- the usage line for words that have no command, and else what their command does
+pub data Answers (words : List (List ℕ)) (bytes : List ℕ) (answer : Answer) : Type 0 where
+  usage : IsUsageFault words → IsText 2 usage_text answer → Answers words bytes answer
+  command : (c : Command) → CommandLine words c → Does c bytes answer → Answers words bytes answer

@@ -1,0 +1,112 @@
+//! An input, from its bytes to a valid model.
+ghost use Rattle.std.specs.Prelude.{◌≡◌, ◌≤◌, length, IfOk, IfErr};
+ghost use Rattle.cps_textproto.specs.Trees.{tree_of};
+ghost use Rattle.cps_model.specs.Validity.{IsValid};
+ghost use Rattle.cps_print.specs.Responses.{IsShowable};
+ghost use Rattle.cpsolve.specs.Inputs.{most_bytes, byte_of, IsInput};
+ghost use Rattle.cpsolve.specs.Reading.{IsCut, IsParsed, IsMeant, IsRefusal};
+
+use cps_lex::{LexError, Token, tokens};
+use cps_model::CpModel;
+use cps_print::Fault;
+use cps_schema::{SchemaError, model_of};
+use cps_textproto::{Node, TextError, document};
+use cps_validate::{ValidModel, ValidateError, validate};
+use std::alloc::Global;
+use thiserror::Error;
+
+/// Why an input is not at hand as a valid model.
+#[derive(Debug, Drop, Error)]
+pub enum Unread {
+    /// It is none.
+    #[error("the input is no valid model: {0:?}")]
+    Fault(Fault),
+    #[error("out of memory")]
+    OutOfMemory,
+}
+
+/// The byte at which a token begins; the length of the input behind the last token.
+fn byte_of(bytes: &[u8], tokens: &[Token], token: usize) -> usize
+    ensures { result ≡ byte_of bytes.now tokens.now token }
+{
+    match tokens.get(token) {
+        Some(token) => token.start as usize,
+        None => bytes.len(),
+    }
+}
+
+/// The tokens of the bytes.
+fn tokens_of(alloc: Global, bytes: &[u8]) -> Result<Vec<Token>, Unread>
+    requires { length bytes.now ≤ most_bytes }
+    ensures ok { IfOk result (λ tokens. IsCut bytes.now tokens.items) }
+    ensures err { IfErr result (IsRefusal bytes.now) }
+{
+    match tokens(alloc, bytes) {
+        Ok(tokens) => Ok(tokens),
+        Err(LexError::NoToken { at }) => Err(Unread::Fault(Fault::Text { byte: at })),
+        Err(LexError::OutOfMemory) => Err(Unread::OutOfMemory),
+    }
+}
+
+/// The document that the tokens are.
+fn node_of(alloc: Global, bytes: &[u8], tokens: &[Token]) -> Result<Node, Unread>
+    requires short { length bytes.now ≤ most_bytes }
+    requires cut { IsCut bytes.now tokens.now }
+    ensures ok { IfOk result (λ node. IsParsed bytes.now tokens.now (tree_of node)) }
+    ensures err { IfErr result (IsRefusal bytes.now) }
+{
+    match document(alloc, bytes, tokens) {
+        Ok(node) => Ok(node),
+        Err(TextError::NotADocument { token }) => Err(Unread::Fault(Fault::Text {
+            byte: byte_of(bytes, tokens, token),
+        })),
+        Err(TextError::OutOfMemory) => Err(Unread::OutOfMemory),
+    }
+}
+
+/// The model that the document means.
+fn meaning_of(alloc: Global, bytes: &[u8], tokens: &[Token], node: &Node) -> Result<CpModel, Unread>
+    requires short { length bytes.now ≤ most_bytes }
+    requires cut { IsCut bytes.now tokens.now }
+    requires parsed { IsParsed bytes.now tokens.now (tree_of node.now) }
+    ensures ok { IfOk result (IsMeant bytes.now) }
+    ensures err { IfErr result (IsRefusal bytes.now) }
+{
+    match model_of(alloc, bytes, tokens, node) {
+        Ok(model) => Ok(model),
+        Err(SchemaError::Fault { name, token }) => Err(Unread::Fault(Fault::Field {
+            name,
+            byte: byte_of(bytes, tokens, token),
+        })),
+        Err(SchemaError::OutOfMemory) => Err(Unread::OutOfMemory),
+    }
+}
+
+/// The model that the bytes are written for. Their tokens are given up.
+fn read_model(alloc: Global, bytes: &[u8]) -> Result<CpModel, Unread>
+    requires { length bytes.now ≤ most_bytes }
+    ensures ok { IfOk result (IsMeant bytes.now) }
+    ensures err { IfErr result (IsRefusal bytes.now) }
+{
+    let tokens = tokens_of(alloc, bytes)?;
+    let node = node_of(alloc, bytes, &tokens)?;
+    meaning_of(alloc, bytes, &tokens, &node)
+}
+
+/// The valid model that the bytes are.
+pub fn valid_model_of(alloc: Global, bytes: &[u8]) -> Result<ValidModel, Unread>
+    requires { length bytes.now ≤ most_bytes }
+    ensures ok { IfOk result (IsInput bytes.now) }
+    ensures showable { IfOk result (λ model. IsShowable model.objective) }
+    ensures err { IfErr result (IsRefusal bytes.now) }
+{
+    let model = read_model(alloc, bytes)?;
+    match validate(alloc, model) {
+        Ok(model) => Ok(model),
+        Err(ValidateError::Invalid { rule, place }) => Err(Unread::Fault(Fault::Rule {
+            rule,
+            place,
+        })),
+        Err(ValidateError::OutOfMemory) => Err(Unread::OutOfMemory),
+    }
+}

@@ -1,0 +1,43 @@
+//! `cpsolve` reads a constraint model in text form, searches it for a best solution, and writes a response.
+//!
+//! `solve_main` is the whole program over any source of bytes and any sink, and its contract says what the program does:
+//! OPTIMAL comes only with a solution that none beats, INFEASIBLE only where there is none, and every other answer
+//! only where its cause is there. `main` hands it the words, standard input and standard output.
+#![tactic(auto)]
+
+mod answer;
+mod command;
+mod input;
+mod outcome;
+mod search;
+mod solve;
+#[cfg(test)]
+mod tests;
+
+use crate::solve::solve_main;
+use cps_outer::{OpenGate, StdSink, StdSource};
+use std::alloc::{Alloc, AllocError, Global};
+use std::env::{self, Env};
+use std::io::ErrorKind;
+use std::process::ExitCode;
+
+/// The words of the command line, the program's name first. Where one of them is no text there are none, which is no
+/// command line either.
+fn words_of<R: Env + Alloc<A = Global>>(rt: &R) -> Result<Vec<String>, AllocError> {
+    match env::args(rt) {
+        Ok(words) => words.collect(rt.alloc()),
+        Err(error) if error.kind() == ErrorKind::InvalidData => Ok(Vec::new(rt.alloc())),
+        Err(_) => Err(AllocError),
+    }
+}
+
+fn main(rt: HostRuntime) -> ExitCode {
+    let alloc = rt.alloc();
+    let Ok(words) = words_of(&rt) else {
+        return ExitCode::from(5);
+    };
+    let mut source = StdSource::new(rt.stdin());
+    let mut sink = StdSink::new(rt.stdout());
+    let ran = solve_main(&rt, alloc, &words, &mut source, &mut sink, &OpenGate);
+    ExitCode::from(ran.exit)
+}

@@ -1,0 +1,128 @@
+//! The whole program: words and an input to a text and an exit status.
+ghost use Rattle.std.specs.Prelude.{◌≡◌, ◌≢◌, ◌≤◌, IfOk, OnOk, IsErrOf, MatchBool, List, ℕ, None, Err, false};
+ghost use Rattle.std.specs.Io.KnownBytes.{Appends};
+ghost use Rattle.cps_outer.specs.Faults.{Rose};
+ghost use Rattle.cps_outer.specs.Transfers.{TakesPrefix};
+ghost use Rattle.cpsolve.specs.Answers.{Answers};
+ghost use Rattle.cpsolve.specs.Commands.{texts_of, IsCommandLine, IsUsageFault};
+ghost use Rattle.cpsolve.specs.Runs.{is_silent, AreLeft, IsReadThrough, GivesOut};
+ghost use Rattle.cpsolve.specs.declared.solve.Unanswered.TheVariants.{OutOfMemory};
+
+use crate::answer::{Answer, command_answer, fault_answer, usage_answer};
+use crate::command::command_of;
+use crate::outcome::Ran;
+use cps_outer::{Gate, ReadError, Sink, Source, WriteFault, read_all, write_all};
+use cps_print::Fault;
+use std::alloc::{AllocError, Global};
+use std::sync::Wait;
+use std::thread::Threads;
+use thiserror::Error;
+
+/// The most bytes that an input may have.
+const MOST_BYTES: usize = 67_108_864;
+
+/// Why a run has no answer.
+#[derive(Debug, Drop, Error)]
+enum Unanswered {
+    #[error("a read failed")]
+    ReadFault,
+    #[error("out of memory")]
+    OutOfMemory,
+}
+
+impl From<AllocError> for Unanswered {
+    ghost from_gives = { λ _ e. e ≡ OutOfMemory };
+
+    fn from(_: AllocError) -> Self {
+        Unanswered::OutOfMemory
+    }
+}
+
+/// The answer of the words to the bytes of a source.
+fn answer_of<R: Threads + Wait + Sync, S: Source, G: Gate + Sync>(
+    rt: &R,
+    alloc: Global,
+    words: &[String],
+    source: &mut S,
+    gate: &G,
+) -> Result<Answer, Unanswered>
+    ensures right { IfOk result (λ answer. (bytes : List ℕ) × AreLeft (S.left source.old) bytes × Answers (texts_of words.now) bytes answer) }
+    ensures read { OnOk result (IsCommandLine (texts_of words.now) → IsReadThrough (S.left source.old) (S.left source.new)) }
+    ensures usage { IsUsageFault (texts_of words.now) → (source.new ≡ source.old) × (result ≢ Err Unanswered.ReadFault) }
+    ensures fault { IsErrOf result Unanswered.ReadFault → Rose (S.faults source.old) (S.faults source.new) }
+{
+    let Some(command) = command_of(words) else {
+        return Ok(usage_answer(alloc)?);
+    };
+    match read_all(alloc, source, MOST_BYTES) {
+        Ok(bytes) => Ok(command_answer(rt, alloc, command, &bytes, gate)?),
+        Err(ReadError::TooLong) => Ok(fault_answer(alloc, &Fault::TooLong)?),
+        Err(ReadError::ReadFault) => Err(Unanswered::ReadFault),
+        Err(ReadError::OutOfMemory) => Err(Unanswered::OutOfMemory),
+    }
+}
+
+/// Writes the text of an answer.
+fn write_answer<K: Sink>(sink: &mut K, answer: Answer) -> Ran
+    requires { answer.exit ≤ 2 }
+    ensures text { is_silent result.exit ≡ false }
+    ensures outcome { result.outcome ≡ answer.outcome }
+    ensures whole { result.exit ≢ 4 → (result.exit ≡ answer.exit) × Appends (K.held sink.old) (K.held sink.new) answer.text }
+    ensures part { result.exit ≡ 4 → TakesPrefix (K.held sink.old) (K.held sink.new) answer.text }
+    ensures fault { result.exit ≡ 4 → Rose (K.faults sink.old) (K.faults sink.new) }
+{
+    match write_all(sink, answer.text.as_str().as_bytes()) {
+        Ok(()) => Ran {
+            exit: answer.exit,
+            outcome: answer.outcome,
+        },
+        Err(WriteFault) => Ran {
+            exit: 4,
+            outcome: answer.outcome,
+        },
+    }
+}
+
+/// Runs the program on its words, the program's name first: reads the source to its end where the command reads, does
+/// the work, and writes the whole text after it. A run with threads holds its workers at the gate before they begin.
+///
+/// The exit status is 0 where the command did its work, 1 where the input is no valid model, 2 where the words are a
+/// usage fault, 3 where a read failed, 4 where a write failed, and 5 for want of memory.
+pub fn solve_main<R: Threads + Wait + Sync, S: Source, K: Sink, G: Gate + Sync>(
+    rt: &R,
+    alloc: Global,
+    words: &[String],
+    source: &mut S,
+    sink: &mut K,
+    gate: &G,
+) -> Ran
+    // 0, 1, 2 and 4: an answer of the words to the bytes that were left, and the sink took its text, of 4 a first part.
+    // 3 and 5: nothing is written.
+    ensures answer { MatchBool (is_silent result.exit)
+        ((result.outcome ≡ None) × (sink.new ≡ sink.old))
+        (GivesOut (texts_of words.now) (S.left source.old) (K.held sink.old) (K.held sink.new) result) }
+    ensures exits { result.exit ≤ 5 }
+
+    // Where there is a text, a command that reads has read all, or one byte more than an input may have.
+    ensures read { is_silent result.exit ≡ false → IsCommandLine (texts_of words.now)
+        → IsReadThrough (S.left source.old) (S.left source.new) }
+
+    // Words that have no command leave the source as it was.
+    ensures usage { IsUsageFault (texts_of words.now) → (source.new ≡ source.old) × (result.exit ≢ 3) }
+
+    // It does not give up by itself.
+    ensures read_fault { result.exit ≡ 3 → Rose (S.faults source.old) (S.faults source.new) }
+    ensures write_fault { result.exit ≡ 4 → Rose (K.faults sink.old) (K.faults sink.new) }
+{
+    match answer_of(rt, alloc, words, source, gate) {
+        Ok(answer) => write_answer(sink, answer),
+        Err(Unanswered::ReadFault) => Ran {
+            exit: 3,
+            outcome: None,
+        },
+        Err(Unanswered::OutOfMemory) => Ran {
+            exit: 5,
+            outcome: None,
+        },
+    }
+}

@@ -1,0 +1,167 @@
+//! The program over a source and a sink in memory: whole texts with the answers that were worked out by hand.
+use crate::solve::solve_main;
+use cps_outer::{MemorySink, MemorySource, OpenGate};
+use std::alloc::{AllocError, Global};
+use std::test::Fail;
+
+/// Two variables under two sums, of which the greatest weighted sum is wanted.
+const PRODUCTION: &str = "variables { domain: [0, 10] } variables { domain: [0, 10] } \
+    constraints { linear { vars: [0, 1] coeffs: [1, 1] domain: [-9223372036854775808, 4] } } \
+    constraints { linear { vars: [0, 1] coeffs: [1, 3] domain: [-9223372036854775808, 6] } } \
+    objective { vars: [0, 1] coeffs: [-3, -2] scaling_factor: -1 }";
+
+/// Inputs of `solve`, each with its exit status and its text.
+const INPUTS: [(&str, u8, &str); 10] = [
+    ("", 0, "status: OPTIMAL\n"),
+    (
+        PRODUCTION,
+        0,
+        "status: OPTIMAL\nsolution: 4\nsolution: 0\nobjective_value: 12\nbest_objective_bound: 12\n",
+    ),
+    (
+        "variables { domain: [0, 1] } constraints { enforcement_literal: 0 bool_or { } } \
+         constraints { bool_or { literals: [-1] } }",
+        0,
+        "status: OPTIMAL\nsolution: 0\n",
+    ),
+    (
+        "variables { domain: [0, 1] } constraints { enforcement_literal: 0 bool_or { } } \
+         constraints { bool_or { literals: [0] } }",
+        0,
+        "status: INFEASIBLE\n",
+    ),
+    (
+        "variables { domain: [0, 4611686018427387904] } \
+         constraints { linear { vars: [0] coeffs: [1] domain: [4611686018427387902, 9223372036854775807] } } \
+         objective { vars: [0] coeffs: [1] }",
+        1,
+        "status: MODEL_INVALID\n# invalid V2 at variable 0\n",
+    ),
+    (
+        "variables { domain: [0, 2147483648] } variables { domain: [0, 2147483648] } \
+         constraints { linear { vars: [0, 1] coeffs: [1073741824, 1073741824] domain: [0, 0] } }",
+        1,
+        "status: MODEL_INVALID\n# invalid V6 at constraint 0\n",
+    ),
+    (
+        "variables { domain: 0",
+        1,
+        "status: MODEL_INVALID\n# text fault at byte 21\n",
+    ),
+    (
+        "variables { domain: [089, 90] }",
+        1,
+        "status: MODEL_INVALID\n# text fault at byte 21\n",
+    ),
+    (
+        "variables { domian: 0 }",
+        1,
+        "status: MODEL_INVALID\n# field fault UnknownField at byte 12\n",
+    ),
+    (
+        "objective { offset: 1 offset: 2 }",
+        1,
+        "status: MODEL_INVALID\n# field fault Repeated at byte 22\n",
+    ),
+];
+
+/// Words that are no command line.
+const FAULTY_WORDS: [&[&str]; 5] = [
+    &["cpsolve"],
+    &["cpsolve", "solve", "--workers", "0"],
+    &["cpsolve", "solve", "--workers", "17"],
+    &["cpsolve", "print", "x"],
+    &["cpsolve", "solves"],
+];
+
+/// The words of a command line.
+fn words_of(alloc: Global, texts: &[&str]) -> Result<Vec<String>, AllocError> {
+    let mut words = Vec::new(alloc);
+    for text in texts {
+        words.push(String::from_str(alloc, text)?)?;
+    }
+    Ok(words)
+}
+
+/// A source over a text, read in pieces of these lengths at first, of which the calls of these numbers fail.
+fn source_of(
+    alloc: Global,
+    text: &str,
+    pieces: &[usize],
+    failing: &[usize],
+) -> Result<MemorySource, AllocError> {
+    Ok(MemorySource::new(
+        Vec::from_slice(alloc, text.as_bytes())?,
+        Vec::from_slice(alloc, pieces)?,
+        Vec::from_slice(alloc, failing)?,
+    ))
+}
+
+#[test]
+fn inputs_have_their_answers(rt: HostRuntime) -> Result<(), Fail> {
+    let alloc = rt.alloc();
+    let words = words_of(alloc, &["cpsolve", "solve"])?;
+    for (input, exit, text) in INPUTS.iter() {
+        let mut source = source_of(alloc, input, &[7, 1], &[])?;
+        let mut sink = MemorySink::new(alloc, 10, Vec::new(alloc));
+        let ran = solve_main(&rt, alloc, &words, &mut source, &mut sink, &OpenGate);
+        assert_eq!(rt; ran.exit, *exit, "at {input}");
+        assert_eq!(rt; ran.outcome.is_some(), *exit == 0, "at {input}");
+        assert!(rt; sink.bytes() == text.as_bytes(), "at {input}");
+    }
+    Ok(())
+}
+
+#[test]
+fn words_without_a_command_have_the_usage_line(rt: HostRuntime) -> Result<(), Fail> {
+    let alloc = rt.alloc();
+    for words in FAULTY_WORDS.iter() {
+        let words = words_of(alloc, words)?;
+        let mut source = source_of(alloc, "", &[], &[0])?;
+        let mut sink = MemorySink::new(alloc, 100, Vec::new(alloc));
+        let ran = solve_main(&rt, alloc, &words, &mut source, &mut sink, &OpenGate);
+        assert_eq!(rt; ran.exit, 2);
+        let usage = "usage: cpsolve solve|validate|print|gen|demo|check\n";
+        assert!(rt; sink.bytes() == usage.as_bytes());
+    }
+    Ok(())
+}
+
+#[test]
+fn a_second_read_fails(rt: HostRuntime) -> Result<(), Fail> {
+    let alloc = rt.alloc();
+    let words = words_of(alloc, &["cpsolve", "solve"])?;
+    let mut source = source_of(alloc, PRODUCTION, &[100], &[1])?;
+    let mut sink = MemorySink::new(alloc, 100, Vec::new(alloc));
+    let ran = solve_main(&rt, alloc, &words, &mut source, &mut sink, &OpenGate);
+    assert_eq!(rt; ran.exit, 3);
+    assert!(rt; sink.bytes().is_empty());
+    Ok(())
+}
+
+#[test]
+fn a_second_write_fails(rt: HostRuntime) -> Result<(), Fail> {
+    let alloc = rt.alloc();
+    let words = words_of(alloc, &["cpsolve", "solve"])?;
+    let mut source = source_of(alloc, "", &[], &[])?;
+    let mut sink = MemorySink::new(alloc, 3, vec![in alloc; 1]?);
+    let ran = solve_main(&rt, alloc, &words, &mut source, &mut sink, &OpenGate);
+    assert_eq!(rt; ran.exit, 4);
+    assert!(rt; ran.outcome.is_some());
+    assert!(rt; sink.bytes() == b"sta".as_slice());
+    Ok(())
+}
+
+#[test]
+fn an_input_is_too_long(rt: HostRuntime) -> Result<(), Fail> {
+    let alloc = rt.alloc();
+    let words = words_of(alloc, &["cpsolve", "solve"])?;
+    let spaces = vec![in alloc; b' '; 67_108_865]?;
+    let mut source = MemorySource::new(spaces, Vec::new(alloc), Vec::new(alloc));
+    let mut sink = MemorySink::new(alloc, 100, Vec::new(alloc));
+    let ran = solve_main(&rt, alloc, &words, &mut source, &mut sink, &OpenGate);
+    assert_eq!(rt; ran.exit, 1);
+    let text = "status: MODEL_INVALID\n# input longer than 67108864 bytes\n";
+    assert!(rt; sink.bytes() == text.as_bytes());
+    Ok(())
+}
