@@ -130,33 +130,56 @@ fn a_sum(rt: HostRuntime) -> Result<(), Fail> {
     assert_model(&rt, alloc, &model_of(alloc, &[0, 10], kind)?, ONE_SUM)
 }
 
+/// Asserts that this is written of a constraint's kind.
+fn assert_kind(rt: &impl Abort, alloc: Global, kind: Kind, wanted: &str) -> Result<(), Fail> {
+    let text = format!(in alloc; "variables {{\n}}\nconstraints {{\n{wanted}}}\n")?;
+    let model = model_of(alloc, &[], kind)?;
+    assert_model(rt, alloc, &model, text.as_str())
+}
+
+#[test]
+fn no_literals(rt: HostRuntime) -> Result<(), Fail> {
+    let alloc = rt.alloc();
+    assert_kind(&rt, alloc, Kind::Empty, "")?;
+    assert_kind(
+        &rt,
+        alloc,
+        Kind::BoolOr(Listed::new(alloc)),
+        "  bool_or {\n  }\n",
+    )
+}
+
 #[test]
 fn literals(rt: HostRuntime) -> Result<(), Fail> {
     let alloc = rt.alloc();
-    for (kind, wanted) in [
-        (Kind::Empty, ""),
-        (Kind::BoolOr(Listed::new(alloc)), "  bool_or {\n  }\n"),
-        (
-            Kind::BoolAnd(refs(alloc, &[0])?),
-            "  bool_and {\n    literals: [0]\n  }\n",
-        ),
-        (
-            Kind::AtMostOne(refs(alloc, &[0, -1])?),
-            "  at_most_one {\n    literals: [0, -1]\n  }\n",
-        ),
-        (
-            Kind::ExactlyOne(refs(alloc, &[-2])?),
-            "  exactly_one {\n    literals: [-2]\n  }\n",
-        ),
-        (
-            Kind::BoolXor(refs(alloc, &[0])?),
-            "  bool_xor {\n    literals: [0]\n  }\n",
-        ),
-    ] {
-        let wanted = format!(in alloc; "variables {{\n}}\nconstraints {{\n{wanted}}}\n")?;
-        assert_model(&rt, alloc, &model_of(alloc, &[], kind)?, wanted.as_str())?;
-    }
-    Ok(())
+    let literals = refs(alloc, &[0])?;
+    assert_kind(
+        &rt,
+        alloc,
+        Kind::BoolAnd(literals),
+        "  bool_and {\n    literals: [0]\n  }\n",
+    )?;
+    let literals = refs(alloc, &[0, -1])?;
+    assert_kind(
+        &rt,
+        alloc,
+        Kind::AtMostOne(literals),
+        "  at_most_one {\n    literals: [0, -1]\n  }\n",
+    )?;
+    let literals = refs(alloc, &[-2])?;
+    assert_kind(
+        &rt,
+        alloc,
+        Kind::ExactlyOne(literals),
+        "  exactly_one {\n    literals: [-2]\n  }\n",
+    )?;
+    let literals = refs(alloc, &[0])?;
+    assert_kind(
+        &rt,
+        alloc,
+        Kind::BoolXor(literals),
+        "  bool_xor {\n    literals: [0]\n  }\n",
+    )
 }
 
 #[test]
@@ -267,79 +290,47 @@ fn unsolved(rt: HostRuntime) -> Result<(), Fail> {
     assert_response(&rt, alloc, &model, &infeasible, "status: INFEASIBLE\n")
 }
 
+/// Asserts that this is the second line for a fault.
+fn assert_fault(rt: &impl Abort, alloc: Global, fault: Fault, cause: &str) -> Result<(), Fail> {
+    let text = fault_text(alloc, &fault)?;
+    let wanted = format!(in alloc; "status: MODEL_INVALID\n# {cause}\n")?;
+    assert_eq!(rt; text.as_str(), wanted.as_str());
+    Ok(())
+}
+
 #[test]
 fn faults(rt: HostRuntime) -> Result<(), Fail> {
     let alloc = rt.alloc();
-    for (fault, cause) in [
-        (Fault::Text { byte: 21 }, "text fault at byte 21"),
-        (
-            Fault::Field {
-                name: FaultName::UnknownField,
-                byte: 12,
-            },
-            "field fault UnknownField at byte 12",
-        ),
-        (
-            Fault::Field {
-                name: FaultName::NotWhole,
-                byte: 20,
-            },
-            "field fault NotWhole at byte 20",
-        ),
-        (
-            Fault::Rule {
-                rule: 2,
-                place: Place::Variable(0),
-            },
-            "invalid V2 at variable 0",
-        ),
-        (
-            Fault::Rule {
-                rule: 15,
-                place: Place::Constraint(0),
-            },
-            "invalid V15 at constraint 0",
-        ),
-        (
-            Fault::Rule {
-                rule: 18,
-                place: Place::Model,
-            },
-            "invalid V18 at model",
-        ),
-        (
-            Fault::Rule {
-                rule: 3,
-                place: Place::Objective,
-            },
-            "invalid V3 at objective",
-        ),
-        (
-            Fault::Rule {
-                rule: 17,
-                place: Place::Hint,
-            },
-            "invalid V17 at hint",
-        ),
-        (
-            Fault::Rule {
-                rule: 5,
-                place: Place::Strategy(2),
-            },
-            "invalid V5 at strategy 2",
-        ),
-        (
-            Fault::Rule {
-                rule: 4,
-                place: Place::Assumption(1),
-            },
-            "invalid V4 at assumption 1",
-        ),
-        (Fault::TooLong, "input longer than 67108864 bytes"),
+    let text = Fault::Text { byte: 21 };
+    assert_fault(&rt, alloc, text, "text fault at byte 21")?;
+    let name = FaultName::UnknownField;
+    assert_fault(
+        &rt,
+        alloc,
+        Fault::Field { name, byte: 12 },
+        "field fault UnknownField at byte 12",
+    )?;
+    assert_fault(
+        &rt,
+        alloc,
+        Fault::TooLong,
+        "input longer than 67108864 bytes",
+    )
+}
+
+#[test]
+fn places(rt: HostRuntime) -> Result<(), Fail> {
+    let alloc = rt.alloc();
+    for (rule, place, cause) in [
+        (2, Place::Variable(0), "invalid V2 at variable 0"),
+        (15, Place::Constraint(0), "invalid V15 at constraint 0"),
+        (18, Place::Model, "invalid V18 at model"),
+        (3, Place::Objective, "invalid V3 at objective"),
+        (5, Place::Strategy(2), "invalid V5 at strategy 2"),
+        (17, Place::Hint, "invalid V17 at hint"),
+        (4, Place::Assumption(1), "invalid V4 at assumption 1"),
     ] {
-        let text = fault_text(alloc, &fault)?;
-        let wanted = format!(in alloc; "status: MODEL_INVALID\n# {cause}\n")?;
-        assert_eq!(rt; text.as_str(), wanted.as_str());
+        assert_fault(&rt, alloc, Fault::Rule { rule, place }, cause)?;
     }
     Ok(())
 }
