@@ -2,4 +2,3 @@ pub mod Basics
 pub mod Coded
 pub mod Keeps
 pub mod Filling
-pub mod WorkedClauses

@@ -1,4 +1,3 @@
 pub mod Coding
 pub mod Rows
 pub mod Seats
-pub mod Worked
