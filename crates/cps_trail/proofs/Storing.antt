@@ -2,7 +2,7 @@
 use Rattle.std.proofs.Common.{ℕ, zero, suc, ◌+◌, ◌-◌, ◌≤◌, ◌<◌, ℤ, ◌≡◌, ◌≢◌, Bool, true, false, List, [], ◌∷◌, ◌++◌, length, take, get_or, refl, sym, ◌∙◌, ap, subst, arith, length-append}
 use Rattle.std.specs.Prelude.{slice_index}
 use Rattle.std.specs.List.{All, Contains}
-use Rattle.std.proofs.lemmas.List.Elements.{All-contains, All-weaker}
+use Rattle.std.proofs.lemmas.List.Elements.{All-contains, All-weaker, All-cons, All-nil}
 use Rattle.cps_domain.specs.declared.cut.Cut.{Cut}
 use Rattle.cps_domain.specs.declared.cut.Cut.TheVariants as cuts
 use Rattle.cps_literal.specs.declared.atom.Atom.{Atom}
@@ -77,3 +77,17 @@ levels_decided first es marks t n h e =
     let low : n - 1 ≡ length marks = omega (arith, e) in
     AreLevels-push first es (marks ++ length es ∷ []) (record { atom = t; level = n; reason = Decision }) (AreLevels-level first es marks h) (omega (arith, e, length-append marks (length es ∷ []))) tt
     (λ f. (omega (arith, e), sym (ap (λ m. up_to m es) low ∙ up_to-all (length marks) es h.levels)))
+
+-- a reason of two atoms
+pub explains_two : (first : Domains) (es : List Entry) (u t : Atom) (reason : List Atom) → reason ≡ u ∷ (t ∷ []) → u.subject < length first → t.subject < length first → IsFalseAfter first es u → Explains first es reason t
+explains_two first es u t reason e l k f =
+    subst (λ c. Explains first es c t) (sym e) (record {
+      has = (1, omega arith, refl);
+      others = λ v i n. other v i n;
+      subjects = All-cons (λ (w : Atom). w.subject < length first) u (t ∷ []) l (All-cons (λ (w : Atom). w.subject < length first) t [] k (All-nil (λ (w : Atom). w.subject < length first)));
+    })
+  where
+    other : (v : Atom) → Contains (u ∷ (t ∷ [])) v → v ≢ t → IsFalseAfter first es v
+    other v (zero, i, s) n = subst (λ w. IsFalseAfter first es w) s f
+    other v (suc zero, i, s) n = absurd (n (sym s))
+    other v (suc (suc j), i, s) n = absurd (omega (arith, i))
