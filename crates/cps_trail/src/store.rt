@@ -338,4 +338,13 @@ mod tests {
         assert_eq!(rt; answers, (1, Cut::Narrowed, 3, 0));
         Ok(())
     }
+
+    #[test]
+    fn adds_a_subject(rt: HostRuntime) -> Result<(), Fail> {
+        let mut store = Store::new(rt.alloc(), &[])?;
+        let domain = Domain::of_bounds(rt.alloc(), &[0, 1])?;
+        assert_eq!(rt; store.add(domain)?, 0);
+        assert_eq!(rt; store.len(), 1);
+        Ok(())
+    }
 }
