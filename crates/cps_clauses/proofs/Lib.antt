@@ -3,5 +3,6 @@ pub mod Honesty
 pub mod Counting
 pub mod Scanning
 pub mod Standing
+pub mod Fitting
 pub mod Falling
 pub mod Levelling

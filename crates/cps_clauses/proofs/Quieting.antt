@@ -10,8 +10,9 @@ use Rattle.cps_trail.specs.Trail.{Domains, Entry, Trail, admits, IsFalseAfter, I
 use Rattle.cps_trail.specs.Adds.{Infers, AreInferred}
 use Rattle.cps_trail.proofs.Falls.{bool_cases}
 use Rattle.cps_trail.proofs.Marks.{up_to-up_to, up_to-append_above, up_to-all}
+use Rattle.cps_trail.proofs.Undoing.{admits-add}
 use Rattle.cps_trail.proofs.Times.{IsFalseAfter-up_to}
-use Rattle.cps_clauses.specs.Quiet.{AreFalseBut, IsOneLeft, IsUnitAfter, IsQuietAfter, IsQuiet, IsLevelFor, WeakensTo}
+use Rattle.cps_clauses.specs.Quiet.{AreFalseBut, IsOneLeft, IsUnitAfter, IsQuietAfter, IsQuiet, IsLevelFor, WeakensTo, Fits}
 
 -- what a read past the end gives
 abbrev pub none : Atom
@@ -141,6 +142,19 @@ IsQuiet-infers C clauses s t h quiet =
     subst (λ (n : ℕ). IsQuiet clauses t n) (sym h.level)
     (IsQuiet-append clauses s t s.level h.added h.first h.entries (AreInferred-levels C s.first s.level s.entries h.added h.inferred) quiet)
 
+-- a decision keeps it at its level, where each clause was quiet one level higher
+pub IsQuiet-decide : (clauses : List (List Atom)) (s t : Trail) (e : Entry) → e.level ≡ s.level + 1 → t ≡ record s { entries = s.entries ++ e ∷ []; level = s.level + 1 } → IsQuiet clauses s (s.level + 1) → IsQuiet clauses t t.level
+IsQuiet-decide clauses s t e level is quiet =
+    subst (λ (n : ℕ). IsQuiet clauses t n) (sym (ap (λ (x : Trail). x.level) is))
+    (IsQuiet-append clauses s t (s.level + 1) (e ∷ []) (ap (λ (x : Trail). x.first) is) (ap (λ (x : Trail). x.entries) is)
+    (All-cons (λ e. s.level + 1 ≤ e.level) e [] (omega (arith, level)) (All-nil (λ e. s.level + 1 ≤ e.level))) quiet)
+
+-- a backjump keeps it at the level that it goes to
+pub IsQuiet-backjump : (clauses : List (List Atom)) (s t : Trail) (level : ℕ) → level ≤ s.level → t ≡ record s { entries = up_to level s.entries; level = level } → IsQuiet clauses s s.level → IsQuiet clauses t t.level
+IsQuiet-backjump clauses s t level h is quiet =
+    subst (λ (n : ℕ). IsQuiet clauses t n) (sym (ap (λ (x : Trail). x.level) is))
+    (IsQuiet-back clauses s t level level (ap (λ (x : Trail). x.first) is) (ap (λ (x : Trail). x.entries) is) (omega arith) (record { at = λ l less. quiet.at l (omega (arith, less, h)) }))
+
 -- one level higher, where each clause is quiet now
 pub IsQuiet-next : (clauses : List (List Atom)) (s : Trail) → IsSound s → IsQuiet clauses s s.level → All (IsQuietAfter s.first s.entries) clauses → IsQuiet clauses s (s.level + 1)
 IsQuiet-next clauses s sound quiet now = record {
@@ -151,6 +165,10 @@ IsQuiet-next clauses s sound quiet now = record {
         subst (λ (es : List Entry). All (IsQuietAfter s.first es) clauses) (sym all) now
   ];
 }
+
+-- below level 0 there is nothing to say
+pub IsQuiet-none : (clauses : List (List Atom)) (s : Trail) (below : ℕ) → below ≡ 0 → IsQuiet clauses s below
+IsQuiet-none clauses s below e = record { at = λ l less. absurd (omega (arith, e, less)) }
 
 -- one more clause, which is quiet below the level
 pub IsQuiet-push : (clauses : List (List Atom)) (s : Trail) (below : ℕ) (clause : List Atom) → IsQuiet clauses s below → ((level : ℕ) → level < below → IsQuietAfter s.first (up_to level s.entries) clause) → IsQuiet (clauses ++ clause ∷ []) s below
@@ -180,3 +198,31 @@ learnt_quiet s clause place back above d within h left lowest level less = quiet
   | inl same ↦ lowest level less (subst (λ (j : ℕ). AreFalseBut s.first (up_to level s.entries) clause j) same others)
   | inr other ↦ left (IsFalseAfter-later s.first s.entries level above (get_or clause place d) (omega arith) (others place d within (λ same. other (sym same))))
 ])
+
+-- a new subject changes nothing for clauses that fit the others
+module _ (first : Domains) (ps : List (ℤ × ℤ)) (es : List Entry) where
+  false_old : (t : Atom) → t.subject < length first → IsFalseAfter (first ++ ps ∷ []) es t → IsFalseAfter first es t
+  false_old t l f x a = f x (admits-add first ps es t.subject x l ∙ a)
+
+  false_new : (t : Atom) → t.subject < length first → IsFalseAfter first es t → IsFalseAfter (first ++ ps ∷ []) es t
+  false_new t l f x a = f x (sym (admits-add first ps es t.subject x l) ∙ a)
+
+  true_new : (t : Atom) → t.subject < length first → IsTrueAfter first es t → IsTrueAfter (first ++ ps ∷ []) es t
+  true_new t l f x a = f x (sym (admits-add first ps es t.subject x l) ∙ a)
+
+  pub IsQuietAfter-new_subject : (c : List Atom) → Fits first c → IsQuietAfter first es c → IsQuietAfter (first ++ ps ∷ []) es c
+  IsQuietAfter-new_subject c fits quiet = record {
+    not_false = λ all. quiet.not_false (λ j d l. false_old (get_or c j d) (fits.subjects j d l) (all j d l));
+    not_unit = λ unit. quiet.not_unit (unit.0, record {
+      within = unit.1.within;
+      others = λ j d l ne. false_old (get_or c j d) (fits.subjects j d l) (unit.1.others j d l ne);
+      not_true = λ d on. unit.1.not_true d (true_new (get_or c unit.0 d) (fits.subjects unit.0 d unit.1.within) on);
+      not_false = λ d off. unit.1.not_false d (false_new (get_or c unit.0 d) (fits.subjects unit.0 d unit.1.within) off);
+    });
+  }
+
+-- so a new subject keeps it at each level
+pub IsQuiet-new_subject : (clauses : List (List Atom)) (s t : Trail) (ps : List (ℤ × ℤ)) (below : ℕ) → All (Fits s.first) clauses → t ≡ record s { first = s.first ++ ps ∷ [] } → IsQuiet clauses s below → IsQuiet clauses t below
+IsQuiet-new_subject clauses s t ps below fits is quiet =
+    subst (λ (x : Trail). IsQuiet clauses x below) (sym is)
+    (record { at = λ l less k d b. IsQuietAfter-new_subject s.first ps (up_to l s.entries) (get_or clauses k d) (fits k d b) (quiet.at l less k d b) })

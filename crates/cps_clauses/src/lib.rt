@@ -15,6 +15,8 @@ mod left;
 mod level_for;
 pub mod origin;
 mod span;
+#[cfg(test)]
+mod tests;
 
 pub use base::ClauseBase;
 pub use journal::{Journal, JournalItem};
