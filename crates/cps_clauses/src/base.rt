@@ -70,10 +70,7 @@ impl ClauseBase {
         }
         match self.insert(clause, below, origin) {
             Ok(()) => Ok(()),
-            Err(error) => {
-                self.refused = true;
-                Err(error)
-            }
+            Err(_) => Err(self.refuse()),
         }
     }
 
@@ -108,11 +105,16 @@ impl ClauseBase {
         }
         match self.propagate(store) {
             Ok(step) => Ok(step),
-            Err(error) => {
-                self.refused = true;
-                Err(error)
-            }
+            Err(_) => Err(self.refuse()),
         }
+    }
+
+    /// Keeps in mind that memory was refused.
+    fn refuse(&mut self) -> AllocError
+        ensures { self.new ≡ record self.old { refused = true } }
+    {
+        self.refused = true;
+        AllocError
     }
 
     /// Scans the clauses until a scan narrows nothing.

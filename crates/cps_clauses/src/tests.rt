@@ -26,6 +26,18 @@ fn one(subject: u32) -> Atom
     }
 }
 
+/// That a subject is 2, which it may not be.
+fn two(subject: u32) -> Atom
+    ensures subject { result.subject ≡ subject }
+    ensures value { IsAtomValue result.value }
+{
+    Atom {
+        subject,
+        op: Op::Eq,
+        value: 2,
+    }
+}
+
 /// That a subject is 0.
 fn zero(subject: u32) -> Atom
     ensures subject { result.subject ≡ subject }
@@ -142,7 +154,7 @@ fn levels(alloc: Global) -> Result<(usize, usize, usize, usize), AllocError> {
     decided(&mut store, zero(1))?;
     decided(&mut store, zero(2))?;
     Ok((
-        level(&store, one(0), one(0)),
+        level(&store, one(0), two(1)),
         level(&store, one(0), one(1)),
         level(&store, one(1), one(2)),
         level(&store, zero(0), one(1)),
@@ -151,6 +163,6 @@ fn levels(alloc: Global) -> Result<(usize, usize, usize, usize), AllocError> {
 
 #[test]
 fn a_clause_has_its_level(rt: HostRuntime) -> Result<(), Fail> {
-    assert!(rt; levels(rt.alloc())? == (1, 1, 2, 3));
+    assert!(rt; levels(rt.alloc())? == (0, 1, 2, 3));
     Ok(())
 }
