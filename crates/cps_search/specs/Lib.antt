@@ -1,0 +1,5 @@
+pub mod Fixed
+pub mod Choice
+pub mod Scope
+pub mod Noting
+pub mod Agreeing

@@ -1,0 +1,12 @@
+//! The search: which atom is decided next.
+//!
+//! A brancher chooses an atom that the store leaves undecided, and nothing exactly where all variables are fixed. It hears each
+//! learnt clause, and answers whether to restart. `FixedBrancher` goes through the variables in order.
+#![tactic(auto)]
+
+mod brancher;
+mod fixed;
+mod scan;
+
+pub use brancher::Brancher;
+pub use fixed::FixedBrancher;
