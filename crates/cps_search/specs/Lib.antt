@@ -3,3 +3,5 @@ pub mod Choice
 pub mod Scope
 pub mod Noting
 pub mod Agreeing
+pub mod Luby
+pub mod Activities

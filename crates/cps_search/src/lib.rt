@@ -4,9 +4,13 @@
 //! learnt clause, and answers whether to restart. `FixedBrancher` goes through the variables in order.
 #![tactic(auto)]
 
+mod activity;
 mod brancher;
 mod fixed;
+mod raise;
+mod restarts;
 mod scan;
 
+pub use activity::ActivityBrancher;
 pub use brancher::Brancher;
 pub use fixed::FixedBrancher;
