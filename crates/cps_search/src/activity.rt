@@ -47,6 +47,16 @@ impl ActivityBrancher {
     {
         let count = instance.variable_count();
         prove!(count <= instance.domains().len());
+        ActivityBrancher::over(alloc, count)
+    }
+
+    /// A brancher over so many variables.
+    pub(crate) fn over(alloc: Global, count: usize) -> Result<Self, AllocError>
+        requires { count ≤ 2 ^ 31 }
+        ensures count { IfOk result (λ b. length b.activities ≡ count) }
+        ensures idle { IfOk result (λ b. (i : ℕ) → slice_index b.activities i ≡ 0) }
+        ensures fresh { IfOk result (λ b. b.pace ≡ record { restarts = 0; conflicts = 0 }) }
+    {
         Ok(ActivityBrancher {
             activities: vec![in alloc; 0; count]?,
             marks: vec![in alloc; false; count]?,

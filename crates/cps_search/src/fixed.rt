@@ -29,7 +29,7 @@ impl Model for FixedBrancher {
 }
 
 impl FixedBrancher {
-    ghost use Rattle.std.specs.Prelude.{[]};
+    ghost use Rattle.std.specs.Prelude.{[], ◌^◌};
     ghost use Rattle.cps_search.specs.Scope.{IsScopeOf};
     ghost use Rattle.cps_search.specs.Noting.{Forgets, Notes};
 
@@ -40,6 +40,14 @@ impl FixedBrancher {
     {
         let count = instance.variable_count();
         prove!(count <= instance.domains().len());
+        FixedBrancher::over(alloc, count)
+    }
+
+    /// A brancher over so many variables.
+    pub(crate) fn over(alloc: Global, count: usize) -> Result<Self, AllocError>
+        requires { count ≤ 2 ^ 31 }
+        ensures { IfOk result (λ b. b ≡ record { variables = count; fixed_after = [] }) }
+    {
         Ok(FixedBrancher {
             fixed_after: vec![in alloc; 0; count]?,
             known: 0,

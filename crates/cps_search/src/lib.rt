@@ -10,6 +10,8 @@ mod fixed;
 mod raise;
 mod restarts;
 mod scan;
+#[cfg(test)]
+mod tests;
 
 pub use activity::ActivityBrancher;
 pub use brancher::Brancher;
