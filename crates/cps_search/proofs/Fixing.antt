@@ -1,12 +1,10 @@
 -- What is fixed after some entries is fixed after more.
-use Rattle.std.proofs.Common.{ℕ, ℤ, ◌+◌, ◌-◌, ◌≤◌, ◌<◌, ◌≡◌, ◌≢◌, ◌⊎◌, inl, inr, Bool, true, List, length, take, drop, get_or, refl, sym, ap, subst, ◌∙◌, ◌++◌, ◌&&◌, arith}
-use Rattle.std.specs.List.{list_all}
+use Rattle.std.proofs.Common.{ℕ, ℤ, ◌-◌, ◌≤◌, ◌<◌, ◌≡◌, ◌⊎◌, inl, inr, true, List, length, take, drop, get_or, sym, ap, subst, ◌∙◌, arith}
 use Rattle.std.proofs.lemmas.List.{take-take, take_all, take-append-drop, get_or-take, length-take}
-use Rattle.cps_domain.specs.Window.{is_among}
-use Rattle.cps_trail.specs.Trail.{Domains, Entry, Trail, first_of, leaves, admits}
+use Rattle.cps_trail.specs.Trail.{Domains, Entry, Trail, admits}
 use Rattle.cps_trail.proofs.Laws.{admits-append}
 use Rattle.cps_search.specs.Fixed.{IsFixedAfter, IsFixed, AreFixed}
-use Rattle.cps_search.specs.Scope.{AreSameUpTo, AreFixedAfter}
+use Rattle.cps_search.specs.Scope.{AreFixedAfter}
 use Rattle.cps_search.specs.Noting.{Forgets, Notes}
 
 -- what is admitted after more entries is so after fewer

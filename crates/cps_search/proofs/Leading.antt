@@ -1,5 +1,5 @@
 -- Which variable is ahead of which.
-use Rattle.std.proofs.Common.{ℕ, ◌+◌, ◌≤◌, ◌<◌, ◌≡◌, ◌⊎◌, inl, inr, List, length, get_or, refl, sym, subst, arith}
+use Rattle.std.proofs.Common.{ℕ, ◌+◌, ◌≤◌, ◌<◌, ◌≡◌, ◌⊎◌, inl, inr, List, length, get_or, subst, arith}
 use Rattle.cps_trail.specs.Trail.{Trail}
 use Rattle.cps_search.specs.Fixed.{IsFixed, AreFixed}
 use Rattle.cps_search.specs.Choice.{IsAhead, IsBetter, IsMostActive}

@@ -1,5 +1,5 @@
 -- What was seen of one store is so in another with the same first entries.
-use Rattle.std.proofs.Common.{ℕ, ℤ, ◌≤◌, ◌<◌, ◌≡◌, Bool, true, List, length, take, get_or, sym, ap, ◌∙◌, ◌&&◌, arith}
+use Rattle.std.proofs.Common.{ℕ, ℤ, ◌≤◌, ◌<◌, ◌≡◌, true, List, take, get_or, sym, ap, ◌∙◌, ◌&&◌, arith}
 use Rattle.std.specs.List.{list_all}
 use Rattle.std.proofs.lemmas.List.{take-take}
 use Rattle.cps_domain.specs.Window.{is_among}

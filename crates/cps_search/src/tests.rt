@@ -87,12 +87,15 @@ fn fixed_goes_in_order(rt: HostRuntime) -> Result<(), Fail> {
     let mut store = three(rt.alloc())?;
     let mut brancher = FixedBrancher::over(rt.alloc(), 3)?;
     let choices = run(&mut brancher, &mut store)?;
-    assert_eq!(rt; choices, (
-        Some(at_most(0, 0)),
-        Some(at_most(1, 2)),
-        Some(at_most(2, 0)),
-        Some(at_most(1, 2)),
-    ));
+    assert_eq!(rt;
+        choices,
+        (
+            Some(at_most(0, 0)),
+            Some(at_most(1, 2)),
+            Some(at_most(2, 0)),
+            Some(at_most(1, 2)),
+        )
+    );
     Ok(())
 }
 
@@ -135,12 +138,15 @@ fn active_follows_learnt_clauses(rt: HostRuntime) -> Result<(), Fail> {
     assert!(rt; !brancher.learnt(&first));
     assert!(rt; !brancher.learnt(&[at_most(2, 0)]));
     let choices = run(&mut brancher, &mut store)?;
-    assert_eq!(rt; choices, (
-        Some(at_most(2, 0)),
-        Some(at_most(1, 2)),
-        Some(at_most(0, 0)),
-        Some(at_most(1, 2)),
-    ));
+    assert_eq!(rt;
+        choices,
+        (
+            Some(at_most(2, 0)),
+            Some(at_most(1, 2)),
+            Some(at_most(0, 0)),
+            Some(at_most(1, 2)),
+        )
+    );
     Ok(())
 }
 
@@ -155,7 +161,15 @@ fn activities_are_halved_at_the_limit(rt: HostRuntime) -> Result<(), Fail> {
 
 #[test]
 fn restarts_by_luby(rt: HostRuntime) -> Result<(), Fail> {
-    let members = [luby(1), luby(2), luby(3), luby(4), luby(5), luby(6), luby(7)];
+    let members = [
+        luby(1),
+        luby(2),
+        luby(3),
+        luby(4),
+        luby(5),
+        luby(6),
+        luby(7),
+    ];
     assert_eq!(rt; members, [1, 1, 2, 1, 1, 2, 4]);
     let mut restarts = Restarts::new();
     let mut last = 0;

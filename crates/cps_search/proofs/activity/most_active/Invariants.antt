@@ -1,5 +1,4 @@
 -- Each variable so far is fixed, or the best is ahead of it.
-use Rattle.std.proofs.Common.{ℕ, ◌≡◌, ◌≤◌, ◌<◌, ◌⊎◌, length}
 use Rattle.cps_search.proofs.Leading.{IsBestSoFar}
 use Rattle.cps_search.proofs.activity.most_active.Given as goal
 

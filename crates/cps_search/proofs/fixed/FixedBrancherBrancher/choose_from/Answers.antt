@@ -1,9 +1,8 @@
-use Rattle.std.proofs.Common.{◌≡◌, ◌<◌, ◌≤◌, ℕ, List, length, refl, sym, ap, subst, ◌∙◌, arith}
-use Rattle.std.proofs.lemmas.List.{length-take}
-use Rattle.cps_search.specs.Fixed.{IsFixed, AreFixed}
+use Rattle.std.proofs.Common.{◌≡◌, ◌<◌, length, refl, sym, ap, subst, ◌∙◌, arith}
+use Rattle.cps_search.specs.Fixed.{AreFixed}
 use Rattle.cps_search.specs.Scope.{InOrder, AreFixedAfter}
 use Rattle.cps_search.specs.Noting.{Notes}
-use Rattle.cps_search.specs.Choice.{TakesLeast, IsFirstOpen}
+use Rattle.cps_search.specs.Choice.{IsFirstOpen}
 use Rattle.cps_search.proofs.Fixing.{all_before, seen_after}
 use Rattle.cps_search.proofs.fixed.FixedBrancherBrancher.choose_from.Goals as goal
 use Rattle.cps_search.proofs.fixed.FixedBrancherBrancher.choose_from.Goals.{After-note}
