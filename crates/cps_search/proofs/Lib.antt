@@ -1,0 +1,4 @@
+pub mod Fixing
+pub mod Numbering
+pub mod Raising
+pub mod Leading
