@@ -1,5 +1,5 @@
 -- When the atoms of a clause became false, atom by atom.
-use Rattle.std.proofs.Common.{ℕ, ◌+◌, ◌≤◌, ◌<◌, ◌≡◌, ◌≢◌, List, length, take, get_or, sym, ◌∙◌, subst, inl, inr, arith, ◌⊎◌}
+use Rattle.std.proofs.Common.{ℕ, ◌+◌, ◌≤◌, ◌<◌, ◌≡◌, List, length, take, get_or, sym, subst, inl, inr, arith}
 use Rattle.cps_literal.specs.declared.atom.Atom.{Atom}
 use Rattle.cps_trail.specs.Trail.{Trail, IsFalseAfter, IsFalseNow, IsFalseFrom}
 use Rattle.cps_trail.proofs.Times.{IsFalseAfter-take, IsFalseAfter-all}

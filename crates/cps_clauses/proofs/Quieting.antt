@@ -12,7 +12,7 @@ use Rattle.cps_trail.proofs.Falls.{bool_cases}
 use Rattle.cps_trail.proofs.Marks.{up_to-up_to, up_to-append_above, up_to-all}
 use Rattle.cps_trail.proofs.Undoing.{admits-add}
 use Rattle.cps_trail.proofs.Times.{IsFalseAfter-up_to}
-use Rattle.cps_clauses.specs.Quiet.{AreFalseBut, IsOneLeft, IsUnitAfter, IsQuietAfter, IsQuiet, IsLevelFor, WeakensTo, Fits}
+use Rattle.cps_clauses.specs.Quiet.{AreFalseBut, IsQuietAfter, IsQuiet, IsLevelFor, WeakensTo, Fits}
 
 -- what a read past the end gives
 abbrev pub none : Atom
@@ -213,12 +213,15 @@ module _ (first : Domains) (ps : List (ℤ × ℤ)) (es : List Entry) where
   pub IsQuietAfter-new_subject : (c : List Atom) → Fits first c → IsQuietAfter first es c → IsQuietAfter (first ++ ps ∷ []) es c
   IsQuietAfter-new_subject c fits quiet = record {
     not_false = λ all. quiet.not_false (λ j d l. false_old (get_or c j d) (fits.subjects j d l) (all j d l));
-    not_unit = λ unit. quiet.not_unit (unit.0, record {
-      within = unit.1.within;
-      others = λ j d l ne. false_old (get_or c j d) (fits.subjects j d l) (unit.1.others j d l ne);
-      not_true = λ d on. unit.1.not_true d (true_new (get_or c unit.0 d) (fits.subjects unit.0 d unit.1.within) on);
-      not_false = λ d off. unit.1.not_false d (false_new (get_or c unit.0 d) (fits.subjects unit.0 d unit.1.within) off);
-    });
+    not_unit = λ unit. quiet.not_unit (
+      unit.0,
+      record {
+        within = unit.1.within;
+        others = λ j d l ne. false_old (get_or c j d) (fits.subjects j d l) (unit.1.others j d l ne);
+        not_true = λ d on. unit.1.not_true d (true_new (get_or c unit.0 d) (fits.subjects unit.0 d unit.1.within) on);
+        not_false = λ d off. unit.1.not_false d (false_new (get_or c unit.0 d) (fits.subjects unit.0 d unit.1.within) off);
+      },
+    );
   }
 
 -- so a new subject keeps it at each level

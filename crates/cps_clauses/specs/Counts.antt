@@ -1,5 +1,5 @@
 -- What is left of a clause in a store.
-use Rattle.std.specs.Prelude.{ℕ, ◌<◌, ◌≡◌, List, length, slice_index_or, take}
+use Rattle.std.specs.Prelude.{ℕ, ◌<◌, ◌≡◌, List, slice_index_or, take}
 use Rattle.std.specs.List.{All}
 use Rattle.cps_literal.specs.declared.atom.Atom.{Atom}
 use Rattle.cps_trail.specs.Trail.{Trail, IsFalseNow}

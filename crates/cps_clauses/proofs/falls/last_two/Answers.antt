@@ -1,4 +1,4 @@
-use Rattle.std.proofs.Common.{◌+◌, sym, subst, arith}
+use Rattle.std.proofs.Common.{◌+◌, sym, subst}
 use Rattle.cps_clauses.specs.declared.falls.LastTwo.{LastTwo}
 use Rattle.cps_clauses.specs.Falls.{AreLastTwo}
 use Rattle.cps_clauses.proofs.Falling.{AreLastTwo-later, AreLastTwo-second, AreLastTwo-before}

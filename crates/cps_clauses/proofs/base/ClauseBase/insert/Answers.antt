@@ -4,7 +4,6 @@ use Rattle.cps_trail.proofs.Facts.{on_err}
 use Rattle.cps_clauses.specs.declared.journal.JournalItem.{JournalItem}
 use Rattle.cps_clauses.specs.declared.span.Span.{Span}
 use Rattle.cps_clauses.specs.Spans.{IsAppended}
-use Rattle.cps_clauses.specs.Journals.{noted}
 use Rattle.cps_clauses.specs.Bases.{Base, with_clause, base_of, IsStored}
 use Rattle.cps_clauses.proofs.Standing.{base_grown, IsStored-grown, base_pushed, IsStored-pushed}
 use Rattle.cps_clauses.proofs.base.ClauseBase.insert.Goals as goal

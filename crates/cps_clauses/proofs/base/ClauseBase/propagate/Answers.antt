@@ -1,6 +1,5 @@
-use Rattle.std.proofs.Common.{sym, subst, ap, ◌∙◌, arith, ◌≡◌, Ok, List, length}
+use Rattle.std.proofs.Common.{sym, subst, ap, arith, ◌≡◌, Ok, length}
 use Rattle.std.specs.List.{All}
-use Rattle.cps_literal.specs.declared.atom.Atom.{Atom}
 use Rattle.cps_trail.specs.Trail.{Domains}
 use Rattle.cps_trail.specs.Adds.{Infers}
 use Rattle.cps_trail.proofs.Inferring.{Infers-trans}

@@ -1,12 +1,9 @@
-use Rattle.std.proofs.Common.{subst, ap, ◌≡◌, ◌<◌, Ok, true, List, length, arith}
+use Rattle.std.proofs.Common.{subst, ap, ◌≡◌, ◌<◌, Ok, List, length, arith}
 use Rattle.std.specs.List.{All}
 use Rattle.std.proofs.lemmas.List.{take_all}
 use Rattle.cps_literal.specs.declared.atom.Atom.{Atom}
-use Rattle.cps_literal.specs.Truth.{clause_holds}
-use Rattle.cps_trail.specs.declared.step.Step.{Step}
-use Rattle.cps_trail.specs.Adds.{Answers}
 use Rattle.cps_clauses.specs.Quiet.{IsQuietAfter}
-use Rattle.cps_clauses.proofs.Scanning.{ScanSoFar-more, Infers-of_one, IsConflict-of_one, Fits-here}
+use Rattle.cps_clauses.proofs.Scanning.{ScanSoFar-more, Infers-of_one, Fits-here}
 use Rattle.cps_clauses.proofs.Standing.{count_of}
 use Rattle.cps_clauses.proofs.base.ClauseBase.scan.Goals as goal
 use Rattle.cps_clauses.proofs.base.ClauseBase.scan.Goals.{After-clause, After-len-i-end}
