@@ -1,20 +1,20 @@
 -- What steps make of a draft.
-use Rattle.std.proofs.Common.{ℕ, ◌+◌, ◌≤◌, ◌<◌, ◌-◌, ℤ, ◌≡◌, ◌≢◌, Bool, true, false, not, List, [], ◌∷◌, ◌++◌, length, take, get_or, set, refl, sym, ◌∙◌, ap, subst, inl, inr, arith, ◌⊎◌, true≢false, length-set}
+use Rattle.std.proofs.Common.{ℕ, ◌+◌, ◌≤◌, ◌<◌, ◌-◌, ℤ, ◌≡◌, ◌≢◌, true, not, List, [], ◌∷◌, ◌++◌, length, take, get_or, set, refl, sym, ◌∙◌, ap, subst, inl, inr, arith, ◌⊎◌, true≢false, length-set}
 use Rattle.std.specs.Prelude.{Option, Some, None}
 use Rattle.std.specs.List.{All, Any, Contains}
-use Rattle.std.proofs.lemmas.List.{take_more, get_or_default, get_or_past, get_or-set_same, get_or-set_other, get_or_append_left}
-use Rattle.std.proofs.lemmas.List.Elements.{All-nil, All-more, All-push, All-weaker, All-contains, Contains-get_or, Contains-append_left, Contains-push}
+use Rattle.std.proofs.lemmas.List.{take_more, get_or_default, get_or_past, get_or-set_same, get_or-set_other}
+use Rattle.std.proofs.lemmas.List.Elements.{All-nil, All-more, All-push, All-weaker, All-contains, Contains-append_left, Contains-push}
 use Rattle.std.proofs.lemmas.List.Quantifiers.{Any-push}
 use Rattle.std.proofs.lemmas.List.Folds.{Any-from_list_any}
 use Rattle.cps_literal.specs.declared.atom.Atom.{Atom}
 use Rattle.cps_literal.specs.Truth.{meets, value_at, atom_holds, clause_holds, Implies}
 use Rattle.cps_literal.proofs.Normalizing.{holds_too}
-use Rattle.cps_trail.specs.Trail.{Trail, Entry, Reason, Decision, Because, admits, IsFalseAfter, IsFalseFrom, IsSound, IsGrounded, Explains, EndsAt}
+use Rattle.cps_trail.specs.Trail.{Trail, Entry, Reason, Because, admits, IsFalseAfter, IsFalseFrom, IsSound, IsGrounded, Explains}
 use Rattle.cps_trail.proofs.Times.{IsFalseAfter-take}
 use Rattle.cps_trail.proofs.Falls.{bool_cases}
 use Rattle.cps_conflict.specs.declared.resolvent.Fallen.{Fallen}
 use Rattle.cps_conflict.specs.Conflicts.{reason_holds}
-use Rattle.cps_conflict.specs.Drafts.{Draft, IsBacked, slot_holds, slot_of, HoldsAt, IsFallenAt, IsEarlier, IsDraft, Joins, Keeps, SameFrom, Covers, FallsBefore, HasSlot, IsShown, Adds, AddsAll, AddsOthers, AddsGap, Resolves, IsImpliedBefore, HoldsBefore, IsRedundant, IsCollected, Collects}
+use Rattle.cps_conflict.specs.Drafts.{Draft, IsBacked, slot_holds, slot_of, HoldsAt, IsFallenAt, IsEarlier, IsDraft, Joins, Keeps, SameFrom, Covers, FallsBefore, HasSlot, IsShown, Adds, AddsAll, AddsOthers, Resolves, IsImpliedBefore, HoldsBefore, IsRedundant, IsCollected, Collects}
 use Rattle.cps_conflict.proofs.Uniting.{none, entry_at}
 use Rattle.cps_conflict.proofs.Bottom.{false_at_bottom, grounded_at}
 

@@ -1,23 +1,22 @@
 -- What the clause at the first unique implication point says.
-use Rattle.std.proofs.Common.{ℕ, zero, suc, ◌+◌, ◌≤◌, ◌<◌, ◌-◌, ℤ, ◌≡◌, ◌≢◌, Bool, true, false, cond, List, [], ◌∷◌, ◌++◌, length, take, get_or, refl, sym, ◌∙◌, ap, subst, inl, inr, arith, ◌⊎◌, true≢false, Result, Ok, Err}
+use Rattle.std.proofs.Common.{ℕ, zero, suc, ◌+◌, ◌≤◌, ◌<◌, ◌-◌, ℤ, ◌≡◌, ◌≢◌, Bool, true, false, cond, List, [], ◌∷◌, ◌++◌, length, take, get_or, sym, ◌∙◌, ap, subst, inl, inr, arith, ◌⊎◌, true≢false, Result, Ok, Err}
 use Rattle.std.specs.Prelude.{nat_le, IfOk, IfSome, IfNone, is_none, Option, Some, None}
 use Rattle.std.specs.List.{All, Any, Contains}
-use Rattle.std.proofs.lemmas.List.{get_or_default, get_or_past, length-take-le, take_all}
-use Rattle.std.proofs.lemmas.List.Elements.{All-weaker, All-contains, Contains-append_left, Contains-push, Contains-push_cases}
+use Rattle.std.proofs.lemmas.List.{get_or_default, get_or_past, length-take-le}
+use Rattle.std.proofs.lemmas.List.Elements.{All-contains, Contains-append_left, Contains-push, Contains-push_cases}
 use Rattle.std.proofs.lemmas.List.Folds.{Any-from_list_any, list_any_at}
 use Rattle.cps_literal.specs.declared.atom.Atom.{Atom}
 use Rattle.cps_literal.specs.Truth.{meets, atom_holds, clause_holds, Implies}
-use Rattle.cps_literal.specs.Normal.{IsNormal, IsNormalOf, IsApart}
+use Rattle.cps_literal.specs.Normal.{IsNormal, IsNormalOf}
 use Rattle.cps_literal.proofs.Normalizing.{Implies-refl, holds_too}
-use Rattle.cps_trail.specs.Trail.{Domains, Trail, Entry, Decision, BeginsLevel, admits, IsFalseAfter, IsFalseNow, IsFalseFrom, IsSound, IsWithin, EndsAt, up_to}
+use Rattle.cps_trail.specs.Trail.{Domains, Trail, Entry, Decision, BeginsLevel, admits, IsFalseAfter, IsFalseNow, IsSound, IsWithin, EndsAt, up_to}
 use Rattle.cps_trail.proofs.Marks.{up_to-up_to}
 use Rattle.cps_trail.proofs.Times.{IsFalseAfter-take, IsFalseAfter-all, IsFalseAfter-up_to, IsTrueAfter-up_to}
 use Rattle.cps_trail.proofs.Falls.{bool_cases, EndsAt-same, not_both}
 use Rattle.cps_conflict.specs.declared.resolvent.Fallen.{Fallen}
-use Rattle.cps_conflict.specs.Conflicts.{Premises, BecameFalse, AreFalseBeside, Asserts}
+use Rattle.cps_conflict.specs.Conflicts.{Premises, BecameFalse, Asserts}
 use Rattle.cps_conflict.specs.Levels.{IsLevelOf}
-use Rattle.cps_conflict.specs.Drafts.{Draft, IsBacked, slot_of, HoldsAt, IsFallenAt, IsDraft, AddsAll, FallsBefore, IsShown, Covers, HasSlot, Resolves, IsLastSlot, IsCollected, Collects, AnalysisSoFar}
-use Rattle.cps_conflict.proofs.Bottom.{level_within}
+use Rattle.cps_conflict.specs.Drafts.{Draft, IsBacked, slot_of, HoldsAt, IsFallenAt, AddsAll, FallsBefore, IsShown, Covers, HasSlot, Resolves, IsLastSlot, IsCollected, Collects, AnalysisSoFar}
 use Rattle.cps_conflict.proofs.Drafting.{holds_cases, slot_within}
 
 nat_cases : (i j : ℕ) → (i ≡ j) ⊎ (i ≢ j)

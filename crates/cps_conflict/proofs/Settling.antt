@@ -1,11 +1,11 @@
 -- When atoms became false.
-use Rattle.std.proofs.Common.{ℕ, ◌+◌, ◌≤◌, ◌<◌, ◌-◌, ◌≡◌, ◌≢◌, List, [], ◌∷◌, length, take, get_or, refl, sym, ◌∙◌, ap, subst, inl, inr, arith, ◌⊎◌}
-use Rattle.std.specs.List.{All, Any, Contains}
+use Rattle.std.proofs.Common.{ℕ, ◌+◌, ◌≤◌, ◌<◌, ◌-◌, ◌≡◌, List, [], ◌∷◌, length, take, get_or, refl, sym, ◌∙◌, subst, inl, inr, arith, ◌⊎◌}
+use Rattle.std.specs.List.{All, Any}
 use Rattle.std.proofs.lemmas.List.{take_more, get_or_append_left, length_push}
 use Rattle.std.proofs.lemmas.List.Elements.{All-nil, All-more, All-weaker, All-contains}
 use Rattle.std.proofs.lemmas.List.Quantifiers.{Any-push}
 use Rattle.cps_literal.specs.declared.atom.Atom.{Atom}
-use Rattle.cps_trail.specs.Trail.{Trail, IsFalseAfter, IsFalseNow, IsFalseFrom, EndsAt, up_to}
+use Rattle.cps_trail.specs.Trail.{Trail, IsFalseAfter, IsFalseNow, IsFalseFrom, up_to}
 use Rattle.cps_trail.proofs.Times.{IsFalseAfter-take}
 use Rattle.cps_conflict.specs.Conflicts.{BecameFalse}
 use Rattle.cps_conflict.specs.Levels.{IsConflictLevel, IsLevelOf, IsLatest}

@@ -1,5 +1,5 @@
 -- A clause on its way from a conflict to what is learnt.
-use Rattle.std.specs.Prelude.{ℕ, ◌+◌, ◌-◌, ◌≤◌, ◌<◌, ℤ, ◌≡◌, ◌≢◌, ◌⊎◌, Bool, true, false, List, Option, Some, None, length, take, slice_index_or, ◌∷◌, [], ◌++◌, slice_set}
+use Rattle.std.specs.Prelude.{ℕ, ◌+◌, ◌-◌, ◌≤◌, ◌<◌, ℤ, ◌≡◌, ◌≢◌, ◌⊎◌, Bool, true, false, List, Option, Some, None, length, take, slice_index_or}
 use Rattle.std.specs.List.{All, Any, Contains}
 use Rattle.cps_literal.specs.declared.atom.Atom.{Atom}
 use Rattle.cps_literal.specs.Truth.{atom_holds, clause_holds, value_at, Implies}

@@ -1,6 +1,4 @@
-use Rattle.std.proofs.Common.{ℕ, ◌≡◌, ◌<◌, ◌+◌, ◌-◌, length, arith, refl, sym, ap, subst, ◌∙◌}
-use Rattle.std.specs.Prelude.{Some}
-use Rattle.cps_literal.specs.declared.atom.Atom.{Atom}
+use Rattle.std.proofs.Common.{◌≡◌, ◌+◌, ◌-◌, arith, sym, ap, subst, ◌∙◌}
 use Rattle.cps_trail.specs.Trail.{IsFalseFrom}
 use Rattle.cps_conflict.specs.Drafts.{Draft, IsDraft, IsFallenAt, Adds}
 use Rattle.cps_conflict.proofs.Drafting.{same, inside, Adds-implied, Adds-bottom, Adds-earlier, Adds-set}

@@ -1,4 +1,4 @@
-use Rattle.std.proofs.Common.{ℕ, ◌+◌, ◌-◌, ◌≡◌, ◌<◌, ◌⊎◌, List, length, take, get_or, arith, sym, ap, subst, refl}
+use Rattle.std.proofs.Common.{◌-◌, ◌≡◌, ◌<◌, ◌⊎◌, List, length, get_or, arith, ap, subst}
 use Rattle.std.specs.List.{All}
 use Rattle.std.proofs.lemmas.Int.{ints}
 use Rattle.std.proofs.lemmas.List.{take_all}
