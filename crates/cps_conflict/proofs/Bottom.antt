@@ -1,14 +1,14 @@
 -- What the reasons of level 0 give.
-use Rattle.std.proofs.Common.{ℕ, zero, suc, ◌+◌, ◌≤◌, ◌<◌, ◌-◌, ℤ, ◌≡◌, ◌≢◌, Bool, true, false, ◌&&◌, cond, List, [], ◌∷◌, ◌++◌, length, take, get_or, refl, sym, ◌∙◌, ap, subst, inl, inr, arith, ◌⊎◌, true≢false, get_or-take}
+use Rattle.std.proofs.Common.{ℕ, zero, suc, ◌+◌, ◌≤◌, ◌<◌, ℤ, ◌≡◌, ◌≢◌, Bool, true, false, cond, List, [], ◌∷◌, ◌++◌, length, take, get_or, refl, sym, ◌∙◌, ap, subst, inl, inr, arith, ◌⊎◌, true≢false, get_or-take}
 use Rattle.std.specs.Prelude.{nat_le}
-use Rattle.std.specs.List.{All, Contains, list_all}
+use Rattle.std.specs.List.{All, Contains}
 use Rattle.std.proofs.lemmas.List.{take_more, length-take-le}
 use Rattle.std.proofs.lemmas.List.Elements.{All-contains, All-cons, All-nil}
 use Rattle.std.proofs.lemmas.List.Folds.{Any-from_list_any}
 use Rattle.cps_domain.specs.Window.{is_among}
 use Rattle.cps_literal.specs.declared.atom.Atom.{Atom}
-use Rattle.cps_literal.specs.Truth.{meets, value_at, atom_holds, clause_holds}
-use Rattle.cps_trail.specs.Trail.{Domains, Trail, Entry, Reason, Decision, Because, first_of, leaves, admits, IsFalseAfter, IsSound, IsGrounded, EndsAt, BeginsLevel, up_to}
+use Rattle.cps_literal.specs.Truth.{value_at, atom_holds}
+use Rattle.cps_trail.specs.Trail.{Domains, Trail, Entry, Reason, Decision, Because, first_of, admits, IsFalseAfter, IsSound, IsGrounded, EndsAt, BeginsLevel, up_to}
 use Rattle.cps_trail.proofs.Times.{IsFalseAfter-take, and_both}
 use Rattle.cps_trail.proofs.Falls.{bool_cases, AreGrounded-get_or}
 use Rattle.cps_trail.proofs.Laws.{admits-push_same, admits-push_other}

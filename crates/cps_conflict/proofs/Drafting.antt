@@ -1,20 +1,20 @@
 -- What steps make of a draft.
-use Rattle.std.proofs.Common.{ℕ, ◌+◌, ◌≤◌, ◌<◌, ◌-◌, ℤ, ◌≡◌, ◌≢◌, Bool, true, false, not, List, [], ◌∷◌, ◌++◌, length, take, get_or, set, refl, sym, ◌∙◌, ap, subst, inl, inr, arith, ◌⊎◌, true≢false, length-set}
+use Rattle.std.proofs.Common.{ℕ, ◌+◌, ◌≤◌, ◌<◌, ◌-◌, ℤ, ◌≡◌, ◌≢◌, true, not, List, [], ◌∷◌, ◌++◌, length, take, get_or, set, refl, sym, ◌∙◌, ap, subst, inl, inr, arith, ◌⊎◌, true≢false, length-set}
 use Rattle.std.specs.Prelude.{Option, Some, None}
 use Rattle.std.specs.List.{All, Any, Contains}
-use Rattle.std.proofs.lemmas.List.{take_more, get_or_default, get_or_past, get_or-set_same, get_or-set_other, get_or_append_left}
-use Rattle.std.proofs.lemmas.List.Elements.{All-nil, All-more, All-push, All-weaker, All-contains, Contains-get_or, Contains-append_left, Contains-push}
+use Rattle.std.proofs.lemmas.List.{take_more, get_or_default, get_or_past, get_or-set_same, get_or-set_other}
+use Rattle.std.proofs.lemmas.List.Elements.{All-nil, All-more, All-push, All-weaker, All-contains, Contains-append_left, Contains-push}
 use Rattle.std.proofs.lemmas.List.Quantifiers.{Any-push}
 use Rattle.std.proofs.lemmas.List.Folds.{Any-from_list_any}
 use Rattle.cps_literal.specs.declared.atom.Atom.{Atom}
 use Rattle.cps_literal.specs.Truth.{meets, value_at, atom_holds, clause_holds, Implies}
 use Rattle.cps_literal.proofs.Normalizing.{holds_too}
-use Rattle.cps_trail.specs.Trail.{Trail, Entry, Reason, Decision, Because, IsFalseAfter, IsFalseFrom, IsSound, IsGrounded, Explains, EndsAt}
+use Rattle.cps_trail.specs.Trail.{Trail, Entry, Reason, Because, admits, IsFalseAfter, IsFalseFrom, IsSound, IsGrounded, Explains}
 use Rattle.cps_trail.proofs.Times.{IsFalseAfter-take}
 use Rattle.cps_trail.proofs.Falls.{bool_cases}
 use Rattle.cps_conflict.specs.declared.resolvent.Fallen.{Fallen}
 use Rattle.cps_conflict.specs.Conflicts.{reason_holds}
-use Rattle.cps_conflict.specs.Drafts.{Draft, IsBacked, slot_holds, slot_of, HoldsAt, IsFallenAt, IsEarlier, IsDraft, Joins, Keeps, SameFrom, Covers, FallsBefore, HasSlot, IsShown, Adds, AddsAll, AddsOthers, AddsGap, Resolves, Collects}
+use Rattle.cps_conflict.specs.Drafts.{Draft, IsBacked, slot_holds, slot_of, HoldsAt, IsFallenAt, IsEarlier, IsDraft, Joins, Keeps, SameFrom, Covers, FallsBefore, HasSlot, IsShown, Adds, AddsAll, AddsOthers, Resolves, IsImpliedBefore, HoldsBefore, IsRedundant, IsCollected, Collects}
 use Rattle.cps_conflict.proofs.Uniting.{none, entry_at}
 use Rattle.cps_conflict.proofs.Bottom.{false_at_bottom, grounded_at}
 
@@ -167,12 +167,6 @@ Adds-present s d t w slot draft l f joins = record {
     there k ne = get_or-set_other d.present slot k (Some w) None ne
 
 -- the same, where the draft is what the fields show
-pub Adds-pushed : (s : Trail) (old d : Draft) (t : Atom) (from : ℕ) (items : List Fallen) → d ≡ old → IsDraft s old → items ≡ d.earlier ++ record { atom = t; from = from } ∷ [] → IsFallenAt s t from → from ≤ d.start
-    → Adds s old (record { start = d.start; base = d.base; present = d.present; earlier = items }) t
-Adds-pushed s old d t from items is draft e f early =
-    subst (λ (x : Draft). Adds s x (record { start = d.start; base = d.base; present = d.present; earlier = items }) t) is
-    (subst (λ (l : List Fallen). Adds s d (record { start = d.start; base = d.base; present = d.present; earlier = l }) t) (sym e) (Adds-earlier s d t from (subst (IsDraft s) (sym is) draft) f early))
-
 pub Adds-set : (s : Trail) (old d : Draft) (t w : Atom) (slot n : ℕ) (o : Option Atom) → d ≡ old → IsDraft s old → n ≡ d.start + slot → o ≡ slot_of d.present slot → slot < length d.present → IsFallenAt s t (n + 1) → Joins s n t o w
     → Adds s old (record { start = d.start; base = d.base; present = set d.present slot (Some w); earlier = d.earlier }) t
 Adds-set s old d t w slot n o is draft place same l f joins =
@@ -313,23 +307,23 @@ abbrev pub none_fallen : Fallen
 none_fallen = record { atom = none; from = 0 }
 
 -- one more atom of an earlier level
-pub Collects-none : (s : Trail) (start : ℕ) (t : Atom) (items : List Fallen) → Collects s start t (take 0 items) [] 0
-Collects-none s start t items = subst (λ (l : List Fallen). Collects s start t l [] 0) (sym (take_none items)) (record { within = omega arith; each = All-nil _; reached = λ h. absurd (h refl); apart = All-nil _; covers = All-nil _ })
+pub Collects-none : (s : Trail) (start : ℕ) (earlier : List Fallen) (t : Atom) (items : List Fallen) → Collects s start earlier t (take 0 items) [] 0
+Collects-none s start earlier t items = subst (λ (l : List Fallen). Collects s start earlier t l [] 0) (sym (take_none items)) (record { within = omega arith; each = All-nil _; reached = λ h. absurd (h refl); apart = All-nil _; covers = All-nil _ })
 
-pub Collects-skip : (s : Trail) (start : ℕ) (t : Atom) (items : List Fallen) (i : ℕ) (d : Fallen) (atoms : List Atom) (latest : ℕ) → i < length items → Implies (get_or items i d).atom t → Collects s start t (take i items) atoms latest
-    → Collects s start t (take (i + 1) items) atoms latest
-Collects-skip s start t items i d atoms latest l implied h = record {
+pub Collects-skip : (s : Trail) (start : ℕ) (earlier : List Fallen) (t : Atom) (items : List Fallen) (i : ℕ) (d : Fallen) (atoms : List Atom) (latest : ℕ) → i < length items → Implies (get_or items i d).atom t ⊎ IsRedundant s earlier (get_or items i d)
+    → Collects s start earlier t (take i items) atoms latest → Collects s start earlier t (take (i + 1) items) atoms latest
+Collects-skip s start earlier t items i d atoms latest l why h = record {
   within = h.within;
   each = h.each;
   reached = h.reached;
   apart = h.apart;
-  covers = All-more (λ f. Implies f.atom t ⊎ Contains atoms f.atom) items i d l h.covers (inl implied);
+  covers = All-more (IsCollected s earlier t atoms) items i d l h.covers (inr why);
 }
 
-pub Collects-push : (s : Trail) (start : ℕ) (t : Atom) (items : List Fallen) (i : ℕ) (d : Fallen) (atoms : List Atom) (latest latest' : ℕ) → i < length items → IsEarlier s start (get_or items i d) → (Implies (get_or items i d).atom t → ⊥)
-    → latest ≤ latest' → (get_or items i d).from ≤ latest' → (latest < latest' → latest' ≡ (get_or items i d).from) → Collects s start t (take i items) atoms latest
-    → Collects s start t (take (i + 1) items) (atoms ++ (get_or items i d).atom ∷ []) latest'
-Collects-push s start t items i d atoms latest latest' l earlier apart one other either h = record {
+pub Collects-push : (s : Trail) (start : ℕ) (all : List Fallen) (t : Atom) (items : List Fallen) (i : ℕ) (d : Fallen) (atoms : List Atom) (latest latest' : ℕ) → i < length items → IsEarlier s start (get_or items i d) → (Implies (get_or items i d).atom t → ⊥)
+    → latest ≤ latest' → (get_or items i d).from ≤ latest' → (latest < latest' → latest' ≡ (get_or items i d).from) → Collects s start all t (take i items) atoms latest
+    → Collects s start all t (take (i + 1) items) (atoms ++ (get_or items i d).atom ∷ []) latest'
+Collects-push s start all t items i d atoms latest latest' l earlier apart one other either h = record {
   within = elim (nat_order latest latest') [ inl less ↦ omega (arith, either less, earlier.early) | inr more ↦ omega (arith, h.within, one, more) ];
   each = All-push (λ u. IsFalseAfter s.first (take latest' s.entries) u) atoms u
       (All-weaker (λ v. IsFalseAfter s.first (take latest s.entries) v) (λ v. IsFalseAfter s.first (take latest' s.entries) v) (λ v f. IsFalseAfter-take s.first s.entries latest latest' v one f) atoms h.each)
@@ -343,10 +337,55 @@ Collects-push s start t items i d atoms latest latest' l earlier apart one other
         (k.0, w.1, k.1, k.2, subst (IsFalseFrom s w.1) q w.4))
   ];
   apart = All-push (λ v. Implies v t → ⊥) atoms u h.apart apart;
-  covers = All-more (λ f. Implies f.atom t ⊎ Contains (atoms ++ u ∷ []) f.atom) items i d l
-      (All-weaker (λ f. Implies f.atom t ⊎ Contains atoms f.atom) (λ f. Implies f.atom t ⊎ Contains (atoms ++ u ∷ []) f.atom) (λ f c. elim c [ inl x ↦ inl x | inr x ↦ inr (Contains-append_left atoms (u ∷ []) f.atom x) ]) (take i items) h.covers)
-      (inr (Contains-push atoms u));
+  covers = All-more (IsCollected s all t (atoms ++ u ∷ [])) items i d l
+      (All-weaker (IsCollected s all t atoms) (IsCollected s all t (atoms ++ u ∷ [])) (λ f c. elim c [ inl x ↦ inl (Contains-append_left atoms (u ∷ []) f.atom x) | inr x ↦ inr x ]) (take i items) h.covers)
+      (inl (Contains-push atoms u));
 }
   where
     u : Atom
     u = (get_or items i d).atom
+
+-- an atom that implies one of an earlier level is covered
+pub Adds-implied : (s : Trail) (d : Draft) (t : Atom) (bound : ℕ) → IsDraft s d → Any (IsImpliedBefore t bound) d.earlier → Adds s d d t
+Adds-implied s d t bound draft h = record {
+  draft = draft;
+  keeps = Keeps-refl s d;
+  above = λ n f k l. refl;
+  covers = record { at = λ a b on. holds_earlier a d h.1 has (holds_too t h.1.atom a h.4.implied on) };
+  shown = λ open'. absurd (open' (λ x y. elim (bool_cases (meets t.op t.value x)) [
+    | inr off ↦ off
+    | inl on ↦ absurd (
+        let f = IsFalseAfter-take s.first s.entries h.1.from (d.start + 0) h.1.atom (omega (arith, there.early)) there.fallen.from.after in
+        true≢false (sym (h.4.implied.follows x on) ∙ f x (ap (λ j. admits s.first (take (d.start + 0) s.entries) j x) (sym h.4.implied.subject) ∙ y)))
+  ]));
+}
+  where
+    has : Contains d.earlier h.1
+    has = (h.0, h.2, h.3)
+
+    there : IsEarlier s d.start h.1
+    there = All-contains (IsEarlier s d.start) d.earlier h.1 draft.earlier has
+
+-- what a read of one shows
+pub implied_here : (xs earlier : List Fallen) (k : ℕ) (t : Atom) (bound : ℕ) → xs ≡ earlier → k < length xs → (get_or xs k none_fallen).from < bound → Implies t (get_or xs k none_fallen).atom → Any (IsImpliedBefore t bound) earlier
+implied_here xs earlier k t bound same l before implied =
+    subst (Any (IsImpliedBefore t bound)) same (k, get_or xs k none_fallen, l, get_or_default xs k (get_or xs k none_fallen) none_fallen l, record { implied = implied; before = before })
+
+-- an atom of a reason is covered
+pub HoldsBefore-implied : (s : Trail) (earlier : List Fallen) (bound : ℕ) (t : Atom) → Any (IsImpliedBefore t bound) earlier → HoldsBefore s earlier bound t
+HoldsBefore-implied s earlier bound t h = record { at = λ a b on. (h.0, h.1, h.2, h.3, record { holds = holds_too t h.1.atom a h.4.implied on; before = h.4.before }) }
+
+pub HoldsBefore-bottom : (s : Trail) (d : Draft) (bound from : ℕ) (t : Atom) → IsDraft s d → t.subject < length s.first → IsFalseFrom s t from → from ≤ d.base → HoldsBefore s d.earlier bound t
+HoldsBefore-bottom s d bound from t draft inside' f low = record { at = λ a b on. absurd (false_at_bottom s d.base draft.sound draft.base a b t from inside' low f.after on) }
+
+-- where all others of its entry's reason are, an atom is redundant
+pub IsRedundant-made : (s : Trail) (d : Draft) (f : Fallen) (k : ℕ) (e n : Atom) (reason : List Atom) → IsDraft s d → k < length s.entries → ((c : Entry) → (get_or s.entries k c).reason ≡ Because reason) → Implies f.atom n → n.subject ≡ e.subject
+    → ((x : ℤ) → meets n.op n.value x ≡ not (meets e.op e.value x)) → All (λ u. (u ≡ e) ⊎ HoldsBefore s d.earlier f.from u) reason → IsRedundant s d.earlier f
+IsRedundant-made s d f k e n reason draft l because refuted same negated covered = record {
+  at = λ a b on.
+      let why = Any-from_list_any (atom_holds a) reason (reason_true s k reason l because a b) in
+      elim (All-contains (λ u. (u ≡ e) ⊎ HoldsBefore s d.earlier f.from u) reason why.1 covered (why.0, why.2, why.3)) [
+        | inl q ↦ absurd (not_together a f.atom e n refuted same negated on (sym (ap (atom_holds a) q) ∙ why.4))
+        | inr h ↦ h.at a b why.4
+      ];
+}

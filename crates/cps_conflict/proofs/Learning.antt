@@ -1,23 +1,22 @@
 -- What the clause at the first unique implication point says.
-use Rattle.std.proofs.Common.{ℕ, ◌+◌, ◌≤◌, ◌<◌, ◌-◌, ℤ, ◌≡◌, ◌≢◌, Bool, true, false, cond, List, [], ◌∷◌, ◌++◌, length, take, get_or, refl, sym, ◌∙◌, ap, subst, inl, inr, arith, ◌⊎◌, true≢false, Result, Ok, Err}
+use Rattle.std.proofs.Common.{ℕ, zero, suc, ◌+◌, ◌≤◌, ◌<◌, ◌-◌, ℤ, ◌≡◌, ◌≢◌, Bool, true, false, cond, List, [], ◌∷◌, ◌++◌, length, take, get_or, sym, ◌∙◌, ap, subst, inl, inr, arith, ◌⊎◌, true≢false, Result, Ok, Err}
 use Rattle.std.specs.Prelude.{nat_le, IfOk, IfSome, IfNone, is_none, Option, Some, None}
 use Rattle.std.specs.List.{All, Any, Contains}
-use Rattle.std.proofs.lemmas.List.{get_or_default, get_or_past, length-take-le, take_all}
-use Rattle.std.proofs.lemmas.List.Elements.{All-weaker, All-contains, Contains-append_left, Contains-push, Contains-push_cases}
+use Rattle.std.proofs.lemmas.List.{get_or_default, get_or_past, length-take-le}
+use Rattle.std.proofs.lemmas.List.Elements.{All-contains, Contains-append_left, Contains-push, Contains-push_cases}
 use Rattle.std.proofs.lemmas.List.Folds.{Any-from_list_any, list_any_at}
 use Rattle.cps_literal.specs.declared.atom.Atom.{Atom}
 use Rattle.cps_literal.specs.Truth.{meets, atom_holds, clause_holds, Implies}
-use Rattle.cps_literal.specs.Normal.{IsNormal, IsNormalOf, IsApart}
+use Rattle.cps_literal.specs.Normal.{IsNormal, IsNormalOf}
 use Rattle.cps_literal.proofs.Normalizing.{Implies-refl, holds_too}
-use Rattle.cps_trail.specs.Trail.{Domains, Trail, Entry, Decision, BeginsLevel, admits, IsFalseAfter, IsFalseNow, IsFalseFrom, IsSound, IsWithin, EndsAt, up_to}
+use Rattle.cps_trail.specs.Trail.{Domains, Trail, Entry, Decision, BeginsLevel, admits, IsFalseAfter, IsFalseNow, IsSound, IsWithin, EndsAt, up_to}
 use Rattle.cps_trail.proofs.Marks.{up_to-up_to}
 use Rattle.cps_trail.proofs.Times.{IsFalseAfter-take, IsFalseAfter-all, IsFalseAfter-up_to, IsTrueAfter-up_to}
 use Rattle.cps_trail.proofs.Falls.{bool_cases, EndsAt-same, not_both}
 use Rattle.cps_conflict.specs.declared.resolvent.Fallen.{Fallen}
-use Rattle.cps_conflict.specs.Conflicts.{Premises, BecameFalse, AreFalseBeside, Asserts}
+use Rattle.cps_conflict.specs.Conflicts.{Premises, BecameFalse, Asserts}
 use Rattle.cps_conflict.specs.Levels.{IsLevelOf}
-use Rattle.cps_conflict.specs.Drafts.{Draft, IsBacked, slot_of, HoldsAt, IsFallenAt, IsDraft, AddsAll, FallsBefore, IsShown, Covers, HasSlot, Resolves, IsLastSlot, Collects, AnalysisSoFar}
-use Rattle.cps_conflict.proofs.Bottom.{level_within}
+use Rattle.cps_conflict.specs.Drafts.{Draft, IsBacked, slot_of, HoldsAt, IsFallenAt, AddsAll, FallsBefore, IsShown, Covers, HasSlot, Resolves, IsLastSlot, IsCollected, Collects, AnalysisSoFar}
 use Rattle.cps_conflict.proofs.Drafting.{holds_cases, slot_within}
 
 nat_cases : (i j : ℕ) → (i ≡ j) ⊎ (i ≢ j)
@@ -76,20 +75,31 @@ Asserts-false s clause t back h k d l = elim (nat_cases k h.place) [
   | inr other ↦ IsFalseAfter-up_to s.first s.entries back (get_or clause k d) (h.others k d l other)
 ]
 
+-- an atom of an earlier level that is true leads to one that was collected
+earlier_hold : (s : Trail) (start : ℕ) (t : Atom) (earlier : List Fallen) (atoms : List Atom) (latest : ℕ) → Collects s start earlier t earlier atoms latest → (a : List ℤ) → IsBacked s a
+    → (n : ℕ) (f : Fallen) → Contains earlier f → f.from < n → atom_holds a f.atom ≡ true → clause_holds (atoms ++ t ∷ []) a ≡ true
+earlier_hold s start t earlier atoms latest collects a b zero f has l on = absurd (omega (arith, l))
+earlier_hold s start t earlier atoms latest collects a b (suc n) f has l on = elim (All-contains (IsCollected s earlier t atoms) earlier f collects.covers has) [
+  | inl c ↦ clause_at a (atoms ++ t ∷ []) f.atom (Contains-append_left atoms (t ∷ []) f.atom c) on
+  | inr why ↦ elim why [
+    | inl i ↦ clause_at a (atoms ++ t ∷ []) t (Contains-push atoms t) (holds_too f.atom t a i on)
+    | inr r ↦ (
+        let w = r.at a b on in
+        earlier_hold s start t earlier atoms latest collects a b n w.1 (w.0, w.2, w.3) (omega (arith, l, w.4.before)) w.4.holds)
+  ]
+]
+
 -- the atoms with the one of the present level are true wherever the draft is
-pub collected_hold : (s : Trail) (d : Draft) (slot : ℕ) (t : Atom) (atoms : List Atom) (latest : ℕ) → slot_of d.present slot ≡ Some t → ((k : ℕ) → k ≢ slot → slot_of d.present k ≡ None) → Collects s d.start t d.earlier atoms latest
-    → (a : List ℤ) → HoldsAt a d → clause_holds (atoms ++ t ∷ []) a ≡ true
-collected_hold s d slot t atoms latest at alone collects a h = holds_cases a d h (λ k u e on. elim (nat_cases k slot) [
+pub collected_hold : (s : Trail) (d : Draft) (slot : ℕ) (t : Atom) (atoms : List Atom) (latest : ℕ) → slot_of d.present slot ≡ Some t → ((k : ℕ) → k ≢ slot → slot_of d.present k ≡ None) → Collects s d.start d.earlier t d.earlier atoms latest
+    → (a : List ℤ) → IsBacked s a → HoldsAt a d → clause_holds (atoms ++ t ∷ []) a ≡ true
+collected_hold s d slot t atoms latest at alone collects a b h = holds_cases a d h (λ k u e on. elim (nat_cases k slot) [
   | inl same ↦ clause_at a (atoms ++ t ∷ []) t (Contains-push atoms t) (subst (λ (x : Atom). atom_holds a x ≡ true) (let q : Some u ≡ Some t = sym e ∙ ap (slot_of d.present) same ∙ at in cc) on)
   | inr other ↦ absurd (let q : None ≡ Some u = sym (alone k other) ∙ e in cc)
-]) (λ f has on. elim (All-contains (λ g. Implies g.atom t ⊎ Contains atoms g.atom) d.earlier f collects.covers has) [
-  | inl i ↦ clause_at a (atoms ++ t ∷ []) t (Contains-push atoms t) (holds_too f.atom t a i on)
-  | inr c ↦ clause_at a (atoms ++ t ∷ []) f.atom (Contains-append_left atoms (t ∷ []) f.atom c) on
-])
+]) (λ f has on. earlier_hold s d.start t d.earlier atoms latest collects a b (f.from + 1) f has (omega arith) on)
 
 -- their normal form asserts the one
 module _ (s : Trail) (start n : ℕ) (t : Atom) (earlier : List Fallen) (atoms clause : List Atom) (latest back : ℕ) (sound : IsSound s) (above : 0 < s.level) (ends : EndsAt s (s.level - 1) start) (later : start < n) (from : IsFallenAt s t n)
-    (collects : Collects s start t earlier atoms latest) (normal : IsNormal clause) (normal_of : IsNormalOf (atoms ++ t ∷ []) clause) (level : IsLevelOf s latest back) where
+    (collects : Collects s start earlier t earlier atoms latest) (normal : IsNormal clause) (normal_of : IsNormalOf (atoms ++ t ∷ []) clause) (level : IsLevelOf s latest back) where
   early : (u : Atom) → Contains atoms u → IsFalseAfter s.first (take latest s.entries) u
   early u has = All-contains (λ v. IsFalseAfter s.first (take latest s.entries) v) atoms u collects.each has
 

@@ -1,12 +1,13 @@
 -- When atoms became false.
-use Rattle.std.proofs.Common.{ℕ, ◌+◌, ◌≤◌, ◌<◌, ◌-◌, ◌≡◌, ◌≢◌, List, [], ◌∷◌, length, take, get_or, refl, sym, ◌∙◌, ap, subst, inl, inr, arith, ◌⊎◌}
-use Rattle.std.specs.List.{All, Any, Contains}
+use Rattle.std.proofs.Common.{ℕ, ◌+◌, ◌≤◌, ◌<◌, ◌-◌, ◌≡◌, List, [], ◌∷◌, length, take, get_or, refl, sym, ◌∙◌, subst, inl, inr, arith, ◌⊎◌}
+use Rattle.std.specs.List.{All, Any}
 use Rattle.std.proofs.lemmas.List.{take_more, get_or_append_left, length_push}
-use Rattle.std.proofs.lemmas.List.Elements.{All-nil, All-more, All-weaker}
+use Rattle.std.proofs.lemmas.List.Elements.{All-nil, All-more, All-weaker, All-contains}
 use Rattle.std.proofs.lemmas.List.Quantifiers.{Any-push}
 use Rattle.cps_literal.specs.declared.atom.Atom.{Atom}
-use Rattle.cps_trail.specs.Trail.{Trail, IsFalseAfter, IsFalseFrom, EndsAt, up_to}
+use Rattle.cps_trail.specs.Trail.{Trail, IsFalseAfter, IsFalseNow, IsFalseFrom, up_to}
 use Rattle.cps_trail.proofs.Times.{IsFalseAfter-take}
+use Rattle.cps_conflict.specs.Conflicts.{BecameFalse}
 use Rattle.cps_conflict.specs.Levels.{IsConflictLevel, IsLevelOf, IsLatest}
 use Rattle.cps_conflict.proofs.Learning.{IsFalseAfter-end, IsFalseAfter-begin}
 
@@ -52,3 +53,18 @@ conflict_level_made s atoms n level latest of' = record {
       let some = latest.reached (λ z. absurd (omega (arith, z, under.2))) in
       (some.0, some.1, some.2, some.3, λ f. some.4.not_before under.0 under.2 (IsFalseAfter-begin s (level - 1) under.0 some.1 under.1 f));
 }
+
+-- a conflict at whose level the store is has an atom that became false at it
+pub present_at : (s : Trail) (atoms : List Atom) (level : ℕ) → IsConflictLevel s atoms level → s.level ≤ level → 0 < s.level → All (IsFalseNow s) atoms → Any (BecameFalse s) atoms
+present_at s atoms level h top above now =
+    let same : level ≡ s.level = omega (arith, h.within, top) in
+    let some = h.some (omega (arith, same, above)) in (
+      some.0,
+      some.1,
+      some.2,
+      some.3,
+      record {
+        now = All-contains (IsFalseNow s) atoms some.1 now (some.0, some.2, some.3);
+        not_below = λ f. some.4 (subst (λ n. IsFalseAfter s.first (up_to (n - 1) s.entries) some.1) (sym same) f);
+      },
+    )

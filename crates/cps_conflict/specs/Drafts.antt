@@ -1,5 +1,5 @@
 -- A clause on its way from a conflict to what is learnt.
-use Rattle.std.specs.Prelude.{ℕ, ◌+◌, ◌-◌, ◌≤◌, ◌<◌, ℤ, ◌≡◌, ◌≢◌, ◌⊎◌, Bool, true, false, List, Option, Some, None, length, take, slice_index_or, ◌∷◌, [], ◌++◌, slice_set}
+use Rattle.std.specs.Prelude.{ℕ, ◌+◌, ◌-◌, ◌≤◌, ◌<◌, ℤ, ◌≡◌, ◌≢◌, ◌⊎◌, Bool, true, false, List, Option, Some, None, length, take, slice_index_or}
 use Rattle.std.specs.List.{All, Any, Contains}
 use Rattle.cps_literal.specs.declared.atom.Atom.{Atom}
 use Rattle.cps_literal.specs.Truth.{atom_holds, clause_holds, value_at, Implies}
@@ -149,13 +149,35 @@ pub record IsLastSlot (present : List (Option Atom)) (bound : ℕ) (found : ℕ 
   pub has : slot_of present found.0 ≡ Some found.1
   pub after : (k : ℕ) → found.0 < k → k < bound → slot_of present k ≡ None
 
--- of the atoms of earlier levels those that do not imply one atom; after `latest` entries all were false
-pub record Collects (s : Trail) (start : ℕ) (t : Atom) (earlier : List Fallen) (atoms : List Atom) (latest : ℕ) : Type 0 where
+-- an atom implies one that fell before so many entries
+pub record IsImpliedBefore (t : Atom) (bound : ℕ) (f : Fallen) : Type 0 where
+  pub implied : Implies t f.atom
+  pub before : f.from < bound
+
+-- an atom is true at a list of values, and fell before so many entries
+pub record IsTrueBefore (a : List ℤ) (bound : ℕ) (f : Fallen) : Type 0 where
+  pub holds : atom_holds a f.atom ≡ true
+  pub before : f.from < bound
+
+-- where an atom is true, one of these is that fell before so many entries
+pub record HoldsBefore (s : Trail) (earlier : List Fallen) (bound : ℕ) (t : Atom) : Type 0 where
+  pub at : (a : List ℤ) → IsBacked s a → atom_holds a t ≡ true → Any (IsTrueBefore a bound) earlier
+
+-- where the atom is true, another one is that fell before it
+abbrev pub IsRedundant : Trail → List Fallen → Fallen → Type 0
+IsRedundant s earlier f = HoldsBefore s earlier f.from f.atom
+
+-- an atom of an earlier level is among the atoms, or implies one atom, or is redundant
+abbrev pub IsCollected : Trail → List Fallen → Atom → List Atom → Fallen → Type 0
+IsCollected s earlier t atoms f = Contains atoms f.atom ⊎ (Implies f.atom t ⊎ IsRedundant s earlier f)
+
+-- the atoms of earlier levels but those that imply one atom or are redundant; after `latest` entries all were false
+pub record Collects (s : Trail) (start : ℕ) (earlier : List Fallen) (t : Atom) (some : List Fallen) (atoms : List Atom) (latest : ℕ) : Type 0 where
   pub within : latest ≤ start
   pub each : All (λ u. IsFalseAfter s.first (take latest s.entries) u) atoms
   pub reached : latest ≢ 0 → Any (λ u. IsFalseFrom s u latest) atoms
   pub apart : All (λ u. Implies u t → ⊥) atoms
-  pub covers : All (λ f. Implies f.atom t ⊎ Contains atoms f.atom) earlier
+  pub covers : All (IsCollected s earlier t atoms) some
 
 -- how far an analysis has come: no slot from `bound` on has an atom, and one below has
 pub record AnalysisSoFar (s : Trail) (conflict : List Atom) (bound : ℕ) (d : Draft) : Type 0 where

@@ -1,7 +1,7 @@
 //! The clause on its way from a conflict to what is learnt.
 
-ghost use Rattle.std.specs.Prelude.{ℕ, ◌≡◌, ◌≢◌, ◌≤◌, ◌<◌, ◌+◌, ◌-◌, length, take, IfOk, OnOk, IfSome, IfNone, Some, None, slice_index_or, true};
-ghost use Rattle.std.specs.List.{All};
+ghost use Rattle.std.specs.Prelude.{ℕ, ◌≡◌, ◌≢◌, ◌≤◌, ◌<◌, ◌+◌, ◌-◌, length, take, IfOk, OnOk, IfSome, IfNone, IsTrue, Some, None, slice_index_or, true, ◌⊎◌, [], ◌∷◌, ◌++◌};
+ghost use Rattle.std.specs.List.{All, Any};
 ghost use Rattle.cps_literal.specs.Truth.{atom_holds};
 ghost use Rattle.cps_trail.specs.Trail.{Trail, Entry, Decision, IsFalseNow, IsFalseAfter, EndsAt};
 
@@ -32,6 +32,11 @@ pub(crate) struct Resolvent {
     present: Vec<Option<Atom>>,
     /// The atoms that fell before.
     earlier: Vec<Fallen>,
+    /// For each of them one more than the place of the one before it about its subject, if there is one.
+    previous: Vec<usize>,
+    /// For each subject one more than the place of the last one about it, if there is one. What an earlier
+    /// clause left here is known by the other subject that stands at the place.
+    heads: Vec<usize>,
 }
 
 impl Model for Resolvent {
@@ -43,7 +48,7 @@ impl Model for Resolvent {
 }
 
 impl Resolvent {
-    ghost use Rattle.cps_conflict.specs.Drafts.{Draft, IsDraft, IsFallenAt, Adds, AddsAll, AddsOthers, AddsGap, Resolves, IsLastSlot, Collects, slot_of};
+    ghost use Rattle.cps_conflict.specs.Drafts.{Draft, IsDraft, IsFallenAt, Adds, AddsAll, AddsOthers, AddsGap, Resolves, IsLastSlot, IsImpliedBefore, HoldsBefore, IsRedundant, Collects, slot_of};
 
     /// A clause with no room yet.
     pub(crate) fn new(alloc: Global) -> Self {
@@ -52,6 +57,8 @@ impl Resolvent {
             base: 0,
             present: Vec::new(alloc),
             earlier: Vec::new(alloc),
+            previous: Vec::new(alloc),
+            heads: Vec::new(alloc),
         }
     }
 
@@ -64,6 +71,10 @@ impl Resolvent {
         self.start = store.end_of(store.level() - 1);
         self.base = store.end_of(0);
         self.earlier.clear();
+        self.previous.clear();
+        if self.heads.len() < store.len() {
+            self.heads.resize(store.len(), 0)?;
+        }
         self.present.clear();
         self.present
             .resize(store.entries().len() - self.start, None)?;
@@ -94,6 +105,46 @@ impl Resolvent {
         None
     }
 
+    /// Whether an atom implies one that fell at an earlier level, before so many entries.
+    fn implies_earlier(&self, atom: Atom, bound: usize) -> bool
+        ensures { IsTrue result → Any (IsImpliedBefore atom bound) self.now.earlier }
+    {
+        let earlier = self.earlier.as_slice();
+        let previous = self.previous.as_slice();
+        let Some(head) = self.heads.get(atom.subject as usize) else {
+            return false;
+        };
+        let mut count = *head;
+        while count > 0 && count <= earlier.len() && count <= previous.len() {
+            let fallen = earlier[count - 1];
+            if fallen.from < bound && atom.implies(fallen.atom) {
+                return true;
+            }
+            let next = previous[count - 1];
+            if fallen.atom.subject != atom.subject || next >= count {
+                return false;
+            }
+            count = next;
+        }
+        false
+    }
+
+    /// Adds an atom that fell at an earlier level.
+    fn add_earlier(&mut self, fallen: Fallen) -> Result<(), AllocError>
+        ensures { OnOk result (self.new ≡ record self.old { earlier = self.old.earlier ++ fallen ∷ [] }) }
+    {
+        self.previous.reserve(1)?;
+        self.earlier.push(fallen)?;
+        let count = self.earlier.len();
+        let mut before = 0;
+        if let Some(head) = self.heads.get_mut(fallen.atom.subject as usize) {
+            before = *head;
+            *head = count;
+        }
+        self.previous.push_reserved(before);
+        Ok(())
+    }
+
     /// Adds an atom that is false.
     fn add(&mut self, store: &Store, atom: Atom) -> Result<(), AllocError>
         requires draft { IsDraft store.now self.old }
@@ -101,10 +152,13 @@ impl Resolvent {
         requires false_now { IsFalseNow store.now atom }
         ensures { OnOk result (Adds store.now self.old self.new atom) }
     {
+        if self.implies_earlier(atom, usize::MAX) {
+            return Ok(());
+        }
         let from = store.falsified(atom);
         if from <= self.start {
             if from > self.base {
-                self.earlier.push(Fallen { atom, from })?;
+                self.add_earlier(Fallen { atom, from })?;
             }
             return Ok(());
         }
@@ -194,15 +248,63 @@ impl Resolvent {
         Ok(())
     }
 
-    /// Writes down the atoms that fell at earlier levels, but those that imply another one, and after how many
-    /// entries they all were false.
-    pub(crate) fn collect(&self, assert: Atom, atoms: &mut Vec<Atom>) -> Result<usize, AllocError>
-        ensures { IfOk result (λ latest. (s : Trail) → IsDraft s self.now → Collects s self.now.start assert self.now.earlier atoms.new.items latest) }
+    /// Whether an atom that fell at an earlier level is true only where another one is that fell before it: the
+    /// entry's atom refutes it, and each other atom of the entry's reason is false at level 0 or implies
+    /// one that fell earlier.
+    fn is_redundant(&self, store: &Store, fallen: Fallen) -> bool
+        requires { IsDraft store.now self.now }
+        ensures { IsTrue result → IsRedundant store.now self.now.earlier fallen }
+    {
+        if fallen.from == 0 || fallen.from > self.start {
+            return false;
+        }
+        let entry = store.entries()[fallen.from - 1].atom;
+        if !fallen.atom.implies(entry.negate()) {
+            return false;
+        }
+        let Some(reason) = store.reason(fallen.from - 1) else {
+            return false;
+        };
+        for other in reason {
+            if !self.is_covered(store, *other, entry, fallen.from) {
+                return false;
+            }
+        }
+        true
+    }
+
+    /// Whether an atom of a reason is the one that the reason made true, is false at level 0, or implies one that
+    /// fell before so many entries.
+    fn is_covered(&self, store: &Store, atom: Atom, implied: Atom, bound: usize) -> bool
+        requires draft { IsDraft store.now self.now }
+        requires subject { atom.subject < length store.now.first }
+        requires false_now { atom ≢ implied → IsFalseNow store.now atom }
+        ensures { IsTrue result → (atom ≡ implied) ⊎ HoldsBefore store.now self.now.earlier bound atom }
+    {
+        if atom == implied {
+            return true;
+        }
+        if self.implies_earlier(atom, bound) {
+            return true;
+        }
+        store.falsified(atom) <= self.base
+    }
+
+    /// Writes down the atoms that fell at earlier levels, but those that imply another one and those that are
+    /// redundant, and after how many entries they all were false.
+    pub(crate) fn collect(
+        &self,
+        store: &Store,
+        assert: Atom,
+        atoms: &mut Vec<Atom>,
+    ) -> Result<usize, AllocError>
+        requires { IsDraft store.now self.now }
+        ensures { IfOk result (Collects store.now self.now.start self.now.earlier assert self.now.earlier atoms.new.items) }
     {
         atoms.clear();
         let mut latest = 0;
         for fallen in self.earlier.as_slice() {
-            if !fallen.atom.implies(assert) {
+            if !fallen.atom.implies(assert) && !self.is_redundant(store, *fallen) {
                 atoms.push(fallen.atom)?;
                 latest = later(latest, fallen.from);
             }

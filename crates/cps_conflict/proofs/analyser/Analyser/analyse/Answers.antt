@@ -1,11 +1,9 @@
-use Rattle.std.proofs.Common.{ℕ, ◌+◌, ◌<◌, ◌≡◌, List, length, arith, rules, false, sym, ap, subst, ◌∙◌, refl}
+use Rattle.std.proofs.Common.{◌+◌, ◌≡◌, arith, rules, false, sym, subst}
 use Rattle.std.specs.Prelude.{is_none}
 use Rattle.std.specs.List.{All}
-use Rattle.cps_literal.specs.declared.atom.Atom.{Atom}
 use Rattle.cps_trail.specs.Trail.{IsFalseNow}
-use Rattle.cps_trail.specs.Adds.{Follows}
 use Rattle.cps_conflict.specs.declared.learnt.Learnt.{Learnt}
-use Rattle.cps_conflict.specs.Conflicts.{Premises, Asserts}
+use Rattle.cps_conflict.specs.Conflicts.{Asserts}
 use Rattle.cps_conflict.specs.Drafts.{AnalysisSoFar, IsLastSlot}
 use Rattle.cps_conflict.proofs.Learning.{IfOk-weaker, Asserts-false, no_decision, AnalysisSoFar-none, AnalysisSoFar-more, some_of}
 use Rattle.cps_conflict.proofs.Drafting.{place_inside}

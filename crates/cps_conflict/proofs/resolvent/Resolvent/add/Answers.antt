@@ -1,16 +1,17 @@
-use Rattle.std.proofs.Common.{ℕ, ◌≡◌, ◌<◌, ◌+◌, ◌-◌, length, arith, refl, sym, ap, subst, ◌∙◌}
-use Rattle.std.specs.Prelude.{Some}
-use Rattle.cps_literal.specs.declared.atom.Atom.{Atom}
+use Rattle.std.proofs.Common.{◌≡◌, ◌+◌, ◌-◌, arith, sym, ap, subst, ◌∙◌}
 use Rattle.cps_trail.specs.Trail.{IsFalseFrom}
-use Rattle.cps_conflict.specs.Drafts.{Draft, IsDraft, IsFallenAt}
-use Rattle.cps_conflict.proofs.Drafting.{same, inside, Adds-bottom, Adds-pushed, Adds-set}
+use Rattle.cps_conflict.specs.Drafts.{Draft, IsDraft, IsFallenAt, Adds}
+use Rattle.cps_conflict.proofs.Drafting.{same, inside, Adds-implied, Adds-bottom, Adds-earlier, Adds-set}
 use Rattle.cps_conflict.proofs.resolvent.Resolvent.add.Goals as goal
 
-pub returns-in_ok-push : goal.returns-in_ok-push
-returns-in_ok-push c =
-    let i = c.self.inside in
-    Adds-pushed c.args.store.now c.args.self.now (record { start = i.start; base = i.base; present = i.present.items; earlier = i.earlier.items }) c.args.atom c.falsified-from.result c.push.new.self.items
-    c.self.view_is c.requires.draft c.in_ok-push.ensures.items (record { subject = c.requires.subject; from = c.falsified-from.ensures }) c.if-from-self.true
+pub returns-then-implies_earlier : goal.returns-then-implies_earlier
+returns-then-implies_earlier c = Adds-implied c.args.store.now c.args.self.now c.args.atom _ c.requires.draft (c.implies_earlier.ensures c.if-implies_earlier.true)
+
+pub returns-in_ok-add_earlier : goal.returns-in_ok-add_earlier
+returns-in_ok-add_earlier c =
+    subst (λ (d : Draft). Adds c.args.store.now c.args.self.now d c.args.atom) (sym c.in_ok-add_earlier.ensures)
+    (Adds-earlier c.args.store.now c.args.self.now c.args.atom c.falsified-from.result c.requires.draft (record { subject = c.requires.subject; from = c.falsified-from.ensures })
+    (omega (arith, c.if-from-self.true, ap (λ (d : Draft). d.start) c.self.view_is)))
 
 pub returns-else-from-self-2 : goal.returns-else-from-self-2
 returns-else-from-self-2 c =

@@ -1,12 +1,12 @@
-use Rattle.std.proofs.Common.{ℕ, ◌+◌, ◌≡◌, ◌≢◌, ◌<◌, List, length, take, get_or, arith, sym, ap, subst, ◌∙◌, refl}
+use Rattle.std.proofs.Common.{◌+◌, ◌≡◌, ◌<◌, length, get_or, arith, sym, ap, subst, ◌∙◌, refl}
 use Rattle.std.specs.Prelude.{Some}
 use Rattle.std.proofs.lemmas.Int.{ints}
 use Rattle.std.proofs.lemmas.List.Elements.{Contains-get_or}
 use Rattle.cps_literal.specs.declared.atom.Atom.{Atom}
 use Rattle.cps_literal.specs.Truth.{atom_holds}
-use Rattle.cps_trail.specs.Trail.{Entry, Because, Decision, Explains}
+use Rattle.cps_trail.specs.Trail.{Entry, Decision}
 use Rattle.cps_trail.proofs.Times.{IsFalseAfter-all}
-use Rattle.cps_conflict.specs.Drafts.{Draft, IsDraft, IsFallenAt, slot_of}
+use Rattle.cps_conflict.specs.Drafts.{Draft, IsDraft, slot_of}
 use Rattle.cps_conflict.proofs.Uniting.{none_view, entry_at, read, inside}
 use Rattle.cps_conflict.proofs.Drafting.{Keeps-refl, cleared-draft, place_inside, explains_at, not_together, Resolves-at}
 use Rattle.cps_conflict.proofs.resolvent.Resolvent.resolve.Goals as goal
