@@ -1,0 +1,4 @@
+pub mod Now
+pub mod Strength
+pub mod Laws
+pub mod Reasons

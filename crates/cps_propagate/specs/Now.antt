@@ -1,0 +1,25 @@
+-- What a store leaves to its subjects now.
+use Rattle.std.specs.Prelude.{◌≡◌, ◌⊎◌, ℕ, ◌<◌, ℤ, true, List, length, take}
+use Rattle.cps_literal.specs.declared.atom.Atom.{Atom}
+use Rattle.cps_literal.specs.Truth.{value_at}
+use Rattle.cps_trail.specs.Trail.{Trail, admits, IsTrueNow, IsFalseNow}
+
+-- a value that a subject may have now
+abbrev pub IsOpenTo : Trail → ℕ → ℤ → Type 0
+IsOpenTo s i x = admits s.first s.entries i x ≡ true
+
+-- a subject has one value left
+abbrev pub IsFixedNow : Trail → ℕ → Type 0
+IsFixedNow s i = (x y : ℤ) → IsOpenTo s i x → IsOpenTo s i y → x ≡ y
+
+-- an atom is true or false now
+abbrev pub IsKnownNow : Trail → Atom → Type 0
+IsKnownNow s u = IsTrueNow s u ⊎ IsFalseNow s u
+
+-- each value of a list is one that its subject may have now
+abbrev pub IsWithinNow : Trail → List ℤ → Type 0
+IsWithinNow s xs = (i : ℕ) → i < length s.first → IsOpenTo s i (value_at xs i)
+
+-- the store as it was after its first n entries
+abbrev pub after : Trail → ℕ → Trail
+after s n = record s { entries = take n s.entries }
