@@ -1,4 +1,5 @@
 pub mod Now
 pub mod Strength
+pub mod Visits
 pub mod Laws
 pub mod Reasons

@@ -1,5 +1,5 @@
 -- What a store leaves to its subjects now.
-use Rattle.std.specs.Prelude.{◌≡◌, ◌⊎◌, ℕ, ◌<◌, ℤ, true, List, length, take}
+use Rattle.std.specs.Prelude.{◌≡◌, ◌⊎◌, ℕ, ℤ, true, List, take, All}
 use Rattle.cps_literal.specs.declared.atom.Atom.{Atom}
 use Rattle.cps_literal.specs.Truth.{value_at}
 use Rattle.cps_trail.specs.Trail.{Trail, admits, IsTrueNow, IsFalseNow}
@@ -16,9 +16,9 @@ IsFixedNow s i = (x y : ℤ) → IsOpenTo s i x → IsOpenTo s i y → x ≡ y
 abbrev pub IsKnownNow : Trail → Atom → Type 0
 IsKnownNow s u = IsTrueNow s u ⊎ IsFalseNow s u
 
--- each value of a list is one that its subject may have now
-abbrev pub IsWithinNow : Trail → List ℤ → Type 0
-IsWithinNow s xs = (i : ℕ) → i < length s.first → IsOpenTo s i (value_at xs i)
+-- the values that a list has for these subjects are ones that they may have now
+abbrev pub AreOpen : Trail → List ℤ → List ℕ → Type 0
+AreOpen s xs subjects = All (λ i. IsOpenTo s i (value_at xs i)) subjects
 
 -- the store as it was after its first n entries
 abbrev pub after : Trail → ℕ → Trail
