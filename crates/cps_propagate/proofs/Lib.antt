@@ -1,2 +1,4 @@
 pub mod Explaining
 pub mod Framing
+pub mod Stepping
+pub mod Rounds

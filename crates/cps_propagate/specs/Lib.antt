@@ -3,3 +3,4 @@ pub mod Strength
 pub mod Visits
 pub mod Laws
 pub mod Reasons
+pub mod Agenda
