@@ -1,9 +1,9 @@
 -- How facts that are true in a store explain what follows from them.
-use Rattle.std.proofs.Common.{ℕ, ◌+◌, ◌≤◌, ◌<◌, ℤ, ◌≡◌, ◌≢◌, Bool, true, false, not, ◌||◌, ◌&&◌, List, [], ◌∷◌, ◌++◌, length, take, get_or, refl, sym, ◌∙◌, ap, subst, inl, inr, ◌⊎◌, arith, get_or-take}
-use Rattle.std.specs.List.{list_all, list_any, All, Contains}
+use Rattle.std.proofs.Common.{ℕ, ◌+◌, ◌≤◌, ◌<◌, ℤ, ◌≡◌, ◌≢◌, Bool, true, false, not, ◌||◌, ◌&&◌, List, [], ◌∷◌, ◌++◌, length, take, get_or, refl, sym, ◌∙◌, ap, subst, inl, inr, arith, get_or-take}
+use Rattle.std.specs.List.{list_all, All, Contains}
 use Rattle.std.proofs.lemmas.List.{length-take-le}
 use Rattle.std.proofs.lemmas.List.Folds.{list_any-append, list_all-append, list_all_more}
-use Rattle.std.proofs.lemmas.List.Elements.{All-nil, All-cons, All-push, All-take, All-weaker, All-contains_itself, All-get_or, All-append, Contains-push_cases, Contains-push}
+use Rattle.std.proofs.lemmas.List.Elements.{All-nil, All-push, All-weaker, All-contains_itself, Contains-push_cases, Contains-push}
 use Rattle.cps_literal.specs.declared.atom.Atom.{Atom}
 use Rattle.cps_literal.specs.Truth.{meets, value_at, atom_holds, clause_holds}
 use Rattle.cps_instance.proofs.Agreeing.{All-append_left, All-append_right}
@@ -11,12 +11,12 @@ use Rattle.cps_domain.specs.declared.cut.Cut.{Cut}
 use Rattle.cps_domain.specs.declared.cut.Cut.TheVariants.{Narrowed, NoChange, Wiped}
 use Rattle.cps_trail.proofs.Laws.{admits-push_same}
 use Rattle.cps_trail.proofs.Times.{and_right}
-use Rattle.cps_trail.specs.Trail.{Domains, Trail, Entry, admits, IsTrueNow, IsFalseNow, IsWithin, Explains, Because, open_values}
+use Rattle.cps_trail.specs.Trail.{Domains, Trail, admits, IsTrueNow, IsFalseNow, IsWithin, Explains, Because, open_values}
 use Rattle.cps_trail.specs.Adds.{Follows, Infers, IsConflict, Answers}
 use Rattle.cps_trail.specs.declared.step.Step.{Step}
 use Rattle.cps_trail.specs.declared.step.Step.TheVariants.{Settled, Conflict}
 use Rattle.cps_trail.proofs.Inferring.{Infers-push, Infers-same}
-use Rattle.cps_propagate.specs.Reasons.{Refutes, IsNarrowed, IsMadeTrue, IsSaidOf}
+use Rattle.cps_propagate.specs.Reasons.{Refutes, IsMadeTrue, IsSaidOf}
 
 or_false : (b : Bool) → (b || false) ≡ b
 or_false true = refl

@@ -1,5 +1,5 @@
 -- Whether a task is at rest depends on the values of its subjects alone.
-use Rattle.std.proofs.Common.{ℕ, ◌+◌, ◌≤◌, ◌<◌, ℤ, ◌≡◌, ◌≢◌, Bool, true, List, [], ◌∷◌, ◌++◌, length, take, drop, get_or, map, refl, sym, ◌∙◌, ap, subst, inl, inr, ◌⊎◌, arith, append-nil, append_assoc}
+use Rattle.std.proofs.Common.{ℕ, ℤ, ◌≡◌, ◌≢◌, Bool, List, [], ◌∷◌, ◌++◌, get_or, map, sym, ◌∙◌, ap, inl, inr, append-nil, append_assoc}
 use Rattle.std.specs.List.{All}
 use Rattle.std.proofs.lemmas.List.Elements.{All-nil, All-cons, All-head, All-tail, All-weaker}
 use Rattle.cps_literal.specs.declared.atom.Atom.{Atom}
@@ -14,8 +14,8 @@ use Rattle.cps_instance.specs.Tasks.{atom_subjects, subjects_of, subjects_of_bod
 use Rattle.cps_instance.proofs.Agreeing.{All-append_left, All-append_right}
 use Rattle.cps_trail.specs.Trail.{Domains, Entry, Trail, admits, IsTrueNow, IsFalseNow}
 use Rattle.cps_trail.proofs.Laws.{admits-push_other}
-use Rattle.cps_propagate.specs.Now.{IsOpenTo, IsFixedNow, IsKnownNow, AreOpen, IsSameAt}
-use Rattle.cps_propagate.specs.Strength.{IsLeastTerm, IsGreatestTerm, IsLeastSum, IsGreatestSum, IsFirstFrom, IsLastUpTo, LeavesRoom, IsStrongSum, OthersAre, IsStrongOr, IsStrongAtMostOne, IsStrongExactlyOne, IsStrongXor, is_up_to, is_balanced, with_subject, IsStrongBody, IsStrong}
+use Rattle.cps_propagate.specs.Now.{IsFixedNow, IsKnownNow, IsSameAt}
+use Rattle.cps_propagate.specs.Strength.{IsLeastTerm, IsGreatestTerm, IsLeastSum, IsGreatestSum, LeavesRoom, IsStrongSum, OthersAre, IsStrongOr, IsStrongAtMostOne, IsStrongXor, is_up_to, is_balanced, with_subject, IsStrongBody, IsStrong}
 use Rattle.cps_propagate.specs.Laws.{IsDecided, IsAtRest}
 
 All-unmap : {X Y : Type 0} (f : X → Y) (P : Y → Type 0) (xs : List X) → All P (map f xs) → All (λ x. P (f x)) xs

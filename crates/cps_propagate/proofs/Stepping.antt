@@ -1,18 +1,18 @@
 -- When tasks are in step with a store, and what keeps them so.
 use Rattle.std.specs.Prelude.{nat_le, not, false}
-use Rattle.std.proofs.Common.{ℕ, ◌+◌, ◌≤◌, ◌<◌, ℤ, ◌≡◌, ◌≢◌, Bool, true, List, [], ◌∷◌, ◌++◌, length, take, drop, get_or, map, refl, sym, ◌∙◌, ap, subst, inl, inr, ◌⊎◌, arith, append-nil, append_assoc, length-append}
+use Rattle.std.proofs.Common.{ℕ, ◌+◌, ◌≤◌, ◌<◌, ℤ, ◌≡◌, List, [], ◌∷◌, ◌++◌, length, take, get_or, map, refl, sym, ◌∙◌, ap, subst, inl, inr, ◌⊎◌, arith, length-append}
 use Rattle.std.specs.List.{All}
 use Rattle.std.proofs.lemmas.List.{take_all, take-append-le, length-take-le}
 use Rattle.std.proofs.lemmas.List.Filters.{length-filter_both}
-use Rattle.std.proofs.lemmas.List.Elements.{All-nil, All-cons, All-head, All-tail, All-weaker, All-map}
+use Rattle.std.proofs.lemmas.List.Elements.{All-nil, All-cons, All-weaker, All-map}
 use Rattle.cps_instance.specs.declared.task.Task.{Task}
 use Rattle.cps_instance.specs.declared.task.Body.{Body}
 use Rattle.cps_instance.specs.declared.task.Body.TheVariants.{Empty, BoolOr, BoolAnd, AtMostOne, ExactlyOne, BoolXor, Linear, Sum, ObjectiveList, Cut}
 use Rattle.cps_instance.specs.Tasks.{subjects_of, lowered, lowered_body}
-use Rattle.cps_trail.specs.Trail.{Domains, Entry, Trail, Decision, admits, up_to, IsSound, EndsAt}
+use Rattle.cps_trail.specs.Trail.{Domains, Entry, Trail, admits, up_to, IsSound, EndsAt}
 use Rattle.cps_trail.specs.Adds.{Infers, AreInferred}
 use Rattle.cps_trail.proofs.Marks.{take-take, up_to-all, up_to-up_to, up_to-append_above}
-use Rattle.cps_propagate.specs.Now.{IsSameAt, after}
+use Rattle.cps_propagate.specs.Now.{after}
 use Rattle.cps_propagate.specs.Visits.{is_cut}
 use Rattle.cps_propagate.specs.Laws.{IsAtRest, RestAfter, IsInStep}
 use Rattle.cps_propagate.proofs.Framing.{IsAtRest-same}
@@ -58,7 +58,7 @@ IsInStep-inferred C tasks s t from h k = record {
       let e = ended C s t l b' h in
       let low : length (up_to l s.entries) ≤ length s.entries = omega (arith, k.recent l b', k.within) in
       RestAfter-same tasks s t (length (up_to l s.entries)) (length (up_to l t.entries)) h.first
-          (ap (λ (es : List Entry). take (length es) t.entries) e ∙ front C s t (length (up_to l s.entries)) low h) (k.ends l b');
+      (ap (λ (es : List Entry). take (length es) t.entries) e ∙ front C s t (length (up_to l s.entries)) low h) (k.ends l b');
 }
 
 -- where all came to rest, tasks are in step at all entries
@@ -115,8 +115,8 @@ IsInStep-back tasks s from level n below ends k = record {
   ends = λ l b.
       let e = up_to-up_to l level s.entries (omega arith) in
       RestAfter-same tasks s _ (length (up_to l s.entries)) (length (up_to l (up_to level s.entries))) refl
-          (ap (λ (es : List Entry). take (length es) (up_to level s.entries)) e ∙ ap (λ (es : List Entry). take (length (up_to l s.entries)) es) (sym ends.front)
-          ∙ take-take (length (up_to l s.entries)) n s.entries (omega (arith, shorter l b, sized))) (k.ends l (omega (arith, b, below)));
+      (ap (λ (es : List Entry). take (length es) (up_to level s.entries)) e ∙ ap (λ (es : List Entry). take (length (up_to l s.entries)) es) (sym ends.front)
+      ∙ take-take (length (up_to l s.entries)) n s.entries (omega (arith, shorter l b, sized))) (k.ends l (omega (arith, b, below)));
 }
   where
     sized : n ≡ length (up_to level s.entries)
@@ -152,9 +152,9 @@ is_cut-lowered upper (Cut terms old) = refl
 RestAfter-lowered : (upper : ℤ) (tasks : List Task) (s : Trail) (n : ℕ) → RestAfter tasks s n → RestAfter (map (lowered upper) tasks) s n
 RestAfter-lowered upper tasks s n h = All-map (λ t. is_cut t.body ≡ false → IsAtRest t (after s n)) (lowered upper) tasks
     (All-weaker (λ t. is_cut t.body ≡ false → IsAtRest t (after s n)) (λ t. is_cut (lowered_body upper t.body) ≡ false → IsAtRest (lowered upper t) (after s n))
-        (λ t k e. let e' = sym (is_cut-lowered upper t.body) ∙ e in
-            let same : lowered upper t ≡ t = ap (λ (b : Body). let w : Task = record { enforcement = t.enforcement; body = b } in w) (lowered_stays upper t.body e') in
-            subst (λ (u : Task). IsAtRest u (after s n)) (sym same) (k e')) tasks h)
+    (λ t k e. let e' = sym (is_cut-lowered upper t.body) ∙ e in
+    let same : lowered upper t ≡ t = ap (λ (b : Body). let w : Task = record { enforcement = t.enforcement; body = b } in w) (lowered_stays upper t.body e') in
+    subst (λ (u : Task). IsAtRest u (after s n)) (sym same) (k e')) tasks h)
 
 -- a lower end keeps tasks in step
 pub IsInStep-lowered : (upper : ℤ) (tasks : List Task) (s : Trail) (from : ℕ) → IsInStep tasks s from → IsInStep (map (lowered upper) tasks) s from

@@ -1,9 +1,9 @@
 -- How an explanation is made: from facts that are true in the store.
-use Rattle.std.specs.Prelude.{◌≡◌, ◌⊎◌, ℕ, ◌+◌, ◌<◌, ◌≤◌, ℤ, ◌||◌, not, [], ◌∷◌, ◌++◌, length, List, All, Contains}
+use Rattle.std.specs.Prelude.{◌≡◌, ◌⊎◌, ℕ, ◌+◌, ◌<◌, ◌≤◌, ℤ, ◌||◌, not, [], ◌∷◌, ◌++◌, List, All, Contains}
 use Rattle.std.specs.List.{list_all}
 use Rattle.cps_literal.specs.declared.atom.Atom.{Atom}
 use Rattle.cps_literal.specs.Truth.{atom_holds, clause_holds}
-use Rattle.cps_trail.specs.Trail.{Trail, Entry, Because, IsTrueNow, IsFalseNow, IsInside, open_values}
+use Rattle.cps_trail.specs.Trail.{Trail, Because, IsTrueNow, IsFalseNow, IsInside, open_values}
 use Rattle.cps_trail.specs.declared.step.Step.{Step}
 use Rattle.cps_trail.specs.declared.step.Step.TheVariants.{Settled, Conflict}
 

@@ -10,7 +10,10 @@
 mod engine;
 mod explain;
 mod propagator;
+mod queue;
+mod readers;
 mod subjects;
+mod waking;
 
 pub use engine::Engine;
 pub use explain::{narrow, refute};
