@@ -1,0 +1,4 @@
+//! Propagators of the Boolean kinds: some atom of a list is true, all are, at most one is, exactly one is, an odd number is.
+#![tactic(auto)]
+
+mod seek;
