@@ -1,15 +1,22 @@
 -- What follows from a task where a reason's atoms are false.
-use Rattle.std.proofs.Common.{◌≡◌, ◌⊎◌, ℕ, ◌<◌, ℤ, Bool, true, false, not, List, [], ◌∷◌, ◌++◌, length, get_or, refl, sym, ◌∙◌, ap, subst, inl, inr}
+use Rattle.std.proofs.Common.{Result, Ok, Err, ◌≡◌, ◌⊎◌, ℕ, ◌<◌, ℤ, Bool, true, false, not, List, [], ◌∷◌, ◌++◌, length, get_or, refl, sym, ◌∙◌, ap, subst, inl, inr, arith}
 use Rattle.std.specs.List.{list_all, All, Contains}
 use Rattle.std.proofs.lemmas.List.Elements.{All-nil, All-contains_itself, Contains-push, Contains-push_cases}
 use Rattle.std.proofs.lemmas.List.Sums.{list_all-from_AllPass}
+use Rattle.std.proofs.lemmas.Bool.Decides.{eqb_tells}
+use Rattle.std.proofs.lemmas.List.{get_or_default}
 use Rattle.cps_literal.specs.declared.atom.Atom.{Atom}
 use Rattle.cps_literal.specs.Truth.{atom_holds, clause_holds}
 use Rattle.cps_instance.specs.declared.task.Body.{Body}
 use Rattle.cps_instance.specs.Tasks.{HoldsBody, HoldsTask}
 use Rattle.cps_instance.proofs.Agreeing.{All-append_left, All-append_right}
-use Rattle.cps_trail.specs.Trail.{Trail, IsTrueNow, IsFalseNow, IsWithin, Explains}
-use Rattle.cps_trail.specs.Adds.{Follows, IsConflict}
+use Rattle.cps_trail.specs.Trail.{Trail, admits, IsTrueNow, IsFalseNow, IsWithin, Explains}
+use Rattle.cps_trail.specs.Adds.{Follows, IsConflict, Infers, Answers}
+use Rattle.cps_trail.specs.declared.step.Step.{Step}
+use Rattle.cps_trail.specs.declared.step.Step.TheVariants.{Settled}
+use Rattle.cps_propagate.specs.Reasons.{IsMadeTrue, IsSaidOf}
+use Rattle.cps_propagate.proofs.Explaining.{Infers-made, Answers-said}
+use Rattle.std.specs.Prelude.{IfOk, OnOk}
 use Rattle.cps_p_bool.specs.Seeking.{IsInForce, IsSought, IsOff}
 use Rattle.cps_p_bool.specs.Denying.{Agrees, IsDenied, Denies, IsReasonFor, Gives, Excludes, task_of}
 use Rattle.cps_p_bool.proofs.Denials.{IsOpposite, opposite_holds, push_before, push_here}
@@ -63,7 +70,7 @@ enforced s e last xs h agrees at = list_all-from_AllPass (atom_holds xs) e (λ k
 ])
   where
     same_or_not : (i j : ℕ) → (i ≡ j) ⊎ (i ≡ j → ⊥)
-    same_or_not i j = elim (dec-eq i j) [ yes p ↦ inl p | no p ↦ inr p ]
+    same_or_not i j = elim (eqb_tells i j) [ inl h ↦ inl (h.1) | inr h ↦ inr (h.1) ]
 
 -- where the body is excluded and the enforcement atoms are true but one, that one is false
 pub Gives-last : (s : Trail) (e : List Atom) (last : ℕ) (used : List Atom) (b : Body) (z n : Atom) → IsInForce s e last → last < length e → IsOpposite (get_or e last z) n → Excludes s b used → Gives s (task_of e b) used n
@@ -93,3 +100,20 @@ opposite_true s u n o h = λ x a. flip (o.negated x) (h x (subst (λ (k : ℕ). 
     flip : {a b : Bool} → b ≡ not a → b ≡ true → a ≡ false
     flip {a = true} {b} e y = let f : true ≡ false = sym y ∙ e in cc
     flip {a = false} {b} e y = refl
+
+pub IsOff-opposite : (s : Trail) (e : List Atom) (last : ℕ) (z n : Atom) → last < length e → IsOpposite (get_or e last z) n → IsTrueNow s n → IsOff s e last
+IsOff-opposite s e last z n l o h = record { within = l; false_now = λ d. subst (λ (u : Atom). IsFalseNow s u) (get_or_default e last z d l) (opposite_true s (get_or e last z) n o h) }
+
+module _ (s : Trail) (e used : List Atom) (t : Atom) (clause : List Atom) (r : IsReasonFor s (e ++ used) t clause) {E : Type 0} where
+  pub narrow_infers : (a : Result Step E) (u : Trail) → OnOk a (IsMadeTrue s u t clause) → OnOk a ((b : Body) → Gives s (task_of e b) used t → Infers (HoldsTask (task_of e b)) s u)
+  narrow_infers (Ok step) u made = λ b g. Infers-made (HoldsTask (task_of e b)) s u t clause made (follows s e used t clause r b g)
+  narrow_infers (Err x) u made = tt
+
+  pub narrow_answers : (a : Result Step E) (u : Trail) → OnOk a (IsMadeTrue s u t clause) → IfOk a (IsSaidOf u t clause) → IfOk a (λ step. (b : Body) → Gives s (task_of e b) used t → Answers (HoldsTask (task_of e b)) u step)
+  narrow_answers (Ok step) u made said = λ b g.
+      let f = follows s e used t clause r b g in
+      Answers-said (HoldsTask (task_of e b)) u t clause step said (subst (λ fs. Follows (HoldsTask (task_of e b)) fs clause) (sym (Infers-made (HoldsTask (task_of e b)) s u t clause made f).first) f)
+  narrow_answers (Err x) u made said = tt
+
+pub narrow_made : {E : Type 0} (a : Result Step E) (u : Trail) (t : Atom) (clause : List Atom) → IfOk a (IsSaidOf u t clause) → a ≡ Ok Settled → IsTrueNow u t
+narrow_made {E} a u t clause said is = subst (λ (q : Result Step E). IfOk q (IsSaidOf u t clause)) is said

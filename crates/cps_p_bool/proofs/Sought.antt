@@ -29,7 +29,7 @@ module _ (s : Trail) (u : Atom) where
   open_not_true h f = let e : Undecided ≡ Yes = h.yes.1 f in cc
 
   pub sought_found : (w : Sought) (t : Truth) → IsTruth s u t → is_sought w t ≡ true → IsSought w s u
-  sought_found True Yes h e = h.yes.0 refl
+  sought_found True Yes h e = (h.yes.0 refl, yes_not_false h)
   sought_found True No h e = cc
   sought_found True Undecided h e = cc
   sought_found NotTrue Yes h e = cc

@@ -1,2 +1,3 @@
 pub mod Seeking
 pub mod Denying
+pub mod Rules

@@ -1,5 +1,5 @@
 -- Which atoms of a list are looked for, by their truth in a store.
-use Rattle.std.specs.Prelude.{◌≡◌, ◌≢◌, ◌⊎◌, ℕ, ◌<◌, ◌≤◌, Bool, true, false, List, length, slice_index_or}
+use Rattle.std.specs.Prelude.{◌≡◌, ◌≢◌, ℕ, ◌<◌, ◌≤◌, Bool, true, false, List, length, slice_index_or}
 use Rattle.cps_literal.specs.declared.atom.Atom.{Atom}
 use Rattle.cps_literal.specs.declared.atom.Truth.{Truth}
 use Rattle.cps_literal.specs.declared.atom.Truth.TheVariants.{Yes, No, Undecided}
@@ -27,7 +27,7 @@ is_sought Open Undecided = true
 
 -- an atom that is looked for, and one that is not
 abbrev pub IsSought : Sought → Trail → Atom → Type 0
-IsSought True s u = IsTrueNow s u
+IsSought True s u = IsTrueNow s u × (IsFalseNow s u → ⊥)
 IsSought NotTrue s u = IsTrueNow s u → ⊥
 IsSought False s u = IsFalseNow s u
 IsSought NotFalse s u = IsFalseNow s u → ⊥
@@ -46,21 +46,13 @@ pub record IsInForce (s : Trail) (enforcement : List Atom) (last : ℕ) : Type 0
   pub others : (k : ℕ) (d : Atom) → k < length enforcement → k ≢ last → IsTrueNow s (slice_index_or enforcement k d)
   pub undecided : (d : Atom) → last < length enforcement → IsSought Open s (slice_index_or enforcement last d)
 
--- an enforcement atom is false
-pub record IsOff (s : Trail) (enforcement : List Atom) : Type 0 where
+-- an enforcement atom is not true
+pub record IsIdle (s : Trail) (enforcement : List Atom) : Type 0 where
   pub place : ℕ
   pub within : place < length enforcement
+  pub not_true : (d : Atom) → IsTrueNow s (slice_index_or enforcement place d) → ⊥
+
+-- the enforcement atom at a place is false
+pub record IsOff (s : Trail) (enforcement : List Atom) (place : ℕ) : Type 0 where
+  pub within : place < length enforcement
   pub false_now : (d : Atom) → IsFalseNow s (slice_index_or enforcement place d)
-
--- two enforcement atoms are not true
-pub record IsFarOff (s : Trail) (enforcement : List Atom) : Type 0 where
-  pub first : ℕ
-  pub second : ℕ
-  pub apart : first < second
-  pub within : second < length enforcement
-  pub first_not : (d : Atom) → IsTrueNow s (slice_index_or enforcement first d) → ⊥
-  pub second_not : (d : Atom) → IsTrueNow s (slice_index_or enforcement second d) → ⊥
-
--- an enforcement atom is false, or two are not true
-abbrev pub IsIdle : Trail → List Atom → Type 0
-IsIdle s enforcement = IsOff s enforcement ⊎ IsFarOff s enforcement

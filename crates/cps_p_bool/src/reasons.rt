@@ -9,6 +9,7 @@ ghost use Rattle.cps_p_bool.specs.Seeking.{IsInForce, IsOff};
 ghost use Rattle.cps_p_bool.specs.Denying.{Denies, IsReasonFor, Gives, Excludes, IsFit, AreLiterals, task_of};
 
 use cps_literal::{Atom, Clause, Truth};
+use cps_propagate::narrow;
 use cps_trail::{Step, Store};
 use std::alloc::{AllocError, Global};
 
@@ -88,14 +89,9 @@ pub fn infer(
 {
     match store.truth(target) {
         Truth::Yes => Ok(Step::Settled),
-        Truth::No => {
+        _ => {
             explain(reason, store, enforcement, used, target)?;
-            Ok(Step::Conflict(Clause::from_slice(alloc, reason.as_slice())?))
-        }
-        Truth::Undecided => {
-            explain(reason, store, enforcement, used, target)?;
-            store.imply_by(target, reason.as_slice())?;
-            Ok(Step::Settled)
+            narrow(alloc, store, target, reason.as_slice())
         }
     }
 }
@@ -114,7 +110,7 @@ pub fn refuse(
     requires in_force { IsInForce store.old enforcement.now last }
     ensures infers { OnOk result ((body : Body) → Excludes store.old body used.now → Infers (HoldsTask (task_of enforcement.now body)) store.old store.new) }
     ensures answers { IfOk result (λ step. (body : Body) → Excludes store.old body used.now → Answers (HoldsTask (task_of enforcement.now body)) store.new step) }
-    ensures refused { result ≡ Ok Step.Settled → IsOff store.new enforcement.now }
+    ensures refused { result ≡ Ok Step.Settled → IsOff store.new enforcement.now last }
 {
     if last < enforcement.len() {
         let target = enforcement[last].negate();
