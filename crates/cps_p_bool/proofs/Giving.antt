@@ -25,6 +25,10 @@ pub by_bool : (b : Bool) → (b ≡ false → ⊥) → b ≡ true
 by_bool true f = refl
 by_bool false f = absurd (f refl)
 
+pub by_not_true : (b : Bool) → (b ≡ true → ⊥) → b ≡ false
+by_not_true true f = absurd (f refl)
+by_not_true false f = refl
+
 pub not_both : (b : Bool) → b ≡ true → b ≡ false → ⊥
 not_both b y n = let e : true ≡ false = sym y ∙ n in cc
 

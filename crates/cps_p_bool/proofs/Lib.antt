@@ -3,4 +3,7 @@ pub mod Sought
 pub mod Denials
 pub mod Giving
 pub mod Counting
+pub mod Placing
 pub mod Running
+pub mod Needing
+pub mod Limiting

@@ -8,7 +8,7 @@ use Rattle.cps_literal.specs.declared.atom.Atom.{Atom}
 use Rattle.cps_literal.specs.Truth.{meets, value_at, atom_holds}
 use Rattle.cps_instance.specs.declared.task.Task.{Task}
 use Rattle.cps_instance.specs.declared.task.Body.{Body}
-use Rattle.cps_instance.specs.Tasks.{HoldsBody, HoldsTask, atom_subjects, subjects_of_body, subjects_of}
+use Rattle.cps_instance.specs.Tasks.{HoldsBody, HoldsTask, atom_subjects, subjects_of_body, subjects_of, true_atoms}
 use Rattle.cps_instance.proofs.Agreeing.{All-append_left, All-append_right}
 use Rattle.cps_trail.specs.Trail.{Trail, admits, IsTrueNow, IsFalseNow}
 use Rattle.cps_trail.specs.Adds.{Infers, Answers}
@@ -20,8 +20,9 @@ use Rattle.cps_propagate.specs.Strength.{IsStrong, IsStrongBody}
 use Rattle.cps_propagate.specs.Laws.{IsDecided}
 use Rattle.cps_p_bool.specs.Seeking.{IsInForce, IsIdle, IsOff}
 use Rattle.cps_p_bool.specs.Denying.{Agrees, Gives, Excludes, task_of}
-use Rattle.cps_p_bool.specs.Rules.{Runs, IsPinned}
+use Rattle.cps_p_bool.specs.Rules.{Runs, IsPinned, IsAlone}
 use Rattle.cps_p_bool.proofs.Giving.{by_bool, not_both}
+use Rattle.cps_p_bool.proofs.Counting.{count_one}
 use Rattle.cps_p_bool.proofs.Results.{IfOk-map}
 
 All-unmap : (P : ℕ → Type 0) (us : List Atom) → All P (atom_subjects us) → All (λ u. P u.subject) us
@@ -98,7 +99,7 @@ module _ {E : Type 0} (s : Trail) (e : List Atom) (b : Body) where
       some_atom [] k below = absurd (omega (arith, below))
       some_atom (u ∷ us) k below = u
 
-  settled_infers : (u : Trail) (a : Result Step E) → a ≡ Ok Settled → OnOk a (Infers (HoldsTask (task_of e b)) s u) → Infers (HoldsTask (task_of e b)) s u
+  pub settled_infers : (u : Trail) (a : Result Step E) → a ≡ Ok Settled → OnOk a (Infers (HoldsTask (task_of e b)) s u) → Infers (HoldsTask (task_of e b)) s u
   settled_infers u a is h = subst (λ (q : Result Step E). OnOk q (Infers (HoldsTask (task_of e b)) s u)) is h
 
   -- what `refuse` does
@@ -136,3 +137,14 @@ module _ {E : Type 0} (s : Trail) (e : List Atom) (b : Body) where
             let store = same_store (HoldsTask (task_of e b)) s u (settled_infers u a is infers) same in
             subst (λ (v : Trail). IsStrong (task_of e b) v) (sym store) (strong (subst (λ (v : Trail). IsTrueNow v t) store (made is)));
       }
+
+-- decided, where one atom is true and the others are false
+pub IsDecided-alone : (s : Trail) (e : List Atom) (b : Body) (us : List Atom) (c : ℕ) → subjects_of_body b ≡ atom_subjects us → ((xs : List ℤ) → true_atoms xs us ≡ 1 → HoldsBody b xs) → c < length us → IsAlone s us c
+    → IsDecided (task_of e b) s
+IsDecided-alone s e b us c reads one l h = IsDecided-pinned s e b us reads (λ xs pins. one xs (count_one (atom_holds xs) us c l
+    (λ d. (pinned_agrees s xs us pins c d l).if_true (h.chosen d))
+    (λ k d m ne. (pinned_agrees s xs us pins k d m).if_false (h.others k d m ne))))
+
+pub some_atom : (us : List Atom) (k : ℕ) → k < length us → Atom
+some_atom [] k b = absurd (omega (arith, b))
+some_atom (u ∷ us) k b = u
