@@ -7,3 +7,5 @@ pub mod Placing
 pub mod Running
 pub mod Needing
 pub mod Limiting
+pub mod Conjoining
+pub mod Parity

@@ -1,11 +1,12 @@
 //! An odd number of atoms of a list are true.
 
-ghost use Rattle.std.specs.Prelude.{ℕ, ℤ, ◌≡◌, ◌<◌, ◌≤◌, List, All, length};
+ghost use Rattle.std.specs.Prelude.{ℕ, ℤ, ◌≡◌, ◌<◌, ◌≤◌, List, All, length, if◌then◌else◌};
+ghost use Rattle.cps_literal.specs.Truth.{atom_holds};
 ghost use Rattle.cps_instance.specs.declared.task.Body.TheVariants.{BoolXor};
 ghost use Rattle.cps_instance.specs.Tasks.{true_atoms};
 ghost use Rattle.cps_propagate.specs.Now.{IsKnownNow};
 ghost use Rattle.cps_p_bool.specs.Seeking.{IsInForce};
-ghost use Rattle.cps_p_bool.specs.Denying.{Agrees, AreLiterals, task_of};
+ghost use Rattle.cps_p_bool.specs.Denying.{Agrees, IsFit, AreLiterals, task_of};
 ghost use Rattle.cps_p_bool.specs.Rules.{Runs};
 
 use crate::reasons::{infer, refuse};
@@ -60,10 +61,20 @@ fn count_true(store: &Store, atoms: &[Atom]) -> usize
 {
     let mut count = 0usize;
     for atom in atoms {
-        match store.truth(*atom) {
-            Truth::Yes => count += 1,
-            _ => {}
-        }
+        count += ones(store, *atom);
     }
     count
+}
+
+/// 1 for an atom that is true, and 0 for one that is false.
+fn ones(store: &Store, atom: Atom) -> usize
+    requires fits { IsFit store.now.first atom }
+    requires known { IsKnownNow store.now atom }
+    ensures within { result ≤ 1 }
+    ensures count { (xs : List ℤ) → Agrees store.now xs atom → (if atom_holds xs atom then 1 else 0) ≡ result }
+{
+    match store.truth(atom) {
+        Truth::Yes => 1,
+        _ => 0,
+    }
 }
