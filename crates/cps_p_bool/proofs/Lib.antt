@@ -9,3 +9,4 @@ pub mod Needing
 pub mod Limiting
 pub mod Conjoining
 pub mod Parity
+pub mod Bodies

@@ -25,7 +25,7 @@ use Rattle.cps_p_bool.proofs.Giving.{by_bool, not_both}
 use Rattle.cps_p_bool.proofs.Counting.{count_one}
 use Rattle.cps_p_bool.proofs.Results.{IfOk-map}
 
-All-unmap : (P : ℕ → Type 0) (us : List Atom) → All P (atom_subjects us) → All (λ u. P u.subject) us
+pub All-unmap : (P : ℕ → Type 0) (us : List Atom) → All P (atom_subjects us) → All (λ u. P u.subject) us
 All-unmap P [] h k d l = absurd (omega (arith, l))
 All-unmap P (u ∷ us) h zero d l = h 0 0 (omega arith)
 All-unmap P (u ∷ us) h (suc k) d l = All-unmap P us (λ j n b. h (suc j) n (omega (arith, b))) k d (omega (arith, l))

@@ -1,3 +1,4 @@
 pub mod Seeking
 pub mod Denying
 pub mod Rules
+pub mod Bodies

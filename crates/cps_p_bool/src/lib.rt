@@ -4,7 +4,10 @@
 mod all;
 mod at_least_one;
 mod at_most_one;
+mod boolean;
 mod exactly_one;
 mod odd;
 mod reasons;
 mod seek;
+
+pub use boolean::Boolean;
