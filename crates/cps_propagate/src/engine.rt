@@ -7,7 +7,7 @@ ghost use Rattle.cps_instance.specs.Problem.{sum_task};
 ghost use Rattle.cps_trail.specs.Adds.{Infers, Answers};
 ghost use Rattle.cps_propagate.specs.Laws.{IsAtRest, IsInStep};
 
-use crate::propagator::Propagator;
+use crate::propagator::{Defining, Propagator};
 use cps_instance::Term;
 use cps_trail::{Step, Store};
 use std::alloc::{AllocError, Global};
@@ -99,31 +99,6 @@ impl<P: Propagator> Engine<P> {
         Ok(())
     }
 
-    /// Adds the propagator of a defined sum at the end.
-    pub fn add_sum(
-        &mut self,
-        alloc: Global,
-        subject: u32,
-        terms: &[Term],
-        offset: i64,
-    ) -> Result<(), AllocError>
-        requires { length self.old.tasks + 1 < 2 ^ 32 }
-        ensures adds { OnOk result (self.new ≡ record self.old { tasks = self.old.tasks ++ sum_task subject (record { terms = terms.now; offset = offset }) ∷ [] }) }
-        ensures refused { OnErr result (self.new ≡ record self.old { refused = true }) }
-        ensures stays { IsTrue self.old.refused → IsErr result }
-    {
-        if self.refused {
-            return Err(AllocError);
-        }
-        match P::of_sum(alloc, subject, terms, offset) {
-            Ok(propagator) => self.add(propagator),
-            Err(error) => {
-                self.refused = true;
-                Err(error)
-            }
-        }
-    }
-
     /// Lets the end of each cut fall to `upper`. Takes no memory.
     pub fn lower(&mut self, upper: i64)
         ensures { self.new ≡ record self.old { tasks = map (lowered upper) self.old.tasks } }
@@ -167,5 +142,32 @@ impl<P: Propagator> Engine<P> {
         ensures stays { IsTrue self.old.refused → IsErr result }
     {
         self.run(store)
+    }
+}
+
+impl<P: Defining> Engine<P> {
+    /// Adds the propagator of a defined sum at the end.
+    pub fn add_sum(
+        &mut self,
+        alloc: Global,
+        subject: u32,
+        terms: &[Term],
+        offset: i64,
+    ) -> Result<(), AllocError>
+        requires { length self.old.tasks + 1 < 2 ^ 32 }
+        ensures adds { OnOk result (self.new ≡ record self.old { tasks = self.old.tasks ++ sum_task subject (record { terms = terms.now; offset = offset }) ∷ [] }) }
+        ensures refused { OnErr result (self.new ≡ record self.old { refused = true }) }
+        ensures stays { IsTrue self.old.refused → IsErr result }
+    {
+        if self.refused {
+            return Err(AllocError);
+        }
+        match P::of_sum(alloc, subject, terms, offset) {
+            Ok(propagator) => self.add(propagator),
+            Err(error) => {
+                self.refused = true;
+                Err(error)
+            }
+        }
     }
 }
