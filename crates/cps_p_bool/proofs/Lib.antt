@@ -10,3 +10,4 @@ pub mod Limiting
 pub mod Conjoining
 pub mod Parity
 pub mod Bodies
+pub mod Trying

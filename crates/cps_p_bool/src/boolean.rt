@@ -25,7 +25,7 @@ use std::marker::Model;
 
 /// What a list of atoms is to be.
 #[derive(Clone, Copy)]
-enum Kind {
+pub(crate) enum Kind {
     /// No matter what.
     Empty,
     /// One is true at least.
@@ -151,7 +151,9 @@ impl Propagator for Boolean {
         )
     }
 
-    fn lower(&mut self, upper: i64) {}
+    fn lower(&mut self, _upper: i64) {
+        let _ = &self.kind;
+    }
 
     fn push_subjects(&self, subjects: &mut Vec<u32>) -> Result<(), AllocError> {
         push_atom_subjects(self.enforcement.as_slice(), subjects)?;
@@ -159,10 +161,12 @@ impl Propagator for Boolean {
     }
 
     fn is_cut(&self) -> bool {
+        let _ = &self.kind;
         false
     }
 
     fn is_cheap(&self) -> bool {
+        let _ = &self.kind;
         true
     }
 }
