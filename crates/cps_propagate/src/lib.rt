@@ -17,5 +17,5 @@ mod waking;
 
 pub use engine::Engine;
 pub use explain::{narrow, refute};
-pub use propagator::Propagator;
+pub use propagator::{Defining, Propagator};
 pub use subjects::{push_atom_subjects, push_term_subjects};

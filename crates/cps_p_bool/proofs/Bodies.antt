@@ -1,0 +1,77 @@
+-- What each Boolean kind needs of its atoms.
+use Rattle.std.proofs.Common.{Result, Ok, ◌≡◌, ℕ, ◌<◌, ℤ, true, false, List, length, refl, sym, subst}
+use Rattle.std.specs.List.{All}
+use Rattle.cps_literal.specs.declared.atom.Atom.{Atom}
+use Rattle.cps_instance.specs.declared.task.Task.{Task}
+use Rattle.cps_instance.specs.declared.task.Body.{Body}
+use Rattle.cps_instance.specs.declared.task.Body.TheVariants.{Empty, BoolOr, BoolAnd, AtMostOne, ExactlyOne, BoolXor}
+use Rattle.cps_instance.specs.Tasks.{atom_subjects, subjects_of_body, lowered}
+use Rattle.cps_instance.specs.Terms.{Domains}
+use Rattle.cps_instance.specs.Fitting.{IsLiteral, IsFitting}
+use Rattle.cps_instance.proofs.Agreeing.{All-append_left, All-append_right}
+use Rattle.cps_trail.specs.Trail.{Trail}
+use Rattle.cps_trail.specs.declared.step.Step.{Step}
+use Rattle.cps_trail.specs.declared.step.Step.TheVariants.{Settled}
+use Rattle.cps_propagate.specs.Visits.{is_cut, is_cheap}
+use Rattle.cps_p_bool.specs.declared.boolean.Kind.{Kind}
+use Rattle.cps_p_bool.specs.declared.boolean.Kind.TheVariants as kinds
+use Rattle.cps_p_bool.specs.Bodies.{body_of}
+use Rattle.cps_p_bool.specs.Denying.{IsFit, AreLiterals, task_of}
+use Rattle.cps_p_bool.specs.Rules.{Runs}
+use Rattle.cps_p_bool.proofs.Running.{All-unmap, Runs-settled}
+
+module _ (first : Domains) (e us : List Atom) where
+  pub fits_enforcement : (b : Body) → IsFitting first (task_of e b) → AreLiterals first e
+  fits_enforcement b h k d l = record { subject = All-unmap (λ i. i < length first) e (All-append_left (λ i. i < length first) (atom_subjects e) (subjects_of_body b) h.subjects) k d l; literal = h.enforcement k d l }
+
+  fits_body : (b : Body) → subjects_of_body b ≡ atom_subjects us → IsFitting first (task_of e b) → All (IsLiteral first) us → AreLiterals first us
+  fits_body b reads h literals k d l = record {
+    subject = All-unmap (λ i. i < length first) us (subst (λ (is : List ℕ). All (λ i. i < length first) is) reads (All-append_right (λ i. i < length first) (atom_subjects e) (subjects_of_body b) h.subjects)) k d l;
+    literal = literals k d l;
+  }
+
+  pub fits_or : IsFitting first (task_of e (BoolOr us)) → AreLiterals first us
+  fits_or h = fits_body (BoolOr us) refl h h.body
+
+  pub fits_and : IsFitting first (task_of e (BoolAnd us)) → AreLiterals first us
+  fits_and h = fits_body (BoolAnd us) refl h h.body
+
+  pub fits_most : IsFitting first (task_of e (AtMostOne us)) → AreLiterals first us
+  fits_most h = fits_body (AtMostOne us) refl h h.body
+
+  pub fits_exactly : IsFitting first (task_of e (ExactlyOne us)) → AreLiterals first us
+  fits_exactly h = fits_body (ExactlyOne us) refl h h.body
+
+  pub fits_xor : IsFitting first (task_of e (BoolXor us)) → AreLiterals first us
+  fits_xor h = fits_body (BoolXor us) refl h h.body
+
+pub Runs-empty : {E : Type 0} (s : Trail) (e : List Atom) → Runs {E = E} (task_of e Empty) s s (Ok Settled)
+Runs-empty s e = Runs-settled s e Empty (record { holds = λ fixed xs opens all. tt }) (record { body = λ _. tt })
+
+pub lowered_same : (upper : ℤ) (k : Kind) (e us : List Atom) → task_of e (body_of k us) ≡ lowered upper (task_of e (body_of k us))
+lowered_same upper kinds.Empty e us = refl
+lowered_same upper kinds.Or e us = refl
+lowered_same upper kinds.And e us = refl
+lowered_same upper kinds.AtMostOne e us = refl
+lowered_same upper kinds.ExactlyOne e us = refl
+lowered_same upper kinds.Xor e us = refl
+
+pub not_cut : (k : Kind) (us : List Atom) → false ≡ is_cut (body_of k us)
+not_cut kinds.Empty us = refl
+not_cut kinds.Or us = refl
+not_cut kinds.And us = refl
+not_cut kinds.AtMostOne us = refl
+not_cut kinds.ExactlyOne us = refl
+not_cut kinds.Xor us = refl
+
+pub cheap : (k : Kind) (us : List Atom) → true ≡ is_cheap (body_of k us)
+cheap kinds.Empty us = refl
+cheap kinds.Or us = refl
+cheap kinds.And us = refl
+cheap kinds.AtMostOne us = refl
+cheap kinds.ExactlyOne us = refl
+cheap kinds.Xor us = refl
+
+-- the task of a kind that is known
+pub Runs-kind : {E : Type 0} (e us : List Atom) (k j : Kind) (s u : Trail) (a : Result Step E) → k ≡ j → Runs (task_of e (body_of j us)) s u a → Runs (task_of e (body_of k us)) s u a
+Runs-kind e us k j s u a same h = subst (λ (i : Kind). Runs (task_of e (body_of i us)) s u a) (sym same) h

@@ -1,0 +1,42 @@
+-- All atoms of a list are to be true.
+use Rattle.std.proofs.Common.{Result, Ok, ◌≡◌, ℕ, ◌<◌, ℤ, true, false, List, [], ◌∷◌, length, get_or, refl, arith}
+use Rattle.std.specs.Prelude.{IfOk, OnOk}
+use Rattle.std.specs.List.{list_all, All}
+use Rattle.std.proofs.lemmas.List.Elements.{All-weaker}
+use Rattle.std.proofs.lemmas.List.Sums.{list_all-from_AllPass, AllPass-from_list_all}
+use Rattle.cps_literal.specs.declared.atom.Atom.{Atom}
+use Rattle.cps_literal.specs.Truth.{atom_holds}
+use Rattle.cps_instance.specs.declared.task.Body.{Body}
+use Rattle.cps_instance.specs.declared.task.Body.TheVariants.{BoolAnd}
+use Rattle.cps_instance.specs.Tasks.{HoldsBody, HoldsTask}
+use Rattle.cps_trail.specs.Trail.{Trail, IsTrueNow, IsFalseNow}
+use Rattle.cps_trail.specs.Adds.{Infers, Answers}
+use Rattle.cps_trail.proofs.Inferring.{stays_true}
+use Rattle.cps_trail.specs.declared.step.Step.{Step}
+use Rattle.cps_trail.specs.declared.step.Step.TheVariants.{Settled}
+use Rattle.cps_p_bool.specs.Denying.{Agrees, Gives, Excludes, task_of}
+use Rattle.cps_p_bool.specs.Rules.{Runs, IsPinned}
+use Rattle.cps_p_bool.proofs.Giving.{not_both}
+use Rattle.cps_p_bool.proofs.Limiting.{enforced_all}
+use Rattle.cps_p_bool.proofs.Running.{pinned_agrees, IsDecided-pinned}
+
+-- each atom is given, also when others were made true before
+pub Gives-and : (s v : Trail) (e us : List Atom) (i : ℕ) (z : Atom) → Infers (HoldsTask (task_of e (BoolAnd us))) s v → All (IsTrueNow s) e → i < length us → Gives v (task_of e (BoolAnd us)) [] (get_or us i z)
+Gives-and s v e us i z h trues l = record {
+  at = λ xs within holds agrees-e agrees.
+      AllPass-from_list_all (atom_holds xs) us (holds (enforced_all v e xs (All-weaker (IsTrueNow s) (IsTrueNow v) (stays_true (HoldsTask (task_of e (BoolAnd us))) s v h) e trues) agrees-e)) i z l;
+}
+
+pub Excludes-and : (s : Trail) (us : List Atom) (i : ℕ) (z : Atom) → i < length us → IsFalseNow s (get_or us i z) → Excludes s (BoolAnd us) (get_or us i z ∷ [])
+Excludes-and s us i z l f = record {
+  at = λ xs within holds agrees. not_both (atom_holds xs (get_or us i z)) (AllPass-from_list_all (atom_holds xs) us holds i z l) ((agrees 0 z (omega arith)).if_false f);
+}
+
+pub Runs-and : {E : Type 0} (s u : Trail) (e us : List Atom) (a : Result Step E) → OnOk a (Infers (HoldsTask (task_of e (BoolAnd us))) s u) → IfOk a (Answers (HoldsTask (task_of e (BoolAnd us))) u)
+    → (a ≡ Ok Settled → All (IsTrueNow u) us) → Runs (task_of e (BoolAnd us)) s u a
+Runs-and s u e us a i r made = record {
+  infers = i;
+  answers = r;
+  decided = λ is. IsDecided-pinned u e (BoolAnd us) us refl (λ xs pins. list_all-from_AllPass (atom_holds xs) us (λ k d l. (pinned_agrees u xs us pins k d l).if_true (made is k d l)));
+  strong = λ is _. record { body = λ _. made is };
+}

@@ -1,0 +1,13 @@
+pub mod Results
+pub mod Sought
+pub mod Denials
+pub mod Giving
+pub mod Counting
+pub mod Placing
+pub mod Running
+pub mod Needing
+pub mod Limiting
+pub mod Conjoining
+pub mod Parity
+pub mod Bodies
+pub mod Trying

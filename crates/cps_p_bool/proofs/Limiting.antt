@@ -1,0 +1,124 @@
+-- At most one atom of a list is to be true.
+use Rattle.std.proofs.Common.{Result, Ok, ◌≡◌, ◌≢◌, ℕ, ◌+◌, ◌<◌, ◌≤◌, ℤ, Bool, true, false, not, List, [], ◌∷◌, length, get_or, refl, sym, ◌∙◌, ap, subst, inl, inr, arith}
+use Rattle.std.specs.Prelude.{IfOk, OnOk}
+use Rattle.std.specs.List.{list_any, list_all, count_by, All}
+use Rattle.std.proofs.Math.Nat.{eq-or-lt_of_le}
+use Rattle.std.proofs.lemmas.List.{get_or_default}
+use Rattle.std.proofs.lemmas.List.Sums.{list_all-from_AllPass}
+use Rattle.cps_literal.specs.declared.atom.Atom.{Atom}
+use Rattle.cps_literal.specs.Truth.{atom_holds}
+use Rattle.cps_instance.specs.declared.task.Body.{Body}
+use Rattle.cps_instance.specs.declared.task.Body.TheVariants.{AtMostOne, ExactlyOne}
+use Rattle.cps_instance.specs.Tasks.{HoldsBody, HoldsTask, true_atoms}
+use Rattle.cps_trail.specs.Trail.{Trail, IsTrueNow, IsFalseNow}
+use Rattle.cps_trail.specs.Adds.{Infers, Answers}
+use Rattle.cps_trail.proofs.Inferring.{stays_false}
+use Rattle.cps_trail.specs.declared.step.Step.{Step}
+use Rattle.cps_trail.specs.declared.step.Step.TheVariants.{Settled}
+use Rattle.cps_propagate.specs.Strength.{IsStrong, IsStrongOr, IsStrongAtMostOne, IsStrongBody, OthersAre}
+use Rattle.cps_propagate.specs.Laws.{IsDecided}
+use Rattle.cps_p_bool.specs.Seeking.{IsInForce}
+use Rattle.cps_p_bool.specs.Denying.{Agrees, Gives, Excludes, task_of}
+use Rattle.cps_p_bool.specs.Rules.{Runs, IsPinned, IsAlone, LimitsToOne}
+use Rattle.cps_p_bool.proofs.Counting.{count_none, count_one, count_two}
+use Rattle.cps_p_bool.proofs.Denials.{IsOpposite, opposite_holds}
+use Rattle.cps_p_bool.proofs.Placing.{apart, same_or_not}
+use Rattle.cps_p_bool.proofs.Giving.{by_not_true, not_both}
+use Rattle.cps_p_bool.proofs.Running.{pinned_true, IsDecided-pinned, IsDecided-alone, Runs-settled, settled_infers, same_store}
+use Rattle.cps_p_bool.proofs.Results.{IfOk-map}
+
+pub all_true : (s : Trail) (e : List Atom) (last : ℕ) → IsInForce s e last → (last < length e → ⊥) → All (IsTrueNow s) e
+all_true s e last force all k d l = force.others k d l (λ same. all (omega (arith, l, same)))
+
+pub enforced_all : (s : Trail) (e : List Atom) (xs : List ℤ) → All (IsTrueNow s) e → All (Agrees s xs) e → list_all (atom_holds xs) e ≡ true
+enforced_all s e xs trues agrees = list_all-from_AllPass (atom_holds xs) e (λ k d l. (agrees k d l).if_true (trues k d l))
+
+-- two places whose atoms hold
+two_hold : (p : Atom → Bool) (us : List Atom) (c i : ℕ) → c < length us → i < length us → i ≢ c → ((d : Atom) → p (get_or us c d) ≡ true) → ((d : Atom) → p (get_or us i d) ≡ true) → 2 ≤ count_by p us
+two_hold p us c i l m ne h k = elim (apart i c ne) [ inl a ↦ count_two p us i c a l k h | inr a ↦ count_two p us c i a m h k ]
+
+module _ (b : Body) (us : List Atom) (n : LimitsToOne b us) where
+  -- another than the true atom is false
+  pub Gives-not : (s : Trail) (e : List Atom) (c i : ℕ) (z o : Atom) → All (IsTrueNow s) e → c < length us → i < length us → i ≢ c → ((d : Atom) → IsTrueNow s (get_or us c d)) → IsOpposite (get_or us i z) o
+      → Gives s (task_of e b) (get_or us c z ∷ []) o
+  Gives-not s e c i z o trues l m ne chosen opposite = record {
+    at = λ xs within holds agrees-e agrees.
+        opposite_holds (get_or us i z) o opposite xs ∙ ap not (by_not_true (atom_holds xs (get_or us i z)) (λ yes.
+        let here : atom_holds xs (get_or us c z) ≡ true = (agrees 0 z (omega arith)).if_true (chosen z) in
+        let two = two_hold (atom_holds xs) us c i l m ne (λ d. subst (λ (u : Atom). atom_holds xs u ≡ true) (get_or_default us c z d l) here) (λ d. subst (λ (u : Atom). atom_holds xs u ≡ true) (get_or_default us i z d m) yes) in
+        omega (arith, two, n.most xs (holds (enforced_all s e xs trues agrees-e)))));
+  }
+
+  -- two true atoms are too many
+  pub Excludes-two : (s : Trail) (c i : ℕ) (z : Atom) → c < i → i < length us → IsTrueNow s (get_or us c z) → IsTrueNow s (get_or us i z) → Excludes s b (get_or us c z ∷ get_or us i z ∷ [])
+  Excludes-two s c i z a l h k = record {
+    at = λ xs within holds agrees.
+        let first : atom_holds xs (get_or us c z) ≡ true = (agrees 0 z (omega arith)).if_true h in
+        let second : atom_holds xs (get_or us i z) ≡ true = (agrees 1 z (omega arith)).if_true k in
+        let two = count_two (atom_holds xs) us c i a l (λ d. subst (λ (u : Atom). atom_holds xs u ≡ true) (get_or_default us c z d (omega (arith, a, l))) first)
+        (λ d. subst (λ (u : Atom). atom_holds xs u ≡ true) (get_or_default us i z d l) second) in
+        omega (arith, two, n.most xs holds);
+  }
+
+  -- what `close` does
+  pub Runs-closed : {E : Type 0} (s u : Trail) (e : List Atom) (c : ℕ) (a : Result Step E) → c < length us → ((d : Atom) → IsFalseNow s (get_or us c d) → ⊥) → OthersAre (λ v. IsTrueNow s v → ⊥) us c
+      → OnOk a ((d : Body) → LimitsToOne d us → Infers (HoldsTask (task_of e d)) s u) → IfOk a (λ step. (d : Body) → LimitsToOne d us → Answers (HoldsTask (task_of e d)) u step)
+      → (a ≡ Ok Settled → IsAlone u us c) → Runs (task_of e b) s u a
+  Runs-closed {E} s u e c a l not_false not_true i r alone =
+      let infers = IfOk-map a {P = λ _. (d : Body) → LimitsToOne d us → Infers (HoldsTask (task_of e d)) s u} {Q = λ _. Infers (HoldsTask (task_of e b)) s u} (λ step h. h b n) i in
+      record {
+        infers = infers;
+        answers = IfOk-map a {P = λ step. (d : Body) → LimitsToOne d us → Answers (HoldsTask (task_of e d)) u step} {Q = Answers (HoldsTask (task_of e b)) u} (λ step h. h b n) r;
+        decided = λ is. IsDecided-alone u e b us c n.reads n.one l (alone is);
+        strong = λ is same.
+            let store = same_store (HoldsTask (task_of e b)) s u (settled_infers {E = E} s e b u a is infers) same in
+            subst (λ (v : Trail). IsStrong (task_of e b) v) (sym store) (record { body = λ _. n.strong s c l (subst (λ (v : Trail). IsAlone v us c) store (alone is)) not_false not_true });
+      }
+
+one_beside : (s : Trail) (us : List Atom) (c : ℕ) → IsAlone s us c → OthersAre (λ v. IsTrueNow s v → ⊥) us c → IsStrongAtMostOne s us
+one_beside s us c h not_true = record {
+  others = λ k d m t j w b ne. elim (same_or_not k c) [
+    | inl same ↦ h.others j w b (λ e. ne (e ∙ sym same))
+    | inr other ↦ absurd (not_true k d m other t)
+  ];
+}
+
+pub LimitsToOne-most : (us : List Atom) → LimitsToOne (AtMostOne us) us
+LimitsToOne-most us = record {
+  reads = refl;
+  most = λ xs h. h;
+  one = λ xs e. omega (arith, e);
+  strong = λ s c l h not_false not_true. one_beside s us c h not_true;
+}
+
+pub LimitsToOne-exactly : (us : List Atom) → LimitsToOne (ExactlyOne us) us
+LimitsToOne-exactly us = record {
+  reads = refl;
+  most = λ xs h. omega (arith, h);
+  one = λ xs e. e;
+  strong = λ s c l h not_false not_true. record {
+    one = record {
+      last = λ k d m others. elim (same_or_not k c) [
+        | inl same ↦ subst (λ (i : ℕ). IsTrueNow s (get_or us i d)) (sym same) (h.chosen d)
+        | inr ne ↦ absurd (not_false d (others c d l (λ e. ne (sym e))))
+      ];
+    };
+    most = one_beside s us c h not_true;
+  };
+}
+
+-- no atom is true
+pub Runs-none : {E : Type 0} (s : Trail) (e us : List Atom) → All (λ v. IsTrueNow s v → ⊥) us → Runs {E = E} (task_of e (AtMostOne us)) s s (Ok Settled)
+Runs-none s e us none = Runs-settled s e (AtMostOne us)
+    (IsDecided-pinned s e (AtMostOne us) us refl (λ xs pins.
+    let zero_true : true_atoms xs us ≡ 0 = count_none (atom_holds xs) us (λ k d l. by_not_true (atom_holds xs (get_or us k d)) (λ yes. none k d l (pinned_true s xs (get_or us k d) (pins k d l) yes))) in
+    omega (arith, zero_true)))
+    (record { body = λ _. record { others = λ k d m t. absurd (none k d m t) } })
+
+-- the atoms made false so far, and one more
+pub closed_more : (C : List ℤ → Type 0) (s u : Trail) (us : List Atom) (c i : ℕ) → Infers C s u → ((k : ℕ) (d : Atom) → k < i → k < length us → k ≢ c → IsFalseNow s (get_or us k d)) → (i ≢ c → (d : Atom) → IsFalseNow u (get_or us i d))
+    → (k : ℕ) (d : Atom) → k < i + 1 → k < length us → k ≢ c → IsFalseNow u (get_or us k d)
+closed_more C s u us c i h before here k d b l ne = elim (eq-or-lt_of_le {n = k} {m = i} (omega (arith, b))) [
+  | inl e ↦ subst (λ (j : ℕ). IsFalseNow u (get_or us j d)) (sym e) (here (λ f. ne (e ∙ f)) d)
+  | inr j ↦ stays_false C s u h (get_or us k d) (before k d j l ne)
+]
