@@ -1,0 +1,76 @@
+//! What a bound on a term leaves to its subject.
+ghost use Rattle.std.specs.Prelude.{◌≡◌, ◌≢◌, ◌<◌, ◌^◌, ℤ, pos, false, unsigned_abs};
+ghost use Rattle.cps_domain.specs.Division.{IsFloor, IsCeil};
+ghost use Rattle.cps_p_linear.specs.Ends.{far_end_at};
+ghost use Rattle.cps_p_linear.specs.Cuts.{IsTermCut};
+
+use crate::ends::{Ends, Side};
+use cps_domain::{ceil_div, floor_div};
+use cps_instance::Term;
+use cps_literal::{Atom, Op};
+
+/// An atom, and by how much more than the room the term is off where the atom is false.
+#[derive(Clone, Copy)]
+pub(crate) struct TermCut {
+    pub(crate) atom: Atom,
+    pub(crate) slack: u64,
+}
+
+/// A number that is divided by another.
+#[derive(Clone, Copy)]
+struct Fraction {
+    dividend: i64,
+    divisor: i64,
+}
+
+/// The quotient, rounded down.
+fn floor(fraction: &Fraction) -> i64
+    requires nonzero { fraction.now.divisor ≢ pos 0 }
+    requires small { unsigned_abs fraction.now.dividend < 2 ^ 63 }
+    ensures { IsFloor fraction.now.dividend fraction.now.divisor result }
+{
+    let quotient = floor_div(i128::from(fraction.dividend), i128::from(fraction.divisor));
+    quotient as i64
+}
+
+/// The quotient, rounded up.
+fn ceil(fraction: &Fraction) -> i64
+    requires nonzero { fraction.now.divisor ≢ pos 0 }
+    requires small { unsigned_abs fraction.now.dividend < 2 ^ 63 }
+    ensures { IsCeil fraction.now.dividend fraction.now.divisor result }
+{
+    let quotient = ceil_div(i128::from(fraction.dividend), i128::from(fraction.divisor));
+    quotient as i64
+}
+
+/// The atom that leaves the term within its room: at most the room's high end where the others are bounded from below, at least
+/// its low end where they are bounded from above.
+pub(crate) fn term_cut(side: Side, term: &Term, room: &Ends) -> TermCut
+    requires nonzero { term.now.coeff ≢ pos 0 }
+    requires low { unsigned_abs room.now.low < 2 ^ 63 }
+    requires high { unsigned_abs room.now.high < 2 ^ 63 }
+    ensures { IsTermCut side term.now (far_end_at side room.now) result }
+{
+    let dividend = match side {
+        Side::Low => room.high,
+        Side::High => room.low,
+    };
+    let fraction = Fraction {
+        dividend,
+        divisor: term.coeff,
+    };
+    let atom = if (term.coeff > 0) == (side == Side::Low) {
+        Atom {
+            subject: term.subject,
+            op: Op::Le,
+            value: floor(&fraction),
+        }
+    } else {
+        Atom {
+            subject: term.subject,
+            op: Op::Ge,
+            value: ceil(&fraction),
+        }
+    };
+    TermCut { atom, slack: 0 }
+}
