@@ -1,18 +1,22 @@
 -- What terms can be where each subject's values lie between two ends.
-use Rattle.std.specs.Prelude.{◌≡◌, ℕ, ◌+◌, ◌*◌, ◌<◌, ◌^◌, ◌-◌, max, ℤ, pos, negsuc, ◌+ℤ◌, ◌*ℤ◌, ◌≤ℤ◌, int_le, if◌then◌else◌, unsigned_abs, Bool, List, [], ◌∷◌, length, All}
+use Rattle.std.specs.Prelude.{◌≡◌, ℕ, ◌+◌, ◌*◌, ◌<◌, ◌^◌, ◌-◌, max, ℤ, pos, negsuc, ◌+ℤ◌, ◌*ℤ◌, ◌≤ℤ◌, int_le, int_lt, if◌then◌else◌, unsigned_abs, Bool, List, [], ◌∷◌, length, All}
 use Rattle.std.specs.List.{AllZip}
 use Rattle.cps_instance.specs.declared.term.Term.{Term}
-use Rattle.cps_instance.specs.Terms.{Domains, AreIntervals, domain_at, terms_reach}
+use Rattle.cps_instance.specs.Terms.{Domains, AreIntervals, domain_at, magnitude, terms_reach}
 use Rattle.cps_trail.specs.Trail.{Trail}
 use Rattle.cps_propagate.specs.Now.{IsOpenTo}
 use Rattle.cps_p_linear.specs.declared.ends.Ends.{Ends}
 use Rattle.cps_p_linear.specs.declared.ends.Side.{Side}
 use Rattle.cps_p_linear.specs.declared.ends.Side.TheVariants.{Low, High}
 
+-- whether the greatest value of a term's subject bounds the term: from below with a coefficient below 0, from above with another
+abbrev pub is_upper : Side → ℤ → Bool
+is_upper Low c = int_lt c (pos 0)
+is_upper High c = int_le (pos 0) c
+
 -- the value at which a term is least, and the one at which it is greatest
 unfoldable pub value_at_end : Side → Term → Ends → ℤ
-value_at_end Low t e = if int_le (pos 0) t.coeff then e.low else e.high
-value_at_end High t e = if int_le (pos 0) t.coeff then e.high else e.low
+value_at_end side t e = if is_upper side t.coeff then e.high else e.low
 
 -- the least that a term is, and the greatest
 abbrev pub term_end : Side → Term → Ends → ℤ
@@ -41,6 +45,7 @@ pub record IsBounded (s : Trail) (t : Term) (e : Ends) : Type 0 where
   pub ordered : e.low ≤ℤ e.high
   pub low : negsuc (2 ^ 62 - 2) ≤ℤ e.low
   pub high : e.high ≤ℤ pos (2 ^ 62 - 1)
+  pub reach : reach_of t e ≤ unsigned_abs t.coeff * magnitude (domain_at s.first t.subject)
 
 -- ends that its values reach
 pub record IsHull (s : Trail) (t : Term) (e : Ends) : Type 0 where
@@ -54,20 +59,25 @@ AreBounded s ts es = AllZip (IsBounded s) ts es
 abbrev pub AreHulls : Trail → List Term → List Ends → Type 0
 AreHulls s ts es = AllZip (IsHull s) ts es
 
--- at most so much below a bound from below, or above one from above
-abbrev pub IsBeyond : Side → ℕ → ℤ → ℤ → Type 0
-IsBeyond Low slack bound v = bound ≤ℤ (v +ℤ pos slack)
-IsBeyond High slack bound v = v ≤ℤ (bound +ℤ pos slack)
+-- the ends of a sum are those of its terms
+pub record AreSumEnds (ts : List Term) (es : List Ends) (sum : Ends) : Type 0 where
+  pub low : sum.low ≡ sum_end Low ts es
+  pub high : sum.high ≡ sum_end High ts es
 
--- on the other side of a bound, by more than so much
-abbrev pub IsPast : Side → ℕ → ℤ → ℤ → Type 0
-IsPast Low slack bound v = (bound +ℤ pos (slack + 1)) ≤ℤ v
-IsPast High slack bound v = (v +ℤ pos (slack + 1)) ≤ℤ bound
+abbrev pub opposite : Side → Side
+opposite Low = High
+opposite High = Low
 
 abbrev pub end_at : Side → Ends → ℤ
 end_at Low e = e.low
 end_at High e = e.high
 
-abbrev pub far_end_at : Side → Ends → ℤ
-far_end_at Low e = e.high
-far_end_at High e = e.low
+-- a number is within so much of a bound from below, or of one from above
+abbrev pub IsWithinOf : Side → ℕ → ℤ → ℤ → Type 0
+IsWithinOf Low slack bound v = bound ≤ℤ (v +ℤ pos slack)
+IsWithinOf High slack bound v = v ≤ℤ (bound +ℤ pos slack)
+
+-- a number is on the other side of a bound, by more than so much
+abbrev pub IsPast : Side → ℕ → ℤ → ℤ → Type 0
+IsPast Low slack bound v = (v +ℤ pos (slack + 1)) ≤ℤ bound
+IsPast High slack bound v = (bound +ℤ pos (slack + 1)) ≤ℤ v

@@ -1,2 +1,5 @@
 pub mod Ends
 pub mod Cuts
+pub mod Admitting
+pub mod Supporting
+pub mod Rooms

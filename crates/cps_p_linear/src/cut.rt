@@ -1,10 +1,10 @@
 //! What a bound on a term leaves to its subject.
 ghost use Rattle.std.specs.Prelude.{◌≡◌, ◌≢◌, ◌<◌, ◌^◌, ℤ, pos, false, unsigned_abs};
 ghost use Rattle.cps_domain.specs.Division.{IsFloor, IsCeil};
-ghost use Rattle.cps_p_linear.specs.Ends.{far_end_at};
+ghost use Rattle.cps_p_linear.specs.Ends.{end_at};
 ghost use Rattle.cps_p_linear.specs.Cuts.{IsTermCut};
 
-use crate::ends::{Ends, Side};
+use crate::ends::{Ends, Side, is_upper};
 use cps_domain::{ceil_div, floor_div};
 use cps_instance::Term;
 use cps_literal::{Atom, Op};
@@ -43,34 +43,33 @@ fn ceil(fraction: &Fraction) -> i64
     quotient as i64
 }
 
-/// The atom that leaves the term within its room: at most the room's high end where the others are bounded from below, at least
-/// its low end where they are bounded from above.
+/// The atom that leaves a term within an end of its room.
 pub(crate) fn term_cut(side: Side, term: &Term, room: &Ends) -> TermCut
     requires nonzero { term.now.coeff ≢ pos 0 }
     requires low { unsigned_abs room.now.low < 2 ^ 63 }
     requires high { unsigned_abs room.now.high < 2 ^ 63 }
-    ensures { IsTermCut side term.now (far_end_at side room.now) result }
+    ensures { IsTermCut side term.now (end_at side room.now) result }
 {
-    let dividend = match side {
-        Side::Low => room.high,
-        Side::High => room.low,
-    };
     let fraction = Fraction {
-        dividend,
+        dividend: match side {
+            Side::Low => room.low,
+            Side::High => room.high,
+        },
         divisor: term.coeff,
     };
-    let atom = if (term.coeff > 0) == (side == Side::Low) {
-        Atom {
+    if is_upper(side, term) {
+        let atom = Atom {
             subject: term.subject,
             op: Op::Le,
             value: floor(&fraction),
-        }
+        };
+        TermCut { atom, slack: 0 }
     } else {
-        Atom {
+        let atom = Atom {
             subject: term.subject,
             op: Op::Ge,
             value: ceil(&fraction),
-        }
-    };
-    TermCut { atom, slack: 0 }
+        };
+        TermCut { atom, slack: 0 }
+    }
 }

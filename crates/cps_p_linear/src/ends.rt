@@ -1,6 +1,6 @@
 //! The least and the greatest that terms and their sum can be.
 ghost use Rattle.std.specs.Prelude.{◌≡◌, ◌+◌, ◌<◌, ◌^◌, ◌+ℤ◌, unsigned_abs, IfOk, OnOk};
-ghost use Rattle.cps_p_linear.specs.Ends.{term_end, sum_end, reach_of, AreMeasurable, AreHulls};
+ghost use Rattle.cps_p_linear.specs.Ends.{is_upper, value_at_end, term_end, reach_of, AreMeasurable, AreHulls, AreSumEnds};
 
 use cps_instance::Term;
 use cps_trail::Store;
@@ -22,22 +22,36 @@ pub(crate) struct Ends {
     pub(crate) high: i64,
 }
 
+/// Whether the greatest value of a term's subject bounds the term from this side.
+pub(crate) fn is_upper(side: Side, term: &Term) -> bool
+    ensures { result ≡ is_upper side term.now.coeff }
+{
+    match side {
+        Side::Low => term.coeff < 0,
+        Side::High => term.coeff >= 0,
+    }
+}
+
+/// The value at which a term is least, or greatest.
+fn value_at(side: Side, term: &Term, values: &Ends) -> i64
+    ensures { result ≡ value_at_end side term.now values.now }
+{
+    if is_upper(side, term) {
+        values.high
+    } else {
+        values.low
+    }
+}
+
 /// The ends of a term, by those of its subject's values.
 pub(crate) fn term_ends(term: &Term, values: &Ends) -> Ends
     requires { reach_of term.now values.now < 2 ^ 63 }
     ensures low { result.low ≡ term_end Side.Low term.now values.now }
     ensures high { result.high ≡ term_end Side.High term.now values.now }
 {
-    if term.coeff >= 0 {
-        Ends {
-            low: term.coeff * values.low,
-            high: term.coeff * values.high,
-        }
-    } else {
-        Ends {
-            low: term.coeff * values.high,
-            high: term.coeff * values.low,
-        }
+    Ends {
+        low: term.coeff * value_at(Side::Low, term, values),
+        high: term.coeff * value_at(Side::High, term, values),
     }
 }
 
@@ -62,8 +76,7 @@ pub(crate) fn measure(
 ) -> Result<Ends, AllocError>
     requires { AreMeasurable store.now.first terms.now }
     ensures hulls { OnOk result (AreHulls store.now terms.now values.new.items) }
-    ensures low { IfOk result (λ sum. sum.low ≡ sum_end Side.Low terms.now values.new.items) }
-    ensures high { IfOk result (λ sum. sum.high ≡ sum_end Side.High terms.now values.new.items) }
+    ensures sum { IfOk result (AreSumEnds terms.now values.new.items) }
 {
     values.clear();
     let mut sum = Ends { low: 0, high: 0 };

@@ -8,5 +8,7 @@
 //! explanations of Ohrimenko, Stuckey and Codish, "Propagation via lazy clause generation" (2009), section 4.
 #![tactic(auto)]
 
+mod admitted;
 mod cut;
 mod ends;
+mod facts;

@@ -1,0 +1,73 @@
+//! The facts of an explanation: bounds that are true in the store.
+ghost use Rattle.std.specs.Prelude.{◌≡◌, ◌<◌, ◌≤◌, [], ◌∷◌, length, All, OnOk};
+ghost use Rattle.cps_p_linear.specs.Ends.{IsBounded, AreBounded};
+ghost use Rattle.cps_p_linear.specs.Cuts.{IsBoundOf};
+ghost use Rattle.cps_p_linear.specs.Supporting.{AreFacts, Supports};
+
+use crate::ends::{Ends, Side, is_upper};
+use cps_instance::Term;
+use cps_literal::{Atom, Op};
+use cps_trail::Store;
+use std::alloc::AllocError;
+
+/// Atoms that are true, and by how much the bounds that are still to be added may be weakened in all.
+#[derive(Drop)]
+pub(crate) struct Facts {
+    pub(crate) atoms: Vec<Atom>,
+    pub(crate) slack: u64,
+}
+
+/// The atom that bounds a term from one side.
+fn bound_of(side: Side, term: &Term, values: &Ends) -> Atom
+    ensures { IsBoundOf side term.now values.now result }
+{
+    if is_upper(side, term) {
+        Atom {
+            subject: term.subject,
+            op: Op::Le,
+            value: values.high,
+        }
+    } else {
+        Atom {
+            subject: term.subject,
+            op: Op::Ge,
+            value: values.low,
+        }
+    }
+}
+
+/// Adds a bound of one term.
+fn support_term(
+    store: &Store,
+    side: Side,
+    term: &Term,
+    values: &Ends,
+    facts: &mut Facts,
+) -> Result<(), AllocError>
+    requires subject { term.now.subject < length store.now.first }
+    requires bounded { IsBounded store.now term.now values.now }
+    requires facts { AreFacts store.now facts.old.atoms.items }
+    ensures { OnOk result (Supports store.now side (term.now ∷ []) (values.now ∷ []) facts.old facts.new) }
+{
+    facts.atoms.push(bound_of(side, term, values))?;
+    Ok(())
+}
+
+/// Adds a bound of each term.
+pub(crate) fn support(
+    store: &Store,
+    side: Side,
+    terms: &[Term],
+    values: &[Ends],
+    facts: &mut Facts,
+) -> Result<(), AllocError>
+    requires subjects { All (λ t. t.subject < length store.now.first) terms.now }
+    requires bounded { AreBounded store.now terms.now values.now }
+    requires facts { AreFacts store.now facts.old.atoms.items }
+    ensures { OnOk result (Supports store.now side terms.now values.now facts.old facts.new) }
+{
+    for (k, term) in terms.iter().enumerate() {
+        support_term(store, side, term, &values[k], facts)?;
+    }
+    Ok(())
+}
