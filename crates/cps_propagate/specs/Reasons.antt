@@ -1,5 +1,5 @@
 -- How an explanation is made: from facts that are true in the store.
-use Rattle.std.specs.Prelude.{◌≡◌, ◌⊎◌, ℕ, ◌<◌, ℤ, ◌||◌, not, [], ◌∷◌, ◌++◌, length, List, All, Contains}
+use Rattle.std.specs.Prelude.{◌≡◌, ◌⊎◌, ℕ, ◌+◌, ◌<◌, ◌≤◌, ℤ, ◌||◌, not, [], ◌∷◌, ◌++◌, length, List, All, Contains}
 use Rattle.std.specs.List.{list_all}
 use Rattle.cps_literal.specs.declared.atom.Atom.{Atom}
 use Rattle.cps_literal.specs.Truth.{atom_holds, clause_holds}
@@ -18,15 +18,16 @@ pub record Refutes (old new facts : List Atom) : Type 0 where
   pub false_now : (s : Trail) → All (IsTrueNow s) facts → (u : Atom) → Contains new u → Contains old u ⊎ IsFalseNow s u
   pub subjects : (n : ℕ) → All (λ u. u.subject < n) facts → All (λ u. u.subject < n) old → All (λ u. u.subject < n) new
 
--- an atom was made true for a reason, or was true already
-abbrev pub IsMadeTrue : Trail → Trail → Atom → List Atom → Type 0
-IsMadeTrue old new t reason = (new ≡ old) ⊎ IsNarrowed old new t reason
-
+-- one more entry, at the present level
 pub record IsNarrowed (old new : Trail) (t : Atom) (reason : List Atom) : Type 0 where
   pub pushed : new ≡ record old { entries = old.entries ++ record { atom = t; level = old.level; reason = Because reason } ∷ [] }
   pub fewer : open_values new.first new.entries + 1 ≤ open_values old.first old.entries
 
--- what an answer says of an atom that was to be made true: it is true, or the reason is the conflict and it is false
+-- a store gained an entry for an atom, or stayed as it was
+abbrev pub IsMadeTrue : Trail → Trail → Atom → List Atom → Type 0
+IsMadeTrue old new t reason = (new ≡ old) ⊎ IsNarrowed old new t reason
+
+-- what an answer says of an atom that was to be made true: it is true, or the reason is the conflict, and false as a whole
 abbrev pub IsSaidOf : Trail → Atom → List Atom → Step → Type 0
 IsSaidOf s t reason Settled = IsTrueNow s t
-IsSaidOf s t reason (Conflict clause) = (clause ≡ reason) × IsFalseNow s t
+IsSaidOf s t reason (Conflict clause) = (clause ≡ reason) × All (IsFalseNow s) clause
