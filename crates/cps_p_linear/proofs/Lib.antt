@@ -1,2 +1,5 @@
 pub mod Quotients
 pub mod Reaching
+pub mod Supports
+pub mod Strong
+pub mod Scanning

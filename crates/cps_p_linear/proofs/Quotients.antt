@@ -1,12 +1,17 @@
 -- How large a rounded quotient is, and what lies beyond it.
 use Rattle.std.specs.Prelude.{unsigned_abs, int_le, int_lt}
-use Rattle.std.proofs.Common.{◌≡◌, ◌≢◌, ◌⊎◌, inl, inr, ℕ, zero, suc, ◌+◌, ◌<◌, ◌≤◌, ◌^◌, ◌-◌, ℤ, pos, negsuc, ◌+ℤ◌, ◌-ℤ◌, ◌*ℤ◌, ◌≤ℤ◌, ◌<ℤ◌, arith, Bool, true, false, ap, refl, sym, ◌∙◌}
+use Rattle.std.proofs.Common.{◌≡◌, ◌≢◌, ◌⊎◌, inl, inr, ℕ, zero, suc, ◌+◌, ◌<◌, ◌≤◌, ◌^◌, ◌-◌, ℤ, pos, negsuc, ◌+ℤ◌, ◌-ℤ◌, ◌*ℤ◌, ◌≤ℤ◌, ◌<ℤ◌, arith, Bool, true, false, ap, refl, sym, subst, ◌∙◌}
 use Rattle.std.proofs.lemmas.Int.{ints, by_lt_z}
 use Rattle.std.proofs.Math.IntN.{*ℤ_comm}
 use Rattle.cps_domain.specs.Division.{IsFloor, IsCeil}
 use Rattle.cps_domain.proofs.Products.{times_grows, times_shrinks}
 use Rattle.cps_domain.proofs.Tests.{true_le, false_le, le_true, le_false}
 use Rattle.cps_instance.specs.declared.term.Term.{Term}
+use Rattle.cps_literal.specs.declared.atom.Op.{Op}
+use Rattle.cps_literal.specs.declared.atom.Op.TheVariants.{Le, Ge}
+use Rattle.cps_literal.specs.Truth.{meets}
+use Rattle.cps_p_linear.specs.declared.cut.TermCut.{TermCut}
+use Rattle.cps_p_linear.specs.Cuts.{IsTermCut}
 use Rattle.cps_p_linear.specs.declared.ends.Ends.{Ends}
 use Rattle.cps_p_linear.specs.declared.ends.Side.{Side}
 use Rattle.cps_p_linear.specs.declared.ends.Side.TheVariants.{Low, High}
@@ -76,10 +81,10 @@ ceil_down a d q f p =
 pub ceil_size : (a d q : ℤ) → IsCeil a d q → d ≢ pos 0 → unsigned_abs q ≤ unsigned_abs a
 ceil_size a d q f n = elim (not_zero d n) [ inl p ↦ ceil_up a d q f p | inr p ↦ ceil_down a d q f p ]
 
-test_below : (c : ℤ) → int_lt c (pos 0) ≡ true → c <ℤ pos 0
+pub test_below : (c : ℤ) → int_lt c (pos 0) ≡ true → c <ℤ pos 0
 test_below c h = grind (arith, ints)
 
-test_not_below : (c : ℤ) → int_lt c (pos 0) ≡ false → pos 0 ≤ℤ c
+pub test_not_below : (c : ℤ) → int_lt c (pos 0) ≡ false → pos 0 ≤ℤ c
 test_not_below c h = grind (arith, ints)
 
 above_zero : (c : ℤ) → c ≢ pos 0 → pos 0 ≤ℤ c → pos 0 <ℤ c
@@ -102,3 +107,24 @@ down_within High a c q x n u f h = let p = false_le (pos 0) c u in let one = (f.
 down_past : (side : Side) (a c q x : ℤ) → c ≢ pos 0 → is_upper side c ≡ false → IsCeil a c q → x <ℤ q → IsPast side 0 a (c *ℤ x)
 down_past Low a c q x n u f h = let p = above_zero c n (test_not_below c u) in let one = (f.positive p).1 in let g = times_grows c x (q -ℤ pos 1) (omega (arith, ints)) (omega (arith, ints)) in let m = *ℤ_comm c (q -ℤ pos 1) in omega (arith, ints)
 down_past High a c q x n u f h = let p = false_le (pos 0) c u in let one = (f.negative p).1 in let g = times_shrinks c x (q -ℤ pos 1) (omega (arith, ints)) (omega (arith, ints)) in let m = *ℤ_comm c (q -ℤ pos 1) in omega (arith, ints)
+
+module _ (side : Side) (t : Term) (a q : ℤ) (u : TermCut) (n : t.coeff ≢ pos 0) (subject : u.atom.subject ≡ t.subject) (no_slack : u.slack ≡ 0) where
+  pub cut_up : u.atom.op ≡ Le → u.atom.value ≡ q → is_upper side t.coeff ≡ true → IsFloor a t.coeff q → IsTermCut side t a u
+  cut_up op value up f = record {
+    subject = subject;
+    within = λ x m. up_within side a t.coeff q x n up f (true_le x q (meets_as true op value x m));
+    past = λ x m. subst (λ k. IsPast side k a (t.coeff *ℤ x)) (sym no_slack) (up_past side a t.coeff q x n up f (false_le x q (meets_as false op value x m)));
+  }
+    where
+      meets_as : (b : Bool) → u.atom.op ≡ Le → u.atom.value ≡ q → (x : ℤ) → meets u.atom.op u.atom.value x ≡ b → int_le x q ≡ b
+      meets_as b o v x m = subst (λ (w : ℤ). meets Le w x ≡ b) v (subst (λ (p : Op). meets p u.atom.value x ≡ b) o m)
+
+  pub cut_down : u.atom.op ≡ Ge → u.atom.value ≡ q → is_upper side t.coeff ≡ false → IsCeil a t.coeff q → IsTermCut side t a u
+  cut_down op value up f = record {
+    subject = subject;
+    within = λ x m. down_within side a t.coeff q x n up f (true_le q x (meets_as true op value x m));
+    past = λ x m. subst (λ k. IsPast side k a (t.coeff *ℤ x)) (sym no_slack) (down_past side a t.coeff q x n up f (false_le q x (meets_as false op value x m)));
+  }
+    where
+      meets_as : (b : Bool) → u.atom.op ≡ Ge → u.atom.value ≡ q → (x : ℤ) → meets u.atom.op u.atom.value x ≡ b → int_le q x ≡ b
+      meets_as b o v x m = subst (λ (w : ℤ). meets Ge w x ≡ b) v (subst (λ (p : Op). meets p u.atom.value x ≡ b) o m)

@@ -143,3 +143,28 @@ measured_more s ts k es sum new t e own so l is hull el eh nl nh =
       low_size = omega arith;
       high_size = omega arith;
     }
+
+pub zip_at : {A B : Type 0} (R : A → B → Type 0) (xs : List A) (ys : List B) (k : ℕ) (d : A) (e : B) → AllZip R xs ys → k < length xs → R (get_or xs k d) (get_or ys k e)
+zip_at R [] ys k d e h l = absurd (omega arith)
+zip_at R (x ∷ xs) [] k d e h l = absurd h
+zip_at R (x ∷ xs) (y ∷ ys) zero d e h l = h.0
+zip_at R (x ∷ xs) (y ∷ ys) (suc k) d e h l = zip_at R xs ys k d e h.1 (omega arith)
+
+-- one term goes no further than all
+pub reach_at : (ds : Domains) (ts : List Term) (k : ℕ) (d : Term) → k < length ts → unsigned_abs (get_or ts k d).coeff * magnitude (domain_at ds (get_or ts k d).subject) ≤ terms_reach ds ts
+reach_at ds [] k d l = absurd (omega arith)
+reach_at ds (t ∷ ts) zero d l = omega arith
+reach_at ds (t ∷ ts) (suc k) d l = let rest = reach_at ds ts k d (omega arith) in omega arith
+
+pub term_reach : (s : Trail) (ts : List Term) (k : ℕ) (d : Term) (e : Ends) → AreMeasurable s.first ts → k < length ts → IsBounded s (get_or ts k d) e → reach_of (get_or ts k d) e < 2 ^ 63
+term_reach s ts k d e m l b =
+    let near = b.reach in
+    let whole = reach_at s.first ts k d l in
+    let small = m.small in
+    omega arith
+
+-- the ends that were read of a term's subject
+pub read_hull : (s : Trail) (ts : List Term) (k : ℕ) (d : Term) (w : Window) (m n : ℤ) → AreMeasurable s.first ts → k < length ts → ((x : ℤ) → contains w x ≡ admits s.first s.entries (get_or ts k d).subject x)
+    → contains w m ≡ true → ((x : ℤ) → contains w x ≡ true → m ≤ℤ x) → negsuc (2 ^ 62 - 2) ≤ℤ m → contains w n ≡ true → ((x : ℤ) → contains w x ≡ true → x ≤ℤ n) → n ≤ℤ pos (2 ^ 62 - 1)
+    → IsHull s (get_or ts k d) (record { low = m; high = n })
+read_hull s ts k d w m n are l same wl least low wh greatest high = hull_of s (get_or ts k d) w (record { low = m; high = n }) (are.sound k d l) same wl least low wh greatest high

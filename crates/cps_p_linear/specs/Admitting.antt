@@ -1,5 +1,5 @@
 -- Which sums are admitted, and the task that a sum stands for.
-use Rattle.std.specs.Prelude.{◌≡◌, ℕ, ◌+◌, ◌<◌, ◌^◌, ℤ, pos, negsuc, ◌≤ℤ◌, IsTrue, Bool, true, unsigned_abs, Option, Some, None, List, [], ◌∷◌}
+use Rattle.std.specs.Prelude.{◌≡◌, ℕ, ◌+◌, ◌<◌, ◌≤◌, ◌^◌, ℤ, pos, negsuc, ◌≤ℤ◌, IsTrue, Bool, true, unsigned_abs, Option, Some, None, List, [], ◌∷◌}
 use Rattle.std.specs.List.{list_all}
 use Rattle.cps_model.specs.Within.{is_within, is_allowed, is_well_shaped}
 use Rattle.cps_domain.specs.Window.{equals}

@@ -1,5 +1,5 @@
 -- What terms can be where each subject's values lie between two ends.
-use Rattle.std.specs.Prelude.{◌≡◌, ℕ, ◌+◌, ◌*◌, ◌<◌, ◌^◌, ◌-◌, max, ℤ, pos, negsuc, ◌+ℤ◌, ◌*ℤ◌, ◌≤ℤ◌, int_le, int_lt, if◌then◌else◌, unsigned_abs, Bool, List, [], ◌∷◌, length, All}
+use Rattle.std.specs.Prelude.{◌≡◌, ℕ, ◌+◌, ◌*◌, ◌<◌, ◌≤◌, ◌^◌, ◌-◌, max, ℤ, pos, negsuc, ◌+ℤ◌, ◌*ℤ◌, ◌≤ℤ◌, int_le, int_lt, if◌then◌else◌, unsigned_abs, Bool, List, [], ◌∷◌, length, All}
 use Rattle.std.specs.List.{AllZip}
 use Rattle.cps_instance.specs.declared.term.Term.{Term}
 use Rattle.cps_instance.specs.Terms.{Domains, AreIntervals, domain_at, magnitude, terms_reach}
