@@ -7,10 +7,12 @@
 //! bounds and domain propagation lead to the same search space" (2005).
 #![tactic(auto)]
 
+mod engine;
 mod explain;
 mod propagator;
 mod subjects;
 
+pub use engine::Engine;
 pub use explain::{narrow, refute};
 pub use propagator::Propagator;
 pub use subjects::{push_atom_subjects, push_term_subjects};

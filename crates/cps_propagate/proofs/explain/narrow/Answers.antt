@@ -1,4 +1,4 @@
-use Rattle.std.proofs.Common.{ap, Ok, ◌≡◌, ◌∙◌, subst, sym, List}
+use Rattle.std.proofs.Common.{ap, Ok, subst, sym, List}
 use Rattle.std.specs.List.{All}
 use Rattle.cps_literal.specs.declared.atom.Atom.{Atom}
 use Rattle.cps_trail.specs.Trail.{IsFalseNow}
