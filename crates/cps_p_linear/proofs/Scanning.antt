@@ -1,7 +1,8 @@
 -- The first number from one on of well shaped bounds, and the last up to one.
 use Rattle.std.specs.Prelude.{int_le, int_lt, ◌&&◌, ◌||◌, IsTrue, MatchOption, Option, Some, None}
-use Rattle.std.proofs.Common.{◌≡◌, ◌⊎◌, inl, inr, ℕ, zero, suc, ◌+◌, ◌<◌, ◌≤◌, ◌-◌, ℤ, pos, negsuc, ◌+ℤ◌, ◌≤ℤ◌, ◌<ℤ◌, arith, Bool, true, false, ap, refl, sym, ◌∙◌, List, [], ◌∷◌, length, drop, get_or, subst}
+use Rattle.std.proofs.Common.{◌≡◌, ◌⊎◌, inl, inr, ℕ, zero, suc, ◌+◌, ◌<◌, ◌≤◌, ◌-◌, ℤ, pos, negsuc, ◌+ℤ◌, ◌≤ℤ◌, ◌<ℤ◌, arith, Bool, true, false, ap, refl, sym, ◌∙◌, List, [], ◌∷◌, length, take, drop, get_or, subst}
 use Rattle.std.proofs.lemmas.Int.{ints}
+use Rattle.std.proofs.lemmas.List.{take_rest}
 use Rattle.cps_model.specs.Within.{is_within, is_well_shaped, begins_after}
 use Rattle.cps_domain.proofs.Tests.{true_le, le_true, or_cases, or_right, both, first_of_both, second_of_both}
 use Rattle.cps_propagate.specs.Strength.{IsFirstFrom, IsLastUpTo}
@@ -89,6 +90,10 @@ rest_more bounds (a ∷ (b ∷ rs)) low l p h = record {
   shaped = (first_pair a b rs h.shaped).rest;
 }
 
+-- the rest as a slice has it
+pub rest_on : (bounds rest : List ℤ) (low : ℤ) → 2 ≤ length rest → get_or rest 1 (pos 0) <ℤ low → IsRest bounds rest low → IsRest bounds (take (length rest - 2) (drop 2 rest)) low
+rest_on bounds rest low l p h = subst (λ ys. IsRest bounds ys low) (sym (take_rest rest 2)) (rest_more bounds rest low l p h)
+
 none_within : (rest : List ℤ) (v : ℤ) → length rest < 2 → is_within rest v ≡ true → ⊥
 none_within [] v l w = cc
 none_within (a ∷ []) v l w = cc
@@ -164,3 +169,6 @@ last_more bounds (a ∷ (b ∷ rs)) high f found l e p h =
         let o = (first_pair a b rs k.shaped).ordered in
         let less = k.last.3 b (between a b b rs o (omega (arith, ints))) in
         elim (k.last.2 v w) [ inl y ↦ inl (omega (arith, ints)) | inr y ↦ here v k.shaped y ]
+
+pub last_on : (bounds rest : List ℤ) (high f : ℤ) (found : Option ℤ) → 2 ≤ length rest → f ≡ get_or rest 1 (pos 0) → get_or rest 1 (pos 0) <ℤ high → LastSoFar bounds rest high found → LastSoFar bounds (take (length rest - 2) (drop 2 rest)) high (Some f)
+last_on bounds rest high f found l e p h = subst (λ ys. LastSoFar bounds ys high (Some f)) (sym (take_rest rest 2)) (last_more bounds rest high f found l e p h)

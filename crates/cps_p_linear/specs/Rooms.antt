@@ -21,3 +21,6 @@ pub record IsInRoom (s : Trail) (sum goal : Ends) (t : Term) (e : Ends) : Type 0
 -- and so for the first terms
 abbrev pub AreInRoom : Trail → Ends → Ends → List Term → List Ends → ℕ → Type 0
 AreInRoom s sum goal ts es n = (k : ℕ) (d : Term) (f : Ends) → k < n → IsInRoom s sum goal (slice_index_or ts k d) (slice_index_or es k f)
+
+abbrev pub IsInRoomAt : Trail → Ends → Ends → List Term → List Ends → ℕ → Type 0
+IsInRoomAt s sum goal ts es k = (d : Term) (f : Ends) → IsInRoom s sum goal (slice_index_or ts k d) (slice_index_or es k f)

@@ -43,20 +43,30 @@ fn ceil(fraction: &Fraction) -> i64
     quotient as i64
 }
 
+/// What is left to a term, by its coefficient.
+fn fraction_of(side: Side, term: &Term, room: &Ends) -> Fraction
+    ensures dividend { result.dividend ≡ end_at side room.now }
+    ensures divisor { result.divisor ≡ term.now.coeff }
+{
+    match side {
+        Side::Low => Fraction {
+            dividend: room.low,
+            divisor: term.coeff,
+        },
+        Side::High => Fraction {
+            dividend: room.high,
+            divisor: term.coeff,
+        },
+    }
+}
+
 /// The atom that leaves a term within an end of its room.
 pub(crate) fn term_cut(side: Side, term: &Term, room: &Ends) -> TermCut
     requires nonzero { term.now.coeff ≢ pos 0 }
-    requires low { unsigned_abs room.now.low < 2 ^ 63 }
-    requires high { unsigned_abs room.now.high < 2 ^ 63 }
+    requires small { unsigned_abs (end_at side room.now) < 2 ^ 63 }
     ensures { IsTermCut side term.now (end_at side room.now) result }
 {
-    let fraction = Fraction {
-        dividend: match side {
-            Side::Low => room.low,
-            Side::High => room.high,
-        },
-        divisor: term.coeff,
-    };
+    let fraction = fraction_of(side, term, room);
     if is_upper(side, term) {
         let atom = Atom {
             subject: term.subject,
