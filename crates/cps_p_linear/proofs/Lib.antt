@@ -3,3 +3,4 @@ pub mod Reaching
 pub mod Supports
 pub mod Strong
 pub mod Scanning
+pub mod Explained

@@ -3,3 +3,4 @@ pub mod Cuts
 pub mod Admitting
 pub mod Supporting
 pub mod Rooms
+pub mod Passing

@@ -1,5 +1,6 @@
 //! The facts of an explanation: bounds that are true in the store.
 ghost use Rattle.std.specs.Prelude.{◌≡◌, ◌<◌, ◌≤◌, [], ◌∷◌, length, All, OnOk};
+ghost use Rattle.cps_propagate.specs.Reasons.{CanNegate, Refutes};
 ghost use Rattle.cps_p_linear.specs.Ends.{IsBounded, AreBounded};
 ghost use Rattle.cps_p_linear.specs.Cuts.{IsBoundOf};
 ghost use Rattle.cps_p_linear.specs.Supporting.{AreFacts, Supports};
@@ -7,14 +8,17 @@ ghost use Rattle.cps_p_linear.specs.Supporting.{AreFacts, Supports};
 use crate::ends::{Ends, Side, is_upper};
 use cps_instance::Term;
 use cps_literal::{Atom, Op};
+use cps_propagate::refute;
 use cps_trail::Store;
 use std::alloc::AllocError;
 
-/// Atoms that are true, and by how much the bounds that are still to be added may be weakened in all.
+/// Atoms that are true, by how much the bounds that are still to be added may be weakened in all, and room for the reason that
+/// the atoms give.
 #[derive(Drop)]
 pub(crate) struct Facts {
     pub(crate) atoms: Vec<Atom>,
     pub(crate) slack: u64,
+    pub(crate) reason: Vec<Atom>,
 }
 
 /// The atom that bounds a term from one side.
@@ -70,4 +74,25 @@ pub(crate) fn support(
         support_term(store, side, term, &values[k], facts)?;
     }
     Ok(())
+}
+
+/// Begins with these facts, and with this slack.
+pub(crate) fn begin(atoms: &[Atom], slack: u64, facts: &mut Facts) -> Result<(), AllocError>
+    ensures atoms { OnOk result (facts.new.atoms.items ≡ atoms.now) }
+    ensures slack { OnOk result (facts.new.slack ≡ slack) }
+{
+    facts.slack = slack;
+    facts.atoms.clear();
+    facts.atoms.extend_from_slice(atoms)?;
+    Ok(())
+}
+
+/// Makes the facts' negations the reason.
+pub(crate) fn refute_facts(facts: &mut Facts) -> Result<(), AllocError>
+    requires { All CanNegate facts.old.atoms.items }
+    ensures atoms { OnOk result (facts.new.atoms.items ≡ facts.old.atoms.items) }
+    ensures reason { OnOk result (Refutes [] facts.new.reason.items facts.new.atoms.items) }
+{
+    facts.reason.clear();
+    refute(&mut facts.reason, facts.atoms.as_slice())
 }

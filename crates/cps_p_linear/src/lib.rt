@@ -12,3 +12,4 @@ mod admitted;
 mod cut;
 mod ends;
 mod facts;
+mod pass;
