@@ -10,10 +10,14 @@ use Rattle.cps_literal.specs.declared.atom.Atom.{Atom}
 use Rattle.cps_literal.specs.Truth.{meets, value_at, atom_holds}
 use Rattle.cps_instance.specs.declared.term.Term.{Term}
 use Rattle.cps_instance.specs.Terms.{Domains, terms_value, terms_reach, magnitude, domain_at}
-use Rattle.cps_trail.specs.Trail.{Trail, Entry, admits, IsTrueNow, IsWithin}
-use Rattle.cps_trail.specs.Adds.{Infers}
+use Rattle.cps_trail.specs.Trail.{Trail, Entry, admits, IsTrueNow, IsWithin, Explains}
+use Rattle.cps_trail.specs.Adds.{Infers, Follows, IsConflict, Answers}
+use Rattle.cps_trail.specs.declared.step.Step.{Step}
+use Rattle.cps_propagate.specs.Reasons.{Refutes, IsSaidOf}
+use Rattle.cps_propagate.proofs.Explaining.{Explains-facts, Follows-facts, IsConflict-facts, Answers-said}
 use Rattle.cps_trail.proofs.Laws.{admits-append}
-use Rattle.cps_trail.proofs.Inferring.{stays_true}
+use Rattle.cps_trail.proofs.Inferring.{stays_true, same_midway, Infers-refl}
+use Rattle.cps_propagate.specs.Strength.{IsStrongSum}
 use Rattle.cps_propagate.specs.Now.{IsOpenTo}
 use Rattle.cps_p_linear.specs.declared.admitted.Admitted.{Admitted}
 use Rattle.cps_p_linear.specs.declared.ends.Ends.{Ends}
@@ -21,15 +25,15 @@ use Rattle.cps_p_linear.specs.declared.ends.Side.{Side}
 use Rattle.cps_p_linear.specs.declared.ends.Side.TheVariants.{Low, High}
 use Rattle.cps_p_linear.specs.declared.facts.Facts.{Facts}
 use Rattle.cps_p_linear.specs.declared.cut.TermCut.{TermCut}
-use Rattle.cps_p_linear.specs.Ends.{term_end, sum_end, end_at, opposite, reach_of, IsBounded, AreBounded, AreMeasurable, AreSumEnds, IsWithinOf, IsPast}
+use Rattle.cps_p_linear.specs.Ends.{term_end, sum_end, end_at, opposite, reach_of, IsBounded, AreBounded, AreHulls, AreMeasurable, AreSumEnds, IsWithinOf, IsPast}
 use Rattle.cps_p_linear.specs.Cuts.{IsTermCut}
 use Rattle.cps_p_linear.specs.Admitting.{passes, IsShaped, IsPassing, LeavesBits, IsGoal}
-use Rattle.cps_p_linear.specs.Supporting.{AreFacts, AllHold, Extends, Supports, Limits}
-use Rattle.cps_p_linear.specs.Rooms.{IsInRoom, IsInRoomAt, room_at}
+use Rattle.cps_p_linear.specs.Supporting.{AreFacts, AllHold, Extends, Supports, SupportsBut, Limits}
+use Rattle.cps_p_linear.specs.Rooms.{IsInRoom, IsInRoomAt, AreInRoom, room_at}
 use Rattle.cps_p_linear.specs.Passing.{IsInRange, IsMeasured, Leaves, Excludes, HasBits, IsCutAt}
 use Rattle.cps_p_linear.proofs.Reaching.{zip_length, zip_at, term_size}
-use Rattle.cps_p_linear.proofs.Supports.{within_more, Extends-trans, SupportsOthers, others_of}
-use Rattle.cps_p_linear.proofs.Strong.{above_low, below_high}
+use Rattle.cps_p_linear.proofs.Supports.{within_more, Extends-trans}
+use Rattle.cps_p_linear.proofs.Strong.{above_low, below_high, some_end, hulls_bound, strong_of_rooms}
 
 sum_at : (side : Side) (ts : List Term) (es : List Ends) (sum : Ends) → AreSumEnds ts es sum → end_at side sum ≡ sum_end side ts es
 sum_at Low ts es sum h = h.low
@@ -61,21 +65,22 @@ beside : (side : Side) (slack : ℕ) (whole own total part goal : ℤ) → IsWit
 beside Low slack whole own total part goal h g = omega (arith, ints)
 beside High slack whole own total part goal h g = omega (arith, ints)
 
-pub Leaves-made : (s : Trail) (side : Side) (ts : List Term) (es : List Ends) (admitted : Admitted) (sum : Ends) (k : ℕ) (a b c d : Facts) → k < length ts → AreBounded s ts es → AreSumEnds ts es sum
-    → Supports s (opposite side) (take k ts) (take k es) a b → Supports s (opposite side) (drop (k + 1) ts) (drop (k + 1) es) b c → Limits s side ts admitted sum c d → Leaves s side ts admitted es sum k a d
-Leaves-made s side ts es admitted sum k a b c d l zip ends h j m = record {
-  extends = Extends-trans s a c d (Extends-trans s a b c h.extends j.extends) m.extends;
+pub Leaves-made : (s : Trail) (side : Side) (ts : List Term) (es : List Ends) (admitted : Admitted) (sum : Ends) (k : ℕ) (a c d : Facts) → k < length ts → AreBounded s ts es → AreSumEnds ts es sum
+    → SupportsBut s (opposite side) ts es k a c → Limits s side ts admitted sum c d → Leaves s side ts admitted es sum k a d
+Leaves-made s side ts es admitted sum k a c d l zip ends h m = record {
+  extends = Extends-trans s a c d (h (some_term ts k l) (some_end ts es k (zip_length (IsBounded s) ts es zip) l)).extends m.extends;
   bound = λ goal t₀ e₀ xs g within all p.
       let t = get_or ts k t₀ in
       let e = get_or es k e₀ in
-      let same = zip_length (IsBounded s) ts es zip in
-      let l' : k < length es = omega arith in
-      let o = others_of s (opposite side) ts es k t e a b c l zip (get_or_default ts k t₀ t l) (get_or_default es k e₀ e l') h j in
-      let rest = o.bound xs within (m.extends.kept xs all) in
+      let rest = (h t₀ e₀).bound xs within (m.extends.kept xs all) in
       let near = to_goal side admitted sum goal (terms_value xs ts) g p (m.bound xs within all p) in
       subst (λ (z : ℤ). IsWithinOf side a.slack (end_at side goal -ℤ (z -ℤ term_end (opposite side) t e)) (t.coeff *ℤ value_at xs t.subject)) (sym (sum_at (opposite side) ts es sum ends))
       (beside side a.slack (sum_end (opposite side) ts es) (term_end (opposite side) t e) (terms_value xs ts) (t.coeff *ℤ value_at xs t.subject) (end_at side goal) rest near);
 }
+  where
+    some_term : (us : List Term) (n : ℕ) → n < length us → Term
+    some_term [] n b = absurd (omega (arith, b))
+    some_term (u ∷ us) n b = u
 
 pub Excludes-made : (s : Trail) (ts : List Term) (admitted : Admitted) (sum : Ends) (a b c : Facts) → ((v : ℤ) → passes admitted v ≡ true → sum.low ≤ℤ v → v ≤ℤ sum.high → ⊥) → Limits s Low ts admitted sum a b → Limits s High ts admitted sum b c → Excludes s ts admitted a c
 Excludes-made s ts admitted sum a b c n h j = record {
@@ -299,5 +304,61 @@ cut_low s sum goal own room ts es k d f l zip al ah e h = record {
       omega (arith, ints);
 }
 
+pub cut_kept : (side : Side) (s : Trail) (sum goal own room : Ends) (ts : List Term) (es : List Ends) (k : ℕ) (d : Term) (f : Ends) → k < length ts → AreBounded s ts es → own.low ≡ term_end Low (get_or ts k d) (get_or es k f) → own.high ≡ term_end High (get_or ts k d) (get_or es k f)
+    → room.low ≡ goal.low -ℤ (sum.high -ℤ own.high) → room.high ≡ goal.high -ℤ (sum.low -ℤ own.low) → IsWithinOf side 0 (end_at side room) (end_at side own) → IsCutAt s side sum goal ts es k
+cut_kept Low s sum goal own room ts es k d f l zip al ah el eh h = cut_low s sum goal own room ts es k d f l zip al ah el (omega (arith, ints))
+cut_kept High s sum goal own room ts es k d f l zip al ah el eh h = cut_high s sum goal own room ts es k d f l zip al ah eh (omega (arith, ints))
+
+pub coeff_off : (side : Side) (c v w : ℤ) (sum goal own room : Ends) → GoalBetween sum goal → own.low ≡ c *ℤ v → own.high ≡ c *ℤ w → room.low ≡ goal.low -ℤ (sum.high -ℤ own.high) → room.high ≡ goal.high -ℤ (sum.low -ℤ own.low)
+    → IsPast side 0 (end_at side room) (end_at side own) → c ≢ pos 0
+coeff_off Low c v w sum goal own room b al ah el eh h = coeff_low c v w sum goal own room b al ah el (omega (arith, ints))
+coeff_off High c v w sum goal own room b al ah el eh h = coeff_high c v w sum goal own room b al ah eh (omega (arith, ints))
+
 pub room_of_cuts : (s : Trail) (sum goal : Ends) (ts : List Term) (es : List Ends) (k : ℕ) → IsCutAt s Low sum goal ts es k → IsCutAt s High sum goal ts es k → IsInRoomAt s sum goal ts es k
 room_of_cuts s sum goal ts es k l h d f = record { low = l.within d f; high = h.within d f }
+
+-- a reason that explains an atom, and that the constraint gives
+pub record IsReasonFor (C : List ℤ → Type 0) (s : Trail) (t : Atom) (reason : List Atom) : Type 0 where
+  pub explained : Explains s.first s.entries reason t
+  pub follows : Follows C s.first reason
+
+pub reason_for : (C : List ℤ → Type 0) (s : Trail) (t : Atom) (facts facts' negations reason : List Atom) → facts' ≡ facts → Refutes [] negations facts' → reason ≡ negations ++ t ∷ [] → AreFacts s facts → t.subject < length s.first
+    → ((xs : List ℤ) → IsWithin s.first xs → C xs → AllHold xs facts → atom_holds xs t ≡ true) → IsReasonFor C s t reason
+reason_for C s t facts facts' negations reason same made pushed are inside gives =
+    let made' : Refutes [] negations facts = subst (λ us. Refutes [] negations us) same made in
+    subst (λ us. IsReasonFor C s t us) (sym pushed) (record {
+      explained = Explains-facts facts negations made' s t are.true_now are.subjects inside;
+      follows = Follows-facts facts negations made' C s.first t gives;
+    })
+
+pub conflict_of : (C : List ℤ → Type 0) (s : Trail) (facts facts' negations clause : List Atom) → facts' ≡ facts → Refutes [] negations facts' → clause ≡ negations → AreFacts s facts
+    → ((xs : List ℤ) → IsWithin s.first xs → C xs → AllHold xs facts → ⊥) → IsConflict C s clause
+conflict_of C s facts facts' negations clause same made is are none =
+    let made' : Refutes [] negations facts = subst (λ us. Refutes [] negations us) same made in
+    subst (λ us. IsConflict C s us) (sym is) (IsConflict-facts facts negations made' C s are.true_now none)
+
+-- what is said of a reason that the constraint gives
+pub said_of : (C : List ℤ → Type 0) (s u : Trail) (t : Atom) (reason : List Atom) (step : Step) → Infers C s u → IsSaidOf u t reason step → Follows C s.first reason → Answers C u step
+said_of C s u t reason step h said follows = Answers-said C u t reason step said (subst (λ (ds : Domains). Follows C ds reason) (sym h.first) follows)
+
+-- what was measured
+pub measured_of : (s : Trail) (ts : List Term) (admitted : Admitted) (es es' : List Ends) (sum : Ends) → IsInRange s.first ts admitted → AreHulls s ts es → AreSumEnds ts es sum → es' ≡ es → IsMeasured s ts admitted es' sum
+measured_of s ts admitted es es' sum range hulls ends same = subst (λ fs. IsMeasured s ts admitted fs sum) (sym same) (record { range = range; bounded = hulls_bound s ts es hulls; ends = ends })
+
+-- one more term in its room
+pub rooms_more : (C : List ℤ → Type 0) (s u : Trail) (sum goal : Ends) (ts : List Term) (es : List Ends) (k : ℕ) → Infers C s u → AreInRoom s sum goal ts es k → IsInRoomAt u sum goal ts es k → AreInRoom u sum goal ts es (k + 1)
+rooms_more C s u sum goal ts es k h rooms here j d f l = elim (last_or j l) [
+  | inl i ↦ room_later C s u sum goal (get_or ts j d) (get_or es j f) h (rooms j d f i)
+  | inr i ↦ subst (λ n. IsInRoom u sum goal (get_or ts n d) (get_or es n f)) (sym i) (here d f)
+]
+  where
+    last_or : (j : ℕ) → j < k + 1 → (j < k) ⊎ (j ≡ k)
+    last_or j l = grind arith
+
+-- where no entry was added, the store is the same, and the sum strong
+pub strong_pass : (C : List ℤ → Type 0) (s u : Trail) (ts : List Term) (es es' : List Ends) (admitted : Admitted) (sum goal : Ends) (n : ℕ) → Infers C s u → u.entries ≡ s.entries → AreHulls s ts es → AreSumEnds ts es sum → es' ≡ es → IsGoal admitted sum goal → length ts ≤ n
+    → AreInRoom u sum goal ts es' n → IsStrongSum (passes admitted) u ts
+strong_pass C s u ts es es' admitted sum goal n h e hulls ends same g l rooms =
+    let is : u ≡ s = (same_midway C C s u u h (Infers-refl C u) e).0 in
+    let rooms' : AreInRoom s sum goal ts es (length ts) = λ k d f b. subst (λ (v : Trail). IsInRoom v sum goal (get_or ts k d) (get_or es k f)) is (subst (λ fs. IsInRoom u sum goal (get_or ts k d) (get_or fs k f)) same (rooms k d f (omega arith))) in
+    subst (λ (v : Trail). IsStrongSum (passes admitted) v ts) (sym is) (strong_of_rooms s ts es admitted sum goal hulls ends g rooms')

@@ -4,3 +4,5 @@ pub mod Supports
 pub mod Strong
 pub mod Scanning
 pub mod Explained
+pub mod Forces
+pub mod Tasks

@@ -110,7 +110,7 @@ hulls_bound s [] (e ∷ es) h = absurd h
 hulls_bound s (t ∷ ts) [] h = absurd h
 hulls_bound s (t ∷ ts) (e ∷ es) h = (h.0.bounded, hulls_bound s ts es h.1)
 
-some_end : (ts : List Term) (es : List Ends) (k : ℕ) → length ts ≡ length es → k < length ts → Ends
+pub some_end : (ts : List Term) (es : List Ends) (k : ℕ) → length ts ≡ length es → k < length ts → Ends
 some_end ts [] k same l = absurd (omega arith)
 some_end ts (e ∷ es) k same l = e
 

@@ -3,7 +3,7 @@ use Rattle.std.specs.Prelude.{unsigned_abs, All, ◌&&◌}
 use Rattle.std.specs.List.{AllZip, list_all}
 use Rattle.std.proofs.Common.{◌≡◌, ◌⊎◌, inl, inr, ℕ, zero, suc, ◌+◌, ◌<◌, ◌≤◌, ◌-◌, ◌^◌, ℤ, pos, negsuc, ◌+ℤ◌, ◌-ℤ◌, ◌*ℤ◌, ◌≤ℤ◌, ◌<ℤ◌, arith, Bool, true, false, ap, refl, sym, ◌∙◌, List, [], ◌∷◌, ◌++◌, length, take, drop, get_or, subst}
 use Rattle.std.proofs.lemmas.Int.{ints}
-use Rattle.std.proofs.lemmas.List.{drop_more, take_more, length-take-le, take-append-drop}
+use Rattle.std.proofs.lemmas.List.{drop_more, take_more, length-take-le, take-append-drop, take_rest, get_or_default}
 use Rattle.std.proofs.lemmas.List.Folds.{list_all-append}
 use Rattle.std.proofs.lemmas.List.Elements.{All-push, All-append}
 use Rattle.cps_literal.specs.declared.atom.Atom.{Atom}
@@ -23,7 +23,7 @@ use Rattle.cps_p_linear.specs.declared.ends.Side.TheVariants.{Low, High}
 use Rattle.cps_p_linear.specs.declared.facts.Facts.{Facts}
 use Rattle.cps_p_linear.specs.Ends.{is_upper, value_at_end, term_end, sum_end, IsBounded, AreBounded, IsWithinOf, IsPast, opposite}
 use Rattle.cps_p_linear.specs.Cuts.{IsBoundOf}
-use Rattle.cps_p_linear.specs.Supporting.{AreFacts, AllHold, Extends, Supports}
+use Rattle.cps_p_linear.specs.Supporting.{AreFacts, AllHold, Extends, Supports, SupportsOthers, SupportsBut}
 use Rattle.cps_p_linear.proofs.Reaching.{sum_end-append, zip_length}
 use Rattle.cps_p_linear.proofs.Quotients.{test_below, test_not_below}
 
@@ -118,10 +118,6 @@ pub split_at : {X : Type 0} (xs : List X) (k : ℕ) (x : X) → k < length xs �
 split_at xs k x l is = sym (take-append-drop k xs) ∙ ap (λ ys. take k xs ++ ys) (drop_more xs k x l ∙ ap (λ y. y ∷ drop (k + 1) xs) (sym is))
 
 -- all terms but one, which were supported as two lists
-pub record SupportsOthers (s : Trail) (side : Side) (ts : List Term) (es : List Ends) (t : Term) (e : Ends) (old new : Facts) : Type 0 where
-  pub extends : Extends s old new
-  pub bound : (xs : List ℤ) → IsWithin s.first xs → AllHold xs new.atoms.items → IsWithinOf side old.slack (sum_end side ts es -ℤ term_end side t e) (terms_value xs ts -ℤ (t.coeff *ℤ value_at xs t.subject))
-
 pub others_of : (s : Trail) (side : Side) (ts : List Term) (es : List Ends) (k : ℕ) (t : Term) (e : Ends) (a b c : Facts) → k < length ts → AllZip (IsBounded s) ts es → t ≡ get_or ts k t → e ≡ get_or es k e
     → Supports s side (take k ts) (take k es) a b → Supports s side (drop (k + 1) ts) (drop (k + 1) es) b c → SupportsOthers s side ts es t e a c
 others_of s side ts es k t e a b c l zip is is' h j =
@@ -171,3 +167,31 @@ module _ (side : Side) (t : Term) (e : Ends) (v : ℤ) where
     within = λ x m. below_within side t e x down (subst (λ (w : ℤ). w ≤ℤ x) is (true_le v x m));
     is_true = λ x p q. le_true v x (subst (λ (w : ℤ). w ≤ℤ x) (sym is) p);
   }
+
+-- the first pairs of two lists, and the last
+pub zip_take : {A B : Type 0} (R : A → B → Type 0) (xs : List A) (ys : List B) (k : ℕ) → AllZip R xs ys → AllZip R (take k xs) (take k ys)
+zip_take R [] [] zero h = tt
+zip_take R [] [] (suc k) h = tt
+zip_take R [] (y ∷ ys) k h = absurd h
+zip_take R (x ∷ xs) [] k h = absurd h
+zip_take R (x ∷ xs) (y ∷ ys) zero h = tt
+zip_take R (x ∷ xs) (y ∷ ys) (suc k) h = (h.0, zip_take R xs ys k h.1)
+
+zip_drop : {A B : Type 0} (R : A → B → Type 0) (xs : List A) (ys : List B) (k : ℕ) → AllZip R xs ys → AllZip R (drop k xs) (drop k ys)
+zip_drop R [] [] zero h = tt
+zip_drop R [] [] (suc k) h = tt
+zip_drop R [] (y ∷ ys) k h = absurd h
+zip_drop R (x ∷ xs) [] k h = absurd h
+zip_drop R (x ∷ xs) (y ∷ ys) zero h = h
+zip_drop R (x ∷ xs) (y ∷ ys) (suc k) h = zip_drop R xs ys k h.1
+
+pub zip_rest : {A B : Type 0} (R : A → B → Type 0) (xs : List A) (ys : List B) (k : ℕ) → AllZip R xs ys → AllZip R (take (length xs - k) (drop k xs)) (take (length ys - k) (drop k ys))
+zip_rest R xs ys k h = subst (λ us. AllZip R us (take (length ys - k) (drop k ys))) (sym (take_rest xs k)) (subst (λ vs. AllZip R (drop k xs) vs) (sym (take_rest ys k)) (zip_drop R xs ys k h))
+
+pub but_one : (s : Trail) (side : Side) (ts : List Term) (es : List Ends) (k : ℕ) (a b c : Facts) → k < length ts → AllZip (IsBounded s) ts es
+    → Supports s side (take k ts) (take k es) a b → Supports s side (take (length ts - (k + 1)) (drop (k + 1) ts)) (take (length es - (k + 1)) (drop (k + 1) es)) b c → SupportsBut s side ts es k a c
+but_one s side ts es k a b c l zip h j d f =
+    let same = zip_length (IsBounded s) ts es zip in
+    let l' : k < length es = omega arith in
+    let j' : Supports s side (drop (k + 1) ts) (drop (k + 1) es) b c = subst (λ us. Supports s side us (drop (k + 1) es) b c) (take_rest ts (k + 1)) (subst (λ fs. Supports s side (take (length ts - (k + 1)) (drop (k + 1) ts)) fs b c) (take_rest es (k + 1)) j) in
+    others_of s side ts es k (get_or ts k d) (get_or es k f) a b c l zip (get_or_default ts k d (get_or ts k d) l) (get_or_default es k f (get_or es k f) l') h j'

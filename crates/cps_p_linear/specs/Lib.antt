@@ -4,3 +4,4 @@ pub mod Admitting
 pub mod Supporting
 pub mod Rooms
 pub mod Passing
+pub mod Force

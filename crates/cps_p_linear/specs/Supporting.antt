@@ -1,8 +1,8 @@
 -- Facts that are true in a store, and what sums they allow.
-use Rattle.std.specs.Prelude.{◌≡◌, ℕ, ◌+◌, ◌-◌, ◌<◌, ◌≤◌, ℤ, true, List, length, All}
+use Rattle.std.specs.Prelude.{◌≡◌, ℕ, ◌+◌, ◌-◌, ◌<◌, ◌≤◌, ℤ, ◌-ℤ◌, ◌*ℤ◌, true, List, length, slice_index_or, All}
 use Rattle.std.specs.List.{list_all}
 use Rattle.cps_literal.specs.declared.atom.Atom.{Atom}
-use Rattle.cps_literal.specs.Truth.{atom_holds}
+use Rattle.cps_literal.specs.Truth.{value_at, atom_holds}
 use Rattle.cps_instance.specs.declared.term.Term.{Term}
 use Rattle.cps_instance.specs.Terms.{terms_value}
 use Rattle.cps_trail.specs.Trail.{Trail, IsTrueNow, IsWithin}
@@ -11,7 +11,7 @@ use Rattle.cps_p_linear.specs.declared.ends.Ends.{Ends}
 use Rattle.cps_p_linear.specs.declared.ends.Side.{Side}
 use Rattle.cps_p_linear.specs.declared.facts.Facts.{Facts}
 use Rattle.cps_p_linear.specs.declared.admitted.Admitted.{Admitted}
-use Rattle.cps_p_linear.specs.Ends.{sum_end, end_at, IsWithinOf}
+use Rattle.cps_p_linear.specs.Ends.{term_end, sum_end, end_at, IsWithinOf}
 use Rattle.cps_p_linear.specs.Admitting.{passes}
 
 -- atoms that are true now, can be negated, and are about subjects of the store
@@ -33,6 +33,14 @@ pub record Supports (s : Trail) (side : Side) (ts : List Term) (es : List Ends) 
   pub extends : Extends s old new
   pub slack : new.slack ≤ old.slack
   pub bound : (xs : List ℤ) → IsWithin s.first xs → AllHold xs new.atoms.items → IsWithinOf side (old.slack - new.slack) (sum_end side ts es) (terms_value xs ts)
+
+-- With these facts all terms but one are within their bound, but for the slack.
+pub record SupportsOthers (s : Trail) (side : Side) (ts : List Term) (es : List Ends) (t : Term) (e : Ends) (old new : Facts) : Type 0 where
+  pub extends : Extends s old new
+  pub bound : (xs : List ℤ) → IsWithin s.first xs → AllHold xs new.atoms.items → IsWithinOf side old.slack (sum_end side ts es -ℤ term_end side t e) (terms_value xs ts -ℤ (t.coeff *ℤ value_at xs t.subject))
+
+abbrev pub SupportsBut : Trail → Side → List Term → List Ends → ℕ → Facts → Facts → Type 0
+SupportsBut s side ts es k old new = (d : Term) (f : Ends) → SupportsOthers s side ts es (slice_index_or ts k d) (slice_index_or es k f) old new
 
 -- With these facts an admitted sum is within its bound.
 pub record Limits (s : Trail) (side : Side) (ts : List Term) (admitted : Admitted) (sum : Ends) (old new : Facts) : Type 0 where

@@ -1,9 +1,9 @@
 //! The facts of an explanation: bounds that are true in the store.
-ghost use Rattle.std.specs.Prelude.{◌≡◌, ◌<◌, ◌≤◌, [], ◌∷◌, length, All, OnOk};
+ghost use Rattle.std.specs.Prelude.{◌≡◌, ◌<◌, ◌≤◌, ◌+◌, [], ◌∷◌, ◌++◌, take, drop, length, All, OnOk};
 ghost use Rattle.cps_propagate.specs.Reasons.{CanNegate, Refutes};
 ghost use Rattle.cps_p_linear.specs.Ends.{IsBounded, AreBounded};
 ghost use Rattle.cps_p_linear.specs.Cuts.{IsBoundOf};
-ghost use Rattle.cps_p_linear.specs.Supporting.{AreFacts, Supports};
+ghost use Rattle.cps_p_linear.specs.Supporting.{AreFacts, Supports, SupportsBut};
 
 use crate::ends::{Ends, Side, is_upper};
 use cps_instance::Term;
@@ -76,6 +76,28 @@ pub(crate) fn support(
     Ok(())
 }
 
+/// Adds a bound of each term but the one at a place.
+pub(crate) fn support_others(
+    store: &Store,
+    side: Side,
+    terms: &[Term],
+    values: &[Ends],
+    place: usize,
+    facts: &mut Facts,
+) -> Result<(), AllocError>
+    requires place { place < length terms.now }
+    requires same { length terms.now ≡ length values.now }
+    requires subjects { All (λ t. t.subject < length store.now.first) terms.now }
+    requires bounded { AreBounded store.now terms.now values.now }
+    requires facts { AreFacts store.now facts.old.atoms.items }
+    ensures { OnOk result (SupportsBut store.now side terms.now values.now place facts.old facts.new) }
+{
+    let after = place + 1;
+    support(store, side, &terms[..place], &values[..place], facts)?;
+    support(store, side, &terms[after..], &values[after..], facts)?;
+    Ok(())
+}
+
 /// Begins with these facts, and with this slack.
 pub(crate) fn begin(atoms: &[Atom], slack: u64, facts: &mut Facts) -> Result<(), AllocError>
     ensures atoms { OnOk result (facts.new.atoms.items ≡ atoms.now) }
@@ -87,6 +109,22 @@ pub(crate) fn begin(atoms: &[Atom], slack: u64, facts: &mut Facts) -> Result<(),
     Ok(())
 }
 
+/// Begins with these facts but the one at a place, and with no slack.
+pub(crate) fn begin_without(
+    atoms: &[Atom],
+    place: usize,
+    facts: &mut Facts,
+) -> Result<(), AllocError>
+    requires { place < length atoms.now }
+    ensures { OnOk result (facts.new.atoms.items ≡ take place atoms.now ++ drop (place + 1) atoms.now) }
+{
+    facts.slack = 0;
+    facts.atoms.clear();
+    facts.atoms.extend_from_slice(&atoms[..place])?;
+    facts.atoms.extend_from_slice(&atoms[place + 1..])?;
+    Ok(())
+}
+
 /// Makes the facts' negations the reason.
 pub(crate) fn refute_facts(facts: &mut Facts) -> Result<(), AllocError>
     requires { All CanNegate facts.old.atoms.items }
@@ -94,5 +132,6 @@ pub(crate) fn refute_facts(facts: &mut Facts) -> Result<(), AllocError>
     ensures reason { OnOk result (Refutes [] facts.new.reason.items facts.new.atoms.items) }
 {
     facts.reason.clear();
-    refute(&mut facts.reason, facts.atoms.as_slice())
+    refute(&mut facts.reason, facts.atoms.as_slice())?;
+    Ok(())
 }

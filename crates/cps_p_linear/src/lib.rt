@@ -12,4 +12,6 @@ mod admitted;
 mod cut;
 mod ends;
 mod facts;
+mod force;
 mod pass;
+mod settle;

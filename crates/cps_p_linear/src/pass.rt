@@ -1,9 +1,8 @@
 //! One look at a sum: what its bounds and the admitted sums leave to each term.
-ghost use Rattle.std.specs.Prelude.{◌≡◌, ◌≢◌, ◌<◌, ◌^◌, ℤ, pos, ◌≤ℤ◌, ◌-ℤ◌, true, length, slice_index_or, All, IfOk, OnOk, MatchOption};
-ghost use Rattle.cps_instance.specs.declared.term.Term.{Term as TermOf};
+ghost use Rattle.std.specs.Prelude.{◌≡◌, ◌≢◌, ◌<◌, ℤ, ◌≤ℤ◌, ◌-ℤ◌, true, false, IsTrue, length, IfOk, OnOk, MatchOption};
 ghost use Rattle.cps_trail.specs.Adds.{Infers, Answers};
 ghost use Rattle.cps_propagate.specs.Strength.{IsStrongSum};
-ghost use Rattle.cps_p_linear.specs.Ends.{AreMeasurable, IsWithinOf, end_at, opposite};
+ghost use Rattle.cps_p_linear.specs.Ends.{IsWithinOf, IsPast, end_at};
 ghost use Rattle.cps_p_linear.specs.Admitting.{passes, IsShaped, IsPassing, LeavesBits, IsGoal};
 ghost use Rattle.cps_p_linear.specs.Supporting.{AreFacts, Limits};
 ghost use Rattle.cps_p_linear.specs.Rooms.{IsInRoomAt};
@@ -12,7 +11,7 @@ ghost use Rattle.cps_p_linear.specs.Passing.{IsMeasured, Leaves, Excludes, HasBi
 use crate::admitted::Admitted;
 use crate::cut::term_cut;
 use crate::ends::{Ends, Side, measure, term_ends};
-use crate::facts::{Facts, begin, refute_facts, support};
+use crate::facts::{Facts, begin, refute_facts, support, support_others};
 use cps_instance::Term;
 use cps_literal::{Atom, Clause};
 use cps_propagate::narrow;
@@ -81,7 +80,8 @@ fn limit(
         None => Ok(()),
         Some(slack) => {
             facts.slack = slack;
-            support(store, side, measured.terms, measured.values, facts)
+            support(store, side, measured.terms, measured.values, facts)?;
+            Ok(())
         }
     }
 }
@@ -100,14 +100,9 @@ fn explain_cut(
     ensures { OnOk result (Leaves store.now side measured.now.terms.now measured.now.admitted.now measured.now.values.now measured.now.sum place facts.old facts.new) }
 {
     let others = side.opposite();
-    let after = place + 1;
-    let before_terms = &measured.terms[..place];
-    let before_values = &measured.values[..place];
-    support(store, others, before_terms, before_values, facts)?;
-    let after_terms = &measured.terms[after..];
-    let after_values = &measured.values[after..];
-    support(store, others, after_terms, after_values, facts)?;
-    limit(store, side, measured, facts)
+    support_others(store, others, measured.terms, measured.values, place, facts)?;
+    limit(store, side, measured, facts)?;
+    Ok(())
 }
 
 /// Adds facts with which no sum is admitted, where none lies between the sum's ends.
@@ -122,7 +117,8 @@ pub(crate) fn explain_none(
     ensures { OnOk result (Excludes store.now measured.now.terms.now measured.now.admitted.now facts.old facts.new) }
 {
     limit(store, Side::Low, measured, facts)?;
-    limit(store, Side::High, measured, facts)
+    limit(store, Side::High, measured, facts)?;
+    Ok(())
 }
 
 /// What the others leave to one term.
@@ -137,8 +133,19 @@ fn room_beside(sum: &Ends, goal: &Ends, own: &Ends) -> Ends
     }
 }
 
-/// Cuts the domain of one term's subject to an end of the term's room.
-fn cut_term(
+/// Whether a term is within an end of its room.
+fn is_within(side: Side, own: &Ends, room: &Ends) -> bool
+    ensures yes { IsTrue result → IsWithinOf side 0 (end_at side room.now) (end_at side own.now) }
+    ensures no { result ≡ false → IsPast side 0 (end_at side room.now) (end_at side own.now) }
+{
+    match side {
+        Side::Low => room.low <= own.low,
+        Side::High => own.high <= room.high,
+    }
+}
+
+/// Leaves one term within an end of its room.
+fn keep_end(
     alloc: Global,
     store: &mut Store,
     side: Side,
@@ -148,7 +155,6 @@ fn cut_term(
     facts: &mut Facts,
 ) -> Result<Step, AllocError>
     requires place { place < length measured.now.terms.now }
-    requires nonzero { (d : TermOf) → (slice_index_or measured.now.terms.now place d).coeff ≢ pos 0 }
     requires measured { IsMeasured store.old measured.now.terms.now measured.now.admitted.now measured.now.values.now measured.now.sum }
     requires enforced { AreFacts store.old measured.now.enforcement.now }
     requires goal { IsGoal measured.now.admitted.now measured.now.sum goal.now }
@@ -156,14 +162,19 @@ fn cut_term(
     ensures answers { IfOk result (Answers (IsPassing measured.now.enforcement.now measured.now.terms.now measured.now.admitted.now) store.new) }
     ensures cut { result ≡ Ok Step.Settled → IsCutAt store.new side measured.now.sum goal.now measured.now.terms.now measured.now.values.now place }
 {
-    let own = term_ends(&measured.terms[place], &measured.values[place]);
+    let term = &measured.terms[place];
+    let own = term_ends(term, &measured.values[place]);
     let room = room_beside(&measured.sum, goal, &own);
-    let cut = term_cut(side, &measured.terms[place], &room);
+    if is_within(side, &own, &room) {
+        return Ok(Step::Settled);
+    }
+    let cut = term_cut(side, term, &room);
     begin(measured.enforcement, cut.slack, facts)?;
     explain_cut(store, side, measured, place, facts)?;
     refute_facts(facts)?;
     facts.reason.push(cut.atom)?;
-    narrow(alloc, store, cut.atom, facts.reason.as_slice())
+    let step = narrow(alloc, store, cut.atom, facts.reason.as_slice())?;
+    Ok(step)
 }
 
 /// Leaves one term in its room.
@@ -183,18 +194,12 @@ fn visit_term(
     ensures answers { IfOk result (Answers (IsPassing measured.now.enforcement.now measured.now.terms.now measured.now.admitted.now) store.new) }
     ensures room { result ≡ Ok Step.Settled → IsInRoomAt store.new measured.now.sum goal.now measured.now.terms.now measured.now.values.now place }
 {
-    let own = term_ends(&measured.terms[place], &measured.values[place]);
-    let room = room_beside(&measured.sum, goal, &own);
-    if own.high > room.high {
-        match cut_term(alloc, store, Side::High, measured, goal, place, facts)? {
-            Step::Settled => {}
-            Step::Conflict(clause) => return Ok(Step::Conflict(clause)),
-        }
+    match keep_end(alloc, store, Side::High, measured, goal, place, facts)? {
+        Step::Settled => {}
+        Step::Conflict(clause) => return Ok(Step::Conflict(clause)),
     }
-    if own.low < room.low {
-        return cut_term(alloc, store, Side::Low, measured, goal, place, facts);
-    }
-    Ok(Step::Settled)
+    let step = keep_end(alloc, store, Side::Low, measured, goal, place, facts)?;
+    Ok(step)
 }
 
 /// Answers a conflict where no admitted sum lies between the sum's ends.
