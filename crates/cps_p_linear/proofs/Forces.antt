@@ -7,6 +7,7 @@ use Rattle.std.proofs.lemmas.List.{get_or_default, length-take-le, get_or-take, 
 use Rattle.std.proofs.lemmas.List.Folds.{list_all-append}
 use Rattle.std.proofs.lemmas.List.Elements.{All-append, All-take, All-drop}
 use Rattle.cps_literal.specs.declared.atom.Atom.{Atom}
+use Rattle.cps_literal.specs.declared.atom.Op.TheVariants.{Le}
 use Rattle.cps_literal.specs.Truth.{meets, value_at, atom_holds}
 use Rattle.cps_instance.specs.declared.term.Term.{Term}
 use Rattle.cps_instance.specs.Terms.{terms_value}
@@ -36,7 +37,7 @@ module _ (s : Trail) (us : List Atom) (n : ℕ) (u : Atom) (l : n < length us) (
   split_last k h = grind arith
 
   pub force_true : (found : Option ℕ) → IsTrueNow s u → IsForceSoFar s us n found → IsForceSoFar s us (n + 1) found
-  force_true None now h k d b = elim (split_last k b) [
+  force_true None now h = λ k d b. elim (split_last k b) [
     | inl i ↦ h k d i
     | inr i ↦ subst (λ j. IsTrueNow s (get_or us j d)) (sym i) (subst (λ (v : Atom). IsTrueNow s v) (is d) now)
   ]
@@ -124,3 +125,9 @@ negation_made s u n subject negated now x o =
 
 pub false_not_true : (s : Trail) (u : Atom) → ((x : ℤ) × (admits s.first s.entries u.subject x ≡ true)) → IsFalseNow s u → IsTrueNow s u → ⊥
 false_not_true s u some f t = let bad : false ≡ true = sym (f some.0 some.1) ∙ t some.0 some.1 in cc bad
+
+no_atom : Atom
+no_atom = record { subject = 0; op = Le; value = pos 0 }
+
+pub open_idle : (s : Trail) (us : List Atom) (place : ℕ) → IsOpenAt s us place → All (IsTrueNow s) us → ⊥
+open_idle s us place o h = o.not_true no_atom (h place no_atom o.inside)

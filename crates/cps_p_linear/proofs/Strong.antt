@@ -20,6 +20,7 @@ use Rattle.cps_p_linear.specs.declared.ends.Side.{Side}
 use Rattle.cps_p_linear.specs.declared.ends.Side.TheVariants.{Low, High}
 use Rattle.cps_p_linear.specs.Ends.{is_upper, value_at_end, term_end, sum_end, IsBounded, IsHull, AreBounded, AreHulls, AreSumEnds}
 use Rattle.cps_p_linear.specs.Admitting.{passes, IsGoal}
+use Rattle.cps_p_linear.specs.Force.{IsPossible}
 use Rattle.cps_p_linear.specs.Rooms.{IsInRoom, AreInRoom, room_at}
 use Rattle.cps_p_linear.proofs.Reaching.{zip_length, zip_at}
 use Rattle.cps_p_linear.proofs.Quotients.{test_below, test_not_below}
@@ -196,3 +197,16 @@ fixed_true s (u ∷ us) xs opens fixed h =
     let rest : list_all (atom_holds xs) us ≡ true = grind arith in
     All-cons (IsTrueNow s) u us (λ x o. subst (λ (z : ℤ). meets u.op u.value z ≡ true) (one (value_at xs u.subject) x here o) this)
     (fixed_true s us xs (All-tail (λ i. IsOpenTo s i (value_at xs i)) u.subject (atom_subjects us) opens) (All-tail (IsFixedNow s) u.subject (atom_subjects us) fixed) rest)
+
+-- an admitted sum between the sum's ends is possible
+pub possible_of : (s : Trail) (ts : List Term) (es : List Ends) (admitted : Admitted) (sum goal : Ends) → AreHulls s ts es → AreSumEnds ts es sum → IsGoal admitted sum goal → IsPossible s ts admitted
+possible_of s ts es admitted sum goal hulls ends is = record {
+  between = λ low high l h.
+      let a = least_sum_is s ts es low hulls l in
+      let b = greatest_sum_is s ts es high hulls h in
+      let el = ends.low in
+      let eh = ends.high in
+      let from = is.first.after in
+      let meet = is.meet in
+      (goal.low, is.first.passing, omega (arith, ints), omega (arith, ints));
+}

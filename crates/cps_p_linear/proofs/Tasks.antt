@@ -19,6 +19,10 @@ use Rattle.cps_instance.specs.Fitting.{IsLiteral, IsFitting}
 use Rattle.cps_instance.proofs.Agreeing.{All-append_left, All-append_right}
 use Rattle.cps_instance.proofs.Boundings.{least-reach, greatest-reach}
 use Rattle.cps_trail.specs.Trail.{Trail, IsTrueNow, IsInside}
+use Rattle.cps_trail.specs.Adds.{Infers, Answers}
+use Rattle.cps_trail.specs.declared.step.Step.{Step}
+use Rattle.cps_trail.specs.declared.step.Step.TheVariants.{Settled, Conflict}
+use Rattle.cps_trail.proofs.Inferring.{Infers-weaker, Follows-weaker}
 use Rattle.cps_propagate.specs.Now.{IsOpenTo, IsFixedNow, AreOpen}
 use Rattle.cps_propagate.specs.Reasons.{CanNegate}
 use Rattle.cps_propagate.specs.Strength.{IsStrongSum, IsStrongBody, IsStrong, is_balanced, with_subject}
@@ -28,7 +32,7 @@ use Rattle.cps_p_linear.specs.declared.admitted.Admitted.TheVariants.{Within, Al
 use Rattle.cps_p_linear.specs.Ends.{AreMeasurable}
 use Rattle.cps_p_linear.specs.Admitting.{passes, is_led, body_of, task_of, IsPassing, IsShaped, LeavesBits}
 use Rattle.cps_p_linear.specs.Passing.{IsInRange}
-use Rattle.cps_p_linear.specs.Force.{AreNegatable}
+use Rattle.cps_p_linear.specs.Force.{AreNegatable, IsSettled}
 use Rattle.cps_p_linear.proofs.Strong.{strong_fixed, fixed_true}
 
 equals_is : (a b : ℤ) → equals a b ≡ true → a ≡ b
@@ -181,3 +185,22 @@ negatable_of first en ts admitted h = record {
   negatable = All-weaker (IsLiteral first) CanNegate (λ u i. (let a = i.low in let b = i.high in record { low = omega (arith, ints); high = omega (arith, ints) })) en h.enforcement;
   subjects = unmap (λ (u : Atom). u.subject) (λ i. i < length first) en (All-append_left (λ i. i < length first) (atom_subjects en) (subjects_of_body (body_of ts admitted)) h.subjects);
 }
+
+-- what is said of a sum that is to pass is said of its task
+pub infers_task : (enforcement : List Atom) (ts : List Term) (admitted : Admitted) → is_led ts admitted ≡ true → (s u : Trail) → Infers (IsPassing enforcement ts admitted) s u → Infers (HoldsTask (task_of enforcement ts admitted)) s u
+infers_task en ts admitted l s u h = Infers-weaker (IsPassing en ts admitted) (HoldsTask (task_of en ts admitted)) (passing_of en ts admitted l) s u h
+
+pub answers_task : (enforcement : List Atom) (ts : List Term) (admitted : Admitted) → is_led ts admitted ≡ true → (s : Trail) (step : Step) → Answers (IsPassing enforcement ts admitted) s step → Answers (HoldsTask (task_of enforcement ts admitted)) s step
+answers_task en ts admitted l s Settled h = tt
+answers_task en ts admitted l s (Conflict c) h = record {
+  follows = Follows-weaker (IsPassing en ts admitted) (HoldsTask (task_of en ts admitted)) (passing_of en ts admitted l) s.first c h.follows;
+  false_now = h.false_now;
+}
+
+pub settled_strong : (s : Trail) (enforcement : List Atom) (ts : List Term) (admitted : Admitted) → is_led ts admitted ≡ true → IsSettled s enforcement ts admitted → IsStrong (task_of enforcement ts admitted) s
+settled_strong s en ts admitted l (inl h) = idle_strong s en ts admitted l h
+settled_strong s en ts admitted l (inr h) = strong_strong s en ts admitted l h
+
+pub settled_decided : (s : Trail) (enforcement : List Atom) (ts : List Term) (admitted : Admitted) → is_led ts admitted ≡ true → IsSettled s enforcement ts admitted → IsDecided (task_of enforcement ts admitted) s
+settled_decided s en ts admitted l (inl h) = idle_decided s en ts admitted l h
+settled_decided s en ts admitted l (inr h) = strong_decided s en ts admitted l h

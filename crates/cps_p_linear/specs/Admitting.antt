@@ -1,5 +1,5 @@
 -- Which sums are admitted, and the task that a sum stands for.
-use Rattle.std.specs.Prelude.{◌≡◌, ℕ, ◌+◌, ◌<◌, ◌≤◌, ◌^◌, ℤ, pos, negsuc, ◌≤ℤ◌, IsTrue, Bool, true, unsigned_abs, Option, Some, None, List, [], ◌∷◌}
+use Rattle.std.specs.Prelude.{◌≡◌, ℕ, ◌+◌, ◌<◌, ◌≤◌, ◌^◌, ℤ, pos, negsuc, ◌≤ℤ◌, IsTrue, Bool, true, false, unsigned_abs, Option, Some, None, List, [], ◌∷◌}
 use Rattle.std.specs.List.{list_all}
 use Rattle.cps_model.specs.Within.{is_within, is_allowed, is_well_shaped}
 use Rattle.cps_domain.specs.Window.{equals}
@@ -10,6 +10,7 @@ use Rattle.cps_instance.specs.declared.task.Task.{Task}
 use Rattle.cps_instance.specs.declared.task.Body.{Body}
 use Rattle.cps_instance.specs.declared.task.Body.TheVariants as bodies
 use Rattle.cps_instance.specs.Terms.{Domains, terms_value, terms_reach}
+use Rattle.cps_instance.specs.Tasks.{lowered_end}
 use Rattle.cps_propagate.specs.Strength.{is_up_to, is_balanced, IsFirstFrom, IsLastUpTo}
 use Rattle.cps_p_linear.specs.declared.admitted.Admitted.{Admitted}
 use Rattle.cps_p_linear.specs.declared.admitted.Admitted.TheVariants.{Within, Allowed, UpTo, Balanced}
@@ -61,3 +62,23 @@ pub record IsGoal (admitted : Admitted) (sum goal : Ends) : Type 0 where
   pub first : IsFirstFrom (passes admitted) sum.low goal.low
   pub last : IsLastUpTo (passes admitted) sum.high goal.high
   pub meet : goal.low ≤ℤ sum.high
+
+-- whether a body asks of one sum
+abbrev pub is_sum_body : Body → Bool
+is_sum_body (bodies.Linear ts bounds) = true
+is_sum_body (bodies.Sum subject ts offset) = true
+is_sum_body (bodies.ObjectiveList ts bounds) = true
+is_sum_body (bodies.Cut ts upper) = true
+is_sum_body bodies.Empty = false
+is_sum_body (bodies.BoolOr atoms) = false
+is_sum_body (bodies.BoolAnd atoms) = false
+is_sum_body (bodies.AtMostOne atoms) = false
+is_sum_body (bodies.ExactlyOne atoms) = false
+is_sum_body (bodies.BoolXor atoms) = false
+
+-- the end of those up to one falls, and the others stay
+abbrev pub lowered_to : ℤ → Admitted → Admitted
+lowered_to upper (UpTo old) = UpTo (Some (lowered_end upper old))
+lowered_to upper (Within bounds) = Within bounds
+lowered_to upper (Allowed bounds) = Allowed bounds
+lowered_to upper (Balanced offset) = Balanced offset

@@ -4,7 +4,7 @@ use Rattle.cps_literal.specs.declared.atom.Atom.{Atom}
 use Rattle.cps_instance.specs.declared.term.Term.{Term}
 use Rattle.cps_trail.specs.Trail.{Domains, Trail, IsTrueNow, IsFalseNow}
 use Rattle.cps_propagate.specs.Reasons.{CanNegate}
-use Rattle.cps_propagate.specs.Strength.{IsLeastSum, IsGreatestSum}
+use Rattle.cps_propagate.specs.Strength.{IsLeastSum, IsGreatestSum, IsStrongSum}
 use Rattle.cps_p_linear.specs.declared.force.Force.{Force}
 use Rattle.cps_p_linear.specs.declared.force.Force.TheVariants.{On, Open, Idle}
 use Rattle.cps_p_linear.specs.declared.admitted.Admitted.{Admitted}
@@ -34,3 +34,7 @@ pub record IsPossible (s : Trail) (ts : List Term) (admitted : Admitted) : Type 
 -- where no admitted sum is possible, the open atom is false
 abbrev pub IsDisabled : Trail → List Atom → ℕ → List Term → Admitted → Type 0
 IsDisabled s us place ts admitted = ((d : Atom) → IsFalseNow s (slice_index_or us place d)) ⊎ IsPossible s ts admitted
+
+-- not all enforcement atoms are true, or the sum is strong
+abbrev pub IsSettled : Trail → List Atom → List Term → Admitted → Type 0
+IsSettled s us ts admitted = (All (IsTrueNow s) us → ⊥) ⊎ IsStrongSum (passes admitted) s ts

@@ -10,7 +10,7 @@ use cps_instance::Term;
 use cps_literal::{Atom, Op};
 use cps_propagate::refute;
 use cps_trail::Store;
-use std::alloc::AllocError;
+use std::alloc::{AllocError, Global};
 
 /// Atoms that are true, by how much the bounds that are still to be added may be weakened in all, and room for the reason that
 /// the atoms give.
@@ -19,6 +19,17 @@ pub(crate) struct Facts {
     pub(crate) atoms: Vec<Atom>,
     pub(crate) slack: u64,
     pub(crate) reason: Vec<Atom>,
+}
+
+impl Facts {
+    /// No fact.
+    pub(crate) fn new(alloc: Global) -> Self {
+        Facts {
+            atoms: Vec::new(alloc),
+            slack: 0,
+            reason: Vec::new(alloc),
+        }
+    }
 }
 
 /// The atom that bounds a term from one side.

@@ -13,5 +13,8 @@ mod cut;
 mod ends;
 mod facts;
 mod force;
+mod linear;
 mod pass;
 mod settle;
+
+pub use linear::Linear;

@@ -6,11 +6,12 @@ ghost use Rattle.cps_propagate.specs.Strength.{IsStrongSum};
 ghost use Rattle.cps_p_linear.specs.Admitting.{passes, IsPassing};
 ghost use Rattle.cps_p_linear.specs.Supporting.{AreFacts};
 ghost use Rattle.cps_p_linear.specs.Passing.{IsInRange};
-ghost use Rattle.cps_p_linear.specs.Force.{AreNegatable, IsOpenAt, IsDisabled};
+ghost use Rattle.cps_p_linear.specs.Force.{AreNegatable, IsOpenAt, IsDisabled, IsSettled};
 
 use crate::admitted::Admitted;
 use crate::ends::{Ends, measure};
 use crate::facts::{Facts, begin_without, refute_facts};
+use crate::force::{Force, force_of};
 use crate::pass::{Measured, explain_none, pass};
 use cps_instance::Term;
 use cps_literal::Atom;
@@ -19,7 +20,7 @@ use cps_trail::{Step, Store};
 use std::alloc::{AllocError, Global};
 
 /// Leaves each term in its room, until that narrows nothing.
-pub(crate) fn settle(
+fn settle(
     alloc: Global,
     store: &mut Store,
     enforcement: &[Atom],
@@ -47,7 +48,7 @@ pub(crate) fn settle(
 }
 
 /// Makes the one open enforcement atom false where no admitted sum lies between the sum's ends.
-pub(crate) fn disable(
+fn disable(
     alloc: Global,
     store: &mut Store,
     enforcement: &[Atom],
@@ -73,8 +74,9 @@ pub(crate) fn disable(
         values: values.as_slice(),
         sum,
     };
-    if admitted.between(&sum).is_some() {
-        return Ok(Step::Settled);
+    match admitted.between(&sum) {
+        Some(_) => return Ok(Step::Settled),
+        None => {}
     }
     begin_without(enforcement, place, facts)?;
     explain_none(store, &measured, facts)?;
@@ -85,4 +87,42 @@ pub(crate) fn disable(
     // Each subject has a value left, so an atom that is false is not true.
     let _entries = store.entries();
     Ok(step)
+}
+
+/// Does what a sum does to a store, by its enforcement atoms.
+pub(crate) fn run(
+    alloc: Global,
+    store: &mut Store,
+    enforcement: &[Atom],
+    terms: &[Term],
+    admitted: &Admitted,
+    values: &mut Vec<Ends>,
+    facts: &mut Facts,
+) -> Result<Step, AllocError>
+    requires range { IsInRange store.old.first terms.now admitted.now }
+    requires negatable { AreNegatable store.old.first enforcement.now }
+    ensures infers { OnOk result (Infers (IsPassing enforcement.now terms.now admitted.now) store.old store.new) }
+    ensures answers { IfOk result (Answers (IsPassing enforcement.now terms.now admitted.now) store.new) }
+    ensures settled { result ≡ Ok Step.Settled → IsSettled store.new enforcement.now terms.now admitted.now }
+{
+    match force_of(store, enforcement) {
+        Force::Idle => Ok(Step::Settled),
+        Force::Open(place) => {
+            let step = disable(
+                alloc,
+                store,
+                enforcement,
+                place,
+                terms,
+                admitted,
+                values,
+                facts,
+            )?;
+            Ok(step)
+        }
+        Force::On => {
+            let step = settle(alloc, store, enforcement, terms, admitted, values, facts)?;
+            Ok(step)
+        }
+    }
 }
