@@ -27,6 +27,7 @@ use Rattle.cps_propagate.specs.Now.{IsOpenTo, IsFixedNow, AreOpen}
 use Rattle.cps_propagate.specs.Reasons.{CanNegate}
 use Rattle.cps_propagate.specs.Strength.{IsStrongSum, IsStrongBody, IsStrong, is_balanced, with_subject}
 use Rattle.cps_propagate.specs.Laws.{IsDecided}
+use Rattle.cps_propagate.specs.Visits.{is_cheap}
 use Rattle.cps_p_linear.specs.declared.admitted.Admitted.{Admitted}
 use Rattle.cps_p_linear.specs.declared.admitted.Admitted.TheVariants.{Within, Allowed, UpTo, Balanced}
 use Rattle.cps_p_linear.specs.Ends.{AreMeasurable}
@@ -204,3 +205,36 @@ settled_strong s en ts admitted l (inr h) = strong_strong s en ts admitted l h
 pub settled_decided : (s : Trail) (enforcement : List Atom) (ts : List Term) (admitted : Admitted) → is_led ts admitted ≡ true → IsSettled s enforcement ts admitted → IsDecided (task_of enforcement ts admitted) s
 settled_decided s en ts admitted l (inl h) = idle_decided s en ts admitted l h
 settled_decided s en ts admitted l (inr h) = strong_decided s en ts admitted l h
+
+pub sum_not_cheap : (ts : List Term) (admitted : Admitted) → is_led ts admitted ≡ true → is_cheap (body_of ts admitted) ≡ false
+sum_not_cheap ts (Within bounds) l = refl
+sum_not_cheap ts (Allowed bounds) l = refl
+sum_not_cheap ts (UpTo upper) l = refl
+sum_not_cheap [] (Balanced offset) l = absurd (not_led l)
+sum_not_cheap (t ∷ ts) (Balanced offset) l = refl
+
+-- the same of a task, which is seen through its parts
+module _ (t : Task) (en en' : List Atom) (ts ts' : List Term) (admitted : Admitted) (view : task_of en ts admitted ≡ t) (e : en' ≡ en) (f : ts' ≡ ts) (led : is_led ts admitted ≡ true) where
+  is_task : task_of en' ts' admitted ≡ t
+  is_task = ap (λ us. task_of us ts' admitted) e ∙ ap (λ us. task_of en us admitted) f ∙ view
+
+  led' : is_led ts' admitted ≡ true
+  led' = subst (λ us. is_led us admitted ≡ true) (sym f) led
+
+  pub seen_range : (first : Domains) → IsFitting first t → IsInRange first ts' admitted
+  seen_range first h = range_of first en' ts' admitted led' (subst (λ (x : Task). IsFitting first x) (sym is_task) h)
+
+  pub seen_negatable : (first : Domains) → IsFitting first t → AreNegatable first en'
+  seen_negatable first h = negatable_of first en' ts' admitted (subst (λ (x : Task). IsFitting first x) (sym is_task) h)
+
+  pub seen_infers : (s u : Trail) → Infers (IsPassing en' ts' admitted) s u → Infers (HoldsTask t) s u
+  seen_infers s u h = subst (λ (x : Task). Infers (HoldsTask x) s u) is_task (infers_task en' ts' admitted led' s u h)
+
+  pub seen_answers : (s : Trail) (step : Step) → Answers (IsPassing en' ts' admitted) s step → Answers (HoldsTask t) s step
+  seen_answers s step h = subst (λ (x : Task). Answers (HoldsTask x) s step) is_task (answers_task en' ts' admitted led' s step h)
+
+  pub seen_strong : (s : Trail) → IsSettled s en' ts' admitted → IsStrong t s
+  seen_strong s h = subst (λ (x : Task). IsStrong x s) is_task (settled_strong s en' ts' admitted led' h)
+
+  pub seen_decided : (s : Trail) → IsSettled s en' ts' admitted → IsDecided t s
+  seen_decided s h = subst (λ (x : Task). IsDecided x s) is_task (settled_decided s en' ts' admitted led' h)

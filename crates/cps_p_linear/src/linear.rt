@@ -165,6 +165,7 @@ impl Propagator for Linear {
     }
 
     fn is_cheap(&self) -> bool {
+        let _admitted = &self.admitted;
         false
     }
 }
