@@ -156,8 +156,7 @@ fixed_least : (s : Trail) (ts : List Term) (xs : List ℤ) → AreOpen s xs (ter
 fixed_least s [] xs opens fixed = refl
 fixed_least s (t ∷ ts) xs opens fixed =
     let here : IsOpenTo s t.subject (value_at xs t.subject) = All-head (λ i. IsOpenTo s i (value_at xs i)) t.subject (term_subjects ts) opens in
-    let one : IsFixedNow s t.subject = All-head (IsFixedNow s) t.subject (term_subjects ts) fixed in
-    (
+    let one : IsFixedNow s t.subject = All-head (IsFixedNow s) t.subject (term_subjects ts) fixed in (
       t.coeff *ℤ value_at xs t.subject,
       terms_value xs ts,
       record { value = value_at xs t.subject; reached = here; is = refl; below = λ y o. (let e = ap (λ (z : ℤ). t.coeff *ℤ z) (one y (value_at xs t.subject) o here) in omega (arith, ints)) },
@@ -169,8 +168,7 @@ fixed_greatest : (s : Trail) (ts : List Term) (xs : List ℤ) → AreOpen s xs (
 fixed_greatest s [] xs opens fixed = refl
 fixed_greatest s (t ∷ ts) xs opens fixed =
     let here : IsOpenTo s t.subject (value_at xs t.subject) = All-head (λ i. IsOpenTo s i (value_at xs i)) t.subject (term_subjects ts) opens in
-    let one : IsFixedNow s t.subject = All-head (IsFixedNow s) t.subject (term_subjects ts) fixed in
-    (
+    let one : IsFixedNow s t.subject = All-head (IsFixedNow s) t.subject (term_subjects ts) fixed in (
       t.coeff *ℤ value_at xs t.subject,
       terms_value xs ts,
       record { value = value_at xs t.subject; reached = here; is = refl; above = λ y o. (let e = ap (λ (z : ℤ). t.coeff *ℤ z) (one y (value_at xs t.subject) o here) in omega (arith, ints)) },

@@ -1,5 +1,5 @@
 -- Facts that support bounds of sums, one after another.
-use Rattle.std.specs.Prelude.{unsigned_abs, All, ◌&&◌}
+use Rattle.std.specs.Prelude.{unsigned_abs, All, ◌&&◌, not}
 use Rattle.std.specs.List.{AllZip, list_all}
 use Rattle.std.proofs.Common.{◌≡◌, ◌⊎◌, inl, inr, ℕ, zero, suc, ◌+◌, ◌<◌, ◌≤◌, ◌-◌, ◌^◌, ℤ, pos, negsuc, ◌+ℤ◌, ◌-ℤ◌, ◌*ℤ◌, ◌≤ℤ◌, ◌<ℤ◌, arith, Bool, true, false, ap, refl, sym, ◌∙◌, List, [], ◌∷◌, ◌++◌, length, take, drop, get_or, subst}
 use Rattle.std.proofs.lemmas.Int.{ints}
@@ -14,7 +14,8 @@ use Rattle.cps_domain.proofs.Tests.{true_le, false_le, le_true}
 use Rattle.cps_instance.specs.declared.term.Term.{Term}
 use Rattle.cps_instance.specs.Terms.{terms_value}
 use Rattle.cps_instance.proofs.Summing.{terms_value-append}
-use Rattle.cps_trail.specs.Trail.{Trail, IsInside, admits, IsTrueNow, IsWithin}
+use Rattle.cps_domain.specs.Window.{is_among}
+use Rattle.cps_trail.specs.Trail.{Domains, Trail, IsInside, admits, first_of, IsTrueNow, IsFalseFrom, IsWithin}
 use Rattle.cps_propagate.specs.Now.{IsOpenTo}
 use Rattle.cps_propagate.specs.Reasons.{CanNegate}
 use Rattle.cps_p_linear.specs.declared.ends.Ends.{Ends}
@@ -195,3 +196,27 @@ but_one s side ts es k a b c l zip h j d f =
     let l' : k < length es = omega arith in
     let j' : Supports s side (drop (k + 1) ts) (drop (k + 1) es) b c = subst (λ us. Supports s side us (drop (k + 1) es) b c) (take_rest ts (k + 1)) (subst (λ fs. Supports s side (take (length ts - (k + 1)) (drop (k + 1) ts)) fs b c) (take_rest es (k + 1)) j) in
     others_of s side ts es k (get_or ts k d) (get_or es k f) a b c l zip (get_or_default ts k d (get_or ts k d) l) (get_or_default es k f (get_or es k f) l') h j'
+
+first_admits : (first : Domains) (j : ℕ) (v : ℤ) → is_among (first_of first j) v ≡ true → admits first [] j v ≡ true
+unfolding admits
+first_admits first j v h = and_true (is_among (first_of first j) v) ∙ h
+
+-- a bound that each first value meets is left out
+pub Supports-left_out : (s : Trail) (side : Side) (t : Term) (e : Ends) (u n : Atom) (a : Facts) → t.subject < length s.first → IsBoundOf side t e u → AreFacts s a.atoms.items → n.subject ≡ u.subject → ((x : ℤ) → meets n.op n.value x ≡ not (meets u.op u.value x)) → IsFalseFrom s n 0
+    → Supports s side (t ∷ []) (e ∷ []) a a
+Supports-left_out s side t e u n a inside is facts subject negated never = record {
+  extends = record { facts = facts; kept = λ xs all. all };
+  slack = omega arith;
+  bound = λ xs within all.
+      let x = value_at xs t.subject in
+      let i : n.subject ≡ t.subject = subject ∙ is.subject in
+      let open_first : admits s.first [] t.subject x ≡ true = first_admits s.first t.subject x (within t.subject inside) in
+      let not_met : meets n.op n.value x ≡ false = never.after x (subst (λ j. admits s.first [] j x ≡ true) (sym i) open_first) in
+      let met : meets u.op u.value x ≡ true = not_false (meets u.op u.value x) (sym (negated x) ∙ not_met) in
+      within_sum side 0 0 (a.slack - a.slack) (term_end side t e) (pos 0) (t.coeff *ℤ x) (pos 0) (term_end side t e +ℤ pos 0) (t.coeff *ℤ x +ℤ pos 0)
+      (omega arith) refl refl (is.within x met) (within_itself side 0 (pos 0));
+}
+  where
+    not_false : (b : Bool) → not b ≡ false → b ≡ true
+    not_false true h = refl
+    not_false false h = sym h

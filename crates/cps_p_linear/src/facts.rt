@@ -51,7 +51,7 @@ fn bound_of(side: Side, term: &Term, values: &Ends) -> Atom
     }
 }
 
-/// Adds a bound of one term.
+/// Adds a bound of one term, but for one that each first value meets.
 fn support_term(
     store: &Store,
     side: Side,
@@ -64,7 +64,11 @@ fn support_term(
     requires facts { AreFacts store.now facts.old.atoms.items }
     ensures { OnOk result (Supports store.now side (term.now ∷ []) (values.now ∷ []) facts.old facts.new) }
 {
-    facts.atoms.push(bound_of(side, term, values))?;
+    let bound = bound_of(side, term, values);
+    if store.falsified(bound.negate()) == 0 {
+        return Ok(());
+    }
+    facts.atoms.push(bound)?;
     Ok(())
 }
 

@@ -218,10 +218,7 @@ fn refuse(
     begin(measured.enforcement, 0, facts)?;
     explain_none(store, measured, facts)?;
     refute_facts(facts)?;
-    Ok(Step::Conflict(Clause::from_slice(
-        alloc,
-        facts.reason.as_slice(),
-    )?))
+    Ok(Step::Conflict(Clause::from_slice(alloc, facts.reason.as_slice())?))
 }
 
 /// Leaves each term in its room, once.
