@@ -1,0 +1,133 @@
+-- Enforcement atoms: which are true, and what follows where one is left.
+use Rattle.std.specs.Prelude.{◌&&◌, ◌||◌, not, All, Option, Some, None}
+use Rattle.std.specs.List.{list_all}
+use Rattle.std.proofs.Common.{◌≡◌, ◌≢◌, ◌⊎◌, inl, inr, ℕ, zero, suc, ◌+◌, ◌<◌, ◌≤◌, ◌-◌, ℤ, pos, ◌≤ℤ◌, arith, Bool, true, false, ap, refl, sym, ◌∙◌, List, [], ◌∷◌, ◌++◌, length, take, drop, get_or, subst}
+use Rattle.std.proofs.lemmas.Int.{ints}
+use Rattle.std.proofs.lemmas.List.{get_or_default, length-take-le, get_or-take, get_or-drop, length-drop}
+use Rattle.std.proofs.lemmas.List.Folds.{list_all-append}
+use Rattle.std.proofs.lemmas.List.Elements.{All-append, All-take, All-drop}
+use Rattle.cps_literal.specs.declared.atom.Atom.{Atom}
+use Rattle.cps_literal.specs.declared.atom.Op.TheVariants.{Le}
+use Rattle.cps_literal.specs.Truth.{meets, value_at, atom_holds}
+use Rattle.cps_instance.specs.declared.term.Term.{Term}
+use Rattle.cps_instance.specs.Terms.{terms_value}
+use Rattle.cps_trail.specs.Trail.{Trail, admits, IsTrueNow, IsFalseNow, IsWithin}
+use Rattle.cps_propagate.specs.Reasons.{CanNegate}
+use Rattle.cps_p_linear.specs.declared.admitted.Admitted.{Admitted}
+use Rattle.cps_p_linear.specs.declared.facts.Facts.{Facts}
+use Rattle.cps_p_linear.specs.Admitting.{passes, IsPassing}
+use Rattle.cps_p_linear.specs.Supporting.{AreFacts, AllHold, Extends}
+use Rattle.cps_p_linear.specs.Passing.{Excludes}
+use Rattle.cps_p_linear.specs.Force.{IsOpenAt, AreNegatable}
+use Rattle.cps_p_linear.proofs.Supports.{split_at}
+
+-- the first atoms: all true, or all but one
+pub record OpenSoFar (s : Trail) (us : List Atom) (n : ℕ) (place : ℕ) : Type 0 where
+  pub inside : place < n
+  pub others : (k : ℕ) (d : Atom) → k < n → k ≢ place → IsTrueNow s (get_or us k d)
+  pub not_true : (d : Atom) → IsTrueNow s (get_or us place d) → ⊥
+  pub not_false : (d : Atom) → IsFalseNow s (get_or us place d) → ⊥
+
+abbrev pub IsForceSoFar : Trail → List Atom → ℕ → Option ℕ → Type 0
+IsForceSoFar s us n None = (k : ℕ) (d : Atom) → k < n → IsTrueNow s (get_or us k d)
+IsForceSoFar s us n (Some place) = OpenSoFar s us n place
+
+module _ (s : Trail) (us : List Atom) (n : ℕ) (u : Atom) (l : n < length us) (is : (d : Atom) → u ≡ get_or us n d) where
+  split_last : (k : ℕ) → k < n + 1 → (k < n) ⊎ (k ≡ n)
+  split_last k h = grind arith
+
+  pub force_true : (found : Option ℕ) → IsTrueNow s u → IsForceSoFar s us n found → IsForceSoFar s us (n + 1) found
+  force_true None now h = λ k d b. elim (split_last k b) [
+    | inl i ↦ h k d i
+    | inr i ↦ subst (λ j. IsTrueNow s (get_or us j d)) (sym i) (subst (λ (v : Atom). IsTrueNow s v) (is d) now)
+  ]
+  force_true (Some place) now h = record {
+    inside = (let i = h.inside in omega arith);
+    others = λ k d b ne. elim (split_last k b) [
+      | inl i ↦ h.others k d i ne
+      | inr i ↦ subst (λ j. IsTrueNow s (get_or us j d)) (sym i) (subst (λ (v : Atom). IsTrueNow s v) (is d) now)
+    ];
+    not_true = h.not_true;
+    not_false = h.not_false;
+  }
+
+  pub force_open : (IsTrueNow s u → ⊥) → (IsFalseNow s u → ⊥) → IsForceSoFar s us n None → IsForceSoFar s us (n + 1) (Some n)
+  force_open nt nf h = record {
+    inside = omega arith;
+    others = λ k d b ne. elim (split_last k b) [ inl i ↦ h k d i | inr i ↦ absurd (ne i) ];
+    not_true = λ d t. nt (subst (λ (v : Atom). IsTrueNow s v) (sym (is d)) t);
+    not_false = λ d t. nf (subst (λ (v : Atom). IsFalseNow s v) (sym (is d)) t);
+  }
+
+  pub force_idle : (IsTrueNow s u → ⊥) → All (IsTrueNow s) us → ⊥
+  force_idle nt h = nt (subst (λ (v : Atom). IsTrueNow s v) (sym (is u)) (h n u l))
+
+pub open_whole : (s : Trail) (us : List Atom) (n place : ℕ) → length us ≤ n → n ≤ length us → OpenSoFar s us n place → IsOpenAt s us place
+open_whole s us n place p q h = record {
+  inside = (let i = h.inside in omega arith);
+  others = λ k d b ne. h.others k d (omega arith) ne;
+  not_true = h.not_true;
+  not_false = h.not_false;
+}
+
+-- the atoms but the one at a place
+abbrev pub but : List Atom → ℕ → List Atom
+but us place = take place us ++ drop (place + 1) us
+
+but_all : (P : Atom → Type 0) (us : List Atom) (place : ℕ) → place < length us → ((k : ℕ) (d : Atom) → k < length us → k ≢ place → P (get_or us k d)) → All P (but us place)
+but_all P us place l h = All-append P (take place us) (drop (place + 1) us)
+    (λ k d b.
+    let n = length-take-le place us (omega arith) in
+    let e : get_or (take place us) k d ≡ get_or us k d = get_or-take place us k d (omega arith) in
+    subst P (sym e) (h k d (omega arith) (omega arith)))
+    (λ k d b.
+    let n = length-drop (place + 1) us in
+    let e : get_or (drop (place + 1) us) k d ≡ get_or us ((place + 1) + k) d = get_or-drop (place + 1) us k d in
+    subst P (sym e) (h ((place + 1) + k) d (omega arith) (omega arith)))
+
+pub but_facts : (s : Trail) (us : List Atom) (place : ℕ) → AreNegatable s.first us → IsOpenAt s us place → AreFacts s (but us place)
+but_facts s us place n o = record {
+  true_now = but_all (IsTrueNow s) us place o.inside o.others;
+  negatable = but_all CanNegate us place o.inside (λ k d l ne. n.negatable k d l);
+  subjects = but_all (λ u. u.subject < length s.first) us place o.inside (λ k d l ne. n.subjects k d l);
+}
+
+all_but : (p : Atom → Bool) (us : List Atom) (place : ℕ) (u : Atom) → place < length us → u ≡ get_or us place u → list_all p (but us place) ≡ true → p u ≡ true → list_all p us ≡ true
+all_but p us place u l is h k =
+    let e : list_all p us ≡ list_all p (take place us ++ (u ∷ drop (place + 1) us)) = ap (λ vs. list_all p vs) (split_at us place u l is) in
+    let f = list_all-append p (take place us) (u ∷ drop (place + 1) us) in
+    let g : (list_all p (take place us) && list_all p (drop (place + 1) us)) ≡ true = sym (list_all-append p (take place us) (drop (place + 1) us)) ∙ h in
+    e ∙ f ∙ ap (λ b. list_all p (take place us) && (b && list_all p (drop (place + 1) us))) k ∙ g
+
+not_open : (b : Bool) → (b ≡ true → ⊥) → not b ≡ true
+not_open true h = absurd (h refl)
+not_open false h = refl
+
+-- where the others are true and no sum is admitted, the open atom's negation is
+pub negation_given : (s : Trail) (us : List Atom) (place : ℕ) (d n : Atom) (ts : List Term) (admitted : Admitted) (a b : Facts) → place < length us → n.subject ≡ (get_or us place d).subject
+    → ((x : ℤ) → meets n.op n.value x ≡ not (meets (get_or us place d).op (get_or us place d).value x)) → a.atoms.items ≡ but us place → Excludes s ts admitted a b
+    → (xs : List ℤ) → IsWithin s.first xs → IsPassing us ts admitted xs → AllHold xs b.atoms.items → atom_holds xs n ≡ true
+negation_given s us place d n ts admitted a b l subject negated begun x xs within passing all =
+    let u = get_or us place d in
+    let others : AllHold xs (but us place) = subst (λ vs. AllHold xs vs) begun (x.extends.kept xs all) in
+    let not_held : atom_holds xs u ≡ true → ⊥ = λ k. x.none xs within all (passing (all_but (atom_holds xs) us place u l (get_or_default us place d u l) others k)) in
+    ap (λ i. meets n.op n.value (value_at xs i)) subject ∙ negated (value_at xs u.subject) ∙ not_open (atom_holds xs u) not_held
+
+-- an atom whose negation is true is false, and so not true where its subject has a value
+pub negation_made : (s : Trail) (u n : Atom) → n.subject ≡ u.subject → ((x : ℤ) → meets n.op n.value x ≡ not (meets u.op u.value x)) → IsTrueNow s n → IsFalseNow s u
+negation_made s u n subject negated now x o =
+    let h : not (meets u.op u.value x) ≡ true = sym (negated x) ∙ now x (subst (λ i. admits s.first s.entries i x ≡ true) (sym subject) o) in
+    not_true (meets u.op u.value x) h
+  where
+    not_true : (b : Bool) → not b ≡ true → b ≡ false
+    not_true true h = sym h
+    not_true false h = refl
+
+pub false_not_true : (s : Trail) (u : Atom) → ((x : ℤ) × (admits s.first s.entries u.subject x ≡ true)) → IsFalseNow s u → IsTrueNow s u → ⊥
+false_not_true s u some f t = let bad : false ≡ true = sym (f some.0 some.1) ∙ t some.0 some.1 in cc bad
+
+no_atom : Atom
+no_atom = record { subject = 0; op = Le; value = pos 0 }
+
+pub open_idle : (s : Trail) (us : List Atom) (place : ℕ) → IsOpenAt s us place → All (IsTrueNow s) us → ⊥
+open_idle s us place o h = o.not_true no_atom (h place no_atom o.inside)
