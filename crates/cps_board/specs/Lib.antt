@@ -1,3 +1,4 @@
 pub mod Coding
 pub mod Rows
 pub mod Seats
+pub mod Worked

@@ -11,6 +11,8 @@ mod row;
 mod rule;
 mod seats;
 mod table;
+#[cfg(test)]
+mod tests;
 mod view;
 
 pub use seats::{Board, BoardSeat};

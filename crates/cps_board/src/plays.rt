@@ -39,6 +39,7 @@ impl Play<(), View> for Read {
     ghost then = { word_read };
 }
 
+/// Shares out the splits of a seat between it and a new one, which has published nothing.
 pub struct Halves;
 
 impl Split<View> for Halves {
@@ -47,6 +48,7 @@ impl Split<View> for Halves {
     ghost right = { given_half };
 }
 
+/// Makes one seat of two, which has what both had.
 pub struct Both;
 
 impl Join<View> for Both {

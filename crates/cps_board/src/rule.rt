@@ -3,6 +3,7 @@ use crate::view::View;
 use atomic_table::TableRule;
 use cps_validate::ValidModel;
 
+/// Each row is drawn by one seat, opened once, and never changes after that; an open row has a sound entry.
 pub struct OpenRows;
 
 impl TableRule<(), View, ValidModel> for OpenRows {

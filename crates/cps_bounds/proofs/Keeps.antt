@@ -73,6 +73,8 @@ module _ (m : CpModel) where
   pub record Closes (v : View) (a b : ℕ) : Type 0 where
     pub shown : IsIncumbent m (bound_of a)
     pub floor : IsLowerBound m (bound_of b)
+    pub no_higher : BoundLe (bound_of a) v.part.saw_upper
+    pub no_lower : IsNoLower v.part.saw_lower (bound_of b)
     pub upper : v.splits ≡ all_splits → bound_of a ≡ v.part.offered
     pub lower : v.splits ≡ all_splits → bound_of b ≡ raised_above v.part.raised (At (objective_start m))
 
@@ -239,6 +241,8 @@ module _ {S : Type 0} (m : CpModel) where
       let word : word_of (raised_above v.part.raised start) ≡ max (start_word m) (raise_of v) = word_of-raised_above v.part.raised start (raise_fits v.part.raised f.raised) r.start.fits in record {
         shown = subst (λ (z : ℕ). IsIncumbent m (bound_of z)) x r.shown;
         floor = subst (λ (z : ℕ). IsLowerBound m (bound_of z)) y r.floor;
+        no_higher = subst (λ (z : ℕ). BoundLe (bound_of z) v.part.saw_upper) x f.upper;
+        no_lower = subst (λ (z : ℕ). IsNoLower v.part.saw_lower (bound_of z)) y f.lower;
         upper = λ all. ap bound_of (sym x ∙ (whole s r id v at all).0) ∙ f.offered.back;
         lower = λ all. ap bound_of (sym y ∙ ((whole s r id v at all).1 ∙ sym word)) ∙ both.back;
       }

@@ -10,6 +10,8 @@ mod plays;
 mod rule;
 mod seats;
 mod table;
+#[cfg(test)]
+mod tests;
 mod view;
 
 pub use seats::{Bounds, BoundsSeat};

@@ -131,11 +131,12 @@ impl Bounds {
         seat.splits = (seat.splits + splits).min(ALL_SPLITS);
     }
 
-    /// Both words, the upper bound first. A seat with all splits knows them.
+    /// Both words, the upper bound first, neither worse than what the seat saw. A seat with all splits knows them.
     pub fn close(self, seat: BoundsSeat) -> (Bound, Bound)
         requires { IsSeatOf self seat }
         ensures upper { IsIncumbent (model_of self) result.0 }
         ensures lower { IsLowerBound (model_of self) result.1 }
+        ensures no_worse { BoundLe result.0 (part_of seat).saw_upper × IsNoLower (part_of seat).saw_lower result.1 }
         ensures whole_upper { splits_of seat ≡ all_splits → result.0 ≡ (part_of seat).offered }
         ensures whole_lower { splits_of seat ≡ all_splits → result.1 ≡ raised_above (part_of seat).raised (Bound.At (objective_start (model_of self))) }
     {
