@@ -1,13 +1,11 @@
 -- The canonical text of a model that was read is read as the same model.
 use Rattle.std.specs.Prelude.{map, codes}
 use Rattle.std.specs.List.{AllZip}
-use Rattle.std.specs.Str.{bytes_eq}
-use Rattle.std.proofs.Common.{◌≡◌, ◌≢◌, ℕ, zero, suc, Bool, true, false, ℤ, pos, negsuc, List, [], ◌∷◌, ◌++◌, Option, Some, None, ◌⊎◌, inl, inr, refl, sym, subst, ap, ◌∙◌, append-nil}
+use Rattle.std.proofs.Common.{◌≡◌, ◌≢◌, ℕ, zero, suc, true, false, ℤ, pos, negsuc, List, [], ◌∷◌, Option, Some, None, ◌⊎◌, inl, inr, refl, sym, subst, ap, ◌∙◌, append-nil}
 use Rattle.cps_lex.specs.Bytes.{is_word_start, is_word}
 use Rattle.cps_lex.specs.Forms.{is_identifier}
-use Rattle.cps_textproto.specs.Symbols.{symbols}
-use Rattle.cps_textproto.specs.Trees.{Tree, no_fields, field, Values, no_values, scalar_value, message_value}
-use Rattle.cps_textproto.specs.Reading.{tree_at, HasTree}
+use Rattle.cps_textproto.specs.Trees.{Tree, no_fields, field, no_values, message_value}
+use Rattle.cps_textproto.specs.Reading.{tree_at}
 use Rattle.cps_model.specs.declared.model.CpModel.{CpModel}
 use Rattle.cps_model.specs.declared.model.Variable.{Variable}
 use Rattle.cps_model.specs.declared.model.Objective.{Objective}
@@ -16,10 +14,9 @@ use Rattle.cps_model.specs.declared.constraint.Kind.{Kind}
 use Rattle.cps_model.specs.declared.constraint.Kind.TheVariants.{Empty, BoolOr, BoolAnd, AtMostOne, ExactlyOne, BoolXor, Linear}
 use Rattle.cps_schema.specs.declared.kind.KindName.{KindName}
 use Rattle.cps_schema.specs.declared.kind.KindName.TheVariants as names
-use Rattle.cps_schema.specs.Written.{Written, written, token_text}
+use Rattle.cps_schema.specs.Written.{Written, written}
 use Rattle.cps_schema.specs.declared.number.Number.TheVariants.{Int64, Int32, Exact}
 use Rattle.cps_schema.specs.Numbers.{fits}
-use Rattle.cps_schema.specs.Tables as tables
 use Rattle.cps_schema.specs.Tables.{use_of, is_given, model_message, variable_message, constraint_message, literals_message, linear_message, objective_message}
 use Rattle.cps_schema.specs.Kinds.{field_name, message_of, kind_named}
 use Rattle.cps_schema.specs.Faults.{has_kind}
@@ -27,13 +24,13 @@ use Rattle.cps_schema.specs.Readings as readings
 use Rattle.cps_schema.specs.Readings.{first_or, first_of, messages, read_variable, read_literals, read_linear, read_kind, given_kinds, read_constraint, scaling_of, read_objective, read_model, ReadsAs}
 use Rattle.cps_schema.specs.Parts.{IsKindGiven}
 use Rattle.cps_schema.proofs.GivenKinds.{kind_use, enforcement_given}
-use Rattle.cps_print.specs.Layout.{Message, empty, number, numbers, text_of}
+use Rattle.cps_print.specs.Layout.{Message, empty, text_of}
 use Rattle.cps_print.specs.Fields.{followed_by, number_field, list_field, text_field, message_field, repeated_field}
-use Rattle.cps_print.specs.Models.{printed_variable, printed_literals, printed_linear, kind_field, printed_constraint, scaling_field, printed_objective, objective_field, printed_strategy, hint_field, printed_model, model_text}
+use Rattle.cps_print.specs.Models.{printed_variable, printed_literals, printed_linear, kind_field, printed_constraint, scaling_field, printed_objective, objective_field, printed_model, model_text}
 use Rattle.cps_print.specs.ReadBack.{IsReadAs}
-use Rattle.cps_print.proofs.Pieces.{Piece, spelled, tokens_at, symbols_of, AreSound, AreWritten, tokens_are, symbols_are, written_are}
+use Rattle.cps_print.proofs.Pieces.{Piece, spelled, tokens_at, tokens_are, symbols_are, written_are}
 use Rattle.cps_print.proofs.Cuts.{IsPlain, pieces, fields_of, spelled-pieces, pieces_sound, symbols-pieces, fields_nest}
-use Rattle.cps_print.proofs.Shown.{Shows, ShowNumbers, IsAdmitted, TakesMessage, each, alone, kind, printed_numbers, printed_messages, tree_shows, numbers-shown, messages-shown, value_messages-shown, no_fault}
+use Rattle.cps_print.proofs.Shown.{Shows, IsAdmitted, alone, kind, printed_numbers, printed_messages, tree_shows, numbers-shown, messages-shown, no_fault}
 use Rattle.cps_print.proofs.Readable.{Each, AreFit, IsReadable, IsReadableVariable, IsReadableKind, IsReadableConstraint, IsReadableObjective, IsReadableOption, read_is_readable}
 use Rattle.cps_print.proofs.Fitting.{fit_short, are_short, plain-followed_by, plain-list_field, plain-number_field, plain-no_text, plain-message_field, plain-repeated_field, admitted-list, admitted-number, admitted-no_text, admitted-message, admitted-repeated, given-other, number_list, printed}
 
