@@ -1,21 +1,17 @@
 -- The pieces of a printed message: they spell its text, each is cut off where it ends, and their symbols are fields.
 use Rattle.std.specs.List.{flat_map, list_all, prefix_len}
-use Rattle.std.specs.Option.{option_map}
 use Rattle.std.specs.Fmt.{decimal, signed_decimal}
 use Rattle.std.proofs.lemmas.Bool.Decides.{nat_tests}
-use Rattle.std.proofs.Common.{◌≡◌, ℕ, zero, suc, ◌+◌, ◌^◌, ◌<◌, Bool, true, false, ◌&&◌, ◌==◌, ℤ, pos, negsuc, unsigned_abs, List, [], ◌∷◌, ◌++◌, map, length, take, Some, refl, sym, ap, ◌∙◌, append_assoc, append-nil, arith}
-use Rattle.cps_lex.specs.declared.types.TokenKind.{TokenKind}
+use Rattle.std.proofs.Common.{◌≡◌, ℕ, zero, suc, ◌+◌, ◌^◌, ◌<◌, Bool, true, false, ◌==◌, ℤ, pos, negsuc, unsigned_abs, List, [], ◌∷◌, ◌++◌, map, length, refl, sym, ap, ◌∙◌, append_assoc, arith}
 use Rattle.cps_lex.specs.declared.types.TokenKind.TheVariants.{Identifier, Decimal, Sign}
 use Rattle.cps_lex.specs.Bytes.{is_space, is_word_start, is_word, is_digit, is_sign, is_number_part}
-use Rattle.cps_lex.specs.Forms.{is_identifier, is_decimal, number_kind, goes_on}
-use Rattle.cps_lex.specs.Tokens.{blank_length}
-use Rattle.cps_lex.specs.Scan.{scan, number_at, run_of}
-use Rattle.cps_textproto.specs.declared.symbol.Symbol.{Symbol}
+use Rattle.cps_lex.specs.Forms.{is_identifier, is_decimal}
+use Rattle.cps_lex.specs.Scan.{scan, number_at}
 use Rattle.cps_textproto.specs.Grammar.{Scalar, minus_number, Separator, none, Fields, end, scalar, scalars, scalar_then, others_then, fields_then, Nests}
 use Rattle.cps_textproto.specs.Grammar as grammar
 use Rattle.cps_print.specs.Layout.{Message, empty, number, numbers, word, quoted, message, indent, start_of, value_line, behind_comma, in_brackets, opening, closing, text_of}
-use Rattle.cps_print.proofs.Digits.{decimal_text, IsDecimalText, and_true}
-use Rattle.cps_print.proofs.Pieces.{Piece, blank, lexeme, spelled, symbols_of, first_byte, IsBlank, IsLexeme, AreSound, take-front}
+use Rattle.cps_print.proofs.Digits.{decimal_text, and_true}
+use Rattle.cps_print.proofs.Pieces.{Piece, blank, lexeme, spelled, symbols_of, IsBlank, IsLexeme, AreSound, take-front}
 
 -- a message of fields that are read: names that are identifiers, numbers of at most 64 bits, at most so many messages in
 -- each other

@@ -1,5 +1,5 @@
 -- Laws of the fields that messages are made of: they are plain, admitted, and hold what they are made of.
-use Rattle.std.specs.Prelude.{map, if◌then◌else◌, int_le}
+use Rattle.std.specs.Prelude.{map, if◌then◌else◌}
 use Rattle.std.specs.List.{list_all}
 use Rattle.std.specs.Str.{bytes_eq}
 use Rattle.std.proofs.lemmas.Int.{ints}
@@ -7,14 +7,14 @@ use Rattle.std.proofs.Common.{◌≡◌, ℕ, zero, suc, ◌^◌, ◌<◌, Bool,
 use Rattle.cps_lex.specs.Forms.{is_identifier}
 use Rattle.cps_schema.specs.declared.number.Number.{Number}
 use Rattle.cps_schema.specs.declared.number.Number.TheVariants.{Int64, Int32, Exact}
-use Rattle.cps_schema.specs.Numbers.{fits, least, greatest}
+use Rattle.cps_schema.specs.Numbers.{fits}
 use Rattle.cps_schema.specs.Tables as tables
 use Rattle.cps_schema.specs.Tables.{use_of, is_given}
 use Rattle.cps_print.specs.Layout.{Message, empty, number, numbers, word, quoted, message}
 use Rattle.cps_print.specs.Fields.{followed_by, number_field, list_field, text_field, message_field, repeated_field}
 use Rattle.cps_print.proofs.Digits.{and_true}
 use Rattle.cps_print.proofs.Cuts.{IsShort, AreShort, IsPlain}
-use Rattle.cps_print.proofs.Shown.{IsAdmitted, TakesNumber, TakesNumbers, TakesMessage, each, printed_numbers, printed_messages}
+use Rattle.cps_print.proofs.Shown.{IsAdmitted, TakesMessage, each, printed_numbers, printed_messages}
 use Rattle.cps_print.proofs.Readable.{Each, AreFit}
 
 -- numbers that fit a type are short

@@ -1,18 +1,15 @@
 -- A text cut into pieces, and when they are the tokens that are read.
-use Rattle.std.specs.List.{list_all, prefix_len}
-use Rattle.std.specs.Option.{option_map_or}
-use Rattle.std.specs.Prelude.{MatchOption, slice_index, slice_get, map}
+use Rattle.std.specs.Prelude.{MatchOption, slice_index, slice_get}
 use Rattle.std.proofs.lemmas.List.{drop-drop}
-use Rattle.std.proofs.lemmas.Bool.Decides.{nat_tests}
-use Rattle.std.proofs.Common.{◌≡◌, ℕ, zero, suc, ◌+◌, ◌-◌, ◌<◌, ◌≤◌, Bool, true, false, ◌==◌, List, [], ◌∷◌, ◌++◌, length, take, drop, get_or, length-append, length-drop, Option, Some, None, refl, sym, subst, ap, ◌∙◌, arith}
+use Rattle.std.proofs.Common.{◌≡◌, ℕ, zero, suc, ◌+◌, ◌-◌, ◌<◌, ◌≤◌, true, false, ◌==◌, List, [], ◌∷◌, ◌++◌, length, take, drop, get_or, length-append, length-drop, Option, Some, refl, sym, subst, ap, ◌∙◌, arith}
 use Rattle.cps_lex.specs.declared.types.Token.{Token}
 use Rattle.cps_lex.specs.declared.types.TokenKind.{TokenKind}
-use Rattle.cps_lex.specs.Bytes.{is_blank, is_space}
-use Rattle.cps_lex.specs.Tokens.{text_of, past_blank, blank_length, IsTokenAt, IsLongest, NoneStands, Leads, AreTokens}
+use Rattle.cps_lex.specs.Bytes.{is_space}
+use Rattle.cps_lex.specs.Tokens.{past_blank, blank_length, IsTokenAt, IsLongest, NoneStands, Leads, AreTokens}
 use Rattle.cps_lex.specs.Scan.{scan}
 use Rattle.cps_lex.proofs.Standing.{scan_finds}
 use Rattle.cps_textproto.specs.declared.symbol.Symbol.{Symbol}
-use Rattle.cps_textproto.specs.Symbols.{symbol_of_kind, symbol_of, symbols}
+use Rattle.cps_textproto.specs.Symbols.{symbol_of_kind, symbols}
 use Rattle.cps_schema.specs.Written.{Written, token_text, token_kind}
 
 pub data Piece : Type 0 where

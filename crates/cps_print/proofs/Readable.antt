@@ -7,7 +7,7 @@ use Rattle.std.proofs.lemmas.Slice.Eq.{bytes_eq-Decides}
 use Rattle.std.proofs.lemmas.List.Folds.{list_all-append}
 use Rattle.std.proofs.Common.{◌≡◌, ◌≢◌, ℕ, zero, suc, Bool, true, false, ◌&&◌, ℤ, pos, negsuc, List, [], ◌∷◌, ◌++◌, Option, Some, None, refl, sym, subst, ap, ◌∙◌}
 use Rattle.cps_lex.specs.declared.types.TokenKind.{TokenKind}
-use Rattle.cps_lex.specs.declared.types.TokenKind.TheVariants.{Identifier, Decimal, Sign}
+use Rattle.cps_lex.specs.declared.types.TokenKind.TheVariants.{Identifier, Decimal}
 use Rattle.cps_textproto.specs.Trees.{Tree, no_fields, field, Values, no_values, scalar_value, message_value}
 use Rattle.cps_model.specs.declared.fault.FaultName.{FaultName}
 use Rattle.cps_model.specs.declared.model.CpModel.{CpModel}
@@ -15,16 +15,20 @@ use Rattle.cps_model.specs.declared.model.Variable.{Variable}
 use Rattle.cps_model.specs.declared.model.Objective.{Objective}
 use Rattle.cps_model.specs.declared.constraint.Constraint.{Constraint}
 use Rattle.cps_model.specs.declared.constraint.Kind.{Kind}
-use Rattle.cps_model.specs.declared.constraint.Kind.TheVariants.{Empty, BoolOr, Linear}
+use Rattle.cps_model.specs.declared.constraint.Kind.TheVariants.{Empty, BoolOr, BoolAnd, AtMostOne, ExactlyOne, BoolXor, Linear}
+use Rattle.cps_schema.specs.declared.kind.KindName.{KindName}
+use Rattle.cps_schema.specs.declared.kind.KindName.TheVariants as names
 use Rattle.cps_schema.specs.Written.{Written, token_text, token_kind, unsigned_token, number_at}
 use Rattle.cps_schema.specs.declared.number.Number.{Number}
 use Rattle.cps_schema.specs.declared.number.Number.TheVariants.{Int64, Int32, Exact}
 use Rattle.cps_schema.specs.Numbers.{fits, kind_fault, number_fault}
 use Rattle.cps_schema.specs.Tables as tables
 use Rattle.cps_schema.specs.Tables.{use_of, content_of, model_message, variable_message, constraint_message, literals_message, linear_message, objective_message}
+use Rattle.cps_schema.specs.Kinds.{message_of, kind_named}
 use Rattle.cps_schema.specs.Faults.{refused_at, fields_fault, values_fault}
 use Rattle.cps_schema.specs.Readings as readings
-use Rattle.cps_schema.specs.Readings.{first_or, first_of, value_numbers, value_messages, messages, read_variable, read_bool_or, read_linear, kinds_of, given_kinds, read_constraint, scaling_of, read_objective, read_model}
+use Rattle.cps_schema.specs.Readings.{first_or, first_of, value_numbers, value_messages, messages, read_variable, read_literals, read_linear, read_kind, kinds_of, given_kinds, read_constraint, scaling_of, read_objective, read_model}
+use Rattle.cps_schema.proofs.GivenKinds.{named_text, kind_use}
 
 abbrev pub Each : {X : Type 0} → (X → Type 0) → List X → Type 0
 Each P [] = Unit {0}
@@ -40,8 +44,11 @@ pub record IsReadableVariable (v : Variable) : Type 0 where
 abbrev pub IsReadableKind : Kind → Type 0
 IsReadableKind Empty = Unit {0}
 IsReadableKind (BoolOr literals) = AreFit Int32 literals
+IsReadableKind (BoolAnd literals) = AreFit Int32 literals
+IsReadableKind (AtMostOne literals) = AreFit Int32 literals
+IsReadableKind (ExactlyOne literals) = AreFit Int32 literals
+IsReadableKind (BoolXor literals) = AreFit Int32 literals
 IsReadableKind (Linear vars coeffs domain) = AreFit Int32 vars × AreFit Int64 coeffs × AreFit Int64 domain
-IsReadableKind k = ⊥
 
 pub record IsReadableConstraint (c : Constraint) : Type 0 where
   pub name : c.name ≡ []
@@ -155,9 +162,9 @@ variable_readable : (w : Written) (t : Tree) → fields_fault w variable_message
 unfolding use_of
 variable_readable w t e = record { name = refl; domain = numbers_fit w variable_message [] (codes "domain") Int64 t refl e }
 
-bool_or_readable : (w : Written) (t : Tree) → fields_fault w literals_message [] t ≡ None → IsReadableKind (read_bool_or w t)
+literals_fit : (w : Written) (t : Tree) → fields_fault w literals_message [] t ≡ None → AreFit Int32 (read_literals w t)
 unfolding use_of
-bool_or_readable w t e = numbers_fit w literals_message [] (codes "literals") Int32 t refl e
+literals_fit w t e = numbers_fit w literals_message [] (codes "literals") Int32 t refl e
 
 linear_readable : (w : Written) (t : Tree) → fields_fault w linear_message [] t ≡ None → IsReadableKind (read_linear w t)
 unfolding use_of
@@ -167,21 +174,20 @@ linear_readable w t e = (
   numbers_fit w linear_message [] (codes "domain") Int64 t refl e,
 )
 
-linear_by : (w : Written) (name : List ℕ) (values : Values) → values_fault w (content_of (use_of constraint_message name)) values ≡ None → (same : Bool) → bytes_eq name (codes "linear") ≡ same → Each IsReadableKind (if same then map (read_linear w) (value_messages values) else [])
-unfolding use_of
-linear_by w name values e true same =
-    let is = same_name name (codes "linear") same in
-    let clean : values_fault w (Some (tables.message linear_message)) values ≡ None = sym (ap (λ n. values_fault w (content_of (use_of constraint_message n)) values) is) ∙ e in
-    each_map (λ t. fields_fault w linear_message [] t ≡ None) IsReadableKind (read_linear w) (linear_readable w) (value_messages values) (values_sound w linear_message values clean)
-linear_by w name values e false same = tt
+kind_readable : (w : Written) (name : KindName) (t : Tree) → fields_fault w (message_of name) [] t ≡ None → IsReadableKind (read_kind w name t)
+kind_readable w names.BoolOr t e = literals_fit w t e
+kind_readable w names.BoolAnd t e = literals_fit w t e
+kind_readable w names.AtMostOne t e = literals_fit w t e
+kind_readable w names.ExactlyOne t e = literals_fit w t e
+kind_readable w names.BoolXor t e = literals_fit w t e
+kind_readable w names.Linear t e = linear_readable w t e
 
-bool_or_by : (w : Written) (name : List ℕ) (values : Values) (others : List Kind) → values_fault w (content_of (use_of constraint_message name)) values ≡ None → Each IsReadableKind others → (same : Bool) → bytes_eq name (codes "bool_or") ≡ same → Each IsReadableKind (if same then map (read_bool_or w) (value_messages values) else others)
-unfolding use_of
-bool_or_by w name values others e rest true same =
-    let is = same_name name (codes "bool_or") same in
-    let clean : values_fault w (Some (tables.message literals_message)) values ≡ None = sym (ap (λ n. values_fault w (content_of (use_of constraint_message n)) values) is) ∙ e in
-    each_map (λ t. fields_fault w literals_message [] t ≡ None) IsReadableKind (read_bool_or w) (bool_or_readable w) (value_messages values) (values_sound w literals_message values clean)
-bool_or_by w name values others e rest false same = rest
+kinds_of_readable : (w : Written) (text : List ℕ) (values : Values) → values_fault w (content_of (use_of constraint_message text)) values ≡ None → (name : Option KindName) → kind_named text ≡ name → Each IsReadableKind (kinds_of w name (value_messages values))
+kinds_of_readable w text values e None named = tt
+kinds_of_readable w text values e (Some name) named =
+    let takes : use_of constraint_message text ≡ Some (tables.one_kind (message_of name)) = ap (λ n. use_of constraint_message n) (named_text text name named) ∙ kind_use name in
+    let clean : values_fault w (Some (tables.message (message_of name))) values ≡ None = sym (ap (λ u. values_fault w (content_of u) values) takes) ∙ e in
+    each_map (λ t. fields_fault w (message_of name) [] t ≡ None) IsReadableKind (read_kind w name) (kind_readable w name) (value_messages values) (values_sound w (message_of name) values clean)
 
 kinds_readable : (w : Written) (before : List (List ℕ)) (t : Tree) → fields_fault w constraint_message before t ≡ None → Each IsReadableKind (given_kinds w t)
 kinds_readable w before no_fields e = tt
@@ -189,9 +195,8 @@ kinds_readable w before (field token list values rest) e =
     let parts = or_none _ _ e in
     let inner = or_none (values_fault w (content_of (use_of constraint_message (token_text w token))) values) _ parts.1 in
     let name = token_text w token in
-    let linear = linear_by w name values inner.0 (bytes_eq name (codes "linear")) refl in
-    let here = bool_or_by w name values _ inner.0 linear (bytes_eq name (codes "bool_or")) refl in
-    each_append IsReadableKind (kinds_of w name (value_messages values)) (given_kinds w rest) here (kinds_readable w (name ∷ before) rest inner.1)
+    let here = kinds_of_readable w name values inner.0 (kind_named name) refl in
+    each_append IsReadableKind (kinds_of w (kind_named name) (value_messages values)) (given_kinds w rest) here (kinds_readable w (name ∷ before) rest inner.1)
 
 first_kind : (ks : List Kind) → Each IsReadableKind ks → IsReadableKind (first_or Empty ks)
 first_kind [] e = tt

@@ -1,33 +1,36 @@
 -- The canonical text of a model that was read is read as the same model.
 use Rattle.std.specs.Prelude.{map, codes}
 use Rattle.std.specs.List.{AllZip}
-use Rattle.std.specs.Str.{bytes_eq}
-use Rattle.std.proofs.Common.{◌≡◌, ◌≢◌, ℕ, zero, suc, Bool, true, false, ℤ, pos, negsuc, List, [], ◌∷◌, ◌++◌, Option, Some, None, refl, sym, subst, ap, ◌∙◌, append-nil}
+use Rattle.std.proofs.Common.{◌≡◌, ◌≢◌, ℕ, zero, suc, true, false, ℤ, pos, negsuc, List, [], ◌∷◌, Option, Some, None, ◌⊎◌, inl, inr, refl, sym, subst, ap, ◌∙◌, append-nil}
 use Rattle.cps_lex.specs.Bytes.{is_word_start, is_word}
-use Rattle.cps_textproto.specs.Symbols.{symbols}
-use Rattle.cps_textproto.specs.Trees.{Tree, no_fields, field, Values, no_values, scalar_value, message_value}
-use Rattle.cps_textproto.specs.Reading.{tree_at, HasTree}
+use Rattle.cps_lex.specs.Forms.{is_identifier}
+use Rattle.cps_textproto.specs.Trees.{Tree, no_fields, field, no_values, message_value}
+use Rattle.cps_textproto.specs.Reading.{tree_at}
 use Rattle.cps_model.specs.declared.model.CpModel.{CpModel}
 use Rattle.cps_model.specs.declared.model.Variable.{Variable}
 use Rattle.cps_model.specs.declared.model.Objective.{Objective}
 use Rattle.cps_model.specs.declared.constraint.Constraint.{Constraint}
 use Rattle.cps_model.specs.declared.constraint.Kind.{Kind}
-use Rattle.cps_model.specs.declared.constraint.Kind.TheVariants.{Empty, BoolOr, Linear}
-use Rattle.cps_schema.specs.Written.{Written, written, token_text}
+use Rattle.cps_model.specs.declared.constraint.Kind.TheVariants.{Empty, BoolOr, BoolAnd, AtMostOne, ExactlyOne, BoolXor, Linear}
+use Rattle.cps_schema.specs.declared.kind.KindName.{KindName}
+use Rattle.cps_schema.specs.declared.kind.KindName.TheVariants as names
+use Rattle.cps_schema.specs.Written.{Written, written}
 use Rattle.cps_schema.specs.declared.number.Number.TheVariants.{Int64, Int32, Exact}
 use Rattle.cps_schema.specs.Numbers.{fits}
-use Rattle.cps_schema.specs.Tables as tables
 use Rattle.cps_schema.specs.Tables.{use_of, is_given, model_message, variable_message, constraint_message, literals_message, linear_message, objective_message}
+use Rattle.cps_schema.specs.Kinds.{field_name, message_of, kind_named}
 use Rattle.cps_schema.specs.Faults.{has_kind}
 use Rattle.cps_schema.specs.Readings as readings
-use Rattle.cps_schema.specs.Readings.{first_or, first_of, messages, read_variable, read_bool_or, read_linear, given_kinds, read_constraint, scaling_of, read_objective, read_model, ReadsAs}
-use Rattle.cps_print.specs.Layout.{Message, empty, number, numbers, text_of}
+use Rattle.cps_schema.specs.Readings.{first_or, first_of, messages, read_variable, read_literals, read_linear, read_kind, given_kinds, read_constraint, scaling_of, read_objective, read_model, ReadsAs}
+use Rattle.cps_schema.specs.Parts.{IsKindGiven}
+use Rattle.cps_schema.proofs.GivenKinds.{kind_use, enforcement_given}
+use Rattle.cps_print.specs.Layout.{Message, empty, text_of}
 use Rattle.cps_print.specs.Fields.{followed_by, number_field, list_field, text_field, message_field, repeated_field}
-use Rattle.cps_print.specs.Models.{printed_variable, printed_literals, printed_linear, kind_field, printed_constraint, scaling_field, printed_objective, objective_field, printed_strategy, hint_field, printed_model, model_text}
+use Rattle.cps_print.specs.Models.{printed_variable, printed_literals, printed_linear, kind_field, printed_constraint, scaling_field, printed_objective, objective_field, printed_model, model_text}
 use Rattle.cps_print.specs.ReadBack.{IsReadAs}
-use Rattle.cps_print.proofs.Pieces.{Piece, spelled, tokens_at, symbols_of, AreSound, AreWritten, tokens_are, symbols_are, written_are}
+use Rattle.cps_print.proofs.Pieces.{Piece, spelled, tokens_at, tokens_are, symbols_are, written_are}
 use Rattle.cps_print.proofs.Cuts.{IsPlain, pieces, fields_of, spelled-pieces, pieces_sound, symbols-pieces, fields_nest}
-use Rattle.cps_print.proofs.Shown.{Shows, ShowNumbers, IsAdmitted, TakesMessage, each, alone, kind, printed_numbers, printed_messages, tree_shows, numbers-shown, messages-shown, value_messages-shown, no_fault}
+use Rattle.cps_print.proofs.Shown.{Shows, IsAdmitted, alone, kind, printed_numbers, printed_messages, tree_shows, numbers-shown, messages-shown, no_fault}
 use Rattle.cps_print.proofs.Readable.{Each, AreFit, IsReadable, IsReadableVariable, IsReadableKind, IsReadableConstraint, IsReadableObjective, IsReadableOption, read_is_readable}
 use Rattle.cps_print.proofs.Fitting.{fit_short, are_short, plain-followed_by, plain-list_field, plain-number_field, plain-no_text, plain-message_field, plain-repeated_field, admitted-list, admitted-number, admitted-no_text, admitted-message, admitted-repeated, given-other, number_list, printed}
 
@@ -74,13 +77,6 @@ linear_plain room vars coeffs domain f g h =
     (plain-followed_by room (list_field (codes "coeffs") coeffs) _ (plain-list_field room (codes "coeffs") coeffs refl (are_short Int64 coeffs g))
     (plain-followed_by room (list_field (codes "domain") domain) empty (plain-list_field room (codes "domain") domain refl (are_short Int64 domain h)) tt))
 
-kind_plain : (room : ℕ) (k : Kind) → IsReadableKind k → IsPlain (suc room) (kind_field k)
-unfolding is_word_start is_word
-kind_plain room Empty r = tt
-kind_plain room (BoolOr literals) r = plain-message_field room (codes "bool_or") (printed_literals literals) refl (literals_plain room literals r)
-kind_plain room (Linear vars coeffs domain) r = plain-message_field room (codes "linear") (printed_linear vars coeffs domain) refl (linear_plain room vars coeffs domain r.0 r.1 r.2)
-kind_plain room _ r = absurd r
-
 literals_admitted : (literals : List ℤ) → AreFit Int32 literals → IsAdmitted literals_message [] (printed_literals literals)
 unfolding use_of list_field
 literals_admitted [] f = tt
@@ -93,16 +89,7 @@ linear_admitted vars coeffs domain f g h =
     let middle = λ (before : List (List ℕ)). admitted-list linear_message before (codes "coeffs") coeffs Int64 _ refl g (last before) (last (codes "coeffs" ∷ before)) in
     admitted-list linear_message [] (codes "vars") vars Int32 _ refl f (middle []) (middle (codes "vars" ∷ []))
 
-kind_admitted : (before : List (List ℕ)) (k : Kind) → IsReadableKind k → is_given before (codes "bool_or") ≡ false → is_given before (codes "linear") ≡ false → has_kind constraint_message before ≡ false → IsAdmitted constraint_message before (followed_by (kind_field k) empty)
-unfolding use_of followed_by
-kind_admitted before Empty r b l h = tt
-kind_admitted before (BoolOr literals) r b l h =
-    admitted-message constraint_message before (codes "bool_or") (printed_literals literals) empty (kind literals_message refl b h (literals_admitted literals r)) tt
-kind_admitted before (Linear vars coeffs domain) r b l h =
-    admitted-message constraint_message before (codes "linear") (printed_linear vars coeffs domain) empty (kind linear_message refl l h (linear_admitted vars coeffs domain r.0 r.1 r.2)) tt
-kind_admitted before _ r b l h = absurd r
-
-literals_back : (w : Written) (literals : List ℤ) (t : Tree) → Shows w (printed_literals literals) t → readings.numbers w (codes "literals") t ≡ literals
+literals_back : (w : Written) (literals : List ℤ) (t : Tree) → Shows w (printed_literals literals) t → read_literals w t ≡ literals
 literals_back w literals t s = numbers-shown w (codes "literals") (printed_literals literals) t s ∙ simp printed
 
 linear_back : (w : Written) (vars coeffs domain : List ℤ) (t : Tree) → Shows w (printed_linear vars coeffs domain) t → read_linear w t ≡ Linear vars coeffs domain
@@ -112,19 +99,88 @@ linear_back w vars coeffs domain t s =
     let d : readings.numbers w (codes "domain") t ≡ domain = numbers-shown w (codes "domain") (printed_linear vars coeffs domain) t s ∙ simp printed in
     rw (v, c, d) refl
 
+-- a kind as the field that it is printed as
+record AsField (k : Kind) : Type 0 where
+  name : KindName
+  inner : Message
+  is : kind_field k ≡ message_field (field_name name) inner
+  plain : (room : ℕ) → IsPlain room inner
+  admitted : IsAdmitted (message_of name) [] inner
+  back : (w : Written) (t : Tree) → Shows w inner t → read_kind w name t ≡ k
+
+literals_as_field : (name : KindName) (make : List ℤ → Kind) (literals : List ℤ) → AreFit Int32 literals → message_of name ≡ literals_message → ((w : Written) (t : Tree) → read_kind w name t ≡ make (read_literals w t)) → kind_field (make literals) ≡ message_field (field_name name) (printed_literals literals) → AsField (make literals)
+literals_as_field name make literals fit takes reads is = record {
+  name = name;
+  inner = printed_literals literals;
+  is = is;
+  plain = λ room. literals_plain room literals fit;
+  admitted = rw takes (literals_admitted literals fit);
+  back = λ w t s. reads w t ∙ ap make (literals_back w literals t s);
+}
+
+as_field : (k : Kind) → IsReadableKind k → (k ≡ Empty) ⊎ AsField k
+as_field Empty r = inl refl
+as_field (BoolOr literals) r = inr (literals_as_field names.BoolOr (λ ls. BoolOr ls) literals r refl (λ w t. refl) refl)
+as_field (BoolAnd literals) r = inr (literals_as_field names.BoolAnd (λ ls. BoolAnd ls) literals r refl (λ w t. refl) refl)
+as_field (AtMostOne literals) r = inr (literals_as_field names.AtMostOne (λ ls. AtMostOne ls) literals r refl (λ w t. refl) refl)
+as_field (ExactlyOne literals) r = inr (literals_as_field names.ExactlyOne (λ ls. ExactlyOne ls) literals r refl (λ w t. refl) refl)
+as_field (BoolXor literals) r = inr (literals_as_field names.BoolXor (λ ls. BoolXor ls) literals r refl (λ w t. refl) refl)
+as_field (Linear vars coeffs domain) r = inr (record {
+  name = names.Linear;
+  inner = printed_linear vars coeffs domain;
+  is = refl;
+  plain = λ room. linear_plain room vars coeffs domain r.0 r.1 r.2;
+  admitted = linear_admitted vars coeffs domain r.0 r.1 r.2;
+  back = λ w t s. linear_back w vars coeffs domain t s;
+})
+
+-- a kind's name can stand in a text, and is that of the kind
+name_plain : (name : KindName) → is_identifier (field_name name) ≡ true
+unfolding is_word_start is_word
+name_plain names.BoolOr = refl
+name_plain names.BoolAnd = refl
+name_plain names.AtMostOne = refl
+name_plain names.ExactlyOne = refl
+name_plain names.BoolXor = refl
+name_plain names.Linear = refl
+
+name_named : (name : KindName) → kind_named (field_name name) ≡ Some name
+name_named names.BoolOr = refl
+name_named names.BoolAnd = refl
+name_named names.AtMostOne = refl
+name_named names.ExactlyOne = refl
+name_named names.BoolXor = refl
+name_named names.Linear = refl
+
+kind_plain : (room : ℕ) (k : Kind) → IsReadableKind k → IsPlain (suc room) (kind_field k)
+kind_plain room k r = by_field (as_field k r) where
+  by_field : (k ≡ Empty) ⊎ AsField k → IsPlain (suc room) (kind_field k)
+  by_field (inl e) = rw e tt
+  by_field (inr f) = rw f.is (plain-message_field room (field_name f.name) f.inner (name_plain f.name) (f.plain room))
+
+kind_admitted : (before : List (List ℕ)) (k : Kind) → IsReadableKind k → IsKindGiven None before → IsAdmitted constraint_message before (followed_by (kind_field k) empty)
+unfolding followed_by
+kind_admitted before k r given = by_field (as_field k r) where
+  by_field : (k ≡ Empty) ⊎ AsField k → IsAdmitted constraint_message before (followed_by (kind_field k) empty)
+  by_field (inl e) = rw e tt
+  by_field (inr f) =
+      rw f.is (admitted-message constraint_message before (field_name f.name) f.inner empty (kind (message_of f.name) (kind_use f.name) (given.name_given f.name) given.kind_given f.admitted) tt)
+
+empty_back : (w : Written) (t : Tree) → Shows w empty t → first_or Empty (given_kinds w t) ≡ Empty
+empty_back w no_fields s = refl
+empty_back w _ s = absurd s
+
+field_back : (w : Written) (k : Kind) (f : AsField k) (t : Tree) → Shows w (message_field (field_name f.name) f.inner) t → first_or Empty (given_kinds w t) ≡ k
+field_back w k f (field token false (message_value first inner no_values) no_fields) s = rw (s.0, name_named f.name) (f.back w inner s.1)
+field_back w k f (field token false (message_value first inner no_values) (field t l v more)) s = absurd s.2
+field_back w k f _ s = absurd s
+
 kind_back : (w : Written) (k : Kind) (t : Tree) → IsReadableKind k → Shows w (followed_by (kind_field k) empty) t → first_or Empty (given_kinds w t) ≡ k
 unfolding followed_by
-kind_back w Empty no_fields r s = refl
-kind_back w (BoolOr literals) (field token false (message_value first inner no_values) no_fields) r s =
-    rw s.0 (ap (λ ls. BoolOr ls) (literals_back w literals inner s.1))
-kind_back w (Linear vars coeffs domain) (field token false (message_value first inner no_values) no_fields) r s =
-    rw s.0 (linear_back w vars coeffs domain inner s.1)
-kind_back w (BoolOr literals) (field token false (message_value first inner no_values) (field k l v more)) r s = absurd s.2
-kind_back w (Linear vars coeffs domain) (field token false (message_value first inner no_values) (field k l v more)) r s = absurd s.2
-kind_back w (BoolOr literals) _ r s = absurd s
-kind_back w (Linear vars coeffs domain) _ r s = absurd s
-kind_back w Empty _ r s = absurd s
-kind_back w _ _ r s = absurd r
+kind_back w k t r s = by_field (as_field k r) where
+  by_field : (k ≡ Empty) ⊎ AsField k → first_or Empty (given_kinds w t) ≡ k
+  by_field (inl e) = rw e (empty_back w t (subst (λ x. Shows w (followed_by (kind_field x) empty) t) e s))
+  by_field (inr f) = field_back w k f t (subst (λ m. Shows w (followed_by m empty) t) f.is s)
 
 -- the kind stands behind the enforcement literals
 record Behind (w : Written) (m : Message) (t : Tree) : Type 0 where
@@ -154,13 +210,17 @@ constraint_plain room c r =
     (plain-followed_by (suc room) (list_field (codes "enforcement_literal") c.enforcement) _ (plain-list_field (suc room) (codes "enforcement_literal") c.enforcement refl (are_short Int32 c.enforcement r.enforcement))
     (plain-followed_by (suc room) (kind_field c.kind) empty (kind_plain room c.kind r.kind) tt))
 
+no_kind_given : IsKindGiven None []
+unfolding is_given has_kind
+no_kind_given = record { name_given = λ name. refl; kind_given = refl }
+
 constraint_admitted : (c : Constraint) → IsReadableConstraint c → IsAdmitted constraint_message [] (printed_constraint c)
 unfolding use_of is_given has_kind
 constraint_admitted c r =
     admitted-no_text constraint_message [] (codes "name") c.name _ r.name
     (admitted-list constraint_message [] (codes "enforcement_literal") c.enforcement Int32 _ refl r.enforcement
-    (kind_admitted [] c.kind r.kind refl refl refl)
-    (kind_admitted (codes "enforcement_literal" ∷ []) c.kind r.kind refl refl refl))
+    (kind_admitted [] c.kind r.kind no_kind_given)
+    (kind_admitted (codes "enforcement_literal" ∷ []) c.kind r.kind (enforcement_given None (codes "enforcement_literal") refl [] no_kind_given)))
 
 kind_no_numbers : (name : List ℕ) (k : Kind) → printed_numbers name (kind_field k) ≡ []
 kind_no_numbers name Empty = refl

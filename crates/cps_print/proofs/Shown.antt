@@ -2,15 +2,14 @@
 use Rattle.std.specs.Prelude.{map, if◌then◌else◌}
 use Rattle.std.specs.List.{list_all, AllZip}
 use Rattle.std.specs.Str.{bytes_eq}
-use Rattle.std.specs.Option.{option_or}
 use Rattle.std.specs.Fmt.{decimal}
 use Rattle.std.proofs.lemmas.Bool.Decides.{nat_tests}
-use Rattle.std.proofs.Common.{◌≡◌, ℕ, zero, suc, ◌+◌, ◌^◌, ◌<◌, Bool, true, false, ◌==◌, ◌&&◌, ℤ, pos, negsuc, unsigned_abs, List, [], ◌∷◌, ◌++◌, Option, Some, None, refl, sym, ap, ◌∙◌, add-one, append-nil, append_assoc, arith}
+use Rattle.std.proofs.Common.{◌≡◌, ℕ, zero, suc, ◌^◌, ◌<◌, Bool, true, false, ◌==◌, ℤ, pos, negsuc, List, [], ◌∷◌, ◌++◌, Some, None, refl, add-one, arith}
 use Rattle.cps_lex.specs.declared.types.TokenKind.TheVariants.{Decimal}
 use Rattle.cps_lex.specs.Bytes.{is_digit}
 use Rattle.cps_textproto.specs.Trees.{Tree, no_fields, field, Values, no_values, scalar_value, message_value}
 use Rattle.cps_textproto.specs.Reading.{past_scalar, past_others, past_fields, others_at, tree_at}
-use Rattle.cps_schema.specs.Written.{Written, token_text, token_kind, decimal_value, is_negative, unsigned_token, magnitude, number_at}
+use Rattle.cps_schema.specs.Written.{Written, token_text, token_kind, is_negative, unsigned_token, magnitude, number_at}
 use Rattle.cps_schema.specs.Numbers.{fits, number_fault}
 use Rattle.cps_schema.specs.declared.number.Number.{Number}
 use Rattle.cps_schema.specs.Tables as tables

@@ -1,5 +1,5 @@
 -- The text of a response.
-use Rattle.std.specs.Prelude.{ℕ, ◌^◌, ◌<◌, ◌≤◌, IsTrue, unsigned_abs, ℤ, ◌+ℤ◌, ◌*ℤ◌, List, [], ◌++◌, codes, Option, Some, None}
+use Rattle.std.specs.Prelude.{ℕ, ◌^◌, ◌<◌, ◌≤◌, IsTrue, unsigned_abs, ℤ, List, [], ◌++◌, codes, Option, Some, None}
 use Rattle.std.specs.List.{flat_map}
 use Rattle.std.specs.Fmt.{signed_decimal}
 use Rattle.cps_model.specs.declared.model.CpModel.{CpModel}

@@ -1,103 +1,120 @@
 -- The kinds among a constraint's fields.
+use Rattle.std.specs.List.{find}
 use Rattle.std.specs.Str.{bytes_eq}
-use Rattle.std.proofs.Common.{◌≡◌, ℕ, List, ◌∷◌, ◌||◌, true, false, Option, Some, None, is_some, Result, Ok, Err, OnOk, IfErr, codes, refl, sym, ◌∙◌}
+use Rattle.std.proofs.lemmas.Slice.Eq.{bytes_eq-Decides}
+use Rattle.std.proofs.Common.{◌≡◌, ℕ, List, [], ◌∷◌, ◌||◌, Bool, true, false, cond, if◌then◌else◌, map, Option, Some, None, is_some, Result, Ok, Err, OnOk, IfErr, codes, refl, ap, ◌∙◌}
 use Rattle.cps_textproto.specs.declared.tree.Field.{Field}
-use Rattle.cps_model.specs.declared.constraint.Kind.{Kind}
-use Rattle.cps_model.specs.declared.constraint.Kind.TheVariants.{BoolOr, Linear}
 use Rattle.cps_schema.specs.declared.error.SchemaError.{SchemaError}
+use Rattle.cps_schema.specs.declared.kind.GivenKind.{GivenKind}
+use Rattle.cps_schema.specs.declared.kind.KindName.{KindName}
+use Rattle.cps_schema.specs.declared.kind.KindName.TheVariants.{BoolOr, BoolAnd, AtMostOne, ExactlyOne, BoolXor, Linear}
 use Rattle.cps_schema.specs.Written.{Written, token_text}
-use Rattle.cps_schema.specs.Tables.{Message, constraint_message, literals_message, linear_message, use_in, table_of, use_of}
+use Rattle.cps_schema.specs.Tables.{Message, constraint_message, Use, one_kind, use_in, table_of, use_of}
+use Rattle.cps_schema.specs.Kinds.{kinds_read, field_name, message_of, kind_named}
 use Rattle.cps_schema.specs.Faults.{is_kind, has_kind}
 use Rattle.cps_schema.specs.Steps.{Passes, Stops, KindPasses, KindStops}
-use Rattle.cps_schema.specs.Parts.{is_bool_or, is_linear, IsKindGiven}
-use Rattle.cps_schema.proofs.Steps.{next_given, table_use}
+use Rattle.cps_schema.specs.Parts.{is_given_as, IsKindGiven}
+use Rattle.cps_schema.proofs.Steps.{next_given}
 
 -- one name more
 next_kind : (m : Message) (given : List ℕ) (before : List (List ℕ)) → has_kind m (given ∷ before) ≡ (is_kind (use_of m given) || has_kind m before)
 unfolding has_kind
 next_kind m given before = refl
 
+-- the first that passes a test passes it
+found : (test : KindName → Bool) (kinds : List KindName) (kind : KindName) → find test kinds ≡ Some kind → test kind ≡ true
+found test [] kind e = cc
+found test (k ∷ kinds) kind e = by_test (test k) refl (λ s. found test kinds kind s) e where
+  by_test : (b : Bool) → test k ≡ b → (find test kinds ≡ Some kind → test kind ≡ true) → cond b (Some k) (find test kinds) ≡ Some kind → test kind ≡ true
+  by_test true t more s = cc
+  by_test false t more s = more s
+
+-- a name that is a kind's
+pub named_text : (text : List ℕ) (kind : KindName) → kind_named text ≡ Some kind → text ≡ field_name kind
+named_text text kind e = (bytes_eq-Decides text (field_name kind)).0 (found (λ k. bytes_eq text (field_name k)) kinds_read kind e)
+
+pub kind_use : (kind : KindName) → use_of constraint_message (field_name kind) ≡ Some (one_kind (message_of kind))
+unfolding use_of
+kind_use BoolOr = refl
+kind_use BoolAnd = refl
+kind_use AtMostOne = refl
+kind_use ExactlyOne = refl
+kind_use BoolXor = refl
+kind_use Linear = refl
+
 enforcement_is_no_kind : is_kind (use_of constraint_message (codes "enforcement_literal")) ≡ false
 unfolding use_of
 enforcement_is_no_kind = refl
 
-bool_or_is_kind : is_kind (use_of constraint_message (codes "bool_or")) ≡ true
-unfolding use_of
-bool_or_is_kind = refl
+enforcement_apart : (kind : KindName) → bytes_eq (field_name kind) (codes "enforcement_literal") ≡ false
+enforcement_apart BoolOr = refl
+enforcement_apart BoolAnd = refl
+enforcement_apart AtMostOne = refl
+enforcement_apart ExactlyOne = refl
+enforcement_apart BoolXor = refl
+enforcement_apart Linear = refl
 
-linear_is_kind : is_kind (use_of constraint_message (codes "linear")) ≡ true
-unfolding use_of
-linear_is_kind = refl
+-- the line of a kind in the table
+abbrev line_of : KindName → List ℕ × Use
+line_of kind = (field_name kind, one_kind (message_of kind))
 
-pub no_constraint_field : (text : List ℕ) → bytes_eq text (codes "enforcement_literal") ≡ false → bytes_eq text (codes "bool_or") ≡ false →
-    bytes_eq text (codes "linear") ≡ false → use_in (table_of constraint_message) text ≡ None
-no_constraint_field text a b c = rw (a, b, c) refl
+no_line : (text : List ℕ) (kinds : List KindName) → find (λ kind. bytes_eq text (field_name kind)) kinds ≡ None → use_in (map line_of kinds) text ≡ None
+no_line text [] e = refl
+no_line text (k ∷ kinds) e = by_test (bytes_eq text (field_name k)) (λ s. no_line text kinds s) e where
+  by_test : (b : Bool) → (find (λ kind. bytes_eq text (field_name kind)) kinds ≡ None → use_in (map line_of kinds) text ≡ None) →
+      cond b (Some k) (find (λ kind. bytes_eq text (field_name kind)) kinds) ≡ None →
+      (if b then Some (one_kind (message_of k)) else use_in (map line_of kinds) text) ≡ None
+  by_test true more s = cc
+  by_test false more s = more s
 
-pub enforcement_given : (kind : Option Kind) (text : List ℕ) → text ≡ codes "enforcement_literal" →
-    (before : List (List ℕ)) → IsKindGiven kind before → IsKindGiven kind (text ∷ before)
-enforcement_given kind text e before given = rw e (record {
-  bool_or_given = next_given (codes "bool_or") (codes "enforcement_literal") before ∙ given.bool_or_given;
-  linear_given = next_given (codes "linear") (codes "enforcement_literal") before ∙ given.linear_given;
-  kind_given = next_kind constraint_message (codes "enforcement_literal") before ∙ rw enforcement_is_no_kind given.kind_given;
+pub no_constraint_field : (text : List ℕ) → bytes_eq text (codes "enforcement_literal") ≡ false → kind_named text ≡ None →
+    use_in (table_of constraint_message) text ≡ None
+no_constraint_field text a none = rw a (no_line text kinds_read none)
+
+pub enforcement_given : (given : Option GivenKind) (text : List ℕ) → text ≡ codes "enforcement_literal" →
+    (before : List (List ℕ)) → IsKindGiven given before → IsKindGiven given (text ∷ before)
+enforcement_given given text e before kept = rw e (record {
+  name_given = λ name. next_given (field_name name) (codes "enforcement_literal") before ∙ rw (enforcement_apart name) (kept.name_given name);
+  kind_given = next_kind constraint_message (codes "enforcement_literal") before ∙ rw enforcement_is_no_kind kept.kind_given;
 })
 
-no_kind : (kind : Option Kind) → is_some kind ≡ false → (is_bool_or kind ≡ false) × (is_linear kind ≡ false)
-no_kind None e = (refl, refl)
-no_kind (Some kind) e = cc
+no_name : (given : Option GivenKind) → is_some given ≡ false → (name : KindName) → is_given_as given name ≡ false
+no_name None e name = refl
+no_name (Some given) e name = cc
 
--- the two tests exclude each other
-only_bool_or : (kind : Option Kind) → is_bool_or kind ≡ true → (is_linear kind ≡ false) × (is_some kind ≡ true)
-only_bool_or None e = cc
-only_bool_or (Some (BoolOr literals)) e = (refl, refl)
-only_bool_or (Some (Linear vars coeffs domain)) e = cc
-only_bool_or (Some _) e = cc
+-- the kind that was read has one name
+one_name : (given : Option GivenKind) (name : KindName) → is_given_as given name ≡ true →
+    (is_some given ≡ true) × ((other : KindName) → bytes_eq (field_name other) (field_name name) ≡ is_given_as given other)
+one_name None name e = cc
+one_name (Some given) name e =
+    (refl, λ other. ap (λ text. bytes_eq (field_name other) text) ((bytes_eq-Decides (field_name name) (field_name given.name)).0 e))
 
-only_linear : (kind : Option Kind) → is_linear kind ≡ true → (is_bool_or kind ≡ false) × (is_some kind ≡ true)
-only_linear None e = cc
-only_linear (Some (Linear vars coeffs domain)) e = (refl, refl)
-only_linear (Some (BoolOr literals)) e = cc
-only_linear (Some _) e = cc
+or_false : (b : Bool) → (b || false) ≡ b
+or_false true = refl
+or_false false = refl
 
-pub bool_or_passes : (w : Written) (f : Field) (r : Result (Unit {0}) SchemaError) (old new : Option Kind) →
-    token_text w f.name ≡ codes "bool_or" → OnOk r (KindPasses w f literals_message (is_bool_or old) (is_some old)) →
-    OnOk r (is_some old ≡ false) → OnOk r (is_bool_or new ≡ true) →
+pub field_passes : (w : Written) (f : Field) (kind : KindName) (r : Result (Unit {0}) SchemaError) (old new : Option GivenKind) →
+    kind_named (token_text w f.name) ≡ Some kind → OnOk r (KindPasses w f (message_of kind) (is_given_as old kind) (is_some old)) →
+    OnOk r (is_some old ≡ false) → OnOk r (is_given_as new kind ≡ true) →
     OnOk r ((before : List (List ℕ)) → IsKindGiven old before →
     Passes w constraint_message before f × IsKindGiven new (token_text w f.name ∷ before))
-bool_or_passes w f (Ok x) old new name passes none some = λ before given. (
-  passes constraint_message before (table_use _ _ _ _ name refl) (rw name given.bool_or_given) given.kind_given,
-  rw name (record {
-    bool_or_given = next_given (codes "bool_or") (codes "bool_or") before ∙ rw some refl;
-    linear_given = next_given (codes "linear") (codes "bool_or") before ∙ given.linear_given ∙ (no_kind old none).1 ∙ sym (only_bool_or new some).0;
-    kind_given = next_kind constraint_message (codes "bool_or") before ∙ rw (bool_or_is_kind, (only_bool_or new some).1) refl;
-  }),
-)
-bool_or_passes w f (Err e) old new name passes none some = passes
+field_passes w f kind (Ok x) old new named passes none set = λ before given.
+    let name = named_text (token_text w f.name) kind named in
+    let some = one_name new kind set in (
+      passes constraint_message before (rw name (kind_use kind)) (rw name (given.name_given kind)) given.kind_given,
+      rw name (record {
+        name_given = λ other.
+            next_given (field_name other) (field_name kind) before
+            ∙ rw (given.name_given other, no_name old none other, or_false (bytes_eq (field_name other) (field_name kind))) (some.1 other);
+        kind_given = next_kind constraint_message (field_name kind) before ∙ rw (kind_use kind, some.0) refl;
+      }),
+    )
+field_passes w f kind (Err e) old new named passes none set = passes
 
-pub linear_passes : (w : Written) (f : Field) (r : Result (Unit {0}) SchemaError) (old new : Option Kind) →
-    token_text w f.name ≡ codes "linear" → OnOk r (KindPasses w f linear_message (is_linear old) (is_some old)) →
-    OnOk r (is_some old ≡ false) → OnOk r (is_linear new ≡ true) →
-    OnOk r ((before : List (List ℕ)) → IsKindGiven old before →
-    Passes w constraint_message before f × IsKindGiven new (token_text w f.name ∷ before))
-linear_passes w f (Ok x) old new name passes none some = λ before given. (
-  passes constraint_message before (table_use _ _ _ _ name refl) (rw name given.linear_given) given.kind_given,
-  rw name (record {
-    bool_or_given = next_given (codes "bool_or") (codes "linear") before ∙ given.bool_or_given ∙ (no_kind old none).0 ∙ sym (only_linear new some).0;
-    linear_given = next_given (codes "linear") (codes "linear") before ∙ rw some refl;
-    kind_given = next_kind constraint_message (codes "linear") before ∙ rw (linear_is_kind, (only_linear new some).1) refl;
-  }),
-)
-linear_passes w f (Err e) old new name passes none some = passes
-
-pub bool_or_stops : (w : Written) (f : Field) (r : Result (Unit {0}) SchemaError) (old : Option Kind) →
-    token_text w f.name ≡ codes "bool_or" → IfErr r (KindStops w f literals_message (is_bool_or old) (is_some old)) →
+pub field_stops : (w : Written) (f : Field) (kind : KindName) (r : Result (Unit {0}) SchemaError) (old : Option GivenKind) →
+    kind_named (token_text w f.name) ≡ Some kind → IfErr r (KindStops w f (message_of kind) (is_given_as old kind) (is_some old)) →
     IfErr r (λ e. (before : List (List ℕ)) → IsKindGiven old before → Stops w constraint_message before f e)
-bool_or_stops w f (Ok x) old name stops = stops
-bool_or_stops w f (Err e) old name stops = λ before given.
-    stops constraint_message before (table_use _ _ _ _ name refl) (rw name given.bool_or_given) given.kind_given
-
-pub linear_stops : (w : Written) (f : Field) (r : Result (Unit {0}) SchemaError) (old : Option Kind) →
-    token_text w f.name ≡ codes "linear" → IfErr r (KindStops w f linear_message (is_linear old) (is_some old)) →
-    IfErr r (λ e. (before : List (List ℕ)) → IsKindGiven old before → Stops w constraint_message before f e)
-linear_stops w f (Ok x) old name stops = stops
-linear_stops w f (Err e) old name stops = λ before given.
-    stops constraint_message before (table_use _ _ _ _ name refl) (rw name given.linear_given) given.kind_given
+field_stops w f kind (Ok x) old named stops = stops
+field_stops w f kind (Err e) old named stops = λ before given.
+    let name = named_text (token_text w f.name) kind named in
+    stops constraint_message before (rw name (kind_use kind)) (rw name (given.name_given kind)) given.kind_given

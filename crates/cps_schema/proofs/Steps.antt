@@ -136,10 +136,10 @@ if_stops w m f G (Ok x) stops = stops
 if_stops w m f G (Err e) stops = λ before given. stops before
 
 -- the message of a field of the first kind
-pub first_kind_stops : {T : Type 0} (w : Written) (f : Field) (same given : Bool) (r : Result T SchemaError) →
+pub first_kind_stops : {T : Type 0} (w : Written) (f : Field) (k : Message) (same given : Bool) (r : Result T SchemaError) →
     same ≡ false → given ≡ false →
-    IfErr r (λ e. (k : Message) → Refuses (single_fault w (message k) f) e) →
-    IfErr r (λ e. (k : Message) → KindStops w f k same given e)
-first_kind_stops w f same given (Ok x) different first stops = stops
-first_kind_stops w f same given (Err e) different first stops = λ k m before takes again kinds.
+    IfErr r (λ e. (m : Message) → Refuses (single_fault w (message m) f) e) →
+    IfErr r (KindStops w f k same given)
+first_kind_stops w f k same given (Ok x) different first stops = stops
+first_kind_stops w f k same given (Err e) different first stops = λ m before takes again kinds.
     kind_stops w m before f k takes (again ∙ different) (kinds ∙ first) e (stops k)

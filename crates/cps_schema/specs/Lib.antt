@@ -2,6 +2,7 @@ pub mod Written
 pub mod Sources
 pub mod Numbers
 pub mod Tables
+pub mod Kinds
 pub mod Faults
 pub mod Readings
 pub mod Answers

@@ -7,9 +7,12 @@ use Rattle.cps_model.specs.declared.model.Variable.{Variable}
 use Rattle.cps_model.specs.declared.model.Objective.{Objective}
 use Rattle.cps_model.specs.declared.constraint.Constraint.{Constraint}
 use Rattle.cps_model.specs.declared.constraint.Kind.{Kind}
-use Rattle.cps_model.specs.declared.constraint.Kind.TheVariants.{Empty, BoolOr, Linear}
+use Rattle.cps_model.specs.declared.constraint.Kind.TheVariants.{Empty, BoolOr, BoolAnd, AtMostOne, ExactlyOne, BoolXor, Linear}
+use Rattle.cps_schema.specs.declared.kind.KindName.{KindName}
+use Rattle.cps_schema.specs.declared.kind.KindName.TheVariants as names
 use Rattle.cps_schema.specs.Written.{Written, token_text, number_at}
 use Rattle.cps_schema.specs.Tables.{model_message}
+use Rattle.cps_schema.specs.Kinds.{kind_named}
 use Rattle.cps_schema.specs.Faults.{fields_fault}
 
 -- the first of a list, or another value where it is empty
@@ -48,25 +51,32 @@ messages w name (field token list values rest) =
 abbrev pub read_variable : Written → Tree → Variable
 read_variable w tree = record { name = []; domain = numbers w (codes "domain") tree }
 
-abbrev pub read_bool_or : Written → Tree → Kind
-read_bool_or w tree = BoolOr (numbers w (codes "literals") tree)
+abbrev pub read_literals : Written → Tree → List ℤ
+read_literals w tree = numbers w (codes "literals") tree
 
 abbrev pub read_linear : Written → Tree → Kind
 read_linear w tree =
     Linear (numbers w (codes "vars") tree) (numbers w (codes "coeffs") tree) (numbers w (codes "domain") tree)
 
--- what the messages of a field of this name demand, if they are kinds
-abbrev pub kinds_of : Written → List ℕ → List Tree → List Kind
-kinds_of w name inner =
-    if bytes_eq name (codes "bool_or") then map (read_bool_or w) inner
-    else (if bytes_eq name (codes "linear") then map (read_linear w) inner
-    else [])
+-- the kind of this name that a message gives
+abbrev pub read_kind : Written → KindName → Tree → Kind
+read_kind w names.BoolOr tree = BoolOr (read_literals w tree)
+read_kind w names.BoolAnd tree = BoolAnd (read_literals w tree)
+read_kind w names.AtMostOne tree = AtMostOne (read_literals w tree)
+read_kind w names.ExactlyOne tree = ExactlyOne (read_literals w tree)
+read_kind w names.BoolXor tree = BoolXor (read_literals w tree)
+read_kind w names.Linear tree = read_linear w tree
+
+-- the kinds that messages give
+abbrev pub kinds_of : Written → Option KindName → List Tree → List Kind
+kinds_of w None inner = []
+kinds_of w (Some name) inner = map (read_kind w name) inner
 
 -- the kinds that a constraint's fields give. A constraint without a fault has at most one.
 abbrev pub given_kinds : Written → Tree → List Kind
 given_kinds w no_fields = []
 given_kinds w (field token list values rest) =
-    kinds_of w (token_text w token) (value_messages values) ++ given_kinds w rest
+    kinds_of w (kind_named (token_text w token)) (value_messages values) ++ given_kinds w rest
 
 abbrev pub read_constraint : Written → Tree → Constraint
 read_constraint w tree = record {

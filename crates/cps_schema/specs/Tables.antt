@@ -46,6 +46,10 @@ table_of variable_message =
 table_of constraint_message =
     (codes "enforcement_literal", repeated (number Int32))
     ∷ (codes "bool_or", one_kind literals_message)
+    ∷ (codes "bool_and", one_kind literals_message)
+    ∷ (codes "at_most_one", one_kind literals_message)
+    ∷ (codes "exactly_one", one_kind literals_message)
+    ∷ (codes "bool_xor", one_kind literals_message)
     ∷ (codes "linear", one_kind linear_message)
     ∷ []
 table_of literals_message =
@@ -79,10 +83,6 @@ unread_names variable_message =
     ∷ []
 unread_names constraint_message =
     codes "name"
-    ∷ codes "bool_and"
-    ∷ codes "at_most_one"
-    ∷ codes "exactly_one"
-    ∷ codes "bool_xor"
     ∷ codes "int_div"
     ∷ codes "int_mod"
     ∷ codes "int_prod"

@@ -11,6 +11,7 @@
 
 mod constraint;
 mod error;
+mod kind;
 mod linear;
 mod lists;
 mod literals;

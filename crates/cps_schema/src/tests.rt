@@ -99,6 +99,13 @@ fn refuses_names(rt: HostRuntime) -> Result<(), Fail> {
         FaultName::TwoKinds,
         26,
     )?;
+    refused(
+        &rt,
+        alloc,
+        "constraints { at_most_one { } exactly_one { } }",
+        FaultName::TwoKinds,
+        30,
+    )?;
     Ok(())
 }
 
@@ -267,14 +274,22 @@ fn reads_constraints(rt: HostRuntime) -> Result<(), Fail> {
     let model = read(
         &rt,
         rt.alloc(),
-        "constraints { enforcement_literal: [0, -2147483648] bool_or { literals: 2147483647 } } constraints { } constraints { linear: { vars: 0 vars: [1], coeffs: -3, domain: -9223372036854775808 } }",
+        "constraints { enforcement_literal: [0, -2147483648] bool_or { literals: 2147483647 } } constraints { } constraints { linear: { vars: 0 vars: [1], coeffs: -3, domain: -9223372036854775808 } } constraints { bool_and { literals: [1, -2] } } constraints { at_most_one { literals: 3 } } constraints { exactly_one { literals: [4, 4] } } constraints { bool_xor { } }",
     )?;
-    let [first, second, third] = model.constraints.as_slice() else {
+    let [first, second, third, every, most, one, odd] = model.constraints.as_slice() else {
         return Err(Fail::from("constraints"));
     };
     assert!(rt; is_bool_or(first, &[0, i32::MIN], &[i32::MAX]));
     assert!(rt; is_empty(second));
     assert!(rt; is_linear(third, &[0, 1], &[-3], &[i64::MIN]));
+    assert!(rt;
+        matches!(&every.kind, Kind::BoolAnd(read) if read.as_slice() == [1, -2].as_slice())
+    );
+    assert!(rt; matches!(&most.kind, Kind::AtMostOne(read) if read.as_slice() == [3].as_slice()));
+    assert!(rt;
+        matches!(&one.kind, Kind::ExactlyOne(read) if read.as_slice() == [4, 4].as_slice())
+    );
+    assert!(rt; matches!(&odd.kind, Kind::BoolXor(read) if read.as_slice().is_empty()));
     Ok(())
 }
 

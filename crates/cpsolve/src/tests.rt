@@ -11,7 +11,7 @@ const PRODUCTION: &str = "variables { domain: [0, 10] } variables { domain: [0, 
     objective { vars: [0, 1] coeffs: [-3, -2] scaling_factor: -1 }";
 
 /// Inputs of `solve`, each with its exit status and its text.
-const INPUTS: [(&str, u8, &str); 10] = [
+const INPUTS: [(&str, u8, &str); 14] = [
     ("", 0, "status: OPTIMAL\n"),
     (
         PRODUCTION,
@@ -29,6 +29,29 @@ const INPUTS: [(&str, u8, &str); 10] = [
          constraints { bool_or { literals: [0] } }",
         0,
         "status: INFEASIBLE\n",
+    ),
+    (
+        "variables { domain: [1, 1] } variables { domain: [1, 1] } constraints { bool_xor { literals: [0, 1] } }",
+        0,
+        "status: INFEASIBLE\n",
+    ),
+    (
+        "variables { domain: [1, 1] } constraints { at_most_one { literals: [0, 0] } }",
+        0,
+        "status: INFEASIBLE\n",
+    ),
+    (
+        "variables { domain: [0, 1] } variables { domain: [0, 1] } constraints { at_most_one { literals: [0, 1] } } \
+         objective { vars: [0, 1] coeffs: [-1, -2] }",
+        0,
+        "status: OPTIMAL\nsolution: 0\nsolution: 1\nobjective_value: -2\nbest_objective_bound: -2\n",
+    ),
+    (
+        "variables { domain: [1, 1] } variables { domain: [0, 1] } variables { domain: [0, 1] } \
+         constraints { enforcement_literal: 0 exactly_one { literals: [1, 2] } } \
+         constraints { bool_and { literals: [0, -2] } }",
+        0,
+        "status: OPTIMAL\nsolution: 1\nsolution: 0\nsolution: 1\n",
     ),
     (
         "variables { domain: [0, 4611686018427387904] } \

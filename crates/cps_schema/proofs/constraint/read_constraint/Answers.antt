@@ -10,7 +10,7 @@ use Rattle.cps_schema.proofs.constraint.read_constraint.Goals as goal
 
 pub loop-field-init : goal.loop-field-init
 unfolding is_given has_kind
-loop-field-init c = (([], refl, record { bool_or_given = refl; linear_given = refl; kind_given = refl }), rw c.new.ensures.items refl)
+loop-field-init c = (([], refl, record { name_given = λ name. refl; kind_given = refl }), rw c.new.ensures.items refl)
 
 pub returns-in_err-add_field-clause-err : goal.returns-in_err-add_field-clause-err
 returns-in_err-add_field-clause-err c =

@@ -11,6 +11,6 @@ abbrev pub invariant-loop-field : goal.invariant-loop-field
 invariant-loop-field l =
     ((before : List (List ℕ)) × (fields_fault (written_of l.source) constraint_message [] (field_list l.field-items)
     ≡ fields_fault (written_of l.source) constraint_message before (field_list (drop l.field-index l.field-items)))
-    × IsKindGiven l.parts.kind before)
+    × IsKindGiven l.parts.given before)
     × (read_constraint (written_of l.source) (field_list l.field-items)
     ≡ constraint_from (written_of l.source) l.parts (field_list (drop l.field-index l.field-items)))

@@ -1,0 +1,13 @@
+use Rattle.std.proofs.Common.{is_some, sym, ◌∙◌}
+use Rattle.cps_schema.specs.Sources.{written_of}
+use Rattle.cps_schema.specs.Kinds.{message_of}
+use Rattle.cps_schema.specs.Parts.{is_given_as}
+use Rattle.cps_schema.proofs.Steps.{first_kind_stops}
+use Rattle.cps_schema.proofs.kind.kind_message.Goals as goal
+
+pub returns-clause-err : goal.returns-clause-err
+returns-clause-err c =
+    let given = c.args.given.now in
+    first_kind_stops (written_of c.args.source.now) c.args.field.now (message_of c.args.name) (is_given_as given c.args.name) (is_some given)
+    c.single_message.result (sym c.is_given_as.ensures ∙ c.if-is_given_as.false) (sym c.is_some.ensures ∙ c.if-is_some.false)
+    c.single_message.ensures.err

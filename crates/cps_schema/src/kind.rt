@@ -1,0 +1,158 @@
+//! The kinds of constraints.
+ghost use Rattle.std.specs.Prelude.{◌≡◌, ◌++◌, [], ◌∷◌, false, true, Some, None, map, is_some, OnOk, IfOk, IfErr};
+ghost use Rattle.std.specs.Option.{option_or};
+ghost use Rattle.cps_textproto.specs.Trees.{tree_of, values_of};
+ghost use Rattle.cps_schema.specs.Sources.{written_of, single_fault};
+ghost use Rattle.cps_schema.specs.Tables.{message};
+ghost use Rattle.cps_schema.specs.Kinds.{field_name, message_of, kind_named};
+ghost use Rattle.cps_schema.specs.Faults.{fields_fault};
+ghost use Rattle.cps_schema.specs.Readings.{value_messages, read_kind};
+ghost use Rattle.cps_schema.specs.Answers.{Refuses};
+ghost use Rattle.cps_schema.specs.Steps.{KindPasses, KindStops};
+ghost use Rattle.cps_schema.specs.Parts.{kind_list, is_given_as};
+
+use super::error::SchemaError;
+use super::linear::read_linear;
+use super::literals::read_literals;
+use super::single::single_message;
+use super::source::Source;
+use cps_model::{FaultName, Kind};
+use cps_textproto::{Field, Node};
+use std::alloc::Global;
+
+/// The kinds that are read.
+#[derive(Clone, Copy)]
+pub enum KindName {
+    BoolOr,
+    BoolAnd,
+    AtMostOne,
+    ExactlyOne,
+    BoolXor,
+    Linear,
+}
+
+const KINDS: [KindName; 6] = [
+    KindName::BoolOr,
+    KindName::BoolAnd,
+    KindName::AtMostOne,
+    KindName::ExactlyOne,
+    KindName::BoolXor,
+    KindName::Linear,
+];
+
+/// A kind that was read.
+#[derive(Drop)]
+pub struct GivenKind {
+    pub name: KindName,
+    pub kind: Kind,
+}
+
+/// The name of the field that gives a kind.
+fn field_name(kind: KindName) -> &'static [u8]
+    ensures { result.now ≡ field_name kind }
+{
+    match kind {
+        KindName::BoolOr => b"bool_or",
+        KindName::BoolAnd => b"bool_and",
+        KindName::AtMostOne => b"at_most_one",
+        KindName::ExactlyOne => b"exactly_one",
+        KindName::BoolXor => b"bool_xor",
+        KindName::Linear => b"linear",
+    }
+}
+
+/// The kind that a field of this name gives.
+pub(crate) fn kind_named(name: &[u8]) -> Option<KindName>
+    ensures { result ≡ kind_named name.now }
+{
+    for kind in &KINDS {
+        if name == field_name(*kind) {
+            return Some(*kind);
+        }
+    }
+    None
+}
+
+/// The field of this kind is the one that was read.
+fn is_given_as(given: &Option<GivenKind>, name: KindName) -> bool
+    ensures { result ≡ is_given_as given.now name }
+{
+    match given {
+        Some(given) => field_name(name) == field_name(given.name),
+        None => false,
+    }
+}
+
+/// The message of a field of a kind, which must be the first.
+#[tactic(auto, using(crate::proofs::Steps::kind_again, crate::proofs::Steps::second_kind, crate::proofs::Steps::kind_stops))]
+fn kind_message<'a>(
+    source: &Source,
+    given: &Option<GivenKind>,
+    name: KindName,
+    field: &'a Field,
+) -> Result<&'a Node, SchemaError>
+    ensures different { IfOk result (λ _. is_given_as given.now name ≡ false) }
+    ensures first { IfOk result (λ _. is_some given.now ≡ false) }
+    ensures messages { IfOk result (λ node. value_messages (values_of field.now.items) ≡ tree_of node.now ∷ []) }
+    ensures inner { IfOk result (λ node. single_fault (written_of source.now) (message (message_of name)) field.now
+        ≡ option_or (fields_fault (written_of source.now) (message_of name) [] (tree_of node.now)) None) }
+    ensures err { IfErr result (KindStops (written_of source.now) field.now (message_of name) (is_given_as given.now name) (is_some given.now)) }
+{
+    let token = field.name as usize;
+    if is_given_as(given, name) {
+        return Err(SchemaError::Fault {
+            name: FaultName::Repeated,
+            token,
+        });
+    }
+    if given.is_some() {
+        return Err(SchemaError::Fault {
+            name: FaultName::TwoKinds,
+            token,
+        });
+    }
+    single_message(source, field)
+}
+
+/// The kind of this name that a message gives.
+fn read_kind(
+    alloc: Global,
+    source: &Source,
+    name: KindName,
+    node: &Node,
+) -> Result<Kind, SchemaError>
+    ensures accepted { IfOk result (λ _. fields_fault (written_of source.now) (message_of name) [] (tree_of node.now) ≡ None) }
+    ensures reading { IfOk result (λ kind. kind ≡ read_kind (written_of source.now) name (tree_of node.now)) }
+    ensures err { IfErr result (Refuses (fields_fault (written_of source.now) (message_of name) [] (tree_of node.now))) }
+{
+    Ok(match name {
+        KindName::BoolOr => Kind::BoolOr(read_literals(alloc, source, node)?),
+        KindName::BoolAnd => Kind::BoolAnd(read_literals(alloc, source, node)?),
+        KindName::AtMostOne => Kind::AtMostOne(read_literals(alloc, source, node)?),
+        KindName::ExactlyOne => Kind::ExactlyOne(read_literals(alloc, source, node)?),
+        KindName::BoolXor => Kind::BoolXor(read_literals(alloc, source, node)?),
+        KindName::Linear => read_linear(alloc, source, node)?,
+    })
+}
+
+/// Reads a field of a kind, which must be the first.
+#[tactic(auto, using(crate::proofs::Steps::kind_passes, crate::proofs::Steps::kind_stops))]
+pub(crate) fn set_kind(
+    alloc: Global,
+    source: &Source,
+    given: &mut Option<GivenKind>,
+    name: KindName,
+    field: &Field,
+) -> Result<(), SchemaError>
+    ensures passes { OnOk result (KindPasses (written_of source.now) field.now (message_of name) (is_given_as given.old name) (is_some given.old)) }
+    ensures added { OnOk result (kind_list given.new
+        ≡ kind_list given.old ++ map (read_kind (written_of source.now) name) (value_messages (values_of field.now.items))) }
+    ensures none { OnOk result (is_some given.old ≡ false) }
+    ensures set { OnOk result (is_given_as given.new name ≡ true) }
+    ensures err { IfErr result (KindStops (written_of source.now) field.now (message_of name) (is_given_as given.old name) (is_some given.old)) }
+{
+    let node = kind_message(source, given, name, field)?;
+    let kind = read_kind(alloc, source, name, node)?;
+    *given = Some(GivenKind { name, kind });
+    Ok(())
+}
