@@ -9,7 +9,7 @@ use crate::settle::run;
 use cps_instance::{Body, Task, Term};
 use cps_literal::Atom;
 use cps_model::Listed;
-use cps_propagate::{Propagator, push_atom_subjects, push_term_subjects};
+use cps_propagate::{Defining, Propagator, push_atom_subjects, push_term_subjects};
 use cps_trail::{Step, Store};
 use std::alloc::{AllocError, Global};
 use std::marker::Model;
@@ -131,22 +131,6 @@ impl Propagator for Linear {
         Ok(step)
     }
 
-    fn of_sum(
-        alloc: Global,
-        subject: u32,
-        terms: &[Term],
-        offset: i64,
-    ) -> Result<Self, AllocError> {
-        Ok(Linear {
-            alloc,
-            enforcement: Listed::new(alloc),
-            terms: led_terms(alloc, subject, terms)?,
-            admitted: Admitted::Balanced(offset),
-            values: Vec::new(alloc),
-            facts: Facts::new(alloc),
-        })
-    }
-
     fn lower(&mut self, upper: i64) {
         self.admitted.lower(upper);
     }
@@ -167,5 +151,23 @@ impl Propagator for Linear {
     fn is_cheap(&self) -> bool {
         let _admitted = &self.admitted;
         false
+    }
+}
+
+impl Defining for Linear {
+    fn of_sum(
+        alloc: Global,
+        subject: u32,
+        terms: &[Term],
+        offset: i64,
+    ) -> Result<Self, AllocError> {
+        Ok(Linear {
+            alloc,
+            enforcement: Listed::new(alloc),
+            terms: led_terms(alloc, subject, terms)?,
+            admitted: Admitted::Balanced(offset),
+            values: Vec::new(alloc),
+            facts: Facts::new(alloc),
+        })
     }
 }
