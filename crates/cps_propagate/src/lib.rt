@@ -13,6 +13,8 @@ mod propagator;
 mod queue;
 mod readers;
 mod subjects;
+#[cfg(test)]
+mod tests;
 mod waking;
 
 pub use engine::Engine;
