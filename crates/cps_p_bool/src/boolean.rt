@@ -124,11 +124,7 @@ fn narrow_by(
 }
 
 /// Adds the subjects of a kind's atoms.
-fn push_body_subjects(
-    kind: Kind,
-    atoms: &[Atom],
-    subjects: &mut Vec<u32>,
-) -> Result<(), AllocError>
+fn push_body_subjects(kind: Kind, atoms: &[Atom], subjects: &mut Vec<u32>) -> Result<(), AllocError>
     ensures { OnOk result (subjects.new.items ≡ subjects.old.items ++ subjects_of_body (body_of kind atoms.now)) }
 {
     match kind {

@@ -168,11 +168,23 @@ fn one_atom_is_true_at_most(rt: HostRuntime) -> Result<(), Fail> {
     let atoms = [yes(0), yes(1), yes(2)];
     let narrowed = trial(alloc, Kind::AtMostOne, &[yes(3)], &atoms, &[yes(3), yes(1)])?;
     assert_eq!(rt; narrowed, (None, 4, no(2)));
-    let conflict = trial(alloc, Kind::AtMostOne, &[yes(3)], &atoms, &[yes(3), yes(0), yes(1)])?;
+    let conflict = trial(
+        alloc,
+        Kind::AtMostOne,
+        &[yes(3)],
+        &atoms,
+        &[yes(3), yes(0), yes(1)],
+    )?;
     assert_eq!(rt; conflict, (Some(3), 3, yes(1)));
     let refused = trial(alloc, Kind::AtMostOne, &[yes(3)], &atoms, &[yes(0), yes(2)])?;
     assert_eq!(rt; refused, (None, 3, no(3)));
-    let opposite = trial(alloc, Kind::AtMostOne, &[], &[yes(0), no(0), yes(1)], &[yes(0)])?;
+    let opposite = trial(
+        alloc,
+        Kind::AtMostOne,
+        &[],
+        &[yes(0), no(0), yes(1)],
+        &[yes(0)],
+    )?;
     assert_eq!(rt; opposite, (None, 2, no(1)));
     let repeated = trial(alloc, Kind::AtMostOne, &[], &[yes(0), yes(0)], &[yes(0)])?;
     assert_eq!(rt; repeated, (Some(2), 1, yes(0)));
@@ -185,11 +197,29 @@ fn one_atom_is_true_and_no_other(rt: HostRuntime) -> Result<(), Fail> {
     let atoms = [yes(0), yes(1)];
     let last = trial(alloc, Kind::ExactlyOne, &[yes(3)], &atoms, &[yes(3), no(0)])?;
     assert_eq!(rt; last, (None, 3, yes(1)));
-    let other = trial(alloc, Kind::ExactlyOne, &[yes(3)], &atoms, &[yes(3), yes(0)])?;
+    let other = trial(
+        alloc,
+        Kind::ExactlyOne,
+        &[yes(3)],
+        &atoms,
+        &[yes(3), yes(0)],
+    )?;
     assert_eq!(rt; other, (None, 3, no(1)));
-    let conflict = trial(alloc, Kind::ExactlyOne, &[yes(3)], &atoms, &[yes(3), no(0), no(1)])?;
+    let conflict = trial(
+        alloc,
+        Kind::ExactlyOne,
+        &[yes(3)],
+        &atoms,
+        &[yes(3), no(0), no(1)],
+    )?;
     assert_eq!(rt; conflict, (Some(3), 3, no(1)));
-    let refused = trial(alloc, Kind::ExactlyOne, &[yes(3)], &atoms, &[yes(0), yes(1)])?;
+    let refused = trial(
+        alloc,
+        Kind::ExactlyOne,
+        &[yes(3)],
+        &atoms,
+        &[yes(0), yes(1)],
+    )?;
     assert_eq!(rt; refused, (None, 3, no(3)));
     Ok(())
 }
@@ -200,7 +230,13 @@ fn an_odd_number_is_true(rt: HostRuntime) -> Result<(), Fail> {
     let atoms = [yes(0), yes(1), yes(2)];
     let even = trial(alloc, Kind::Xor, &[yes(3)], &atoms, &[yes(3), no(0), no(1)])?;
     assert_eq!(rt; even, (None, 4, yes(2)));
-    let odd = trial(alloc, Kind::Xor, &[yes(3)], &atoms, &[yes(3), yes(0), no(1)])?;
+    let odd = trial(
+        alloc,
+        Kind::Xor,
+        &[yes(3)],
+        &atoms,
+        &[yes(3), yes(0), no(1)],
+    )?;
     assert_eq!(rt; odd, (None, 4, no(2)));
     let all = [yes(3), yes(0), yes(1), no(2)];
     let conflict = trial(alloc, Kind::Xor, &[yes(3)], &atoms, &all)?;

@@ -10,5 +10,5 @@ use Rattle.cps_p_bool.proofs.all.make_true.Given as goal
 abbrev pub invariant-loop-atom : goal.invariant-loop-atom
 invariant-loop-atom l = record {
   infers : Infers (HoldsTask (task_of l.enforcement (BoolAnd l.atoms))) l.fn.store l.store;
-  trues : All (IsTrueNow l.store) (take l.atom-index l.atoms)
+  trues : All (IsTrueNow l.store) (take l.atom-index l.atoms);
 }

@@ -11,5 +11,5 @@ use Rattle.cps_p_bool.proofs.at_most_one.close.Given as goal
 abbrev pub invariant-loop-place : goal.invariant-loop-place
 invariant-loop-place l = record {
   infers : (body : Body) → LimitsToOne body l.atoms → Infers (HoldsTask (task_of l.enforcement body)) l.fn.store l.store;
-  closed : (k : ℕ) (d : Atom) → k < l.place → k < length l.atoms → k ≢ l.chosen → IsFalseNow l.store (get_or l.atoms k d)
+  closed : (k : ℕ) (d : Atom) → k < l.place → k < length l.atoms → k ≢ l.chosen → IsFalseNow l.store (get_or l.atoms k d);
 }
