@@ -2,3 +2,14 @@ pub mod Fixing
 pub mod Numbering
 pub mod Raising
 pub mod Leading
+pub mod Holding
+pub mod Refuting
+pub mod Completing
+pub mod Resting
+pub mod Boarding
+pub mod Lessons
+pub mod Keeping
+pub mod Teaching
+pub mod Looking
+pub mod Beginning
+pub mod Rounds

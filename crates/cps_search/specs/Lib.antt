@@ -5,3 +5,7 @@ pub mod Noting
 pub mod Agreeing
 pub mod Luby
 pub mod Activities
+pub mod Resting
+pub mod Searches
+pub mod Turns
+pub mod Lessons

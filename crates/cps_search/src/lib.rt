@@ -16,7 +16,9 @@ mod restarts;
 mod scan;
 #[cfg(test)]
 mod tests;
+mod turn;
 
 pub use activity::ActivityBrancher;
 pub use brancher::Brancher;
 pub use fixed::FixedBrancher;
+pub use turn::Turn;

@@ -1,0 +1,25 @@
+-- What a conflict teaches.
+use Rattle.std.specs.Prelude.{◌≡◌, ℕ, ◌≤◌, List, All}
+use Rattle.cps_literal.specs.declared.atom.Atom.{Atom}
+use Rattle.cps_literal.specs.Normal.{IsNormal}
+use Rattle.cps_trail.specs.Trail.{Trail, IsFalseNow, up_to}
+use Rattle.cps_trail.specs.Adds.{Follows}
+use Rattle.cps_conflict.specs.Conflicts.{Premises, Asserts}
+use Rattle.cps_clauses.specs.Quiet.{IsQuiet, WeakensTo}
+
+-- a store went back to a level
+pub record GoesBack (s t : Trail) (level : ℕ) : Type 0 where
+  pub within : level ≤ s.level
+  pub is : t ≡ record s { entries = up_to level s.entries; level = level }
+
+-- A clause follows from a conflict and the reasons of a store; it is normal and false, and one of its atoms alone became false at the
+-- present level.
+pub record IsTaught (s : Trail) (conflict clause : List Atom) (t : Atom) (back : ℕ) : Type 0 where
+  pub follows : Follows (Premises s.entries conflict) s.first clause
+  pub false_now : All (IsFalseNow s) clause
+  pub normal : IsNormal clause
+  pub asserts : Asserts s clause t back
+
+-- no clause that was quiet below a store's level weakens to the clause
+abbrev pub IsNewTo : Trail → List Atom → Type 0
+IsNewTo s clause = (clauses : List (List Atom)) → IsQuiet clauses s s.level → All (λ c. WeakensTo c clause → ⊥) clauses
