@@ -1,8 +1,8 @@
 -- What a conflict teaches.
-use Rattle.std.specs.Prelude.{◌≡◌, ℕ, ◌≤◌, List, All}
+use Rattle.std.specs.Prelude.{◌≡◌, ℕ, ◌<◌, ◌≤◌, List, length, All}
 use Rattle.cps_literal.specs.declared.atom.Atom.{Atom}
 use Rattle.cps_literal.specs.Normal.{IsNormal}
-use Rattle.cps_trail.specs.Trail.{Trail, IsFalseNow, up_to}
+use Rattle.cps_trail.specs.Trail.{Trail, IsFalseAfter, IsFalseNow, up_to}
 use Rattle.cps_trail.specs.Adds.{Follows}
 use Rattle.cps_conflict.specs.Conflicts.{Premises, Asserts}
 use Rattle.cps_clauses.specs.Quiet.{IsQuiet, WeakensTo}
@@ -12,12 +12,14 @@ pub record GoesBack (s t : Trail) (level : ℕ) : Type 0 where
   pub within : level ≤ s.level
   pub is : t ≡ record s { entries = up_to level s.entries; level = level }
 
--- A clause follows from a conflict and the reasons of a store; it is normal and false, and one of its atoms alone became false at the
--- present level.
+-- A clause follows from a conflict and the reasons of a store; it is normal and false, its subjects exist, none of its atoms was false
+-- at the end of level 0, and one of them alone became false at the present level.
 pub record IsTaught (s : Trail) (conflict clause : List Atom) (t : Atom) (back : ℕ) : Type 0 where
   pub follows : Follows (Premises s.entries conflict) s.first clause
   pub false_now : All (IsFalseNow s) clause
   pub normal : IsNormal clause
+  pub subjects : All (λ u. u.subject < length s.first) clause
+  pub open_at_bottom : All (λ u. IsFalseAfter s.first (up_to 0 s.entries) u → ⊥) clause
   pub asserts : Asserts s clause t back
 
 -- no clause that was quiet below a store's level weakens to the clause

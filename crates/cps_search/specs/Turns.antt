@@ -114,19 +114,21 @@ pub record DecisionDue (s t : Search) (rows : ℕ) (p q : Part) : Type 0 where
   pub raised : SameRaised s t
   pub said : t.said ≡ Due
 
--- the clause of an entry was added in normal form, or holds only below a bound that z has passed
-pub record Uses (s t : Search) (e : BoardEntry) : Type 0 where
+-- the clause of an entry holds below z and was added in normal form, or the entry holds only below a bound that z has passed
+pub record Uses (z : Bound) (b c : Base) (e : BoardEntry) : Type 0 where
+  pub in_force : BoundLe z e.below
   pub clause : List Atom
   pub normal : IsNormal clause
   pub same : IsNormalOf (entry_clause e) clause
-  pub added : t.base ≡ with_clause s.base clause e.below Imported
+  pub added : c ≡ with_clause b clause e.below Imported
 
-abbrev pub PassesOver : Search → Search → BoardEntry → Type 0
-PassesOver s t e = IsLess e.below t.z × (t.base ≡ s.base)
+abbrev pub PassesOver : Bound → Base → Base → BoardEntry → Type 0
+PassesOver z b c e = IsLess e.below z × (c ≡ b)
 
--- z after one more look at the upper bound, where the entry holds only below a lesser bound
-abbrev pub LooksAgain : Bound → Bound → BoundsPart → BoundsPart → Type 0
-LooksAgain z new p q = (new ≡ z × q ≡ p) ⊎ ((upper : Bound) × LooksAtUpper p q upper × (new ≡ lesser z upper))
+-- z after one more look at the upper bound, where the entry holds only below a lesser bound; else all stays
+abbrev pub LooksAgain : Bound → Bound → Bound → BoundsPart → BoundsPart → Type 0
+LooksAgain z below new p q =
+    (BoundLe z below × (new ≡ z) × (q ≡ p)) ⊎ (IsLess below z × ((upper : Bound) × LooksAtUpper p q upper × (new ≡ lesser z upper)))
 
 -- An entry was taken, and used where it helps.
 pub record TookOne (s t : Search) (rows : ℕ) (p q : Part) : Type 0 where
@@ -135,8 +137,8 @@ pub record TookOne (s t : Search) (rows : ℕ) (p q : Part) : Type 0 where
   pub bounds : SawOpen s p.bounds midway z
   pub entry : BoardEntry
   pub takes : TookEntry s.problem.model rows p.board q.board entry
-  pub again : LooksAgain z t.z midway q.bounds
-  pub used : Uses s t entry ⊎ PassesOver s t entry
+  pub again : LooksAgain z entry.below t.z midway q.bounds
+  pub used : Uses t.z s.base t.base entry ⊎ PassesOver t.z s.base t.base entry
   pub tally : t.tally ≡ s.tally
   pub imported : t.imported ≡ s.imported + 1
   pub best : SameBest s t

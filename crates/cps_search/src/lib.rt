@@ -9,11 +9,17 @@
 #![tactic(auto)]
 
 mod activity;
+mod back;
 mod brancher;
 mod fixed;
+mod found;
+mod import;
+mod learn;
+mod look;
 mod raise;
 mod restarts;
 mod scan;
+mod settle;
 #[cfg(test)]
 mod tests;
 mod turn;
