@@ -23,7 +23,7 @@ use Rattle.cps_search.specs.declared.end.End.TheVariants.{Exhausted, SawClosed, 
 use Rattle.cps_search.specs.declared.end.Said.{Said}
 use Rattle.cps_search.specs.declared.end.Said.TheVariants.{Nothing, Due, Over}
 use Rattle.cps_search.specs.Resting.{IsRestedAt}
-use Rattle.cps_search.specs.Moves.{fresh, moved, decided}
+use Rattle.cps_search.specs.Moves.{fresh, moved, decided, saying}
 use Rattle.cps_search.specs.Searches.{Search, HasNoAssumptions, HoldsOver, IsFound, IsItemAbove, IsNewClause, NoneBelow, IsReasonBelow, IsSettled, IsSoundSearch, SaidSo}
 use Rattle.cps_search.proofs.Holding.{tasks_unbounded}
 use Rattle.cps_search.proofs.Keeping.{fallen, sound_fallen, sound_moved}
@@ -97,16 +97,12 @@ raised_sound : (m : CpModel) (raised : Option Bound) (b : Bound) → IfSome rais
 raised_sound m None b h k = k
 raised_sound m (Some a) b h k = greater_is (IsLowerBound m) a b h k
 
--- a search with another greatest raise and another word on what it came to
-abbrev pub saying : Search → Option Bound → Said → Search
-saying s raised said = record s { raised = raised; said = said }
-
 found_saying : (s : Search) (raised : Option Bound) (said : Said) (best : Option (List ℤ)) → IfSome best (IsFound s) → IfSome best (IsFound (saying s raised said))
 found_saying s raised said None k = tt
 found_saying s raised said (Some a) k = record { solution = k.solution; reached = k.reached }
 
 module _ (s : Search) (raised : Option Bound) (said : Said) (h : IsSoundSearch s) where
-  sound_saying : IfSome raised (IsLowerBound s.problem.model) → SaidSo (saying s raised said) said → IsSoundSearch (saying s raised said)
+  pub sound_saying : IfSome raised (IsLowerBound s.problem.model) → SaidSo (saying s raised said) said → IsSoundSearch (saying s raised said)
   sound_saying floor so = record {
     instance = h.instance;
     no_assumptions = h.no_assumptions;

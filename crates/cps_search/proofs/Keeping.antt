@@ -27,7 +27,7 @@ use Rattle.cps_clauses.proofs.Quieting.{IsQuiet-infers, IsQuiet-backjump}
 use Rattle.cps_clauses.proofs.Honesty.{IsHonest-learnt, AreInForce-learnt, AreInForce-imported}
 use Rattle.cps_search.specs.declared.end.Said.TheVariants.{Nothing}
 use Rattle.cps_search.specs.Resting.{AllHold, IsRestedAt}
-use Rattle.cps_search.specs.Moves.{moved}
+use Rattle.cps_search.specs.Moves.{moved, with_learnt}
 use Rattle.cps_search.specs.Searches.{Search, HoldsOver, IsFound, IsItemAbove, IsNewClause, IsReasonBelow, IsSoundSearch, IsWorthy, learnt_count}
 use Rattle.cps_search.proofs.Holding.{IsBelowBound, clauses_below, clauses_fall, items_fall, reasons_fall, reasons_infer, tasks_below, tasks_fall}
 use Rattle.cps_search.proofs.Lessons.{back_to}
@@ -114,7 +114,7 @@ kept_one : (P : Entry → Type 0) (e : Entry) (es : List Entry) (b : Bool) → P
 kept_one P e es true h all = All-cons P e es h all
 kept_one P e es false h all = all
 
-all_up_to : (P : Entry → Type 0) (level : ℕ) (es : List Entry) → All P es → All P (up_to level es)
+pub all_up_to : (P : Entry → Type 0) (level : ℕ) (es : List Entry) → All P es → All P (up_to level es)
 all_up_to P level [] h = All-nil P
 all_up_to P level (e ∷ es) h = kept_one P e (up_to level es) (nat_le e.level level) (All-head P e es h) (all_up_to P level es (All-tail P e es h))
 
@@ -130,10 +130,7 @@ sound_back s level n h below ends =
     (IsQuiet-backjump s.base.clauses s.trail (back_to s.trail level) level (omega (arith, below)) refl h.quiet)
     (rested_back s.tasks s.trail s.rested level n below ends h.rested)
 
--- a search with one more clause that was learnt, and with one that was imported
-abbrev pub with_learnt : Search → List Atom → Search
-with_learnt s clause = record s { base = with_clause s.base clause s.z origins.Learnt; tally = s.tally + 1; said = Nothing }
-
+-- a search with one more clause that was imported
 abbrev pub with_imported : Search → List Atom → Bound → Search
 with_imported s clause below = record s { base = with_clause s.base clause below origins.Imported; imported = s.imported + 1; said = Nothing }
 

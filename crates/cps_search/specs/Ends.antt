@@ -1,5 +1,5 @@
 -- What a worker does in a turn and in a run, and what is seen of one that has ended.
-use Rattle.std.specs.Prelude.{◌≡◌, ℕ, ◌+◌, ◌<◌, ◌≤◌, ◌^◌, ℤ, Bool, true, Option, Some, None, IfSome, IsSome, List, [], ◌∷◌, ◌++◌, length, All}
+use Rattle.std.specs.Prelude.{◌≡◌, ◌⊎◌, ℕ, ◌+◌, ◌<◌, ◌≤◌, ◌^◌, ℤ, Bool, true, Option, Some, None, IfSome, IsSome, List, [], ◌∷◌, ◌++◌, length, All}
 use Rattle.cps_model.specs.declared.bound.Bound.{Bound}
 use Rattle.cps_model.specs.declared.bound.Bound.TheVariants.{At, Infinite}
 use Rattle.cps_model.specs.declared.model.CpModel.{CpModel}
@@ -26,6 +26,7 @@ use Rattle.cps_search.specs.declared.end.WorkerKind.{WorkerKind}
 use Rattle.cps_search.specs.declared.turn.Turn.{Turn}
 use Rattle.cps_search.specs.declared.turn.Turn.TheVariants as turns
 use Rattle.cps_search.specs.Choice.{IsUndecided}
+use Rattle.cps_search.specs.Lessons.{GoesBack}
 use Rattle.cps_search.specs.Scope.{Scope, IsScopeOf}
 use Rattle.cps_search.specs.Searches.{Search, IsSoundSearch, NoneBelow, IsHonestJournal, IsItemAbove, learnt_count}
 use Rattle.cps_search.specs.Moves.{moved, decided}
@@ -51,13 +52,28 @@ TurnCaused chooses s t rows p q turns.SawClosed = SawMet s t p q
 TurnCaused chooses s t rows p q (turns.Spent clause below) = SpentAll s t rows p q clause below
 TurnCaused chooses s t rows p q turns.RoundsDone = ⊥
 
--- The brancher heard the clause that was learnt, and where it asked for a restart the search is back at level 0.
+-- a search decided an atom that was chosen
+pub record Decides (chooses : Trail → Option Atom → Type 0) (s t : Search) : Type 0 where
+  pub atom : Atom
+  pub undecided : IsUndecided s.trail atom
+  pub chosen : chooses s.trail (Some atom)
+  pub is : t ≡ moved s (decided s.trail atom) s.rested
+
+-- a brancher answered whether to restart, and where it asked for it the search is at level 0
+pub record Hears (heard : Bool → Type 0) (t : Search) : Type 0 where
+  pub restart : Bool
+  pub said : heard restart
+  pub restarts : restart ≡ true → t.trail.level ≡ 0
+
+-- a search stands, or went back to level 0
+abbrev pub Stands : Search → Search → Type 0
+Stands s t = (t ≡ s) ⊎ (GoesBack s.trail t.trail 0 × (t ≡ moved s t.trail t.rested))
+
+-- the brancher heard the clause that was learnt
 pub record HeardOne (hears : List Atom → Bool → Type 0) (s t : Search) : Type 0 where
   pub clause : List Atom
   pub learnt : t.base ≡ with_clause s.base clause t.z origins.Learnt
-  pub restart : Bool
-  pub heard : hears clause restart
-  pub restarts : restart ≡ true → t.trail.level ≡ 0
+  pub heard : Hears (hears clause) t
 
 -- what a turn does to the brancher: it hears what was learnt, it may keep what it saw when it chose, and else it stays
 abbrev pub BrancherTurn : Turn → Type 0 → Type 0 → Type 0 → Type 0

@@ -21,7 +21,7 @@ use Rattle.cps_port.specs.Says.{TookEntry, FoundClosed, TookAll, ShareSays}
 use Rattle.cps_clauses.specs.declared.origin.Origin.TheVariants.{Learnt, Imported}
 use Rattle.cps_clauses.specs.Bases.{Base, with_clause}
 use Rattle.cps_search.specs.declared.end.End.TheVariants as ends
-use Rattle.cps_search.specs.declared.end.Said.TheVariants.{Due, Over}
+use Rattle.cps_search.specs.declared.end.Said.TheVariants.{Nothing, Due, Over}
 use Rattle.cps_search.specs.declared.turn.Turn.{Turn}
 use Rattle.cps_search.specs.declared.turn.Turn.TheVariants as turns
 use Rattle.cps_search.specs.Fixed.{AreFixed}
@@ -144,6 +144,7 @@ pub record TookOne (s t : Search) (rows : ℕ) (p q : Part) : Type 0 where
   pub tally : t.tally ≡ s.tally
   pub best : SameBest s t
   pub raised : SameRaised s t
+  pub said : t.said ≡ Nothing
 
 -- a clause of few atoms, all on the model's variables
 pub record IsShort (m : CpModel) (clause : List Atom) : Type 0 where
@@ -178,6 +179,7 @@ pub record LearntOne (s t : Search) (rows : ℕ) (p q : Part) : Type 0 where
   pub imported : SameImported s t
   pub best : SameBest s t
   pub raised : SameRaised s t
+  pub said : t.said ≡ Nothing
 
 -- All variables are fixed: their values are a solution below z, which was offered.
 pub record FoundOne (s t : Search) (rows : ℕ) (p q : Part) : Type 0 where
@@ -198,6 +200,7 @@ pub record FoundOne (s t : Search) (rows : ℕ) (p q : Part) : Type 0 where
   pub learnt : SameLearnt s t
   pub imported : SameImported s t
   pub raised : SameRaised s t
+  pub said : t.said ≡ Nothing
 
 -- A conflict that is false at level 0: no solution is below z, to which the lower bound was raised.
 pub record ExhaustedAll (s t : Search) (rows : ℕ) (p q : Part) : Type 0 where

@@ -1,13 +1,18 @@
 //! A worker that learns from conflicts, with a brancher of its own.
 
-ghost use Rattle.std.specs.Prelude.{◌≡◌, ◌≤◌, ◌^◌, length, false, Some, OnOk, OnErr, IfOk, IfSome, IsErr, IsNone, IsTrue};
+ghost use Rattle.std.specs.Prelude.{◌≡◌, ◌≤◌, ◌^◌, length, false, Some, OnOk, OnErr, IfOk, IfSome, IsErr, IsNone, IsTrue, List, [], ◌∷◌, ◌++◌};
+ghost use Rattle.cps_model.specs.declared.bound.Bound.{Bound as BoundOf};
+ghost use Rattle.cps_literal.specs.declared.atom.Atom.{Atom as AtomOf};
+ghost use Rattle.cps_instance.specs.Problem.{variable_count};
+ghost use Rattle.cps_clauses.specs.declared.journal.JournalItem.{JournalItem as JournalItemOf};
+ghost use Rattle.cps_search.specs.Fixed.{AreFixed};
 ghost use Rattle.cps_search.specs.Scope.{IsScopeOf};
-ghost use Rattle.cps_search.specs.Searches.{HasNoAssumptions, IsSoundSearch};
+ghost use Rattle.cps_search.specs.Searches.{HasNoAssumptions, IsSettled, IsSoundSearch};
 ghost use Rattle.cps_search.specs.Moves.{fresh};
-ghost use Rattle.cps_search.specs.Ends.{TakesTurn, BrancherTurn, HeardOne, RunsTo, IsOver, ending, end_of};
+ghost use Rattle.cps_search.specs.Ends.{TakesTurn, BrancherTurn, Decides, HeardOne, Hears, RunsTo, Stands, IsOver, ending, end_of};
 
 use crate::brancher::Brancher;
-use crate::end::{End, WorkerKind};
+use crate::end::{End, Said, WorkerKind};
 use crate::ended::Ended;
 use crate::frame::Frame;
 use crate::turn::Turn;
@@ -39,6 +44,55 @@ impl<'a, P: Propagator, B: Brancher + Drop> Model for Worker<'a, P, B> {
     ghost view = { λ w. (w.frame, w.brancher) };
 
     ghost invariant = { λ w. w.frame.refused ≡ false → IsWorking w.frame (B.scope w.brancher) (B.agrees w.brancher w.frame.trail) w.kept };
+}
+
+/// Decides what the brancher chooses, where a decision is due. The brancher saw the first `kept` entries of the store.
+fn decide_next<P: Propagator, B: Brancher>(
+    frame: &mut Frame<'_, P>,
+    brancher: &mut B,
+    kept: usize,
+) -> Result<(), AllocError>
+    requires sound { IsSoundSearch frame.old }
+    requires settled { IsSettled frame.old }
+    requires due { frame.old.said ≡ Said.Due }
+    requires left_open { AreFixed frame.old.trail (variable_count frame.old.problem) → ⊥ }
+    requires scope { IsScopeOf frame.old.problem (B.scope brancher.old) }
+    requires kept { B.agrees brancher.old frame.old.trail kept }
+    ensures decided { OnOk result (Decides (B.chooses brancher.old) frame.old frame.new) }
+    ensures stays { B.stays brancher.old brancher.new }
+    ensures scope { B.scope brancher.new ≡ B.scope brancher.old }
+    ensures saw { B.agrees brancher.new frame.old.trail (length frame.old.trail.entries) }
+    ensures sound { OnOk result (IsSoundSearch frame.new) }
+    ensures refused { OnErr result (IsTrue frame.new.refused) }
+{
+    let Some(atom) = brancher.choose_from(frame.store(), kept) else {
+        unreachable!();
+    };
+    frame.decide(atom)
+}
+
+/// Lets a brancher hear the clause that was learnt last, and answers whether it asks for a restart.
+fn hear_last<B: Brancher>(brancher: &mut B, journal: &[JournalItem]) -> bool
+    ensures heard { (earlier : List JournalItemOf) (clause : List AtomOf) (below : BoundOf) → journal.now ≡ earlier ++ JournalItem.Learnt clause below ∷ [] → B.hears brancher.old clause result brancher.new }
+    ensures scope { B.scope brancher.new ≡ B.scope brancher.old }
+{
+    match journal.last() {
+        Some(JournalItem::Learnt(clause, _)) => brancher.learnt(clause.as_slice()),
+        Some(JournalItem::Drop(_)) | None => false,
+    }
+}
+
+/// Lets a brancher hear the clause that was learnt last, and goes back to level 0 if it asks for that.
+fn hear<P: Propagator, B: Brancher>(frame: &mut Frame<'_, P>, brancher: &mut B)
+    requires running { frame.old.refused ≡ false }
+    ensures heard { (earlier : List JournalItemOf) (clause : List AtomOf) (below : BoundOf) → frame.old.base.journal ≡ earlier ++ JournalItem.Learnt clause below ∷ [] → Hears (λ restart. B.hears brancher.old clause restart brancher.new) frame.new }
+    ensures scope { B.scope brancher.new ≡ B.scope brancher.old }
+    ensures frame { Stands frame.old frame.new }
+    ensures sound { IsSoundSearch frame.old → IsSoundSearch frame.new }
+{
+    if hear_last(brancher, frame.clauses().journal().as_slice()) {
+        frame.restart();
+    }
 }
 
 /// The end that a turn was, if it was one.
@@ -96,18 +150,20 @@ impl<'a, P: Propagator, B: Brancher + Drop> Worker<'a, P, B> {
     {
         match self.frame.steps(port)? {
             None => {
-                self.decide_next()?;
+                let seen = self.frame.store().entries().len();
+                decide_next(&mut self.frame, &mut self.brancher, self.kept)?;
+                self.kept = seen;
                 Ok(Turn::Decided)
             }
             Some(Turn::Learnt) => {
-                self.hear();
+                hear(&mut self.frame, &mut self.brancher);
+                self.kept = 0;
                 Ok(Turn::Learnt)
             }
-            Some(Turn::Imported) => {
+            Some(turn) => {
                 self.kept = 0;
-                Ok(Turn::Imported)
+                Ok(turn)
             }
-            Some(turn) => Ok(turn),
         }
     }
 
