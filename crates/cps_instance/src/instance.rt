@@ -37,6 +37,7 @@ impl<'a> Model for Instance<'a> {
 
 impl<'a> Instance<'a> {
     ghost use Rattle.cps_instance.specs.Sums.{DefinedSum};
+    ghost use Rattle.cps_instance.specs.Posting.{sums_in};
 
     /// The instance of a valid model, with no defined sum yet.
     pub fn of(alloc: Global, valid: &'a ValidModel) -> Result<Self, AllocError>
@@ -84,6 +85,14 @@ impl<'a> Instance<'a> {
         ensures sound { IsInstance self.now }
     {
         self.tasks.as_slice()
+    }
+
+    /// The tasks alone, those of the defined sums among them.
+    pub fn into_tasks(self) -> Vec<Task>
+        ensures list { result.items ≡ self.tasks }
+        ensures sums { sums_in result.items ≡ self.defs }
+    {
+        self.tasks
     }
 
     /// Defines the sum of terms over subjects that there are, and an offset, as the next subject, and answers that subject. Where memory

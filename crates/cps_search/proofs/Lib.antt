@@ -13,3 +13,4 @@ pub mod Teaching
 pub mod Looking
 pub mod Beginning
 pub mod Rounds
+pub mod Returning
