@@ -204,6 +204,12 @@ within_each (v ∷ vs) [] long k = absurd (omega (arith, long))
 within_each (v ∷ vs) (x ∷ a) long k =
     and_both (is_within v.domain x) (are_within vs a) (k 0 (omega arith)) (within_each vs a (omega (arith, long)) (λ i l. k (suc i) (omega (arith, l))))
 
+-- the values that a store leaves to the variables lie in their domains
+pub within_variables : (p : Problem) (s : Trail) (a : List ℤ) → IsInstance p → s.first ≡ p.domains → length a ≡ variable_count p → ((i : ℕ) → i < variable_count p → admits s.first s.entries i (value_at a i) ≡ true)
+    → are_within p.model.variables a ≡ true
+within_variables p s a h same size each = within_each p.model.variables a size (λ i l. sym (h.domains.variables i (value_at a i) l)
+    ∙ subst (λ (ds : Domains). is_among (domain_at ds i) (value_at a i) ≡ true) same (admitted_first s.first s.entries i (value_at a i) (each i l)))
+
 at_or_below : (n i : ℕ) → i < n + 1 → (i < n) ⊎ (i ≡ n)
 at_or_below n i h = grind arith
 
@@ -260,8 +266,7 @@ module _ (p : Problem) (s : Trail) (z : Bound) (h : IsInstance p) (same : s.firs
       let front : take n xs ≡ a = ext_get_or (pos 0) (take n xs) a (cut ∙ sym size)
           (λ i l. (let b : i < n = omega (arith, l, cut) in get_or-take n xs i (pos 0) b ∙ variables i b (value_at xs i) (value_at a i) (left.each i (omega (arith, b, few, left.count))) (each i b))) in
       let whole : xs ≡ extended p.defs a = extended_unique p xs h long plain ∙ ap (λ (ys : List ℤ). extended p.defs ys) front in
-      let within : are_within p.model.variables a ≡ true = within_each p.model.variables a size (λ i l. sym (h.domains.variables i (value_at a i) l)
-          ∙ subst (λ (ds : Domains). is_among (domain_at ds i) (value_at a i) ≡ true) same (admitted_first s.first s.entries i (value_at a i) (each i l))) in
+      let within : are_within p.model.variables a ≡ true = within_variables p s a h same size each in
       (
         free_of_tasks p a h within (subst (λ (ys : List ℤ). HoldAll p.tasks ys) whole plain),
         below_of p z a h size (subst (λ (ys : List ℤ). HoldAll (map (below_bound z) p.tasks) ys) whole hold),

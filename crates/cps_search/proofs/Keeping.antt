@@ -118,7 +118,7 @@ pub all_up_to : (P : Entry → Type 0) (level : ℕ) (es : List Entry) → All P
 all_up_to P level [] h = All-nil P
 all_up_to P level (e ∷ es) h = kept_one P e (up_to level es) (nat_le e.level level) (All-head P e es h) (all_up_to P level es (All-tail P e es h))
 
-rested_back : (tasks : List Task) (s : Trail) (rested : Option ℕ) (level n : ℕ) → level < s.level → EndsAt s level n → IsRestedAt tasks s rested → IsRestedAt tasks (back_to s level) (Some n)
+pub rested_back : (tasks : List Task) (s : Trail) (rested : Option ℕ) (level n : ℕ) → level < s.level → EndsAt s level n → IsRestedAt tasks s rested → IsRestedAt tasks (back_to s level) (Some n)
 rested_back tasks s None level n below ends h = absurd (omega (arith, below, h))
 rested_back tasks s (Some from) level n below ends h = IsInStep-back tasks s from level n below ends h
 

@@ -4,12 +4,13 @@ use Rattle.std.proofs.Common.{ℕ, ◌+◌, ◌-◌, ◌≤◌, ◌<◌, ◌≡�
 use Rattle.std.proofs.lemmas.List.Elements.{All-weaker}
 use Rattle.cps_literal.specs.declared.atom.Atom.{Atom}
 use Rattle.cps_literal.specs.Normal.{IsNormalOf}
-use Rattle.cps_trail.specs.Trail.{Trail, Entry, IsFalseAfter, IsTrueAfter, IsFalseNow, up_to}
+use Rattle.cps_trail.specs.Trail.{Domains, Trail, Entry, IsFalseAfter, IsTrueAfter, IsFalseNow, up_to}
 use Rattle.cps_trail.proofs.Marks.{up_to-up_to}
+use Rattle.cps_trail.proofs.Times.{IsFalseAfter-up_to}
 use Rattle.cps_conflict.specs.Conflicts.{BecameFalse, Asserts}
 use Rattle.cps_conflict.specs.Levels.{IsConflictLevel}
 use Rattle.cps_conflict.proofs.Settling.{present_at}
-use Rattle.cps_clauses.specs.Quiet.{IsQuiet, IsLevelFor, WeakensTo}
+use Rattle.cps_clauses.specs.Quiet.{IsQuiet, IsLevelFor, WeakensTo, Fits}
 use Rattle.cps_clauses.specs.Falls.{IsAtomValue}
 use Rattle.cps_clauses.specs.Bases.{Base, with_clause}
 use Rattle.cps_clauses.specs.declared.origin.Origin.{Origin}
@@ -64,3 +65,11 @@ imported_quiet clauses s t clause level is jump quiet =
 -- a normal clause has the atoms it was made of
 pub values_normal : (atoms clause : List Atom) → IsNormalOf atoms clause → All (λ t. IsAtomValue t.value) atoms → All (λ t. IsAtomValue t.value) clause
 values_normal atoms clause of values k d l = let has = of.kept k d l in subst (λ (t : Atom). IsAtomValue t.value) has.2 (values has.0 (get_or clause k d) has.1)
+
+pub fits_normal : (first : Domains) (atoms clause : List Atom) → IsNormalOf atoms clause → Fits first atoms → Fits first clause
+fits_normal first atoms clause of fits = record { subjects = λ k d l. let has = of.kept k d l in subst (λ (t : Atom). t.subject < length first) has.2 (fits.subjects has.0 (get_or clause k d) has.1) }
+
+-- what is false after a jump back was so before
+pub false_before : (s t : Trail) (atoms : List Atom) (level : ℕ) → t ≡ back_to s level → All (IsFalseNow t) atoms → All (IsFalseNow s) atoms
+false_before s t atoms level jump falses =
+    All-weaker (IsFalseNow (back_to s level)) (IsFalseNow s) (λ u h. IsFalseAfter-up_to s.first s.entries level u h) atoms (subst (λ (x : Trail). All (IsFalseNow x) atoms) jump falses)

@@ -20,3 +20,4 @@ pub mod Turning
 pub mod Moving
 pub mod Weighing
 pub mod Working
+pub mod Returning

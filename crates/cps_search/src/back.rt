@@ -15,10 +15,11 @@ pub(crate) fn go_back(store: &mut Store, rested: &mut Option<usize>, level: usiz
     ensures rested { (tasks : List Task) → IsRestedAt tasks store.old rested.old → IsRestedAt tasks store.new rested.new }
     ensures sound { IsSound store.new }
 {
-    let before = store.level();
+    let ended = level < store.level();
     let end = store.end_of(level);
     store.backjump(level);
-    if level < before {
+    prove!(store.entries().len() == end);
+    if ended {
         *rested = Some(end);
     }
 }

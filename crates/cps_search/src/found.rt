@@ -26,7 +26,7 @@ pub(crate) struct Found {
 
 /// The only values of the variables, where each variable has one value alone; nothing where one has not. Where inference with the cut
 /// below z is at rest, they are a solution below z.
-pub(crate) fn found(
+pub(crate) fn read_solution(
     alloc: Global,
     instance: &Instance,
     store: &Store,

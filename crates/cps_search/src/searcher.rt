@@ -20,7 +20,7 @@ ghost use Rattle.cps_search.specs.Stepping.{search_of, IsCausedFrom, IsLesson, O
 
 use crate::back::go_back;
 use crate::end::{End, Said};
-use crate::found::{Found, found};
+use crate::found::{Found, read_solution};
 use crate::import::{News, share_short, take, use_entry};
 use crate::learn::{keep, teach};
 use crate::look::{is_at_most, look};
@@ -322,7 +322,7 @@ impl<'a, P: Propagator> Searcher<'a, P> {
         ensures cause { IfOk result (λ turn. IsCausedFrom (search_of self.old) (search_of self.new) (Q.rows port.old) (Q.part port.old) (Q.part port.new) turn) }
         ensures sound { OnOk result (IsSoundSearch (search_of self.new)) }
     {
-        let Some(found) = found(self.alloc, &self.instance, &self.store)? else {
+        let Some(found) = read_solution(self.alloc, &self.instance, &self.store)? else {
             self.said = Said::Due;
             return Ok(None);
         };
