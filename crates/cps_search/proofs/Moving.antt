@@ -11,6 +11,7 @@ use Rattle.cps_instance.specs.Problem.{Problem}
 use Rattle.cps_trail.specs.Trail.{Trail, Entry, Decision, open_values}
 use Rattle.cps_trail.proofs.Room.{open_values-push}
 use Rattle.cps_port.specs.declared.entry.Entry.{Entry as BoardEntry}
+use Rattle.cps_port.specs.declared.entry.Share.{Share}
 use Rattle.cps_port.specs.declared.entry.Share.TheVariants.{Row, Full}
 use Rattle.cps_port.specs.declared.part.BoardPart.{BoardPart}
 use Rattle.cps_port.specs.declared.part.BoundsPart.{BoundsPart}
@@ -44,9 +45,12 @@ took_nothing rows p q h = elim h [ inl closed ↦ ap (λ (b : BoardPart). b.take
 full_taken : (p : BoardPart) → (full_now p).taken ≡ p.taken
 full_taken p = elim p.full as (λ (b : Bool). (cond b p (with_past p)).taken ≡ p.taken) [ true ↦ refl | false ↦ refl ]
 
+said_taken : (rows : ℕ) (below : Bound) (clause : List Atom) (p q : BoardPart) (answer : Share) → ShareSays rows below clause p q answer → q.taken ≡ p.taken
+said_taken rows below clause p q (Row row) h = ap (λ (b : BoardPart). b.taken) h.adds
+said_taken rows below clause p q Full h = ap (λ (b : BoardPart). b.taken) h ∙ full_taken p
+
 shared_taken : (rows : ℕ) (below : Bound) (clause : List Atom) (p q : BoardPart) → IsShared rows below clause p q → q.taken ≡ p.taken
-shared_taken rows below clause p q (Row row, h) = ap (λ (b : BoardPart). b.taken) h.adds
-shared_taken rows below clause p q (Full, h) = ap (λ (b : BoardPart). b.taken) h ∙ full_taken p
+shared_taken rows below clause p q h = said_taken rows below clause p q h.0 h.1
 
 -- where nothing is found, raised or imported
 quiet_moves : (s t : Search) (p q : Part) → SameSetting s t → Moves t.z s.z p.bounds q.bounds → q.bounds.offered ≡ p.bounds.offered → q.bounds.raised ≡ p.bounds.raised → SameBest s t → SameRaised s t

@@ -38,8 +38,28 @@ impl Model for Ended {
 impl Ended {
     /// A search that ended so.
     pub(crate) fn of<P: Propagator>(searcher: Searcher<'_, P>, kind: WorkerKind, end: End) -> Self
-        ensures { result ≡ ending kind end (search_of searcher) }
+        ensures { result ≡ ending kind end (search_of searcher.entry) }
     {
+        Ended {
+            kind,
+            tasks: searcher.instance.into_tasks(),
+            clauses: searcher.clauses,
+            tally: searcher.tally,
+            best: searcher.best,
+            end,
+            raised: searcher.raised,
+        }
+    }
+
+    /// A search that ended by what it said last.
+    pub(crate) fn as_said<P: Propagator>(searcher: Searcher<'_, P>, kind: WorkerKind) -> Self
+        requires { IsOver searcher.said }
+        ensures said { searcher.entry.said ≡ Said.Over result.end }
+        ensures is { result ≡ ending kind result.end (search_of searcher.entry) }
+    {
+        let Said::Over(end) = searcher.said else {
+            unreachable!();
+        };
         Ended {
             kind,
             tasks: searcher.instance.into_tasks(),

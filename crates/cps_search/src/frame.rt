@@ -58,7 +58,7 @@ impl<'a, P: Propagator> Frame<'a, P> {
     ) -> Result<Self, AllocError>
         requires tasks { engine.tasks ≡ instance.tasks }
         requires assumptions { HasNoAssumptions instance.model }
-        ensures is { IfOk result (λ f. f ≡ fresh instance gap budget) }
+        ensures is { IfOk result (λ f. f ≡ fresh instance.entry gap budget) }
         ensures sound { IfOk result IsSoundSearch }
     {
         let _ = instance.domains();
@@ -173,7 +173,7 @@ impl<'a, P: Propagator> Frame<'a, P> {
     /// What is seen of a worker of this kind that ended so. Where it spent its budget, that is what `steps` answered last.
     pub fn finish(self, kind: WorkerKind, end: End) -> Ended
         requires { IsLastSaid self.said end }
-        ensures { result ≡ ending kind end self }
+        ensures { result ≡ ending kind end self.entry }
     {
         let Frame { searcher, .. } = self;
         Ended::of(searcher, kind, end)
@@ -182,8 +182,8 @@ impl<'a, P: Propagator> Frame<'a, P> {
     /// What is seen of a worker of this kind that ended by the last answer of `steps`.
     pub(crate) fn finish_as_said(self, kind: WorkerKind) -> Ended
         requires { IsOver self.said }
-        ensures said { self.said ≡ Said.Over result.end }
-        ensures is { result ≡ ending kind result.end self }
+        ensures said { self.entry.said ≡ Said.Over result.end }
+        ensures is { result ≡ ending kind result.end self.entry }
     {
         let Frame { searcher, .. } = self;
         Ended::as_said(searcher, kind)

@@ -70,7 +70,7 @@ impl<'a, P: Propagator> Searcher<'a, P> {
         gap: u64,
     ) -> Result<Self, AllocError>
         requires { engine.tasks ≡ instance.tasks }
-        ensures { IfOk result (λ s. search_of s ≡ fresh instance gap budget) }
+        ensures { IfOk result (λ s. search_of s ≡ fresh instance.entry gap budget) }
     {
         let store = Store::new(alloc, instance.domains())?;
         Ok(Searcher {

@@ -123,7 +123,7 @@ impl<'a, P: Propagator, B: Brancher + Drop> Worker<'a, P, B> {
         requires assumptions { HasNoAssumptions instance.model }
         requires brancher { IsScopeOf instance (B.scope brancher) }
         requires budget { budget ≤ 10 ^ 9 }
-        ensures is { IfOk result (λ w. w ≡ (fresh instance gap (Some budget), brancher)) }
+        ensures is { IfOk result (λ w. w ≡ (fresh instance.entry gap (Some budget), brancher)) }
         ensures sound { IfOk result (λ w. IsSoundSearch w.0) }
     {
         let frame = Frame::new(alloc, instance, engine, Some(budget), gap)?;
@@ -212,8 +212,8 @@ impl<'a, P: Propagator, B: Brancher + Drop> Worker<'a, P, B> {
     /// What is seen of the worker after it ended.
     pub fn finish(self, kind: WorkerKind) -> Ended
         requires { IsOver self.0.said }
-        ensures said { self.0.said ≡ Said.Over result.end }
-        ensures is { result ≡ ending kind result.end self.0 }
+        ensures said { self.entry.0.said ≡ Said.Over result.end }
+        ensures is { result ≡ ending kind result.end self.entry.0 }
     {
         let Worker { frame, .. } = self;
         frame.finish_as_said(kind)
