@@ -5,13 +5,16 @@ use Rattle.cps_literal.specs.declared.atom.Atom.{Atom}
 use Rattle.cps_instance.specs.declared.task.Task.{Task}
 use Rattle.cps_instance.specs.Fitting.{IsFitting}
 use Rattle.cps_trail.specs.Trail.{Domains, Trail}
-use Rattle.cps_trail.specs.Adds.{Infers}
+use Rattle.cps_trail.specs.declared.step.Step.{Step}
+use Rattle.cps_trail.specs.Adds.{Infers, Answers}
 use Rattle.cps_trail.proofs.Inferring.{Infers-trans}
 use Rattle.cps_propagate.specs.Agenda.{Agenda}
+use Rattle.cps_propagate.specs.Laws.{IsAtRest, IsInStep}
 use Rattle.cps_clauses.specs.Bases.{Base}
 use Rattle.cps_clauses.specs.Quiet.{IsQuiet, Fits}
 use Rattle.cps_clauses.proofs.Quieting.{IsQuiet-infers}
 use Rattle.cps_search.specs.Resting.{AllHold, IsRestedAt}
+use Rattle.cps_search.proofs.Resting.{rested_inferred}
 
 module _ (a b : Agenda) (c d : Base) (s t : Trail) (agenda : b ≡ a) (base : d ≡ c) (infers : Infers (AllHold a.tasks c.clauses) s t) where
   pub fits_now : All (IsFitting s.first) a.tasks → All (IsFitting t.first) b.tasks
@@ -30,3 +33,19 @@ module _ (a b : Agenda) (c d : Base) (s t : Trail) (agenda : b ≡ a) (base : d 
   infers_more u h =
       Infers-trans (AllHold a.tasks c.clauses) s t u infers
       (subst (λ (x : Agenda). Infers (AllHold x.tasks c.clauses) t u) agenda (subst (λ (x : Base). Infers (AllHold b.tasks x.clauses) t u) base h))
+
+  -- and what it says is so of what there was at first
+  pub answers_then : (u : Trail) (step : Step) → Answers (AllHold b.tasks d.clauses) u step → Answers (AllHold a.tasks c.clauses) u step
+  answers_then u step h = subst (λ (x : Agenda). Answers (AllHold x.tasks c.clauses) u step) agenda (subst (λ (x : Base). Answers (AllHold b.tasks x.clauses) u step) base h)
+
+  pub rest_then : (u : Trail) → All (λ k. IsAtRest k u) b.tasks → All (λ k. IsAtRest k u) a.tasks
+  rest_then u h = subst (λ (x : Agenda). All (λ k. IsAtRest k u) x.tasks) agenda h
+
+  pub step_then : (u : Trail) (n m : ℕ) → n ≡ m → IsInStep b.tasks u n → IsInStep a.tasks u m
+  step_then u n m same h = subst (λ (x : Agenda). IsInStep x.tasks u m) agenda (subst (λ (k : ℕ). IsInStep b.tasks u k) same h)
+
+  pub quiet_then : (u : Trail) (n : ℕ) → IsQuiet d.clauses u n → IsQuiet c.clauses u n
+  quiet_then u n h = subst (λ (x : Base). IsQuiet x.clauses u n) base h
+
+  pub rested_then : (u : Trail) (rested : Option ℕ) → Infers (AllHold b.tasks d.clauses) t u → IsRestedAt a.tasks t rested → IsRestedAt a.tasks u rested
+  rested_then u rested h k = rested_inferred (AllHold b.tasks d.clauses) a.tasks t u rested h k

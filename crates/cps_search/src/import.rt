@@ -128,5 +128,17 @@ pub(crate) fn share_short<Q: Port>(
 fn is_short(clause: &[Atom], variables: usize) -> bool
     ensures { IsTrue result ↔ ((length clause.now ≤ most_atoms) × All (λ t. t.subject < variables) clause.now) }
 {
-    clause.len() <= MOST_ATOMS && clause.iter().all(|atom| (atom.subject as usize) < variables)
+    clause.len() <= MOST_ATOMS && are_below(clause, variables)
+}
+
+/// Whether each atom is on one of the first so many subjects.
+fn are_below(atoms: &[Atom], variables: usize) -> bool
+    ensures { IsTrue result ↔ All (λ t. t.subject < variables) atoms.now }
+{
+    for atom in atoms {
+        if atom.subject as usize >= variables {
+            return false;
+        }
+    }
+    true
 }
