@@ -21,3 +21,4 @@ pub mod Moving
 pub mod Weighing
 pub mod Working
 pub mod Returning
+pub mod Ending

@@ -206,6 +206,33 @@ ending kind end s = record {
   raised = s.raised;
 }
 
+-- why a worker on this problem ended, below a bound z
+abbrev pub IsWhy : Problem → ℕ → ℕ → Bound → BoundsPart → Ending → End → Type 0
+IsWhy p gap budget z q e ends.Exhausted = (raise : Bound) × (e.raised ≡ Some raise) × BoundLe z raise
+IsWhy p gap budget z q e ends.SawClosed = LastSawMet gap q
+IsWhy p gap budget z q e (ends.Spent clause below) = (e.tally ≡ budget) × BoundLe z below × IsHonestJournal p (e.journal ++ items.Learnt clause below ∷ [])
+IsWhy p gap budget z q e ends.RoundsDone = ⊥
+
+-- What holds of a worker on a model that has ended, whose actor had offered and raised nothing before. Its journal is that of an instance
+-- with its sums; it learnt from no more conflicts than the budget allows; its actor offered just its best solution, and raised just as it
+-- did; and no line of its journal is below z, which is at least the least bound that its actor saw or offered.
+pub record IsHonestEnding (m : CpModel) (gap budget : ℕ) (q : BoundsPart) (e : Ending) : Type 0 where
+  pub problem : Problem
+  pub instance : IsInstance problem
+  pub model : problem.model ≡ m
+  pub defs : problem.defs ≡ e.defs
+  pub best : IfSome e.best (IsSolution m)
+  pub offered : q.offered ≡ best_bound m e.best
+  pub raised : q.raised ≡ e.raised
+  pub floor : IfSome e.raised (IsLowerBound m)
+  pub z : Bound
+  pub least : BoundLe q.saw_upper z
+  pub journal : IsHonestJournal problem e.journal
+  pub above : All (IsItemAbove z) e.journal
+  pub counted : e.tally ≡ learnt_count e.journal
+  pub within : e.tally ≤ budget
+  pub why : IsWhy problem gap budget z q e e.end
+
 -- a budget that was spent is what was said last
 abbrev pub IsLastSaid : Said → End → Type 0
 IsLastSaid said (ends.Spent clause below) = said ≡ Over (ends.Spent clause below)
