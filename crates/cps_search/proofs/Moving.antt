@@ -34,7 +34,7 @@ use Rattle.cps_search.specs.Moves.{moved, decided}
 use Rattle.cps_search.specs.Turns.{BeginsTurn, Caused, DecisionDue, ExhaustedAll, Falls, FoundOne, IsLess, IsShared, IsShort, LearntOne, LooksAgain, SameBest, SameImported, SameRaised, SameSetting, SawMet, SawOpen, SpentAll, TookNothing, TookOne}
 use Rattle.cps_search.specs.Ends.{DecidedOne, EndsAs, EndsBy, IsOver, LastSawMet, Lowers, fewer_conflicts, lesser_z, fewer_rows, fewer_values, MovesWith, OffersBest, RaisedToZ, RaisesSame, SpentWhole, TakesTurn, TurnCaused, best_bound, end_of}
 use Rattle.cps_search.proofs.Bounds.{below_at_most, below_less, greater-second, less_than, lesser_same, raised_more}
-use Rattle.cps_search.proofs.Looking.{Moves, moves_by_looks}
+use Rattle.cps_search.proofs.Looking.{Moves, moves_again, moves_by_looks, moves_on}
 
 saw_open : (s : Search) (p q : BoundsPart) (z : Bound) → SawOpen s p q z → Moves z s.z p q
 saw_open s p q z h = moves_by_looks s.z z h.lower h.upper p q h.looks h.z_is
@@ -107,32 +107,11 @@ moves_met s t p q setting h =
     (ap (λ (b : BoundsPart). b.offered) h.looks.is) (ap (λ (b : BoundsPart). b.raised) h.looks.is) (ap (λ (x : Search). x.best) h.same) (ap (λ (x : Search). x.raised) h.same)
     (λ few. omega (arith, few, ap (λ (x : Search). x.imported) h.same, ap (λ (b : BoardPart). length b.taken) h.board))
 
-looked_again : (z below y : Bound) (p q : BoundsPart) → LooksAgain z below y p q → Moves y z p q
-looked_again z below y p q h = elim h [
-  | inl same ↦ record {
-    falls = subst (λ (b : Bound). BoundLe b z) (sym same.1) (BoundLe-refl z);
-    follows = λ above. subst (λ (b : BoundsPart). BoundLe b.saw_upper y) (sym same.2) (subst (λ (b : Bound). BoundLe p.saw_upper b) (sym same.1) above);
-  }
-  | inr look ↦ (
-    let upper = look.1.0 in
-    let looks = look.1.1 in
-    let is = look.1.2 in
-    record {
-      falls = subst (λ (b : Bound). BoundLe b z) (sym is) (lesser-first z upper);
-      follows = λ above.
-          let low = lesser_is (BoundLe upper) z upper (BoundLe-trans upper p.saw_upper z looks.no_worse above) (BoundLe-refl upper) in
-          subst (λ (b : BoundsPart). BoundLe b.saw_upper y) (sym looks.is) (subst (λ (b : Bound). BoundLe upper b) (sym is) low);
-    })
-]
-
 again_same : (z below y : Bound) (p q : BoundsPart) → LooksAgain z below y p q → (q.offered ≡ p.offered) × (q.raised ≡ p.raised)
 again_same z below y p q h = elim h [
   | inl same ↦ (ap (λ (b : BoundsPart). b.offered) same.2, ap (λ (b : BoundsPart). b.raised) same.2)
   | inr look ↦ (ap (λ (b : BoundsPart). b.offered) look.1.1.is, ap (λ (b : BoundsPart). b.raised) look.1.1.is)
 ]
-
-moves_trans : (x y z : Bound) (p m q : BoundsPart) → Moves y x p m → Moves z y m q → Moves z x p q
-moves_trans x y z p m q h k = record { falls = BoundLe-trans z y x k.falls h.falls; follows = λ above. k.follows (h.follows above) }
 
 taken_more : (m : CpModel) (rows : ℕ) (p q : BoardPart) (e : BoardEntry) → TookEntry m rows p q e → length q.taken ≡ length p.taken + 1
 taken_more m rows p q e h = ap (λ (b : BoardPart). length b.taken) h.takes ∙ length-append p.taken (e ∷ [])
@@ -142,7 +121,7 @@ moves_taken s t rows p q setting h =
     let again = again_same h.z h.entry.below t.z h.midway q.bounds h.again in
     let more = taken_more s.problem.model rows p.board q.board h.entry h.takes in
     quiet_moves s t p q setting
-    (moves_trans s.z h.z t.z p.bounds h.midway q.bounds (saw_open s p.bounds h.midway h.z h.bounds) (looked_again h.z h.entry.below t.z h.midway q.bounds h.again))
+    (moves_on t.z h.z s.z p.bounds h.midway q.bounds (saw_open s p.bounds h.midway h.z h.bounds) (moves_again h.z h.entry.below t.z h.midway q.bounds h.again))
     (again.0 ∙ ap (λ (b : BoundsPart). b.offered) h.bounds.looks.is) (again.1 ∙ ap (λ (b : BoundsPart). b.raised) h.bounds.looks.is) h.best h.raised
     (λ few. elim h.used [ inl use ↦ omega (arith, few, use.1, more) | inr pass ↦ omega (arith, few, pass.1, more) ])
 

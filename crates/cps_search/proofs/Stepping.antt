@@ -1,6 +1,6 @@
 -- How the steps of a turn keep a search sound.
 use Rattle.std.specs.Prelude.{map, ◌-ℤ◌, IfSome, IsTrue, All}
-use Rattle.std.proofs.Common.{ℕ, ◌+◌, ◌≤◌, ◌<◌, ◌^◌, ℤ, pos, ◌≡◌, ◌∙◌, ◌⊎◌, inl, inr, Bool, true, false, Option, Some, None, List, [], ◌∷◌, ◌++◌, length, get_or, refl, sym, ap, subst, arith}
+use Rattle.std.proofs.Common.{ℕ, ◌+◌, ◌≤◌, ◌<◌, ◌^◌, ℤ, pos, ◌≡◌, ◌∙◌, ◌⊎◌, inl, inr, Bool, true, false, Option, Some, None, List, [], ◌∷◌, ◌++◌, length, refl, sym, ap, subst, arith}
 use Rattle.std.proofs.lemmas.Int.{ints}
 use Rattle.std.proofs.lemmas.List.Elements.{All-weaker}
 use Rattle.cps_model.specs.declared.bound.Bound.{Bound}
@@ -34,7 +34,7 @@ use Rattle.cps_search.proofs.Bounds.{top_is}
 use Rattle.cps_search.proofs.Holding.{HoldsOver-falls, tasks_fall}
 use Rattle.cps_search.proofs.Completing.{fits_below}
 use Rattle.cps_search.proofs.Boarding.{over_of_below, over_normal}
-use Rattle.cps_search.proofs.Lessons.{back_to, values_normal}
+use Rattle.cps_search.proofs.Lessons.{fits_normal}
 use Rattle.cps_search.proofs.Keeping.{all_up_to, fallen, sound_fallen, sound_moved, sound_imported, sound_learnt, with_imported}
 use Rattle.cps_search.proofs.Beginning.{sound_saying}
 use Rattle.cps_search.proofs.Teaching.{conflict_over, new_clause, no_solution}
@@ -84,9 +84,6 @@ entry_fits s e h sound =
 pub entry_values : (m : CpModel) (e : BoardEntry) → IsSoundEntry m e → All (λ t. IsAtomValue t.value) (entry_clause e)
 entry_values m e h = All-weaker (IsModelAtom (length m.variables)) (λ t. IsAtomValue t.value) (λ t k. record { low = k.low; high = k.high }) (entry_clause e) h.clause.atoms
 
-normal_fits : (first : Domains) (atoms clause : List Atom) → IsNormalOf atoms clause → Fits first atoms → Fits first clause
-normal_fits first atoms clause of fits = record { subjects = λ k d l. (let has = of.kept k d l in subst (λ (t : Atom). t.subject < length first) has.2 (fits.subjects has.0 (get_or clause k d) has.1)) }
-
 -- the store went back, and the clause of an entry was added, if it holds below z
 pub sound_used : (s : Search) (trail : Trail) (rested : Option ℕ) (level : ℕ) (base : Base) (imported : ℕ) (e : BoardEntry)
     → IsSoundSearch s → GoesBack s.trail trail level → ((tasks : List Task) → IsRestedAt tasks s.trail s.rested → IsRestedAt tasks trail rested) → IsSoundEntry s.problem.model e
@@ -101,7 +98,7 @@ sound_used s trail rested level base imported e h back rests sound quiet used =
         let over : HoldsOver s.problem s.z clause =
         HoldsOver-falls s.problem s.z e.below clause use.0.in_force
         (over_normal s.problem e.below atoms clause use.0.same (over_of_below s.problem e.below atoms (entry_subjects s.problem e sound) sound.holds)) in
-        let fits : Fits trail.first clause = subst (λ (ds : Domains). Fits ds clause) (sym first) (normal_fits s.trail.first atoms clause use.0.same (entry_fits s e h sound)) in
+        let fits : Fits trail.first clause = subst (λ (ds : Domains). Fits ds clause) (sym first) (fits_normal s.trail.first atoms clause use.0.same (entry_fits s e h sound)) in
         let quiet' = subst (λ (b : Base). IsQuiet b.clauses trail trail.level) use.0.added quiet in
         let added = sound_imported (moved s trail rested) clause e.below went over use.0.normal fits quiet' in
         subst (λ (n : ℕ). IsSoundSearch (record (moved s trail rested) { base = base; imported = n })) (sym use.1)
