@@ -1,6 +1,6 @@
 -- How a search and its actor's part move together in a turn, and why there is no turn for ever.
-use Rattle.std.specs.Prelude.{IfSome, IsTrue, cond, All}
-use Rattle.std.proofs.Common.{ℕ, ◌+◌, ◌≤◌, ◌<◌, ℤ, ◌≡◌, ◌∙◌, ◌⊎◌, inl, inr, Bool, true, false, Option, Some, None, List, [], ◌∷◌, ◌++◌, length, refl, sym, ap, subst, arith, length-append}
+use Rattle.std.specs.Prelude.{IfSome, IsSome, IsTrue, All}
+use Rattle.std.proofs.Common.{ℕ, ◌+◌, ◌≤◌, ◌<◌, ℤ, ◌≡◌, ◌∙◌, ◌⊎◌, inl, inr, Bool, true, false, cond, Option, Some, None, List, [], ◌∷◌, ◌++◌, length, refl, sym, ap, subst, arith, length-append}
 use Rattle.cps_model.specs.declared.bound.Bound.{Bound}
 use Rattle.cps_model.specs.declared.bound.Bound.TheVariants.{At, Infinite}
 use Rattle.cps_model.specs.declared.model.CpModel.{CpModel}
@@ -195,17 +195,21 @@ lowers_decided chooses s t rows p q moves h =
     fewer_values (ap (λ (x : Search). x.tally) h.is ∙ h.due.learnt.tally) moves.falls (ap (λ (es : List BoardEntry). length es) (took_nothing rows p.board q.board h.due.begins.board))
     (omega (arith, at, fewer, h.due.onward.fewer))
 
-turn_lowers : (chooses : Trail → Option Atom → Type 0) (s t : Search) (rows : ℕ) (p q : Part) (turn : Turn) → MovesWith s t p q → TurnCaused chooses s t rows p q turn → end_of turn ≡ None → Lowers s t rows p.board q.board
-turn_lowers chooses s t rows p q turns.Imported moves h e = fewer_rows h.tally moves.falls h.takes.left (taken_more s.problem.model rows p.board q.board h.entry h.takes)
-turn_lowers chooses s t rows p q turns.Decided moves h e = lowers_decided chooses s t rows p q moves h
-turn_lowers chooses s t rows p q turns.Learnt moves h e = fewer_conflicts h.tally
-turn_lowers chooses s t rows p q turns.Found moves h e =
+learnt_lowers : (s t : Search) (rows : ℕ) (p q : BoardPart) (budget : Option ℕ) → s.budget ≡ budget → IsSome budget → IfSome budget (λ b. s.tally < b) → t.tally ≡ s.tally + 1 → Lowers s t rows p q
+learnt_lowers s t rows p q None is has left e = absurd has
+learnt_lowers s t rows p q (Some b) is has left e = fewer_conflicts b is left e
+
+turn_lowers : (chooses : Trail → Option Atom → Type 0) (s t : Search) (rows : ℕ) (p q : Part) (turn : Turn) → IsSome s.budget → MovesWith s t p q → TurnCaused chooses s t rows p q turn → end_of turn ≡ None → Lowers s t rows p.board q.board
+turn_lowers chooses s t rows p q turns.Imported has moves h e = fewer_rows h.tally moves.falls h.takes.left (taken_more s.problem.model rows p.board q.board h.entry h.takes)
+turn_lowers chooses s t rows p q turns.Decided has moves h e = lowers_decided chooses s t rows p q moves h
+turn_lowers chooses s t rows p q turns.Learnt has moves h e = learnt_lowers s t rows p.board q.board s.budget refl has h.within_budget h.tally
+turn_lowers chooses s t rows p q turns.Found has moves h e =
     let v = objective_value s.problem.model h.solution in
     lesser_z h.learnt.tally (subst (λ (b : Bound). IsLess b s.z) (sym h.z) (less_than (At v) h.before s.z (below_less v h.before h.below) (saw_open s p.bounds h.midway.bounds h.before h.begins.bounds).falls))
-turn_lowers chooses s t rows p q turns.Exhausted moves h e = absurd (cc)
-turn_lowers chooses s t rows p q turns.SawClosed moves h e = absurd (cc)
-turn_lowers chooses s t rows p q (turns.Spent clause below) moves h e = absurd (cc)
-turn_lowers chooses s t rows p q turns.RoundsDone moves h e = absurd h
+turn_lowers chooses s t rows p q turns.Exhausted has moves h e = absurd (cc)
+turn_lowers chooses s t rows p q turns.SawClosed has moves h e = absurd (cc)
+turn_lowers chooses s t rows p q (turns.Spent clause below) has moves h e = absurd (cc)
+turn_lowers chooses s t rows p q turns.RoundsDone has moves h e = absurd h
 
 not_over : (said : Said) → said ≡ Nothing → IsOver said → ⊥
 not_over said e = subst (λ (x : Said). IsOver x → ⊥) (sym e) (λ h. h)
@@ -221,10 +225,10 @@ turn_ends chooses s t rows p q (turns.Spent clause below) h = h.said
 turn_ends chooses s t rows p q turns.RoundsDone h = absurd h
 
 -- what a turn does follows from its cause
-pub takes_turn : (chooses : Trail → Option Atom → Type 0) (s t : Search) (rows : ℕ) (p q : Part) (turn : Turn) → IsSoundSearch s → SameSetting s t → TurnCaused chooses s t rows p q turn → TakesTurn chooses s t rows p q turn
-takes_turn chooses s t rows p q turn sound setting h =
+pub takes_turn : (chooses : Trail → Option Atom → Type 0) (s t : Search) (rows : ℕ) (p q : Part) (turn : Turn) → IsSome s.budget → IsSoundSearch s → SameSetting s t → TurnCaused chooses s t rows p q turn → TakesTurn chooses s t rows p q turn
+takes_turn chooses s t rows p q turn has sound setting h =
     let moves = turn_moves chooses s t rows p q turn sound setting h in
-    record { setting = setting; cause = h; moves = moves; ends = turn_ends chooses s t rows p q turn h; lowers = λ e. turn_lowers chooses s t rows p q turn moves h e }
+    record { setting = setting; cause = h; moves = moves; ends = turn_ends chooses s t rows p q turn h; lowers = λ e. turn_lowers chooses s t rows p q turn has moves h e }
 
 raised_most : (raised : Option Bound) (z : Bound) → (b : Bound) × (raised_to raised z ≡ Some b) × BoundLe z b
 raised_most None z = (z, refl, BoundLe-refl z)

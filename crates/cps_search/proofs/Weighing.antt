@@ -1,5 +1,5 @@
 -- A worker's turns do not go on for ever: a number for what is left, which each turn but the last makes less.
-use Rattle.std.specs.Prelude.{IfSome, IsSome, negsuc, unsigned_abs, All}
+use Rattle.std.specs.Prelude.{negsuc, unsigned_abs}
 use Rattle.std.proofs.Common.{ℕ, zero, suc, ◌+◌, ◌-◌, ◌*◌, ◌^◌, ◌≤◌, ◌<◌, ℤ, pos, ◌≤ℤ◌, ◌≡◌, ◌∙◌, ◌⊎◌, inl, inr, true, Option, Some, None, List, [], ◌∷◌, length, refl, sym, ap, subst, arith}
 use Rattle.std.proofs.lemmas.Int.{ints}
 use Rattle.std.proofs.Math.Nat.{mul-le-mul_right}
@@ -96,11 +96,7 @@ conflicts_left s = budget_of s.budget - s.tally
 abbrev pub left_of : ℕ → Search → ℕ → BoardPart → ℕ
 left_of top s rows p = digits (digits (digits (conflicts_left s) (2 ^ 63 + 1) (rank s.z)) (rows + 1) (rows - length p.taken)) top (open_values s.trail.first s.trail.entries)
 
-fewer_left : (budget : Option ℕ) (tally : ℕ) → IsSome budget → IfSome budget (λ b. tally + 1 ≤ b) → budget_of budget - (tally + 1) < budget_of budget - tally
-fewer_left None tally h k = absurd h
-fewer_left (Some b) tally h k = omega (arith, k)
-
-module _ (s t : Search) (rows : ℕ) (p q : BoardPart) (before : IsSoundSearch s) (after : IsSoundSearch t) (setting : SameSetting s t) (has : IsSome s.budget) where
+module _ (s t : Search) (rows : ℕ) (p q : BoardPart) (before : IsSoundSearch s) (after : IsSoundSearch t) (setting : SameSetting s t) where
   small : (s : Search) → IsSoundSearch s → IsSmallBound s.z
   small s h = small_of s.problem.model s.z h.instance.valid h.incumbent
 
@@ -117,9 +113,8 @@ module _ (s t : Search) (rows : ℕ) (p q : BoardPart) (before : IsSoundSearch s
   rows_at_most e falls same = omega (arith, mul-le-mul_right (rows + 1) (at_most e falls), same)
 
   pub lowered : Lowers s t rows p q → left_of (open_values s.problem.domains [] + 1) t rows q < left_of (open_values s.problem.domains [] + 1) s rows p
-  lowered (fewer_conflicts e) =
-      let fits : IfSome s.budget (λ b. s.tally + 1 ≤ b) = subst (λ (n : ℕ). IfSome s.budget (λ b. n ≤ b)) e (subst (λ (b : Option ℕ). IfSome b (λ b. t.tally ≤ b)) setting.budget after.within_budget) in
-      let less : conflicts_left t < conflicts_left s = omega (arith, fewer_left s.budget s.tally has fits, ap (λ (b : Option ℕ). budget_of b - t.tally) setting.budget, ap (λ (n : ℕ). budget_of s.budget - n) e) in
+  lowered (fewer_conflicts budget is left e) =
+      let less : conflicts_left t < conflicts_left s = omega (arith, left, e, ap budget_of (setting.budget ∙ is), ap budget_of is) in
       let two = first_less (conflicts_left s) (conflicts_left t) (rank s.z) (rank t.z) (2 ^ 63 + 1) less (rank_most t.z (small t after)) in
       first_less _ _ _ _ (open_values s.problem.domains [] + 1) (first_less _ _ _ _ (rows + 1) two (omega arith)) below_top
   lowered (lesser_z e less) =

@@ -13,15 +13,19 @@ use Rattle.cps_clauses.specs.declared.journal.JournalItem.{JournalItem}
 use Rattle.cps_clauses.specs.declared.journal.JournalItem.TheVariants as items
 use Rattle.cps_clauses.specs.declared.origin.Origin.TheVariants as origins
 use Rattle.cps_clauses.specs.Bases.{Base, with_clause}
+use Rattle.cps_search.specs.declared.end.End.{End}
+use Rattle.cps_search.specs.declared.turn.Turn.{Turn}
 use Rattle.cps_search.specs.declared.turn.Turn.TheVariants as turns
 use Rattle.cps_search.specs.Fixed.{AreFixed}
 use Rattle.cps_search.specs.Lessons.{GoesBack}
 use Rattle.cps_search.specs.Scope.{Scope, IsScopeOf, AreSameUpTo}
 use Rattle.cps_search.specs.Searches.{Search, IsSettled, IsSoundSearch}
-use Rattle.cps_search.specs.Moves.{moved, decided}
-use Rattle.cps_search.specs.Turns.{DecisionDue, IsOnward, LearntOne, SameSetting, TookOne}
-use Rattle.cps_search.specs.Ends.{DecidedOne, Decides, HeardOne, Hears, IsWorking, MovesWith, Stands}
+use Rattle.cps_search.specs.Moves.{fresh, moved, decided}
+use Rattle.cps_search.specs.Turns.{Caused, DecisionDue, IsOnward, LearntOne, SameSetting, Steps}
+use Rattle.cps_search.specs.Ends.{BrancherTurn, DecidedOne, Decides, EndsAs, HeardOne, Hears, IsWorking, MovesWith, RunsTo, Stands, TakesTurn, TurnCaused, end_of}
 use Rattle.cps_search.proofs.Completing.{all_fixed}
+use Rattle.cps_search.proofs.Turning.{setting_of, setting_same, setting_trans}
+use Rattle.cps_search.proofs.Moving.{ends_by, moves_more, moves_same, takes_turn}
 
 -- where the variables are fixed, so are all subjects that a brancher asks of
 pub scope_fixed : (s : Search) (scope : Scope) → IsSoundSearch s → IsSound s.trail → IsSettled s → IsScopeOf s.problem scope → AreFixed s.trail scope.variables → AreFixed s.trail scope.subjects
@@ -110,3 +114,81 @@ heard_one hears s m t rows p q h stands heard =
 -- a decision was made where one was due
 pub decided_one : (chooses : Trail → Option Atom → Type 0) (s m t : Search) (rows : ℕ) (p q : Part) → DecisionDue s m rows p q → Decides chooses m t → DecidedOne chooses s t rows p q
 decided_one chooses s m t rows p q due h = record { midway = m; due = due; atom = h.atom; undecided = h.undecided; chosen = h.chosen; is = h.is }
+
+-- a worker that begins
+pub new_works : (p : Problem) (gap budget : ℕ) (w : Search) (scope : Scope) (agrees : ℕ → Type 0) → w ≡ fresh p gap (Some budget) → IsSoundSearch w → IsScopeOf p scope → budget ≤ 10 ^ 9 → agrees 0 → IsWorking w scope agrees 0
+new_works p gap budget w scope agrees is sound of most agree = record {
+  sound = sound;
+  scope = subst (λ (x : Search). IsScopeOf x.problem scope) (sym is) of;
+  budget = subst (λ (x : Search). IfSome x.budget (λ b. b ≤ 10 ^ 9)) (sym is) most;
+  has_budget = subst (λ (x : Search). IsSome x.budget) (sym is) tt;
+  few = omega (arith, ap (λ (x : Search). x.imported) is);
+  within = omega arith;
+  agrees = agree;
+}
+
+-- no more clauses are imported than the board has rows
+pub imported_few : (s t : Search) (rows : ℕ) (p q : Part) (turn : Option Turn) → s.imported ≤ 4096 → s.imported ≤ length p.board.taken → rows ≤ 4096 → Caused s t rows p q turn → t.imported ≤ 4096
+imported_few s t rows p q None few taken small h = omega (arith, few, h.imported)
+imported_few s t rows p q (Some turns.Imported) few taken small h = elim h.used [ inl use ↦ omega (arith, taken, small, use.1, h.takes.left) | inr pass ↦ omega (arith, few, pass.1) ]
+imported_few s t rows p q (Some turns.Decided) few taken small h = absurd h
+imported_few s t rows p q (Some turns.Learnt) few taken small h = omega (arith, few, h.imported)
+imported_few s t rows p q (Some turns.Found) few taken small h = omega (arith, few, h.imported)
+imported_few s t rows p q (Some turns.Exhausted) few taken small h = omega (arith, few, h.imported)
+imported_few s t rows p q (Some turns.SawClosed) few taken small h = omega (arith, few, ap (λ (x : Search). x.imported) h.same)
+imported_few s t rows p q (Some (turns.Spent clause below)) few taken small h = omega (arith, few, h.imported)
+imported_few s t rows p q (Some turns.RoundsDone) few taken small h = absurd h
+
+-- the steps before a decision and the decision
+pub turn_decided : (chooses : Trail → Option Atom → Type 0) (s m t : Search) (rows : ℕ) (p q : Part) → IsSome s.budget → IsSoundSearch s → Steps s m rows p q None → Decides chooses m t → TakesTurn chooses s t rows p q turns.Decided
+turn_decided chooses s m t rows p q has sound steps h =
+    takes_turn chooses s t rows p q turns.Decided has sound
+    (setting_trans s m t steps.setting (setting_of m (moved m (decided m.trail h.atom) m.rested) t h.is refl refl refl refl))
+    (decided_one chooses s m t rows p q steps.cause h)
+
+-- the steps that learn, after which the search may go back to level 0
+pub turn_learnt : (chooses : Trail → Option Atom → Type 0) (s m t : Search) (rows : ℕ) (p q : Part) → IsSome s.budget → IsSoundSearch s → Steps s m rows p q (Some turns.Learnt) → Stands m t → TakesTurn chooses s t rows p q turns.Learnt
+turn_learnt chooses s m t rows p q has sound steps stands =
+    takes_turn chooses s t rows p q turns.Learnt has sound (setting_trans s m t steps.setting (setting_stands m t stands)) (learnt_stands s m t rows p q steps.cause stands)
+
+turn_caused : (chooses : Trail → Option Atom → Type 0) (s t : Search) (rows : ℕ) (p q : Part) (turn : Turn) → Caused s t rows p q (Some turn) → TurnCaused chooses s t rows p q turn
+turn_caused chooses s t rows p q turns.Imported h = h
+turn_caused chooses s t rows p q turns.Decided h = absurd h
+turn_caused chooses s t rows p q turns.Learnt h = h
+turn_caused chooses s t rows p q turns.Found h = h
+turn_caused chooses s t rows p q turns.Exhausted h = h
+turn_caused chooses s t rows p q turns.SawClosed h = h
+turn_caused chooses s t rows p q (turns.Spent clause below) h = h
+turn_caused chooses s t rows p q turns.RoundsDone h = h
+
+-- the steps of any other turn
+pub turn_other : (chooses : Trail → Option Atom → Type 0) (s t : Search) (rows : ℕ) (p q : Part) (turn : Turn) → IsSome s.budget → IsSoundSearch s → Steps s t rows p q (Some turn) → TakesTurn chooses s t rows p q turn
+turn_other chooses s t rows p q turn has sound steps = takes_turn chooses s t rows p q turn has sound steps.setting (turn_caused chooses s t rows p q turn steps.cause)
+
+-- in which the brancher stays as it was
+pub brancher_other : (s t : Search) (rows : ℕ) (p q : Part) (turn : Turn) (heard chose same : Type 0) → Caused s t rows p q (Some turn) → (turn ≡ turns.Learnt → ⊥) → same → BrancherTurn turn heard chose same
+brancher_other s t rows p q turns.Imported heard chose same h not stays = stays
+brancher_other s t rows p q turns.Decided heard chose same h not stays = absurd h
+brancher_other s t rows p q turns.Learnt heard chose same h not stays = absurd (not refl)
+brancher_other s t rows p q turns.Found heard chose same h not stays = stays
+brancher_other s t rows p q turns.Exhausted heard chose same h not stays = stays
+brancher_other s t rows p q turns.SawClosed heard chose same h not stays = stays
+brancher_other s t rows p q (turns.Spent clause below) heard chose same h not stays = stays
+brancher_other s t rows p q turns.RoundsDone heard chose same h not stays = absurd h
+
+-- what a run has done so far
+pub record HasRun (s t : Search) (p q : Part) : Type 0 where
+  pub setting : SameSetting s t
+  pub moves : MovesWith s t p q
+
+pub run_begins : (s : Search) (p : Part) → HasRun s s p p
+run_begins s p = record { setting = setting_same s; moves = moves_same s p }
+
+pub run_goes_on : (chooses : Trail → Option Atom → Type 0) (s t u : Search) (rows : ℕ) (p m q : Part) (turn : Turn) → HasRun s t p m → TakesTurn chooses t u rows m q turn → HasRun s u p q
+run_goes_on chooses s t u rows p m q turn h k = record { setting = setting_trans s t u h.setting k.setting; moves = moves_more s t u p m q h.moves k.moves }
+
+-- and its end
+pub run_ends : (chooses : Trail → Option Atom → Type 0) (s t u : Search) (rows : ℕ) (p m q : Part) (turn : Turn) (end : End) → IsSoundSearch t → HasRun s t p m → TakesTurn chooses t u rows m q turn → end_of turn ≡ Some end → RunsTo s u p q end
+run_ends chooses s t u rows p m q turn end sound h k e =
+    let all = run_goes_on chooses s t u rows p m q turn h k in
+    record { setting = all.setting; moves = all.moves; said = subst (λ (o : Option End). EndsAs o u) e k.ends; why = ends_by chooses t u rows m q turn end sound k.setting k.cause e }

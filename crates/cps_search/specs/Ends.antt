@@ -100,7 +100,7 @@ end_of turns.RoundsDone = Some ends.RoundsDone
 -- Why a worker does not go on for ever. Each turn but the last leaves fewer conflicts to learn from, or a lesser z, or fewer rows to
 -- take, or fewer open values, the first of these that changes.
 pub data Lowers (s t : Search) (rows : ℕ) (p q : BoardPart) : Type 0 where
-  fewer_conflicts : t.tally ≡ s.tally + 1 → Lowers s t rows p q
+  fewer_conflicts : (budget : ℕ) → s.budget ≡ Some budget → s.tally < budget → t.tally ≡ s.tally + 1 → Lowers s t rows p q
   lesser_z : t.tally ≡ s.tally → IsLess t.z s.z → Lowers s t rows p q
   fewer_rows : t.tally ≡ s.tally → BoundLe t.z s.z → length p.taken < rows → length q.taken ≡ length p.taken + 1 → Lowers s t rows p q
   fewer_values : t.tally ≡ s.tally → BoundLe t.z s.z → length q.taken ≡ length p.taken → open_values t.trail.first t.trail.entries < open_values s.trail.first s.trail.entries → Lowers s t rows p q

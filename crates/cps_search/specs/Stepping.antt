@@ -20,8 +20,8 @@ use Rattle.cps_search.specs.Moves.{below, moved}
 use Rattle.cps_search.specs.Turns.{BeginsTurn, Caused, IsOnward, LooksAgain, PassesOver, SameBest, SameImported, SameRaised, SameSetting, Uses}
 
 -- the search that a searcher stands for, while no memory was refused
-abbrev pub search_of : Searcher → Search
-search_of s = record {
+abbrev pub search_of : {P : Type 0} → Searcher P → Search
+search_of {P} s = record {
   problem = s.instance;
   trail = s.store;
   tasks = s.engine.tasks;

@@ -1,6 +1,6 @@
 //! The steps of a turn, on a search with all that it needs.
 
-ghost use Rattle.std.specs.Prelude.{◌≡◌, ◌<◌, ◌^◌, ℕ, length, true, false, OnOk, IfOk, IfSome, IsNone, All, Ok};
+ghost use Rattle.std.specs.Prelude.{◌≡◌, ◌↔◌, ◌<◌, ◌^◌, ℕ, length, true, false, OnOk, IfOk, IfSome, IsNone, IsTrue, Some, All, Ok};
 ghost use Rattle.cps_model.specs.Solutions.{objective_value, IsSolution};
 ghost use Rattle.cps_trail.specs.Trail.{IsSound};
 ghost use Rattle.cps_trail.specs.Adds.{Infers, Answers, IsConflict};
@@ -270,6 +270,16 @@ impl<'a, P: Propagator> Searcher<'a, P> {
         Ok(())
     }
 
+    /// Whether as many clauses were learnt as the budget allows.
+    fn is_spent(&self) -> bool
+        ensures { IsTrue result ↔ (self.now.budget ≡ Some self.now.tally) }
+    {
+        match self.budget {
+            Some(budget) => budget == self.tally,
+            None => false,
+        }
+    }
+
     /// Goes on after inference came to a conflict: ends where it leaves no solution below z, or where the budget is spent; else learns.
     fn learn<Q: Port>(&mut self, port: &mut Q, conflict: &[Atom]) -> Result<Option<Turn>, AllocError>
         requires sound { IsSoundSearch (search_of self.old) }
@@ -285,7 +295,7 @@ impl<'a, P: Propagator> Searcher<'a, P> {
             self.exhaust(port);
             return Ok(Some(Turn::Exhausted));
         };
-        if self.budget == Some(self.tally) {
+        if self.is_spent() {
             return Ok(Some(self.spend(learnt.clause)?));
         }
         self.keep(port, learnt)?;

@@ -179,7 +179,7 @@ impl<'a, P: Propagator, B: Brancher + Drop> Worker<'a, P, B> {
         ensures refused { OnErr result (IsTrue self.new.0.refused) }
         ensures stays { IsTrue self.old.0.refused → IsErr result }
     {
-        loop {
+        'turns: loop {
             let turn = self.turn(port)?;
             if let Some(end) = end_of(turn) {
                 return Ok(end);
