@@ -67,12 +67,12 @@ pub works_on : (s t : Search) (scope scope' : Scope) (agrees agrees' : ℕ → T
     → IsWorking t scope' agrees' kept'
 works_on s t scope scope' agrees agrees' kept kept' h sound setting same few within agree = record {
   sound = sound;
-  scope = subst (λ (x : Scope). IsScopeOf t.problem x) (sym same) (subst (λ (p : Problem). IsScopeOf p scope) (sym setting.problem) h.scope);
+  of_problem = subst (λ (x : Scope). IsScopeOf t.problem x) (sym same) (subst (λ (p : Problem). IsScopeOf p scope) (sym setting.problem) h.of_problem);
   budget = subst (λ (b : Option ℕ). IfSome b (λ budget. budget ≤ 10 ^ 9)) (sym setting.budget) h.budget;
   has_budget = subst (λ (b : Option ℕ). IsSome b) (sym setting.budget) h.has_budget;
   few = few;
   within = within;
-  agrees = agree;
+  agreed = agree;
 }
 
 -- a turn's search after the search stood or went back to level 0
@@ -119,12 +119,12 @@ decided_one chooses s m t rows p q due h = record { midway = m; due = due; atom 
 pub new_works : (p : Problem) (gap budget : ℕ) (w : Search) (scope : Scope) (agrees : ℕ → Type 0) → w ≡ fresh p gap (Some budget) → IsSoundSearch w → IsScopeOf p scope → budget ≤ 10 ^ 9 → agrees 0 → IsWorking w scope agrees 0
 new_works p gap budget w scope agrees is sound of most agree = record {
   sound = sound;
-  scope = subst (λ (x : Search). IsScopeOf x.problem scope) (sym is) of;
+  of_problem = subst (λ (x : Search). IsScopeOf x.problem scope) (sym is) of;
   budget = subst (λ (x : Search). IfSome x.budget (λ b. b ≤ 10 ^ 9)) (sym is) most;
   has_budget = subst (λ (x : Search). IsSome x.budget) (sym is) tt;
   few = omega (arith, ap (λ (x : Search). x.imported) is);
   within = omega arith;
-  agrees = agree;
+  agreed = agree;
 }
 
 -- no more clauses are imported than the board has rows

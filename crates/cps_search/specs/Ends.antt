@@ -244,9 +244,9 @@ IsLastSaid said ends.RoundsDone = Unit {0}
 -- entries stay.
 pub record IsWorking (s : Search) (scope : Scope) (agrees : ℕ → Type 0) (kept : ℕ) : Type 0 where
   pub sound : IsSoundSearch s
-  pub scope : IsScopeOf s.problem scope
+  pub of_problem : IsScopeOf s.problem scope
   pub budget : IfSome s.budget (λ budget. budget ≤ 10 ^ 9)
   pub has_budget : IsSome s.budget
   pub few : s.imported ≤ 4096
   pub within : kept ≤ length s.trail.entries
-  pub agrees : agrees kept
+  pub agreed : agrees kept
