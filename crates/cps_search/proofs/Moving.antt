@@ -123,7 +123,7 @@ moves_taken s t rows p q setting h =
     quiet_moves s t p q setting
     (moves_on t.z h.z s.z p.bounds h.midway q.bounds (saw_open s p.bounds h.midway h.z h.bounds) (moves_again h.z h.entry.below t.z h.midway q.bounds h.again))
     (again.0 ∙ ap (λ (b : BoundsPart). b.offered) h.bounds.looks.is) (again.1 ∙ ap (λ (b : BoundsPart). b.raised) h.bounds.looks.is) h.best h.raised
-    (λ few. elim h.used [ inl use ↦ omega (arith, few, use.1, more) | inr pass ↦ omega (arith, few, pass.1, more) ])
+    (λ few. elim h.used [ inl given ↦ omega (arith, few, given.1, more) | inr pass ↦ omega (arith, few, pass.1, more) ])
 
 best_above : (s : Search) (v : ℤ) (best : Option (List ℤ)) → IfSome best (IsFound s) → BoundLe (At v) s.z → BoundLe (At v) (best_bound s.problem.model best)
 best_above s v None h k = tt

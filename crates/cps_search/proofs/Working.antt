@@ -130,7 +130,7 @@ new_works p gap budget w scope agrees is sound of most agree = record {
 -- no more clauses are imported than the board has rows
 pub imported_few : (s t : Search) (rows : ℕ) (p q : Part) (turn : Option Turn) → s.imported ≤ 4096 → s.imported ≤ length p.board.taken → rows ≤ 4096 → Caused s t rows p q turn → t.imported ≤ 4096
 imported_few s t rows p q None few taken small h = omega (arith, few, h.imported)
-imported_few s t rows p q (Some turns.Imported) few taken small h = elim h.used [ inl use ↦ omega (arith, taken, small, use.1, h.takes.left) | inr pass ↦ omega (arith, few, pass.1) ]
+imported_few s t rows p q (Some turns.Imported) few taken small h = elim h.used [ inl given ↦ omega (arith, taken, small, given.1, h.takes.left) | inr pass ↦ omega (arith, few, pass.1) ]
 imported_few s t rows p q (Some turns.Decided) few taken small h = absurd h
 imported_few s t rows p q (Some turns.Learnt) few taken small h = omega (arith, few, h.imported)
 imported_few s t rows p q (Some turns.Found) few taken small h = omega (arith, few, h.imported)
