@@ -97,6 +97,7 @@ pub(crate) fn use_entry(
     if is_at_most(z, entry.below) {
         import(alloc, base, store, rested, entry.clause(), entry.below)
     } else {
+        prove!(store.end_of(store.level()) == store.entries().len());
         Ok(())
     }
 }
