@@ -103,12 +103,7 @@ pub(crate) fn use_entry(
 }
 
 /// Puts a clause on the board if it is short and on the model's variables alone.
-pub(crate) fn share_short<Q: Port>(
-    port: &mut Q,
-    variables: usize,
-    below: Bound,
-    clause: &[Atom],
-)
+pub(crate) fn share_short<Q: Port>(port: &mut Q, variables: usize, below: Bound, clause: &[Atom])
     requires variables { variables ≡ length (Q.model port.old).variables }
     requires some_atom { 1 ≤ length clause.now }
     requires values { All (λ t. IsAtomValue t.value) clause.now }
