@@ -63,7 +63,7 @@ moves_none z y p q same kept = record {
 pub moves_again : (z below y : Bound) (p q : BoundsPart) → LooksAgain z below y p q → Moves y z p q
 moves_again z below y p q again = elim again [
   | inl stays ↦ moves_none z y p q stays.1 stays.2
-  | inr looks ↦ moves_by_upper z y looks.1 p q looks.2 looks.3
+  | inr looks ↦ moves_by_upper z y looks.1.0 p q looks.1.1 looks.1.2
 ]
 
 pub moves_on : (x y z : Bound) (p q r : BoundsPart) → Moves y z p q → Moves x y q r → Moves x z p r

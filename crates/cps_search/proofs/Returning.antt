@@ -1,9 +1,8 @@
 -- After a jump back, inference is at rest where it came to rest at the end of the level.
-use Rattle.std.proofs.Common.{ℕ, ◌≤◌, ◌<◌, ◌≡◌, ◌∙◌, Option, Some, List, length, take, sym, ap, subst, arith}
+use Rattle.std.proofs.Common.{ℕ, ◌≤◌, ◌<◌, ◌≡◌, ◌∙◌, Option, Some, List, length, sym, ap, subst, arith}
 use Rattle.std.proofs.lemmas.List.{take_all, length-take-le}
 use Rattle.cps_instance.specs.declared.task.Task.{Task}
 use Rattle.cps_trail.specs.Trail.{Trail, Entry, EndsAt, up_to}
-use Rattle.cps_search.specs.Lessons.{GoesBack}
 use Rattle.cps_search.specs.Resting.{IsRestedAt}
 use Rattle.cps_search.proofs.Lessons.{back_to}
 use Rattle.cps_search.proofs.Keeping.{rested_back}

@@ -1,8 +1,6 @@
 -- What each round of inference takes over from the round before.
 use Rattle.std.specs.Prelude.{All}
-use Rattle.std.proofs.Common.{ℕ, ◌≡◌, ◌+◌, ◌≤◌, ◌∙◌, Option, Some, None, List, length, sym, ap, subst, arith}
-use Rattle.cps_literal.specs.declared.atom.Atom.{Atom}
-use Rattle.cps_instance.specs.declared.task.Task.{Task}
+use Rattle.std.proofs.Common.{ℕ, ◌≡◌, Option, sym, subst}
 use Rattle.cps_instance.specs.Fitting.{IsFitting}
 use Rattle.cps_trail.specs.Trail.{Domains, Trail}
 use Rattle.cps_trail.specs.declared.step.Step.{Step}

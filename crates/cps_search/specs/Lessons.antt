@@ -2,9 +2,9 @@
 use Rattle.std.specs.Prelude.{◌≡◌, ℕ, ◌<◌, ◌≤◌, List, length, All}
 use Rattle.cps_literal.specs.declared.atom.Atom.{Atom}
 use Rattle.cps_literal.specs.Normal.{IsNormal}
-use Rattle.cps_trail.specs.Trail.{Trail, IsFalseAfter, IsFalseNow, up_to}
+use Rattle.cps_trail.specs.Trail.{Trail, IsFalseNow, up_to}
 use Rattle.cps_trail.specs.Adds.{Follows}
-use Rattle.cps_conflict.specs.Conflicts.{Premises, Asserts}
+use Rattle.cps_conflict.specs.Conflicts.{Premises, NotFalseAtBottom, Asserts}
 use Rattle.cps_clauses.specs.Quiet.{IsQuiet, WeakensTo}
 
 -- a store went back to a level
@@ -19,7 +19,7 @@ pub record IsTaught (s : Trail) (conflict clause : List Atom) (t : Atom) (back :
   pub false_now : All (IsFalseNow s) clause
   pub normal : IsNormal clause
   pub subjects : All (λ u. u.subject < length s.first) clause
-  pub open_at_bottom : All (λ u. IsFalseAfter s.first (up_to 0 s.entries) u → ⊥) clause
+  pub open_at_bottom : All (NotFalseAtBottom s) clause
   pub asserts : Asserts s clause t back
 
 -- no clause that was quiet below a store's level weakens to the clause

@@ -97,17 +97,13 @@ pub(crate) fn use_entry(
     if is_at_most(z, entry.below) {
         import(alloc, base, store, rested, entry.clause(), entry.below)
     } else {
+        prove!(store.end_of(store.level()) == store.entries().len());
         Ok(())
     }
 }
 
 /// Puts a clause on the board if it is short and on the model's variables alone.
-pub(crate) fn share_short<Q: Port>(
-    port: &mut Q,
-    variables: usize,
-    below: Bound,
-    clause: &[Atom],
-)
+pub(crate) fn share_short<Q: Port>(port: &mut Q, variables: usize, below: Bound, clause: &[Atom])
     requires variables { variables ≡ length (Q.model port.old).variables }
     requires some_atom { 1 ≤ length clause.now }
     requires values { All (λ t. IsAtomValue t.value) clause.now }

@@ -1,4 +1,4 @@
-use Rattle.std.proofs.Common.{ap, sym, subst, ◌∙◌, Ok, Some, arith, ◌≡◌, length}
+use Rattle.std.proofs.Common.{ap, sym, subst, ◌∙◌, Ok, arith}
 use Rattle.cps_trail.specs.declared.step.Step.{Step}
 use Rattle.cps_trail.specs.Adds.{Answers}
 use Rattle.cps_search.specs.Resting.{AllHold}
