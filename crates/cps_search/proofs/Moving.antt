@@ -140,7 +140,7 @@ moves_found s t rows p q sound setting h =
     let best : best_bound t.problem.model t.best ≡ At v = ap (λ (o : Option (List ℤ)). best_bound t.problem.model o) h.best ∙ ap (λ (x : Problem). At (objective_value x.model h.solution)) setting.problem in
     let kept : m.bounds.offered ≡ p.bounds.offered = ap (λ (b : BoundsPart). b.offered) h.begins.bounds.looks.is in
     let offer : q.bounds.offered ≡ lesser p.bounds.offered (At v) =
-        ap (λ (b : BoundsPart). b.offered) h.offered ∙ ap (λ (b : Bound). lesser b t.z) kept ∙ ap (λ (b : Bound). lesser p.bounds.offered b) h.z in
+    ap (λ (b : BoundsPart). b.offered) h.offered ∙ ap (λ (b : Bound). lesser b t.z) kept ∙ ap (λ (b : Bound). lesser p.bounds.offered b) h.z in
     record {
       falls = subst (λ (b : Bound). BoundLe b s.z) (sym h.z) low;
       follows = λ above. subst (λ (b : BoundsPart). BoundLe b.saw_upper t.z) (sym h.offered) h.at_most;

@@ -94,19 +94,19 @@ sound_used s trail rested level base imported e h back rests sound quiet used =
     let first : trail.first ≡ s.trail.first = ap (λ (t : Trail). t.first) back.is in
     elim used [
       | inl given ↦
-        let clause = given.0.clause in
-        let atoms = entry_clause e in
-        let over : HoldsOver s.problem s.z clause =
-        HoldsOver-falls s.problem s.z e.below clause given.0.in_force
-        (over_normal s.problem e.below atoms clause given.0.same (over_of_below s.problem e.below atoms (entry_subjects s.problem e sound) sound.holds)) in
-        let fits : Fits trail.first clause = subst (λ (ds : Domains). Fits ds clause) (sym first) (fits_normal s.trail.first atoms clause given.0.same (entry_fits s e h sound)) in
-        let quiet' = subst (λ (b : Base). IsQuiet b.clauses trail trail.level) given.0.added quiet in
-        let added = sound_imported (moved s trail rested) clause e.below went over given.0.normal fits quiet' in
-        subst (λ (n : ℕ). IsSoundSearch (record (moved s trail rested) { base = base; imported = n })) (sym given.1)
-        (subst (λ (b : Base). IsSoundSearch (record (moved s trail rested) { base = b; imported = s.imported + 1 })) (sym given.0.added) added)
+          let clause = given.0.clause in
+          let atoms = entry_clause e in
+          let over : HoldsOver s.problem s.z clause =
+          HoldsOver-falls s.problem s.z e.below clause given.0.in_force
+          (over_normal s.problem e.below atoms clause given.0.same (over_of_below s.problem e.below atoms (entry_subjects s.problem e sound) sound.holds)) in
+          let fits : Fits trail.first clause = subst (λ (ds : Domains). Fits ds clause) (sym first) (fits_normal s.trail.first atoms clause given.0.same (entry_fits s e h sound)) in
+          let quiet' = subst (λ (b : Base). IsQuiet b.clauses trail trail.level) given.0.added quiet in
+          let added = sound_imported (moved s trail rested) clause e.below went over given.0.normal fits quiet' in
+          subst (λ (n : ℕ). IsSoundSearch (record (moved s trail rested) { base = base; imported = n })) (sym given.1)
+          (subst (λ (b : Base). IsSoundSearch (record (moved s trail rested) { base = b; imported = s.imported + 1 })) (sym given.0.added) added)
       | inr pass ↦
-        subst (λ (n : ℕ). IsSoundSearch (record (moved s trail rested) { base = base; imported = n })) (sym pass.1)
-        (subst (λ (b : Base). IsSoundSearch (record (moved s trail rested) { base = b; imported = s.imported })) (sym pass.0.1) went)
+          subst (λ (n : ℕ). IsSoundSearch (record (moved s trail rested) { base = base; imported = n })) (sym pass.1)
+          (subst (λ (b : Base). IsSoundSearch (record (moved s trail rested) { base = b; imported = s.imported })) (sym pass.0.1) went)
     ]
 
 -- the store went back, and a clause that says something new was added

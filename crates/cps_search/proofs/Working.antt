@@ -110,6 +110,9 @@ stands_base m t stands = elim stands [ inl same ↦ ap (λ (x : Search). x.base)
 stands_z : (m t : Search) → Stands m t → t.z ≡ m.z
 stands_z m t stands = elim stands [ inl same ↦ ap (λ (x : Search). x.z) same | inr back ↦ ap (λ (x : Search). x.z) back.1 ]
 
+pub stands_imported : (m t : Search) → Stands m t → t.imported ≡ m.imported
+stands_imported m t stands = elim stands [ inl same ↦ ap (λ (x : Search). x.imported) same | inr back ↦ ap (λ (x : Search). x.imported) back.1 ]
+
 -- the clause that was learnt is the last of the journal, which the brancher heard
 pub heard_one : (hears : List Atom → Bool → Type 0) (s m t : Search) (rows : ℕ) (p q : Part) → LearntOne s m rows p q → Stands m t
     → ((earlier : List JournalItem) (clause : List Atom) (below : Bound) → m.base.journal ≡ earlier ++ items.Learnt clause below ∷ [] → Hears (hears clause) t) → HeardOne hears s t

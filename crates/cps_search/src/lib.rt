@@ -27,7 +27,6 @@ mod settle;
 #[cfg(test)]
 mod tests;
 mod turn;
-mod worker;
 
 pub use activity::ActivityBrancher;
 pub use brancher::Brancher;
@@ -36,4 +35,3 @@ pub use ended::Ended;
 pub use fixed::FixedBrancher;
 pub use frame::Frame;
 pub use turn::Turn;
-pub use worker::Worker;

@@ -284,7 +284,11 @@ impl<'a, P: Propagator> Searcher<'a, P> {
     }
 
     /// Goes on after inference came to a conflict: ends where it leaves no solution below z, or where the budget is spent; else learns.
-    fn learn<Q: Port>(&mut self, port: &mut Q, conflict: &[Atom]) -> Result<Option<Turn>, AllocError>
+    fn learn<Q: Port>(
+        &mut self,
+        port: &mut Q,
+        conflict: &[Atom],
+    ) -> Result<Option<Turn>, AllocError>
         requires sound { IsSoundSearch (search_of self.old) }
         requires model { Q.model port.old ≡ self.old.instance.model }
         requires few { length self.old.clauses.clauses < 2 ^ 32 }
