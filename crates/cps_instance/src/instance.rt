@@ -89,8 +89,8 @@ impl<'a> Instance<'a> {
 
     /// The tasks alone, those of the defined sums among them.
     pub fn into_tasks(self) -> Vec<Task>
-        ensures list { result.items ≡ self.tasks }
-        ensures sums { sums_in result.items ≡ self.defs }
+        ensures list { result.items ≡ self.entry.tasks }
+        ensures sums { sums_in result.items ≡ self.entry.defs }
     {
         self.tasks
     }

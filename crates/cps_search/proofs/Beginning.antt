@@ -19,29 +19,14 @@ use Rattle.cps_port.proofs.Attained.{attained_at}
 use Rattle.cps_port.proofs.Bounding.{BoundLe-refl, attained_shown, greater_is}
 use Rattle.cps_clauses.specs.Quiet.{IsQuiet, Fits}
 use Rattle.cps_clauses.proofs.Quieting.{IsQuiet-none, IsQuiet-decide}
+use Rattle.cps_search.specs.declared.end.End.TheVariants.{Exhausted, SawClosed, Spent}
+use Rattle.cps_search.specs.declared.end.Said.{Said}
+use Rattle.cps_search.specs.declared.end.Said.TheVariants.{Nothing, Due, Over}
 use Rattle.cps_search.specs.Resting.{IsRestedAt}
-use Rattle.cps_search.specs.Searches.{Search, Said, Nothing, Due, SpentOn, HasNoAssumptions, HoldsOver, IsFound, IsItemAbove, IsNewClause, IsReasonBelow, IsSettled, IsSoundSearch, SaidSo}
+use Rattle.cps_search.specs.Moves.{fresh, moved, decided, saying}
+use Rattle.cps_search.specs.Searches.{Search, HasNoAssumptions, HoldsOver, IsFound, IsItemAbove, IsNewClause, NoneBelow, IsReasonBelow, IsSettled, IsSoundSearch, SaidSo}
 use Rattle.cps_search.proofs.Holding.{tasks_unbounded}
-use Rattle.cps_search.proofs.Keeping.{fallen, sound_fallen, moved, sound_moved}
-
--- a search that begins
-abbrev pub fresh : Problem → ℕ → Option ℕ → Search
-fresh p gap budget = record {
-  problem = p;
-  trail = record { first = p.domains; entries = []; level = 0; refused = false };
-  tasks = p.tasks;
-  base = record { clauses = []; journal = []; refused = false };
-  z = Infinite;
-  gap = gap;
-  budget = budget;
-  tally = 0;
-  imported = 0;
-  best = None;
-  raised = None;
-  rested = None;
-  said = Nothing;
-  refused = false;
-}
+use Rattle.cps_search.proofs.Keeping.{fallen, sound_fallen, sound_moved}
 
 no_tally : (budget : Option ℕ) → IfSome budget (λ b. 0 ≤ b)
 no_tally None = tt
@@ -68,7 +53,7 @@ sound_fresh p gap budget h none = record {
   above = All-nil (IsItemAbove Infinite);
   counted = refl;
   within_budget = no_tally budget;
-  few = omega arith;
+  count = refl;
   best = tt;
   raised = tt;
   said = tt;
@@ -102,7 +87,7 @@ sound_found s a h solution below =
       above = k.above;
       counted = k.counted;
       within_budget = k.within_budget;
-      few = k.few;
+      count = k.count;
       best = record { solution = solution; reached = BoundLe-refl (At v) };
       raised = k.raised;
       said = tt;
@@ -112,16 +97,12 @@ raised_sound : (m : CpModel) (raised : Option Bound) (b : Bound) → IfSome rais
 raised_sound m None b h k = k
 raised_sound m (Some a) b h k = greater_is (IsLowerBound m) a b h k
 
--- a search with another greatest raise and another word on what it came to
-abbrev pub saying : Search → Option Bound → Said → Search
-saying s raised said = record s { raised = raised; said = said }
-
 found_saying : (s : Search) (raised : Option Bound) (said : Said) (best : Option (List ℤ)) → IfSome best (IsFound s) → IfSome best (IsFound (saying s raised said))
 found_saying s raised said None k = tt
 found_saying s raised said (Some a) k = record { solution = k.solution; reached = k.reached }
 
 module _ (s : Search) (raised : Option Bound) (said : Said) (h : IsSoundSearch s) where
-  sound_saying : IfSome raised (IsLowerBound s.problem.model) → SaidSo (saying s raised said) said → IsSoundSearch (saying s raised said)
+  pub sound_saying : IfSome raised (IsLowerBound s.problem.model) → SaidSo (saying s raised said) said → IsSoundSearch (saying s raised said)
   sound_saying floor so = record {
     instance = h.instance;
     no_assumptions = h.no_assumptions;
@@ -138,28 +119,29 @@ module _ (s : Search) (raised : Option Bound) (said : Said) (h : IsSoundSearch s
     above = h.above;
     counted = h.counted;
     within_budget = h.within_budget;
-    few = h.few;
+    count = h.count;
     best = found_saying s raised said s.best h.best;
     raised = floor;
     said = so;
   }
 
--- the lower bound was raised
-pub sound_raised : (s : Search) (b : Bound) → IsSoundSearch s → IsLowerBound s.problem.model b → IsSoundSearch (saying s (raised_to s.raised b) Nothing)
-sound_raised s b h floor = sound_saying s (raised_to s.raised b) Nothing h (raised_sound s.problem.model s.raised b h.raised floor) tt
+-- the lower bound was raised, since no solution is below z
+pub sound_raised : (s : Search) → IsSoundSearch s → IsLowerBound s.problem.model s.z → NoneBelow s.problem.model s.z → IsSoundSearch (saying s (raised_to s.raised s.z) (Over Exhausted))
+sound_raised s h floor none = sound_saying s (raised_to s.raised s.z) (Over Exhausted) h (raised_sound s.problem.model s.raised s.z h.raised floor) none
+
+-- the two bounds had met
+pub sound_met : (s : Search) → IsSoundSearch s → IsSoundSearch (saying s s.raised (Over SawClosed))
+sound_met s h = sound_saying s s.raised (Over SawClosed) h h.raised tt
 
 -- a decision is due
 pub sound_due : (s : Search) → IsSoundSearch s → IsSettled s → IsSoundSearch (saying s s.raised Due)
 sound_due s h settled = sound_saying s s.raised Due h h.raised (record { tasks = settled.tasks; clauses = settled.clauses; rested = settled.rested })
 
 -- the budget was spent
-pub sound_spent : (s : Search) (clause : List Atom) → IsSoundSearch s → IsNewClause s.problem s.base.clauses clause s.z → IsSoundSearch (saying s s.raised (SpentOn clause s.z))
-sound_spent s clause h new = sound_saying s s.raised (SpentOn clause s.z) h h.raised (new, refl)
+pub sound_spent : (s : Search) (clause : List Atom) → IsSoundSearch s → IsNewClause s.problem s.base.clauses clause s.z → IsSoundSearch (saying s s.raised (Over (Spent clause s.z)))
+sound_spent s clause h new = sound_saying s s.raised (Over (Spent clause s.z)) h h.raised (new, refl)
 
 -- a decision was made where one was due
-abbrev pub decided : Trail → Atom → Trail
-decided s t = record s { entries = s.entries ++ record { atom = t; level = s.level + 1; reason = Decision } ∷ []; level = s.level + 1 }
-
 pub sound_decided : (s : Search) (t : Atom) → IsSoundSearch s → IsSound s.trail → IsSettled s → IsSoundSearch (moved s (decided s.trail t) s.rested)
 sound_decided s t h sound settled =
     let e : Entry = record { atom = t; level = s.trail.level + 1; reason = Decision } in

@@ -25,8 +25,10 @@ use Rattle.cps_clauses.specs.Bases.{with_clause}
 use Rattle.cps_clauses.specs.Quiet.{IsQuiet, Fits}
 use Rattle.cps_clauses.proofs.Quieting.{IsQuiet-infers, IsQuiet-backjump}
 use Rattle.cps_clauses.proofs.Honesty.{IsHonest-learnt, AreInForce-learnt, AreInForce-imported}
+use Rattle.cps_search.specs.declared.end.Said.TheVariants.{Nothing}
 use Rattle.cps_search.specs.Resting.{AllHold, IsRestedAt}
-use Rattle.cps_search.specs.Searches.{Search, Nothing, HoldsOver, IsFound, IsItemAbove, IsNewClause, IsReasonBelow, IsSoundSearch, IsWorthy, learnt_count}
+use Rattle.cps_search.specs.Moves.{moved, with_learnt}
+use Rattle.cps_search.specs.Searches.{Search, HoldsOver, IsFound, IsItemAbove, IsNewClause, IsReasonBelow, IsSoundSearch, IsWorthy, learnt_count}
 use Rattle.cps_search.proofs.Holding.{IsBelowBound, clauses_below, clauses_fall, items_fall, reasons_fall, reasons_infer, tasks_below, tasks_fall}
 use Rattle.cps_search.proofs.Lessons.{back_to}
 use Rattle.cps_search.proofs.Resting.{rested_inferred}
@@ -60,15 +62,11 @@ sound_fallen s v h less shown = record {
   above = items_fall (At v) s.z s.base.journal less h.above;
   counted = h.counted;
   within_budget = h.within_budget;
-  few = h.few;
+  count = h.count;
   best = found_falls s v s.best less h.best;
   raised = h.raised;
   said = tt;
 }
-
--- a search with another store, and where inference came to rest in it
-abbrev pub moved : Search → Trail → Option ℕ → Search
-moved s trail rested = record s { trail = trail; rested = rested; said = Nothing }
 
 found_moved : (s : Search) (trail : Trail) (rested : Option ℕ) (best : Option (List ℤ)) → IfSome best (IsFound s) → IfSome best (IsFound (moved s trail rested))
 found_moved s trail rested None k = tt
@@ -92,7 +90,7 @@ module _ (s : Search) (trail : Trail) (rested : Option ℕ) (h : IsSoundSearch s
     above = h.above;
     counted = h.counted;
     within_budget = h.within_budget;
-    few = h.few;
+    count = h.count;
     best = found_moved s trail rested s.best h.best;
     raised = h.raised;
     said = tt;
@@ -116,7 +114,7 @@ kept_one : (P : Entry → Type 0) (e : Entry) (es : List Entry) (b : Bool) → P
 kept_one P e es true h all = All-cons P e es h all
 kept_one P e es false h all = all
 
-all_up_to : (P : Entry → Type 0) (level : ℕ) (es : List Entry) → All P es → All P (up_to level es)
+pub all_up_to : (P : Entry → Type 0) (level : ℕ) (es : List Entry) → All P es → All P (up_to level es)
 all_up_to P level [] h = All-nil P
 all_up_to P level (e ∷ es) h = kept_one P e (up_to level es) (nat_le e.level level) (All-head P e es h) (all_up_to P level es (All-tail P e es h))
 
@@ -132,10 +130,7 @@ sound_back s level n h below ends =
     (IsQuiet-backjump s.base.clauses s.trail (back_to s.trail level) level (omega (arith, below)) refl h.quiet)
     (rested_back s.tasks s.trail s.rested level n below ends h.rested)
 
--- a search with one more clause that was learnt, and with one that was imported
-abbrev pub with_learnt : Search → List Atom → Search
-with_learnt s clause = record s { base = with_clause s.base clause s.z origins.Learnt; tally = s.tally + 1; said = Nothing }
-
+-- a search with one more clause that was imported
 abbrev pub with_imported : Search → List Atom → Bound → Search
 with_imported s clause below = record s { base = with_clause s.base clause below origins.Imported; imported = s.imported + 1; said = Nothing }
 
@@ -178,7 +173,7 @@ sound_learnt s clause h new fits quiet left = record {
   above = All-push (IsItemAbove s.z) s.base.journal (Learnt clause s.z) h.above (BoundLe-refl s.z);
   counted = ap (λ (n : ℕ). n + 1) h.counted ∙ sym (learnt_count-push s.base.journal clause s.z);
   within_budget = one_more s.budget s.tally left;
-  few = omega (arith, h.few, length-append s.base.clauses (clause ∷ []));
+  count = omega (arith, h.count, length-append s.base.clauses (clause ∷ []));
   best = found_learnt s clause s.best h.best;
   raised = h.raised;
   said = tt;
@@ -206,7 +201,7 @@ sound_imported s clause below h holds normal fits quiet = record {
   above = h.above;
   counted = h.counted;
   within_budget = h.within_budget;
-  few = omega (arith, h.few, length-append s.base.clauses (clause ∷ []));
+  count = omega (arith, h.count, length-append s.base.clauses (clause ∷ []));
   best = found_imported s clause below s.best h.best;
   raised = h.raised;
   said = tt;

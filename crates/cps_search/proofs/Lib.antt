@@ -13,4 +13,12 @@ pub mod Teaching
 pub mod Looking
 pub mod Beginning
 pub mod Rounds
+pub mod Valuing
+pub mod Bounds
+pub mod Stepping
+pub mod Turning
+pub mod Moving
+pub mod Weighing
+pub mod Working
 pub mod Returning
+pub mod Ending

@@ -9,3 +9,6 @@ pub mod Resting
 pub mod Searches
 pub mod Turns
 pub mod Lessons
+pub mod Moves
+pub mod Ends
+pub mod Stepping

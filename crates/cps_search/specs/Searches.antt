@@ -20,6 +20,10 @@ use Rattle.cps_clauses.specs.declared.journal.JournalItem.TheVariants.{Learnt, D
 use Rattle.cps_clauses.specs.Journals.{IsHonest}
 use Rattle.cps_clauses.specs.Bases.{Base, IsSoundBase}
 use Rattle.cps_clauses.specs.Quiet.{IsQuiet, WeakensTo, Fits}
+use Rattle.cps_search.specs.declared.end.End.{End}
+use Rattle.cps_search.specs.declared.end.End.TheVariants.{Exhausted, SawClosed, Spent, RoundsDone}
+use Rattle.cps_search.specs.declared.end.Said.{Said}
+use Rattle.cps_search.specs.declared.end.Said.TheVariants.{Nothing, Due, Over}
 use Rattle.cps_search.specs.Resting.{IsRestedAt}
 
 -- The clause is true at each free assignment whose objective is below the bound, with the values of the defined sums after it.
@@ -65,18 +69,9 @@ abbrev pub below_bound : Bound → Task → Task
 below_bound Infinite t = t
 below_bound (At z) t = lowered (z -ℤ pos 1) t
 
--- what the last call on a search answered, as long as nothing was done since
-pub data Said : Type 0 where
-  -- nothing that is kept in mind
-  Nothing : Said
-  -- a decision is due
-  Due : Said
-  -- the budget was spent on a clause that holds below a bound
-  SpentOn : (clause : List Atom) → (below : Bound) → Said
-
 -- An instance with the store, the tasks and the clauses by which it is searched; the bound z, below which solutions are looked
--- for; the gap; from how many conflicts it may learn (none: from as many as come) and from how many it did; how many entries of
--- the board it took; the best solution that it found; the greatest bound to which it raised the lower one; after how many entries
+-- for; the gap; from how many conflicts it may learn (none: from as many as come) and from how many it did; how many clauses of
+-- the board it added; the best solution that it found; the greatest bound to which it raised the lower one; after how many entries
 -- inference last came to rest; what was answered last; and whether memory was refused.
 pub record Search : Type 0 where
   pub problem : Problem
@@ -115,11 +110,22 @@ pub record IsSettled (s : Search) : Type 0 where
   pub clauses : IsQuiet s.base.clauses s.trail (s.trail.level + 1)
   pub rested : s.rested ≡ Some (length s.trail.entries)
 
+-- no solution is below the bound
+abbrev pub NoneBelow : CpModel → Bound → Type 0
+NoneBelow m z = (a : List ℤ) → IsSolution m a → IsBelow (objective_value m a) z → ⊥
+
+-- a search ended for a reason
+abbrev pub IsReason : Search → End → Type 0
+IsReason s Exhausted = NoneBelow s.problem.model s.z
+IsReason s SawClosed = Unit {0}
+IsReason s (Spent clause below) = IsNewClause s.problem s.base.clauses clause below × (below ≡ s.z)
+IsReason s RoundsDone = ⊥
+
 -- what was said last is so
 abbrev pub SaidSo : Search → Said → Type 0
 SaidSo s Nothing = Unit {0}
 SaidSo s Due = IsSettled s
-SaidSo s (SpentOn clause below) = IsNewClause s.problem s.base.clauses clause below × (below ≡ s.z)
+SaidSo s (Over end) = IsReason s end
 
 -- what is true of a search as long as it has memory
 pub record IsSoundSearch (s : Search) : Type 0 where
@@ -138,12 +144,12 @@ pub record IsSoundSearch (s : Search) : Type 0 where
   -- at the end of each earlier level all had come to rest
   pub quiet : IsQuiet s.base.clauses s.trail s.trail.level
   pub rested : IsRestedAt s.tasks s.trail s.rested
-  -- the journal is honest, has a clause for each conflict, and none below a better bound than z
+  -- the journal is honest, has a clause for each conflict, and none below a better bound than z; the other clauses were imported
   pub journal : IsHonestJournal s.problem s.base.journal
   pub above : All (IsItemAbove s.z) s.base.journal
   pub counted : s.tally ≡ learnt_count s.base.journal
   pub within_budget : IfSome s.budget (λ budget. s.tally ≤ budget)
-  pub few : length s.base.clauses ≤ s.tally + s.imported
+  pub count : length s.base.clauses ≡ s.tally + s.imported
   -- what it found and what it raised the lower bound to are so
   pub best : IfSome s.best (IsFound s)
   pub raised : IfSome s.raised (IsLowerBound s.problem.model)

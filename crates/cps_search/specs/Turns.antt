@@ -20,10 +20,12 @@ use Rattle.cps_port.specs.Parts.{after_upper, after_lower, after_offer, after_ra
 use Rattle.cps_port.specs.Says.{TookEntry, FoundClosed, TookAll, ShareSays}
 use Rattle.cps_clauses.specs.declared.origin.Origin.TheVariants.{Learnt, Imported}
 use Rattle.cps_clauses.specs.Bases.{Base, with_clause}
+use Rattle.cps_search.specs.declared.end.End.TheVariants as ends
+use Rattle.cps_search.specs.declared.end.Said.TheVariants.{Nothing, Due, Over}
 use Rattle.cps_search.specs.declared.turn.Turn.{Turn}
 use Rattle.cps_search.specs.declared.turn.Turn.TheVariants as turns
 use Rattle.cps_search.specs.Fixed.{AreFixed}
-use Rattle.cps_search.specs.Searches.{Search, Said, Nothing, Due, SpentOn, IsNewClause, IsSettled}
+use Rattle.cps_search.specs.Searches.{Search, NoneBelow, IsNewClause, IsSettled}
 
 -- the one bound is below the other
 abbrev pub IsLess : Bound → Bound → Type 0
@@ -138,11 +140,11 @@ pub record TookOne (s t : Search) (rows : ℕ) (p q : Part) : Type 0 where
   pub entry : BoardEntry
   pub takes : TookEntry s.problem.model rows p.board q.board entry
   pub again : LooksAgain z entry.below t.z midway q.bounds
-  pub used : Uses t.z s.base t.base entry ⊎ PassesOver t.z s.base t.base entry
+  pub used : (Uses t.z s.base t.base entry × (t.imported ≡ s.imported + 1)) ⊎ (PassesOver t.z s.base t.base entry × SameImported s t)
   pub tally : t.tally ≡ s.tally
-  pub imported : t.imported ≡ s.imported + 1
   pub best : SameBest s t
   pub raised : SameRaised s t
+  pub said : t.said ≡ Nothing
 
 -- a clause of few atoms, all on the model's variables
 pub record IsShort (m : CpModel) (clause : List Atom) : Type 0 where
@@ -177,6 +179,7 @@ pub record LearntOne (s t : Search) (rows : ℕ) (p q : Part) : Type 0 where
   pub imported : SameImported s t
   pub best : SameBest s t
   pub raised : SameRaised s t
+  pub said : t.said ≡ Nothing
 
 -- All variables are fixed: their values are a solution below z, which was offered.
 pub record FoundOne (s t : Search) (rows : ℕ) (p q : Part) : Type 0 where
@@ -191,24 +194,28 @@ pub record FoundOne (s t : Search) (rows : ℕ) (p q : Part) : Type 0 where
   pub z : t.z ≡ At (objective_value s.problem.model solution)
   pub fixed : AreFixed t.trail (variable_count t.problem)
   pub seen : Bound
+  pub at_most : BoundLe seen t.z
   pub offered : q.bounds ≡ after_offer midway.bounds t.z seen
   pub board : q.board ≡ midway.board
   pub learnt : SameLearnt s t
   pub imported : SameImported s t
   pub raised : SameRaised s t
+  pub said : t.said ≡ Nothing
 
 -- A conflict that is false at level 0: no solution is below z, to which the lower bound was raised.
 pub record ExhaustedAll (s t : Search) (rows : ℕ) (p q : Part) : Type 0 where
   pub midway : Part
   pub begins : BeginsTurn s rows p midway t.z
-  pub none_below : (a : List ℤ) → IsSolution s.problem.model a → IsBelow (objective_value s.problem.model a) t.z → ⊥
+  pub none_below : NoneBelow s.problem.model t.z
   pub raised : t.raised ≡ raised_to s.raised t.z
   pub seen : Bound
+  pub at_least : BoundLe t.z seen
   pub told : q.bounds ≡ after_raise midway.bounds t.z seen
   pub board : q.board ≡ midway.board
   pub learnt : SameLearnt s t
   pub imported : SameImported s t
   pub best : SameBest s t
+  pub said : t.said ≡ Over ends.Exhausted
 
 -- The two bounds had met, within the gap.
 pub record SawMet (s t : Search) (p q : Part) : Type 0 where
@@ -217,7 +224,7 @@ pub record SawMet (s t : Search) (p q : Part) : Type 0 where
   pub looks : LooksAtBounds p.bounds q.bounds lower upper
   pub closed : is_closed lower upper s.gap ≡ true
   pub board : q.board ≡ p.board
-  pub same : t ≡ record s { said = Nothing }
+  pub same : t ≡ record s { said = Over ends.SawClosed }
 
 -- As many conflicts were learnt from as the budget allows, and the next one teaches a clause that would have been learnt.
 pub record SpentAll (s t : Search) (rows : ℕ) (p q : Part) (clause : List Atom) (below : Bound) : Type 0 where
@@ -229,7 +236,7 @@ pub record SpentAll (s t : Search) (rows : ℕ) (p q : Part) (clause : List Atom
   pub imported : SameImported s t
   pub best : SameBest s t
   pub raised : SameRaised s t
-  pub said : t.said ≡ SpentOn clause below
+  pub said : t.said ≡ Over (ends.Spent clause below)
 
 -- the cause of an answer of the steps that all workers have in common
 abbrev pub Caused : Search → Search → ℕ → Part → Part → Option Turn → Type 0

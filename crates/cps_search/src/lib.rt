@@ -11,20 +11,29 @@
 mod activity;
 mod back;
 mod brancher;
+mod end;
+mod ended;
 mod fixed;
 mod found;
+mod frame;
 mod import;
 mod learn;
 mod look;
 mod raise;
 mod restarts;
 mod scan;
+mod searcher;
 mod settle;
 #[cfg(test)]
 mod tests;
 mod turn;
+mod worker;
 
 pub use activity::ActivityBrancher;
 pub use brancher::Brancher;
+pub use end::{End, Said, WorkerKind};
+pub use ended::Ended;
 pub use fixed::FixedBrancher;
+pub use frame::Frame;
 pub use turn::Turn;
+pub use worker::Worker;

@@ -1,0 +1,351 @@
+-- How what a turn does has its cause.
+use Rattle.std.specs.Prelude.{IfSome, IsNone, map, All}
+use Rattle.std.proofs.Common.{ℕ, ◌+◌, ◌≤◌, ◌<◌, ℤ, ◌≡◌, ◌∙◌, ◌⊎◌, inl, inr, Option, Some, None, List, [], ◌∷◌, ◌++◌, length, refl, sym, ap, subst, arith, append_assoc, length-append}
+use Rattle.cps_model.specs.declared.bound.Bound.{Bound}
+use Rattle.cps_model.specs.declared.bound.Bound.TheVariants.{At}
+use Rattle.cps_model.specs.Solutions.{objective_value, IsSolution}
+use Rattle.cps_model.specs.Statuses.{is_closed}
+use Rattle.cps_literal.specs.declared.atom.Atom.{Atom}
+use Rattle.cps_instance.specs.Problem.{Problem, variable_count}
+use Rattle.cps_trail.specs.Trail.{Trail, Entry, IsFalseNow, open_values}
+use Rattle.cps_trail.specs.Adds.{Infers}
+use Rattle.cps_port.specs.declared.entry.Entry.{Entry as BoardEntry}
+use Rattle.cps_port.specs.declared.part.BoardPart.{BoardPart}
+use Rattle.cps_port.specs.declared.part.BoundsPart.{BoundsPart}
+use Rattle.cps_port.specs.declared.part.Part.{Part}
+use Rattle.cps_port.specs.Order.{BoundLe, IsBelow, raised_to}
+use Rattle.cps_port.specs.Parts.{after_offer, after_raise}
+use Rattle.cps_port.specs.Says.{TookEntry}
+use Rattle.cps_clauses.specs.declared.origin.Origin.TheVariants as origins
+use Rattle.cps_clauses.specs.Bases.{Base, with_clause}
+use Rattle.cps_search.specs.declared.end.End.TheVariants as ends
+use Rattle.cps_search.specs.declared.end.Said.{Said}
+use Rattle.cps_search.specs.declared.end.Said.TheVariants.{Nothing, Due, Over}
+use Rattle.cps_search.specs.declared.turn.Turn.{Turn}
+use Rattle.cps_search.specs.declared.turn.Turn.TheVariants as turns
+use Rattle.cps_search.specs.Fixed.{AreFixed}
+use Rattle.cps_search.specs.Lessons.{GoesBack}
+use Rattle.cps_search.specs.Searches.{Search, IsNewClause, IsSettled, NoneBelow}
+use Rattle.cps_search.specs.Moves.{below, moved, saying, with_learnt}
+use Rattle.cps_search.specs.Turns.{BeginsTurn, Caused, DecisionDue, ExhaustedAll, Falls, FoundOne, IsOnward, IsShared, IsShort, LearntOne, Looks, LooksAgain, LooksAtBounds, PassesOver, SameImported, SameSetting, SawMet, SawOpen, SpentAll, Steps, Teaches, TookNothing, TookOne, Uses}
+use Rattle.cps_search.specs.Stepping.{IsCausedFrom, IsLesson, Offers, Raises, Reaches, TakesOne, UsesEntry}
+
+pub onward_none : (s : Trail) → IsOnward s s
+onward_none s = record { first = refl; level = refl; added = []; entries = sym (append_nil s.entries); fewer = omega arith }
+  where
+    append_nil : (es : List Entry) → es ++ [] ≡ es
+    append_nil [] = refl
+    append_nil (e ∷ es) = ap (λ (fs : List Entry). e ∷ fs) (append_nil es)
+
+pub onward_infers : (C : List ℤ → Type 0) (s t : Trail) → Infers C s t → IsOnward s t
+onward_infers C s t h = record { first = h.first; level = h.level; added = h.added; entries = h.entries; fewer = h.fewer }
+
+onward_more : (s t u : Trail) → IsOnward s t → IsOnward t u → IsOnward s u
+onward_more s t u h k = record {
+  first = k.first ∙ h.first;
+  level = k.level ∙ h.level;
+  added = h.added ++ k.added;
+  entries = k.entries ∙ ap (λ (es : List Entry). es ++ k.added) h.entries ∙ append_assoc s.entries h.added k.added;
+  fewer = omega (arith, h.fewer, k.fewer, length-append h.added k.added);
+}
+
+-- a turn that began has come to the search below the bound that it saw
+pub reaches_first : (s : Search) (rows : ℕ) (p m1 m : Part) (z : Bound) (t : Search) → Looks s.gap s.z p.bounds m1.bounds (Some z) → m1.board ≡ p.board → m.bounds ≡ m1.bounds → TookNothing rows m1.board m.board → t ≡ below s z
+    → Reaches s rows p m t
+reaches_first s rows p m1 m z t looks board bounds took is =
+    let at : t.z ≡ z = ap (λ (x : Search). x.z) is in
+    let same : t.trail ≡ s.trail = ap (λ (x : Search). x.trail) is in
+    record {
+      begins = record {
+        bounds = record {
+          lower = looks.lower;
+          upper = looks.upper;
+          looks = subst (λ (b : BoundsPart). LooksAtBounds p.bounds b looks.lower looks.upper) (sym bounds) looks.looks;
+          open_yet = looks.comes_to.0;
+          z_is = at ∙ looks.comes_to.1;
+        };
+        board = subst (λ (b : BoardPart). TookNothing rows b m.board) board took;
+      };
+      is = is ∙ unmoved s t z is;
+      onward = subst (λ (x : Trail). IsOnward s.trail x) (sym same) (onward_none s.trail);
+    }
+  where
+    unmoved : (s t : Search) (z : Bound) → t ≡ below s z → below s z ≡ moved (below s t.z) t.trail t.rested
+    unmoved s t z is = subst (λ (x : Search). below s z ≡ moved (below s x.z) x.trail x.rested) (sym is) refl
+
+-- and further by inference
+pub reaches_more : (s : Search) (rows : ℕ) (p m : Part) (a b : Search) → Reaches s rows p m a → b ≡ moved a b.trail b.rested → IsOnward a.trail b.trail → Reaches s rows p m b
+reaches_more s rows p m a b h is onward =
+    let at : b.z ≡ a.z = ap (λ (x : Search). x.z) is in
+    record {
+      begins = subst (λ (z : Bound). BeginsTurn s rows p m z) (sym at) h.begins;
+      is = is ∙ ap (λ (x : Search). moved x b.trail b.rested) h.is ∙ ap (λ (z : Bound). moved (below s z) b.trail b.rested) (sym at);
+      onward = onward_more s.trail a.trail b.trail h.onward onward;
+    }
+
+setting_more : (a b c : Search) → SameSetting a b → SameSetting b c → SameSetting a c
+setting_more a b c h k = record {
+  problem = k.problem ∙ h.problem;
+  gap = k.gap ∙ h.gap;
+  budget = k.budget ∙ h.budget;
+  refused = k.refused ∙ h.refused;
+}
+
+pub setting_trans : (a b c : Search) → SameSetting a b → SameSetting b c → SameSetting a c
+setting_trans a b c h k = setting_more a b c h k
+
+pub setting_same : (s : Search) → SameSetting s s
+setting_same s = record { problem = refl; gap = refl; budget = refl; refused = refl }
+
+setting_moved : (s t : Search) (trail : Trail) (rested : Option ℕ) → t ≡ moved s trail rested → SameSetting s t
+setting_moved s t trail rested is = record {
+  problem = ap (λ (x : Search). x.problem) is;
+  gap = ap (λ (x : Search). x.gap) is;
+  budget = ap (λ (x : Search). x.budget) is;
+  refused = ap (λ (x : Search). x.refused) is;
+}
+
+pub cause_inferred : (a b t : Search) (rows : ℕ) (m q : Part) (turn : Option Turn) → b ≡ moved a b.trail b.rested → IsOnward a.trail b.trail → IsCausedFrom b t rows m q turn → IsCausedFrom a t rows m q turn
+cause_inferred a b t rows m q turn is onward h = record {
+  setting = setting_more a b t (setting_moved a b b.trail b.rested is) h.setting;
+  cause = λ s o reaches. h.cause s o (reaches_more s rows o m a b reaches is onward);
+}
+
+pub setting_of : (r u t : Search) → t ≡ u → u.problem ≡ r.problem → u.gap ≡ r.gap → u.budget ≡ r.budget → u.refused ≡ r.refused → SameSetting r t
+setting_of r u t is problem gap budget refused = record {
+  problem = ap (λ (x : Search). x.problem) is ∙ problem;
+  gap = ap (λ (x : Search). x.gap) is ∙ gap;
+  budget = ap (λ (x : Search). x.budget) is ∙ budget;
+  refused = ap (λ (x : Search). x.refused) is ∙ refused;
+}
+
+-- A search that a turn changed by a function of it has the function's fields at the search before.
+module _ (s r t : Search) (f : Search → Search) (is : t ≡ f r) (reached : r ≡ moved (below s r.z) r.trail r.rested) where
+  whole : t ≡ f (moved (below s r.z) r.trail r.rested)
+  whole = is ∙ ap f reached
+
+-- the steps that a turn took: a decision is due
+pub caused_due : (r t : Search) (rows : ℕ) (m : Part) → IsSettled r → (AreFixed r.trail (variable_count r.problem) → ⊥) → t ≡ saying r r.raised Due → IsCausedFrom r t rows m m None
+caused_due r t rows m settled left is = record {
+  setting = setting_of r (saying r r.raised Due) t is refl refl refl refl;
+  cause = λ s o reaches.
+      let all = whole s r t (λ (x : Search). saying x x.raised Due) is reaches.is in
+      let same = settled_said r t is settled in
+      record {
+        begins = subst (λ (z : Bound). BeginsTurn s rows o m z) (sym (ap (λ (x : Search). x.z) is)) reaches.begins;
+        onward = subst (λ (x : Trail). IsOnward s.trail x) (sym (ap (λ (x : Search). x.trail) is)) reaches.onward;
+        settled = same;
+        left_open = subst (λ (x : Search). AreFixed x.trail (variable_count x.problem) → ⊥) (sym is) left;
+        learnt = record { tally = ap (λ (x : Search). x.tally) all; base = ap (λ (x : Search). x.base) all };
+        imported = ap (λ (x : Search). x.imported) all;
+        best = ap (λ (x : Search). x.best) all;
+        raised = ap (λ (x : Search). x.raised) all;
+        said = ap (λ (x : Search). x.said) is;
+      };
+}
+  where
+    settled_said : (r t : Search) → t ≡ saying r r.raised Due → IsSettled r → IsSettled t
+    settled_said r t is h = subst (λ (x : Search). IsSettled x) (sym is) (record { tasks = h.tasks; clauses = h.clauses; rested = h.rested })
+
+-- all variables are fixed, and their values are a solution below z
+pub caused_found : (r t : Search) (rows : ℕ) (m q : Part) (a : List ℤ) → AreFixed r.trail (variable_count r.problem) → IsSolution r.problem.model a → IsBelow (objective_value r.problem.model a) r.z
+    → t ≡ record (below r (At (objective_value r.problem.model a))) { best = Some a } → Offers (At (objective_value r.problem.model a)) m.bounds q.bounds → q.board ≡ m.board → IsCausedFrom r t rows m q (Some turns.Found)
+caused_found r t rows m q a fixed solution under is offers board = record {
+  setting = record {
+    problem = ap (λ (x : Search). x.problem) is;
+    gap = ap (λ (x : Search). x.gap) is;
+    budget = ap (λ (x : Search). x.budget) is;
+    refused = ap (λ (x : Search). x.refused) is;
+  };
+  cause = λ s o reaches.
+      let same : r.problem ≡ s.problem = ap (λ (x : Search). x.problem) reaches.is in
+      let v = objective_value r.problem.model a in
+      let all = whole s r t (λ (x : Search). record (below x (At v)) { best = Some a }) is reaches.is in
+      let trail : t.trail ≡ r.trail = ap (λ (x : Search). x.trail) is in
+      let z : t.z ≡ At v = ap (λ (x : Search). x.z) is in
+      record {
+        midway = m;
+        before = r.z;
+        begins = reaches.begins;
+        onward = subst (λ (x : Trail). IsOnward s.trail x) (sym trail) reaches.onward;
+        solution = a;
+        is = subst (λ (p : Problem). IsSolution p.model a) same solution;
+        below = subst (λ (p : Problem). IsBelow (objective_value p.model a) r.z) same under;
+        best = ap (λ (x : Search). x.best) is;
+        z = z ∙ ap (λ (p : Problem). At (objective_value p.model a)) same;
+        fixed = subst (λ (x : Search). AreFixed x.trail (variable_count x.problem)) (sym is) fixed;
+        seen = offers.seen;
+        at_most = subst (λ (b : Bound). BoundLe offers.seen b) (sym z) offers.at_most;
+        offered = subst (λ (b : Bound). q.bounds ≡ after_offer m.bounds b offers.seen) (sym z) offers.is;
+        board = board;
+        learnt = record { tally = ap (λ (x : Search). x.tally) all; base = ap (λ (x : Search). x.base) all };
+        imported = ap (λ (x : Search). x.imported) all;
+        raised = ap (λ (x : Search). x.raised) all;
+        said = ap (λ (x : Search). x.said) is;
+      };
+}
+
+-- no solution is below z
+pub caused_exhausted : (r t : Search) (rows : ℕ) (m q : Part) (trail : Trail) (rested : Option ℕ) → NoneBelow r.problem.model r.z
+    → t ≡ saying (moved r trail rested) (raised_to r.raised r.z) (Over ends.Exhausted) → Raises r.z m.bounds q.bounds → q.board ≡ m.board → IsCausedFrom r t rows m q (Some turns.Exhausted)
+caused_exhausted r t rows m q trail rested none is raises board = record {
+  setting = setting_of r (saying (moved r trail rested) (raised_to r.raised r.z) (Over ends.Exhausted)) t is refl refl refl refl;
+  cause = λ s o reaches.
+      let same : r.problem ≡ s.problem = ap (λ (x : Search). x.problem) reaches.is in
+      let all = whole s r t (λ (x : Search). saying (moved x trail rested) (raised_to x.raised x.z) (Over ends.Exhausted)) is reaches.is in
+      let z : t.z ≡ r.z = ap (λ (x : Search). x.z) is in
+      record {
+        midway = m;
+        begins = subst (λ (b : Bound). BeginsTurn s rows o m b) (sym z) reaches.begins;
+        none_below = subst (λ (b : Bound). NoneBelow s.problem.model b) (sym z) (subst (λ (p : Problem). NoneBelow p.model r.z) same none);
+        raised = ap (λ (x : Search). x.raised) all ∙ ap (λ (b : Bound). raised_to s.raised b) (sym z);
+        seen = raises.seen;
+        at_least = subst (λ (b : Bound). BoundLe b raises.seen) (sym z) raises.at_least;
+        told = subst (λ (b : Bound). q.bounds ≡ after_raise m.bounds b raises.seen) (sym z) raises.is;
+        board = board;
+        learnt = record { tally = ap (λ (x : Search). x.tally) all; base = ap (λ (x : Search). x.base) all };
+        imported = ap (λ (x : Search). x.imported) all;
+        best = ap (λ (x : Search). x.best) all;
+        said = ap (λ (x : Search). x.said) is;
+      };
+}
+
+teaches_from : (s r : Search) (z : Bound) (clause : List Atom) → r ≡ moved (below s r.z) r.trail r.rested → IsOnward s.trail r.trail → 0 < r.trail.level → All (IsFalseNow r.trail) clause → IsNewClause r.problem r.base.clauses clause r.z → z ≡ r.z
+    → Teaches s z clause
+teaches_from s r z clause reached onward above falses new at = record {
+  conflict = r.trail;
+  onward = onward;
+  above = subst (λ (n : ℕ). 0 < n) onward.level above;
+  false_then = falses;
+  new = subst (λ (b : Bound). IsNewClause s.problem s.base.clauses clause b) (sym at)
+      (subst (λ (p : Problem). IsNewClause p s.base.clauses clause r.z) (ap (λ (x : Search). x.problem) reached)
+      (subst (λ (b : Base). IsNewClause r.problem b.clauses clause r.z) (ap (λ (x : Search). x.base) reached) new));
+}
+
+-- the budget is spent, and the conflict teaches one clause more
+pub caused_spent : (r t : Search) (rows : ℕ) (m : Part) (trail : Trail) (rested : Option ℕ) (clause : List Atom) → 0 < r.trail.level → All (IsFalseNow r.trail) clause → IsNewClause r.problem r.base.clauses clause r.z → r.budget ≡ Some r.tally
+    → t ≡ saying (moved r trail rested) r.raised (Over (ends.Spent clause r.z)) → IsCausedFrom r t rows m m (Some (turns.Spent clause r.z))
+caused_spent r t rows m trail rested clause above falses new budget is = record {
+  setting = setting_of r (saying (moved r trail rested) r.raised (Over (ends.Spent clause r.z))) t is refl refl refl refl;
+  cause = λ s o reaches.
+      let z : t.z ≡ r.z = ap (λ (x : Search). x.z) is in
+      let tally : r.tally ≡ s.tally = ap (λ (x : Search). x.tally) reaches.is in
+      let all = whole s r t (λ (x : Search). saying (moved x trail rested) x.raised (Over (ends.Spent clause r.z))) is reaches.is in
+      record {
+        begins = subst (λ (b : Bound). BeginsTurn s rows o m b) (sym z) reaches.begins;
+        z = sym z;
+        teaches = teaches_from s r r.z clause reaches.is reaches.onward above falses new refl;
+        budget = sym (ap (λ (x : Search). x.budget) reaches.is) ∙ budget ∙ ap (λ (n : ℕ). Some n) tally;
+        learnt = record { tally = ap (λ (x : Search). x.tally) all; base = ap (λ (x : Search). x.base) all };
+        imported = ap (λ (x : Search). x.imported) all;
+        best = ap (λ (x : Search). x.best) all;
+        raised = ap (λ (x : Search). x.raised) all;
+        said = ap (λ (x : Search). x.said) is;
+      };
+}
+
+-- a clause is learnt
+pub caused_learnt : (r t : Search) (rows : ℕ) (m q : Part) (trail : Trail) (rested : Option ℕ) (clause : List Atom) → 0 < r.trail.level → All (IsFalseNow r.trail) clause → IsNewClause r.problem r.base.clauses clause r.z
+    → IfSome r.budget (λ budget. r.tally < budget) → trail.level < r.trail.level → t ≡ with_learnt (moved r trail rested) clause → q.bounds ≡ m.bounds
+    → (IsShort r.problem.model clause → IsShared rows r.z clause m.board q.board) → ((IsShort r.problem.model clause → ⊥) → q.board ≡ m.board) → IsCausedFrom r t rows m q (Some turns.Learnt)
+caused_learnt r t rows m q trail rested clause above falses new left back is bounds shared unshared = record {
+  setting = record {
+    problem = ap (λ (x : Search). x.problem) is;
+    gap = ap (λ (x : Search). x.gap) is;
+    budget = ap (λ (x : Search). x.budget) is;
+    refused = ap (λ (x : Search). x.refused) is;
+  };
+  cause = λ s o reaches.
+      let same : r.problem ≡ s.problem = ap (λ (x : Search). x.problem) reaches.is in
+      let z : t.z ≡ r.z = ap (λ (x : Search). x.z) is in
+      let all = whole s r t (λ (x : Search). with_learnt (moved x trail rested) clause) is reaches.is in
+      let at : t.trail ≡ trail = ap (λ (x : Search). x.trail) is in
+      record {
+        midway = m;
+        begins = subst (λ (b : Bound). BeginsTurn s rows o m b) (sym z) reaches.begins;
+        clause = clause;
+        teaches = teaches_from s r t.z clause reaches.is reaches.onward above falses new z;
+        within_budget = subst (λ (x : Search). IfSome x.budget (λ budget. x.tally < budget)) reaches.is left;
+        back = omega (arith, back, ap (λ (x : Trail). x.level) at, reaches.onward.level);
+        tally = ap (λ (x : Search). x.tally) all;
+        base = ap (λ (x : Search). x.base) all ∙ ap (λ (b : Bound). with_clause s.base clause b origins.Learnt) (sym z);
+        bounds = bounds;
+        shared = λ short. subst (λ (b : Bound). IsShared rows b clause m.board q.board) (sym z) (shared (subst (λ (p : Problem). IsShort p.model clause) (sym same) short));
+        kept = λ long. unshared (λ short. long (subst (λ (p : Problem). IsShort p.model clause) same short));
+        imported = ap (λ (x : Search). x.imported) all;
+        best = ap (λ (x : Search). x.best) all;
+        raised = ap (λ (x : Search). x.raised) all;
+        said = ap (λ (x : Search). x.said) is;
+      };
+}
+
+-- an entry was taken, after a turn began
+pub took_one : (s b t : Search) (rows : ℕ) (p m q : Part) (z : Bound) → Looks s.gap s.z p.bounds m.bounds (Some z) → m.board ≡ p.board → b ≡ below s z → TakesOne b t rows m q → TookOne s t rows p q
+took_one s b t rows p m q z looks board is takes = record {
+  midway = m.bounds;
+  z = b.z;
+  bounds = record { lower = looks.lower; upper = looks.upper; looks = looks.looks; open_yet = looks.comes_to.0; z_is = ap (λ (x : Search). x.z) is ∙ looks.comes_to.1 };
+  entry = takes.entry;
+  takes = subst (λ (part : BoardPart). TookEntry s.problem.model rows part q.board takes.entry) board
+      (subst (λ (problem : Problem). TookEntry problem.model rows m.board q.board takes.entry) (ap (λ (x : Search). x.problem) is) takes.takes);
+  again = takes.again;
+  used = subst (λ (x : Search). UsesEntry x t takes.entry) is takes.used;
+  tally = takes.tally ∙ ap (λ (x : Search). x.tally) is;
+  best = takes.best ∙ ap (λ (x : Search). x.best) is;
+  raised = takes.raised ∙ ap (λ (x : Search). x.raised) is;
+  said = takes.said;
+}
+
+-- the two bounds had met
+pub saw_met : (s t : Search) (p q : Part) → Looks s.gap s.z p.bounds q.bounds None → q.board ≡ p.board → t ≡ record s { said = Over ends.SawClosed } → SawMet s t p q
+saw_met s t p q looks board is = record { lower = looks.lower; upper = looks.upper; looks = looks.looks; closed = looks.comes_to; board = board; same = is }
+
+-- an entry was taken, and the search used it
+pub takes_one : (s t : Search) (z : Bound) (trail : Trail) (rested : Option ℕ) (base : Base) (imported : ℕ) (e : BoardEntry) (rows : ℕ) (p q : Part) → TookEntry s.problem.model rows p.board q.board e → LooksAgain s.z e.below z p.bounds q.bounds
+    → t ≡ record (moved (below s z) trail rested) { base = base; imported = imported } → UsesEntry (below s z) t e → TakesOne s t rows p q
+takes_one s t z trail rested base imported e rows p q takes again is used = record {
+  setting = record {
+    problem = ap (λ (x : Search). x.problem) is;
+    gap = ap (λ (x : Search). x.gap) is;
+    budget = ap (λ (x : Search). x.budget) is;
+    refused = ap (λ (x : Search). x.refused) is;
+  };
+  entry = e;
+  takes = takes;
+  again = subst (λ (b : Bound). LooksAgain s.z e.below b p.bounds q.bounds) (sym (ap (λ (x : Search). x.z) is)) again;
+  used = used;
+  tally = ap (λ (x : Search). x.tally) is;
+  best = ap (λ (x : Search). x.best) is;
+  raised = ap (λ (x : Search). x.raised) is;
+  said = ap (λ (x : Search). x.said) is;
+}
+
+-- the ends of a conflict, after the store went back
+pub after_exhausted : (r mid t : Search) (rows : ℕ) (m q : Part) → mid ≡ moved r mid.trail mid.rested → NoneBelow r.problem.model r.z → t ≡ saying mid (raised_to mid.raised mid.z) (Over ends.Exhausted)
+    → Raises mid.z m.bounds q.bounds → q.board ≡ m.board → IsCausedFrom r t rows m q (Some turns.Exhausted)
+after_exhausted r mid t rows m q e none is raises board =
+    caused_exhausted r t rows m q mid.trail mid.rested none (is ∙ ap (λ (x : Search). saying x (raised_to x.raised x.z) (Over ends.Exhausted)) e)
+    (subst (λ (b : Bound). Raises b m.bounds q.bounds) (ap (λ (x : Search). x.z) e) raises) board
+
+pub after_spent : (r mid t : Search) (rows : ℕ) (m : Part) (clause : List Atom) (u : Atom) (back : ℕ) → mid ≡ moved r mid.trail mid.rested → IsLesson r mid.trail clause u back → mid.budget ≡ Some mid.tally
+    → t ≡ saying mid mid.raised (Over (ends.Spent clause mid.z)) → IsCausedFrom r t rows m m (Some (turns.Spent clause mid.z))
+after_spent r mid t rows m clause u back e lesson budget is =
+    subst (λ (b : Bound). IsCausedFrom r t rows m m (Some (turns.Spent clause b))) (sym (ap (λ (x : Search). x.z) e))
+    (caused_spent r t rows m mid.trail mid.rested clause lesson.above lesson.false_before lesson.new (subst (λ (x : Search). x.budget ≡ Some x.tally) e budget) (is ∙ ap (λ (x : Search). saying x x.raised (Over (ends.Spent clause x.z))) e))
+
+pub after_learnt : (r mid t : Search) (rows : ℕ) (m q : Part) (clause : List Atom) (u : Atom) (level back : ℕ) → mid ≡ moved r mid.trail mid.rested → GoesBack r.trail mid.trail level → IsLesson r mid.trail clause u back
+    → IfSome r.budget (λ budget. r.tally < budget) → t ≡ with_learnt (moved mid t.trail t.rested) clause → GoesBack mid.trail t.trail back → q.bounds ≡ m.bounds
+    → (IsShort mid.problem.model clause → IsShared rows mid.z clause m.board q.board) → ((IsShort mid.problem.model clause → ⊥) → q.board ≡ m.board) → IsCausedFrom r t rows m q (Some turns.Learnt)
+after_learnt r mid t rows m q clause u level back e went lesson left is again bounds shared unshared =
+    caused_learnt r t rows m q t.trail t.rested clause lesson.above lesson.false_before lesson.new left
+    (omega (arith, ap (λ (x : Trail). x.level) again.is, ap (λ (x : Trail). x.level) went.is, went.within, lesson.asserts.below))
+    (is ∙ ap (λ (x : Search). with_learnt (moved x t.trail t.rested) clause) e) bounds
+    (subst (λ (x : Search). IsShort x.problem.model clause → IsShared rows x.z clause m.board q.board) e shared)
+    (subst (λ (x : Search). (IsShort x.problem.model clause → ⊥) → q.board ≡ m.board) e unshared)
+
+pub left_from : (budget : Option ℕ) (tally : ℕ) → IfSome budget (λ b. tally ≤ b) → (budget ≡ Some tally → ⊥) → IfSome budget (λ b. tally < b)
+left_from None tally h k = tt
+left_from (Some b) tally h k = elim (less_or b tally h) [ inl l ↦ l | inr e ↦ absurd (k (ap (λ (n : ℕ). Some n) e)) ]
+  where
+    less_or : (b tally : ℕ) → tally ≤ b → (tally < b) ⊎ (b ≡ tally)
+    less_or b tally h = grind arith

@@ -1,0 +1,194 @@
+-- What a worker keeps over its turns.
+use Rattle.std.specs.Prelude.{IfSome, IsSome, All}
+use Rattle.std.proofs.Common.{ℕ, zero, ◌+◌, ◌≤◌, ◌<◌, ◌^◌, ◌≡◌, ◌∙◌, ◌⊎◌, inl, inr, Bool, true, Option, Some, None, List, [], ◌∷◌, ◌++◌, length, take, refl, sym, ap, subst, arith}
+use Rattle.std.proofs.lemmas.List.{take-append-le}
+use Rattle.cps_model.specs.declared.bound.Bound.{Bound}
+use Rattle.cps_literal.specs.declared.atom.Atom.{Atom}
+use Rattle.cps_instance.specs.Problem.{Problem, variable_count}
+use Rattle.cps_trail.specs.Trail.{Domains, Trail, Entry, IsSound, Decision, first_of}
+use Rattle.cps_instance.specs.declared.task.Task.{Task}
+use Rattle.cps_propagate.specs.Laws.{IsAtRest}
+use Rattle.cps_port.specs.declared.part.Part.{Part}
+use Rattle.cps_clauses.specs.declared.journal.JournalItem.{JournalItem}
+use Rattle.cps_clauses.specs.declared.journal.JournalItem.TheVariants as items
+use Rattle.cps_clauses.specs.declared.origin.Origin.TheVariants as origins
+use Rattle.cps_clauses.specs.Bases.{Base, with_clause}
+use Rattle.cps_search.specs.declared.end.End.{End}
+use Rattle.cps_search.specs.declared.turn.Turn.{Turn}
+use Rattle.cps_search.specs.declared.turn.Turn.TheVariants as turns
+use Rattle.cps_search.specs.Fixed.{AreFixed}
+use Rattle.cps_search.specs.Lessons.{GoesBack}
+use Rattle.cps_search.specs.Scope.{Scope, IsScopeOf, AreSameUpTo}
+use Rattle.cps_search.specs.Searches.{Search, IsSettled, IsSoundSearch}
+use Rattle.cps_search.specs.Moves.{fresh, moved, decided}
+use Rattle.cps_search.specs.Turns.{Caused, DecisionDue, IsOnward, LearntOne, SameSetting, Steps}
+use Rattle.cps_search.specs.Ends.{BrancherTurn, DecidedOne, Decides, EndsAs, HeardOne, Hears, IsWorking, MovesWith, RunsTo, Stands, TakesTurn, TurnCaused, end_of}
+use Rattle.cps_search.proofs.Completing.{all_fixed}
+use Rattle.cps_search.proofs.Turning.{setting_of, setting_same, setting_trans}
+use Rattle.cps_search.proofs.Moving.{ends_by, moves_more, moves_same, takes_turn}
+
+-- where the variables are fixed, so are all subjects that a brancher asks of
+pub scope_fixed : (s : Search) (scope : Scope) → IsSoundSearch s → IsSound s.trail → IsSettled s → IsScopeOf s.problem scope → AreFixed s.trail scope.variables → AreFixed s.trail scope.subjects
+scope_fixed s scope h sound settled is fixed =
+    let variables : AreFixed s.trail (variable_count s.problem) = subst (λ (n : ℕ). AreFixed s.trail n) is.variables_are fixed in
+    let all = all_fixed s.problem s.trail s.z h.instance h.domains sound variables (subst (λ (ts : List Task). All (λ t. IsAtRest t s.trail) ts) h.tasks settled.tasks) in
+    λ i l. all i (omega (arith, l, is.subjects_within, ap (λ (ds : Domains). length ds) h.domains))
+
+pub scope_subjects : (s : Search) (scope : Scope) → IsSoundSearch s → IsScopeOf s.problem scope → scope.subjects ≤ length s.trail.first
+scope_subjects s scope h is = omega (arith, is.subjects_within, ap (λ (ds : Domains). length ds) h.domains)
+
+-- where entries were added, the first ones are the same
+pub same_onward : (n kept : ℕ) (s t : Trail) → kept ≤ length s.entries → IsOnward s t → AreSameUpTo n kept s t
+same_onward n kept s t within h = record {
+  domains = λ i l. ap (λ (ds : Domains). first_of ds i) h.first;
+  entries = ap (λ (es : List Entry). take kept es) h.entries ∙ take-append-le kept s.entries h.added within;
+}
+
+take_none : (es : List Entry) → take 0 es ≡ []
+take_none [] = refl
+take_none (e ∷ es) = refl
+
+pub same_none : (n : ℕ) (s t : Trail) → t.first ≡ s.first → AreSameUpTo n 0 s t
+same_none n s t h = record { domains = λ i l. ap (λ (ds : Domains). first_of ds i) h; entries = take_none t.entries ∙ sym (take_none s.entries) }
+
+pub decided_onward : (n kept : ℕ) (s : Trail) (a : Atom) → kept ≤ length s.entries → AreSameUpTo n kept s (decided s a)
+decided_onward n kept s a within = record { domains = λ i l. refl; entries = take-append-le kept s.entries (record { atom = a; level = s.level + 1; reason = Decision } ∷ []) within }
+
+few_clauses : (budget : Option ℕ) (tally imported count : ℕ) → count ≡ tally + imported → imported ≤ 4096 → IsSome budget → IfSome budget (λ b. tally ≤ b) → IfSome budget (λ b. b ≤ 10 ^ 9) → count < 2 ^ 32
+few_clauses None tally imported count e few has within most = absurd has
+few_clauses (Some b) tally imported count e few has within most = omega (arith, e, few, within, most)
+
+-- there is room for one more clause
+pub room : (s : Search) (scope : Scope) (agrees : ℕ → Type 0) (kept : ℕ) → IsWorking s scope agrees kept → length s.base.clauses < 2 ^ 32
+room s scope agrees kept h = few_clauses s.budget s.tally s.imported (length s.base.clauses) h.sound.count h.few h.has_budget h.sound.within_budget h.budget
+
+-- a worker goes on
+pub works_on : (s t : Search) (scope scope' : Scope) (agrees agrees' : ℕ → Type 0) (kept kept' : ℕ) → IsWorking s scope agrees kept → IsSoundSearch t → SameSetting s t → scope' ≡ scope → t.imported ≤ 4096 → kept' ≤ length t.trail.entries → agrees' kept'
+    → IsWorking t scope' agrees' kept'
+works_on s t scope scope' agrees agrees' kept kept' h sound setting same few within agree = record {
+  sound = sound;
+  of_problem = subst (λ (x : Scope). IsScopeOf t.problem x) (sym same) (subst (λ (p : Problem). IsScopeOf p scope) (sym setting.problem) h.of_problem);
+  budget = subst (λ (b : Option ℕ). IfSome b (λ budget. budget ≤ 10 ^ 9)) (sym setting.budget) h.budget;
+  has_budget = subst (λ (b : Option ℕ). IsSome b) (sym setting.budget) h.has_budget;
+  few = few;
+  within = within;
+  agreed = agree;
+}
+
+-- a turn's search after the search stood or went back to level 0
+pub learnt_stands : (s m t : Search) (rows : ℕ) (p q : Part) → LearntOne s m rows p q → Stands m t → LearntOne s t rows p q
+learnt_stands s m t rows p q h stands = elim stands [
+  | inl same ↦ subst (λ (x : Search). LearntOne s x rows p q) (sym same) h
+  | inr back ↦ subst (λ (x : Search). LearntOne s x rows p q) (sym back.1) (record {
+    midway = h.midway;
+    begins = h.begins;
+    clause = h.clause;
+    teaches = h.teaches;
+    within_budget = h.within_budget;
+    back = omega (arith, h.back, ap (λ (x : Trail). x.level) back.0.is);
+    tally = h.tally;
+    base = h.base;
+    bounds = h.bounds;
+    shared = h.shared;
+    kept = h.kept;
+    imported = h.imported;
+    best = h.best;
+    raised = h.raised;
+    said = refl;
+  })
+]
+
+pub setting_stands : (m t : Search) → Stands m t → SameSetting m t
+setting_stands m t stands = elim stands [
+  | inl same ↦ record { problem = ap (λ (x : Search). x.problem) same; gap = ap (λ (x : Search). x.gap) same; budget = ap (λ (x : Search). x.budget) same; refused = ap (λ (x : Search). x.refused) same }
+  | inr back ↦ record { problem = ap (λ (x : Search). x.problem) back.1; gap = ap (λ (x : Search). x.gap) back.1; budget = ap (λ (x : Search). x.budget) back.1; refused = ap (λ (x : Search). x.refused) back.1 }
+]
+
+-- the clause that was learnt is the last of the journal, which the brancher heard
+pub heard_one : (hears : List Atom → Bool → Type 0) (s m t : Search) (rows : ℕ) (p q : Part) → LearntOne s m rows p q → Stands m t
+    → ((earlier : List JournalItem) (clause : List Atom) (below : Bound) → m.base.journal ≡ earlier ++ items.Learnt clause below ∷ [] → Hears (hears clause) t) → HeardOne hears s t
+heard_one hears s m t rows p q h stands heard =
+    let base = (learnt_stands s m t rows p q h stands).base in
+    record { clause = h.clause; learnt = base; heard = heard s.base.journal h.clause m.z (ap (λ (b : Base). b.journal) h.base) }
+
+-- a decision was made where one was due
+pub decided_one : (chooses : Trail → Option Atom → Type 0) (s m t : Search) (rows : ℕ) (p q : Part) → DecisionDue s m rows p q → Decides chooses m t → DecidedOne chooses s t rows p q
+decided_one chooses s m t rows p q due h = record { midway = m; due = due; atom = h.atom; undecided = h.undecided; chosen = h.chosen; is = h.is }
+
+-- a worker that begins
+pub new_works : (p : Problem) (gap budget : ℕ) (w : Search) (scope : Scope) (agrees : ℕ → Type 0) → w ≡ fresh p gap (Some budget) → IsSoundSearch w → IsScopeOf p scope → budget ≤ 10 ^ 9 → agrees 0 → IsWorking w scope agrees 0
+new_works p gap budget w scope agrees is sound of most agree = record {
+  sound = sound;
+  of_problem = subst (λ (x : Search). IsScopeOf x.problem scope) (sym is) of;
+  budget = subst (λ (x : Search). IfSome x.budget (λ b. b ≤ 10 ^ 9)) (sym is) most;
+  has_budget = subst (λ (x : Search). IsSome x.budget) (sym is) tt;
+  few = omega (arith, ap (λ (x : Search). x.imported) is);
+  within = omega arith;
+  agreed = agree;
+}
+
+-- no more clauses are imported than the board has rows
+pub imported_few : (s t : Search) (rows : ℕ) (p q : Part) (turn : Option Turn) → s.imported ≤ 4096 → s.imported ≤ length p.board.taken → rows ≤ 4096 → Caused s t rows p q turn → t.imported ≤ 4096
+imported_few s t rows p q None few taken small h = omega (arith, few, h.imported)
+imported_few s t rows p q (Some turns.Imported) few taken small h = elim h.used [ inl given ↦ omega (arith, taken, small, given.1, h.takes.left) | inr pass ↦ omega (arith, few, pass.1) ]
+imported_few s t rows p q (Some turns.Decided) few taken small h = absurd h
+imported_few s t rows p q (Some turns.Learnt) few taken small h = omega (arith, few, h.imported)
+imported_few s t rows p q (Some turns.Found) few taken small h = omega (arith, few, h.imported)
+imported_few s t rows p q (Some turns.Exhausted) few taken small h = omega (arith, few, h.imported)
+imported_few s t rows p q (Some turns.SawClosed) few taken small h = omega (arith, few, ap (λ (x : Search). x.imported) h.same)
+imported_few s t rows p q (Some (turns.Spent clause below)) few taken small h = omega (arith, few, h.imported)
+imported_few s t rows p q (Some turns.RoundsDone) few taken small h = absurd h
+
+-- the steps before a decision and the decision
+pub turn_decided : (chooses : Trail → Option Atom → Type 0) (s m t : Search) (rows : ℕ) (p q : Part) → IsSome s.budget → IsSoundSearch s → Steps s m rows p q None → Decides chooses m t → TakesTurn chooses s t rows p q turns.Decided
+turn_decided chooses s m t rows p q has sound steps h =
+    takes_turn chooses s t rows p q turns.Decided has sound
+    (setting_trans s m t steps.setting (setting_of m (moved m (decided m.trail h.atom) m.rested) t h.is refl refl refl refl))
+    (decided_one chooses s m t rows p q steps.cause h)
+
+-- the steps that learn, after which the search may go back to level 0
+pub turn_learnt : (chooses : Trail → Option Atom → Type 0) (s m t : Search) (rows : ℕ) (p q : Part) → IsSome s.budget → IsSoundSearch s → Steps s m rows p q (Some turns.Learnt) → Stands m t → TakesTurn chooses s t rows p q turns.Learnt
+turn_learnt chooses s m t rows p q has sound steps stands =
+    takes_turn chooses s t rows p q turns.Learnt has sound (setting_trans s m t steps.setting (setting_stands m t stands)) (learnt_stands s m t rows p q steps.cause stands)
+
+turn_caused : (chooses : Trail → Option Atom → Type 0) (s t : Search) (rows : ℕ) (p q : Part) (turn : Turn) → Caused s t rows p q (Some turn) → TurnCaused chooses s t rows p q turn
+turn_caused chooses s t rows p q turns.Imported h = h
+turn_caused chooses s t rows p q turns.Decided h = absurd h
+turn_caused chooses s t rows p q turns.Learnt h = h
+turn_caused chooses s t rows p q turns.Found h = h
+turn_caused chooses s t rows p q turns.Exhausted h = h
+turn_caused chooses s t rows p q turns.SawClosed h = h
+turn_caused chooses s t rows p q (turns.Spent clause below) h = h
+turn_caused chooses s t rows p q turns.RoundsDone h = h
+
+-- the steps of any other turn
+pub turn_other : (chooses : Trail → Option Atom → Type 0) (s t : Search) (rows : ℕ) (p q : Part) (turn : Turn) → IsSome s.budget → IsSoundSearch s → Steps s t rows p q (Some turn) → TakesTurn chooses s t rows p q turn
+turn_other chooses s t rows p q turn has sound steps = takes_turn chooses s t rows p q turn has sound steps.setting (turn_caused chooses s t rows p q turn steps.cause)
+
+-- in which the brancher stays as it was
+pub brancher_other : (s t : Search) (rows : ℕ) (p q : Part) (turn : Turn) (heard chose same : Type 0) → Caused s t rows p q (Some turn) → (turn ≡ turns.Learnt → ⊥) → same → BrancherTurn turn heard chose same
+brancher_other s t rows p q turns.Imported heard chose same h not stays = stays
+brancher_other s t rows p q turns.Decided heard chose same h not stays = absurd h
+brancher_other s t rows p q turns.Learnt heard chose same h not stays = absurd (not refl)
+brancher_other s t rows p q turns.Found heard chose same h not stays = stays
+brancher_other s t rows p q turns.Exhausted heard chose same h not stays = stays
+brancher_other s t rows p q turns.SawClosed heard chose same h not stays = stays
+brancher_other s t rows p q (turns.Spent clause below) heard chose same h not stays = stays
+brancher_other s t rows p q turns.RoundsDone heard chose same h not stays = absurd h
+
+-- what a run has done so far
+pub record HasRun (s t : Search) (p q : Part) : Type 0 where
+  pub setting : SameSetting s t
+  pub moves : MovesWith s t p q
+
+pub run_begins : (s : Search) (p : Part) → HasRun s s p p
+run_begins s p = record { setting = setting_same s; moves = moves_same s p }
+
+pub run_goes_on : (chooses : Trail → Option Atom → Type 0) (s t u : Search) (rows : ℕ) (p m q : Part) (turn : Turn) → HasRun s t p m → TakesTurn chooses t u rows m q turn → HasRun s u p q
+run_goes_on chooses s t u rows p m q turn h k = record { setting = setting_trans s t u h.setting k.setting; moves = moves_more s t u p m q h.moves k.moves }
+
+-- and its end
+pub run_ends : (chooses : Trail → Option Atom → Type 0) (s t u : Search) (rows : ℕ) (p m q : Part) (turn : Turn) (end : End) → IsSoundSearch t → HasRun s t p m → TakesTurn chooses t u rows m q turn → end_of turn ≡ Some end → RunsTo s u p q end
+run_ends chooses s t u rows p m q turn end sound h k e =
+    let all = run_goes_on chooses s t u rows p m q turn h k in
+    record { setting = all.setting; moves = all.moves; said = subst (λ (o : Option End). EndsAs o u) e k.ends; why = ends_by chooses t u rows m q turn end sound k.setting k.cause e }
