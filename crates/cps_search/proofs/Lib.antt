@@ -22,3 +22,4 @@ pub mod Weighing
 pub mod Working
 pub mod Returning
 pub mod Ending
+pub mod Results

@@ -1,5 +1,5 @@
 -- How a search and its actor's part move together in a turn, and why there is no turn for ever.
-use Rattle.std.specs.Prelude.{IfSome, IsSome, IsTrue, All}
+use Rattle.std.specs.Prelude.{IfSome, IsSome, IsTrue, is_some, All}
 use Rattle.std.proofs.Common.{ℕ, ◌+◌, ◌≤◌, ◌<◌, ℤ, ◌≡◌, ◌∙◌, ◌⊎◌, inl, inr, Bool, true, false, cond, Option, Some, None, List, [], ◌∷◌, ◌++◌, length, refl, sym, ap, subst, arith, length-append}
 use Rattle.cps_model.specs.declared.bound.Bound.{Bound}
 use Rattle.cps_model.specs.declared.bound.Bound.TheVariants.{At, Infinite}
@@ -30,9 +30,11 @@ use Rattle.cps_search.specs.declared.end.Said.TheVariants.{Nothing, Due, Over}
 use Rattle.cps_search.specs.declared.turn.Turn.{Turn}
 use Rattle.cps_search.specs.declared.turn.Turn.TheVariants as turns
 use Rattle.cps_search.specs.Searches.{Search, IsFound, IsHonestJournal, IsSoundSearch, IsWorthy, NoneBelow}
-use Rattle.cps_search.specs.Moves.{moved, decided}
-use Rattle.cps_search.specs.Turns.{BeginsTurn, Caused, DecisionDue, ExhaustedAll, Falls, FoundOne, IsLess, IsShared, IsShort, LearntOne, LooksAgain, SameBest, SameImported, SameRaised, SameSetting, SawMet, SawOpen, SpentAll, TookNothing, TookOne}
+use Rattle.cps_search.specs.Moves.{below, moved, decided}
+use Rattle.cps_search.specs.Turns.{BeginsTurn, Caused, DecisionDue, ExhaustedAll, Falls, FoundOne, IsLess, IsShared, IsShort, LearntOne, Looks, LooksAgain, SameBest, SameImported, SameRaised, SameSetting, SawMet, SawOpen, SpentAll, Steps, TookNothing, TookOne}
 use Rattle.cps_search.specs.Ends.{DecidedOne, EndsAs, EndsBy, IsOver, LastSawMet, Lowers, fewer_conflicts, lesser_z, fewer_rows, fewer_values, MovesWith, OffersBest, RaisedToZ, RaisesSame, SpentWhole, TakesTurn, TurnCaused, best_bound, end_of}
+use Rattle.cps_search.specs.Stepping.{IsCausedFrom, TakesOne}
+use Rattle.cps_search.proofs.Turning.{reaches_first, setting_of, setting_trans, took_one}
 use Rattle.cps_search.proofs.Bounds.{below_at_most, below_less, greater-second, less_than, lesser_same, raised_more}
 use Rattle.cps_search.proofs.Looking.{Moves, moves_again, moves_by_looks, moves_on}
 
@@ -196,7 +198,7 @@ lowers_decided chooses s t rows p q moves h =
     (omega (arith, at, fewer, h.due.onward.fewer))
 
 learnt_lowers : (s t : Search) (rows : ℕ) (p q : BoardPart) (budget : Option ℕ) → s.budget ≡ budget → IsSome budget → IfSome budget (λ b. s.tally < b) → t.tally ≡ s.tally + 1 → Lowers s t rows p q
-learnt_lowers s t rows p q None is has left e = absurd has
+learnt_lowers s t rows p q None is has left e = absurd (cc)
 learnt_lowers s t rows p q (Some b) is has left e = fewer_conflicts b is left e
 
 turn_lowers : (chooses : Trail → Option Atom → Type 0) (s t : Search) (rows : ℕ) (p q : Part) (turn : Turn) → IsSome s.budget → MovesWith s t p q → TurnCaused chooses s t rows p q turn → end_of turn ≡ None → Lowers s t rows p.board q.board
@@ -283,3 +285,28 @@ moves_more s t u p m q h k = record {
   raises = λ before o. k.raises before (h.raises before o);
   imports = λ few. k.imports (h.imports few);
 }
+
+some_bound : (o : Option Bound) → is_some o ≡ true → (z : Bound) × (o ≡ Some z)
+some_bound None e = absurd (cc)
+some_bound (Some z) e = (z, refl)
+
+-- a turn that took an entry
+pub steps_taken : (s b t : Search) (rows count : ℕ) (p m q : Part) (answer : Option Bound) → IsSoundSearch s → is_some answer ≡ true → Looks s.gap s.z p.bounds m.bounds answer → m.board ≡ p.board → IfSome answer (λ z. b ≡ below s z) → count ≡ rows
+    → TakesOne b t count m q → Steps s t rows p q (Some turns.Imported)
+steps_taken s b t rows count p m q answer sound some looks board is same takes =
+    let at = some_bound answer some in
+    let begun : b ≡ below s at.0 = subst (λ (o : Option Bound). IfSome o (λ z. b ≡ below s z)) at.1 is in
+    let took = took_one s b t rows p m q at.0 (subst (λ (o : Option Bound). Looks s.gap s.z p.bounds m.bounds o) at.1 looks) board begun (subst (λ (n : ℕ). TakesOne b t n m q) same takes) in
+    let setting = setting_trans s b t (setting_of s (below s at.0) b begun refl refl refl refl) takes.setting in
+    record { setting = setting; cause = took; z = steps_fall s t rows p q (Some turns.Imported) sound setting took }
+
+-- a turn that took none, and went on
+pub steps_gone : (s b d t : Search) (rows count : ℕ) (p n m q : Part) (answer : Option Bound) (turn : Option Turn) → IsSoundSearch s → is_some answer ≡ true → Looks s.gap s.z p.bounds n.bounds answer → n.board ≡ p.board → IfSome answer (λ z. b ≡ below s z)
+    → count ≡ rows → d ≡ b → m.bounds ≡ n.bounds → TookNothing rows n.board m.board → IsCausedFrom d t count m q turn → Steps s t rows p q turn
+steps_gone s b d t rows count p n m q answer turn sound some looks board is same gone bounds took h =
+    let at = some_bound answer some in
+    let begun : d ≡ below s at.0 = gone ∙ subst (λ (o : Option Bound). IfSome o (λ z. b ≡ below s z)) at.1 is in
+    let caused = subst (λ (k : ℕ). IsCausedFrom d t k m q turn) same h in
+    let cause = caused.cause s p (reaches_first s rows p n m at.0 d (subst (λ (o : Option Bound). Looks s.gap s.z p.bounds n.bounds o) at.1 looks) board bounds took begun) in
+    let setting = setting_trans s d t (setting_of s (below s at.0) d begun refl refl refl refl) h.setting in
+    record { setting = setting; cause = cause; z = steps_fall s t rows p q turn sound setting cause }

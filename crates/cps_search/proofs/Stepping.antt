@@ -1,11 +1,12 @@
 -- How the steps of a turn keep a search sound.
-use Rattle.std.specs.Prelude.{map, ◌-ℤ◌, IfSome, IsTrue, All}
-use Rattle.std.proofs.Common.{ℕ, ◌+◌, ◌≤◌, ◌<◌, ◌^◌, ℤ, pos, ◌≡◌, ◌∙◌, ◌⊎◌, inl, inr, Bool, true, false, Option, Some, None, List, [], ◌∷◌, ◌++◌, length, refl, sym, ap, subst, arith}
-use Rattle.std.proofs.lemmas.Int.{ints}
+use Rattle.std.specs.Prelude.{map, ◌-ℤ◌, IfSome, IsTrue, unsigned_abs, FitsSigned, All}
+use Rattle.std.proofs.Common.{ℕ, ◌+◌, ◌≤◌, ◌<◌, ◌^◌, ℤ, pos, ◌≡◌, ◌∙◌, ◌⊎◌, inl, inr, Bool, true, false, Option, Some, None, List, [], ◌∷◌, ◌++◌, length, refl, sym, ap, subst, arith, w64}
+use Rattle.std.proofs.lemmas.Int.{ints, fits_signed_from_abs}
 use Rattle.std.proofs.lemmas.List.Elements.{All-weaker}
 use Rattle.cps_model.specs.declared.bound.Bound.{Bound}
 use Rattle.cps_model.specs.declared.bound.Bound.TheVariants.{At, Infinite}
 use Rattle.cps_model.specs.declared.model.CpModel.{CpModel}
+use Rattle.cps_model.specs.Validity.{IsValid}
 use Rattle.cps_literal.specs.declared.atom.Atom.{Atom}
 use Rattle.cps_literal.specs.Normal.{IsNormalOf}
 use Rattle.cps_instance.specs.declared.task.Task.{Task}
@@ -16,7 +17,7 @@ use Rattle.cps_trail.specs.Trail.{Domains, Trail, Entry, IsSound, IsFalseNow, up
 use Rattle.cps_trail.specs.Adds.{IsConflict}
 use Rattle.cps_port.specs.declared.entry.Entry.{Entry as BoardEntry}
 use Rattle.cps_port.specs.Order.{BoundLe}
-use Rattle.cps_port.specs.Incumbents.{IsIncumbent}
+use Rattle.cps_port.specs.Incumbents.{HoldsBelow, IsIncumbent}
 use Rattle.cps_port.specs.Entries.{entry_clause, IsModelAtom, IsSoundEntry}
 use Rattle.cps_clauses.specs.declared.origin.Origin.TheVariants as origins
 use Rattle.cps_clauses.specs.Bases.{Base, with_clause}
@@ -28,16 +29,16 @@ use Rattle.cps_search.specs.Lessons.{GoesBack, IsNewTo, IsTaught}
 use Rattle.cps_search.specs.Resting.{AllHold, IsRestedAt}
 use Rattle.cps_search.specs.Searches.{Search, HoldsOver, IsFound, IsNewClause, NoneBelow, IsReasonBelow, IsSoundSearch, below_bound}
 use Rattle.cps_search.specs.Moves.{below, moved, saying, with_learnt}
-use Rattle.cps_search.specs.Turns.{IsLess, Uses, PassesOver, SameImported}
+use Rattle.cps_search.specs.Turns.{IsShort, PassesOver, Uses}
 use Rattle.cps_search.specs.Stepping.{IsLesson, UsesEntry}
 use Rattle.cps_search.proofs.Bounds.{top_is}
 use Rattle.cps_search.proofs.Holding.{HoldsOver-falls, tasks_fall}
 use Rattle.cps_search.proofs.Completing.{fits_below}
-use Rattle.cps_search.proofs.Boarding.{over_of_below, over_normal}
+use Rattle.cps_search.proofs.Boarding.{below_of_over, over_of_below, over_normal}
 use Rattle.cps_search.proofs.Lessons.{fits_normal}
 use Rattle.cps_search.proofs.Keeping.{all_up_to, fallen, sound_fallen, sound_moved, sound_imported, sound_learnt, with_imported}
 use Rattle.cps_search.proofs.Beginning.{sound_saying}
-use Rattle.cps_search.proofs.Teaching.{conflict_over, new_clause, no_solution}
+use Rattle.cps_search.proofs.Teaching.{conflict_over, new_clause, no_solution, small_of}
 use Rattle.cps_search.proofs.Valuing.{learnt_values}
 
 -- a search of which nothing is kept in mind
@@ -145,3 +146,35 @@ module _ (s : Search) (trail : Trail) (rested : Option ℕ) (level : ℕ) (confl
   pub none_left : trail.level ≡ 0 → All (λ t. t.subject < length s.trail.first) conflict → All (IsFalseNow trail) conflict → NoneBelow s.problem.model s.z
   none_left bottom subjects falses =
       no_solution (moved s trail rested) conflict went sound bottom over (record { subjects = subst (λ (ds : Domains). All (λ t. t.subject < length ds) conflict) (sym first) subjects }) falses
+
+-- a short clause that holds over the sums holds below the bound
+pub short_below : (p : Problem) (m : CpModel) (z : Bound) (clause atoms : List Atom) → m ≡ p.model → atoms ≡ clause → HoldsOver p z clause → IsShort m atoms → HoldsBelow m z atoms
+short_below p m z clause atoms model is holds short =
+    subst (λ (x : CpModel). HoldsBelow x z atoms) (sym model)
+    (below_of_over p z atoms (subst (λ (x : CpModel). All (λ t. t.subject < length x.variables) atoms) model short.variables) (subst (λ (ts : List Atom). HoldsOver p z ts) (sym is) holds))
+
+-- z fell to a value
+pub lowered_is : (s : Search) (z : Bound) (v : ℤ) (tasks : List Task) → IsSoundSearch s → BoundLe z s.z → z ≡ At v → tasks ≡ map (lowered (v -ℤ pos 1)) s.tasks → record s { z = z; tasks = tasks; said = Nothing } ≡ below s z
+lowered_is s z v tasks h less is same =
+    subst (λ (ts : List Task). record s { z = z; tasks = ts; said = Nothing } ≡ below s z) (sym same)
+    (subst (λ (b : Bound). record s { z = b; tasks = map (lowered (v -ℤ pos 1)) s.tasks; said = Nothing } ≡ below s b) (sym is) (fallen_is s v h (subst (λ (b : Bound). BoundLe b s.z) is less)))
+
+one_less : (v : ℤ) → unsigned_abs v < 2 ^ 62 → unsigned_abs (v -ℤ pos 1) < 2 ^ 63
+one_less v h = grind (arith, ints)
+
+pub value_fits : (v : ℤ) → unsigned_abs v < 2 ^ 62 → FitsSigned w64 v
+value_fits v h = fits_signed_from_abs w64 v (omega (arith, h))
+
+pub less_fits : (v : ℤ) → unsigned_abs v < 2 ^ 62 → FitsSigned w64 (v -ℤ pos 1)
+less_fits v h = fits_signed_from_abs w64 (v -ℤ pos 1) (one_less v h)
+
+-- a value that an incumbent shows is small
+pub shown_small : (m : CpModel) (z : Bound) (v : ℤ) → IsValid m → z ≡ At v → IsIncumbent m z → unsigned_abs v < 2 ^ 62
+shown_small m z v valid is shown = small_of m (At v) valid (subst (λ (b : Bound). IsIncumbent m b) is shown)
+
+-- an entry's clause is used exactly where it holds below z
+pub used_in_force : (s t : Search) (e : BoardEntry) → (Uses t.z s.base t.base e ⊎ PassesOver t.z s.base t.base e) → BoundLe t.z e.below → t.imported ≡ s.imported + 1 → UsesEntry s t e
+used_in_force s t e h low one = elim h [ inl given ↦ inl (given, one) | inr pass ↦ absurd (pass.0 low) ]
+
+pub used_nowhere : (s t : Search) (e : BoardEntry) → (Uses t.z s.base t.base e ⊎ PassesOver t.z s.base t.base e) → (BoundLe t.z e.below → ⊥) → t.imported ≡ s.imported → UsesEntry s t e
+used_nowhere s t e h high same = elim h [ inl given ↦ absurd (high given.in_force) | inr pass ↦ inr (pass, same) ]

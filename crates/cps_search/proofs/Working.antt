@@ -55,7 +55,7 @@ pub decided_onward : (n kept : ℕ) (s : Trail) (a : Atom) → kept ≤ length s
 decided_onward n kept s a within = record { domains = λ i l. refl; entries = take-append-le kept s.entries (record { atom = a; level = s.level + 1; reason = Decision } ∷ []) within }
 
 few_clauses : (budget : Option ℕ) (tally imported count : ℕ) → count ≡ tally + imported → imported ≤ 4096 → IsSome budget → IfSome budget (λ b. tally ≤ b) → IfSome budget (λ b. b ≤ 10 ^ 9) → count < 2 ^ 32
-few_clauses None tally imported count e few has within most = absurd has
+few_clauses None tally imported count e few has within most = absurd (cc)
 few_clauses (Some b) tally imported count e few has within most = omega (arith, e, few, within, most)
 
 -- there is room for one more clause
@@ -104,12 +104,21 @@ setting_stands m t stands = elim stands [
   | inr back ↦ record { problem = ap (λ (x : Search). x.problem) back.1; gap = ap (λ (x : Search). x.gap) back.1; budget = ap (λ (x : Search). x.budget) back.1; refused = ap (λ (x : Search). x.refused) back.1 }
 ]
 
+stands_base : (m t : Search) → Stands m t → t.base ≡ m.base
+stands_base m t stands = elim stands [ inl same ↦ ap (λ (x : Search). x.base) same | inr back ↦ ap (λ (x : Search). x.base) back.1 ]
+
+stands_z : (m t : Search) → Stands m t → t.z ≡ m.z
+stands_z m t stands = elim stands [ inl same ↦ ap (λ (x : Search). x.z) same | inr back ↦ ap (λ (x : Search). x.z) back.1 ]
+
 -- the clause that was learnt is the last of the journal, which the brancher heard
 pub heard_one : (hears : List Atom → Bool → Type 0) (s m t : Search) (rows : ℕ) (p q : Part) → LearntOne s m rows p q → Stands m t
     → ((earlier : List JournalItem) (clause : List Atom) (below : Bound) → m.base.journal ≡ earlier ++ items.Learnt clause below ∷ [] → Hears (hears clause) t) → HeardOne hears s t
 heard_one hears s m t rows p q h stands heard =
-    let base = (learnt_stands s m t rows p q h stands).base in
-    record { clause = h.clause; learnt = base; heard = heard s.base.journal h.clause m.z (ap (λ (b : Base). b.journal) h.base) }
+    record {
+      clause = h.clause;
+      learnt = stands_base m t stands ∙ h.base ∙ ap (λ (b : Bound). with_clause s.base h.clause b origins.Learnt) (sym (stands_z m t stands));
+      heard = heard s.base.journal h.clause m.z (ap (λ (b : Base). b.journal) h.base);
+    }
 
 -- a decision was made where one was due
 pub decided_one : (chooses : Trail → Option Atom → Type 0) (s m t : Search) (rows : ℕ) (p q : Part) → DecisionDue s m rows p q → Decides chooses m t → DecidedOne chooses s t rows p q
@@ -121,7 +130,7 @@ new_works p gap budget w scope agrees is sound of most agree = record {
   sound = sound;
   of_problem = subst (λ (x : Search). IsScopeOf x.problem scope) (sym is) of;
   budget = subst (λ (x : Search). IfSome x.budget (λ b. b ≤ 10 ^ 9)) (sym is) most;
-  has_budget = subst (λ (x : Search). IsSome x.budget) (sym is) tt;
+  has_budget = subst (λ (x : Search). IsSome x.budget) (sym is) refl;
   few = omega (arith, ap (λ (x : Search). x.imported) is);
   within = omega arith;
   agreed = agree;
