@@ -188,6 +188,33 @@ brancher_other s t rows p q turns.SawClosed heard chose same h not stays = stays
 brancher_other s t rows p q (turns.Spent clause below) heard chose same h not stays = stays
 brancher_other s t rows p q turns.RoundsDone heard chose same h not stays = absurd h
 
+learnt_or_not : (turn : Turn) → (turn ≡ turns.Learnt) ⊎ (turn ≡ turns.Learnt → ⊥)
+learnt_or_not turns.Imported = inr (λ e. absurd (cc e))
+learnt_or_not turns.Decided = inr (λ e. absurd (cc e))
+learnt_or_not turns.Learnt = inl refl
+learnt_or_not turns.Found = inr (λ e. absurd (cc e))
+learnt_or_not turns.Exhausted = inr (λ e. absurd (cc e))
+learnt_or_not turns.SawClosed = inr (λ e. absurd (cc e))
+learnt_or_not (turns.Spent clause below) = inr (λ e. absurd (cc e))
+learnt_or_not turns.RoundsDone = inr (λ e. absurd (cc e))
+
+-- the steps of a turn that is no decision, after which the brancher heard what was learnt, if anything was
+pub turn_heard : (chooses : Trail → Option Atom → Type 0) (s m t : Search) (rows : ℕ) (p q : Part) (turn : Turn) → IsSome s.budget → IsSoundSearch s → Steps s m rows p q (Some turn) → Stands m t → ((turn ≡ turns.Learnt → ⊥) → t ≡ m)
+    → TakesTurn chooses s t rows p q turn
+turn_heard chooses s m t rows p q turn has sound steps stands same = elim (learnt_or_not turn) [
+  | inl e ↦ subst (λ (x : Turn). TakesTurn chooses s t rows p q x) (sym e) (turn_learnt chooses s m t rows p q has sound (subst (λ (x : Turn). Steps s m rows p q (Some x)) e steps) stands)
+  | inr not ↦ subst (λ (x : Search). TakesTurn chooses s x rows p q turn) (sym (same not)) (turn_other chooses s m rows p q turn has sound steps)
+]
+
+-- what the brancher heard in it
+pub brancher_heard : (hears : List Atom → Bool → Type 0) (s m t : Search) (rows : ℕ) (p q : Part) (turn : Turn) (chose same : Type 0) → Steps s m rows p q (Some turn) → Stands m t
+    → (turn ≡ turns.Learnt → (earlier : List JournalItem) (clause : List Atom) (below : Bound) → m.base.journal ≡ earlier ++ items.Learnt clause below ∷ [] → Hears (hears clause) t)
+    → ((turn ≡ turns.Learnt → ⊥) → same) → BrancherTurn turn (HeardOne hears s t) chose same
+brancher_heard hears s m t rows p q turn chose same steps stands heard stays = elim (learnt_or_not turn) [
+  | inl e ↦ subst (λ (x : Turn). BrancherTurn x (HeardOne hears s t) chose same) (sym e) (heard_one hears s m t rows p q (subst (λ (x : Turn). Caused s m rows p q (Some x)) e steps.cause) stands (heard e))
+  | inr not ↦ brancher_other s m rows p q turn (HeardOne hears s t) chose same steps.cause not (stays not)
+]
+
 -- what a run has done so far
 pub record HasRun (s t : Search) (p q : Part) : Type 0 where
   pub setting : SameSetting s t

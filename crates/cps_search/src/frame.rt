@@ -7,7 +7,7 @@ ghost use Rattle.cps_search.specs.Searches.{HasNoAssumptions, IsSoundSearch};
 ghost use Rattle.cps_search.specs.Moves.{fresh, moved, decided};
 ghost use Rattle.cps_search.specs.Choice.{IsUndecided};
 ghost use Rattle.cps_search.specs.Turns.{Steps};
-ghost use Rattle.cps_search.specs.Ends.{ending, IsLastSaid};
+ghost use Rattle.cps_search.specs.Ends.{ending, IsLastSaid, IsOver};
 
 use crate::end::{End, Said, WorkerKind};
 use crate::ended::Ended;
@@ -67,6 +67,13 @@ impl<'a, P: Propagator> Frame<'a, P> {
             searcher,
             refused: false,
         })
+    }
+
+    /// Whether memory was refused.
+    pub(crate) fn is_refused(&self) -> bool
+        ensures { result ≡ self.now.refused }
+    {
+        self.refused
     }
 
     /// The instance.
@@ -177,5 +184,15 @@ impl<'a, P: Propagator> Frame<'a, P> {
     {
         let Frame { searcher, .. } = self;
         Ended::of(searcher, kind, end)
+    }
+
+    /// What is seen of a worker of this kind that ended by the last answer of `steps`.
+    pub(crate) fn finish_as_said(self, kind: WorkerKind) -> Ended
+        requires { IsOver self.said }
+        ensures said { self.entry.said ≡ Said.Over result.end }
+        ensures is { result ≡ ending kind result.end self.entry }
+    {
+        let Frame { searcher, .. } = self;
+        Ended::as_said(searcher, kind)
     }
 }

@@ -27,6 +27,7 @@ mod settle;
 #[cfg(test)]
 mod tests;
 mod turn;
+mod worker;
 
 pub use activity::ActivityBrancher;
 pub use brancher::Brancher;
@@ -35,3 +36,4 @@ pub use ended::Ended;
 pub use fixed::FixedBrancher;
 pub use frame::Frame;
 pub use turn::Turn;
+pub use worker::Worker;
