@@ -5,6 +5,7 @@ use Rattle.cps_literal.specs.declared.atom.Truth.{Truth}
 use Rattle.cps_literal.specs.declared.atom.Truth.TheVariants.{Yes, No, Undecided}
 use Rattle.cps_trail.specs.Trail.{Trail, IsTrueNow, IsFalseNow}
 use Rattle.cps_propagate.specs.Now.{IsKnownNow}
+use Rattle.cps_propagate.specs.Strength.{OthersAre}
 use Rattle.cps_p_bool.specs.declared.seek.Sought.{Sought}
 use Rattle.cps_p_bool.specs.declared.seek.Sought.TheVariants.{True, NotTrue, False, NotFalse, Open}
 
@@ -46,11 +47,12 @@ pub record IsInForce (s : Trail) (enforcement : List Atom) (last : ℕ) : Type 0
   pub others : (k : ℕ) (d : Atom) → k < length enforcement → k ≢ last → IsTrueNow s (slice_index_or enforcement k d)
   pub undecided : (d : Atom) → last < length enforcement → IsSought Open s (slice_index_or enforcement last d)
 
--- an enforcement atom is not true
+-- An enforcement atom is not true, and is false where all others are true.
 pub record IsIdle (s : Trail) (enforcement : List Atom) : Type 0 where
   pub place : ℕ
   pub within : place < length enforcement
   pub not_true : (d : Atom) → IsTrueNow s (slice_index_or enforcement place d) → ⊥
+  pub last : (k : ℕ) (d : Atom) → k < length enforcement → OthersAre (IsTrueNow s) enforcement k → IsFalseNow s (slice_index_or enforcement k d)
 
 -- the enforcement atom at a place is false
 pub record IsOff (s : Trail) (enforcement : List Atom) (place : ℕ) : Type 0 where

@@ -13,6 +13,7 @@ mod at_least_one;
 mod at_most_one;
 mod boolean;
 mod exactly_one;
+mod normal;
 mod odd;
 mod reasons;
 mod seek;

@@ -6,8 +6,8 @@ use Rattle.cps_propagate.specs.Now.{IsKnownNow}
 use Rattle.cps_p_bool.proofs.Placing.{all_passed}
 use Rattle.cps_p_bool.proofs.Limiting.{all_true}
 use Rattle.cps_p_bool.proofs.Giving.{opposite_true}
-use Rattle.cps_p_bool.proofs.Parity.{Runs-open, Runs-known, Excludes-even, known_before, known_after, Gives-even, Gives-odd, IsDecided-even, IsDecided-odd}
-use Rattle.cps_p_bool.proofs.Running.{Runs-idle, Runs-refused, Runs-inferred}
+use Rattle.cps_p_bool.proofs.Parity.{Runs-open, Runs-open_both, Runs-known, Excludes-even, known_before, known_after, Gives-even, Gives-odd, IsDecided-even, IsDecided-odd}
+use Rattle.cps_p_bool.proofs.Running.{Runs-refused, Runs-inferred}
 use Rattle.cps_p_bool.proofs.odd.odd.Goals as goal
 
 zero_atom : Atom
@@ -17,7 +17,7 @@ pub count_true-requires-clause-known : goal.count_true-requires-clause-known
 count_true-requires-clause-known c = all_passed (IsKnownNow c.args.store.now) c.args.atoms.now c.seek-place.result c.seek-place.ensures.passed (omega (arith, c.if-place-atoms.true))
 
 pub returns-then-count_true-eq1 : goal.returns-then-count_true-eq1
-returns-then-count_true-eq1 c = Runs-known c.args.store.now c.args.enforcement.now c.args.atoms.now c.count_true.result
+returns-then-count_true-eq1 c = Runs-known c.args.store.now c.args.enforcement.now c.args.atoms.now c.count_true.result c.requires.atoms_fit c.requires.plain
     (all_passed (IsKnownNow c.args.store.now) c.args.atoms.now c.seek-place.result c.seek-place.ensures.passed (omega (arith, c.if-place-atoms.true))) c.count_true.ensures.count c.if-count_true-eq1.true
 
 pub returns-then-place-atoms : goal.returns-then-place-atoms
@@ -27,13 +27,14 @@ returns-then-place-atoms c = Runs-refused c.args.store.now c.args.enforcement.no
 pub returns-then-last-enforcement : goal.returns-then-last-enforcement
 returns-then-last-enforcement c =
     let l : c.args.last < length c.args.enforcement.now = omega (arith, c.if-last-enforcement.true) in
-    Runs-idle c.args.store.now c.args.enforcement.now (BoolXor c.args.atoms.now) c.args.last l (λ d. (c.requires.in_force.undecided d l).0)
+    let m : c.seek-place.result < length c.args.atoms.now = omega (arith, c.if-place-atoms.false, c.seek-place.ensures.within) in
+    Runs-open_both c.args.store.now c.args.enforcement.now c.args.atoms.now c.args.last c.seek-place.result c.requires.atoms_fit c.requires.plain l (λ d. (c.requires.in_force.undecided d l).0) m (λ d. c.seek-place.ensures.found d m)
 
 pub returns-then-second-atoms : goal.returns-then-second-atoms
 returns-then-second-atoms c =
     let l : c.seek-second.result < length c.args.atoms.now = omega (arith, c.if-second-atoms.true) in
     let a : c.seek-place.result < c.seek-second.result = omega (arith, c.seek-second.ensures.after) in
-    Runs-open c.args.store.now c.args.enforcement.now c.args.atoms.now c.seek-place.result c.seek-second.result a l (λ d. c.seek-place.ensures.found d (omega (arith, a, l))) (λ d. c.seek-second.ensures.found d l)
+    Runs-open c.args.store.now c.args.enforcement.now c.args.atoms.now c.seek-place.result c.seek-second.result c.requires.atoms_fit c.requires.plain a l (λ d. c.seek-place.ensures.found d (omega (arith, a, l))) (λ d. c.seek-second.ensures.found d l)
 
 pub count_true-before-requires-clause-known : goal.count_true-before-requires-clause-known
 count_true-before-requires-clause-known c = known_before (IsKnownNow c.args.store.now) c.args.atoms.now c.seek-place.result c.seek-place.ensures.within c.seek-place.ensures.passed
@@ -47,13 +48,14 @@ returns-then-before-after-eq0 c =
     let l : c.seek-place.result < length c.args.atoms.now = omega (arith, c.if-place-atoms.false, c.seek-place.ensures.within) in
     let even : (c.count_true-before.result + c.count_true-after.result) % 2 ≡ 0 = c.if-before-after-eq0.true in
     Runs-inferred c.args.store.now c.args.enforcement.now (BoolXor c.args.atoms.now) c.infer.new.store c.args.atoms.now _ c.infer.result
+    (all_true c.args.store.now c.args.enforcement.now c.args.last c.requires.in_force (λ b. omega (arith, b, c.if-last-enforcement.false)))
     (Gives-even c.args.store.now c.args.atoms.now c.seek-place.result zero_atom c.count_true-before.result c.count_true-after.result l c.count_true-before.ensures.count c.count_true-after.ensures.count c.args.enforcement.now
     (all_true c.args.store.now c.args.enforcement.now c.args.last c.requires.in_force (λ b. omega (arith, b, c.if-last-enforcement.false))) even)
     c.infer.ensures.infers c.infer.ensures.answers c.infer.ensures.made
     (λ h t.
     IsDecided-even c.args.store.now c.args.atoms.now c.seek-place.result zero_atom c.count_true-before.result c.count_true-after.result l c.count_true-before.ensures.count c.count_true-after.ensures.count c.args.enforcement.now
     c.infer.new.store even h t)
-    (λ t. record { body = λ _. absurd ((c.seek-place.ensures.found zero_atom l).0 t) })
+    (λ t. absurd ((c.seek-place.ensures.found zero_atom l).0 t))
 
 pub returns : goal.returns
 unfolding zero_atom
@@ -61,6 +63,7 @@ returns c =
     let l : c.seek-place.result < length c.args.atoms.now = omega (arith, c.if-place-atoms.false, c.seek-place.ensures.within) in
     let odd : (c.count_true-before.result + c.count_true-after.result) % 2 ≡ 0 → ⊥ = c.if-before-after-eq0.false in
     Runs-inferred c.args.store.now c.args.enforcement.now (BoolXor c.args.atoms.now) c.infer-2.new.store c.args.atoms.now c.negate-target.result c.infer-2.result
+    (all_true c.args.store.now c.args.enforcement.now c.args.last c.requires.in_force (λ b. omega (arith, b, c.if-last-enforcement.false)))
     (Gives-odd c.args.store.now c.args.atoms.now c.seek-place.result zero_atom c.count_true-before.result c.count_true-after.result l c.count_true-before.ensures.count c.count_true-after.ensures.count c.args.enforcement.now
     c.negate-target.result (all_true c.args.store.now c.args.enforcement.now c.args.last c.requires.in_force (λ b. omega (arith, b, c.if-last-enforcement.false))) odd
     (record { subject = c.negate-target.ensures.subject; negated = c.negate-target.ensures.negated }))
@@ -68,8 +71,5 @@ returns c =
     (λ h t.
     IsDecided-odd c.args.store.now c.args.atoms.now c.seek-place.result zero_atom c.count_true-before.result c.count_true-after.result l c.count_true-before.ensures.count c.count_true-after.ensures.count c.args.enforcement.now
     c.infer-2.new.store c.negate-target.result odd (record { subject = c.negate-target.ensures.subject; negated = c.negate-target.ensures.negated }) h t)
-    (λ t. record {
-      body = λ _.
-          absurd ((c.seek-place.ensures.found zero_atom l).1
-          (opposite_true c.args.store.now _ c.negate-target.result (record { subject = c.negate-target.ensures.subject; negated = c.negate-target.ensures.negated }) t));
-    })
+    (λ t. absurd ((c.seek-place.ensures.found zero_atom l).1
+    (opposite_true c.args.store.now _ c.negate-target.result (record { subject = c.negate-target.ensures.subject; negated = c.negate-target.ensures.negated }) t)))
