@@ -3,7 +3,6 @@ use Rattle.std.proofs.Common.{Result, Ok, ◌≡◌, ℕ, ◌<◌, ℤ, pos, ◌
 use Rattle.std.specs.List.{All}
 use Rattle.std.proofs.lemmas.List.Elements.{All-nil, All-map, All-contains}
 use Rattle.cps_literal.specs.declared.atom.Atom.{Atom}
-use Rattle.cps_instance.specs.declared.task.Task.{Task}
 use Rattle.cps_instance.specs.declared.task.Body.{Body}
 use Rattle.cps_instance.specs.declared.task.Body.TheVariants.{Empty, BoolOr, BoolAnd, AtMostOne, ExactlyOne, BoolXor}
 use Rattle.cps_instance.specs.Tasks.{atom_subjects, subjects_of_body, lowered}

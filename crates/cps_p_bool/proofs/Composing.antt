@@ -1,23 +1,23 @@
 -- What holds of a body by its normal form.
-use Rattle.std.proofs.Common.{◌≡◌, ◌≢◌, ◌⊎◌, ℕ, ◌+◌, ◌<◌, ℤ, Bool, true, false, List, [], ◌∷◌, ◌++◌, length, get_or, refl, sym, ◌∙◌, ap, subst, inl, inr, arith}
-use Rattle.std.specs.List.{All, Contains}
+use Rattle.std.proofs.Common.{◌≡◌, ℕ, ℤ, true, List, [], ◌∷◌, ◌++◌, length, get_or, sym, ◌∙◌, subst, arith}
+use Rattle.std.specs.List.{All}
 use Rattle.std.proofs.lemmas.List.Elements.{All-map}
 use Rattle.std.proofs.lemmas.List.Sums.{list_all-from_AllPass}
 use Rattle.cps_literal.specs.declared.atom.Atom.{Atom}
 use Rattle.cps_literal.specs.Truth.{value_at, atom_holds}
 use Rattle.cps_instance.specs.declared.task.Body.{Body}
 use Rattle.cps_instance.specs.declared.task.Body.TheVariants.{BoolAnd}
-use Rattle.cps_instance.specs.Tasks.{HoldsBody, HoldsTask, atom_subjects, subjects_of_body}
+use Rattle.cps_instance.specs.Tasks.{HoldsBody, atom_subjects, subjects_of_body}
 use Rattle.cps_instance.proofs.Agreeing.{AgreeAt, HoldsBody-agree}
 use Rattle.cps_trail.specs.Trail.{Domains, Entry, Reason, Decision, Because, Trail, IsTrueNow, IsFalseNow, IsWithin}
-use Rattle.cps_trail.specs.Adds.{Follows, IsGiven, AreInferred, Infers, Answers}
+use Rattle.cps_trail.specs.Adds.{IsGiven, AreInferred, Infers, Answers}
 use Rattle.cps_trail.specs.declared.step.Step.{Step}
 use Rattle.cps_trail.specs.declared.step.Step.TheVariants.{Settled, Conflict}
 use Rattle.cps_propagate.specs.Now.{IsOpenTo}
-use Rattle.cps_p_bool.specs.Denying.{IsFit, AreLiterals, task_of}
-use Rattle.cps_p_bool.specs.Taking.{AreAllOpen, CanHold, CanTake, IsConsistent, AreApart, HasValues}
+use Rattle.cps_p_bool.specs.Denying.{AreLiterals}
+use Rattle.cps_p_bool.specs.Taking.{AreAllOpen, CanHold, IsConsistent}
 use Rattle.cps_p_bool.specs.Normal.{AreBits, IsNormal}
-use Rattle.cps_p_bool.proofs.Taking.{zero_or_one, bits, Pick, listed, listed_at, listed_holds, first_pick, CanBe, Steered, steer, can_be}
+use Rattle.cps_p_bool.proofs.Taking.{zero_or_one, bits, Pick, listed, listed_at, listed_holds, steer, can_be}
 
 -- what a constraint gives within the first domains, one that implies it there gives
 IsGiven-within : (C D : List ℤ → Type 0) (first : Domains) → ((a : List ℤ) → IsWithin first a → D a → C a) → (before : List Entry) (r : Reason) → IsGiven C first before r → IsGiven D first before r

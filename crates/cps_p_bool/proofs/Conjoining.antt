@@ -1,12 +1,11 @@
 -- All atoms of a list are to be true.
-use Rattle.std.proofs.Common.{Result, Ok, ◌≡◌, ℕ, ◌<◌, ℤ, true, false, List, [], ◌∷◌, length, get_or, refl, sym, subst, arith}
+use Rattle.std.proofs.Common.{Result, Ok, ◌≡◌, ℕ, ◌<◌, ℤ, List, [], ◌∷◌, length, get_or, refl, sym, subst, arith}
 use Rattle.std.specs.Prelude.{IfOk, OnOk}
-use Rattle.std.specs.List.{list_all, All}
+use Rattle.std.specs.List.{All}
 use Rattle.std.proofs.lemmas.List.Elements.{All-weaker}
 use Rattle.std.proofs.lemmas.List.Sums.{list_all-from_AllPass, AllPass-from_list_all}
 use Rattle.cps_literal.specs.declared.atom.Atom.{Atom}
 use Rattle.cps_literal.specs.Truth.{atom_holds}
-use Rattle.cps_instance.specs.declared.task.Body.{Body}
 use Rattle.cps_instance.specs.declared.task.Body.TheVariants.{BoolAnd}
 use Rattle.cps_instance.specs.Tasks.{HoldsBody, HoldsTask}
 use Rattle.cps_trail.specs.Trail.{Trail, IsTrueNow, IsFalseNow}
@@ -16,7 +15,7 @@ use Rattle.cps_trail.specs.declared.step.Step.{Step}
 use Rattle.cps_trail.specs.declared.step.Step.TheVariants.{Settled}
 use Rattle.cps_p_bool.specs.Denying.{Agrees, Gives, Excludes, AreLiterals, task_of}
 use Rattle.cps_p_bool.specs.Taking.{CanHold, IsConsistent, IsPlain}
-use Rattle.cps_p_bool.specs.Rules.{Runs, IsPinned}
+use Rattle.cps_p_bool.specs.Rules.{Runs}
 use Rattle.cps_p_bool.proofs.Giving.{not_both}
 use Rattle.cps_p_bool.proofs.Limiting.{enforced_all}
 use Rattle.cps_p_bool.proofs.Running.{pinned_agrees, IsDecided-pinned, Runs-waiting, settled_infers, same_store}

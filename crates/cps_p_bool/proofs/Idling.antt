@@ -1,10 +1,9 @@
 -- Enforcement that gives nothing.
-use Rattle.std.proofs.Common.{◌≡◌, ◌≢◌, ◌⊎◌, ℕ, ◌<◌, List, length, get_or, sym, subst, inl, inr, arith}
+use Rattle.std.proofs.Common.{ℕ, ◌<◌, List, length, get_or, sym, subst, inl, inr, arith}
 use Rattle.cps_literal.specs.declared.atom.Atom.{Atom}
 use Rattle.cps_trail.specs.Trail.{Trail, IsTrueNow, IsFalseNow}
 use Rattle.cps_p_bool.specs.Seeking.{IsIdle}
 use Rattle.cps_p_bool.proofs.Placing.{same_or_not}
-use Rattle.cps_p_bool.proofs.Running.{some_atom}
 
 module _ (s : Trail) (e : List Atom) where
   -- an enforcement atom is false

@@ -1,7 +1,7 @@
 -- At most one atom of a list is to be true.
-use Rattle.std.proofs.Common.{Result, Ok, ◌≡◌, ◌≢◌, ℕ, ◌+◌, ◌<◌, ◌≤◌, ℤ, Bool, true, false, not, List, [], ◌∷◌, length, get_or, refl, sym, ◌∙◌, ap, subst, inl, inr, arith}
+use Rattle.std.proofs.Common.{Result, Ok, ◌≡◌, ◌≢◌, ℕ, ◌+◌, ◌<◌, ◌≤◌, ℤ, Bool, true, not, List, [], ◌∷◌, length, get_or, refl, sym, ◌∙◌, ap, subst, inl, inr, arith}
 use Rattle.std.specs.Prelude.{IfOk, OnOk}
-use Rattle.std.specs.List.{list_any, list_all, count_by, All}
+use Rattle.std.specs.List.{list_all, count_by, All}
 use Rattle.std.proofs.Math.Nat.{eq-or-lt_of_le}
 use Rattle.std.proofs.lemmas.List.{get_or_default}
 use Rattle.std.proofs.lemmas.List.Sums.{list_all-from_AllPass}
@@ -16,15 +16,14 @@ use Rattle.cps_trail.proofs.Inferring.{stays_false}
 use Rattle.cps_trail.specs.declared.step.Step.{Step}
 use Rattle.cps_trail.specs.declared.step.Step.TheVariants.{Settled}
 use Rattle.cps_propagate.specs.Strength.{OthersAre}
-use Rattle.cps_propagate.specs.Laws.{IsDecided}
 use Rattle.cps_p_bool.specs.Seeking.{IsInForce}
 use Rattle.cps_p_bool.specs.Denying.{Agrees, Gives, Excludes, AreLiterals, task_of}
 use Rattle.cps_p_bool.specs.Taking.{CanHold, IsConsistent, IsPlain}
-use Rattle.cps_p_bool.specs.Rules.{Runs, IsPinned, IsAlone, LimitsToOne}
+use Rattle.cps_p_bool.specs.Rules.{Runs, IsAlone, LimitsToOne}
 use Rattle.cps_p_bool.proofs.Counting.{count_none, count_one, count_two}
 use Rattle.cps_p_bool.proofs.Denials.{IsOpposite, opposite_holds}
 use Rattle.cps_p_bool.proofs.Placing.{apart}
-use Rattle.cps_p_bool.proofs.Giving.{by_not_true, not_both}
+use Rattle.cps_p_bool.proofs.Giving.{by_not_true}
 use Rattle.cps_p_bool.proofs.Running.{pinned_true, IsDecided-pinned, IsDecided-alone, Runs-settled, Runs-waiting, settled_infers, same_store}
 use Rattle.cps_p_bool.proofs.Consistent.{IsConsistent-anywhere, CanHold-anywhere, IsConsistent-none, CanHold-none, CanHold-chosen}
 use Rattle.cps_p_bool.proofs.Results.{IfOk-map}

@@ -1,5 +1,5 @@
 -- Some atom of a list is to be true.
-use Rattle.std.proofs.Common.{Result, Ok, ◌≡◌, ◌≢◌, ℕ, ◌+◌, ◌<◌, ◌≤◌, ℤ, true, false, List, length, get_or, refl, sym, ◌∙◌, ap, subst, inl, inr, arith}
+use Rattle.std.proofs.Common.{Ok, ◌≡◌, ◌≢◌, ℕ, ◌<◌, ℤ, false, List, length, get_or, refl, sym, subst, inl, inr, arith}
 use Rattle.std.specs.List.{list_any, All}
 use Rattle.std.proofs.lemmas.List.{get_or_default}
 use Rattle.std.proofs.lemmas.List.Folds.{list_any_none}
@@ -7,23 +7,22 @@ use Rattle.cps_literal.specs.declared.atom.Atom.{Atom}
 use Rattle.cps_literal.specs.Truth.{atom_holds}
 use Rattle.cps_instance.specs.declared.task.Body.{Body}
 use Rattle.cps_instance.specs.declared.task.Body.TheVariants.{BoolOr, ExactlyOne}
-use Rattle.cps_instance.specs.Tasks.{HoldsBody, HoldsTask, true_atoms}
+use Rattle.cps_instance.specs.Tasks.{HoldsBody, HoldsTask}
 use Rattle.cps_trail.specs.Trail.{Trail, IsTrueNow, IsFalseNow}
 use Rattle.cps_trail.specs.Adds.{Infers}
 use Rattle.cps_trail.proofs.Inferring.{stays_false}
-use Rattle.cps_trail.specs.declared.step.Step.{Step}
 use Rattle.cps_trail.specs.declared.step.Step.TheVariants.{Settled}
 use Rattle.cps_propagate.specs.Strength.{OthersAre}
 use Rattle.cps_propagate.specs.Laws.{IsDecided}
 use Rattle.cps_p_bool.specs.Seeking.{IsInForce}
 use Rattle.cps_p_bool.specs.Denying.{Agrees, Gives, Excludes, AreLiterals, task_of}
 use Rattle.cps_p_bool.specs.Taking.{CanHold, IsConsistent, IsPlain}
-use Rattle.cps_p_bool.specs.Rules.{Runs, IsPinned, IsAlone, NeedsOne}
+use Rattle.cps_p_bool.specs.Rules.{Runs, IsAlone, NeedsOne}
 use Rattle.cps_p_bool.proofs.Counting.{count_one, any_of_count, any_at}
 use Rattle.cps_p_bool.proofs.Placing.{same_or_not}
 use Rattle.cps_p_bool.proofs.Giving.{by_bool, by_not_true, not_both, enforced}
 use Rattle.cps_p_bool.proofs.Consistent.{IsConsistent-anywhere, CanHold-anywhere, IsConsistent-or, IsConsistent-live, CanHold-or, CanHold-live}
-use Rattle.cps_p_bool.proofs.Running.{pinned_true, pinned_false, pinned_agrees, IsDecided-pinned, IsDecided-alone, Runs-settled, some_atom}
+use Rattle.cps_p_bool.proofs.Running.{pinned_true, pinned_false, IsDecided-pinned, IsDecided-alone, Runs-settled, some_atom}
 
 module _ (s : Trail) (b : Body) (us : List Atom) (n : NeedsOne s b us) where
   pub Excludes-false : All (IsFalseNow s) us → Excludes s b us

@@ -1,5 +1,5 @@
 -- An odd number of atoms of a list are to be true.
-use Rattle.std.proofs.Common.{length-drop, Result, Ok, ◌≡◌, ◌≢◌, ◌⊎◌, ℕ, ◌+◌, ◌-◌, ◌%◌, ◌<◌, ◌≤◌, ℤ, Bool, true, false, not, cond, List, length, take, drop, get_or, get_or-take, refl, sym, ◌∙◌, ap, subst, inl, inr, arith, add-one}
+use Rattle.std.proofs.Common.{length-drop, Ok, ◌≡◌, ◌⊎◌, ℕ, ◌+◌, ◌-◌, ◌%◌, ◌<◌, ◌≤◌, ℤ, Bool, true, false, not, List, length, take, drop, get_or, get_or-take, refl, sym, ◌∙◌, ap, subst, inl, inr, arith, add-one}
 use Rattle.std.specs.List.{count_by, All}
 use Rattle.std.proofs.lemmas.List.{get_or-drop}
 use Rattle.std.proofs.lemmas.List.{take_rest, length-take-le}
@@ -7,17 +7,15 @@ use Rattle.std.proofs.lemmas.List.Elements.{All-take, All-drop}
 use Rattle.std.proofs.lemmas.List.Sums.{count_by_more_yes, count_by_more_no}
 use Rattle.cps_literal.specs.declared.atom.Atom.{Atom}
 use Rattle.cps_literal.specs.Truth.{atom_holds}
-use Rattle.cps_instance.specs.declared.task.Body.{Body}
 use Rattle.cps_instance.specs.declared.task.Body.TheVariants.{BoolXor}
-use Rattle.cps_instance.specs.Tasks.{HoldsBody, HoldsTask, true_atoms}
-use Rattle.cps_trail.specs.Trail.{Trail, IsTrueNow, IsFalseNow}
+use Rattle.cps_instance.specs.Tasks.{HoldsTask, true_atoms}
+use Rattle.cps_trail.specs.Trail.{Trail, IsTrueNow}
 use Rattle.cps_trail.specs.Adds.{Infers}
 use Rattle.cps_trail.proofs.Inferring.{stays_true, stays_false}
-use Rattle.cps_trail.specs.declared.step.Step.{Step}
 use Rattle.cps_trail.specs.declared.step.Step.TheVariants.{Settled}
 use Rattle.cps_propagate.specs.Now.{IsKnownNow}
 use Rattle.cps_propagate.specs.Laws.{IsDecided}
-use Rattle.cps_p_bool.specs.Seeking.{IsInForce, IsSought}
+use Rattle.cps_p_bool.specs.Seeking.{IsSought}
 use Rattle.cps_p_bool.specs.declared.seek.Sought.TheVariants.{Open}
 use Rattle.cps_p_bool.specs.Denying.{Agrees, Gives, Excludes, AreLiterals, task_of}
 use Rattle.cps_p_bool.specs.Taking.{IsPlain}

@@ -1,5 +1,5 @@
 -- What a propagator keeps gives what its steps require, and what they do is done for its task.
-use Rattle.std.proofs.Common.{Result, ◌≡◌, ℤ, List, sym, subst}
+use Rattle.std.proofs.Common.{Result, ◌≡◌, List, sym, subst}
 use Rattle.cps_literal.specs.declared.atom.Atom.{Atom}
 use Rattle.cps_instance.specs.declared.task.Task.{Task}
 use Rattle.cps_instance.specs.declared.task.Body.{Body}

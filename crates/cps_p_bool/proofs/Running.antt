@@ -1,27 +1,25 @@
 -- What the steps of a kind give of its law.
-use Rattle.std.proofs.Common.{Result, Ok, Err, ◌≡◌, ◌≢◌, ◌⊎◌, ℕ, zero, suc, ◌+◌, ◌<◌, ◌≤◌, ℤ, Bool, true, false, not, List, [], ◌∷◌, ◌++◌, map, length, get_or, refl, sym, ◌∙◌, ap, subst, inl, inr, arith}
+use Rattle.std.proofs.Common.{Result, Ok, ◌≡◌, ℕ, zero, suc, ◌<◌, ℤ, true, false, List, [], ◌∷◌, length, get_or, refl, sym, subst, inl, inr, arith}
 use Rattle.std.specs.Prelude.{IfOk, OnOk}
-use Rattle.std.specs.List.{list_all, All}
-use Rattle.std.proofs.lemmas.List.{get_or_default}
+use Rattle.std.specs.List.{All}
 use Rattle.std.proofs.lemmas.List.Sums.{AllPass-from_list_all}
 use Rattle.cps_literal.specs.declared.atom.Atom.{Atom}
 use Rattle.cps_literal.specs.Truth.{meets, value_at, atom_holds}
-use Rattle.cps_instance.specs.declared.task.Task.{Task}
 use Rattle.cps_instance.specs.declared.task.Body.{Body}
-use Rattle.cps_instance.specs.Tasks.{HoldsBody, HoldsTask, atom_subjects, subjects_of_body, subjects_of, true_atoms}
+use Rattle.cps_instance.specs.Tasks.{HoldsBody, HoldsTask, atom_subjects, subjects_of_body, true_atoms}
 use Rattle.cps_instance.proofs.Agreeing.{All-append_left, All-append_right}
-use Rattle.cps_trail.specs.Trail.{Trail, admits, IsTrueNow, IsFalseNow}
+use Rattle.cps_trail.specs.Trail.{Trail, IsTrueNow, IsFalseNow}
 use Rattle.cps_trail.specs.Adds.{Infers, Answers}
 use Rattle.cps_trail.specs.declared.step.Step.{Step}
-use Rattle.cps_trail.specs.declared.step.Step.TheVariants.{Settled, Conflict}
+use Rattle.cps_trail.specs.declared.step.Step.TheVariants.{Settled}
 use Rattle.cps_trail.proofs.Inferring.{Infers-refl, same_midway}
 use Rattle.cps_propagate.specs.Now.{IsFixedNow, IsOpenTo, AreOpen}
 use Rattle.cps_propagate.specs.Laws.{IsDecided}
-use Rattle.cps_p_bool.specs.Seeking.{IsInForce, IsIdle, IsOff}
+use Rattle.cps_p_bool.specs.Seeking.{IsInForce, IsOff}
 use Rattle.cps_p_bool.specs.Denying.{Agrees, Gives, Excludes, task_of}
 use Rattle.cps_p_bool.specs.Rules.{Runs, IsPinned, IsAlone}
 use Rattle.cps_p_bool.specs.Taking.{CanHold, IsConsistent}
-use Rattle.cps_p_bool.proofs.Giving.{by_bool, not_both}
+use Rattle.cps_p_bool.proofs.Giving.{not_both}
 use Rattle.cps_p_bool.proofs.Counting.{count_one}
 use Rattle.cps_p_bool.proofs.Results.{IfOk-map}
 
