@@ -335,7 +335,7 @@ pub conflict_of : (C : List ℤ → Type 0) (s : Trail) (facts facts' negations 
     → ((xs : List ℤ) → IsWithin s.first xs → C xs → AllHold xs facts → ⊥) → IsConflict C s clause
 conflict_of C s facts facts' negations clause same made is are none =
     let made' : Refutes [] negations facts = subst (λ us. Refutes [] negations us) same made in
-    subst (λ us. IsConflict C s us) (sym is) (IsConflict-facts facts negations made' C s are.true_now none)
+    subst (λ us. IsConflict C s us) (sym is) (IsConflict-facts facts negations made' C s are.true_now are.subjects none)
 
 -- what is said of a reason that the constraint gives
 pub said_of : (C : List ℤ → Type 0) (s u : Trail) (t : Atom) (reason : List Atom) (step : Step) → Infers C s u → IsSaidOf u t reason step → Follows C s.first reason → Answers C u step
