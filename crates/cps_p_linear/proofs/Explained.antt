@@ -1,7 +1,6 @@
 -- What the facts of an explanation say of a sum that is admitted.
-use Rattle.std.specs.Prelude.{unsigned_abs, All, ◌&&◌}
-use Rattle.std.specs.List.{AllZip, list_all}
-use Rattle.std.proofs.Common.{◌≡◌, ◌≢◌, ◌⊎◌, inl, inr, ℕ, zero, suc, ◌+◌, ◌<◌, ◌≤◌, ◌-◌, ◌*◌, ◌^◌, ℤ, pos, negsuc, ◌+ℤ◌, ◌-ℤ◌, ◌*ℤ◌, ◌≤ℤ◌, ◌<ℤ◌, arith, Bool, true, false, ap, refl, sym, ◌∙◌, List, [], ◌∷◌, ◌++◌, length, take, drop, get_or, subst}
+use Rattle.std.specs.Prelude.{unsigned_abs, All}
+use Rattle.std.proofs.Common.{◌≡◌, ◌≢◌, ◌⊎◌, inl, inr, ℕ, zero, suc, ◌+◌, ◌<◌, ◌≤◌, ◌-◌, ◌*◌, ◌^◌, ℤ, pos, negsuc, ◌+ℤ◌, ◌-ℤ◌, ◌*ℤ◌, ◌≤ℤ◌, ◌<ℤ◌, arith, Bool, true, false, ap, refl, sym, ◌∙◌, List, [], ◌∷◌, ◌++◌, length, get_or, subst}
 use Rattle.std.proofs.lemmas.Int.{ints}
 use Rattle.std.proofs.lemmas.List.{get_or_default}
 use Rattle.std.proofs.lemmas.List.Elements.{All-weaker}
@@ -10,7 +9,7 @@ use Rattle.cps_literal.specs.declared.atom.Atom.{Atom}
 use Rattle.cps_literal.specs.Truth.{meets, value_at, atom_holds}
 use Rattle.cps_instance.specs.declared.term.Term.{Term}
 use Rattle.cps_instance.specs.Terms.{Domains, terms_value, terms_reach, magnitude, domain_at}
-use Rattle.cps_trail.specs.Trail.{Trail, Entry, admits, IsTrueNow, IsWithin, Explains}
+use Rattle.cps_trail.specs.Trail.{Trail, admits, IsTrueNow, IsWithin, Explains}
 use Rattle.cps_trail.specs.Adds.{Infers, Follows, IsConflict, Answers}
 use Rattle.cps_trail.specs.declared.step.Step.{Step}
 use Rattle.cps_propagate.specs.Reasons.{Refutes, IsSaidOf}
@@ -25,10 +24,10 @@ use Rattle.cps_p_linear.specs.declared.ends.Side.{Side}
 use Rattle.cps_p_linear.specs.declared.ends.Side.TheVariants.{Low, High}
 use Rattle.cps_p_linear.specs.declared.facts.Facts.{Facts}
 use Rattle.cps_p_linear.specs.declared.cut.TermCut.{TermCut}
-use Rattle.cps_p_linear.specs.Ends.{term_end, sum_end, end_at, opposite, reach_of, IsBounded, AreBounded, AreHulls, AreMeasurable, AreSumEnds, IsWithinOf, IsPast}
+use Rattle.cps_p_linear.specs.Ends.{term_end, sum_end, end_at, opposite, reach_of, IsBounded, AreBounded, AreHulls, AreSumEnds, IsWithinOf, IsPast}
 use Rattle.cps_p_linear.specs.Cuts.{IsTermCut}
-use Rattle.cps_p_linear.specs.Admitting.{passes, IsShaped, IsPassing, LeavesBits, IsGoal}
-use Rattle.cps_p_linear.specs.Supporting.{AreFacts, AllHold, Extends, Supports, SupportsBut, Limits}
+use Rattle.cps_p_linear.specs.Admitting.{passes, IsPassing, IsGoal}
+use Rattle.cps_p_linear.specs.Supporting.{AreFacts, AllHold, Supports, SupportsBut, Limits}
 use Rattle.cps_p_linear.specs.Rooms.{IsInRoom, IsInRoomAt, AreInRoom, room_at}
 use Rattle.cps_p_linear.specs.Passing.{IsInRange, IsMeasured, Leaves, Excludes, HasBits, IsCutAt}
 use Rattle.cps_p_linear.proofs.Reaching.{zip_length, zip_at, term_size}
@@ -131,6 +130,13 @@ first_less x y = ap (λ (z : ℤ). unsigned_abs z) (let e : (x +ℤ y) -ℤ x �
 
 later_less : (x y z : ℤ) → unsigned_abs ((x +ℤ y) -ℤ z) ≤ unsigned_abs x + unsigned_abs (y -ℤ z)
 later_less x y z = let a = unsigned_abs-add x (y -ℤ z) in let e = ap (λ (w : ℤ). unsigned_abs w) (let f : (x +ℤ y) -ℤ z ≡ x +ℤ (y -ℤ z) = omega (arith, ints) in f) in omega arith
+
+pub end_size : (s : Trail) (side : Side) (ts : List Term) (admitted : Admitted) (es : List Ends) (sum : Ends) → IsMeasured s ts admitted es sum → unsigned_abs (end_at side sum) + 1 < 2 ^ 63
+end_size s side ts admitted es sum m =
+    let e = ap (λ (z : ℤ). unsigned_abs z) (sum_at side ts es sum m.ends) in
+    let b = sum_size s side ts es m.bounded in
+    let l = m.range.measurable.small in
+    omega arith
 
 pub rest_size : (s : Trail) (side : Side) (ts : List Term) (es : List Ends) (k : ℕ) (d : Term) (f : Ends) → AreBounded s ts es → k < length ts → unsigned_abs (sum_end side ts es -ℤ term_end side (get_or ts k d) (get_or es k f)) ≤ terms_reach s.first ts
 rest_size s side [] es k d f h l = absurd (omega arith)
@@ -308,6 +314,10 @@ pub cut_kept : (side : Side) (s : Trail) (sum goal own room : Ends) (ts : List T
     → room.low ≡ goal.low -ℤ (sum.high -ℤ own.high) → room.high ≡ goal.high -ℤ (sum.low -ℤ own.low) → IsWithinOf side 0 (end_at side room) (end_at side own) → IsCutAt s side sum goal ts es k
 cut_kept Low s sum goal own room ts es k d f l zip al ah el eh h = cut_low s sum goal own room ts es k d f l zip al ah el (omega (arith, ints))
 cut_kept High s sum goal own room ts es k d f l zip al ah el eh h = cut_high s sum goal own room ts es k d f l zip al ah eh (omega (arith, ints))
+
+pub own_at : (side : Side) (own : Ends) (t : Term) (e : Ends) → own.low ≡ term_end Low t e → own.high ≡ term_end High t e → end_at side own ≡ term_end side t e
+own_at Low own t e al ah = al
+own_at High own t e al ah = ah
 
 pub coeff_off : (side : Side) (c v w : ℤ) (sum goal own room : Ends) → GoalBetween sum goal → own.low ≡ c *ℤ v → own.high ≡ c *ℤ w → room.low ≡ goal.low -ℤ (sum.high -ℤ own.high) → room.high ≡ goal.high -ℤ (sum.low -ℤ own.low)
     → IsPast side 0 (end_at side room) (end_at side own) → c ≢ pos 0

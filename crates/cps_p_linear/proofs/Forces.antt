@@ -1,22 +1,20 @@
 -- Enforcement atoms: which are true, and what follows where one is left.
-use Rattle.std.specs.Prelude.{◌&&◌, ◌||◌, not, All, Option, Some, None}
+use Rattle.std.specs.Prelude.{◌&&◌, not, All, Option, Some, None}
 use Rattle.std.specs.List.{list_all}
-use Rattle.std.proofs.Common.{◌≡◌, ◌≢◌, ◌⊎◌, inl, inr, ℕ, zero, suc, ◌+◌, ◌<◌, ◌≤◌, ◌-◌, ℤ, pos, ◌≤ℤ◌, arith, Bool, true, false, ap, refl, sym, ◌∙◌, List, [], ◌∷◌, ◌++◌, length, take, drop, get_or, subst}
-use Rattle.std.proofs.lemmas.Int.{ints}
+use Rattle.std.proofs.Common.{◌≡◌, ◌≢◌, ◌⊎◌, inl, inr, ℕ, ◌+◌, ◌<◌, ◌≤◌, ℤ, pos, arith, Bool, true, false, ap, refl, sym, ◌∙◌, List, ◌∷◌, ◌++◌, length, take, drop, get_or, subst}
 use Rattle.std.proofs.lemmas.List.{get_or_default, length-take-le, get_or-take, get_or-drop, length-drop}
 use Rattle.std.proofs.lemmas.List.Folds.{list_all-append}
-use Rattle.std.proofs.lemmas.List.Elements.{All-append, All-take, All-drop}
+use Rattle.std.proofs.lemmas.List.Elements.{All-append}
 use Rattle.cps_literal.specs.declared.atom.Atom.{Atom}
 use Rattle.cps_literal.specs.declared.atom.Op.TheVariants.{Le}
 use Rattle.cps_literal.specs.Truth.{meets, value_at, atom_holds}
 use Rattle.cps_instance.specs.declared.term.Term.{Term}
-use Rattle.cps_instance.specs.Terms.{terms_value}
 use Rattle.cps_trail.specs.Trail.{Trail, admits, IsTrueNow, IsFalseNow, IsWithin}
 use Rattle.cps_propagate.specs.Reasons.{CanNegate}
 use Rattle.cps_p_linear.specs.declared.admitted.Admitted.{Admitted}
 use Rattle.cps_p_linear.specs.declared.facts.Facts.{Facts}
-use Rattle.cps_p_linear.specs.Admitting.{passes, IsPassing}
-use Rattle.cps_p_linear.specs.Supporting.{AreFacts, AllHold, Extends}
+use Rattle.cps_p_linear.specs.Admitting.{IsPassing}
+use Rattle.cps_p_linear.specs.Supporting.{AreFacts, AllHold}
 use Rattle.cps_p_linear.specs.Passing.{Excludes}
 use Rattle.cps_p_linear.specs.Force.{IsOpenAt, AreNegatable}
 use Rattle.cps_p_linear.proofs.Supports.{split_at}

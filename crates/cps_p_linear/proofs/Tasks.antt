@@ -1,15 +1,13 @@
 -- A sum as a task: when it holds, how strong it is, and that it fits 64 bits.
-use Rattle.std.specs.Prelude.{unsigned_abs, All, max, map, ◌*◌, ◌&&◌, int_le, neg_ℤ, IsTrue, Option, Some, None}
-use Rattle.std.specs.List.{list_all}
-use Rattle.std.proofs.Common.{◌≡◌, ◌≢◌, ◌⊎◌, inl, inr, ℕ, zero, suc, ◌+◌, ◌<◌, ◌≤◌, ◌-◌, ◌^◌, ℤ, pos, negsuc, ◌+ℤ◌, ◌-ℤ◌, ◌*ℤ◌, ◌≤ℤ◌, arith, Bool, true, false, ap, refl, sym, ◌∙◌, List, [], ◌∷◌, ◌++◌, length, subst}
+use Rattle.std.specs.Prelude.{unsigned_abs, All, max, map, ◌*◌, int_le, neg_ℤ, Some, None}
+use Rattle.std.proofs.Common.{◌≡◌, inl, inr, ℕ, ◌+◌, ◌<◌, ◌≤◌, ◌^◌, ℤ, pos, negsuc, ◌+ℤ◌, ◌*ℤ◌, arith, true, ap, refl, sym, ◌∙◌, List, [], ◌∷◌, length, subst}
 use Rattle.std.proofs.lemmas.Int.{ints}
 use Rattle.std.proofs.lemmas.List.Elements.{All-nil, All-cons, All-head, All-tail, All-weaker}
 use Rattle.cps_model.proofs.Sums.{unsigned_abs-add}
-use Rattle.cps_model.specs.Within.{is_within, is_allowed}
 use Rattle.cps_domain.specs.Window.{equals}
 use Rattle.cps_domain.proofs.Tests.{true_le, le_true, first_of_both, second_of_both, both}
 use Rattle.cps_literal.specs.declared.atom.Atom.{Atom}
-use Rattle.cps_literal.specs.Truth.{value_at, atom_holds}
+use Rattle.cps_literal.specs.Truth.{value_at}
 use Rattle.cps_instance.specs.declared.term.Term.{Term}
 use Rattle.cps_instance.specs.declared.task.Task.{Task}
 use Rattle.cps_instance.specs.Terms.{Domains, AreIntervals, domain_at, magnitude, terms_value, terms_reach, term_subjects, least_of_terms, greatest_of_terms}
@@ -18,20 +16,19 @@ use Rattle.cps_instance.specs.Tasks.{HoldsTask, HoldsBody, atom_subjects, subjec
 use Rattle.cps_instance.specs.Fitting.{IsLiteral, IsFitting}
 use Rattle.cps_instance.proofs.Agreeing.{All-append_left, All-append_right}
 use Rattle.cps_instance.proofs.Boundings.{least-reach, greatest-reach}
-use Rattle.cps_trail.specs.Trail.{Trail, IsTrueNow, IsInside}
+use Rattle.cps_trail.specs.Trail.{Trail, IsTrueNow}
 use Rattle.cps_trail.specs.Adds.{Infers, Answers}
 use Rattle.cps_trail.specs.declared.step.Step.{Step}
 use Rattle.cps_trail.specs.declared.step.Step.TheVariants.{Settled, Conflict}
 use Rattle.cps_trail.proofs.Inferring.{Infers-weaker, Follows-weaker}
-use Rattle.cps_propagate.specs.Now.{IsOpenTo, IsFixedNow, AreOpen}
+use Rattle.cps_propagate.specs.Now.{IsOpenTo, IsFixedNow}
 use Rattle.cps_propagate.specs.Reasons.{CanNegate}
 use Rattle.cps_propagate.specs.Strength.{IsStrongSum, IsStrongBody, IsStrong, is_balanced, with_subject}
 use Rattle.cps_propagate.specs.Laws.{IsDecided}
-use Rattle.cps_propagate.specs.Visits.{is_cheap}
 use Rattle.cps_p_linear.specs.declared.admitted.Admitted.{Admitted}
 use Rattle.cps_p_linear.specs.declared.admitted.Admitted.TheVariants.{Within, Allowed, UpTo, Balanced}
 use Rattle.cps_p_linear.specs.Ends.{AreMeasurable}
-use Rattle.cps_p_linear.specs.Admitting.{passes, is_led, body_of, task_of, IsPassing, IsShaped, LeavesBits}
+use Rattle.cps_p_linear.specs.Admitting.{passes, is_led, body_of, task_of, IsPassing, IsShaped}
 use Rattle.cps_p_linear.specs.Passing.{IsInRange}
 use Rattle.cps_p_linear.specs.Force.{AreNegatable, IsSettled}
 use Rattle.cps_p_linear.proofs.Strong.{strong_fixed, fixed_true}
@@ -121,7 +118,7 @@ unmap : {X Y : Type 0} (f : X → Y) (P : Y → Type 0) (xs : List X) → All P 
 unmap f P [] h = All-nil (λ x. P (f x))
 unmap f P (x ∷ xs) h = All-cons (λ x. P (f x)) x xs (All-head P (f x) (map f xs) h) (unmap f P xs (All-tail P (f x) (map f xs) h))
 
-measurable : (first : Domains) (ts : List Term) → All (λ i. i < length first) (term_subjects ts) → All (λ i. AreIntervals (domain_at first i)) (term_subjects ts) → terms_reach first ts < 2 ^ 63 → AreMeasurable first ts
+measurable : (first : Domains) (ts : List Term) → All (λ i. i < length first) (term_subjects ts) → All (λ i. AreIntervals (domain_at first i)) (term_subjects ts) → terms_reach first ts + 1 < 2 ^ 63 → AreMeasurable first ts
 measurable first ts inside sound small = record {
   subjects = unmap (λ (t : Term). t.subject) (λ i. i < length first) ts inside;
   sound = unmap (λ (t : Term). t.subject) (λ i. AreIntervals (domain_at first i)) ts sound;
@@ -205,13 +202,6 @@ settled_strong s en ts admitted l (inr h) = strong_strong s en ts admitted l h
 pub settled_decided : (s : Trail) (enforcement : List Atom) (ts : List Term) (admitted : Admitted) → is_led ts admitted ≡ true → IsSettled s enforcement ts admitted → IsDecided (task_of enforcement ts admitted) s
 settled_decided s en ts admitted l (inl h) = idle_decided s en ts admitted l h
 settled_decided s en ts admitted l (inr h) = strong_decided s en ts admitted l h
-
-pub sum_not_cheap : (ts : List Term) (admitted : Admitted) → is_led ts admitted ≡ true → is_cheap (body_of ts admitted) ≡ false
-sum_not_cheap ts (Within bounds) l = refl
-sum_not_cheap ts (Allowed bounds) l = refl
-sum_not_cheap ts (UpTo upper) l = refl
-sum_not_cheap [] (Balanced offset) l = absurd (not_led l)
-sum_not_cheap (t ∷ ts) (Balanced offset) l = refl
 
 -- the same of a task, which is seen through its parts
 module _ (t : Task) (en en' : List Atom) (ts ts' : List Term) (admitted : Admitted) (view : task_of en ts admitted ≡ t) (e : en' ≡ en) (f : ts' ≡ ts) (led : is_led ts admitted ≡ true) where

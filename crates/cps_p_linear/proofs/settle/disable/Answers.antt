@@ -1,4 +1,4 @@
-use Rattle.std.proofs.Common.{◌≡◌, ◌<◌, ◌∙◌, ℤ, pos, List, inl, inr, sym, subst, length, get_or, Ok}
+use Rattle.std.proofs.Common.{◌≡◌, ◌<◌, ◌∙◌, pos, List, inr, sym, subst, length, get_or}
 use Rattle.cps_literal.specs.declared.atom.Atom.{Atom}
 use Rattle.cps_literal.specs.declared.atom.Op.TheVariants.{Le}
 use Rattle.cps_trail.specs.declared.step.Step.{Step}
