@@ -22,7 +22,7 @@ pub Infers-of_one : (clauses : List (List Atom)) (i : ℕ) (c : List Atom) → c
 Infers-of_one clauses i c is l start s u h k = Infers-trans (AllTrue clauses) start s u h (Infers-weaker (λ a. clause_holds c a ≡ true) (AllTrue clauses) (one_of_all clauses i c is l) s u k)
 
 pub IsConflict-of_one : (clauses : List (List Atom)) (i : ℕ) (c : List Atom) → c ≡ get_or clauses i [] → i < length clauses → (s : Trail) (k : List Atom) → IsConflict (λ a. clause_holds c a ≡ true) s k → IsConflict (AllTrue clauses) s k
-IsConflict-of_one clauses i c is l s k h = record { follows = Follows-weaker (λ a. clause_holds c a ≡ true) (AllTrue clauses) (one_of_all clauses i c is l) s.first k h.follows; false_now = h.false_now }
+IsConflict-of_one clauses i c is l s k h = record { follows = Follows-weaker (λ a. clause_holds c a ≡ true) (AllTrue clauses) (one_of_all clauses i c is l) s.first k h.follows; false_now = h.false_now; subjects = h.subjects }
 
 -- one more clause of a scan
 pub ScanSoFar-more : (clauses : List (List Atom)) (i : ℕ) (c : List Atom) → c ≡ get_or clauses i [] → i < length clauses → (start s u : Trail) → ScanSoFar clauses start s i

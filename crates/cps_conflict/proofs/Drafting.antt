@@ -13,7 +13,7 @@ use Rattle.cps_trail.specs.Trail.{Trail, Entry, Reason, Because, admits, IsFalse
 use Rattle.cps_trail.proofs.Times.{IsFalseAfter-take}
 use Rattle.cps_trail.proofs.Falls.{bool_cases}
 use Rattle.cps_conflict.specs.declared.resolvent.Fallen.{Fallen}
-use Rattle.cps_conflict.specs.Conflicts.{reason_holds}
+use Rattle.cps_conflict.specs.Conflicts.{reason_holds, NotFalseAtBottom}
 use Rattle.cps_conflict.specs.Drafts.{Draft, IsBacked, slot_holds, slot_of, HoldsAt, IsFallenAt, IsEarlier, IsDraft, Joins, Keeps, SameFrom, Covers, FallsBefore, HasSlot, IsShown, Adds, AddsAll, AddsOthers, Resolves, IsImpliedBefore, HoldsBefore, IsRedundant, IsCollected, Collects}
 use Rattle.cps_conflict.proofs.Uniting.{none, entry_at}
 use Rattle.cps_conflict.proofs.Bottom.{false_at_bottom, grounded_at}
@@ -101,15 +101,15 @@ Adds-bottom s d t from draft f low early = record {
 }
 
 -- one of an earlier level
-pub Adds-earlier : (s : Trail) (d : Draft) (t : Atom) (from : ℕ) → IsDraft s d → IsFallenAt s t from → from ≤ d.start → Adds s d (record d { earlier = d.earlier ++ record { atom = t; from = from } ∷ [] }) t
-Adds-earlier s d t from draft f early = record {
+pub Adds-earlier : (s : Trail) (d : Draft) (t : Atom) (from : ℕ) → IsDraft s d → IsFallenAt s t from → d.base < from → from ≤ d.start → Adds s d (record d { earlier = d.earlier ++ record { atom = t; from = from } ∷ [] }) t
+Adds-earlier s d t from draft f late early = record {
   draft = record {
     sound = draft.sound;
     start = draft.start;
     base = draft.base;
     size = draft.size;
     present = draft.present;
-    earlier = All-push (IsEarlier s d.start) d.earlier (record { atom = t; from = from }) draft.earlier (record { fallen = f; early = early });
+    earlier = All-push (IsEarlier s d.start) d.earlier (record { atom = t; from = from }) draft.earlier (record { fallen = f; early = early; late = λ g. f.from.not_before d.base late (subst (λ (es : List Entry). IsFalseAfter s.first es t) (sym draft.base.front) g) });
   };
   keeps = record {
     start = refl;
@@ -308,7 +308,7 @@ none_fallen = record { atom = none; from = 0 }
 
 -- one more atom of an earlier level
 pub Collects-none : (s : Trail) (start : ℕ) (earlier : List Fallen) (t : Atom) (items : List Fallen) → Collects s start earlier t (take 0 items) [] 0
-Collects-none s start earlier t items = subst (λ (l : List Fallen). Collects s start earlier t l [] 0) (sym (take_none items)) (record { within = omega arith; each = All-nil _; reached = λ h. absurd (h refl); apart = All-nil _; covers = All-nil _ })
+Collects-none s start earlier t items = subst (λ (l : List Fallen). Collects s start earlier t l [] 0) (sym (take_none items)) (record { within = omega arith; each = All-nil _; reached = λ h. absurd (h refl); late = All-nil _; subjects = All-nil _; apart = All-nil _; covers = All-nil _ })
 
 pub Collects-skip : (s : Trail) (start : ℕ) (earlier : List Fallen) (t : Atom) (items : List Fallen) (i : ℕ) (d : Fallen) (atoms : List Atom) (latest : ℕ) → i < length items → Implies (get_or items i d).atom t ⊎ IsRedundant s earlier (get_or items i d)
     → Collects s start earlier t (take i items) atoms latest → Collects s start earlier t (take (i + 1) items) atoms latest
@@ -316,6 +316,8 @@ Collects-skip s start earlier t items i d atoms latest l why h = record {
   within = h.within;
   each = h.each;
   reached = h.reached;
+  late = h.late;
+  subjects = h.subjects;
   apart = h.apart;
   covers = All-more (IsCollected s earlier t atoms) items i d l h.covers (inr why);
 }
@@ -336,6 +338,8 @@ Collects-push s start all t items i d atoms latest latest' l earlier apart one o
         let k = Contains-append_left atoms (u ∷ []) w.1 (w.0, w.2, w.3) in
         (k.0, w.1, k.1, k.2, subst (IsFalseFrom s w.1) q w.4))
   ];
+  late = All-push (NotFalseAtBottom s) atoms u h.late earlier.late;
+  subjects = All-push (λ v. v.subject < length s.first) atoms u h.subjects earlier.fallen.subject;
   apart = All-push (λ v. Implies v t → ⊥) atoms u h.apart apart;
   covers = All-more (IsCollected s all t (atoms ++ u ∷ [])) items i d l
       (All-weaker (IsCollected s all t atoms) (IsCollected s all t (atoms ++ u ∷ [])) (λ f c. elim c [ inl x ↦ inl (Contains-append_left atoms (u ∷ []) f.atom x) | inr x ↦ inr x ]) (take i items) h.covers)

@@ -14,7 +14,7 @@ use Rattle.cps_trail.proofs.Marks.{up_to-up_to}
 use Rattle.cps_trail.proofs.Times.{IsFalseAfter-take, IsFalseAfter-all, IsFalseAfter-up_to, IsTrueAfter-up_to}
 use Rattle.cps_trail.proofs.Falls.{bool_cases, EndsAt-same, not_both}
 use Rattle.cps_conflict.specs.declared.resolvent.Fallen.{Fallen}
-use Rattle.cps_conflict.specs.Conflicts.{Premises, BecameFalse, Asserts}
+use Rattle.cps_conflict.specs.Conflicts.{Premises, BecameFalse, NotFalseAtBottom, Asserts}
 use Rattle.cps_conflict.specs.Levels.{IsLevelOf}
 use Rattle.cps_conflict.specs.Drafts.{Draft, IsBacked, slot_of, HoldsAt, IsFallenAt, AddsAll, FallsBefore, IsShown, Covers, HasSlot, Resolves, IsLastSlot, IsCollected, Collects, AnalysisSoFar}
 use Rattle.cps_conflict.proofs.Drafting.{holds_cases, slot_within}
@@ -157,6 +157,19 @@ module _ (s : Trail) (start n : ℕ) (t : Atom) (earlier : List Fallen) (atoms c
               some.4.not_before under.0 under.2 (implied_false s.first (take under.0 s.entries) some.1 to.1 to.4 (IsFalseAfter-begin s l under.0 to.1 under.1 there))
         ];
   }
+
+-- what holds of all atoms, holds of those of their normal form
+pub normal_all : (P : Atom → Type 0) (atoms clause : List Atom) (t : Atom) → IsNormalOf (atoms ++ t ∷ []) clause → All P atoms → P t → All P clause
+normal_all P atoms clause t normal_of all here k d l = elim (Contains-push_cases atoms t (get_or clause k d) (normal_of.kept k d l)) [
+  | inl has ↦ All-contains P atoms (get_or clause k d) all has
+  | inr e ↦ subst P e here
+]
+
+-- an atom that fell at the present level did not at level 0
+pub late_here : (s : Trail) (start n : ℕ) (t : Atom) → EndsAt s (s.level - 1) start → start < n → IsFallenAt s t n → NotFalseAtBottom s t
+late_here s start n t ends later fallen f =
+    let bottom = subst (λ (es : List Entry). IsFalseAfter s.first es t) (sym (up_to-up_to 0 (s.level - 1) s.entries (omega arith))) f in
+    fallen.from.not_before start later (IsFalseAfter-begin s (s.level - 1) start t ends (IsFalseAfter-up_to s.first (up_to (s.level - 1) s.entries) 0 t bottom))
 
 -- the walk begins
 pub AnalysisSoFar-none : (s : Trail) (conflict : List Atom) (old d : Draft) → AddsAll s old d conflict → Any (BecameFalse s) conflict → AnalysisSoFar s conflict (length d.present) d

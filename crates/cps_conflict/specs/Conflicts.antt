@@ -20,6 +20,10 @@ pub record BecameFalse (s : Trail) (t : Atom) : Type 0 where
   pub now : IsFalseNow s t
   pub not_below : IsFalseAfter s.first (up_to (s.level - 1) s.entries) t → ⊥
 
+-- an atom was not false yet at the end of level 0
+abbrev pub NotFalseAtBottom : Trail → Atom → Type 0
+NotFalseAtBottom s t = IsFalseAfter s.first (up_to 0 s.entries) t → ⊥
+
 -- all of a clause but the atom at one place is false at the end of a level
 abbrev pub AreFalseBeside : Trail → List Atom → ℕ → ℕ → Type 0
 AreFalseBeside s clause place level = (j : ℕ) (d : Atom) → j < length clause → j ≢ place → IsFalseAfter s.first (up_to level s.entries) (slice_index_or clause j d)

@@ -6,7 +6,7 @@ use Rattle.cps_literal.specs.Truth.{atom_holds, clause_holds, value_at, Implies}
 use Rattle.cps_trail.specs.Trail.{Trail, Entry, IsFalseAfter, IsFalseFrom, EndsAt, IsSound, IsWithin, leaves}
 use Rattle.cps_trail.specs.Changes.{IsOn}
 use Rattle.cps_conflict.specs.declared.resolvent.Fallen.{Fallen}
-use Rattle.cps_conflict.specs.Conflicts.{reason_holds}
+use Rattle.cps_conflict.specs.Conflicts.{reason_holds, NotFalseAtBottom}
 
 -- a clause in the making: how many entries there were when the level below and level 0 ended, for each later entry
 -- the atom that fell with it, and the atoms that fell before
@@ -43,10 +43,11 @@ pub record Unites (s : Trail) (place : ℕ) (one other w : Atom) : Type 0 where
   pub implied : Implies one w
   pub implied' : Implies other w
 
--- an atom fell at an earlier level
+-- an atom fell at an earlier level, but not at level 0
 pub record IsEarlier (s : Trail) (start : ℕ) (f : Fallen) : Type 0 where
   pub fallen : IsFallenAt s f.atom f.from
   pub early : f.from ≤ start
+  pub late : NotFalseAtBottom s f.atom
 
 -- the numbers of a draft are those of the store
 pub record IsDraft (s : Trail) (d : Draft) : Type 0 where
@@ -171,11 +172,14 @@ IsRedundant s earlier f = HoldsBefore s earlier f.from f.atom
 abbrev pub IsCollected : Trail → List Fallen → Atom → List Atom → Fallen → Type 0
 IsCollected s earlier t atoms f = Contains atoms f.atom ⊎ (Implies f.atom t ⊎ IsRedundant s earlier f)
 
--- the atoms of earlier levels but those that imply one atom or are redundant; after `latest` entries all were false
+-- the atoms of earlier levels but those that imply one atom or are redundant; after `latest` entries all were false,
+-- and none at the end of level 0
 pub record Collects (s : Trail) (start : ℕ) (earlier : List Fallen) (t : Atom) (some : List Fallen) (atoms : List Atom) (latest : ℕ) : Type 0 where
   pub within : latest ≤ start
   pub each : All (λ u. IsFalseAfter s.first (take latest s.entries) u) atoms
   pub reached : latest ≢ 0 → Any (λ u. IsFalseFrom s u latest) atoms
+  pub late : All (NotFalseAtBottom s) atoms
+  pub subjects : All (λ u. u.subject < length s.first) atoms
   pub apart : All (λ u. Implies u t → ⊥) atoms
   pub covers : All (IsCollected s earlier t atoms) some
 

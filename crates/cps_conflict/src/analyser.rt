@@ -6,7 +6,7 @@ ghost use Rattle.cps_literal.specs.Normal.{IsNormal};
 ghost use Rattle.cps_literal.specs.Truth.{clause_holds};
 ghost use Rattle.cps_trail.specs.Trail.{IsFalseNow, IsSound};
 ghost use Rattle.cps_trail.specs.Adds.{Follows};
-ghost use Rattle.cps_conflict.specs.Conflicts.{Premises, BecameFalse, Asserts};
+ghost use Rattle.cps_conflict.specs.Conflicts.{Premises, BecameFalse, NotFalseAtBottom, Asserts};
 
 use crate::learnt::Learnt;
 use crate::levels::level_of;
@@ -43,6 +43,8 @@ impl Analyser {
         requires present { Any (BecameFalse store.now) conflict.now }
         ensures follows { IfOk result (λ l. Follows (Premises store.now.entries conflict.now) store.now.first l.clause) }
         ensures false_now { IfOk result (λ l. All (IsFalseNow store.now) l.clause) }
+        ensures new { IfOk result (λ l. All (NotFalseAtBottom store.now) l.clause) }
+        ensures subjects { IfOk result (λ l. All (λ t. t.subject < length store.now.first) l.clause) }
         ensures normal { IfOk result (λ l. IsNormal l.clause) }
         ensures asserts { IfOk result (λ l. Asserts store.now l.clause l.assert l.back_level) }
     {
@@ -68,6 +70,8 @@ impl Analyser {
         requires slot { slot_of self.old.resolvent.present slot ≡ Some atom }
         requires alone { (k : ℕ) → k ≢ slot → slot_of self.old.resolvent.present k ≡ None }
         ensures holds { IfOk result (λ l. (a : List ℤ) → IsBacked store.now a → HoldsAt a self.old.resolvent → clause_holds l.clause a ≡ true) }
+        ensures new { IfOk result (λ l. All (NotFalseAtBottom store.now) l.clause) }
+        ensures subjects { IfOk result (λ l. All (λ t. t.subject < length store.now.first) l.clause) }
         ensures normal { IfOk result (λ l. IsNormal l.clause) }
         ensures asserts { IfOk result (λ l. Asserts store.now l.clause l.assert l.back_level) }
     {

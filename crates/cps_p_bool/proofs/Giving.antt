@@ -95,6 +95,7 @@ IsConflict-denied s e last used b c h l x d = record {
         x.at xs within (holds (enforced s e last xs h (All-append_left (Agrees s xs) e used (d.agrees xs no)) (λ z below. absurd (l below)))) (All-append_right (Agrees s xs) e used (d.agrees xs no)));
   };
   false_now = λ k z below. elim (d.denied (get_or c k z) (All-contains_itself c k z below)) [ inl none ↦ absurd (nothing_in (get_or c k z) none) | inr q ↦ q.false_now ];
+  subjects = λ k z below. elim (d.denied (get_or c k z) (All-contains_itself c k z below)) [ inl none ↦ absurd (nothing_in (get_or c k z) none) | inr q ↦ q.subject ];
 }
 
 -- the opposite of an atom is true where the atom is false

@@ -193,6 +193,7 @@ answers_task en ts admitted l s Settled h = tt
 answers_task en ts admitted l s (Conflict c) h = record {
   follows = Follows-weaker (IsPassing en ts admitted) (HoldsTask (task_of en ts admitted)) (passing_of en ts admitted l) s.first c h.follows;
   false_now = h.false_now;
+  subjects = h.subjects;
 }
 
 pub settled_strong : (s : Trail) (enforcement : List Atom) (ts : List Term) (admitted : Admitted) → is_led ts admitted ≡ true → IsSettled s enforcement ts admitted → IsStrong (task_of enforcement ts admitted) s
