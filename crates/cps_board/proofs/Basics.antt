@@ -10,6 +10,11 @@ use Rattle.cps_port.proofs.Lists.{one_if-same, one_if-other}
 use Rattle.cps_board.specs.Rows.{row_words, data_words, gate, datum, longer}
 
 module _ {A : Type 0} where
+  pub at_below : (l : List A) (i : ℕ) → i < length l → (a : A) × (get_elem? l i ≡ some a)
+  at_below [] i h = absurd (omega arith)
+  at_below (x ∷ xs) zero h = (x, refl)
+  at_below (x ∷ xs) (suc i) h = at_below xs i (omega arith)
+
   pub at_end : (l : List A) (a b : A) (j : ℕ) → get_elem? (l ++ a ∷ []) j ≡ some b → (get_elem? l j ≡ some b) ⊎ ((j ≡ length l) × (a ≡ b))
   at_end [] a b zero e = inr (refl, some-injective a b e)
   at_end [] a b (suc j) e = absurd (some-ne-none b (sym e))

@@ -21,7 +21,7 @@ use Rattle.cps_port.proofs.Places.{total_set, total_snoc, total_at, total_two}
 use Rattle.cps_board.specs.declared.view.View.{View}
 use Rattle.cps_board.specs.Coding.{entry_words, entry_from, IsCoded, IsCodedEntry}
 use Rattle.cps_board.specs.Rows.{all_splits, row_words, data_words, gate, datum, HasData, IsOpen, IsFilling, owns, past, Fits, HasSound, Kept, first_view, spent, kept_half, given_half, joined, with_part, drawing, filling, OfModel, row_drawn, word_put, row_opened, row_looked_at, word_read}
-use Rattle.cps_board.proofs.Basics.{at_end, at_append, at_longer_of, total_le, alone, one_below, one_not_below, one_more, at_most_one, below_of_one, beyond, zeros, early, last, long_snoc, same_list, Away, away_gate, away_word, away_claim}
+use Rattle.cps_board.proofs.Basics.{at_below, at_end, at_append, at_longer_of, total_le, alone, one_below, one_not_below, one_more, at_most_one, below_of_one, beyond, zeros, early, last, long_snoc, same_list, Away, away_gate, away_word, away_claim}
 use Rattle.cps_board.proofs.Coded.{entry_back, coded_entry, words_of_entry, length-entry_words, same_entry}
 
 abbrev splits_of : View → ℕ
@@ -381,6 +381,14 @@ module _ {S : Type 0} (m : CpModel) where
   -- the draws of the last state
   pub counts : (s : State S View) → Rule s → claim_of s ≤ rows_of s + all_splits
   counts s k = let room : total past s.views ≤ total splits_of s.views = total_le past splits_of s.views past_of in let d = k.draws in let sp = k.splits in omega arith
+
+  -- what one seat drew, and what it took, are among them
+  pub covers_draws : (s : State S View) → Rule s → (id : ℕ) (v : View) → get_elem? s.views id ≡ some v → v.draws ≤ claim_of s
+  covers_draws s k id v at = let e = k.counted in let z = total_at draws_of s.views id v at in omega arith
+
+  pub covers_taken : (s : State S View) → Rule s → (id : ℕ) (v : View) → get_elem? s.views id ≡ some v → length v.part.taken ≤ claim_of s
+  covers_taken s k id v at = dite (dec_le (length v.part.taken) 0) (λ none_taken. omega arith)
+      (λ n. let q : ℕ = length v.part.taken - 1 in let o = at_below v.part.taken q (omega arith) in let open_ = (k.each id v at).taken q o.0 o.1 in let h = k.claimed q open_.within open_.gate_open in omega arith)
 
   pub whole : (s : State S View) → Rule s → (id : ℕ) (v : View) → get_elem? s.views id ≡ some v → v.splits ≡ all_splits → claim_of s ≡ v.draws
   whole s k id v at all = let e = k.counted in let z = alone draws_of s.views id v at (λ i u h n. let t = total_two splits_of s.views id i v u at h n in let q = k.splits in (k.each i u h).idle (omega arith)) in omega arith

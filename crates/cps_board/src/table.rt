@@ -1,5 +1,5 @@
 //! The calls.
-ghost use Rattle.std.specs.Prelude.{◌≡◌, ℕ, ◌+◌, ◌-◌, ◌/◌, ◌<◌, ◌≤◌, min, true, if◌then◌else◌, IfOk};
+ghost use Rattle.std.specs.Prelude.{◌≡◌, ℕ, ◌+◌, ◌-◌, ◌/◌, ◌<◌, ◌≤◌, length, min, true, if◌then◌else◌, IfOk};
 ghost use Rattle.cps_port.specs.Incumbents.{HoldsBelow, IsIncumbent};
 ghost use Rattle.cps_port.specs.Entries.{IsShareable};
 ghost use Rattle.cps_port.specs.Parts.{no_rows};
@@ -140,10 +140,13 @@ impl Board {
         seat.full = either(seat.full, full);
     }
 
-    /// How many rows were drawn, with the draws past the last row. A seat with all splits knows it.
+    /// How many rows were drawn, with the draws past the last row, no fewer than the seat drew or took. A seat with all
+    /// splits knows it.
     pub fn close(self, seat: BoardSeat) -> u64
         requires { IsSeatOf self seat }
         ensures at_most { result ≤ rows_of self + all_splits }
+        ensures drawn { draws_of seat ≤ result }
+        ensures taken { length (part_of seat).taken ≤ result }
         ensures whole { splits_of seat ≡ all_splits → result ≡ draws_of seat }
     {
         let Board { table, rows: _ } = self;

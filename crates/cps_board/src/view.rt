@@ -13,5 +13,6 @@ pub struct View {
     pub draws: u64,
     /// What it wrote into the row that it drew last.
     pub written: LinkedList<u64>,
+    /// What it drew, published and took.
     pub part: BoardPart,
 }

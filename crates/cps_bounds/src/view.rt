@@ -8,5 +8,6 @@ pub struct View {
     pub model: Option<ValidModel>,
     /// How much of the table the seat has, of 2^32.
     pub splits: u64,
+    /// What it saw, offered and raised.
     pub part: BoundsPart,
 }

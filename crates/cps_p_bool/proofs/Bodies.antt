@@ -1,23 +1,27 @@
 -- What each Boolean kind needs of its atoms.
-use Rattle.std.proofs.Common.{Result, Ok, ◌≡◌, ℕ, ◌<◌, ℤ, true, false, List, length, refl, sym, subst}
+use Rattle.std.proofs.Common.{Result, Ok, ◌≡◌, ℕ, ◌<◌, ℤ, pos, ◌≤ℤ◌, true, false, List, [], length, get_or, refl, sym, ap, subst}
 use Rattle.std.specs.List.{All}
+use Rattle.std.proofs.lemmas.List.Elements.{All-nil, All-map, All-contains}
 use Rattle.cps_literal.specs.declared.atom.Atom.{Atom}
-use Rattle.cps_instance.specs.declared.task.Task.{Task}
 use Rattle.cps_instance.specs.declared.task.Body.{Body}
 use Rattle.cps_instance.specs.declared.task.Body.TheVariants.{Empty, BoolOr, BoolAnd, AtMostOne, ExactlyOne, BoolXor}
 use Rattle.cps_instance.specs.Tasks.{atom_subjects, subjects_of_body, lowered}
-use Rattle.cps_instance.specs.Terms.{Domains}
+use Rattle.cps_instance.specs.Terms.{Domains, domain_at}
 use Rattle.cps_instance.specs.Fitting.{IsLiteral, IsFitting}
 use Rattle.cps_instance.proofs.Agreeing.{All-append_left, All-append_right}
 use Rattle.cps_trail.specs.Trail.{Trail}
 use Rattle.cps_trail.specs.declared.step.Step.{Step}
 use Rattle.cps_trail.specs.declared.step.Step.TheVariants.{Settled}
+use Rattle.cps_domain.specs.Window.{is_among}
 use Rattle.cps_propagate.specs.Visits.{is_cut, is_cheap}
 use Rattle.cps_p_bool.specs.declared.boolean.Kind.{Kind}
 use Rattle.cps_p_bool.specs.declared.boolean.Kind.TheVariants as kinds
 use Rattle.cps_p_bool.specs.Bodies.{body_of}
 use Rattle.cps_p_bool.specs.Denying.{IsFit, AreLiterals, task_of}
-use Rattle.cps_p_bool.specs.Rules.{Runs}
+use Rattle.cps_p_bool.specs.Rules.{Runs, IsBoolean}
+use Rattle.cps_p_bool.specs.Taking.{HasValues, IsPlain}
+use Rattle.cps_p_bool.specs.Normal.{IsAbout}
+use Rattle.cps_p_bool.proofs.Consistent.{CanHold-anywhere, IsConsistent-anywhere}
 use Rattle.cps_p_bool.proofs.Running.{All-unmap, Runs-settled}
 
 module _ (first : Domains) (e us : List Atom) where
@@ -45,8 +49,42 @@ module _ (first : Domains) (e us : List Atom) where
   pub fits_xor : IsFitting first (task_of e (BoolXor us)) → AreLiterals first us
   fits_xor h = fits_body (BoolXor us) refl h h.body
 
-pub Runs-empty : {E : Type 0} (s : Trail) (e : List Atom) → Runs {E = E} (task_of e Empty) s s (Ok Settled)
-Runs-empty s e = Runs-settled s e Empty (record { holds = λ fixed xs opens all. tt }) (record { body = λ _. tt })
+pub Runs-empty : {E : Type 0} (s : Trail) (e : List Atom) → HasValues s → Runs {E = E} (task_of e Empty) s s (Ok Settled)
+Runs-empty s e values =
+    let fits : AreLiterals s.first [] = All-nil (IsFit s.first) in
+    let plain : IsPlain s [] = record { apart = tt; some_value = values } in
+    Runs-settled s e Empty (record { holds = λ fixed xs opens on. tt }) (CanHold-anywhere s [] fits plain Empty (λ xs agrees. tt)) (λ _. IsConsistent-anywhere s [] fits plain Empty (λ xs agrees. tt))
+
+-- each kind asks of its literals alone
+pub IsBoolean-kind : (k : Kind) (us : List Atom) → (k ≡ kinds.Empty → us ≡ []) → IsBoolean (body_of k us) us
+IsBoolean-kind kinds.Empty us none = record { reads = sym (ap (λ (l : List Atom). atom_subjects l) (none refl)); strong = λ s h. tt; excluded = λ s h. h }
+IsBoolean-kind kinds.Or us none = record { reads = refl; strong = λ s h. h; excluded = λ s h. h }
+IsBoolean-kind kinds.And us none = record { reads = refl; strong = λ s h. h; excluded = λ s h. h }
+IsBoolean-kind kinds.AtMostOne us none = record { reads = refl; strong = λ s h. h; excluded = λ s h. h }
+IsBoolean-kind kinds.ExactlyOne us none = record { reads = refl; strong = λ s h. h; excluded = λ s h. h }
+IsBoolean-kind kinds.Xor us none = record { reads = refl; strong = λ s h. h; excluded = λ s h. h }
+
+pub fits_kind : (first : Domains) (e us : List Atom) (k : Kind) → (k ≡ kinds.Empty → us ≡ []) → IsFitting first (task_of e (body_of k us)) → AreLiterals first us
+fits_kind first e us kinds.Empty none h = subst (λ (l : List Atom). AreLiterals first l) (sym (none refl)) (All-nil (IsFit first))
+fits_kind first e us kinds.Or none h = fits_or first e us h
+fits_kind first e us kinds.And none h = fits_and first e us h
+fits_kind first e us kinds.AtMostOne none h = fits_most first e us h
+fits_kind first e us kinds.ExactlyOne none h = fits_exactly first e us h
+fits_kind first e us kinds.Xor none h = fits_xor first e us h
+
+-- the subject of a literal
+record IsBitSubject (first : Domains) (i : ℕ) : Type 0 where
+  below : i < length first
+  least : (x : ℤ) → is_among (domain_at first i) x ≡ true → pos 0 ≤ℤ x
+  greatest : (x : ℤ) → is_among (domain_at first i) x ≡ true → x ≤ℤ pos 1
+
+-- literals about subjects of literals
+pub fits_about : (first : Domains) (us vs : List Atom) → AreLiterals first us → All (IsAbout us) vs → AreLiterals first vs
+fits_about first us vs fits h k d l =
+    let a = h k d l in
+    let s : IsBitSubject first (get_or vs k d).subject = All-contains (IsBitSubject first) (atom_subjects us) (get_or vs k d).subject
+    (All-map (IsBitSubject first) (λ (u : Atom). u.subject) us (λ i z b. record { below = (fits i z b).subject; least = (fits i z b).literal.least; greatest = (fits i z b).literal.greatest })) a.subject in
+    record { subject = s.below; literal = record { low = a.low; high = a.high; least = s.least; greatest = s.greatest } }
 
 pub lowered_same : (upper : ℤ) (k : Kind) (e us : List Atom) → task_of e (body_of k us) ≡ lowered upper (task_of e (body_of k us))
 lowered_same upper kinds.Empty e us = refl

@@ -1,24 +1,24 @@
 -- What follows from a task where a reason's atoms are false.
 use Rattle.std.proofs.Common.{Result, Ok, Err, ◌≡◌, ◌⊎◌, ℕ, ◌<◌, ℤ, Bool, true, false, not, List, [], ◌∷◌, ◌++◌, length, get_or, refl, sym, ◌∙◌, ap, subst, inl, inr, arith}
 use Rattle.std.specs.List.{list_all, All, Contains}
-use Rattle.std.proofs.lemmas.List.Elements.{All-nil, All-contains_itself, Contains-push, Contains-push_cases}
+use Rattle.std.proofs.lemmas.List.Elements.{All-contains_itself, Contains-push, Contains-push_cases}
 use Rattle.std.proofs.lemmas.List.Sums.{list_all-from_AllPass}
 use Rattle.std.proofs.lemmas.Bool.Decides.{eqb_tells}
 use Rattle.std.proofs.lemmas.List.{get_or_default}
 use Rattle.cps_literal.specs.declared.atom.Atom.{Atom}
 use Rattle.cps_literal.specs.Truth.{atom_holds, clause_holds}
 use Rattle.cps_instance.specs.declared.task.Body.{Body}
-use Rattle.cps_instance.specs.Tasks.{HoldsBody, HoldsTask}
+use Rattle.cps_instance.specs.Tasks.{HoldsTask}
 use Rattle.cps_instance.proofs.Agreeing.{All-append_left, All-append_right}
-use Rattle.cps_trail.specs.Trail.{Trail, admits, IsTrueNow, IsFalseNow, IsWithin, Explains}
+use Rattle.cps_trail.specs.Trail.{Trail, admits, IsTrueNow, IsFalseNow, Explains}
 use Rattle.cps_trail.specs.Adds.{Follows, IsConflict, Infers, Answers}
 use Rattle.cps_trail.specs.declared.step.Step.{Step}
 use Rattle.cps_trail.specs.declared.step.Step.TheVariants.{Settled}
 use Rattle.cps_propagate.specs.Reasons.{IsMadeTrue, IsSaidOf}
 use Rattle.cps_propagate.proofs.Explaining.{Infers-made, Answers-said}
 use Rattle.std.specs.Prelude.{IfOk, OnOk}
-use Rattle.cps_p_bool.specs.Seeking.{IsInForce, IsSought, IsOff}
-use Rattle.cps_p_bool.specs.Denying.{Agrees, IsDenied, Denies, IsReasonFor, Gives, Excludes, task_of}
+use Rattle.cps_p_bool.specs.Seeking.{IsInForce, IsOff}
+use Rattle.cps_p_bool.specs.Denying.{Agrees, Denies, IsReasonFor, Gives, Excludes, task_of}
 use Rattle.cps_p_bool.proofs.Denials.{IsOpposite, opposite_holds, push_before, push_here}
 
 pub by_bool : (b : Bool) → (b ≡ false → ⊥) → b ≡ true

@@ -1,7 +1,7 @@
 -- At most one atom of a list is to be true.
-use Rattle.std.proofs.Common.{Result, Ok, ◌≡◌, ◌≢◌, ℕ, ◌+◌, ◌<◌, ◌≤◌, ℤ, Bool, true, false, not, List, [], ◌∷◌, length, get_or, refl, sym, ◌∙◌, ap, subst, inl, inr, arith}
+use Rattle.std.proofs.Common.{Result, Ok, ◌≡◌, ◌≢◌, ℕ, ◌+◌, ◌<◌, ◌≤◌, ℤ, Bool, true, not, List, [], ◌∷◌, length, get_or, refl, sym, ◌∙◌, ap, subst, inl, inr, arith}
 use Rattle.std.specs.Prelude.{IfOk, OnOk}
-use Rattle.std.specs.List.{list_any, list_all, count_by, All}
+use Rattle.std.specs.List.{list_all, count_by, All}
 use Rattle.std.proofs.Math.Nat.{eq-or-lt_of_le}
 use Rattle.std.proofs.lemmas.List.{get_or_default}
 use Rattle.std.proofs.lemmas.List.Sums.{list_all-from_AllPass}
@@ -15,16 +15,17 @@ use Rattle.cps_trail.specs.Adds.{Infers, Answers}
 use Rattle.cps_trail.proofs.Inferring.{stays_false}
 use Rattle.cps_trail.specs.declared.step.Step.{Step}
 use Rattle.cps_trail.specs.declared.step.Step.TheVariants.{Settled}
-use Rattle.cps_propagate.specs.Strength.{IsStrong, IsStrongOr, IsStrongAtMostOne, IsStrongBody, OthersAre}
-use Rattle.cps_propagate.specs.Laws.{IsDecided}
+use Rattle.cps_propagate.specs.Strength.{OthersAre}
 use Rattle.cps_p_bool.specs.Seeking.{IsInForce}
-use Rattle.cps_p_bool.specs.Denying.{Agrees, Gives, Excludes, task_of}
-use Rattle.cps_p_bool.specs.Rules.{Runs, IsPinned, IsAlone, LimitsToOne}
+use Rattle.cps_p_bool.specs.Denying.{Agrees, Gives, Excludes, AreLiterals, task_of}
+use Rattle.cps_p_bool.specs.Taking.{CanHold, IsConsistent, IsPlain}
+use Rattle.cps_p_bool.specs.Rules.{Runs, IsAlone, LimitsToOne}
 use Rattle.cps_p_bool.proofs.Counting.{count_none, count_one, count_two}
 use Rattle.cps_p_bool.proofs.Denials.{IsOpposite, opposite_holds}
-use Rattle.cps_p_bool.proofs.Placing.{apart, same_or_not}
-use Rattle.cps_p_bool.proofs.Giving.{by_not_true, not_both}
-use Rattle.cps_p_bool.proofs.Running.{pinned_true, IsDecided-pinned, IsDecided-alone, Runs-settled, settled_infers, same_store}
+use Rattle.cps_p_bool.proofs.Placing.{apart}
+use Rattle.cps_p_bool.proofs.Giving.{by_not_true}
+use Rattle.cps_p_bool.proofs.Running.{pinned_true, IsDecided-pinned, IsDecided-alone, Runs-settled, Runs-waiting, settled_infers, same_store}
+use Rattle.cps_p_bool.proofs.Consistent.{IsConsistent-anywhere, CanHold-anywhere, IsConsistent-none, CanHold-none, CanHold-chosen}
 use Rattle.cps_p_bool.proofs.Results.{IfOk-map}
 
 pub all_true : (s : Trail) (e : List Atom) (last : ℕ) → IsInForce s e last → (last < length e → ⊥) → All (IsTrueNow s) e
@@ -60,35 +61,38 @@ module _ (b : Body) (us : List Atom) (n : LimitsToOne b us) where
         omega (arith, two, n.most xs holds);
   }
 
+  alone_holds : (s : Trail) (c : ℕ) → c < length us → IsAlone s us c → (xs : List ℤ) → All (Agrees s xs) us → HoldsBody b xs
+  alone_holds s c l h xs agrees = n.one xs (count_one (atom_holds xs) us c l (λ d. (agrees c d l).if_true (h.chosen d)) (λ k d m ne. (agrees k d m).if_false (h.others k d m ne)))
+
   -- what `close` does
-  pub Runs-closed : {E : Type 0} (s u : Trail) (e : List Atom) (c : ℕ) (a : Result Step E) → c < length us → ((d : Atom) → IsFalseNow s (get_or us c d) → ⊥) → OthersAre (λ v. IsTrueNow s v → ⊥) us c
+  pub Runs-closed : {E : Type 0} (s u : Trail) (e : List Atom) (c : ℕ) (a : Result Step E) → AreLiterals s.first us → IsPlain s us → All (IsTrueNow s) e → c < length us
       → OnOk a ((d : Body) → LimitsToOne d us → Infers (HoldsTask (task_of e d)) s u) → IfOk a (λ step. (d : Body) → LimitsToOne d us → Answers (HoldsTask (task_of e d)) u step)
       → (a ≡ Ok Settled → IsAlone u us c) → Runs (task_of e b) s u a
-  Runs-closed {E} s u e c a l not_false not_true i r alone =
+  Runs-closed {E} s u e c a fits plain trues l i r alone =
       let infers = IfOk-map a {P = λ _. (d : Body) → LimitsToOne d us → Infers (HoldsTask (task_of e d)) s u} {Q = λ _. Infers (HoldsTask (task_of e b)) s u} (λ step h. h b n) i in
       record {
         infers = infers;
         answers = IfOk-map a {P = λ step. (d : Body) → LimitsToOne d us → Answers (HoldsTask (task_of e d)) u step} {Q = Answers (HoldsTask (task_of e b)) u} (λ step h. h b n) r;
         decided = λ is. IsDecided-alone u e b us c n.reads n.one l (alone is);
-        strong = λ is same.
+        possible = λ is same.
             let store = same_store (HoldsTask (task_of e b)) s u (settled_infers {E = E} s e b u a is infers) same in
-            subst (λ (v : Trail). IsStrong (task_of e b) v) (sym store) (record { body = λ _. n.strong s c l (subst (λ (v : Trail). IsAlone v us c) store (alone is)) not_false not_true });
+            subst (λ (v : Trail). CanHold v b) (sym store) (CanHold-anywhere s us fits plain b (alone_holds s c l (subst (λ (v : Trail). IsAlone v us c) store (alone is))));
+        consistent = λ is same _.
+            let store = same_store (HoldsTask (task_of e b)) s u (settled_infers {E = E} s e b u a is infers) same in
+            subst (λ (v : Trail). IsConsistent v b) (sym store) (IsConsistent-anywhere s us fits plain b (alone_holds s c l (subst (λ (v : Trail). IsAlone v us c) store (alone is))));
+        waiting = λ _ no. absurd (no trues);
       }
 
-one_beside : (s : Trail) (us : List Atom) (c : ℕ) → IsAlone s us c → OthersAre (λ v. IsTrueNow s v → ⊥) us c → IsStrongAtMostOne s us
-one_beside s us c h not_true = record {
-  others = λ k d m t j w b ne. elim (same_or_not k c) [
-    | inl same ↦ h.others j w b (λ e. ne (e ∙ sym same))
-    | inr other ↦ absurd (not_true k d m other t)
-  ];
-}
+  -- one atom is true, no other is, and the last enforcement atom is open
+  pub Runs-chosen : {E : Type 0} (s : Trail) (e : List Atom) (place c : ℕ) → AreLiterals s.first us → IsPlain s us → place < length e → ((d : Atom) → IsTrueNow s (get_or e place d) → ⊥)
+      → c < length us → ((d : Atom) → IsTrueNow s (get_or us c d)) → OthersAre (λ v. IsTrueNow s v → ⊥) us c → Runs {E = E} (task_of e b) s s (Ok Settled)
+  Runs-chosen s e place c fits plain l not_true m chosen others = Runs-waiting s e b (CanHold-chosen s us fits plain b n.one c m chosen others) place l not_true
 
 pub LimitsToOne-most : (us : List Atom) → LimitsToOne (AtMostOne us) us
 LimitsToOne-most us = record {
   reads = refl;
   most = λ xs h. h;
   one = λ xs e. omega (arith, e);
-  strong = λ s c l h not_false not_true. one_beside s us c h not_true;
 }
 
 pub LimitsToOne-exactly : (us : List Atom) → LimitsToOne (ExactlyOne us) us
@@ -96,24 +100,15 @@ LimitsToOne-exactly us = record {
   reads = refl;
   most = λ xs h. omega (arith, h);
   one = λ xs e. e;
-  strong = λ s c l h not_false not_true. record {
-    one = record {
-      last = λ k d m others. elim (same_or_not k c) [
-        | inl same ↦ subst (λ (i : ℕ). IsTrueNow s (get_or us i d)) (sym same) (h.chosen d)
-        | inr ne ↦ absurd (not_false d (others c d l (λ e. ne (sym e))))
-      ];
-    };
-    most = one_beside s us c h not_true;
-  };
 }
 
 -- no atom is true
-pub Runs-none : {E : Type 0} (s : Trail) (e us : List Atom) → All (λ v. IsTrueNow s v → ⊥) us → Runs {E = E} (task_of e (AtMostOne us)) s s (Ok Settled)
-Runs-none s e us none = Runs-settled s e (AtMostOne us)
+pub Runs-none : {E : Type 0} (s : Trail) (e us : List Atom) → AreLiterals s.first us → IsPlain s us → All (λ v. IsTrueNow s v → ⊥) us → Runs {E = E} (task_of e (AtMostOne us)) s s (Ok Settled)
+Runs-none s e us fits plain none = Runs-settled s e (AtMostOne us)
     (IsDecided-pinned s e (AtMostOne us) us refl (λ xs pins.
     let zero_true : true_atoms xs us ≡ 0 = count_none (atom_holds xs) us (λ k d l. by_not_true (atom_holds xs (get_or us k d)) (λ yes. none k d l (pinned_true s xs (get_or us k d) (pins k d l) yes))) in
     omega (arith, zero_true)))
-    (record { body = λ _. record { others = λ k d m t. absurd (none k d m t) } })
+    (CanHold-none s us fits plain none) (λ _. IsConsistent-none s us fits plain none)
 
 -- the atoms made false so far, and one more
 pub closed_more : (C : List ℤ → Type 0) (s u : Trail) (us : List Atom) (c i : ℕ) → Infers C s u → ((k : ℕ) (d : Atom) → k < i → k < length us → k ≢ c → IsFalseNow s (get_or us k d)) → (i ≢ c → (d : Atom) → IsFalseNow u (get_or us i d))

@@ -1,5 +1,5 @@
 -- Some atom of a list is to be true.
-use Rattle.std.proofs.Common.{Result, Ok, ◌≡◌, ◌≢◌, ℕ, ◌+◌, ◌<◌, ◌≤◌, ℤ, true, false, List, length, get_or, refl, sym, ◌∙◌, ap, subst, inl, inr, arith}
+use Rattle.std.proofs.Common.{Ok, ◌≡◌, ◌≢◌, ℕ, ◌<◌, ℤ, false, List, length, get_or, refl, sym, subst, inl, inr, arith}
 use Rattle.std.specs.List.{list_any, All}
 use Rattle.std.proofs.lemmas.List.{get_or_default}
 use Rattle.std.proofs.lemmas.List.Folds.{list_any_none}
@@ -7,21 +7,22 @@ use Rattle.cps_literal.specs.declared.atom.Atom.{Atom}
 use Rattle.cps_literal.specs.Truth.{atom_holds}
 use Rattle.cps_instance.specs.declared.task.Body.{Body}
 use Rattle.cps_instance.specs.declared.task.Body.TheVariants.{BoolOr, ExactlyOne}
-use Rattle.cps_instance.specs.Tasks.{HoldsBody, HoldsTask, true_atoms}
+use Rattle.cps_instance.specs.Tasks.{HoldsBody, HoldsTask}
 use Rattle.cps_trail.specs.Trail.{Trail, IsTrueNow, IsFalseNow}
 use Rattle.cps_trail.specs.Adds.{Infers}
 use Rattle.cps_trail.proofs.Inferring.{stays_false}
-use Rattle.cps_trail.specs.declared.step.Step.{Step}
 use Rattle.cps_trail.specs.declared.step.Step.TheVariants.{Settled}
-use Rattle.cps_propagate.specs.Strength.{IsStrong, IsStrongOr, IsStrongBody, OthersAre}
+use Rattle.cps_propagate.specs.Strength.{OthersAre}
 use Rattle.cps_propagate.specs.Laws.{IsDecided}
 use Rattle.cps_p_bool.specs.Seeking.{IsInForce}
-use Rattle.cps_p_bool.specs.Denying.{Agrees, Gives, Excludes, task_of}
-use Rattle.cps_p_bool.specs.Rules.{Runs, IsPinned, IsAlone, NeedsOne}
+use Rattle.cps_p_bool.specs.Denying.{Agrees, Gives, Excludes, AreLiterals, task_of}
+use Rattle.cps_p_bool.specs.Taking.{CanHold, IsConsistent, IsPlain}
+use Rattle.cps_p_bool.specs.Rules.{Runs, IsAlone, NeedsOne}
 use Rattle.cps_p_bool.proofs.Counting.{count_one, any_of_count, any_at}
 use Rattle.cps_p_bool.proofs.Placing.{same_or_not}
 use Rattle.cps_p_bool.proofs.Giving.{by_bool, by_not_true, not_both, enforced}
-use Rattle.cps_p_bool.proofs.Running.{pinned_true, pinned_false, pinned_agrees, IsDecided-pinned, IsDecided-alone, Runs-settled, some_atom}
+use Rattle.cps_p_bool.proofs.Consistent.{IsConsistent-anywhere, CanHold-anywhere, IsConsistent-or, IsConsistent-live, CanHold-or, CanHold-live}
+use Rattle.cps_p_bool.proofs.Running.{pinned_true, pinned_false, IsDecided-pinned, IsDecided-alone, Runs-settled, some_atom}
 
 module _ (s : Trail) (b : Body) (us : List Atom) (n : NeedsOne s b us) where
   pub Excludes-false : All (IsFalseNow s) us → Excludes s b us
@@ -47,46 +48,34 @@ module _ (s : Trail) (b : Body) (us : List Atom) (n : NeedsOne s b us) where
     pub IsDecided-live : (e : List Atom) (z : Atom) (u : Trail) → Infers (HoldsTask (task_of e b)) s u → IsTrueNow u (get_or us p z) → IsDecided (task_of e b) u
     IsDecided-live e z u h t = IsDecided-alone u e b us p n.reads n.one l (alone u z (λ k d m ne. stays_false (HoldsTask (task_of e b)) s u h (get_or us k d) (others k d m ne)) t)
 
-    pub IsStrong-live : (e : List Atom) (z : Atom) → ((d : Atom) → IsFalseNow s (get_or us p d) → ⊥) → IsTrueNow s (get_or us p z) → IsStrong (task_of e b) s
-    IsStrong-live e z not_false t = record { body = λ _. n.strong_one p l (alone s z others t) not_false }
+    pub holds-live : (z : Atom) → AreLiterals s.first us → IsPlain s us → IsTrueNow s (get_or us p z) → CanHold s b × IsConsistent s b
+    holds-live z fits plain t =
+        let h = alone s z others t in
+        let holds : (xs : List ℤ) → All (Agrees s xs) us → HoldsBody b xs = λ xs agrees.
+        n.one xs (count_one (atom_holds xs) us p l (λ d. (agrees p d l).if_true (h.chosen d)) (λ k d m ne. (agrees k d m).if_false (h.others k d m ne))) in
+        (CanHold-anywhere s us fits plain b holds, IsConsistent-anywhere s us fits plain b holds)
 
   pub Runs-two : {E : Type 0} (e : List Atom) (i j : ℕ) → i < j → j < length us → ((d : Atom) → IsFalseNow s (get_or us i d) → ⊥) → ((d : Atom) → IsFalseNow s (get_or us j d) → ⊥) → Runs {E = E} (task_of e b) s s (Ok Settled)
   Runs-two e i j a l f g =
-      Runs-settled s e b (IsDecided-pinned s e b us n.reads (λ xs pins. n.fixed xs pins i (omega (arith, a, l)) f)) (record { body = λ _. n.strong_two i j a l f g })
+      Runs-settled s e b (IsDecided-pinned s e b us n.reads (λ xs pins. n.fixed xs pins i (omega (arith, a, l)) f)) (n.live i (omega (arith, a, l)) f) (λ _. n.two i j a l f g)
 
-or_one : (s : Trail) (us : List Atom) (c : ℕ) → c < length us → IsAlone s us c → ((d : Atom) → IsFalseNow s (get_or us c d) → ⊥) → IsStrongOr s us
-or_one s us c l h not_false = record {
-  last = λ k d m others. elim (same_or_not k c) [
-    | inl same ↦ subst (λ (i : ℕ). IsTrueNow s (get_or us i d)) (sym same) (h.chosen d)
-    | inr ne ↦ absurd (not_false d (others c d l (λ e. ne (sym e))))
-  ];
-}
-
-or_two : (s : Trail) (us : List Atom) (i j : ℕ) → i < j → j < length us → ((d : Atom) → IsFalseNow s (get_or us i d) → ⊥) → ((d : Atom) → IsFalseNow s (get_or us j d) → ⊥) → IsStrongOr s us
-or_two s us i j a l f g = record {
-  last = λ k d m others. elim (same_or_not i k) [
-    | inl same ↦ absurd (g d (others j d l (λ e. omega (arith, a, same, e))))
-    | inr ne ↦ absurd (f d (others i d (omega (arith, a, l)) ne))
-  ];
-}
-
-pub NeedsOne-or : (s : Trail) (us : List Atom) → NeedsOne s (BoolOr us) us
-NeedsOne-or s us = record {
+pub NeedsOne-or : (s : Trail) (us : List Atom) → AreLiterals s.first us → IsPlain s us → NeedsOne s (BoolOr us) us
+NeedsOne-or s us fits plain = record {
   reads = refl;
   some = λ xs h. h;
   one = λ xs e. any_of_count (atom_holds xs) us e;
-  strong_one = λ c l h not_false. or_one s us c l h not_false;
-  strong_two = λ i j a l f g. or_two s us i j a l f g;
+  live = λ c l f. CanHold-or s us fits plain c l f;
+  two = λ i j a l f g. IsConsistent-or s us fits plain i j a l f g;
   fixed = λ xs pins i l f. any_at (atom_holds xs) us i l (λ d. by_bool (atom_holds xs (get_or us i d)) (λ no. f d (pinned_false s xs (get_or us i d) (pins i d l) no)));
 }
 
-pub NeedsOne-exactly : (s : Trail) (us : List Atom) → All (λ u. IsTrueNow s u → ⊥) us → NeedsOne s (ExactlyOne us) us
-NeedsOne-exactly s us none = record {
+pub NeedsOne-exactly : (s : Trail) (us : List Atom) → AreLiterals s.first us → IsPlain s us → All (λ u. IsTrueNow s u → ⊥) us → NeedsOne s (ExactlyOne us) us
+NeedsOne-exactly s us fits plain none = record {
   reads = refl;
   some = λ xs h. any_of_count (atom_holds xs) us h;
   one = λ xs e. e;
-  strong_one = λ c l h not_false. record { one = or_one s us c l h not_false; most = record { others = λ k d m t. absurd (none k d m t) } };
-  strong_two = λ i j a l f g. record { one = or_two s us i j a l f g; most = record { others = λ k d m t. absurd (none k d m t) } };
+  live = λ c l f. CanHold-live s us fits plain none c l f;
+  two = λ i j a l f g. IsConsistent-live s us fits plain none i j a l f g;
   fixed = λ xs pins i l f.
       let z = some_atom us i l in
       absurd (f z (pinned_false s xs (get_or us i z) (pins i z l) (by_not_true (atom_holds xs (get_or us i z)) (λ yes. none i z l (pinned_true s xs (get_or us i z) (pins i z l) yes)))));

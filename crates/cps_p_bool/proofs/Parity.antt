@@ -1,5 +1,5 @@
 -- An odd number of atoms of a list are to be true.
-use Rattle.std.proofs.Common.{length-drop, Result, Ok, ◌≡◌, ◌≢◌, ◌⊎◌, ℕ, ◌+◌, ◌-◌, ◌%◌, ◌<◌, ◌≤◌, ℤ, Bool, true, false, not, cond, List, length, take, drop, get_or, get_or-take, refl, sym, ◌∙◌, ap, subst, inl, inr, arith, add-one}
+use Rattle.std.proofs.Common.{length-drop, Ok, ◌≡◌, ◌⊎◌, ℕ, ◌+◌, ◌-◌, ◌%◌, ◌<◌, ◌≤◌, ℤ, Bool, true, false, not, List, length, take, drop, get_or, get_or-take, refl, sym, ◌∙◌, ap, subst, inl, inr, arith, add-one}
 use Rattle.std.specs.List.{count_by, All}
 use Rattle.std.proofs.lemmas.List.{get_or-drop}
 use Rattle.std.proofs.lemmas.List.{take_rest, length-take-le}
@@ -7,27 +7,25 @@ use Rattle.std.proofs.lemmas.List.Elements.{All-take, All-drop}
 use Rattle.std.proofs.lemmas.List.Sums.{count_by_more_yes, count_by_more_no}
 use Rattle.cps_literal.specs.declared.atom.Atom.{Atom}
 use Rattle.cps_literal.specs.Truth.{atom_holds}
-use Rattle.cps_instance.specs.declared.task.Body.{Body}
 use Rattle.cps_instance.specs.declared.task.Body.TheVariants.{BoolXor}
-use Rattle.cps_instance.specs.Tasks.{HoldsBody, HoldsTask, true_atoms}
-use Rattle.cps_trail.specs.Trail.{Trail, IsTrueNow, IsFalseNow}
+use Rattle.cps_instance.specs.Tasks.{HoldsTask, true_atoms}
+use Rattle.cps_trail.specs.Trail.{Trail, IsTrueNow}
 use Rattle.cps_trail.specs.Adds.{Infers}
 use Rattle.cps_trail.proofs.Inferring.{stays_true, stays_false}
-use Rattle.cps_trail.specs.declared.step.Step.{Step}
 use Rattle.cps_trail.specs.declared.step.Step.TheVariants.{Settled}
 use Rattle.cps_propagate.specs.Now.{IsKnownNow}
-use Rattle.cps_propagate.specs.Strength.{IsStrong}
 use Rattle.cps_propagate.specs.Laws.{IsDecided}
-use Rattle.cps_p_bool.specs.Seeking.{IsInForce, IsSought}
+use Rattle.cps_p_bool.specs.Seeking.{IsSought}
 use Rattle.cps_p_bool.specs.declared.seek.Sought.TheVariants.{Open}
-use Rattle.cps_p_bool.specs.Denying.{Agrees, Gives, Excludes, task_of}
+use Rattle.cps_p_bool.specs.Denying.{Agrees, Gives, Excludes, AreLiterals, task_of}
+use Rattle.cps_p_bool.specs.Taking.{IsPlain}
 use Rattle.cps_p_bool.specs.Rules.{Runs, IsPinned}
 use Rattle.cps_p_bool.proofs.Counting.{bit, count_split}
 use Rattle.cps_p_bool.proofs.Denials.{IsOpposite, opposite_holds}
-use Rattle.cps_p_bool.proofs.Placing.{same_or_not}
 use Rattle.cps_p_bool.proofs.Giving.{by_bool, by_not_true, opposite_true}
 use Rattle.cps_p_bool.proofs.Limiting.{enforced_all}
-use Rattle.cps_p_bool.proofs.Running.{pinned_true, pinned_false, pinned_agrees, IsDecided-pinned, Runs-settled, some_atom}
+use Rattle.cps_p_bool.proofs.Running.{pinned_true, pinned_false, pinned_agrees, IsDecided-pinned, Runs-settled, Runs-waiting, some_atom}
+use Rattle.cps_p_bool.proofs.Consistent.{IsConsistent-anywhere, CanHold-anywhere, IsConsistent-xor, CanHold-xor}
 
 bool_cases : (b : Bool) → (b ≡ true) ⊎ (b ≡ false)
 bool_cases true = inl refl
@@ -47,23 +45,25 @@ open_known : (s : Trail) (u : Atom) → IsSought Open s u → IsKnownNow s u →
 open_known s u o k = elim k [ inl t ↦ o.0 t | inr f ↦ o.1 f ]
 
 -- two open atoms leave each other open
-pub Runs-open : {E : Type 0} (s : Trail) (e us : List Atom) (i j : ℕ) → i < j → j < length us → ((d : Atom) → IsSought Open s (get_or us i d)) → ((d : Atom) → IsSought Open s (get_or us j d)) → Runs {E = E} (task_of e (BoolXor us)) s s (Ok Settled)
-Runs-open s e us i j a l o q = Runs-settled s e (BoolXor us)
+pub Runs-open : {E : Type 0} (s : Trail) (e us : List Atom) (i j : ℕ) → AreLiterals s.first us → IsPlain s us → i < j → j < length us → ((d : Atom) → IsSought Open s (get_or us i d)) → ((d : Atom) → IsSought Open s (get_or us j d))
+    → Runs {E = E} (task_of e (BoolXor us)) s s (Ok Settled)
+Runs-open s e us i j fits plain a l o q = Runs-settled s e (BoolXor us)
     (IsDecided-pinned s e (BoolXor us) us refl (λ xs pins. let z = some_atom us j l in absurd (open_known s (get_or us j z) (q z) (known_pinned s xs (get_or us j z) (pins j z l)))))
-    (record {
-      body = λ _. record {
-        last = λ k d m others. elim (same_or_not i k) [
-          | inl same ↦ absurd (open_known s (get_or us j d) (q d) (others j d l (λ e'. omega (arith, a, same, e'))))
-          | inr ne ↦ absurd (open_known s (get_or us i d) (o d) (others i d (omega (arith, a, l)) ne))
-        ];
-      };
-    })
+    (CanHold-xor s us fits plain j l (λ d. (q d).0) (λ d. (q d).1))
+    (λ _. IsConsistent-xor s us fits plain i j a l (λ d. (o d).0) (λ d. (o d).1) (λ d. (q d).0) (λ d. (q d).1))
+
+-- an atom and the last enforcement atom are open
+pub Runs-open_both : {E : Type 0} (s : Trail) (e us : List Atom) (place i : ℕ) → AreLiterals s.first us → IsPlain s us → place < length e → ((d : Atom) → IsTrueNow s (get_or e place d) → ⊥) → i < length us
+    → ((d : Atom) → IsSought Open s (get_or us i d)) → Runs {E = E} (task_of e (BoolXor us)) s s (Ok Settled)
+Runs-open_both s e us place i fits plain l not_true m o = Runs-waiting s e (BoolXor us) (CanHold-xor s us fits plain i m (λ d. (o d).0) (λ d. (o d).1)) place l not_true
 
 -- all atoms are known
-pub Runs-known : {E : Type 0} (s : Trail) (e us : List Atom) (n : ℕ) → All (IsKnownNow s) us → ((xs : List ℤ) → All (Agrees s xs) us → true_atoms xs us ≡ n) → n % 2 ≡ 1 → Runs {E = E} (task_of e (BoolXor us)) s s (Ok Settled)
-Runs-known s e us n known count parity = Runs-settled s e (BoolXor us)
+pub Runs-known : {E : Type 0} (s : Trail) (e us : List Atom) (n : ℕ) → AreLiterals s.first us → IsPlain s us → All (IsKnownNow s) us → ((xs : List ℤ) → All (Agrees s xs) us → true_atoms xs us ≡ n) → n % 2 ≡ 1
+    → Runs {E = E} (task_of e (BoolXor us)) s s (Ok Settled)
+Runs-known s e us n fits plain known count parity = Runs-settled s e (BoolXor us)
     (IsDecided-pinned s e (BoolXor us) us refl (λ xs pins. ap (λ (m : ℕ). m % 2) (count xs (pinned_agrees s xs us pins)) ∙ parity))
-    (record { body = λ _. record { last = λ k d m others. known k d m } })
+    (CanHold-anywhere s us fits plain (BoolXor us) (λ xs agrees. ap (λ (m : ℕ). m % 2) (count xs agrees) ∙ parity))
+    (λ _. IsConsistent-anywhere s us fits plain (BoolXor us) (λ xs agrees. ap (λ (m : ℕ). m % 2) (count xs agrees) ∙ parity))
 
 pub Excludes-even : (s : Trail) (us : List Atom) (n : ℕ) → ((xs : List ℤ) → All (Agrees s xs) us → true_atoms xs us ≡ n) → (n % 2 ≡ 1 → ⊥) → Excludes s (BoolXor us) us
 Excludes-even s us n count even = record { at = λ xs within holds agrees. even (sym (ap (λ (m : ℕ). m % 2) (count xs agrees)) ∙ holds) }

@@ -1,27 +1,25 @@
 -- What the steps of a kind give of its law.
-use Rattle.std.proofs.Common.{Result, Ok, Err, ◌≡◌, ◌≢◌, ◌⊎◌, ℕ, zero, suc, ◌+◌, ◌<◌, ◌≤◌, ℤ, Bool, true, false, not, List, [], ◌∷◌, ◌++◌, map, length, get_or, refl, sym, ◌∙◌, ap, subst, inl, inr, arith}
+use Rattle.std.proofs.Common.{Result, Ok, ◌≡◌, ℕ, zero, suc, ◌<◌, ℤ, true, false, List, [], ◌∷◌, length, get_or, refl, sym, subst, inl, inr, arith}
 use Rattle.std.specs.Prelude.{IfOk, OnOk}
-use Rattle.std.specs.List.{list_all, All}
-use Rattle.std.proofs.lemmas.List.{get_or_default}
+use Rattle.std.specs.List.{All}
 use Rattle.std.proofs.lemmas.List.Sums.{AllPass-from_list_all}
 use Rattle.cps_literal.specs.declared.atom.Atom.{Atom}
 use Rattle.cps_literal.specs.Truth.{meets, value_at, atom_holds}
-use Rattle.cps_instance.specs.declared.task.Task.{Task}
 use Rattle.cps_instance.specs.declared.task.Body.{Body}
-use Rattle.cps_instance.specs.Tasks.{HoldsBody, HoldsTask, atom_subjects, subjects_of_body, subjects_of, true_atoms}
+use Rattle.cps_instance.specs.Tasks.{HoldsBody, HoldsTask, atom_subjects, subjects_of_body, true_atoms}
 use Rattle.cps_instance.proofs.Agreeing.{All-append_left, All-append_right}
-use Rattle.cps_trail.specs.Trail.{Trail, admits, IsTrueNow, IsFalseNow}
+use Rattle.cps_trail.specs.Trail.{Trail, IsTrueNow, IsFalseNow}
 use Rattle.cps_trail.specs.Adds.{Infers, Answers}
 use Rattle.cps_trail.specs.declared.step.Step.{Step}
-use Rattle.cps_trail.specs.declared.step.Step.TheVariants.{Settled, Conflict}
+use Rattle.cps_trail.specs.declared.step.Step.TheVariants.{Settled}
 use Rattle.cps_trail.proofs.Inferring.{Infers-refl, same_midway}
 use Rattle.cps_propagate.specs.Now.{IsFixedNow, IsOpenTo, AreOpen}
-use Rattle.cps_propagate.specs.Strength.{IsStrong, IsStrongBody}
 use Rattle.cps_propagate.specs.Laws.{IsDecided}
-use Rattle.cps_p_bool.specs.Seeking.{IsInForce, IsIdle, IsOff}
+use Rattle.cps_p_bool.specs.Seeking.{IsInForce, IsOff}
 use Rattle.cps_p_bool.specs.Denying.{Agrees, Gives, Excludes, task_of}
 use Rattle.cps_p_bool.specs.Rules.{Runs, IsPinned, IsAlone}
-use Rattle.cps_p_bool.proofs.Giving.{by_bool, not_both}
+use Rattle.cps_p_bool.specs.Taking.{CanHold, IsConsistent}
+use Rattle.cps_p_bool.proofs.Giving.{not_both}
 use Rattle.cps_p_bool.proofs.Counting.{count_one}
 use Rattle.cps_p_bool.proofs.Results.{IfOk-map}
 
@@ -83,21 +81,32 @@ IsDecided-off s e b place off = record {
     some_atom [] k b = absurd (omega (arith, b))
     some_atom (u ∷ us) k b = u
 
+pub not_enforced : (s : Trail) (e : List Atom) (place : ℕ) → place < length e → ((d : Atom) → IsTrueNow s (get_or e place d) → ⊥) → All (IsTrueNow s) e → ⊥
+not_enforced s e place l not_true trues = not_true (some_atom e place l) (trues place (some_atom e place l) l)
+  where
+    some_atom : (us : List Atom) (k : ℕ) → k < length us → Atom
+    some_atom [] k below = absurd (omega (arith, below))
+    some_atom (u ∷ us) k below = u
+
 -- nothing added
 pub same_store : (C : List ℤ → Type 0) (s u : Trail) → Infers C s u → u.entries ≡ s.entries → u ≡ s
 same_store C s u h e = (same_midway C C s s u (Infers-refl C s) h e).1
 
 module _ {E : Type 0} (s : Trail) (e : List Atom) (b : Body) where
   -- nothing to do
-  pub Runs-settled : IsDecided (task_of e b) s → IsStrong (task_of e b) s → Runs {E = E} (task_of e b) s s (Ok Settled)
-  Runs-settled d strong = record { infers = Infers-refl (HoldsTask (task_of e b)) s; answers = tt; decided = λ _. d; strong = λ _ _. strong }
+  pub Runs-settled : IsDecided (task_of e b) s → CanHold s b → (All (IsTrueNow s) e → IsConsistent s b) → Runs {E = E} (task_of e b) s s (Ok Settled)
+  Runs-settled d can h = record {
+    infers = Infers-refl (HoldsTask (task_of e b)) s;
+    answers = tt;
+    decided = λ _. d;
+    possible = λ _ _. can;
+    consistent = λ _ _. h;
+    waiting = λ _ _. inl refl;
+  }
 
-  pub Runs-idle : (place : ℕ) → place < length e → ((d : Atom) → IsTrueNow s (get_or e place d) → ⊥) → Runs {E = E} (task_of e b) s s (Ok Settled)
-  Runs-idle place l not_true = Runs-settled (IsDecided-idle s e b place l not_true) (record { body = λ trues. absurd (not_true (some_atom e place l) (trues place (some_atom e place l) l)) })
-    where
-      some_atom : (us : List Atom) (k : ℕ) → k < length us → Atom
-      some_atom [] k below = absurd (omega (arith, below))
-      some_atom (u ∷ us) k below = u
+  -- the last enforcement atom is open, and the body can hold
+  pub Runs-waiting : CanHold s b → (place : ℕ) → place < length e → ((d : Atom) → IsTrueNow s (get_or e place d) → ⊥) → Runs {E = E} (task_of e b) s s (Ok Settled)
+  Runs-waiting can place l not_true = Runs-settled (IsDecided-idle s e b place l not_true) can (λ trues. absurd (not_enforced s e place l not_true trues))
 
   pub settled_infers : (u : Trail) (a : Result Step E) → a ≡ Ok Settled → OnOk a (Infers (HoldsTask (task_of e b)) s u) → Infers (HoldsTask (task_of e b)) s u
   settled_infers u a is h = subst (λ (q : Result Step E). OnOk q (Infers (HoldsTask (task_of e b)) s u)) is h
@@ -111,31 +120,38 @@ module _ {E : Type 0} (s : Trail) (e : List Atom) (b : Body) where
         infers = infers;
         answers = IfOk-map a {P = λ step. (c : Body) → Excludes s c used → Answers (HoldsTask (task_of e c)) u step} {Q = Answers (HoldsTask (task_of e b)) u} (λ step h. h b x) r;
         decided = λ is. IsDecided-off u e b last (off is);
-        strong = λ is same.
-            let store = same_store (HoldsTask (task_of e b)) s u (settled_infers u a is infers) same in
-            let l = (off is).within in
-            record {
-              body = λ trues. absurd ((force.undecided (some_atom e last l) l).0 (subst (λ (v : Trail). IsTrueNow v (get_or e last (some_atom e last l))) store (trues last (some_atom e last l) l)));
-            };
+        possible = λ is same. absurd (still_open infers is same);
+        consistent = λ is same _. absurd (still_open infers is same);
+        waiting = λ is _. inr (last, off is);
       }
     where
       some_atom : (us : List Atom) (k : ℕ) → k < length us → Atom
       some_atom [] k below = absurd (omega (arith, below))
       some_atom (v ∷ us) k below = v
 
+      still_open : OnOk a (Infers (HoldsTask (task_of e b)) s u) → a ≡ Ok Settled → u.entries ≡ s.entries → ⊥
+      still_open infers is same =
+          let store = same_store (HoldsTask (task_of e b)) s u (settled_infers u a is infers) same in
+          let z = some_atom e last (off is).within in
+          (force.undecided z (off is).within).1 (subst (λ (v : Trail). IsFalseNow v (get_or e last z)) store ((off is).false_now z))
+
   -- what `infer` does
-  pub Runs-inferred : (u : Trail) (used : List Atom) (t : Atom) (a : Result Step E) → Gives s (task_of e b) used t → OnOk a ((c : Body) → Gives s (task_of e c) used t → Infers (HoldsTask (task_of e c)) s u)
+  pub Runs-inferred : (u : Trail) (used : List Atom) (t : Atom) (a : Result Step E) → All (IsTrueNow s) e → Gives s (task_of e b) used t → OnOk a ((c : Body) → Gives s (task_of e c) used t → Infers (HoldsTask (task_of e c)) s u)
       → IfOk a (λ step. (c : Body) → Gives s (task_of e c) used t → Answers (HoldsTask (task_of e c)) u step) → (a ≡ Ok Settled → IsTrueNow u t)
-      → (Infers (HoldsTask (task_of e b)) s u → IsTrueNow u t → IsDecided (task_of e b) u) → (IsTrueNow s t → IsStrong (task_of e b) s) → Runs (task_of e b) s u a
-  Runs-inferred u used t a g i r made decided strong =
+      → (Infers (HoldsTask (task_of e b)) s u → IsTrueNow u t → IsDecided (task_of e b) u) → (IsTrueNow s t → CanHold s b × IsConsistent s b) → Runs (task_of e b) s u a
+  Runs-inferred u used t a trues g i r made decided strong =
       let infers = IfOk-map a {P = λ _. (c : Body) → Gives s (task_of e c) used t → Infers (HoldsTask (task_of e c)) s u} {Q = λ _. Infers (HoldsTask (task_of e b)) s u} (λ step h. h b g) i in
       record {
         infers = infers;
         answers = IfOk-map a {P = λ step. (c : Body) → Gives s (task_of e c) used t → Answers (HoldsTask (task_of e c)) u step} {Q = Answers (HoldsTask (task_of e b)) u} (λ step h. h b g) r;
         decided = λ is. decided (settled_infers u a is infers) (made is);
-        strong = λ is same.
+        possible = λ is same.
             let store = same_store (HoldsTask (task_of e b)) s u (settled_infers u a is infers) same in
-            subst (λ (v : Trail). IsStrong (task_of e b) v) (sym store) (strong (subst (λ (v : Trail). IsTrueNow v t) store (made is)));
+            subst (λ (v : Trail). CanHold v b) (sym store) (strong (subst (λ (v : Trail). IsTrueNow v t) store (made is))).0;
+        consistent = λ is same _.
+            let store = same_store (HoldsTask (task_of e b)) s u (settled_infers u a is infers) same in
+            subst (λ (v : Trail). IsConsistent v b) (sym store) (strong (subst (λ (v : Trail). IsTrueNow v t) store (made is))).1;
+        waiting = λ _ no. absurd (no trues);
       }
 
 -- decided, where one atom is true and the others are false

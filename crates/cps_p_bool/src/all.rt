@@ -7,6 +7,7 @@ ghost use Rattle.cps_trail.specs.Trail.{IsTrueNow};
 ghost use Rattle.cps_trail.specs.Adds.{Infers, Answers};
 ghost use Rattle.cps_p_bool.specs.Seeking.{IsInForce};
 ghost use Rattle.cps_p_bool.specs.Denying.{AreLiterals, task_of};
+ghost use Rattle.cps_p_bool.specs.Taking.{IsPlain};
 ghost use Rattle.cps_p_bool.specs.Rules.{Runs};
 
 use crate::reasons::{infer, refuse};
@@ -26,6 +27,7 @@ pub fn all(
 ) -> Result<Step, AllocError>
     requires fits { AreLiterals store.old.first enforcement.now }
     requires atoms_fit { AreLiterals store.old.first atoms.now }
+    requires plain { IsPlain store.old atoms.now }
     requires in_force { IsInForce store.old enforcement.now last }
     ensures { Runs (task_of enforcement.now (BoolAnd atoms.now)) store.old store.new result }
 {
@@ -41,7 +43,7 @@ pub fn all(
 }
 
 /// The same where all enforcement atoms are true.
-fn make_true(
+pub fn make_true(
     alloc: Global,
     reason: &mut Vec<Atom>,
     enforcement: &[Atom],

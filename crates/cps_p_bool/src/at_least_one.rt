@@ -3,6 +3,7 @@
 ghost use Rattle.cps_instance.specs.declared.task.Body.{Body};
 ghost use Rattle.cps_p_bool.specs.Seeking.{IsInForce};
 ghost use Rattle.cps_p_bool.specs.Denying.{AreLiterals, task_of};
+ghost use Rattle.cps_p_bool.specs.Taking.{IsPlain};
 ghost use Rattle.cps_p_bool.specs.Rules.{Runs, NeedsOne};
 
 use crate::reasons::{infer, refuse};
@@ -22,6 +23,7 @@ pub fn at_least_one(
 ) -> Result<Step, AllocError>
     requires fits { AreLiterals store.old.first enforcement.now }
     requires atoms_fit { AreLiterals store.old.first atoms.now }
+    requires plain { IsPlain store.old atoms.now }
     requires in_force { IsInForce store.old enforcement.now last }
     ensures { (body : Body) → NeedsOne store.old body atoms.now → Runs (task_of enforcement.now body) store.old store.new result }
 {

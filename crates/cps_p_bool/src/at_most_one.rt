@@ -10,6 +10,7 @@ ghost use Rattle.cps_trail.specs.Adds.{Infers, Answers};
 ghost use Rattle.cps_p_bool.specs.declared.seek.Sought.{Sought as SoughtOf};
 ghost use Rattle.cps_p_bool.specs.Seeking.{IsInForce, IsSought, IsPassed};
 ghost use Rattle.cps_p_bool.specs.Denying.{AreLiterals, task_of};
+ghost use Rattle.cps_p_bool.specs.Taking.{IsPlain};
 ghost use Rattle.cps_p_bool.specs.Rules.{Runs, LimitsToOne, IsAlone};
 
 use crate::reasons::{infer, refuse};
@@ -29,6 +30,7 @@ pub fn at_most_one(
 ) -> Result<Step, AllocError>
     requires fits { AreLiterals store.old.first enforcement.now }
     requires atoms_fit { AreLiterals store.old.first atoms.now }
+    requires plain { IsPlain store.old atoms.now }
     requires in_force { IsInForce store.old enforcement.now last }
     ensures { Runs (task_of enforcement.now (AtMostOne atoms.now)) store.old store.new result }
 {
@@ -51,6 +53,7 @@ pub fn exclude(
 ) -> Result<Step, AllocError>
     requires fits { AreLiterals store.old.first enforcement.now }
     requires atoms_fit { AreLiterals store.old.first atoms.now }
+    requires plain { IsPlain store.old atoms.now }
     requires in_force { IsInForce store.old enforcement.now last }
     requires within { chosen < length atoms.now }
     requires chosen_true { (d : AtomOf) → IsSought Sought.True store.old (slice_index_or atoms.now chosen d) }

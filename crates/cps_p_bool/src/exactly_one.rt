@@ -3,6 +3,7 @@
 ghost use Rattle.cps_instance.specs.declared.task.Body.TheVariants.{ExactlyOne};
 ghost use Rattle.cps_p_bool.specs.Seeking.{IsInForce};
 ghost use Rattle.cps_p_bool.specs.Denying.{AreLiterals, task_of};
+ghost use Rattle.cps_p_bool.specs.Taking.{IsPlain};
 ghost use Rattle.cps_p_bool.specs.Rules.{Runs};
 
 use crate::at_least_one::at_least_one;
@@ -23,6 +24,7 @@ pub fn exactly_one(
 ) -> Result<Step, AllocError>
     requires fits { AreLiterals store.old.first enforcement.now }
     requires atoms_fit { AreLiterals store.old.first atoms.now }
+    requires plain { IsPlain store.old atoms.now }
     requires in_force { IsInForce store.old enforcement.now last }
     ensures { Runs (task_of enforcement.now (ExactlyOne atoms.now)) store.old store.new result }
 {

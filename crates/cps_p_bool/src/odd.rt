@@ -7,6 +7,7 @@ ghost use Rattle.cps_instance.specs.Tasks.{true_atoms};
 ghost use Rattle.cps_propagate.specs.Now.{IsKnownNow};
 ghost use Rattle.cps_p_bool.specs.Seeking.{IsInForce};
 ghost use Rattle.cps_p_bool.specs.Denying.{Agrees, IsFit, AreLiterals, task_of};
+ghost use Rattle.cps_p_bool.specs.Taking.{IsPlain};
 ghost use Rattle.cps_p_bool.specs.Rules.{Runs};
 
 use crate::reasons::{infer, refuse};
@@ -26,6 +27,7 @@ pub fn odd(
 ) -> Result<Step, AllocError>
     requires fits { AreLiterals store.old.first enforcement.now }
     requires atoms_fit { AreLiterals store.old.first atoms.now }
+    requires plain { IsPlain store.old atoms.now }
     requires in_force { IsInForce store.old enforcement.now last }
     ensures { Runs (task_of enforcement.now (BoolXor atoms.now)) store.old store.new result }
 {

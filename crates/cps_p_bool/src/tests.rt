@@ -187,7 +187,7 @@ fn one_atom_is_true_at_most(rt: HostRuntime) -> Result<(), Fail> {
     )?;
     assert_eq!(rt; opposite, (None, 2, no(1)));
     let repeated = trial(alloc, Kind::AtMostOne, &[], &[yes(0), yes(0)], &[yes(0)])?;
-    assert_eq!(rt; repeated, (Some(2), 1, yes(0)));
+    assert_eq!(rt; repeated, (Some(1), 1, yes(0)));
     Ok(())
 }
 
@@ -243,5 +243,39 @@ fn an_odd_number_is_true(rt: HostRuntime) -> Result<(), Fail> {
     assert_eq!(rt; conflict, (Some(4), 4, no(2)));
     let refused = trial(alloc, Kind::Xor, &[yes(3)], &atoms, &[no(0), no(1), no(2)])?;
     assert_eq!(rt; refused, (None, 4, no(3)));
+    Ok(())
+}
+
+#[test]
+fn repeated_atoms_are_one(rt: HostRuntime) -> Result<(), Fail> {
+    let alloc = rt.alloc();
+    let twice = [yes(0), yes(0), yes(1)];
+    let or = trial(alloc, Kind::Or, &[], &twice, &[no(1)])?;
+    assert_eq!(rt; or, (None, 2, yes(0)));
+    let most = trial(alloc, Kind::AtMostOne, &[], &twice, &[])?;
+    assert_eq!(rt; most, (None, 1, no(0)));
+    let refused = trial(alloc, Kind::AtMostOne, &[yes(3)], &twice, &[yes(0)])?;
+    assert_eq!(rt; refused, (None, 2, no(3)));
+    let one = trial(alloc, Kind::ExactlyOne, &[], &twice, &[])?;
+    assert_eq!(rt; one, (None, 2, yes(1)));
+    let odd = trial(alloc, Kind::Xor, &[], &twice, &[])?;
+    assert_eq!(rt; odd, (None, 1, yes(1)));
+    Ok(())
+}
+
+#[test]
+fn one_of_opposite_atoms_is_true(rt: HostRuntime) -> Result<(), Fail> {
+    let alloc = rt.alloc();
+    let both = [yes(0), no(0), yes(1)];
+    let or = trial(alloc, Kind::Or, &[], &both, &[no(1)])?;
+    assert_eq!(rt; or, (None, 1, no(1)));
+    let and = trial(alloc, Kind::And, &[yes(3)], &both, &[])?;
+    assert_eq!(rt; and, (None, 1, no(3)));
+    let most = trial(alloc, Kind::AtMostOne, &[], &both, &[])?;
+    assert_eq!(rt; most, (None, 1, no(1)));
+    let one = trial(alloc, Kind::ExactlyOne, &[yes(3)], &both, &[yes(1)])?;
+    assert_eq!(rt; one, (None, 2, no(3)));
+    let odd = trial(alloc, Kind::Xor, &[], &both, &[])?;
+    assert_eq!(rt; odd, (None, 1, no(1)));
     Ok(())
 }

@@ -1,8 +1,8 @@
 //! One look at a sum: what its bounds and the admitted sums leave to each term.
-ghost use Rattle.std.specs.Prelude.{◌≡◌, ◌≢◌, ◌<◌, ℤ, ◌≤ℤ◌, ◌-ℤ◌, true, false, IsTrue, length, IfOk, OnOk, MatchOption};
+ghost use Rattle.std.specs.Prelude.{◌≡◌, ◌≢◌, ◌<◌, ◌+◌, ◌^◌, ℤ, ◌≤ℤ◌, ◌-ℤ◌, unsigned_abs, true, false, IsTrue, length, IfOk, OnOk, MatchOption};
 ghost use Rattle.cps_trail.specs.Adds.{Infers, Answers};
 ghost use Rattle.cps_propagate.specs.Strength.{IsStrongSum};
-ghost use Rattle.cps_p_linear.specs.Ends.{IsWithinOf, IsPast, end_at};
+ghost use Rattle.cps_p_linear.specs.Ends.{IsWithinOf, IsPast, end_at, beyond};
 ghost use Rattle.cps_p_linear.specs.Admitting.{passes, IsShaped, IsPassing, LeavesBits, IsGoal};
 ghost use Rattle.cps_p_linear.specs.Supporting.{AreFacts, Limits};
 ghost use Rattle.cps_p_linear.specs.Rooms.{IsInRoomAt};
@@ -30,37 +30,39 @@ pub(crate) struct Measured<'a> {
     pub(crate) sum: Ends,
 }
 
-/// One end, as both.
-fn end_of(side: Side, sum: &Ends) -> Ends
-    ensures low { result.low ≡ end_at side sum.now }
-    ensures high { result.high ≡ end_at side sum.now }
+/// The number next to an end of the sum on its other side, as both ends.
+fn beyond(side: Side, sum: &Ends) -> Ends
+    requires { unsigned_abs (end_at side sum.now) + 1 < 2 ^ 63 }
+    ensures low { result.low ≡ beyond side (end_at side sum.now) }
+    ensures high { result.high ≡ beyond side (end_at side sum.now) }
 {
     match side {
         Side::Low => Ends {
-            low: sum.low,
-            high: sum.low,
+            low: sum.low - 1,
+            high: sum.low - 1,
         },
         Side::High => Ends {
-            low: sum.high,
-            high: sum.high,
+            low: sum.high + 1,
+            high: sum.high + 1,
         },
     }
 }
 
 /// By how much the sum's end may be weakened with no more sums admitted; nothing where no admitted sum is beyond it.
 fn spare(side: Side, admitted: &Admitted, sum: &Ends) -> Option<u64>
-    requires { IsShaped admitted.now }
+    requires shaped { IsShaped admitted.now }
+    requires small { unsigned_abs (end_at side sum.now) + 1 < 2 ^ 63 }
     ensures { MatchOption result ((v : ℤ) → passes admitted.now v ≡ true → IsWithinOf side 0 (end_at side sum.now) v) (λ slack. (v : ℤ) → passes admitted.now v ≡ true → IsWithinOf side slack (end_at side sum.now) v → IsWithinOf side 0 (end_at side sum.now) v) }
 {
-    let end = end_of(side, sum);
+    let end = beyond(side, sum);
     match side {
         Side::Low => match admitted.last_up_to(&end) {
             None => None,
-            Some(_) => Some(0),
+            Some(last) => Some(end.high.abs_diff(last)),
         },
         Side::High => match admitted.first_from(&end) {
             None => None,
-            Some(_) => Some(0),
+            Some(first) => Some(first.abs_diff(end.low)),
         },
     }
 }
@@ -163,12 +165,13 @@ fn keep_end(
     ensures cut { result ≡ Ok Step.Settled → IsCutAt store.new side measured.now.sum goal.now measured.now.terms.now measured.now.values.now place }
 {
     let term = &measured.terms[place];
-    let own = term_ends(term, &measured.values[place]);
+    let values = &measured.values[place];
+    let own = term_ends(term, values);
     let room = room_beside(&measured.sum, goal, &own);
     if is_within(side, &own, &room) {
         return Ok(Step::Settled);
     }
-    let cut = term_cut(side, term, &room);
+    let cut = term_cut(side, term, values, &room);
     begin(measured.enforcement, cut.slack, facts)?;
     explain_cut(store, side, measured, place, facts)?;
     refute_facts(facts)?;

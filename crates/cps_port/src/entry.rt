@@ -23,6 +23,7 @@ pub struct Entry {
     pub below: Bound,
     /// How many atoms it has, at most `MOST_ATOMS`.
     pub len: u32,
+    /// Its atoms, and after them places that are left free.
     pub atoms: [Atom; MOST_ATOMS],
 }
 

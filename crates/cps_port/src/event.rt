@@ -15,7 +15,9 @@ pub enum Event {
     Offer(i64),
     /// Raises the lower bound.
     Raise(Bound),
+    /// Loads the upper bound.
     SeeUpper,
+    /// Loads the lower bound.
     SeeLower,
 }
 

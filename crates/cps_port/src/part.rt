@@ -28,17 +28,21 @@ pub struct BoundsPart {
     pub saw_lower: Option<Bound>,
     /// The greatest bound to which it raised.
     pub raised: Option<Bound>,
-    /// How often it loaded the upper bound, and what it last loaded.
+    /// How often it loaded the upper bound.
     pub upper_loads: u64,
+    /// The upper bound that it last loaded.
     pub upper_last: Option<Bound>,
-    /// How often it loaded the lower bound, and what it last loaded.
+    /// How often it loaded the lower bound.
     pub lower_loads: u64,
+    /// The lower bound that it last loaded.
     pub lower_last: Option<Bound>,
 }
 
 /// An actor's part of the shared state.
 pub struct Part {
+    /// What it knows of the board.
     pub board: BoardPart,
+    /// What it knows of the two bounds.
     pub bounds: BoundsPart,
 }
 

@@ -10,7 +10,9 @@ use cps_model::Bound;
 
 /// An actor's access to the shared state, which no other actor uses meanwhile. The actor has no row drawn.
 pub struct PlainPort<'a, 'm> {
+    /// The state that all actors share.
     pub core: &'a mut CoreState<'m>,
+    /// The actor's number, below the count of actors.
     pub actor: u32,
     ghost known: { actor < actor_count core.now },
     ghost idle: { (board_part core.now.board actor).drawn ≡ None },

@@ -5,9 +5,11 @@ use cps_model::Bound;
 /// A row of the board.
 #[derive(Clone, Copy)]
 pub struct Row {
+    /// It has an entry.
     pub published: bool,
     /// The number of the actor that published it.
     pub owner: u32,
+    /// The entry, where there is one.
     pub entry: Entry,
 }
 

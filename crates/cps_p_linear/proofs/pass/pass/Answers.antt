@@ -1,7 +1,6 @@
-use Rattle.std.proofs.Common.{◌≡◌, ◌<◌, ◌≤◌, ap, Ok, arith}
+use Rattle.std.proofs.Common.{ap, Ok, arith}
 use Rattle.cps_trail.proofs.Inferring.{Infers-trans}
 use Rattle.cps_p_linear.specs.Admitting.{IsPassing}
-use Rattle.cps_p_linear.specs.Passing.{IsMeasured}
 use Rattle.cps_p_linear.proofs.Explained.{measured_of, measured_later, facts_later, rooms_more, strong_pass}
 use Rattle.cps_p_linear.proofs.pass.pass.Goals as goal
 
