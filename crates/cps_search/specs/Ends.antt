@@ -30,7 +30,7 @@ use Rattle.cps_search.specs.Lessons.{GoesBack}
 use Rattle.cps_search.specs.Scope.{Scope, IsScopeOf}
 use Rattle.cps_search.specs.Searches.{Search, IsSoundSearch, NoneBelow, IsHonestJournal, IsItemAbove, learnt_count}
 use Rattle.cps_search.specs.Moves.{moved, decided}
-use Rattle.cps_search.specs.Turns.{Steps, SameSetting, DecisionDue, TookOne, LearntOne, FoundOne, ExhaustedAll, SawMet, SpentAll, IsLess}
+use Rattle.cps_search.specs.Turns.{Steps, SameSetting, DecisionDue, TookOne, LearntOne, FoundOne, ExhaustedAll, SawMet, SpentAll, IsLess, SameRaised}
 
 -- A decision was made where one was due: the atom that was chosen.
 pub record DecidedOne (chooses : Trail → Option Atom → Type 0) (s t : Search) (rows : ℕ) (p q : Part) : Type 0 where
@@ -176,12 +176,20 @@ EndsBy t q ends.SawClosed = LastSawMet t.gap q
 EndsBy t q (ends.Spent clause below) = SpentWhole t clause below
 EndsBy t q ends.RoundsDone = ⊥
 
+-- a worker with a brancher raises the lower bound at its end alone, where no solution is left
+abbrev pub EndsRaised : Search → Search → End → Type 0
+EndsRaised s t ends.Exhausted = Unit {0}
+EndsRaised s t ends.SawClosed = SameRaised s t
+EndsRaised s t (ends.Spent clause below) = SameRaised s t
+EndsRaised s t ends.RoundsDone = SameRaised s t
+
 -- what a run of a worker does, up to its end
 pub record RunsTo (s t : Search) (p q : Part) (end : End) : Type 0 where
   pub setting : SameSetting s t
   pub moves : MovesWith s t p q
   pub said : t.said ≡ Over end
   pub why : EndsBy t q.bounds end
+  pub raises_last : EndsRaised s t end
 
 -- What is seen of a worker that has ended: its kind, the sums that it defined, how many clauses it learnt and which, the best solution
 -- that it found, its end, and the greatest bound to which it raised the lower one.

@@ -9,11 +9,11 @@ use Rattle.cps_model.specs.declared.model.CpModel.{CpModel}
 use Rattle.cps_print.specs.declared.fault.Fault.TheVariants.{TooLong}
 use Rattle.cps_print.specs.Faults.{fault_text}
 use Rattle.cpsolve.specs.declared.answer.Answer.{Answer}
-use Rattle.cpsolve.specs.declared.command.Command.{Command}
-use Rattle.cpsolve.specs.declared.command.Command.TheVariants.{Solve}
-use Rattle.cpsolve.specs.Commands.{CommandLine, IsUsageFault}
+use Rattle.cps_command.specs.declared.command.Command.{Command}
+use Rattle.cps_command.specs.declared.command.Command.TheVariants.{Solve}
+use Rattle.cps_command.specs.Lines.{CommandLine, IsUsageFault}
 use Rattle.cpsolve.specs.Inputs.{most_bytes, IsInput}
-use Rattle.cpsolve.specs.Answers.{usage_text, IsText, Answers, Does}
+use Rattle.cpsolve.specs.Answers.{usage_text, IsText, Answers, Does, IsInRange}
 use Rattle.cpsolve.specs.Answers.Answers.{usage, command}
 use Rattle.cpsolve.specs.Answers.AnswersInput.{invalid}
 use Rattle.cpsolve.specs.Runs.{AreLeft}
@@ -65,9 +65,13 @@ no_long_input limit bytes m e long i = let short = i.short in omega arith
 
 -- a command that reads refuses a long input
 refuses_long : (c : Command) (bytes : List ℕ) (answer : Answer) → most_bytes < length bytes → IsText 1 (fault_text TooLong) answer → Does c bytes answer
-refuses_long Solve bytes answer long text = invalid TooLong long (λ m i. no_long_input most_bytes bytes m refl long i) text
+refuses_long (Solve options) bytes answer long text = invalid TooLong long (λ m i. no_long_input most_bytes bytes m refl long i) text
 
 pub long_given : (words : List (List ℕ)) (old new : Option (List ℕ)) (answer : Answer) (c : Command) → CommandLine words c
     → IfSome old (λ bytes. ReadsAll most_bytes bytes new (Err reads.TooLong)) → IsText 1 (fault_text TooLong) answer → Given words old answer
 long_given words old new answer c line h text =
     let long = long_left most_bytes old new h in (long.0, long.1, command c line (refuses_long c long.0 answer long.2 text))
+
+-- a command of a line has its options in their ranges
+pub line_in_range : (words : List (List ℕ)) (c : Command) → CommandLine words c → IsInRange c
+line_in_range words (Solve options) line = line.2.range

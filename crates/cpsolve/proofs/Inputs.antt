@@ -17,6 +17,8 @@ use Rattle.cps_print.specs.declared.fault.Fault.{Fault}
 use Rattle.cps_print.specs.declared.fault.Fault.TheVariants.{Text, Field, Rule}
 use Rattle.cps_print.specs.ReadBack.{IsReadAs}
 use Rattle.cps_print.specs.Responses.{IsShowable}
+use Rattle.cps_print.proofs.Readable.{read_is_readable}
+use Rattle.cps_search.specs.Searches.{HasNoAssumptions}
 use Rattle.cpsolve.proofs.Limits.{showable}
 use Rattle.cpsolve.specs.Inputs.{most_bytes, byte_of, IsNoInput, HasFault}
 use Rattle.cpsolve.specs.Inputs.IsTextFault.{no_document}
@@ -69,3 +71,7 @@ rule_right bytes m rule place short meant broken =
 -- a model that was read can be shown
 pub meant_showable : (bytes : List ℕ) (m : CpModel) → IsMeant bytes m → IsShowable m.objective
 meant_showable bytes m meant = showable (written bytes meant.this.tokens) meant.this.tree m meant.this.read
+
+-- and has no assumptions
+pub meant_assumptions : (bytes : List ℕ) (m : CpModel) → IsMeant bytes m → HasNoAssumptions m
+meant_assumptions bytes m meant = (read_is_readable (written bytes meant.this.tokens) meant.this.tree m meant.this.read).assumptions

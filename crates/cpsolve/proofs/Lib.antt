@@ -2,3 +2,4 @@ pub mod Inputs
 pub mod Given
 pub mod Limits
 pub mod Outcomes
+pub mod Alone

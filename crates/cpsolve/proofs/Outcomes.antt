@@ -1,7 +1,8 @@
 -- What a good outcome promises.
-use Rattle.std.specs.Prelude.{Option, Some, None}
-use Rattle.std.proofs.Common.{◌≡◌, ℕ, List, arith, refl, sym, ◌∙◌, subst, ◌⊎◌, inl, inr, Bool, true, ℤ}
+use Rattle.std.specs.Prelude.{Option, Some, None, IfSome, All, int_lt, if◌then◌else◌}
+use Rattle.std.proofs.Common.{◌≡◌, ℕ, List, [], ◌∷◌, arith, refl, sym, ◌∙◌, ap, subst, Bool, true, false, ℤ}
 use Rattle.std.proofs.lemmas.Int.{ints}
+use Rattle.std.proofs.lemmas.List.Elements.{All-head, All-tail}
 use Rattle.cps_model.specs.declared.model.CpModel.{CpModel}
 use Rattle.cps_model.specs.declared.bound.Bound.{Bound}
 use Rattle.cps_model.specs.declared.bound.Bound.TheVariants.{At, Infinite}
@@ -11,83 +12,119 @@ use Rattle.cps_model.specs.Solutions.{objective_value, IsSolution, IsBest, HasNo
 use Rattle.cps_model.specs.Statuses.{is_closed, status_of, IsAtMost}
 use Rattle.cps_model.specs.Validity.{IsValid}
 use Rattle.cps_model.proofs.Inside.{model_ready}
+use Rattle.cps_search.specs.Ends.{Ending, best_bound}
 use Rattle.cps_print.specs.Responses.{IsSummable, IsSolved}
+use Rattle.cps_command.specs.declared.options.Options.{Options}
 use Rattle.cpsolve.specs.declared.outcome.Outcome.{Outcome}
-use Rattle.cpsolve.specs.Outcomes.{IsFound, IsGoodOutcome, KeepsPromise}
+use Rattle.cpsolve.specs.Outcomes.{IsGoodOutcome, KeepsPromise, SpentItsBudget, better, best_of}
 
--- the status where the bounds meet
-closed_status : (upper lower : Bound) (gap : ℕ) (b : Bool) → is_closed lower upper gap ≡ b → b ≡ true → (status_of upper lower gap ≡ Optimal) ⊎ (status_of upper lower gap ≡ Infeasible)
-closed_status (At u) lower gap b e t = inl (rw (e ∙ t) refl)
-closed_status Infinite lower gap b e t = inr (rw (e ∙ t) refl)
+-- ---- the best of what the workers found is a solution
 
--- what is found where the bounds meet is not beaten by more than the gap
+better_is : (m : CpModel) (o p : Option (List ℤ)) → IfSome o (IsSolution m) → IfSome p (IsSolution m) → IfSome (better m o p) (IsSolution m)
+better_is m None p h k = k
+better_is m (Some a) None h k = h
+better_is m (Some a) (Some b) h k = go (int_lt (objective_value m b) (objective_value m a))
+  where
+    go : (less : Bool) → IfSome (if less then Some b else Some a) (IsSolution m)
+    go true = k
+    go false = h
+
+best_is : (m : CpModel) (ends : List Ending) → All (λ (e : Ending). IfSome e.best (IsSolution m)) ends → IfSome (best_of m ends) (IsSolution m)
+best_is m [] h = tt
+best_is m (e ∷ es) h =
+    better_is m e.best (best_of m es) (All-head (λ (x : Ending). IfSome x.best (IsSolution m)) e es h) (best_is m es (All-tail (λ (x : Ending). IfSome x.best (IsSolution m)) e es h))
+
+-- ---- what follows where the bounds meet
+
+-- what is found is not beaten by more than the gap
 closed_best : (m : CpModel) (gap : ℕ) (lower : Bound) (a : List ℤ) → is_closed lower (At (objective_value m a)) gap ≡ true → IsSolution m a
     → ((b : List ℤ) → IsSolution m b → IsAtMost lower (objective_value m b)) → IsBest m gap a
 closed_best m gap Infinite a closed solution below = absurd (below a solution)
 closed_best m gap (At l) a closed solution below =
     record { solution = solution; least = λ b s. let least = below b s in grind (arith, ints) }
 
--- no solution is found where the bounds meet, and so there is none
+-- where nothing is found, there is nothing
 closed_none : (m : CpModel) (gap : ℕ) (lower : Bound) → is_closed lower Infinite gap ≡ true → ((b : List ℤ) → IsSolution m b → IsAtMost lower (objective_value m b)) → HasNoSolution m
 closed_none m gap Infinite closed below = λ a s. below a s
 closed_none m gap (At l) closed below = cc
 
--- the parts of an outcome
-record Parts (m : CpModel) (gap : ℕ) (upper lower : Bound) (solution : Option (List ℤ)) : Type 0 where
-  closed : is_closed lower upper gap ≡ true
-  found : IsFound m upper solution
-  below : (a : List ℤ) → IsSolution m a → IsAtMost lower (objective_value m a)
+-- ---- the promises
 
--- what each status promises, by the upper bound and the solution
-record Promises (m : CpModel) (gap : ℕ) (status : Status) (lower : Bound) (solution : Option (List ℤ)) : Type 0 where
+-- what each status promises, with the upper bound that the solution gives
+record Promises (m : CpModel) (gap : ℕ) (options : Options) (status : Status) (solution : Option (List ℤ)) (lower : Bound) (ends : List Ending) : Type 0 where
   optimal : status ≡ Optimal → (a : List ℤ) × (solution ≡ Some a) × IsBest m gap a × IsAtMost lower (objective_value m a) × (is_closed lower (At (objective_value m a)) gap ≡ true)
   infeasible : status ≡ Infeasible → HasNoSolution m
+  feasible : status ≡ Feasible → (a : List ℤ) × (solution ≡ Some a) × IsSolution m a × IsAtMost lower (objective_value m a) × All (SpentItsBudget m options.conflicts (At (objective_value m a))) ends
+  unknown : status ≡ Unknown → (solution ≡ None) × All (SpentItsBudget m options.conflicts Infinite) ends
 
-promises : (m : CpModel) (gap : ℕ) (upper lower : Bound) (solution : Option (List ℤ)) → Parts m gap upper lower solution → Promises m gap (status_of upper lower gap) lower solution
-promises m gap (At u) lower None p = let none = p.found in cc
-promises m gap Infinite lower (Some a) p = let some = p.found.1 in cc
-promises m gap Infinite lower None p =
-    let closed = p.closed in
+promises : (m : CpModel) (gap : ℕ) (options : Options) (status : Status) (solution : Option (List ℤ)) (lower : Bound) (ends : List Ending) (closed : Bool)
+    → is_closed lower (best_bound m solution) gap ≡ closed → status ≡ status_of (best_bound m solution) lower gap → IfSome solution (IsSolution m)
+    → ((b : List ℤ) → IsSolution m b → IsAtMost lower (objective_value m b))
+    → (is_closed lower (best_bound m solution) gap ≡ false → All (SpentItsBudget m options.conflicts (best_bound m solution)) ends) → Promises m gap options status solution lower ends
+promises m gap options status None lower ends true met same solution below spent =
+    let is : status_of Infinite lower gap ≡ Infeasible = rw met refl in
     record {
-      optimal = λ e. let infeasible : status_of Infinite lower gap ≡ Infeasible = rw closed refl in absurd cc;
-      infeasible = λ e. closed_none m gap lower closed p.below;
+      optimal = λ e. absurd cc;
+      infeasible = λ e. closed_none m gap lower met below;
+      feasible = λ e. absurd cc;
+      unknown = λ e. absurd cc;
     }
-promises m gap (At u) lower (Some a) p =
-    let same : At u ≡ At (objective_value m a) = p.found.1 in
-    let closed : is_closed lower (At (objective_value m a)) gap ≡ true = subst (λ (v : Bound). is_closed lower v gap ≡ true) same p.closed in
+promises m gap options status None lower ends false met same solution below spent =
+    let is : status_of Infinite lower gap ≡ Unknown = rw met refl in
     record {
-      optimal = λ e. (a, refl, closed_best m gap lower a closed p.found.0 p.below, p.below a p.found.0, closed);
-      infeasible = λ e. let here = p.closed in let optimal : status_of (At u) lower gap ≡ Optimal = rw here refl in absurd cc;
+      optimal = λ e. absurd cc;
+      infeasible = λ e. absurd cc;
+      feasible = λ e. absurd cc;
+      unknown = λ e. (refl, spent met);
     }
-
-parts_of : (m : CpModel) (gap : ℕ) (o : Outcome) → IsGoodOutcome m gap o → Parts m gap o.upper o.lower o.solution
-parts_of m gap o good = record { closed = good.closed; found = good.solution; below = good.lower }
-
-decided : (s t : Status) → s ≡ t → (t ≡ Optimal) ⊎ (t ≡ Infeasible) → (s ≡ Optimal) ⊎ (s ≡ Infeasible)
-decided s t e (inl h) = inl (e ∙ h)
-decided s t e (inr h) = inr (e ∙ h)
-
--- the status of a good outcome keeps its promise
-pub promise_kept : (m : CpModel) (gap : ℕ) (o : Outcome) → IsGoodOutcome m gap o → KeepsPromise m gap o
-promise_kept m gap o good =
-    let p = promises m gap o.upper o.lower o.solution (parts_of m gap o good) in
+promises m gap options status (Some a) lower ends true met same solution below spent =
+    let is : status_of (At (objective_value m a)) lower gap ≡ Optimal = rw met refl in
     record {
-      optimal = λ e. let found = p.optimal (sym good.status ∙ e) in (found.0, record { this = found.1; best = found.2; below = found.3; near = found.4 });
-      infeasible = λ e. p.infeasible (sym good.status ∙ e);
-      decided = decided o.status _ good.status (closed_status o.upper o.lower gap _ refl good.closed);
+      optimal = λ e. (a, refl, closed_best m gap lower a met solution below, below a solution, met);
+      infeasible = λ e. absurd cc;
+      feasible = λ e. absurd cc;
+      unknown = λ e. absurd cc;
+    }
+promises m gap options status (Some a) lower ends false met same solution below spent =
+    let is : status_of (At (objective_value m a)) lower gap ≡ Feasible = rw met refl in
+    record {
+      optimal = λ e. absurd cc;
+      infeasible = λ e. absurd cc;
+      feasible = λ e. (a, refl, solution, below a solution, spent met);
+      unknown = λ e. absurd cc;
     }
 
-solved_by : (m : CpModel) (gap : ℕ) (o : Outcome) (status : Status) → IsValid m → KeepsPromise m gap o → o.status ≡ status → IsSolved m.objective status o.solution
-solved_by m gap o Optimal valid kept e =
-    let found = kept.optimal e in
-    let ready = model_ready m found.0 valid found.1.best.solution.free.domains in
-    subst (λ (s : Option (List ℤ)). IsSummable m.objective s) (sym found.1.this) ready.objective
-solved_by m gap o Feasible valid kept e = elim kept.decided [ inl h ↦ cc | inr h ↦ cc ]
-solved_by m gap o Infeasible valid kept e = tt
-solved_by m gap o Unknown valid kept e = tt
+promised : (m : CpModel) (gap : ℕ) (options : Options) (o : Outcome) → IsGoodOutcome m gap options o → Promises m gap options o.status o.solution o.lower o.ends
+promised m gap options o good =
+    let solution = subst (λ (s : Option (List ℤ)). IfSome s (IsSolution m)) (sym good.solution) (best_is m o.ends good.found) in
+    promises m gap options o.status o.solution o.lower o.ends (is_closed o.lower (best_bound m o.solution) gap) refl
+    (good.status ∙ ap (λ (u : Bound). status_of u o.lower gap) good.upper) solution good.floor
+    (subst (λ (u : Bound). is_closed o.lower u gap ≡ false → All (SpentItsBudget m options.conflicts u) o.ends) good.upper good.spent)
 
--- at the solution of a good outcome the objective can be summed up
-pub solved : (m n : CpModel) (gap : ℕ) (o : Outcome) → n ≡ m → IsValid n → IsGoodOutcome m gap o → IsSolved n.objective o.status o.solution
-solved m n gap o same valid good =
-    let here = subst (λ (k : CpModel). IsGoodOutcome k gap o) (sym same) good in
-    solved_by n gap o o.status valid (promise_kept n gap o here) refl
+-- a good outcome keeps the promise of its status
+pub promise_kept : (m : CpModel) (gap : ℕ) (options : Options) (o : Outcome) → IsGoodOutcome m gap options o → KeepsPromise m gap options o
+promise_kept m gap options o good =
+    let p = promised m gap options o good in
+    record {
+      optimal = λ e. let found = p.optimal e in (found.0, record { this = found.1; best = found.2; below = found.3; near = found.4 });
+      infeasible = p.infeasible;
+      feasible = λ e. let found = p.feasible e in (found.0, record { this = found.1; solution = found.2; below = found.3; spent = found.4 });
+      unknown = λ e. let none = p.unknown e in record { nothing = none.0; spent = none.1 };
+    }
+
+-- ---- the objective of what was found can be summed up
+
+summable : (m : CpModel) (o : Outcome) (a : List ℤ) → IsValid m → o.solution ≡ Some a → IsSolution m a → IsSummable m.objective o.solution
+summable m o a valid this solution =
+    subst (λ (s : Option (List ℤ)). IsSummable m.objective s) (sym this) (model_ready m a valid solution.free.domains).objective
+
+solved_by : (m : CpModel) (gap : ℕ) (options : Options) (o : Outcome) (status : Status) → IsValid m → KeepsPromise m gap options o → o.status ≡ status → IsSolved m.objective status o.solution
+solved_by m gap options o Optimal valid kept e = let found = kept.optimal e in summable m o found.0 valid found.1.this found.1.best.solution
+solved_by m gap options o Feasible valid kept e = let found = kept.feasible e in summable m o found.0 valid found.1.this found.1.solution
+solved_by m gap options o Infeasible valid kept e = tt
+solved_by m gap options o Unknown valid kept e = tt
+
+pub solved : (m n : CpModel) (gap : ℕ) (options : Options) (o : Outcome) → n ≡ m → IsValid n → IsGoodOutcome m gap options o → IsSolved n.objective o.status o.solution
+solved m n gap options o same valid good =
+    let here = subst (λ (k : CpModel). IsGoodOutcome k gap options o) (sym same) good in
+    solved_by n gap options o o.status valid (promise_kept n gap options o here) refl

@@ -6,10 +6,12 @@ use Rattle.cps_print.specs.declared.response.Response.{Response}
 use Rattle.cps_print.specs.Faults.{fault_text}
 use Rattle.cps_print.specs.Responses.{response_text}
 use Rattle.cpsolve.specs.declared.answer.Answer.{Answer}
-use Rattle.cpsolve.specs.declared.command.Command.{Command}
-use Rattle.cpsolve.specs.declared.command.Command.TheVariants.{Solve}
+use Rattle.cps_command.specs.declared.command.Command.{Command}
+use Rattle.cps_command.specs.declared.command.Command.TheVariants.{Solve}
+use Rattle.cps_command.specs.declared.options.Options.{Options}
+use Rattle.cps_command.specs.Numbers.{AreInRange}
+use Rattle.cps_command.specs.Lines.{CommandLine, IsUsageFault}
 use Rattle.cpsolve.specs.declared.outcome.Outcome.{Outcome}
-use Rattle.cpsolve.specs.Commands.{CommandLine, IsUsageFault}
 use Rattle.cpsolve.specs.Inputs.{HasFault, IsInput, IsNoInput}
 use Rattle.cpsolve.specs.Outcomes.{IsGoodOutcome, KeepsPromise}
 
@@ -26,14 +28,14 @@ pub record IsText (status : ℕ) (bytes : List ℕ) (answer : Answer) : Type 0 w
 abbrev pub response_of : Outcome → Response
 response_of o = record { status = o.status; solution = o.solution; lower = o.lower }
 
--- `solve` of a valid model: the response of an outcome that is good
-pub record Solves (m : CpModel) (answer : Answer) : Type 0 where
+-- `solve` of a valid model: the response of an outcome that is good for the options
+pub record Solves (options : Options) (m : CpModel) (answer : Answer) : Type 0 where
   pub found : Outcome
   pub exit : answer.exit ≡ 0
   pub outcome : answer.outcome ≡ Some found
   pub text : answer.text ≡ response_text m (response_of found)
-  pub good : IsGoodOutcome m 0 found
-  pub promise : KeepsPromise m 0 found
+  pub good : IsGoodOutcome m 0 options found
+  pub promise : KeepsPromise m 0 options found
 
 -- a command that reads a valid model: what it does with the one that the input is, and else the input's fault
 pub data AnswersInput (does : CpModel → Answer → Type 0) (bytes : List ℕ) (answer : Answer) : Type 0 where
@@ -42,7 +44,11 @@ pub data AnswersInput (does : CpModel → Answer → Type 0) (bytes : List ℕ) 
 
 -- what each command does
 abbrev pub Does : Command → List ℕ → Answer → Type 0
-Does Solve bytes answer = AnswersInput Solves bytes answer
+Does (Solve options) bytes answer = AnswersInput (Solves options) bytes answer
+
+-- a command whose options are in their ranges
+abbrev pub IsInRange : Command → Type 0
+IsInRange (Solve options) = AreInRange options
 
 -- the usage line for words that have no command, and else what their command does
 pub data Answers (words : List (List ℕ)) (bytes : List ℕ) (answer : Answer) : Type 0 where

@@ -2,13 +2,15 @@
 ghost use Rattle.std.specs.Prelude.{◌≡◌, ◌≤◌, IfOk, length, string_bytes};
 ghost use Rattle.cps_print.specs.Faults.{fault_text};
 ghost use Rattle.cps_print.specs.Responses.{IsShowable};
+ghost use Rattle.cps_search.specs.Searches.{HasNoAssumptions};
+ghost use Rattle.cps_command.specs.Numbers.{AreInRange};
 ghost use Rattle.cpsolve.specs.Inputs.{most_bytes};
-ghost use Rattle.cpsolve.specs.Answers.{usage_text, IsText, Solves, AnswersInput, Does};
+ghost use Rattle.cpsolve.specs.Answers.{usage_text, IsText, Solves, AnswersInput, Does, IsInRange};
 
-use crate::command::Command;
 use crate::input::{Unread, valid_model_of};
 use crate::outcome::Outcome;
 use crate::search::outcome_of;
+use cps_command::{Command, Options};
 use cps_model::Text;
 use cps_outer::Gate;
 use cps_print::{Fault, Response, fault_text, response_text};
@@ -18,7 +20,7 @@ use std::sync::Wait;
 use std::thread::Threads;
 
 /// An exit status with the text that goes with it, and the outcome where a model was solved.
-#[derive(Debug, Drop)]
+#[derive(Drop)]
 pub struct Answer {
     pub exit: u8,
     pub outcome: Option<Outcome>,
@@ -59,17 +61,21 @@ fn solve_answer<R: Threads + Wait + Sync, G: Gate + Sync>(
     _rt: &R,
     alloc: Global,
     model: &ValidModel,
+    options: &Options,
     _gate: &G,
 ) -> Result<Answer, AllocError>
-    requires { IsShowable model.now.objective }
-    ensures { IfOk result (Solves model.now) }
+    requires showable { IsShowable model.now.objective }
+    requires assumptions { HasNoAssumptions model.now }
+    requires range { AreInRange options.now }
+    ensures { IfOk result (Solves options.now model.now) }
 {
     let Outcome {
         status,
         solution,
         upper,
         lower,
-    } = outcome_of(alloc, model)?;
+        ends,
+    } = outcome_of(alloc, model, options)?;
     let response = Response {
         status,
         solution,
@@ -84,6 +90,7 @@ fn solve_answer<R: Threads + Wait + Sync, G: Gate + Sync>(
             solution,
             upper,
             lower,
+            ends,
         }),
         text: Text::from_string(text),
     })
@@ -93,14 +100,16 @@ fn solve_answer<R: Threads + Wait + Sync, G: Gate + Sync>(
 fn solve_input<R: Threads + Wait + Sync, G: Gate + Sync>(
     rt: &R,
     alloc: Global,
+    options: &Options,
     bytes: &[u8],
     gate: &G,
 ) -> Result<Answer, AllocError>
-    requires { length bytes.now ≤ most_bytes }
-    ensures { IfOk result (AnswersInput Solves bytes.now) }
+    requires short { length bytes.now ≤ most_bytes }
+    requires range { AreInRange options.now }
+    ensures { IfOk result (AnswersInput (Solves options.now) bytes.now) }
 {
     match valid_model_of(alloc, bytes) {
-        Ok(model) => solve_answer(rt, alloc, &model, gate),
+        Ok(model) => solve_answer(rt, alloc, &model, options, gate),
         Err(Unread::Fault(fault)) => fault_answer(alloc, &fault),
         Err(Unread::OutOfMemory) => Err(AllocError),
     }
@@ -114,10 +123,11 @@ pub fn command_answer<R: Threads + Wait + Sync, G: Gate + Sync>(
     bytes: &[u8],
     gate: &G,
 ) -> Result<Answer, AllocError>
-    requires { length bytes.now ≤ most_bytes }
+    requires short { length bytes.now ≤ most_bytes }
+    requires range { IsInRange command }
     ensures { IfOk result (Does command bytes.now) }
 {
     match command {
-        Command::Solve => solve_input(rt, alloc, bytes, gate),
+        Command::Solve(options) => solve_input(rt, alloc, &options, bytes, gate),
     }
 }

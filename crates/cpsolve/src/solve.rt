@@ -4,13 +4,13 @@ ghost use Rattle.std.specs.Io.KnownBytes.{Appends};
 ghost use Rattle.cps_outer.specs.Faults.{Rose};
 ghost use Rattle.cps_outer.specs.Transfers.{TakesPrefix};
 ghost use Rattle.cpsolve.specs.Answers.{Answers};
-ghost use Rattle.cpsolve.specs.Commands.{texts_of, IsCommandLine, IsUsageFault};
+ghost use Rattle.cps_command.specs.Lines.{texts_of, IsCommandLine, IsUsageFault};
 ghost use Rattle.cpsolve.specs.Runs.{is_silent, AreLeft, IsReadThrough, GivesOut};
 ghost use Rattle.cpsolve.specs.declared.solve.Unanswered.TheVariants.{OutOfMemory};
 
 use crate::answer::{Answer, command_answer, fault_answer, usage_answer};
-use crate::command::command_of;
 use crate::outcome::Ran;
+use cps_command::command_of;
 use cps_outer::{Gate, ReadError, Sink, Source, WriteFault, read_all, write_all};
 use cps_print::Fault;
 use std::alloc::{AllocError, Global};
@@ -51,7 +51,7 @@ fn answer_of<R: Threads + Wait + Sync, S: Source, G: Gate + Sync>(
     ensures usage { IsUsageFault (texts_of words.now) → (source.new ≡ source.old) × (result ≢ Err Unanswered.ReadFault) }
     ensures fault { IsErrOf result Unanswered.ReadFault → Rose (S.faults source.old) (S.faults source.new) }
 {
-    let Some(command) = command_of(words) else {
+    let Some(command) = command_of(alloc, words)? else {
         return Ok(usage_answer(alloc)?);
     };
     match read_all(alloc, source, MOST_BYTES) {

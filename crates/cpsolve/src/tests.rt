@@ -11,7 +11,7 @@ const PRODUCTION: &str = "variables { domain: [0, 10] } variables { domain: [0, 
     objective { vars: [0, 1] coeffs: [-3, -2] scaling_factor: -1 }";
 
 /// Inputs of `solve`, each with its exit status and its text.
-const INPUTS: [(&str, u8, &str); 14] = [
+const INPUTS: [(&str, u8, &str); 16] = [
     ("", 0, "status: OPTIMAL\n"),
     (
         PRODUCTION,
@@ -54,6 +54,20 @@ const INPUTS: [(&str, u8, &str); 14] = [
         "status: OPTIMAL\nsolution: 1\nsolution: 0\nsolution: 1\n",
     ),
     (
+        "variables { domain: [0, 4611686018427387903] } \
+         constraints { linear { vars: [0] coeffs: [1] domain: [4611686018427387902, 9223372036854775807] } } \
+         objective { vars: [0] coeffs: [1] }",
+        0,
+        "status: OPTIMAL\nsolution: 4611686018427387902\nobjective_value: 4611686018427387902\n\
+         best_objective_bound: 4611686018427387902\n",
+    ),
+    (
+        "variables { domain: [0, 2147483648] } variables { domain: [0, 2147483648] } \
+         constraints { linear { vars: [0, 1] coeffs: [1073741824, 1073741823] domain: [0, 0] } }",
+        0,
+        "status: OPTIMAL\nsolution: 0\nsolution: 0\n",
+    ),
+    (
         "variables { domain: [0, 4611686018427387904] } \
          constraints { linear { vars: [0] coeffs: [1] domain: [4611686018427387902, 9223372036854775807] } } \
          objective { vars: [0] coeffs: [1] }",
@@ -88,11 +102,36 @@ const INPUTS: [(&str, u8, &str); 14] = [
     ),
 ];
 
+/// Three variables of two values, no two of them equal.
+const THREE_IN_TWO: &str = "variables { domain: [0, 1] } variables { domain: [0, 1] } variables { domain: [0, 1] } \
+    constraints { linear { vars: [0, 1] coeffs: [1, -1] domain: [-1, -1, 1, 1] } } \
+    constraints { linear { vars: [0, 2] coeffs: [1, -1] domain: [-1, -1, 1, 1] } } \
+    constraints { linear { vars: [1, 2] coeffs: [1, -1] domain: [-1, -1, 1, 1] } }";
+
+/// Three variables of three values, no two of them equal, with the least sum.
+const THREE_IN_THREE: &str = "variables { domain: [0, 2] } variables { domain: [0, 2] } variables { domain: [0, 2] } \
+    constraints { linear { vars: [0, 1] coeffs: [1, -1] domain: [-2, -1, 1, 2] } } \
+    constraints { linear { vars: [0, 2] coeffs: [1, -1] domain: [-2, -1, 1, 2] } } \
+    constraints { linear { vars: [1, 2] coeffs: [1, -1] domain: [-2, -1, 1, 2] } } \
+    objective { vars: [0, 1, 2] coeffs: [1, 1, 1] }";
+
+/// Inputs, each with a budget of conflicts and the text that `solve` writes.
+const BUDGETS: [(&str, &str, &str); 3] = [
+    (THREE_IN_TWO, "0", "status: UNKNOWN\n"),
+    (THREE_IN_TWO, "1", "status: INFEASIBLE\n"),
+    (
+        THREE_IN_THREE,
+        "0",
+        "status: FEASIBLE\nsolution: 0\nsolution: 1\nsolution: 2\nobjective_value: 3\nbest_objective_bound: 0\n",
+    ),
+];
+
 /// Words that are no command line.
-const FAULTY_WORDS: [&[&str]; 5] = [
+const FAULTY_WORDS: [&[&str]; 6] = [
     &["cpsolve"],
     &["cpsolve", "solve", "--workers", "0"],
     &["cpsolve", "solve", "--workers", "17"],
+    &["cpsolve", "solve", "--conflicts", "1000000001"],
     &["cpsolve", "print", "x"],
     &["cpsolve", "solves"],
 ];
@@ -130,6 +169,20 @@ fn inputs_have_their_answers(rt: HostRuntime) -> Result<(), Fail> {
         let ran = solve_main(&rt, alloc, &words, &mut source, &mut sink, &OpenGate);
         assert_eq!(rt; ran.exit, *exit, "at {input}");
         assert_eq!(rt; ran.outcome.is_some(), *exit == 0, "at {input}");
+        assert!(rt; sink.bytes() == text.as_bytes(), "at {input}");
+    }
+    Ok(())
+}
+
+#[test]
+fn budgets_have_their_answers(rt: HostRuntime) -> Result<(), Fail> {
+    let alloc = rt.alloc();
+    for (input, conflicts, text) in BUDGETS.iter() {
+        let words = words_of(alloc, &["cpsolve", "solve", "--workers", "1", "--conflicts", conflicts])?;
+        let mut source = source_of(alloc, input, &[], &[])?;
+        let mut sink = MemorySink::new(alloc, 10, Vec::new(alloc));
+        let ran = solve_main(&rt, alloc, &words, &mut source, &mut sink, &OpenGate);
+        assert_eq!(rt; ran.exit, 0, "at {input}");
         assert!(rt; sink.bytes() == text.as_bytes(), "at {input}");
     }
     Ok(())

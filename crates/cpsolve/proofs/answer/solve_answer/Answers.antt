@@ -5,7 +5,7 @@ use Rattle.cpsolve.proofs.answer.solve_answer.Goals as goal
 
 pub response_text-requires-clause-solved : goal.response_text-requires-clause-solved
 response_text-requires-clause-solved g c =
-    solved c.args.model.now c.model.result.now 0 _ c.model.ensures.same c.model.ensures.valid c.in_ok-status.ensures.good
+    solved c.args.model.now c.model.result.now 0 c.args.options.now _ c.model.ensures.same c.model.ensures.valid c.in_ok-status.ensures.good
 
 pub returns : goal.returns
 returns g c =
@@ -15,5 +15,5 @@ returns g c =
       outcome = refl;
       text = search rules;
       good = c.in_ok-status.ensures.good;
-      promise = promise_kept c.args.model.now 0 _ c.in_ok-status.ensures.good;
+      promise = promise_kept c.args.model.now 0 c.args.options.now _ c.in_ok-status.ensures.good;
     }

@@ -1,7 +1,7 @@
 -- The answer to the bytes that were left.
 use Rattle.std.proofs.Common.{◌+◌, arith}
 use Rattle.cpsolve.specs.Inputs.{most_bytes}
-use Rattle.cpsolve.proofs.Given.{usage_given, command_given, long_given, read_through}
+use Rattle.cpsolve.proofs.Given.{usage_given, command_given, long_given, line_in_range, read_through}
 use Rattle.cpsolve.proofs.solve.answer_of.Goals as goal
 
 pub returns-in_default-clause-right : goal.returns-in_default-clause-right
@@ -21,3 +21,6 @@ pub returns-in_ok-fault_answer-in-Err-TooLong-clause-right : goal.returns-in_ok-
 returns-in_ok-fault_answer-in-Err-TooLong-clause-right g c =
     long_given _ (g.S.Source.left c.args.source.now) (g.S.Source.left c.read_all.new.source) c.in_ok-fault_answer-in-Err-TooLong.field-0 c.in-Some.command
     c.in-Some.ensures (rw c.in-Err-TooLong.field-0-is at c.in-Err-TooLong.ensures.bytes) c.in_ok-fault_answer-in-Err-TooLong.ensures
+
+pub command_answer-requires-clause-range : goal.command_answer-requires-clause-range
+command_answer-requires-clause-range g c = line_in_range _ c.in-Some.command c.in-Some.ensures

@@ -1,0 +1,33 @@
+-- The table of commands, as one simple command of `clap`.
+use Rattle.std.specs.Prelude.{true, pos, [], ◌∷◌, codes, Some}
+use Rattle.clap.specs.Words.{App, Rule, Shape, new_app, new_rule, with_rule, with_subcommand}
+use Rattle.clap.specs.Simple.{on_top}
+use Rattle.clap.specs.declared.builder.value_parser.ValueParser.TheVariants as vp
+
+-- `--workers N`, a number of 32 bits
+unfoldable pub workers_rule : Rule
+workers_rule = record (new_rule (codes "workers")) {
+  long = Some (codes "workers");
+  parser = Some (vp.Signed (pos 0) (pos 4294967295));
+  defaults = codes "1" ∷ [];
+}
+
+-- `--conflicts N`, a number of 64 bits
+unfoldable pub conflicts_rule : Rule
+conflicts_rule = record (new_rule (codes "conflicts")) {
+  long = Some (codes "conflicts");
+  parser = Some (vp.Unsigned 0 18446744073709551615);
+  defaults = codes "10000" ∷ [];
+}
+
+-- `solve [--workers N] [--conflicts N]`
+unfoldable pub solve_line : App
+solve_line = with_rule (with_rule (new_app (codes "solve")) workers_rule) conflicts_rule
+
+-- a command that wants a subcommand
+abbrev pub wants_subcommand : Shape → Shape
+wants_subcommand s = record s { subcommand_required = true }
+
+-- all lines
+unfoldable pub command_table : App
+command_table = with_subcommand (on_top wants_subcommand (new_app (codes "cpsolve"))) solve_line.top

@@ -1,0 +1,67 @@
+//! The table of commands, read by `clap`.
+ghost use Rattle.std.specs.Prelude.{◌≡◌, ◌≢◌, [], false, IfOk, MatchOption};
+ghost use Rattle.clap.specs.Words.{app_of, rule_of, fault_of, subcommand_of, subcommand_rows_of};
+ghost use Rattle.clap.specs.declared.builder.Command.TheViews.{out-Command};
+ghost use Rattle.cps_command.specs.Rules.{workers_rule, conflicts_rule, solve_line, command_table};
+ghost use Rattle.cps_command.specs.Lines.{texts_of, IsPassed};
+
+use clap::error::ErrorKind;
+use clap::{Arg, ArgMatches, Command, value_parser};
+use std::alloc::{AllocError, Global};
+
+/// `--workers N`
+fn workers_option<'a>(alloc: Global) -> Arg<'a>
+    ensures rule { rule_of result ≡ workers_rule }
+    ensures local { result.global ≡ false }
+{
+    Arg::new(alloc, "workers")
+        .long("workers")
+        .value_parser(value_parser!(u32))
+        .default_value("1")
+}
+
+/// `--conflicts N`
+fn conflicts_option<'a>(alloc: Global) -> Arg<'a>
+    ensures rule { rule_of result ≡ conflicts_rule }
+    ensures local { result.global ≡ false }
+{
+    Arg::new(alloc, "conflicts")
+        .long("conflicts")
+        .value_parser(value_parser!(u64))
+        .default_value("10000")
+}
+
+/// `solve [--workers N] [--conflicts N]`
+fn solve_line<'a>(alloc: Global) -> Result<Command<'a>, AllocError>
+    ensures app { IfOk result (λ c. app_of c ≡ solve_line) }
+    ensures local { IfOk result (λ c. (out-Command c).has_globals ≡ false) }
+{
+    let workers = workers_option(alloc);
+    let conflicts = conflicts_option(alloc);
+    Command::new(alloc, "solve").arg(workers)?.arg(conflicts)
+}
+
+/// All lines.
+fn command_table<'a>(alloc: Global) -> Result<Command<'a>, AllocError>
+    ensures { IfOk result (λ c. app_of c ≡ command_table) }
+{
+    let solve = solve_line(alloc)?;
+    Command::new(alloc, "cpsolve")
+        .subcommand_required(true)
+        .subcommand(solve)
+}
+
+/// What the words say by the table, none where they are no line of it.
+pub(crate) fn matches_of<'a>(
+    alloc: Global,
+    words: &'a [String],
+) -> Result<Option<ArgMatches<'a>>, AllocError>
+    ensures { IfOk result (λ matches. MatchOption matches (fault_of command_table (texts_of words.entry.now) ≢ [])
+        (λ m. IsPassed (texts_of words.entry.now) (subcommand_rows_of m))) }
+{
+    match command_table(alloc)?.try_get_matches_from(words) {
+        Ok(matches) => Ok(Some(matches)),
+        Err(error) if error.kind() == ErrorKind::OutOfMemory => Err(AllocError),
+        Err(_) => Ok(None),
+    }
+}
