@@ -14,6 +14,7 @@ use Rattle.cps_clauses.specs.declared.journal.JournalItem.TheVariants as items
 use Rattle.cps_clauses.specs.declared.origin.Origin.TheVariants as origins
 use Rattle.cps_clauses.specs.Bases.{Base, with_clause}
 use Rattle.cps_search.specs.declared.end.End.{End}
+use Rattle.cps_search.specs.declared.end.End.TheVariants as ends
 use Rattle.cps_search.specs.declared.turn.Turn.{Turn}
 use Rattle.cps_search.specs.declared.turn.Turn.TheVariants as turns
 use Rattle.cps_search.specs.Fixed.{AreFixed}
@@ -21,8 +22,8 @@ use Rattle.cps_search.specs.Lessons.{GoesBack}
 use Rattle.cps_search.specs.Scope.{Scope, IsScopeOf, AreSameUpTo}
 use Rattle.cps_search.specs.Searches.{Search, IsSettled, IsSoundSearch}
 use Rattle.cps_search.specs.Moves.{fresh, moved, decided}
-use Rattle.cps_search.specs.Turns.{Caused, DecisionDue, IsOnward, LearntOne, SameSetting, Steps}
-use Rattle.cps_search.specs.Ends.{BrancherTurn, DecidedOne, Decides, EndsAs, HeardOne, Hears, IsWorking, MovesWith, RunsTo, Stands, TakesTurn, TurnCaused, end_of}
+use Rattle.cps_search.specs.Turns.{Caused, DecisionDue, IsOnward, LearntOne, SameRaised, SameSetting, Steps}
+use Rattle.cps_search.specs.Ends.{BrancherTurn, DecidedOne, Decides, EndsAs, EndsRaised, HeardOne, Hears, IsWorking, MovesWith, RunsTo, Stands, TakesTurn, TurnCaused, end_of}
 use Rattle.cps_search.proofs.Completing.{all_fixed}
 use Rattle.cps_search.proofs.Turning.{setting_of, setting_same, setting_trans}
 use Rattle.cps_search.proofs.Moving.{ends_by, moves_more, moves_same, takes_turn}
@@ -215,19 +216,52 @@ brancher_heard hears s m t rows p q turn chose same steps stands heard stays = e
   | inr not ↦ brancher_other s m rows p q turn (HeardOne hears s t) chose same steps.cause not (stays not)
 ]
 
+-- a turn raises the lower bound at the end alone
+turn_raised : (chooses : Trail → Option Atom → Type 0) (s t : Search) (rows : ℕ) (p q : Part) (turn : Turn) → end_of turn ≡ None → TurnCaused chooses s t rows p q turn → SameRaised s t
+turn_raised chooses s t rows p q turns.Imported e h = h.raised
+turn_raised chooses s t rows p q turns.Decided e h = ap (λ (x : Search). x.raised) h.is ∙ h.due.raised
+turn_raised chooses s t rows p q turns.Learnt e h = h.raised
+turn_raised chooses s t rows p q turns.Found e h = h.raised
+turn_raised chooses s t rows p q turns.Exhausted e h = absurd (cc e)
+turn_raised chooses s t rows p q turns.SawClosed e h = absurd (cc e)
+turn_raised chooses s t rows p q (turns.Spent clause below) e h = absurd (cc e)
+turn_raised chooses s t rows p q turns.RoundsDone e h = absurd h
+
+end_is : (a b : End) → Some a ≡ Some b → a ≡ b
+end_is a b e = cc
+
+ends_raised : (chooses : Trail → Option Atom → Type 0) (s t u : Search) (rows : ℕ) (p q : Part) (turn : Turn) (end : End) → end_of turn ≡ Some end → TurnCaused chooses t u rows p q turn → SameRaised s t → EndsRaised s u end
+ends_raised chooses s t u rows p q turns.Imported end e h same = absurd (cc e)
+ends_raised chooses s t u rows p q turns.Decided end e h same = absurd (cc e)
+ends_raised chooses s t u rows p q turns.Learnt end e h same = absurd (cc e)
+ends_raised chooses s t u rows p q turns.Found end e h same = absurd (cc e)
+ends_raised chooses s t u rows p q turns.Exhausted end e h same = subst (λ (x : End). EndsRaised s u x) (end_is ends.Exhausted end e) tt
+ends_raised chooses s t u rows p q turns.SawClosed end e h same = subst (λ (x : End). EndsRaised s u x) (end_is ends.SawClosed end e) (ap (λ (x : Search). x.raised) h.same ∙ same)
+ends_raised chooses s t u rows p q (turns.Spent clause below) end e h same = subst (λ (x : End). EndsRaised s u x) (end_is (ends.Spent clause below) end e) (h.raised ∙ same)
+ends_raised chooses s t u rows p q turns.RoundsDone end e h same = absurd h
+
 -- what a run has done so far
 pub record HasRun (s t : Search) (p q : Part) : Type 0 where
   pub setting : SameSetting s t
   pub moves : MovesWith s t p q
+  pub raised : SameRaised s t
 
 pub run_begins : (s : Search) (p : Part) → HasRun s s p p
-run_begins s p = record { setting = setting_same s; moves = moves_same s p }
+run_begins s p = record { setting = setting_same s; moves = moves_same s p; raised = refl }
 
-pub run_goes_on : (chooses : Trail → Option Atom → Type 0) (s t u : Search) (rows : ℕ) (p m q : Part) (turn : Turn) → HasRun s t p m → TakesTurn chooses t u rows m q turn → HasRun s u p q
-run_goes_on chooses s t u rows p m q turn h k = record { setting = setting_trans s t u h.setting k.setting; moves = moves_more s t u p m q h.moves k.moves }
+pub run_goes_on : (chooses : Trail → Option Atom → Type 0) (s t u : Search) (rows : ℕ) (p m q : Part) (turn : Turn) → end_of turn ≡ None → HasRun s t p m → TakesTurn chooses t u rows m q turn → HasRun s u p q
+run_goes_on chooses s t u rows p m q turn e h k = record {
+  setting = setting_trans s t u h.setting k.setting;
+  moves = moves_more s t u p m q h.moves k.moves;
+  raised = turn_raised chooses t u rows m q turn e k.cause ∙ h.raised;
+}
 
 -- and its end
 pub run_ends : (chooses : Trail → Option Atom → Type 0) (s t u : Search) (rows : ℕ) (p m q : Part) (turn : Turn) (end : End) → IsSoundSearch t → HasRun s t p m → TakesTurn chooses t u rows m q turn → end_of turn ≡ Some end → RunsTo s u p q end
-run_ends chooses s t u rows p m q turn end sound h k e =
-    let all = run_goes_on chooses s t u rows p m q turn h k in
-    record { setting = all.setting; moves = all.moves; said = subst (λ (o : Option End). EndsAs o u) e k.ends; why = ends_by chooses t u rows m q turn end sound k.setting k.cause e }
+run_ends chooses s t u rows p m q turn end sound h k e = record {
+  setting = setting_trans s t u h.setting k.setting;
+  moves = moves_more s t u p m q h.moves k.moves;
+  said = subst (λ (o : Option End). EndsAs o u) e k.ends;
+  why = ends_by chooses t u rows m q turn end sound k.setting k.cause e;
+  raises_last = ends_raised chooses s t u rows m q turn end e k.cause h.raised;
+}

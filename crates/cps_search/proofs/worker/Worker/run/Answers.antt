@@ -30,7 +30,7 @@ turns-preserved g c =
     let i = c.turns.invariant in
     record {
       running = subst (λ (o : Option End). EndsAs o c.turn.new.self.0) (sym c.end_of.ensures ∙ c.in_default.is) k.turn.ends;
-      run = run_goes_on _ c.args.self.now.0 c.turns.self.0 c.turn.new.self.0 _ _ _ _ c.in_ok-turn.turn i.run k.turn;
+      run = run_goes_on _ c.args.self.now.0 c.turns.self.0 c.turn.new.self.0 _ _ _ _ c.in_ok-turn.turn (sym c.end_of.ensures ∙ c.in_default.is) i.run k.turn;
       model = k.same.0 ∙ i.model;
       rows = k.same.1 ∙ i.rows;
       stays = g.met.Q.Port.moved_on c.args.port.now c.turns.port c.turn.new.port i.stays k.others;
