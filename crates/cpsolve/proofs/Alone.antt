@@ -102,7 +102,7 @@ words m conflicts c e sound h =
     record {
       upper = sound.bounds.upper ∙ one_offer c.bounds.parts one ∙ offered ∙ ap (λ (n : CpModel). best_bound n h.done.best) model ∙ sym (ap (best_bound m) best);
       lower = sound.bounds.lower ∙ one_raise (At (objective_start c.model)) c.bounds.parts one ∙ ap (λ (o : Option Bound). raised_above o (At (objective_start c.model))) (raised ∙ sym raise)
-      ∙ ap (λ (n : CpModel). raised_above e.raised (At (objective_start n))) h.model;
+          ∙ ap (λ (n : CpModel). raised_above e.raised (At (objective_start n))) h.model;
       floor = subst (λ (n : CpModel). (a : List ℤ) → IsSolution n a → IsAtMost c.bounds.lower (objective_value n a)) h.model (floor_of c.model c.bounds.lower sound.bounds.floor);
     }
 
@@ -208,17 +208,17 @@ good_alone m options c e o range sound h is =
       sums = subst (All (λ (x : Ending). x.defs ≡ [])) (sym same) (All-cons (λ (x : Ending). x.defs ≡ []) e [] none (All-nil (λ (x : Ending). x.defs ≡ [])));
       status = is.status ∙ ap₂ (λ (u l : Bound). status_of u l 0) (sym is.upper_is) (sym is.lower_is);
       found = subst (All (λ (x : Ending). IfSome x.best (IsSolution m))) (sym same)
-      (All-cons (λ (x : Ending). IfSome x.best (IsSolution m)) e [] found (All-nil (λ (x : Ending). IfSome x.best (IsSolution m))));
+          (All-cons (λ (x : Ending). IfSome x.best (IsSolution m)) e [] found (All-nil (λ (x : Ending). IfSome x.best (IsSolution m))));
       solution = best ∙ sym (ap (best_of m) same);
       upper = is.upper_is ∙ w.upper ∙ sym (ap (best_bound m) is.solution);
       lower = is.lower_is ∙ w.lower ∙ sym (ap (greatest_raised (At (objective_start m))) same);
       floor = λ a s. subst (λ (b : Bound). IsAtMost b (objective_value m a)) (sym is.lower_is) (w.floor a s);
       spent = λ apart.
-        let here : is_closed c.bounds.lower c.bounds.upper 0 ≡ false = ap₂ (λ (l u : Bound). is_closed l u 0) (sym is.lower_is) (sym is.upper_is) ∙ apart in
-        let one_spent = spent_apart m options.conflicts c e e.end sound h refl h.runs.why here in
-        let moved = subst (λ (b : Bound). SpentItsBudget m options.conflicts b e) (sym is.upper_is) one_spent in
-        subst (All (SpentItsBudget m options.conflicts o.upper)) (sym same)
-        (All-cons (SpentItsBudget m options.conflicts o.upper) e [] moved (All-nil (SpentItsBudget m options.conflicts o.upper)));
+          let here : is_closed c.bounds.lower c.bounds.upper 0 ≡ false = ap₂ (λ (l u : Bound). is_closed l u 0) (sym is.lower_is) (sym is.upper_is) ∙ apart in
+          let one_spent = spent_apart m options.conflicts c e e.end sound h refl h.runs.why here in
+          let moved = subst (λ (b : Bound). SpentItsBudget m options.conflicts b e) (sym is.upper_is) one_spent in
+          subst (All (SpentItsBudget m options.conflicts o.upper)) (sym same)
+          (All-cons (SpentItsBudget m options.conflicts o.upper) e [] moved (All-nil (SpentItsBudget m options.conflicts o.upper)));
     }
 
 -- ---- the lower bound that is written
@@ -253,16 +253,19 @@ bounded_alone m options c e o sound h is kept = go o.status refl
   where
     valid : IsValid m
     valid = subst IsValid h.plain.model h.plain.sound.valid
+
     least : BoundLe (At (objective_start m)) o.lower
     least =
         let w = words m options.conflicts c e sound h in
         subst (λ (b : Bound). BoundLe (At (objective_start m)) b) (sym (is.lower_is ∙ w.lower)) (raised_least e.raised (At (objective_start m)))
+
     unknown : SpentItsBudget m options.conflicts Infinite e → IsSmallBound o.lower
     unknown s =
         let w = words m options.conflicts c e sound h in
         let none = spent_raised m options.conflicts c e s.clause s.below h s.end in
         let lower : o.lower ≡ At (objective_start m) = is.lower_is ∙ w.lower ∙ ap (λ (r : Option Bound). raised_above r (At (objective_start m))) none in
         subst IsSmallBound (sym lower) (objective_start-small m valid)
+
     go : (s : Status) → o.status ≡ s → IsBounded s o.lower
     go Optimal same = let k = kept.optimal same in small_lower m o.lower k.0 valid k.1.best.solution least k.1.below
     go Feasible same = let k = kept.feasible same in small_lower m o.lower k.0 valid k.1.solution least k.1.below

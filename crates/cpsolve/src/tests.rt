@@ -103,13 +103,15 @@ const INPUTS: [(&str, u8, &str); 16] = [
 ];
 
 /// Three variables of two values, no two of them equal.
-const THREE_IN_TWO: &str = "variables { domain: [0, 1] } variables { domain: [0, 1] } variables { domain: [0, 1] } \
+const THREE_IN_TWO: &str =
+    "variables { domain: [0, 1] } variables { domain: [0, 1] } variables { domain: [0, 1] } \
     constraints { linear { vars: [0, 1] coeffs: [1, -1] domain: [-1, -1, 1, 1] } } \
     constraints { linear { vars: [0, 2] coeffs: [1, -1] domain: [-1, -1, 1, 1] } } \
     constraints { linear { vars: [1, 2] coeffs: [1, -1] domain: [-1, -1, 1, 1] } }";
 
 /// Three variables of three values, no two of them equal, with the least sum.
-const THREE_IN_THREE: &str = "variables { domain: [0, 2] } variables { domain: [0, 2] } variables { domain: [0, 2] } \
+const THREE_IN_THREE: &str =
+    "variables { domain: [0, 2] } variables { domain: [0, 2] } variables { domain: [0, 2] } \
     constraints { linear { vars: [0, 1] coeffs: [1, -1] domain: [-2, -1, 1, 2] } } \
     constraints { linear { vars: [0, 2] coeffs: [1, -1] domain: [-2, -1, 1, 2] } } \
     constraints { linear { vars: [1, 2] coeffs: [1, -1] domain: [-2, -1, 1, 2] } } \
@@ -178,7 +180,17 @@ fn inputs_have_their_answers(rt: HostRuntime) -> Result<(), Fail> {
 fn budgets_have_their_answers(rt: HostRuntime) -> Result<(), Fail> {
     let alloc = rt.alloc();
     for (input, conflicts, text) in BUDGETS.iter() {
-        let words = words_of(alloc, &["cpsolve", "solve", "--workers", "1", "--conflicts", conflicts])?;
+        let words = words_of(
+            alloc,
+            &[
+                "cpsolve",
+                "solve",
+                "--workers",
+                "1",
+                "--conflicts",
+                conflicts,
+            ],
+        )?;
         let mut source = source_of(alloc, input, &[], &[])?;
         let mut sink = MemorySink::new(alloc, 10, Vec::new(alloc));
         let ran = solve_main(&rt, alloc, &words, &mut source, &mut sink, &OpenGate);

@@ -10,7 +10,7 @@ returns-in-Ok c =
       core = c.run-run.new.port.core.now;
       sound = c.upper_of.ensures.sound;
       run = has_run c.args.model.now c.args.conflicts c.run-run.new.port.actor _ c.run-run.new.port.core.now c.in_ok-worker.worker.0 c.run-run.new.self.0 c.finish.result c.in-Ok.field-0
-      c.in_ok-worker.ensures c.in_ok-core.ensures.first c.in-Ok.ensures.runs c.in-Ok.ensures.sound c.finish.ensures.said c.finish.ensures.is c.in-Ok.ensures.same.0 c.in-Ok.ensures.others;
+          c.in_ok-worker.ensures c.in_ok-core.ensures.first c.in-Ok.ensures.runs c.in-Ok.ensures.sound c.finish.ensures.said c.finish.ensures.is c.in-Ok.ensures.same.0 c.in-Ok.ensures.others;
       upper_is = c.upper_of.ensures.bound;
       lower_is = c.lower_of.ensures ∙ ap (λ (x : Core). x.bounds.lower) c.upper_of.ensures.after;
     }
