@@ -87,8 +87,6 @@ impl Defining for AnyPropagator {
         terms: &[Term],
         offset: i64,
     ) -> Result<Self, AllocError> {
-        Ok(AnyPropagator::Linear(Linear::of_sum(
-            alloc, subject, terms, offset,
-        )?))
+        Ok(AnyPropagator::Linear(Linear::of_sum(alloc, subject, terms, offset)?))
     }
 }
