@@ -60,6 +60,21 @@ fn the_variable(alloc: Global) -> Result<Objective, AllocError>
     })
 }
 
+/// One variable, 0..10, which is the objective.
+fn minimised(alloc: Global) -> Result<CpModel, AllocError> {
+    let objective = the_variable(alloc)?;
+    let variables = vec![in alloc; variable(alloc)?]?;
+    Ok(CpModel {
+        name: Text::new(alloc),
+        variables: Listed::from_vec(variables),
+        constraints: Listed::new(alloc),
+        objective: Some(objective),
+        strategies: Listed::new(alloc),
+        hint: None,
+        assumptions: Refs::new(alloc),
+    })
+}
+
 /// One variable, 0..10, which is the objective, and at least 2.
 fn worked(alloc: Global) -> Result<CpModel, AllocError>
     ensures { IfOk result IsWorked }
@@ -214,7 +229,7 @@ fn threads_meet_in_the_words(rt: HostRuntime) -> Result<(), Fail> {
 #[test]
 fn each_seat_sees_the_best_offer(rt: HostRuntime) -> Result<(), Fail> {
     let alloc = rt.alloc();
-    let model = validate(alloc, worked(alloc)?)?;
+    let model = validate(alloc, minimised(alloc)?)?;
     assert!(rt; is_ready(alloc, &model)?);
     let seen = answers(alloc, &model)?;
     assert!(rt; seen[..3] == [Bound::Infinite, Bound::At(7), Bound::At(5)]);
