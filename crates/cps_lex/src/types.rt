@@ -13,6 +13,14 @@ pub enum TokenKind {
     Identifier,
     /// `0`, or a digit from 1 to 9 and further digits.
     Decimal,
+    /// `0` and digits from 0 to 7.
+    Octal,
+    /// `0x` or `0X` and hexadecimal digits.
+    Hexadecimal,
+    /// A number with a point, an exponent or a final `f`.
+    Float,
+    /// A string in quotes.
+    Text,
     /// One of `: { } < > [ ] , ; -`.
     Sign,
 }
