@@ -1,5 +1,5 @@
 -- One more field, value or open message, or one less.
-use Rattle.std.proofs.Common.{◌≡◌, ℕ, suc, ◌+◌, ◌-◌, List, [], ◌∷◌, ◌++◌, length, length-append, take, refl, sym, ◌∙◌, ap, arith}
+use Rattle.std.proofs.Common.{◌≡◌, suc, ◌-◌, List, [], ◌∷◌, ◌++◌, length, length-append, take, refl, sym, ◌∙◌, ap, arith}
 use Rattle.cps_textproto.specs.declared.tree.Field.{Field}
 use Rattle.cps_textproto.specs.declared.tree.Nested.{Nested, Nested'}
 use Rattle.cps_textproto.specs.declared.tree.Span.{Span}

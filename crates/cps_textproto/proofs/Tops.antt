@@ -1,5 +1,5 @@
 -- The innermost open message is the last of those that the code keeps.
-use Rattle.std.proofs.Common.{◌≡◌, ℕ, suc, ◌+◌, ◌-◌, List, [], ◌∷◌, length, Option, Some, None, refl, sym, ◌∙◌, ap, arith}
+use Rattle.std.proofs.Common.{◌≡◌, suc, ◌-◌, List, [], ◌∷◌, length, Option, Some, None, refl, sym, ◌∙◌, ap, arith}
 use Rattle.std.specs.List.{slice_get}
 use Rattle.cps_textproto.specs.declared.machine.Frame.{Frame}
 use Rattle.cps_textproto.specs.declared.builder.Opened.{Opened}

@@ -2,7 +2,7 @@
 use Rattle.std.specs.Prelude.{if◌then◌else◌}
 use Rattle.std.proofs.Common.{◌≡◌, ℕ, zero, suc, ◌+◌, Bool, true, false, List, [], ◌∷◌, length, Option, Some, None, refl, sym, ◌∙◌, ap, subst, arith}
 use Rattle.cps_textproto.specs.declared.symbol.Symbol.{Symbol}
-use Rattle.cps_textproto.specs.declared.symbol.Symbol.TheVariants.{Name, Number, Text, Open, Close, OpenList, CloseList, Comma, Minus}
+use Rattle.cps_textproto.specs.declared.symbol.Symbol.TheVariants.{Name, Text, Close, OpenList, CloseList, Comma}
 use Rattle.cps_textproto.specs.declared.machine.Mode.{Mode}
 use Rattle.cps_textproto.specs.declared.machine.Mode.TheVariants.{Between, After, Texted, Named, Valued, Signed, ListFirst, ListNext, ListSigned, ListItem, ListTexted, MessagesFirst, MessagesNext, MessagesItem}
 use Rattle.cps_textproto.specs.declared.machine.Frame.{Frame}

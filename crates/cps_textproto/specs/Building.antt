@@ -3,7 +3,7 @@ use Rattle.std.specs.Prelude.{◌≡◌, ℕ, suc, Bool, true, false, if◌then�
 use Rattle.cps_textproto.specs.declared.symbol.Symbol.{Symbol}
 use Rattle.cps_textproto.specs.declared.symbol.Symbol.TheVariants.{Name, Number, Text, Open, Close, OpenList, CloseList, Comma, Minus}
 use Rattle.cps_textproto.specs.declared.machine.Mode.{Mode}
-use Rattle.cps_textproto.specs.declared.machine.Mode.TheVariants.{Between, After, Texted, Named, Valued, Signed, ListFirst, ListNext, ListSigned, ListItem, ListTexted, MessagesFirst, MessagesNext, MessagesItem}
+use Rattle.cps_textproto.specs.declared.machine.Mode.TheVariants.{Between, After, Texted, Named, Valued, Signed, ListFirst, ListNext, ListItem, ListTexted, MessagesFirst, MessagesNext, MessagesItem}
 use Rattle.cps_textproto.specs.declared.machine.Frame.{Frame}
 use Rattle.cps_textproto.specs.declared.builder.Action.{Action}
 use Rattle.cps_textproto.specs.declared.builder.Action.TheVariants as actions
