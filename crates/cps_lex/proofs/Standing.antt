@@ -1,20 +1,17 @@
 -- The scan by the first byte finds the longest token.
-use Rattle.std.proofs.Common.{◌≡◌, ℕ, zero, suc, ◌+◌, ◌≤◌, Bool, true, false, cond, ◌&&◌, not, eqb, List, [], ◌∷◌, length, take, drop, Option, Some, None, refl, sym, ◌∙◌, ap, subst, arith}
+use Rattle.std.proofs.Common.{◌≡◌, ℕ, zero, suc, ◌+◌, ◌≤◌, Bool, true, false, cond, not, List, [], ◌∷◌, ◌++◌, length, take, drop, Option, Some, None, refl, sym, ◌∙◌, ap, subst, arith, length-append}
 use Rattle.std.specs.Prelude.{MatchOption}
 use Rattle.std.proofs.lemmas.Bool.Decides.{nat_tests}
 use Rattle.std.specs.Option.{option_map}
 use Rattle.std.specs.List.{prefix_len, list_all}
 use Rattle.std.proofs.lemmas.List.Sums.{prefix_len-le-length}
 use Rattle.cps_lex.specs.declared.types.TokenKind.{TokenKind}
-use Rattle.cps_lex.specs.declared.types.TokenKind.TheVariants.{Identifier, Decimal, Sign}
-use Rattle.cps_lex.specs.Bytes.{is_word_start, is_word, is_digit, is_sign, is_number_start, is_number_part}
-use Rattle.cps_lex.specs.Forms.{kind_of, number_kind, may_end, goes_on, is_identifier, is_decimal, is_one_sign, is_nothing}
+use Rattle.cps_lex.specs.declared.types.TokenKind.TheVariants.{Identifier, Sign}
+use Rattle.cps_lex.specs.Bytes.{is_word_start, is_word, is_digit, is_sign, is_number_start}
+use Rattle.cps_lex.specs.Forms.{kind_of, number_kind, may_end, goes_on, is_identifier, is_one_sign, is_nothing}
 use Rattle.cps_lex.specs.Tokens.{Stands, IsLongest, NoneStands}
 use Rattle.cps_lex.specs.Scan.{scan, number_at, run_of}
-
-pub and_true : (a b : Bool) → (a && b) ≡ true → (a ≡ true) × (b ≡ true)
-and_true true b e = (refl, e)
-and_true false b e = cc
+use Rattle.cps_lex.proofs.Runs.{and_true, number_text, run_of-within, run_of-ends}
 
 -- the classes of the first byte are apart
 start_not_number : (b : ℕ) → is_word_start b ≡ true → is_number_start b ≡ false
@@ -25,61 +22,13 @@ start_not_sign : (b : ℕ) → is_word_start b ≡ true → is_sign b ≡ false
 unfolding is_word_start is_sign
 start_not_sign b e = grind (arith, nat_tests)
 
+number_not_start : (b : ℕ) → is_number_start b ≡ true → is_word_start b ≡ false
+unfolding is_digit is_word_start
+number_not_start b e = grind (arith, nat_tests)
+
 number_not_sign : (b : ℕ) → is_number_start b ≡ true → is_sign b ≡ false
 unfolding is_digit is_sign
 number_not_sign b e = grind (arith, nat_tests)
-
-digit_part : (b : ℕ) → is_digit b ≡ true → is_number_part b ≡ true
-unfolding is_digit is_word
-digit_part b e = grind (arith, nat_tests)
-
--- what has the form of a number and stops where no number goes on is the whole run
-whole_run : (p : ℕ → Bool) → ((b : ℕ) → p b ≡ true → is_number_part b ≡ true) → (bs : List ℕ) (n : ℕ) → n ≤ length bs → list_all p (take n bs) ≡ true → goes_on (drop n bs) ≡ false → n ≡ run_of bs
-whole_run p part [] zero within all stops = refl
-whole_run p part [] (suc n) within all stops = absurd (omega (arith, within))
-whole_run p part (x ∷ xs) zero within all stops = rw stops refl
-whole_run p part (x ∷ xs) (suc n) within all stops =
-    let both = and_true (p x) (list_all p (take n xs)) all in
-    let rest = whole_run p part xs n (omega (arith, within)) both.1 stops in
-    rw (part x both.0) (omega arith)
-
--- where the run ends no number goes on
-run_stops : (bs : List ℕ) → goes_on (drop (run_of bs) bs) ≡ false
-run_stops [] = refl
-run_stops (b ∷ bs) = by b bs (is_number_part b) refl (run_stops bs)
-  where
-    by : (b : ℕ) (bs : List ℕ) (v : Bool) → is_number_part b ≡ v → goes_on (drop (run_of bs) bs) ≡ false → goes_on (drop (cond v (1 + run_of bs) 0) (b ∷ bs)) ≡ false
-    by b bs true e rest =
-        let one : 1 + run_of bs ≡ suc (run_of bs) = omega arith in
-        rw one rest
-    by b bs false e rest = e
-
--- a number's text is the whole run, where nothing continues it
-record IsNumberText (b : ℕ) (bs : List ℕ) (n : ℕ) (k : TokenKind) : Type 0 where
-  first : is_number_start b ≡ true
-  run : n ≤ length bs → goes_on (drop n bs) ≡ false → n ≡ run_of bs
-  ends : (after : List ℕ) → may_end k after ≡ not (goes_on after)
-
-decimal_digits : (v : Bool) (bs : List ℕ) → cond v (is_nothing bs) (list_all is_digit bs) ≡ true → list_all is_digit bs ≡ true
-decimal_digits true [] e = refl
-decimal_digits true (b ∷ bs) e = cc
-decimal_digits false bs e = e
-
-decimal_text : (b : ℕ) (bs : List ℕ) (n : ℕ) → is_decimal (b ∷ take n bs) ≡ true → IsNumberText b bs n Decimal
-decimal_text b bs n e =
-    let both = and_true (is_digit b) _ e in
-    record {
-      first = both.0;
-      run = λ within stops. whole_run is_digit digit_part bs n within (decimal_digits (eqb b 48) (take n bs) both.1) stops;
-      ends = λ after. refl;
-    }
-
-number_by : (b : ℕ) (bs : List ℕ) (n : ℕ) (k : TokenKind) (d : Bool) → is_decimal (b ∷ take n bs) ≡ d → cond d (Some Decimal) None ≡ Some k → IsNumberText b bs n k
-number_by b bs n k true ed e = let is : Decimal ≡ k = cc in subst (IsNumberText b bs n) is (decimal_text b bs n ed)
-number_by b bs n k false ed e = cc
-
-number_text : (b : ℕ) (bs : List ℕ) (n : ℕ) (k : TokenKind) → number_kind (b ∷ take n bs) ≡ Some k → IsNumberText b bs n k
-number_text b bs n k e = number_by b bs n k (is_decimal (b ∷ take n bs)) refl e
 
 -- the forms of a text, by its first byte
 data Form (b : ℕ) (t : List ℕ) (k : TokenKind) : Type 0 where
@@ -186,8 +135,8 @@ number_found : (b : ℕ) (bs : List ℕ) (k : TokenKind) → is_word_start b ≡
 number_found b bs k start digit kind =
     let no_sign = number_not_sign b digit in
     let form : kind_of (b ∷ take (run_of bs) bs) ≡ Some k = rw (start, no_sign) kind in
-    let ends : may_end k (drop (run_of bs) bs) ≡ true = (number_text b bs (run_of bs) k kind).ends (drop (run_of bs) bs) ∙ ap not (run_stops bs) in
-    longest b bs k (run_of bs) (stands b bs k (run_of bs) (prefix_len-le-length is_number_part bs) form ends)
+    let ends : may_end k (drop (run_of bs) bs) ≡ true = (number_text b bs (run_of bs) k kind).ends (drop (run_of bs) bs) ∙ ap not (run_of-ends bs) in
+    longest b bs k (run_of bs) (stands b bs k (run_of bs) (run_of-within bs) form ends)
     (λ other m s. omega (arith, (number_only b bs other m start digit s).length_is))
 
 sign_found : (b : ℕ) (bs : List ℕ) → is_word_start b ≡ false → is_number_start b ≡ false → is_sign b ≡ true → IsLongest (b ∷ bs) Sign 1
@@ -226,3 +175,28 @@ pub scan_finds : (rest : List ℕ) → MatchOption (scan rest) (NoneStands rest)
 unfolding scan
 scan_finds [] = none_on_nothing
 scan_finds (b ∷ bs) = token_by b bs (is_word_start b) (is_number_start b) (is_sign b) refl refl refl
+
+-- what is left of a list behind its front
+
+take-front : (text rest : List ℕ) → take (length text) (text ++ rest) ≡ text
+take-front [] rest = refl
+take-front (b ∷ bs) rest = ap (λ xs. b ∷ xs) (take-front bs rest)
+
+drop-front : (text rest : List ℕ) → drop (length text) (text ++ rest) ≡ rest
+drop-front [] rest = refl
+drop-front (b ∷ bs) rest = drop-front bs rest
+
+-- a number is cut off where nothing continues it
+pub number_scans : (text rest : List ℕ) (k : TokenKind) → number_kind text ≡ Some k → goes_on rest ≡ false → scan (text ++ rest) ≡ Some (k, length text)
+unfolding scan number_at
+number_scans [] rest k e stops = cc
+number_scans (b ∷ bs) rest k e stops =
+    let kind : number_kind (b ∷ take (length bs) (bs ++ rest)) ≡ Some k = subst (λ t. number_kind (b ∷ t) ≡ Some k) (sym (take-front bs rest)) e in
+    let text = number_text b (bs ++ rest) (length bs) k kind in
+    let within : length bs ≤ length (bs ++ rest) = omega (arith, length-append bs rest) in
+    let ends : goes_on (drop (length bs) (bs ++ rest)) ≡ false = subst (λ t. goes_on t ≡ false) (sym (drop-front bs rest)) stops in
+    let whole : length bs ≡ run_of (bs ++ rest) = text.run within ends in
+    let run_kind : number_kind (b ∷ take (run_of (bs ++ rest)) (bs ++ rest)) ≡ Some k = subst (λ n. number_kind (b ∷ take n (bs ++ rest)) ≡ Some k) whole kind in
+    let size : 1 + run_of (bs ++ rest) ≡ suc (length bs) = omega (arith, whole) in
+    let with_size : ℕ → Option (TokenKind × ℕ) = λ n. Some (k, n) in
+    rw (run_kind, number_not_start b text.first, text.first) (ap with_size size)

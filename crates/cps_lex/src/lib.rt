@@ -6,12 +6,13 @@
 //! into just these, and else the answer is the first byte at which none can stand.
 //!
 //! `specs/Bytes` says what a byte is, `specs/Forms` how each kind of token is written, and
-//! `specs/Tokens` what the tokens of an input are. Strings and the other forms of numbers have no
-//! kind yet, so none stands where they do. A further kind of number is its form, a line in
-//! `number_kind` and `may_end`, and a test in `number`.
+//! `specs/Tokens` what the tokens of an input are. Strings have no kind yet, so none stands where they
+//! do. A further kind of number is its form, a line in `number_kind` and `may_end`, and a test in
+//! `number`.
 #![tactic(auto)]
 
 mod bytes;
+mod float;
 mod lexer;
 mod number;
 mod scan;

@@ -50,25 +50,95 @@ fn cuts_texts(rt: HostRuntime) -> Result<(), Fail> {
     Ok(())
 }
 
+/// The whole text is one token of this kind.
+fn is_one(rt: &impl Abort, alloc: Global, text: &[u8], kind: TokenKind) -> Result<bool, Fail> {
+    assert!(rt; text.len() < 1000);
+    let whole = [token(kind, 0, text.len() as u32)];
+    cuts(rt, alloc, text, &whole)
+}
+
+#[test]
+fn cuts_numbers(rt: HostRuntime) -> Result<(), Fail> {
+    let alloc = rt.alloc();
+    let numbers: [(&[u8], TokenKind); 24] = [
+        (b"0", TokenKind::Decimal),
+        (b"90", TokenKind::Decimal),
+        (b"00", TokenKind::Octal),
+        (b"0777", TokenKind::Octal),
+        (b"0x0", TokenKind::Hexadecimal),
+        (b"0XaF9", TokenKind::Hexadecimal),
+        (b"0x1f", TokenKind::Hexadecimal),
+        (b"0x1e5", TokenKind::Hexadecimal),
+        (b"1.5", TokenKind::Float),
+        (b"10.25", TokenKind::Float),
+        (b"0.", TokenKind::Float),
+        (b"7.", TokenKind::Float),
+        (b".5", TokenKind::Float),
+        (b".05e1", TokenKind::Float),
+        (b"1e5", TokenKind::Float),
+        (b"0E+5", TokenKind::Float),
+        (b"12e-07", TokenKind::Float),
+        (b"1.5e10", TokenKind::Float),
+        (b"1.e5f", TokenKind::Float),
+        (b".5e3F", TokenKind::Float),
+        (b"1f", TokenKind::Float),
+        (b"0F", TokenKind::Float),
+        (b"9.F", TokenKind::Float),
+        (b"1e5f", TokenKind::Float),
+    ];
+    for (text, kind) in numbers {
+        assert!(rt; is_one(&rt, alloc, text, kind)?);
+    }
+    let signs = [
+        token(TokenKind::Float, 0, 4),
+        token(TokenKind::Sign, 4, 5),
+        token(TokenKind::Hexadecimal, 5, 8),
+        token(TokenKind::Sign, 8, 9),
+        token(TokenKind::Decimal, 9, 10),
+    ];
+    assert!(rt; cuts(&rt, alloc, b"1e-2-0xe-1", &signs)?);
+    Ok(())
+}
+
 #[test]
 fn refuses_texts(rt: HostRuntime) -> Result<(), Fail> {
     let alloc = rt.alloc();
-    // A number that a letter, a digit, `_` or `.` follows is a fault at its first byte.
-    assert_eq!(rt;
-        fault(&rt, alloc, b"variables { domain: [089, 90] }")?,
-        Some(21)
-    );
-    assert_eq!(rt; fault(&rt, alloc, b"a: 1b")?, Some(3));
-    assert_eq!(rt; fault(&rt, alloc, b"a: 1_")?, Some(3));
-    assert_eq!(rt; fault(&rt, alloc, b"a: 1..2")?, Some(3));
-    assert_eq!(rt; fault(&rt, alloc, b"a: 00")?, Some(3));
-    assert_eq!(rt; fault(&rt, alloc, b"a: 1-2+3")?, Some(6));
-    assert_eq!(rt; fault(&rt, alloc, b"a/b")?, Some(1));
-    assert_eq!(rt; fault(&rt, alloc, b"a \x80")?, Some(2));
-    // Forms that have no kind yet.
-    assert_eq!(rt; fault(&rt, alloc, b"objective { offset: 0.5 }")?, Some(20));
-    assert_eq!(rt; fault(&rt, alloc, b"a: 0x0A")?, Some(3));
-    assert_eq!(rt; fault(&rt, alloc, b"a: .5")?, Some(3));
-    assert_eq!(rt; fault(&rt, alloc, b"a: \"b\"")?, Some(3));
+    let texts: [(&[u8], usize); 29] = [
+        // A number that a letter, a digit, `_` or `.` follows is a fault at its first byte.
+        (b"variables { domain: [089, 90] }", 21),
+        (b"a: 1b", 3),
+        (b"a: 1_", 3),
+        (b"a: 08", 3),
+        (b"a: 07a", 3),
+        (b"a: 01f", 3),
+        (b"a: 00.5", 3),
+        (b"a: 0x", 3),
+        (b"a: 0xg", 3),
+        (b"a: 0x1g", 3),
+        (b"a: 0x1.5", 3),
+        (b"a: 1..2", 3),
+        (b"a: 1.5.2", 3),
+        (b"a: 1.5x", 3),
+        (b"a: 1e", 3),
+        (b"a: 1e+", 3),
+        (b"a: 1e5e5", 3),
+        (b"a: 1e5.", 3),
+        (b"a: 1ff", 3),
+        (b"a: 0f1", 3),
+        (b"a: .", 3),
+        (b"a: .e5", 3),
+        (b"a: .f", 3),
+        // No token begins so.
+        (b"a: 1-2+3", 6),
+        (b"a: 0xe+1", 6),
+        (b"a/b", 1),
+        (b"a \x80", 2),
+        (b"a \x00", 2),
+        // Strings have no kind yet.
+        (b"a: \"b\"", 3),
+    ];
+    for (text, at) in texts {
+        assert_eq!(rt; fault(&rt, alloc, text)?, Some(at));
+    }
     Ok(())
 }
