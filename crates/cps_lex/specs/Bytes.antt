@@ -1,5 +1,5 @@
 -- What a byte is.
-use Rattle.std.specs.Prelude.{ℕ, Bool, ◌==◌, ◌||◌, ◌&&◌, nat_le, not, if◌then◌else◌}
+use Rattle.std.specs.Prelude.{ℕ, ◌-◌, Bool, ◌==◌, ◌||◌, ◌&&◌, nat_le, not, if◌then◌else◌}
 use Rattle.std.specs.Char.{is_ascii_alphabetic, is_ascii_alphanumeric, is_ascii_digit, is_ascii_hexdigit}
 
 -- space, tab, line feed, vertical tab, form feed, carriage return
@@ -23,6 +23,14 @@ is_octal_digit b = nat_le 48 b && nat_le b 55
 unfoldable pub is_hex_digit : ℕ → Bool
 is_hex_digit b = is_ascii_hexdigit b
 
+-- the value of a hexadecimal digit, and so of an octal one; 0 of any other byte
+unfoldable pub hex_value : ℕ → ℕ
+hex_value b =
+    if nat_le 48 b && nat_le b 57 then b - 48
+    else (if nat_le 65 b && nat_le b 70 then b - 55
+    else (if nat_le 97 b && nat_le b 102 then b - 87
+    else 0))
+
 -- what stands before hexadecimal digits
 unfoldable pub is_x : ℕ → Bool
 is_x b = b == 120 || b == 88
@@ -42,6 +50,10 @@ is_float_suffix b = b == 102 || b == 70
 unfoldable pub is_sign : ℕ → Bool
 is_sign b =
     b == 44 || b == 45 || b == 58 || b == 59 || b == 60 || b == 62 || b == 91 || b == 93 || b == 123 || b == 125
+
+-- `"` or `'`, which begins a string
+unfoldable pub is_quote : ℕ → Bool
+is_quote b = b == 34 || b == 39
 
 -- what a number may begin with: a digit or `.`
 abbrev pub is_number_start : ℕ → Bool

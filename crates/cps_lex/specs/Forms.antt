@@ -2,9 +2,11 @@
 use Rattle.std.specs.Prelude.{ℕ, Bool, true, false, ◌==◌, ◌&&◌, not, if◌then◌else◌, List, [], ◌∷◌, Option, Some, None}
 use Rattle.std.specs.List.{list_all}
 use Rattle.cps_lex.specs.declared.types.TokenKind.{TokenKind}
-use Rattle.cps_lex.specs.declared.types.TokenKind.TheVariants.{Identifier, Decimal, Octal, Hexadecimal, Float, Sign}
-use Rattle.cps_lex.specs.Bytes.{is_word_start, is_word, is_digit, is_octal_digit, is_hex_digit, is_x, is_sign, is_number_start, is_number_part}
+use Rattle.cps_lex.specs.declared.types.TokenKind.TheVariants.{Identifier, Decimal, Octal, Hexadecimal, Float, Text, Sign}
+use Rattle.cps_lex.specs.declared.escapes.Place.TheVariants.{Inside}
+use Rattle.cps_lex.specs.Bytes.{is_word_start, is_word, is_digit, is_octal_digit, is_hex_digit, is_x, is_sign, is_quote, is_number_start, is_number_part}
 use Rattle.cps_lex.specs.Floats.{float_from, start_of}
+use Rattle.cps_lex.specs.Texts.{closes}
 
 abbrev pub is_nothing : List ℕ → Bool
 is_nothing [] = true
@@ -54,12 +56,18 @@ abbrev pub is_one_sign : List ℕ → Bool
 is_one_sign [] = false
 is_one_sign (b ∷ bs) = is_sign b && is_nothing bs
 
+-- a string: a quote, then bytes and escapes up to the same quote
+abbrev pub is_text : List ℕ → Bool
+is_text [] = false
+is_text (b ∷ bs) = is_quote b && closes b Inside bs
+
 -- the kind of token that the whole text is. No text is of two kinds.
 abbrev pub kind_of : List ℕ → Option TokenKind
 kind_of text =
     if is_identifier text then Some Identifier
     else (if is_one_sign text then Some Sign
-    else number_kind text)
+    else (if is_text text then Some Text
+    else number_kind text))
 
 -- a letter, a digit, `_` or `.` is next
 abbrev pub goes_on : List ℕ → Bool
@@ -73,4 +81,5 @@ may_end Decimal after = not (goes_on after)
 may_end Octal after = not (goes_on after)
 may_end Hexadecimal after = not (goes_on after)
 may_end Float after = not (goes_on after)
+may_end Text after = true
 may_end Sign after = true

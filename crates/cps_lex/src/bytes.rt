@@ -1,6 +1,6 @@
 //! What a byte is.
 ghost use Rattle.std.specs.Prelude.{◌≡◌};
-ghost use Rattle.cps_lex.specs.Bytes.{is_space, is_word, is_word_start, is_digit, is_octal_digit, is_hex_digit, is_x, is_sign, is_exponent_mark, is_plus_or_minus, is_float_suffix, is_number_start, is_number_part, belongs_to_number, is_blank, opens_comment};
+ghost use Rattle.cps_lex.specs.Bytes.{is_space, is_word, is_word_start, is_digit, is_octal_digit, is_hex_digit, hex_value, is_x, is_sign, is_quote, is_exponent_mark, is_plus_or_minus, is_float_suffix, is_number_start, is_number_part, belongs_to_number, is_blank, opens_comment};
 
 /// White space.
 #[tactic(auto, unfolding(crate::specs::Bytes::is_space))]
@@ -47,6 +47,19 @@ pub(crate) fn is_hex_digit(byte: u8) -> bool
     byte.is_ascii_hexdigit()
 }
 
+/// The value of a hexadecimal digit, and so of an octal one; 0 of any other byte.
+#[tactic(auto, unfolding(crate::specs::Bytes::hex_value))]
+pub(crate) fn hex_value(byte: u8) -> u8
+    ensures { result ≡ hex_value byte }
+{
+    match byte {
+        b'0'..=b'9' => byte - b'0',
+        b'A'..=b'F' => byte - b'A' + 10,
+        b'a'..=b'f' => byte - b'a' + 10,
+        _ => 0,
+    }
+}
+
 /// What stands before hexadecimal digits.
 #[tactic(auto, unfolding(crate::specs::Bytes::is_x))]
 pub(crate) fn is_x(byte: u8) -> bool
@@ -87,6 +100,14 @@ pub(crate) fn is_sign(byte: u8) -> bool
         byte,
         b',' | b'-' | b':' | b';' | b'<' | b'>' | b'[' | b']' | b'{' | b'}'
     )
+}
+
+/// `"` or `'`.
+#[tactic(auto, unfolding(crate::specs::Bytes::is_quote))]
+pub(crate) fn is_quote(byte: u8) -> bool
+    ensures { result ≡ is_quote byte }
+{
+    byte == b'"' || byte == b'\''
 }
 
 /// What a number may begin with.

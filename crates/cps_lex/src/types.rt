@@ -19,6 +19,8 @@ pub enum TokenKind {
     Hexadecimal,
     /// A number with a point, an exponent or an `f` behind it.
     Float,
+    /// Single or double quotes round bytes and escapes; `push_text` gives its value.
+    Text,
     /// One of `: { } < > [ ] , ; -`.
     Sign,
 }
