@@ -13,13 +13,13 @@ pub enum TokenKind {
     Identifier,
     /// `0`, or a digit from 1 to 9 and further digits.
     Decimal,
-    /// `0` and digits from 0 to 7.
+    /// `0` and one or more digits from 0 to 7.
     Octal,
-    /// `0x` or `0X` and hexadecimal digits.
+    /// `0x` or `0X` and one or more hexadecimal digits.
     Hexadecimal,
-    /// A number with a point, an exponent or a final `f`.
+    /// A number with a point, an exponent or an `f` behind it.
     Float,
-    /// A string in quotes.
+    /// Single or double quotes round bytes and escapes; `push_text` gives its value.
     Text,
     /// One of `: { } < > [ ] , ; -`.
     Sign,
