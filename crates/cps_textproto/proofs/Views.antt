@@ -2,11 +2,11 @@
 use Rattle.std.proofs.Common.{◌≡◌, List, Vec, Global, refl, sym, ap, ◌∙◌}
 use mathlib.Core.Former.{Count}
 use Rattle.cps_textproto.specs.declared.tree.Field.{Field}
-use Rattle.cps_textproto.specs.declared.tree.Nested.{Nested}
+use Rattle.cps_textproto.specs.declared.tree.Nested.{Nested, Nested', out-Nested}
 use Rattle.cps_textproto.specs.declared.tree.Items.{Items, Row_of-Nested, end_of-Nested, more_of-Nested, items-the_row-Nested, items_hidden-the_row-Nested-0}
 use Rattle.cps_textproto.specs.declared.tree.Items.TheVariants.{Messages, Messages'}
 use Rattle.cps_textproto.specs.declared.tree.Node.{Node, Node', out-Node, items-the_row-Field, outs-Node', items_shown-the_row-Field-1, Row_of-Field, end_of-Field, more_of-Field}
-use Rattle.cps_textproto.specs.Trees.{tree_of, field_list, row_tree, row_values, values_of, nested_value, nested_values, field}
+use Rattle.cps_textproto.specs.Trees.{tree_of, field_list, row_tree, row_values, values_of, nested_value, nested_values, field, Values, message_value}
 
 row_tree_list : (n : _) (row : Row_of-Field n) → row_tree row ≡ field_list (items-the_row-Field n row)
 row_tree_list n end_of-Field = refl
@@ -32,3 +32,8 @@ pub values_of_messages : (messages : Vec Nested Global) → values_of (Messages 
 values_of_messages messages =
     let row = row_of (Messages messages) in
     row_values_list row.0 row.1 ∙ ap nested_values (items_hidden-the_row-Nested-0 messages)
+
+-- a message of a list by its parts
+pub nested_parts : (m : Nested) (rest : Values) → nested_value m rest ≡ message_value (out-Nested m).first (tree_of (out-Nested m).node) rest
+unfolding out-Nested denote.Hole.Carrier.out
+nested_parts (Nested' first node) rest = refl
