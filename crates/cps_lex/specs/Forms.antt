@@ -2,7 +2,7 @@
 use Rattle.std.specs.Prelude.{ℕ, Bool, true, false, ◌==◌, ◌&&◌, not, if◌then◌else◌, List, [], ◌∷◌, Option, Some, None}
 use Rattle.std.specs.List.{list_all}
 use Rattle.cps_lex.specs.declared.types.TokenKind.{TokenKind}
-use Rattle.cps_lex.specs.declared.types.TokenKind.TheVariants.{Identifier, Decimal, Sign}
+use Rattle.cps_lex.specs.declared.types.TokenKind.TheVariants.{Identifier, Decimal, Octal, Hexadecimal, Float, Text, Sign}
 use Rattle.cps_lex.specs.Bytes.{is_word_start, is_word, is_digit, is_sign, is_number_part}
 
 abbrev pub is_nothing : List ℕ → Bool
@@ -45,4 +45,8 @@ goes_on (b ∷ bs) = is_number_part b
 abbrev pub may_end : TokenKind → List ℕ → Bool
 may_end Identifier after = true
 may_end Decimal after = not (goes_on after)
+may_end Octal after = not (goes_on after)
+may_end Hexadecimal after = not (goes_on after)
+may_end Float after = not (goes_on after)
+may_end Text after = true
 may_end Sign after = true

@@ -13,6 +13,14 @@ pub enum TokenKind {
     Identifier,
     /// `0`, or a digit from 1 to 9 and further digits.
     Decimal,
+    /// `0` and one or more digits from 0 to 7.
+    Octal,
+    /// `0x` or `0X` and one or more hexadecimal digits.
+    Hexadecimal,
+    /// A number with a point, an exponent or a final `f`.
+    Float,
+    /// A text in quotes.
+    Text,
     /// One of `: { } < > [ ] , ; -`.
     Sign,
 }
