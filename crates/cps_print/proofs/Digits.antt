@@ -7,7 +7,7 @@ use Rattle.std.proofs.lemmas.List.Folds.{list_all-append}
 use Rattle.std.proofs.Common.{◌≡◌, ◌≢◌, ℕ, zero, suc, ◌+◌, ◌-◌, ◌*◌, ◌/◌, ◌%◌, ◌^◌, ◌<◌, ◌≤◌, Bool, true, false, ◌&&◌, eqb, List, [], ◌∷◌, ◌++◌, length, get_or, refl, ◌∙◌, arith}
 use Rattle.cps_lex.specs.Bytes.{is_digit}
 use Rattle.cps_lex.specs.Forms.{is_decimal, is_nothing}
-use Rattle.cps_schema.specs.Written.{digits_after, decimal_value}
+use Rattle.cps_schema.specs.Digits.{digit_value, digits_after, decimal_value}
 
 -- the digits of a number: there is one, none but that of 0 is a leading 0, and they are worth the number
 pub record WritesNumber (n : ℕ) (text : List ℕ) : Type 0 where
@@ -15,11 +15,15 @@ pub record WritesNumber (n : ℕ) (text : List ℕ) : Type 0 where
   pub digits : list_all is_digit text ≡ true
   pub first : 0 < n → get_or text 0 0 ≢ 48
   pub short : n < 10 → length text ≡ 1
-  pub value : digits_after 0 text ≡ n
+  pub value : digits_after 10 0 text ≡ n
 
 digit_of : (n : ℕ) → n < 10 → is_digit (48 + n) ≡ true
 unfolding is_digit
 digit_of n h = grind (arith, nat_tests)
+
+value_of : (n : ℕ) → n < 10 → digit_value (48 + n) ≡ n
+unfolding digit_value
+value_of n h = grind (arith, nat_tests)
 
 one_digit : (n : ℕ) → n < 10 → WritesNumber n ((48 + n) ∷ [])
 one_digit n h = record {
@@ -27,12 +31,12 @@ one_digit n h = record {
   digits = rw (digit_of n h) refl;
   first = λ p. omega arith;
   short = λ p. refl;
-  value = omega arith;
+  value = rw (value_of n h) (omega arith);
 }
 
-digits_after-push : (m c : ℕ) (ds : List ℕ) → digits_after m (ds ++ c ∷ []) ≡ digits_after m ds * 10 + (c - 48)
+digits_after-push : (m c : ℕ) (ds : List ℕ) → digits_after 10 m (ds ++ c ∷ []) ≡ digits_after 10 m ds * 10 + digit_value c
 digits_after-push m c [] = refl
-digits_after-push m c (d ∷ ds) = digits_after-push (m * 10 + (d - 48)) c ds
+digits_after-push m c (d ∷ ds) = digits_after-push (m * 10 + digit_value d) c ds
 
 first_of-push : (c : ℕ) (ds : List ℕ) → 0 < length ds → get_or (ds ++ c ∷ []) 0 0 ≡ get_or ds 0 0
 first_of-push c [] h = absurd (omega arith)
@@ -52,7 +56,7 @@ next_digit n ds h w =
       digits = list_all-append is_digit ds ((48 + n % 10) ∷ []) ∙ rw (w.digits, last) refl;
       first = λ p. rw (first_of-push (48 + n % 10) ds w.some) (w.first high);
       short = λ p. absurd (omega arith);
-      value = digits_after-push 0 (48 + n % 10) ds ∙ rw w.value (omega arith);
+      value = digits_after-push 0 (48 + n % 10) ds ∙ rw (w.value, value_of (n % 10) low) (omega arith);
     }
 
 pub decimal-writes : (n : ℕ) → n < 2 ^ 64 → WritesNumber n (decimal n)

@@ -5,9 +5,8 @@ use Rattle.std.specs.Str.{bytes_eq}
 use Rattle.std.specs.Option.{option_or}
 use Rattle.std.proofs.lemmas.Slice.Eq.{bytes_eq-Decides}
 use Rattle.std.proofs.lemmas.List.Folds.{list_all-append}
-use Rattle.std.proofs.Common.{◌≡◌, ◌≢◌, ℕ, zero, suc, Bool, true, false, ◌&&◌, ℤ, pos, negsuc, List, [], ◌∷◌, ◌++◌, Option, Some, None, refl, sym, subst, ap, ◌∙◌}
+use Rattle.std.proofs.Common.{◌≡◌, ◌≢◌, ℕ, zero, suc, Bool, true, false, ◌&&◌, ℤ, pos, negsuc, List, [], ◌∷◌, ◌++◌, Option, Some, None, is_some, refl, sym, subst, ap, ◌∙◌}
 use Rattle.cps_lex.specs.declared.types.TokenKind.{TokenKind}
-use Rattle.cps_lex.specs.declared.types.TokenKind.TheVariants.{Identifier, Decimal}
 use Rattle.cps_textproto.specs.Trees.{Tree, no_fields, field, Values, no_values, scalar_value, message_value}
 use Rattle.cps_model.specs.declared.fault.FaultName.{FaultName}
 use Rattle.cps_model.specs.declared.model.CpModel.{CpModel}
@@ -18,10 +17,10 @@ use Rattle.cps_model.specs.declared.constraint.Kind.{Kind}
 use Rattle.cps_model.specs.declared.constraint.Kind.TheVariants.{Empty, BoolOr, BoolAnd, AtMostOne, ExactlyOne, BoolXor, Linear}
 use Rattle.cps_schema.specs.declared.kind.KindName.{KindName}
 use Rattle.cps_schema.specs.declared.kind.KindName.TheVariants as names
-use Rattle.cps_schema.specs.Written.{Written, token_text, token_kind, unsigned_token, number_at}
+use Rattle.cps_schema.specs.Written.{Written, token_text, token_kind, unsigned_token, size_at, number_at}
 use Rattle.cps_schema.specs.declared.number.Number.{Number}
 use Rattle.cps_schema.specs.declared.number.Number.TheVariants.{Int64, Int32, Exact}
-use Rattle.cps_schema.specs.Numbers.{fits, kind_fault, number_fault}
+use Rattle.cps_schema.specs.Numbers.{fits, misfit, token_fault, kind_fault, number_fault}
 use Rattle.cps_schema.specs.Tables as tables
 use Rattle.cps_schema.specs.Tables.{use_of, content_of, model_message, variable_message, constraint_message, literals_message, linear_message, objective_message}
 use Rattle.cps_schema.specs.Kinds.{message_of, kind_named}
@@ -29,6 +28,7 @@ use Rattle.cps_schema.specs.Faults.{refused_at, fields_fault, values_fault}
 use Rattle.cps_schema.specs.Readings as readings
 use Rattle.cps_schema.specs.Readings.{first_or, first_of, value_numbers, value_messages, messages, read_variable, read_literals, read_linear, read_kind, kinds_of, given_kinds, read_constraint, scaling_of, read_objective, read_model}
 use Rattle.cps_schema.proofs.GivenKinds.{named_text, kind_use}
+use Rattle.cps_print.proofs.Digits.{and_true}
 
 abbrev pub Each : {X : Type 0} → (X → Type 0) → List X → Type 0
 Each P [] = Unit {0}
@@ -92,15 +92,19 @@ refused_none : (k : ℕ) (o : Option FaultName) → refused_at k o ≡ None → 
 refused_none k None e = refl
 refused_none k (Some name) e = cc
 
+fit_of : (fit : Bool) (name : FaultName) → (if fit then None else Some name) ≡ None → fit ≡ true
+fit_of true name e = refl
+fit_of false name e = cc
+
 kind_fit : (type : Number) (fit : Bool) (kind : Option TokenKind) → kind_fault type fit kind ≡ None → fit ≡ true
-kind_fit type true (Some Decimal) e = refl
-kind_fit type false (Some Decimal) e = cc
-kind_fit type fit (Some Identifier) e = cc
-kind_fit type fit _ e = cc
+kind_fit type fit (Some kind) e = fit_of fit (misfit type) (or_none (token_fault type kind) _ e).1
+kind_fit type fit None e = cc
 
 number_fit : (w : Written) (type : Number) (first : ℕ) → number_fault w type first ≡ None → fits type (number_at w first) ≡ true
 unfolding number_fault
-number_fit w type first e = kind_fit type (fits type (number_at w first)) (token_kind w (unsigned_token w first)) e
+number_fit w type first e =
+    let fit = kind_fit type (is_some (size_at w first) && fits type (number_at w first)) (token_kind w (unsigned_token w first)) e in
+    (and_true (is_some (size_at w first)) (fits type (number_at w first)) fit).1
 
 both_true : (a b : Bool) → a ≡ true → b ≡ true → (a && b) ≡ true
 both_true a b p q = rw (p, q) refl

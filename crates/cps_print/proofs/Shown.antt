@@ -4,12 +4,12 @@ use Rattle.std.specs.List.{list_all, AllZip}
 use Rattle.std.specs.Str.{bytes_eq}
 use Rattle.std.specs.Fmt.{decimal}
 use Rattle.std.proofs.lemmas.Bool.Decides.{nat_tests}
-use Rattle.std.proofs.Common.{◌≡◌, ℕ, zero, suc, ◌^◌, ◌<◌, Bool, true, false, ◌==◌, ℤ, pos, negsuc, List, [], ◌∷◌, ◌++◌, Some, None, refl, add-one, arith}
+use Rattle.std.proofs.Common.{◌≡◌, ℕ, zero, suc, ◌^◌, ◌<◌, Bool, true, false, ◌==◌, ℤ, pos, negsuc, List, [], ◌∷◌, ◌++◌, Some, None, is_some, refl, add-one, arith}
 use Rattle.cps_lex.specs.declared.types.TokenKind.TheVariants.{Decimal}
 use Rattle.cps_lex.specs.Bytes.{is_digit}
 use Rattle.cps_textproto.specs.Trees.{Tree, no_fields, field, Values, no_values, scalar_value, message_value}
 use Rattle.cps_textproto.specs.Reading.{past_scalar, past_others, past_fields, others_at, tree_at}
-use Rattle.cps_schema.specs.Written.{Written, token_text, token_kind, is_negative, unsigned_token, magnitude, number_at}
+use Rattle.cps_schema.specs.Written.{Written, token_text, token_kind, is_negative, unsigned_token, size_at, number_at}
 use Rattle.cps_schema.specs.Numbers.{fits, number_fault}
 use Rattle.cps_schema.specs.declared.number.Number.{Number}
 use Rattle.cps_schema.specs.Tables as tables
@@ -54,21 +54,21 @@ decimal_positive n h =
     rw (t.is, not_minus t.first t.digit) refl
 
 positive_shown : (w : Written) (k n : ℕ) → n < 2 ^ 64 → token_text w k ≡ decimal n → token_kind w k ≡ Some Decimal → ShowsNumber w (pos n) k
-unfolding number_at is_negative magnitude
+unfolding number_at is_negative size_at
 positive_shown w k n h text kind =
     let positive = decimal_positive n h in
     let value = decimal_value-decimal n h in
     record {
-      worth = rw (text, positive, text, value) refl;
+      worth = rw (text, positive, kind, text, value) refl;
       kind = rw (text, positive) kind;
     }
 
 negative_shown : (w : Written) (k n : ℕ) → suc n < 2 ^ 64 → token_text w k ≡ 45 ∷ [] → token_text w (suc k) ≡ decimal (suc n) → token_kind w (suc k) ≡ Some Decimal → ShowsNumber w (negsuc n) k
-unfolding number_at is_negative magnitude
+unfolding number_at is_negative size_at
 negative_shown w k n h minus text kind =
     let value = decimal_value-decimal (suc n) h in
     record {
-      worth = rw (minus, add-one, text, value) refl;
+      worth = rw (minus, add-one, kind, text, value) refl;
       kind = rw (minus, add-one) kind;
     }
 
@@ -201,9 +201,13 @@ IsAdmitted m before (quoted name bytes more) = ⊥
 IsAdmitted m before (message name inner more) =
     TakesMessage m before name (λ k. IsAdmitted k [] inner) × IsAdmitted m (name ∷ before) more
 
+sized : (w : Written) (first : ℕ) → token_kind w (unsigned_token w first) ≡ Some Decimal → is_some (size_at w first) ≡ true
+unfolding size_at
+sized w first decimals = rw decimals refl
+
 number_admitted : (w : Written) (type : Number) (n : ℤ) (first : ℕ) → ShowsNumber w n first → fits type n ≡ true → number_fault w type first ≡ None
 unfolding number_fault
-number_admitted w type n first s f = rw (s.kind, s.worth, f) refl
+number_admitted w type n first s f = rw (s.kind, sized w first s.kind, s.worth, f) refl
 
 numbers_admitted : (w : Written) (type : Number) (ns : List ℤ) (values : Values) → ShowNumbers w ns values → list_all (fits type) ns ≡ true → values_fault w (Some (tables.number type)) values ≡ None
 numbers_admitted w type [] no_values s f = refl

@@ -1,4 +1,7 @@
 pub mod Decimals
+pub mod Sizes
+pub mod Floats
+pub mod Denoting
 pub mod Values
 pub mod Steps
 pub mod Objectives

@@ -1,3 +1,5 @@
+pub mod Digits
+pub mod Floats
 pub mod Written
 pub mod Sources
 pub mod Numbers

@@ -6,11 +6,16 @@
 //! name (`specs/Readings`). The contract is exact both ways. The code goes once over the fields of each
 //! message, and has a file for each.
 //!
+//! A whole number is written as a decimal, an octal or a hexadecimal; those that are doubles in the source may be
+//! floats, and are read exactly or refused (`specs/Floats`).
+//!
 //! Field names, types and their meaning are those of the public message definitions of CP-SAT models.
 #![tactic(auto)]
 
 mod constraint;
+mod digits;
 mod error;
+mod float;
 mod kind;
 mod linear;
 mod lists;

@@ -1,11 +1,14 @@
 //! The numbers that scalars are worth.
-ghost use Rattle.std.specs.Prelude.{◌≡◌, ◌-◌, ◌^◌, ◌≤◌, min, pos, neg_ℤ, IsTrue, if◌then◌else◌, IfOk, IfErr, codes};
-ghost use Rattle.std.specs.Str.{bytes_eq};
-ghost use Rattle.cps_schema.specs.Written.{decimal_value, signed_value, number_at, is_negative};
+ghost use Rattle.std.specs.Prelude.{◌≡◌, ◌^◌, ◌≤◌, pos, neg_ℤ, Some, IsTrue, IfOk, IfErr};
+ghost use Rattle.std.specs.Option.{option_map};
+ghost use Rattle.cps_schema.specs.Digits.{capped};
+ghost use Rattle.cps_schema.specs.Written.{token_size, number_at, is_negative};
 ghost use Rattle.cps_schema.specs.Sources.{written_of};
-ghost use Rattle.cps_schema.specs.Numbers.{fits, limit, misfit, word_fault, number_fault};
+ghost use Rattle.cps_schema.specs.Numbers.{fits, limit, misfit, word_fault, other_base_fault, float_fault, token_fault, fitted, number_fault};
 
-use super::source::{Source, token_kind, token_text};
+use super::digits::{decimal_value, digits_after};
+use super::float::float_value;
+use super::source::{Source, behind, token_kind, token_text};
 use cps_lex::TokenKind;
 use cps_model::FaultName;
 
@@ -16,19 +19,6 @@ pub enum Number {
     Int32,
     /// A whole number of magnitude at most 2^53, up to which a double counts by ones.
     Exact,
-}
-
-/// The number that a decimal's digits write, or the greatest of the type where it is greater.
-#[tactic(auto, unfolding(crate::specs::Written::decimal_value), using(crate::proofs::Decimals::digits_capped))]
-fn decimal_value(text: &[u8]) -> u64
-    ensures { result ≡ min (decimal_value text.now) (2 ^ 64 - 1) }
-{
-    let mut value = 0u64;
-    for byte in text {
-        let digit = byte.saturating_sub(b'0') as u64;
-        value = value.saturating_mul(10).saturating_add(digit);
-    }
-    value
 }
 
 /// The greatest size of a number of the type, below 0 or from 0 on.
@@ -53,7 +43,7 @@ fn negated(size: u64) -> i64
 /// The number of this size and sign, if the type has it.
 #[tactic(auto, using(crate::proofs::Decimals::fits_signed))]
 fn in_type(number: Number, negative: bool, size: u64) -> Option<i64>
-    ensures { result ≡ (if fits number (signed_value negative size) then Some (signed_value negative size) else None) }
+    ensures { result ≡ fitted number negative (Some size) }
 {
     if size > limit(number, negative) {
         None
@@ -71,16 +61,44 @@ fn is_negative(source: &Source, first: u32) -> bool
     token_text(source, first as usize) == b"-".as_slice()
 }
 
-/// The number that the decimal writes, with a sign, if the type has it.
-#[tactic(auto, using(crate::proofs::Decimals::capped))]
-fn decimal(number: Number, negative: bool, text: &[u8]) -> Option<i64>
-    ensures { result ≡ (if fits number (signed_value negative (decimal_value text.now)) then Some (signed_value negative (decimal_value text.now)) else None) }
+/// The whole number that a token of this kind writes, or the greatest of 64 bits where it is greater, if it writes one.
+fn size_of(kind: TokenKind, text: &[u8]) -> Option<u64>
+    ensures { result ≡ option_map capped (token_size (Some kind) text.now) }
 {
-    in_type(number, negative, decimal_value(text))
+    match kind {
+        TokenKind::Decimal => Some(decimal_value(text)),
+        TokenKind::Octal => Some(digits_after(8, 0, text)),
+        TokenKind::Hexadecimal => Some(digits_after(16, 0, behind(text, 2))),
+        TokenKind::Float => float_value(text),
+        TokenKind::Identifier | TokenKind::Text | TokenKind::Sign => None,
+    }
+}
+
+/// The whole number that a token writes behind its sign, if it writes one and the type has it.
+fn whole_number(number: Number, negative: bool, kind: TokenKind, text: &[u8]) -> Option<i64>
+    ensures { result ≡ fitted number negative (token_size (Some kind) text.now) }
+{
+    match size_of(kind, text) {
+        Some(size) => in_type(number, negative, size),
+        None => None,
+    }
+}
+
+/// What is wrong with a token of this kind, whatever it writes.
+fn token_fault(number: Number, kind: TokenKind) -> Option<FaultName>
+    ensures { result ≡ token_fault number kind }
+{
+    match kind {
+        TokenKind::Decimal => None,
+        TokenKind::Octal | TokenKind::Hexadecimal => other_base_fault(number),
+        TokenKind::Float => float_fault(number),
+        TokenKind::Identifier => Some(word_fault(number)),
+        TokenKind::Text | TokenKind::Sign => Some(FaultName::WrongKind),
+    }
 }
 
 /// The number that the scalar at token `first` is worth, if the type has it.
-#[tactic(auto, unfolding(crate::specs::Numbers::number_fault, crate::specs::Written::number_at, crate::specs::Written::magnitude))]
+#[tactic(auto, unfolding(crate::specs::Numbers::number_fault, crate::specs::Written::number_at, crate::specs::Written::size_at))]
 pub(crate) fn number_at(source: &Source, number: Number, first: u32) -> Result<i64, FaultName>
     ensures fault { IfOk result (λ _. number_fault (written_of source.now) number first ≡ None) }
     ensures value { IfOk result (λ z. z ≡ number_at (written_of source.now) first) }
@@ -89,13 +107,15 @@ pub(crate) fn number_at(source: &Source, number: Number, first: u32) -> Result<i
 {
     let negative = is_negative(source, first);
     let token = first as usize + negative as usize;
-    match token_kind(source, token) {
-        Some(TokenKind::Decimal) => match decimal(number, negative, token_text(source, token)) {
-            Some(value) => Ok(value),
-            None => Err(misfit(number)),
-        },
-        Some(TokenKind::Identifier) => Err(word_fault(number)),
-        _ => Err(FaultName::WrongKind),
+    let Some(kind) = token_kind(source, token) else {
+        return Err(FaultName::WrongKind);
+    };
+    if let Some(name) = token_fault(number, kind) {
+        return Err(name);
+    }
+    match whole_number(number, negative, kind, token_text(source, token)) {
+        Some(value) => Ok(value),
+        None => Err(misfit(number)),
     }
 }
 
@@ -137,5 +157,25 @@ fn word_fault(number: Number) -> FaultName
     match number {
         Number::Int64 | Number::Int32 => FaultName::WrongKind,
         Number::Exact => FaultName::NotWhole,
+    }
+}
+
+/// What is wrong with an octal or hexadecimal number as one of the type.
+fn other_base_fault(number: Number) -> Option<FaultName>
+    ensures { result ≡ other_base_fault number }
+{
+    match number {
+        Number::Int64 | Number::Int32 => None,
+        Number::Exact => Some(FaultName::WrongKind),
+    }
+}
+
+/// What is wrong with a float as a number of the type.
+fn float_fault(number: Number) -> Option<FaultName>
+    ensures { result ≡ float_fault number }
+{
+    match number {
+        Number::Int64 | Number::Int32 => Some(FaultName::WrongKind),
+        Number::Exact => None,
     }
 }

@@ -37,3 +37,19 @@ pub(crate) fn token_kind(source: &Source, token: usize) -> Option<TokenKind>
 {
     source.tokens.get(token).map(|found| found.kind)
 }
+
+/// The first `n` bytes, or all where there are fewer.
+#[tactic(auto, using(std::proofs::lemmas::List::take_min))]
+pub(crate) fn front(text: &[u8], n: u64) -> &[u8]
+    ensures { result.now ≡ take n text.now }
+{
+    &text[..(n as usize).min(text.len())]
+}
+
+/// The bytes behind these.
+#[tactic(auto, using(std::proofs::lemmas::List::take_rest, std::proofs::lemmas::List::drop_min))]
+pub(crate) fn behind(text: &[u8], n: u64) -> &[u8]
+    ensures { result.now ≡ drop n text.now }
+{
+    &text[(n as usize).min(text.len())..]
+}

@@ -49,163 +49,138 @@ fn refused(
 #[test]
 fn refuses_names(rt: HostRuntime) -> Result<(), Fail> {
     let alloc = rt.alloc();
-    refused(
-        &rt,
-        alloc,
-        "variables { domian: 0 }",
-        FaultName::UnknownField,
-        12,
-    )?;
-    refused(
-        &rt,
-        alloc,
-        "objective { offset: 1 offset: 2 }",
-        FaultName::Repeated,
-        22,
-    )?;
-    refused(
-        &rt,
-        alloc,
-        "objective { offset: 1 offset: x }",
-        FaultName::Repeated,
-        22,
-    )?;
-    refused(
-        &rt,
-        alloc,
-        "objective { } objective: 0",
-        FaultName::Repeated,
-        14,
-    )?;
-    refused(&rt, alloc, "name: 0", FaultName::Unsupported, 0)?;
-    refused(
-        &rt,
-        alloc,
-        "constraints { all_diff { } }",
-        FaultName::Unsupported,
-        14,
-    )?;
-    refused(
-        &rt,
-        alloc,
-        "constraints { bool_or { } bool_or: 0 }",
-        FaultName::Repeated,
-        26,
-    )?;
-    refused(
-        &rt,
-        alloc,
-        "constraints { bool_or { } linear: 0 }",
-        FaultName::TwoKinds,
-        26,
-    )?;
-    refused(
-        &rt,
-        alloc,
-        "constraints { at_most_one { } exactly_one { } }",
-        FaultName::TwoKinds,
-        30,
-    )?;
+    let texts: [(&str, FaultName, u32); 9] = [
+        ("variables { domian: 0 }", FaultName::UnknownField, 12),
+        ("objective { offset: 1 offset: 2 }", FaultName::Repeated, 22),
+        ("objective { offset: 1 offset: x }", FaultName::Repeated, 22),
+        ("objective { } objective: 0", FaultName::Repeated, 14),
+        ("name: 0", FaultName::Unsupported, 0),
+        ("constraints { all_diff { } }", FaultName::Unsupported, 14),
+        (
+            "constraints { bool_or { } bool_or: 0 }",
+            FaultName::Repeated,
+            26,
+        ),
+        (
+            "constraints { bool_or { } linear: 0 }",
+            FaultName::TwoKinds,
+            26,
+        ),
+        (
+            "constraints { at_most_one { } exactly_one { } }",
+            FaultName::TwoKinds,
+            30,
+        ),
+    ];
+    for (text, name, byte) in texts {
+        refused(&rt, alloc, text, name, byte)?;
+    }
     Ok(())
 }
 
 #[test]
 fn refuses_forms(rt: HostRuntime) -> Result<(), Fail> {
     let alloc = rt.alloc();
-    refused(
-        &rt,
-        alloc,
-        "objective { offset: [1] }",
-        FaultName::WrongKind,
-        20,
-    )?;
-    refused(&rt, alloc, "objective [ ]", FaultName::WrongKind, 10)?;
-    refused(&rt, alloc, "objective: [ ]", FaultName::WrongKind, 11)?;
-    refused(
-        &rt,
-        alloc,
-        "objective { offset { } }",
-        FaultName::WrongKind,
-        19,
-    )?;
-    refused(&rt, alloc, "variables: 0", FaultName::WrongKind, 11)?;
-    refused(&rt, alloc, "variables: [0]", FaultName::WrongKind, 12)?;
-    refused(
-        &rt,
-        alloc,
-        "variables { domain: - x }",
-        FaultName::WrongKind,
-        20,
-    )?;
+    let texts: [(&str, FaultName, u32); 7] = [
+        ("objective { offset: [1] }", FaultName::WrongKind, 20),
+        ("objective [ ]", FaultName::WrongKind, 10),
+        ("objective: [ ]", FaultName::WrongKind, 11),
+        ("objective { offset { } }", FaultName::WrongKind, 19),
+        ("variables: 0", FaultName::WrongKind, 11),
+        ("variables: [0]", FaultName::WrongKind, 12),
+        ("variables { domain: - x }", FaultName::WrongKind, 20),
+    ];
+    for (text, name, byte) in texts {
+        refused(&rt, alloc, text, name, byte)?;
+    }
     Ok(())
 }
 
 #[test]
 fn refuses_numbers(rt: HostRuntime) -> Result<(), Fail> {
     let alloc = rt.alloc();
-    refused(
-        &rt,
-        alloc,
-        "variables { domain: [9223372036854775807, 9223372036854775808] }",
-        FaultName::OutOfRange,
-        42,
-    )?;
-    refused(
-        &rt,
-        alloc,
-        "variables { domain: [-9223372036854775808, -9223372036854775809] }",
-        FaultName::OutOfRange,
-        43,
-    )?;
-    refused(
-        &rt,
-        alloc,
-        "variables { domain: [9223372036854775808, x] }",
-        FaultName::OutOfRange,
-        21,
-    )?;
-    refused(
-        &rt,
-        alloc,
-        "variables { domain: 100000000000000000000000000000000000000000 }",
-        FaultName::OutOfRange,
-        20,
-    )?;
-    refused(
-        &rt,
-        alloc,
-        "constraints { bool_or { literals: 2147483648 } }",
-        FaultName::OutOfRange,
-        34,
-    )?;
-    refused(
-        &rt,
-        alloc,
-        "constraints { linear { vars: -2147483649 x: 0 } }",
-        FaultName::OutOfRange,
-        29,
-    )?;
-    refused(
-        &rt,
-        alloc,
-        "objective { offset: -inf }",
-        FaultName::NotWhole,
-        20,
-    )?;
-    refused(
-        &rt,
-        alloc,
-        "objective { offset: 9007199254740993 }",
-        FaultName::NotWhole,
-        20,
-    )?;
-    refused(
-        &rt,
-        alloc,
-        "objective { scaling_factor: - 9007199254740993 }",
-        FaultName::NotWhole,
-        28,
-    )?;
+    let texts: [(&str, FaultName, u32); 21] = [
+        (
+            "variables { domain: [9223372036854775807, 9223372036854775808] }",
+            FaultName::OutOfRange,
+            42,
+        ),
+        (
+            "variables { domain: [-9223372036854775808, -9223372036854775809] }",
+            FaultName::OutOfRange,
+            43,
+        ),
+        (
+            "variables { domain: [9223372036854775808, x] }",
+            FaultName::OutOfRange,
+            21,
+        ),
+        (
+            "variables { domain: 100000000000000000000000000000000000000000 }",
+            FaultName::OutOfRange,
+            20,
+        ),
+        (
+            "variables { domain: 0x8000000000000000 }",
+            FaultName::OutOfRange,
+            20,
+        ),
+        ("variables { domain: 1.0 }", FaultName::WrongKind, 20),
+        ("variables { domain: -1e3 }", FaultName::WrongKind, 20),
+        (
+            "constraints { bool_or { literals: 2147483648 } }",
+            FaultName::OutOfRange,
+            34,
+        ),
+        (
+            "constraints { bool_or { literals: 020000000000 } }",
+            FaultName::OutOfRange,
+            34,
+        ),
+        (
+            "constraints { bool_or { literals: 2f } }",
+            FaultName::WrongKind,
+            34,
+        ),
+        (
+            "constraints { linear { vars: -2147483649 x: 0 } }",
+            FaultName::OutOfRange,
+            29,
+        ),
+        ("objective { offset: -inf }", FaultName::NotWhole, 20),
+        (
+            "objective { offset: 9007199254740993 }",
+            FaultName::NotWhole,
+            20,
+        ),
+        (
+            "objective { scaling_factor: - 9007199254740993 }",
+            FaultName::NotWhole,
+            28,
+        ),
+        ("objective { offset: 017 }", FaultName::WrongKind, 20),
+        ("objective { offset: -0x1F }", FaultName::WrongKind, 20),
+        ("objective { offset: 0.5 }", FaultName::NotWhole, 20),
+        ("objective { offset: 1e-5 }", FaultName::NotWhole, 20),
+        (
+            "objective { offset: 1e99999999999999999999 }",
+            FaultName::NotWhole,
+            20,
+        ),
+        (
+            "objective { offset: -9007199254740992.5 }",
+            FaultName::NotWhole,
+            20,
+        ),
+        (
+            "objective { scaling_factor: 9007199254740993.0 }",
+            FaultName::NotWhole,
+            28,
+        ),
+    ];
+    for (text, name, byte) in texts {
+        refused(&rt, alloc, text, name, byte)?;
+    }
     Ok(())
 }
 
@@ -293,11 +268,20 @@ fn reads_constraints(rt: HostRuntime) -> Result<(), Fail> {
     Ok(())
 }
 
+/// The offset of a model's objective.
+fn offset_of(rt: &impl Abort, alloc: Global, text: &str) -> Result<i64, Fail> {
+    match &read(rt, alloc, text)?.objective {
+        Some(objective) => Ok(objective.offset),
+        None => Err(Fail::from("objective")),
+    }
+}
+
 #[test]
 fn reads_objectives(rt: HostRuntime) -> Result<(), Fail> {
+    let alloc = rt.alloc();
     let model = read(
         &rt,
-        rt.alloc(),
+        alloc,
         "objective { coeffs: 7 offset: -9007199254740992 scaling_factor: 0 domain: [2, 3] vars: 5 }",
     )?;
     let Some(objective) = &model.objective else {
@@ -306,5 +290,42 @@ fn reads_objectives(rt: HostRuntime) -> Result<(), Fail> {
     assert!(rt; is_objective(objective, &[5], &[7], &[2, 3]));
     assert_eq!(rt; objective.offset, -9007199254740992);
     assert_eq!(rt; objective.scaling, 1);
+    let floats: [(&str, i64); 12] = [
+        ("objective { offset: 1e5 }", 100000),
+        ("objective { offset: 1500e-2 }", 15),
+        ("objective { offset: 0.10e1f }", 1),
+        ("objective { offset: 0e99999999999 }", 0),
+        ("objective { offset: -0.0 }", 0),
+        ("objective { offset: 0.0e-99999999999999999999 }", 0),
+        ("objective { offset: 9007199254740992.0 }", 9007199254740992),
+        (
+            "objective { offset: -9.007199254740992E+15 }",
+            -9007199254740992,
+        ),
+        (
+            "objective { offset: 9007199254740992000e-3 }",
+            9007199254740992,
+        ),
+        ("objective { offset: 7f }", 7),
+        ("objective { offset: .5e1 }", 5),
+        ("objective { offset: - 12.F }", -12),
+    ];
+    for (text, offset) in floats {
+        assert_eq!(rt; offset_of(&rt, alloc, text)?, offset);
+    }
+    Ok(())
+}
+
+#[test]
+fn reads_whole_numbers(rt: HostRuntime) -> Result<(), Fail> {
+    let model = read(
+        &rt,
+        rt.alloc(),
+        "variables { domain: [017, 0x1F, 0X1f, -0x10, -017, 00, 0x7fffffffffffffff, -0x8000000000000000] }",
+    )?;
+    let [variable] = model.variables.as_slice() else {
+        return Err(Fail::from("variables"));
+    };
+    assert!(rt; is_variable(variable, &[15, 31, 31, -16, -15, 0, i64::MAX, i64::MIN]));
     Ok(())
 }
