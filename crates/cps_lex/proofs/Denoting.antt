@@ -352,3 +352,19 @@ octal_above_byte quote a b c rest is first second third three =
     ∙ closes_on quote Backslash (OctalOne (hex_value a)) a Nothing (b ∷ c ∷ rest) on_a
     ∙ closes_on quote (OctalOne (hex_value a)) (OctalTwo (8 * hex_value a + hex_value b)) b Nothing (c ∷ rest) on_b
     ∙ ap (λ (o : Option (Place × Denoted)). option_map_or (λ s. closes quote s.0 rest) o false) on_c
+
+-- no string has a raw line feed
+pub line_feed_alone : (quote : ℕ) (rest : List ℕ) → is_quote quote ≡ true → closes quote Inside (10 ∷ rest) ≡ false
+unfolding step behind_piece is_quote
+line_feed_alone quote rest is =
+    let other : eqb 10 quote ≡ false = grind (arith, nat_tests) in
+    let here : step quote Inside 10 ≡ None = rw other refl in
+    ap (λ (o : Option (Place × Denoted)). option_map_or (λ s. closes quote s.0 rest) o false) here
+
+-- or another escape than those above
+pub no_other_escape : (quote b : ℕ) (rest : List ℕ) → is_quote quote ≡ true → is_octal_digit b ≡ false → is_x b ≡ false → eqb b 117 ≡ false → eqb b 85 ≡ false → simple_escape b ≡ None → closes quote Inside (92 ∷ b ∷ rest) ≡ false
+unfolding step behind_backslash
+no_other_escape quote b rest is digit x u long_u simple =
+    let here : step quote Backslash b ≡ None = rw (digit, x, u, long_u, simple) refl in
+    closes_on quote Inside Backslash 92 Nothing (b ∷ rest) (backslash_begins quote is)
+    ∙ ap (λ (o : Option (Place × Denoted)). option_map_or (λ s. closes quote s.0 rest) o false) here
