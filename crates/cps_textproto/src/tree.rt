@@ -16,7 +16,7 @@ pub struct Field {
     pub items: Items,
 }
 
-/// The values of a field. One value takes no memory of its own, and no value neither.
+/// The values of a field. One value or none takes no memory of its own.
 #[cycle(tree)]
 #[derive(Debug, Drop)]
 pub enum Items {
