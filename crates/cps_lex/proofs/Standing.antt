@@ -1,20 +1,20 @@
 -- The scan by the first byte finds the longest token.
-use Rattle.std.proofs.Common.{◌≡◌, ℕ, zero, suc, ◌+◌, ◌≤◌, Bool, true, false, cond, ◌&&◌, not, eqb, List, [], ◌∷◌, length, take, drop, Option, Some, None, refl, sym, ◌∙◌, ap, subst, arith}
+use Rattle.std.proofs.Common.{◌≡◌, ℕ, zero, suc, ◌+◌, ◌≤◌, Bool, true, false, cond, not, List, [], ◌∷◌, ◌++◌, length, take, drop, Option, Some, None, refl, sym, ◌∙◌, ap, subst, arith, length-append}
 use Rattle.std.specs.Prelude.{MatchOption}
 use Rattle.std.proofs.lemmas.Bool.Decides.{nat_tests}
 use Rattle.std.specs.Option.{option_map}
 use Rattle.std.specs.List.{prefix_len, list_all}
 use Rattle.std.proofs.lemmas.List.Sums.{prefix_len-le-length}
 use Rattle.cps_lex.specs.declared.types.TokenKind.{TokenKind}
-use Rattle.cps_lex.specs.declared.types.TokenKind.TheVariants.{Identifier, Decimal, Sign}
-use Rattle.cps_lex.specs.Bytes.{is_word_start, is_word, is_digit, is_sign, is_number_start, is_number_part}
-use Rattle.cps_lex.specs.Forms.{kind_of, number_kind, may_end, goes_on, is_identifier, is_decimal, is_one_sign, is_nothing}
+use Rattle.cps_lex.specs.declared.types.TokenKind.TheVariants.{Identifier, Text, Sign}
+use Rattle.cps_lex.specs.declared.escapes.Place.TheVariants.{Inside}
+use Rattle.cps_lex.specs.Bytes.{is_word_start, is_word, is_digit, is_sign, is_quote, is_number_start}
+use Rattle.cps_lex.specs.Forms.{kind_of, number_kind, may_end, goes_on, is_identifier, is_one_sign, is_text, is_nothing}
+use Rattle.cps_lex.specs.Texts.{closes}
 use Rattle.cps_lex.specs.Tokens.{Stands, IsLongest, NoneStands}
-use Rattle.cps_lex.specs.Scan.{scan, number_at, run_of}
-
-pub and_true : (a b : Bool) → (a && b) ≡ true → (a ≡ true) × (b ≡ true)
-and_true true b e = (refl, e)
-and_true false b e = cc
+use Rattle.cps_lex.specs.Scan.{scan, number_at, run_of, text_at, closing}
+use Rattle.cps_lex.proofs.Runs.{and_true, number_text, run_of-within, run_of-ends}
+use Rattle.cps_lex.proofs.Closing.{closing_found, closing_closes}
 
 -- the classes of the first byte are apart
 start_not_number : (b : ℕ) → is_word_start b ≡ true → is_number_start b ≡ false
@@ -25,75 +25,45 @@ start_not_sign : (b : ℕ) → is_word_start b ≡ true → is_sign b ≡ false
 unfolding is_word_start is_sign
 start_not_sign b e = grind (arith, nat_tests)
 
+number_not_start : (b : ℕ) → is_number_start b ≡ true → is_word_start b ≡ false
+unfolding is_digit is_word_start
+number_not_start b e = grind (arith, nat_tests)
+
 number_not_sign : (b : ℕ) → is_number_start b ≡ true → is_sign b ≡ false
 unfolding is_digit is_sign
 number_not_sign b e = grind (arith, nat_tests)
 
-digit_part : (b : ℕ) → is_digit b ≡ true → is_number_part b ≡ true
-unfolding is_digit is_word
-digit_part b e = grind (arith, nat_tests)
+number_not_quote : (b : ℕ) → is_number_start b ≡ true → is_quote b ≡ false
+unfolding is_digit is_quote
+number_not_quote b e = grind (arith, nat_tests)
 
--- what has the form of a number and stops where no number goes on is the whole run
-whole_run : (p : ℕ → Bool) → ((b : ℕ) → p b ≡ true → is_number_part b ≡ true) → (bs : List ℕ) (n : ℕ) → n ≤ length bs → list_all p (take n bs) ≡ true → goes_on (drop n bs) ≡ false → n ≡ run_of bs
-whole_run p part [] zero within all stops = refl
-whole_run p part [] (suc n) within all stops = absurd (omega (arith, within))
-whole_run p part (x ∷ xs) zero within all stops = rw stops refl
-whole_run p part (x ∷ xs) (suc n) within all stops =
-    let both = and_true (p x) (list_all p (take n xs)) all in
-    let rest = whole_run p part xs n (omega (arith, within)) both.1 stops in
-    rw (part x both.0) (omega arith)
+quote_not_start : (b : ℕ) → is_quote b ≡ true → is_word_start b ≡ false
+unfolding is_quote is_word_start
+quote_not_start b e = grind (arith, nat_tests)
 
--- where the run ends no number goes on
-run_stops : (bs : List ℕ) → goes_on (drop (run_of bs) bs) ≡ false
-run_stops [] = refl
-run_stops (b ∷ bs) = by b bs (is_number_part b) refl (run_stops bs)
-  where
-    by : (b : ℕ) (bs : List ℕ) (v : Bool) → is_number_part b ≡ v → goes_on (drop (run_of bs) bs) ≡ false → goes_on (drop (cond v (1 + run_of bs) 0) (b ∷ bs)) ≡ false
-    by b bs true e rest =
-        let one : 1 + run_of bs ≡ suc (run_of bs) = omega arith in
-        rw one rest
-    by b bs false e rest = e
+quote_not_sign : (b : ℕ) → is_quote b ≡ true → is_sign b ≡ false
+unfolding is_quote is_sign
+quote_not_sign b e = grind (arith, nat_tests)
 
--- a number's text is the whole run, where nothing continues it
-record IsNumberText (b : ℕ) (bs : List ℕ) (n : ℕ) (k : TokenKind) : Type 0 where
-  first : is_number_start b ≡ true
-  run : n ≤ length bs → goes_on (drop n bs) ≡ false → n ≡ run_of bs
-  ends : (after : List ℕ) → may_end k after ≡ not (goes_on after)
-
-decimal_digits : (v : Bool) (bs : List ℕ) → cond v (is_nothing bs) (list_all is_digit bs) ≡ true → list_all is_digit bs ≡ true
-decimal_digits true [] e = refl
-decimal_digits true (b ∷ bs) e = cc
-decimal_digits false bs e = e
-
-decimal_text : (b : ℕ) (bs : List ℕ) (n : ℕ) → is_decimal (b ∷ take n bs) ≡ true → IsNumberText b bs n Decimal
-decimal_text b bs n e =
-    let both = and_true (is_digit b) _ e in
-    record {
-      first = both.0;
-      run = λ within stops. whole_run is_digit digit_part bs n within (decimal_digits (eqb b 48) (take n bs) both.1) stops;
-      ends = λ after. refl;
-    }
-
-number_by : (b : ℕ) (bs : List ℕ) (n : ℕ) (k : TokenKind) (d : Bool) → is_decimal (b ∷ take n bs) ≡ d → cond d (Some Decimal) None ≡ Some k → IsNumberText b bs n k
-number_by b bs n k true ed e = let is : Decimal ≡ k = cc in subst (IsNumberText b bs n) is (decimal_text b bs n ed)
-number_by b bs n k false ed e = cc
-
-number_text : (b : ℕ) (bs : List ℕ) (n : ℕ) (k : TokenKind) → number_kind (b ∷ take n bs) ≡ Some k → IsNumberText b bs n k
-number_text b bs n k e = number_by b bs n k (is_decimal (b ∷ take n bs)) refl e
+quote_not_number : (b : ℕ) → is_quote b ≡ true → is_number_start b ≡ false
+unfolding is_quote is_digit
+quote_not_number b e = grind (arith, nat_tests)
 
 -- the forms of a text, by its first byte
 data Form (b : ℕ) (t : List ℕ) (k : TokenKind) : Type 0 where
   an_identifier : k ≡ Identifier → is_word_start b ≡ true → list_all is_word t ≡ true → Form b t k
   a_sign : k ≡ Sign → is_sign b ≡ true → is_nothing t ≡ true → Form b t k
+  a_text : k ≡ Text → is_quote b ≡ true → closes b Inside t ≡ true → Form b t k
   a_number : number_kind (b ∷ t) ≡ Some k → Form b t k
 
-form_by : (b : ℕ) (t : List ℕ) (k : TokenKind) (a s : Bool) → is_identifier (b ∷ t) ≡ a → is_one_sign (b ∷ t) ≡ s → cond a (Some Identifier) (cond s (Some Sign) (number_kind (b ∷ t))) ≡ Some k → Form b t k
-form_by b t k true s ea es e = let both = and_true (is_word_start b) _ ea in an_identifier (cc) both.0 both.1
-form_by b t k false true ea es e = let both = and_true (is_sign b) _ es in a_sign (cc) both.0 both.1
-form_by b t k false false ea es e = a_number e
+form_by : (b : ℕ) (t : List ℕ) (k : TokenKind) (a s q : Bool) → is_identifier (b ∷ t) ≡ a → is_one_sign (b ∷ t) ≡ s → is_text (b ∷ t) ≡ q → cond a (Some Identifier) (cond s (Some Sign) (cond q (Some Text) (number_kind (b ∷ t)))) ≡ Some k → Form b t k
+form_by b t k true s q ea es eq e = let both = and_true (is_word_start b) _ ea in an_identifier (cc) both.0 both.1
+form_by b t k false true q ea es eq e = let both = and_true (is_sign b) _ es in a_sign (cc) both.0 both.1
+form_by b t k false false true ea es eq e = let both = and_true (is_quote b) _ eq in a_text (cc) both.0 both.1
+form_by b t k false false false ea es eq e = a_number e
 
 form_of : (b : ℕ) (t : List ℕ) (k : TokenKind) → kind_of (b ∷ t) ≡ Some k → Form b t k
-form_of b t k e = form_by b t k (is_identifier (b ∷ t)) (is_one_sign (b ∷ t)) refl refl e
+form_of b t k e = form_by b t k (is_identifier (b ∷ t)) (is_one_sign (b ∷ t)) (is_text (b ∷ t)) refl refl refl e
 
 -- what stands on some bytes, told by its parts
 record Standing (b : ℕ) (bs : List ℕ) (k : TokenKind) (m : ℕ) : Type 0 where
@@ -160,6 +130,7 @@ identifier_found b bs start =
     most : (b : ℕ) (bs : List ℕ) → is_word_start b ≡ true → (other : TokenKind) (m n : ℕ) → m ≡ suc n → n ≤ length bs → Form b (take n bs) other → m ≤ suc (prefix_len is_word bs)
     most b bs start other m n one within (an_identifier is first words) = omega (arith, one, passes_no_more is_word bs n within words)
     most b bs start other m n one within (a_sign is first nothing) = let no = start_not_sign b start in cc
+    most b bs start other m n one within (a_text is first ends) = let no = quote_not_start b first in cc
     most b bs start other m n one within (a_number kind) = let no = start_not_number b start in let first = (number_text b bs n other kind).first in cc
 
 -- where a number may begin stands the number that is the whole run, or nothing
@@ -173,6 +144,7 @@ number_only b bs k m start digit s = by b bs k m s.n start digit s.one_more s.wi
     by : (b : ℕ) (bs : List ℕ) (k : TokenKind) (m n : ℕ) → is_word_start b ≡ false → is_number_start b ≡ true → m ≡ suc n → n ≤ length bs → may_end k (drop n bs) ≡ true → Form b (take n bs) k → IsTheNumber b bs k m
     by b bs k m n start digit one within ends (an_identifier is first words) = cc
     by b bs k m n start digit one within ends (a_sign is first nothing) = let no = number_not_sign b digit in cc
+    by b bs k m n start digit one within ends (a_text is first closed) = let no = quote_not_number b first in cc
     by b bs k m n start digit one within ends (a_number kind) =
         let text = number_text b bs n k kind in
         let stops = not_true _ (sym (text.ends (drop n bs)) ∙ ends) in
@@ -185,38 +157,82 @@ number_only b bs k m start digit s = by b bs k m s.n start digit s.one_more s.wi
 number_found : (b : ℕ) (bs : List ℕ) (k : TokenKind) → is_word_start b ≡ false → is_number_start b ≡ true → number_kind (b ∷ take (run_of bs) bs) ≡ Some k → IsLongest (b ∷ bs) k (1 + run_of bs)
 number_found b bs k start digit kind =
     let no_sign = number_not_sign b digit in
-    let form : kind_of (b ∷ take (run_of bs) bs) ≡ Some k = rw (start, no_sign) kind in
-    let ends : may_end k (drop (run_of bs) bs) ≡ true = (number_text b bs (run_of bs) k kind).ends (drop (run_of bs) bs) ∙ ap not (run_stops bs) in
-    longest b bs k (run_of bs) (stands b bs k (run_of bs) (prefix_len-le-length is_number_part bs) form ends)
+    let no_quote = number_not_quote b digit in
+    let form : kind_of (b ∷ take (run_of bs) bs) ≡ Some k = rw (start, no_sign, no_quote) kind in
+    let ends : may_end k (drop (run_of bs) bs) ≡ true = (number_text b bs (run_of bs) k kind).ends (drop (run_of bs) bs) ∙ ap not (run_of-ends bs) in
+    longest b bs k (run_of bs) (stands b bs k (run_of bs) (run_of-within bs) form ends)
     (λ other m s. omega (arith, (number_only b bs other m start digit s).length_is))
 
 sign_found : (b : ℕ) (bs : List ℕ) → is_word_start b ≡ false → is_number_start b ≡ false → is_sign b ≡ true → IsLongest (b ∷ bs) Sign 1
 sign_found b bs start digit sign =
-    longest b bs Sign 0 (stands b bs Sign 0 (omega arith) (rw (start, sign) refl) refl) (λ other m s. most b bs start digit other m s.n s.one_more s.within s.form)
+    longest b bs Sign 0 (stands b bs Sign 0 (omega arith) (rw (start, sign) refl) refl) (λ other m s. most b bs start digit sign other m s.n s.one_more s.within s.form)
   where
-    most : (b : ℕ) (bs : List ℕ) → is_word_start b ≡ false → is_number_start b ≡ false → (other : TokenKind) (m n : ℕ) → m ≡ suc n → n ≤ length bs → Form b (take n bs) other → m ≤ 1
-    most b bs start digit other m n one within (an_identifier is first words) = cc
-    most b bs start digit other m n one within (a_sign is first nothing) = omega (arith, one, nothing_only n bs within nothing)
-    most b bs start digit other m n one within (a_number kind) = let first = (number_text b bs n other kind).first in cc
+    most : (b : ℕ) (bs : List ℕ) → is_word_start b ≡ false → is_number_start b ≡ false → is_sign b ≡ true → (other : TokenKind) (m n : ℕ) → m ≡ suc n → n ≤ length bs → Form b (take n bs) other → m ≤ 1
+    most b bs start digit sign other m n one within (an_identifier is first words) = cc
+    most b bs start digit sign other m n one within (a_sign is first nothing) = omega (arith, one, nothing_only n bs within nothing)
+    most b bs start digit sign other m n one within (a_text is first ends) = let no = quote_not_sign b first in cc
+    most b bs start digit sign other m n one within (a_number kind) = let first = (number_text b bs n other kind).first in cc
 
-nothing_found : (b : ℕ) (bs : List ℕ) → is_word_start b ≡ false → is_number_start b ≡ false → is_sign b ≡ false → NoneStands (b ∷ bs)
-nothing_found b bs start digit sign k m s = none b bs (standing b bs k m s).n k start digit sign (standing b bs k m s).form
+-- where a quote stands the string that is closed first, or nothing
+record IsTheText (b : ℕ) (bs : List ℕ) (k : TokenKind) (m : ℕ) : Type 0 where
+  n : ℕ
+  length_is : m ≡ suc n
+  closed : closing b Inside 0 bs ≡ Some n
+
+text_only : (b : ℕ) (bs : List ℕ) (k : TokenKind) (m : ℕ) → is_quote b ≡ true → Standing b bs k m → IsTheText b bs k m
+text_only b bs k m quote s = by b bs k m s.n quote s.one_more s.within s.form
   where
-    none : (b : ℕ) (bs : List ℕ) (n : ℕ) (k : TokenKind) → is_word_start b ≡ false → is_number_start b ≡ false → is_sign b ≡ false → Form b (take n bs) k → ⊥
-    none b bs n k start digit sign (an_identifier is first words) = cc
-    none b bs n k start digit sign (a_sign is first nothing) = cc
-    none b bs n k start digit sign (a_number kind) = let first = (number_text b bs n k kind).first in cc
+    by : (b : ℕ) (bs : List ℕ) (k : TokenKind) (m n : ℕ) → is_quote b ≡ true → m ≡ suc n → n ≤ length bs → Form b (take n bs) k → IsTheText b bs k m
+    by b bs k m n quote one within (an_identifier is first words) = let no = quote_not_start b quote in cc
+    by b bs k m n quote one within (a_sign is first nothing) = let no = quote_not_sign b quote in cc
+    by b bs k m n quote one within (a_text is first closed) =
+        let none_before : 0 + n ≡ n = omega arith in
+        record {
+          n = n;
+          length_is = one;
+          closed = closing_found b Inside 0 bs n refl within closed ∙ ap (λ (i : ℕ). Some i) none_before;
+        }
+    by b bs k m n quote one within (a_number kind) = let no = quote_not_number b quote in let first = (number_text b bs n k kind).first in cc
+
+text_found : (b : ℕ) (bs : List ℕ) (n : ℕ) → is_quote b ≡ true → closing b Inside 0 bs ≡ Some n → IsLongest (b ∷ bs) Text (1 + n)
+text_found b bs n quote closed =
+    let found = closing_closes b Inside 0 bs n closed in
+    let same : found.n ≡ n = omega (arith, found.count_is) in
+    let within : n ≤ length bs = omega (arith, found.within, same) in
+    let closes_it : closes b Inside (take n bs) ≡ true = subst (λ i. closes b Inside (take i bs) ≡ true) same found.closes_it in
+    let form : kind_of (b ∷ take n bs) ≡ Some Text = rw (quote_not_start b quote, quote_not_sign b quote, quote, closes_it) refl in
+    longest b bs Text n (stands b bs Text n within form refl) (λ other m s. most bs b n m other closed (text_only b bs other m quote s))
+  where
+    most : (bs : List ℕ) (b n m : ℕ) (other : TokenKind) → closing b Inside 0 bs ≡ Some n → IsTheText b bs other m → m ≤ suc n
+    most bs b n m other closed t =
+        let again = t.closed in
+        let same : n ≡ t.n = cc in
+        omega (arith, t.length_is, same)
+
+text_by_end : (b : ℕ) (bs : List ℕ) (o : Option ℕ) → is_quote b ≡ true → closing b Inside 0 bs ≡ o → MatchOption {T = TokenKind × ℕ} (option_map (λ n. (Text, 1 + n)) o) (NoneStands (b ∷ bs)) (λ t. IsLongest (b ∷ bs) t.0 t.1)
+text_by_end b bs None quote closed = λ k m s. let other = (text_only b bs k m quote (standing b bs k m s)).closed in cc
+text_by_end b bs (Some n) quote closed = text_found b bs n quote closed
+
+nothing_found : (b : ℕ) (bs : List ℕ) → is_word_start b ≡ false → is_number_start b ≡ false → is_sign b ≡ false → is_quote b ≡ false → NoneStands (b ∷ bs)
+nothing_found b bs start digit sign quote k m s = none b bs (standing b bs k m s).n k start digit sign quote (standing b bs k m s).form
+  where
+    none : (b : ℕ) (bs : List ℕ) (n : ℕ) (k : TokenKind) → is_word_start b ≡ false → is_number_start b ≡ false → is_sign b ≡ false → is_quote b ≡ false → Form b (take n bs) k → ⊥
+    none b bs n k start digit sign quote (an_identifier is first words) = cc
+    none b bs n k start digit sign quote (a_sign is first nothing) = cc
+    none b bs n k start digit sign quote (a_text is first closed) = cc
+    none b bs n k start digit sign quote (a_number kind) = let first = (number_text b bs n k kind).first in cc
 
 number_by_kind : (b : ℕ) (bs : List ℕ) (o : Option TokenKind) → is_word_start b ≡ false → is_number_start b ≡ true → number_kind (b ∷ take (run_of bs) bs) ≡ o → MatchOption {T = TokenKind × ℕ} (option_map (λ kind. (kind, 1 + run_of bs)) o) (NoneStands (b ∷ bs)) (λ t. IsLongest (b ∷ bs) t.0 t.1)
 number_by_kind b bs None start digit kind = λ k m s. let other = (number_only b bs k m start digit (standing b bs k m s)).kind in cc
 number_by_kind b bs (Some k) start digit kind = number_found b bs k start digit kind
 
-token_by : (b : ℕ) (bs : List ℕ) (w d s : Bool) → is_word_start b ≡ w → is_number_start b ≡ d → is_sign b ≡ s → MatchOption {T = TokenKind × ℕ} (cond w (Some (Identifier, 1 + prefix_len is_word bs)) (cond d (number_at b bs) (cond s (Some (Sign, 1)) None))) (NoneStands (b ∷ bs)) (λ t. IsLongest (b ∷ bs) t.0 t.1)
-unfolding number_at
-token_by b bs true d s start digit sign = identifier_found b bs start
-token_by b bs false true s start digit sign = number_by_kind b bs _ start digit refl
-token_by b bs false false true start digit sign = sign_found b bs start digit sign
-token_by b bs false false false start digit sign = nothing_found b bs start digit sign
+token_by : (b : ℕ) (bs : List ℕ) (w d s q : Bool) → is_word_start b ≡ w → is_number_start b ≡ d → is_sign b ≡ s → is_quote b ≡ q → MatchOption {T = TokenKind × ℕ} (cond w (Some (Identifier, 1 + prefix_len is_word bs)) (cond d (number_at b bs) (cond s (Some (Sign, 1)) (cond q (text_at b bs) None)))) (NoneStands (b ∷ bs)) (λ t. IsLongest (b ∷ bs) t.0 t.1)
+unfolding number_at text_at
+token_by b bs true d s q start digit sign quote = identifier_found b bs start
+token_by b bs false true s q start digit sign quote = number_by_kind b bs _ start digit refl
+token_by b bs false false true q start digit sign quote = sign_found b bs start digit sign
+token_by b bs false false false true start digit sign quote = text_by_end b bs _ quote refl
+token_by b bs false false false false start digit sign quote = nothing_found b bs start digit sign quote
 
 pub none_on_nothing : NoneStands []
 none_on_nothing k zero s = let e : None ≡ Some k = s.form in cc
@@ -225,4 +241,42 @@ none_on_nothing k (suc n) s = let e : None ≡ Some k = s.form in cc
 pub scan_finds : (rest : List ℕ) → MatchOption (scan rest) (NoneStands rest) (λ t. IsLongest rest t.0 t.1)
 unfolding scan
 scan_finds [] = none_on_nothing
-scan_finds (b ∷ bs) = token_by b bs (is_word_start b) (is_number_start b) (is_sign b) refl refl refl
+scan_finds (b ∷ bs) = token_by b bs (is_word_start b) (is_number_start b) (is_sign b) (is_quote b) refl refl refl refl
+
+-- what is left of a list behind its front
+
+take-front : (text rest : List ℕ) → take (length text) (text ++ rest) ≡ text
+take-front [] rest = refl
+take-front (b ∷ bs) rest = ap (λ xs. b ∷ xs) (take-front bs rest)
+
+drop-front : (text rest : List ℕ) → drop (length text) (text ++ rest) ≡ rest
+drop-front [] rest = refl
+drop-front (b ∷ bs) rest = drop-front bs rest
+
+-- a number is cut off where nothing continues it
+pub number_scans : (text rest : List ℕ) (k : TokenKind) → number_kind text ≡ Some k → goes_on rest ≡ false → scan (text ++ rest) ≡ Some (k, length text)
+unfolding scan number_at
+number_scans [] rest k e stops = cc
+number_scans (b ∷ bs) rest k e stops =
+    let kind : number_kind (b ∷ take (length bs) (bs ++ rest)) ≡ Some k = subst (λ t. number_kind (b ∷ t) ≡ Some k) (sym (take-front bs rest)) e in
+    let text = number_text b (bs ++ rest) (length bs) k kind in
+    let within : length bs ≤ length (bs ++ rest) = omega (arith, length-append bs rest) in
+    let ends : goes_on (drop (length bs) (bs ++ rest)) ≡ false = subst (λ t. goes_on t ≡ false) (sym (drop-front bs rest)) stops in
+    let whole : length bs ≡ run_of (bs ++ rest) = text.run within ends in
+    let run_kind : number_kind (b ∷ take (run_of (bs ++ rest)) (bs ++ rest)) ≡ Some k = subst (λ n. number_kind (b ∷ take n (bs ++ rest)) ≡ Some k) whole kind in
+    let size : 1 + run_of (bs ++ rest) ≡ suc (length bs) = omega (arith, whole) in
+    let with_size : ℕ → Option (TokenKind × ℕ) = λ n. Some (k, n) in
+    rw (run_kind, number_not_start b text.first, text.first) (ap with_size size)
+
+-- so is a string, whatever follows
+pub text_scans : (text rest : List ℕ) → is_text text ≡ true → scan (text ++ rest) ≡ Some (Text, length text)
+unfolding scan text_at
+text_scans [] rest e = cc
+text_scans (b ∷ bs) rest e =
+    let both = and_true (is_quote b) (closes b Inside bs) e in
+    let ends : closes b Inside (take (length bs) (bs ++ rest)) ≡ true = subst (λ t. closes b Inside t ≡ true) (sym (take-front bs rest)) both.1 in
+    let within : length bs ≤ length (bs ++ rest) = omega (arith, length-append bs rest) in
+    let found = closing_found b Inside 0 (bs ++ rest) (length bs) refl within ends in
+    let size : 1 + (0 + length bs) ≡ suc (length bs) = omega arith in
+    let with_size : ℕ → Option (TokenKind × ℕ) = λ n. Some (Text, n) in
+    rw (quote_not_start b both.0, quote_not_number b both.0, quote_not_sign b both.0, both.0, found) (ap with_size size)

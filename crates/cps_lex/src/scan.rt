@@ -7,8 +7,11 @@ ghost use Rattle.cps_lex.specs.Bytes.{is_word};
 ghost use Rattle.cps_lex.specs.Tokens.{blank_length, IsLongest, NoneStands};
 ghost use Rattle.cps_lex.specs.Scan.{scan};
 
-use super::bytes::{is_blank, is_number_start, is_sign, is_word, is_word_start, opens_comment};
+use super::bytes::{
+    is_blank, is_number_start, is_quote, is_sign, is_word, is_word_start, opens_comment,
+};
 use super::number::number_at;
+use super::text::text_at;
 use super::types::TokenKind;
 
 /// How many bytes of white space and comments stand at the front.
@@ -48,6 +51,9 @@ fn scan(rest: &[u8]) -> Option<(TokenKind, usize)>
     }
     if is_sign(*first) {
         return Some((TokenKind::Sign, 1));
+    }
+    if is_quote(*first) {
+        return text_at(*first, after);
     }
     None
 }

@@ -17,9 +17,9 @@ pub enum TokenKind {
     Octal,
     /// `0x` or `0X` and one or more hexadecimal digits.
     Hexadecimal,
-    /// A number with a point, an exponent or a final `f`.
+    /// A number with a point, an exponent or an `f` behind it.
     Float,
-    /// A text in quotes.
+    /// Single or double quotes round bytes and escapes; `push_text` gives its value.
     Text,
     /// One of `: { } < > [ ] , ; -`.
     Sign,

@@ -1,12 +1,13 @@
 //! The tree under construction: what each token adds to it.
-ghost use Rattle.std.specs.Prelude.{◌≡◌, ◌+◌, ◌<◌, ◌^◌, false, OnOk, IfOk, [], ◌∷◌};
+ghost use Rattle.std.specs.Prelude.{◌≡◌, ◌+◌, ◌<◌, ◌^◌, false, true, OnOk, IfOk, [], ◌∷◌};
 ghost use Rattle.cps_textproto.specs.declared.tree.Field.{Field};
-ghost use Rattle.cps_textproto.specs.Trees.{tree_of, field_list, values_of, span_values, then_fields, then_values, field, scalar_value, message_value, no_fields, no_values};
-ghost use Rattle.cps_textproto.specs.Building.{action_of, act, build_of, with_field, with_item, closed};
+ghost use Rattle.cps_textproto.specs.Trees.{tree_of, field_list, values_of, span_values, nested_value, nested_values, then_fields, then_values, without_last, field, scalar_value, message_value, no_fields, no_values};
+ghost use Rattle.cps_textproto.specs.Machine.{frame_of, top_of};
+ghost use Rattle.cps_textproto.specs.Building.{action_of, list_action, act, build_of, stack_of, with_field};
 
-use super::machine::Mode;
-use super::symbol::Symbol;
-use super::tree::{Field, Item, Items, Node, Span};
+use super::machine::{Frame, Mode};
+use super::symbol::{Bracket, Symbol};
+use super::tree::{Field, Item, Items, Nested, Node, Span};
 use std::alloc::{AllocError, Global};
 use std::mem;
 
@@ -16,36 +17,42 @@ pub enum Action {
     Nothing,
     /// It names a field.
     Name,
-    /// It begins a signed scalar.
-    Sign,
-    /// It is the field's value.
+    /// It begins a signed scalar, or a scalar of a list.
+    First,
+    /// It is the field's value, or the first string of it.
     Scalar,
     /// It ends the field's signed value.
     SignedScalar,
+    /// It is a further string of the field's value.
+    MoreText,
     /// It begins a list.
     Begin,
-    /// It is an item of the list.
+    /// It stands behind a scalar of the list.
     Item,
-    /// It ends a signed item of the list.
-    SignedItem,
-    /// It ends the list.
+    /// It stands behind the last scalar of the list, and ends that.
+    LastItem,
+    /// It ends a list of messages, perhaps of none.
     End,
     /// It opens a message.
-    Open,
+    Open(Frame),
     /// It closes one.
     Close,
 }
 
-/// An open message: the fields before it, its field's name, and the token that opened it.
+/// An open message: the fields before it and the messages of its list before it, its field's name, the token
+/// that opened it, and what the machine sees of it.
 #[derive(Debug, Drop)]
 pub struct Opened {
     pub fields: Vec<Field>,
+    pub messages: Vec<Nested>,
     pub name: u32,
     pub first: u32,
+    pub frame: Frame,
 }
 
 /// The fields so far of the innermost message, the messages round it, and the parts of a field that
-/// is not finished: its name, the token that its scalar begins with, and the scalars of its list.
+/// is not finished: its name, the token that its scalar begins with, and the scalars and the messages of
+/// its list.
 #[derive(Debug, Drop)]
 pub struct Builder {
     pub fields: Vec<Field>,
@@ -53,6 +60,7 @@ pub struct Builder {
     pub name: u32,
     pub first: u32,
     pub scalars: Vec<Span>,
+    pub messages: Vec<Nested>,
 }
 
 pub(crate) fn action_of(mode: Mode, symbol: Symbol) -> Action
@@ -61,18 +69,24 @@ pub(crate) fn action_of(mode: Mode, symbol: Symbol) -> Action
     match mode {
         Mode::Between | Mode::After => match symbol {
             Symbol::Name => Action::Name,
-            Symbol::Close => Action::Close,
+            Symbol::Close(_) => Action::Close,
+            _ => Action::Nothing,
+        },
+        Mode::Texted => match symbol {
+            Symbol::Text => Action::MoreText,
+            Symbol::Name => Action::Name,
+            Symbol::Close(_) => Action::Close,
             _ => Action::Nothing,
         },
         Mode::Named => match symbol {
-            Symbol::Open => Action::Open,
+            Symbol::Open(bracket) => opens(bracket, false),
             Symbol::OpenList => Action::Begin,
             _ => Action::Nothing,
         },
         Mode::Valued => match symbol {
-            Symbol::Name | Symbol::Number => Action::Scalar,
-            Symbol::Minus => Action::Sign,
-            Symbol::Open => Action::Open,
+            Symbol::Name | Symbol::Number | Symbol::Text => Action::Scalar,
+            Symbol::Minus => Action::First,
+            Symbol::Open(bracket) => opens(bracket, false),
             Symbol::OpenList => Action::Begin,
             _ => Action::Nothing,
         },
@@ -80,23 +94,61 @@ pub(crate) fn action_of(mode: Mode, symbol: Symbol) -> Action
             Symbol::Name | Symbol::Number => Action::SignedScalar,
             _ => Action::Nothing,
         },
-        Mode::ListFirst | Mode::ListNext => match symbol {
-            Symbol::Name | Symbol::Number => Action::Item,
-            Symbol::Minus => Action::Sign,
-            Symbol::CloseList => match mode {
-                Mode::ListFirst => Action::End,
-                _ => Action::Nothing,
-            },
-            _ => Action::Nothing,
-        },
-        Mode::ListSigned => match symbol {
-            Symbol::Name | Symbol::Number => Action::SignedItem,
-            _ => Action::Nothing,
-        },
-        Mode::Empty | Mode::ListItem => match symbol {
+        _ => list_action(mode, symbol),
+    }
+}
+
+/// What a token of a list adds to the tree.
+fn list_action(mode: Mode, symbol: Symbol) -> Action
+    ensures { result ≡ list_action mode symbol }
+{
+    match mode {
+        Mode::ListFirst => match symbol {
+            Symbol::Name | Symbol::Number | Symbol::Text | Symbol::Minus => Action::First,
+            Symbol::Open(bracket) => opens(bracket, true),
             Symbol::CloseList => Action::End,
             _ => Action::Nothing,
         },
+        Mode::ListNext => match symbol {
+            Symbol::Name | Symbol::Number | Symbol::Text | Symbol::Minus => Action::First,
+            _ => Action::Nothing,
+        },
+        Mode::ListItem | Mode::ListTexted => match symbol {
+            Symbol::Comma => Action::Item,
+            Symbol::CloseList => Action::LastItem,
+            _ => Action::Nothing,
+        },
+        Mode::MessagesFirst => match symbol {
+            Symbol::Open(bracket) => opens(bracket, true),
+            Symbol::CloseList => Action::End,
+            _ => Action::Nothing,
+        },
+        Mode::MessagesNext => match symbol {
+            Symbol::Open(bracket) => opens(bracket, true),
+            _ => Action::Nothing,
+        },
+        Mode::MessagesItem => match symbol {
+            Symbol::CloseList => Action::End,
+            _ => Action::Nothing,
+        },
+        _ => Action::Nothing,
+    }
+}
+
+fn opens(bracket: Bracket, listed: bool) -> Action
+    ensures { result ≡ Action.Open (frame_of bracket listed) }
+{
+    Action::Open(Frame { bracket, listed })
+}
+
+/// The innermost open message, as the machine sees it.
+#[tactic(auto, using(crate::proofs::Tops::last_is_top, crate::proofs::Tops::no_last_no_top))]
+pub(crate) fn innermost(builder: &Builder) -> Option<Frame>
+    ensures { result ≡ top_of (stack_of (build_of builder.now)) }
+{
+    match builder.opened.last() {
+        Some(opened) => Some(opened.frame),
+        None => None,
     }
 }
 
@@ -114,6 +166,13 @@ fn push_field(
     Ok(())
 }
 
+#[tactic(auto, using(crate::proofs::Pushes::field_list_less))]
+fn pop_field(fields: &mut Vec<Field>)
+    ensures { field_list fields.new.items ≡ without_last (field_list fields.old.items) }
+{
+    fields.pop();
+}
+
 #[tactic(auto, using(crate::proofs::Pushes::span_values_more))]
 fn push_scalar(scalars: &mut Vec<Span>, first: u32, end: u32) -> Result<(), AllocError>
     ensures { OnOk result (span_values scalars.new.items
@@ -123,11 +182,40 @@ fn push_scalar(scalars: &mut Vec<Span>, first: u32, end: u32) -> Result<(), Allo
     Ok(())
 }
 
+/// Adds a message, in no more memory than its fields take.
+#[tactic(auto, using(crate::proofs::Pushes::nested_values_more))]
+fn push_message(
+    messages: &mut Vec<Nested>,
+    first: u32,
+    fields: Vec<Field>,
+) -> Result<(), AllocError>
+    ensures { OnOk result (nested_values messages.new.items
+        ≡ then_values (nested_values messages.old.items) (message_value first (field_list fields.items) no_values)) }
+{
+    messages.push(nested(first, exact_node(fields)))?;
+    Ok(())
+}
+
+fn nested(first: u32, node: Node) -> Nested
+    ensures { nested_value result no_values ≡ message_value first (tree_of node) no_values }
+{
+    Nested { first, node }
+}
+
 #[tactic(auto, using(crate::proofs::Views::tree_of_node))]
 pub(crate) fn node_of(fields: Vec<Field>) -> Node
     ensures { tree_of result ≡ field_list fields.items }
 {
     Node { fields }
+}
+
+/// A message's fields, in no more memory than they take.
+fn exact_node(fields: Vec<Field>) -> Node
+    ensures { tree_of result ≡ field_list fields.items }
+{
+    let mut exact = fields;
+    exact.shrink_to_fit();
+    node_of(exact)
 }
 
 fn one_scalar(first: u32, end: u32) -> Items
@@ -136,24 +224,49 @@ fn one_scalar(first: u32, end: u32) -> Items
     Items::One(Item::Scalar { first, end })
 }
 
-/// A message, in no more memory than its fields take.
-fn one_message(first: u32, fields: Vec<Field>) -> Items
-    ensures { values_of result ≡ message_value first (field_list fields.items) no_values }
+fn one_nested(nested: Nested) -> Items
+    ensures { values_of result ≡ nested_value nested no_values }
 {
-    let mut exact = fields;
-    exact.shrink_to_fit();
-    let node = node_of(exact);
+    let Nested { first, node } = nested;
+    one_message(first, node)
+}
+
+fn one_message(first: u32, node: Node) -> Items
+    ensures { values_of result ≡ message_value first (tree_of node) no_values }
+{
     Items::One(Item::Message { first, node })
 }
 
-/// The values of a list, in no more memory than they take.
-fn list_of(alloc: Global, scalars: &[Span]) -> Result<Items, AllocError>
+/// The scalars of a list, in no more memory than they take.
+fn scalars_of(alloc: Global, scalars: &[Span]) -> Result<Items, AllocError>
     ensures { IfOk result (λ items. values_of items ≡ span_values scalars.now) }
 {
     if let [Span { first, end }] = scalars {
         return Ok(one_scalar(*first, *end));
     }
     Ok(Items::Scalars(Vec::from_slice(alloc, scalars)?))
+}
+
+/// The messages of a list, in no more memory than they take.
+#[tactic(auto, using(crate::proofs::Pushes::only_nested))]
+fn messages_of(messages: Vec<Nested>) -> Items
+    ensures { values_of result ≡ nested_values messages.items }
+{
+    let mut exact = messages;
+    if exact.len() != 1 {
+        exact.shrink_to_fit();
+        return many_messages(exact);
+    }
+    match exact.pop() {
+        Some(only) => one_nested(only),
+        None => many_messages(exact),
+    }
+}
+
+fn many_messages(messages: Vec<Nested>) -> Items
+    ensures { values_of result ≡ nested_values messages.items }
+{
+    Items::Messages(messages)
 }
 
 /// Adds the field with the one scalar `first..end`.
@@ -168,31 +281,63 @@ fn end_scalar(builder: &mut Builder, first: u32, end: u32) -> Result<(), AllocEr
     )
 }
 
-/// Adds the field with the list.
-fn end_list(builder: &mut Builder, alloc: Global) -> Result<(), AllocError>
-    ensures { OnOk result (build_of builder.new ≡ act Action.End 0 (build_of builder.old)) }
+/// Adds a further string to the last field.
+fn more_text(builder: &mut Builder, token: u32) -> Result<(), AllocError>
+    requires { token + 1 < 2 ^ 32 }
+    ensures { OnOk result (build_of builder.new ≡ act Action.MoreText token (build_of builder.old)) }
 {
-    let items = list_of(alloc, &builder.scalars)?;
+    pop_field(&mut builder.fields);
+    let first = builder.first;
+    end_scalar(builder, first, token + 1)
+}
+
+/// Adds the field with the list of scalars, the last of which ends before this token.
+fn end_scalars(builder: &mut Builder, alloc: Global, end: u32) -> Result<(), AllocError>
+    ensures { OnOk result (build_of builder.new ≡ act Action.LastItem end (build_of builder.old)) }
+{
+    push_scalar(&mut builder.scalars, builder.first, end)?;
+    let items = scalars_of(alloc, &builder.scalars)?;
     builder.scalars.clear();
     push_field(&mut builder.fields, builder.name, true, items)
 }
 
-/// Puts the fields so far aside.
+/// Adds the field with the list of messages.
+fn end_messages(builder: &mut Builder, alloc: Global) -> Result<(), AllocError>
+    ensures { OnOk result (build_of builder.new ≡ act Action.End 0 (build_of builder.old)) }
+{
+    let messages = mem::replace(&mut builder.messages, Vec::new(alloc));
+    push_field(
+        &mut builder.fields,
+        builder.name,
+        true,
+        messages_of(messages),
+    )
+}
+
+/// Puts the fields and the messages so far aside.
 #[tactic(auto, using(crate::proofs::Pushes::outer_onto_more))]
-fn open_message(builder: &mut Builder, alloc: Global, first: u32) -> Result<(), AllocError>
-    ensures { OnOk result (build_of builder.new ≡ act Action.Open first (build_of builder.old)) }
+fn open_message(
+    builder: &mut Builder,
+    alloc: Global,
+    first: u32,
+    frame: Frame,
+) -> Result<(), AllocError>
+    ensures { OnOk result (build_of builder.new ≡ act (Action.Open frame) first (build_of builder.old)) }
 {
     let fields = mem::replace(&mut builder.fields, Vec::new(alloc));
+    let messages = mem::replace(&mut builder.messages, Vec::new(alloc));
     let name = builder.name;
     builder.opened.push(Opened {
         fields,
+        messages,
         name,
         first,
+        frame,
     })?;
     Ok(())
 }
 
-/// Adds the message to the fields that were put aside.
+/// Adds the message to the messages of its list, or as a field to the fields that were put aside.
 #[tactic(auto, using(crate::proofs::Pushes::outer_onto_more))]
 fn close_message(builder: &mut Builder) -> Result<(), AllocError>
     ensures { OnOk result (build_of builder.new ≡ act Action.Close 0 (build_of builder.old)) }
@@ -202,11 +347,20 @@ fn close_message(builder: &mut Builder) -> Result<(), AllocError>
     };
     let Opened {
         fields,
+        messages,
         name,
         first,
+        frame,
     } = opened;
     let inner = mem::replace(&mut builder.fields, fields);
-    push_field(&mut builder.fields, name, false, one_message(first, inner))
+    builder.messages = messages;
+    builder.name = name;
+    if frame.listed {
+        push_message(&mut builder.messages, first, inner)
+    } else {
+        let items = one_message(first, exact_node(inner));
+        push_field(&mut builder.fields, name, false, items)
+    }
 }
 
 /// Adds what a token adds.
@@ -225,23 +379,28 @@ pub(crate) fn act(
             builder.name = token;
             Ok(())
         }
-        Action::Sign => {
+        Action::First => {
             builder.first = token;
             Ok(())
         }
-        Action::Scalar => end_scalar(builder, token, token + 1),
+        Action::Scalar => {
+            builder.first = token;
+            end_scalar(builder, token, token + 1)
+        }
         Action::SignedScalar => {
             let first = builder.first;
             end_scalar(builder, first, token + 1)
         }
+        Action::MoreText => more_text(builder, token),
         Action::Begin => {
             builder.scalars.clear();
+            builder.messages.clear();
             Ok(())
         }
-        Action::Item => push_scalar(&mut builder.scalars, token, token + 1),
-        Action::SignedItem => push_scalar(&mut builder.scalars, builder.first, token + 1),
-        Action::End => end_list(builder, alloc),
-        Action::Open => open_message(builder, alloc, token),
+        Action::Item => push_scalar(&mut builder.scalars, builder.first, token),
+        Action::LastItem => end_scalars(builder, alloc, token),
+        Action::End => end_messages(builder, alloc),
+        Action::Open(frame) => open_message(builder, alloc, token, frame),
         Action::Close => close_message(builder),
     }
 }

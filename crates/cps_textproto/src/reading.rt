@@ -6,8 +6,8 @@ ghost use Rattle.cps_textproto.specs.Trees.{Tree, NumbersBelow, tree_of};
 ghost use Rattle.cps_textproto.specs.Reading.{HasTree, IsRefusal, Gives};
 ghost use Rattle.cps_textproto.specs.Building.{Ends, build_of, empty_build};
 
-use super::builder::{Builder, act, action_of, node_of};
-use super::machine::{DEPTH, Mode, State, is_done, step};
+use super::builder::{Builder, act, action_of, innermost, node_of};
+use super::machine::{DEPTH, Mode, Place, may_end, step};
 use super::symbol::symbol_of;
 use super::tree::Node;
 use cps_lex::Token;
@@ -72,6 +72,7 @@ fn empty(alloc: Global) -> Builder
         name: 0,
         first: 0,
         scalars: Vec::new(alloc),
+        messages: Vec::new(alloc),
     }
 }
 
@@ -79,21 +80,20 @@ fn built(alloc: Global, bytes: &[u8], tokens: &[Token]) -> Result<Builder, TextE
     requires { length tokens.now < 2 ^ 32 }
     ensures { Ends (symbols bytes.now tokens.now) result }
 {
-    let mut state = State {
+    let mut place = Place {
         mode: Mode::Between,
-        depth: 0,
         room: DEPTH,
     };
     let mut builder = empty(alloc);
     for (i, token) in tokens.iter().enumerate() {
         let symbol = symbol_of(bytes, *token);
-        let Some(next) = step(state, symbol) else {
+        let Some(next) = step(place, innermost(&builder), symbol) else {
             return Err(TextError::NotADocument { token: i });
         };
-        act(&mut builder, alloc, action_of(state.mode, symbol), i as u32)?;
-        state = next;
+        act(&mut builder, alloc, action_of(place.mode, symbol), i as u32)?;
+        place = next;
     }
-    if is_done(state) {
+    if may_end(place.mode, innermost(&builder)) {
         Ok(builder)
     } else {
         Err(TextError::NotADocument {

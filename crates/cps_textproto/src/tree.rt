@@ -16,12 +16,13 @@ pub struct Field {
     pub items: Items,
 }
 
-/// The values of a field. One value takes no memory of its own.
+/// The values of a field. One value takes no memory of its own, and no value neither.
 #[cycle(tree)]
 #[derive(Debug, Drop)]
 pub enum Items {
     One(Item),
     Scalars(Vec<Span>),
+    Messages(Vec<Nested>),
 }
 
 /// A value: the scalar on the tokens `first..end`, or a message with the token that opens it.
@@ -37,4 +38,12 @@ pub enum Item {
 pub struct Span {
     pub first: u32,
     pub end: u32,
+}
+
+/// A message of a list, with the token that opens it.
+#[cycle(tree)]
+#[derive(Debug, Drop)]
+pub struct Nested {
+    pub first: u32,
+    pub node: Node,
 }
