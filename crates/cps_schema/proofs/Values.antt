@@ -1,6 +1,6 @@
 -- Lists that have not one item, and lists of messages.
 use Rattle.std.specs.Option.{option_or}
-use Rattle.std.proofs.Common.{◌≡◌, ◌≢◌, ℕ, List, [], ◌∷◌, length, get_or, slice_get, false, Some, None, Vec, Global, refl, sym, ap, ◌∙◌, arith}
+use Rattle.std.proofs.Common.{◌≡◌, ◌≢◌, List, [], ◌∷◌, length, get_or, slice_get, false, Some, None, Vec, Global, refl, sym, ap, ◌∙◌, arith}
 use Rattle.cps_textproto.specs.declared.tree.Nested.{Nested, Nested', out-Nested}
 use Rattle.cps_textproto.specs.declared.tree.Span.{Span}
 use Rattle.cps_textproto.specs.declared.tree.Items.TheVariants.{Messages}
