@@ -2,11 +2,12 @@
 use Rattle.std.specs.List.{flat_map, list_all, prefix_len}
 use Rattle.std.specs.Fmt.{decimal, signed_decimal}
 use Rattle.std.proofs.lemmas.Bool.Decides.{nat_tests}
-use Rattle.std.proofs.Common.{◌≡◌, ℕ, zero, suc, ◌+◌, ◌^◌, ◌<◌, Bool, true, false, ◌==◌, ℤ, pos, negsuc, unsigned_abs, List, [], ◌∷◌, ◌++◌, map, length, refl, sym, ap, ◌∙◌, append_assoc, arith}
+use Rattle.std.proofs.Common.{◌≡◌, ℕ, zero, suc, ◌+◌, ◌^◌, ◌<◌, Bool, true, false, ◌==◌, ◌&&◌, ℤ, pos, negsuc, unsigned_abs, List, [], ◌∷◌, ◌++◌, map, length, refl, sym, ap, ◌∙◌, append_assoc, arith}
 use Rattle.cps_lex.specs.declared.types.TokenKind.TheVariants.{Identifier, Decimal, Sign}
-use Rattle.cps_lex.specs.Bytes.{is_space, is_word_start, is_word, is_digit, is_sign, is_number_part}
+use Rattle.cps_lex.specs.Bytes.{is_space, is_word_start, is_word, is_digit, is_sign, is_exponent_mark, is_number_part}
 use Rattle.cps_lex.specs.Forms.{is_identifier, is_decimal}
-use Rattle.cps_lex.specs.Scan.{scan, number_at}
+use Rattle.cps_lex.specs.Scan.{scan, number_run, has_signs, number_at}
+use Rattle.cps_textproto.specs.declared.symbol.Bracket.TheVariants.{Brace}
 use Rattle.cps_textproto.specs.Grammar.{Scalar, minus_number, Separator, none, Fields, end, scalar, scalars, scalar_then, others_then, fields_then, Nests}
 use Rattle.cps_textproto.specs.Grammar as grammar
 use Rattle.cps_print.specs.Layout.{Message, empty, number, numbers, word, quoted, message, indent, start_of, value_line, behind_comma, in_brackets, opening, closing, text_of}
@@ -210,14 +211,25 @@ name_before_space : (name after : List ℕ) → is_identifier name ≡ true → 
 unfolding is_word
 name_before_space name after e = name_lexeme name 32 after e refl
 
-parts_of : (bs : List ℕ) → list_all is_digit bs ≡ true → list_all is_number_part bs ≡ true
-parts_of [] e = refl
-parts_of (b ∷ bs) e = let both = and_true (is_digit b) (list_all is_digit bs) e in rw (digit_is_part b both.0) (parts_of bs both.1)
+digit_no_mark : (b : ℕ) → is_digit b ≡ true → is_exponent_mark b ≡ false
+unfolding is_digit is_exponent_mark
+digit_no_mark b e = grind (arith, nat_tests)
+
+and_false : (b : Bool) → (b && false) ≡ false
+and_false true = refl
+and_false false = refl
+
+-- a run of digits ends where nothing of a number is next
+run_digits : (signs : Bool) (bs : List ℕ) (c : ℕ) (after : List ℕ) → list_all is_digit bs ≡ true → is_number_part c ≡ false → number_run signs false (bs ++ c ∷ after) ≡ length bs
+run_digits signs [] c after all ends = rw ends refl
+run_digits signs (b ∷ bs) c after all ends =
+    let both = and_true (is_digit b) (list_all is_digit bs) all in
+    rw (digit_is_part b both.0, digit_no_mark b both.0, and_false signs, run_digits signs bs c after both.1 ends) (omega arith)
 
 digits_lexeme : (b : ℕ) (bs : List ℕ) (c : ℕ) (after : List ℕ) → is_digit b ≡ true → list_all is_digit bs ≡ true → is_decimal (b ∷ bs) ≡ true → is_number_part c ≡ false → IsLexeme Decimal (b ∷ bs) (c ∷ after)
 unfolding scan number_at
 digits_lexeme b bs c after first digits form ends =
-    let run = prefix_len-run is_number_part bs c after (parts_of bs digits) ends in
+    let run = run_digits (has_signs (bs ++ c ∷ after)) bs c after digits ends in
     let size : 1 + length bs ≡ suc (length bs) = omega arith in
     record {
       some = omega arith;
@@ -326,7 +338,7 @@ fields_of (number name n more) = scalar (scalar_of n) none (fields_of more)
 fields_of (numbers name n ns more) = scalars (scalar_of n) (map scalar_of ns) none (fields_of more)
 fields_of (word name w more) = end
 fields_of (quoted name bytes more) = end
-fields_of (message name fields more) = grammar.message false (fields_of fields) none (fields_of more)
+fields_of (message name fields more) = grammar.message false Brace (fields_of fields) none (fields_of more)
 
 symbols-indent : (level : ℕ) (ps : List Piece) → symbols_of (indent_pieces level ps) ≡ symbols_of ps
 symbols-indent zero ps = refl

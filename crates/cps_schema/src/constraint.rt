@@ -1,11 +1,12 @@
 //! Constraints.
-ghost use Rattle.std.specs.Prelude.{◌≡◌, ℕ, List, [], ◌∷◌, None, OnOk, IfOk, IfErr};
-ghost use Rattle.cps_textproto.specs.Trees.{Tree, no_fields, tree_of};
+ghost use Rattle.std.specs.Prelude.{◌≡◌, ℕ, List, [], ◌∷◌, ◌++◌, None, Some, map, OnOk, IfOk, IfErr};
+ghost use Rattle.cps_textproto.specs.Trees.{Tree, no_fields, tree_of, values_of};
 ghost use Rattle.cps_schema.specs.Written.{Written, token_text};
 ghost use Rattle.cps_schema.specs.Sources.{written_of};
-ghost use Rattle.cps_schema.specs.Tables.{constraint_message};
-ghost use Rattle.cps_schema.specs.Faults.{fields_fault};
-ghost use Rattle.cps_schema.specs.Readings.{read_constraint};
+ghost use Rattle.cps_schema.specs.Tables.{constraint_message, message};
+ghost use Rattle.cps_schema.specs.Faults.{fields_fault, values_fault};
+ghost use Rattle.cps_schema.specs.Readings.{value_messages, read_constraint};
+ghost use Rattle.cps_schema.specs.Values.{nested_trees, trees_fault};
 ghost use Rattle.cps_schema.specs.Answers.{Refuses};
 ghost use Rattle.cps_schema.specs.Steps.{field_then, Passes, Stops};
 ghost use Rattle.cps_schema.specs.Parts.{constraint_from, IsKindGiven};
@@ -14,10 +15,10 @@ use super::error::SchemaError;
 use super::kind::{GivenKind, kind_named, set_kind};
 use super::lists::add_refs;
 use super::names::not_read;
-use super::single::fields_of;
+use super::single::{Messages, fields_of, messages_of};
 use super::source::{Source, token_text};
 use cps_model::{Constraint, Kind, Listed, Text};
-use cps_textproto::{Field, Node};
+use cps_textproto::{Field, Nested, Node};
 use std::alloc::Global;
 
 const UNREAD: [&[u8]; 18] = [
@@ -90,11 +91,7 @@ fn constraint_of(alloc: Global, parts: ConstraintParts) -> Constraint
 }
 
 /// The constraint that a message gives.
-pub(crate) fn read_constraint(
-    alloc: Global,
-    source: &Source,
-    node: &Node,
-) -> Result<Constraint, SchemaError>
+fn read_constraint(alloc: Global, source: &Source, node: &Node) -> Result<Constraint, SchemaError>
     ensures accepted { IfOk result (λ _. fields_fault (written_of source.now) constraint_message [] (tree_of node.now) ≡ None) }
     ensures reading { IfOk result (λ constraint. constraint ≡ read_constraint (written_of source.now) (tree_of node.now)) }
     ensures err { IfErr result (Refuses (fields_fault (written_of source.now) constraint_message [] (tree_of node.now))) }
@@ -107,4 +104,61 @@ pub(crate) fn read_constraint(
         add_field(alloc, source, &mut parts, field)?;
     }
     Ok(constraint_of(alloc, parts))
+}
+
+/// Adds the constraint of a message.
+fn add_constraint(
+    alloc: Global,
+    source: &Source,
+    constraints: &mut Vec<Constraint>,
+    node: &Node,
+) -> Result<(), SchemaError>
+    ensures fault { OnOk result (fields_fault (written_of source.now) constraint_message [] (tree_of node.now) ≡ None) }
+    ensures added { OnOk result (constraints.new.items ≡ constraints.old.items ++ read_constraint (written_of source.now) (tree_of node.now) ∷ []) }
+    ensures err { IfErr result (Refuses (fields_fault (written_of source.now) constraint_message [] (tree_of node.now))) }
+{
+    match read_constraint(alloc, source, node) {
+        Ok(constraint) => {
+            constraints.push(constraint)?;
+            Ok(())
+        }
+        Err(error) => Err(error),
+    }
+}
+
+/// Adds those of a list.
+#[tactic(auto, using(crate::proofs::Values::tree_of_nested))]
+fn add_listed(
+    alloc: Global,
+    source: &Source,
+    constraints: &mut Vec<Constraint>,
+    list: &[Nested],
+) -> Result<(), SchemaError>
+    ensures fault { OnOk result (trees_fault (written_of source.now) constraint_message (nested_trees list.now) ≡ None) }
+    ensures added { OnOk result (constraints.new.items ≡ constraints.old.items ++ map (read_constraint (written_of source.now)) (nested_trees list.now)) }
+    ensures err { IfErr result (Refuses (trees_fault (written_of source.now) constraint_message (nested_trees list.now))) }
+{
+    for nested in list {
+        add_constraint(alloc, source, constraints, &nested.node)?;
+    }
+    Ok(())
+}
+
+/// Adds those of a field.
+pub(crate) fn add_constraints(
+    alloc: Global,
+    source: &Source,
+    constraints: &mut Vec<Constraint>,
+    field: &Field,
+) -> Result<(), SchemaError>
+    ensures fault { OnOk result (values_fault (written_of source.now) (Some (message constraint_message)) (values_of field.now.items) ≡ None) }
+    ensures added { OnOk result (constraints.new.items
+        ≡ constraints.old.items ++ map (read_constraint (written_of source.now)) (value_messages (values_of field.now.items))) }
+    ensures err { IfErr result (Refuses (values_fault (written_of source.now) (Some (message constraint_message)) (values_of field.now.items))) }
+{
+    match messages_of(field) {
+        Ok(Messages::One(node)) => add_constraint(alloc, source, constraints, node),
+        Ok(Messages::List(list)) => add_listed(alloc, source, constraints, list),
+        Err(error) => Err(error),
+    }
 }

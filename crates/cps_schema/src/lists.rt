@@ -12,6 +12,7 @@ ghost use Rattle.cps_schema.specs.Answers.{Refuses};
 
 use super::error::SchemaError;
 use super::number::{Number, int32_at, number_at};
+use super::single::no_messages;
 use super::source::Source;
 use cps_model::FaultName;
 use cps_textproto::{Field, Item, Items, Span};
@@ -73,6 +74,7 @@ pub(crate) fn add_ints(
             token: *first as usize,
         }),
         Items::Scalars(spans) => add_int_spans(source, list, spans),
+        Items::Messages(messages) => no_messages(messages),
     }
 }
 
@@ -133,5 +135,6 @@ pub(crate) fn add_refs(
             token: *first as usize,
         }),
         Items::Scalars(spans) => add_ref_spans(source, list, spans),
+        Items::Messages(messages) => no_messages(messages),
     }
 }

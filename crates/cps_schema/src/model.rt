@@ -11,13 +11,13 @@ ghost use Rattle.cps_schema.specs.Answers.{Refuses, IsRefusal, Gives};
 ghost use Rattle.cps_schema.specs.Steps.{field_then, Passes, Stops, SinglePasses, SingleStops};
 ghost use Rattle.cps_schema.specs.Parts.{model_from, IsObjectiveGiven};
 
-use super::constraint::read_constraint;
+use super::constraint::add_constraints;
 use super::error::SchemaError;
 use super::names::not_read;
 use super::objective::read_objective;
-use super::single::{fields_of, repeated_message, single_message};
+use super::single::{fields_of, single_message};
 use super::source::{Source, token_text};
-use super::variable::read_variable;
+use super::variable::add_variables;
 use cps_lex::Token;
 use cps_model::{Constraint, CpModel, FaultName, Listed, Objective, Text, Variable};
 use cps_textproto::{Field, Node};
@@ -38,62 +38,6 @@ pub struct ModelParts {
     pub variables: Vec<Variable>,
     pub constraints: Vec<Constraint>,
     pub objective: Option<Objective>,
-}
-
-/// Adds the variable of a field.
-fn add_variable(
-    alloc: Global,
-    source: &Source,
-    variables: &mut Vec<Variable>,
-    field: &Field,
-) -> Result<(), SchemaError>
-    ensures fault { OnOk result (values_fault (written_of source.now) (Some (message variable_message)) (values_of field.now.items) ≡ None) }
-    ensures added { OnOk result (variables.new.items
-        ≡ variables.old.items ++ map (read_variable (written_of source.now)) (value_messages (values_of field.now.items))) }
-    ensures err { IfErr result (Refuses (values_fault (written_of source.now) (Some (message variable_message)) (values_of field.now.items))) }
-{
-    let found = match repeated_message(field) {
-        Ok(found) => found,
-        Err(error) => return Err(error),
-    };
-    let Some(node) = found else {
-        return Ok(());
-    };
-    match read_variable(alloc, source, node) {
-        Ok(variable) => {
-            variables.push(variable)?;
-            Ok(())
-        }
-        Err(error) => Err(error),
-    }
-}
-
-/// Adds the constraint of a field.
-fn add_constraint(
-    alloc: Global,
-    source: &Source,
-    constraints: &mut Vec<Constraint>,
-    field: &Field,
-) -> Result<(), SchemaError>
-    ensures fault { OnOk result (values_fault (written_of source.now) (Some (message constraint_message)) (values_of field.now.items) ≡ None) }
-    ensures added { OnOk result (constraints.new.items
-        ≡ constraints.old.items ++ map (read_constraint (written_of source.now)) (value_messages (values_of field.now.items))) }
-    ensures err { IfErr result (Refuses (values_fault (written_of source.now) (Some (message constraint_message)) (values_of field.now.items))) }
-{
-    let found = match repeated_message(field) {
-        Ok(found) => found,
-        Err(error) => return Err(error),
-    };
-    let Some(node) = found else {
-        return Ok(());
-    };
-    match read_constraint(alloc, source, node) {
-        Ok(constraint) => {
-            constraints.push(constraint)?;
-            Ok(())
-        }
-        Err(error) => Err(error),
-    }
 }
 
 /// Reads the objective, which may not have been read before.
@@ -146,9 +90,9 @@ fn add_field(
 {
     let name = token_text(source, field.name as usize);
     if name == b"variables".as_slice() {
-        add_variable(alloc, source, &mut parts.variables, field)
+        add_variables(alloc, source, &mut parts.variables, field)
     } else if name == b"constraints".as_slice() {
-        add_constraint(alloc, source, &mut parts.constraints, field)
+        add_constraints(alloc, source, &mut parts.constraints, field)
     } else if name == b"objective".as_slice() {
         set_objective(alloc, source, &mut parts.objective, field)
     } else {

@@ -1,20 +1,22 @@
 //! The values of fields that take one, and the messages of those that take any number.
-ghost use Rattle.std.specs.Prelude.{◌≡◌, [], ◌∷◌, false, Some, None, IfOk, IfErr, IfSome, IfNone, Ok};
+ghost use Rattle.std.specs.Prelude.{◌≡◌, [], ◌∷◌, false, Some, None, OnOk, IfOk, IfErr, IfSome, IfNone};
 ghost use Rattle.std.specs.Option.{option_or};
-ghost use Rattle.cps_textproto.specs.Trees.{tree_of, field_list, values_of, span_values, no_values, scalar_value};
+ghost use Rattle.cps_textproto.specs.declared.tree.Items.TheVariants as Items;
+ghost use Rattle.cps_textproto.specs.Trees.{tree_of, field_list, values_of, span_values, nested_value, no_values, scalar_value};
+ghost use Rattle.cps_schema.specs.declared.number.Number.{Number};
 ghost use Rattle.cps_schema.specs.Written.{Written};
 ghost use Rattle.cps_schema.specs.Sources.{written_of, single_fault};
 ghost use Rattle.cps_schema.specs.Tables.{Message, number, message};
 ghost use Rattle.cps_schema.specs.Faults.{bracket, is_alone, values_fault, fields_fault};
 ghost use Rattle.cps_schema.specs.Readings.{value_numbers, value_messages};
 ghost use Rattle.cps_schema.specs.Answers.{Refuses};
-ghost use Rattle.cps_schema.specs.Values.{value_of};
+ghost use Rattle.cps_schema.specs.Values.{value_of, trees_of, trees_fault};
 
 use super::error::SchemaError;
 use super::number::{Number, number_at};
 use super::source::{Source, token_text};
 use cps_model::FaultName;
-use cps_textproto::{Field, Item, Items, Node, Span};
+use cps_textproto::{Field, Item, Items, Nested, Node, Span};
 
 /// The fields of a message.
 #[tactic(auto, using(cps_textproto::proofs::Views::tree_of_node))]
@@ -65,7 +67,21 @@ fn only(spans: &[Span]) -> Option<Span>
     }
 }
 
+/// The message of a list that has one.
+#[tactic(auto, using(cps_textproto::proofs::Views::values_of_messages, crate::proofs::Values::no_lone_message))]
+fn only_message(list: &Vec<Nested>) -> Option<&Nested>
+    ensures none { IfNone result (is_alone false (values_of (Items.Messages list.now)) ≡ false) }
+    ensures some { IfSome result (λ nested. values_of (Items.Messages list.now) ≡ nested_value nested.now no_values) }
+{
+    if list.len() == 1 {
+        Some(&list[0])
+    } else {
+        None
+    }
+}
+
 /// The value of a field that has one, in no list.
+#[tactic(auto, using(cps_textproto::proofs::Views::nested_parts))]
 fn alone(field: &Field) -> Option<Value<'_>>
     ensures none { IfNone result (is_alone field.now.list (values_of field.now.items) ≡ false) }
     ensures outside { IfSome result (λ _. field.now.list ≡ false) }
@@ -82,6 +98,10 @@ fn alone(field: &Field) -> Option<Value<'_>>
         Items::One(Item::Message { first, node }) => Some(Value::Message(*first, node)),
         Items::Scalars(spans) => match only(spans) {
             Some(span) => Some(Value::Scalar(span)),
+            None => None,
+        },
+        Items::Messages(list) => match only_message(list) {
+            Some(nested) => Some(Value::Message(nested.first, &nested.node)),
             None => None,
         },
     }
@@ -124,20 +144,50 @@ pub(crate) fn single_message<'a>(source: &Source, field: &'a Field) -> Result<&'
     }
 }
 
-/// The message of a field that takes any number, and none where its list is empty.
-pub(crate) fn repeated_message(field: &Field) -> Result<Option<&Node>, SchemaError>
-    ensures none { result ≡ Ok None → values_of field.now.items ≡ no_values }
-    ensures messages { IfOk result (λ found. IfSome found (λ node. value_messages (values_of field.now.items) ≡ tree_of node.now ∷ [])) }
-    ensures inner { IfOk result (λ found. IfSome found (λ node. (w : Written) (m : Message) →
-        values_fault w (Some (message m)) (values_of field.now.items) ≡ option_or (fields_fault w m [] (tree_of node.now)) None)) }
+/// Messages where scalars are taken: none is wrong where there is none.
+#[tactic(auto, using(cps_textproto::proofs::Views::values_of_messages, crate::proofs::Values::first_message))]
+pub(crate) fn no_messages(messages: &Vec<Nested>) -> Result<(), SchemaError>
+    ensures none { OnOk result (values_of (Items.Messages messages.now) ≡ no_values) }
+    ensures err { IfErr result (λ e. (w : Written) (type : Number) → Refuses (values_fault w (Some (number type)) (values_of (Items.Messages messages.now))) e) }
+{
+    match messages.first() {
+        None => Ok(()),
+        Some(nested) => Err(wrong_kind(nested.first as usize)),
+    }
+}
+
+/// The messages of a field: one, or those of a list.
+pub(crate) enum Messages<'a> {
+    One(&'a Node),
+    List(&'a [Nested]),
+}
+
+/// Scalars where messages are taken: none is wrong where there is none.
+fn no_scalars(spans: &[Span]) -> Result<(), SchemaError>
+    ensures none { OnOk result (span_values spans.now ≡ no_values) }
+    ensures err { IfErr result (λ e. (w : Written) (m : Message) → Refuses (values_fault w (Some (message m)) (span_values spans.now)) e) }
+{
+    match spans.first() {
+        None => Ok(()),
+        Some(span) => Err(wrong_kind(span.first as usize)),
+    }
+}
+
+/// The messages of a field that takes any number.
+#[tactic(auto, using(cps_textproto::proofs::Views::values_of_messages, crate::proofs::Values::listed_messages, crate::proofs::Values::listed_fault))]
+pub(crate) fn messages_of(field: &Field) -> Result<Messages<'_>, SchemaError>
+    ensures messages { IfOk result (λ ms. value_messages (values_of field.now.items) ≡ trees_of ms) }
+    ensures inner { IfOk result (λ ms. (w : Written) (m : Message) →
+        values_fault w (Some (message m)) (values_of field.now.items) ≡ trees_fault w m (trees_of ms)) }
     ensures err { IfErr result (λ e. (w : Written) (m : Message) → Refuses (values_fault w (Some (message m)) (values_of field.now.items)) e) }
 {
     match &field.items {
-        Items::One(Item::Message { node, .. }) => Ok(Some(node)),
+        Items::One(Item::Message { node, .. }) => Ok(Messages::One(node)),
         Items::One(Item::Scalar { first, .. }) => Err(wrong_kind(*first as usize)),
-        Items::Scalars(spans) => match spans.first() {
-            None => Ok(None),
-            Some(span) => Err(wrong_kind(span.first as usize)),
+        Items::Scalars(spans) => match no_scalars(spans) {
+            Ok(()) => Ok(Messages::List(&[])),
+            Err(error) => Err(error),
         },
+        Items::Messages(list) => Ok(Messages::List(list)),
     }
 }

@@ -1,20 +1,21 @@
 //! Variables.
-ghost use Rattle.std.specs.Prelude.{◌≡◌, ℕ, List, [], ◌++◌, None, OnOk, IfOk, IfErr, codes};
-ghost use Rattle.cps_textproto.specs.Trees.{Tree, tree_of};
+ghost use Rattle.std.specs.Prelude.{◌≡◌, ℕ, List, [], ◌∷◌, ◌++◌, None, Some, map, OnOk, IfOk, IfErr, codes};
+ghost use Rattle.cps_textproto.specs.Trees.{Tree, tree_of, values_of};
 ghost use Rattle.cps_schema.specs.Sources.{written_of};
-ghost use Rattle.cps_schema.specs.Tables.{variable_message};
-ghost use Rattle.cps_schema.specs.Faults.{fields_fault};
-ghost use Rattle.cps_schema.specs.Readings.{numbers, read_variable};
+ghost use Rattle.cps_schema.specs.Tables.{variable_message, message};
+ghost use Rattle.cps_schema.specs.Faults.{fields_fault, values_fault};
+ghost use Rattle.cps_schema.specs.Readings.{value_messages, numbers, read_variable};
+ghost use Rattle.cps_schema.specs.Values.{nested_trees, trees_fault};
 ghost use Rattle.cps_schema.specs.Answers.{Refuses};
 ghost use Rattle.cps_schema.specs.Steps.{field_then, Passes, Stops};
 
 use super::error::SchemaError;
 use super::lists::add_ints;
 use super::names::not_read;
-use super::single::fields_of;
+use super::single::{Messages, fields_of, messages_of};
 use super::source::{Source, token_text};
 use cps_model::{Listed, Text, Variable};
-use cps_textproto::{Field, Node};
+use cps_textproto::{Field, Nested, Node};
 use std::alloc::Global;
 
 const UNREAD: [&[u8]; 1] = [b"name"];
@@ -35,11 +36,7 @@ fn add_field(source: &Source, domain: &mut Vec<i64>, field: &Field) -> Result<()
 }
 
 /// The variable that a message gives.
-pub(crate) fn read_variable(
-    alloc: Global,
-    source: &Source,
-    node: &Node,
-) -> Result<Variable, SchemaError>
+fn read_variable(alloc: Global, source: &Source, node: &Node) -> Result<Variable, SchemaError>
     ensures accepted { IfOk result (λ _. fields_fault (written_of source.now) variable_message [] (tree_of node.now) ≡ None) }
     ensures reading { IfOk result (λ variable. variable ≡ read_variable (written_of source.now) (tree_of node.now)) }
     ensures err { IfErr result (Refuses (fields_fault (written_of source.now) variable_message [] (tree_of node.now))) }
@@ -52,4 +49,61 @@ pub(crate) fn read_variable(
         name: Text::new(alloc),
         domain: Listed::from_vec(domain),
     })
+}
+
+/// Adds the variable of a message.
+fn add_variable(
+    alloc: Global,
+    source: &Source,
+    variables: &mut Vec<Variable>,
+    node: &Node,
+) -> Result<(), SchemaError>
+    ensures fault { OnOk result (fields_fault (written_of source.now) variable_message [] (tree_of node.now) ≡ None) }
+    ensures added { OnOk result (variables.new.items ≡ variables.old.items ++ read_variable (written_of source.now) (tree_of node.now) ∷ []) }
+    ensures err { IfErr result (Refuses (fields_fault (written_of source.now) variable_message [] (tree_of node.now))) }
+{
+    match read_variable(alloc, source, node) {
+        Ok(variable) => {
+            variables.push(variable)?;
+            Ok(())
+        }
+        Err(error) => Err(error),
+    }
+}
+
+/// Adds those of a list.
+#[tactic(auto, using(crate::proofs::Values::tree_of_nested))]
+fn add_listed(
+    alloc: Global,
+    source: &Source,
+    variables: &mut Vec<Variable>,
+    list: &[Nested],
+) -> Result<(), SchemaError>
+    ensures fault { OnOk result (trees_fault (written_of source.now) variable_message (nested_trees list.now) ≡ None) }
+    ensures added { OnOk result (variables.new.items ≡ variables.old.items ++ map (read_variable (written_of source.now)) (nested_trees list.now)) }
+    ensures err { IfErr result (Refuses (trees_fault (written_of source.now) variable_message (nested_trees list.now))) }
+{
+    for nested in list {
+        add_variable(alloc, source, variables, &nested.node)?;
+    }
+    Ok(())
+}
+
+/// Adds those of a field.
+pub(crate) fn add_variables(
+    alloc: Global,
+    source: &Source,
+    variables: &mut Vec<Variable>,
+    field: &Field,
+) -> Result<(), SchemaError>
+    ensures fault { OnOk result (values_fault (written_of source.now) (Some (message variable_message)) (values_of field.now.items) ≡ None) }
+    ensures added { OnOk result (variables.new.items
+        ≡ variables.old.items ++ map (read_variable (written_of source.now)) (value_messages (values_of field.now.items))) }
+    ensures err { IfErr result (Refuses (values_fault (written_of source.now) (Some (message variable_message)) (values_of field.now.items))) }
+{
+    match messages_of(field) {
+        Ok(Messages::One(node)) => add_variable(alloc, source, variables, node),
+        Ok(Messages::List(list)) => add_listed(alloc, source, variables, list),
+        Err(error) => Err(error),
+    }
 }

@@ -16,8 +16,8 @@ returns-then-eq-clause-passes c =
     let w = written_of c.args.source.now in
     let f = c.args.field.now in
     let name : token_text w f.name ≡ codes "variables" = grind (arith, same_text c.token_text-name.result.now c.as_slice.result.now c.eq.result) in
-    if_passes w model_message f (IsObjectiveGiven c.args.parts.now.objective) (IsObjectiveGiven c.args.parts.now.objective) c.add_variable.result
-    (repeated_passes w model_message f (message variable_message) c.add_variable.result (table_use _ _ _ _ name refl) c.add_variable.ensures.fault)
+    if_passes w model_message f (IsObjectiveGiven c.args.parts.now.objective) (IsObjectiveGiven c.args.parts.now.objective) c.add_variables.result
+    (repeated_passes w model_message f (message variable_message) c.add_variables.result (table_use _ _ _ _ name refl) c.add_variables.ensures.fault)
     (part_given c.args.parts.now.objective (token_text w f.name) (codes "variables") name refl)
 
 pub returns-then-eq-clause-read : goal.returns-then-eq-clause-read
@@ -25,26 +25,26 @@ returns-then-eq-clause-read c =
     let w = written_of c.args.source.now in
     let f = c.args.field.now in
     let name : token_text w f.name ≡ codes "variables" = grind (arith, same_text c.token_text-name.result.now c.as_slice.result.now c.eq.result) in
-    on_ok_weaker c.add_variable.result
-    (λ (added : c.add_variable.new.variables.items ≡ c.args.parts.now.variables.items ++ map (read_variable w) (value_messages (values_of f.items))) rest.
+    on_ok_weaker c.add_variables.result
+    (λ (added : c.add_variables.new.variables.items ≡ c.args.parts.now.variables.items ++ map (read_variable w) (value_messages (values_of f.items))) rest.
     simp (name, added, map-append, append_assoc))
-    c.add_variable.ensures.added
+    c.add_variables.ensures.added
 
 pub returns-then-eq-clause-err : goal.returns-then-eq-clause-err
 returns-then-eq-clause-err c =
     let w = written_of c.args.source.now in
     let f = c.args.field.now in
     let name : token_text w f.name ≡ codes "variables" = grind (arith, same_text c.token_text-name.result.now c.as_slice.result.now c.eq.result) in
-    if_stops w model_message f (IsObjectiveGiven c.args.parts.now.objective) c.add_variable.result
-    (repeated_stops w model_message f (message variable_message) c.add_variable.result (table_use _ _ _ _ name refl) c.add_variable.ensures.err)
+    if_stops w model_message f (IsObjectiveGiven c.args.parts.now.objective) c.add_variables.result
+    (repeated_stops w model_message f (message variable_message) c.add_variables.result (table_use _ _ _ _ name refl) c.add_variables.ensures.err)
 
 pub returns-then-eq-2-clause-passes : goal.returns-then-eq-2-clause-passes
 returns-then-eq-2-clause-passes c =
     let w = written_of c.args.source.now in
     let f = c.args.field.now in
     let name : token_text w f.name ≡ codes "constraints" = grind (arith, same_text c.token_text-name.result.now c.as_slice-else-eq.result.now c.eq-else-eq.result) in
-    if_passes w model_message f (IsObjectiveGiven c.args.parts.now.objective) (IsObjectiveGiven c.args.parts.now.objective) c.add_constraint.result
-    (repeated_passes w model_message f (message constraint_message) c.add_constraint.result (table_use _ _ _ _ name refl) c.add_constraint.ensures.fault)
+    if_passes w model_message f (IsObjectiveGiven c.args.parts.now.objective) (IsObjectiveGiven c.args.parts.now.objective) c.add_constraints.result
+    (repeated_passes w model_message f (message constraint_message) c.add_constraints.result (table_use _ _ _ _ name refl) c.add_constraints.ensures.fault)
     (part_given c.args.parts.now.objective (token_text w f.name) (codes "constraints") name refl)
 
 pub returns-then-eq-2-clause-read : goal.returns-then-eq-2-clause-read
@@ -52,18 +52,18 @@ returns-then-eq-2-clause-read c =
     let w = written_of c.args.source.now in
     let f = c.args.field.now in
     let name : token_text w f.name ≡ codes "constraints" = grind (arith, same_text c.token_text-name.result.now c.as_slice-else-eq.result.now c.eq-else-eq.result) in
-    on_ok_weaker c.add_constraint.result
-    (λ (added : c.add_constraint.new.constraints.items ≡ c.args.parts.now.constraints.items ++ map (read_constraint w) (value_messages (values_of f.items))) rest.
+    on_ok_weaker c.add_constraints.result
+    (λ (added : c.add_constraints.new.constraints.items ≡ c.args.parts.now.constraints.items ++ map (read_constraint w) (value_messages (values_of f.items))) rest.
     simp (name, added, map-append, append_assoc))
-    c.add_constraint.ensures.added
+    c.add_constraints.ensures.added
 
 pub returns-then-eq-2-clause-err : goal.returns-then-eq-2-clause-err
 returns-then-eq-2-clause-err c =
     let w = written_of c.args.source.now in
     let f = c.args.field.now in
     let name : token_text w f.name ≡ codes "constraints" = grind (arith, same_text c.token_text-name.result.now c.as_slice-else-eq.result.now c.eq-else-eq.result) in
-    if_stops w model_message f (IsObjectiveGiven c.args.parts.now.objective) c.add_constraint.result
-    (repeated_stops w model_message f (message constraint_message) c.add_constraint.result (table_use _ _ _ _ name refl) c.add_constraint.ensures.err)
+    if_stops w model_message f (IsObjectiveGiven c.args.parts.now.objective) c.add_constraints.result
+    (repeated_stops w model_message f (message constraint_message) c.add_constraints.result (table_use _ _ _ _ name refl) c.add_constraints.ensures.err)
 
 pub returns-then-eq-3-clause-passes : goal.returns-then-eq-3-clause-passes
 returns-then-eq-3-clause-passes c =
