@@ -1,14 +1,20 @@
--- The number that an option has is the one that is read.
-use Rattle.std.specs.Prelude.{Option, Some, None, Ok, Err, Result, MatchOption, codes, option_map}
-use Rattle.std.proofs.Common.{◌≡◌, ℕ, ◌<◌, ◌^◌, List, arith, sym, ◌∙◌, ap, refl, subst}
+-- The number that an option has is the one that is read, and the command that words have is the one that they say.
+use Rattle.std.specs.Prelude.{Option, Some, None, Ok, Err, Result, Box, MatchOption, codes, option_map}
+use Rattle.std.specs.Box.{box_value}
+use Rattle.std.proofs.Common.{◌≡◌, ℕ, ◌<◌, ◌^◌, List, arith, sym, ◌∙◌, ap, ap₂, refl, subst, slice_index}
 use Rattle.std.specs.Str.Parse.{ParsesUnsigned}
-use Rattle.clap.specs.Words.{Row, Text, ReadsOne, one_text, rows_of}
+use Rattle.clap.specs.Words.{Row, Text, ReadsOne, one_text, rows_of, subcommand_name_of, subcommand_of, subcommand_rows, subcommand_rows_of}
+use Rattle.clap.specs.declared.parser.matches.ArgMatches.{ArgMatches}
+use Rattle.clap.specs.declared.parser.matches.ArgMatches.TheViews.{out-ArgMatches, out-SubCommand}
 use Rattle.clap.specs.declared.parser.matches.Found.{Found}
+use Rattle.clap.specs.declared.parser.matches.SubCommand.{SubCommand}
 use Rattle.clap.proofs.WalkLemmas.{one_text-rows}
-use Rattle.cps_command.specs.declared.command.Command.TheVariants.{Solve}
+use Rattle.cps_command.specs.declared.command.Command.{Command}
+use Rattle.cps_command.specs.declared.command.Command.TheVariants.{Solve, Validate, Print}
 use Rattle.cps_command.specs.declared.options.Options.{Options}
 use Rattle.cps_command.specs.Numbers.{IsNumber, HasNumber, AreInRange, AreOptions}
-use Rattle.cps_command.specs.Lines.{IsPassed, IsUsageFault}
+use Rattle.cps_command.specs.Rules.{command_table}
+use Rattle.cps_command.specs.Lines.{IsPassed, HasName, HasOptions, Says, SaysNothing, CommandLine, IsUsageFault, HasOneCommand}
 
 -- a text that is read is a number
 pub read_number : {E : Type 0} (k : ℕ) (text : List ℕ) (n : ℕ) (r : Result ℕ E) → r ≡ Ok n → ParsesUnsigned k 10 text r → IsNumber text n
@@ -51,11 +57,73 @@ number_given {E} k f id (Some v) gives parses none some = go (one_text f id) ref
     go None e = absurd (let no = none e in cc)
     go (Some t) e = record { text = t; is = sym (one_text-rows f id) ∙ e; number = read_number {E = E} k t v (Ok v) refl (parses t (Ok v) (some t e)) }
 
--- words that pass and say no options are no command
-pub no_options : (words : List (List ℕ)) (says : Option (Text × List Row)) (found : List Row) → IsPassed words says → option_map (λ p. p.1) says ≡ Some found
-    → ((o : Options) → AreOptions found o → ⊥) → IsUsageFault words
-no_options words says found passed rows none (Solve o) line =
-    let same : says ≡ Some (codes "solve", line.0) = passed.is ∙ sym line.1.is in
-    let both : Some line.0 ≡ Some found = sym (ap (option_map (λ (p : Text × List Row). p.1)) same) ∙ rows in
-    let alike : line.0 ≡ found = cc in
-    none o (subst (λ (r : List Row). AreOptions r o) alike line.2)
+-- the name of the command that a parse entered
+pub entered_name : (m : ArgMatches) → subcommand_name_of m ≡ option_map (λ (p : Text × List Row). p.0) (subcommand_rows_of m)
+entered_name m = go (out-ArgMatches m).subcommand
+  where
+    go : {Z : Type 0} (o : Option (Box SubCommand Z)) → option_map (λ (b : Box SubCommand Z). (out-SubCommand (box_value b)).name.now) o ≡ option_map (λ (p : Text × List Row). p.0) (subcommand_rows o)
+    go None = refl
+    go (Some b) = refl
+
+pub has_name : (m : ArgMatches) (name : List ℕ) → subcommand_name_of m ≡ Some name → HasName name (subcommand_rows_of m)
+has_name m name entered = sym (entered_name m) ∙ entered
+
+-- words say one name, so none that begins with another byte
+other_name : (says : Option (Text × List Row)) (name other : List ℕ) → (slice_index name 0 ≡ slice_index other 0 → ⊥) → HasName name says → HasName other says → ⊥
+other_name says name other apart h k =
+    let both : Some name ≡ Some other = sym h ∙ k in
+    let same : name ≡ other = cc in
+    apart (ap (λ (t : List ℕ). slice_index t 0) same)
+
+solve_no_validate : (says : Option (Text × List Row)) → HasName (codes "solve") says → HasName (codes "validate") says → ⊥
+solve_no_validate says h k = other_name says (codes "solve") (codes "validate") (λ (e : 115 ≡ 118). omega arith) h k
+
+solve_no_print : (says : Option (Text × List Row)) → HasName (codes "solve") says → HasName (codes "print") says → ⊥
+solve_no_print says h k = other_name says (codes "solve") (codes "print") (λ (e : 115 ≡ 112). omega arith) h k
+
+validate_no_print : (says : Option (Text × List Row)) → HasName (codes "validate") says → HasName (codes "print") says → ⊥
+validate_no_print says h k = other_name says (codes "validate") (codes "print") (λ (e : 118 ≡ 112). omega arith) h k
+
+-- words have one list of options
+same_options : (says : Option (Text × List Row)) (o p : Options) → HasOptions says o → HasOptions says p → o ≡ p
+same_options says o p h k =
+    let both : Some k.rows ≡ Some h.rows = sym k.are ∙ h.are in
+    let rows : k.rows ≡ h.rows = cc in
+    let other = subst (λ (r : List Row). AreOptions r p) rows k.options in
+    let workers = same_number (codes "workers") h.rows o.workers p.workers h.options.workers other.workers in
+    let conflicts = same_number (codes "conflicts") h.rows o.conflicts p.conflicts h.options.conflicts other.conflicts in
+    let options : ℕ → ℕ → Options = λ w c. record { workers = w; conflicts = c } in
+    ap₂ options workers conflicts
+
+one_said : (says : Option (Text × List Row)) (c d : Command) → Says says c → Says says d → c ≡ d
+one_said says (Solve o) (Solve p) h k = ap (λ (q : Options). Solve q) (same_options says o p h.1 k.1)
+one_said says (Solve o) Validate h k = absurd (solve_no_validate says h.0 k)
+one_said says (Solve o) Print h k = absurd (solve_no_print says h.0 k)
+one_said says Validate (Solve p) h k = absurd (solve_no_validate says k.0 h)
+one_said says Validate Validate h k = refl
+one_said says Validate Print h k = absurd (validate_no_print says h k)
+one_said says Print (Solve p) h k = absurd (solve_no_print says k.0 h)
+one_said says Print Validate h k = absurd (validate_no_print says k h)
+one_said says Print Print h k = refl
+
+-- words have one command
+pub one_command : (words : List (List ℕ)) → HasOneCommand words
+one_command words c d h k = one_said (subcommand_of command_table words) c d h.says k.says
+
+-- `solve` with options that are out of their ranges is no command
+pub no_options : (says : Option (Text × List Row)) (found : List Row) → HasName (codes "solve") says → option_map (λ (p : Text × List Row). p.1) says ≡ Some found
+    → ((o : Options) → AreOptions found o → ⊥) → SaysNothing says
+no_options says found name rows none (Solve o) said =
+    let both : Some said.1.rows ≡ Some found = sym said.1.are ∙ rows in
+    let alike : said.1.rows ≡ found = cc in
+    none o (subst (λ (r : List Row). AreOptions r o) alike said.1.options)
+no_options says found name rows none Validate said = solve_no_validate says name said
+no_options says found name rows none Print said = solve_no_print says name said
+
+-- what words say that pass is their command
+pub passed_command : (words : List (List ℕ)) (says : Option (Text × List Row)) (found : Option Command) → IsPassed words says
+    → MatchOption found (SaysNothing says) (Says says) → MatchOption found (IsUsageFault words) (CommandLine words)
+passed_command words says None passed nothing =
+    λ (c : Command) (line : CommandLine words c). nothing c (subst (λ (s : Option (Text × List Row)). Says s c) (sym passed.is) line.says)
+passed_command words says (Some c) passed said =
+    record { passes = passed.passes; says = subst (λ (s : Option (Text × List Row)). Says s c) passed.is said }

@@ -1,10 +1,11 @@
 -- Which words are which command. The first word is the program's name.
-use Rattle.std.specs.Prelude.{◌≡◌, ℕ, List, [], Option, Some, codes, map, string_bytes}
+use Rattle.std.specs.Prelude.{◌≡◌, ℕ, List, [], Option, Some, codes, map, option_map, string_bytes}
 use Rattle.std.specs.declared.string.String.{String}
 use Rattle.std.specs.declared.alloc.Global.{Global}
 use Rattle.clap.specs.Words.{Row, Text, fault_of, subcommand_of}
 use Rattle.cps_command.specs.declared.command.Command.{Command}
-use Rattle.cps_command.specs.declared.command.Command.TheVariants.{Solve}
+use Rattle.cps_command.specs.declared.command.Command.TheVariants.{Solve, Validate, Print}
+use Rattle.cps_command.specs.declared.options.Options.{Options}
 use Rattle.cps_command.specs.Rules.{command_table}
 use Rattle.cps_command.specs.Numbers.{AreOptions}
 
@@ -17,9 +18,30 @@ pub record IsPassed (words : List (List ℕ)) (says : Option (Text × List Row))
   pub passes : fault_of command_table words ≡ []
   pub is : says ≡ subcommand_of command_table words
 
+-- what words say has this command's name
+abbrev pub HasName : List ℕ → Option (Text × List Row) → Type 0
+HasName name says = option_map (λ p. p.0) says ≡ Some name
+
+-- what words say has these options
+pub record HasOptions (says : Option (Text × List Row)) (o : Options) : Type 0 where
+  pub rows : List Row
+  pub are : option_map (λ p. p.1) says ≡ Some rows
+  pub options : AreOptions rows o
+
+-- what words say is this command with these options
+abbrev pub Says : Option (Text × List Row) → Command → Type 0
+Says says (Solve o) = HasName (codes "solve") says × HasOptions says o
+Says says Validate = HasName (codes "validate") says
+Says says Print = HasName (codes "print") says
+
+-- what words say is no command
+abbrev pub SaysNothing : Option (Text × List Row) → Type 0
+SaysNothing says = (c : Command) → Says says c → ⊥
+
 -- the words pass, and say this command with these options
-abbrev pub CommandLine : List (List ℕ) → Command → Type 0
-CommandLine words (Solve o) = (rows : List Row) × IsPassed words (Some (codes "solve", rows)) × AreOptions rows o
+pub record CommandLine (words : List (List ℕ)) (c : Command) : Type 0 where
+  pub passes : fault_of command_table words ≡ []
+  pub says : Says (subcommand_of command_table words) c
 
 -- the words have some command
 abbrev pub IsCommandLine : List (List ℕ) → Type 0
@@ -28,3 +50,7 @@ IsCommandLine words = (c : Command) × CommandLine words c
 -- the words have no command
 abbrev pub IsUsageFault : List (List ℕ) → Type 0
 IsUsageFault words = (c : Command) → CommandLine words c → ⊥
+
+-- the words have no two commands
+abbrev pub HasOneCommand : List (List ℕ) → Type 0
+HasOneCommand words = (c d : Command) → CommandLine words c → CommandLine words d → c ≡ d

@@ -28,6 +28,17 @@ solve_line = with_rule (with_rule (new_app (codes "solve")) workers_rule) confli
 abbrev pub wants_subcommand : Shape → Shape
 wants_subcommand s = record s { subcommand_required = true }
 
+-- `validate`
+unfoldable pub validate_line : App
+validate_line = new_app (codes "validate")
+
+-- `print`
+unfoldable pub print_line : App
+print_line = new_app (codes "print")
+
 -- all lines
 unfoldable pub command_table : App
-command_table = with_subcommand (on_top wants_subcommand (new_app (codes "cpsolve"))) solve_line.top
+command_table =
+    with_subcommand
+    (with_subcommand (with_subcommand (on_top wants_subcommand (new_app (codes "cpsolve"))) solve_line.top) validate_line.top)
+    print_line.top

@@ -1,9 +1,11 @@
 //! What the program is told to do.
 ghost use Rattle.std.specs.Prelude.{IfOk, MatchOption};
-ghost use Rattle.cps_command.specs.Lines.{texts_of, CommandLine, IsUsageFault};
+ghost use Rattle.clap.specs.Words.{subcommand_rows_of};
+ghost use Rattle.cps_command.specs.Lines.{texts_of, Says, SaysNothing, CommandLine, IsUsageFault, HasOneCommand};
 
 use crate::options::{Options, options_of};
 use crate::table::matches_of;
+use clap::ArgMatches;
 use std::alloc::{AllocError, Global};
 
 /// What the program is told to do.
@@ -11,20 +13,35 @@ use std::alloc::{AllocError, Global};
 pub enum Command {
     /// Read a model, solve it and write a response.
     Solve(Options),
+    /// Read a model and say that it is valid.
+    Validate,
+    /// Read a model, valid or not, and write its canonical text.
+    Print,
+}
+
+/// The command that a line says, none where its options are out of their ranges.
+fn command_in(line: &ArgMatches<'_>) -> Option<Command>
+    ensures { MatchOption result (SaysNothing (subcommand_rows_of line.now)) (Says (subcommand_rows_of line.now)) }
+{
+    if let Some(solve) = line.subcommand_matches("solve") {
+        return Some(Command::Solve(options_of(solve)?));
+    }
+    if line.subcommand_matches("validate").is_some() {
+        return Some(Command::Validate);
+    }
+    if line.subcommand_matches("print").is_some() {
+        return Some(Command::Print);
+    }
+    None
 }
 
 /// The command that the words have, none where they are a usage fault. The first word is the program's name.
 pub fn command_of(alloc: Global, words: &[String]) -> Result<Option<Command>, AllocError>
-    ensures { IfOk result (λ found. MatchOption found (IsUsageFault (texts_of words.now)) (CommandLine (texts_of words.now))) }
+    ensures found { IfOk result (λ found. MatchOption found (IsUsageFault (texts_of words.now)) (CommandLine (texts_of words.now))) }
+    ensures one { HasOneCommand (texts_of words.now) }
 {
-    let Some(matches) = matches_of(alloc, words)? else {
-        return Ok(None);
-    };
-    let Some(solve) = matches.subcommand_matches("solve") else {
-        return Ok(None);
-    };
-    match options_of(solve) {
-        Some(options) => Ok(Some(Command::Solve(options))),
+    match matches_of(alloc, words)? {
+        Some(line) => Ok(command_in(&line)),
         None => Ok(None),
     }
 }

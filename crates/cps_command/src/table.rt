@@ -46,9 +46,13 @@ fn command_table<'a>(alloc: Global) -> Result<Command<'a>, AllocError>
     ensures { IfOk result (λ c. app_of c ≡ command_table) }
 {
     let solve = solve_line(alloc)?;
+    let validate = Command::new(alloc, "validate");
+    let print = Command::new(alloc, "print");
     Command::new(alloc, "cpsolve")
         .subcommand_required(true)
-        .subcommand(solve)
+        .subcommand(solve)?
+        .subcommand(validate)?
+        .subcommand(print)
 }
 
 /// What the words say by the table, none where they are no line of it.

@@ -4,21 +4,40 @@ use crate::options::Options;
 use std::alloc::{AllocError, Global};
 use std::test::Fail;
 
-/// Words, each with the workers and the conflicts of the `solve` that they are.
-const LINES: [(&[&str], Option<(u32, u64)>); 17] = [
-    (&["cpsolve", "solve"], Some((1, 10_000))),
+/// Words, each with the command that they are.
+const LINES: [(&[&str], Option<Command>); 27] = [
+    (
+        &["cpsolve", "solve"],
+        Some(Command::Solve(Options {
+            workers: 1,
+            conflicts: 10_000,
+        })),
+    ),
     (
         &["x", "solve", "--workers", "1", "--conflicts", "0"],
-        Some((1, 0)),
+        Some(Command::Solve(Options {
+            workers: 1,
+            conflicts: 0,
+        })),
     ),
     (
         &["cpsolve", "solve", "--conflicts", "7", "--workers", "1"],
-        Some((1, 7)),
+        Some(Command::Solve(Options {
+            workers: 1,
+            conflicts: 7,
+        })),
     ),
     (
         &["cpsolve", "solve", "--conflicts=1000000000"],
-        Some((1, 1_000_000_000)),
+        Some(Command::Solve(Options {
+            workers: 1,
+            conflicts: 1_000_000_000,
+        })),
     ),
+    (&["cpsolve", "validate"], Some(Command::Validate)),
+    (&["x", "validate"], Some(Command::Validate)),
+    (&["cpsolve", "print"], Some(Command::Print)),
+    (&["x", "print"], Some(Command::Print)),
     (&["cpsolve", "solve", "--conflicts", "1000000001"], None),
     (
         &["cpsolve", "solve", "--conflicts", "18446744073709551616"],
@@ -34,8 +53,14 @@ const LINES: [(&[&str], Option<(u32, u64)>); 17] = [
     (&["cpsolve", "solve", "--workers", "17"], None),
     (&["cpsolve", "solve", "x"], None),
     (&["cpsolve", "solve", "--help"], None),
-    (&["cpsolve", "--version"], None),
+    (&["cpsolve", "validate", "x"], None),
+    (&["cpsolve", "validate", "--help"], None),
     (&["cpsolve", "print", "x"], None),
+    (&["cpsolve", "print", "--conflicts", "1"], None),
+    (&["cpsolve", "print", "validate"], None),
+    (&["cpsolve", "prints"], None),
+    (&["cpsolve", "help", "print"], None),
+    (&["cpsolve", "--version"], None),
     (&["cpsolve"], None),
     (&[], None),
 ];
@@ -52,16 +77,9 @@ fn words_of(alloc: Global, texts: &[&str]) -> Result<Vec<String>, AllocError> {
 #[test]
 fn words_are_their_commands(rt: HostRuntime) -> Result<(), Fail> {
     let alloc = rt.alloc();
-    for (texts, numbers) in LINES.iter() {
+    for (texts, command) in LINES.iter() {
         let words = words_of(alloc, texts)?;
-        let command = match numbers {
-            Some((workers, conflicts)) => Some(Command::Solve(Options {
-                workers: *workers,
-                conflicts: *conflicts,
-            })),
-            None => None,
-        };
-        assert_eq!(rt; command_of(alloc, &words)?, command);
+        assert_eq!(rt; command_of(alloc, &words)?, *command);
     }
     Ok(())
 }

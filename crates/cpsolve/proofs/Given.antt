@@ -5,17 +5,16 @@ use Rattle.std.specs.declared.vec.Vec.{Vec}
 use Rattle.std.specs.declared.alloc.Global.{Global}
 use Rattle.cps_outer.specs.Transfers.{ReadsAll}
 use Rattle.cps_outer.specs.declared.transfer.ReadError.TheVariants as reads
-use Rattle.cps_model.specs.declared.model.CpModel.{CpModel}
 use Rattle.cps_print.specs.declared.fault.Fault.TheVariants.{TooLong}
 use Rattle.cps_print.specs.Faults.{fault_text}
 use Rattle.cpsolve.specs.declared.answer.Answer.{Answer}
 use Rattle.cps_command.specs.declared.command.Command.{Command}
-use Rattle.cps_command.specs.declared.command.Command.TheVariants.{Solve}
+use Rattle.cps_command.specs.declared.command.Command.TheVariants.{Solve, Validate, Print}
 use Rattle.cps_command.specs.Lines.{CommandLine, IsUsageFault}
-use Rattle.cpsolve.specs.Inputs.{most_bytes, IsInput}
+use Rattle.cpsolve.specs.Inputs.{most_bytes, HasNo, IsModelText, IsInput}
 use Rattle.cpsolve.specs.Answers.{usage_text, IsText, Answers, Does, IsInRange}
 use Rattle.cpsolve.specs.Answers.Answers.{usage, command}
-use Rattle.cpsolve.specs.Answers.AnswersInput.{invalid}
+use Rattle.cpsolve.specs.Answers.AnswersInput.{refused}
 use Rattle.cpsolve.specs.Runs.{AreLeft}
 
 -- some bytes are left
@@ -59,13 +58,19 @@ pub command_given : (words : List (List ℕ)) (old new : Option (List ℕ)) (rea
     → IfSome old (λ bytes. ReadsAll most_bytes bytes new (Ok read)) → Does c read.items answer → Given words old answer
 command_given words old new read answer c line h does = (read.items, read_whole most_bytes old new read h, command c line does)
 
--- a long input is no valid model
-no_long_input : (limit : ℕ) (bytes : List ℕ) (m : CpModel) → limit ≡ most_bytes → limit < length bytes → IsInput bytes m → ⊥
-no_long_input limit bytes m e long i = let short = i.short in omega arith
+-- a long input is the text of no model
+no_long_text : (limit : ℕ) (bytes : List ℕ) → limit ≡ most_bytes → limit < length bytes → HasNo IsModelText bytes
+no_long_text limit bytes e long m text = let short = text.short in omega arith
+
+-- and so of no valid one
+no_long_input : (bytes : List ℕ) → most_bytes < length bytes → HasNo IsInput bytes
+no_long_input bytes long m input = no_long_text most_bytes bytes refl long m input.text
 
 -- a command that reads refuses a long input
 refuses_long : (c : Command) (bytes : List ℕ) (answer : Answer) → most_bytes < length bytes → IsText 1 (fault_text TooLong) answer → Does c bytes answer
-refuses_long (Solve options) bytes answer long text = invalid TooLong long (λ m i. no_long_input most_bytes bytes m refl long i) text
+refuses_long (Solve options) bytes answer long text = refused TooLong long (no_long_input bytes long) text
+refuses_long Validate bytes answer long text = refused TooLong long (no_long_input bytes long) text
+refuses_long Print bytes answer long text = refused TooLong long (no_long_text most_bytes bytes refl long) text
 
 pub long_given : (words : List (List ℕ)) (old new : Option (List ℕ)) (answer : Answer) (c : Command) → CommandLine words c
     → IfSome old (λ bytes. ReadsAll most_bytes bytes new (Err reads.TooLong)) → IsText 1 (fault_text TooLong) answer → Given words old answer
@@ -74,4 +79,10 @@ long_given words old new answer c line h text =
 
 -- a command of a line has its options in their ranges
 pub line_in_range : (words : List (List ℕ)) (c : Command) → CommandLine words c → IsInRange c
-line_in_range words (Solve options) line = line.2.range
+line_in_range words (Solve options) line = line.says.1.options.range
+line_in_range words Validate line = tt
+line_in_range words Print line = tt
+
+-- words that have a command are no usage fault
+pub no_usage : {A : Type 0} (words : List (List ℕ)) (c : Command) → CommandLine words c → IsUsageFault words → A
+no_usage words c line fault = absurd (fault c line)

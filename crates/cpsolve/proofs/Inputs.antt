@@ -20,13 +20,15 @@ use Rattle.cps_print.specs.Responses.{IsShowable}
 use Rattle.cps_print.proofs.Readable.{read_is_readable}
 use Rattle.cps_search.specs.Searches.{HasNoAssumptions}
 use Rattle.cpsolve.proofs.Limits.{showable}
-use Rattle.cpsolve.specs.Inputs.{most_bytes, byte_of, IsNoInput, HasFault}
+use Rattle.cpsolve.specs.declared.input.Unread.{Unread}
+use Rattle.cpsolve.specs.declared.input.Unread.TheVariants as unread
+use Rattle.cpsolve.specs.Inputs.{most_bytes, byte_of, HasNo, IsModelText, IsInput, HasFault}
 use Rattle.cpsolve.specs.Inputs.IsTextFault.{no_document}
-use Rattle.cpsolve.specs.Reading.{IsCut, IsParsed, IsMeant}
+use Rattle.cpsolve.specs.Reading.{IsCut, IsParsed, IsMeant, IsRefusal}
 
 -- a fault that is right
-abbrev pub IsRight : List ℕ → Fault → Type 0
-IsRight bytes fault = HasFault bytes fault × IsNoInput bytes
+abbrev pub IsRight : (List ℕ → CpModel → Type 0) → List ℕ → Fault → Type 0
+IsRight is_input bytes fault = HasFault bytes fault × HasNo is_input bytes
 
 -- the document that the bytes are the text of is on the only tokens
 same_document : (bytes : List ℕ) (ts : List Token) (m : CpModel) → IsCut bytes ts → (r : IsReadAs bytes m) → HasTree (symbols bytes ts) r.tree
@@ -42,12 +44,12 @@ same_meaning bytes ts tree m cut parsed r =
     subst (λ (t : Tree). ReadsAs (written bytes ts) t m) (sym trees) (subst (λ (us : List Token). ReadsAs (written bytes us) r.tree m) (sym tokens) r.read)
 
 pub no_document_right : (bytes : List ℕ) (ts : List Token) (token byte : ℕ) → length bytes ≤ most_bytes → IsCut bytes ts → IsRefusedAt (symbols bytes ts) token
-    → byte ≡ byte_of bytes ts token → IsRight bytes (Text byte)
+    → byte ≡ byte_of bytes ts token → IsRight IsModelText bytes (Text byte)
 no_document_right bytes ts token byte short cut refused place =
     ((short, no_document ts token cut.these refused place), λ m i. let here = same_document bytes ts m cut i.reads in refused.never here.0 here.1)
 
 pub field_right : (bytes : List ℕ) (ts : List Token) (tree : Tree) (name : FaultName) (token byte : ℕ) → length bytes ≤ most_bytes → IsCut bytes ts → IsParsed bytes ts tree
-    → FirstFault (written bytes ts) tree name token → ((m : CpModel) → ReadsAs (written bytes ts) tree m → ⊥) → byte ≡ byte_of bytes ts token → IsRight bytes (Field name byte)
+    → FirstFault (written bytes ts) tree name token → ((m : CpModel) → ReadsAs (written bytes ts) tree m → ⊥) → byte ≡ byte_of bytes ts token → IsRight IsModelText bytes (Field name byte)
 field_right bytes ts tree name token byte short cut parsed fault none place = (
   (short, record { tokens = ts; tree = tree; cut = cut.these; parsed = parsed.this; token = token; fault = fault; place = place }),
   λ m i. none m (same_meaning bytes ts tree m cut parsed i.reads),
@@ -64,9 +66,20 @@ meant bytes ts tree m cut parsed this only =
 invalid_alone : (m other : CpModel) (rule : ℕ) (place : Place) → m ≡ other → first_invalid m ≡ Some (rule, place) → IsValid other → ⊥
 invalid_alone m other rule place same broken valid = cc
 
-pub rule_right : (bytes : List ℕ) (m : CpModel) (rule : ℕ) (place : Place) → length bytes ≤ most_bytes → IsMeant bytes m → first_invalid m ≡ Some (rule, place) → IsRight bytes (Rule rule place)
+pub rule_right : (bytes : List ℕ) (m : CpModel) (rule : ℕ) (place : Place) → length bytes ≤ most_bytes → IsMeant bytes m → first_invalid m ≡ Some (rule, place) → IsRight IsInput bytes (Rule rule place)
 rule_right bytes m rule place short meant broken =
-    ((short, (m, meant.this, broken)), λ other i. invalid_alone m other rule place (meant.alone other i.reads) broken i.valid)
+    ((m, record { short = short; reads = meant.this }, broken), λ other i. invalid_alone m other rule place (meant.alone other i.text.reads) broken i.valid)
+
+-- a valid model that was read is the input
+pub valid_input : (bytes : List ℕ) (m v : CpModel) → length bytes ≤ most_bytes → IsMeant bytes m → v ≡ m → IsValid m → IsInput bytes v
+valid_input bytes m v short meant same valid =
+    let input : IsInput bytes m = record { text = record { short = short; reads = meant.this }; valid = valid } in
+    subst (λ (n : CpModel). IsInput bytes n) (sym same) input
+
+-- what is refused as a model is refused as a valid one
+pub refused_too : (bytes : List ℕ) (u : Unread) → IsRefusal IsModelText bytes u → IsRefusal IsInput bytes u
+refused_too bytes (unread.Fault fault) refusal = (refusal.0, λ (m : CpModel) (i : IsInput bytes m). refusal.1 m i.text)
+refused_too bytes unread.OutOfMemory refusal = tt
 
 -- a model that was read can be shown
 pub meant_showable : (bytes : List ℕ) (m : CpModel) → IsMeant bytes m → IsShowable m.objective

@@ -1,5 +1,6 @@
 pub mod Inputs
 pub mod Given
+pub mod Answering
 pub mod Limits
 pub mod Outcomes
 pub mod Alone

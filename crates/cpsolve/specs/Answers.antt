@@ -4,19 +4,26 @@ use Rattle.cps_model.specs.declared.model.CpModel.{CpModel}
 use Rattle.cps_print.specs.declared.fault.Fault.{Fault}
 use Rattle.cps_print.specs.declared.response.Response.{Response}
 use Rattle.cps_print.specs.Faults.{fault_text}
+use Rattle.cps_print.specs.Models.{model_text}
+use Rattle.cps_print.specs.ReadBack.{IsReadAs}
 use Rattle.cps_print.specs.Responses.{response_text}
 use Rattle.cpsolve.specs.declared.answer.Answer.{Answer}
+use Rattle.cpsolve.specs.declared.input.Unread.{Unread}
+use Rattle.cpsolve.specs.declared.input.Unread.TheVariants as unread
 use Rattle.cps_command.specs.declared.command.Command.{Command}
-use Rattle.cps_command.specs.declared.command.Command.TheVariants.{Solve}
+use Rattle.cps_command.specs.declared.command.Command.TheVariants.{Solve, Validate, Print}
 use Rattle.cps_command.specs.declared.options.Options.{Options}
 use Rattle.cps_command.specs.Numbers.{AreInRange}
 use Rattle.cps_command.specs.Lines.{CommandLine, IsUsageFault}
 use Rattle.cpsolve.specs.declared.outcome.Outcome.{Outcome}
-use Rattle.cpsolve.specs.Inputs.{HasFault, IsInput, IsNoInput}
+use Rattle.cpsolve.specs.Inputs.{HasFault, HasNo, IsInput, IsModelText}
 use Rattle.cpsolve.specs.Outcomes.{IsGoodOutcome, KeepsPromise}
 
 abbrev pub usage_text : List ℕ
 usage_text = codes "usage: cpsolve solve|validate|print|gen|demo|check" ++ 10 ∷ []
+
+abbrev pub valid_text : List ℕ
+valid_text = codes "valid" ++ 10 ∷ []
 
 -- a text with no outcome
 pub record IsText (status : ℕ) (bytes : List ℕ) (answer : Answer) : Type 0 where
@@ -37,18 +44,38 @@ pub record Solves (options : Options) (m : CpModel) (answer : Answer) : Type 0 w
   pub good : IsGoodOutcome m 0 options found
   pub promise : KeepsPromise m 0 options found
 
--- a command that reads a valid model: what it does with the one that the input is, and else the input's fault
-pub data AnswersInput (does : CpModel → Answer → Type 0) (bytes : List ℕ) (answer : Answer) : Type 0 where
-  valid : (m : CpModel) → IsInput bytes m → does m answer → AnswersInput does bytes answer
-  invalid : (fault : Fault) → HasFault bytes fault → IsNoInput bytes → IsText 1 (fault_text fault) answer → AnswersInput does bytes answer
+-- `validate` of a valid model: that it is valid
+abbrev pub Validates : CpModel → Answer → Type 0
+Validates m answer = IsText 0 valid_text answer
 
--- what each command does
+-- `print` of a model: its canonical text, which is read as the model again
+pub record Prints (m : CpModel) (answer : Answer) : Type 0 where
+  pub canonical : IsText 0 (model_text m) answer
+  pub back : IsReadAs answer.text m
+
+-- the text for an input that is refused; want of memory has none
+abbrev pub IsFaultText : Unread → Answer → Type 0
+IsFaultText (unread.Fault fault) answer = IsText 1 (fault_text fault) answer
+IsFaultText unread.OutOfMemory answer = ⊥
+
+-- a command that reads a model: what it does with the one that the input is the text of, and else why there is none
+pub data AnswersInput (is_input : List ℕ → CpModel → Type 0) (does : CpModel → Answer → Type 0) (bytes : List ℕ) (answer : Answer) : Type 0 where
+  taken : (m : CpModel) → is_input bytes m → does m answer → AnswersInput is_input does bytes answer
+  refused : (fault : Fault) → HasFault bytes fault → HasNo is_input bytes → IsText 1 (fault_text fault) answer
+      → AnswersInput is_input does bytes answer
+
+-- What each command does. A valid model is solved, or said to be valid; `print` takes every model, so no broken rule makes it
+-- refuse one.
 abbrev pub Does : Command → List ℕ → Answer → Type 0
-Does (Solve options) bytes answer = AnswersInput (Solves options) bytes answer
+Does (Solve options) bytes answer = AnswersInput IsInput (Solves options) bytes answer
+Does Validate bytes answer = AnswersInput IsInput Validates bytes answer
+Does Print bytes answer = AnswersInput IsModelText Prints bytes answer
 
 -- a command whose options are in their ranges
 abbrev pub IsInRange : Command → Type 0
 IsInRange (Solve options) = AreInRange options
+IsInRange Validate = Unit {0}
+IsInRange Print = Unit {0}
 
 -- the usage line for words that have no command, and else what their command does
 pub data Answers (words : List (List ℕ)) (bytes : List ℕ) (answer : Answer) : Type 0 where

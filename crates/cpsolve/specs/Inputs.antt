@@ -42,19 +42,23 @@ pub record IsFieldFault (bytes : List ℕ) (name : FaultName) (byte : ℕ) : Typ
   pub fault : FirstFault (written bytes tokens) tree name token
   pub place : byte ≡ byte_of bytes tokens token
 
--- the input is the text of this valid model
-pub record IsInput (bytes : List ℕ) (m : CpModel) : Type 0 where
+-- the input is the text of this model, valid or not
+pub record IsModelText (bytes : List ℕ) (m : CpModel) : Type 0 where
   pub short : length bytes ≤ most_bytes
   pub reads : IsReadAs bytes m
+
+-- the input is the text of this valid model
+pub record IsInput (bytes : List ℕ) (m : CpModel) : Type 0 where
+  pub text : IsModelText bytes m
   pub valid : IsValid m
 
--- the input is the text of no valid model
-abbrev pub IsNoInput : List ℕ → Type 0
-IsNoInput bytes = (m : CpModel) → IsInput bytes m → ⊥
+-- the input is the text of no such model
+abbrev pub HasNo : (List ℕ → CpModel → Type 0) → List ℕ → Type 0
+HasNo is_input bytes = (m : CpModel) → is_input bytes m → ⊥
 
 -- why the input is no valid model
 abbrev pub HasFault : List ℕ → Fault → Type 0
 HasFault bytes (Text byte) = (length bytes ≤ most_bytes) × IsTextFault bytes byte
 HasFault bytes (Field name byte) = (length bytes ≤ most_bytes) × IsFieldFault bytes name byte
-HasFault bytes (Rule rule place) = (length bytes ≤ most_bytes) × ((m : CpModel) × IsReadAs bytes m × (first_invalid m ≡ Some (rule, place)))
+HasFault bytes (Rule rule place) = (m : CpModel) × IsModelText bytes m × (first_invalid m ≡ Some (rule, place))
 HasFault bytes TooLong = most_bytes < length bytes

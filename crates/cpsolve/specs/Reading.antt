@@ -9,7 +9,7 @@ use Rattle.cps_model.specs.declared.model.CpModel.{CpModel}
 use Rattle.cps_print.specs.ReadBack.{IsReadAs}
 use Rattle.cpsolve.specs.declared.input.Unread.{Unread}
 use Rattle.cpsolve.specs.declared.input.Unread.TheVariants.{Fault, OutOfMemory}
-use Rattle.cpsolve.specs.Inputs.{HasFault, IsNoInput}
+use Rattle.cpsolve.specs.Inputs.{HasFault, HasNo}
 
 -- the only tokens of the bytes
 pub record IsCut (bytes : List ℕ) (ts : List Token) : Type 0 where
@@ -27,7 +27,7 @@ pub record IsMeant (bytes : List ℕ) (m : CpModel) : Type 0 where
   pub this : IsReadAs bytes m
   pub alone : (other : CpModel) → IsReadAs bytes other → m ≡ other
 
--- a fault is right, and there is no valid model then
-abbrev pub IsRefusal : List ℕ → Unread → Type 0
-IsRefusal bytes (Fault fault) = HasFault bytes fault × IsNoInput bytes
-IsRefusal bytes OutOfMemory = Unit {0}
+-- a fault is right, and there is no model of the kind that is wanted then
+abbrev pub IsRefusal : (List ℕ → CpModel → Type 0) → List ℕ → Unread → Type 0
+IsRefusal is_input bytes (Fault fault) = HasFault bytes fault × HasNo is_input bytes
+IsRefusal is_input bytes OutOfMemory = Unit {0}

@@ -1,19 +1,22 @@
-//! The answer to a command line and an input, before it is written.
-ghost use Rattle.std.specs.Prelude.{◌≡◌, ◌≤◌, IfOk, length, string_bytes};
+//! The answer to a command line and an input, before it is written. Each command has a function that takes its model from the
+//! input and one that answers the model; the faults of an input have one answer for all commands.
+ghost use Rattle.std.specs.Prelude.{◌≡◌, ◌≤◌, ℕ, List, IfOk, length, string_bytes};
 ghost use Rattle.cps_print.specs.Faults.{fault_text};
+ghost use Rattle.cps_print.specs.Models.{model_text};
+ghost use Rattle.cps_print.specs.ReadBack.{IsReadAs};
 ghost use Rattle.cps_print.specs.Responses.{IsShowable};
 ghost use Rattle.cps_search.specs.Searches.{HasNoAssumptions};
 ghost use Rattle.cps_command.specs.Numbers.{AreInRange};
-ghost use Rattle.cpsolve.specs.Inputs.{most_bytes};
-ghost use Rattle.cpsolve.specs.Answers.{usage_text, IsText, Solves, AnswersInput, Does, IsInRange};
+ghost use Rattle.cpsolve.specs.Inputs.{most_bytes, IsModelText, IsInput};
+ghost use Rattle.cpsolve.specs.Answers.{usage_text, valid_text, IsText, IsFaultText, Solves, Validates, Prints, AnswersInput, Does, IsInRange};
 
-use crate::input::{Unread, valid_model_of};
+use crate::input::{Unread, read_model, valid_model_of};
 use crate::outcome::Outcome;
 use crate::search::outcome_of;
 use cps_command::{Command, Options};
-use cps_model::Text;
+use cps_model::{CpModel, Text};
 use cps_outer::Gate;
-use cps_print::{Fault, Response, fault_text, response_text};
+use cps_print::{Fault, Response, fault_text, model_text, response_text};
 use cps_validate::ValidModel;
 use std::alloc::{AllocError, Global};
 use std::sync::Wait;
@@ -49,11 +52,21 @@ pub fn usage_answer(alloc: Global) -> Result<Answer, AllocError>
     Ok(text_answer(2, text))
 }
 
-/// The answer to an input that is no valid model.
+/// The answer to an input that has a fault.
 pub fn fault_answer(alloc: Global, fault: &Fault) -> Result<Answer, AllocError>
     ensures { IfOk result (IsText 1 (fault_text fault.now)) }
 {
     Ok(text_answer(1, fault_text(alloc, fault)?))
+}
+
+/// The answer to an input that is not at hand as a model.
+fn unread_answer(alloc: Global, unread: Unread) -> Result<Answer, AllocError>
+    ensures { IfOk result (IsFaultText unread) }
+{
+    match unread {
+        Unread::Fault(fault) => fault_answer(alloc, &fault),
+        Unread::OutOfMemory => Err(AllocError),
+    }
 }
 
 /// The answer of `solve` to a valid model.
@@ -106,12 +119,49 @@ fn solve_input<R: Threads + Wait + Sync, G: Gate + Sync>(
 ) -> Result<Answer, AllocError>
     requires short { length bytes.now ≤ most_bytes }
     requires range { AreInRange options.now }
-    ensures { IfOk result (AnswersInput (Solves options.now) bytes.now) }
+    ensures { IfOk result (AnswersInput IsInput (Solves options.now) bytes.now) }
 {
     match valid_model_of(alloc, bytes) {
         Ok(model) => solve_answer(rt, alloc, &model, options, gate),
-        Err(Unread::Fault(fault)) => fault_answer(alloc, &fault),
-        Err(Unread::OutOfMemory) => Err(AllocError),
+        Err(unread) => unread_answer(alloc, unread),
+    }
+}
+
+/// The answer of `validate` to a valid model.
+fn valid_answer(alloc: Global) -> Result<Answer, AllocError>
+    ensures { IfOk result (IsText 0 valid_text) }
+{
+    Ok(text_answer(0, String::from_str(alloc, "valid\n")?))
+}
+
+/// The answer of `validate` to an input that is not too long.
+fn validate_input(alloc: Global, bytes: &[u8]) -> Result<Answer, AllocError>
+    requires { length bytes.now ≤ most_bytes }
+    ensures { IfOk result (AnswersInput IsInput Validates bytes.now) }
+{
+    match valid_model_of(alloc, bytes) {
+        Ok(_model) => valid_answer(alloc),
+        Err(unread) => unread_answer(alloc, unread),
+    }
+}
+
+/// The answer of `print` to a model.
+fn print_answer(alloc: Global, model: &CpModel) -> Result<Answer, AllocError>
+    ensures canonical { IfOk result (IsText 0 (model_text model.now)) }
+    ensures back { (bytes : List ℕ) → IsReadAs bytes model.now → IfOk result (λ answer. IsReadAs answer.text model.now) }
+{
+    let text = model_text(alloc, model)?;
+    Ok(text_answer(0, text))
+}
+
+/// The answer of `print` to an input that is not too long. It tests no rule.
+fn print_input(alloc: Global, bytes: &[u8]) -> Result<Answer, AllocError>
+    requires { length bytes.now ≤ most_bytes }
+    ensures { IfOk result (AnswersInput IsModelText Prints bytes.now) }
+{
+    match read_model(alloc, bytes) {
+        Ok(model) => print_answer(alloc, &model),
+        Err(unread) => unread_answer(alloc, unread),
     }
 }
 
@@ -129,5 +179,7 @@ pub fn command_answer<R: Threads + Wait + Sync, G: Gate + Sync>(
 {
     match command {
         Command::Solve(options) => solve_input(rt, alloc, &options, bytes, gate),
+        Command::Validate => validate_input(alloc, bytes),
+        Command::Print => print_input(alloc, bytes),
     }
 }

@@ -1,10 +1,10 @@
-//! An input, from its bytes to a valid model.
+//! An input, from its bytes to a model, and to a valid one.
 ghost use Rattle.std.specs.Prelude.{◌≡◌, ◌≤◌, length, IfOk, IfErr};
 ghost use Rattle.cps_textproto.specs.Trees.{tree_of};
 ghost use Rattle.cps_model.specs.Validity.{IsValid};
 ghost use Rattle.cps_print.specs.Responses.{IsShowable};
 ghost use Rattle.cps_search.specs.Searches.{HasNoAssumptions};
-ghost use Rattle.cpsolve.specs.Inputs.{most_bytes, byte_of, IsInput};
+ghost use Rattle.cpsolve.specs.Inputs.{most_bytes, byte_of, IsModelText, IsInput};
 ghost use Rattle.cpsolve.specs.Reading.{IsCut, IsParsed, IsMeant, IsRefusal};
 
 use cps_lex::{LexError, Token, tokens};
@@ -16,7 +16,7 @@ use cps_validate::{ValidModel, ValidateError, validate};
 use std::alloc::Global;
 use thiserror::Error;
 
-/// Why an input is not at hand as a valid model.
+/// Why an input is not at hand as a model, or as a valid one.
 #[derive(Debug, Drop, Error)]
 pub enum Unread {
     /// It is none.
@@ -40,7 +40,7 @@ fn byte_of(bytes: &[u8], tokens: &[Token], token: usize) -> usize
 fn tokens_of(alloc: Global, bytes: &[u8]) -> Result<Vec<Token>, Unread>
     requires { length bytes.now ≤ most_bytes }
     ensures ok { IfOk result (λ tokens. IsCut bytes.now tokens.items) }
-    ensures err { IfErr result (IsRefusal bytes.now) }
+    ensures err { IfErr result (IsRefusal IsModelText bytes.now) }
 {
     match tokens(alloc, bytes) {
         Ok(tokens) => Ok(tokens),
@@ -54,7 +54,7 @@ fn node_of(alloc: Global, bytes: &[u8], tokens: &[Token]) -> Result<Node, Unread
     requires short { length bytes.now ≤ most_bytes }
     requires cut { IsCut bytes.now tokens.now }
     ensures ok { IfOk result (λ node. IsParsed bytes.now tokens.now (tree_of node)) }
-    ensures err { IfErr result (IsRefusal bytes.now) }
+    ensures err { IfErr result (IsRefusal IsModelText bytes.now) }
 {
     match document(alloc, bytes, tokens) {
         Ok(node) => Ok(node),
@@ -71,7 +71,7 @@ fn meaning_of(alloc: Global, bytes: &[u8], tokens: &[Token], node: &Node) -> Res
     requires cut { IsCut bytes.now tokens.now }
     requires parsed { IsParsed bytes.now tokens.now (tree_of node.now) }
     ensures ok { IfOk result (IsMeant bytes.now) }
-    ensures err { IfErr result (IsRefusal bytes.now) }
+    ensures err { IfErr result (IsRefusal IsModelText bytes.now) }
 {
     match model_of(alloc, bytes, tokens, node) {
         Ok(model) => Ok(model),
@@ -83,24 +83,24 @@ fn meaning_of(alloc: Global, bytes: &[u8], tokens: &[Token], node: &Node) -> Res
     }
 }
 
-/// The model that the bytes are written for. Their tokens are given up.
-fn read_model(alloc: Global, bytes: &[u8]) -> Result<CpModel, Unread>
+/// The model that the bytes are the text of. No rule is tested, and their tokens are given up.
+pub fn read_model(alloc: Global, bytes: &[u8]) -> Result<CpModel, Unread>
     requires { length bytes.now ≤ most_bytes }
     ensures ok { IfOk result (IsMeant bytes.now) }
-    ensures err { IfErr result (IsRefusal bytes.now) }
+    ensures err { IfErr result (IsRefusal IsModelText bytes.now) }
 {
     let tokens = tokens_of(alloc, bytes)?;
     let node = node_of(alloc, bytes, &tokens)?;
     meaning_of(alloc, bytes, &tokens, &node)
 }
 
-/// The valid model that the bytes are.
+/// The valid model that the bytes are the text of.
 pub fn valid_model_of(alloc: Global, bytes: &[u8]) -> Result<ValidModel, Unread>
     requires { length bytes.now ≤ most_bytes }
     ensures ok { IfOk result (IsInput bytes.now) }
     ensures showable { IfOk result (λ model. IsShowable model.objective) }
     ensures assumptions { IfOk result HasNoAssumptions }
-    ensures err { IfErr result (IsRefusal bytes.now) }
+    ensures err { IfErr result (IsRefusal IsInput bytes.now) }
 {
     let model = read_model(alloc, bytes)?;
     match validate(alloc, model) {

@@ -102,6 +102,93 @@ const INPUTS: [(&str, u8, &str); 16] = [
     ),
 ];
 
+/// A variable with a domain that is no list of intervals.
+const REVERSED: &str = "variables { domain: [3, 2] }";
+
+/// Commands without options and their inputs, each with its exit status and its text.
+const READINGS: [(&str, &str, u8, &str); 18] = [
+    ("validate", "", 0, "valid\n"),
+    ("validate", PRODUCTION, 0, "valid\n"),
+    ("validate", "constraints { linear { } }", 0, "valid\n"),
+    (
+        "validate",
+        REVERSED,
+        1,
+        "status: MODEL_INVALID\n# invalid V1 at variable 0\n",
+    ),
+    (
+        "validate",
+        "variables { domain: [0, 1] } constraints { bool_or { literals: [1] } }",
+        1,
+        "status: MODEL_INVALID\n# invalid V3 at constraint 0\n",
+    ),
+    (
+        "validate",
+        "variables { domain: [0, 2] } constraints { } constraints { bool_or { literals: [0] } }",
+        1,
+        "status: MODEL_INVALID\n# invalid V4 at constraint 1\n",
+    ),
+    (
+        "validate",
+        "variables { domain: [3, 2] domian: 0 }",
+        1,
+        "status: MODEL_INVALID\n# field fault UnknownField at byte 27\n",
+    ),
+    (
+        "validate",
+        "variables { domian: 0",
+        1,
+        "status: MODEL_INVALID\n# text fault at byte 21\n",
+    ),
+    ("print", "", 0, ""),
+    (
+        "print",
+        PRODUCTION,
+        0,
+        "variables {\n  domain: [0, 10]\n}\nvariables {\n  domain: [0, 10]\n}\n\
+         constraints {\n  linear {\n    vars: [0, 1]\n    coeffs: [1, 1]\n    domain: [-9223372036854775808, 4]\n  }\n}\n\
+         constraints {\n  linear {\n    vars: [0, 1]\n    coeffs: [1, 3]\n    domain: [-9223372036854775808, 6]\n  }\n}\n\
+         objective {\n  vars: [0, 1]\n  coeffs: [-3, -2]\n  scaling_factor: -1\n}\n",
+    ),
+    (
+        "print",
+        "variables { domain: [0, 10] } constraints { linear { vars: [0] coeffs: [10] domain: [-5, 10] } }",
+        0,
+        TEN,
+    ),
+    (
+        "print",
+        "variables { domain: 0; domain: 10, } # ten\nconstraints { linear: { vars: 0 coeffs: 10 domain: [- 5, 10] } }",
+        0,
+        TEN,
+    ),
+    ("print", TEN, 0, TEN),
+    ("print", REVERSED, 0, "variables {\n  domain: [3, 2]\n}\n"),
+    (
+        "print",
+        "objective { vars: 7 scaling_factor: 1 }",
+        0,
+        "objective {\n  vars: [7]\n}\n",
+    ),
+    (
+        "print",
+        "objective { offset: 1 offset: 2 }",
+        1,
+        "status: MODEL_INVALID\n# field fault Repeated at byte 22\n",
+    ),
+    (
+        "print",
+        "variables { domain: [089, 90] }",
+        1,
+        "status: MODEL_INVALID\n# text fault at byte 21\n",
+    ),
+    ("print", "constraints { }", 0, "constraints {\n}\n"),
+];
+
+/// A sum in canonical form.
+const TEN: &str = "variables {\n  domain: [0, 10]\n}\n\
+    constraints {\n  linear {\n    vars: [0]\n    coeffs: [10]\n    domain: [-5, 10]\n  }\n}\n";
+
 /// Three variables of two values, no two of them equal.
 const THREE_IN_TWO: &str =
     "variables { domain: [0, 1] } variables { domain: [0, 1] } variables { domain: [0, 1] } \
@@ -129,13 +216,27 @@ const BUDGETS: [(&str, &str, &str); 3] = [
 ];
 
 /// Words that are no command line.
-const FAULTY_WORDS: [&[&str]; 6] = [
+const FAULTY_WORDS: [&[&str]; 10] = [
     &["cpsolve"],
     &["cpsolve", "solve", "--workers", "0"],
     &["cpsolve", "solve", "--workers", "17"],
     &["cpsolve", "solve", "--conflicts", "1000000001"],
     &["cpsolve", "print", "x"],
+    &["cpsolve", "print", "--conflicts", "1"],
+    &["cpsolve", "validate", "x"],
+    &["cpsolve", "validate", "--help"],
+    &["cpsolve", "validate", "print"],
     &["cpsolve", "solves"],
+];
+
+/// The commands that read a model.
+const COMMANDS: [&str; 3] = ["solve", "validate", "print"];
+
+/// Commands, each with the first three bytes that it writes for a variable of two values, and whether it has an outcome.
+const BEGINNINGS: [(&str, &str, bool); 3] = [
+    ("solve", "sta", true),
+    ("validate", "val", false),
+    ("print", "var", false),
 ];
 
 /// The words of a command line.
@@ -172,6 +273,21 @@ fn inputs_have_their_answers(rt: HostRuntime) -> Result<(), Fail> {
         assert_eq!(rt; ran.exit, *exit, "at {input}");
         assert_eq!(rt; ran.outcome.is_some(), *exit == 0, "at {input}");
         assert!(rt; sink.bytes() == text.as_bytes(), "at {input}");
+    }
+    Ok(())
+}
+
+#[test]
+fn readings_have_their_answers(rt: HostRuntime) -> Result<(), Fail> {
+    let alloc = rt.alloc();
+    for (command, input, exit, text) in READINGS.iter() {
+        let words = words_of(alloc, &["cpsolve", command])?;
+        let mut source = source_of(alloc, input, &[7, 1], &[])?;
+        let mut sink = MemorySink::new(alloc, 10, Vec::new(alloc));
+        let ran = solve_main(&rt, alloc, &words, &mut source, &mut sink, &OpenGate);
+        assert_eq!(rt; ran.exit, *exit, "{command} at {input}");
+        assert!(rt; ran.outcome.is_none(), "{command} at {input}");
+        assert!(rt; sink.bytes() == text.as_bytes(), "{command} at {input}");
     }
     Ok(())
 }
@@ -218,38 +334,46 @@ fn words_without_a_command_have_the_usage_line(rt: HostRuntime) -> Result<(), Fa
 #[test]
 fn a_second_read_fails(rt: HostRuntime) -> Result<(), Fail> {
     let alloc = rt.alloc();
-    let words = words_of(alloc, &["cpsolve", "solve"])?;
-    let mut source = source_of(alloc, PRODUCTION, &[100], &[1])?;
-    let mut sink = MemorySink::new(alloc, 100, Vec::new(alloc));
-    let ran = solve_main(&rt, alloc, &words, &mut source, &mut sink, &OpenGate);
-    assert_eq!(rt; ran.exit, 3);
-    assert!(rt; sink.bytes().is_empty());
+    for command in COMMANDS.iter() {
+        let words = words_of(alloc, &["cpsolve", command])?;
+        let mut source = source_of(alloc, PRODUCTION, &[100], &[1])?;
+        let mut sink = MemorySink::new(alloc, 100, Vec::new(alloc));
+        let ran = solve_main(&rt, alloc, &words, &mut source, &mut sink, &OpenGate);
+        assert_eq!(rt; ran.exit, 3, "{command}");
+        assert!(rt; ran.outcome.is_none(), "{command}");
+        assert!(rt; sink.bytes().is_empty(), "{command}");
+    }
     Ok(())
 }
 
 #[test]
 fn a_second_write_fails(rt: HostRuntime) -> Result<(), Fail> {
     let alloc = rt.alloc();
-    let words = words_of(alloc, &["cpsolve", "solve"])?;
-    let mut source = source_of(alloc, "", &[], &[])?;
-    let mut sink = MemorySink::new(alloc, 3, vec![in alloc; 1]?);
-    let ran = solve_main(&rt, alloc, &words, &mut source, &mut sink, &OpenGate);
-    assert_eq!(rt; ran.exit, 4);
-    assert!(rt; ran.outcome.is_some());
-    assert!(rt; sink.bytes() == b"sta".as_slice());
+    for (command, held, has_outcome) in BEGINNINGS.iter() {
+        let words = words_of(alloc, &["cpsolve", command])?;
+        let mut source = source_of(alloc, "variables { domain: [0, 1] }", &[], &[])?;
+        let mut sink = MemorySink::new(alloc, 3, vec![in alloc; 1]?);
+        let ran = solve_main(&rt, alloc, &words, &mut source, &mut sink, &OpenGate);
+        assert_eq!(rt; ran.exit, 4, "{command}");
+        assert_eq!(rt; ran.outcome.is_some(), *has_outcome, "{command}");
+        assert!(rt; sink.bytes() == held.as_bytes(), "{command}");
+    }
     Ok(())
 }
 
 #[test]
 fn an_input_is_too_long(rt: HostRuntime) -> Result<(), Fail> {
     let alloc = rt.alloc();
-    let words = words_of(alloc, &["cpsolve", "solve"])?;
-    let spaces = vec![in alloc; b' '; 67_108_865]?;
-    let mut source = MemorySource::new(spaces, Vec::new(alloc), Vec::new(alloc));
-    let mut sink = MemorySink::new(alloc, 100, Vec::new(alloc));
-    let ran = solve_main(&rt, alloc, &words, &mut source, &mut sink, &OpenGate);
-    assert_eq!(rt; ran.exit, 1);
-    let text = "status: MODEL_INVALID\n# input longer than 67108864 bytes\n";
-    assert!(rt; sink.bytes() == text.as_bytes());
+    for command in COMMANDS.iter() {
+        let words = words_of(alloc, &["cpsolve", command])?;
+        let spaces = vec![in alloc; b' '; 67_108_865]?;
+        let mut source = MemorySource::new(spaces, Vec::new(alloc), Vec::new(alloc));
+        let mut sink = MemorySink::new(alloc, 100, Vec::new(alloc));
+        let ran = solve_main(&rt, alloc, &words, &mut source, &mut sink, &OpenGate);
+        assert_eq!(rt; ran.exit, 1, "{command}");
+        assert!(rt; ran.outcome.is_none(), "{command}");
+        let text = "status: MODEL_INVALID\n# input longer than 67108864 bytes\n";
+        assert!(rt; sink.bytes() == text.as_bytes(), "{command}");
+    }
     Ok(())
 }

@@ -3,12 +3,15 @@ use Rattle.std.proofs.Common.{ap, ap₂, ◌∙◌, ◌≡◌}
 use Rattle.std.proofs.lemmas.Result.{IfOk-weaker}
 use Rattle.clap.specs.Words.{App, app_of, with_subcommand}
 use Rattle.clap.specs.Simple.{on_top, app_of_fields}
-use Rattle.cps_command.specs.Rules.{command_table, wants_subcommand}
+use Rattle.cps_command.specs.Rules.{command_table, validate_line, print_line, wants_subcommand}
 use Rattle.cps_command.proofs.table.command_table.Goals as goal
 
 pub returns : goal.returns
-unfolding command_table
+unfolding command_table validate_line print_line
 returns c =
     let top : app_of c.subcommand_required.result ≡ on_top wants_subcommand (app_of c.new.result) = ap app_of_fields c.subcommand_required.ensures in
-    IfOk-weaker c.subcommand.result _ _ (λ r added. added.shape c.in_ok-solve.ensures.local
-    ∙ ap₂ with_subcommand (top ∙ ap (on_top wants_subcommand) c.new.ensures.app) (ap (λ (a : App). a.top) c.in_ok-solve.ensures.app)) c.subcommand.ensures
+    let none = top ∙ ap (on_top wants_subcommand) c.new.ensures.app in
+    let solve = c.in_ok-subcommand.ensures.shape c.in_ok-solve.ensures.local ∙ ap₂ with_subcommand none (ap (λ (a : App). a.top) c.in_ok-solve.ensures.app) in
+    let validate = c.in_ok-subcommand-2.ensures.shape c.new-validate.ensures.local ∙ ap₂ with_subcommand solve (ap (λ (a : App). a.top) c.new-validate.ensures.app) in
+    IfOk-weaker c.subcommand-3.result _ _ (λ r added. added.shape c.new-print.ensures.local
+    ∙ ap₂ with_subcommand validate (ap (λ (a : App). a.top) c.new-print.ensures.app)) c.subcommand-3.ensures

@@ -1,6 +1,16 @@
 -- The model that the bytes are the text of can be shown, and breaks a rule or none.
-use Rattle.cpsolve.proofs.Inputs.{rule_right, meant_showable, meant_assumptions}
+use Rattle.std.proofs.lemmas.Result.{err_from_is_err_and}
+use Rattle.cpsolve.proofs.Inputs.{rule_right, valid_input, refused_too, meant_showable, meant_assumptions}
 use Rattle.cpsolve.proofs.input.valid_model_of.Goals as goal
+
+pub returns-in_err-model-clause-err : goal.returns-in_err-model-clause-err
+returns-in_err-model-clause-err c =
+    let p = err_from_is_err_and c.from_residual.result c.from_residual.ensures.1 in
+    rw (p.1, p.2) (refused_too c.args.bytes.now _ c.in_err-model.ensures.err)
+
+pub returns-in-Ok-clause-ok : goal.returns-in-Ok-clause-ok
+returns-in-Ok-clause-ok c =
+    valid_input c.args.bytes.now c.in_ok-model.model _ c.requires c.in_ok-model.ensures.ok c.in-Ok.ensures.ok.0 c.in-Ok.ensures.ok.1
 
 pub returns-in-Ok-clause-showable : goal.returns-in-Ok-clause-showable
 returns-in-Ok-clause-showable c =
