@@ -1,6 +1,6 @@
 -- What a command answers to an input that was read, and to one that was refused.
 use Rattle.std.specs.Prelude.{Result, Ok, Err, IfOk, length}
-use Rattle.std.proofs.Common.{◌≡◌, ℕ, ◌≤◌, List}
+use Rattle.std.proofs.Common.{ℕ, ◌≤◌, List}
 use Rattle.cps_model.specs.declared.model.CpModel.{CpModel}
 use Rattle.cps_print.specs.Models.{model_text}
 use Rattle.cps_print.specs.ReadBack.{IsReadAs}
