@@ -1,6 +1,6 @@
 -- A search is sound when it begins, and stays so when it decides, finds a solution, raises the lower bound and says what it came to.
-use Rattle.std.specs.Prelude.{map, ◌-ℤ◌, IfSome, All}
-use Rattle.std.proofs.Common.{ℕ, ◌+◌, ◌≤◌, ◌<◌, ℤ, pos, ◌≤ℤ◌, ◌≡◌, ◌∙◌, Bool, true, false, Option, Some, None, List, [], ◌∷◌, ◌++◌, length, refl, sym, ap, subst, arith}
+use Rattle.std.specs.Prelude.{IfSome}
+use Rattle.std.proofs.Common.{ℕ, ◌+◌, ◌≤◌, ℤ, ◌≡◌, Option, Some, None, List, [], refl, sym, subst, arith}
 use Rattle.std.proofs.lemmas.Int.{ints}
 use Rattle.std.proofs.lemmas.List.Elements.{All-nil, All-push}
 use Rattle.cps_model.specs.declared.bound.Bound.{Bound}
@@ -10,18 +10,17 @@ use Rattle.cps_model.specs.Solutions.{objective_value, IsSolution}
 use Rattle.cps_literal.specs.declared.atom.Atom.{Atom}
 use Rattle.cps_literal.specs.Normal.{IsNormal}
 use Rattle.cps_instance.specs.Problem.{Problem, IsInstance}
-use Rattle.cps_trail.specs.Trail.{Trail, Entry, Decision, IsSound}
-use Rattle.cps_propagate.specs.Laws.{IsAtRest, IsInStep}
+use Rattle.cps_trail.specs.Trail.{Entry, Decision, IsSound}
 use Rattle.cps_propagate.proofs.Stepping.{IsInStep-decided}
-use Rattle.cps_port.specs.Order.{BoundLe, IsBelow, greater, raised_to}
+use Rattle.cps_port.specs.Order.{BoundLe, IsBelow, raised_to}
 use Rattle.cps_port.specs.Incumbents.{IsIncumbent, IsLowerBound}
 use Rattle.cps_port.proofs.Attained.{attained_at}
 use Rattle.cps_port.proofs.Bounding.{BoundLe-refl, attained_shown, greater_is}
-use Rattle.cps_clauses.specs.Quiet.{IsQuiet, Fits}
+use Rattle.cps_clauses.specs.Quiet.{Fits}
 use Rattle.cps_clauses.proofs.Quieting.{IsQuiet-none, IsQuiet-decide}
 use Rattle.cps_search.specs.declared.end.End.TheVariants.{Exhausted, SawClosed, Spent}
 use Rattle.cps_search.specs.declared.end.Said.{Said}
-use Rattle.cps_search.specs.declared.end.Said.TheVariants.{Nothing, Due, Over}
+use Rattle.cps_search.specs.declared.end.Said.TheVariants.{Due, Over}
 use Rattle.cps_search.specs.Resting.{IsRestedAt}
 use Rattle.cps_search.specs.Moves.{fresh, moved, decided, saying}
 use Rattle.cps_search.specs.Searches.{Search, HasNoAssumptions, HoldsOver, IsFound, IsItemAbove, IsNewClause, NoneBelow, IsReasonBelow, IsSettled, IsSoundSearch, SaidSo}

@@ -1,15 +1,14 @@
 -- What is always true of a search stays so: when its bound falls, when inference adds entries, when its store goes back, and when a
 -- clause is added.
 use Rattle.std.specs.Prelude.{map, ◌-ℤ◌, IfSome, nat_le, All}
-use Rattle.std.proofs.Common.{ℕ, ◌+◌, ◌≤◌, ◌<◌, ℤ, pos, ◌≡◌, ◌∙◌, Bool, true, false, cond, Option, Some, None, List, [], ◌∷◌, ◌++◌, length, refl, sym, ap, subst, arith, length-append}
+use Rattle.std.proofs.Common.{ℕ, ◌+◌, ◌≤◌, ◌<◌, ℤ, pos, ◌≡◌, ◌∙◌, Bool, true, false, cond, Option, Some, None, List, [], ◌∷◌, ◌++◌, refl, sym, ap, subst, arith, length-append}
 use Rattle.std.proofs.lemmas.List.Elements.{All-nil, All-cons, All-head, All-tail, All-push}
 use Rattle.cps_model.specs.declared.bound.Bound.{Bound}
-use Rattle.cps_model.specs.declared.bound.Bound.TheVariants.{At, Infinite}
+use Rattle.cps_model.specs.declared.bound.Bound.TheVariants.{At}
 use Rattle.cps_model.specs.Solutions.{objective_value}
 use Rattle.cps_literal.specs.declared.atom.Atom.{Atom}
 use Rattle.cps_literal.specs.Normal.{IsNormal}
 use Rattle.cps_instance.specs.declared.task.Task.{Task}
-use Rattle.cps_instance.specs.Problem.{Problem, IsInstance}
 use Rattle.cps_instance.specs.Sums.{extended}
 use Rattle.cps_instance.specs.Tasks.{HoldAll, lowered}
 use Rattle.cps_trail.specs.Trail.{Domains, Trail, Entry, EndsAt, up_to}
@@ -31,7 +30,6 @@ use Rattle.cps_search.specs.Moves.{moved, with_learnt}
 use Rattle.cps_search.specs.Searches.{Search, HoldsOver, IsFound, IsItemAbove, IsNewClause, IsReasonBelow, IsSoundSearch, IsWorthy, learnt_count}
 use Rattle.cps_search.proofs.Holding.{IsBelowBound, clauses_below, clauses_fall, items_fall, reasons_fall, reasons_infer, tasks_below, tasks_fall}
 use Rattle.cps_search.proofs.Lessons.{back_to}
-use Rattle.cps_search.proofs.Resting.{rested_inferred}
 
 -- a search below a lesser value
 abbrev pub fallen : Search → ℤ → Search

@@ -2,6 +2,8 @@ pub mod Fixing
 pub mod Numbering
 pub mod Raising
 pub mod Leading
+pub mod Playing
+pub mod Aside
 pub mod Holding
 pub mod Refuting
 pub mod Completing

@@ -1,8 +1,8 @@
 -- How a search and its actor's part move together in a turn, and why there is no turn for ever.
-use Rattle.std.specs.Prelude.{IfSome, IsSome, IsTrue, is_some, All}
+use Rattle.std.specs.Prelude.{IfSome, IsSome, IsNone, is_some}
 use Rattle.std.proofs.Common.{ℕ, ◌+◌, ◌≤◌, ◌<◌, ℤ, ◌≡◌, ◌∙◌, ◌⊎◌, inl, inr, Bool, true, false, cond, Option, Some, None, List, [], ◌∷◌, ◌++◌, length, refl, sym, ap, subst, arith, length-append}
 use Rattle.cps_model.specs.declared.bound.Bound.{Bound}
-use Rattle.cps_model.specs.declared.bound.Bound.TheVariants.{At, Infinite}
+use Rattle.cps_model.specs.declared.bound.Bound.TheVariants.{At}
 use Rattle.cps_model.specs.declared.model.CpModel.{CpModel}
 use Rattle.cps_model.specs.Solutions.{objective_value}
 use Rattle.cps_model.specs.Statuses.{is_closed}
@@ -17,24 +17,24 @@ use Rattle.cps_port.specs.declared.part.BoardPart.{BoardPart}
 use Rattle.cps_port.specs.declared.part.BoundsPart.{BoundsPart}
 use Rattle.cps_port.specs.declared.part.Part.{Part}
 use Rattle.cps_port.specs.Order.{BoundLe, lesser, raised_to, greater, greater_of}
-use Rattle.cps_port.specs.Parts.{with_past, with_taken, full_now}
+use Rattle.cps_port.specs.Parts.{with_past, full_now}
 use Rattle.cps_port.specs.Says.{ShareSays, TookEntry}
-use Rattle.cps_port.proofs.Bounding.{BoundLe-refl, BoundLe-trans, lesser-first, lesser_is, lesser-assoc}
+use Rattle.cps_port.proofs.Bounding.{BoundLe-refl, BoundLe-trans, lesser-assoc}
 use Rattle.cps_clauses.specs.declared.journal.JournalItem.TheVariants as items
 use Rattle.cps_clauses.specs.Bases.{Base}
 use Rattle.cps_clauses.proofs.Honesty.{IsHonest-learnt}
 use Rattle.cps_search.specs.declared.end.End.{End}
 use Rattle.cps_search.specs.declared.end.End.TheVariants as ends
 use Rattle.cps_search.specs.declared.end.Said.{Said}
-use Rattle.cps_search.specs.declared.end.Said.TheVariants.{Nothing, Due, Over}
+use Rattle.cps_search.specs.declared.end.Said.TheVariants.{Nothing, Over}
 use Rattle.cps_search.specs.declared.turn.Turn.{Turn}
 use Rattle.cps_search.specs.declared.turn.Turn.TheVariants as turns
 use Rattle.cps_search.specs.Searches.{Search, IsFound, IsHonestJournal, IsSoundSearch, IsWorthy, NoneBelow}
-use Rattle.cps_search.specs.Moves.{below, moved, decided}
-use Rattle.cps_search.specs.Turns.{BeginsTurn, Caused, DecisionDue, ExhaustedAll, Falls, FoundOne, IsLess, IsShared, IsShort, LearntOne, Looks, LooksAgain, SameBest, SameImported, SameRaised, SameSetting, SawMet, SawOpen, SpentAll, Steps, TookNothing, TookOne}
-use Rattle.cps_search.specs.Ends.{DecidedOne, EndsAs, EndsBy, IsOver, LastSawMet, Lowers, fewer_conflicts, lesser_z, fewer_rows, fewer_values, MovesWith, OffersBest, RaisedToZ, RaisesSame, SpentWhole, TakesTurn, TurnCaused, best_bound, end_of}
+use Rattle.cps_search.specs.Moves.{below, decided}
+use Rattle.cps_search.specs.Turns.{BeginsTurn, Caused, DecisionDue, ExhaustedAll, Falls, FoundOne, GoesOnAndBack, IsLess, IsShared, IsShort, LearntOne, Looks, LooksAgain, SameBest, SameImported, SameRaised, SameSetting, SawMet, SawOpen, SpentAll, Steps, TookNothing, TookOne}
+use Rattle.cps_search.specs.Ends.{DecidedOne, EndsAs, EndsBy, IsOver, LastSawMet, Lowers, fewer_conflicts, lesser_z, fewer_rows, fewer_values, MovesWith, RaisedToZ, SpentWhole, TakesTurn, TurnCaused, best_bound, end_of}
 use Rattle.cps_search.specs.Stepping.{IsCausedFrom, TakesOne}
-use Rattle.cps_search.proofs.Turning.{reaches_first, setting_of, setting_trans, took_one}
+use Rattle.cps_search.proofs.Turning.{reaches_first, saw_met, setting_of, setting_trans, stays_there, took_one}
 use Rattle.cps_search.proofs.Bounds.{below_at_most, below_less, greater-second, less_than, lesser_same, raised_more}
 use Rattle.cps_search.proofs.Looking.{Moves, moves_again, moves_by_looks, moves_on}
 
@@ -290,6 +290,21 @@ some_bound : (o : Option Bound) → is_some o ≡ true → (z : Bound) × (o ≡
 some_bound None e = absurd (cc)
 some_bound (Some z) e = (z, refl)
 
+no_bound : (o : Option Bound) → is_some o ≡ false → o ≡ None
+no_bound None e = refl
+no_bound (Some z) e = absurd (cc)
+
+-- a turn at whose beginning the two bounds had met
+pub steps_met : (s b t : Search) (rows : ℕ) (p q : Part) (answer : Option Bound) → IsSoundSearch s → is_some answer ≡ false → Looks s.gap s.z p.bounds q.bounds answer → q.board ≡ p.board → (IsNone answer → b ≡ s)
+    → t ≡ record b { said = Over ends.SawClosed } → Steps s t rows p q (Some turns.SawClosed)
+steps_met s b t rows p q answer sound none looks board same is =
+    let no = no_bound answer none in
+    let begun : b ≡ s = same none in
+    let whole : t ≡ record s { said = Over ends.SawClosed } = is ∙ ap (λ (x : Search). record x { said = Over ends.SawClosed }) begun in
+    let met = saw_met s t p q (subst (λ (o : Option Bound). Looks s.gap s.z p.bounds q.bounds o) no looks) board whole in
+    let setting = setting_of s (record s { said = Over ends.SawClosed }) t whole refl refl refl refl in
+    record { setting = setting; store = stays_there s.trail t.trail (ap (λ (x : Search). x.trail) whole); cause = met; z = steps_fall s t rows p q (Some turns.SawClosed) sound setting met }
+
 -- a turn that took an entry
 pub steps_taken : (s b t : Search) (rows count : ℕ) (p m q : Part) (answer : Option Bound) → IsSoundSearch s → is_some answer ≡ true → Looks s.gap s.z p.bounds m.bounds answer → m.board ≡ p.board → IfSome answer (λ z. b ≡ below s z) → count ≡ rows
     → TakesOne b t count m q → Steps s t rows p q (Some turns.Imported)
@@ -298,7 +313,8 @@ steps_taken s b t rows count p m q answer sound some looks board is same takes =
     let begun : b ≡ below s at.0 = subst (λ (o : Option Bound). IfSome o (λ z. b ≡ below s z)) at.1 is in
     let took = took_one s b t rows p m q at.0 (subst (λ (o : Option Bound). Looks s.gap s.z p.bounds m.bounds o) at.1 looks) board begun (subst (λ (n : ℕ). TakesOne b t n m q) same takes) in
     let setting = setting_trans s b t (setting_of s (below s at.0) b begun refl refl refl refl) takes.setting in
-    record { setting = setting; cause = took; z = steps_fall s t rows p q (Some turns.Imported) sound setting took }
+    let store = subst (λ (x : Trail). GoesOnAndBack x t.trail) (ap (λ (x : Search). x.trail) begun) takes.store in
+    record { setting = setting; store = store; cause = took; z = steps_fall s t rows p q (Some turns.Imported) sound setting took }
 
 -- a turn that took none, and went on
 pub steps_gone : (s b d t : Search) (rows count : ℕ) (p n m q : Part) (answer : Option Bound) (turn : Option Turn) → IsSoundSearch s → is_some answer ≡ true → Looks s.gap s.z p.bounds n.bounds answer → n.board ≡ p.board → IfSome answer (λ z. b ≡ below s z)
@@ -309,4 +325,5 @@ steps_gone s b d t rows count p n m q answer turn sound some looks board is same
     let caused = subst (λ (k : ℕ). IsCausedFrom d t k m q turn) same h in
     let cause = caused.cause s p (reaches_first s rows p n m at.0 d (subst (λ (o : Option Bound). Looks s.gap s.z p.bounds n.bounds o) at.1 looks) board bounds took begun) in
     let setting = setting_trans s d t (setting_of s (below s at.0) d begun refl refl refl refl) h.setting in
-    record { setting = setting; cause = cause; z = steps_fall s t rows p q turn sound setting cause }
+    let store = subst (λ (x : Trail). GoesOnAndBack x t.trail) (ap (λ (x : Search). x.trail) begun) h.store in
+    record { setting = setting; store = store; cause = cause; z = steps_fall s t rows p q turn sound setting cause }

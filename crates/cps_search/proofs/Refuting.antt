@@ -1,9 +1,9 @@
 -- What a false clause shows: that no solution is left, or that the clause says something.
 use Rattle.std.specs.Prelude.{◌||◌, false, All}
-use Rattle.std.specs.List.{list_any, list_all, Contains}
-use Rattle.std.proofs.Common.{ℕ, zero, suc, ◌+◌, ◌≤◌, ◌<◌, ℤ, ◌≡◌, Bool, true, List, [], ◌∷◌, ◌++◌, take, length, get_or, refl, sym, ◌∙◌, ap, subst, arith}
+use Rattle.std.specs.List.{list_all, Contains}
+use Rattle.std.proofs.Common.{ℕ, zero, suc, ◌<◌, ℤ, ◌≡◌, Bool, true, List, [], ◌∷◌, take, length, get_or, refl, sym, ◌∙◌, ap, subst, arith}
 use Rattle.std.proofs.lemmas.List.{take_all}
-use Rattle.std.proofs.lemmas.List.Elements.{All-contains, All-nil, All-cons, All-head, All-tail, All-weaker}
+use Rattle.std.proofs.lemmas.List.Elements.{All-contains, All-head, All-tail}
 use Rattle.std.proofs.lemmas.List.Folds.{Any-from_list_any}
 use Rattle.cps_model.specs.declared.bound.Bound.{Bound}
 use Rattle.cps_model.specs.Solutions.{objective_value, IsFree}

@@ -1,6 +1,6 @@
 -- How the steps of a turn keep a search sound.
-use Rattle.std.specs.Prelude.{map, ◌-ℤ◌, IfSome, IsTrue, unsigned_abs, FitsSigned, All}
-use Rattle.std.proofs.Common.{ℕ, ◌+◌, ◌≤◌, ◌<◌, ◌^◌, ℤ, pos, ◌≡◌, ◌∙◌, ◌⊎◌, inl, inr, Bool, true, false, Option, Some, None, List, [], ◌∷◌, ◌++◌, length, refl, sym, ap, subst, arith, w64}
+use Rattle.std.specs.Prelude.{map, ◌-ℤ◌, IfSome, unsigned_abs, FitsSigned, All}
+use Rattle.std.proofs.Common.{ℕ, ◌+◌, ◌<◌, ◌^◌, ℤ, pos, ◌≡◌, ◌∙◌, ◌⊎◌, inl, inr, Option, List, length, refl, sym, ap, subst, arith, w64}
 use Rattle.std.proofs.lemmas.Int.{ints, fits_signed_from_abs}
 use Rattle.std.proofs.lemmas.List.Elements.{All-weaker}
 use Rattle.cps_model.specs.declared.bound.Bound.{Bound}
@@ -8,12 +8,11 @@ use Rattle.cps_model.specs.declared.bound.Bound.TheVariants.{At, Infinite}
 use Rattle.cps_model.specs.declared.model.CpModel.{CpModel}
 use Rattle.cps_model.specs.Validity.{IsValid}
 use Rattle.cps_literal.specs.declared.atom.Atom.{Atom}
-use Rattle.cps_literal.specs.Normal.{IsNormalOf}
 use Rattle.cps_instance.specs.declared.task.Task.{Task}
-use Rattle.cps_instance.specs.Problem.{Problem, IsInstance, variable_count}
+use Rattle.cps_instance.specs.Problem.{Problem, variable_count}
 use Rattle.cps_instance.specs.Tasks.{lowered}
 use Rattle.cps_instance.specs.Fitting.{IsFitting}
-use Rattle.cps_trail.specs.Trail.{Domains, Trail, Entry, IsSound, IsFalseNow, up_to}
+use Rattle.cps_trail.specs.Trail.{Domains, Trail, IsSound, IsFalseNow}
 use Rattle.cps_trail.specs.Adds.{IsConflict}
 use Rattle.cps_port.specs.declared.entry.Entry.{Entry as BoardEntry}
 use Rattle.cps_port.specs.Order.{BoundLe}
@@ -27,8 +26,8 @@ use Rattle.cps_clauses.proofs.Quieting.{IsQuiet-backjump}
 use Rattle.cps_search.specs.declared.end.Said.TheVariants.{Nothing}
 use Rattle.cps_search.specs.Lessons.{GoesBack, IsNewTo, IsTaught}
 use Rattle.cps_search.specs.Resting.{AllHold, IsRestedAt}
-use Rattle.cps_search.specs.Searches.{Search, HoldsOver, IsFound, IsNewClause, NoneBelow, IsReasonBelow, IsSoundSearch, below_bound}
-use Rattle.cps_search.specs.Moves.{below, moved, saying, with_learnt}
+use Rattle.cps_search.specs.Searches.{Search, HoldsOver, IsNewClause, NoneBelow, IsReasonBelow, IsSoundSearch, below_bound}
+use Rattle.cps_search.specs.Moves.{below, moved, with_learnt}
 use Rattle.cps_search.specs.Turns.{IsShort, PassesOver, Uses}
 use Rattle.cps_search.specs.Stepping.{IsLesson, UsesEntry}
 use Rattle.cps_search.proofs.Bounds.{top_is}
@@ -36,7 +35,7 @@ use Rattle.cps_search.proofs.Holding.{HoldsOver-falls, tasks_fall}
 use Rattle.cps_search.proofs.Completing.{fits_below}
 use Rattle.cps_search.proofs.Boarding.{below_of_over, over_of_below, over_normal}
 use Rattle.cps_search.proofs.Lessons.{fits_normal}
-use Rattle.cps_search.proofs.Keeping.{all_up_to, fallen, sound_fallen, sound_moved, sound_imported, sound_learnt, with_imported}
+use Rattle.cps_search.proofs.Keeping.{all_up_to, fallen, sound_fallen, sound_moved, sound_imported, sound_learnt}
 use Rattle.cps_search.proofs.Beginning.{sound_saying}
 use Rattle.cps_search.proofs.Teaching.{conflict_over, new_clause, no_solution, small_of}
 use Rattle.cps_search.proofs.Valuing.{learnt_values}

@@ -1,6 +1,6 @@
 -- What a search learns of a conflict: a clause that says something new, or that no solution is left.
 use Rattle.std.specs.Prelude.{All}
-use Rattle.std.proofs.Common.{ℕ, ◌+◌, ◌≤◌, ◌<◌, ℤ, ◌≤ℤ◌, ◌<ℤ◌, ◌≡◌, ◌⊎◌, inl, inr, Bool, true, List, [], ◌∷◌, length, refl, sym, ◌∙◌, ap, subst, arith}
+use Rattle.std.proofs.Common.{ℕ, ℤ, ◌≤ℤ◌, ◌<ℤ◌, ◌≡◌, ◌⊎◌, inl, inr, List, ◌∙◌, ap, arith}
 use Rattle.std.proofs.lemmas.Int.{ints}
 use Rattle.cps_model.specs.declared.bound.Bound.{Bound}
 use Rattle.cps_model.specs.declared.bound.Bound.TheVariants.{At, Infinite}
@@ -11,7 +11,7 @@ use Rattle.cps_model.specs.Statuses.{IsAtMost}
 use Rattle.cps_model.specs.Validity.{IsValid}
 use Rattle.cps_literal.specs.declared.atom.Atom.{Atom}
 use Rattle.cps_trail.specs.Trail.{Trail, IsSound, IsFalseNow}
-use Rattle.cps_trail.specs.Adds.{Follows, IsConflict}
+use Rattle.cps_trail.specs.Adds.{IsConflict}
 use Rattle.cps_port.specs.Order.{IsBelow, IsSmallBound}
 use Rattle.cps_port.specs.Incumbents.{IsIncumbent, IsLowerBound}
 use Rattle.cps_port.proofs.Attained.{attained_small}

@@ -1,13 +1,13 @@
 -- How what a turn does has its cause.
-use Rattle.std.specs.Prelude.{IfSome, IsNone, map, All}
-use Rattle.std.proofs.Common.{ℕ, ◌+◌, ◌≤◌, ◌<◌, ℤ, ◌≡◌, ◌∙◌, ◌⊎◌, inl, inr, Option, Some, None, List, [], ◌∷◌, ◌++◌, length, refl, sym, ap, subst, arith, append_assoc, length-append}
+use Rattle.std.specs.Prelude.{IfSome, All}
+use Rattle.std.proofs.Common.{ℕ, ◌≤◌, ◌<◌, ℤ, ◌≡◌, ◌∙◌, ◌⊎◌, inl, inr, Option, Some, None, List, [], ◌∷◌, ◌++◌, length, take, refl, sym, ap, subst, arith, append_assoc, length-append}
+use Rattle.std.proofs.lemmas.List.{length-take, take-take, take_all}
 use Rattle.cps_model.specs.declared.bound.Bound.{Bound}
 use Rattle.cps_model.specs.declared.bound.Bound.TheVariants.{At}
 use Rattle.cps_model.specs.Solutions.{objective_value, IsSolution}
-use Rattle.cps_model.specs.Statuses.{is_closed}
 use Rattle.cps_literal.specs.declared.atom.Atom.{Atom}
 use Rattle.cps_instance.specs.Problem.{Problem, variable_count}
-use Rattle.cps_trail.specs.Trail.{Trail, Entry, IsFalseNow, open_values}
+use Rattle.cps_trail.specs.Trail.{Trail, Entry, IsFalseNow}
 use Rattle.cps_trail.specs.Adds.{Infers}
 use Rattle.cps_port.specs.declared.entry.Entry.{Entry as BoardEntry}
 use Rattle.cps_port.specs.declared.part.BoardPart.{BoardPart}
@@ -19,15 +19,14 @@ use Rattle.cps_port.specs.Says.{TookEntry}
 use Rattle.cps_clauses.specs.declared.origin.Origin.TheVariants as origins
 use Rattle.cps_clauses.specs.Bases.{Base, with_clause}
 use Rattle.cps_search.specs.declared.end.End.TheVariants as ends
-use Rattle.cps_search.specs.declared.end.Said.{Said}
-use Rattle.cps_search.specs.declared.end.Said.TheVariants.{Nothing, Due, Over}
+use Rattle.cps_search.specs.declared.end.Said.TheVariants.{Due, Over}
 use Rattle.cps_search.specs.declared.turn.Turn.{Turn}
 use Rattle.cps_search.specs.declared.turn.Turn.TheVariants as turns
 use Rattle.cps_search.specs.Fixed.{AreFixed}
 use Rattle.cps_search.specs.Lessons.{GoesBack}
 use Rattle.cps_search.specs.Searches.{Search, IsNewClause, IsSettled, NoneBelow}
 use Rattle.cps_search.specs.Moves.{below, moved, saying, with_learnt}
-use Rattle.cps_search.specs.Turns.{BeginsTurn, Caused, DecisionDue, ExhaustedAll, Falls, FoundOne, IsOnward, IsShared, IsShort, LearntOne, Looks, LooksAgain, LooksAtBounds, PassesOver, SameImported, SameSetting, SawMet, SawOpen, SpentAll, Steps, Teaches, TookNothing, TookOne, Uses}
+use Rattle.cps_search.specs.Turns.{BeginsTurn, GoesOnAndBack, IsOnward, IsShared, IsShort, Looks, LooksAgain, LooksAtBounds, SameSetting, SawMet, Teaches, TookNothing, TookOne}
 use Rattle.cps_search.specs.Stepping.{IsCausedFrom, IsLesson, Offers, Raises, Reaches, TakesOne, UsesEntry}
 
 pub onward_none : (s : Trail) → IsOnward s s
@@ -48,6 +47,30 @@ onward_more s t u h k = record {
   entries = k.entries ∙ ap (λ (es : List Entry). es ++ k.added) h.entries ∙ append_assoc s.entries h.added k.added;
   fewer = omega (arith, h.fewer, k.fewer, length-append h.added k.added);
 }
+
+-- entries were added and taken back
+pub on_and_back : (s m t : Trail) → IsOnward s m → t.first ≡ m.first → t.entries ≡ take (length t.entries) m.entries → GoesOnAndBack s t
+on_and_back s m t onward first front = record { furthest = m; onward = onward; first = first ∙ onward.first; front = front }
+
+-- the store stayed
+pub stays_there : (s t : Trail) → t ≡ s → GoesOnAndBack s t
+stays_there s t is = subst (λ (x : Trail). GoesOnAndBack s x) (sym is) (on_and_back s s s (onward_none s) refl (sym (take_all (length s.entries) s.entries (omega arith))))
+
+on_before : (s m t : Trail) → IsOnward s m → GoesOnAndBack m t → GoesOnAndBack s t
+on_before s m t onward h = record { furthest = h.furthest; onward = onward_more s m h.furthest onward h.onward; first = h.first ∙ onward.first; front = h.front }
+
+pub back_after : (s m t : Trail) (level : ℕ) → GoesOnAndBack s m → GoesBack m t level → GoesOnAndBack s t
+back_after s m t level h back =
+    let fewer : length t.entries ≤ length m.entries = omega (arith, ap (λ (es : List Entry). length es) back.front, length-take (length t.entries) m.entries) in
+    record {
+      furthest = h.furthest;
+      onward = h.onward;
+      first = ap (λ (x : Trail). x.first) back.is ∙ h.first;
+      front = back.front ∙ ap (λ (es : List Entry). take (length t.entries) es) h.front ∙ take-take (length t.entries) (length m.entries) h.furthest.entries fewer;
+    }
+
+pub back_only : (s t : Trail) (level : ℕ) → GoesBack s t level → GoesOnAndBack s t
+back_only s t level back = back_after s s t level (stays_there s s refl) back
 
 -- a turn that began has come to the search below the bound that it saw
 pub reaches_first : (s : Search) (rows : ℕ) (p m1 m : Part) (z : Bound) (t : Search) → Looks s.gap s.z p.bounds m1.bounds (Some z) → m1.board ≡ p.board → m.bounds ≡ m1.bounds → TookNothing rows m1.board m.board → t ≡ below s z
@@ -108,6 +131,7 @@ setting_moved s t trail rested is = record {
 pub cause_inferred : (a b t : Search) (rows : ℕ) (m q : Part) (turn : Option Turn) → b ≡ moved a b.trail b.rested → IsOnward a.trail b.trail → IsCausedFrom b t rows m q turn → IsCausedFrom a t rows m q turn
 cause_inferred a b t rows m q turn is onward h = record {
   setting = setting_more a b t (setting_moved a b b.trail b.rested is) h.setting;
+  store = on_before a.trail b.trail t.trail onward h.store;
   cause = λ s o reaches. h.cause s o (reaches_more s rows o m a b reaches is onward);
 }
 
@@ -128,6 +152,7 @@ module _ (s r t : Search) (f : Search → Search) (is : t ≡ f r) (reached : r 
 pub caused_due : (r t : Search) (rows : ℕ) (m : Part) → IsSettled r → (AreFixed r.trail (variable_count r.problem) → ⊥) → t ≡ saying r r.raised Due → IsCausedFrom r t rows m m None
 caused_due r t rows m settled left is = record {
   setting = setting_of r (saying r r.raised Due) t is refl refl refl refl;
+  store = stays_there r.trail t.trail (ap (λ (x : Search). x.trail) is);
   cause = λ s o reaches.
       let all = whole s r t (λ (x : Search). saying x x.raised Due) is reaches.is in
       let same = settled_said r t is settled in
@@ -157,6 +182,7 @@ caused_found r t rows m q a fixed solution under is offers board = record {
     budget = ap (λ (x : Search). x.budget) is;
     refused = ap (λ (x : Search). x.refused) is;
   };
+  store = stays_there r.trail t.trail (ap (λ (x : Search). x.trail) is);
   cause = λ s o reaches.
       let same : r.problem ≡ s.problem = ap (λ (x : Search). x.problem) reaches.is in
       let v = objective_value r.problem.model a in
@@ -186,10 +212,11 @@ caused_found r t rows m q a fixed solution under is offers board = record {
 }
 
 -- no solution is below z
-pub caused_exhausted : (r t : Search) (rows : ℕ) (m q : Part) (trail : Trail) (rested : Option ℕ) → NoneBelow r.problem.model r.z
+pub caused_exhausted : (r t : Search) (rows : ℕ) (m q : Part) (trail : Trail) (rested : Option ℕ) → GoesOnAndBack r.trail trail → NoneBelow r.problem.model r.z
     → t ≡ saying (moved r trail rested) (raised_to r.raised r.z) (Over ends.Exhausted) → Raises r.z m.bounds q.bounds → q.board ≡ m.board → IsCausedFrom r t rows m q (Some turns.Exhausted)
-caused_exhausted r t rows m q trail rested none is raises board = record {
+caused_exhausted r t rows m q trail rested store none is raises board = record {
   setting = setting_of r (saying (moved r trail rested) (raised_to r.raised r.z) (Over ends.Exhausted)) t is refl refl refl refl;
+  store = subst (λ (x : Trail). GoesOnAndBack r.trail x) (sym (ap (λ (x : Search). x.trail) is)) store;
   cause = λ s o reaches.
       let same : r.problem ≡ s.problem = ap (λ (x : Search). x.problem) reaches.is in
       let all = whole s r t (λ (x : Search). saying (moved x trail rested) (raised_to x.raised x.z) (Over ends.Exhausted)) is reaches.is in
@@ -223,10 +250,11 @@ teaches_from s r z clause reached onward above falses new at = record {
 }
 
 -- the budget is spent, and the conflict teaches one clause more
-pub caused_spent : (r t : Search) (rows : ℕ) (m : Part) (trail : Trail) (rested : Option ℕ) (clause : List Atom) → 0 < r.trail.level → All (IsFalseNow r.trail) clause → IsNewClause r.problem r.base.clauses clause r.z → r.budget ≡ Some r.tally
+pub caused_spent : (r t : Search) (rows : ℕ) (m : Part) (trail : Trail) (rested : Option ℕ) (clause : List Atom) → GoesOnAndBack r.trail trail → 0 < r.trail.level → All (IsFalseNow r.trail) clause → IsNewClause r.problem r.base.clauses clause r.z → r.budget ≡ Some r.tally
     → t ≡ saying (moved r trail rested) r.raised (Over (ends.Spent clause r.z)) → IsCausedFrom r t rows m m (Some (turns.Spent clause r.z))
-caused_spent r t rows m trail rested clause above falses new budget is = record {
+caused_spent r t rows m trail rested clause store above falses new budget is = record {
   setting = setting_of r (saying (moved r trail rested) r.raised (Over (ends.Spent clause r.z))) t is refl refl refl refl;
+  store = subst (λ (x : Trail). GoesOnAndBack r.trail x) (sym (ap (λ (x : Search). x.trail) is)) store;
   cause = λ s o reaches.
       let z : t.z ≡ r.z = ap (λ (x : Search). x.z) is in
       let tally : r.tally ≡ s.tally = ap (λ (x : Search). x.tally) reaches.is in
@@ -245,16 +273,17 @@ caused_spent r t rows m trail rested clause above falses new budget is = record 
 }
 
 -- a clause is learnt
-pub caused_learnt : (r t : Search) (rows : ℕ) (m q : Part) (trail : Trail) (rested : Option ℕ) (clause : List Atom) → 0 < r.trail.level → All (IsFalseNow r.trail) clause → IsNewClause r.problem r.base.clauses clause r.z
+pub caused_learnt : (r t : Search) (rows : ℕ) (m q : Part) (trail : Trail) (rested : Option ℕ) (clause : List Atom) → GoesOnAndBack r.trail trail → 0 < r.trail.level → All (IsFalseNow r.trail) clause → IsNewClause r.problem r.base.clauses clause r.z
     → IfSome r.budget (λ budget. r.tally < budget) → trail.level < r.trail.level → t ≡ with_learnt (moved r trail rested) clause → q.bounds ≡ m.bounds
     → (IsShort r.problem.model clause → IsShared rows r.z clause m.board q.board) → ((IsShort r.problem.model clause → ⊥) → q.board ≡ m.board) → IsCausedFrom r t rows m q (Some turns.Learnt)
-caused_learnt r t rows m q trail rested clause above falses new left back is bounds shared unshared = record {
+caused_learnt r t rows m q trail rested clause store above falses new left back is bounds shared unshared = record {
   setting = record {
     problem = ap (λ (x : Search). x.problem) is;
     gap = ap (λ (x : Search). x.gap) is;
     budget = ap (λ (x : Search). x.budget) is;
     refused = ap (λ (x : Search). x.refused) is;
   };
+  store = subst (λ (x : Trail). GoesOnAndBack r.trail x) (sym (ap (λ (x : Search). x.trail) is)) store;
   cause = λ s o reaches.
       let same : r.problem ≡ s.problem = ap (λ (x : Search). x.problem) reaches.is in
       let z : t.z ≡ r.z = ap (λ (x : Search). x.z) is in
@@ -296,20 +325,28 @@ took_one s b t rows p m q z looks board is takes = record {
   said = takes.said;
 }
 
+-- the same, where the objective is at hand
+pub found_at : (r t : Search) (rows : ℕ) (m q : Part) (a : List ℤ) (v : ℤ) → v ≡ objective_value r.problem.model a → AreFixed r.trail (variable_count r.problem) → IsSolution r.problem.model a → IsBelow v r.z
+    → t ≡ record (below r (At v)) { best = Some a } → Offers (At v) m.bounds q.bounds → q.board ≡ m.board → IsCausedFrom r t rows m q (Some turns.Found)
+found_at r t rows m q a v e fixed solution under is offers board =
+    caused_found r t rows m q a fixed solution (subst (λ (z : ℤ). IsBelow z r.z) e under) (is ∙ ap (λ (z : ℤ). record (below r (At z)) { best = Some a }) e)
+    (subst (λ (z : ℤ). Offers (At z) m.bounds q.bounds) e offers) board
+
 -- the two bounds had met
 pub saw_met : (s t : Search) (p q : Part) → Looks s.gap s.z p.bounds q.bounds None → q.board ≡ p.board → t ≡ record s { said = Over ends.SawClosed } → SawMet s t p q
 saw_met s t p q looks board is = record { lower = looks.lower; upper = looks.upper; looks = looks.looks; closed = looks.comes_to; board = board; same = is }
 
 -- an entry was taken, and the search used it
 pub takes_one : (s t : Search) (z : Bound) (trail : Trail) (rested : Option ℕ) (base : Base) (imported : ℕ) (e : BoardEntry) (rows : ℕ) (p q : Part) → TookEntry s.problem.model rows p.board q.board e → LooksAgain s.z e.below z p.bounds q.bounds
-    → t ≡ record (moved (below s z) trail rested) { base = base; imported = imported } → UsesEntry (below s z) t e → TakesOne s t rows p q
-takes_one s t z trail rested base imported e rows p q takes again is used = record {
+    → t ≡ record (moved (below s z) trail rested) { base = base; imported = imported } → ((level : ℕ) × GoesBack s.trail trail level) → UsesEntry (below s z) t e → TakesOne s t rows p q
+takes_one s t z trail rested base imported e rows p q takes again is back used = record {
   setting = record {
     problem = ap (λ (x : Search). x.problem) is;
     gap = ap (λ (x : Search). x.gap) is;
     budget = ap (λ (x : Search). x.budget) is;
     refused = ap (λ (x : Search). x.refused) is;
   };
+  store = subst (λ (x : Trail). GoesOnAndBack s.trail x) (sym (ap (λ (x : Search). x.trail) is)) (back_only s.trail trail back.0 back.1);
   entry = e;
   takes = takes;
   again = subst (λ (b : Bound). LooksAgain s.z e.below b p.bounds q.bounds) (sym (ap (λ (x : Search). x.z) is)) again;
@@ -321,23 +358,23 @@ takes_one s t z trail rested base imported e rows p q takes again is used = reco
 }
 
 -- the ends of a conflict, after the store went back
-pub after_exhausted : (r mid t : Search) (rows : ℕ) (m q : Part) → mid ≡ moved r mid.trail mid.rested → NoneBelow r.problem.model r.z → t ≡ saying mid (raised_to mid.raised mid.z) (Over ends.Exhausted)
+pub after_exhausted : (r mid t : Search) (rows : ℕ) (m q : Part) → mid ≡ moved r mid.trail mid.rested → ((level : ℕ) × GoesBack r.trail mid.trail level) → NoneBelow r.problem.model r.z → t ≡ saying mid (raised_to mid.raised mid.z) (Over ends.Exhausted)
     → Raises mid.z m.bounds q.bounds → q.board ≡ m.board → IsCausedFrom r t rows m q (Some turns.Exhausted)
-after_exhausted r mid t rows m q e none is raises board =
-    caused_exhausted r t rows m q mid.trail mid.rested none (is ∙ ap (λ (x : Search). saying x (raised_to x.raised x.z) (Over ends.Exhausted)) e)
+after_exhausted r mid t rows m q e back none is raises board =
+    caused_exhausted r t rows m q mid.trail mid.rested (back_only r.trail mid.trail back.0 back.1) none (is ∙ ap (λ (x : Search). saying x (raised_to x.raised x.z) (Over ends.Exhausted)) e)
     (subst (λ (b : Bound). Raises b m.bounds q.bounds) (ap (λ (x : Search). x.z) e) raises) board
 
-pub after_spent : (r mid t : Search) (rows : ℕ) (m : Part) (clause : List Atom) (u : Atom) (back : ℕ) → mid ≡ moved r mid.trail mid.rested → IsLesson r mid.trail clause u back → mid.budget ≡ Some mid.tally
+pub after_spent : (r mid t : Search) (rows : ℕ) (m : Part) (clause : List Atom) (u : Atom) (level back : ℕ) → mid ≡ moved r mid.trail mid.rested → GoesBack r.trail mid.trail level → IsLesson r mid.trail clause u back → mid.budget ≡ Some mid.tally
     → t ≡ saying mid mid.raised (Over (ends.Spent clause mid.z)) → IsCausedFrom r t rows m m (Some (turns.Spent clause mid.z))
-after_spent r mid t rows m clause u back e lesson budget is =
+after_spent r mid t rows m clause u level back e went lesson budget is =
     subst (λ (b : Bound). IsCausedFrom r t rows m m (Some (turns.Spent clause b))) (sym (ap (λ (x : Search). x.z) e))
-    (caused_spent r t rows m mid.trail mid.rested clause lesson.above lesson.false_before lesson.new (subst (λ (x : Search). x.budget ≡ Some x.tally) e budget) (is ∙ ap (λ (x : Search). saying x x.raised (Over (ends.Spent clause x.z))) e))
+    (caused_spent r t rows m mid.trail mid.rested clause (back_only r.trail mid.trail level went) lesson.above lesson.false_before lesson.new (subst (λ (x : Search). x.budget ≡ Some x.tally) e budget) (is ∙ ap (λ (x : Search). saying x x.raised (Over (ends.Spent clause x.z))) e))
 
 pub after_learnt : (r mid t : Search) (rows : ℕ) (m q : Part) (clause : List Atom) (u : Atom) (level back : ℕ) → mid ≡ moved r mid.trail mid.rested → GoesBack r.trail mid.trail level → IsLesson r mid.trail clause u back
     → IfSome r.budget (λ budget. r.tally < budget) → t ≡ with_learnt (moved mid t.trail t.rested) clause → GoesBack mid.trail t.trail back → q.bounds ≡ m.bounds
     → (IsShort mid.problem.model clause → IsShared rows mid.z clause m.board q.board) → ((IsShort mid.problem.model clause → ⊥) → q.board ≡ m.board) → IsCausedFrom r t rows m q (Some turns.Learnt)
 after_learnt r mid t rows m q clause u level back e went lesson left is again bounds shared unshared =
-    caused_learnt r t rows m q t.trail t.rested clause lesson.above lesson.false_before lesson.new left
+    caused_learnt r t rows m q t.trail t.rested clause (back_after r.trail mid.trail t.trail back (back_only r.trail mid.trail level went) again) lesson.above lesson.false_before lesson.new left
     (omega (arith, ap (λ (x : Trail). x.level) again.is, ap (λ (x : Trail). x.level) went.is, went.within, lesson.asserts.below))
     (is ∙ ap (λ (x : Search). with_learnt (moved x t.trail t.rested) clause) e) bounds
     (subst (λ (x : Search). IsShort x.problem.model clause → IsShared rows x.z clause m.board q.board) e shared)

@@ -1,7 +1,7 @@
 -- What a worker keeps over its turns.
 use Rattle.std.specs.Prelude.{IfSome, IsSome, All}
-use Rattle.std.proofs.Common.{ℕ, zero, ◌+◌, ◌≤◌, ◌<◌, ◌^◌, ◌≡◌, ◌∙◌, ◌⊎◌, inl, inr, Bool, true, Option, Some, None, List, [], ◌∷◌, ◌++◌, length, take, refl, sym, ap, subst, arith}
-use Rattle.std.proofs.lemmas.List.{take-append-le}
+use Rattle.std.proofs.Common.{ℕ, ◌+◌, ◌≤◌, ◌<◌, ◌^◌, ◌≡◌, ◌∙◌, ◌⊎◌, inl, inr, Bool, Option, Some, None, List, [], ◌∷◌, ◌++◌, length, take, refl, sym, ap, subst, arith}
+use Rattle.std.proofs.lemmas.List.{take-append-le, take-take}
 use Rattle.cps_model.specs.declared.bound.Bound.{Bound}
 use Rattle.cps_literal.specs.declared.atom.Atom.{Atom}
 use Rattle.cps_instance.specs.Problem.{Problem, variable_count}
@@ -18,14 +18,13 @@ use Rattle.cps_search.specs.declared.end.End.TheVariants as ends
 use Rattle.cps_search.specs.declared.turn.Turn.{Turn}
 use Rattle.cps_search.specs.declared.turn.Turn.TheVariants as turns
 use Rattle.cps_search.specs.Fixed.{AreFixed}
-use Rattle.cps_search.specs.Lessons.{GoesBack}
 use Rattle.cps_search.specs.Scope.{Scope, IsScopeOf, AreSameUpTo}
 use Rattle.cps_search.specs.Searches.{Search, IsSettled, IsSoundSearch}
 use Rattle.cps_search.specs.Moves.{fresh, moved, decided}
-use Rattle.cps_search.specs.Turns.{Caused, DecisionDue, IsOnward, LearntOne, SameRaised, SameSetting, Steps}
+use Rattle.cps_search.specs.Turns.{Caused, DecisionDue, GoesOnAndBack, IsOnward, LearntOne, SameRaised, SameSetting, Steps}
 use Rattle.cps_search.specs.Ends.{BrancherTurn, DecidedOne, Decides, EndsAs, EndsRaised, HeardOne, Hears, IsWorking, MovesWith, RunsTo, Stands, TakesTurn, TurnCaused, end_of}
 use Rattle.cps_search.proofs.Completing.{all_fixed}
-use Rattle.cps_search.proofs.Turning.{setting_of, setting_same, setting_trans}
+use Rattle.cps_search.proofs.Turning.{back_after, setting_of, setting_same, setting_trans}
 use Rattle.cps_search.proofs.Moving.{ends_by, moves_more, moves_same, takes_turn}
 
 -- where the variables are fixed, so are all subjects that a brancher asks of
@@ -43,6 +42,14 @@ pub same_onward : (n kept : ℕ) (s t : Trail) → kept ≤ length s.entries →
 same_onward n kept s t within h = record {
   domains = λ i l. ap (λ (ds : Domains). first_of ds i) h.first;
   entries = ap (λ (es : List Entry). take kept es) h.entries ∙ take-append-le kept s.entries h.added within;
+}
+
+-- and where the last ones were taken back too, as far as they go
+pub same_back : (n kept : ℕ) (s t : Trail) → kept ≤ length s.entries → kept ≤ length t.entries → GoesOnAndBack s t → AreSameUpTo n kept s t
+same_back n kept s t within left h = record {
+  domains = λ i l. ap (λ (ds : Domains). first_of ds i) h.first;
+  entries = ap (λ (es : List Entry). take kept es) h.front ∙ take-take kept (length t.entries) h.furthest.entries left
+      ∙ ap (λ (es : List Entry). take kept es) h.onward.entries ∙ take-append-le kept s.entries h.onward.added within;
 }
 
 take_none : (es : List Entry) → take 0 es ≡ []
@@ -103,6 +110,12 @@ pub setting_stands : (m t : Search) → Stands m t → SameSetting m t
 setting_stands m t stands = elim stands [
   | inl same ↦ record { problem = ap (λ (x : Search). x.problem) same; gap = ap (λ (x : Search). x.gap) same; budget = ap (λ (x : Search). x.budget) same; refused = ap (λ (x : Search). x.refused) same }
   | inr back ↦ record { problem = ap (λ (x : Search). x.problem) back.1; gap = ap (λ (x : Search). x.gap) back.1; budget = ap (λ (x : Search). x.budget) back.1; refused = ap (λ (x : Search). x.refused) back.1 }
+]
+
+pub stands_back : (s : Trail) (m t : Search) → GoesOnAndBack s m.trail → Stands m t → GoesOnAndBack s t.trail
+stands_back s m t h stands = elim stands [
+  | inl same ↦ subst (λ (x : Search). GoesOnAndBack s x.trail) (sym same) h
+  | inr back ↦ back_after s m.trail t.trail 0 h back.0
 ]
 
 stands_base : (m t : Search) → Stands m t → t.base ≡ m.base

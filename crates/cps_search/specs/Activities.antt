@@ -2,6 +2,7 @@
 use Rattle.std.specs.Prelude.{ℕ, ◌+◌, ◌/◌, ◌^◌, ◌<◌, ◌≤◌, ◌≡◌, ◌==◌, Bool, true, false, if◌then◌else◌, List, length, map, slice_index, slice_index_or}
 use Rattle.std.specs.List.{list_any}
 use Rattle.cps_literal.specs.declared.atom.Atom.{Atom}
+use Rattle.cps_search.specs.declared.ranking.Aside.{Aside}
 use Rattle.cps_search.specs.Luby.{Pace}
 
 -- whether an atom of the clause is about the subject
@@ -41,7 +42,9 @@ pub record MarksOne (subject : ℕ) (marks marks' : List Bool) (old new : List �
   pub marked : (i : ℕ) → i < length old → slice_index_or marks' i false ≡ (if subject == i then true else slice_index_or marks i false)
   pub each : (i : ℕ) → i < length old → slice_index new i ≡ slice_index old i + (if subject == i then (if slice_index_or marks i false then 0 else 1) else 0)
 
--- a brancher by activity: the activity of each variable, and the pace of its restarts
+-- a brancher by activity: the activity of each variable, the pace of its restarts, and the variables that it set aside, each with a number
+-- of entries after which it and those before it on the list were fixed
 pub record ByActivity : Type 0 where
   pub activities : List ℕ
   pub pace : Pace
+  pub aside : List Aside

@@ -6,6 +6,8 @@ use Rattle.cps_domain.specs.Window.{is_among}
 use Rattle.cps_trail.specs.Trail.{Domains, Entry, Trail, first_of, leaves, admits}
 use Rattle.cps_search.specs.Fixed.{IsFixedAfter}
 use Rattle.cps_search.specs.Scope.{AreSameUpTo, AreFixedAfter}
+use Rattle.cps_search.specs.declared.ranking.Aside.{Aside}
+use Rattle.cps_search.specs.SetAside.{AreFixedAside, aside_at}
 
 -- the same entries leave the same of the same domain
 admits-same : (first first' : Domains) (es : List Entry) (i : ℕ) (x : ℤ) → first_of first' i ≡ first_of first i → admits first' es i x ≡ admits first es i x
@@ -27,3 +29,10 @@ kept_on n counts s t k l kl same agrees pos i j li c lj jn = fixed-same n k (get
 
 pub none_kept : (n : ℕ) (counts : List ℕ) (s : Trail) → AreFixedAfter n counts s 0
 none_kept n counts s h = absurd (omega arith)
+
+pub aside_kept_on : (n : ℕ) (aside : List Aside) (s t : Trail) (k l : ℕ) → k ≤ l → AreSameUpTo n k s t → AreFixedAside n aside s l → AreFixedAside n aside t k
+aside_kept_on n aside s t k l kl same agrees pos i j li c lj jn =
+    fixed-same n k (aside_at aside i).after (aside_at aside j).variable s t same jn c (agrees (omega arith) i j li (omega arith) lj jn)
+
+pub aside_none_kept : (n : ℕ) (aside : List Aside) (s : Trail) → AreFixedAside n aside s 0
+aside_none_kept n aside s h = absurd (omega arith)

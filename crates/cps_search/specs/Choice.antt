@@ -1,5 +1,5 @@
 -- Which atom a brancher chooses.
-use Rattle.std.specs.Prelude.{ℕ, ℤ, ◌≡◌, ◌<◌, ◌≤◌, ◌≤ℤ◌, ◌⊎◌, true, List, length, Option, Some, None, slice_index}
+use Rattle.std.specs.Prelude.{ℕ, ℤ, ◌≡◌, ◌<◌, ◌≤◌, ◌≤ℤ◌, true, List, length, Option, Some, None, slice_index}
 use Rattle.cps_literal.specs.declared.atom.Atom.{Atom}
 use Rattle.cps_literal.specs.declared.atom.Op.TheVariants.{Le}
 use Rattle.cps_trail.specs.Trail.{Trail, admits, IsTrueNow, IsFalseNow}
@@ -39,14 +39,3 @@ pub record IsMostActive (activities : List ℕ) (s : Trail) (i : ℕ) : Type 0 w
 abbrev pub ChoosesMostActive : List ℕ → Trail → Option Atom → Type 0
 ChoosesMostActive activities s None = AreFixed s (length activities)
 ChoosesMostActive activities s (Some t) = TakesLeast s t × IsMostActive activities s t.subject
-
--- A variable is ahead of another: its activity is greater, or it is as great and the variable is no later. A number that is no variable's is
--- behind each variable.
-abbrev pub IsAhead : List ℕ → ℕ → ℕ → Type 0
-IsAhead activities i j = j < length activities → (i < length activities) × (slice_index activities j ≤ slice_index activities i) × (slice_index activities j ≡ slice_index activities i → i ≤ j)
-
--- of two numbers the one that is ahead
-pub record IsBetter (activities : List ℕ) (one other best : ℕ) : Type 0 where
-  pub is : (best ≡ one) ⊎ (best ≡ other)
-  pub of_one : IsAhead activities best one
-  pub of_other : IsAhead activities best other

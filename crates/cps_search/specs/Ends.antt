@@ -30,7 +30,7 @@ use Rattle.cps_search.specs.Lessons.{GoesBack}
 use Rattle.cps_search.specs.Scope.{Scope, IsScopeOf}
 use Rattle.cps_search.specs.Searches.{Search, IsSoundSearch, NoneBelow, IsHonestJournal, IsItemAbove, learnt_count}
 use Rattle.cps_search.specs.Moves.{moved, decided}
-use Rattle.cps_search.specs.Turns.{Steps, SameSetting, DecisionDue, TookOne, LearntOne, FoundOne, ExhaustedAll, SawMet, SpentAll, IsLess, SameRaised}
+use Rattle.cps_search.specs.Turns.{SameSetting, DecisionDue, TookOne, LearntOne, FoundOne, ExhaustedAll, SawMet, SpentAll, IsLess, SameRaised}
 
 -- A decision was made where one was due: the atom that was chosen.
 pub record DecidedOne (chooses : Trail → Option Atom → Type 0) (s t : Search) (rows : ℕ) (p q : Part) : Type 0 where

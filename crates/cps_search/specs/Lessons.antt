@@ -1,5 +1,5 @@
 -- What a conflict teaches.
-use Rattle.std.specs.Prelude.{◌≡◌, ℕ, ◌<◌, ◌≤◌, List, length, All}
+use Rattle.std.specs.Prelude.{◌≡◌, ℕ, ◌<◌, ◌≤◌, List, length, take, All}
 use Rattle.cps_literal.specs.declared.atom.Atom.{Atom}
 use Rattle.cps_literal.specs.Normal.{IsNormal}
 use Rattle.cps_trail.specs.Trail.{Trail, IsFalseNow, up_to}
@@ -7,10 +7,11 @@ use Rattle.cps_trail.specs.Adds.{Follows}
 use Rattle.cps_conflict.specs.Conflicts.{Premises, NotFalseAtBottom, Asserts}
 use Rattle.cps_clauses.specs.Quiet.{IsQuiet, WeakensTo}
 
--- a store went back to a level
+-- a store went back to a level: the entries of later levels are gone, which were the last ones
 pub record GoesBack (s t : Trail) (level : ℕ) : Type 0 where
   pub within : level ≤ s.level
   pub is : t ≡ record s { entries = up_to level s.entries; level = level }
+  pub front : t.entries ≡ take (length t.entries) s.entries
 
 -- A clause follows from a conflict and the reasons of a store; it is normal and false, its subjects exist, none of its atoms was false
 -- at the end of level 0, and one of them alone became false at the present level.

@@ -2,6 +2,8 @@ pub mod Fixed
 pub mod Choice
 pub mod Scope
 pub mod Noting
+pub mod Tournament
+pub mod SetAside
 pub mod Agreeing
 pub mod Luby
 pub mod Activities

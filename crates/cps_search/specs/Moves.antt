@@ -1,5 +1,5 @@
 -- Searches that begin, move to another store, and decide.
-use Rattle.std.specs.Prelude.{ℕ, ◌+◌, map, false, Option, Some, None, List, [], ◌∷◌, ◌++◌}
+use Rattle.std.specs.Prelude.{ℕ, ◌+◌, map, false, Option, None, List, [], ◌∷◌, ◌++◌}
 use Rattle.cps_model.specs.declared.bound.Bound.{Bound}
 use Rattle.cps_model.specs.declared.bound.Bound.TheVariants.{Infinite}
 use Rattle.cps_literal.specs.declared.atom.Atom.{Atom}

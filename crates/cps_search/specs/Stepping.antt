@@ -1,5 +1,5 @@
 -- How a turn goes from step to step.
-use Rattle.std.specs.Prelude.{◌≡◌, ◌⊎◌, ℕ, ◌+◌, ◌<◌, false, Option, Some, None, List, All}
+use Rattle.std.specs.Prelude.{◌≡◌, ◌⊎◌, ℕ, ◌+◌, ◌<◌, false, Option, List, All}
 use Rattle.cps_model.specs.declared.bound.Bound.{Bound}
 use Rattle.cps_port.specs.declared.entry.Entry.{Entry as BoardEntry}
 use Rattle.cps_port.specs.declared.part.BoundsPart.{BoundsPart}
@@ -17,7 +17,7 @@ use Rattle.cps_search.specs.declared.end.Said.TheVariants.{Nothing}
 use Rattle.cps_search.specs.declared.turn.Turn.{Turn}
 use Rattle.cps_search.specs.Searches.{Search, IsNewClause}
 use Rattle.cps_search.specs.Moves.{below, moved}
-use Rattle.cps_search.specs.Turns.{BeginsTurn, Caused, IsOnward, LooksAgain, PassesOver, SameBest, SameImported, SameRaised, SameSetting, Uses}
+use Rattle.cps_search.specs.Turns.{BeginsTurn, Caused, GoesOnAndBack, IsOnward, LooksAgain, PassesOver, SameBest, SameImported, SameRaised, SameSetting, Uses}
 
 -- the search that a searcher stands for, while no memory was refused
 abbrev pub search_of : {P : Type 0} → Searcher P → Search
@@ -45,6 +45,7 @@ UsesEntry s t e = (Uses t.z s.base t.base e × (t.imported ≡ s.imported + 1)) 
 -- an entry was taken, and used where it helps, after the look at both bounds
 pub record TakesOne (s t : Search) (rows : ℕ) (p q : Part) : Type 0 where
   pub setting : SameSetting s t
+  pub store : GoesOnAndBack s.trail t.trail
   pub entry : BoardEntry
   pub takes : TookEntry s.problem.model rows p.board q.board entry
   pub again : LooksAgain s.z entry.below t.z p.bounds q.bounds
@@ -84,4 +85,5 @@ pub record Reaches (s : Search) (rows : ℕ) (p m : Part) (t : Search) : Type 0 
 -- what is done has its cause for each turn that came so far
 pub record IsCausedFrom (m t : Search) (rows : ℕ) (p q : Part) (turn : Option Turn) : Type 0 where
   pub setting : SameSetting m t
+  pub store : GoesOnAndBack m.trail t.trail
   pub cause : (s : Search) (o : Part) → Reaches s rows o p m → Caused s t rows o q turn

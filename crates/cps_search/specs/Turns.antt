@@ -1,7 +1,7 @@
 -- Why a turn was what it was. Each answer has its cause, which the search and the actor's part of the shared state show.
-use Rattle.std.specs.Prelude.{◌≡◌, ◌⊎◌, ◌↔◌, ℕ, ◌+◌, ◌<◌, ◌≤◌, ℤ, true, false, Option, Some, None, IfSome, List, [], ◌∷◌, ◌++◌, length, All}
+use Rattle.std.specs.Prelude.{◌≡◌, ◌⊎◌, ℕ, ◌+◌, ◌<◌, ◌≤◌, ℤ, true, false, Option, Some, None, IfSome, List, ◌++◌, length, take, All}
 use Rattle.cps_model.specs.declared.bound.Bound.{Bound}
-use Rattle.cps_model.specs.declared.bound.Bound.TheVariants.{At, Infinite}
+use Rattle.cps_model.specs.declared.bound.Bound.TheVariants.{At}
 use Rattle.cps_model.specs.declared.model.CpModel.{CpModel}
 use Rattle.cps_model.specs.Solutions.{objective_value, IsSolution}
 use Rattle.cps_model.specs.Statuses.{is_closed}
@@ -82,6 +82,13 @@ pub record IsOnward (s t : Trail) : Type 0 where
   pub added : List Entry
   pub entries : t.entries ≡ s.entries ++ added
   pub fewer : open_values t.first t.entries + length added ≤ open_values s.first s.entries
+
+-- entries were added, and then the last ones may have been taken back
+pub record GoesOnAndBack (s t : Trail) : Type 0 where
+  pub furthest : Trail
+  pub onward : IsOnward s furthest
+  pub first : t.first ≡ s.first
+  pub front : t.entries ≡ take (length t.entries) furthest.entries
 
 -- what no turn changes
 pub record SameSetting (s t : Search) : Type 0 where
@@ -258,5 +265,6 @@ pub record Falls (s t : Search) (p q : Part) : Type 0 where
 -- what the steps that all workers have in common do
 pub record Steps (s t : Search) (rows : ℕ) (p q : Part) (answer : Option Turn) : Type 0 where
   pub setting : SameSetting s t
+  pub store : GoesOnAndBack s.trail t.trail
   pub cause : Caused s t rows p q answer
   pub z : Falls s t p q

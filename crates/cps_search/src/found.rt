@@ -11,7 +11,7 @@ ghost use Rattle.cps_port.specs.Order.{IsBelow};
 ghost use Rattle.cps_search.specs.Fixed.{AreFixed};
 ghost use Rattle.cps_search.specs.Searches.{below_bound};
 
-use crate::scan::first_open;
+use crate::scan::any_open;
 use cps_eval::objective;
 use cps_instance::Instance;
 use cps_trail::Store;
@@ -25,11 +25,12 @@ pub(crate) struct Found {
 }
 
 /// The only values of the variables, where each variable has one value alone; nothing where one has not. Where inference with the cut
-/// below z is at rest, they are a solution below z.
+/// below z is at rest, they are a solution below z. `last_open` is where an open variable is looked for first, and where one was found last.
 pub(crate) fn read_solution(
     alloc: Global,
     instance: &Instance,
     store: &Store,
+    last_open: &mut usize,
 ) -> Result<Option<Found>, AllocError>
     requires sound { IsSound store.now }
     requires domains { store.now.first ≡ instance.now.domains }
@@ -40,7 +41,9 @@ pub(crate) fn read_solution(
 {
     let count = instance.variable_count();
     prove!(count <= instance.domains().len());
-    if first_open(store, 0, count) < count {
+    let left = any_open(store, *last_open, count);
+    if left < count {
+        *last_open = left;
         return Ok(None);
     }
     let values = least_values(alloc, store, count)?;

@@ -1,11 +1,20 @@
-//! The search: which atom is decided next, and when to restart.
+//! The search: what a worker does in a turn, which atom is decided next, and when to restart.
+//!
+//! `Frame` is what all workers have in common: a store, tasks, clauses, and the bound z below which solutions are looked for. Its
+//! `steps` are a turn up to a decision, and each answer has its cause: the two bounds met, an entry of the board was taken, a conflict
+//! ended all, spent the budget or was learnt from, a solution was found, or a decision is due. What is learnt is true below z, was
+//! false in the store, and says something new. `Worker` is a frame with a brancher: a turn decides what the brancher
+//! chooses, lets it hear what was learnt, and restarts where it asks for that. A run of turns comes to an end and says by what, and
+//! `Ended` is what is seen of it then. Where memory was refused, each later call that may take some is refused too.
 //!
 //! A brancher chooses an atom that the store leaves undecided, and nothing exactly where all variables are fixed. It hears each
-//! learnt clause, and answers whether to restart. `FixedBrancher` goes through the variables in order; its `choose_from`
-//! does not look again at those before the last place that the kept entries fixed. `ActivityBrancher` takes the variable of
-//! which most learnt clauses spoke, as Moskewicz, Madigan, Zhao, Zhang and Malik, "Chaff: Engineering an Efficient SAT
-//! Solver" (2001), section 3.2, but halves only at a limit, and restarts by the sequence of Luby, Sinclair and Zuckerman,
-//! "Optimal speedup of Las Vegas algorithms" (1993).
+//! learnt clause, and answers whether to restart. As long as the first entries stay it keeps what it saw of them, so that a choice need not
+//! look at each variable again. `FixedBrancher` goes through the variables in order, from the last place on that the kept
+//! entries fixed. `ActivityBrancher` takes the variable of which most learnt clauses spoke, as Moskewicz, Madigan,
+//! Zhao, Zhang and Malik, "Chaff: Engineering an Efficient SAT Solver" (2001), section 3.2, but halves only at a limit. It plays a
+//! tournament of the variables (Knuth, "The Art of Computer Programming", volume 3, section 5.2.3), in which those that were seen fixed
+//! are out of play until their entries are gone, and restarts by the sequence of Luby, Sinclair and Zuckerman, "Optimal speedup of
+//! Las Vegas algorithms" (1993).
 #![tactic(auto)]
 
 mod activity;
@@ -20,12 +29,14 @@ mod import;
 mod learn;
 mod look;
 mod raise;
+mod ranking;
 mod restarts;
 mod scan;
 mod searcher;
 mod settle;
 #[cfg(test)]
 mod tests;
+mod tournament;
 mod turn;
 mod worker;
 

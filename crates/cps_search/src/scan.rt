@@ -1,6 +1,6 @@
 //! Questions on one subject, or on several in order.
 ghost use Rattle.std.specs.Prelude.{◌≡◌, ◌↔◌, ℕ, ◌<◌, ◌≤◌, ◌^◌, length, IsTrue};
-ghost use Rattle.cps_search.specs.Fixed.{IsFixed};
+ghost use Rattle.cps_search.specs.Fixed.{AreFixed, IsFixed};
 ghost use Rattle.cps_search.specs.Choice.{IsUndecided, TakesLeast};
 
 use cps_literal::{Atom, Op};
@@ -28,6 +28,25 @@ pub(crate) fn first_open(store: &Store, from: usize, count: usize) -> usize
         if !is_fixed(store, subject as u32) {
             return subject;
         }
+    }
+    count
+}
+
+/// A subject before `count` that is not fixed, looked for from `from` on and then before it; `count` where there is none.
+pub(crate) fn any_open(store: &Store, from: usize, count: usize) -> usize
+    requires subjects { count ≤ length store.now.first }
+    requires few { count ≤ 2 ^ 31 }
+    ensures none { count ≤ result → AreFixed store.now count }
+    ensures open_there { result < count → IsFixed store.now result → ⊥ }
+{
+    let start = from.min(count);
+    let after = first_open(store, start, count);
+    if after < count {
+        return after;
+    }
+    let before = first_open(store, 0, start);
+    if before < start {
+        return before;
     }
     count
 }

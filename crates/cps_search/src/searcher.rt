@@ -58,6 +58,8 @@ pub(crate) struct Searcher<'a, P: Propagator> {
     /// After how many entries inference last came to rest.
     pub rested: Option<usize>,
     pub said: Said,
+    /// A variable that was open when one was last looked for.
+    last_open: usize,
 }
 
 impl<'a, P: Propagator> Searcher<'a, P> {
@@ -89,6 +91,7 @@ impl<'a, P: Propagator> Searcher<'a, P> {
             raised: None,
             rested: None,
             said: Said::Nothing,
+            last_open: 0,
         })
     }
 
@@ -98,6 +101,7 @@ impl<'a, P: Propagator> Searcher<'a, P> {
         requires falls { BoundLe z self.old.z }
         requires shown { IsIncumbent self.old.instance.model z }
         ensures is { search_of self.new ≡ below (search_of self.old) z }
+        ensures store { self.new.store ≡ self.old.store }
         ensures sound { IsSoundSearch (search_of self.new) }
     {
         self.said = Said::Nothing;
@@ -153,6 +157,7 @@ impl<'a, P: Propagator> Searcher<'a, P> {
         requires few { length self.old.clauses.clauses < 2 ^ 32 }
         ensures used { OnOk result (UsesEntry (search_of self.old) (search_of self.new) news.now.entry) }
         ensures is { OnOk result (search_of self.new ≡ record (moved (search_of self.old) self.new.store self.new.rested) { base = self.new.clauses; imported = self.new.imported }) }
+        ensures back { OnOk result ((level : ℕ) × GoesBack self.old.store self.new.store level) }
         ensures sound { OnOk result (IsSoundSearch (search_of self.new)) }
     {
         self.said = Said::Nothing;
@@ -339,7 +344,13 @@ impl<'a, P: Propagator> Searcher<'a, P> {
         ensures cause { IfOk result (λ turn. IsCausedFrom (search_of self.old) (search_of self.new) (Q.rows port.old) (Q.part port.old) (Q.part port.new) turn) }
         ensures sound { OnOk result (IsSoundSearch (search_of self.new)) }
     {
-        let Some(found) = read_solution(self.alloc, &self.instance, &self.store)? else {
+        let Some(found) = read_solution(
+            self.alloc,
+            &self.instance,
+            &self.store,
+            &mut self.last_open,
+        )?
+        else {
             self.said = Said::Due;
             return Ok(None);
         };

@@ -2,6 +2,7 @@
 ghost use Rattle.std.specs.Prelude.{◌≡◌, ◌≤◌, length, IfOk};
 
 use crate::raise::raise_all;
+use crate::ranking::Ranking;
 use crate::restarts::{Restarts, luby};
 use crate::{ActivityBrancher, Brancher, FixedBrancher};
 use cps_domain::Domain;
@@ -150,12 +151,37 @@ fn active_follows_learnt_clauses(rt: HostRuntime) -> Result<(), Fail> {
     Ok(())
 }
 
+/// What is first where subject 0 is fixed by one entry, and how many are aside then, where that entry is kept, and where none is.
+fn asides(alloc: Global) -> Result<(Option<u32>, usize, usize, usize), AllocError> {
+    let mut store = three(alloc)?;
+    let mut brancher = FixedBrancher::over(alloc, 3)?;
+    decide_next(&mut brancher, &mut store, 0)?;
+    let mut ranking = Ranking::over(alloc, 3)?;
+    if store.len() < 3 {
+        return Err(AllocError);
+    }
+    let first = ranking.most_active(&store);
+    let at_first = ranking.out;
+    ranking.put_back(1);
+    let with_one = ranking.out;
+    ranking.put_back(0);
+    Ok((first, at_first, with_one, ranking.out))
+}
+
+#[test]
+fn only_what_was_undone_comes_back(rt: HostRuntime) -> Result<(), Fail> {
+    assert_eq!(rt; asides(rt.alloc())?, (Some(1), 1, 1, 0));
+    Ok(())
+}
+
 #[test]
 fn activities_are_halved_at_the_limit(rt: HostRuntime) -> Result<(), Fail> {
     let mut activities = [(1 << 40) - 1, 3];
     let mut marks = [false, false];
-    raise_all(&mut activities, &mut marks, &[at_most(0, 0)]);
+    assert!(rt; raise_all(&mut activities, &mut marks, &[at_most(0, 0)]));
     assert_eq!(rt; activities, [1 << 39, 1]);
+    assert!(rt; !raise_all(&mut activities, &mut marks, &[at_most(1, 0)]));
+    assert_eq!(rt; activities, [1 << 39, 2]);
     Ok(())
 }
 

@@ -1,9 +1,10 @@
 //! A worker that learns from conflicts, with a brancher of its own.
 
-ghost use Rattle.std.specs.Prelude.{◌≡◌, ◌≤◌, ◌^◌, length, false, Some, OnOk, OnErr, IfOk, IfSome, IsErr, IsNone, IsTrue, List, [], ◌∷◌, ◌++◌};
+ghost use Rattle.std.specs.Prelude.{◌≡◌, ℕ, ◌≤◌, ◌^◌, min, length, false, Some, OnOk, OnErr, IfOk, IfSome, IsErr, IsNone, IsTrue, List, [], ◌∷◌, ◌++◌};
 ghost use Rattle.cps_model.specs.declared.bound.Bound.{Bound as BoundOf};
 ghost use Rattle.cps_literal.specs.declared.atom.Atom.{Atom as AtomOf};
 ghost use Rattle.cps_instance.specs.Problem.{variable_count};
+ghost use Rattle.cps_trail.specs.Trail.{Trail};
 ghost use Rattle.cps_clauses.specs.declared.journal.JournalItem.{JournalItem as JournalItemOf};
 ghost use Rattle.cps_search.specs.Fixed.{AreFixed};
 ghost use Rattle.cps_search.specs.Scope.{IsScopeOf};
@@ -20,6 +21,7 @@ use cps_clauses::{Journal, JournalItem};
 use cps_instance::Instance;
 use cps_port::Port;
 use cps_propagate::{Engine, Propagator};
+use cps_trail::Store;
 use std::alloc::{AllocError, Global};
 use std::marker::Model;
 
@@ -75,6 +77,7 @@ fn decide_next<P: Propagator, B: Brancher>(
 fn hear_last<B: Brancher>(brancher: &mut B, journal: &[JournalItem]) -> bool
     ensures heard { (earlier : List JournalItemOf) (clause : List AtomOf) (below : BoundOf) → journal.now ≡ earlier ++ JournalItem.Learnt clause below ∷ [] → B.hears brancher.old clause result brancher.new }
     ensures scope { B.scope brancher.new ≡ B.scope brancher.old }
+    ensures saw { (s : Trail) (k : ℕ) → B.agrees brancher.old s k → B.agrees brancher.new s k }
 {
     match journal.last() {
         Some(JournalItem::Learnt(clause, _)) => brancher.learnt(clause.as_slice()),
@@ -87,6 +90,7 @@ fn hear<P: Propagator, B: Brancher>(frame: &mut Frame<'_, P>, brancher: &mut B)
     requires running { frame.old.refused ≡ false }
     ensures heard { (earlier : List JournalItemOf) (clause : List AtomOf) (below : BoundOf) → frame.old.base.journal ≡ earlier ++ JournalItem.Learnt clause below ∷ [] → Hears (λ restart. B.hears brancher.old clause restart brancher.new) frame.new }
     ensures scope { B.scope brancher.new ≡ B.scope brancher.old }
+    ensures saw { (s : Trail) (k : ℕ) → B.agrees brancher.old s k → B.agrees brancher.new s k }
     ensures frame { Stands frame.old frame.new }
     ensures sound { IsSoundSearch frame.old → IsSoundSearch frame.new }
 {
@@ -102,6 +106,7 @@ fn hear_turn<P: Propagator, B: Brancher>(frame: &mut Frame<'_, P>, brancher: &mu
     ensures heard { turn.now ≡ Turn.Learnt → (earlier : List JournalItemOf) (clause : List AtomOf) (below : BoundOf) → frame.old.base.journal ≡ earlier ++ JournalItem.Learnt clause below ∷ [] → Hears (λ restart. B.hears brancher.old clause restart brancher.new) frame.new }
     ensures others { (turn.now ≡ Turn.Learnt → ⊥) → (frame.new ≡ frame.old) × (brancher.new ≡ brancher.old) }
     ensures scope { B.scope brancher.new ≡ B.scope brancher.old }
+    ensures saw { (s : Trail) (k : ℕ) → B.agrees brancher.old s k → B.agrees brancher.new s k }
     ensures frame { Stands frame.old frame.new }
     ensures sound { IsSoundSearch frame.old → IsSoundSearch frame.new }
 {
@@ -115,6 +120,13 @@ fn hear_turn<P: Propagator, B: Brancher>(frame: &mut Frame<'_, P>, brancher: &mu
         | Turn::Spent(_, _)
         | Turn::RoundsDone => {}
     }
+}
+
+/// How many of the first `kept` entries a store still has.
+fn still_kept(store: &Store, kept: usize) -> usize
+    ensures { result ≡ min kept (length store.now.entries) }
+{
+    kept.min(store.entries().len())
 }
 
 /// The end that a turn was, if it was one.
@@ -182,7 +194,7 @@ impl<'a, P: Propagator, B: Brancher + Drop> Worker<'a, P, B> {
             }
             Some(turn) => {
                 hear_turn(&mut self.frame, &mut self.brancher, &turn);
-                self.kept = 0;
+                self.kept = still_kept(self.frame.store(), self.kept);
                 Ok(turn)
             }
         }

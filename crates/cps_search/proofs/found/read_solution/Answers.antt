@@ -29,7 +29,7 @@ returns-clause-solution c = λ z rest.
     let each : (i : ℕ) → i < variable_count c.args.instance.now → admits c.args.store.now.first c.args.store.now.entries i (value_at c.in_ok-values.values.items i) ≡ true =
     λ i l. c.in_ok-values.ensures.each i (omega (arith, l, c.variable_count-count.ensures)) in
     let fixed : AreFixed c.args.store.now (variable_count c.args.instance.now) =
-    λ i l. c.first_open.ensures.before i (omega arith) (omega (arith, l, c.if-first_open-count.false, c.variable_count-count.ensures)) in
+    λ i l. c.any_open-left.ensures.none (omega (arith, c.if-left-count.false)) i (omega (arith, l, c.variable_count-count.ensures)) in
     let both = free_below p s z c.domains.ensures.sound c.requires.domains c.requires.sound a size each fixed rest in
     let value : to_z w64 (of_z w64 c.objective-value.result) ≡ objective_value c.args.instance.now.model c.in_ok-values.values.items = search rules in
     (both.0, subst (λ (v : ℤ). IsBelow v z) (sym value) both.1)

@@ -1,4 +1,4 @@
-use Rattle.std.proofs.Common.{Option, ◌≡◌, sym, subst, refl}
+use Rattle.std.proofs.Common.{Option, sym, subst, refl}
 use Rattle.std.specs.Prelude.{IfSome, IsNone}
 use Rattle.std.specs.List.{All}
 use Rattle.cps_trail.specs.Trail.{IsFalseNow}
