@@ -1,0 +1,106 @@
+"""Random models through protobuf's printers and `cpsolve print`, and back: each must be the same model."""
+import random
+import subprocess
+import sys
+
+import cp_model_pb2 as pb
+from google.protobuf import text_format
+
+WHOLE = [0, 1, -1, 2, 7, 10**6, -(10**9), 2**53, -(2**53), 2**62, -(2**63), 2**63 - 1]
+EXACT = [0.0, 1.0, -1.0, 3.0, 1e6, -1e15, float(2**53), -float(2**53)]
+
+
+def numbers(rng, low, high, most=4):
+    return [rng.randint(low, high) for _ in range(rng.randint(0, most))]
+
+
+def wholes(rng, most=4):
+    return [rng.choice(WHOLE) for _ in range(rng.randint(0, most))]
+
+
+def references(rng):
+    return numbers(rng, -(2**31), 2**31 - 1)
+
+
+def constraint(rng):
+    made = pb.ConstraintProto(enforcement_literal=references(rng))
+    kind = rng.choice(["bool_or", "bool_and", "bool_xor", "at_most_one", "exactly_one", "linear", None])
+    if kind == "linear":
+        made.linear.SetInParent()
+        made.linear.vars.extend(references(rng))
+        made.linear.coeffs.extend(wholes(rng))
+        made.linear.domain.extend(wholes(rng))
+    elif kind:
+        getattr(made, kind).SetInParent()
+        getattr(made, kind).literals.extend(references(rng))
+    return made
+
+
+def model(rng):
+    made = pb.CpModelProto()
+    for _ in range(rng.randint(0, 3)):
+        made.variables.add(domain=wholes(rng))
+    made.constraints.extend(constraint(rng) for _ in range(rng.randint(0, 4)))
+    if rng.random() < 0.7:
+        made.objective.SetInParent()
+        made.objective.vars.extend(references(rng))
+        made.objective.coeffs.extend(wholes(rng))
+        made.objective.domain.extend(wholes(rng))
+        made.objective.offset = rng.choice(EXACT)
+        made.objective.scaling_factor = rng.choice(EXACT)
+    return made
+
+
+def meant(made):
+    """The model in the form that is printed: a scaling factor of 0 counts as 1, and one of 1 is left out."""
+    same = pb.CpModelProto()
+    same.CopyFrom(made)
+    if same.objective.scaling_factor == 1.0:
+        same.objective.scaling_factor = 0.0
+    return same
+
+
+def printed(rng, made):
+    """The model as one of protobuf's printers writes it."""
+    return text_format.MessageToString(
+        made,
+        as_utf8=rng.random() < 0.5,
+        as_one_line=rng.random() < 0.3,
+        use_short_repeated_primitives=rng.random() < 0.5,
+        pointy_brackets=rng.random() < 0.3,
+        use_index_order=rng.random() < 0.5,
+    )
+
+
+def run(words, text):
+    done = subprocess.run(words, input=text, stdout=subprocess.PIPE, check=False)
+    return done.returncode, done.stdout
+
+
+def check(program, protoc, made, text, what):
+    code, ours = run([program, "print"], text)
+    assert code == 0, (what, text, ours)
+    back = text_format.Parse(ours.decode(), pb.CpModelProto())
+    assert meant(back) == meant(made), (what, text, ours)
+    code, encoded = run(protoc + ["--encode=operations_research.sat.CpModelProto"], ours)
+    assert code == 0, (what, ours)
+    assert meant(pb.CpModelProto.FromString(encoded)) == meant(made), (what, ours)
+    code, again = run([program, "print"], ours)
+    assert (code, again) == (0, ours), (what, ours, again)
+
+
+def main():
+    here, count = sys.argv[1], int(sys.argv[2])
+    program = here + "/cpsolve"
+    protoc = ["protoc", "--proto_path=" + here + "/docs", here + "/docs/cp_model.proto"]
+    for seed in range(count):
+        rng = random.Random(seed)
+        made = model(rng)
+        check(program, protoc, made, printed(rng, made).encode(), ("python", seed))
+        code, text = run(protoc + ["--decode=operations_research.sat.CpModelProto"], made.SerializeToString())
+        assert code == 0, seed
+        check(program, protoc, made, text, ("protoc", seed))
+    print(count, "models, each as python's and as protoc's printer writes it: the same model both ways")
+
+
+main()
