@@ -4,7 +4,7 @@ use Rattle.std.proofs.Common.{◌≡◌, ℕ, ◌+◌, List, [], ◌∷◌, Bool
 use Rattle.std.proofs.lemmas.List.Elements.{All-nil, All-cons}
 use Rattle.cps_model.specs.declared.model.CpModel.{CpModel}
 use Rattle.cps_model.specs.declared.place.Place.{Place}
-use Rattle.cps_model.specs.Validity.{or_else, at_place, first_faulty, variable_fault, constraint_fault, objective_fault, assumption_fault, IsValid}
+use Rattle.cps_model.specs.Validity.{or_else, at_place, first_faulty, variable_fault, constraint_fault, objective_fault, strategy_fault, assumption_fault, IsValid}
 
 -- a rule that is kept, before rules that are kept
 pub rule_kept : (n : ℕ) (b : Bool) (rest : Option ℕ) → (if b then rest else Some n) ≡ None → (b ≡ true) × (rest ≡ None)
@@ -30,6 +30,7 @@ pub record Parts (m : CpModel) : Type 0 where
   pub variables : All (λ v. variable_fault v ≡ None) m.variables
   pub constraints : All (λ c. constraint_fault m.variables m.constraints c ≡ None) m.constraints
   pub objective : objective_fault m.variables m.objective ≡ None
+  pub strategies : All (λ s. strategy_fault m.variables s ≡ None) m.strategies
   pub assumptions : All (λ r. assumption_fault m.variables r ≡ None) m.assumptions
 
 pub parts_of : (m : CpModel) → IsValid m → Parts m
@@ -38,9 +39,11 @@ parts_of m e =
     let variables = or_else-none _ _ size.1 in
     let constraints = or_else-none _ _ variables.1 in
     let objective = or_else-none _ _ constraints.1 in
+    let strategies = or_else-none _ _ objective.1 in
     record {
       variables = first_faulty-none _ _ 0 m.variables variables.0;
       constraints = first_faulty-none _ _ 0 m.constraints constraints.0;
       objective = at_place-none _ _ objective.0;
-      assumptions = first_faulty-none _ _ 0 m.assumptions objective.1;
+      strategies = first_faulty-none _ _ 0 m.strategies strategies.0;
+      assumptions = first_faulty-none _ _ 0 m.assumptions strategies.1;
     }

@@ -10,8 +10,8 @@
 --       magnitude, add up to less than 2 ^ 62 (the objective's sum without its offset)
 --    7  a linear constraint's domain is well shaped
 --   16  the objective's domain is well shaped
---   18  the model is not too large
-use Rattle.std.specs.Prelude.{◌≡◌, ℕ, ◌+◌, ◌^◌, ◌==◌, nat_le, Bool, not, ◌&&◌, if◌then◌else◌, ℤ, unsigned_abs, List, [], ◌∷◌, ◌++◌, length, sum_by, Option, Some, None}
+--   18  the model is not too large, and the place of each strategy is a number below 2 ^ 32
+use Rattle.std.specs.Prelude.{◌≡◌, ℕ, ◌+◌, ◌^◌, ◌==◌, nat_le, nat_lt, Bool, not, ◌&&◌, if◌then◌else◌, ℤ, unsigned_abs, List, [], ◌∷◌, ◌++◌, length, sum_by, Option, Some, None}
 use Rattle.std.specs.List.{list_all}
 use Rattle.cps_model.specs.declared.model.CpModel.{CpModel}
 use Rattle.cps_model.specs.declared.model.Objective.{Objective}
@@ -51,6 +51,14 @@ objective_fault vs (Some o) =
     ∷ (5, is_paired (sum_of_objective o))
     ∷ (6, has_small_reach vs (sum_of_objective o))
     ∷ (16, is_well_shaped o.domain)
+    ∷ [])
+
+abbrev pub strategy_fault : List Variable → Strategy → Option ℕ
+strategy_fault vs s =
+    first_broken
+    ((3, list_all (names_variables vs) s.exprs)
+    ∷ (5, list_all is_paired s.exprs)
+    ∷ (6, list_all (has_small_reach vs) s.exprs)
     ∷ [])
 
 abbrev pub assumption_fault : List Variable → ℤ → Option ℕ
@@ -104,7 +112,9 @@ entry_count m =
 abbrev pub size_fault : CpModel → Option ℕ
 size_fault m =
     first_broken
-    ((18, nat_le (length m.variables) most_items && nat_le (length m.constraints) most_items && nat_le (entry_count m) most_entries) ∷ [])
+    ((18, nat_le (length m.variables) most_items && nat_le (length m.constraints) most_items && nat_le (entry_count m) most_entries)
+    ∷ (18, nat_lt (length m.strategies) (2 ^ 32))
+    ∷ [])
 
 -- The rule that is broken first, with its place: the size of the model, then its parts in order, and at each place the
 -- rules by number.
@@ -114,7 +124,8 @@ first_invalid m =
     (or_else (first_faulty variable_fault places.Variable 0 m.variables)
     (or_else (first_faulty (constraint_fault m.variables m.constraints) places.Constraint 0 m.constraints)
     (or_else (at_place places.Objective (objective_fault m.variables m.objective))
-    (first_faulty (assumption_fault m.variables) places.Assumption 0 m.assumptions))))
+    (or_else (first_faulty (strategy_fault m.variables) places.Strategy 0 m.strategies)
+    (first_faulty (assumption_fault m.variables) places.Assumption 0 m.assumptions)))))
 
 abbrev pub IsValid : CpModel → Type 0
 IsValid m = first_invalid m ≡ None

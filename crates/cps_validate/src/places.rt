@@ -1,15 +1,16 @@
 //! The first rule that is broken at one place.
 ghost use Rattle.std.specs.Prelude.{◌≡◌};
-ghost use Rattle.cps_model.specs.Validity.{variable_fault, constraint_fault, objective_fault, assumption_fault};
+ghost use Rattle.cps_model.specs.Validity.{variable_fault, constraint_fault, objective_fault, strategy_fault, assumption_fault};
 
 use crate::bounds::{are_small, is_well_shaped};
+use crate::expressions::{are_paired, have_small_reach, name_variables};
 use crate::kinds::{
     has_matching_lists, has_well_shaped_domain, literals_of, sums_are_paired,
     sums_have_small_reach, sums_name_variables,
 };
 use crate::reach::has_small_reach;
 use crate::references::{are_named, name_booleans, names_boolean};
-use cps_model::{Constraint, Objective, Variable, variable_of};
+use cps_model::{Constraint, Objective, Strategy, Variable, variable_of};
 
 /// The first rule that a variable breaks.
 pub fn variable_fault(variable: &Variable) -> Option<u8>
@@ -76,6 +77,23 @@ pub fn objective_fault(variables: &[Variable], objective: &Option<Objective>) ->
     }
     if !is_well_shaped(objective.domain.as_slice()) {
         return Some(16);
+    }
+    None
+}
+
+/// The first rule that a strategy breaks.
+pub fn strategy_fault(variables: &[Variable], strategy: &Strategy) -> Option<u8>
+    ensures { result ≡ strategy_fault variables.now strategy.now }
+{
+    let exprs = strategy.exprs.as_slice();
+    if !name_variables(variables, exprs) {
+        return Some(3);
+    }
+    if !are_paired(exprs) {
+        return Some(5);
+    }
+    if !have_small_reach(variables, exprs) {
+        return Some(6);
     }
     None
 }

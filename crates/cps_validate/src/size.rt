@@ -12,6 +12,9 @@ const MOST_ITEMS: usize = 1 << 20;
 /// The most numbers in the lists of a model, coefficients not counted, and linear expressions.
 const MOST_ENTRIES: usize = 1 << 24;
 
+/// The place of a strategy is a number below this.
+const PLACES: usize = 1 << 32;
+
 /// The room that is left after the bounds of variables.
 fn after_variables(room: usize, variables: &[Variable]) -> Option<usize>
     ensures { MatchOption result (room < sum_by variable_entries variables.now) (λ left. left + sum_by variable_entries variables.now ≡ room) }
@@ -134,6 +137,9 @@ pub fn size_fault(model: &CpModel) -> Option<u8>
         return Some(18);
     }
     if after_model(MOST_ENTRIES, model).is_none() {
+        return Some(18);
+    }
+    if model.strategies.len() >= PLACES {
         return Some(18);
     }
     None

@@ -1,11 +1,13 @@
 //! A model that keeps every rule.
 ghost use Rattle.std.specs.Prelude.{◌≡◌, ◌≤◌, ◌<◌, ◌^◌, IfOk, IfErr, length};
-ghost use Rattle.cps_model.specs.Validity.{most_items, variable_fault, constraint_fault, assumption_fault, first_faulty, first_invalid, IsValid};
+ghost use Rattle.cps_model.specs.Validity.{most_items, variable_fault, constraint_fault, strategy_fault, assumption_fault, first_faulty, first_invalid, IsValid};
 ghost use Rattle.cps_validate.specs.Refusals.{IsRefusalOf};
 
-use crate::places::{assumption_fault, constraint_fault, objective_fault, variable_fault};
+use crate::places::{
+    assumption_fault, constraint_fault, objective_fault, strategy_fault, variable_fault,
+};
 use crate::size::size_fault;
-use cps_model::{Constraint, CpModel, Place, Variable};
+use cps_model::{Constraint, CpModel, Place, Strategy, Variable};
 use std::alloc::Global;
 use std::marker::Model;
 use thiserror::Error;
@@ -73,6 +75,19 @@ fn constraints_fault(variables: &[Variable], constraints: &[Constraint]) -> Opti
     None
 }
 
+/// The first strategy that breaks a rule.
+fn strategies_fault(variables: &[Variable], strategies: &[Strategy]) -> Option<(u8, Place)>
+    requires { length strategies.now < 2 ^ 32 }
+    ensures { result ≡ first_faulty (strategy_fault variables.now) Place.Strategy 0 strategies.now }
+{
+    for (i, strategy) in strategies.iter().enumerate() {
+        if let Some(rule) = strategy_fault(variables, strategy) {
+            return Some((rule, Place::Strategy(i as u32)));
+        }
+    }
+    None
+}
+
 /// The first assumption that breaks a rule.
 fn assumptions_fault(variables: &[Variable], assumptions: &[i32]) -> Option<(u8, Place)>
     requires { length assumptions.now < 2 ^ 32 }
@@ -102,6 +117,9 @@ fn first_invalid(model: &CpModel) -> Option<(u8, Place)>
     }
     if let Some(rule) = objective_fault(variables, &model.objective) {
         return Some((rule, Place::Objective));
+    }
+    if let Some(fault) = strategies_fault(variables, model.strategies.as_slice()) {
+        return Some(fault);
     }
     assumptions_fault(variables, model.assumptions.as_slice())
 }
