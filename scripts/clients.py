@@ -6,6 +6,7 @@ import sys
 import cp_model_pb2 as pb
 from google.protobuf import text_format
 
+WORDS = ["", "x", "shift 1", 'quote " and \'', "back\\slash", "line\nbreak\ttab\r", "gr\u00fc\u00df", "\u65e5\u672c", "\U0001f600", "\x00\x01\x7f"]
 WHOLE = [0, 1, -1, 2, 7, 10**6, -(10**9), 2**53, -(2**53), 2**62, -(2**63), 2**63 - 1]
 EXACT = [0.0, 1.0, -1.0, 3.0, 1e6, -1e15, float(2**53), -float(2**53)]
 
@@ -23,7 +24,7 @@ def references(rng):
 
 
 def constraint(rng):
-    made = pb.ConstraintProto(enforcement_literal=references(rng))
+    made = pb.ConstraintProto(name=rng.choice(WORDS), enforcement_literal=references(rng))
     kind = rng.choice(["bool_or", "bool_and", "bool_xor", "at_most_one", "exactly_one", "linear", None])
     if kind == "linear":
         made.linear.SetInParent()
@@ -36,10 +37,22 @@ def constraint(rng):
     return made
 
 
+def expression(rng):
+    return pb.LinearExpressionProto(vars=references(rng), coeffs=wholes(rng), offset=rng.choice(WHOLE))
+
+
+def strategy(rng):
+    made = pb.DecisionStrategyProto(
+        variable_selection_strategy=rng.randint(0, 4), domain_reduction_strategy=rng.randint(0, 4)
+    )
+    made.exprs.extend(expression(rng) for _ in range(rng.randint(0, 2)))
+    return made
+
+
 def model(rng):
-    made = pb.CpModelProto()
+    made = pb.CpModelProto(name=rng.choice(WORDS))
     for _ in range(rng.randint(0, 3)):
-        made.variables.add(domain=wholes(rng))
+        made.variables.add(name=rng.choice(WORDS), domain=wholes(rng))
     made.constraints.extend(constraint(rng) for _ in range(rng.randint(0, 4)))
     if rng.random() < 0.7:
         made.objective.SetInParent()
@@ -48,6 +61,11 @@ def model(rng):
         made.objective.domain.extend(wholes(rng))
         made.objective.offset = rng.choice(EXACT)
         made.objective.scaling_factor = rng.choice(EXACT)
+    made.search_strategy.extend(strategy(rng) for _ in range(rng.randint(0, 2)))
+    if rng.random() < 0.5:
+        made.solution_hint.SetInParent()
+        made.solution_hint.vars.extend(references(rng))
+        made.solution_hint.values.extend(wholes(rng))
     return made
 
 

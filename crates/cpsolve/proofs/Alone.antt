@@ -15,6 +15,7 @@ use Rattle.cps_model.specs.Validity.{IsValid}
 use Rattle.cps_model.proofs.Start.{objective_start-small}
 use Rattle.cps_literal.specs.declared.atom.Atom.{Atom}
 use Rattle.cps_instance.specs.Problem.{Problem}
+use Rattle.cps_instance.specs.Strategies.{strategy_sums}
 use Rattle.cps_port.specs.declared.part.BoundsPart.{BoundsPart}
 use Rattle.cps_port.specs.declared.part.Part.{Part}
 use Rattle.cps_port.specs.Order.{BoundLe, IsNoLower, lesser, greater, greater_of, raised_above}
@@ -200,12 +201,13 @@ good_alone m options c e o range sound h is =
     let bests : e.best ≡ h.done.best = ap (λ (x : Ending). x.best) h.seen in
     let problem : h.done.problem ≡ h.problem = h.runs.setting.problem in
     let model : h.done.problem.model ≡ m = ap (λ (p : Problem). p.model) problem ∙ h.plain.model in
-    let none : e.defs ≡ [] = ap (λ (x : Ending). x.defs) h.seen ∙ ap (λ (p : Problem). p.defs) problem ∙ h.plain.sums in
+    let sums : e.defs ≡ strategy_sums m.strategies = ap (λ (x : Ending). x.defs) h.seen ∙ ap (λ (p : Problem). p.defs) problem ∙ h.plain.sums in
     let found : IfSome e.best (IsSolution m) = subst (λ (b : Option (List ℤ)). IfSome b (IsSolution m)) (sym bests) (best_found m h.done h.done.best model h.sound.best) in
     let kind : e.kind ≡ Fixed = ap (λ (x : Ending). x.kind) h.seen in
     record {
       workers = ap (map (λ (x : Ending). x.kind)) same ∙ one_kind options.workers e one kind;
-      sums = subst (All (λ (x : Ending). x.defs ≡ [])) (sym same) (All-cons (λ (x : Ending). x.defs ≡ []) e [] none (All-nil (λ (x : Ending). x.defs ≡ [])));
+      sums = subst (All (λ (x : Ending). x.defs ≡ strategy_sums m.strategies)) (sym same)
+          (All-cons (λ (x : Ending). x.defs ≡ strategy_sums m.strategies) e [] sums (All-nil (λ (x : Ending). x.defs ≡ strategy_sums m.strategies)));
       status = is.status ∙ ap₂ (λ (u l : Bound). status_of u l 0) (sym is.upper_is) (sym is.lower_is);
       found = subst (All (λ (x : Ending). IfSome x.best (IsSolution m))) (sym same)
           (All-cons (λ (x : Ending). IfSome x.best (IsSolution m)) e [] found (All-nil (λ (x : Ending). IfSome x.best (IsSolution m))));

@@ -4,6 +4,7 @@ use Rattle.cps_model.specs.declared.model.CpModel.{CpModel}
 use Rattle.cps_model.specs.declared.bound.Bound.{Bound}
 use Rattle.cps_model.specs.Statuses.{status_of}
 use Rattle.cps_instance.specs.Problem.{Problem, IsInstance}
+use Rattle.cps_instance.specs.Strategies.{strategy_sums}
 use Rattle.cps_port.specs.Cores.{Core, actor_count, part_at}
 use Rattle.cps_port.specs.Parts.{newcomer}
 use Rattle.cps_port.specs.Sound.{IsSoundCore}
@@ -14,11 +15,11 @@ use Rattle.cps_search.specs.Ends.{Ending, RunsTo, ending}
 use Rattle.cpsolve.specs.declared.outcome.Outcome.{Outcome}
 use Rattle.cpsolve.specs.declared.search.Finished.{Finished}
 
--- an instance of the model, without sums
+-- an instance of the model, with the sums of its strategies alone
 pub record IsPlainInstance (m : CpModel) (p : Problem) : Type 0 where
   pub sound : IsInstance p
   pub model : p.model ≡ m
-  pub sums : p.defs ≡ []
+  pub sums : p.defs ≡ strategy_sums m.strategies
 
 -- a search of the model that begins
 pub record Begins (m : CpModel) (conflicts : ℕ) (s : Search) : Type 0 where

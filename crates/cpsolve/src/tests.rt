@@ -11,7 +11,7 @@ const PRODUCTION: &str = "variables { domain: [0, 10] } variables { domain: [0, 
     objective { vars: [0, 1] coeffs: [-3, -2] scaling_factor: -1 }";
 
 /// Inputs of `solve`, each with its exit status and its text.
-const INPUTS: [(&str, u8, &str); 16] = [
+const INPUTS: [(&str, u8, &str); 21] = [
     ("", 0, "status: OPTIMAL\n"),
     (
         PRODUCTION,
@@ -100,13 +100,40 @@ const INPUTS: [(&str, u8, &str); 16] = [
         1,
         "status: MODEL_INVALID\n# field fault Repeated at byte 22\n",
     ),
+    (
+        "objective { offset: 1e+2 scaling_factor: -1.0 }",
+        0,
+        "status: OPTIMAL\nobjective_value: -100\nbest_objective_bound: -100\n",
+    ),
+    (
+        "variables { domain: [0, 9] } \
+         search_strategy { variables: 0 domain_reduction_strategy: SELECT_MAX_VALUE }",
+        0,
+        "status: OPTIMAL\nsolution: 9\n",
+    ),
+    (
+        "variables { domain: [0, 9] } variables { domain: [0, 9] } \
+         search_strategy { exprs { vars: [0, 1] coeffs: [1, -1] } domain_reduction_strategy: SELECT_MAX_VALUE }",
+        0,
+        "status: OPTIMAL\nsolution: 9\nsolution: 0\n",
+    ),
+    (
+        "variables { domain: [0, 1] } search_strategy { } search_strategy { variables: 1 }",
+        1,
+        "status: MODEL_INVALID\n# invalid V3 at strategy 1\n",
+    ),
+    (
+        "variables { domain: [0, 1] } solution_hint { vars: [0, -1] values: [0, 0] }",
+        1,
+        "status: MODEL_INVALID\n# invalid V17 at hint\n",
+    ),
 ];
 
 /// A variable with a domain that is no list of intervals.
 const REVERSED: &str = "variables { domain: [3, 2] }";
 
 /// Commands without options and their inputs, each with its exit status and its text.
-const READINGS: [(&str, &str, u8, &str); 18] = [
+const READINGS: [(&str, &str, u8, &str); 22] = [
     ("validate", "", 0, "valid\n"),
     ("validate", PRODUCTION, 0, "valid\n"),
     ("validate", "constraints { linear { } }", 0, "valid\n"),
@@ -183,7 +210,27 @@ const READINGS: [(&str, &str, u8, &str); 18] = [
         "status: MODEL_INVALID\n# text fault at byte 21\n",
     ),
     ("print", "constraints { }", 0, "constraints {\n}\n"),
+    ("print", STEERED, 0, STEERED_TEXT),
+    ("print", STEERED_TEXT, 0, STEERED_TEXT),
+    ("validate", STEERED, 0, "valid\n"),
+    (
+        "print",
+        "search_strategy { variables: 0 exprs { } }",
+        1,
+        "status: MODEL_INVALID\n# field fault MixedForms at byte 31\n",
+    ),
 ];
+
+/// A model with names, a strategy and a hint.
+const STEERED: &str = "name: 'a\"b' \"\\303\\xbc\" variables { name: \"x\" domain: [0, 9] } \
+    search_strategy { variables: [0, -1] variable_selection_strategy: CHOOSE_HIGHEST_MAX } \
+    solution_hint { values: 7 vars: 0 }";
+
+/// The same in canonical form.
+const STEERED_TEXT: &str =
+    "name: \"a\\\"b\\303\\274\"\nvariables {\n  name: \"x\"\n  domain: [0, 9]\n}\n\
+    search_strategy {\n  exprs {\n    vars: [0]\n    coeffs: [1]\n  }\n  exprs {\n    vars: [-1]\n    coeffs: [1]\n  }\n  \
+    variable_selection_strategy: CHOOSE_HIGHEST_MAX\n}\nsolution_hint {\n  vars: [0]\n  values: [7]\n}\n";
 
 /// A sum in canonical form.
 const TEN: &str = "variables {\n  domain: [0, 10]\n}\n\
