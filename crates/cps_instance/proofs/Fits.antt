@@ -32,11 +32,11 @@ use Rattle.cps_instance.proofs.VariableDomains.{magnitudes_le, boolean_at, lengt
 use Rattle.cps_instance.proofs.Intervals.{sound_at}
 
 -- the domains of variables without faults
-record AreOf (vs : List Variable) (ds : Domains) : Type 0 where
-  faults : All (λ v. variable_fault v ≡ None) vs
-  values : HaveValuesOf vs ds
+pub record AreOf (vs : List Variable) (ds : Domains) : Type 0 where
+  pub faults : All (λ v. variable_fault v ≡ None) vs
+  pub values : HaveValuesOf vs ds
 
-terms_of-reach : (vs : List Variable) (ds : Domains) (rs cs : List ℤ) → AreOf vs ds → terms_reach ds (terms_of rs cs) ≤ reach_of vs rs cs
+pub terms_of-reach : (vs : List Variable) (ds : Domains) (rs cs : List ℤ) → AreOf vs ds → terms_reach ds (terms_of rs cs) ≤ reach_of vs rs cs
 terms_of-reach vs ds [] cs h = omega arith
 terms_of-reach vs ds (r ∷ rs) [] h = omega arith
 terms_of-reach vs ds (r ∷ rs) (c ∷ cs) h =
@@ -55,7 +55,7 @@ reference_subjects n c (negsuc i) h = elim (has_no_opposite c) as (λ b. All (λ
   | false ↦ All-cons (λ (s : ℕ). s < n) i [] h (All-nil (λ (s : ℕ). s < n))
 ]
 
-terms_subjects : (n : ℕ) (rs cs : List ℤ) → list_all (names n) rs ≡ true → All (λ s. s < n) (term_subjects (terms_of rs cs))
+pub terms_subjects : (n : ℕ) (rs cs : List ℤ) → list_all (names n) rs ≡ true → All (λ s. s < n) (term_subjects (terms_of rs cs))
 terms_subjects n [] cs h = All-nil (λ (s : ℕ). s < n)
 terms_subjects n (r ∷ rs) [] h = All-nil (λ (s : ℕ). s < n)
 terms_subjects n (r ∷ rs) (c ∷ cs) h =

@@ -4,3 +4,4 @@ pub mod Tasks
 pub mod Fitting
 pub mod Problem
 pub mod Posting
+pub mod Strategies

@@ -13,6 +13,7 @@ use Rattle.cps_literal.specs.declared.atom.Op.TheVariants.{Le, Ge}
 use Rattle.std.specs.List.{AllZip, list_all}
 use Rattle.cps_model.specs.Rules.{is_paired, sums_of}
 use Rattle.cps_instance.specs.Problem.{Problem}
+use Rattle.cps_instance.specs.declared.steering.Steering.{Steering}
 use Rattle.cps_instance.specs.declared.term.Term.{Term}
 use Rattle.cps_instance.specs.declared.task.Task.{Task}
 use Rattle.cps_instance.specs.declared.task.Body.{Body}
@@ -70,9 +71,9 @@ list_task o = record { enforcement = []; body = bodies.ObjectiveList (objective_
 abbrev pub cut_task : Option Objective → Task
 cut_task o = record { enforcement = []; body = bodies.Cut (objective_terms o) None }
 
--- the tasks of a model: of its constraints, its objective's list and its cut
-abbrev pub first_tasks : CpModel → List Task
-first_tasks m = map task_of m.constraints ++ (list_task m.objective ∷ (cut_task m.objective ∷ []))
+-- the tasks of the objective: of its list and of its cut
+abbrev pub objective_tasks : CpModel → List Task
+objective_tasks m = list_task m.objective ∷ (cut_task m.objective ∷ [])
 
 -- the sums that tasks define
 abbrev pub sums_of_body : Body → List DefinedSum
@@ -91,9 +92,9 @@ abbrev pub sums_in : List Task → List DefinedSum
 sums_in [] = []
 sums_in (t ∷ ts) = sums_of_body t.body ++ sums_in ts
 
--- the value of an instance with this model, these domains and these tasks
-abbrev pub problem_of : CpModel → Domains → List Task → Problem
-problem_of m ds ts = record { model = m; defs = sums_in ts; domains = ds; tasks = ts }
+-- the value of an instance with this model, these domains, tasks and strategies
+abbrev pub problem_of : CpModel → Domains → List Task → List Steering → Problem
+problem_of m ds ts gs = record { model = m; defs = sums_in ts; domains = ds; tasks = ts; steering = gs }
 
 -- the sums of a constraint have a coefficient for each reference, and so has the objective's
 abbrev pub IsPaired : Constraint → Type 0
