@@ -1,7 +1,8 @@
 -- An instance in the making: it begins, sums are added, and it is finished.
 use Rattle.std.specs.Prelude.{All, map, unsigned_abs, Option, Some, None, IsTrue, sum_by, ◌&&◌, nat_le}
 use Rattle.std.specs.List.{AllZip, list_all, flat_map}
-use Rattle.std.proofs.Common.{◌≡◌, ℕ, ◌+◌, ◌-◌, ◌<◌, ◌≤◌, ◌^◌, List, [], ◌∷◌, ◌++◌, length, take, drop, Bool, true, refl, sym, ◌∙◌, ap, subst, arith, ℤ}
+use Rattle.std.proofs.Common.{◌≡◌, ℕ, ◌+◌, ◌-◌, ◌<◌, ◌≤◌, ◌^◌, List, [], ◌∷◌, ◌++◌, length, take, drop, Bool, true, refl, sym, ◌∙◌, ap, subst, arith, ℤ, to_z, of_z, w64}
+use Rattle.std.proofs.lemmas.Int.{ints}
 use Rattle.std.proofs.Math.ListN.{length-append}
 use Rattle.std.proofs.lemmas.List.{append_assoc, append-nil, take_all, take-append-drop, take-append-le, length-take-le}
 use Rattle.std.proofs.lemmas.List.Concat.{flat_map-append}
@@ -29,7 +30,7 @@ use Rattle.cps_instance.specs.Sums.{DefinedSum, IsSumOf, AreSumsFrom}
 use Rattle.cps_instance.specs.Fitting.{IsLiteral, IsFitting}
 use Rattle.cps_instance.specs.Problem.{Problem, variable_count, AreDomains, IsInstance, HasValueOf, Steers, sum_task, sum_tasks}
 use Rattle.cps_instance.specs.Posting.{terms_of, task_of, list_task, cut_task, objective_tasks, sums_in, problem_of, HaveValuesOf}
-use Rattle.cps_instance.specs.Strategies.{plain_subject, sum_of, unless_plain, expression_sums, strategy_sums, AddsSum, IsBegun, DefinesAll, KeepsRules}
+use Rattle.cps_instance.specs.Strategies.{plain_subject, sum_of, unless_plain, expression_sums, strategy_sums, first_tasks, AddsSum, IsBegun, DefinesAll, KeepsRules}
 use Rattle.cps_instance.proofs.VariableDomains.{length-values, values_at, sound_values}
 use Rattle.cps_instance.proofs.Intervals.{sound_at}
 use Rattle.cps_instance.proofs.Meaning.{is_list_task, is_cut_task}
@@ -99,6 +100,10 @@ is_over p e h k =
     let same = terms_reach-same front (front ++ drop n p.domains) ts inside in
     let reach : terms_reach front ts ≡ terms_reach p.domains ts = same ∙ ap (λ (ds : Domains). terms_reach ds ts) whole in
     record { paired = paired_of e k.paired; subjects = subjects; small = omega arith }
+
+-- such an offset is in its type
+pub offset_stays : (reach : ℕ) (offset : ℤ) → reach + unsigned_abs offset < 2 ^ 62 → to_z w64 (of_z w64 offset) ≡ offset
+offset_stays reach offset small = omega (arith, ints)
 
 -- the subjects of terms, term by term
 pub term_places : (n : ℕ) (ts : List Term) → All (λ j. j < n) (term_subjects ts) → All (λ t. t.subject < n) ts
@@ -215,6 +220,14 @@ pub made : (q : Problem) (m : CpModel) (ds : Domains) (ts : List Task) (gs : Lis
     → AllZip (Steers (variable_count q) q.defs) q.model.strategies gs → IsInstance (problem_of m ds ts gs)
 made q m ds ts gs h em ed et es steers =
     subst (λ (p : Problem). IsInstance p) (rebuilt q.model m q.defs (sums_in ts) q.domains ds (q.tasks ++ objective_tasks q.model) ts gs em (sym es) (sym ed) (sym et)) (finished q gs h steers)
+
+pub made_tasks : (q : Problem) (m : CpModel) (ts : List Task) → IsBegun q → q.model ≡ m → ts ≡ q.tasks ++ objective_tasks q.model → q.defs ≡ strategy_sums m.strategies → ts ≡ first_tasks m
+made_tasks q m ts h em et es =
+    et
+    ∙ ap (λ us. us ++ objective_tasks q.model) h.tasks
+    ∙ append_assoc (map task_of q.model.constraints) (sum_tasks (variable_count q) q.defs) (objective_tasks q.model)
+    ∙ ap (λ (ss : List DefinedSum). map task_of q.model.constraints ++ (sum_tasks (variable_count q) ss ++ objective_tasks q.model)) es
+    ∙ ap (λ (k : CpModel). map task_of k.constraints ++ (sum_tasks (length k.variables) (strategy_sums m.strategies) ++ objective_tasks k)) em
 
 -- ---- several sums
 

@@ -13,7 +13,7 @@ use Rattle.cps_instance.specs.declared.task.Task.{Task}
 use Rattle.cps_instance.specs.Terms.{Intervals, Domains, AreIntervals}
 use Rattle.cps_instance.specs.Sums.{DefinedSum, least_sum_of, greatest_sum_of}
 use Rattle.cps_instance.specs.Problem.{Problem, variable_count, AreDomains, sum_task, sum_tasks}
-use Rattle.cps_instance.specs.Posting.{terms_of, task_of, problem_of, HaveValuesOf}
+use Rattle.cps_instance.specs.Posting.{terms_of, task_of, objective_tasks, problem_of, HaveValuesOf}
 
 -- the variable that an expression is: one reference, from 0 on, with the coefficient 1 and without an offset
 abbrev pub plain_reference : ℤ → ℤ → ℤ → Option ℕ
@@ -38,6 +38,10 @@ expression_sums e = unless_plain (plain_subject e) e
 -- the sums of all strategies, in order
 abbrev pub strategy_sums : List Strategy → List DefinedSum
 strategy_sums ss = flat_map (λ s. flat_map expression_sums s.exprs) ss
+
+-- the tasks of a model: of its constraints, of its strategies' sums, and of its objective
+abbrev pub first_tasks : CpModel → List Task
+first_tasks m = map task_of m.constraints ++ (sum_tasks (length m.variables) (strategy_sums m.strategies) ++ objective_tasks m)
 
 -- a sum is the next subject: its domain runs from its least to its greatest value, and it has its task
 pub record AddsSum (ds ds' : Domains) (us us' : List Task) (s : DefinedSum) : Type 0 where

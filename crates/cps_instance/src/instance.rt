@@ -4,7 +4,7 @@ ghost use Rattle.std.specs.List.{AllZip};
 ghost use Rattle.cps_domain.specs.Window.{intervals};
 ghost use Rattle.cps_instance.specs.Terms.{terms_reach};
 ghost use Rattle.cps_instance.specs.Problem.{IsInstance, Defines, Steers, variable_count};
-ghost use Rattle.cps_instance.specs.Strategies.{strategy_sums};
+ghost use Rattle.cps_instance.specs.Strategies.{strategy_sums, first_tasks};
 
 use crate::draft::Draft;
 use crate::steering::Steering;
@@ -47,6 +47,7 @@ impl<'a> Instance<'a> {
     pub fn of(alloc: Global, valid: &'a ValidModel) -> Result<Self, AllocError>
         ensures model { IfOk result (λ i. i.model ≡ valid.now) }
         ensures sums { IfOk result (λ i. i.defs ≡ strategy_sums valid.now.strategies) }
+        ensures tasks { IfOk result (λ i. i.tasks ≡ first_tasks valid.now) }
         ensures sound { IfOk result IsInstance }
     {
         let model = valid.model();

@@ -1,7 +1,6 @@
 -- A plain variable or a new sum.
 use Rattle.std.specs.Prelude.{All, unsigned_abs, Option, Some, None}
 use Rattle.std.proofs.Common.{rules, ◌≡◌, ◌+◌, ◌<◌, ◌^◌, List, ℤ, map, length, arith, refl, sym, ap, subst, ◌∙◌, to_z, of_z, w64}
-use Rattle.std.proofs.lemmas.Int.{to_z-of_z}
 use Rattle.std.proofs.lemmas.List.{length-map}
 use Rattle.std.proofs.lemmas.List.Elements.{All-weaker}
 use Rattle.cps_domain.specs.Window.{intervals}
@@ -11,7 +10,7 @@ use Rattle.cps_instance.specs.Sums.{DefinedSum}
 use Rattle.cps_instance.specs.Problem.{Problem}
 use Rattle.cps_instance.specs.Posting.{terms_of}
 use Rattle.cps_instance.specs.Strategies.{AddsSum}
-use Rattle.cps_instance.proofs.Drafting.{adds_seen, adds_none, adds_one, plain_seen, is_over, terms_inside}
+use Rattle.cps_instance.proofs.Drafting.{offset_stays, adds_seen, adds_none, adds_one, plain_seen, is_over, terms_inside}
 use Rattle.cps_instance.proofs.draft.Draft.subject_of.Goals as goal
 
 pub returns-in-Some-clause-defines : goal.returns-in-Some-clause-defines
@@ -42,7 +41,8 @@ define_sum-requires-clause-small c =
     let small = (is_over p e c.requires.begun c.requires.rules).small in
     let seen = subst (λ (ds : Domains). terms_reach ds (terms_of e.vars e.coeffs) + unsigned_abs e.offset < 2 ^ 62) (sym (ap (λ (q : Problem). q.domains) c.self.view_is)) small in
     let terms = c.as_slice-3.ensures ∙ c.in_ok-terms.ensures in
-    subst (λ (ts : List Term). terms_reach (map intervals c.self.inside.domains.items) ts + unsigned_abs e.offset < 2 ^ 62) (sym (rw (c.as_slice.ensures, c.as_slice-2.ensures) at terms)) seen
+    let whole = subst (λ (ts : List Term). terms_reach (map intervals c.self.inside.domains.items) ts + unsigned_abs e.offset < 2 ^ 62) (sym (rw (c.as_slice.ensures, c.as_slice-2.ensures) at terms)) seen in
+    subst (λ (z : ℤ). terms_reach (map intervals c.self.inside.domains.items) c.as_slice-3.result.now + unsigned_abs z < 2 ^ 62) (sym (offset_stays _ e.offset small)) whole
 
 pub define_sum-requires-clause-room : goal.define_sum-requires-clause-room
 define_sum-requires-clause-room c =
@@ -60,8 +60,9 @@ returns c =
     let e = c.args.expr.now in
     let i = c.in_ok-subject.subject in
     let place : i ≡ length (map intervals ws) = (let long = length-map ws intervals in omega (arith, c.in_ok-subject.ensures.subject)) in
+    let same = offset_stays _ e.offset (is_over c.args.self.now e c.requires.begun c.requires.rules).small in
     let terms = rw (c.as_slice.ensures, c.as_slice-2.ensures) at (c.as_slice-3.ensures ∙ c.in_ok-terms.ensures) in
-    let added = subst (λ (ts : List Term). AddsSum (map intervals ws) (map intervals ws') us us' (record { terms = ts; offset = e.offset })) terms c.in_ok-subject.ensures.adds in
+    let added = subst (λ (ts : List Term). AddsSum (map intervals ws) (map intervals ws') us us' (record { terms = ts; offset = e.offset })) terms (rw same at c.in_ok-subject.ensures.adds) in
     let h = adds_seen c.args.self.now c.self.inside.model.now (map intervals ws) (map intervals ws') us us' e i c.self.view_is c.requires.begun c.requires.rules c.requires.room place added in
     record {
       begun = h.begun;
