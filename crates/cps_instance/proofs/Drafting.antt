@@ -28,16 +28,17 @@ use Rattle.cps_instance.specs.declared.term.Term.{Term}
 use Rattle.cps_instance.specs.Terms.{Intervals, Domains, AreIntervals, term_subjects, terms_reach}
 use Rattle.cps_instance.specs.Sums.{DefinedSum, IsSumOf, AreSumsFrom}
 use Rattle.cps_instance.specs.Fitting.{IsLiteral, IsFitting}
-use Rattle.cps_instance.specs.Problem.{Problem, variable_count, AreDomains, IsInstance, HasValueOf, Steers, sum_task, sum_tasks}
-use Rattle.cps_instance.specs.Posting.{terms_of, task_of, list_task, cut_task, objective_tasks, sums_in, problem_of, HaveValuesOf}
-use Rattle.cps_instance.specs.Strategies.{plain_subject, sum_of, unless_plain, expression_sums, strategy_sums, first_tasks, AddsSum, IsBegun, DefinesAll, KeepsRules}
+use Rattle.cps_instance.specs.Problem.{Problem, variable_count, AreDomains, IsInstance, IsSubjectOf, Steers, sum_task, sum_tasks}
+use Rattle.cps_instance.specs.Writing.{terms_of, plain_subject, sum_of, unless_plain, expression_sums}
+use Rattle.cps_instance.specs.Posting.{task_of, list_task, cut_task, objective_tasks, sums_in, problem_of, HaveValuesOf}
+use Rattle.cps_instance.specs.Strategies.{strategy_sums, first_tasks, AddsSum, IsBegun, DefinesAll, KeepsRules}
 use Rattle.cps_instance.proofs.VariableDomains.{length-values, values_at, sound_values}
 use Rattle.cps_instance.proofs.Intervals.{sound_at}
 use Rattle.cps_instance.proofs.Meaning.{is_list_task, is_cut_task}
 use Rattle.cps_instance.proofs.Fits.{AreOf, terms_of-reach, terms_subjects, task_fits, objective_fits, list_fits, cut_fits}
 use Rattle.cps_instance.proofs.Growing.{SameAt, same-append, terms_reach-same, IsFitting-longer, sum_tasks-push}
 use Rattle.cps_instance.proofs.Instances.{sums_in-constraints, grown, CanDefine, domains_later, is_grown, can_define, means_all}
-use Rattle.cps_instance.proofs.Standing.{all_zip_weaker, value_later, steers_later, plain_has_value, sum_has_value}
+use Rattle.cps_instance.proofs.Standing.{all_zip_weaker, subject_later, steers_later, plain_is_subject, sum_is_subject}
 
 -- ---- it begins
 
@@ -121,12 +122,12 @@ terms_inside p e h over =
 pub record Adds (p q : Problem) (e : LinearExpr) (i : ℕ) : Type 0 where
   pub begun : IsBegun q
   pub defines : DefinesAll p q (sum_of e ∷ [])
-  pub value : HasValueOf (variable_count q) q.defs e i
+  pub value : IsSubjectOf (variable_count q) q.defs e i
   pub few : length q.domains ≡ length p.domains + 1
 
-pub adds : (m : CpModel) (ds ds' : Domains) (us us' : List Task) (e : LinearExpr) (i : ℕ) → IsBegun (problem_of m ds us []) → IsOver (length m.variables) ds e → length ds < 2 ^ 31 → i ≡ length ds → AddsSum ds ds' us us' (sum_of e)
+pub adds : (m : CpModel) (ds ds' : Domains) (us us' : List Task) (e : LinearExpr) (i : ℕ) → plain_subject e ≡ None → IsBegun (problem_of m ds us []) → IsOver (length m.variables) ds e → length ds < 2 ^ 31 → i ≡ length ds → AddsSum ds ds' us us' (sum_of e)
     → Adds (problem_of m ds us []) (problem_of m ds' us' []) e i
-adds m ds ds' us us' e i begun over room is h =
+adds m ds ds' us us' e i none begun over room is h =
     let p = problem_of m ds us [] in
     let can = can_define p ds' us' (sum_of e) room (terms_inside p e begun over) over.small h in
     let same : problem_of m ds' us' [] ≡ grown p (sum_of e) h.added = is_grown m ds ds' us us' [] (sum_of e) h in
@@ -135,7 +136,7 @@ adds m ds ds' us us' e i begun over room is h =
     record {
       begun = subst (λ q. IsBegun q) (sym same) (grows p (sum_of e) h.added begun can);
       defines = record { model = refl; sums = sums };
-      value = subst (λ ss. HasValueOf (length m.variables) ss e i) (sym sums) (sum_has_value (length m.variables) (sums_in us) e i (omega arith) over.subjects);
+      value = subst (λ ss. IsSubjectOf (length m.variables) ss e i) (sym sums) (sum_is_subject (length m.variables) (sums_in us) e i none (omega arith) over.subjects);
       few = ap (λ (ws : Domains). length ws) h.domains ∙ length-append ds (h.added ∷ []);
     }
 
@@ -143,14 +144,14 @@ pub defines_none : (p : Problem) → DefinesAll p p []
 defines_none p = record { model = refl; sums = sym (append-nil p.defs) }
 
 -- the same of a draft's view
-pub adds_seen : (p : Problem) (m : CpModel) (ds ds' : Domains) (us us' : List Task) (e : LinearExpr) (i : ℕ) → problem_of m ds us [] ≡ p → IsBegun p → KeepsRules p.model.variables e → length p.domains < 2 ^ 31 → i ≡ length ds → AddsSum ds ds' us us' (sum_of e)
+pub adds_seen : (p : Problem) (m : CpModel) (ds ds' : Domains) (us us' : List Task) (e : LinearExpr) (i : ℕ) → plain_subject e ≡ None → problem_of m ds us [] ≡ p → IsBegun p → KeepsRules p.model.variables e → length p.domains < 2 ^ 31 → i ≡ length ds → AddsSum ds ds' us us' (sum_of e)
     → Adds p (problem_of m ds' us' []) e i
-adds_seen p m ds ds' us us' e i view begun rules room is h =
+adds_seen p m ds ds' us us' e i none view begun rules room is h =
     let old = problem_of m ds us [] in
     let begun' = subst (λ (q : Problem). IsBegun q) (sym view) begun in
     let rules' = subst (λ (q : Problem). KeepsRules q.model.variables e) (sym view) rules in
     let room' = subst (λ (q : Problem). length q.domains < 2 ^ 31) (sym view) room in
-    subst (λ (q : Problem). Adds q (problem_of m ds' us' []) e i) view (adds m ds ds' us us' e i begun' (is_over old e begun' rules') room' is h)
+    subst (λ (q : Problem). Adds q (problem_of m ds' us' []) e i) view (adds m ds ds' us us' e i none begun' (is_over old e begun' rules') room' is h)
 
 -- a plain variable adds none
 pub adds_none : (p : Problem) (e : LinearExpr) (o : Option ℕ) (i : ℕ) → plain_subject e ≡ o → o ≡ Some i → DefinesAll p p (expression_sums e)
@@ -159,8 +160,8 @@ adds_none p e o i is some = subst (λ (x : Option ℕ). DefinesAll p p (unless_p
 pub adds_one : (p q : Problem) (e : LinearExpr) (o : Option ℕ) → plain_subject e ≡ o → o ≡ None → DefinesAll p q (sum_of e ∷ []) → DefinesAll p q (expression_sums e)
 adds_one p q e o is none h = subst (λ (x : Option ℕ). DefinesAll p q (unless_plain x e)) (sym (is ∙ none)) h
 
-pub plain_seen : (p : Problem) (e : LinearExpr) (o : Option ℕ) (i : ℕ) → plain_subject e ≡ o → o ≡ Some i → IsBegun p → KeepsRules p.model.variables e → HasValueOf (variable_count p) p.defs e i
-plain_seen p e o i is some begun rules = plain_has_value (variable_count p) p.defs e i (is ∙ some) (is_over p e begun rules).subjects
+pub plain_seen : (p : Problem) (e : LinearExpr) (o : Option ℕ) (i : ℕ) → plain_subject e ≡ o → o ≡ Some i → IsBegun p → KeepsRules p.model.variables e → IsSubjectOf (variable_count p) p.defs e i
+plain_seen p e o i is some begun rules = plain_is_subject (variable_count p) p.defs e i (is ∙ some) (is_over p e begun rules).subjects
 
 -- ---- it is finished
 
@@ -237,10 +238,10 @@ defines_more p q r ss rs h k = record {
   sums = k.sums ∙ ap (λ ts. ts ++ rs) h.sums ∙ append_assoc p.defs ss rs;
 }
 
-value_over : (p q : Problem) (ss : List DefinedSum) → DefinesAll p q ss → (e : LinearExpr) (i : ℕ) → HasValueOf (variable_count p) p.defs e i → HasValueOf (variable_count q) q.defs e i
+value_over : (p q : Problem) (ss : List DefinedSum) → DefinesAll p q ss → (e : LinearExpr) (i : ℕ) → IsSubjectOf (variable_count p) p.defs e i → IsSubjectOf (variable_count q) q.defs e i
 value_over p q ss d e i h =
-    subst (λ ts. HasValueOf (variable_count q) ts e i) (sym d.sums)
-    (subst (λ (m : CpModel). HasValueOf (length m.variables) (p.defs ++ ss) e i) (sym d.model) (value_later (variable_count p) p.defs ss e i h))
+    subst (λ ts. IsSubjectOf (variable_count q) ts e i) (sym d.sums)
+    (subst (λ (m : CpModel). IsSubjectOf (length m.variables) (p.defs ++ ss) e i) (sym d.model) (subject_later (variable_count p) p.defs ss e i h))
 
 steers_over : (p q : Problem) (ss : List DefinedSum) → DefinesAll p q ss → (s : Strategy) (g : Steering) → Steers (variable_count p) p.defs s g → Steers (variable_count q) q.defs s g
 steers_over p q ss d s g h =
@@ -254,14 +255,14 @@ one_more f xs x = flat_map-append f xs (x ∷ []) ∙ ap (λ ss. flat_map f xs +
 pub record Valued (p q : Problem) (es : List LinearExpr) (is : List ℕ) : Type 0 where
   pub begun : IsBegun q
   pub defines : DefinesAll p q (flat_map expression_sums es)
-  pub values : AllZip (HasValueOf (variable_count q) q.defs) es is
+  pub values : AllZip (IsSubjectOf (variable_count q) q.defs) es is
 
-pub valued_more : (p q r : Problem) (es : List LinearExpr) (is : List ℕ) (e : LinearExpr) (i : ℕ) → Valued p q es is → IsBegun r → DefinesAll q r (expression_sums e) → HasValueOf (variable_count r) r.defs e i → Valued p r (es ++ e ∷ []) (is ++ i ∷ [])
+pub valued_more : (p q r : Problem) (es : List LinearExpr) (is : List ℕ) (e : LinearExpr) (i : ℕ) → Valued p q es is → IsBegun r → DefinesAll q r (expression_sums e) → IsSubjectOf (variable_count r) r.defs e i → Valued p r (es ++ e ∷ []) (is ++ i ∷ [])
 valued_more p q r es is e i h begun d v = record {
   begun = begun;
   defines = subst (λ ss. DefinesAll p r ss) (sym (one_more expression_sums es e)) (defines_more p q r (flat_map expression_sums es) (expression_sums e) h.defines d);
-  values = all_zipped_more (HasValueOf (variable_count r) r.defs) es is e i
-      (all_zip_weaker (HasValueOf (variable_count q) q.defs) (HasValueOf (variable_count r) r.defs) (value_over q r (expression_sums e) d) es is h.values) v;
+  values = all_zipped_more (IsSubjectOf (variable_count r) r.defs) es is e i
+      (all_zip_weaker (IsSubjectOf (variable_count q) q.defs) (IsSubjectOf (variable_count r) r.defs) (value_over q r (expression_sums e) d) es is h.values) v;
 }
 
 -- after some of the strategies

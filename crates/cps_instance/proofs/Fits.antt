@@ -26,7 +26,8 @@ use Rattle.cps_instance.specs.declared.task.Task.{Task}
 use Rattle.cps_instance.specs.Terms.{Domains, AreIntervals, domain_at, magnitude, terms_reach, term_subjects}
 use Rattle.cps_instance.specs.Tasks.{atom_subjects, subjects_of, subjects_of_body}
 use Rattle.cps_instance.specs.Fitting.{IsLiteral, AreSmall, AreSmallWithin, IsFitting, IsFittingBody}
-use Rattle.cps_instance.specs.Posting.{atom_of, terms_of_reference, has_no_opposite, term_of, terms_of, body_of, task_of, list_task, cut_task, objective_terms, objective_bounds, HaveValuesOf}
+use Rattle.cps_instance.specs.Writing.{terms_of_reference, has_no_opposite, term_of, terms_of}
+use Rattle.cps_instance.specs.Posting.{atom_of, body_of, task_of, list_task, cut_task, objective_terms, objective_bounds, HaveValuesOf}
 use Rattle.cps_instance.proofs.Summing.{terms_of_reference-reach, terms_reach-append}
 use Rattle.cps_instance.proofs.VariableDomains.{magnitudes_le, boolean_at, length-values, sound_values}
 use Rattle.cps_instance.proofs.Intervals.{sound_at}

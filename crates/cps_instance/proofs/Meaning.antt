@@ -14,7 +14,8 @@ use Rattle.cps_instance.specs.declared.task.Task.{Task}
 use Rattle.cps_instance.specs.Terms.{terms_value, term_subjects}
 use Rattle.cps_instance.specs.Sums.{DefinedSum, extended}
 use Rattle.cps_instance.specs.Tasks.{HoldsTask, HoldsBody, subjects_of, lowered}
-use Rattle.cps_instance.specs.Posting.{atom_of, body_of, task_of, terms_of, objective_terms, objective_bounds, list_task, cut_task}
+use Rattle.cps_instance.specs.Writing.{terms_of}
+use Rattle.cps_instance.specs.Posting.{atom_of, body_of, task_of, objective_terms, objective_bounds, list_task, cut_task}
 use Rattle.cps_instance.specs.Problem.{IsAssignment, Means, IsListTask, IsCutTask}
 use Rattle.cps_instance.proofs.LiteralAtoms.{list_any-literals, list_all-literals, true_atoms-literals}
 use Rattle.cps_instance.proofs.Summing.{terms_of-value}

@@ -1,5 +1,5 @@
 -- The subjects that have the values of expressions, and that they keep them where more sums are defined.
-use Rattle.std.specs.Prelude.{All, ◌==◌, ◌&&◌, int_le, if◌then◌else◌, Option, Some, None}
+use Rattle.std.specs.Prelude.{All, slice_get, ◌==◌, ◌&&◌, int_le, if◌then◌else◌, Option, Some, None}
 use Rattle.std.specs.List.{AllZip}
 use Rattle.std.proofs.Common.{◌≡◌, ℕ, zero, suc, ◌+◌, ◌<◌, List, [], ◌∷◌, ◌++◌, length, get_or, Bool, true, false, refl, sym, ◌∙◌, ap, subst, arith, ℤ, pos, negsuc, ◌+ℤ◌}
 use Rattle.std.proofs.Math.ListN.{length-append}
@@ -14,9 +14,8 @@ use Rattle.cps_literal.specs.Truth.{value_at}
 use Rattle.cps_instance.specs.declared.steering.Steering.{Steering}
 use Rattle.cps_instance.specs.Terms.{terms_value, term_subjects}
 use Rattle.cps_instance.specs.Sums.{DefinedSum, sum_value, extended}
-use Rattle.cps_instance.specs.Problem.{HasValueOf, Steers}
-use Rattle.cps_instance.specs.Posting.{terms_of}
-use Rattle.cps_instance.specs.Strategies.{plain_reference, plain_subject, sum_of}
+use Rattle.cps_instance.specs.Problem.{IsSubjectOf, Steers}
+use Rattle.cps_instance.specs.Writing.{terms_of, plain_reference, plain_subject, sum_of, StandsFor}
 use Rattle.cps_instance.proofs.Agreeing.{AgreeAt, terms_value-agree}
 use Rattle.cps_instance.proofs.Extending.{length-extended, value_at-extended, agree-extended, value_at-extended_push}
 use Rattle.cps_instance.proofs.Summing.{terms_of-value}
@@ -25,11 +24,25 @@ extended-append : (ss rs : List DefinedSum) (a : List ℤ) → extended (ss ++ r
 extended-append [] rs a = refl
 extended-append (s ∷ ss) rs a = extended-append ss rs (a ++ sum_value a s ∷ [])
 
-pub value_later : (n : ℕ) (ss rs : List DefinedSum) (e : LinearExpr) (i : ℕ) → HasValueOf n ss e i → HasValueOf n (ss ++ rs) e i
-value_later n ss rs e i h =
+get_later : {X : Type 0} (xs ys : List X) (k : ℕ) (x : X) → slice_get xs k ≡ Some x → slice_get (xs ++ ys) k ≡ Some x
+get_later [] ys k x e = cc
+get_later (y ∷ xs) ys zero x e = e
+get_later (y ∷ xs) ys (suc k) x e = get_later xs ys k x e
+
+get_last : {X : Type 0} (xs : List X) (x : X) → slice_get (xs ++ x ∷ []) (length xs) ≡ Some x
+get_last [] x = refl
+get_last (y ∷ xs) x = get_last xs x
+
+stands_later : (o : Option ℕ) (n : ℕ) (ss rs : List DefinedSum) (s : DefinedSum) (i : ℕ) → StandsFor o n ss s i → StandsFor o n (ss ++ rs) s i
+stands_later (Some variable) n ss rs s i h = h
+stands_later None n ss rs s i h = (h.0, (h.1.0, get_later ss rs h.0 s h.1.1))
+
+pub subject_later : (n : ℕ) (ss rs : List DefinedSum) (e : LinearExpr) (i : ℕ) → IsSubjectOf n ss e i → IsSubjectOf n (ss ++ rs) e i
+subject_later n ss rs e i h =
     let inside = h.within in
     let both = length-append ss rs in
     record {
+      own = stands_later (plain_subject e) n ss rs (sum_of e) i h.own;
       within = omega arith;
       value = λ a long.
           (let longer = length-extended ss a in
@@ -47,7 +60,7 @@ pub steers_later : (n : ℕ) (ss rs : List DefinedSum) (s : Strategy) (g : Steer
 steers_later n ss rs s g h = record {
   choose = h.choose;
   select = h.select;
-  subjects = all_zip_weaker (HasValueOf n ss) (HasValueOf n (ss ++ rs)) (value_later n ss rs) s.exprs g.subjects h.subjects;
+  subjects = all_zip_weaker (IsSubjectOf n ss) (IsSubjectOf n (ss ++ rs)) (subject_later n ss rs) s.exprs g.subjects h.subjects;
 }
 
 pub all_steer_later : (n : ℕ) (ss rs : List DefinedSum) (st : List Strategy) (gs : List Steering) → AllZip (Steers n ss) st gs → AllZip (Steers n (ss ++ rs)) st gs
@@ -105,21 +118,23 @@ plain_within n vars coeffs offset i h all =
     let both = subst (λ (cs : List ℤ). All (λ j. j < n) (term_subjects (terms_of (pos i ∷ []) cs))) h.coeffs_are first in
     All-head (λ (j : ℕ). j < n) i [] both
 
--- a plain variable has its expression's value
-pub plain_has_value : (n : ℕ) (ss : List DefinedSum) (e : LinearExpr) (i : ℕ) → plain_subject e ≡ Some i → All (λ j. j < n) (term_subjects (terms_of e.vars e.coeffs)) → HasValueOf n ss e i
-plain_has_value n ss e i h all =
+-- a plain variable is its expression's subject
+pub plain_is_subject : (n : ℕ) (ss : List DefinedSum) (e : LinearExpr) (i : ℕ) → plain_subject e ≡ Some i → All (λ j. j < n) (term_subjects (terms_of e.vars e.coeffs)) → IsSubjectOf n ss e i
+plain_is_subject n ss e i h all =
     let parts = plain_parts e i h in
     let inside = plain_within n e.vars e.coeffs e.offset i parts all in
     record {
+      own = subst (λ (o : Option ℕ). StandsFor o n ss (sum_of e) i) (sym h) refl;
       within = omega arith;
       value = λ a long. (let l : i < length a = omega arith in agree-extended ss a i l ∙ sym (plain_value a e.vars e.coeffs e.offset i parts));
     }
 
--- and so does the subject of its sum
-pub sum_has_value : (n : ℕ) (ss : List DefinedSum) (e : LinearExpr) (i : ℕ) → i ≡ n + length ss → All (λ j. j < n) (term_subjects (terms_of e.vars e.coeffs)) → HasValueOf n (ss ++ sum_of e ∷ []) e i
-sum_has_value n ss e i is all =
+-- and so is the subject of its sum
+pub sum_is_subject : (n : ℕ) (ss : List DefinedSum) (e : LinearExpr) (i : ℕ) → plain_subject e ≡ None → i ≡ n + length ss → All (λ j. j < n) (term_subjects (terms_of e.vars e.coeffs)) → IsSubjectOf n (ss ++ sum_of e ∷ []) e i
+sum_is_subject n ss e i none is all =
     let more = length-append ss (sum_of e ∷ []) in
     record {
+      own = subst (λ (o : Option ℕ). StandsFor o n (ss ++ sum_of e ∷ []) (sum_of e) i) (sym none) (length ss, (is, get_last ss (sum_of e)));
       within = omega arith;
       value = λ a long.
           (let inside : All (λ j. j < length a) (term_subjects (terms_of e.vars e.coeffs)) = rw long all in

@@ -8,7 +8,7 @@ use Rattle.cps_literal.specs.Truth.{value_at}
 use Rattle.cps_domain.specs.Window.{equals}
 use Rattle.cps_instance.specs.declared.term.Term.{Term}
 use Rattle.cps_instance.specs.Terms.{Domains, terms_value, terms_reach, magnitude, domain_at}
-use Rattle.cps_instance.specs.Posting.{term_of, has_no_opposite, terms_of_reference, terms_of}
+use Rattle.cps_instance.specs.Writing.{term_of, has_no_opposite, terms_of_reference, terms_of}
 
 pub terms_value-append : (xs : List ℤ) (ts us : List Term) → terms_value xs (ts ++ us) ≡ terms_value xs ts +ℤ terms_value xs us
 terms_value-append xs [] us = omega (arith, ints)

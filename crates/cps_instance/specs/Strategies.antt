@@ -13,35 +13,20 @@ use Rattle.cps_instance.specs.declared.task.Task.{Task}
 use Rattle.cps_instance.specs.Terms.{Intervals, Domains, AreIntervals}
 use Rattle.cps_instance.specs.Sums.{DefinedSum, least_sum_of, greatest_sum_of}
 use Rattle.cps_instance.specs.Problem.{Problem, variable_count, AreDomains, sum_task, sum_tasks}
-use Rattle.cps_instance.specs.Posting.{terms_of, task_of, objective_tasks, problem_of, HaveValuesOf}
-
--- the variable that an expression is: one reference, from 0 on, with the coefficient 1 and without an offset
-abbrev pub plain_reference : ℤ → ℤ → ℤ → Option ℕ
-plain_reference r c offset = if equals c (pos 1) && equals offset (pos 0) && int_le (pos 0) r then Some (variable_of r) else None
-
-abbrev pub plain_subject : LinearExpr → Option ℕ
-plain_subject e =
-    if (length e.vars == 1) && (length e.coeffs == 1) then plain_reference (slice_index_or e.vars 0 (pos 0)) (slice_index_or e.coeffs 0 (pos 0)) e.offset else None
-
--- an expression as a sum over subjects
-abbrev pub sum_of : LinearExpr → DefinedSum
-sum_of e = record { terms = terms_of e.vars e.coeffs; offset = e.offset }
-
--- the sum that an expression defines: none where it is a plain variable
-abbrev pub unless_plain : Option ℕ → LinearExpr → List DefinedSum
-unless_plain (Some variable) e = []
-unless_plain None e = sum_of e ∷ []
-
-abbrev pub expression_sums : LinearExpr → List DefinedSum
-expression_sums e = unless_plain (plain_subject e) e
+use Rattle.cps_instance.specs.Writing.{expression_sums}
+use Rattle.cps_instance.specs.Posting.{task_of, objective_tasks, problem_of, HaveValuesOf}
 
 -- the sums of all strategies, in order
 abbrev pub strategy_sums : List Strategy → List DefinedSum
 strategy_sums ss = flat_map (λ s. flat_map expression_sums s.exprs) ss
 
--- the tasks of a model: of its constraints, of its strategies' sums, and of its objective
+-- the sums that a model writes
+abbrev pub model_sums : CpModel → List DefinedSum
+model_sums m = strategy_sums m.strategies
+
+-- the tasks of a model: of its constraints, of its sums, and of its objective
 abbrev pub first_tasks : CpModel → List Task
-first_tasks m = map task_of m.constraints ++ (sum_tasks (length m.variables) (strategy_sums m.strategies) ++ objective_tasks m)
+first_tasks m = map task_of m.constraints ++ (sum_tasks (length m.variables) (model_sums m) ++ objective_tasks m)
 
 -- a sum is the next subject: its domain runs from its least to its greatest value, and it has its task
 pub record AddsSum (ds ds' : Domains) (us us' : List Task) (s : DefinedSum) : Type 0 where

@@ -1,6 +1,6 @@
 use Rattle.std.proofs.Common.{get_or, arith, rules, pos, FitsSigned, w32, w64, to_z, refl}
 use Rattle.std.proofs.lemmas.Int.{to_z-of_z}
-use Rattle.cps_instance.specs.Posting.{terms_of}
+use Rattle.cps_instance.specs.Writing.{terms_of}
 use Rattle.cps_instance.proofs.Summing.{terms_of-more}
 use Rattle.cps_instance.proofs.terms.terms_of.Goals as goal
 

@@ -17,7 +17,7 @@ use Rattle.cps_instance.proofs.draft.Draft.steer_all.Goals as goal
 
 pub loop-strategy-init : goal.loop-strategy-init
 loop-strategy-init c = record {
-  steered = record { begun = c.requires.begun; defines = defines_none c.args.self.now; steers = tt };
+  steered = record { begun = c.requires.begun; defines = defines_none c.args.self.now; steers = rw c.in_ok-list.ensures.items tt };
   model = refl;
   room = subst (λ (ss : List Strategy). length c.args.self.now.domains + sum_by strategy_entries ss ≤ 2 ^ 31) (sym c.requires.strategies) (room_first c.args.self.now c.requires.begun c.requires.no_sums);
 }
