@@ -1,12 +1,11 @@
 -- An instance in the making: it begins, sums are added, and it is finished.
-use Rattle.std.specs.Prelude.{All, map, unsigned_abs, Option, Some, None, IsTrue, sum_by, ◌&&◌, nat_le}
+use Rattle.std.specs.Prelude.{All, map, unsigned_abs, Option, Some, None, sum_by}
 use Rattle.std.specs.List.{AllZip, list_all, flat_map}
-use Rattle.std.proofs.Common.{◌≡◌, ℕ, ◌+◌, ◌-◌, ◌<◌, ◌≤◌, ◌^◌, List, [], ◌∷◌, ◌++◌, length, take, drop, Bool, true, refl, sym, ◌∙◌, ap, subst, arith, ℤ, to_z, of_z, w64}
+use Rattle.std.proofs.Common.{◌≡◌, ℕ, ◌+◌, ◌<◌, ◌≤◌, ◌^◌, List, [], ◌∷◌, ◌++◌, length, take, drop, true, refl, sym, ◌∙◌, ap, subst, arith, ℤ, to_z, of_z, w64}
 use Rattle.std.proofs.lemmas.Int.{ints}
 use Rattle.std.proofs.Math.ListN.{length-append}
 use Rattle.std.proofs.lemmas.List.{append_assoc, append-nil, take_all, take-append-drop, take-append-le, length-take-le}
 use Rattle.std.proofs.lemmas.List.Concat.{flat_map-append}
-use Rattle.std.proofs.lemmas.List.Sums.{sum_by-cons}
 use Rattle.std.proofs.lemmas.List.Elements.{All-nil, All-cons, All-head, All-tail, All-append, All-weaker, All-map}
 use Rattle.std.proofs.lemmas.Slice.Zip.{all_zipped_more}
 use borrow.Author.Tests.{ltb-true}
@@ -15,20 +14,19 @@ use Rattle.cps_model.specs.declared.model.LinearExpr.{LinearExpr}
 use Rattle.cps_model.specs.declared.model.Variable.{Variable}
 use Rattle.cps_model.specs.declared.steering.Strategy.{Strategy}
 use Rattle.cps_model.specs.Reach.{reach_of}
-use Rattle.cps_model.specs.Rules.{names, names_variables, is_paired, has_small_reach, expression_entries}
-use Rattle.cps_model.specs.Validity.{IsValid, variable_fault, constraint_fault, strategy_fault, strategy_entries, variable_entries, entry_count, most_items, most_entries}
+use Rattle.cps_model.specs.Rules.{names_variables, is_paired, has_small_reach}
+use Rattle.cps_model.specs.Validity.{IsValid, constraint_fault, strategy_fault, strategy_entries}
 use Rattle.cps_model.proofs.Faults.{parts_of, rule_kept}
 use Rattle.cps_model.proofs.Tests.{and_true}
 use Rattle.cps_validate.proofs.Sizes.{sizes_of}
 use Rattle.cps_validate.proofs.Passing.{paired_of}
-use Rattle.cps_domain.specs.Window.{Window, intervals}
 use Rattle.cps_instance.specs.declared.steering.Steering.{Steering}
 use Rattle.cps_instance.specs.declared.task.Task.{Task}
 use Rattle.cps_instance.specs.declared.term.Term.{Term}
 use Rattle.cps_instance.specs.Terms.{Intervals, Domains, AreIntervals, term_subjects, terms_reach}
 use Rattle.cps_instance.specs.Sums.{DefinedSum, IsSumOf, AreSumsFrom}
 use Rattle.cps_instance.specs.Fitting.{IsLiteral, IsFitting}
-use Rattle.cps_instance.specs.Problem.{Problem, variable_count, AreDomains, IsInstance, IsSubjectOf, Steers, sum_task, sum_tasks}
+use Rattle.cps_instance.specs.Problem.{Problem, variable_count, IsInstance, IsSubjectOf, Steers, sum_task, sum_tasks}
 use Rattle.cps_instance.specs.Writing.{terms_of, plain_subject, sum_of, unless_plain, expression_sums}
 use Rattle.cps_instance.specs.Posting.{task_of, list_task, cut_task, objective_tasks, sums_in, problem_of, HaveValuesOf}
 use Rattle.cps_instance.specs.Strategies.{strategy_sums, first_tasks, AddsSum, IsBegun, DefinesAll, KeepsRules}

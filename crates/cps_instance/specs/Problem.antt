@@ -1,5 +1,5 @@
 -- What contracts see of an instance, and what belongs together in it.
-use Rattle.std.specs.Prelude.{◌≡◌, ◌↔◌, ℕ, ◌+◌, ◌<◌, ◌≤◌, ◌^◌, ℤ, IsTrue, Option, None, List, [], ◌∷◌, ◌++◌, map, length, All, slice_index_or}
+use Rattle.std.specs.Prelude.{◌≡◌, ◌↔◌, ℕ, ◌+◌, ◌<◌, ◌≤◌, ◌^◌, ℤ, IsTrue, None, List, [], ◌∷◌, ◌++◌, map, length, All, slice_index_or}
 use Rattle.std.specs.List.{AllZip}
 use Rattle.cps_model.specs.declared.model.CpModel.{CpModel}
 use Rattle.cps_model.specs.declared.model.Variable.{Variable}
@@ -16,9 +16,9 @@ use Rattle.cps_literal.specs.Truth.{value_at}
 use Rattle.cps_instance.specs.declared.steering.Steering.{Steering}
 use Rattle.cps_instance.specs.declared.term.Term.{Term}
 use Rattle.cps_instance.specs.declared.task.Task.{Task}
-use Rattle.cps_instance.specs.declared.task.Body.TheVariants.{Sum, ObjectiveList, Cut}
+use Rattle.cps_instance.specs.declared.task.Body.TheVariants.{Sum, Cut}
 use Rattle.cps_instance.specs.Terms.{Intervals, Domains, AreIntervals, terms_value, domain_at}
-use Rattle.cps_instance.specs.Sums.{DefinedSum, sum_value, extended, IsSumOf, AreSumsFrom}
+use Rattle.cps_instance.specs.Sums.{DefinedSum, sum_value, extended, AreSumsFrom}
 use Rattle.cps_instance.specs.Writing.{plain_subject, sum_of, StandsFor}
 use Rattle.cps_instance.specs.Tasks.{HoldsTask, lowered}
 use Rattle.cps_instance.specs.Fitting.{IsFitting}

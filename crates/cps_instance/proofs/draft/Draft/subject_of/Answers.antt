@@ -1,12 +1,11 @@
 -- A plain variable or a new sum.
 use Rattle.std.specs.Prelude.{All, unsigned_abs, Option, Some, None}
-use Rattle.std.proofs.Common.{rules, ◌≡◌, ℕ, ◌+◌, ◌<◌, ◌^◌, List, ℤ, map, length, arith, refl, sym, ap, subst, ◌∙◌, to_z, of_z, w64}
+use Rattle.std.proofs.Common.{◌≡◌, ℕ, ◌+◌, ◌<◌, ◌^◌, List, ℤ, map, length, arith, refl, sym, ap, subst, ◌∙◌}
 use Rattle.std.proofs.lemmas.List.{length-map}
 use Rattle.std.proofs.lemmas.List.Elements.{All-weaker}
 use Rattle.cps_domain.specs.Window.{intervals}
 use Rattle.cps_instance.specs.declared.term.Term.{Term}
 use Rattle.cps_instance.specs.Terms.{Domains, terms_reach}
-use Rattle.cps_instance.specs.Sums.{DefinedSum}
 use Rattle.cps_instance.specs.Problem.{Problem}
 use Rattle.cps_instance.specs.Writing.{terms_of, plain_subject}
 use Rattle.cps_instance.specs.Strategies.{AddsSum}

@@ -1,6 +1,6 @@
 -- A finished draft is an instance.
 use Rattle.std.specs.List.{AllZip}
-use Rattle.std.proofs.Common.{◌≡◌, map, List, [], ◌++◌, ◌∙◌, sym, ap, subst}
+use Rattle.std.proofs.Common.{◌≡◌, map, List, ◌++◌, ◌∙◌, sym, ap, subst}
 use Rattle.cps_model.specs.declared.model.CpModel.{CpModel}
 use Rattle.cps_model.specs.declared.steering.Strategy.{Strategy}
 use Rattle.cps_domain.specs.Window.{intervals}
