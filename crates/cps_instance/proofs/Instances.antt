@@ -1,35 +1,35 @@
--- A valid model begins an instance, and a defined sum keeps one.
-use Rattle.std.specs.Prelude.{All, map, unsigned_abs, Option, None, Some, nat_le, ◌==◌, ◌&&◌}
+-- A defined sum keeps an instance.
+use Rattle.std.specs.Prelude.{All, map, unsigned_abs, Option, None, Some, ◌==◌}
 use Rattle.std.specs.List.{AllZip, list_all}
 use Rattle.cps_model.specs.declared.model.Objective.{Objective}
 use Rattle.cps_model.specs.Rules.{is_paired, sums_of, has_matching_lists}
-use Rattle.std.proofs.Common.{◌≡◌, ℕ, ◌+◌, ◌<◌, ◌≤◌, ◌^◌, List, [], ◌∷◌, ◌++◌, length, Bool, true, refl, sym, ◌∙◌, ap, subst, arith, ℤ, ◌+ℤ◌}
+use Rattle.std.proofs.Common.{◌≡◌, ℕ, ◌+◌, ◌<◌, ◌^◌, List, [], ◌∷◌, ◌++◌, length, true, refl, sym, ◌∙◌, ap, subst, arith}
 use Rattle.std.proofs.Math.ListN.{length-append}
 use Rattle.std.proofs.lemmas.List.{append_assoc}
-use Rattle.std.proofs.lemmas.List.Elements.{All-nil, All-cons, All-head, All-tail, All-append, All-push, All-weaker, All-map, All-same}
+use Rattle.std.proofs.lemmas.List.Elements.{All-nil, All-cons, All-head, All-tail, All-push, All-weaker, All-map}
 use Rattle.cps_model.specs.declared.model.CpModel.{CpModel}
 use Rattle.cps_model.specs.declared.model.Variable.{Variable}
 use Rattle.cps_model.specs.declared.constraint.Constraint.{Constraint}
 use Rattle.cps_model.specs.declared.constraint.Kind.{Kind}
 use Rattle.cps_model.specs.declared.constraint.Kind.TheVariants as kinds
-use Rattle.cps_model.specs.Validity.{IsValid, variable_fault, constraint_fault, objective_fault, size_fault, most_items, most_entries, entry_count}
-use Rattle.cps_model.proofs.Faults.{parts_of, or_else-none, at_place-none, rule_kept}
+use Rattle.cps_model.specs.Validity.{IsValid, variable_fault, constraint_fault, objective_fault}
+use Rattle.cps_model.proofs.Faults.{parts_of, rule_kept}
 use Rattle.cps_model.proofs.Tests.{and_true}
 use Rattle.cps_domain.specs.Window.{is_among}
+use Rattle.cps_instance.specs.declared.steering.Steering.{Steering}
 use Rattle.cps_instance.specs.declared.task.Task.{Task}
-use Rattle.cps_instance.specs.declared.term.Term.{Term}
-use Rattle.cps_instance.specs.Terms.{Intervals, Domains, AreIntervals, term_subjects, terms_reach, least_of_terms, greatest_of_terms}
-use Rattle.cps_instance.specs.Sums.{DefinedSum, least_sum_of, greatest_sum_of, IsSumOf}
+use Rattle.cps_instance.specs.Terms.{Intervals, Domains, AreIntervals, term_subjects, terms_reach}
+use Rattle.cps_instance.specs.Sums.{DefinedSum, least_sum_of, greatest_sum_of}
 use Rattle.cps_instance.specs.Tasks.{subjects_of}
 use Rattle.cps_instance.specs.Fitting.{IsLiteral, IsFitting}
 use Rattle.cps_instance.specs.Problem.{Problem, variable_count, AreDomains, AreTasks, IsInstance, Means, Defines, sum_task, sum_tasks}
-use Rattle.cps_instance.specs.Posting.{task_of, body_of, list_task, cut_task, first_tasks, sums_in, sums_of_body, problem_of, IsPaired, IsPairedObjective, HaveValuesOf}
+use Rattle.cps_instance.specs.Posting.{task_of, body_of, objective_tasks, sums_in, sums_of_body, problem_of, IsPaired, IsPairedObjective}
+use Rattle.cps_instance.specs.Strategies.{AddsSum}
 use Rattle.cps_instance.proofs.Agreeing.{All-append_left, All-append_right}
 use Rattle.cps_instance.proofs.Extending.{value_at-extended_push}
-use Rattle.cps_instance.proofs.VariableDomains.{length-values, values_at, sound_values}
 use Rattle.cps_instance.proofs.Intervals.{sound_at}
-use Rattle.cps_instance.proofs.Meaning.{means_of, is_list_task, is_cut_task}
-use Rattle.cps_instance.proofs.Fits.{task_fits, objective_fits, list_fits, cut_fits}
+use Rattle.cps_instance.proofs.Meaning.{means_of}
+use Rattle.cps_instance.proofs.Standing.{all_steer_later}
 use Rattle.cps_instance.proofs.Growing.{same-append, IsFitting-longer, IsSumOf-last, AreSumsFrom-longer, AreSumsFrom-push, sum_tasks-push, Means-later, IsListTask-later, IsCutTask-later}
 
 -- no constraint's task defines a sum
@@ -42,77 +42,24 @@ body_sums (kinds.ExactlyOne ls) = refl
 body_sums (kinds.BoolXor ls) = refl
 body_sums (kinds.Linear vars coeffs domain) = refl
 
-constraint_sums : (cs : List Constraint) (ts : List Task) → sums_in (map task_of cs ++ ts) ≡ sums_in ts
-constraint_sums [] ts = refl
-constraint_sums (c ∷ cs) ts = ap (λ ss. ss ++ sums_in (map task_of cs ++ ts)) (body_sums c.kind) ∙ constraint_sums cs ts
+pub sums_in-constraints : (cs : List Constraint) → sums_in (map task_of cs) ≡ []
+sums_in-constraints [] = refl
+sums_in-constraints (c ∷ cs) = ap (λ ss. ss ++ sums_in (map task_of cs)) (body_sums c.kind) ∙ sums_in-constraints cs
 
-pub sums_in-first : (m : CpModel) → sums_in (first_tasks m) ≡ []
-sums_in-first m = constraint_sums m.constraints (list_task m.objective ∷ (cut_task m.objective ∷ []))
+-- nor does one of the objective's
+pub sums_in-objective : (ts : List Task) (m : CpModel) → sums_in (ts ++ objective_tasks m) ≡ sums_in ts
+sums_in-objective [] m = refl
+sums_in-objective (t ∷ ts) m = ap (λ ss. sums_of_body t.body ++ ss) (sums_in-objective ts m)
 
 pub sums_in-push : (ts : List Task) (n : ℕ) (s : DefinedSum) → sums_in (ts ++ sum_task n s ∷ []) ≡ sums_in ts ++ s ∷ []
 sums_in-push [] n s = refl
 sums_in-push (t ∷ ts) n s = ap (λ ss. sums_of_body t.body ++ ss) (sums_in-push ts n s) ∙ sym (append_assoc (sums_of_body t.body) (sums_in ts) (s ∷ []))
 
-le_of : (m n : ℕ) → nat_le m n ≡ true → m ≤ n
-le_of m n h = grind arith
-
--- a valid model has few variables
-few_variables : (m : CpModel) → IsValid m → length m.variables ≤ 2 ^ 20
-few_variables m valid =
-    let size = or_else-none _ _ valid in
-    let rule = rule_kept 18 _ _ (at_place-none _ _ size.0) in
-    let outer = and_true (nat_le (length m.variables) most_items && nat_le (length m.constraints) most_items) (nat_le (entry_count m) most_entries) rule.0 in
-    let inner = and_true (nat_le (length m.variables) most_items) (nat_le (length m.constraints) most_items) outer.0 in
-    le_of (length m.variables) (2 ^ 20) inner.0
-
-means_all : (m : CpModel) (ds : Domains) (cs : List Constraint) → length ds ≡ length m.variables → All (λ c. IsFitting ds (task_of c)) cs → AllZip (Means m []) cs (map task_of cs)
-means_all m ds [] long h = tt
-means_all m ds (c ∷ cs) long h =
+pub means_all : (m : CpModel) (ss : List DefinedSum) (ds : Domains) (cs : List Constraint) → length ds ≡ length m.variables → All (λ c. IsFitting ds (task_of c)) cs → AllZip (Means m ss) cs (map task_of cs)
+means_all m ss ds [] long h = tt
+means_all m ss ds (c ∷ cs) long h =
     let here = (All-head (λ b. IsFitting ds (task_of b)) c cs h).subjects in
-    (means_of m [] c (rw (← long) here), means_all m ds cs long (All-tail (λ b. IsFitting ds (task_of b)) c cs h))
-
-first_instance : (m : CpModel) (ds : Domains) → IsValid m → HaveValuesOf m.variables ds → IsInstance (record { model = m; defs = []; domains = ds; tasks = first_tasks m })
-first_instance m ds valid h =
-    let parts = parts_of m valid in
-    let long = length-values m.variables ds h in
-    let few = few_variables m valid in
-    let constraints = All-weaker (λ c. constraint_fault m.variables m.constraints c ≡ None) (λ c. IsFitting ds (task_of c)) (λ c e. task_fits m.variables m.constraints ds c parts.variables h e) m.constraints parts.constraints in
-    let objective = objective_fits m.variables ds m.objective parts.variables h parts.objective in
-    let sound = sound_values m.variables ds h in
-    let list = list_fits (length m.variables) ds m.objective long sound objective in
-    let cut = cut_fits (length m.variables) ds m.objective long sound objective in
-    record {
-      valid = valid;
-      domains = record {
-        count = omega arith;
-        few = omega arith;
-        sound = sound;
-        variables = values_at m.variables ds h;
-        sums = tt;
-      };
-      tasks = record {
-        constraints = map task_of m.constraints;
-        first = [];
-        list = list_task m.objective;
-        cut = cut_task m.objective;
-        later = [];
-        sums = refl;
-        order = refl;
-        mean = means_all m ds m.constraints long constraints;
-        is_list = is_list_task m [] objective.subjects;
-        is_cut = is_cut_task m [] objective.subjects;
-      };
-      fits = All-append (IsFitting ds) (map task_of m.constraints) (list_task m.objective ∷ (cut_task m.objective ∷ []))
-          (All-map (IsFitting ds) task_of m.constraints constraints)
-          (All-cons (IsFitting ds) (list_task m.objective) (cut_task m.objective ∷ []) list (All-cons (IsFitting ds) (cut_task m.objective) [] cut (All-nil (IsFitting ds))));
-    }
-
--- the instance of a valid model, with its sums read off its tasks
-pub begins : (m : CpModel) (ds : Domains) (ts : List Task) → IsValid m → HaveValuesOf m.variables ds → ts ≡ first_tasks m → IsInstance (record { model = m; defs = sums_in ts; domains = ds; tasks = ts })
-begins m ds ts valid h e =
-    let none = ap sums_in e ∙ sums_in-first m in
-    subst (λ us. IsInstance (record { model = m; defs = sums_in us; domains = ds; tasks = us })) (sym e)
-    (subst (λ ss. IsInstance (record { model = m; defs = ss; domains = ds; tasks = first_tasks m })) (sym (sums_in-first m)) (first_instance m ds valid h))
+    (means_of m ss c (rw (← long) here), means_all m ss ds cs long (All-tail (λ b. IsFitting ds (task_of b)) c cs h))
 
 -- one more sum, with its domain and its task
 abbrev pub grown : Problem → DefinedSum → Intervals → Problem
@@ -121,6 +68,7 @@ grown p s d = record {
   defs = p.defs ++ s ∷ [];
   domains = p.domains ++ d ∷ [];
   tasks = p.tasks ++ sum_task (length p.domains) s ∷ [];
+  steering = p.steering;
 }
 
 -- what a sum that can be defined keeps
@@ -184,27 +132,30 @@ tasks_later p s d i =
       is_cut = IsCutTask-later p.model p.defs s t.cut (All-head P t.cut (sum_tasks (n + length t.first) t.later) after) t.is_cut;
     }
 
-grown_instance : (p : Problem) (s : DefinedSum) (d : Intervals) → IsInstance p → CanDefine p s d → IsInstance (grown p s d)
-grown_instance p s d i h =
-    let dom = i.domains in
+pub domains_later : (p : Problem) (s : DefinedSum) (d : Intervals) → AreDomains p → CanDefine p s d → AreDomains (grown p s d)
+domains_later p s d dom h =
     let count = dom.count in
     let room = h.room in
     let one = length-append p.domains (d ∷ []) in
     let more = length-append p.defs (s ∷ []) in
     record {
-      valid = i.valid;
-      domains = record {
-        count = omega arith;
-        few = omega arith;
-        sound = All-push AreIntervals p.domains d dom.sound h.sound;
-        variables = λ j x l. (ap (λ w. is_among w x) (sym (same-append p.domains (d ∷ []) j (omega arith))) ∙ dom.variables j x l);
-        sums = AreSumsFrom-push (p.domains ++ d ∷ []) (variable_count p) p.defs s (length p.domains) count (AreSumsFrom-longer p.domains (d ∷ []) (variable_count p) p.defs (omega arith) dom.sums) (IsSumOf-last p.domains d s h.subjects h.small h.ends);
-      };
-      tasks = tasks_later p s d i;
-      fits = All-push (IsFitting (p.domains ++ d ∷ [])) p.tasks (sum_task (length p.domains) s)
-          (All-weaker (IsFitting p.domains) (IsFitting (p.domains ++ d ∷ [])) (λ t f. IsFitting-longer p.domains (d ∷ []) t f) p.tasks i.fits)
-          (sum_fits p s d dom.sound h);
+      count = omega arith;
+      few = omega arith;
+      sound = All-push AreIntervals p.domains d dom.sound h.sound;
+      variables = λ j x l. (ap (λ w. is_among w x) (sym (same-append p.domains (d ∷ []) j (omega arith))) ∙ dom.variables j x l);
+      sums = AreSumsFrom-push (p.domains ++ d ∷ []) (variable_count p) p.defs s (length p.domains) count (AreSumsFrom-longer p.domains (d ∷ []) (variable_count p) p.defs (omega arith) dom.sums) (IsSumOf-last p.domains d s h.subjects h.small h.ends);
     }
+
+grown_instance : (p : Problem) (s : DefinedSum) (d : Intervals) → IsInstance p → CanDefine p s d → IsInstance (grown p s d)
+grown_instance p s d i h = record {
+  valid = i.valid;
+  domains = domains_later p s d i.domains h;
+  tasks = tasks_later p s d i;
+  fits = All-push (IsFitting (p.domains ++ d ∷ [])) p.tasks (sum_task (length p.domains) s)
+      (All-weaker (IsFitting p.domains) (IsFitting (p.domains ++ d ∷ [])) (λ t f. IsFitting-longer p.domains (d ∷ []) t f) p.tasks i.fits)
+      (sum_fits p s d i.domains.sound h);
+  steering = all_steer_later (variable_count p) p.defs (s ∷ []) p.model.strategies p.steering i.steering;
+}
 
 grown_defines : (p : Problem) (s : DefinedSum) (d : Intervals) → IsInstance p → Defines p (grown p s d) s (length p.domains)
 grown_defines p s d i = record {
@@ -214,29 +165,46 @@ grown_defines p s d i = record {
   added = d;
   domains = refl;
   tasks = refl;
+  steering = refl;
   value = λ a long. value_at-extended_push p.defs s a (length p.domains) (let count = i.domains.count in omega arith);
 }
 
-same_problem : (m : CpModel) (ss ss' : List DefinedSum) (ds ds' : Domains) (ts ts' : List Task) → ss ≡ ss' → ds ≡ ds' → ts ≡ ts'
-    → (let p : Problem = record { model = m; defs = ss; domains = ds; tasks = ts } in p) ≡ (let q : Problem = record { model = m; defs = ss'; domains = ds'; tasks = ts' } in q)
-same_problem m ss ss' ds ds' ts ts' e f g = cc
+same_problem : (m : CpModel) (ss ss' : List DefinedSum) (ds ds' : Domains) (ts ts' : List Task) (gs : List Steering) → ss ≡ ss' → ds ≡ ds' → ts ≡ ts'
+    → (let p : Problem = record { model = m; defs = ss; domains = ds; tasks = ts; steering = gs } in p) ≡ (let q : Problem = record { model = m; defs = ss'; domains = ds'; tasks = ts'; steering = gs } in q)
+same_problem m ss ss' ds ds' ts ts' gs e f g = cc
+
+-- domains and tasks to which a sum was added are those of one more sum
+pub is_grown : (m : CpModel) (ds ds' : Domains) (ts ts' : List Task) (gs : List Steering) (s : DefinedSum) → (h : AddsSum ds ds' ts ts' s) → problem_of m ds' ts' gs ≡ grown (problem_of m ds ts gs) s h.added
+is_grown m ds ds' ts ts' gs s h =
+    let sums = ap sums_in h.tasks ∙ sums_in-push ts (length ds) s in
+    same_problem m (sums_in ts') (sums_in ts ++ s ∷ []) ds' (ds ++ h.added ∷ []) ts' (ts ++ sum_task (length ds) s ∷ []) gs sums h.domains h.tasks
+
+pub can_define : (p : Problem) (ds' : Domains) (ts' : List Task) (s : DefinedSum) → length p.domains < 2 ^ 31 → All (λ t. t.subject < length p.domains) s.terms → terms_reach p.domains s.terms + unsigned_abs s.offset < 2 ^ 62
+    → (h : AddsSum p.domains ds' p.tasks ts' s) → CanDefine p s h.added
+can_define p ds' ts' s room subjects small h = record {
+  room = room;
+  sound = h.sound;
+  subjects = All-map (λ (j : ℕ). j < length p.domains) (λ t. t.subject) s.terms subjects;
+  small = small;
+  ends = h.ends;
+}
 
 -- what is left of a defined sum
 pub record Grows (old new : Problem) (s : DefinedSum) (subject : ℕ) : Type 0 where
   pub instance : IsInstance new
   pub defines : Defines old new s subject
 
-pub grows : (p : Problem) (m : CpModel) (ds ds' : Domains) (ts ts' : List Task) (s : DefinedSum) (d : Intervals) (subject : ℕ) → problem_of m ds ts ≡ p → IsInstance (problem_of m ds ts) → subject ≡ length ds → CanDefine (problem_of m ds ts) s d
-    → ds' ≡ ds ++ d ∷ [] → ts' ≡ ts ++ sum_task subject s ∷ [] → Grows p (problem_of m ds' ts') s subject
-grows p m ds ds' ts ts' s d subject view i es h ed et =
-    let old = problem_of m ds ts in
-    let last = et ∙ ap (λ (n : ℕ). ts ++ sum_task n s ∷ []) es in
-    let sums = ap sums_in last ∙ sums_in-push ts (length ds) s in
-    let same : problem_of m ds' ts' ≡ grown old s d = same_problem m (sums_in ts') (sums_in ts ++ s ∷ []) ds' (ds ++ d ∷ []) ts' (ts ++ sum_task (length ds) s ∷ []) sums ed last in
+pub grows : (p : Problem) (m : CpModel) (ds ds' : Domains) (ts ts' : List Task) (gs : List Steering) (s : DefinedSum) (subject : ℕ) → problem_of m ds ts gs ≡ p → IsInstance (problem_of m ds ts gs) → subject ≡ length ds
+    → length p.domains < 2 ^ 31 → All (λ t. t.subject < length p.domains) s.terms → terms_reach p.domains s.terms + unsigned_abs s.offset < 2 ^ 62 → AddsSum ds ds' ts ts' s → Grows p (problem_of m ds' ts' gs) s subject
+grows p m ds ds' ts ts' gs s subject view i es room subjects small h =
+    let old = problem_of m ds ts gs in
+    let same = is_grown m ds ds' ts ts' gs s h in
+    let places = ap (λ (q : Problem). q.domains) (sym view) in
+    let can = can_define old ds' ts' s (subst (λ (ws : Domains). length ws < 2 ^ 31) places room) (subst (λ (ws : Domains). All (λ t. t.subject < length ws) s.terms) places subjects) (subst (λ (ws : Domains). terms_reach ws s.terms + unsigned_abs s.offset < 2 ^ 62) places small) h in
     record {
-      instance = subst (λ q. IsInstance q) (sym same) (grown_instance old s d i h);
-      defines = subst (λ o. Defines o (problem_of m ds' ts') s subject) view
-          (subst (λ n. Defines old (problem_of m ds' ts') s n) (sym es) (subst (λ q. Defines old q s (length ds)) (sym same) (grown_defines old s d i)));
+      instance = subst (λ q. IsInstance q) (sym same) (grown_instance old s h.added i can);
+      defines = subst (λ o. Defines o (problem_of m ds' ts' gs) s subject) view
+          (subst (λ n. Defines old (problem_of m ds' ts' gs) s n) (sym es) (subst (λ q. Defines old q s (length ds)) (sym same) (grown_defines old s h.added i)));
     }
 
 pub constraint_paired : (vs : List Variable) (cs : List Constraint) (c : Constraint) → constraint_fault vs cs c ≡ None → IsPaired c
@@ -270,14 +238,3 @@ can_post m valid =
       constraints = All-weaker (λ c. constraint_fault m.variables m.constraints c ≡ None) IsPaired (λ c e. constraint_paired m.variables m.constraints c e) m.constraints parts.constraints;
       objective = objective_paired m.variables m.objective parts.objective;
     }
-
--- what `define` knows of the sum when it has its domain
-pub can_define : (p : Problem) (m : CpModel) (ds es : Domains) (us : List Task) (terms : List Term) (offset raw : ℤ) (d : Intervals) → p.domains ≡ ds → es ≡ ds → raw ≡ offset → All (λ t. t.subject < length p.domains) terms → terms_reach p.domains terms + unsigned_abs offset < 2 ^ 62 → length p.domains < 2 ^ 31
-    → AreIntervals d → d ≡ (least_of_terms es terms +ℤ raw, greatest_of_terms es terms +ℤ raw) ∷ [] → CanDefine (problem_of m ds us) (record { terms = terms; offset = offset }) d
-can_define p m ds es us terms offset raw d old read same subjects small room sound ends = record {
-  room = subst (λ (ws : Domains). length ws < 2 ^ 31) old room;
-  sound = sound;
-  subjects = All-map (λ (j : ℕ). j < length ds) (λ t. t.subject) terms (subst (λ (ws : Domains). All (λ t. t.subject < length ws) terms) old subjects);
-  small = subst (λ ws. terms_reach ws terms + unsigned_abs offset < 2 ^ 62) old small;
-  ends = ends ∙ ap (λ ws. (least_of_terms ws terms +ℤ raw, greatest_of_terms ws terms +ℤ raw) ∷ []) read ∙ ap (λ (z : ℤ). (least_of_terms ds terms +ℤ z, greatest_of_terms ds terms +ℤ z) ∷ []) same;
-}

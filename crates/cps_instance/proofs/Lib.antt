@@ -7,7 +7,9 @@ pub mod Meaning
 pub mod VariableDomains
 pub mod Fits
 pub mod Growing
+pub mod Standing
 pub mod Instances
+pub mod Drafting
 pub mod Boundings
 pub mod Solving
 pub mod Lowering

@@ -1,29 +1,36 @@
 -- What contracts see of an instance, and what belongs together in it.
-use Rattle.std.specs.Prelude.{◌≡◌, ◌↔◌, ℕ, ◌+◌, ◌<◌, ◌≤◌, ◌^◌, ℤ, IsTrue, Option, None, List, [], ◌∷◌, ◌++◌, map, length, All, slice_index_or}
+use Rattle.std.specs.Prelude.{◌≡◌, ◌↔◌, ℕ, ◌+◌, ◌<◌, ◌≤◌, ◌^◌, ℤ, IsTrue, None, List, [], ◌∷◌, ◌++◌, map, length, All, slice_index_or}
 use Rattle.std.specs.List.{AllZip}
 use Rattle.cps_model.specs.declared.model.CpModel.{CpModel}
 use Rattle.cps_model.specs.declared.model.Variable.{Variable}
+use Rattle.cps_model.specs.declared.model.LinearExpr.{LinearExpr}
 use Rattle.cps_model.specs.declared.constraint.Constraint.{Constraint}
+use Rattle.cps_model.specs.declared.steering.Strategy.{Strategy}
+use Rattle.cps_model.specs.Values.{expression_value}
 use Rattle.cps_model.specs.Within.{is_within}
 use Rattle.cps_model.specs.Meaning.{IsSatisfied}
 use Rattle.cps_model.specs.Solutions.{objective_value, meets_objective}
 use Rattle.cps_model.specs.Validity.{IsValid}
 use Rattle.cps_domain.specs.Window.{is_among}
 use Rattle.cps_literal.specs.Truth.{value_at}
+use Rattle.cps_instance.specs.declared.steering.Steering.{Steering}
 use Rattle.cps_instance.specs.declared.term.Term.{Term}
 use Rattle.cps_instance.specs.declared.task.Task.{Task}
-use Rattle.cps_instance.specs.declared.task.Body.TheVariants.{Sum, ObjectiveList, Cut}
+use Rattle.cps_instance.specs.declared.task.Body.TheVariants.{Sum, Cut}
 use Rattle.cps_instance.specs.Terms.{Intervals, Domains, AreIntervals, terms_value, domain_at}
-use Rattle.cps_instance.specs.Sums.{DefinedSum, sum_value, extended, IsSumOf, AreSumsFrom}
+use Rattle.cps_instance.specs.Sums.{DefinedSum, sum_value, extended, AreSumsFrom}
+use Rattle.cps_instance.specs.Writing.{plain_subject, sum_of, StandsFor}
 use Rattle.cps_instance.specs.Tasks.{HoldsTask, lowered}
 use Rattle.cps_instance.specs.Fitting.{IsFitting}
 
--- a model over subjects: its variables first, then the defined sums; a domain for each, and what is to hold of them
+-- a model over subjects: its variables first, then the defined sums; a domain for each, what is to hold of them, and the
+-- model's strategies over them
 pub record Problem : Type 0 where
   pub model : CpModel
   pub defs : List DefinedSum
   pub domains : Domains
   pub tasks : List Task
+  pub steering : List Steering
 
 -- how many variables the model has, which is the first subject that a sum can have
 abbrev pub variable_count : Problem → ℕ
@@ -83,11 +90,24 @@ pub record AreTasks (p : Problem) : Type 0 where
   pub is_list : IsListTask p.model p.defs list
   pub is_cut : IsCutTask p.model p.defs cut
 
+-- the subject of an expression over n variables, which has its value wherever the sums have theirs
+pub record IsSubjectOf (n : ℕ) (defs : List DefinedSum) (e : LinearExpr) (subject : ℕ) : Type 0 where
+  pub own : StandsFor (plain_subject e) n defs (sum_of e) subject
+  pub within : subject < n + length defs
+  pub value : (a : List ℤ) → length a ≡ n → value_at (extended defs a) subject ≡ expression_value a e
+
+-- a strategy over subjects makes the same choices, over a subject for each of its expressions
+pub record Steers (n : ℕ) (defs : List DefinedSum) (s : Strategy) (t : Steering) : Type 0 where
+  pub choose : t.choose ≡ s.choose
+  pub select : t.select ≡ s.select
+  pub subjects : AllZip (IsSubjectOf n defs) s.exprs t.subjects
+
 pub record IsInstance (p : Problem) : Type 0 where
   pub valid : IsValid p.model
   pub domains : AreDomains p
   pub tasks : AreTasks p
   pub fits : All (IsFitting p.domains) p.tasks
+  pub steering : AllZip (Steers (variable_count p) p.defs) p.model.strategies p.steering
 
 -- a sum is defined: its subject is the next one, and has the sum's value at each extended assignment; all else stays
 pub record Defines (old new : Problem) (s : DefinedSum) (subject : ℕ) : Type 0 where
@@ -97,4 +117,5 @@ pub record Defines (old new : Problem) (s : DefinedSum) (subject : ℕ) : Type 0
   pub added : Intervals
   pub domains : new.domains ≡ old.domains ++ added ∷ []
   pub tasks : new.tasks ≡ old.tasks ++ sum_task subject s ∷ []
+  pub steering : new.steering ≡ old.steering
   pub value : (a : List ℤ) → IsAssignment old.model a → value_at (extended new.defs a) subject ≡ sum_value (extended old.defs a) s

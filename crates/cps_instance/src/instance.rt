@@ -1,25 +1,29 @@
 //! A model over subjects, with tasks that mean its constraints.
-ghost use Rattle.std.specs.Prelude.{◌≡◌, ◌+◌, ◌<◌, ◌^◌, unsigned_abs, map, All, length, [], IfOk, OnErr};
+ghost use Rattle.std.specs.Prelude.{◌≡◌, ◌+◌, ◌<◌, ◌^◌, unsigned_abs, map, All, length, IfOk, OnErr};
+ghost use Rattle.std.specs.List.{AllZip};
 ghost use Rattle.cps_domain.specs.Window.{intervals};
 ghost use Rattle.cps_instance.specs.Terms.{terms_reach};
-ghost use Rattle.cps_instance.specs.Problem.{IsInstance, Defines, variable_count};
+ghost use Rattle.cps_instance.specs.Problem.{IsInstance, Defines, Steers, variable_count};
+ghost use Rattle.cps_instance.specs.Strategies.{model_sums, first_tasks};
 
-use crate::domains::{domains_of, sum_domain};
+use crate::draft::Draft;
+use crate::steering::Steering;
+use crate::sums::define_sum;
 use crate::task::Task;
-use crate::tasks::{sum_task, tasks_of};
 use crate::term::Term;
 use cps_domain::Domain;
 use cps_validate::ValidModel;
 use std::alloc::{AllocError, Global};
 use std::marker::Model;
 
-/// A valid model, a domain for each subject, and the tasks. Subjects are numbered from 0: first the model's variables, then
-/// the defined sums as they came.
+/// A valid model, a domain for each subject, the tasks, and the model's strategies over subjects. Subjects are numbered from 0:
+/// first the model's variables, then the defined sums as they came, those of the strategies first.
 #[derive(Drop)]
 pub struct Instance<'a> {
     model: &'a ValidModel,
     domains: Vec<Domain>,
     tasks: Vec<Task>,
+    steering: Vec<Steering>,
 }
 
 impl<'a> Model for Instance<'a> {
@@ -30,28 +34,32 @@ impl<'a> Model for Instance<'a> {
 
     ghost Value = { Problem };
 
-    ghost view = { λ i. problem_of i.model.now (map intervals i.domains.items) i.tasks.items };
+    ghost view = { λ i. problem_of i.model.now (map intervals i.domains.items) i.tasks.items i.steering.items };
 
-    ghost invariant = { λ i. IsInstance (problem_of i.model.now (map intervals i.domains.items) i.tasks.items) };
+    ghost invariant = { λ i. IsInstance (problem_of i.model.now (map intervals i.domains.items) i.tasks.items i.steering.items) };
 }
 
 impl<'a> Instance<'a> {
     ghost use Rattle.cps_instance.specs.Sums.{DefinedSum};
     ghost use Rattle.cps_instance.specs.Posting.{sums_in};
 
-    /// The instance of a valid model, with no defined sum yet.
+    /// The instance of a valid model. Its sums are those of its strategies' expressions that are no plain variables, in order.
     pub fn of(alloc: Global, valid: &'a ValidModel) -> Result<Self, AllocError>
         ensures model { IfOk result (λ i. i.model ≡ valid.now) }
-        ensures no_sums { IfOk result (λ i. i.defs ≡ []) }
+        ensures sums { IfOk result (λ i. i.defs ≡ model_sums valid.now) }
+        ensures tasks { IfOk result (λ i. i.tasks ≡ first_tasks valid.now) }
         ensures sound { IfOk result IsInstance }
     {
         let model = valid.model();
-        let domains = domains_of(alloc, model.variables.as_slice())?;
-        let tasks = tasks_of(alloc, model)?;
+        let mut draft = Draft::new(alloc, model)?;
+        let steering = draft.steer_all(alloc, model.strategies.as_slice())?;
+        let parts = draft.finish(alloc)?;
+        let (domains, tasks) = parts;
         Ok(Instance {
             model: valid,
             domains,
             tasks,
+            steering,
         })
     }
 
@@ -78,13 +86,21 @@ impl<'a> Instance<'a> {
         self.domains.as_slice()
     }
 
-    /// What is to hold: a task for each constraint in order, one for the objective's list, one for its cut, and one for each
-    /// defined sum.
+    /// What is to hold: a task for each constraint in order, one for each sum of a strategy, one for the objective's list, one for
+    /// its cut, and one for each sum that was defined later.
     pub fn tasks(&self) -> &[Task]
         ensures list { result.now ≡ self.now.tasks }
         ensures sound { IsInstance self.now }
     {
         self.tasks.as_slice()
+    }
+
+    /// The model's strategies in order, each over subjects that have its expressions' values.
+    pub fn steering(&self) -> &[Steering]
+        ensures list { result.now ≡ self.now.steering }
+        ensures each { AllZip (Steers (variable_count self.now) self.now.defs) self.now.model.strategies result.now }
+    {
+        self.steering.as_slice()
     }
 
     /// The tasks alone, those of the defined sums among them.
@@ -106,13 +122,7 @@ impl<'a> Instance<'a> {
         ensures err { OnErr result (self.new ≡ self.old) }
     {
         let alloc = *self.tasks.allocator();
-        let subject = self.domains.len() as u32;
-        self.domains.reserve(1)?;
-        self.tasks.reserve(1)?;
-        let domain = sum_domain(alloc, self.domains.as_slice(), terms, offset)?;
-        let task = sum_task(alloc, subject, terms, offset)?;
-        self.domains.push_reserved(domain);
-        self.tasks.push_reserved(task);
+        let subject = define_sum(alloc, &mut self.domains, &mut self.tasks, terms, offset)?;
         Ok(subject)
     }
 }

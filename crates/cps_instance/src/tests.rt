@@ -1,7 +1,9 @@
-//! The instances of a model that says nothing and of one with a clause.
+//! The instances of a model that says nothing, of one with a clause and of one with a strategy.
 use super::*;
 use cps_literal::{Atom, Op};
-use cps_model::{Constraint, CpModel, Kind, Listed, Text, Variable};
+use cps_model::{
+    Choose, Constraint, CpModel, Kind, LinearExpr, Listed, Select, Strategy, Text, Variable,
+};
 use cps_validate::validate;
 use std::alloc::{AllocError, Global};
 use std::test::Fail;
@@ -94,5 +96,98 @@ fn instance_of_a_clause(rt: HostRuntime) -> Result<(), Fail> {
     assert_eq!(rt; instance.domains().len(), 1);
     assert_eq!(rt; instance.tasks().len(), 3);
     assert!(rt; begins_with_the_clause(&instance));
+    Ok(())
+}
+
+/// Adds a variable with the values from one number to another.
+fn push_variable(
+    alloc: Global,
+    variables: &mut Vec<Variable>,
+    low: i64,
+    high: i64,
+) -> Result<(), AllocError> {
+    let domain = Vec::from_slice(alloc, &[low, high])?;
+    variables.push(Variable {
+        name: Text::new(alloc),
+        domain: Listed::from_vec(domain),
+    })?;
+    Ok(())
+}
+
+/// Adds an expression.
+fn push_expr(
+    alloc: Global,
+    exprs: &mut Vec<LinearExpr>,
+    vars: &[i32],
+    coeffs: &[i64],
+    offset: i64,
+) -> Result<(), AllocError> {
+    exprs.push(LinearExpr {
+        vars: Listed::from_vec(Vec::from_slice(alloc, vars)?),
+        coeffs: Listed::from_vec(Vec::from_slice(alloc, coeffs)?),
+        offset,
+    })?;
+    Ok(())
+}
+
+/// A strategy over two variables: one of them, the opposite of the other, its double, it with an offset, both, and it alone.
+fn one_strategy(alloc: Global) -> Result<Listed<Strategy>, AllocError> {
+    let mut exprs = Vec::new(alloc);
+    push_expr(alloc, &mut exprs, &[1], &[1], 0)?;
+    push_expr(alloc, &mut exprs, &[-1], &[1], 0)?;
+    push_expr(alloc, &mut exprs, &[0], &[2], 0)?;
+    push_expr(alloc, &mut exprs, &[0], &[1], 5)?;
+    push_expr(alloc, &mut exprs, &[0, 1], &[1, 1], 0)?;
+    push_expr(alloc, &mut exprs, &[0], &[1], 0)?;
+    let mut strategies = Vec::new(alloc);
+    strategies.push(Strategy {
+        exprs: Listed::from_vec(exprs),
+        choose: Choose::LowestMin,
+        select: Select::MaxValue,
+    })?;
+    Ok(Listed::from_vec(strategies))
+}
+
+/// Variables with the values 0 to 1 and 2 to 5, and the strategy.
+fn steered_model(alloc: Global) -> Result<CpModel, AllocError> {
+    let mut variables = Vec::new(alloc);
+    push_variable(alloc, &mut variables, 0, 1)?;
+    push_variable(alloc, &mut variables, 2, 5)?;
+    let strategies = one_strategy(alloc)?;
+    let mut model = model_of(alloc, Listed::from_vec(variables), Listed::new(alloc));
+    model.strategies = strategies;
+    Ok(model)
+}
+
+/// The least and the greatest value of each subject.
+fn ends_of(alloc: Global, instance: &Instance) -> Result<Vec<(i64, i64)>, AllocError> {
+    let mut ends = Vec::new(alloc);
+    for domain in instance.domains() {
+        ends.push((domain.min(), domain.max()))?;
+    }
+    Ok(ends)
+}
+
+/// Whether there is one strategy, over these subjects, which chooses and selects as the one above.
+fn is_steered_over(instance: &Instance, subjects: &[u32]) -> bool {
+    match instance.steering() {
+        [steering] => {
+            steering.subjects.as_slice() == subjects
+                && steering.choose == Choose::LowestMin
+                && steering.select == Select::MaxValue
+        }
+        _ => false,
+    }
+}
+
+#[test]
+fn strategies_define_sums(rt: HostRuntime) -> Result<(), Fail> {
+    let alloc = rt.alloc();
+    let valid = validate(alloc, steered_model(alloc)?)?;
+    let instance = Instance::of(alloc, &valid)?;
+    assert!(rt; is_steered_over(&instance, &[1, 2, 3, 4, 5, 0]));
+    let ends = [(0, 1), (2, 5), (-1, 0), (0, 2), (5, 6), (2, 6)];
+    assert_eq!(rt; ends_of(alloc, &instance)?.as_slice(), ends.as_slice());
+    assert_eq!(rt; instance.tasks().len(), 6);
     Ok(())
 }

@@ -1,34 +1,48 @@
-use Rattle.std.proofs.Common.{map, ◌∙◌, ap, subst}
+-- A finished draft is an instance.
+use Rattle.std.specs.List.{AllZip}
+use Rattle.std.proofs.Common.{◌≡◌, map, List, ◌++◌, ◌∙◌, sym, ap, subst}
+use Rattle.cps_model.specs.declared.model.CpModel.{CpModel}
+use Rattle.cps_model.specs.declared.steering.Strategy.{Strategy}
 use Rattle.cps_domain.specs.Window.{intervals}
-use Rattle.cps_instance.specs.Problem.{IsInstance}
-use Rattle.cps_instance.specs.Posting.{problem_of, sums_in, HaveValuesOf}
-use Rattle.cps_instance.proofs.Instances.{begins, can_post, sums_in-first}
+use Rattle.cps_instance.specs.Sums.{DefinedSum}
+use Rattle.cps_instance.specs.Problem.{Steers, variable_count}
+use Rattle.cps_instance.specs.Strategies.{strategy_sums}
+use Rattle.cps_instance.proofs.Drafting.{made, made_tasks}
 use Rattle.cps_instance.proofs.instance.Instance.of.Goals as goal
-
-pub domains_of-requires : goal.domains_of-requires
-domains_of-requires c = rw c.as_slice.ensures (can_post c.model-model.result.now c.model-model.ensures.valid).variables
-
-pub tasks_of-requires-clause-constraints : goal.tasks_of-requires-clause-constraints
-tasks_of-requires-clause-constraints c = (can_post c.model-model.result.now c.model-model.ensures.valid).constraints
-
-pub tasks_of-requires-clause-objective : goal.tasks_of-requires-clause-objective
-tasks_of-requires-clause-objective c = (can_post c.model-model.result.now c.model-model.ensures.valid).objective
 
 pub invariant_of-result : goal.invariant_of-result
 invariant_of-result c =
-    let ds = map intervals c.in_ok-domains.domains.items in
-    let ts = c.in_ok-tasks.tasks.items in
-    let values = subst (λ vs. HaveValuesOf vs ds) c.as_slice.ensures c.in_ok-domains.ensures in
-    subst (λ m. IsInstance (problem_of m ds ts)) c.model-model.ensures.same
-    (begins c.model-model.result.now ds ts c.model-model.ensures.valid values c.in_ok-tasks.ensures)
+    let q = c.steer_all.new.self in
+    let h = c.in_ok-steering.ensures in
+    let k = c.in_ok-parts.ensures in
+    let model : q.model ≡ c.model-model.result.now = h.defines.model ∙ c.in_ok-draft.ensures.model in
+    let listed = c.as_slice.ensures ∙ sym (ap (λ (m : CpModel). m.strategies) model) in
+    let steers = subst (λ (ss : List Strategy). AllZip (Steers (variable_count q) q.defs) ss c.in_ok-steering.steering.items) listed h.steers in
+    made q c.args.valid.now (map intervals c.in_ok-parts.parts.0.items) c.in_ok-parts.parts.1.items c.in_ok-steering.steering.items h.begun (model ∙ c.model-model.ensures.same) k.domains k.tasks k.sums steers
 
-pub returns-clause-no_sums : goal.returns-clause-no_sums
-returns-clause-no_sums c = ap sums_in c.in_ok-tasks.ensures ∙ sums_in-first c.model-model.result.now
+pub returns-clause-sums : goal.returns-clause-sums
+returns-clause-sums c =
+    let h = c.in_ok-steering.ensures in
+    c.in_ok-parts.ensures.sums ∙ h.defines.sums
+    ∙ ap (λ (ss : List DefinedSum). ss ++ strategy_sums c.as_slice.result.now) c.in_ok-draft.ensures.no_sums
+    ∙ ap (λ (ss : List Strategy). strategy_sums ss) (c.as_slice.ensures ∙ ap (λ (m : CpModel). m.strategies) c.model-model.ensures.same)
+
+pub returns-clause-tasks : goal.returns-clause-tasks
+returns-clause-tasks c =
+    let q = c.steer_all.new.self in
+    let h = c.in_ok-steering.ensures in
+    let sums : q.defs ≡ strategy_sums c.args.valid.now.strategies =
+    h.defines.sums
+    ∙ ap (λ (ss : List DefinedSum). ss ++ strategy_sums c.as_slice.result.now) c.in_ok-draft.ensures.no_sums
+    ∙ ap (λ (ss : List Strategy). strategy_sums ss) (c.as_slice.ensures ∙ ap (λ (m : CpModel). m.strategies) c.model-model.ensures.same) in
+    made_tasks q c.args.valid.now c.in_ok-parts.parts.1.items h.begun (h.defines.model ∙ c.in_ok-draft.ensures.model ∙ c.model-model.ensures.same) c.in_ok-parts.ensures.tasks sums
 
 pub returns-clause-sound : goal.returns-clause-sound
 returns-clause-sound c =
-    let ds = map intervals c.in_ok-domains.domains.items in
-    let ts = c.in_ok-tasks.tasks.items in
-    let values = subst (λ vs. HaveValuesOf vs ds) c.as_slice.ensures c.in_ok-domains.ensures in
-    subst (λ m. IsInstance (problem_of m ds ts)) c.model-model.ensures.same
-    (begins c.model-model.result.now ds ts c.model-model.ensures.valid values c.in_ok-tasks.ensures)
+    let q = c.steer_all.new.self in
+    let h = c.in_ok-steering.ensures in
+    let k = c.in_ok-parts.ensures in
+    let model : q.model ≡ c.model-model.result.now = h.defines.model ∙ c.in_ok-draft.ensures.model in
+    let listed = c.as_slice.ensures ∙ sym (ap (λ (m : CpModel). m.strategies) model) in
+    let steers = subst (λ (ss : List Strategy). AllZip (Steers (variable_count q) q.defs) ss c.in_ok-steering.steering.items) listed h.steers in
+    made q c.args.valid.now (map intervals c.in_ok-parts.parts.0.items) c.in_ok-parts.parts.1.items c.in_ok-steering.steering.items h.begun (model ∙ c.model-model.ensures.same) k.domains k.tasks k.sums steers
