@@ -15,17 +15,23 @@
 mod constraint;
 mod digits;
 mod error;
+mod expression;
 mod float;
+mod form;
+mod hint;
 mod kind;
 mod linear;
 mod lists;
 mod literals;
+mod member;
 mod model;
 mod names;
 mod number;
 mod objective;
 mod single;
 mod source;
+mod strategy;
+mod text;
 mod variable;
 
 pub use cps_model::FaultName;
