@@ -10,7 +10,7 @@ use Rattle.cps_schema.specs.declared.form.Form.{Form}
 use Rattle.cps_schema.specs.declared.form.Form.TheVariants.{Older, Newer}
 use Rattle.cps_schema.specs.declared.strategy.StrategyParts.{StrategyParts}
 use Rattle.cps_schema.specs.Written.{Written, token_text}
-use Rattle.cps_schema.specs.Tables.{Message, strategy_message, Content, formed, use_of}
+use Rattle.cps_schema.specs.Tables.{Message, strategy_message, Content, formed, use_in, use_of, table_of}
 use Rattle.cps_schema.specs.Faults.{is_other_form, has_other_form, values_fault}
 use Rattle.cps_schema.specs.Answers.{Refuses}
 use Rattle.cps_schema.specs.Steps.{Passes, Stops, FormedPasses, FormedStops}
@@ -135,3 +135,8 @@ pub formed_err : (w : Written) (f : Field) (form : Form) (content : Content) (mi
     IfErr r (Refuses (values_fault w (Some content) (values_of f.items))) → IfErr r (FormedStops w f form content mixed)
 formed_err w f form content mixed (Ok x) alone refused = refused
 formed_err w f form content mixed (Err e) alone refused = λ m before takes is. formed_stops w m before f form content takes (is ∙ alone) e refused
+
+pub no_strategy_field : (text : List ℕ) → bytes_eq text (codes "exprs") ≡ false → bytes_eq text (codes "variables") ≡ false →
+    bytes_eq text (codes "variable_selection_strategy") ≡ false → bytes_eq text (codes "domain_reduction_strategy") ≡ false →
+    use_in (table_of strategy_message) text ≡ None
+no_strategy_field text a b c d = rw (a, b, c, d) refl

@@ -107,11 +107,11 @@ kind_unnamed given text e before kept = rw e (record {
   kind_given = next_kind constraint_message (codes "name") before ∙ rw name_is_no_kind kept.kind_given;
 })
 
-pub constraint_kept : (parts : ConstraintParts) (text : List ℕ) → text ≡ codes "enforcement_literal" →
-    (before : List (List ℕ)) → IsConstraintGiven parts before → IsConstraintGiven parts (text ∷ before)
-constraint_kept parts text e before given = record {
-  name = rw e (next_given (codes "name") (codes "enforcement_literal") before ∙ given.name);
-  kind = enforcement_given parts.given text e before given.kind;
+pub constraint_kept : (old new : ConstraintParts) → new.name ≡ old.name → new.given ≡ old.given → (text : List ℕ) → text ≡ codes "enforcement_literal" →
+    (before : List (List ℕ)) → IsConstraintGiven old before → IsConstraintGiven new (text ∷ before)
+constraint_kept old new named same text e before given = record {
+  name = rw (e, named) (next_given (codes "name") (codes "enforcement_literal") before ∙ given.name);
+  kind = rw same (enforcement_given old.given text e before given.kind);
 }
 
 pub name_given_first : (old new : ConstraintParts) → new.given ≡ old.given → is_some new.name ≡ true → (text : List ℕ) → text ≡ codes "name" →

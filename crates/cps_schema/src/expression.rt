@@ -169,6 +169,7 @@ pub(crate) fn add_references(
 ) -> Result<(), AllocError>
     ensures { OnOk result (expressions.new.items ≡ expressions.old.items ++ map reference_expression references.now) }
 {
+    expressions.reserve_exact(references.len())?;
     for reference in references {
         expressions.push(reference_expression(alloc, *reference)?)?;
     }

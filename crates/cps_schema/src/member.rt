@@ -114,12 +114,7 @@ fn member_numbered(number: Option<i64>) -> Result<usize, FaultName>
 }
 
 /// The number of the member that a token of this kind gives behind a sign.
-fn member_of(
-    kind: Enum,
-    negative: bool,
-    token: TokenKind,
-    text: &[u8],
-) -> Result<usize, FaultName>
+fn member_of(kind: Enum, negative: bool, token: TokenKind, text: &[u8]) -> Result<usize, FaultName>
     ensures { result ≡ member_of kind negative (Some token) text.now }
 {
     match token {

@@ -23,7 +23,9 @@ use super::strategy::add_strategies;
 use super::text::{name_or_empty, set_name};
 use super::variable::add_variables;
 use cps_lex::Token;
-use cps_model::{Constraint, CpModel, FaultName, Hint, Listed, Objective, Strategy, Text, Variable};
+use cps_model::{
+    Constraint, CpModel, FaultName, Hint, Listed, Objective, Strategy, Text, Variable,
+};
 use cps_textproto::{Field, Node};
 use std::alloc::Global;
 

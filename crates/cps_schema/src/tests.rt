@@ -55,15 +55,43 @@ fn refuses_names(rt: HostRuntime) -> Result<(), Fail> {
         ("objective { offset: 1 offset: x }", FaultName::Repeated, 22),
         ("objective { } objective: 0", FaultName::Repeated, 14),
         ("constraints { all_diff { } }", FaultName::Unsupported, 14),
-        ("constraints { bool_or { } bool_or: 0 }", FaultName::Repeated, 26),
-        ("constraints { bool_or { } linear: 0 }", FaultName::TwoKinds, 26),
-        ("constraints { at_most_one { } exactly_one { } }", FaultName::TwoKinds, 30),
+        (
+            "constraints { bool_or { } bool_or: 0 }",
+            FaultName::Repeated,
+            26,
+        ),
+        (
+            "constraints { bool_or { } linear: 0 }",
+            FaultName::TwoKinds,
+            26,
+        ),
+        (
+            "constraints { at_most_one { } exactly_one { } }",
+            FaultName::TwoKinds,
+            30,
+        ),
         ("assumptions: 0", FaultName::Unsupported, 0),
         ("name: \"a\" name: \"b\"", FaultName::Repeated, 10),
-        ("solution_hint { } solution_hint { }", FaultName::Repeated, 18),
-        ("search_strategy { exprs { } variables: 0 }", FaultName::MixedForms, 28),
-        ("search_strategy { variables: [ ] exprs: 0 }", FaultName::MixedForms, 33),
-        ("search_strategy { variable_selection_strategy: 0 variable_selection_strategy: 1.0 }", FaultName::Repeated, 49),
+        (
+            "solution_hint { } solution_hint { }",
+            FaultName::Repeated,
+            18,
+        ),
+        (
+            "search_strategy { exprs { } variables: 0 }",
+            FaultName::MixedForms,
+            28,
+        ),
+        (
+            "search_strategy { variables: [ ] exprs: 0 }",
+            FaultName::MixedForms,
+            33,
+        ),
+        (
+            "search_strategy { variable_selection_strategy: 0 variable_selection_strategy: 1.0 }",
+            FaultName::Repeated,
+            49,
+        ),
     ];
     for (text, name, byte) in texts {
         refused(&rt, alloc, text, name, byte)?;
@@ -85,7 +113,11 @@ fn refuses_forms(rt: HostRuntime) -> Result<(), Fail> {
         ("name: x", FaultName::WrongKind, 6),
         ("constraints { name: 0 }", FaultName::WrongKind, 20),
         ("name: [\"a\"]", FaultName::WrongKind, 6),
-        ("variables { name: \"a\" \"\\377\" }", FaultName::WrongKind, 18),
+        (
+            "variables { name: \"a\" \"\\377\" }",
+            FaultName::WrongKind,
+            18,
+        ),
     ];
     for (text, name, byte) in texts {
         refused(&rt, alloc, text, name, byte)?;
@@ -97,27 +129,83 @@ fn refuses_forms(rt: HostRuntime) -> Result<(), Fail> {
 fn refuses_numbers(rt: HostRuntime) -> Result<(), Fail> {
     let alloc = rt.alloc();
     let texts: [(&str, FaultName, u32); 21] = [
-        ("variables { domain: [9223372036854775807, 9223372036854775808] }", FaultName::OutOfRange, 42),
-        ("variables { domain: [-9223372036854775808, -9223372036854775809] }", FaultName::OutOfRange, 43),
-        ("variables { domain: [9223372036854775808, x] }", FaultName::OutOfRange, 21),
-        ("variables { domain: 100000000000000000000000000000000000000000 }", FaultName::OutOfRange, 20),
-        ("variables { domain: 0x8000000000000000 }", FaultName::OutOfRange, 20),
+        (
+            "variables { domain: [9223372036854775807, 9223372036854775808] }",
+            FaultName::OutOfRange,
+            42,
+        ),
+        (
+            "variables { domain: [-9223372036854775808, -9223372036854775809] }",
+            FaultName::OutOfRange,
+            43,
+        ),
+        (
+            "variables { domain: [9223372036854775808, x] }",
+            FaultName::OutOfRange,
+            21,
+        ),
+        (
+            "variables { domain: 100000000000000000000000000000000000000000 }",
+            FaultName::OutOfRange,
+            20,
+        ),
+        (
+            "variables { domain: 0x8000000000000000 }",
+            FaultName::OutOfRange,
+            20,
+        ),
         ("variables { domain: 1.0 }", FaultName::WrongKind, 20),
         ("variables { domain: -1e3 }", FaultName::WrongKind, 20),
-        ("constraints { bool_or { literals: 2147483648 } }", FaultName::OutOfRange, 34),
-        ("constraints { bool_or { literals: 020000000000 } }", FaultName::OutOfRange, 34),
-        ("constraints { bool_or { literals: 2f } }", FaultName::WrongKind, 34),
-        ("constraints { linear { vars: -2147483649 x: 0 } }", FaultName::OutOfRange, 29),
+        (
+            "constraints { bool_or { literals: 2147483648 } }",
+            FaultName::OutOfRange,
+            34,
+        ),
+        (
+            "constraints { bool_or { literals: 020000000000 } }",
+            FaultName::OutOfRange,
+            34,
+        ),
+        (
+            "constraints { bool_or { literals: 2f } }",
+            FaultName::WrongKind,
+            34,
+        ),
+        (
+            "constraints { linear { vars: -2147483649 x: 0 } }",
+            FaultName::OutOfRange,
+            29,
+        ),
         ("objective { offset: -inf }", FaultName::NotWhole, 20),
-        ("objective { offset: 9007199254740993 }", FaultName::NotWhole, 20),
-        ("objective { scaling_factor: - 9007199254740993 }", FaultName::NotWhole, 28),
+        (
+            "objective { offset: 9007199254740993 }",
+            FaultName::NotWhole,
+            20,
+        ),
+        (
+            "objective { scaling_factor: - 9007199254740993 }",
+            FaultName::NotWhole,
+            28,
+        ),
         ("objective { offset: 017 }", FaultName::WrongKind, 20),
         ("objective { offset: -0x1F }", FaultName::WrongKind, 20),
         ("objective { offset: 0.5 }", FaultName::NotWhole, 20),
         ("objective { offset: 1e-5 }", FaultName::NotWhole, 20),
-        ("objective { offset: 1e99999999999999999999 }", FaultName::NotWhole, 20),
-        ("objective { offset: -9007199254740992.5 }", FaultName::NotWhole, 20),
-        ("objective { scaling_factor: 9007199254740993.0 }", FaultName::NotWhole, 28),
+        (
+            "objective { offset: 1e99999999999999999999 }",
+            FaultName::NotWhole,
+            20,
+        ),
+        (
+            "objective { offset: -9007199254740992.5 }",
+            FaultName::NotWhole,
+            20,
+        ),
+        (
+            "objective { scaling_factor: 9007199254740993.0 }",
+            FaultName::NotWhole,
+            28,
+        ),
     ];
     for (text, name, byte) in texts {
         refused(&rt, alloc, text, name, byte)?;
@@ -129,16 +217,56 @@ fn refuses_numbers(rt: HostRuntime) -> Result<(), Fail> {
 fn refuses_members(rt: HostRuntime) -> Result<(), Fail> {
     let alloc = rt.alloc();
     let texts: [(&str, FaultName, u32); 10] = [
-        ("search_strategy { variable_selection_strategy: SELECT_MIN_VALUE }", FaultName::WrongKind, 47),
-        ("search_strategy { variable_selection_strategy: SELECT_RANDOM_HALF }", FaultName::WrongKind, 47),
-        ("search_strategy { domain_reduction_strategy: SELECT_RANDOM_HALF }", FaultName::Unsupported, 45),
-        ("search_strategy { domain_reduction_strategy: - SELECT_MIN_VALUE }", FaultName::WrongKind, 45),
-        ("search_strategy { domain_reduction_strategy: 1.0 }", FaultName::WrongKind, 45),
-        ("search_strategy { domain_reduction_strategy: { } }", FaultName::WrongKind, 45),
-        ("search_strategy { domain_reduction_strategy: 5 }", FaultName::OutOfRange, 45),
-        ("search_strategy { variable_selection_strategy: -1 }", FaultName::OutOfRange, 47),
-        ("search_strategy { variable_selection_strategy: 0x100000000 }", FaultName::OutOfRange, 47),
-        ("search_strategy { exprs { offset: 1f } }", FaultName::WrongKind, 34),
+        (
+            "search_strategy { variable_selection_strategy: SELECT_MIN_VALUE }",
+            FaultName::WrongKind,
+            47,
+        ),
+        (
+            "search_strategy { variable_selection_strategy: SELECT_RANDOM_HALF }",
+            FaultName::WrongKind,
+            47,
+        ),
+        (
+            "search_strategy { domain_reduction_strategy: SELECT_RANDOM_HALF }",
+            FaultName::Unsupported,
+            45,
+        ),
+        (
+            "search_strategy { domain_reduction_strategy: - SELECT_MIN_VALUE }",
+            FaultName::WrongKind,
+            45,
+        ),
+        (
+            "search_strategy { domain_reduction_strategy: 1.0 }",
+            FaultName::WrongKind,
+            45,
+        ),
+        (
+            "search_strategy { domain_reduction_strategy: { } }",
+            FaultName::WrongKind,
+            45,
+        ),
+        (
+            "search_strategy { domain_reduction_strategy: 5 }",
+            FaultName::OutOfRange,
+            45,
+        ),
+        (
+            "search_strategy { variable_selection_strategy: -1 }",
+            FaultName::OutOfRange,
+            47,
+        ),
+        (
+            "search_strategy { variable_selection_strategy: 0x100000000 }",
+            FaultName::OutOfRange,
+            47,
+        ),
+        (
+            "search_strategy { exprs { offset: 1f } }",
+            FaultName::WrongKind,
+            34,
+        ),
     ];
     for (text, name, byte) in texts {
         refused(&rt, alloc, text, name, byte)?;
@@ -260,8 +388,14 @@ fn reads_objectives(rt: HostRuntime) -> Result<(), Fail> {
         ("objective { offset: -0.0 }", 0),
         ("objective { offset: 0.0e-99999999999999999999 }", 0),
         ("objective { offset: 9007199254740992.0 }", 9007199254740992),
-        ("objective { offset: -9.007199254740992E+15 }", -9007199254740992),
-        ("objective { offset: 9007199254740992000e-3 }", 9007199254740992),
+        (
+            "objective { offset: -9.007199254740992E+15 }",
+            -9007199254740992,
+        ),
+        (
+            "objective { offset: 9007199254740992000e-3 }",
+            9007199254740992,
+        ),
         ("objective { offset: 7f }", 7),
         ("objective { offset: .5e1 }", 5),
         ("objective { offset: - 12.F }", -12),
@@ -333,11 +467,60 @@ fn reads_steering(rt: HostRuntime) -> Result<(), Fail> {
         return Err(Fail::from("strategies"));
     };
     assert!(rt; is_strategy(older, Choose::First, Select::MaxValue, &[-3], &[1], 0));
-    assert!(rt; is_strategy(newer, Choose::MaxDomainSize, Select::MinValue, &[1], &[2], -15));
+    assert!(rt;
+        is_strategy(
+            newer,
+            Choose::MaxDomainSize,
+            Select::MinValue,
+            &[1],
+            &[2],
+            -15
+        )
+    );
     let Some(hint) = &model.hint else {
         return Err(Fail::from("hint"));
     };
     assert!(rt; hint.vars.as_slice() == [0, 1].as_slice());
     assert!(rt; hint.values.as_slice() == [4, -5].as_slice());
+    Ok(())
+}
+
+#[test]
+fn reads_members(rt: HostRuntime) -> Result<(), Fail> {
+    let alloc = rt.alloc();
+    let texts: [(&str, Choose, Select); 5] = [
+        (
+            "search_strategy { exprs { } variable_selection_strategy: CHOOSE_FIRST domain_reduction_strategy: SELECT_MIN_VALUE }",
+            Choose::First,
+            Select::MinValue,
+        ),
+        (
+            "search_strategy { exprs { } variable_selection_strategy: CHOOSE_LOWEST_MIN domain_reduction_strategy: SELECT_MAX_VALUE }",
+            Choose::LowestMin,
+            Select::MaxValue,
+        ),
+        (
+            "search_strategy { exprs { } variable_selection_strategy: CHOOSE_HIGHEST_MAX domain_reduction_strategy: SELECT_LOWER_HALF }",
+            Choose::HighestMax,
+            Select::LowerHalf,
+        ),
+        (
+            "search_strategy { exprs { } variable_selection_strategy: CHOOSE_MIN_DOMAIN_SIZE domain_reduction_strategy: SELECT_UPPER_HALF }",
+            Choose::MinDomainSize,
+            Select::UpperHalf,
+        ),
+        (
+            "search_strategy { exprs { } variable_selection_strategy: CHOOSE_MAX_DOMAIN_SIZE domain_reduction_strategy: SELECT_MEDIAN_VALUE }",
+            Choose::MaxDomainSize,
+            Select::MedianValue,
+        ),
+    ];
+    for (text, choose, select) in texts {
+        let model = read(&rt, alloc, text)?;
+        let [strategy] = model.strategies.as_slice() else {
+            return Err(Fail::from("strategies"));
+        };
+        assert!(rt; is_strategy(strategy, choose, select, &[], &[], 0));
+    }
     Ok(())
 }

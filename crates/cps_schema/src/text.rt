@@ -1,6 +1,7 @@
 //! The texts that scalars write.
-ghost use Rattle.std.specs.Prelude.{◌≡◌, ◌++◌, [], ◌∷◌, true, Some, None, is_some, OnOk, IfOk, IfErr, option_to_list};
+ghost use Rattle.std.specs.Prelude.{◌≡◌, ◌++◌, [], ◌∷◌, true, false, Some, None, is_some, OnOk, IfOk, IfErr, IfSome, IfNone, option_to_list};
 ghost use Rattle.std.specs.List.{list_all, flat_map};
+ghost use Rattle.std.specs.Str.{is_utf8};
 ghost use Rattle.cps_textproto.specs.Trees.{values_of};
 ghost use Rattle.cps_schema.specs.Sources.{written_of, single_fault};
 ghost use Rattle.cps_schema.specs.Texts.{scalar_tokens, is_string, string_value, text_at};
@@ -55,9 +56,23 @@ fn joined(alloc: Global, bytes: &[u8], tokens: &[Token]) -> Result<Vec<u8>, Allo
     let mut value = Vec::new(alloc);
     for token in tokens {
         let text = span_text(bytes, token.start as usize, token.end as usize);
+        // What a string denotes is no longer than what stands between its quotes.
+        value.reserve(text.len().saturating_sub(2))?;
         push_text(text, &mut value)?;
     }
     Ok(value)
+}
+
+/// The text of these bytes, if they are UTF-8.
+fn utf8_text(bytes: Vec<u8>) -> Option<Text>
+    ensures same { IfSome result (λ t. t ≡ bytes.items) }
+    ensures good { IfSome result (λ t. is_utf8 bytes.items ≡ true) }
+    ensures none { IfNone result (is_utf8 bytes.items ≡ false) }
+{
+    match String::from_utf8(bytes) {
+        Ok(text) => Some(Text::from_string(text)),
+        Err(_) => None,
+    }
 }
 
 /// The text that a scalar writes.
@@ -71,14 +86,18 @@ fn text_at(alloc: Global, source: &Source, span: Span) -> Result<Text, SchemaErr
         return Err(wrong_kind(span.first as usize));
     }
     let bytes = joined(alloc, source.bytes, tokens)?;
-    match String::from_utf8(bytes) {
-        Ok(text) => Ok(Text::from_string(text)),
-        Err(_) => Err(wrong_kind(span.first as usize)),
+    match utf8_text(bytes) {
+        Some(text) => Ok(text),
+        None => Err(wrong_kind(span.first as usize)),
     }
 }
 
 /// The text of a field that takes one.
-pub(crate) fn single_text(alloc: Global, source: &Source, field: &Field) -> Result<Text, SchemaError>
+pub(crate) fn single_text(
+    alloc: Global,
+    source: &Source,
+    field: &Field,
+) -> Result<Text, SchemaError>
     ensures fault { IfOk result (λ _. single_fault (written_of source.now) text field.now ≡ None) }
     ensures value { IfOk result (λ t. value_texts (written_of source.now) (values_of field.now.items) ≡ t ∷ []) }
     ensures err { IfErr result (Refuses (single_fault (written_of source.now) text field.now)) }

@@ -51,9 +51,9 @@ returns-then-eq-2-clause-passes c =
     let w = written_of c.args.source.now in
     let f = c.args.field.now in
     let name : token_text w f.name ≡ codes "enforcement_literal" = grind (arith, same_text c.token_text-name.result.now c.as_slice-else-eq.result.now c.eq-else-eq.result) in
-    if_passes w constraint_message f (IsConstraintGiven c.args.parts.now) (IsConstraintGiven c.args.parts.now) c.add_refs.result
+    if_passes w constraint_message f (IsConstraintGiven c.args.parts.now) (IsConstraintGiven (record c.args.parts.now { enforcement = c.add_refs.new.list })) c.add_refs.result
     (repeated_passes w constraint_message f (number Int32) c.add_refs.result (table_use _ _ _ _ name refl) c.add_refs.ensures.fault)
-    (constraint_kept c.args.parts.now (token_text w f.name) name)
+    (constraint_kept c.args.parts.now (record c.args.parts.now { enforcement = c.add_refs.new.list }) refl refl (token_text w f.name) name)
 
 pub returns-then-eq-2-clause-read : goal.returns-then-eq-2-clause-read
 returns-then-eq-2-clause-read c =

@@ -9,16 +9,17 @@ use Rattle.cps_schema.specs.Written.{token_text}
 use Rattle.cps_schema.specs.declared.form.Form.TheVariants.{Older, Newer}
 use Rattle.cps_schema.specs.declared.member.Enum.TheVariants.{VariableSelection, DomainReduction}
 use Rattle.cps_schema.specs.Members.{choose_of, select_of}
-use Rattle.cps_schema.specs.Tables.{strategy_message, expression_message, number, member, message, use_in, table_of}
+use Rattle.cps_schema.specs.Tables.{strategy_message, expression_message, number, member, message, use_in, use_of, table_of}
 use Rattle.cps_schema.specs.Readings.{value_numbers, value_members, value_messages, read_expression}
 use Rattle.cps_schema.specs.Parts.{strategy_slots, IsStrategyGiven}
 use Rattle.cps_schema.proofs.Steps.{same_text, other_text, table_use, repeated_passes, repeated_stops, not_read_stops, if_passes, if_stops}
 use Rattle.cps_schema.specs.Slots.{AreGiven}
 use Rattle.cps_schema.proofs.Slots.{given_after, slot_passes, slot_stops}
-use Rattle.cps_schema.proofs.Forms.{form_passes, form_stops, choose_given, select_given}
+use Rattle.cps_schema.proofs.Forms.{form_passes, form_stops, choose_given, select_given, no_strategy_field}
 use Rattle.cps_schema.proofs.strategy.add_field.Goals as goal
 
 pub returns-then-eq-clause-passes : goal.returns-then-eq-clause-passes
+unfolding use_of
 returns-then-eq-clause-passes c =
     let w = written_of c.args.source.now in
     let f = c.args.field.now in
@@ -38,6 +39,7 @@ returns-then-eq-clause-read c =
     c.add_newer.ensures.added
 
 pub returns-then-eq-clause-err : goal.returns-then-eq-clause-err
+unfolding use_of
 returns-then-eq-clause-err c =
     let w = written_of c.args.source.now in
     let f = c.args.field.now in
@@ -45,6 +47,7 @@ returns-then-eq-clause-err c =
     form_stops w f Newer (message expression_message) c.add_newer.result c.args.parts.now name refl c.add_newer.ensures.err
 
 pub returns-then-eq-2-clause-passes : goal.returns-then-eq-2-clause-passes
+unfolding use_of
 returns-then-eq-2-clause-passes c =
     let w = written_of c.args.source.now in
     let f = c.args.field.now in
@@ -64,6 +67,7 @@ returns-then-eq-2-clause-read c =
     c.add_older.ensures.added
 
 pub returns-then-eq-2-clause-err : goal.returns-then-eq-2-clause-err
+unfolding use_of
 returns-then-eq-2-clause-err c =
     let w = written_of c.args.source.now in
     let f = c.args.field.now in
@@ -138,5 +142,11 @@ pub returns-else-eq-4-clause-err : goal.returns-else-eq-4-clause-err
 returns-else-eq-4-clause-err c = λ before given.
     let w = written_of c.args.source.now in
     let f = c.args.field.now in
-    let other : use_in (table_of strategy_message) (token_text w f.name) ≡ None = grind (arith) in
+    let text = token_text w f.name in
+    let name = c.token_text-name in
+    let other = no_strategy_field text
+    (other_text name.result.now c.as_slice.result.now text (codes "exprs") c.eq.result c.eq.ensures c.if-eq.false name.ensures c.as_slice.ensures)
+    (other_text name.result.now c.as_slice-else-eq.result.now text (codes "variables") c.eq-else-eq.result c.eq-else-eq.ensures c.if-eq-2.false name.ensures c.as_slice-else-eq.ensures)
+    (other_text name.result.now c.as_slice-else-eq-2.result.now text (codes "variable_selection_strategy") c.eq-else-eq-2.result c.eq-else-eq-2.ensures c.if-eq-3.false name.ensures c.as_slice-else-eq-2.ensures)
+    (other_text name.result.now c.as_slice-else-eq-3.result.now text (codes "domain_reduction_strategy") c.eq-else-eq-3.result c.eq-else-eq-3.ensures c.if-eq-4.false name.ensures c.as_slice-else-eq-3.ensures) in
     rw c.not_read.ensures (not_read_stops w strategy_message f other before)
