@@ -5,6 +5,7 @@ use Rattle.std.proofs.lemmas.Slice.Eq.{bytes_eq-Decides}
 use Rattle.std.proofs.Common.{◌≡◌, ℕ, List, [], ◌∷◌, ◌||◌, Bool, true, false, cond, if◌then◌else◌, map, Option, Some, None, is_some, Result, Ok, Err, OnOk, IfErr, codes, refl, ap, ◌∙◌}
 use Rattle.cps_textproto.specs.declared.tree.Field.{Field}
 use Rattle.cps_schema.specs.declared.error.SchemaError.{SchemaError}
+use Rattle.cps_schema.specs.declared.constraint.ConstraintParts.{ConstraintParts}
 use Rattle.cps_schema.specs.declared.kind.GivenKind.{GivenKind}
 use Rattle.cps_schema.specs.declared.kind.KindName.{KindName}
 use Rattle.cps_schema.specs.declared.kind.KindName.TheVariants.{BoolOr, BoolAnd, AtMostOne, ExactlyOne, BoolXor, Linear}
@@ -13,7 +14,7 @@ use Rattle.cps_schema.specs.Tables.{Message, constraint_message, Use, one_kind, 
 use Rattle.cps_schema.specs.Kinds.{kinds_read, field_name, message_of, kind_named}
 use Rattle.cps_schema.specs.Faults.{is_kind, has_kind}
 use Rattle.cps_schema.specs.Steps.{Passes, Stops, KindPasses, KindStops}
-use Rattle.cps_schema.specs.Parts.{is_given_as, IsKindGiven}
+use Rattle.cps_schema.specs.Parts.{is_given_as, IsKindGiven, IsConstraintGiven}
 use Rattle.cps_schema.proofs.Steps.{next_given}
 
 -- one name more
@@ -46,6 +47,26 @@ enforcement_is_no_kind : is_kind (use_of constraint_message (codes "enforcement_
 unfolding use_of
 enforcement_is_no_kind = refl
 
+name_is_no_kind : is_kind (use_of constraint_message (codes "name")) ≡ false
+unfolding use_of
+name_is_no_kind = refl
+
+name_apart : (kind : KindName) → bytes_eq (field_name kind) (codes "name") ≡ false
+name_apart BoolOr = refl
+name_apart BoolAnd = refl
+name_apart AtMostOne = refl
+name_apart ExactlyOne = refl
+name_apart BoolXor = refl
+name_apart Linear = refl
+
+apart_name : (kind : KindName) → bytes_eq (codes "name") (field_name kind) ≡ false
+apart_name BoolOr = refl
+apart_name BoolAnd = refl
+apart_name AtMostOne = refl
+apart_name ExactlyOne = refl
+apart_name BoolXor = refl
+apart_name Linear = refl
+
 enforcement_apart : (kind : KindName) → bytes_eq (field_name kind) (codes "enforcement_literal") ≡ false
 enforcement_apart BoolOr = refl
 enforcement_apart BoolAnd = refl
@@ -67,9 +88,9 @@ no_line text (k ∷ kinds) e = by_test (bytes_eq text (field_name k)) (λ s. no_
   by_test true more s = cc
   by_test false more s = more s
 
-pub no_constraint_field : (text : List ℕ) → bytes_eq text (codes "enforcement_literal") ≡ false → kind_named text ≡ None →
-    use_in (table_of constraint_message) text ≡ None
-no_constraint_field text a none = rw a (no_line text kinds_read none)
+pub no_constraint_field : (text : List ℕ) → bytes_eq text (codes "name") ≡ false → bytes_eq text (codes "enforcement_literal") ≡ false →
+    kind_named text ≡ None → use_in (table_of constraint_message) text ≡ None
+no_constraint_field text n a none = rw (n, a) (no_line text kinds_read none)
 
 pub enforcement_given : (given : Option GivenKind) (text : List ℕ) → text ≡ codes "enforcement_literal" →
     (before : List (List ℕ)) → IsKindGiven given before → IsKindGiven given (text ∷ before)
@@ -77,6 +98,28 @@ enforcement_given given text e before kept = rw e (record {
   name_given = λ name. next_given (field_name name) (codes "enforcement_literal") before ∙ rw (enforcement_apart name) (kept.name_given name);
   kind_given = next_kind constraint_message (codes "enforcement_literal") before ∙ rw enforcement_is_no_kind kept.kind_given;
 })
+
+-- a name is no kind
+pub kind_unnamed : (given : Option GivenKind) (text : List ℕ) → text ≡ codes "name" →
+    (before : List (List ℕ)) → IsKindGiven given before → IsKindGiven given (text ∷ before)
+kind_unnamed given text e before kept = rw e (record {
+  name_given = λ name. next_given (field_name name) (codes "name") before ∙ rw (name_apart name) (kept.name_given name);
+  kind_given = next_kind constraint_message (codes "name") before ∙ rw name_is_no_kind kept.kind_given;
+})
+
+pub constraint_kept : (old new : ConstraintParts) → new.name ≡ old.name → new.given ≡ old.given → (text : List ℕ) → text ≡ codes "enforcement_literal" →
+    (before : List (List ℕ)) → IsConstraintGiven old before → IsConstraintGiven new (text ∷ before)
+constraint_kept old new named same text e before given = record {
+  name = rw (e, named) (next_given (codes "name") (codes "enforcement_literal") before ∙ given.name);
+  kind = rw same (enforcement_given old.given text e before given.kind);
+}
+
+pub name_given_first : (old new : ConstraintParts) → new.given ≡ old.given → is_some new.name ≡ true → (text : List ℕ) → text ≡ codes "name" →
+    (before : List (List ℕ)) → IsConstraintGiven old before → IsConstraintGiven new (text ∷ before)
+name_given_first old new same some text e before given = record {
+  name = rw (e, some) (next_given (codes "name") (codes "name") before);
+  kind = rw same (kind_unnamed old.given text e before given.kind);
+}
 
 no_name : (given : Option GivenKind) → is_some given ≡ false → (name : KindName) → is_given_as given name ≡ false
 no_name None e name = refl
@@ -118,3 +161,25 @@ field_stops w f kind (Ok x) old named stops = stops
 field_stops w f kind (Err e) old named stops = λ before given.
     let name = named_text (token_text w f.name) kind named in
     stops constraint_message before (rw name (kind_use kind)) (rw name (given.name_given kind)) given.kind_given
+
+pub kind_field_passes : (w : Written) (f : Field) (kind : KindName) (r : Result (Unit {0}) SchemaError) (old new : ConstraintParts) → new.name ≡ old.name →
+    kind_named (token_text w f.name) ≡ Some kind → OnOk r (KindPasses w f (message_of kind) (is_given_as old.given kind) (is_some old.given)) →
+    OnOk r (is_some old.given ≡ false) → OnOk r (is_given_as new.given kind ≡ true) →
+    OnOk r ((before : List (List ℕ)) → IsConstraintGiven old before →
+    Passes w constraint_message before f × IsConstraintGiven new (token_text w f.name ∷ before))
+kind_field_passes w f kind (Ok x) old new same named passes none set = λ before given.
+    let kept = field_passes w f kind (Ok x) old.given new.given named passes none set before given.kind in
+    let name = named_text (token_text w f.name) kind named in (
+      kept.0,
+      record {
+        name = rw name (next_given (codes "name") (field_name kind) before ∙ rw (apart_name kind, same) given.name);
+        kind = kept.1;
+      },
+    )
+kind_field_passes w f kind (Err e) old new same named passes none set = passes
+
+pub kind_field_stops : (w : Written) (f : Field) (kind : KindName) (r : Result (Unit {0}) SchemaError) (old : ConstraintParts) →
+    kind_named (token_text w f.name) ≡ Some kind → IfErr r (KindStops w f (message_of kind) (is_given_as old.given kind) (is_some old.given)) →
+    IfErr r (λ e. (before : List (List ℕ)) → IsConstraintGiven old before → Stops w constraint_message before f e)
+kind_field_stops w f kind (Ok x) old named stops = stops
+kind_field_stops w f kind (Err e) old named stops = λ before given. field_stops w f kind (Err e) old.given named stops before given.kind

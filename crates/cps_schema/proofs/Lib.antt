@@ -4,6 +4,8 @@ pub mod Floats
 pub mod Denoting
 pub mod Values
 pub mod Steps
+pub mod Slots
+pub mod Forms
 pub mod Objectives
 pub mod GivenKinds
 pub mod ModelFields

@@ -1,36 +1,55 @@
 -- Which field of a document is refused, why, and at which token.
-use Rattle.std.specs.Prelude.{◌≡◌, ℕ, ◌+◌, Bool, true, false, if◌then◌else◌, List, [], ◌∷◌, Option, Some, None, codes}
+use Rattle.std.specs.Prelude.{◌≡◌, ℕ, ◌+◌, Bool, true, false, if◌then◌else◌, List, [], ◌∷◌, Option, Some, None, Result, Ok, Err, codes}
 use Rattle.std.specs.Option.{option_or}
 use Rattle.std.specs.List.{list_any}
 use Rattle.std.specs.Str.{bytes_eq}
 use Rattle.cps_textproto.specs.Trees.{Tree, no_fields, field, Values, no_values, scalar_value, message_value}
 use Rattle.cps_model.specs.declared.fault.FaultName.{FaultName}
-use Rattle.cps_model.specs.declared.fault.FaultName.TheVariants.{UnknownField, Unsupported, Repeated, TwoKinds, WrongKind}
+use Rattle.cps_model.specs.declared.fault.FaultName.TheVariants.{UnknownField, Unsupported, Repeated, TwoKinds, MixedForms, WrongKind}
+use Rattle.cps_schema.specs.declared.form.Form.{Form}
+use Rattle.cps_schema.specs.declared.form.Form.TheVariants.{Older, Newer}
 use Rattle.cps_schema.specs.Written.{Written, token_text}
 use Rattle.cps_schema.specs.Numbers.{number_fault}
-use Rattle.cps_schema.specs.Tables.{Message, model_message, Content, number, message, Use, single, repeated, one_kind, unread, is_given, use_of, content_of}
+use Rattle.cps_schema.specs.Texts.{text_at}
+use Rattle.cps_schema.specs.Members.{member_at}
+use Rattle.cps_schema.specs.Tables.{Message, model_message, Content, number, text, member, message, Use, single, repeated, formed, one_kind, unread, is_given, use_of, content_of}
 
 -- with the token at which it is refused
 abbrev pub refused_at : ℕ → Option FaultName → Option (FaultName × ℕ)
 refused_at token None = None
 refused_at token (Some name) = Some (name, token)
 
+-- what is wrong with a scalar that is no text
+abbrev pub text_fault : Option (List ℕ) → Option FaultName
+text_fault None = Some WrongKind
+text_fault (Some bytes) = None
+
+-- what is wrong with one that gives no member of an enum
+abbrev pub member_fault : Result ℕ FaultName → Option FaultName
+member_fault (Ok n) = None
+member_fault (Err name) = Some name
+
 -- a scalar's fault is at its first token, the `-` of a signed one
-abbrev pub scalar_fault : Written → Option Content → ℕ → Option (FaultName × ℕ)
-scalar_fault w None first = None
-scalar_fault w (Some (number type)) first = refused_at first (number_fault w type first)
-scalar_fault w (Some (message m)) first = Some (WrongKind, first)
+abbrev pub scalar_fault : Written → Option Content → ℕ → ℕ → Option (FaultName × ℕ)
+scalar_fault w None first end = None
+scalar_fault w (Some (number type)) first end = refused_at first (number_fault w type first)
+scalar_fault w (Some text) first end = refused_at first (text_fault (text_at w first end))
+scalar_fault w (Some (member enum)) first end = refused_at first (member_fault (member_at w enum first))
+scalar_fault w (Some (message m)) first end = Some (WrongKind, first)
 
 -- a message's fault, by the fault of its fields as each message's
 abbrev pub message_fault : Option Content → ℕ → (Message → Option (FaultName × ℕ)) → Option (FaultName × ℕ)
 message_fault None first inner = None
 message_fault (Some (number type)) first inner = Some (WrongKind, first)
+message_fault (Some text) first inner = Some (WrongKind, first)
+message_fault (Some (member enum)) first inner = Some (WrongKind, first)
 message_fault (Some (message m)) first inner = inner m
 
 abbrev pub is_kind : Option Use → Bool
 is_kind None = false
 is_kind (Some (single content)) = false
 is_kind (Some (repeated content)) = false
+is_kind (Some (formed form content)) = false
 is_kind (Some (one_kind m)) = true
 is_kind (Some unread) = false
 
@@ -38,11 +57,22 @@ is_kind (Some unread) = false
 unfoldable pub has_kind : Message → List (List ℕ) → Bool
 has_kind m names = list_any (λ name. is_kind (use_of m name)) names
 
+-- the use is that of a field of the other form
+abbrev pub is_other_form : Form → Option Use → Bool
+is_other_form Older (Some (formed Newer content)) = true
+is_other_form Newer (Some (formed Older content)) = true
+is_other_form form other = false
+
+-- one of the names is that of a field of the other form
+unfoldable pub has_other_form : Message → Form → List (List ℕ) → Bool
+has_other_form m form names = list_any (λ name. is_other_form form (use_of m name)) names
+
 -- what is wrong with a field's name, given the names of the fields before it in the same message
 abbrev pub name_fault : Message → List (List ℕ) → List ℕ → Option Use → Option FaultName
 name_fault m before name None = Some UnknownField
 name_fault m before name (Some unread) = Some Unsupported
 name_fault m before name (Some (repeated content)) = None
+name_fault m before name (Some (formed form content)) = if has_other_form m form before then Some MixedForms else None
 name_fault m before name (Some (single content)) = if is_given before name then Some Repeated else None
 name_fault m before name (Some (one_kind k)) =
     if is_given before name then Some Repeated
@@ -71,6 +101,7 @@ abbrev pub list_fault : Written → Option Use → ℕ → Bool → Option (Faul
 list_fault w None name alone = None
 list_fault w (Some (single content)) name alone = alone_fault w name alone
 list_fault w (Some (repeated content)) name alone = None
+list_fault w (Some (formed form content)) name alone = None
 list_fault w (Some (one_kind m)) name alone = alone_fault w name alone
 list_fault w (Some unread) name alone = None
 
@@ -93,7 +124,7 @@ abbrev mutual
   pub values_fault : Written → Option Content → Values → Option (FaultName × ℕ)
   values_fault w content no_values = None
   values_fault w content (scalar_value first end rest) =
-      option_or (scalar_fault w content first) (values_fault w content rest)
+      option_or (scalar_fault w content first end) (values_fault w content rest)
   values_fault w content (message_value first inner rest) =
       option_or (message_fault content first (λ m. fields_fault w m [] inner)) (values_fault w content rest)
 

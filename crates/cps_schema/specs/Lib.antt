@@ -3,6 +3,8 @@ pub mod Floats
 pub mod Written
 pub mod Sources
 pub mod Numbers
+pub mod Texts
+pub mod Members
 pub mod Tables
 pub mod Kinds
 pub mod Faults
@@ -10,4 +12,5 @@ pub mod Readings
 pub mod Answers
 pub mod Values
 pub mod Steps
+pub mod Slots
 pub mod Parts

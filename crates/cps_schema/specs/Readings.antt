@@ -1,16 +1,27 @@
 -- Which model a document is read as.
-use Rattle.std.specs.Prelude.{◌≡◌, ℕ, suc, if◌then◌else◌, List, [], ◌∷◌, ◌++◌, map, Option, Some, None, ℤ, pos, negsuc, zero, codes}
+use Rattle.std.specs.Prelude.{◌≡◌, ℕ, suc, if◌then◌else◌, List, [], ◌∷◌, ◌++◌, map, Option, Some, None, Result, Ok, Err, ℤ, pos, negsuc, zero, codes}
+use Rattle.std.specs.Option.{unwrap_or}
 use Rattle.std.specs.Str.{bytes_eq}
 use Rattle.cps_textproto.specs.Trees.{Tree, no_fields, field, Values, no_values, scalar_value, message_value}
 use Rattle.cps_model.specs.declared.model.CpModel.{CpModel}
 use Rattle.cps_model.specs.declared.model.Variable.{Variable}
 use Rattle.cps_model.specs.declared.model.Objective.{Objective}
+use Rattle.cps_model.specs.declared.model.LinearExpr.{LinearExpr}
+use Rattle.cps_model.specs.declared.steering.Strategy.{Strategy}
+use Rattle.cps_model.specs.declared.steering.Hint.{Hint}
+use Rattle.cps_model.specs.declared.steering.Choose.TheVariants.{First}
+use Rattle.cps_model.specs.declared.steering.Select.TheVariants.{MinValue}
+use Rattle.cps_model.specs.declared.fault.FaultName.{FaultName}
 use Rattle.cps_model.specs.declared.constraint.Constraint.{Constraint}
 use Rattle.cps_model.specs.declared.constraint.Kind.{Kind}
 use Rattle.cps_model.specs.declared.constraint.Kind.TheVariants.{Empty, BoolOr, BoolAnd, AtMostOne, ExactlyOne, BoolXor, Linear}
 use Rattle.cps_schema.specs.declared.kind.KindName.{KindName}
 use Rattle.cps_schema.specs.declared.kind.KindName.TheVariants as names
+use Rattle.cps_schema.specs.declared.member.Enum.{Enum}
+use Rattle.cps_schema.specs.declared.member.Enum.TheVariants.{VariableSelection, DomainReduction}
 use Rattle.cps_schema.specs.Written.{Written, token_text, number_at}
+use Rattle.cps_schema.specs.Texts.{text_at}
+use Rattle.cps_schema.specs.Members.{member_at, choose_of, select_of}
 use Rattle.cps_schema.specs.Tables.{model_message}
 use Rattle.cps_schema.specs.Kinds.{kind_named}
 use Rattle.cps_schema.specs.Faults.{fields_fault}
@@ -24,11 +35,27 @@ abbrev pub first_of : {X : Type 0} → List X → Option X
 first_of [] = None
 first_of (x ∷ xs) = Some x
 
+abbrev pub ok_or_zero : Result ℕ FaultName → ℕ
+ok_or_zero (Ok n) = n
+ok_or_zero (Err name) = 0
+
 -- the numbers of values
 abbrev pub value_numbers : Written → Values → List ℤ
 value_numbers w no_values = []
 value_numbers w (scalar_value first end rest) = number_at w first ∷ value_numbers w rest
 value_numbers w (message_value first inner rest) = value_numbers w rest
+
+-- the texts of values
+abbrev pub value_texts : Written → Values → List (List ℕ)
+value_texts w no_values = []
+value_texts w (scalar_value first end rest) = unwrap_or (text_at w first end) [] ∷ value_texts w rest
+value_texts w (message_value first inner rest) = value_texts w rest
+
+-- the numbers of the members that values give
+abbrev pub value_members : Written → Enum → Values → List ℕ
+value_members w enum no_values = []
+value_members w enum (scalar_value first end rest) = ok_or_zero (member_at w enum first) ∷ value_members w enum rest
+value_members w enum (message_value first inner rest) = value_members w enum rest
 
 -- the messages of values
 abbrev pub value_messages : Values → List Tree
@@ -42,14 +69,30 @@ numbers w name no_fields = []
 numbers w name (field token list values rest) =
     (if bytes_eq (token_text w token) name then value_numbers w values else []) ++ numbers w name rest
 
+-- their texts
+abbrev pub texts : Written → List ℕ → Tree → List (List ℕ)
+texts w name no_fields = []
+texts w name (field token list values rest) =
+    (if bytes_eq (token_text w token) name then value_texts w values else []) ++ texts w name rest
+
+-- their members
+abbrev pub members : Written → Enum → List ℕ → Tree → List ℕ
+members w enum name no_fields = []
+members w enum name (field token list values rest) =
+    (if bytes_eq (token_text w token) name then value_members w enum values else []) ++ members w enum name rest
+
 -- their messages
 abbrev pub messages : Written → List ℕ → Tree → List Tree
 messages w name no_fields = []
 messages w name (field token list values rest) =
     (if bytes_eq (token_text w token) name then value_messages values else []) ++ messages w name rest
 
+-- the name that a message gives, empty where it gives none
+abbrev pub read_name : Written → Tree → List ℕ
+read_name w tree = first_or [] (texts w (codes "name") tree)
+
 abbrev pub read_variable : Written → Tree → Variable
-read_variable w tree = record { name = []; domain = numbers w (codes "domain") tree }
+read_variable w tree = record { name = read_name w tree; domain = numbers w (codes "domain") tree }
 
 abbrev pub read_literals : Written → Tree → List ℤ
 read_literals w tree = numbers w (codes "literals") tree
@@ -80,7 +123,7 @@ given_kinds w (field token list values rest) =
 
 abbrev pub read_constraint : Written → Tree → Constraint
 read_constraint w tree = record {
-  name = [];
+  name = read_name w tree;
   enforcement = numbers w (codes "enforcement_literal") tree;
   kind = first_or Empty (given_kinds w tree);
 }
@@ -100,14 +143,36 @@ read_objective w tree = record {
   domain = numbers w (codes "domain") tree;
 }
 
+abbrev pub read_expression : Written → Tree → LinearExpr
+read_expression w tree = record {
+  vars = numbers w (codes "vars") tree;
+  coeffs = numbers w (codes "coeffs") tree;
+  offset = first_or (pos 0) (numbers w (codes "offset") tree);
+}
+
+-- a reference as an expression
+abbrev pub reference_expression : ℤ → LinearExpr
+reference_expression reference = record { vars = reference ∷ []; coeffs = pos 1 ∷ []; offset = pos 0 }
+
+-- A strategy's expressions are given in the newer or the older form. One without a fault has not both.
+abbrev pub read_strategy : Written → Tree → Strategy
+read_strategy w tree = record {
+  exprs = map (read_expression w) (messages w (codes "exprs") tree) ++ map reference_expression (numbers w (codes "variables") tree);
+  choose = first_or First (map choose_of (members w VariableSelection (codes "variable_selection_strategy") tree));
+  select = first_or MinValue (map select_of (members w DomainReduction (codes "domain_reduction_strategy") tree));
+}
+
+abbrev pub read_hint : Written → Tree → Hint
+read_hint w tree = record { vars = numbers w (codes "vars") tree; values = numbers w (codes "values") tree }
+
 abbrev pub read_model : Written → Tree → CpModel
 read_model w tree = record {
-  name = [];
+  name = read_name w tree;
   variables = map (read_variable w) (messages w (codes "variables") tree);
   constraints = map (read_constraint w) (messages w (codes "constraints") tree);
   objective = first_of (map (read_objective w) (messages w (codes "objective") tree));
-  strategies = [];
-  hint = None;
+  strategies = map (read_strategy w) (messages w (codes "search_strategy") tree);
+  hint = first_of (map (read_hint w) (messages w (codes "solution_hint") tree));
   assumptions = [];
 }
 

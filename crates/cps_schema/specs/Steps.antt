@@ -4,8 +4,9 @@ use Rattle.cps_textproto.specs.declared.tree.Field.{Field}
 use Rattle.cps_textproto.specs.Trees.{Tree, field, values_of}
 use Rattle.cps_schema.specs.declared.error.SchemaError.{SchemaError}
 use Rattle.cps_schema.specs.Written.{Written, token_text}
-use Rattle.cps_schema.specs.Tables.{Message, Content, single, one_kind, use_of, is_given}
-use Rattle.cps_schema.specs.Faults.{has_kind, fields_fault}
+use Rattle.cps_schema.specs.declared.form.Form.{Form}
+use Rattle.cps_schema.specs.Tables.{Message, Content, single, formed, one_kind, use_of, is_given}
+use Rattle.cps_schema.specs.Faults.{has_kind, has_other_form, fields_fault}
 use Rattle.cps_schema.specs.Answers.{Refuses}
 
 -- a field in front of others
@@ -43,3 +44,14 @@ abbrev pub KindStops : Written → Field → Message → Bool → Bool → Schem
 KindStops w f k same given error = (m : Message) (before : List (List ℕ)) →
     use_of m (token_text w f.name) ≡ Some (one_kind k) →
     is_given before (token_text w f.name) ≡ same → has_kind m before ≡ given → Stops w m before f error
+
+-- the same of a field of a form, where one of the names is that of a field of the other form, as told
+abbrev pub FormedPasses : Written → Field → Form → Content → Bool → Type 0
+FormedPasses w f form content mixed = (m : Message) (before : List (List ℕ)) →
+    use_of m (token_text w f.name) ≡ Some (formed form content) →
+    has_other_form m form before ≡ mixed → Passes w m before f
+
+abbrev pub FormedStops : Written → Field → Form → Content → Bool → SchemaError → Type 0
+FormedStops w f form content mixed error = (m : Message) (before : List (List ℕ)) →
+    use_of m (token_text w f.name) ≡ Some (formed form content) →
+    has_other_form m form before ≡ mixed → Stops w m before f error

@@ -3,6 +3,10 @@ use Rattle.std.specs.Prelude.{ℕ, Bool, if◌then◌else◌, List, [], ◌∷�
 use Rattle.std.specs.Option.{option_or}
 use Rattle.std.specs.List.{list_any}
 use Rattle.std.specs.Str.{bytes_eq}
+use Rattle.cps_schema.specs.declared.form.Form.{Form}
+use Rattle.cps_schema.specs.declared.form.Form.TheVariants.{Older, Newer}
+use Rattle.cps_schema.specs.declared.member.Enum.{Enum}
+use Rattle.cps_schema.specs.declared.member.Enum.TheVariants.{VariableSelection, DomainReduction}
 use Rattle.cps_schema.specs.declared.number.Number.{Number}
 use Rattle.cps_schema.specs.declared.number.Number.TheVariants.{Int64, Int32, Exact}
 
@@ -14,9 +18,14 @@ pub data Message : Type 0 where
   literals_message : Message
   linear_message : Message
   objective_message : Message
+  strategy_message : Message
+  expression_message : Message
+  hint_message : Message
 
 pub data Content : Type 0 where
   number : Number → Content
+  text : Content
+  member : Enum → Content
   message : Message → Content
 
 -- what a field takes
@@ -25,6 +34,8 @@ pub data Use : Type 0 where
   single : Content → Use
   -- values, and those of all fields of the name add up in order
   repeated : Content → Use
+  -- the same of a field of an older or a newer form, which do not stand in one message
+  formed : Form → Content → Use
   -- one message, and a constraint has at most one field of this use
   one_kind : Message → Use
   -- the field is known, and not read
@@ -36,15 +47,20 @@ Table = List (List ℕ × Use)
 -- the fields that are read
 abbrev pub table_of : Message → Table
 table_of model_message =
-    (codes "variables", repeated (message variable_message))
+    (codes "name", single text)
+    ∷ (codes "variables", repeated (message variable_message))
     ∷ (codes "constraints", repeated (message constraint_message))
     ∷ (codes "objective", single (message objective_message))
+    ∷ (codes "search_strategy", repeated (message strategy_message))
+    ∷ (codes "solution_hint", single (message hint_message))
     ∷ []
 table_of variable_message =
-    (codes "domain", repeated (number Int64))
+    (codes "name", single text)
+    ∷ (codes "domain", repeated (number Int64))
     ∷ []
 table_of constraint_message =
-    (codes "enforcement_literal", repeated (number Int32))
+    (codes "name", single text)
+    ∷ (codes "enforcement_literal", repeated (number Int32))
     ∷ (codes "bool_or", one_kind literals_message)
     ∷ (codes "bool_and", one_kind literals_message)
     ∷ (codes "at_most_one", one_kind literals_message)
@@ -67,23 +83,32 @@ table_of objective_message =
     ∷ (codes "scaling_factor", single (number Exact))
     ∷ (codes "domain", repeated (number Int64))
     ∷ []
+table_of strategy_message =
+    (codes "exprs", formed Newer (message expression_message))
+    ∷ (codes "variables", formed Older (number Int32))
+    ∷ (codes "variable_selection_strategy", single (member VariableSelection))
+    ∷ (codes "domain_reduction_strategy", single (member DomainReduction))
+    ∷ []
+table_of expression_message =
+    (codes "vars", repeated (number Int32))
+    ∷ (codes "coeffs", repeated (number Int64))
+    ∷ (codes "offset", single (number Int64))
+    ∷ []
+table_of hint_message =
+    (codes "vars", repeated (number Int32))
+    ∷ (codes "values", repeated (number Int64))
+    ∷ []
 
 -- the fields that are known, and not read
 abbrev pub unread_names : Message → List (List ℕ)
 unread_names model_message =
-    codes "name"
-    ∷ codes "search_strategy"
-    ∷ codes "solution_hint"
-    ∷ codes "assumptions"
+    codes "assumptions"
     ∷ codes "floating_point_objective"
     ∷ codes "symmetry"
     ∷ []
-unread_names variable_message =
-    codes "name"
-    ∷ []
+unread_names variable_message = []
 unread_names constraint_message =
-    codes "name"
-    ∷ codes "int_div"
+    codes "int_div"
     ∷ codes "int_mod"
     ∷ codes "int_prod"
     ∷ codes "lin_max"
@@ -109,6 +134,9 @@ unread_names objective_message =
     ∷ codes "integer_after_offset"
     ∷ codes "integer_scaling_factor"
     ∷ []
+unread_names strategy_message = []
+unread_names expression_message = []
+unread_names hint_message = []
 
 -- the name is one of these
 unfoldable pub is_given : List (List ℕ) → List ℕ → Bool
@@ -128,5 +156,6 @@ abbrev pub content_of : Option Use → Option Content
 content_of None = None
 content_of (Some (single content)) = Some content
 content_of (Some (repeated content)) = Some content
+content_of (Some (formed form content)) = Some content
 content_of (Some (one_kind m)) = Some (message m)
 content_of (Some unread) = None

@@ -9,7 +9,7 @@ ghost use Rattle.cps_schema.specs.Readings.{value_messages, read_constraint};
 ghost use Rattle.cps_schema.specs.Values.{nested_trees, trees_fault};
 ghost use Rattle.cps_schema.specs.Answers.{Refuses};
 ghost use Rattle.cps_schema.specs.Steps.{field_then, Passes, Stops};
-ghost use Rattle.cps_schema.specs.Parts.{constraint_from, IsKindGiven};
+ghost use Rattle.cps_schema.specs.Parts.{constraint_from, IsConstraintGiven};
 
 use super::error::SchemaError;
 use super::kind::{GivenKind, kind_named, set_kind};
@@ -17,12 +17,12 @@ use super::lists::add_refs;
 use super::names::not_read;
 use super::single::{Messages, fields_of, messages_of};
 use super::source::{Source, token_text};
+use super::text::{name_or_empty, set_name};
 use cps_model::{Constraint, Kind, Listed, Text};
 use cps_textproto::{Field, Nested, Node};
 use std::alloc::Global;
 
-const UNREAD: [&[u8]; 18] = [
-    b"name",
+const UNREAD: [&[u8]; 17] = [
     b"int_div",
     b"int_mod",
     b"int_prod",
@@ -45,6 +45,7 @@ const UNREAD: [&[u8]; 18] = [
 /// What was read so far of a constraint.
 #[derive(Drop)]
 pub struct ConstraintParts {
+    pub name: Option<Text>,
     pub enforcement: Vec<i32>,
     pub given: Option<GivenKind>,
 }
@@ -56,17 +57,19 @@ fn add_field(
     parts: &mut ConstraintParts,
     field: &Field,
 ) -> Result<(), SchemaError>
-    ensures passes { OnOk result ((before : List (List ℕ)) → IsKindGiven parts.old.given before →
+    ensures passes { OnOk result ((before : List (List ℕ)) → IsConstraintGiven parts.old before →
         Passes (written_of source.now) constraint_message before field.now
-        × IsKindGiven parts.new.given (token_text (written_of source.now) field.now.name ∷ before)) }
+        × IsConstraintGiven parts.new (token_text (written_of source.now) field.now.name ∷ before)) }
     ensures read { OnOk result ((rest : Tree) →
         constraint_from (written_of source.now) parts.old (field_then field.now rest)
         ≡ constraint_from (written_of source.now) parts.new rest) }
-    ensures err { IfErr result (λ e. (before : List (List ℕ)) → IsKindGiven parts.old.given before →
+    ensures err { IfErr result (λ e. (before : List (List ℕ)) → IsConstraintGiven parts.old before →
         Stops (written_of source.now) constraint_message before field.now e) }
 {
     let name = token_text(source, field.name as usize);
-    if name == b"enforcement_literal".as_slice() {
+    if name == b"name".as_slice() {
+        set_name(alloc, source, &mut parts.name, field)
+    } else if name == b"enforcement_literal".as_slice() {
         add_refs(source, &mut parts.enforcement, field)
     } else if let Some(kind) = kind_named(name) {
         set_kind(alloc, source, &mut parts.given, kind, field)
@@ -79,9 +82,13 @@ fn add_field(
 fn constraint_of(alloc: Global, parts: ConstraintParts) -> Constraint
     ensures { (w : Written) → result ≡ constraint_from w parts no_fields }
 {
-    let ConstraintParts { enforcement, given } = parts;
+    let ConstraintParts {
+        name,
+        enforcement,
+        given,
+    } = parts;
     Constraint {
-        name: Text::new(alloc),
+        name: name_or_empty(alloc, name),
         enforcement: Listed::from_vec(enforcement),
         kind: match given {
             Some(given) => given.kind,
@@ -97,6 +104,7 @@ fn read_constraint(alloc: Global, source: &Source, node: &Node) -> Result<Constr
     ensures err { IfErr result (Refuses (fields_fault (written_of source.now) constraint_message [] (tree_of node.now))) }
 {
     let mut parts = ConstraintParts {
+        name: None,
         enforcement: Vec::new(alloc),
         given: None,
     };

@@ -9,23 +9,32 @@
 //! A whole number is written as a decimal, an octal or a hexadecimal; those that are doubles in the source may be
 //! floats, and are read exactly or refused (`specs/Floats`).
 //!
+//! A text is its strings joined, and is UTF-8 (`specs/Texts`). A member of an enum is given by its name or its number
+//! (`specs/Members`). A strategy has fields of an older or of a newer form, and not of both.
+//!
 //! Field names, types and their meaning are those of the public message definitions of CP-SAT models.
 #![tactic(auto)]
 
 mod constraint;
 mod digits;
 mod error;
+mod expression;
 mod float;
+mod form;
+mod hint;
 mod kind;
 mod linear;
 mod lists;
 mod literals;
+mod member;
 mod model;
 mod names;
 mod number;
 mod objective;
 mod single;
 mod source;
+mod strategy;
+mod text;
 mod variable;
 
 pub use cps_model::FaultName;

@@ -4,40 +4,42 @@ ghost use Rattle.cps_textproto.specs.Trees.{Tree, no_fields, tree_of, values_of}
 ghost use Rattle.cps_model.specs.declared.model.CpModel.{CpModel};
 ghost use Rattle.cps_schema.specs.Written.{Written, written, token_text};
 ghost use Rattle.cps_schema.specs.Sources.{written_of};
-ghost use Rattle.cps_schema.specs.Tables.{model_message, variable_message, constraint_message, objective_message, message};
+ghost use Rattle.cps_schema.specs.Tables.{model_message, variable_message, constraint_message, objective_message, hint_message, message};
 ghost use Rattle.cps_schema.specs.Faults.{values_fault, fields_fault};
-ghost use Rattle.cps_schema.specs.Readings.{ReadsAs, value_messages, read_variable, read_constraint, read_objective, read_model};
+ghost use Rattle.cps_schema.specs.Readings.{ReadsAs, value_messages, read_variable, read_constraint, read_objective, read_hint, read_model};
 ghost use Rattle.cps_schema.specs.Answers.{Refuses, IsRefusal, Gives};
 ghost use Rattle.cps_schema.specs.Steps.{field_then, Passes, Stops, SinglePasses, SingleStops};
-ghost use Rattle.cps_schema.specs.Parts.{model_from, IsObjectiveGiven};
+ghost use Rattle.cps_schema.specs.Slots.{AreGiven};
+ghost use Rattle.cps_schema.specs.Parts.{model_from, model_slots};
 
 use super::constraint::add_constraints;
 use super::error::SchemaError;
+use super::hint::read_hint;
 use super::names::not_read;
 use super::objective::read_objective;
 use super::single::{fields_of, single_message};
 use super::source::{Source, token_text};
+use super::strategy::add_strategies;
+use super::text::{name_or_empty, set_name};
 use super::variable::add_variables;
 use cps_lex::Token;
-use cps_model::{Constraint, CpModel, FaultName, Listed, Objective, Text, Variable};
+use cps_model::{
+    Constraint, CpModel, FaultName, Hint, Listed, Objective, Strategy, Text, Variable,
+};
 use cps_textproto::{Field, Node};
 use std::alloc::Global;
 
-const UNREAD: [&[u8]; 6] = [
-    b"name",
-    b"search_strategy",
-    b"solution_hint",
-    b"assumptions",
-    b"floating_point_objective",
-    b"symmetry",
-];
+const UNREAD: [&[u8]; 3] = [b"assumptions", b"floating_point_objective", b"symmetry"];
 
 /// What was read so far of a model.
 #[derive(Drop)]
 pub struct ModelParts {
+    pub name: Option<Text>,
     pub variables: Vec<Variable>,
     pub constraints: Vec<Constraint>,
     pub objective: Option<Objective>,
+    pub strategies: Vec<Strategy>,
+    pub hint: Option<Hint>,
 }
 
 /// Reads the objective, which may not have been read before.
@@ -72,6 +74,38 @@ fn set_objective(
     }
 }
 
+/// Reads the hint, which may not have been read before.
+#[tactic(auto, using(crate::proofs::Steps::single_passes, crate::proofs::Steps::single_stops))]
+fn set_hint(
+    alloc: Global,
+    source: &Source,
+    hint: &mut Option<Hint>,
+    field: &Field,
+) -> Result<(), SchemaError>
+    ensures passes { OnOk result (SinglePasses (written_of source.now) field.now (message hint_message) (is_some hint.old)) }
+    ensures added { OnOk result (option_to_list hint.new
+        ≡ option_to_list hint.old ++ map (read_hint (written_of source.now)) (value_messages (values_of field.now.items))) }
+    ensures some { OnOk result (is_some hint.new ≡ true) }
+    ensures err { IfErr result (SingleStops (written_of source.now) field.now (message hint_message) (is_some hint.old)) }
+{
+    if hint.is_some() {
+        return Err(SchemaError::Fault {
+            name: FaultName::Repeated,
+            token: field.name as usize,
+        });
+    }
+    match single_message(source, field) {
+        Ok(node) => match read_hint(alloc, source, node) {
+            Ok(read) => {
+                *hint = Some(read);
+                Ok(())
+            }
+            Err(error) => Err(error),
+        },
+        Err(error) => Err(error),
+    }
+}
+
 /// Reads a field of a model.
 fn add_field(
     alloc: Global,
@@ -79,44 +113,53 @@ fn add_field(
     parts: &mut ModelParts,
     field: &Field,
 ) -> Result<(), SchemaError>
-    ensures passes { OnOk result ((before : List (List ℕ)) → IsObjectiveGiven parts.old.objective before →
+    ensures passes { OnOk result ((before : List (List ℕ)) → AreGiven (model_slots parts.old) before →
         Passes (written_of source.now) model_message before field.now
-        × IsObjectiveGiven parts.new.objective (token_text (written_of source.now) field.now.name ∷ before)) }
+        × AreGiven (model_slots parts.new) (token_text (written_of source.now) field.now.name ∷ before)) }
     ensures read { OnOk result ((rest : Tree) →
         model_from (written_of source.now) parts.old (field_then field.now rest)
         ≡ model_from (written_of source.now) parts.new rest) }
-    ensures err { IfErr result (λ e. (before : List (List ℕ)) → IsObjectiveGiven parts.old.objective before →
+    ensures err { IfErr result (λ e. (before : List (List ℕ)) → AreGiven (model_slots parts.old) before →
         Stops (written_of source.now) model_message before field.now e) }
 {
     let name = token_text(source, field.name as usize);
-    if name == b"variables".as_slice() {
+    if name == b"name".as_slice() {
+        set_name(alloc, source, &mut parts.name, field)
+    } else if name == b"variables".as_slice() {
         add_variables(alloc, source, &mut parts.variables, field)
     } else if name == b"constraints".as_slice() {
         add_constraints(alloc, source, &mut parts.constraints, field)
     } else if name == b"objective".as_slice() {
         set_objective(alloc, source, &mut parts.objective, field)
+    } else if name == b"search_strategy".as_slice() {
+        add_strategies(alloc, source, &mut parts.strategies, field)
+    } else if name == b"solution_hint".as_slice() {
+        set_hint(alloc, source, &mut parts.hint, field)
     } else {
         Err(not_read(source, &UNREAD, field.name))
     }
 }
 
 /// The model of these parts alone.
-#[tactic(auto, using(crate::proofs::ModelFields::first_objective))]
+#[tactic(auto, using(crate::proofs::ModelFields::first_objective, crate::proofs::ModelFields::first_hint))]
 fn model_of_parts(alloc: Global, parts: ModelParts) -> CpModel
     ensures { (w : Written) → result ≡ model_from w parts no_fields }
 {
     let ModelParts {
+        name,
         variables,
         constraints,
         objective,
+        strategies,
+        hint,
     } = parts;
     CpModel {
-        name: Text::new(alloc),
+        name: name_or_empty(alloc, name),
         variables: Listed::from_vec(variables),
         constraints: Listed::from_vec(constraints),
         objective,
-        strategies: Listed::new(alloc),
-        hint: None,
+        strategies: Listed::from_vec(strategies),
+        hint,
         assumptions: Listed::new(alloc),
     }
 }
@@ -128,9 +171,12 @@ fn read_model(alloc: Global, source: &Source, node: &Node) -> Result<CpModel, Sc
     ensures err { IfErr result (Refuses (fields_fault (written_of source.now) model_message [] (tree_of node.now))) }
 {
     let mut parts = ModelParts {
+        name: None,
         variables: Vec::new(alloc),
         constraints: Vec::new(alloc),
         objective: None,
+        strategies: Vec::new(alloc),
+        hint: None,
     };
     for field in fields_of(node) {
         add_field(alloc, source, &mut parts, field)?;

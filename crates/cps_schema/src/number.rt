@@ -55,7 +55,7 @@ fn in_type(number: Number, negative: bool, size: u64) -> Option<i64>
 }
 
 #[tactic(auto, unfolding(crate::specs::Written::is_negative))]
-fn is_negative(source: &Source, first: u32) -> bool
+pub(crate) fn is_negative(source: &Source, first: u32) -> bool
     ensures { result ≡ is_negative (written_of source.now) first }
 {
     token_text(source, first as usize) == b"-".as_slice()
@@ -75,7 +75,12 @@ fn size_of(kind: TokenKind, text: &[u8]) -> Option<u64>
 }
 
 /// The whole number that a token writes behind its sign, if it writes one and the type has it.
-fn whole_number(number: Number, negative: bool, kind: TokenKind, text: &[u8]) -> Option<i64>
+pub(crate) fn whole_number(
+    number: Number,
+    negative: bool,
+    kind: TokenKind,
+    text: &[u8],
+) -> Option<i64>
     ensures { result ≡ fitted number negative (token_size (Some kind) text.now) }
 {
     match size_of(kind, text) {

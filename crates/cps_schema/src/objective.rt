@@ -1,22 +1,22 @@
 //! Objectives.
-ghost use Rattle.std.specs.Prelude.{◌≡◌, ◌++◌, ℕ, List, [], ◌∷◌, true, Some, None, is_some, OnOk, IfOk, IfErr, option_to_list};
-ghost use Rattle.cps_textproto.specs.Trees.{Tree, no_fields, tree_of, values_of};
+ghost use Rattle.std.specs.Prelude.{◌≡◌, ℕ, List, [], ◌∷◌, None, OnOk, IfOk, IfErr};
+ghost use Rattle.cps_textproto.specs.Trees.{Tree, no_fields, tree_of};
 ghost use Rattle.cps_schema.specs.Written.{Written, token_text};
 ghost use Rattle.cps_schema.specs.Sources.{written_of};
-ghost use Rattle.cps_schema.specs.Tables.{objective_message, number};
+ghost use Rattle.cps_schema.specs.Tables.{objective_message};
 ghost use Rattle.cps_schema.specs.Faults.{fields_fault};
-ghost use Rattle.cps_schema.specs.Readings.{scaling_of, value_numbers, read_objective};
+ghost use Rattle.cps_schema.specs.Readings.{scaling_of, read_objective};
 ghost use Rattle.cps_schema.specs.Answers.{Refuses};
-ghost use Rattle.cps_schema.specs.Steps.{field_then, Passes, Stops, SinglePasses, SingleStops};
+ghost use Rattle.cps_schema.specs.Steps.{field_then, Passes, Stops};
 ghost use Rattle.cps_schema.specs.Parts.{objective_from, IsGiven};
 
 use super::error::SchemaError;
 use super::lists::{add_ints, add_refs};
 use super::names::not_read;
 use super::number::Number;
-use super::single::{fields_of, single_number};
+use super::single::{fields_of, set_number};
 use super::source::{Source, token_text};
-use cps_model::{FaultName, Listed, Objective};
+use cps_model::{Listed, Objective};
 use cps_textproto::{Field, Node};
 use std::alloc::Global;
 
@@ -37,29 +37,6 @@ pub struct ObjectiveParts {
     pub domain: Vec<i64>,
 }
 
-/// Reads the number of a single field, which may not have been read before.
-fn set_number(source: &Source, slot: &mut Option<i64>, field: &Field) -> Result<(), SchemaError>
-    ensures passes { OnOk result (SinglePasses (written_of source.now) field.now (number Number.Exact) (is_some slot.old)) }
-    ensures added { OnOk result (option_to_list slot.new
-        ≡ option_to_list slot.old ++ value_numbers (written_of source.now) (values_of field.now.items)) }
-    ensures some { OnOk result (is_some slot.new ≡ true) }
-    ensures err { IfErr result (SingleStops (written_of source.now) field.now (number Number.Exact) (is_some slot.old)) }
-{
-    if slot.is_some() {
-        return Err(SchemaError::Fault {
-            name: FaultName::Repeated,
-            token: field.name as usize,
-        });
-    }
-    match single_number(source, Number::Exact, field) {
-        Ok(value) => {
-            *slot = Some(value);
-            Ok(())
-        }
-        Err(error) => Err(error),
-    }
-}
-
 /// Reads a field of an objective.
 fn add_field(source: &Source, parts: &mut ObjectiveParts, field: &Field) -> Result<(), SchemaError>
     ensures passes { OnOk result ((before : List (List ℕ)) → IsGiven parts.old.offset parts.old.scaling before →
@@ -77,9 +54,9 @@ fn add_field(source: &Source, parts: &mut ObjectiveParts, field: &Field) -> Resu
     } else if name == b"coeffs".as_slice() {
         add_ints(source, &mut parts.coeffs, field)
     } else if name == b"offset".as_slice() {
-        set_number(source, &mut parts.offset, field)
+        set_number(source, Number::Exact, &mut parts.offset, field)
     } else if name == b"scaling_factor".as_slice() {
-        set_number(source, &mut parts.scaling, field)
+        set_number(source, Number::Exact, &mut parts.scaling, field)
     } else if name == b"domain".as_slice() {
         add_ints(source, &mut parts.domain, field)
     } else {

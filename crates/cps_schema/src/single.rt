@@ -1,5 +1,5 @@
 //! The values of fields that take one, and the messages of those that take any number.
-ghost use Rattle.std.specs.Prelude.{◌≡◌, [], ◌∷◌, false, Some, None, OnOk, IfOk, IfErr, IfSome, IfNone};
+ghost use Rattle.std.specs.Prelude.{◌≡◌, ◌++◌, [], ◌∷◌, true, false, Some, None, is_some, OnOk, IfOk, IfErr, IfSome, IfNone, option_to_list};
 ghost use Rattle.std.specs.Option.{option_or};
 ghost use Rattle.cps_textproto.specs.declared.tree.Items.TheVariants as Items;
 ghost use Rattle.cps_textproto.specs.Trees.{tree_of, field_list, values_of, span_values, nested_value, no_values, scalar_value};
@@ -10,6 +10,7 @@ ghost use Rattle.cps_schema.specs.Tables.{Message, number, message};
 ghost use Rattle.cps_schema.specs.Faults.{bracket, is_alone, values_fault, fields_fault};
 ghost use Rattle.cps_schema.specs.Readings.{value_numbers, value_messages};
 ghost use Rattle.cps_schema.specs.Answers.{Refuses};
+ghost use Rattle.cps_schema.specs.Steps.{SinglePasses, SingleStops};
 ghost use Rattle.cps_schema.specs.Values.{value_of, trees_of, trees_fault};
 
 use super::error::SchemaError;
@@ -28,7 +29,7 @@ pub(crate) fn fields_of(node: &Node) -> &[Field]
 
 /// The token of the `[` of a field's list.
 #[tactic(auto, unfolding(crate::specs::Faults::bracket))]
-fn bracket(source: &Source, name: u32) -> usize
+pub(crate) fn bracket(source: &Source, name: u32) -> usize
     ensures { result ≡ bracket (written_of source.now) name }
 {
     let name = name as usize;
@@ -39,7 +40,7 @@ fn bracket(source: &Source, name: u32) -> usize
     }
 }
 
-fn wrong_kind(token: usize) -> SchemaError
+pub(crate) fn wrong_kind(token: usize) -> SchemaError
     ensures { result ≡ SchemaError.Fault FaultName.WrongKind token }
 {
     SchemaError::Fault {
@@ -49,7 +50,7 @@ fn wrong_kind(token: usize) -> SchemaError
 }
 
 /// A value: a scalar, or a message with the token that opens it.
-enum Value<'a> {
+pub(crate) enum Value<'a> {
     Scalar(Span),
     Message(u32, &'a Node),
 }
@@ -82,7 +83,7 @@ fn only_message(list: &Vec<Nested>) -> Option<&Nested>
 
 /// The value of a field that has one, in no list.
 #[tactic(auto, using(cps_textproto::proofs::Views::nested_parts))]
-fn alone(field: &Field) -> Option<Value<'_>>
+pub(crate) fn alone(field: &Field) -> Option<Value<'_>>
     ensures none { IfNone result (is_alone field.now.list (values_of field.now.items) ≡ false) }
     ensures outside { IfSome result (λ _. field.now.list ≡ false) }
     ensures value { IfSome result (λ v. values_of field.now.items ≡ value_of v) }
@@ -127,6 +128,34 @@ pub(crate) fn single_number(
         },
         Some(Value::Message(first, _)) => Err(wrong_kind(first as usize)),
         None => Err(wrong_kind(bracket(source, field.name))),
+    }
+}
+
+/// Reads the number of a single field, which may not have been read before.
+pub(crate) fn set_number(
+    source: &Source,
+    kind: Number,
+    slot: &mut Option<i64>,
+    field: &Field,
+) -> Result<(), SchemaError>
+    ensures passes { OnOk result (SinglePasses (written_of source.now) field.now (number kind) (is_some slot.old)) }
+    ensures added { OnOk result (option_to_list slot.new
+        ≡ option_to_list slot.old ++ value_numbers (written_of source.now) (values_of field.now.items)) }
+    ensures some { OnOk result (is_some slot.new ≡ true) }
+    ensures err { IfErr result (SingleStops (written_of source.now) field.now (number kind) (is_some slot.old)) }
+{
+    if slot.is_some() {
+        return Err(SchemaError::Fault {
+            name: FaultName::Repeated,
+            token: field.name as usize,
+        });
+    }
+    match single_number(source, kind, field) {
+        Ok(value) => {
+            *slot = Some(value);
+            Ok(())
+        }
+        Err(error) => Err(error),
     }
 }
 

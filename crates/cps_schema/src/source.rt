@@ -24,7 +24,7 @@ pub(crate) fn token_text<'a>(source: &Source<'a>, token: usize) -> &'a [u8]
 }
 
 /// The bytes `start..end`, as far as there are any.
-fn span_text(bytes: &[u8], start: usize, end: usize) -> &[u8]
+pub(crate) fn span_text(bytes: &[u8], start: usize, end: usize) -> &[u8]
     ensures { result.now ≡ take (end - start) (drop start bytes.now) }
 {
     let rest = &bytes[start.min(bytes.len())..];

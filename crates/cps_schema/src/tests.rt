@@ -1,7 +1,7 @@
 //! Whole documents.
 use super::{FaultName, SchemaError, model_of};
 use cps_lex::tokens;
-use cps_model::{Constraint, CpModel, Kind, Objective, Variable};
+use cps_model::{Choose, Constraint, CpModel, Kind, Objective, Select, Strategy, Variable};
 use cps_textproto::document;
 use std::alloc::Global;
 use std::process::Abort;
@@ -49,12 +49,11 @@ fn refused(
 #[test]
 fn refuses_names(rt: HostRuntime) -> Result<(), Fail> {
     let alloc = rt.alloc();
-    let texts: [(&str, FaultName, u32); 9] = [
+    let texts: [(&str, FaultName, u32); 14] = [
         ("variables { domian: 0 }", FaultName::UnknownField, 12),
         ("objective { offset: 1 offset: 2 }", FaultName::Repeated, 22),
         ("objective { offset: 1 offset: x }", FaultName::Repeated, 22),
         ("objective { } objective: 0", FaultName::Repeated, 14),
-        ("name: 0", FaultName::Unsupported, 0),
         ("constraints { all_diff { } }", FaultName::Unsupported, 14),
         (
             "constraints { bool_or { } bool_or: 0 }",
@@ -71,6 +70,28 @@ fn refuses_names(rt: HostRuntime) -> Result<(), Fail> {
             FaultName::TwoKinds,
             30,
         ),
+        ("assumptions: 0", FaultName::Unsupported, 0),
+        ("name: \"a\" name: \"b\"", FaultName::Repeated, 10),
+        (
+            "solution_hint { } solution_hint { }",
+            FaultName::Repeated,
+            18,
+        ),
+        (
+            "search_strategy { exprs { } variables: 0 }",
+            FaultName::MixedForms,
+            28,
+        ),
+        (
+            "search_strategy { variables: [ ] exprs: 0 }",
+            FaultName::MixedForms,
+            33,
+        ),
+        (
+            "search_strategy { variable_selection_strategy: 0 variable_selection_strategy: 1.0 }",
+            FaultName::Repeated,
+            49,
+        ),
     ];
     for (text, name, byte) in texts {
         refused(&rt, alloc, text, name, byte)?;
@@ -81,7 +102,7 @@ fn refuses_names(rt: HostRuntime) -> Result<(), Fail> {
 #[test]
 fn refuses_forms(rt: HostRuntime) -> Result<(), Fail> {
     let alloc = rt.alloc();
-    let texts: [(&str, FaultName, u32); 7] = [
+    let texts: [(&str, FaultName, u32); 11] = [
         ("objective { offset: [1] }", FaultName::WrongKind, 20),
         ("objective [ ]", FaultName::WrongKind, 10),
         ("objective: [ ]", FaultName::WrongKind, 11),
@@ -89,6 +110,14 @@ fn refuses_forms(rt: HostRuntime) -> Result<(), Fail> {
         ("variables: 0", FaultName::WrongKind, 11),
         ("variables: [0]", FaultName::WrongKind, 12),
         ("variables { domain: - x }", FaultName::WrongKind, 20),
+        ("name: x", FaultName::WrongKind, 6),
+        ("constraints { name: 0 }", FaultName::WrongKind, 20),
+        ("name: [\"a\"]", FaultName::WrongKind, 6),
+        (
+            "variables { name: \"a\" \"\\377\" }",
+            FaultName::WrongKind,
+            18,
+        ),
     ];
     for (text, name, byte) in texts {
         refused(&rt, alloc, text, name, byte)?;
@@ -176,6 +205,67 @@ fn refuses_numbers(rt: HostRuntime) -> Result<(), Fail> {
             "objective { scaling_factor: 9007199254740993.0 }",
             FaultName::NotWhole,
             28,
+        ),
+    ];
+    for (text, name, byte) in texts {
+        refused(&rt, alloc, text, name, byte)?;
+    }
+    Ok(())
+}
+
+#[test]
+fn refuses_members(rt: HostRuntime) -> Result<(), Fail> {
+    let alloc = rt.alloc();
+    let texts: [(&str, FaultName, u32); 10] = [
+        (
+            "search_strategy { variable_selection_strategy: SELECT_MIN_VALUE }",
+            FaultName::WrongKind,
+            47,
+        ),
+        (
+            "search_strategy { variable_selection_strategy: SELECT_RANDOM_HALF }",
+            FaultName::WrongKind,
+            47,
+        ),
+        (
+            "search_strategy { domain_reduction_strategy: SELECT_RANDOM_HALF }",
+            FaultName::Unsupported,
+            45,
+        ),
+        (
+            "search_strategy { domain_reduction_strategy: - SELECT_MIN_VALUE }",
+            FaultName::WrongKind,
+            45,
+        ),
+        (
+            "search_strategy { domain_reduction_strategy: 1.0 }",
+            FaultName::WrongKind,
+            45,
+        ),
+        (
+            "search_strategy { domain_reduction_strategy: { } }",
+            FaultName::WrongKind,
+            45,
+        ),
+        (
+            "search_strategy { domain_reduction_strategy: 5 }",
+            FaultName::OutOfRange,
+            45,
+        ),
+        (
+            "search_strategy { variable_selection_strategy: -1 }",
+            FaultName::OutOfRange,
+            47,
+        ),
+        (
+            "search_strategy { variable_selection_strategy: 0x100000000 }",
+            FaultName::OutOfRange,
+            47,
+        ),
+        (
+            "search_strategy { exprs { offset: 1f } }",
+            FaultName::WrongKind,
+            34,
         ),
     ];
     for (text, name, byte) in texts {
@@ -327,5 +417,110 @@ fn reads_whole_numbers(rt: HostRuntime) -> Result<(), Fail> {
         return Err(Fail::from("variables"));
     };
     assert!(rt; is_variable(variable, &[15, 31, 31, -16, -15, 0, i64::MAX, i64::MIN]));
+    Ok(())
+}
+
+#[test]
+fn reads_names(rt: HostRuntime) -> Result<(), Fail> {
+    let model = read(
+        &rt,
+        rt.alloc(),
+        "variables { name: 'x' \"\\303\" \"\\244\" } name: \"m\\n\" constraints { name: \"\" }",
+    )?;
+    let [variable] = model.variables.as_slice() else {
+        return Err(Fail::from("variables"));
+    };
+    assert!(rt; variable.name.as_str() == "x\u{e4}");
+    assert!(rt; model.name.as_str() == "m\n");
+    Ok(())
+}
+
+/// A strategy chooses so, and has one expression, of these references, coefficients and offset.
+fn is_strategy(
+    strategy: &Strategy,
+    choose: Choose,
+    select: Select,
+    refs: &[i32],
+    factors: &[i64],
+    offset: i64,
+) -> bool {
+    match strategy.exprs.as_slice() {
+        [expr] => {
+            strategy.choose == choose
+                && strategy.select == select
+                && expr.vars.as_slice() == refs
+                && expr.coeffs.as_slice() == factors
+                && expr.offset == offset
+        }
+        _ => false,
+    }
+}
+
+#[test]
+fn reads_steering(rt: HostRuntime) -> Result<(), Fail> {
+    let model = read(
+        &rt,
+        rt.alloc(),
+        "search_strategy { variables: -3 domain_reduction_strategy: SELECT_MAX_VALUE } search_strategy { variable_selection_strategy: 0x4 exprs { vars: 1 coeffs: 2 offset: -017 } domain_reduction_strategy: -0 } solution_hint { values: [4, -5] vars: 0 vars: 1 }",
+    )?;
+    let [older, newer] = model.strategies.as_slice() else {
+        return Err(Fail::from("strategies"));
+    };
+    assert!(rt; is_strategy(older, Choose::First, Select::MaxValue, &[-3], &[1], 0));
+    assert!(rt;
+        is_strategy(
+            newer,
+            Choose::MaxDomainSize,
+            Select::MinValue,
+            &[1],
+            &[2],
+            -15
+        )
+    );
+    let Some(hint) = &model.hint else {
+        return Err(Fail::from("hint"));
+    };
+    assert!(rt; hint.vars.as_slice() == [0, 1].as_slice());
+    assert!(rt; hint.values.as_slice() == [4, -5].as_slice());
+    Ok(())
+}
+
+#[test]
+fn reads_members(rt: HostRuntime) -> Result<(), Fail> {
+    let alloc = rt.alloc();
+    let texts: [(&str, Choose, Select); 5] = [
+        (
+            "search_strategy { exprs { } variable_selection_strategy: CHOOSE_FIRST domain_reduction_strategy: SELECT_MIN_VALUE }",
+            Choose::First,
+            Select::MinValue,
+        ),
+        (
+            "search_strategy { exprs { } variable_selection_strategy: CHOOSE_LOWEST_MIN domain_reduction_strategy: SELECT_MAX_VALUE }",
+            Choose::LowestMin,
+            Select::MaxValue,
+        ),
+        (
+            "search_strategy { exprs { } variable_selection_strategy: CHOOSE_HIGHEST_MAX domain_reduction_strategy: SELECT_LOWER_HALF }",
+            Choose::HighestMax,
+            Select::LowerHalf,
+        ),
+        (
+            "search_strategy { exprs { } variable_selection_strategy: CHOOSE_MIN_DOMAIN_SIZE domain_reduction_strategy: SELECT_UPPER_HALF }",
+            Choose::MinDomainSize,
+            Select::UpperHalf,
+        ),
+        (
+            "search_strategy { exprs { } variable_selection_strategy: CHOOSE_MAX_DOMAIN_SIZE domain_reduction_strategy: SELECT_MEDIAN_VALUE }",
+            Choose::MaxDomainSize,
+            Select::MedianValue,
+        ),
+    ];
+    for (text, choose, select) in texts {
+        let model = read(&rt, alloc, text)?;
+        let [strategy] = model.strategies.as_slice() else {
+            return Err(Fail::from("strategies"));
+        };
+        assert!(rt; is_strategy(strategy, choose, select, &[], &[], 0));
+    }
     Ok(())
 }

@@ -1,37 +1,70 @@
 //! Variables.
-ghost use Rattle.std.specs.Prelude.{◌≡◌, ℕ, List, [], ◌∷◌, ◌++◌, None, Some, map, OnOk, IfOk, IfErr, codes};
-ghost use Rattle.cps_textproto.specs.Trees.{Tree, tree_of, values_of};
+ghost use Rattle.std.specs.Prelude.{◌≡◌, ℕ, List, [], ◌∷◌, ◌++◌, None, Some, map, OnOk, IfOk, IfErr};
+ghost use Rattle.cps_textproto.specs.Trees.{Tree, no_fields, tree_of, values_of};
+ghost use Rattle.cps_schema.specs.Written.{Written, token_text};
 ghost use Rattle.cps_schema.specs.Sources.{written_of};
 ghost use Rattle.cps_schema.specs.Tables.{variable_message, message};
 ghost use Rattle.cps_schema.specs.Faults.{fields_fault, values_fault};
-ghost use Rattle.cps_schema.specs.Readings.{value_messages, numbers, read_variable};
+ghost use Rattle.cps_schema.specs.Readings.{value_messages, read_variable};
 ghost use Rattle.cps_schema.specs.Values.{nested_trees, trees_fault};
 ghost use Rattle.cps_schema.specs.Answers.{Refuses};
 ghost use Rattle.cps_schema.specs.Steps.{field_then, Passes, Stops};
+ghost use Rattle.cps_schema.specs.Slots.{AreGiven};
+ghost use Rattle.cps_schema.specs.Parts.{variable_from, variable_slots};
 
 use super::error::SchemaError;
 use super::lists::add_ints;
 use super::names::not_read;
 use super::single::{Messages, fields_of, messages_of};
 use super::source::{Source, token_text};
+use super::text::{name_or_empty, set_name};
 use cps_model::{Listed, Text, Variable};
 use cps_textproto::{Field, Nested, Node};
 use std::alloc::Global;
 
-const UNREAD: [&[u8]; 1] = [b"name"];
+const UNREAD: [&[u8]; 0] = [];
+
+/// What was read so far of a variable.
+#[derive(Drop)]
+pub struct VariableParts {
+    pub name: Option<Text>,
+    pub domain: Vec<i64>,
+}
 
 /// Reads a field of a variable.
-fn add_field(source: &Source, domain: &mut Vec<i64>, field: &Field) -> Result<(), SchemaError>
-    ensures passes { OnOk result ((before : List (List ℕ)) → Passes (written_of source.now) variable_message before field.now) }
+fn add_field(
+    alloc: Global,
+    source: &Source,
+    parts: &mut VariableParts,
+    field: &Field,
+) -> Result<(), SchemaError>
+    ensures passes { OnOk result ((before : List (List ℕ)) → AreGiven (variable_slots parts.old) before →
+        Passes (written_of source.now) variable_message before field.now
+        × AreGiven (variable_slots parts.new) (token_text (written_of source.now) field.now.name ∷ before)) }
     ensures read { OnOk result ((rest : Tree) →
-        domain.old.items ++ numbers (written_of source.now) (codes "domain") (field_then field.now rest)
-        ≡ domain.new.items ++ numbers (written_of source.now) (codes "domain") rest) }
-    ensures err { IfErr result (λ e. (before : List (List ℕ)) → Stops (written_of source.now) variable_message before field.now e) }
+        variable_from (written_of source.now) parts.old (field_then field.now rest)
+        ≡ variable_from (written_of source.now) parts.new rest) }
+    ensures err { IfErr result (λ e. (before : List (List ℕ)) → AreGiven (variable_slots parts.old) before →
+        Stops (written_of source.now) variable_message before field.now e) }
 {
-    if token_text(source, field.name as usize) == b"domain".as_slice() {
-        add_ints(source, domain, field)
+    let name = token_text(source, field.name as usize);
+    if name == b"name".as_slice() {
+        set_name(alloc, source, &mut parts.name, field)
+    } else if name == b"domain".as_slice() {
+        add_ints(source, &mut parts.domain, field)
     } else {
         Err(not_read(source, &UNREAD, field.name))
+    }
+}
+
+/// The variable of these parts alone.
+fn variable_of(alloc: Global, parts: VariableParts) -> Variable
+    ensures { (w : Written) → result ≡ variable_from w parts no_fields }
+{
+    let VariableParts { name, domain } = parts;
+    Variable {
+        name: name_or_empty(alloc, name),
+        domain: Listed::from_vec(domain),
     }
 }
 
@@ -41,14 +74,14 @@ fn read_variable(alloc: Global, source: &Source, node: &Node) -> Result<Variable
     ensures reading { IfOk result (λ variable. variable ≡ read_variable (written_of source.now) (tree_of node.now)) }
     ensures err { IfErr result (Refuses (fields_fault (written_of source.now) variable_message [] (tree_of node.now))) }
 {
-    let mut domain = Vec::new(alloc);
+    let mut parts = VariableParts {
+        name: None,
+        domain: Vec::new(alloc),
+    };
     for field in fields_of(node) {
-        add_field(source, &mut domain, field)?;
+        add_field(alloc, source, &mut parts, field)?;
     }
-    Ok(Variable {
-        name: Text::new(alloc),
-        domain: Listed::from_vec(domain),
-    })
+    Ok(variable_of(alloc, parts))
 }
 
 /// Adds the variable of a message.

@@ -1,42 +1,76 @@
-use Rattle.std.proofs.Common.{◌≡◌, ◌++◌, codes, Some, None, refl, arith, append_assoc}
+use Rattle.std.specs.Option.{option_to_list}
+use Rattle.std.proofs.Common.{◌≡◌, ◌++◌, List, ℕ, codes, Some, None, true, is_some, refl, arith, append_assoc}
 use Rattle.std.proofs.lemmas.Result.{on_ok_weaker}
 use Rattle.cps_textproto.specs.Trees.{values_of}
 use Rattle.cps_schema.specs.declared.number.Number.TheVariants.{Int32}
 use Rattle.cps_schema.specs.Sources.{written_of}
 use Rattle.cps_schema.specs.Written.{token_text}
-use Rattle.cps_schema.specs.Tables.{constraint_message, number}
+use Rattle.cps_schema.specs.Tables.{constraint_message, number, text}
 use Rattle.cps_schema.specs.Kinds.{kind_named}
-use Rattle.cps_schema.specs.Readings.{value_numbers}
-use Rattle.cps_schema.specs.Parts.{IsKindGiven}
+use Rattle.cps_schema.specs.Readings.{value_numbers, value_texts}
+use Rattle.cps_schema.specs.Parts.{IsConstraintGiven}
 use Rattle.cps_schema.proofs.Steps.{same_text, other_text, table_use, repeated_passes, repeated_stops, not_read_stops, if_passes, if_stops}
-use Rattle.cps_schema.proofs.GivenKinds.{no_constraint_field, enforcement_given, field_passes, field_stops}
+use Rattle.cps_schema.proofs.GivenKinds.{no_constraint_field, constraint_kept, name_given_first, kind_field_passes, kind_field_stops}
+use Rattle.cps_schema.proofs.Slots.{slot_passes, slot_stops}
 use Rattle.cps_schema.proofs.constraint.add_field.Goals as goal
 
 pub returns-then-eq-clause-passes : goal.returns-then-eq-clause-passes
 returns-then-eq-clause-passes c =
     let w = written_of c.args.source.now in
     let f = c.args.field.now in
-    let name : token_text w f.name ≡ codes "enforcement_literal" = grind (arith, same_text c.token_text-name.result.now c.as_slice.result.now c.eq.result) in
-    if_passes w constraint_message f (IsKindGiven c.args.parts.now.given) (IsKindGiven c.args.parts.now.given) c.add_refs.result
-    (repeated_passes w constraint_message f (number Int32) c.add_refs.result (table_use _ _ _ _ name refl) c.add_refs.ensures.fault)
-    (enforcement_given c.args.parts.now.given (token_text w f.name) name)
+    let name : token_text w f.name ≡ codes "name" = grind (arith, same_text c.token_text-name.result.now c.as_slice.result.now c.eq.result) in
+    slot_passes w constraint_message f text c.set_name.result (λ (before : List (List ℕ)). IsConstraintGiven c.args.parts.now before)
+    (λ (before : List (List ℕ)). IsConstraintGiven (record c.args.parts.now { name = c.set_name.new.slot }) before)
+    (is_some c.args.parts.now.name) (table_use _ _ _ _ name refl) c.set_name.ensures.passes
+    (λ before given. rw name given.name)
+    (on_ok_weaker c.set_name.result
+    (λ (some : is_some c.set_name.new.slot ≡ true) before given.
+    name_given_first c.args.parts.now (record c.args.parts.now { name = c.set_name.new.slot }) refl some (token_text w f.name) name before given)
+    c.set_name.ensures.some)
 
 pub returns-then-eq-clause-read : goal.returns-then-eq-clause-read
 returns-then-eq-clause-read c =
     let w = written_of c.args.source.now in
     let f = c.args.field.now in
-    let name : token_text w f.name ≡ codes "enforcement_literal" = grind (arith, same_text c.token_text-name.result.now c.as_slice.result.now c.eq.result) in
-    on_ok_weaker c.add_refs.result
-    (λ (added : c.add_refs.new.list.items ≡ c.args.parts.now.enforcement.items ++ value_numbers w (values_of f.items)) rest.
+    let name : token_text w f.name ≡ codes "name" = grind (arith, same_text c.token_text-name.result.now c.as_slice.result.now c.eq.result) in
+    on_ok_weaker c.set_name.result
+    (λ (added : option_to_list c.set_name.new.slot ≡ option_to_list c.args.parts.now.name ++ value_texts w (values_of f.items)) rest.
     simp (name, added, append_assoc))
-    c.add_refs.ensures.added
+    c.set_name.ensures.added
 
 pub returns-then-eq-clause-err : goal.returns-then-eq-clause-err
 returns-then-eq-clause-err c =
     let w = written_of c.args.source.now in
     let f = c.args.field.now in
-    let name : token_text w f.name ≡ codes "enforcement_literal" = grind (arith, same_text c.token_text-name.result.now c.as_slice.result.now c.eq.result) in
-    if_stops w constraint_message f (IsKindGiven c.args.parts.now.given) c.add_refs.result
+    let name : token_text w f.name ≡ codes "name" = grind (arith, same_text c.token_text-name.result.now c.as_slice.result.now c.eq.result) in
+    slot_stops w constraint_message f text c.set_name.result (λ (before : List (List ℕ)). IsConstraintGiven c.args.parts.now before)
+    (is_some c.args.parts.now.name) (table_use _ _ _ _ name refl) c.set_name.ensures.err (λ before given. rw name given.name)
+
+pub returns-then-eq-2-clause-passes : goal.returns-then-eq-2-clause-passes
+returns-then-eq-2-clause-passes c =
+    let w = written_of c.args.source.now in
+    let f = c.args.field.now in
+    let name : token_text w f.name ≡ codes "enforcement_literal" = grind (arith, same_text c.token_text-name.result.now c.as_slice-else-eq.result.now c.eq-else-eq.result) in
+    if_passes w constraint_message f (IsConstraintGiven c.args.parts.now) (IsConstraintGiven (record c.args.parts.now { enforcement = c.add_refs.new.list })) c.add_refs.result
+    (repeated_passes w constraint_message f (number Int32) c.add_refs.result (table_use _ _ _ _ name refl) c.add_refs.ensures.fault)
+    (constraint_kept c.args.parts.now (record c.args.parts.now { enforcement = c.add_refs.new.list }) refl refl (token_text w f.name) name)
+
+pub returns-then-eq-2-clause-read : goal.returns-then-eq-2-clause-read
+returns-then-eq-2-clause-read c =
+    let w = written_of c.args.source.now in
+    let f = c.args.field.now in
+    let name : token_text w f.name ≡ codes "enforcement_literal" = grind (arith, same_text c.token_text-name.result.now c.as_slice-else-eq.result.now c.eq-else-eq.result) in
+    on_ok_weaker c.add_refs.result
+    (λ (added : c.add_refs.new.list.items ≡ c.args.parts.now.enforcement.items ++ value_numbers w (values_of f.items)) rest.
+    simp (name, added, append_assoc))
+    c.add_refs.ensures.added
+
+pub returns-then-eq-2-clause-err : goal.returns-then-eq-2-clause-err
+returns-then-eq-2-clause-err c =
+    let w = written_of c.args.source.now in
+    let f = c.args.field.now in
+    let name : token_text w f.name ≡ codes "enforcement_literal" = grind (arith, same_text c.token_text-name.result.now c.as_slice-else-eq.result.now c.eq-else-eq.result) in
+    if_stops w constraint_message f (IsConstraintGiven c.args.parts.now) c.add_refs.result
     (repeated_stops w constraint_message f (number Int32) c.add_refs.result (table_use _ _ _ _ name refl) c.add_refs.ensures.err)
 
 pub returns-in-Some-clause-passes : goal.returns-in-Some-clause-passes
@@ -44,14 +78,14 @@ returns-in-Some-clause-passes c =
     let w = written_of c.args.source.now in
     let f = c.args.field.now in
     let named : kind_named (token_text w f.name) ≡ Some c.in-Some.kind = grind arith in
-    field_passes w f c.in-Some.kind c.set_kind.result c.args.parts.now.given c.set_kind.new.given named c.set_kind.ensures.passes c.set_kind.ensures.none c.set_kind.ensures.set
+    kind_field_passes w f c.in-Some.kind c.set_kind.result c.args.parts.now (record c.args.parts.now { given = c.set_kind.new.given }) refl named c.set_kind.ensures.passes c.set_kind.ensures.none c.set_kind.ensures.set
 
 pub returns-in-Some-clause-err : goal.returns-in-Some-clause-err
 returns-in-Some-clause-err c =
     let w = written_of c.args.source.now in
     let f = c.args.field.now in
     let named : kind_named (token_text w f.name) ≡ Some c.in-Some.kind = grind arith in
-    field_stops w f c.in-Some.kind c.set_kind.result c.args.parts.now.given named c.set_kind.ensures.err
+    kind_field_stops w f c.in-Some.kind c.set_kind.result c.args.parts.now named c.set_kind.ensures.err
 
 pub returns-in_default-clause-err : goal.returns-in_default-clause-err
 returns-in_default-clause-err c = λ before given.
@@ -61,5 +95,6 @@ returns-in_default-clause-err c = λ before given.
     let name = c.token_text-name in
     let none : kind_named text ≡ None = grind arith in
     let other = no_constraint_field text
-    (other_text name.result.now c.as_slice.result.now text (codes "enforcement_literal") c.eq.result c.eq.ensures c.if-eq.false name.ensures c.as_slice.ensures) none in
+    (other_text name.result.now c.as_slice.result.now text (codes "name") c.eq.result c.eq.ensures c.if-eq.false name.ensures c.as_slice.ensures)
+    (other_text name.result.now c.as_slice-else-eq.result.now text (codes "enforcement_literal") c.eq-else-eq.result c.eq-else-eq.ensures c.if-eq-2.false name.ensures c.as_slice-else-eq.ensures) none in
     rw c.not_read.ensures (not_read_stops w constraint_message f other before)

@@ -5,12 +5,12 @@ use Rattle.cps_schema.specs.Sources.{written_of}
 use Rattle.cps_schema.specs.Readings.{read_constraint}
 use Rattle.cps_schema.specs.Parts.{constraint_from}
 use Rattle.cps_schema.specs.Tables.{is_given}
-use Rattle.cps_schema.specs.Faults.{has_kind}
+use Rattle.cps_schema.specs.Faults.{has_kind, has_other_form}
 use Rattle.cps_schema.proofs.constraint.read_constraint.Goals as goal
 
 pub loop-field-init : goal.loop-field-init
-unfolding is_given has_kind
-loop-field-init c = (([], refl, record { name_given = λ name. refl; kind_given = refl }), rw c.new.ensures.items refl)
+unfolding is_given has_kind has_other_form
+loop-field-init c = (([], refl, record { name = refl; kind = record { name_given = λ name. refl; kind_given = refl } }), rw c.new.ensures.items refl)
 
 pub returns-in_err-add_field-clause-err : goal.returns-in_err-add_field-clause-err
 returns-in_err-add_field-clause-err c =

@@ -4,13 +4,13 @@ use Rattle.cps_schema.specs.Sources.{written_of}
 use Rattle.cps_schema.specs.Tables.{constraint_message}
 use Rattle.cps_schema.specs.Faults.{fields_fault}
 use Rattle.cps_schema.specs.Readings.{read_constraint}
-use Rattle.cps_schema.specs.Parts.{constraint_from, IsKindGiven}
+use Rattle.cps_schema.specs.Parts.{constraint_from, IsConstraintGiven}
 use Rattle.cps_schema.proofs.constraint.read_constraint.Given as goal
 
 abbrev pub invariant-loop-field : goal.invariant-loop-field
 invariant-loop-field l =
     ((before : List (List ℕ)) × (fields_fault (written_of l.source) constraint_message [] (field_list l.field-items)
     ≡ fields_fault (written_of l.source) constraint_message before (field_list (drop l.field-index l.field-items)))
-    × IsKindGiven l.parts.given before)
+    × IsConstraintGiven l.parts before)
     × (read_constraint (written_of l.source) (field_list l.field-items)
     ≡ constraint_from (written_of l.source) l.parts (field_list (drop l.field-index l.field-items)))

@@ -1,92 +1,206 @@
-use Rattle.std.proofs.Common.{◌≡◌, ◌++◌, map, codes, refl, arith, append_assoc}
+use Rattle.std.specs.Option.{option_to_list}
+use Rattle.std.proofs.Common.{◌≡◌, ◌++◌, List, ℕ, ◌∷◌, map, codes, Some, None, true, false, is_some, refl, arith, append_assoc}
 use Rattle.std.proofs.lemmas.List.{map-append}
 use Rattle.std.proofs.lemmas.Result.{on_ok_weaker}
 use Rattle.cps_textproto.specs.Trees.{values_of}
+use Rattle.cps_schema.specs.declared.number.Number.TheVariants.{Int32, Int64}
 use Rattle.cps_schema.specs.Sources.{written_of}
 use Rattle.cps_schema.specs.Written.{token_text}
-use Rattle.cps_schema.specs.Tables.{model_message, variable_message, constraint_message, message}
-use Rattle.cps_schema.specs.Readings.{value_messages, read_variable, read_constraint}
-use Rattle.cps_schema.specs.Parts.{IsObjectiveGiven}
+use Rattle.cps_schema.specs.declared.model.ModelParts.{ModelParts}
+use Rattle.cps_schema.specs.Tables.{model_message, variable_message, constraint_message, objective_message, strategy_message, hint_message, text, message}
+use Rattle.cps_schema.specs.Readings.{value_texts, value_messages, read_variable, read_constraint, read_objective, read_strategy, read_hint}
+use Rattle.cps_schema.specs.Parts.{model_slots}
 use Rattle.cps_schema.proofs.Steps.{same_text, other_text, table_use, repeated_passes, repeated_stops, not_read_stops, if_passes, if_stops}
-use Rattle.cps_schema.proofs.ModelFields.{no_model_field, part_given, objective_passes, objective_stops}
+use Rattle.cps_schema.specs.Slots.{AreGiven}
+use Rattle.cps_schema.proofs.Slots.{given_after, slot_passes, slot_stops}
+use Rattle.cps_schema.proofs.ModelFields.{no_model_field}
 use Rattle.cps_schema.proofs.model.add_field.Goals as goal
 
 pub returns-then-eq-clause-passes : goal.returns-then-eq-clause-passes
 returns-then-eq-clause-passes c =
     let w = written_of c.args.source.now in
     let f = c.args.field.now in
-    let name : token_text w f.name ≡ codes "variables" = grind (arith, same_text c.token_text-name.result.now c.as_slice.result.now c.eq.result) in
-    if_passes w model_message f (IsObjectiveGiven c.args.parts.now.objective) (IsObjectiveGiven c.args.parts.now.objective) c.add_variables.result
-    (repeated_passes w model_message f (message variable_message) c.add_variables.result (table_use _ _ _ _ name refl) c.add_variables.ensures.fault)
-    (part_given c.args.parts.now.objective (token_text w f.name) (codes "variables") name refl)
+    let name : token_text w f.name ≡ codes "name" = grind (arith, same_text c.token_text-name.result.now c.as_slice.result.now c.eq.result) in
+    slot_passes w model_message f (text) c.set_name.result (λ (before : List (List ℕ)). AreGiven (model_slots c.args.parts.now) before) (λ (before : List (List ℕ)). AreGiven (model_slots (record c.args.parts.now { name = c.set_name.new.slot })) before)
+    (is_some c.args.parts.now.name) (table_use _ _ _ _ name refl) c.set_name.ensures.passes
+    (λ before given. rw name given.0)
+    (on_ok_weaker c.set_name.result
+    (λ (some : is_some c.set_name.new.slot ≡ true) before given.
+    rw some (given_after (token_text w f.name) (codes "name") (model_slots c.args.parts.now) before name given))
+    c.set_name.ensures.some)
 
 pub returns-then-eq-clause-read : goal.returns-then-eq-clause-read
 returns-then-eq-clause-read c =
     let w = written_of c.args.source.now in
     let f = c.args.field.now in
-    let name : token_text w f.name ≡ codes "variables" = grind (arith, same_text c.token_text-name.result.now c.as_slice.result.now c.eq.result) in
-    on_ok_weaker c.add_variables.result
-    (λ (added : c.add_variables.new.variables.items ≡ c.args.parts.now.variables.items ++ map (read_variable w) (value_messages (values_of f.items))) rest.
-    simp (name, added, map-append, append_assoc))
-    c.add_variables.ensures.added
+    let name : token_text w f.name ≡ codes "name" = grind (arith, same_text c.token_text-name.result.now c.as_slice.result.now c.eq.result) in
+    on_ok_weaker c.set_name.result
+    (λ (added : option_to_list c.set_name.new.slot ≡ option_to_list c.args.parts.now.name ++ value_texts w (values_of f.items)) rest.
+    simp (name, added, append_assoc))
+    c.set_name.ensures.added
 
 pub returns-then-eq-clause-err : goal.returns-then-eq-clause-err
 returns-then-eq-clause-err c =
     let w = written_of c.args.source.now in
     let f = c.args.field.now in
-    let name : token_text w f.name ≡ codes "variables" = grind (arith, same_text c.token_text-name.result.now c.as_slice.result.now c.eq.result) in
-    if_stops w model_message f (IsObjectiveGiven c.args.parts.now.objective) c.add_variables.result
-    (repeated_stops w model_message f (message variable_message) c.add_variables.result (table_use _ _ _ _ name refl) c.add_variables.ensures.err)
+    let name : token_text w f.name ≡ codes "name" = grind (arith, same_text c.token_text-name.result.now c.as_slice.result.now c.eq.result) in
+    slot_stops w model_message f (text) c.set_name.result (λ (before : List (List ℕ)). AreGiven (model_slots c.args.parts.now) before)
+    (is_some c.args.parts.now.name) (table_use _ _ _ _ name refl) c.set_name.ensures.err (λ before given. rw name given.0)
 
 pub returns-then-eq-2-clause-passes : goal.returns-then-eq-2-clause-passes
 returns-then-eq-2-clause-passes c =
     let w = written_of c.args.source.now in
     let f = c.args.field.now in
-    let name : token_text w f.name ≡ codes "constraints" = grind (arith, same_text c.token_text-name.result.now c.as_slice-else-eq.result.now c.eq-else-eq.result) in
-    if_passes w model_message f (IsObjectiveGiven c.args.parts.now.objective) (IsObjectiveGiven c.args.parts.now.objective) c.add_constraints.result
-    (repeated_passes w model_message f (message constraint_message) c.add_constraints.result (table_use _ _ _ _ name refl) c.add_constraints.ensures.fault)
-    (part_given c.args.parts.now.objective (token_text w f.name) (codes "constraints") name refl)
+    let name : token_text w f.name ≡ codes "variables" = grind (arith, same_text c.token_text-name.result.now c.as_slice-else-eq.result.now c.eq-else-eq.result) in
+    if_passes w model_message f (λ (before : List (List ℕ)). AreGiven (model_slots c.args.parts.now) before) (λ (before : List (List ℕ)). AreGiven (model_slots c.args.parts.now) before) c.add_variables.result
+    (repeated_passes w model_message f (message variable_message) c.add_variables.result (table_use _ _ _ _ name refl) c.add_variables.ensures.fault)
+    (λ before given. given_after (token_text w f.name) (codes "variables") (model_slots c.args.parts.now) before name given)
 
 pub returns-then-eq-2-clause-read : goal.returns-then-eq-2-clause-read
 returns-then-eq-2-clause-read c =
     let w = written_of c.args.source.now in
     let f = c.args.field.now in
-    let name : token_text w f.name ≡ codes "constraints" = grind (arith, same_text c.token_text-name.result.now c.as_slice-else-eq.result.now c.eq-else-eq.result) in
-    on_ok_weaker c.add_constraints.result
-    (λ (added : c.add_constraints.new.constraints.items ≡ c.args.parts.now.constraints.items ++ map (read_constraint w) (value_messages (values_of f.items))) rest.
+    let name : token_text w f.name ≡ codes "variables" = grind (arith, same_text c.token_text-name.result.now c.as_slice-else-eq.result.now c.eq-else-eq.result) in
+    on_ok_weaker c.add_variables.result
+    (λ (added : c.add_variables.new.variables.items ≡ c.args.parts.now.variables.items ++ map (read_variable w) (value_messages (values_of f.items))) rest.
     simp (name, added, map-append, append_assoc))
-    c.add_constraints.ensures.added
+    c.add_variables.ensures.added
 
 pub returns-then-eq-2-clause-err : goal.returns-then-eq-2-clause-err
 returns-then-eq-2-clause-err c =
     let w = written_of c.args.source.now in
     let f = c.args.field.now in
-    let name : token_text w f.name ≡ codes "constraints" = grind (arith, same_text c.token_text-name.result.now c.as_slice-else-eq.result.now c.eq-else-eq.result) in
-    if_stops w model_message f (IsObjectiveGiven c.args.parts.now.objective) c.add_constraints.result
-    (repeated_stops w model_message f (message constraint_message) c.add_constraints.result (table_use _ _ _ _ name refl) c.add_constraints.ensures.err)
+    let name : token_text w f.name ≡ codes "variables" = grind (arith, same_text c.token_text-name.result.now c.as_slice-else-eq.result.now c.eq-else-eq.result) in
+    if_stops w model_message f (λ (before : List (List ℕ)). AreGiven (model_slots c.args.parts.now) before) c.add_variables.result
+    (repeated_stops w model_message f (message variable_message) c.add_variables.result (table_use _ _ _ _ name refl) c.add_variables.ensures.err)
 
 pub returns-then-eq-3-clause-passes : goal.returns-then-eq-3-clause-passes
 returns-then-eq-3-clause-passes c =
     let w = written_of c.args.source.now in
     let f = c.args.field.now in
-    let name : token_text w f.name ≡ codes "objective" = grind (arith, same_text c.token_text-name.result.now c.as_slice-else-eq-2.result.now c.eq-else-eq-2.result) in
-    objective_passes w f c.set_objective.result c.args.parts.now.objective c.set_objective.new.objective name c.set_objective.ensures.passes c.set_objective.ensures.some
+    let name : token_text w f.name ≡ codes "constraints" = grind (arith, same_text c.token_text-name.result.now c.as_slice-else-eq-2.result.now c.eq-else-eq-2.result) in
+    if_passes w model_message f (λ (before : List (List ℕ)). AreGiven (model_slots c.args.parts.now) before) (λ (before : List (List ℕ)). AreGiven (model_slots c.args.parts.now) before) c.add_constraints.result
+    (repeated_passes w model_message f (message constraint_message) c.add_constraints.result (table_use _ _ _ _ name refl) c.add_constraints.ensures.fault)
+    (λ before given. given_after (token_text w f.name) (codes "constraints") (model_slots c.args.parts.now) before name given)
+
+pub returns-then-eq-3-clause-read : goal.returns-then-eq-3-clause-read
+returns-then-eq-3-clause-read c =
+    let w = written_of c.args.source.now in
+    let f = c.args.field.now in
+    let name : token_text w f.name ≡ codes "constraints" = grind (arith, same_text c.token_text-name.result.now c.as_slice-else-eq-2.result.now c.eq-else-eq-2.result) in
+    on_ok_weaker c.add_constraints.result
+    (λ (added : c.add_constraints.new.constraints.items ≡ c.args.parts.now.constraints.items ++ map (read_constraint w) (value_messages (values_of f.items))) rest.
+    simp (name, added, map-append, append_assoc))
+    c.add_constraints.ensures.added
 
 pub returns-then-eq-3-clause-err : goal.returns-then-eq-3-clause-err
 returns-then-eq-3-clause-err c =
     let w = written_of c.args.source.now in
     let f = c.args.field.now in
-    let name : token_text w f.name ≡ codes "objective" = grind (arith, same_text c.token_text-name.result.now c.as_slice-else-eq-2.result.now c.eq-else-eq-2.result) in
-    objective_stops w f c.set_objective.result c.args.parts.now.objective name c.set_objective.ensures.err
+    let name : token_text w f.name ≡ codes "constraints" = grind (arith, same_text c.token_text-name.result.now c.as_slice-else-eq-2.result.now c.eq-else-eq-2.result) in
+    if_stops w model_message f (λ (before : List (List ℕ)). AreGiven (model_slots c.args.parts.now) before) c.add_constraints.result
+    (repeated_stops w model_message f (message constraint_message) c.add_constraints.result (table_use _ _ _ _ name refl) c.add_constraints.ensures.err)
 
-pub returns-else-eq-3-clause-err : goal.returns-else-eq-3-clause-err
-returns-else-eq-3-clause-err c = λ before given.
+pub returns-then-eq-4-clause-passes : goal.returns-then-eq-4-clause-passes
+returns-then-eq-4-clause-passes c =
+    let w = written_of c.args.source.now in
+    let f = c.args.field.now in
+    let name : token_text w f.name ≡ codes "objective" = grind (arith, same_text c.token_text-name.result.now c.as_slice-else-eq-3.result.now c.eq-else-eq-3.result) in
+    slot_passes w model_message f (message objective_message) c.set_objective.result (λ (before : List (List ℕ)). AreGiven (model_slots c.args.parts.now) before) (λ (before : List (List ℕ)). AreGiven (model_slots (record c.args.parts.now { objective = c.set_objective.new.objective })) before)
+    (is_some c.args.parts.now.objective) (table_use _ _ _ _ name refl) c.set_objective.ensures.passes
+    (λ before given. rw name given.1.0)
+    (on_ok_weaker c.set_objective.result
+    (λ (some : is_some c.set_objective.new.objective ≡ true) before given.
+    rw some (given_after (token_text w f.name) (codes "objective") (model_slots c.args.parts.now) before name given))
+    c.set_objective.ensures.some)
+
+pub returns-then-eq-4-clause-read : goal.returns-then-eq-4-clause-read
+returns-then-eq-4-clause-read c =
+    let w = written_of c.args.source.now in
+    let f = c.args.field.now in
+    let name : token_text w f.name ≡ codes "objective" = grind (arith, same_text c.token_text-name.result.now c.as_slice-else-eq-3.result.now c.eq-else-eq-3.result) in
+    on_ok_weaker c.set_objective.result
+    (λ (added : option_to_list c.set_objective.new.objective ≡ option_to_list c.args.parts.now.objective ++ map (read_objective w) (value_messages (values_of f.items))) rest.
+    simp (name, added, map-append, append_assoc))
+    c.set_objective.ensures.added
+
+pub returns-then-eq-4-clause-err : goal.returns-then-eq-4-clause-err
+returns-then-eq-4-clause-err c =
+    let w = written_of c.args.source.now in
+    let f = c.args.field.now in
+    let name : token_text w f.name ≡ codes "objective" = grind (arith, same_text c.token_text-name.result.now c.as_slice-else-eq-3.result.now c.eq-else-eq-3.result) in
+    slot_stops w model_message f (message objective_message) c.set_objective.result (λ (before : List (List ℕ)). AreGiven (model_slots c.args.parts.now) before)
+    (is_some c.args.parts.now.objective) (table_use _ _ _ _ name refl) c.set_objective.ensures.err (λ before given. rw name given.1.0)
+
+pub returns-then-eq-5-clause-passes : goal.returns-then-eq-5-clause-passes
+returns-then-eq-5-clause-passes c =
+    let w = written_of c.args.source.now in
+    let f = c.args.field.now in
+    let name : token_text w f.name ≡ codes "search_strategy" = grind (arith, same_text c.token_text-name.result.now c.as_slice-else-eq-4.result.now c.eq-else-eq-4.result) in
+    if_passes w model_message f (λ (before : List (List ℕ)). AreGiven (model_slots c.args.parts.now) before) (λ (before : List (List ℕ)). AreGiven (model_slots c.args.parts.now) before) c.add_strategies.result
+    (repeated_passes w model_message f (message strategy_message) c.add_strategies.result (table_use _ _ _ _ name refl) c.add_strategies.ensures.fault)
+    (λ before given. given_after (token_text w f.name) (codes "search_strategy") (model_slots c.args.parts.now) before name given)
+
+pub returns-then-eq-5-clause-read : goal.returns-then-eq-5-clause-read
+returns-then-eq-5-clause-read c =
+    let w = written_of c.args.source.now in
+    let f = c.args.field.now in
+    let name : token_text w f.name ≡ codes "search_strategy" = grind (arith, same_text c.token_text-name.result.now c.as_slice-else-eq-4.result.now c.eq-else-eq-4.result) in
+    on_ok_weaker c.add_strategies.result
+    (λ (added : c.add_strategies.new.strategies.items ≡ c.args.parts.now.strategies.items ++ map (read_strategy w) (value_messages (values_of f.items))) rest.
+    simp (name, added, map-append, append_assoc))
+    c.add_strategies.ensures.added
+
+pub returns-then-eq-5-clause-err : goal.returns-then-eq-5-clause-err
+returns-then-eq-5-clause-err c =
+    let w = written_of c.args.source.now in
+    let f = c.args.field.now in
+    let name : token_text w f.name ≡ codes "search_strategy" = grind (arith, same_text c.token_text-name.result.now c.as_slice-else-eq-4.result.now c.eq-else-eq-4.result) in
+    if_stops w model_message f (λ (before : List (List ℕ)). AreGiven (model_slots c.args.parts.now) before) c.add_strategies.result
+    (repeated_stops w model_message f (message strategy_message) c.add_strategies.result (table_use _ _ _ _ name refl) c.add_strategies.ensures.err)
+
+pub returns-then-eq-6-clause-passes : goal.returns-then-eq-6-clause-passes
+returns-then-eq-6-clause-passes c =
+    let w = written_of c.args.source.now in
+    let f = c.args.field.now in
+    let name : token_text w f.name ≡ codes "solution_hint" = grind (arith, same_text c.token_text-name.result.now c.as_slice-else-eq-5.result.now c.eq-else-eq-5.result) in
+    slot_passes w model_message f (message hint_message) c.set_hint.result (λ (before : List (List ℕ)). AreGiven (model_slots c.args.parts.now) before) (λ (before : List (List ℕ)). AreGiven (model_slots (record c.args.parts.now { hint = c.set_hint.new.hint })) before)
+    (is_some c.args.parts.now.hint) (table_use _ _ _ _ name refl) c.set_hint.ensures.passes
+    (λ before given. rw name given.1.1.0)
+    (on_ok_weaker c.set_hint.result
+    (λ (some : is_some c.set_hint.new.hint ≡ true) before given.
+    rw some (given_after (token_text w f.name) (codes "solution_hint") (model_slots c.args.parts.now) before name given))
+    c.set_hint.ensures.some)
+
+pub returns-then-eq-6-clause-read : goal.returns-then-eq-6-clause-read
+returns-then-eq-6-clause-read c =
+    let w = written_of c.args.source.now in
+    let f = c.args.field.now in
+    let name : token_text w f.name ≡ codes "solution_hint" = grind (arith, same_text c.token_text-name.result.now c.as_slice-else-eq-5.result.now c.eq-else-eq-5.result) in
+    on_ok_weaker c.set_hint.result
+    (λ (added : option_to_list c.set_hint.new.hint ≡ option_to_list c.args.parts.now.hint ++ map (read_hint w) (value_messages (values_of f.items))) rest.
+    simp (name, added, map-append, append_assoc))
+    c.set_hint.ensures.added
+
+pub returns-then-eq-6-clause-err : goal.returns-then-eq-6-clause-err
+returns-then-eq-6-clause-err c =
+    let w = written_of c.args.source.now in
+    let f = c.args.field.now in
+    let name : token_text w f.name ≡ codes "solution_hint" = grind (arith, same_text c.token_text-name.result.now c.as_slice-else-eq-5.result.now c.eq-else-eq-5.result) in
+    slot_stops w model_message f (message hint_message) c.set_hint.result (λ (before : List (List ℕ)). AreGiven (model_slots c.args.parts.now) before)
+    (is_some c.args.parts.now.hint) (table_use _ _ _ _ name refl) c.set_hint.ensures.err (λ before given. rw name given.1.1.0)
+
+pub returns-else-eq-6-clause-err : goal.returns-else-eq-6-clause-err
+returns-else-eq-6-clause-err c = λ before given.
     let w = written_of c.args.source.now in
     let f = c.args.field.now in
     let text = token_text w f.name in
     let name = c.token_text-name in
     let other = no_model_field text
-    (other_text name.result.now c.as_slice.result.now text (codes "variables") c.eq.result c.eq.ensures c.if-eq.false name.ensures c.as_slice.ensures)
-    (other_text name.result.now c.as_slice-else-eq.result.now text (codes "constraints") c.eq-else-eq.result c.eq-else-eq.ensures c.if-eq-2.false name.ensures c.as_slice-else-eq.ensures)
-    (other_text name.result.now c.as_slice-else-eq-2.result.now text (codes "objective") c.eq-else-eq-2.result c.eq-else-eq-2.ensures c.if-eq-3.false name.ensures c.as_slice-else-eq-2.ensures) in
+    (other_text name.result.now c.as_slice.result.now text (codes "name") c.eq.result c.eq.ensures c.if-eq.false name.ensures c.as_slice.ensures)
+    (other_text name.result.now c.as_slice-else-eq.result.now text (codes "variables") c.eq-else-eq.result c.eq-else-eq.ensures c.if-eq-2.false name.ensures c.as_slice-else-eq.ensures)
+    (other_text name.result.now c.as_slice-else-eq-2.result.now text (codes "constraints") c.eq-else-eq-2.result c.eq-else-eq-2.ensures c.if-eq-3.false name.ensures c.as_slice-else-eq-2.ensures)
+    (other_text name.result.now c.as_slice-else-eq-3.result.now text (codes "objective") c.eq-else-eq-3.result c.eq-else-eq-3.ensures c.if-eq-4.false name.ensures c.as_slice-else-eq-3.ensures)
+    (other_text name.result.now c.as_slice-else-eq-4.result.now text (codes "search_strategy") c.eq-else-eq-4.result c.eq-else-eq-4.ensures c.if-eq-5.false name.ensures c.as_slice-else-eq-4.ensures)
+    (other_text name.result.now c.as_slice-else-eq-5.result.now text (codes "solution_hint") c.eq-else-eq-5.result c.eq-else-eq-5.ensures c.if-eq-6.false name.ensures c.as_slice-else-eq-5.ensures) in
     rw c.not_read.ensures (not_read_stops w model_message f other before)

@@ -5,11 +5,12 @@ use Rattle.cps_schema.specs.Sources.{written_of}
 use Rattle.cps_schema.specs.Readings.{read_model}
 use Rattle.cps_schema.specs.Parts.{model_from}
 use Rattle.cps_schema.specs.Tables.{is_given}
+use Rattle.cps_schema.specs.Faults.{has_kind, has_other_form}
 use Rattle.cps_schema.proofs.model.read_model.Goals as goal
 
 pub loop-field-init : goal.loop-field-init
-unfolding is_given
-loop-field-init c = (([], refl, record { objective_given = refl }), rw (c.new.ensures.items, c.new-2.ensures.items) refl)
+unfolding is_given has_kind has_other_form
+loop-field-init c = (([], refl, (refl, (refl, (refl, tt)))), rw (c.new.ensures.items, c.new-2.ensures.items, c.new-3.ensures.items) refl)
 
 pub returns-in_err-add_field-clause-err : goal.returns-in_err-add_field-clause-err
 returns-in_err-add_field-clause-err c =

@@ -1,25 +1,79 @@
-use Rattle.std.proofs.Common.{◌≡◌, codes, None, refl, arith}
+use Rattle.std.specs.Option.{option_to_list}
+use Rattle.std.proofs.Common.{◌≡◌, ◌++◌, List, ℕ, codes, None, true, is_some, refl, arith, append_assoc}
+use Rattle.std.proofs.lemmas.Result.{on_ok_weaker}
+use Rattle.cps_textproto.specs.Trees.{values_of}
 use Rattle.cps_schema.specs.declared.number.Number.TheVariants.{Int64}
 use Rattle.cps_schema.specs.Sources.{written_of}
 use Rattle.cps_schema.specs.Written.{token_text}
-use Rattle.cps_schema.specs.Tables.{variable_message, number, use_in, table_of}
-use Rattle.cps_schema.proofs.Steps.{same_text, table_use, repeated_passes, repeated_stops, not_read_stops}
+use Rattle.cps_schema.specs.Tables.{variable_message, number, text, use_in, table_of}
+use Rattle.cps_schema.specs.Readings.{value_numbers, value_texts}
+use Rattle.cps_schema.specs.Parts.{variable_slots}
+use Rattle.cps_schema.proofs.Steps.{same_text, table_use, repeated_passes, repeated_stops, not_read_stops, if_passes, if_stops}
+use Rattle.cps_schema.specs.Slots.{AreGiven}
+use Rattle.cps_schema.proofs.Slots.{given_after, slot_passes, slot_stops}
 use Rattle.cps_schema.proofs.variable.add_field.Goals as goal
 
 pub returns-then-eq-clause-passes : goal.returns-then-eq-clause-passes
 returns-then-eq-clause-passes c =
     let w = written_of c.args.source.now in
-    let name : token_text w c.args.field.now.name ≡ codes "domain" = grind (arith, same_text c.token_text.result.now c.as_slice.result.now c.eq.result) in
-    repeated_passes w variable_message c.args.field.now (number Int64) c.add_ints.result (table_use _ _ _ _ name refl) c.add_ints.ensures.fault
+    let f = c.args.field.now in
+    let name : token_text w f.name ≡ codes "name" = grind (arith, same_text c.token_text-name.result.now c.as_slice.result.now c.eq.result) in
+    slot_passes w variable_message f (text) c.set_name.result (λ (before : List (List ℕ)). AreGiven (variable_slots c.args.parts.now) before) (λ (before : List (List ℕ)). AreGiven (variable_slots (record c.args.parts.now { name = c.set_name.new.slot })) before)
+    (is_some c.args.parts.now.name) (table_use _ _ _ _ name refl) c.set_name.ensures.passes
+    (λ before given. rw name given.0)
+    (on_ok_weaker c.set_name.result
+    (λ (some : is_some c.set_name.new.slot ≡ true) before given.
+    rw some (given_after (token_text w f.name) (codes "name") (variable_slots c.args.parts.now) before name given))
+    c.set_name.ensures.some)
+
+pub returns-then-eq-clause-read : goal.returns-then-eq-clause-read
+returns-then-eq-clause-read c =
+    let w = written_of c.args.source.now in
+    let f = c.args.field.now in
+    let name : token_text w f.name ≡ codes "name" = grind (arith, same_text c.token_text-name.result.now c.as_slice.result.now c.eq.result) in
+    on_ok_weaker c.set_name.result
+    (λ (added : option_to_list c.set_name.new.slot ≡ option_to_list c.args.parts.now.name ++ value_texts w (values_of f.items)) rest.
+    simp (name, added, append_assoc))
+    c.set_name.ensures.added
 
 pub returns-then-eq-clause-err : goal.returns-then-eq-clause-err
 returns-then-eq-clause-err c =
     let w = written_of c.args.source.now in
-    let name : token_text w c.args.field.now.name ≡ codes "domain" = grind (arith, same_text c.token_text.result.now c.as_slice.result.now c.eq.result) in
-    repeated_stops w variable_message c.args.field.now (number Int64) c.add_ints.result (table_use _ _ _ _ name refl) c.add_ints.ensures.err
+    let f = c.args.field.now in
+    let name : token_text w f.name ≡ codes "name" = grind (arith, same_text c.token_text-name.result.now c.as_slice.result.now c.eq.result) in
+    slot_stops w variable_message f (text) c.set_name.result (λ (before : List (List ℕ)). AreGiven (variable_slots c.args.parts.now) before)
+    (is_some c.args.parts.now.name) (table_use _ _ _ _ name refl) c.set_name.ensures.err (λ before given. rw name given.0)
 
-pub returns-else-eq-clause-err : goal.returns-else-eq-clause-err
-returns-else-eq-clause-err c =
+pub returns-then-eq-2-clause-passes : goal.returns-then-eq-2-clause-passes
+returns-then-eq-2-clause-passes c =
     let w = written_of c.args.source.now in
-    let other : use_in (table_of variable_message) (token_text w c.args.field.now.name) ≡ None = grind (arith) in
-    rw c.not_read.ensures (not_read_stops w variable_message c.args.field.now other)
+    let f = c.args.field.now in
+    let name : token_text w f.name ≡ codes "domain" = grind (arith, same_text c.token_text-name.result.now c.as_slice-else-eq.result.now c.eq-else-eq.result) in
+    if_passes w variable_message f (λ (before : List (List ℕ)). AreGiven (variable_slots c.args.parts.now) before) (λ (before : List (List ℕ)). AreGiven (variable_slots c.args.parts.now) before) c.add_ints.result
+    (repeated_passes w variable_message f (number Int64) c.add_ints.result (table_use _ _ _ _ name refl) c.add_ints.ensures.fault)
+    (λ before given. given_after (token_text w f.name) (codes "domain") (variable_slots c.args.parts.now) before name given)
+
+pub returns-then-eq-2-clause-read : goal.returns-then-eq-2-clause-read
+returns-then-eq-2-clause-read c =
+    let w = written_of c.args.source.now in
+    let f = c.args.field.now in
+    let name : token_text w f.name ≡ codes "domain" = grind (arith, same_text c.token_text-name.result.now c.as_slice-else-eq.result.now c.eq-else-eq.result) in
+    on_ok_weaker c.add_ints.result
+    (λ (added : c.add_ints.new.list.items ≡ c.args.parts.now.domain.items ++ value_numbers w (values_of f.items)) rest.
+    simp (name, added, append_assoc))
+    c.add_ints.ensures.added
+
+pub returns-then-eq-2-clause-err : goal.returns-then-eq-2-clause-err
+returns-then-eq-2-clause-err c =
+    let w = written_of c.args.source.now in
+    let f = c.args.field.now in
+    let name : token_text w f.name ≡ codes "domain" = grind (arith, same_text c.token_text-name.result.now c.as_slice-else-eq.result.now c.eq-else-eq.result) in
+    if_stops w variable_message f (λ (before : List (List ℕ)). AreGiven (variable_slots c.args.parts.now) before) c.add_ints.result
+    (repeated_stops w variable_message f (number Int64) c.add_ints.result (table_use _ _ _ _ name refl) c.add_ints.ensures.err)
+
+pub returns-else-eq-2-clause-err : goal.returns-else-eq-2-clause-err
+returns-else-eq-2-clause-err c = λ before given.
+    let w = written_of c.args.source.now in
+    let f = c.args.field.now in
+    let other : use_in (table_of variable_message) (token_text w f.name) ≡ None = grind (arith) in
+    rw c.not_read.ensures (not_read_stops w variable_message f other before)

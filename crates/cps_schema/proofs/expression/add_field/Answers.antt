@@ -1,0 +1,106 @@
+use Rattle.std.specs.Option.{option_to_list}
+use Rattle.std.proofs.Common.{◌≡◌, ◌++◌, List, ℕ, codes, None, true, is_some, refl, arith, append_assoc}
+use Rattle.std.proofs.lemmas.Result.{on_ok_weaker}
+use Rattle.cps_textproto.specs.Trees.{values_of}
+use Rattle.cps_schema.specs.declared.number.Number.TheVariants.{Int32, Int64}
+use Rattle.cps_schema.specs.Sources.{written_of}
+use Rattle.cps_schema.specs.Written.{token_text}
+use Rattle.cps_schema.specs.Tables.{expression_message, number, use_in, table_of}
+use Rattle.cps_schema.specs.Readings.{value_numbers}
+use Rattle.cps_schema.specs.Parts.{expression_slots}
+use Rattle.cps_schema.proofs.Steps.{same_text, table_use, repeated_passes, repeated_stops, not_read_stops, if_passes, if_stops}
+use Rattle.cps_schema.specs.Slots.{AreGiven}
+use Rattle.cps_schema.proofs.Slots.{given_after, slot_passes, slot_stops}
+use Rattle.cps_schema.proofs.expression.add_field.Goals as goal
+
+pub returns-then-eq-clause-passes : goal.returns-then-eq-clause-passes
+returns-then-eq-clause-passes c =
+    let w = written_of c.args.source.now in
+    let f = c.args.field.now in
+    let name : token_text w f.name ≡ codes "vars" = grind (arith, same_text c.token_text-name.result.now c.as_slice.result.now c.eq.result) in
+    if_passes w expression_message f (λ (before : List (List ℕ)). AreGiven (expression_slots c.args.parts.now) before) (λ (before : List (List ℕ)). AreGiven (expression_slots c.args.parts.now) before) c.add_refs.result
+    (repeated_passes w expression_message f (number Int32) c.add_refs.result (table_use _ _ _ _ name refl) c.add_refs.ensures.fault)
+    (λ before given. given_after (token_text w f.name) (codes "vars") (expression_slots c.args.parts.now) before name given)
+
+pub returns-then-eq-clause-read : goal.returns-then-eq-clause-read
+returns-then-eq-clause-read c =
+    let w = written_of c.args.source.now in
+    let f = c.args.field.now in
+    let name : token_text w f.name ≡ codes "vars" = grind (arith, same_text c.token_text-name.result.now c.as_slice.result.now c.eq.result) in
+    on_ok_weaker c.add_refs.result
+    (λ (added : c.add_refs.new.list.items ≡ c.args.parts.now.vars.items ++ value_numbers w (values_of f.items)) rest.
+    simp (name, added, append_assoc))
+    c.add_refs.ensures.added
+
+pub returns-then-eq-clause-err : goal.returns-then-eq-clause-err
+returns-then-eq-clause-err c =
+    let w = written_of c.args.source.now in
+    let f = c.args.field.now in
+    let name : token_text w f.name ≡ codes "vars" = grind (arith, same_text c.token_text-name.result.now c.as_slice.result.now c.eq.result) in
+    if_stops w expression_message f (λ (before : List (List ℕ)). AreGiven (expression_slots c.args.parts.now) before) c.add_refs.result
+    (repeated_stops w expression_message f (number Int32) c.add_refs.result (table_use _ _ _ _ name refl) c.add_refs.ensures.err)
+
+pub returns-then-eq-2-clause-passes : goal.returns-then-eq-2-clause-passes
+returns-then-eq-2-clause-passes c =
+    let w = written_of c.args.source.now in
+    let f = c.args.field.now in
+    let name : token_text w f.name ≡ codes "coeffs" = grind (arith, same_text c.token_text-name.result.now c.as_slice-else-eq.result.now c.eq-else-eq.result) in
+    if_passes w expression_message f (λ (before : List (List ℕ)). AreGiven (expression_slots c.args.parts.now) before) (λ (before : List (List ℕ)). AreGiven (expression_slots c.args.parts.now) before) c.add_ints.result
+    (repeated_passes w expression_message f (number Int64) c.add_ints.result (table_use _ _ _ _ name refl) c.add_ints.ensures.fault)
+    (λ before given. given_after (token_text w f.name) (codes "coeffs") (expression_slots c.args.parts.now) before name given)
+
+pub returns-then-eq-2-clause-read : goal.returns-then-eq-2-clause-read
+returns-then-eq-2-clause-read c =
+    let w = written_of c.args.source.now in
+    let f = c.args.field.now in
+    let name : token_text w f.name ≡ codes "coeffs" = grind (arith, same_text c.token_text-name.result.now c.as_slice-else-eq.result.now c.eq-else-eq.result) in
+    on_ok_weaker c.add_ints.result
+    (λ (added : c.add_ints.new.list.items ≡ c.args.parts.now.coeffs.items ++ value_numbers w (values_of f.items)) rest.
+    simp (name, added, append_assoc))
+    c.add_ints.ensures.added
+
+pub returns-then-eq-2-clause-err : goal.returns-then-eq-2-clause-err
+returns-then-eq-2-clause-err c =
+    let w = written_of c.args.source.now in
+    let f = c.args.field.now in
+    let name : token_text w f.name ≡ codes "coeffs" = grind (arith, same_text c.token_text-name.result.now c.as_slice-else-eq.result.now c.eq-else-eq.result) in
+    if_stops w expression_message f (λ (before : List (List ℕ)). AreGiven (expression_slots c.args.parts.now) before) c.add_ints.result
+    (repeated_stops w expression_message f (number Int64) c.add_ints.result (table_use _ _ _ _ name refl) c.add_ints.ensures.err)
+
+pub returns-then-eq-3-clause-passes : goal.returns-then-eq-3-clause-passes
+returns-then-eq-3-clause-passes c =
+    let w = written_of c.args.source.now in
+    let f = c.args.field.now in
+    let name : token_text w f.name ≡ codes "offset" = grind (arith, same_text c.token_text-name.result.now c.as_slice-else-eq-2.result.now c.eq-else-eq-2.result) in
+    slot_passes w expression_message f (number Int64) c.set_number.result (λ (before : List (List ℕ)). AreGiven (expression_slots c.args.parts.now) before) (λ (before : List (List ℕ)). AreGiven (expression_slots (record c.args.parts.now { offset = c.set_number.new.slot })) before)
+    (is_some c.args.parts.now.offset) (table_use _ _ _ _ name refl) c.set_number.ensures.passes
+    (λ before given. rw name given.0)
+    (on_ok_weaker c.set_number.result
+    (λ (some : is_some c.set_number.new.slot ≡ true) before given.
+    rw some (given_after (token_text w f.name) (codes "offset") (expression_slots c.args.parts.now) before name given))
+    c.set_number.ensures.some)
+
+pub returns-then-eq-3-clause-read : goal.returns-then-eq-3-clause-read
+returns-then-eq-3-clause-read c =
+    let w = written_of c.args.source.now in
+    let f = c.args.field.now in
+    let name : token_text w f.name ≡ codes "offset" = grind (arith, same_text c.token_text-name.result.now c.as_slice-else-eq-2.result.now c.eq-else-eq-2.result) in
+    on_ok_weaker c.set_number.result
+    (λ (added : option_to_list c.set_number.new.slot ≡ option_to_list c.args.parts.now.offset ++ value_numbers w (values_of f.items)) rest.
+    simp (name, added, append_assoc))
+    c.set_number.ensures.added
+
+pub returns-then-eq-3-clause-err : goal.returns-then-eq-3-clause-err
+returns-then-eq-3-clause-err c =
+    let w = written_of c.args.source.now in
+    let f = c.args.field.now in
+    let name : token_text w f.name ≡ codes "offset" = grind (arith, same_text c.token_text-name.result.now c.as_slice-else-eq-2.result.now c.eq-else-eq-2.result) in
+    slot_stops w expression_message f (number Int64) c.set_number.result (λ (before : List (List ℕ)). AreGiven (expression_slots c.args.parts.now) before)
+    (is_some c.args.parts.now.offset) (table_use _ _ _ _ name refl) c.set_number.ensures.err (λ before given. rw name given.0)
+
+pub returns-else-eq-3-clause-err : goal.returns-else-eq-3-clause-err
+returns-else-eq-3-clause-err c = λ before given.
+    let w = written_of c.args.source.now in
+    let f = c.args.field.now in
+    let other : use_in (table_of expression_message) (token_text w f.name) ≡ None = grind (arith) in
+    rw c.not_read.ensures (not_read_stops w expression_message f other before)

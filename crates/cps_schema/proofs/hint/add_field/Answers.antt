@@ -1,0 +1,65 @@
+use Rattle.std.proofs.Common.{◌≡◌, ◌++◌, codes, None, refl, arith, append_assoc}
+use Rattle.std.proofs.lemmas.Result.{on_ok_weaker}
+use Rattle.cps_textproto.specs.Trees.{values_of}
+use Rattle.cps_schema.specs.declared.number.Number.TheVariants.{Int32, Int64}
+use Rattle.cps_schema.specs.Sources.{written_of}
+use Rattle.cps_schema.specs.Written.{token_text}
+use Rattle.cps_schema.specs.Tables.{hint_message, number, use_in, table_of}
+use Rattle.cps_schema.specs.Readings.{value_numbers}
+use Rattle.cps_schema.proofs.Steps.{same_text, table_use, repeated_passes, repeated_stops, not_read_stops}
+use Rattle.cps_schema.proofs.hint.add_field.Goals as goal
+
+pub returns-then-eq-clause-passes : goal.returns-then-eq-clause-passes
+returns-then-eq-clause-passes c =
+    let w = written_of c.args.source.now in
+    let f = c.args.field.now in
+    let name : token_text w f.name ≡ codes "vars" = grind (arith, same_text c.token_text-name.result.now c.as_slice.result.now c.eq.result) in
+    repeated_passes w hint_message f (number Int32) c.add_refs.result (table_use _ _ _ _ name refl) c.add_refs.ensures.fault
+
+pub returns-then-eq-clause-read : goal.returns-then-eq-clause-read
+returns-then-eq-clause-read c =
+    let w = written_of c.args.source.now in
+    let f = c.args.field.now in
+    let name : token_text w f.name ≡ codes "vars" = grind (arith, same_text c.token_text-name.result.now c.as_slice.result.now c.eq.result) in
+    on_ok_weaker c.add_refs.result
+    (λ (added : c.add_refs.new.list.items ≡ c.args.parts.now.vars.items ++ value_numbers w (values_of f.items)) rest.
+    simp (name, added, append_assoc))
+    c.add_refs.ensures.added
+
+pub returns-then-eq-clause-err : goal.returns-then-eq-clause-err
+returns-then-eq-clause-err c =
+    let w = written_of c.args.source.now in
+    let f = c.args.field.now in
+    let name : token_text w f.name ≡ codes "vars" = grind (arith, same_text c.token_text-name.result.now c.as_slice.result.now c.eq.result) in
+    repeated_stops w hint_message f (number Int32) c.add_refs.result (table_use _ _ _ _ name refl) c.add_refs.ensures.err
+
+pub returns-then-eq-2-clause-passes : goal.returns-then-eq-2-clause-passes
+returns-then-eq-2-clause-passes c =
+    let w = written_of c.args.source.now in
+    let f = c.args.field.now in
+    let name : token_text w f.name ≡ codes "values" = grind (arith, same_text c.token_text-name.result.now c.as_slice-else-eq.result.now c.eq-else-eq.result) in
+    repeated_passes w hint_message f (number Int64) c.add_ints.result (table_use _ _ _ _ name refl) c.add_ints.ensures.fault
+
+pub returns-then-eq-2-clause-read : goal.returns-then-eq-2-clause-read
+returns-then-eq-2-clause-read c =
+    let w = written_of c.args.source.now in
+    let f = c.args.field.now in
+    let name : token_text w f.name ≡ codes "values" = grind (arith, same_text c.token_text-name.result.now c.as_slice-else-eq.result.now c.eq-else-eq.result) in
+    on_ok_weaker c.add_ints.result
+    (λ (added : c.add_ints.new.list.items ≡ c.args.parts.now.values.items ++ value_numbers w (values_of f.items)) rest.
+    simp (name, added, append_assoc))
+    c.add_ints.ensures.added
+
+pub returns-then-eq-2-clause-err : goal.returns-then-eq-2-clause-err
+returns-then-eq-2-clause-err c =
+    let w = written_of c.args.source.now in
+    let f = c.args.field.now in
+    let name : token_text w f.name ≡ codes "values" = grind (arith, same_text c.token_text-name.result.now c.as_slice-else-eq.result.now c.eq-else-eq.result) in
+    repeated_stops w hint_message f (number Int64) c.add_ints.result (table_use _ _ _ _ name refl) c.add_ints.ensures.err
+
+pub returns-else-eq-2-clause-err : goal.returns-else-eq-2-clause-err
+returns-else-eq-2-clause-err c =
+    let w = written_of c.args.source.now in
+    let f = c.args.field.now in
+    let other : use_in (table_of hint_message) (token_text w f.name) ≡ None = grind (arith) in
+    rw c.not_read.ensures (not_read_stops w hint_message f other)

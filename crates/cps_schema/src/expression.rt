@@ -1,0 +1,177 @@
+//! Linear expressions.
+ghost use Rattle.std.specs.Prelude.{◌≡◌, ◌++◌, ℕ, List, [], ◌∷◌, None, Some, map, OnOk, IfOk, IfErr};
+ghost use Rattle.cps_textproto.specs.Trees.{Tree, no_fields, tree_of, values_of};
+ghost use Rattle.cps_schema.specs.Written.{Written, token_text};
+ghost use Rattle.cps_schema.specs.Sources.{written_of};
+ghost use Rattle.cps_schema.specs.Tables.{expression_message, message};
+ghost use Rattle.cps_schema.specs.Faults.{fields_fault, values_fault};
+ghost use Rattle.cps_schema.specs.Readings.{value_messages, read_expression, reference_expression};
+ghost use Rattle.cps_schema.specs.Values.{nested_trees, trees_fault};
+ghost use Rattle.cps_schema.specs.Answers.{Refuses};
+ghost use Rattle.cps_schema.specs.Steps.{field_then, Passes, Stops};
+ghost use Rattle.cps_schema.specs.Slots.{AreGiven};
+ghost use Rattle.cps_schema.specs.Parts.{expression_from, expression_slots};
+
+use super::error::SchemaError;
+use super::lists::{add_ints, add_refs};
+use super::names::not_read;
+use super::number::Number;
+use super::single::{Messages, fields_of, messages_of, set_number};
+use super::source::{Source, token_text};
+use cps_model::{LinearExpr, Listed};
+use cps_textproto::{Field, Nested, Node};
+use std::alloc::{AllocError, Global};
+
+const UNREAD: [&[u8]; 0] = [];
+
+/// What was read so far of an expression.
+#[derive(Drop)]
+pub struct ExpressionParts {
+    pub vars: Vec<i32>,
+    pub coeffs: Vec<i64>,
+    pub offset: Option<i64>,
+}
+
+/// Reads a field of an expression.
+fn add_field(source: &Source, parts: &mut ExpressionParts, field: &Field) -> Result<(), SchemaError>
+    ensures passes { OnOk result ((before : List (List ℕ)) → AreGiven (expression_slots parts.old) before →
+        Passes (written_of source.now) expression_message before field.now
+        × AreGiven (expression_slots parts.new) (token_text (written_of source.now) field.now.name ∷ before)) }
+    ensures read { OnOk result ((rest : Tree) →
+        expression_from (written_of source.now) parts.old (field_then field.now rest)
+        ≡ expression_from (written_of source.now) parts.new rest) }
+    ensures err { IfErr result (λ e. (before : List (List ℕ)) → AreGiven (expression_slots parts.old) before →
+        Stops (written_of source.now) expression_message before field.now e) }
+{
+    let name = token_text(source, field.name as usize);
+    if name == b"vars".as_slice() {
+        add_refs(source, &mut parts.vars, field)
+    } else if name == b"coeffs".as_slice() {
+        add_ints(source, &mut parts.coeffs, field)
+    } else if name == b"offset".as_slice() {
+        set_number(source, Number::Int64, &mut parts.offset, field)
+    } else {
+        Err(not_read(source, &UNREAD, field.name))
+    }
+}
+
+/// The expression of these parts alone.
+#[tactic(auto, using(crate::proofs::Objectives::first_number))]
+fn expression_of(parts: ExpressionParts) -> LinearExpr
+    ensures { (w : Written) → result ≡ expression_from w parts no_fields }
+{
+    let ExpressionParts {
+        vars,
+        coeffs,
+        offset,
+    } = parts;
+    LinearExpr {
+        vars: Listed::from_vec(vars),
+        coeffs: Listed::from_vec(coeffs),
+        offset: offset.unwrap_or(0),
+    }
+}
+
+/// The expression that a message gives.
+fn read_expression(alloc: Global, source: &Source, node: &Node) -> Result<LinearExpr, SchemaError>
+    ensures accepted { IfOk result (λ _. fields_fault (written_of source.now) expression_message [] (tree_of node.now) ≡ None) }
+    ensures reading { IfOk result (λ expression. expression ≡ read_expression (written_of source.now) (tree_of node.now)) }
+    ensures err { IfErr result (Refuses (fields_fault (written_of source.now) expression_message [] (tree_of node.now))) }
+{
+    let mut parts = ExpressionParts {
+        vars: Vec::new(alloc),
+        coeffs: Vec::new(alloc),
+        offset: None,
+    };
+    for field in fields_of(node) {
+        add_field(source, &mut parts, field)?;
+    }
+    Ok(expression_of(parts))
+}
+
+/// Adds the expression of a message.
+fn add_expression(
+    alloc: Global,
+    source: &Source,
+    expressions: &mut Vec<LinearExpr>,
+    node: &Node,
+) -> Result<(), SchemaError>
+    ensures fault { OnOk result (fields_fault (written_of source.now) expression_message [] (tree_of node.now) ≡ None) }
+    ensures added { OnOk result (expressions.new.items ≡ expressions.old.items ++ read_expression (written_of source.now) (tree_of node.now) ∷ []) }
+    ensures err { IfErr result (Refuses (fields_fault (written_of source.now) expression_message [] (tree_of node.now))) }
+{
+    match read_expression(alloc, source, node) {
+        Ok(expression) => {
+            expressions.push(expression)?;
+            Ok(())
+        }
+        Err(error) => Err(error),
+    }
+}
+
+/// Adds those of a list.
+#[tactic(auto, using(crate::proofs::Values::tree_of_nested))]
+fn add_listed(
+    alloc: Global,
+    source: &Source,
+    expressions: &mut Vec<LinearExpr>,
+    list: &[Nested],
+) -> Result<(), SchemaError>
+    ensures fault { OnOk result (trees_fault (written_of source.now) expression_message (nested_trees list.now) ≡ None) }
+    ensures added { OnOk result (expressions.new.items ≡ expressions.old.items ++ map (read_expression (written_of source.now)) (nested_trees list.now)) }
+    ensures err { IfErr result (Refuses (trees_fault (written_of source.now) expression_message (nested_trees list.now))) }
+{
+    for nested in list {
+        add_expression(alloc, source, expressions, &nested.node)?;
+    }
+    Ok(())
+}
+
+/// Adds those of a field.
+pub(crate) fn add_expressions(
+    alloc: Global,
+    source: &Source,
+    expressions: &mut Vec<LinearExpr>,
+    field: &Field,
+) -> Result<(), SchemaError>
+    ensures fault { OnOk result (values_fault (written_of source.now) (Some (message expression_message)) (values_of field.now.items) ≡ None) }
+    ensures added { OnOk result (expressions.new.items
+        ≡ expressions.old.items ++ map (read_expression (written_of source.now)) (value_messages (values_of field.now.items))) }
+    ensures err { IfErr result (Refuses (values_fault (written_of source.now) (Some (message expression_message)) (values_of field.now.items))) }
+{
+    match messages_of(field) {
+        Ok(Messages::One(node)) => add_expression(alloc, source, expressions, node),
+        Ok(Messages::List(list)) => add_listed(alloc, source, expressions, list),
+        Err(error) => Err(error),
+    }
+}
+
+/// A reference as an expression.
+fn reference_expression(alloc: Global, reference: i32) -> Result<LinearExpr, AllocError>
+    ensures { IfOk result (λ expression. expression ≡ reference_expression reference) }
+{
+    let mut vars = Vec::with_capacity(alloc, 1)?;
+    vars.push(reference)?;
+    let mut coeffs = Vec::with_capacity(alloc, 1)?;
+    coeffs.push(1)?;
+    Ok(LinearExpr {
+        vars: Listed::from_vec(vars),
+        coeffs: Listed::from_vec(coeffs),
+        offset: 0,
+    })
+}
+
+/// Adds references as expressions.
+pub(crate) fn add_references(
+    alloc: Global,
+    expressions: &mut Vec<LinearExpr>,
+    references: &[i32],
+) -> Result<(), AllocError>
+    ensures { OnOk result (expressions.new.items ≡ expressions.old.items ++ map reference_expression references.now) }
+{
+    expressions.reserve_exact(references.len())?;
+    for reference in references {
+        expressions.push(reference_expression(alloc, *reference)?)?;
+    }
+    Ok(())
+}

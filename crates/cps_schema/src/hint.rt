@@ -1,0 +1,65 @@
+//! Hints.
+ghost use Rattle.std.specs.Prelude.{◌≡◌, ℕ, List, [], None, OnOk, IfOk, IfErr};
+ghost use Rattle.cps_textproto.specs.Trees.{Tree, tree_of};
+ghost use Rattle.cps_schema.specs.Sources.{written_of};
+ghost use Rattle.cps_schema.specs.Tables.{hint_message};
+ghost use Rattle.cps_schema.specs.Faults.{fields_fault};
+ghost use Rattle.cps_schema.specs.Readings.{read_hint};
+ghost use Rattle.cps_schema.specs.Answers.{Refuses};
+ghost use Rattle.cps_schema.specs.Steps.{field_then, Passes, Stops};
+ghost use Rattle.cps_schema.specs.Parts.{hint_from};
+
+use super::error::SchemaError;
+use super::lists::{add_ints, add_refs};
+use super::names::not_read;
+use super::single::fields_of;
+use super::source::{Source, token_text};
+use cps_model::{Hint, Listed};
+use cps_textproto::{Field, Node};
+use std::alloc::Global;
+
+const UNREAD: [&[u8]; 0] = [];
+
+/// What was read so far of a hint.
+#[derive(Drop)]
+pub struct HintParts {
+    pub vars: Vec<i32>,
+    pub values: Vec<i64>,
+}
+
+/// Reads a field of a hint.
+fn add_field(source: &Source, parts: &mut HintParts, field: &Field) -> Result<(), SchemaError>
+    ensures passes { OnOk result ((before : List (List ℕ)) → Passes (written_of source.now) hint_message before field.now) }
+    ensures read { OnOk result ((rest : Tree) →
+        hint_from (written_of source.now) parts.old (field_then field.now rest) ≡ hint_from (written_of source.now) parts.new rest) }
+    ensures err { IfErr result (λ e. (before : List (List ℕ)) → Stops (written_of source.now) hint_message before field.now e) }
+{
+    let name = token_text(source, field.name as usize);
+    if name == b"vars".as_slice() {
+        add_refs(source, &mut parts.vars, field)
+    } else if name == b"values".as_slice() {
+        add_ints(source, &mut parts.values, field)
+    } else {
+        Err(not_read(source, &UNREAD, field.name))
+    }
+}
+
+/// The hint that a message gives.
+pub(crate) fn read_hint(alloc: Global, source: &Source, node: &Node) -> Result<Hint, SchemaError>
+    ensures accepted { IfOk result (λ _. fields_fault (written_of source.now) hint_message [] (tree_of node.now) ≡ None) }
+    ensures reading { IfOk result (λ hint. hint ≡ read_hint (written_of source.now) (tree_of node.now)) }
+    ensures err { IfErr result (Refuses (fields_fault (written_of source.now) hint_message [] (tree_of node.now))) }
+{
+    let mut parts = HintParts {
+        vars: Vec::new(alloc),
+        values: Vec::new(alloc),
+    };
+    for field in fields_of(node) {
+        add_field(source, &mut parts, field)?;
+    }
+    let HintParts { vars, values } = parts;
+    Ok(Hint {
+        vars: Listed::from_vec(vars),
+        values: Listed::from_vec(values),
+    })
+}

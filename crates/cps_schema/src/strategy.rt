@@ -1,0 +1,240 @@
+//! Strategies.
+ghost use Rattle.std.specs.Prelude.{◌≡◌, ◌++◌, ℕ, List, [], ◌∷◌, true, false, None, Some, map, OnOk, IfOk, IfErr};
+ghost use Rattle.cps_textproto.specs.Trees.{Tree, no_fields, tree_of, values_of};
+ghost use Rattle.cps_schema.specs.Written.{Written, token_text};
+ghost use Rattle.cps_schema.specs.Sources.{written_of};
+ghost use Rattle.cps_schema.specs.Tables.{strategy_message, expression_message, number, message};
+ghost use Rattle.cps_schema.specs.Faults.{fields_fault, values_fault};
+ghost use Rattle.cps_schema.specs.Readings.{value_numbers, value_messages, read_expression, read_strategy};
+ghost use Rattle.cps_schema.specs.Values.{nested_trees, trees_fault};
+ghost use Rattle.cps_schema.specs.Answers.{Refuses};
+ghost use Rattle.cps_schema.specs.Steps.{field_then, Passes, Stops, FormedPasses, FormedStops};
+ghost use Rattle.cps_schema.specs.Parts.{strategy_from, is_other, IsStrategyGiven};
+
+use super::error::SchemaError;
+use super::expression::{add_expressions, add_references};
+use super::form::Form;
+use super::lists::add_refs;
+use super::member::{set_choose, set_select};
+use super::names::not_read;
+use super::number::Number;
+use super::single::{Messages, fields_of, messages_of};
+use super::source::{Source, token_text};
+use cps_model::{Choose, FaultName, LinearExpr, Listed, Select, Strategy};
+use cps_textproto::{Field, Nested, Node};
+use std::alloc::{AllocError, Global};
+
+const UNREAD: [&[u8]; 0] = [];
+
+/// What was read so far of a strategy: its expressions in the newer form, or in the older one as references.
+#[derive(Drop)]
+pub struct StrategyParts {
+    pub exprs: Vec<LinearExpr>,
+    pub variables: Vec<i32>,
+    /// The form of the fields of expressions that there were.
+    pub form: Option<Form>,
+    pub choose: Option<Choose>,
+    pub select: Option<Select>,
+}
+
+/// A form is known, and it is the other one.
+fn is_other(given: Option<Form>, form: Form) -> bool
+    ensures { result ≡ is_other given form }
+{
+    match given {
+        Some(Form::Older) => match form {
+            Form::Older => false,
+            Form::Newer => true,
+        },
+        Some(Form::Newer) => match form {
+            Form::Older => true,
+            Form::Newer => false,
+        },
+        None => false,
+    }
+}
+
+/// Notes the form of a field, which must be that of the earlier ones.
+fn take_form(given: &mut Option<Form>, form: Form, field: &Field) -> Result<(), SchemaError>
+    ensures same { OnOk result (is_other given.old form ≡ false) }
+    ensures taken { OnOk result (given.new ≡ Some form) }
+    ensures other { IfErr result (λ e. is_other given.old form ≡ true) }
+    ensures err { IfErr result (λ e. e ≡ SchemaError.Fault FaultName.MixedForms field.now.name) }
+{
+    if is_other(*given, form) {
+        return Err(SchemaError::Fault {
+            name: FaultName::MixedForms,
+            token: field.name as usize,
+        });
+    }
+    *given = Some(form);
+    Ok(())
+}
+
+/// Adds the expressions of a field of the newer form.
+fn add_newer(
+    alloc: Global,
+    source: &Source,
+    form: &mut Option<Form>,
+    exprs: &mut Vec<LinearExpr>,
+    field: &Field,
+) -> Result<(), SchemaError>
+    ensures passes { OnOk result (FormedPasses (written_of source.now) field.now Form.Newer (message expression_message) (is_other form.old Form.Newer)) }
+    ensures added { OnOk result (exprs.new.items
+        ≡ exprs.old.items ++ map (read_expression (written_of source.now)) (value_messages (values_of field.now.items))) }
+    ensures same { OnOk result (is_other form.old Form.Newer ≡ false) }
+    ensures taken { OnOk result (form.new ≡ Some Form.Newer) }
+    ensures err { IfErr result (FormedStops (written_of source.now) field.now Form.Newer (message expression_message) (is_other form.old Form.Newer)) }
+{
+    match take_form(form, Form::Newer, field) {
+        Ok(()) => add_expressions(alloc, source, exprs, field),
+        Err(error) => Err(error),
+    }
+}
+
+/// Adds the references of a field of the older form.
+fn add_older(
+    source: &Source,
+    form: &mut Option<Form>,
+    variables: &mut Vec<i32>,
+    field: &Field,
+) -> Result<(), SchemaError>
+    ensures passes { OnOk result (FormedPasses (written_of source.now) field.now Form.Older (number Number.Int32) (is_other form.old Form.Older)) }
+    ensures added { OnOk result (variables.new.items
+        ≡ variables.old.items ++ value_numbers (written_of source.now) (values_of field.now.items)) }
+    ensures same { OnOk result (is_other form.old Form.Older ≡ false) }
+    ensures taken { OnOk result (form.new ≡ Some Form.Older) }
+    ensures err { IfErr result (FormedStops (written_of source.now) field.now Form.Older (number Number.Int32) (is_other form.old Form.Older)) }
+{
+    match take_form(form, Form::Older, field) {
+        Ok(()) => add_refs(source, variables, field),
+        Err(error) => Err(error),
+    }
+}
+
+/// Reads a field of a strategy.
+fn add_field(
+    alloc: Global,
+    source: &Source,
+    parts: &mut StrategyParts,
+    field: &Field,
+) -> Result<(), SchemaError>
+    ensures passes { OnOk result ((before : List (List ℕ)) → IsStrategyGiven parts.old before →
+        Passes (written_of source.now) strategy_message before field.now
+        × IsStrategyGiven parts.new (token_text (written_of source.now) field.now.name ∷ before)) }
+    ensures read { OnOk result ((rest : Tree) →
+        strategy_from (written_of source.now) parts.old (field_then field.now rest)
+        ≡ strategy_from (written_of source.now) parts.new rest) }
+    ensures err { IfErr result (λ e. (before : List (List ℕ)) → IsStrategyGiven parts.old before →
+        Stops (written_of source.now) strategy_message before field.now e) }
+{
+    let name = token_text(source, field.name as usize);
+    if name == b"exprs".as_slice() {
+        add_newer(alloc, source, &mut parts.form, &mut parts.exprs, field)
+    } else if name == b"variables".as_slice() {
+        add_older(source, &mut parts.form, &mut parts.variables, field)
+    } else if name == b"variable_selection_strategy".as_slice() {
+        set_choose(source, &mut parts.choose, field)
+    } else if name == b"domain_reduction_strategy".as_slice() {
+        set_select(source, &mut parts.select, field)
+    } else {
+        Err(not_read(source, &UNREAD, field.name))
+    }
+}
+
+/// The strategy of these parts alone.
+#[tactic(auto, using(crate::proofs::Slots::first_read, crate::proofs::Slots::no_further))]
+fn strategy_of(alloc: Global, parts: StrategyParts) -> Result<Strategy, AllocError>
+    ensures { IfOk result (λ strategy. (w : Written) → strategy ≡ strategy_from w parts no_fields) }
+{
+    let StrategyParts {
+        exprs,
+        variables,
+        choose,
+        select,
+        ..
+    } = parts;
+    let mut exprs = exprs;
+    add_references(alloc, &mut exprs, &variables)?;
+    Ok(Strategy {
+        exprs: Listed::from_vec(exprs),
+        choose: choose.unwrap_or(Choose::First),
+        select: select.unwrap_or(Select::MinValue),
+    })
+}
+
+/// The strategy that a message gives.
+fn read_strategy(alloc: Global, source: &Source, node: &Node) -> Result<Strategy, SchemaError>
+    ensures accepted { IfOk result (λ _. fields_fault (written_of source.now) strategy_message [] (tree_of node.now) ≡ None) }
+    ensures reading { IfOk result (λ strategy. strategy ≡ read_strategy (written_of source.now) (tree_of node.now)) }
+    ensures err { IfErr result (Refuses (fields_fault (written_of source.now) strategy_message [] (tree_of node.now))) }
+{
+    let mut parts = StrategyParts {
+        exprs: Vec::new(alloc),
+        variables: Vec::new(alloc),
+        form: None,
+        choose: None,
+        select: None,
+    };
+    for field in fields_of(node) {
+        add_field(alloc, source, &mut parts, field)?;
+    }
+    Ok(strategy_of(alloc, parts)?)
+}
+
+/// Adds the strategy of a message.
+fn add_strategy(
+    alloc: Global,
+    source: &Source,
+    strategies: &mut Vec<Strategy>,
+    node: &Node,
+) -> Result<(), SchemaError>
+    ensures fault { OnOk result (fields_fault (written_of source.now) strategy_message [] (tree_of node.now) ≡ None) }
+    ensures added { OnOk result (strategies.new.items ≡ strategies.old.items ++ read_strategy (written_of source.now) (tree_of node.now) ∷ []) }
+    ensures err { IfErr result (Refuses (fields_fault (written_of source.now) strategy_message [] (tree_of node.now))) }
+{
+    match read_strategy(alloc, source, node) {
+        Ok(strategy) => {
+            strategies.push(strategy)?;
+            Ok(())
+        }
+        Err(error) => Err(error),
+    }
+}
+
+/// Adds those of a list.
+#[tactic(auto, using(crate::proofs::Values::tree_of_nested))]
+fn add_listed(
+    alloc: Global,
+    source: &Source,
+    strategies: &mut Vec<Strategy>,
+    list: &[Nested],
+) -> Result<(), SchemaError>
+    ensures fault { OnOk result (trees_fault (written_of source.now) strategy_message (nested_trees list.now) ≡ None) }
+    ensures added { OnOk result (strategies.new.items ≡ strategies.old.items ++ map (read_strategy (written_of source.now)) (nested_trees list.now)) }
+    ensures err { IfErr result (Refuses (trees_fault (written_of source.now) strategy_message (nested_trees list.now))) }
+{
+    for nested in list {
+        add_strategy(alloc, source, strategies, &nested.node)?;
+    }
+    Ok(())
+}
+
+/// Adds those of a field.
+pub(crate) fn add_strategies(
+    alloc: Global,
+    source: &Source,
+    strategies: &mut Vec<Strategy>,
+    field: &Field,
+) -> Result<(), SchemaError>
+    ensures fault { OnOk result (values_fault (written_of source.now) (Some (message strategy_message)) (values_of field.now.items) ≡ None) }
+    ensures added { OnOk result (strategies.new.items
+        ≡ strategies.old.items ++ map (read_strategy (written_of source.now)) (value_messages (values_of field.now.items))) }
+    ensures err { IfErr result (Refuses (values_fault (written_of source.now) (Some (message strategy_message)) (values_of field.now.items))) }
+{
+    match messages_of(field) {
+        Ok(Messages::One(node)) => add_strategy(alloc, source, strategies, node),
+        Ok(Messages::List(list)) => add_listed(alloc, source, strategies, list),
+        Err(error) => Err(error),
+    }
+}
