@@ -1,21 +1,24 @@
 -- The pieces of a printed message: they spell its text, each is cut off where it ends, and their symbols are fields.
 use Rattle.std.specs.List.{flat_map, list_all, prefix_len}
 use Rattle.std.specs.Fmt.{decimal, signed_decimal}
+use Rattle.std.specs.Str.{is_utf8}
 use Rattle.std.proofs.lemmas.Bool.Decides.{nat_tests}
 use Rattle.std.proofs.Common.{◌≡◌, ℕ, zero, suc, ◌+◌, ◌^◌, ◌<◌, Bool, true, false, ◌==◌, ◌&&◌, ℤ, pos, negsuc, unsigned_abs, List, [], ◌∷◌, ◌++◌, map, length, refl, sym, ap, ◌∙◌, append_assoc, arith}
-use Rattle.cps_lex.specs.declared.types.TokenKind.TheVariants.{Identifier, Decimal, Sign}
+use Rattle.cps_lex.specs.declared.types.TokenKind.TheVariants.{Identifier, Decimal, Text, Sign}
 use Rattle.cps_lex.specs.Bytes.{is_space, is_word_start, is_word, is_digit, is_sign, is_exponent_mark, is_number_part}
 use Rattle.cps_lex.specs.Forms.{is_identifier, is_decimal}
 use Rattle.cps_lex.specs.Scan.{scan, number_run, has_signs, number_at}
 use Rattle.cps_textproto.specs.declared.symbol.Bracket.TheVariants.{Brace}
-use Rattle.cps_textproto.specs.Grammar.{Scalar, minus_number, Separator, none, Fields, end, scalar, scalars, scalar_then, others_then, fields_then, Nests}
+use Rattle.cps_textproto.specs.Grammar.{Scalar, minus_number, texts, none, Fields, end, scalar, scalars, scalar_then, others_then, fields_then, Nests}
 use Rattle.cps_textproto.specs.Grammar as grammar
 use Rattle.cps_print.specs.Layout.{Message, empty, number, numbers, word, quoted, message, indent, start_of, value_line, behind_comma, in_brackets, opening, closing, text_of}
+use Rattle.cps_print.specs.Quoting.{in_quotes}
 use Rattle.cps_print.proofs.Digits.{decimal_text, and_true}
 use Rattle.cps_print.proofs.Pieces.{Piece, blank, lexeme, spelled, symbols_of, IsBlank, IsLexeme, AreSound, take-front}
+use Rattle.cps_print.proofs.Quoted.{text_lexeme}
 
--- a message of fields that are read: names that are identifiers, numbers of at most 64 bits, at most so many messages in
--- each other
+-- a message of fields that are read: names and words that are identifiers, numbers of at most 64 bits, texts that are
+-- UTF-8, at most so many messages in each other
 abbrev pub IsShort : ℤ → Type 0
 IsShort n = unsigned_abs n < 2 ^ 64
 
@@ -27,8 +30,8 @@ abbrev pub IsPlain : ℕ → Message → Type 0
 IsPlain room empty = Unit {0}
 IsPlain room (number name n more) = (is_identifier name ≡ true) × IsShort n × IsPlain room more
 IsPlain room (numbers name n ns more) = (is_identifier name ≡ true) × IsShort n × AreShort ns × IsPlain room more
-IsPlain room (word name w more) = ⊥
-IsPlain room (quoted name bytes more) = ⊥
+IsPlain room (word name w more) = (is_identifier name ≡ true) × (is_identifier w ≡ true) × IsPlain room more
+IsPlain room (quoted name bytes more) = (is_identifier name ≡ true) × (is_utf8 bytes ≡ true) × IsPlain room more
 IsPlain zero (message name fields more) = ⊥
 IsPlain (suc room) (message name fields more) =
     (is_identifier name ≡ true) × IsPlain room fields × IsPlain (suc room) more
@@ -58,8 +61,10 @@ pieces level (numbers name n ns more) rest =
     indent_pieces level
     (lexeme Identifier name ∷ sign 58 ∷ blank 32 ∷ sign 91
     ∷ number_pieces n (others_pieces ns (sign 93 ∷ blank 10 ∷ pieces level more rest)))
-pieces level (word name w more) rest = rest
-pieces level (quoted name bytes more) rest = rest
+pieces level (word name w more) rest =
+    indent_pieces level (lexeme Identifier name ∷ sign 58 ∷ blank 32 ∷ lexeme Identifier w ∷ blank 10 ∷ pieces level more rest)
+pieces level (quoted name bytes more) rest =
+    indent_pieces level (lexeme Identifier name ∷ sign 58 ∷ blank 32 ∷ lexeme Text (in_quotes bytes) ∷ blank 10 ∷ pieces level more rest)
 pieces level (message name fields more) rest =
     indent_pieces level
     (lexeme Identifier name ∷ blank 32 ∷ sign 123 ∷ blank 10
@@ -83,9 +88,9 @@ spelled-others (n ∷ ns) ps =
     ∙ (ap (λ xs. signed_decimal n ++ xs) (spelled-others ns ps)
     ∙ sym (append_assoc (signed_decimal n) (flat_map (behind_comma signed_decimal) ns) (spelled ps))))
 
-number_line : (level : ℕ) (name value more after : List ℕ) → indent level ++ (name ++ 58 ∷ 32 ∷ (value ++ 10 ∷ (more ++ after))) ≡ (value_line level name value ++ more) ++ after
+value_pieces : (level : ℕ) (name value more after : List ℕ) → indent level ++ (name ++ 58 ∷ 32 ∷ (value ++ 10 ∷ (more ++ after))) ≡ (value_line level name value ++ more) ++ after
 unfolding value_line start_of
-number_line level name value more after = simp append_assoc
+value_pieces level name value more after = simp append_assoc
 
 message_lines : (level : ℕ) (name inner more after : List ℕ) → indent level ++ (name ++ 32 ∷ 123 ∷ 10 ∷ (inner ++ (indent level ++ 125 ∷ 10 ∷ (more ++ after)))) ≡ (opening level name ++ (inner ++ (closing level ++ more))) ++ after
 unfolding opening closing start_of
@@ -101,7 +106,7 @@ spelled-pieces room level (number name n more) rest p =
     let after = spelled-pieces room level more rest p.2 in
     spelled-indent level _
     ∙ (ap (λ xs. indent level ++ (name ++ 58 ∷ 32 ∷ xs)) (spelled-number n (blank 10 ∷ pieces level more rest) ∙ ap (λ xs. signed_decimal n ++ 10 ∷ xs) after)
-    ∙ number_line level name (signed_decimal n) (text_of level more) (spelled rest))
+    ∙ value_pieces level name (signed_decimal n) (text_of level more) (spelled rest))
 spelled-pieces room level (numbers name n ns more) rest p =
     let after = spelled-pieces room level more rest p.3 in
     let items : spelled (number_pieces n (others_pieces ns (sign 93 ∷ blank 10 ∷ pieces level more rest))) ≡ signed_decimal n ++ (flat_map (behind_comma signed_decimal) ns ++ 93 ∷ 10 ∷ (text_of level more ++ spelled rest)) =
@@ -109,9 +114,15 @@ spelled-pieces room level (numbers name n ns more) rest p =
     spelled-indent level _
     ∙ (ap (λ xs. indent level ++ (name ++ 58 ∷ 32 ∷ 91 ∷ xs)) items
     ∙ (ap (λ xs. indent level ++ (name ++ 58 ∷ 32 ∷ xs)) (list_value (signed_decimal n) (flat_map (behind_comma signed_decimal) ns) (text_of level more ++ spelled rest))
-    ∙ number_line level name (in_brackets signed_decimal n ns) (text_of level more) (spelled rest)))
-spelled-pieces room level (word name w more) rest p = absurd p
-spelled-pieces room level (quoted name bytes more) rest p = absurd p
+    ∙ value_pieces level name (in_brackets signed_decimal n ns) (text_of level more) (spelled rest)))
+spelled-pieces room level (word name w more) rest p =
+    spelled-indent level _
+    ∙ (ap (λ xs. indent level ++ (name ++ 58 ∷ 32 ∷ (w ++ 10 ∷ xs))) (spelled-pieces room level more rest p.2)
+    ∙ value_pieces level name w (text_of level more) (spelled rest))
+spelled-pieces room level (quoted name bytes more) rest p =
+    spelled-indent level _
+    ∙ (ap (λ xs. indent level ++ (name ++ 58 ∷ 32 ∷ (in_quotes bytes ++ 10 ∷ xs))) (spelled-pieces room level more rest p.2)
+    ∙ value_pieces level name (in_quotes bytes) (text_of level more) (spelled rest))
 spelled-pieces zero level (message name fields more) rest p = absurd p
 spelled-pieces (suc room) level (message name fields more) rest p =
     let after = spelled-pieces (suc room) level more rest p.2 in
@@ -211,6 +222,10 @@ name_before_space : (name after : List ℕ) → is_identifier name ≡ true → 
 unfolding is_word
 name_before_space name after e = name_lexeme name 32 after e refl
 
+word_before_line : (w after : List ℕ) → is_identifier w ≡ true → IsLexeme Identifier w (10 ∷ after)
+unfolding is_word
+word_before_line w after e = name_lexeme w 10 after e refl
+
 digit_no_mark : (b : ℕ) → is_digit b ≡ true → is_exponent_mark b ≡ false
 unfolding is_digit is_exponent_mark
 digit_no_mark b e = grind (arith, nat_tests)
@@ -306,8 +321,12 @@ pieces_sound room level (numbers name n ns more) rest p s =
         ),
       ),
     )
-pieces_sound room level (word name w more) rest p s = absurd p
-pieces_sound room level (quoted name bytes more) rest p s = absurd p
+pieces_sound room level (word name w more) rest p s =
+    let after = pieces_sound room level more rest p.2 s in
+    indent_sound level _ (name_before_colon name _ p.0, (colon _, (space, (word_before_line w _ p.1, (line_end, after)))))
+pieces_sound room level (quoted name bytes more) rest p s =
+    let after = pieces_sound room level more rest p.2 s in
+    indent_sound level _ (name_before_colon name _ p.0, (colon _, (space, (text_lexeme bytes _ p.1, (line_end, after)))))
 pieces_sound zero level (message name fields more) rest p s = absurd p
 pieces_sound (suc room) level (message name fields more) rest p s =
     let after = pieces_sound (suc room) level more rest p.2 s in
@@ -336,8 +355,8 @@ abbrev pub fields_of : Message → Fields
 fields_of empty = end
 fields_of (number name n more) = scalar (scalar_of n) none (fields_of more)
 fields_of (numbers name n ns more) = scalars (scalar_of n) (map scalar_of ns) none (fields_of more)
-fields_of (word name w more) = end
-fields_of (quoted name bytes more) = end
+fields_of (word name w more) = scalar grammar.word none (fields_of more)
+fields_of (quoted name bytes more) = scalar (texts 0) none (fields_of more)
 fields_of (message name fields more) = grammar.message false Brace (fields_of fields) none (fields_of more)
 
 symbols-indent : (level : ℕ) (ps : List Piece) → symbols_of (indent_pieces level ps) ≡ symbols_of ps
@@ -359,8 +378,8 @@ symbols-pieces room level (number name n more) rest p =
 symbols-pieces room level (numbers name n ns more) rest p =
     symbols-indent level _
     ∙ rw (symbols-number n (others_pieces ns (sign 93 ∷ blank 10 ∷ pieces level more rest)), symbols-others ns (sign 93 ∷ blank 10 ∷ pieces level more rest), symbols-pieces room level more rest p.3) refl
-symbols-pieces room level (word name w more) rest p = absurd p
-symbols-pieces room level (quoted name bytes more) rest p = absurd p
+symbols-pieces room level (word name w more) rest p = symbols-indent level _ ∙ rw (symbols-pieces room level more rest p.2) refl
+symbols-pieces room level (quoted name bytes more) rest p = symbols-indent level _ ∙ rw (symbols-pieces room level more rest p.2) refl
 symbols-pieces zero level (message name fields more) rest p = absurd p
 symbols-pieces (suc room) level (message name fields more) rest p =
     symbols-indent level _
@@ -370,7 +389,7 @@ pub fields_nest : (room : ℕ) (m : Message) → IsPlain room m → Nests room (
 fields_nest room empty p = tt
 fields_nest room (number name n more) p = fields_nest room more p.2
 fields_nest room (numbers name n ns more) p = fields_nest room more p.3
-fields_nest room (word name w more) p = absurd p
-fields_nest room (quoted name bytes more) p = absurd p
+fields_nest room (word name w more) p = fields_nest room more p.2
+fields_nest room (quoted name bytes more) p = fields_nest room more p.2
 fields_nest zero (message name fields more) p = absurd p
 fields_nest (suc room) (message name fields more) p = (fields_nest room fields p.1, fields_nest (suc room) more p.2)

@@ -1,20 +1,23 @@
 -- Laws of the fields that messages are made of: they are plain, admitted, and hold what they are made of.
 use Rattle.std.specs.Prelude.{map, if◌then◌else◌}
 use Rattle.std.specs.List.{list_all}
-use Rattle.std.specs.Str.{bytes_eq}
+use Rattle.std.specs.Str.{bytes_eq, is_utf8}
 use Rattle.std.proofs.lemmas.Int.{ints}
-use Rattle.std.proofs.Common.{◌≡◌, ℕ, zero, suc, ◌^◌, ◌<◌, Bool, true, false, ◌&&◌, ℤ, pos, negsuc, unsigned_abs, List, [], ◌∷◌, ◌++◌, Some, refl, sym, ap, ◌∙◌, append-nil, append_assoc, arith}
+use Rattle.std.proofs.Common.{◌≡◌, ℕ, zero, suc, ◌^◌, ◌<◌, Bool, true, false, ◌&&◌, ℤ, pos, negsuc, List, [], ◌∷◌, ◌++◌, Some, Ok, refl, sym, ap, ◌∙◌, append-nil, append_assoc, arith}
 use Rattle.cps_lex.specs.Forms.{is_identifier}
 use Rattle.cps_schema.specs.declared.number.Number.{Number}
 use Rattle.cps_schema.specs.declared.number.Number.TheVariants.{Int64, Int32, Exact}
 use Rattle.cps_schema.specs.Numbers.{fits}
+use Rattle.cps_schema.specs.declared.member.Enum.{Enum}
+use Rattle.cps_schema.specs.Members.{member_named}
+use Rattle.cps_schema.specs.Readings.{ok_or_zero}
 use Rattle.cps_schema.specs.Tables as tables
 use Rattle.cps_schema.specs.Tables.{use_of, is_given}
 use Rattle.cps_print.specs.Layout.{Message, empty, number, numbers, word, quoted, message}
-use Rattle.cps_print.specs.Fields.{followed_by, number_field, list_field, text_field, message_field, repeated_field}
+use Rattle.cps_print.specs.Fields.{followed_by, number_field, list_field, word_field, text_field, message_field, repeated_field}
 use Rattle.cps_print.proofs.Digits.{and_true}
 use Rattle.cps_print.proofs.Cuts.{IsShort, AreShort, IsPlain}
-use Rattle.cps_print.proofs.Shown.{IsAdmitted, TakesMessage, each, printed_numbers, printed_messages}
+use Rattle.cps_print.proofs.Shown.{IsAdmitted, TakesMessage, printed_numbers, printed_texts, printed_members, printed_messages}
 use Rattle.cps_print.proofs.Readable.{Each, AreFit}
 
 -- numbers that fit a type are short
@@ -40,8 +43,8 @@ unfolding followed_by
 plain-followed_by room empty b p q = q
 plain-followed_by room (number name n more) b p q = (p.0, p.1, plain-followed_by room more b p.2 q)
 plain-followed_by room (numbers name n ns more) b p q = (p.0, p.1, p.2, plain-followed_by room more b p.3 q)
-plain-followed_by room (word name w more) b p q = absurd p
-plain-followed_by room (quoted name bytes more) b p q = absurd p
+plain-followed_by room (word name w more) b p q = (p.0, p.1, plain-followed_by room more b p.2 q)
+plain-followed_by room (quoted name bytes more) b p q = (p.0, p.1, plain-followed_by room more b p.2 q)
 plain-followed_by zero (message name fields more) b p q = absurd p
 plain-followed_by (suc room) (message name fields more) b p q = (p.0, p.1, plain-followed_by (suc room) more b p.2 q)
 
@@ -56,10 +59,20 @@ plain-number_field room name (pos zero) e s = tt
 plain-number_field room name (pos (suc n)) e s = (e, s, tt)
 plain-number_field room name (negsuc n) e s = (e, s, tt)
 
-pub plain-no_text : (room : ℕ) (name bytes : List ℕ) → bytes ≡ [] → IsPlain room (text_field name bytes)
+pub plain-text_field : (room : ℕ) (name bytes : List ℕ) → is_identifier name ≡ true → is_utf8 bytes ≡ true → IsPlain room (text_field name bytes)
 unfolding text_field
-plain-no_text room name [] e = tt
-plain-no_text room name (b ∷ bytes) e = cc
+plain-text_field room name [] e utf8 = tt
+plain-text_field room name (b ∷ bytes) e utf8 = (e, utf8, tt)
+
+-- a word that can stand in a text, or none
+abbrev pub IsWord : List ℕ → Type 0
+IsWord [] = Unit {0}
+IsWord (b ∷ bytes) = is_identifier (b ∷ bytes) ≡ true
+
+pub plain-word_field : (room : ℕ) (name w : List ℕ) → is_identifier name ≡ true → IsWord w → IsPlain room (word_field name w)
+unfolding word_field
+plain-word_field room name [] e i = tt
+plain-word_field room name (b ∷ bytes) e i = (e, i, tt)
 
 pub plain-message_field : (room : ℕ) (name : List ℕ) (fields : Message) → is_identifier name ≡ true → IsPlain room fields → IsPlain (suc room) (message_field name fields)
 plain-message_field room name fields e p = (e, p, tt)
@@ -82,20 +95,31 @@ admitted-number m before name (pos zero) type others takes first fit none some =
 admitted-number m before name (pos (suc n)) type others takes first fit none some = (record { type = type; takes = takes; first = first; fit = fit }, some)
 admitted-number m before name (negsuc n) type others takes first fit none some = (record { type = type; takes = takes; first = first; fit = fit }, some)
 
-pub admitted-no_text : (m : tables.Message) (before : List (List ℕ)) (name bytes : List ℕ) (others : Message) → bytes ≡ [] → IsAdmitted m before others → IsAdmitted m before (followed_by (text_field name bytes) others)
+pub admitted-text : (m : tables.Message) (before : List (List ℕ)) (name bytes : List ℕ) (others : Message) → use_of m name ≡ Some (tables.single tables.text) → is_given before name ≡ false → IsAdmitted m before others → IsAdmitted m (name ∷ before) others → IsAdmitted m before (followed_by (text_field name bytes) others)
 unfolding followed_by text_field
-admitted-no_text m before name [] others e a = a
-admitted-no_text m before name (b ∷ bytes) others e a = cc
+admitted-text m before name [] others takes first none some = none
+admitted-text m before name (b ∷ bytes) others takes first none some = (record { takes = takes; first = first }, some)
+
+-- the name of a member, or nothing
+abbrev pub IsMember : Enum → List ℕ → Type 0
+IsMember enum [] = Unit {0}
+IsMember enum (b ∷ bytes) = (k : ℕ) × (member_named enum false (b ∷ bytes) ≡ Ok k)
+
+pub admitted-word : (m : tables.Message) (before : List (List ℕ)) (name w : List ℕ) (enum : Enum) (others : Message) → use_of m name ≡ Some (tables.single (tables.member enum)) → is_given before name ≡ false → IsMember enum w → IsAdmitted m before others → IsAdmitted m (name ∷ before) others → IsAdmitted m before (followed_by (word_field name w) others)
+unfolding followed_by word_field
+admitted-word m before name [] enum others takes first named none some = none
+admitted-word m before name (b ∷ bytes) enum others takes first named none some =
+    (record { enum = enum; member = named.0; takes = takes; first = first; named = named.1 }, some)
 
 pub admitted-message : (m : tables.Message) (before : List (List ℕ)) (name : List ℕ) (fields others : Message) → TakesMessage m before name (λ k. IsAdmitted k [] fields) → IsAdmitted m (name ∷ before) others → IsAdmitted m before (followed_by (message_field name fields) others)
 unfolding followed_by
 admitted-message m before name fields others takes some = (takes, some)
 
-pub admitted-repeated : {X : Type 0} (m : tables.Message) (name : List ℕ) (printed : X → Message) (k : tables.Message) (others : Message) (Free : List (List ℕ) → Type 0) → use_of m name ≡ Some (tables.repeated (tables.message k)) → ((before : List (List ℕ)) → Free before → Free (name ∷ before)) → ((before : List (List ℕ)) → Free before → IsAdmitted m before others) → (xs : List X) → Each (λ x. IsAdmitted k [] (printed x)) xs → (before : List (List ℕ)) → Free before → IsAdmitted m before (followed_by (repeated_field name printed xs) others)
+pub admitted-repeated : {X : Type 0} (m : tables.Message) (name : List ℕ) (printed : X → Message) (k : tables.Message) (others : Message) (Free : List (List ℕ) → Type 0) → ((before : List (List ℕ)) (fields : Message) → Free before → IsAdmitted k [] fields → TakesMessage m before name (λ j. IsAdmitted j [] fields)) → ((before : List (List ℕ)) → Free before → Free (name ∷ before)) → ((before : List (List ℕ)) → Free before → IsAdmitted m before others) → (xs : List X) → Each (λ x. IsAdmitted k [] (printed x)) xs → (before : List (List ℕ)) → Free before → IsAdmitted m before (followed_by (repeated_field name printed xs) others)
 unfolding followed_by repeated_field
 admitted-repeated m name printed k others Free takes kept rest [] a before free = rest before free
 admitted-repeated m name printed k others Free takes kept rest (x ∷ xs) a before free =
-    (each k takes a.0, admitted-repeated m name printed k others Free takes kept rest xs a.1 (name ∷ before) (kept before free))
+    (takes before (printed x) free a.0, admitted-repeated m name printed k others Free takes kept rest xs a.1 (name ∷ before) (kept before free))
 
 pub given-other : (before : List (List ℕ)) (other name : List ℕ) → bytes_eq name other ≡ false → is_given before name ≡ false → is_given (other ∷ before) name ≡ false
 unfolding is_given
@@ -140,6 +164,71 @@ unfolding text_field
 printed_numbers-text_field name other [] = refl
 printed_numbers-text_field name other (b ∷ bytes) = refl
 
+pub printed_numbers-word_field : (name other w : List ℕ) → printed_numbers name (word_field other w) ≡ []
+unfolding word_field
+printed_numbers-word_field name other [] = refl
+printed_numbers-word_field name other (b ∷ bytes) = refl
+
+pub printed_numbers-repeated_field : {X : Type 0} (name other : List ℕ) (printed : X → Message) (xs : List X) → printed_numbers name (repeated_field other printed xs) ≡ []
+unfolding repeated_field
+printed_numbers-repeated_field name other printed [] = refl
+printed_numbers-repeated_field name other printed (x ∷ xs) = printed_numbers-repeated_field name other printed xs
+
+pub printed_texts-followed_by : (name : List ℕ) (a b : Message) → printed_texts name (followed_by a b) ≡ printed_texts name a ++ printed_texts name b
+unfolding followed_by
+printed_texts-followed_by name empty b = refl
+printed_texts-followed_by name (number other n more) b = printed_texts-followed_by name more b
+printed_texts-followed_by name (numbers other n ns more) b = printed_texts-followed_by name more b
+printed_texts-followed_by name (word other w more) b = printed_texts-followed_by name more b
+printed_texts-followed_by name (quoted other bytes more) b =
+    ap (λ xs. (if bytes_eq other name then bytes ∷ [] else []) ++ xs) (printed_texts-followed_by name more b) ∙ sym (append_assoc (if bytes_eq other name then bytes ∷ [] else []) (printed_texts name more) (printed_texts name b))
+printed_texts-followed_by name (message other inner more) b = printed_texts-followed_by name more b
+
+pub printed_texts-list_field : (name other : List ℕ) (ns : List ℤ) → printed_texts name (list_field other ns) ≡ []
+unfolding list_field
+printed_texts-list_field name other [] = refl
+printed_texts-list_field name other (n ∷ ns) = refl
+
+pub printed_texts-repeated_field : {X : Type 0} (name other : List ℕ) (printed : X → Message) (xs : List X) → printed_texts name (repeated_field other printed xs) ≡ []
+unfolding repeated_field
+printed_texts-repeated_field name other printed [] = refl
+printed_texts-repeated_field name other printed (x ∷ xs) = printed_texts-repeated_field name other printed xs
+
+-- a text that is written unless it is empty
+abbrev pub text_list : List ℕ → List (List ℕ)
+text_list [] = []
+text_list (b ∷ bytes) = (b ∷ bytes) ∷ []
+
+pub printed_texts-text_field : (name other bytes : List ℕ) → printed_texts name (text_field other bytes) ≡ (if bytes_eq other name then text_list bytes else [])
+unfolding text_field
+printed_texts-text_field name other [] = sym (same_choice {X = List (List ℕ)} (bytes_eq other name) [])
+printed_texts-text_field name other (b ∷ bytes) = append-nil (if bytes_eq other name then (b ∷ bytes) ∷ [] else [])
+
+pub printed_members-followed_by : (enum : Enum) (name : List ℕ) (a b : Message) → printed_members enum name (followed_by a b) ≡ printed_members enum name a ++ printed_members enum name b
+unfolding followed_by
+printed_members-followed_by enum name empty b = refl
+printed_members-followed_by enum name (number other n more) b = printed_members-followed_by enum name more b
+printed_members-followed_by enum name (numbers other n ns more) b = printed_members-followed_by enum name more b
+printed_members-followed_by enum name (word other w more) b =
+    ap (λ xs. (if bytes_eq other name then ok_or_zero (member_named enum false w) ∷ [] else []) ++ xs) (printed_members-followed_by enum name more b) ∙ sym (append_assoc (if bytes_eq other name then ok_or_zero (member_named enum false w) ∷ [] else []) (printed_members enum name more) (printed_members enum name b))
+printed_members-followed_by enum name (quoted other bytes more) b = printed_members-followed_by enum name more b
+printed_members-followed_by enum name (message other inner more) b = printed_members-followed_by enum name more b
+
+pub printed_members-repeated_field : {X : Type 0} (enum : Enum) (name other : List ℕ) (printed : X → Message) (xs : List X) → printed_members enum name (repeated_field other printed xs) ≡ []
+unfolding repeated_field
+printed_members-repeated_field enum name other printed [] = refl
+printed_members-repeated_field enum name other printed (x ∷ xs) = printed_members-repeated_field enum name other printed xs
+
+-- a member that is written unless it has no name
+abbrev pub member_list : Enum → List ℕ → List ℕ
+member_list enum [] = []
+member_list enum (b ∷ bytes) = ok_or_zero (member_named enum false (b ∷ bytes)) ∷ []
+
+pub printed_members-word_field : (enum : Enum) (name other w : List ℕ) → printed_members enum name (word_field other w) ≡ (if bytes_eq other name then member_list enum w else [])
+unfolding word_field
+printed_members-word_field enum name other [] = sym (same_choice {X = List ℕ} (bytes_eq other name) [])
+printed_members-word_field enum name other (b ∷ bytes) = append-nil (if bytes_eq other name then ok_or_zero (member_named enum false (b ∷ bytes)) ∷ [] else [])
+
 pub printed_messages-followed_by : (name : List ℕ) (a b : Message) → printed_messages name (followed_by a b) ≡ printed_messages name a ++ printed_messages name b
 unfolding followed_by
 printed_messages-followed_by name empty b = refl
@@ -160,6 +249,11 @@ unfolding text_field
 printed_messages-text_field name other [] = refl
 printed_messages-text_field name other (b ∷ bytes) = refl
 
+pub printed_messages-word_field : (name other w : List ℕ) → printed_messages name (word_field other w) ≡ []
+unfolding word_field
+printed_messages-word_field name other [] = refl
+printed_messages-word_field name other (b ∷ bytes) = refl
+
 pub printed_messages-message_field : (name other : List ℕ) (fields : Message) → printed_messages name (message_field other fields) ≡ (if bytes_eq other name then fields ∷ [] else [])
 printed_messages-message_field name other fields = append-nil (if bytes_eq other name then fields ∷ [] else [])
 
@@ -173,4 +267,4 @@ printed_messages-repeated_field name other printed [] = sym (same_choice {X = Li
 printed_messages-repeated_field name other printed (x ∷ xs) =
     ap (λ ms. (if bytes_eq other name then printed x ∷ [] else []) ++ ms) (printed_messages-repeated_field name other printed xs) ∙ choice-cons (bytes_eq other name) (printed x) (map printed xs)
 
-pub ruleset printed = (printed_numbers-followed_by, printed_numbers-list_field, printed_numbers-number_field, printed_numbers-text_field, printed_messages-followed_by, printed_messages-list_field, printed_messages-text_field, printed_messages-message_field, printed_messages-repeated_field, append-nil)
+pub ruleset printed = (printed_numbers-followed_by, printed_numbers-list_field, printed_numbers-number_field, printed_numbers-text_field, printed_numbers-word_field, printed_numbers-repeated_field, printed_texts-followed_by, printed_texts-list_field, printed_texts-repeated_field, printed_texts-text_field, printed_members-followed_by, printed_members-repeated_field, printed_members-word_field, printed_messages-followed_by, printed_messages-list_field, printed_messages-text_field, printed_messages-word_field, printed_messages-message_field, printed_messages-repeated_field, append-nil)

@@ -1,8 +1,13 @@
 pub mod Lines
 pub mod Digits
 pub mod Pieces
+pub mod Quoted
 pub mod Cuts
 pub mod Shown
 pub mod Readable
 pub mod Fitting
+pub mod Back
+pub mod Constraints
+pub mod Objectives
+pub mod Steering
 pub mod RoundTrip

@@ -1,9 +1,10 @@
 -- What a model is like that a document is read as.
 use Rattle.std.specs.Prelude.{map, if◌then◌else◌, codes}
 use Rattle.std.specs.List.{list_all}
-use Rattle.std.specs.Str.{bytes_eq}
-use Rattle.std.specs.Option.{option_or}
+use Rattle.std.specs.Str.{bytes_eq, is_utf8}
+use Rattle.std.specs.Option.{option_or, option_to_list, unwrap_or}
 use Rattle.std.proofs.lemmas.Slice.Eq.{bytes_eq-Decides}
+use Rattle.std.proofs.lemmas.Str.{is_utf8-from_IsUtf8, IsUtf8-nil}
 use Rattle.std.proofs.lemmas.List.Folds.{list_all-append}
 use Rattle.std.proofs.Common.{◌≡◌, ◌≢◌, ℕ, zero, suc, Bool, true, false, ◌&&◌, ℤ, pos, negsuc, List, [], ◌∷◌, ◌++◌, Option, Some, None, is_some, refl, sym, subst, ap, ◌∙◌}
 use Rattle.cps_lex.specs.declared.types.TokenKind.{TokenKind}
@@ -12,6 +13,9 @@ use Rattle.cps_model.specs.declared.fault.FaultName.{FaultName}
 use Rattle.cps_model.specs.declared.model.CpModel.{CpModel}
 use Rattle.cps_model.specs.declared.model.Variable.{Variable}
 use Rattle.cps_model.specs.declared.model.Objective.{Objective}
+use Rattle.cps_model.specs.declared.model.LinearExpr.{LinearExpr}
+use Rattle.cps_model.specs.declared.steering.Strategy.{Strategy}
+use Rattle.cps_model.specs.declared.steering.Hint.{Hint}
 use Rattle.cps_model.specs.declared.constraint.Constraint.{Constraint}
 use Rattle.cps_model.specs.declared.constraint.Kind.{Kind}
 use Rattle.cps_model.specs.declared.constraint.Kind.TheVariants.{Empty, BoolOr, BoolAnd, AtMostOne, ExactlyOne, BoolXor, Linear}
@@ -22,11 +26,12 @@ use Rattle.cps_schema.specs.declared.number.Number.{Number}
 use Rattle.cps_schema.specs.declared.number.Number.TheVariants.{Int64, Int32, Exact}
 use Rattle.cps_schema.specs.Numbers.{fits, misfit, token_fault, kind_fault, number_fault}
 use Rattle.cps_schema.specs.Tables as tables
-use Rattle.cps_schema.specs.Tables.{use_of, content_of, model_message, variable_message, constraint_message, literals_message, linear_message, objective_message}
+use Rattle.cps_schema.specs.Tables.{use_of, content_of, model_message, variable_message, constraint_message, literals_message, linear_message, objective_message, strategy_message, expression_message, hint_message}
+use Rattle.cps_schema.specs.Texts.{scalar_tokens, is_string, joined, text_at}
 use Rattle.cps_schema.specs.Kinds.{message_of, kind_named}
-use Rattle.cps_schema.specs.Faults.{refused_at, fields_fault, values_fault}
+use Rattle.cps_schema.specs.Faults.{refused_at, text_fault, fields_fault, values_fault}
 use Rattle.cps_schema.specs.Readings as readings
-use Rattle.cps_schema.specs.Readings.{first_or, first_of, value_numbers, value_messages, messages, read_variable, read_literals, read_linear, read_kind, kinds_of, given_kinds, read_constraint, scaling_of, read_objective, read_model}
+use Rattle.cps_schema.specs.Readings.{first_or, first_of, value_numbers, value_texts, value_messages, messages, read_name, read_variable, read_literals, read_linear, read_kind, kinds_of, given_kinds, read_constraint, scaling_of, read_objective, read_expression, reference_expression, read_strategy, read_hint, read_model}
 use Rattle.cps_schema.proofs.GivenKinds.{named_text, kind_use}
 use Rattle.cps_print.proofs.Digits.{and_true}
 
@@ -37,8 +42,12 @@ Each P (x ∷ xs) = P x × Each P xs
 abbrev pub AreFit : Number → List ℤ → Type 0
 AreFit type ns = list_all (fits type) ns ≡ true
 
+-- a text that can stand in quotes
+abbrev pub IsReadableText : List ℕ → Type 0
+IsReadableText bytes = is_utf8 bytes ≡ true
+
 pub record IsReadableVariable (v : Variable) : Type 0 where
-  pub name : v.name ≡ []
+  pub name : IsReadableText v.name
   pub domain : AreFit Int64 v.domain
 
 abbrev pub IsReadableKind : Kind → Type 0
@@ -51,7 +60,7 @@ IsReadableKind (BoolXor literals) = AreFit Int32 literals
 IsReadableKind (Linear vars coeffs domain) = AreFit Int32 vars × AreFit Int64 coeffs × AreFit Int64 domain
 
 pub record IsReadableConstraint (c : Constraint) : Type 0 where
-  pub name : c.name ≡ []
+  pub name : IsReadableText c.name
   pub enforcement : AreFit Int32 c.enforcement
   pub kind : IsReadableKind c.kind
 
@@ -63,17 +72,25 @@ pub record IsReadableObjective (o : Objective) : Type 0 where
   pub scaled : o.scaling ≢ pos 0
   pub domain : AreFit Int64 o.domain
 
-abbrev pub IsReadableOption : Option Objective → Type 0
-IsReadableOption None = Unit {0}
-IsReadableOption (Some o) = IsReadableObjective o
+pub record IsReadableExpression (e : LinearExpr) : Type 0 where
+  pub vars : AreFit Int32 e.vars
+  pub coeffs : AreFit Int64 e.coeffs
+  pub offset : fits Int64 e.offset ≡ true
+
+abbrev pub IsReadableStrategy : Strategy → Type 0
+IsReadableStrategy s = Each IsReadableExpression s.exprs
+
+pub record IsReadableHint (h : Hint) : Type 0 where
+  pub vars : AreFit Int32 h.vars
+  pub values : AreFit Int64 h.values
 
 pub record IsReadable (m : CpModel) : Type 0 where
-  pub name : m.name ≡ []
+  pub name : IsReadableText m.name
   pub variables : Each IsReadableVariable m.variables
   pub constraints : Each IsReadableConstraint m.constraints
-  pub objective : IsReadableOption m.objective
-  pub strategies : m.strategies ≡ []
-  pub hint : m.hint ≡ None
+  pub objective : Each IsReadableObjective (option_to_list m.objective)
+  pub strategies : Each IsReadableStrategy m.strategies
+  pub hint : Each IsReadableHint (option_to_list m.hint)
   pub assumptions : m.assumptions ≡ []
 
 each_append : {X : Type 0} (P : X → Type 0) (xs ys : List X) → Each P xs → Each P ys → Each P (xs ++ ys)
@@ -160,11 +177,51 @@ messages_sound w m before name k (field token list values rest) takes e =
         each_append (λ t. fields_fault w k [] t ≡ None) (value_messages values) others (values_sound w k values clean) rest
     here w m name k token values others takes e rest false same = rest
 
+-- and the texts of a name are UTF-8
+
+text_utf8 : (w : Written) (first end : ℕ) → text_fault (text_at w first end) ≡ None → IsReadableText (unwrap_or (text_at w first end) [])
+unfolding text_at
+text_utf8 w first end e = by (list_all is_string (scalar_tokens w first end)) (is_utf8 (joined w first end)) refl e where
+  by : (strings utf8 : Bool) → is_utf8 (joined w first end) ≡ utf8 → text_fault (if strings && utf8 then Some (joined w first end) else None) ≡ None → IsReadableText (unwrap_or (if strings && utf8 then Some (joined w first end) else None) [])
+  by true true is e = is
+  by true false is e = cc
+  by false utf8 is e = cc
+
+values_utf8 : (w : Written) (values : Values) → values_fault w (Some tables.text) values ≡ None → Each IsReadableText (value_texts w values)
+values_utf8 w no_values e = tt
+values_utf8 w (scalar_value first end rest) e =
+    let parts = or_none (refused_at first (text_fault (text_at w first end))) _ e in
+    (text_utf8 w first end (refused_none first _ parts.0), values_utf8 w rest parts.1)
+values_utf8 w (message_value first inner rest) e = cc
+
+pub texts_utf8 : (w : Written) (m : tables.Message) (before : List (List ℕ)) (name : List ℕ) (t : Tree) → content_of (use_of m name) ≡ Some tables.text → fields_fault w m before t ≡ None → Each IsReadableText (readings.texts w name t)
+texts_utf8 w m before name no_fields takes e = tt
+texts_utf8 w m before name (field token list values rest) takes e =
+    let parts = or_none _ _ e in
+    let inner = or_none (values_fault w (content_of (use_of m (token_text w token))) values) _ parts.1 in
+    here w m name token values (readings.texts w name rest) takes inner.0
+    (texts_utf8 w m (token_text w token ∷ before) name rest takes inner.1) (bytes_eq (token_text w token) name) refl
+  where
+    here : (w : Written) (m : tables.Message) (name : List ℕ) (token : ℕ) (values : Values) (others : List (List ℕ)) → content_of (use_of m name) ≡ Some tables.text → values_fault w (content_of (use_of m (token_text w token))) values ≡ None → Each IsReadableText others → (same : Bool) → bytes_eq (token_text w token) name ≡ same → Each IsReadableText ((if same then value_texts w values else []) ++ others)
+    here w m name token values others takes e rest true same =
+        let is = same_name (token_text w token) name same in
+        let content : content_of (use_of m (token_text w token)) ≡ Some tables.text = ap (λ n. content_of (use_of m n)) is ∙ takes in
+        let clean : values_fault w (Some tables.text) values ≡ None = sym (ap (λ c. values_fault w c values) content) ∙ e in
+        each_append IsReadableText (value_texts w values) others (values_utf8 w values clean) rest
+    here w m name token values others takes e rest false same = rest
+
+first_text : (ts : List (List ℕ)) → Each IsReadableText ts → IsReadableText (first_or [] ts)
+first_text [] e = is_utf8-from_IsUtf8 [] IsUtf8-nil
+first_text (t ∷ ts) e = e.0
+
+name_utf8 : (w : Written) (m : tables.Message) (t : Tree) → content_of (use_of m (codes "name")) ≡ Some tables.text → fields_fault w m [] t ≡ None → IsReadableText (read_name w t)
+name_utf8 w m t takes e = first_text _ (texts_utf8 w m [] (codes "name") t takes e)
+
 -- what each message is read as
 
 variable_readable : (w : Written) (t : Tree) → fields_fault w variable_message [] t ≡ None → IsReadableVariable (read_variable w t)
 unfolding use_of
-variable_readable w t e = record { name = refl; domain = numbers_fit w variable_message [] (codes "domain") Int64 t refl e }
+variable_readable w t e = record { name = name_utf8 w variable_message t refl e; domain = numbers_fit w variable_message [] (codes "domain") Int64 t refl e }
 
 literals_fit : (w : Written) (t : Tree) → fields_fault w literals_message [] t ≡ None → AreFit Int32 (read_literals w t)
 unfolding use_of
@@ -209,19 +266,20 @@ first_kind (k ∷ ks) e = e.0
 constraint_readable : (w : Written) (t : Tree) → fields_fault w constraint_message [] t ≡ None → IsReadableConstraint (read_constraint w t)
 unfolding use_of
 constraint_readable w t e = record {
-  name = refl;
+  name = name_utf8 w constraint_message t refl e;
   enforcement = numbers_fit w constraint_message [] (codes "enforcement_literal") Int32 t refl e;
   kind = first_kind (given_kinds w t) (kinds_readable w [] t e);
 }
 
-first_fit : (ns : List ℤ) → AreFit Exact ns → fits Exact (first_or (pos 0) ns) ≡ true
+zero_fits : (type : Number) → fits type (pos 0) ≡ true
 unfolding fits
-first_fit [] e = refl
-first_fit (n ∷ ns) e = left (fits Exact n) _ e
-  where
-    left : (a b : Bool) → (a && b) ≡ true → a ≡ true
-    left true b e = refl
-    left false b e = cc
+zero_fits Int64 = refl
+zero_fits Int32 = refl
+zero_fits Exact = refl
+
+first_fit : (type : Number) (ns : List ℤ) → AreFit type ns → fits type (first_or (pos 0) ns) ≡ true
+first_fit type [] e = zero_fits type
+first_fit type (n ∷ ns) e = (and_true (fits type n) (list_all (fits type) ns) e).0
 
 scaling_fit : (z : ℤ) → fits Exact z ≡ true → fits Exact (scaling_of z) ≡ true
 unfolding fits
@@ -239,27 +297,60 @@ unfolding use_of
 objective_readable w t e = record {
   vars = numbers_fit w objective_message [] (codes "vars") Int32 t refl e;
   coeffs = numbers_fit w objective_message [] (codes "coeffs") Int64 t refl e;
-  offset = first_fit _ (numbers_fit w objective_message [] (codes "offset") Exact t refl e);
-  scaling = scaling_fit _ (first_fit _ (numbers_fit w objective_message [] (codes "scaling_factor") Exact t refl e));
+  offset = first_fit Exact _ (numbers_fit w objective_message [] (codes "offset") Exact t refl e);
+  scaling = scaling_fit _ (first_fit Exact _ (numbers_fit w objective_message [] (codes "scaling_factor") Exact t refl e));
   scaled = scaling_nonzero _;
   domain = numbers_fit w objective_message [] (codes "domain") Int64 t refl e;
 }
 
-option_readable : (w : Written) (ts : List Tree) → Each (λ t. fields_fault w objective_message [] t ≡ None) ts → IsReadableOption (first_of (map (read_objective w) ts))
-option_readable w [] e = tt
-option_readable w (t ∷ ts) e = objective_readable w t e.0
+expression_readable : (w : Written) (t : Tree) → fields_fault w expression_message [] t ≡ None → IsReadableExpression (read_expression w t)
+unfolding use_of
+expression_readable w t e = record {
+  vars = numbers_fit w expression_message [] (codes "vars") Int32 t refl e;
+  coeffs = numbers_fit w expression_message [] (codes "coeffs") Int64 t refl e;
+  offset = first_fit Int64 _ (numbers_fit w expression_message [] (codes "offset") Int64 t refl e);
+}
+
+references_readable : (rs : List ℤ) → AreFit Int32 rs → Each IsReadableExpression (map reference_expression rs)
+unfolding fits
+references_readable [] e = tt
+references_readable (r ∷ rs) e =
+    let both = and_true (fits Int32 r) (list_all (fits Int32) rs) e in
+    (record { vars = both_true _ _ both.0 refl; coeffs = refl; offset = refl }, references_readable rs both.1)
+
+strategy_readable : (w : Written) (t : Tree) → fields_fault w strategy_message [] t ≡ None → IsReadableStrategy (read_strategy w t)
+unfolding use_of
+strategy_readable w t e =
+    each_append IsReadableExpression _ _
+    (each_map (λ t. fields_fault w expression_message [] t ≡ None) IsReadableExpression (read_expression w) (expression_readable w) (messages w (codes "exprs") t) (messages_sound w strategy_message [] (codes "exprs") expression_message t refl e))
+    (references_readable _ (numbers_fit w strategy_message [] (codes "variables") Int32 t refl e))
+
+hint_readable : (w : Written) (t : Tree) → fields_fault w hint_message [] t ≡ None → IsReadableHint (read_hint w t)
+unfolding use_of
+hint_readable w t e = record {
+  vars = numbers_fit w hint_message [] (codes "vars") Int32 t refl e;
+  values = numbers_fit w hint_message [] (codes "values") Int64 t refl e;
+}
+
+first_readable : {X : Type 0} (P : X → Type 0) (xs : List X) → Each P xs → Each P (option_to_list (first_of xs))
+first_readable P [] e = tt
+first_readable P (x ∷ xs) e = (e.0, tt)
 
 model_readable : (w : Written) (t : Tree) → fields_fault w model_message [] t ≡ None → IsReadable (read_model w t)
 unfolding use_of
-model_readable w t e = record {
-  name = refl;
-  variables = each_map (λ t. fields_fault w variable_message [] t ≡ None) IsReadableVariable (read_variable w) (variable_readable w) (messages w (codes "variables") t) (messages_sound w model_message [] (codes "variables") variable_message t refl e);
-  constraints = each_map (λ t. fields_fault w constraint_message [] t ≡ None) IsReadableConstraint (read_constraint w) (constraint_readable w) (messages w (codes "constraints") t) (messages_sound w model_message [] (codes "constraints") constraint_message t refl e);
-  objective = option_readable w (messages w (codes "objective") t) (messages_sound w model_message [] (codes "objective") objective_message t refl e);
-  strategies = refl;
-  hint = refl;
-  assumptions = refl;
-}
+model_readable w t e =
+    let objectives = messages_sound w model_message [] (codes "objective") objective_message t refl e in
+    let strategies = messages_sound w model_message [] (codes "search_strategy") strategy_message t refl e in
+    let hints = messages_sound w model_message [] (codes "solution_hint") hint_message t refl e in
+    record {
+      name = name_utf8 w model_message t refl e;
+      variables = each_map (λ t. fields_fault w variable_message [] t ≡ None) IsReadableVariable (read_variable w) (variable_readable w) (messages w (codes "variables") t) (messages_sound w model_message [] (codes "variables") variable_message t refl e);
+      constraints = each_map (λ t. fields_fault w constraint_message [] t ≡ None) IsReadableConstraint (read_constraint w) (constraint_readable w) (messages w (codes "constraints") t) (messages_sound w model_message [] (codes "constraints") constraint_message t refl e);
+      objective = first_readable IsReadableObjective _ (each_map (λ t. fields_fault w objective_message [] t ≡ None) IsReadableObjective (read_objective w) (objective_readable w) (messages w (codes "objective") t) objectives);
+      strategies = each_map (λ t. fields_fault w strategy_message [] t ≡ None) IsReadableStrategy (read_strategy w) (strategy_readable w) (messages w (codes "search_strategy") t) strategies;
+      hint = first_readable IsReadableHint _ (each_map (λ t. fields_fault w hint_message [] t ≡ None) IsReadableHint (read_hint w) (hint_readable w) (messages w (codes "solution_hint") t) hints);
+      assumptions = refl;
+    }
 
 pub read_is_readable : (w : Written) (t : Tree) (m : CpModel) → readings.ReadsAs w t m → IsReadable m
 read_is_readable w t m r = subst IsReadable (sym r.reading) (model_readable w t r.accepted)

@@ -1,25 +1,37 @@
 -- The tree of a printed message shows its fields, and what is read of it is what was printed.
-use Rattle.std.specs.Prelude.{map, if◌then◌else◌}
+use Rattle.std.specs.Prelude.{map, slice_get, if◌then◌else◌}
 use Rattle.std.specs.List.{list_all, AllZip}
-use Rattle.std.specs.Str.{bytes_eq}
+use Rattle.std.specs.Str.{bytes_eq, is_utf8}
+use Rattle.std.specs.Option.{option_map, option_map_or}
+use Rattle.std.proofs.lemmas.Slice.Eq.{bytes_eq-Decides}
 use Rattle.std.specs.Fmt.{decimal}
 use Rattle.std.proofs.lemmas.Bool.Decides.{nat_tests}
-use Rattle.std.proofs.Common.{◌≡◌, ℕ, zero, suc, ◌^◌, ◌<◌, Bool, true, false, ◌==◌, ℤ, pos, negsuc, List, [], ◌∷◌, ◌++◌, Some, None, is_some, refl, add-one, arith}
-use Rattle.cps_lex.specs.declared.types.TokenKind.TheVariants.{Decimal}
-use Rattle.cps_lex.specs.Bytes.{is_digit}
+use Rattle.std.proofs.Common.{◌≡◌, ◌≢◌, ℕ, zero, suc, ◌-◌, ◌^◌, ◌<◌, Bool, true, false, ◌==◌, ℤ, pos, negsuc, List, [], ◌∷◌, ◌++◌, take, drop, Option, Some, None, is_some, Ok, refl, sym, ap, ◌∙◌, append-nil, add-one, arith}
+use Rattle.cps_lex.specs.declared.types.Token.{Token}
+use Rattle.cps_lex.specs.declared.types.TokenKind.TheVariants.{Identifier, Decimal, Text}
+use Rattle.cps_lex.specs.Bytes.{is_digit, is_word_start, is_word}
+use Rattle.cps_lex.specs.Forms.{is_identifier}
+use Rattle.cps_lex.specs.Tokens.{text_of}
+use Rattle.cps_lex.specs.Texts.{text_value}
 use Rattle.cps_textproto.specs.Trees.{Tree, no_fields, field, Values, no_values, scalar_value, message_value}
 use Rattle.cps_textproto.specs.Reading.{past_scalar, past_others, past_fields, others_at, tree_at}
 use Rattle.cps_schema.specs.Written.{Written, token_text, token_kind, is_negative, unsigned_token, size_at, number_at}
 use Rattle.cps_schema.specs.Numbers.{fits, number_fault}
+use Rattle.cps_schema.specs.Texts.{text_at}
+use Rattle.cps_schema.specs.Members.{member_at, member_named}
+use Rattle.cps_schema.specs.declared.form.Form.{Form}
+use Rattle.cps_schema.specs.declared.member.Enum.{Enum}
 use Rattle.cps_schema.specs.declared.number.Number.{Number}
 use Rattle.cps_schema.specs.Tables as tables
-use Rattle.cps_schema.specs.Tables.{use_of, content_of, is_given}
-use Rattle.cps_schema.specs.Faults.{has_kind, fields_fault, values_fault}
+use Rattle.cps_schema.specs.Tables.{Content, Use, use_of, content_of, is_given}
+use Rattle.cps_schema.specs.Faults.{has_kind, has_other_form, fields_fault, values_fault}
 use Rattle.cps_schema.specs.Readings as readings
-use Rattle.cps_schema.specs.Readings.{value_numbers, value_messages, messages}
+use Rattle.cps_schema.specs.Readings.{ok_or_zero, value_numbers, value_messages, messages}
 use Rattle.cps_print.specs.Layout.{Message, empty, number, numbers, word, quoted, message}
+use Rattle.cps_print.specs.Quoting.{in_quotes}
 use Rattle.cps_print.proofs.Digits.{decimal_text, decimal_value-decimal, and_true}
 use Rattle.cps_print.proofs.Pieces.{Piece, blank, AreWritten}
+use Rattle.cps_print.proofs.Quoted.{quoted_text}
 use Rattle.cps_print.proofs.Cuts.{IsShort, AreShort, IsPlain, sign, number_pieces, others_pieces, indent_pieces, pieces, scalar_of, fields_of}
 
 -- a scalar that begins at this token is this number
@@ -32,17 +44,58 @@ ShowNumbers w [] no_values = Unit {0}
 ShowNumbers w (n ∷ ns) (scalar_value first end rest) = ShowsNumber w n first × ShowNumbers w ns rest
 ShowNumbers w _ _ = ⊥
 
+-- a word gives the member of that name
+abbrev pub ShowsWord : Written → List ℕ → ℕ → Type 0
+ShowsWord w x first = (enum : Enum) → member_at w enum first ≡ member_named enum false x
+
 abbrev pub Shows : Written → Message → Tree → Type 0
 Shows w empty no_fields = Unit {0}
 Shows w (number name n more) (field token false values rest) =
     (token_text w token ≡ name) × ShowNumbers w (n ∷ []) values × Shows w more rest
 Shows w (numbers name n ns more) (field token true values rest) =
     (token_text w token ≡ name) × ShowNumbers w (n ∷ ns) values × Shows w more rest
+Shows w (word name x more) (field token false (scalar_value first end no_values) rest) =
+    (token_text w token ≡ name) × ShowsWord w x first × Shows w more rest
+Shows w (quoted name bytes more) (field token false (scalar_value first end no_values) rest) =
+    (token_text w token ≡ name) × (text_at w first end ≡ Some bytes) × Shows w more rest
 Shows w (message name inner more) (field token false (message_value first tree no_values) rest) =
     (token_text w token ≡ name) × Shows w inner tree × Shows w more rest
 Shows w _ _ = ⊥
 
 -- the tree shows what is written on the tokens
+
+-- a token of its own is taken alone
+one_taken : {X : Type 0} (xs : List X) (k : ℕ) (x : X) → slice_get xs k ≡ Some x → take 1 (drop k xs) ≡ x ∷ []
+one_taken [] zero x e = cc
+one_taken [] (suc k) x e = cc
+one_taken (y ∷ xs) zero x e = let same : y ≡ x = cc in rw same refl
+one_taken (y ∷ xs) (suc k) x e = one_taken xs k x e
+
+text_shown : (w : Written) (k : ℕ) (bytes : List ℕ) → is_utf8 bytes ≡ true → token_text w k ≡ in_quotes bytes → token_kind w k ≡ Some Text → text_at w k (suc k) ≡ Some bytes
+unfolding token_text token_kind text_at
+text_shown w k bytes utf8 text kind = by (slice_get w.tokens k) refl text kind where
+  by : (o : Option Token) → slice_get w.tokens k ≡ o → option_map_or (text_of w.bytes) o [] ≡ in_quotes bytes → option_map (λ t. t.kind) o ≡ Some Text → text_at w k (suc k) ≡ Some bytes
+  by None found text kind = cc
+  by (Some t) found text kind =
+      let one : suc k - k ≡ 1 = omega arith in
+      let alone = one_taken w.tokens k t found in
+      let string : t.kind ≡ Text = cc in
+      let value : text_value (text_of w.bytes t) ≡ bytes = ap text_value text ∙ (quoted_text bytes utf8).gives in
+      rw (one, alone, string, value, append-nil, utf8) refl
+
+word_positive : (x : List ℕ) → is_identifier x ≡ true → bytes_eq x (45 ∷ []) ≡ false
+unfolding is_word_start
+word_positive [] e = refl
+word_positive (b ∷ bs) e =
+    let both = and_true (is_word_start b) (list_all is_word bs) e in
+    let other : (b == 45) ≡ false = grind (arith, nat_tests) in
+    rw other refl
+
+word_shown : (w : Written) (k : ℕ) (x : List ℕ) → is_identifier x ≡ true → token_text w k ≡ x → token_kind w k ≡ Some Identifier → ShowsWord w x k
+unfolding member_at is_negative
+word_shown w k x e text kind = λ enum.
+    let positive = word_positive x e in
+    rw (text, positive, kind, text) refl
 
 not_minus : (b : ℕ) → is_digit b ≡ true → (b == 45) ≡ false
 unfolding is_digit
@@ -101,8 +154,16 @@ tree_shows room w k level (numbers name n ns more) rest p s =
     let items = others_shown w (past_scalar (scalar_of n) (suc (suc (suc k)))) ns last p.2 here.1 in
     let others = tree_shows room w (suc (past_others (map scalar_of ns) (past_scalar (scalar_of n) (suc (suc (suc k)))))) level more rest p.3 items.1.2 in
     ((line.0, (here.0, items.0), others.0), others.1)
-tree_shows room w k level (word name x more) rest p s = absurd p
-tree_shows room w k level (quoted name bytes more) rest p s = absurd p
+tree_shows room w k level (word name x more) rest p s =
+    let line = past_indent w k level _ s in
+    let here = word_shown w (suc (suc k)) x p.1 line.2.2.0 line.2.2.1 in
+    let others = tree_shows room w (suc (suc (suc k))) level more rest p.2 line.2.2.2 in
+    ((line.0, here, others.0), others.1)
+tree_shows room w k level (quoted name bytes more) rest p s =
+    let line = past_indent w k level _ s in
+    let here = text_shown w (suc (suc k)) bytes p.1 line.2.2.0 line.2.2.1 in
+    let others = tree_shows room w (suc (suc (suc k))) level more rest p.2 line.2.2.2 in
+    ((line.0, here, others.0), others.1)
 tree_shows zero w k level (message name fields more) rest p s = absurd p
 tree_shows (suc room) w k level (message name fields more) rest p s =
     let line = past_indent w k level _ s in
@@ -121,6 +182,24 @@ printed_numbers name (numbers other n ns more) = (if bytes_eq other name then n 
 printed_numbers name (word other w more) = printed_numbers name more
 printed_numbers name (quoted other bytes more) = printed_numbers name more
 printed_numbers name (message other inner more) = printed_numbers name more
+
+abbrev pub printed_texts : List ℕ → Message → List (List ℕ)
+printed_texts name empty = []
+printed_texts name (number other n more) = printed_texts name more
+printed_texts name (numbers other n ns more) = printed_texts name more
+printed_texts name (word other w more) = printed_texts name more
+printed_texts name (quoted other bytes more) = (if bytes_eq other name then bytes ∷ [] else []) ++ printed_texts name more
+printed_texts name (message other inner more) = printed_texts name more
+
+-- the numbers of the members that are printed as words
+abbrev pub printed_members : Enum → List ℕ → Message → List ℕ
+printed_members enum name empty = []
+printed_members enum name (number other n more) = printed_members enum name more
+printed_members enum name (numbers other n ns more) = printed_members enum name more
+printed_members enum name (word other w more) =
+    (if bytes_eq other name then ok_or_zero (member_named enum false w) ∷ [] else []) ++ printed_members enum name more
+printed_members enum name (quoted other bytes more) = printed_members enum name more
+printed_members enum name (message other inner more) = printed_members enum name more
 
 abbrev pub printed_messages : List ℕ → Message → List Message
 printed_messages name empty = []
@@ -150,16 +229,6 @@ same_choice : {X : Type 0} (b : Bool) (x : X) → (if b then x else x) ≡ x
 same_choice true x = refl
 same_choice false x = refl
 
-pub numbers-shown : (w : Written) (name : List ℕ) (m : Message) (t : Tree) → Shows w m t → readings.numbers w name t ≡ printed_numbers name m
-numbers-shown w name empty no_fields s = refl
-numbers-shown w name (number other n more) (field token false values rest) s =
-    rw (s.0, value_numbers-shown w (n ∷ []) values s.1, numbers-shown w name more rest s.2) refl
-numbers-shown w name (numbers other n ns more) (field token true values rest) s =
-    rw (s.0, value_numbers-shown w (n ∷ ns) values s.1, numbers-shown w name more rest s.2) refl
-numbers-shown w name (message other inner more) (field token false (message_value first tree no_values) rest) s =
-    rw (same_choice {X = List ℤ} (bytes_eq (token_text w token) name) [], numbers-shown w name more rest s.2) refl
-numbers-shown w name _ _ s = absurd s
-
 zip_then : {X Y : Type 0} (R : X → Y → Type 0) (b : Bool) (x : X) (y : Y) (xs : List X) (ys : List Y) → R x y → AllZip R xs ys → AllZip R ((if b then x ∷ [] else []) ++ xs) ((if b then y ∷ [] else []) ++ ys)
 zip_then R true x y xs ys r rs = (r, rs)
 zip_then R false x y xs ys r rs = rs
@@ -170,6 +239,10 @@ messages-shown w name (number other n more) (field token false values rest) s =
     rw (value_messages-shown w (n ∷ []) values s.1, same_choice {X = List Tree} (bytes_eq (token_text w token) name) []) (messages-shown w name more rest s.2)
 messages-shown w name (numbers other n ns more) (field token true values rest) s =
     rw (value_messages-shown w (n ∷ ns) values s.1, same_choice {X = List Tree} (bytes_eq (token_text w token) name) []) (messages-shown w name more rest s.2)
+messages-shown w name (word other x more) (field token false (scalar_value first end no_values) rest) s =
+    rw (same_choice {X = List Tree} (bytes_eq (token_text w token) name) []) (messages-shown w name more rest s.2)
+messages-shown w name (quoted other bytes more) (field token false (scalar_value first end no_values) rest) s =
+    rw (same_choice {X = List Tree} (bytes_eq (token_text w token) name) []) (messages-shown w name more rest s.2)
 messages-shown w name (message other inner more) (field token false (message_value first tree no_values) rest) s =
     rw s.0 (zip_then (Shows w) (bytes_eq other name) inner tree (printed_messages name more) (messages w name rest) s.1 (messages-shown w name more rest s.2))
 messages-shown w name _ _ s = absurd s
@@ -187,8 +260,21 @@ pub record TakesNumbers (m : tables.Message) (name : List ℕ) (ns : List ℤ) :
   pub takes : use_of m name ≡ Some (tables.repeated (tables.number type))
   pub fit : list_all (fits type) ns ≡ true
 
+-- a word names a member of the enum that the field takes
+pub record TakesWord (m : tables.Message) (before : List (List ℕ)) (name w : List ℕ) : Type 0 where
+  pub enum : Enum
+  pub member : ℕ
+  pub takes : use_of m name ≡ Some (tables.single (tables.member enum))
+  pub first : is_given before name ≡ false
+  pub named : member_named enum false w ≡ Ok member
+
+pub record TakesText (m : tables.Message) (before : List (List ℕ)) (name : List ℕ) : Type 0 where
+  pub takes : use_of m name ≡ Some (tables.single tables.text)
+  pub first : is_given before name ≡ false
+
 pub data TakesMessage (m : tables.Message) (before : List (List ℕ)) (name : List ℕ) (Admits : tables.Message → Type 0) : Type 0 where
   each : (k : tables.Message) → use_of m name ≡ Some (tables.repeated (tables.message k)) → Admits k → TakesMessage m before name Admits
+  formed : (k : tables.Message) (form : Form) → use_of m name ≡ Some (tables.formed form (tables.message k)) → has_other_form m form before ≡ false → Admits k → TakesMessage m before name Admits
   alone : (k : tables.Message) → use_of m name ≡ Some (tables.single (tables.message k)) → is_given before name ≡ false → Admits k → TakesMessage m before name Admits
   kind : (k : tables.Message) → use_of m name ≡ Some (tables.one_kind k) → is_given before name ≡ false → has_kind m before ≡ false → Admits k → TakesMessage m before name Admits
 
@@ -196,8 +282,8 @@ abbrev pub IsAdmitted : tables.Message → List (List ℕ) → Message → Type 
 IsAdmitted m before empty = Unit {0}
 IsAdmitted m before (number name n more) = TakesNumber m before name n × IsAdmitted m (name ∷ before) more
 IsAdmitted m before (numbers name n ns more) = TakesNumbers m name (n ∷ ns) × IsAdmitted m (name ∷ before) more
-IsAdmitted m before (word name w more) = ⊥
-IsAdmitted m before (quoted name bytes more) = ⊥
+IsAdmitted m before (word name w more) = TakesWord m before name w × IsAdmitted m (name ∷ before) more
+IsAdmitted m before (quoted name bytes more) = TakesText m before name × IsAdmitted m (name ∷ before) more
 IsAdmitted m before (message name inner more) =
     TakesMessage m before name (λ k. IsAdmitted k [] inner) × IsAdmitted m (name ∷ before) more
 
@@ -233,11 +319,92 @@ no_fault w m before (numbers name n ns more) (field token true values rest) s a 
     let here = numbers_admitted w a.0.type (n ∷ ns) values s.1 a.0.fit in
     let others = no_fault w m (name ∷ before) more rest s.2 a.1 in
     rw (s.0, a.0.takes, here, others) refl
+no_fault w m before (word name x more) (field token false (scalar_value first end no_values) rest) s a =
+    let here : member_at w a.0.enum first ≡ Ok a.0.member = s.1 a.0.enum ∙ a.0.named in
+    let others = no_fault w m (name ∷ before) more rest s.2 a.1 in
+    rw (s.0, a.0.takes, a.0.first, here, others) refl
+no_fault w m before (quoted name bytes more) (field token false (scalar_value first end no_values) rest) s a =
+    let others = no_fault w m (name ∷ before) more rest s.2 a.1 in
+    rw (s.0, a.0.takes, a.0.first, s.1, others) refl
 no_fault w m before (message name inner more) (field token false (message_value first tree no_values) rest) s a =
     let others = no_fault w m (name ∷ before) more rest s.2 a.1 in
     elim a.0 [
       | each k takes admits ↦ (let here = no_fault w k [] inner tree s.1 admits in rw (s.0, takes, here, others) refl)
+      | formed k form takes apart admits ↦ (let here = no_fault w k [] inner tree s.1 admits in rw (s.0, takes, apart, here, others) refl)
       | alone k takes once admits ↦ (let here = no_fault w k [] inner tree s.1 admits in rw (s.0, takes, once, here, others) refl)
       | kind k takes once only admits ↦ (let here = no_fault w k [] inner tree s.1 admits in rw (s.0, takes, once, only, here, others) refl)
     ]
 no_fault w m before _ _ s a = absurd s
+
+-- Where the tables admit a message, what is read under a name is what was printed there: no other field has the name.
+
+content_clash : (m : tables.Message) (a b : List ℕ) (c d : Content) → content_of (use_of m a) ≡ Some c → content_of (use_of m b) ≡ Some d → c ≢ d → bytes_eq a b ≡ false
+content_clash m a b c d ca cb other = by (bytes_eq a b) refl where
+  by : (same : Bool) → bytes_eq a b ≡ same → same ≡ false
+  by false e = refl
+  by true e =
+      let is : a ≡ b = (bytes_eq-Decides a b).0 e in
+      let both : Some c ≡ Some d = sym ca ∙ (ap (λ n. content_of (use_of m n)) is ∙ cb) in
+      absurd (other (cc))
+
+number_no_text : (type : Number) → tables.number type ≢ tables.text
+number_no_text type = λ e. cc
+
+number_no_member : (type : Number) (enum : Enum) → tables.number type ≢ tables.member enum
+number_no_member type enum = λ e. cc
+
+member_no_text : (enum : Enum) → tables.member enum ≢ tables.text
+member_no_text enum = λ e. cc
+
+apart_from : (m : tables.Message) (a b : List ℕ) (u : Use) (c d : Content) → use_of m a ≡ Some u → content_of (Some u) ≡ Some c → content_of (use_of m b) ≡ Some d → c ≢ d → bytes_eq a b ≡ false
+apart_from m a b u c d takes is cb other = content_clash m a b c d (ap content_of takes ∙ is) cb other
+
+pub numbers-shown : (w : Written) (m : tables.Message) (before : List (List ℕ)) (name : List ℕ) (type : Number) (p : Message) (t : Tree) → content_of (use_of m name) ≡ Some (tables.number type) → IsAdmitted m before p → Shows w p t → readings.numbers w name t ≡ printed_numbers name p
+numbers-shown w m before name type empty no_fields takes a s = refl
+numbers-shown w m before name type (number other n more) (field token false values rest) takes a s =
+    rw (s.0, value_numbers-shown w (n ∷ []) values s.1, numbers-shown w m (other ∷ before) name type more rest takes a.1 s.2) refl
+numbers-shown w m before name type (numbers other n ns more) (field token true values rest) takes a s =
+    rw (s.0, value_numbers-shown w (n ∷ ns) values s.1, numbers-shown w m (other ∷ before) name type more rest takes a.1 s.2) refl
+numbers-shown w m before name type (word other x more) (field token false (scalar_value first end no_values) rest) takes a s =
+    let apart = apart_from m other name _ _ _ a.0.takes refl takes (λ e. number_no_member type a.0.enum (sym e)) in
+    rw (s.0, apart) (numbers-shown w m (other ∷ before) name type more rest takes a.1 s.2)
+numbers-shown w m before name type (quoted other bytes more) (field token false (scalar_value first end no_values) rest) takes a s =
+    let apart = apart_from m other name _ _ _ a.0.takes refl takes (λ e. number_no_text type (sym e)) in
+    rw (s.0, apart) (numbers-shown w m (other ∷ before) name type more rest takes a.1 s.2)
+numbers-shown w m before name type (message other inner more) (field token false (message_value first tree no_values) rest) takes a s =
+    rw (same_choice {X = List ℤ} (bytes_eq (token_text w token) name) []) (numbers-shown w m (other ∷ before) name type more rest takes a.1 s.2)
+numbers-shown w m before name type _ _ takes a s = absurd s
+
+pub texts-shown : (w : Written) (m : tables.Message) (before : List (List ℕ)) (name : List ℕ) (p : Message) (t : Tree) → content_of (use_of m name) ≡ Some tables.text → IsAdmitted m before p → Shows w p t → readings.texts w name t ≡ printed_texts name p
+texts-shown w m before name empty no_fields takes a s = refl
+texts-shown w m before name (number other n more) (field token false values rest) takes a s =
+    let apart = apart_from m other name _ _ _ a.0.takes refl takes (number_no_text a.0.type) in
+    rw (s.0, apart) (texts-shown w m (other ∷ before) name more rest takes a.1 s.2)
+texts-shown w m before name (numbers other n ns more) (field token true values rest) takes a s =
+    let apart = apart_from m other name _ _ _ a.0.takes refl takes (number_no_text a.0.type) in
+    rw (s.0, apart) (texts-shown w m (other ∷ before) name more rest takes a.1 s.2)
+texts-shown w m before name (word other x more) (field token false (scalar_value first end no_values) rest) takes a s =
+    let apart = apart_from m other name _ _ _ a.0.takes refl takes (member_no_text a.0.enum) in
+    rw (s.0, apart) (texts-shown w m (other ∷ before) name more rest takes a.1 s.2)
+texts-shown w m before name (quoted other bytes more) (field token false (scalar_value first end no_values) rest) takes a s =
+    rw (s.0, s.1, texts-shown w m (other ∷ before) name more rest takes a.1 s.2) refl
+texts-shown w m before name (message other inner more) (field token false (message_value first tree no_values) rest) takes a s =
+    rw (same_choice {X = List (List ℕ)} (bytes_eq (token_text w token) name) []) (texts-shown w m (other ∷ before) name more rest takes a.1 s.2)
+texts-shown w m before name _ _ takes a s = absurd s
+
+pub members-shown : (w : Written) (m : tables.Message) (before : List (List ℕ)) (enum : Enum) (name : List ℕ) (p : Message) (t : Tree) → content_of (use_of m name) ≡ Some (tables.member enum) → IsAdmitted m before p → Shows w p t → readings.members w enum name t ≡ printed_members enum name p
+members-shown w m before enum name empty no_fields takes a s = refl
+members-shown w m before enum name (number other n more) (field token false values rest) takes a s =
+    let apart = apart_from m other name _ _ _ a.0.takes refl takes (number_no_member a.0.type enum) in
+    rw (s.0, apart) (members-shown w m (other ∷ before) enum name more rest takes a.1 s.2)
+members-shown w m before enum name (numbers other n ns more) (field token true values rest) takes a s =
+    let apart = apart_from m other name _ _ _ a.0.takes refl takes (number_no_member a.0.type enum) in
+    rw (s.0, apart) (members-shown w m (other ∷ before) enum name more rest takes a.1 s.2)
+members-shown w m before enum name (word other x more) (field token false (scalar_value first end no_values) rest) takes a s =
+    rw (s.0, s.1 enum, members-shown w m (other ∷ before) enum name more rest takes a.1 s.2) refl
+members-shown w m before enum name (quoted other bytes more) (field token false (scalar_value first end no_values) rest) takes a s =
+    let apart = apart_from m other name _ _ _ a.0.takes refl takes (λ e. member_no_text enum (sym e)) in
+    rw (s.0, apart) (members-shown w m (other ∷ before) enum name more rest takes a.1 s.2)
+members-shown w m before enum name (message other inner more) (field token false (message_value first tree no_values) rest) takes a s =
+    rw (same_choice {X = List ℕ} (bytes_eq (token_text w token) name) []) (members-shown w m (other ∷ before) enum name more rest takes a.1 s.2)
+members-shown w m before enum name _ _ takes a s = absurd s

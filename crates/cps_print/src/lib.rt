@@ -4,6 +4,10 @@
 //! The contract of each function says its text exactly. A message is laid out by one definition for all kinds (`text_of`
 //! in `specs/Layout.antt`), and each kind adds only which fields it has (`specs/Models.antt`). Every function appends to
 //! one text, so that a model is printed without a copy of any of its parts.
+//!
+//! A model that was read is read back from its text, names, strategies and hint included: what is printed is cut into
+//! pieces that are the tokens (`proofs/Pieces.antt`, `proofs/Cuts.antt`), and the tree of these tokens shows the fields
+//! that were printed (`proofs/Shown.antt`).
 #![tactic(auto)]
 
 mod fault;

@@ -216,6 +216,51 @@ fn steering(rt: HostRuntime) -> Result<(), Fail> {
     assert_model(&rt, alloc, &model, STEERED)
 }
 
+/// A model of a name, a variable and a constraint.
+fn named(
+    alloc: Global,
+    name: Text,
+    variable: Text,
+    constraint: Text,
+) -> Result<CpModel, AllocError> {
+    let variable = Variable {
+        name: variable,
+        domain: Listed::new(alloc),
+    };
+    let constraint = Constraint {
+        name: constraint,
+        enforcement: Listed::new(alloc),
+        kind: Kind::Empty,
+    };
+    Ok(CpModel {
+        name,
+        variables: Listed::from_vec(vec![in alloc; variable]?),
+        constraints: Listed::from_vec(vec![in alloc; constraint]?),
+        objective: None,
+        strategies: Listed::new(alloc),
+        hint: None,
+        assumptions: Listed::new(alloc),
+    })
+}
+
+const NAMED: &str =
+    "name: \" ~\"\nvariables {\n  name: \"\\0001\"\n}\nconstraints {\n  name: \"\\007\\037\\360\\237\\230\\200\"\n}\n";
+
+#[test]
+fn names(rt: HostRuntime) -> Result<(), Fail> {
+    let alloc = rt.alloc();
+    let name = String::from_str(alloc, " ~")?;
+    let variable = String::from_str(alloc, "\u{0}1")?;
+    let constraint = String::from_str(alloc, "\u{7}\u{1f}\u{1f600}")?;
+    let model = named(
+        alloc,
+        Text::from_string(name),
+        Text::from_string(variable),
+        Text::from_string(constraint),
+    )?;
+    assert_model(&rt, alloc, &model, NAMED)
+}
+
 /// A response with a solution.
 fn solved(alloc: Global, status: Status, values: &[i64], lower: i64) -> Result<Response, AllocError>
     ensures { IfOk result (λ r. r ≡ record { status = status; solution = Some values.now; lower = Bound.At lower }) }
@@ -257,6 +302,20 @@ fn optimal(rt: HostRuntime) -> Result<(), Fail> {
 
 const FEASIBLE: &str =
     "status: FEASIBLE\nsolution: 0\nsolution: 1\nsolution: 2\nobjective_value: 3\nbest_objective_bound: 0\n";
+
+#[test]
+fn constant(rt: HostRuntime) -> Result<(), Fail> {
+    let alloc = rt.alloc();
+    let model = minimised(alloc, &[], &[], 100, -1)?;
+    let response = solved(alloc, Status::Optimal, &[], 0)?;
+    assert_response(
+        &rt,
+        alloc,
+        &model,
+        &response,
+        "status: OPTIMAL\nobjective_value: -100\nbest_objective_bound: -100\n",
+    )
+}
 
 #[test]
 fn feasible(rt: HostRuntime) -> Result<(), Fail> {
@@ -303,13 +362,17 @@ fn faults(rt: HostRuntime) -> Result<(), Fail> {
     let alloc = rt.alloc();
     let text = Fault::Text { byte: 21 };
     assert_fault(&rt, alloc, text, "text fault at byte 21")?;
-    let name = FaultName::UnknownField;
-    assert_fault(
-        &rt,
-        alloc,
-        Fault::Field { name, byte: 12 },
-        "field fault UnknownField at byte 12",
-    )?;
+    for (name, byte, cause) in [
+        (
+            FaultName::UnknownField,
+            12,
+            "field fault UnknownField at byte 12",
+        ),
+        (FaultName::Repeated, 22, "field fault Repeated at byte 22"),
+        (FaultName::NotWhole, 20, "field fault NotWhole at byte 20"),
+    ] {
+        assert_fault(&rt, alloc, Fault::Field { name, byte }, cause)?;
+    }
     assert_fault(
         &rt,
         alloc,
