@@ -23,19 +23,9 @@ pub record IsFirstOpen (n : ℕ) (s : Trail) (i : ℕ) : Type 0 where
   pub before : AreFixed s i
   pub open_now : IsFixed s i → ⊥
 
--- the first of the n subjects that is not fixed takes its least value; where all are fixed there is nothing to choose
-abbrev pub ChoosesFirst : ℕ → Trail → Option Atom → Type 0
-ChoosesFirst n s None = AreFixed s n
-ChoosesFirst n s (Some t) = TakesLeast s t × IsFirstOpen n s t.subject
-
 -- of the subjects that are not fixed this one has the greatest activity, and is the first that has it
 pub record IsMostActive (activities : List ℕ) (s : Trail) (i : ℕ) : Type 0 where
   pub within : i < length activities
   pub open_now : IsFixed s i → ⊥
   pub greatest : (j : ℕ) → j < length activities → (IsFixed s j → ⊥) → slice_index activities j ≤ slice_index activities i
   pub first : (j : ℕ) → j < i → (IsFixed s j → ⊥) → slice_index activities j < slice_index activities i
-
--- the most active subject takes its least value
-abbrev pub ChoosesMostActive : List ℕ → Trail → Option Atom → Type 0
-ChoosesMostActive activities s None = AreFixed s (length activities)
-ChoosesMostActive activities s (Some t) = TakesLeast s t × IsMostActive activities s t.subject
