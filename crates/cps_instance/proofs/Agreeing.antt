@@ -1,7 +1,7 @@
 -- What a task says depends on the values of its subjects alone.
-use Rattle.std.specs.Prelude.{All, map, ◌%◌, ◌≤◌, IsTrue, sum_by, cond, ◌&&◌, ◌||◌}
+use Rattle.std.specs.Prelude.{All, ◌%◌, cond}
 use Rattle.std.specs.List.{list_any, list_all, count_by}
-use Rattle.std.proofs.Common.{◌≡◌, ℕ, ◌+◌, ◌<◌, List, [], ◌∷◌, ◌++◌, Bool, refl, sym, ◌∙◌, ap, subst, arith, ℤ, ◌+ℤ◌}
+use Rattle.std.proofs.Common.{◌≡◌, ℕ, ◌+◌, List, [], ◌∷◌, ◌++◌, Bool, refl, sym, ◌∙◌, ap, subst, arith, ℤ, ◌+ℤ◌}
 use Rattle.std.proofs.lemmas.List.Elements.{All-nil, All-cons, All-head, All-tail}
 use Rattle.std.proofs.lemmas.List.Sums.{sum_by-cons}
 use Rattle.cps_model.specs.Within.{is_within, is_allowed}

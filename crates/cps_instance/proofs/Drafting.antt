@@ -1,11 +1,11 @@
 -- An instance in the making: it begins, sums are added, and it is finished.
-use Rattle.std.specs.Prelude.{All, map, unsigned_abs, Option, Some, None, IsTrue, sum_by, ◌&&◌, nat_le}
+use Rattle.std.specs.Prelude.{All, map, unsigned_abs, Option, Some, None, sum_by}
 use Rattle.std.specs.List.{AllZip, list_all, flat_map}
-use Rattle.std.proofs.Common.{◌≡◌, ℕ, ◌+◌, ◌-◌, ◌<◌, ◌≤◌, ◌^◌, List, [], ◌∷◌, ◌++◌, length, take, drop, Bool, true, refl, sym, ◌∙◌, ap, subst, arith, ℤ}
+use Rattle.std.proofs.Common.{◌≡◌, ℕ, ◌+◌, ◌<◌, ◌≤◌, ◌^◌, List, [], ◌∷◌, ◌++◌, length, take, drop, true, refl, sym, ◌∙◌, ap, subst, arith, ℤ, to_z, of_z, w64}
+use Rattle.std.proofs.lemmas.Int.{ints}
 use Rattle.std.proofs.Math.ListN.{length-append}
 use Rattle.std.proofs.lemmas.List.{append_assoc, append-nil, take_all, take-append-drop, take-append-le, length-take-le}
 use Rattle.std.proofs.lemmas.List.Concat.{flat_map-append}
-use Rattle.std.proofs.lemmas.List.Sums.{sum_by-cons}
 use Rattle.std.proofs.lemmas.List.Elements.{All-nil, All-cons, All-head, All-tail, All-append, All-weaker, All-map}
 use Rattle.std.proofs.lemmas.Slice.Zip.{all_zipped_more}
 use borrow.Author.Tests.{ltb-true}
@@ -14,29 +14,29 @@ use Rattle.cps_model.specs.declared.model.LinearExpr.{LinearExpr}
 use Rattle.cps_model.specs.declared.model.Variable.{Variable}
 use Rattle.cps_model.specs.declared.steering.Strategy.{Strategy}
 use Rattle.cps_model.specs.Reach.{reach_of}
-use Rattle.cps_model.specs.Rules.{names, names_variables, is_paired, has_small_reach, expression_entries}
-use Rattle.cps_model.specs.Validity.{IsValid, variable_fault, constraint_fault, strategy_fault, strategy_entries, variable_entries, entry_count, most_items, most_entries}
+use Rattle.cps_model.specs.Rules.{names_variables, is_paired, has_small_reach}
+use Rattle.cps_model.specs.Validity.{IsValid, constraint_fault, strategy_fault, strategy_entries}
 use Rattle.cps_model.proofs.Faults.{parts_of, rule_kept}
 use Rattle.cps_model.proofs.Tests.{and_true}
 use Rattle.cps_validate.proofs.Sizes.{sizes_of}
 use Rattle.cps_validate.proofs.Passing.{paired_of}
-use Rattle.cps_domain.specs.Window.{Window, intervals}
 use Rattle.cps_instance.specs.declared.steering.Steering.{Steering}
 use Rattle.cps_instance.specs.declared.task.Task.{Task}
 use Rattle.cps_instance.specs.declared.term.Term.{Term}
 use Rattle.cps_instance.specs.Terms.{Intervals, Domains, AreIntervals, term_subjects, terms_reach}
 use Rattle.cps_instance.specs.Sums.{DefinedSum, IsSumOf, AreSumsFrom}
 use Rattle.cps_instance.specs.Fitting.{IsLiteral, IsFitting}
-use Rattle.cps_instance.specs.Problem.{Problem, variable_count, AreDomains, IsInstance, HasValueOf, Steers, sum_task, sum_tasks}
-use Rattle.cps_instance.specs.Posting.{terms_of, task_of, list_task, cut_task, objective_tasks, sums_in, problem_of, HaveValuesOf}
-use Rattle.cps_instance.specs.Strategies.{plain_subject, sum_of, unless_plain, expression_sums, strategy_sums, AddsSum, IsBegun, DefinesAll, KeepsRules}
+use Rattle.cps_instance.specs.Problem.{Problem, variable_count, IsInstance, IsSubjectOf, Steers, sum_task, sum_tasks}
+use Rattle.cps_instance.specs.Writing.{terms_of, plain_subject, sum_of, unless_plain, expression_sums}
+use Rattle.cps_instance.specs.Posting.{task_of, list_task, cut_task, objective_tasks, sums_in, problem_of, HaveValuesOf}
+use Rattle.cps_instance.specs.Strategies.{strategy_sums, first_tasks, AddsSum, IsBegun, DefinesAll, KeepsRules}
 use Rattle.cps_instance.proofs.VariableDomains.{length-values, values_at, sound_values}
 use Rattle.cps_instance.proofs.Intervals.{sound_at}
 use Rattle.cps_instance.proofs.Meaning.{is_list_task, is_cut_task}
 use Rattle.cps_instance.proofs.Fits.{AreOf, terms_of-reach, terms_subjects, task_fits, objective_fits, list_fits, cut_fits}
 use Rattle.cps_instance.proofs.Growing.{SameAt, same-append, terms_reach-same, IsFitting-longer, sum_tasks-push}
 use Rattle.cps_instance.proofs.Instances.{sums_in-constraints, grown, CanDefine, domains_later, is_grown, can_define, means_all}
-use Rattle.cps_instance.proofs.Standing.{all_zip_weaker, value_later, steers_later, plain_has_value, sum_has_value}
+use Rattle.cps_instance.proofs.Standing.{all_zip_weaker, subject_later, steers_later, plain_is_subject, sum_is_subject}
 
 -- ---- it begins
 
@@ -100,6 +100,10 @@ is_over p e h k =
     let reach : terms_reach front ts ≡ terms_reach p.domains ts = same ∙ ap (λ (ds : Domains). terms_reach ds ts) whole in
     record { paired = paired_of e k.paired; subjects = subjects; small = omega arith }
 
+-- such an offset is in its type
+pub offset_stays : (reach : ℕ) (offset : ℤ) → reach + unsigned_abs offset < 2 ^ 62 → to_z w64 (of_z w64 offset) ≡ offset
+offset_stays reach offset small = omega (arith, ints)
+
 -- the subjects of terms, term by term
 pub term_places : (n : ℕ) (ts : List Term) → All (λ j. j < n) (term_subjects ts) → All (λ t. t.subject < n) ts
 term_places n [] h = All-nil (λ t. t.subject < n)
@@ -116,12 +120,12 @@ terms_inside p e h over =
 pub record Adds (p q : Problem) (e : LinearExpr) (i : ℕ) : Type 0 where
   pub begun : IsBegun q
   pub defines : DefinesAll p q (sum_of e ∷ [])
-  pub value : HasValueOf (variable_count q) q.defs e i
+  pub value : IsSubjectOf (variable_count q) q.defs e i
   pub few : length q.domains ≡ length p.domains + 1
 
-pub adds : (m : CpModel) (ds ds' : Domains) (us us' : List Task) (e : LinearExpr) (i : ℕ) → IsBegun (problem_of m ds us []) → IsOver (length m.variables) ds e → length ds < 2 ^ 31 → i ≡ length ds → AddsSum ds ds' us us' (sum_of e)
+pub adds : (m : CpModel) (ds ds' : Domains) (us us' : List Task) (e : LinearExpr) (i : ℕ) → plain_subject e ≡ None → IsBegun (problem_of m ds us []) → IsOver (length m.variables) ds e → length ds < 2 ^ 31 → i ≡ length ds → AddsSum ds ds' us us' (sum_of e)
     → Adds (problem_of m ds us []) (problem_of m ds' us' []) e i
-adds m ds ds' us us' e i begun over room is h =
+adds m ds ds' us us' e i none begun over room is h =
     let p = problem_of m ds us [] in
     let can = can_define p ds' us' (sum_of e) room (terms_inside p e begun over) over.small h in
     let same : problem_of m ds' us' [] ≡ grown p (sum_of e) h.added = is_grown m ds ds' us us' [] (sum_of e) h in
@@ -130,7 +134,7 @@ adds m ds ds' us us' e i begun over room is h =
     record {
       begun = subst (λ q. IsBegun q) (sym same) (grows p (sum_of e) h.added begun can);
       defines = record { model = refl; sums = sums };
-      value = subst (λ ss. HasValueOf (length m.variables) ss e i) (sym sums) (sum_has_value (length m.variables) (sums_in us) e i (omega arith) over.subjects);
+      value = subst (λ ss. IsSubjectOf (length m.variables) ss e i) (sym sums) (sum_is_subject (length m.variables) (sums_in us) e i none (omega arith) over.subjects);
       few = ap (λ (ws : Domains). length ws) h.domains ∙ length-append ds (h.added ∷ []);
     }
 
@@ -138,14 +142,14 @@ pub defines_none : (p : Problem) → DefinesAll p p []
 defines_none p = record { model = refl; sums = sym (append-nil p.defs) }
 
 -- the same of a draft's view
-pub adds_seen : (p : Problem) (m : CpModel) (ds ds' : Domains) (us us' : List Task) (e : LinearExpr) (i : ℕ) → problem_of m ds us [] ≡ p → IsBegun p → KeepsRules p.model.variables e → length p.domains < 2 ^ 31 → i ≡ length ds → AddsSum ds ds' us us' (sum_of e)
+pub adds_seen : (p : Problem) (m : CpModel) (ds ds' : Domains) (us us' : List Task) (e : LinearExpr) (i : ℕ) → plain_subject e ≡ None → problem_of m ds us [] ≡ p → IsBegun p → KeepsRules p.model.variables e → length p.domains < 2 ^ 31 → i ≡ length ds → AddsSum ds ds' us us' (sum_of e)
     → Adds p (problem_of m ds' us' []) e i
-adds_seen p m ds ds' us us' e i view begun rules room is h =
+adds_seen p m ds ds' us us' e i none view begun rules room is h =
     let old = problem_of m ds us [] in
     let begun' = subst (λ (q : Problem). IsBegun q) (sym view) begun in
     let rules' = subst (λ (q : Problem). KeepsRules q.model.variables e) (sym view) rules in
     let room' = subst (λ (q : Problem). length q.domains < 2 ^ 31) (sym view) room in
-    subst (λ (q : Problem). Adds q (problem_of m ds' us' []) e i) view (adds m ds ds' us us' e i begun' (is_over old e begun' rules') room' is h)
+    subst (λ (q : Problem). Adds q (problem_of m ds' us' []) e i) view (adds m ds ds' us us' e i none begun' (is_over old e begun' rules') room' is h)
 
 -- a plain variable adds none
 pub adds_none : (p : Problem) (e : LinearExpr) (o : Option ℕ) (i : ℕ) → plain_subject e ≡ o → o ≡ Some i → DefinesAll p p (expression_sums e)
@@ -154,8 +158,8 @@ adds_none p e o i is some = subst (λ (x : Option ℕ). DefinesAll p p (unless_p
 pub adds_one : (p q : Problem) (e : LinearExpr) (o : Option ℕ) → plain_subject e ≡ o → o ≡ None → DefinesAll p q (sum_of e ∷ []) → DefinesAll p q (expression_sums e)
 adds_one p q e o is none h = subst (λ (x : Option ℕ). DefinesAll p q (unless_plain x e)) (sym (is ∙ none)) h
 
-pub plain_seen : (p : Problem) (e : LinearExpr) (o : Option ℕ) (i : ℕ) → plain_subject e ≡ o → o ≡ Some i → IsBegun p → KeepsRules p.model.variables e → HasValueOf (variable_count p) p.defs e i
-plain_seen p e o i is some begun rules = plain_has_value (variable_count p) p.defs e i (is ∙ some) (is_over p e begun rules).subjects
+pub plain_seen : (p : Problem) (e : LinearExpr) (o : Option ℕ) (i : ℕ) → plain_subject e ≡ o → o ≡ Some i → IsBegun p → KeepsRules p.model.variables e → IsSubjectOf (variable_count p) p.defs e i
+plain_seen p e o i is some begun rules = plain_is_subject (variable_count p) p.defs e i (is ∙ some) (is_over p e begun rules).subjects
 
 -- ---- it is finished
 
@@ -216,6 +220,14 @@ pub made : (q : Problem) (m : CpModel) (ds : Domains) (ts : List Task) (gs : Lis
 made q m ds ts gs h em ed et es steers =
     subst (λ (p : Problem). IsInstance p) (rebuilt q.model m q.defs (sums_in ts) q.domains ds (q.tasks ++ objective_tasks q.model) ts gs em (sym es) (sym ed) (sym et)) (finished q gs h steers)
 
+pub made_tasks : (q : Problem) (m : CpModel) (ts : List Task) → IsBegun q → q.model ≡ m → ts ≡ q.tasks ++ objective_tasks q.model → q.defs ≡ strategy_sums m.strategies → ts ≡ first_tasks m
+made_tasks q m ts h em et es =
+    et
+    ∙ ap (λ us. us ++ objective_tasks q.model) h.tasks
+    ∙ append_assoc (map task_of q.model.constraints) (sum_tasks (variable_count q) q.defs) (objective_tasks q.model)
+    ∙ ap (λ (ss : List DefinedSum). map task_of q.model.constraints ++ (sum_tasks (variable_count q) ss ++ objective_tasks q.model)) es
+    ∙ ap (λ (k : CpModel). map task_of k.constraints ++ (sum_tasks (length k.variables) (strategy_sums m.strategies) ++ objective_tasks k)) em
+
 -- ---- several sums
 
 pub defines_more : (p q r : Problem) (ss rs : List DefinedSum) → DefinesAll p q ss → DefinesAll q r rs → DefinesAll p r (ss ++ rs)
@@ -224,10 +236,10 @@ defines_more p q r ss rs h k = record {
   sums = k.sums ∙ ap (λ ts. ts ++ rs) h.sums ∙ append_assoc p.defs ss rs;
 }
 
-value_over : (p q : Problem) (ss : List DefinedSum) → DefinesAll p q ss → (e : LinearExpr) (i : ℕ) → HasValueOf (variable_count p) p.defs e i → HasValueOf (variable_count q) q.defs e i
+value_over : (p q : Problem) (ss : List DefinedSum) → DefinesAll p q ss → (e : LinearExpr) (i : ℕ) → IsSubjectOf (variable_count p) p.defs e i → IsSubjectOf (variable_count q) q.defs e i
 value_over p q ss d e i h =
-    subst (λ ts. HasValueOf (variable_count q) ts e i) (sym d.sums)
-    (subst (λ (m : CpModel). HasValueOf (length m.variables) (p.defs ++ ss) e i) (sym d.model) (value_later (variable_count p) p.defs ss e i h))
+    subst (λ ts. IsSubjectOf (variable_count q) ts e i) (sym d.sums)
+    (subst (λ (m : CpModel). IsSubjectOf (length m.variables) (p.defs ++ ss) e i) (sym d.model) (subject_later (variable_count p) p.defs ss e i h))
 
 steers_over : (p q : Problem) (ss : List DefinedSum) → DefinesAll p q ss → (s : Strategy) (g : Steering) → Steers (variable_count p) p.defs s g → Steers (variable_count q) q.defs s g
 steers_over p q ss d s g h =
@@ -241,14 +253,14 @@ one_more f xs x = flat_map-append f xs (x ∷ []) ∙ ap (λ ss. flat_map f xs +
 pub record Valued (p q : Problem) (es : List LinearExpr) (is : List ℕ) : Type 0 where
   pub begun : IsBegun q
   pub defines : DefinesAll p q (flat_map expression_sums es)
-  pub values : AllZip (HasValueOf (variable_count q) q.defs) es is
+  pub values : AllZip (IsSubjectOf (variable_count q) q.defs) es is
 
-pub valued_more : (p q r : Problem) (es : List LinearExpr) (is : List ℕ) (e : LinearExpr) (i : ℕ) → Valued p q es is → IsBegun r → DefinesAll q r (expression_sums e) → HasValueOf (variable_count r) r.defs e i → Valued p r (es ++ e ∷ []) (is ++ i ∷ [])
+pub valued_more : (p q r : Problem) (es : List LinearExpr) (is : List ℕ) (e : LinearExpr) (i : ℕ) → Valued p q es is → IsBegun r → DefinesAll q r (expression_sums e) → IsSubjectOf (variable_count r) r.defs e i → Valued p r (es ++ e ∷ []) (is ++ i ∷ [])
 valued_more p q r es is e i h begun d v = record {
   begun = begun;
   defines = subst (λ ss. DefinesAll p r ss) (sym (one_more expression_sums es e)) (defines_more p q r (flat_map expression_sums es) (expression_sums e) h.defines d);
-  values = all_zipped_more (HasValueOf (variable_count r) r.defs) es is e i
-      (all_zip_weaker (HasValueOf (variable_count q) q.defs) (HasValueOf (variable_count r) r.defs) (value_over q r (expression_sums e) d) es is h.values) v;
+  values = all_zipped_more (IsSubjectOf (variable_count r) r.defs) es is e i
+      (all_zip_weaker (IsSubjectOf (variable_count q) q.defs) (IsSubjectOf (variable_count r) r.defs) (value_over q r (expression_sums e) d) es is h.values) v;
 }
 
 -- after some of the strategies

@@ -1,15 +1,12 @@
 -- What stays where one more sum is defined.
-use Rattle.std.specs.Prelude.{All, ◌↔◌, unsigned_abs, ◌*◌, IsTrue}
-use Rattle.std.specs.List.{AllZip}
+use Rattle.std.specs.Prelude.{All, ◌↔◌, unsigned_abs, ◌*◌}
 use Rattle.std.specs.Int.{int_min, int_max}
-use Rattle.std.proofs.Common.{◌≡◌, ℕ, ◌+◌, ◌<◌, ◌≤◌, ◌^◌, List, [], ◌∷◌, ◌++◌, length, Bool, true, refl, sym, ◌∙◌, ap, subst, arith, ℤ, pos, ◌+ℤ◌, ◌*ℤ◌, ◌≤ℤ◌}
+use Rattle.std.proofs.Common.{◌≡◌, ℕ, ◌+◌, ◌<◌, ◌≤◌, ◌^◌, List, [], ◌∷◌, ◌++◌, length, refl, sym, ◌∙◌, ap, subst, arith, ℤ, ◌+ℤ◌, ◌*ℤ◌}
 use Rattle.std.proofs.Math.ListN.{get_or-append, length-append}
 use Rattle.std.proofs.Math.Seq.{get_or-append_seam}
-use Rattle.std.proofs.lemmas.List.Elements.{All-nil, All-cons, All-head, All-tail, All-append, All-weaker}
+use Rattle.std.proofs.lemmas.List.Elements.{All-nil, All-cons, All-head, All-tail, All-weaker}
 use Rattle.cps_model.specs.declared.model.CpModel.{CpModel}
 use Rattle.cps_model.specs.declared.constraint.Constraint.{Constraint}
-use Rattle.cps_model.specs.Meaning.{IsSatisfied}
-use Rattle.cps_model.specs.Solutions.{objective_value, meets_objective}
 use Rattle.cps_domain.specs.Window.{is_among}
 use Rattle.cps_literal.specs.declared.atom.Atom.{Atom}
 use Rattle.cps_instance.specs.declared.term.Term.{Term}
@@ -20,7 +17,7 @@ use Rattle.cps_instance.specs.Terms.{terms_value, term_subjects, terms_reach, le
 use Rattle.cps_instance.specs.Sums.{DefinedSum, sum_value, extended, least_sum_of, greatest_sum_of, IsSumOf, AreSumsFrom}
 use Rattle.cps_instance.specs.Tasks.{HoldsTask, subjects_of, subjects_of_body, atom_subjects}
 use Rattle.cps_instance.specs.Fitting.{IsLiteral, IsFitting, IsFittingBody}
-use Rattle.cps_instance.specs.Problem.{IsAssignment, Means, IsListTask, IsCutTask, sum_task, sum_tasks}
+use Rattle.cps_instance.specs.Problem.{Means, IsListTask, IsCutTask, sum_task, sum_tasks}
 use Rattle.cps_instance.proofs.Agreeing.{AgreeAt, terms_value-agree, All-append_left, All-append_right}
 use Rattle.cps_instance.proofs.Extending.{length-extended, extended-push, HoldsTask-shorter, HoldsTask-longer, agree-append}
 

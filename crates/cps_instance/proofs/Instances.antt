@@ -1,12 +1,12 @@
 -- A defined sum keeps an instance.
-use Rattle.std.specs.Prelude.{All, map, unsigned_abs, Option, None, Some, ◌==◌, ◌&&◌}
+use Rattle.std.specs.Prelude.{All, map, unsigned_abs, Option, None, Some, ◌==◌}
 use Rattle.std.specs.List.{AllZip, list_all}
 use Rattle.cps_model.specs.declared.model.Objective.{Objective}
 use Rattle.cps_model.specs.Rules.{is_paired, sums_of, has_matching_lists}
-use Rattle.std.proofs.Common.{◌≡◌, ℕ, ◌+◌, ◌<◌, ◌≤◌, ◌^◌, List, [], ◌∷◌, ◌++◌, length, Bool, true, refl, sym, ◌∙◌, ap, subst, arith, ℤ, ◌+ℤ◌}
+use Rattle.std.proofs.Common.{◌≡◌, ℕ, ◌+◌, ◌<◌, ◌^◌, List, [], ◌∷◌, ◌++◌, length, true, refl, sym, ◌∙◌, ap, subst, arith}
 use Rattle.std.proofs.Math.ListN.{length-append}
 use Rattle.std.proofs.lemmas.List.{append_assoc}
-use Rattle.std.proofs.lemmas.List.Elements.{All-nil, All-cons, All-head, All-tail, All-append, All-push, All-weaker, All-map, All-same}
+use Rattle.std.proofs.lemmas.List.Elements.{All-nil, All-cons, All-head, All-tail, All-push, All-weaker, All-map}
 use Rattle.cps_model.specs.declared.model.CpModel.{CpModel}
 use Rattle.cps_model.specs.declared.model.Variable.{Variable}
 use Rattle.cps_model.specs.declared.constraint.Constraint.{Constraint}
@@ -18,9 +18,8 @@ use Rattle.cps_model.proofs.Tests.{and_true}
 use Rattle.cps_domain.specs.Window.{is_among}
 use Rattle.cps_instance.specs.declared.steering.Steering.{Steering}
 use Rattle.cps_instance.specs.declared.task.Task.{Task}
-use Rattle.cps_instance.specs.declared.term.Term.{Term}
-use Rattle.cps_instance.specs.Terms.{Intervals, Domains, AreIntervals, term_subjects, terms_reach, least_of_terms, greatest_of_terms}
-use Rattle.cps_instance.specs.Sums.{DefinedSum, least_sum_of, greatest_sum_of, IsSumOf}
+use Rattle.cps_instance.specs.Terms.{Intervals, Domains, AreIntervals, term_subjects, terms_reach}
+use Rattle.cps_instance.specs.Sums.{DefinedSum, least_sum_of, greatest_sum_of}
 use Rattle.cps_instance.specs.Tasks.{subjects_of}
 use Rattle.cps_instance.specs.Fitting.{IsLiteral, IsFitting}
 use Rattle.cps_instance.specs.Problem.{Problem, variable_count, AreDomains, AreTasks, IsInstance, Means, Defines, sum_task, sum_tasks}

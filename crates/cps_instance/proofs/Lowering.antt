@@ -1,10 +1,9 @@
 -- A task with a lower end: what it says, what it fits, and what a second lower end makes of it.
-use Rattle.std.specs.Prelude.{All, ◌≤ℤ◌, IsTrue, map, Option, Some, None}
+use Rattle.std.specs.Prelude.{◌≤ℤ◌, map, Option, Some, None}
 use Rattle.std.specs.Int.{int_min}
 use Rattle.std.proofs.Common.{◌≡◌, List, [], ◌∷◌, ◌++◌, refl, ap, arith, ℤ}
 use Rattle.std.proofs.lemmas.Int.{ints}
 use Rattle.std.proofs.lemmas.List.Elements.{All-nil, All-cons, All-head, All-tail}
-use Rattle.cps_instance.specs.declared.term.Term.{Term}
 use Rattle.cps_instance.specs.declared.task.Task.{Task}
 use Rattle.cps_instance.specs.declared.task.Body.{Body}
 use Rattle.cps_instance.specs.declared.task.Body.TheVariants.{Empty, BoolOr, BoolAnd, AtMostOne, ExactlyOne, BoolXor, Linear, Sum, ObjectiveList, Cut}

@@ -1,5 +1,5 @@
 -- What a propagator may count on: a task whose subjects have domains in which none of its sums leaves its type.
-use Rattle.std.specs.Prelude.{◌≡◌, ℕ, ◌<◌, ◌^◌, ℤ, pos, ◌≤ℤ◌, IsTrue, true, Option, List, length, All}
+use Rattle.std.specs.Prelude.{◌≡◌, ◌<◌, ◌^◌, ℤ, pos, ◌≤ℤ◌, IsTrue, true, List, length, All}
 use Rattle.cps_model.specs.Within.{is_well_shaped}
 use Rattle.cps_domain.specs.Window.{is_among}
 use Rattle.cps_literal.specs.declared.atom.Atom.{Atom}
@@ -8,7 +8,7 @@ use Rattle.cps_instance.specs.declared.task.Task.{Task}
 use Rattle.cps_instance.specs.declared.task.Body.{Body}
 use Rattle.cps_instance.specs.declared.task.Body.TheVariants.{Empty, BoolOr, BoolAnd, AtMostOne, ExactlyOne, BoolXor, Linear, Sum, ObjectiveList, Cut}
 use Rattle.cps_instance.specs.Terms.{Domains, AreIntervals, domain_at, terms_reach}
-use Rattle.cps_instance.specs.Sums.{DefinedSum, IsSumOf}
+use Rattle.cps_instance.specs.Sums.{IsSumOf}
 use Rattle.cps_instance.specs.Tasks.{subjects_of}
 
 -- an atom that stands for a literal: it compares with 0 or 1, and its subject's values are among 0 and 1

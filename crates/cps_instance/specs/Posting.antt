@@ -1,5 +1,5 @@
 -- How the parts of a model are written as tasks.
-use Rattle.std.specs.Prelude.{◌≡◌, ℕ, ◌-◌, ◌^◌, ℤ, pos, negsuc, neg_ℤ, Bool, if◌then◌else◌, IsTrue, length, Option, Some, None, List, [], ◌∷◌, ◌++◌, map}
+use Rattle.std.specs.Prelude.{◌≡◌, ℤ, pos, negsuc, IsTrue, length, Option, Some, None, List, [], ◌∷◌, ◌++◌, map}
 use Rattle.cps_model.specs.declared.model.CpModel.{CpModel}
 use Rattle.cps_model.specs.declared.model.Objective.{Objective}
 use Rattle.cps_model.specs.declared.constraint.Constraint.{Constraint}
@@ -7,7 +7,7 @@ use Rattle.cps_model.specs.declared.constraint.Kind.{Kind}
 use Rattle.cps_model.specs.declared.constraint.Kind.TheVariants as kinds
 use Rattle.cps_model.specs.declared.model.Variable.{Variable}
 use Rattle.cps_model.specs.Within.{is_within}
-use Rattle.cps_domain.specs.Window.{is_among, equals}
+use Rattle.cps_domain.specs.Window.{is_among}
 use Rattle.cps_literal.specs.declared.atom.Atom.{Atom}
 use Rattle.cps_literal.specs.declared.atom.Op.TheVariants.{Le, Ge}
 use Rattle.std.specs.List.{AllZip, list_all}
@@ -19,30 +19,13 @@ use Rattle.cps_instance.specs.declared.task.Task.{Task}
 use Rattle.cps_instance.specs.declared.task.Body.{Body}
 use Rattle.cps_instance.specs.declared.task.Body.TheVariants as bodies
 use Rattle.cps_instance.specs.Terms.{Intervals, Domains, AreIntervals}
+use Rattle.cps_instance.specs.Writing.{terms_of}
 use Rattle.cps_instance.specs.Sums.{DefinedSum}
 
 -- a literal is true where its variable is at least 1, and its opposite where it is at most 0
 abbrev pub atom_of : ℤ → Atom
 atom_of (pos i) = record { subject = i; op = Ge; value = pos 1 }
 atom_of (negsuc i) = record { subject = i; op = Le; value = pos 0 }
-
-abbrev pub term_of : ℤ → ℕ → Term
-term_of c i = record { coeff = c; subject = i }
-
--- the one coefficient whose opposite is not in its type
-abbrev pub has_no_opposite : ℤ → Bool
-has_no_opposite c = equals c (negsuc (2 ^ 63 - 1))
-
--- a reference below 0 is its variable with the opposite coefficient, which is given in two halves where it is 2 ^ 63
-abbrev pub terms_of_reference : ℤ → ℤ → List Term
-terms_of_reference c (pos i) = term_of c i ∷ []
-terms_of_reference c (negsuc i) =
-    if has_no_opposite c then term_of (pos (2 ^ 62)) i ∷ term_of (pos (2 ^ 62)) i ∷ [] else term_of (neg_ℤ c) i ∷ []
-
-abbrev pub terms_of : List ℤ → List ℤ → List Term
-terms_of [] cs = []
-terms_of (r ∷ rs) [] = []
-terms_of (r ∷ rs) (c ∷ cs) = terms_of_reference c r ++ terms_of rs cs
 
 abbrev pub body_of : Kind → Body
 body_of kinds.Empty = bodies.Empty

@@ -1,5 +1,5 @@
 -- What contracts see of an instance, and what belongs together in it.
-use Rattle.std.specs.Prelude.{◌≡◌, ◌↔◌, ℕ, ◌+◌, ◌<◌, ◌≤◌, ◌^◌, ℤ, IsTrue, Option, None, List, [], ◌∷◌, ◌++◌, map, length, All, slice_index_or}
+use Rattle.std.specs.Prelude.{◌≡◌, ◌↔◌, ℕ, ◌+◌, ◌<◌, ◌≤◌, ◌^◌, ℤ, IsTrue, None, List, [], ◌∷◌, ◌++◌, map, length, All, slice_index_or}
 use Rattle.std.specs.List.{AllZip}
 use Rattle.cps_model.specs.declared.model.CpModel.{CpModel}
 use Rattle.cps_model.specs.declared.model.Variable.{Variable}
@@ -16,9 +16,10 @@ use Rattle.cps_literal.specs.Truth.{value_at}
 use Rattle.cps_instance.specs.declared.steering.Steering.{Steering}
 use Rattle.cps_instance.specs.declared.term.Term.{Term}
 use Rattle.cps_instance.specs.declared.task.Task.{Task}
-use Rattle.cps_instance.specs.declared.task.Body.TheVariants.{Sum, ObjectiveList, Cut}
+use Rattle.cps_instance.specs.declared.task.Body.TheVariants.{Sum, Cut}
 use Rattle.cps_instance.specs.Terms.{Intervals, Domains, AreIntervals, terms_value, domain_at}
-use Rattle.cps_instance.specs.Sums.{DefinedSum, sum_value, extended, IsSumOf, AreSumsFrom}
+use Rattle.cps_instance.specs.Sums.{DefinedSum, sum_value, extended, AreSumsFrom}
+use Rattle.cps_instance.specs.Writing.{plain_subject, sum_of, StandsFor}
 use Rattle.cps_instance.specs.Tasks.{HoldsTask, lowered}
 use Rattle.cps_instance.specs.Fitting.{IsFitting}
 
@@ -89,8 +90,9 @@ pub record AreTasks (p : Problem) : Type 0 where
   pub is_list : IsListTask p.model p.defs list
   pub is_cut : IsCutTask p.model p.defs cut
 
--- a subject has the value of an expression over n variables, wherever the sums have theirs
-pub record HasValueOf (n : ℕ) (defs : List DefinedSum) (e : LinearExpr) (subject : ℕ) : Type 0 where
+-- the subject of an expression over n variables, which has its value wherever the sums have theirs
+pub record IsSubjectOf (n : ℕ) (defs : List DefinedSum) (e : LinearExpr) (subject : ℕ) : Type 0 where
+  pub own : StandsFor (plain_subject e) n defs (sum_of e) subject
   pub within : subject < n + length defs
   pub value : (a : List ℤ) → length a ≡ n → value_at (extended defs a) subject ≡ expression_value a e
 
@@ -98,7 +100,7 @@ pub record HasValueOf (n : ℕ) (defs : List DefinedSum) (e : LinearExpr) (subje
 pub record Steers (n : ℕ) (defs : List DefinedSum) (s : Strategy) (t : Steering) : Type 0 where
   pub choose : t.choose ≡ s.choose
   pub select : t.select ≡ s.select
-  pub subjects : AllZip (HasValueOf n defs) s.exprs t.subjects
+  pub subjects : AllZip (IsSubjectOf n defs) s.exprs t.subjects
 
 pub record IsInstance (p : Problem) : Type 0 where
   pub valid : IsValid p.model

@@ -4,9 +4,10 @@ ghost use Rattle.std.specs.List.{AllZip, flat_map};
 ghost use Rattle.cps_model.specs.Rules.{expression_entries};
 ghost use Rattle.cps_model.specs.Validity.{IsValid, strategy_fault, strategy_entries};
 ghost use Rattle.cps_domain.specs.Window.{intervals};
-ghost use Rattle.cps_instance.specs.Problem.{HasValueOf, Steers, variable_count};
+ghost use Rattle.cps_instance.specs.Problem.{IsSubjectOf, Steers, variable_count};
 ghost use Rattle.cps_instance.specs.Posting.{objective_tasks, sums_in};
-ghost use Rattle.cps_instance.specs.Strategies.{plain_reference, plain_subject, expression_sums, strategy_sums, DefinesAll, IsBegun, KeepsRules};
+ghost use Rattle.cps_instance.specs.Writing.{plain_reference, plain_subject, expression_sums};
+ghost use Rattle.cps_instance.specs.Strategies.{strategy_sums, DefinesAll, IsBegun, KeepsRules};
 
 use crate::domains::domains_of;
 use crate::steering::Steering;
@@ -77,14 +78,14 @@ impl<'a> Draft<'a> {
         })
     }
 
-    /// The subject that has the value of an expression: the variable that it is, or else a new sum.
+    /// The subject of an expression: the variable that it is, or else a new sum.
     fn subject_of(&mut self, alloc: Global, expr: &LinearExpr) -> Result<u32, AllocError>
         requires begun { IsBegun self.old }
         requires rules { KeepsRules self.old.model.variables expr.now }
         requires room { length self.old.domains < 2 ^ 31 }
         ensures begun { OnOk result (IsBegun self.new) }
         ensures defines { OnOk result (DefinesAll self.old self.new (expression_sums expr.now)) }
-        ensures value { IfOk result (HasValueOf (variable_count self.new) self.new.defs expr.now) }
+        ensures value { IfOk result (IsSubjectOf (variable_count self.new) self.new.defs expr.now) }
         ensures few { OnOk result (length self.new.domains ≤ length self.old.domains + 1) }
     {
         if let Some(variable) = plain_subject(expr) {
@@ -101,14 +102,14 @@ impl<'a> Draft<'a> {
         Ok(subject)
     }
 
-    /// The subjects that have the values of expressions, in order.
+    /// The subjects of expressions, in order.
     fn subjects_of(&mut self, alloc: Global, exprs: &[LinearExpr]) -> Result<Vec<u32>, AllocError>
         requires begun { IsBegun self.old }
         requires rules { All (KeepsRules self.old.model.variables) exprs.now }
         requires room { length self.old.domains + sum_by expression_entries exprs.now ≤ 2 ^ 31 }
         ensures begun { OnOk result (IsBegun self.new) }
         ensures defines { OnOk result (DefinesAll self.old self.new (flat_map expression_sums exprs.now)) }
-        ensures values { IfOk result (λ subjects. AllZip (HasValueOf (variable_count self.new) self.new.defs) exprs.now subjects.items) }
+        ensures values { IfOk result (λ subjects. AllZip (IsSubjectOf (variable_count self.new) self.new.defs) exprs.now subjects.items) }
         ensures few { OnOk result (length self.new.domains ≤ length self.old.domains + sum_by expression_entries exprs.now) }
     {
         let mut subjects = Vec::with_capacity(alloc, exprs.len())?;

@@ -4,7 +4,7 @@ ghost use Rattle.std.specs.List.{AllZip};
 ghost use Rattle.cps_domain.specs.Window.{intervals};
 ghost use Rattle.cps_instance.specs.Terms.{terms_reach};
 ghost use Rattle.cps_instance.specs.Problem.{IsInstance, Defines, Steers, variable_count};
-ghost use Rattle.cps_instance.specs.Strategies.{strategy_sums};
+ghost use Rattle.cps_instance.specs.Strategies.{model_sums, first_tasks};
 
 use crate::draft::Draft;
 use crate::steering::Steering;
@@ -46,7 +46,8 @@ impl<'a> Instance<'a> {
     /// The instance of a valid model. Its sums are those of its strategies' expressions that are no plain variables, in order.
     pub fn of(alloc: Global, valid: &'a ValidModel) -> Result<Self, AllocError>
         ensures model { IfOk result (λ i. i.model ≡ valid.now) }
-        ensures sums { IfOk result (λ i. i.defs ≡ strategy_sums valid.now.strategies) }
+        ensures sums { IfOk result (λ i. i.defs ≡ model_sums valid.now) }
+        ensures tasks { IfOk result (λ i. i.tasks ≡ first_tasks valid.now) }
         ensures sound { IfOk result IsInstance }
     {
         let model = valid.model();

@@ -1,6 +1,6 @@
 -- The rules of a valid model, each a test. What kinds have in common is listed here once: their literals, their sums,
 -- their lists that go together, their domains and their entries. A later kind adds a line to each of these lists.
-use Rattle.std.specs.Prelude.{ℕ, ◌+◌, ◌^◌, ◌==◌, nat_lt, Bool, true, false, ◌&&◌, ℤ, pos, int_le, unsigned_abs, List, [], ◌∷◌, length, Option, Some, None, slice_get}
+use Rattle.std.specs.Prelude.{ℕ, ◌+◌, ◌^◌, ◌==◌, nat_lt, Bool, true, false, not, ◌&&◌, ℤ, pos, int_le, unsigned_abs, List, [], ◌∷◌, length, Option, Some, None, slice_get}
 use Rattle.std.specs.List.{list_all}
 use Rattle.cps_model.specs.declared.model.LinearExpr.{LinearExpr}
 use Rattle.cps_model.specs.declared.model.Variable.{Variable}
@@ -18,6 +18,11 @@ is_small n = nat_lt n (2 ^ 62)
 -- whether a reference names one of the first so many variables
 abbrev pub names : ℕ → ℤ → Bool
 names count r = nat_lt (variable_of r) count
+
+-- no two references name the same variable
+abbrev pub name_apart : List ℤ → Bool
+name_apart [] = true
+name_apart (r ∷ rs) = list_all (λ q. not (variable_of q == variable_of r)) rs && name_apart rs
 
 -- a variable whose values are among 0 and 1
 abbrev pub is_boolean : Variable → Bool

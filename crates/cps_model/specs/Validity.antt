@@ -10,6 +10,7 @@
 --       magnitude, add up to less than 2 ^ 62 (the objective's sum without its offset)
 --    7  a linear constraint's domain is well shaped
 --   16  the objective's domain is well shaped
+--   17  a hint has a value for each reference, and its references name variables, no two the same
 --   18  the model is not too large, and the place of each strategy is a number below 2 ^ 32
 use Rattle.std.specs.Prelude.{◌≡◌, ℕ, ◌+◌, ◌^◌, ◌==◌, nat_le, nat_lt, Bool, not, ◌&&◌, if◌then◌else◌, ℤ, unsigned_abs, List, [], ◌∷◌, ◌++◌, length, sum_by, Option, Some, None}
 use Rattle.std.specs.List.{list_all}
@@ -22,7 +23,7 @@ use Rattle.cps_model.specs.declared.constraint.Constraint.{Constraint}
 use Rattle.cps_model.specs.declared.place.Place.{Place}
 use Rattle.cps_model.specs.declared.place.Place.TheVariants as places
 use Rattle.cps_model.specs.Within.{is_well_shaped}
-use Rattle.cps_model.specs.Rules.{is_small, names, names_boolean, literals_of, sums_of, sum_of_objective, names_variables, is_paired, has_small_reach, has_matching_lists, has_well_shaped_domain, expression_entries, kind_entries}
+use Rattle.cps_model.specs.Rules.{is_small, names, names_boolean, literals_of, sums_of, sum_of_objective, names_variables, is_paired, name_apart, has_small_reach, has_matching_lists, has_well_shaped_domain, expression_entries, kind_entries}
 
 -- the number of the first rule that fails, of rules in order
 abbrev pub first_broken : List (ℕ × Bool) → Option ℕ
@@ -59,6 +60,13 @@ strategy_fault vs s =
     ((3, list_all (names_variables vs) s.exprs)
     ∷ (5, list_all is_paired s.exprs)
     ∷ (6, list_all (has_small_reach vs) s.exprs)
+    ∷ [])
+
+abbrev pub hint_fault : List Variable → Option Hint → Option ℕ
+hint_fault vs None = None
+hint_fault vs (Some h) =
+    first_broken
+    ((17, (length h.vars == length h.values) && list_all (names (length vs)) h.vars && name_apart h.vars)
     ∷ [])
 
 abbrev pub assumption_fault : List Variable → ℤ → Option ℕ
@@ -125,7 +133,8 @@ first_invalid m =
     (or_else (first_faulty (constraint_fault m.variables m.constraints) places.Constraint 0 m.constraints)
     (or_else (at_place places.Objective (objective_fault m.variables m.objective))
     (or_else (first_faulty (strategy_fault m.variables) places.Strategy 0 m.strategies)
-    (first_faulty (assumption_fault m.variables) places.Assumption 0 m.assumptions)))))
+    (or_else (at_place places.Hint (hint_fault m.variables m.hint))
+    (first_faulty (assumption_fault m.variables) places.Assumption 0 m.assumptions))))))
 
 abbrev pub IsValid : CpModel → Type 0
 IsValid m = first_invalid m ≡ None

@@ -1,6 +1,6 @@
 //! The first rule that is broken at one place.
-ghost use Rattle.std.specs.Prelude.{◌≡◌};
-ghost use Rattle.cps_model.specs.Validity.{variable_fault, constraint_fault, objective_fault, strategy_fault, assumption_fault};
+ghost use Rattle.std.specs.Prelude.{◌≡◌, IfOk};
+ghost use Rattle.cps_model.specs.Validity.{variable_fault, constraint_fault, objective_fault, strategy_fault, hint_fault, assumption_fault};
 
 use crate::bounds::{are_small, is_well_shaped};
 use crate::expressions::{are_paired, have_small_reach, name_variables};
@@ -9,8 +9,9 @@ use crate::kinds::{
     sums_have_small_reach, sums_name_variables,
 };
 use crate::reach::has_small_reach;
-use crate::references::{are_named, name_booleans, names_boolean};
-use cps_model::{Constraint, Objective, Strategy, Variable, variable_of};
+use crate::references::{are_named, name_apart, name_booleans, names_boolean};
+use cps_model::{Constraint, Hint, Objective, Strategy, Variable, variable_of};
+use std::alloc::{AllocError, Global};
 
 /// The first rule that a variable breaks.
 pub fn variable_fault(variable: &Variable) -> Option<u8>
@@ -96,6 +97,29 @@ pub fn strategy_fault(variables: &[Variable], strategy: &Strategy) -> Option<u8>
         return Some(6);
     }
     None
+}
+
+/// The first rule that a hint breaks.
+pub fn hint_fault(
+    alloc: Global,
+    variables: &[Variable],
+    hint: &Option<Hint>,
+) -> Result<Option<u8>, AllocError>
+    ensures { IfOk result (λ rule. rule ≡ hint_fault variables.now hint.now) }
+{
+    let hint = match hint {
+        None => return Ok(None),
+        Some(hint) => hint,
+    };
+    let vars = hint.vars.as_slice();
+    let count = variables.len();
+    if vars.len() != hint.values.len()
+        || !are_named(vars, count)
+        || !name_apart(alloc, vars, count)?
+    {
+        return Ok(Some(17));
+    }
+    Ok(None)
 }
 
 /// The first rule that an assumption breaks.

@@ -4,11 +4,11 @@ ghost use Rattle.cps_model.specs.Validity.{most_items, variable_fault, constrain
 ghost use Rattle.cps_validate.specs.Refusals.{IsRefusalOf};
 
 use crate::places::{
-    assumption_fault, constraint_fault, objective_fault, strategy_fault, variable_fault,
+    assumption_fault, constraint_fault, hint_fault, objective_fault, strategy_fault, variable_fault,
 };
 use crate::size::size_fault;
 use cps_model::{Constraint, CpModel, Place, Strategy, Variable};
-use std::alloc::Global;
+use std::alloc::{AllocError, Global};
 use std::marker::Model;
 use thiserror::Error;
 
@@ -47,6 +47,17 @@ pub enum ValidateError {
     Invalid { rule: u8, place: Place },
     #[error("out of memory")]
     OutOfMemory,
+}
+
+impl From<AllocError> for ValidateError {
+    ghost use Rattle.std.specs.Prelude.{◌≡◌};
+    ghost use Rattle.cps_validate.specs.declared.valid.ValidateError.TheVariants.{OutOfMemory};
+
+    ghost from_gives = { λ _ e. e ≡ OutOfMemory };
+
+    fn from(_: AllocError) -> Self {
+        ValidateError::OutOfMemory
+    }
 }
 
 /// The first variable that breaks a rule.
@@ -102,35 +113,38 @@ fn assumptions_fault(variables: &[Variable], assumptions: &[i32]) -> Option<(u8,
 }
 
 /// The rule that is broken first, with its place.
-fn first_invalid(model: &CpModel) -> Option<(u8, Place)>
-    ensures { result ≡ first_invalid model.now }
+fn first_invalid(alloc: Global, model: &CpModel) -> Result<Option<(u8, Place)>, AllocError>
+    ensures { IfOk result (λ fault. fault ≡ first_invalid model.now) }
 {
     if let Some(rule) = size_fault(model) {
-        return Some((rule, Place::Model));
+        return Ok(Some((rule, Place::Model)));
     }
     let variables = model.variables.as_slice();
     if let Some(fault) = variables_fault(variables) {
-        return Some(fault);
+        return Ok(Some(fault));
     }
     if let Some(fault) = constraints_fault(variables, model.constraints.as_slice()) {
-        return Some(fault);
+        return Ok(Some(fault));
     }
     if let Some(rule) = objective_fault(variables, &model.objective) {
-        return Some((rule, Place::Objective));
+        return Ok(Some((rule, Place::Objective)));
     }
     if let Some(fault) = strategies_fault(variables, model.strategies.as_slice()) {
-        return Some(fault);
+        return Ok(Some(fault));
     }
-    assumptions_fault(variables, model.assumptions.as_slice())
+    if let Some(rule) = hint_fault(alloc, variables, &model.hint)? {
+        return Ok(Some((rule, Place::Hint)));
+    }
+    Ok(assumptions_fault(variables, model.assumptions.as_slice()))
 }
 
 /// Keeps a model that breaks no rule, and refuses every other, with the rule that is broken first. A refused model is
 /// given up. `OutOfMemory` comes where memory runs out.
-pub fn validate(_alloc: Global, model: CpModel) -> Result<ValidModel, ValidateError>
+pub fn validate(alloc: Global, model: CpModel) -> Result<ValidModel, ValidateError>
     ensures ok { IfOk result (λ v. (v ≡ model) × IsValid model) }
     ensures err { IfErr result (λ e. IsRefusalOf e model) }
 {
-    match first_invalid(&model) {
+    match first_invalid(alloc, &model)? {
         None => Ok(ValidModel { model }),
         Some((rule, place)) => Err(ValidateError::Invalid { rule, place }),
     }

@@ -1,6 +1,5 @@
 -- What all expressions pass, the next one passes.
-use Rattle.std.specs.Prelude.{IsTrue}
-use Rattle.std.proofs.Common.{length, arith, sym, ap, ◌∙◌, ◌<◌}
+use Rattle.std.proofs.Common.{arith}
 use Rattle.cps_model.specs.Rules.{names_variables, is_paired}
 use Rattle.cps_validate.proofs.Passing.{all_at, paired_of}
 use Rattle.cps_validate.proofs.expressions.have_small_reach.Goals as goal

@@ -4,8 +4,9 @@ use Rattle.std.specs.List.{AllZip, flat_map}
 use Rattle.std.proofs.Common.{◌+◌, ◌≤◌, ◌^◌, List, ℕ, length, refl, sym, subst}
 use Rattle.cps_model.specs.declared.model.LinearExpr.{LinearExpr}
 use Rattle.cps_model.specs.Rules.{expression_entries}
-use Rattle.cps_instance.specs.Problem.{HasValueOf, variable_count}
-use Rattle.cps_instance.specs.Strategies.{KeepsRules, DefinesAll, expression_sums}
+use Rattle.cps_instance.specs.Problem.{IsSubjectOf, variable_count}
+use Rattle.cps_instance.specs.Writing.{expression_sums}
+use Rattle.cps_instance.specs.Strategies.{KeepsRules, DefinesAll}
 use Rattle.cps_instance.proofs.Drafting.{rules_of}
 use Rattle.cps_instance.proofs.draft.Draft.steer.Goals as goal
 
@@ -27,8 +28,8 @@ returns-clause-steers c =
     record {
       choose = refl;
       select = refl;
-      subjects = subst (λ (is : List ℕ). AllZip (HasValueOf (variable_count q) q.defs) c.args.strategy.now.exprs is) (sym c.from_vec.ensures)
-          (subst (λ (es : List LinearExpr). AllZip (HasValueOf (variable_count q) q.defs) es c.in_ok-subjects.subjects.items) c.as_slice.ensures c.in_ok-subjects.ensures.values);
+      subjects = subst (λ (is : List ℕ). AllZip (IsSubjectOf (variable_count q) q.defs) c.args.strategy.now.exprs is) (sym c.from_vec.ensures)
+          (subst (λ (es : List LinearExpr). AllZip (IsSubjectOf (variable_count q) q.defs) es c.in_ok-subjects.subjects.items) c.as_slice.ensures c.in_ok-subjects.ensures.values);
     }
 
 pub returns-clause-few : goal.returns-clause-few

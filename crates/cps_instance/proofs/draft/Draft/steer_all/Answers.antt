@@ -1,7 +1,7 @@
 -- One more strategy is read over subjects.
 use Rattle.std.specs.Prelude.{All, sum_by, None}
-use Rattle.std.specs.List.{AllZip, flat_map}
-use Rattle.std.proofs.Common.{◌≡◌, ◌+◌, ◌<◌, ◌≤◌, ◌^◌, List, ℕ, [], ◌∷◌, ◌++◌, length, take, drop, get_or, refl, sym, ap, subst, ◌∙◌, arith}
+use Rattle.std.specs.List.{AllZip}
+use Rattle.std.proofs.Common.{◌≡◌, ◌+◌, ◌<◌, ◌≤◌, ◌^◌, List, [], ◌∷◌, ◌++◌, length, take, refl, sym, ap, subst, ◌∙◌, arith}
 use Rattle.std.proofs.lemmas.List.{take_more, take_all}
 use Rattle.std.proofs.lemmas.List.Sums.{sum_by-drop_more}
 use Rattle.std.proofs.lemmas.List.Elements.{All-get_or}
@@ -17,7 +17,7 @@ use Rattle.cps_instance.proofs.draft.Draft.steer_all.Goals as goal
 
 pub loop-strategy-init : goal.loop-strategy-init
 loop-strategy-init c = record {
-  steered = record { begun = c.requires.begun; defines = defines_none c.args.self.now; steers = tt };
+  steered = record { begun = c.requires.begun; defines = defines_none c.args.self.now; steers = rw c.in_ok-list.ensures.items tt };
   model = refl;
   room = subst (λ (ss : List Strategy). length c.args.self.now.domains + sum_by strategy_entries ss ≤ 2 ^ 31) (sym c.requires.strategies) (room_first c.args.self.now c.requires.begun c.requires.no_sums);
 }

@@ -1,21 +1,21 @@
 -- One more expression has its subject.
-use Rattle.std.specs.Prelude.{All, sum_by}
 use Rattle.std.specs.List.{AllZip, flat_map}
-use Rattle.std.proofs.Common.{◌≡◌, ◌+◌, ◌<◌, List, ℕ, [], ◌∷◌, ◌++◌, length, take, drop, get_or, refl, sym, ap, subst, ◌∙◌, arith}
+use Rattle.std.proofs.Common.{◌≡◌, ◌+◌, ◌<◌, List, ℕ, [], ◌∷◌, ◌++◌, length, take, refl, sym, ap, subst, ◌∙◌, arith}
 use Rattle.std.proofs.lemmas.List.{take_more, take_all}
 use Rattle.std.proofs.lemmas.List.Sums.{sum_by-drop_more}
 use Rattle.std.proofs.lemmas.List.Elements.{All-get_or}
 use Rattle.cps_model.specs.declared.model.CpModel.{CpModel}
 use Rattle.cps_model.specs.declared.model.LinearExpr.{LinearExpr}
 use Rattle.cps_model.specs.Rules.{expression_entries}
-use Rattle.cps_instance.specs.Problem.{HasValueOf, variable_count}
-use Rattle.cps_instance.specs.Strategies.{expression_sums, KeepsRules, DefinesAll}
+use Rattle.cps_instance.specs.Problem.{IsSubjectOf, variable_count}
+use Rattle.cps_instance.specs.Writing.{expression_sums}
+use Rattle.cps_instance.specs.Strategies.{KeepsRules, DefinesAll}
 use Rattle.cps_instance.proofs.Drafting.{Valued, valued_more, defines_none}
 use Rattle.cps_instance.proofs.draft.Draft.subjects_of.Goals as goal
 
 pub loop-expr-init : goal.loop-expr-init
 loop-expr-init c = record {
-  valued = record { begun = c.requires.begun; defines = defines_none c.args.self.now; values = tt };
+  valued = record { begun = c.requires.begun; defines = defines_none c.args.self.now; values = rw c.in_ok-subjects.ensures.items tt };
   model = refl;
   room = omega arith;
 }
@@ -71,4 +71,4 @@ pub returns-clause-values : goal.returns-clause-values
 returns-clause-values c =
     let q = c.loop-expr.self in
     let all = take_all c.loop-expr.expr-index c.args.exprs.now (omega arith) in
-    subst (λ (es : List LinearExpr). AllZip (HasValueOf (variable_count q) q.defs) es c.loop-expr.subjects.items) all c.loop-expr.invariant.valued.values
+    subst (λ (es : List LinearExpr). AllZip (IsSubjectOf (variable_count q) q.defs) es c.loop-expr.subjects.items) all c.loop-expr.invariant.valued.values
