@@ -1,4 +1,9 @@
 pub mod Fixing
+pub mod Values
+pub mod Selecting
+pub mod Taking
+pub mod Planning
+pub mod Hinting
 pub mod Numbering
 pub mod Raising
 pub mod Leading

@@ -1,5 +1,7 @@
 pub mod Fixed
 pub mod Choice
+pub mod Strategies
+pub mod Hints
 pub mod Scope
 pub mod Noting
 pub mod Tournament

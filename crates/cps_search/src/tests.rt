@@ -1,6 +1,7 @@
 //! Runs over a store of three subjects.
-ghost use Rattle.std.specs.Prelude.{◌≡◌, ◌≤◌, length, IfOk};
+ghost use Rattle.std.specs.Prelude.{[], ◌≡◌, ◌≤◌, length, IfOk};
 
+use crate::plan::Plan;
 use crate::raise::raise_all;
 use crate::ranking::Ranking;
 use crate::restarts::{Restarts, luby};
@@ -83,10 +84,19 @@ fn run<B: Brancher>(
     Ok((first, second, third, again))
 }
 
+/// A brancher over three variables in order.
+fn in_order(alloc: Global) -> Result<FixedBrancher, AllocError>
+    ensures plan { IfOk result (λ b. b.plan ≡ record { strategies = []; variables = 3; subjects = 3 }) }
+    ensures fresh { IfOk result (λ b. b.fixed_after ≡ []) }
+{
+    let plan = Plan::over(alloc, Vec::new(alloc), 3, 3)?;
+    FixedBrancher::over(alloc, plan)
+}
+
 #[test]
 fn fixed_goes_in_order(rt: HostRuntime) -> Result<(), Fail> {
     let mut store = three(rt.alloc())?;
-    let mut brancher = FixedBrancher::over(rt.alloc(), 3)?;
+    let mut brancher = in_order(rt.alloc())?;
     let choices = run(&mut brancher, &mut store)?;
     assert_eq!(rt;
         choices,
@@ -100,11 +110,14 @@ fn fixed_goes_in_order(rt: HostRuntime) -> Result<(), Fail> {
     Ok(())
 }
 
-/// What is chosen first, in order and by activity, over an instance with its own domains.
+/// What is chosen first, in order and by activity, over an instance without sums.
 fn first_choices(
     alloc: Global,
     instance: &Instance,
 ) -> Result<(Option<Atom>, Option<Atom>), AllocError> {
+    if instance.domains().len() != instance.variable_count() {
+        return Err(AllocError);
+    }
     let store = Store::new(alloc, instance.domains())?;
     let mut fixed = FixedBrancher::of(alloc, instance)?;
     let mut active = ActivityBrancher::of(alloc, instance)?;
@@ -134,7 +147,7 @@ fn nothing_is_chosen_without_variables(rt: HostRuntime) -> Result<(), Fail> {
 #[test]
 fn active_follows_learnt_clauses(rt: HostRuntime) -> Result<(), Fail> {
     let mut store = three(rt.alloc())?;
-    let mut brancher = ActivityBrancher::over(rt.alloc(), 3)?;
+    let mut brancher = ActivityBrancher::over(rt.alloc(), 3, &None)?;
     let first = [at_most(2, 0), at_most(1, 3), at_most(2, 1), at_most(7, 0)];
     assert!(rt; !brancher.learnt(&first));
     assert!(rt; !brancher.learnt(&[at_most(2, 0)]));
@@ -154,7 +167,7 @@ fn active_follows_learnt_clauses(rt: HostRuntime) -> Result<(), Fail> {
 /// What is first where subject 0 is fixed by one entry, and how many are aside then, where that entry is kept, and where none is.
 fn asides(alloc: Global) -> Result<(Option<u32>, usize, usize, usize), AllocError> {
     let mut store = three(alloc)?;
-    let mut brancher = FixedBrancher::over(alloc, 3)?;
+    let mut brancher = in_order(alloc)?;
     decide_next(&mut brancher, &mut store, 0)?;
     let mut ranking = Ranking::over(alloc, 3)?;
     if store.len() < 3 {
