@@ -15,7 +15,7 @@ use Rattle.cps_model.specs.Validity.{IsValid}
 use Rattle.cps_model.proofs.Start.{objective_start-small}
 use Rattle.cps_literal.specs.declared.atom.Atom.{Atom}
 use Rattle.cps_instance.specs.Problem.{Problem}
-use Rattle.cps_instance.specs.Strategies.{strategy_sums}
+use Rattle.cps_instance.specs.Strategies.{model_sums}
 use Rattle.cps_port.specs.declared.part.BoundsPart.{BoundsPart}
 use Rattle.cps_port.specs.declared.part.Part.{Part}
 use Rattle.cps_port.specs.Order.{BoundLe, IsNoLower, lesser, greater, greater_of, raised_above}
@@ -95,7 +95,7 @@ words m conflicts c e sound h =
     let one : length c.bounds.parts ≡ 1 = sound.both ∙ h.alone in
     let q = bounds_part c.bounds 0 in
     let same : h.done.problem ≡ h.problem = h.runs.setting.problem in
-    let model : h.done.problem.model ≡ m = ap (λ (p : Problem). p.model) same ∙ h.plain.model in
+    let model : h.done.problem.model ≡ m = ap (λ (p : Problem). p.model) same ∙ h.first.model in
     let offered : q.offered ≡ best_bound h.done.problem.model h.done.best = h.runs.moves.offers Infinite refl in
     let raised : q.raised ≡ h.done.raised = h.runs.moves.raises None refl ∙ greater_of_none h.done.raised in
     let best : e.best ≡ h.done.best = ap (λ (x : Ending). x.best) h.seen in
@@ -159,7 +159,7 @@ spent m conflicts c e clause below sound h is why =
       end = is;
       problem = done.problem;
       instance = h.sound.instance;
-      model = ap (λ (p : Problem). p.model) h.runs.setting.problem ∙ h.plain.model;
+      model = ap (λ (p : Problem). p.model) h.runs.setting.problem ∙ h.first.model;
       sums = sym defs;
       honest = subst (λ (j : List JournalItem). IsHonestJournal done.problem (j ++ Learnt clause below ∷ [])) (sym journal) why.honest;
       above = subst (λ (j : List JournalItem). All (IsItemAbove c.bounds.upper) (j ++ Learnt clause below ∷ [])) (sym journal) above;
@@ -200,14 +200,14 @@ good_alone m options c e o range sound h is =
     let best : o.solution ≡ best_of m (e ∷ []) = is.solution ∙ sym (best_alone m e) in
     let bests : e.best ≡ h.done.best = ap (λ (x : Ending). x.best) h.seen in
     let problem : h.done.problem ≡ h.problem = h.runs.setting.problem in
-    let model : h.done.problem.model ≡ m = ap (λ (p : Problem). p.model) problem ∙ h.plain.model in
-    let sums : e.defs ≡ strategy_sums m.strategies = ap (λ (x : Ending). x.defs) h.seen ∙ ap (λ (p : Problem). p.defs) problem ∙ h.plain.sums in
+    let model : h.done.problem.model ≡ m = ap (λ (p : Problem). p.model) problem ∙ h.first.model in
+    let sums : e.defs ≡ model_sums m = ap (λ (x : Ending). x.defs) h.seen ∙ ap (λ (p : Problem). p.defs) problem ∙ h.first.sums in
     let found : IfSome e.best (IsSolution m) = subst (λ (b : Option (List ℤ)). IfSome b (IsSolution m)) (sym bests) (best_found m h.done h.done.best model h.sound.best) in
     let kind : e.kind ≡ Fixed = ap (λ (x : Ending). x.kind) h.seen in
     record {
       workers = ap (map (λ (x : Ending). x.kind)) same ∙ one_kind options.workers e one kind;
-      sums = subst (All (λ (x : Ending). x.defs ≡ strategy_sums m.strategies)) (sym same)
-          (All-cons (λ (x : Ending). x.defs ≡ strategy_sums m.strategies) e [] sums (All-nil (λ (x : Ending). x.defs ≡ strategy_sums m.strategies)));
+      sums = subst (All (λ (x : Ending). x.defs ≡ model_sums m)) (sym same)
+          (All-cons (λ (x : Ending). x.defs ≡ model_sums m) e [] sums (All-nil (λ (x : Ending). x.defs ≡ model_sums m)));
       status = is.status ∙ ap₂ (λ (u l : Bound). status_of u l 0) (sym is.upper_is) (sym is.lower_is);
       found = subst (All (λ (x : Ending). IfSome x.best (IsSolution m))) (sym same)
           (All-cons (λ (x : Ending). IfSome x.best (IsSolution m)) e [] found (All-nil (λ (x : Ending). IfSome x.best (IsSolution m))));
@@ -254,7 +254,7 @@ pub bounded_alone : (m : CpModel) (options : Options) (c : Core) (e : Ending) (o
 bounded_alone m options c e o sound h is kept = go o.status refl
   where
     valid : IsValid m
-    valid = subst IsValid h.plain.model h.plain.sound.valid
+    valid = subst IsValid h.first.model h.first.sound.valid
 
     least : BoundLe (At (objective_start m)) o.lower
     least =
@@ -290,7 +290,7 @@ pub begins_running : (m : CpModel) (conflicts : ℕ) (s : Search) → Begins m c
 begins_running m conflicts s b over = subst (λ (x : Search). IsOver x.said) b.is over
 
 pub begins_model : (m : CpModel) (conflicts : ℕ) (s : Search) → Begins m conflicts s → s.problem.model ≡ m
-begins_model m conflicts s b = ap (λ (x : Search). x.problem.model) b.is ∙ b.plain.model
+begins_model m conflicts s b = ap (λ (x : Search). x.problem.model) b.is ∙ b.first.model
 
 pub begins_imported : (m : CpModel) (conflicts : ℕ) (s : Search) → Begins m conflicts s → s.imported ≡ 0
 begins_imported m conflicts s b = ap (λ (x : Search). x.imported) b.is
@@ -310,7 +310,7 @@ has_run m conflicts actor c d s t e end begins first runs sound said seen model 
     let at = subst (λ (x : Part). RunsTo (fresh begins.problem 0 (Some conflicts)) t x (part_at d 0) end) part from in
     record {
       problem = begins.problem;
-      plain = begins.plain;
+      first = begins.first;
       done = t;
       sound = sound;
       runs = subst (λ (x : End). RunsTo (fresh begins.problem 0 (Some conflicts)) t newcomer (part_at d 0) x) (sym same) at;

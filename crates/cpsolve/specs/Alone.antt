@@ -4,7 +4,7 @@ use Rattle.cps_model.specs.declared.model.CpModel.{CpModel}
 use Rattle.cps_model.specs.declared.bound.Bound.{Bound}
 use Rattle.cps_model.specs.Statuses.{status_of}
 use Rattle.cps_instance.specs.Problem.{Problem, IsInstance}
-use Rattle.cps_instance.specs.Strategies.{strategy_sums}
+use Rattle.cps_instance.specs.Strategies.{model_sums}
 use Rattle.cps_port.specs.Cores.{Core, actor_count, part_at}
 use Rattle.cps_port.specs.Parts.{newcomer}
 use Rattle.cps_port.specs.Sound.{IsSoundCore}
@@ -16,21 +16,21 @@ use Rattle.cpsolve.specs.declared.outcome.Outcome.{Outcome}
 use Rattle.cpsolve.specs.declared.search.Finished.{Finished}
 
 -- an instance of the model, with the sums of its strategies alone
-pub record IsPlainInstance (m : CpModel) (p : Problem) : Type 0 where
+pub record IsFirstInstance (m : CpModel) (p : Problem) : Type 0 where
   pub sound : IsInstance p
   pub model : p.model ≡ m
-  pub sums : p.defs ≡ strategy_sums m.strategies
+  pub sums : p.defs ≡ model_sums m
 
 -- a search of the model that begins
 pub record Begins (m : CpModel) (conflicts : ℕ) (s : Search) : Type 0 where
   pub problem : Problem
-  pub plain : IsPlainInstance m problem
+  pub first : IsFirstInstance m problem
   pub is : s ≡ fresh problem 0 (Some conflicts)
 
 -- a fixed worker that began to search the model has ended, and it alone used the shared state
 pub record HasRun (m : CpModel) (conflicts : ℕ) (c : Core) (e : Ending) : Type 0 where
   pub problem : Problem
-  pub plain : IsPlainInstance m problem
+  pub first : IsFirstInstance m problem
   pub done : Search
   pub sound : IsSoundSearch done
   pub runs : RunsTo (fresh problem 0 (Some conflicts)) done newcomer (part_at c 0) e.end

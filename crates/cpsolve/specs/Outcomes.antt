@@ -9,7 +9,7 @@ use Rattle.cps_model.specs.Start.{objective_start}
 use Rattle.cps_model.specs.Statuses.{is_closed, status_of, IsAtMost}
 use Rattle.cps_literal.specs.declared.atom.Atom.{Atom}
 use Rattle.cps_instance.specs.Problem.{Problem, IsInstance}
-use Rattle.cps_instance.specs.Strategies.{strategy_sums}
+use Rattle.cps_instance.specs.Strategies.{model_sums}
 use Rattle.cps_port.specs.Order.{raised_above}
 use Rattle.cps_clauses.specs.declared.journal.JournalItem.TheVariants.{Learnt}
 use Rattle.cps_search.specs.declared.end.WorkerKind.{WorkerKind}
@@ -59,7 +59,7 @@ pub record SpentItsBudget (m : CpModel) (conflicts : ℕ) (upper : Bound) (e : E
 pub record IsGoodOutcome (m : CpModel) (gap : ℕ) (options : Options) (o : Outcome) : Type 0 where
   -- each worker ended, and is of the kind that its number says, with the sums that the model's strategies write and no others
   pub workers : map (λ e. e.kind) o.ends ≡ kinds_of options.workers
-  pub sums : All (λ e. e.defs ≡ strategy_sums m.strategies) o.ends
+  pub sums : All (λ e. e.defs ≡ model_sums m) o.ends
   -- the status is that of the two bounds
   pub status : o.status ≡ status_of o.upper o.lower gap
   -- what a worker found is a solution, the outcome's is the best of these, and the upper bound is its objective
