@@ -34,7 +34,7 @@ fn status_of(upper: Bound, lower: Bound) -> Status
     }
 }
 
-/// A worker that goes through the variables in order, and learns from so many conflicts.
+/// A worker that follows the strategies and then takes the variables in order, and learns from so many conflicts.
 fn worker_of<'a>(
     alloc: Global,
     model: &'a ValidModel,
