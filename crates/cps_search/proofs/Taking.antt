@@ -10,7 +10,7 @@ use Rattle.cps_model.specs.declared.steering.Choose.TheVariants.{First}
 use Rattle.cps_domain.proofs.Tests.{true_le, false_le}
 use Rattle.cps_literal.specs.declared.atom.Atom.{Atom}
 use Rattle.cps_instance.specs.declared.steering.Steering.{Steering}
-use Rattle.cps_instance.specs.Problem.{Problem, IsInstance, HasValueOf, Steers, variable_count}
+use Rattle.cps_instance.specs.Problem.{Problem, IsInstance, IsSubjectOf, Steers, variable_count}
 use Rattle.cps_instance.proofs.Agreeing.{All-append_right}
 use Rattle.cps_trail.specs.Trail.{Trail}
 use Rattle.cps_search.specs.declared.strategy.Ranked.{Ranked}
@@ -124,4 +124,4 @@ pub steering_within : (p : Problem) (n : ℕ) → n ≡ length p.domains → IsI
 steering_within p n is h =
     let count = h.domains.count in
     zip_right (Steers (variable_count p) p.defs) (λ g. All (λ i. i < n) g.subjects)
-    (λ s g k. zip_right (HasValueOf (variable_count p) p.defs) (λ i. i < n) (λ e i v. (let l = v.within in omega arith)) s.exprs g.subjects k.subjects) p.model.strategies p.steering h.steering
+    (λ s g k. zip_right (IsSubjectOf (variable_count p) p.defs) (λ i. i < n) (λ e i v. (let l = v.within in omega arith)) s.exprs g.subjects k.subjects) p.model.strategies p.steering h.steering
