@@ -485,6 +485,21 @@ fn reads_steering(rt: HostRuntime) -> Result<(), Fail> {
     Ok(())
 }
 
+/// A text is a model with one strategy, which chooses so over an expression that says nothing.
+fn has_members(
+    rt: &impl Abort,
+    alloc: Global,
+    text: &str,
+    choose: Choose,
+    select: Select,
+) -> Result<bool, Fail> {
+    let model = read(rt, alloc, text)?;
+    match model.strategies.as_slice() {
+        [strategy] => Ok(is_strategy(strategy, choose, select, &[], &[], 0)),
+        _ => Ok(false),
+    }
+}
+
 #[test]
 fn reads_members(rt: HostRuntime) -> Result<(), Fail> {
     let alloc = rt.alloc();
@@ -516,11 +531,7 @@ fn reads_members(rt: HostRuntime) -> Result<(), Fail> {
         ),
     ];
     for (text, choose, select) in texts {
-        let model = read(&rt, alloc, text)?;
-        let [strategy] = model.strategies.as_slice() else {
-            return Err(Fail::from("strategies"));
-        };
-        assert!(rt; is_strategy(strategy, choose, select, &[], &[], 0));
+        assert!(rt; has_members(&rt, alloc, text, choose, select)?);
     }
     Ok(())
 }
