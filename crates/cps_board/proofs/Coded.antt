@@ -67,7 +67,7 @@ few_variables m valid =
     let variables = nat_le (length m.variables) most_items in
     let constraints = nat_le (length m.constraints) most_items in
     let entries = nat_le (entry_count m) most_entries in
-    let kept = rule_kept 18 (variables && constraints && entries) None size in
+    let kept = rule_kept 18 (variables && constraints && entries) _ size in
     le_of (length m.variables) most_items (and_true variables constraints (and_true (variables && constraints) entries kept.0).0).0
 
 -- a clause that can be shared comes back from its words
