@@ -22,8 +22,8 @@ returns-clause-took g c =
     let lowered = c.lower_to.ensures.is in
     let uses = c.in_ok-use_news.ensures in
     λ e. takes_one s t c.in-Some.news.z new.store new.rested new.clauses new.imported entry rows p q
-        (subst (λ (m : CpModel). TookEntry m rows p.board q.board entry) c.requires.model c.in-Some.ensures.takes)
-        c.in-Some.ensures.again
-        (subst (λ (b : Search). t ≡ record (moved b new.store new.rested) { base = new.clauses; imported = new.imported }) lowered uses.is)
-        (subst (λ (x : Trail). (level : ℕ) × GoesBack x new.store level) c.lower_to.ensures.store uses.back)
-        (subst (λ (b : Search). UsesEntry b t entry) lowered uses.used)
+    (subst (λ (m : CpModel). TookEntry m rows p.board q.board entry) c.requires.model c.in-Some.ensures.takes)
+    c.in-Some.ensures.again
+    (subst (λ (b : Search). t ≡ record (moved b new.store new.rested) { base = new.clauses; imported = new.imported }) lowered uses.is)
+    (subst (λ (x : Trail). (level : ℕ) × GoesBack x new.store level) c.lower_to.ensures.store uses.back)
+    (subst (λ (b : Search). UsesEntry b t entry) lowered uses.used)
