@@ -69,12 +69,7 @@ fn next_part(part: Part, byte: u8) -> Option<Part>
             }
             behind_whole(byte)
         }
-        Part::Point => {
-            if is_digit(byte) {
-                return Some(Part::Fraction);
-            }
-            None
-        }
+        Part::Point => is_digit(byte).then_some(Part::Fraction),
         Part::Fraction => {
             if is_digit(byte) {
                 return Some(Part::Fraction);
@@ -82,34 +77,20 @@ fn next_part(part: Part, byte: u8) -> Option<Part>
             if is_exponent_mark(byte) {
                 return Some(Part::Mark);
             }
-            if is_float_suffix(byte) {
-                return Some(Part::Suffix);
-            }
-            None
+            is_float_suffix(byte).then_some(Part::Suffix)
         }
         Part::Mark => {
             if is_plus_or_minus(byte) {
                 return Some(Part::Signed);
             }
-            if is_digit(byte) {
-                return Some(Part::Exponent);
-            }
-            None
+            is_digit(byte).then_some(Part::Exponent)
         }
-        Part::Signed => {
-            if is_digit(byte) {
-                return Some(Part::Exponent);
-            }
-            None
-        }
+        Part::Signed => is_digit(byte).then_some(Part::Exponent),
         Part::Exponent => {
             if is_digit(byte) {
                 return Some(Part::Exponent);
             }
-            if is_float_suffix(byte) {
-                return Some(Part::Suffix);
-            }
-            None
+            is_float_suffix(byte).then_some(Part::Suffix)
         }
         Part::Suffix => None,
     }
