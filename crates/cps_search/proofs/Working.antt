@@ -170,12 +170,13 @@ pub turn_decided : (chooses : Trail → Option Atom → Type 0) (s m t : Search)
 turn_decided chooses s m t rows p q has sound steps h =
     takes_turn chooses s t rows p q turns.Decided has sound
     (setting_trans s m t steps.setting (setting_of m (moved m (decided m.trail h.atom) m.rested) t h.is refl refl refl refl))
+    (λ not. absurd (not refl))
     (decided_one chooses s m t rows p q steps.cause h)
 
 -- the steps that learn, after which the search may go back to level 0
 pub turn_learnt : (chooses : Trail → Option Atom → Type 0) (s m t : Search) (rows : ℕ) (p q : Part) → IsSome s.budget → IsSoundSearch s → Steps s m rows p q (Some turns.Learnt) → Stands m t → TakesTurn chooses s t rows p q turns.Learnt
 turn_learnt chooses s m t rows p q has sound steps stands =
-    takes_turn chooses s t rows p q turns.Learnt has sound (setting_trans s m t steps.setting (setting_stands m t stands)) (learnt_stands s m t rows p q steps.cause stands)
+    takes_turn chooses s t rows p q turns.Learnt has sound (setting_trans s m t steps.setting (setting_stands m t stands)) (λ not. stands_back s.trail m t steps.store stands) (learnt_stands s m t rows p q steps.cause stands)
 
 turn_caused : (chooses : Trail → Option Atom → Type 0) (s t : Search) (rows : ℕ) (p q : Part) (turn : Turn) → Caused s t rows p q (Some turn) → TurnCaused chooses s t rows p q turn
 turn_caused chooses s t rows p q turns.Imported h = h
@@ -189,7 +190,7 @@ turn_caused chooses s t rows p q turns.RoundsDone h = h
 
 -- the steps of any other turn
 pub turn_other : (chooses : Trail → Option Atom → Type 0) (s t : Search) (rows : ℕ) (p q : Part) (turn : Turn) → IsSome s.budget → IsSoundSearch s → Steps s t rows p q (Some turn) → TakesTurn chooses s t rows p q turn
-turn_other chooses s t rows p q turn has sound steps = takes_turn chooses s t rows p q turn has sound steps.setting (turn_caused chooses s t rows p q turn steps.cause)
+turn_other chooses s t rows p q turn has sound steps = takes_turn chooses s t rows p q turn has sound steps.setting (λ not. steps.store) (turn_caused chooses s t rows p q turn steps.cause)
 
 -- in which the brancher stays as it was
 pub brancher_other : (s t : Search) (rows : ℕ) (p q : Part) (turn : Turn) (heard chose same : Type 0) → Caused s t rows p q (Some turn) → (turn ≡ turns.Learnt → ⊥) → same → BrancherTurn turn heard chose same

@@ -30,7 +30,7 @@ use Rattle.cps_search.specs.Lessons.{GoesBack}
 use Rattle.cps_search.specs.Scope.{Scope, IsScopeOf}
 use Rattle.cps_search.specs.Searches.{Search, IsSoundSearch, NoneBelow, IsHonestJournal, IsItemAbove, learnt_count}
 use Rattle.cps_search.specs.Moves.{moved, decided}
-use Rattle.cps_search.specs.Turns.{SameSetting, DecisionDue, TookOne, LearntOne, FoundOne, ExhaustedAll, SawMet, SpentAll, IsLess, SameRaised}
+use Rattle.cps_search.specs.Turns.{SameSetting, GoesOnAndBack, DecisionDue, TookOne, LearntOne, FoundOne, ExhaustedAll, SawMet, SpentAll, IsLess, SameRaised}
 
 -- A decision was made where one was due: the atom that was chosen.
 pub record DecidedOne (chooses : Trail → Option Atom → Type 0) (s t : Search) (rows : ℕ) (p q : Part) : Type 0 where
@@ -141,6 +141,8 @@ EndsAs (Some end) t = t.said ≡ Over end
 -- what each turn of a worker does
 pub record TakesTurn (chooses : Trail → Option Atom → Type 0) (s t : Search) (rows : ℕ) (p q : Part) (turn : Turn) : Type 0 where
   pub setting : SameSetting s t
+  -- a decision alone adds what was not inferred
+  pub store : (turn ≡ turns.Decided → ⊥) → GoesOnAndBack s.trail t.trail
   pub cause : TurnCaused chooses s t rows p q turn
   pub moves : MovesWith s t p q
   pub ends : EndsAs (end_of turn) t
