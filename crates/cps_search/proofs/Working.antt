@@ -22,7 +22,7 @@ use Rattle.cps_search.specs.Scope.{Scope, IsScopeOf, AreSameUpTo}
 use Rattle.cps_search.specs.Searches.{Search, IsSettled, IsSoundSearch}
 use Rattle.cps_search.specs.Moves.{fresh, moved, decided}
 use Rattle.cps_search.specs.Turns.{Caused, DecisionDue, GoesOnAndBack, IsOnward, LearntOne, SameRaised, SameSetting, Steps}
-use Rattle.cps_search.specs.Ends.{BrancherTurn, DecidedOne, Decides, EndsAs, EndsRaised, HeardOne, Hears, IsWorking, MovesWith, RunsTo, Stands, TakesTurn, TurnCaused, end_of}
+use Rattle.cps_search.specs.Ends.{BrancherTurn, DecidedOne, Decides, EndsAs, EndsRaised, HeardOne, Hears, IsWorking, MovesWith, OneTurn, RunsTo, Stands, TakesTurn, TurnCaused, end_of}
 use Rattle.cps_search.proofs.Completing.{all_fixed}
 use Rattle.cps_search.proofs.Turning.{back_after, setting_of, setting_same, setting_trans}
 use Rattle.cps_search.proofs.Moving.{ends_by, moves_more, moves_same, takes_turn}
@@ -253,6 +253,11 @@ ends_raised chooses s t u rows p q turns.Exhausted end e h same = subst (λ (x :
 ends_raised chooses s t u rows p q turns.SawClosed end e h same = subst (λ (x : End). EndsRaised s u x) (end_is ends.SawClosed end e) (ap (λ (x : Search). x.raised) h.same ∙ same)
 ends_raised chooses s t u rows p q (turns.Spent clause below) end e h same = subst (λ (x : End). EndsRaised s u x) (end_is (ends.Spent clause below) end e) (h.raised ∙ same)
 ends_raised chooses s t u rows p q turns.RoundsDone end e h same = absurd h
+
+-- a turn on a board that has as many rows as at first
+pub one_turn : {B : Type 0} (chooses : B → Trail → Option Atom → Type 0) (hears : B → List Atom → Bool → B → Type 0) (stays : B → B → Type 0) (rows now : ℕ) (s t : Search × B) (p q : Part) (turn : Turn) → now ≡ rows → TakesTurn (chooses s.1) s.0 t.0 now p q turn
+    → BrancherTurn turn (HeardOne (λ clause restart. hears s.1 clause restart t.1) s.0 t.0) (stays s.1 t.1) (t.1 ≡ s.1) → OneTurn chooses hears stays rows s t p q turn
+one_turn chooses hears stays rows now s t p q turn same h brancher = record { search = subst (λ (n : ℕ). TakesTurn (chooses s.1) s.0 t.0 n p q turn) same h; brancher = brancher }
 
 -- what a run has done so far
 pub record HasRun (s t : Search) (p q : Part) : Type 0 where
