@@ -227,10 +227,11 @@ turn_ends chooses s t rows p q (turns.Spent clause below) h = h.said
 turn_ends chooses s t rows p q turns.RoundsDone h = absurd h
 
 -- what a turn does follows from its cause
-pub takes_turn : (chooses : Trail → Option Atom → Type 0) (s t : Search) (rows : ℕ) (p q : Part) (turn : Turn) → IsSome s.budget → IsSoundSearch s → SameSetting s t → TurnCaused chooses s t rows p q turn → TakesTurn chooses s t rows p q turn
-takes_turn chooses s t rows p q turn has sound setting h =
+pub takes_turn : (chooses : Trail → Option Atom → Type 0) (s t : Search) (rows : ℕ) (p q : Part) (turn : Turn) → IsSome s.budget → IsSoundSearch s → SameSetting s t → ((turn ≡ turns.Decided → ⊥) → GoesOnAndBack s.trail t.trail) → TurnCaused chooses s t rows p q turn
+    → TakesTurn chooses s t rows p q turn
+takes_turn chooses s t rows p q turn has sound setting store h =
     let moves = turn_moves chooses s t rows p q turn sound setting h in
-    record { setting = setting; cause = h; moves = moves; ends = turn_ends chooses s t rows p q turn h; lowers = λ e. turn_lowers chooses s t rows p q turn has moves h e }
+    record { setting = setting; store = store; cause = h; moves = moves; ends = turn_ends chooses s t rows p q turn h; lowers = λ e. turn_lowers chooses s t rows p q turn has moves h e }
 
 raised_most : (raised : Option Bound) (z : Bound) → (b : Bound) × (raised_to raised z ≡ Some b) × BoundLe z b
 raised_most None z = (z, refl, BoundLe-refl z)

@@ -2,13 +2,14 @@
 use Rattle.std.specs.Prelude.{IfSome, All}
 use Rattle.std.proofs.Common.{ℕ, ◌≤◌, ◌<◌, ℤ, ◌≡◌, ◌∙◌, ◌⊎◌, inl, inr, Option, Some, None, List, [], ◌∷◌, ◌++◌, length, take, refl, sym, ap, subst, arith, append_assoc, length-append}
 use Rattle.std.proofs.lemmas.List.{length-take, take-take, take_all}
+use Rattle.std.proofs.lemmas.List.Elements.{All-nil, All-cons, All-append}
 use Rattle.cps_model.specs.declared.bound.Bound.{Bound}
 use Rattle.cps_model.specs.declared.bound.Bound.TheVariants.{At}
 use Rattle.cps_model.specs.Solutions.{objective_value, IsSolution}
 use Rattle.cps_literal.specs.declared.atom.Atom.{Atom}
 use Rattle.cps_instance.specs.Problem.{Problem, variable_count}
-use Rattle.cps_trail.specs.Trail.{Trail, Entry, IsFalseNow}
-use Rattle.cps_trail.specs.Adds.{Infers}
+use Rattle.cps_trail.specs.Trail.{Domains, Trail, Entry, Reason, Decision, Because, IsFalseNow}
+use Rattle.cps_trail.specs.Adds.{AreInferred, Infers, IsGiven}
 use Rattle.cps_port.specs.declared.entry.Entry.{Entry as BoardEntry}
 use Rattle.cps_port.specs.declared.part.BoardPart.{BoardPart}
 use Rattle.cps_port.specs.declared.part.BoundsPart.{BoundsPart}
@@ -26,18 +27,33 @@ use Rattle.cps_search.specs.Fixed.{AreFixed}
 use Rattle.cps_search.specs.Lessons.{GoesBack}
 use Rattle.cps_search.specs.Searches.{Search, IsNewClause, IsSettled, NoneBelow}
 use Rattle.cps_search.specs.Moves.{below, moved, saying, with_learnt}
-use Rattle.cps_search.specs.Turns.{BeginsTurn, GoesOnAndBack, IsOnward, IsShared, IsShort, Looks, LooksAgain, LooksAtBounds, SameSetting, SawMet, Teaches, TookNothing, TookOne}
+use Rattle.cps_search.specs.Turns.{BeginsTurn, GoesOnAndBack, IsInferredAt, IsOnward, IsShared, IsShort, Looks, LooksAgain, LooksAtBounds, SameSetting, SawMet, Teaches, TookNothing, TookOne}
 use Rattle.cps_search.specs.Stepping.{IsCausedFrom, IsLesson, Offers, Raises, Reaches, TakesOne, UsesEntry}
 
 pub onward_none : (s : Trail) → IsOnward s s
-onward_none s = record { first = refl; level = refl; added = []; entries = sym (append_nil s.entries); fewer = omega arith }
+onward_none s = record { first = refl; level = refl; added = []; entries = sym (append_nil s.entries); inferred = All-nil (IsInferredAt s.level); fewer = omega arith }
   where
     append_nil : (es : List Entry) → es ++ [] ≡ es
     append_nil [] = refl
     append_nil (e ∷ es) = ap (λ (fs : List Entry). e ∷ fs) (append_nil es)
 
 pub onward_infers : (C : List ℤ → Type 0) (s t : Trail) → Infers C s t → IsOnward s t
-onward_infers C s t h = record { first = h.first; level = h.level; added = h.added; entries = h.entries; fewer = h.fewer }
+onward_infers C s t h = record {
+  first = h.first;
+  level = h.level;
+  added = h.added;
+  entries = h.entries;
+  inferred = not_decided C s.first s.level s.entries h.added h.inferred;
+  fewer = h.fewer;
+}
+  where
+    given : (C : List ℤ → Type 0) (first : Domains) (before : List Entry) (r : Reason) → IsGiven C first before r → r ≡ Decision → ⊥
+    given C first before Decision h e = h
+    given C first before (Because clause) h e = absurd (cc e)
+
+    not_decided : (C : List ℤ → Type 0) (first : Domains) (level : ℕ) (before added : List Entry) → AreInferred C first level before added → All (IsInferredAt level) added
+    not_decided C first level before [] h = All-nil (IsInferredAt level)
+    not_decided C first level before (e ∷ es) h = All-cons (IsInferredAt level) e es (record { at = h.0.level; not_decided = given C first before e.reason h.0.given }) (not_decided C first level (before ++ e ∷ []) es h.1)
 
 onward_more : (s t u : Trail) → IsOnward s t → IsOnward t u → IsOnward s u
 onward_more s t u h k = record {
@@ -45,19 +61,20 @@ onward_more s t u h k = record {
   level = k.level ∙ h.level;
   added = h.added ++ k.added;
   entries = k.entries ∙ ap (λ (es : List Entry). es ++ k.added) h.entries ∙ append_assoc s.entries h.added k.added;
+  inferred = All-append (IsInferredAt s.level) h.added k.added h.inferred (subst (λ (n : ℕ). All (IsInferredAt n) k.added) h.level k.inferred);
   fewer = omega (arith, h.fewer, k.fewer, length-append h.added k.added);
 }
 
 -- entries were added and taken back
-pub on_and_back : (s m t : Trail) → IsOnward s m → t.first ≡ m.first → t.entries ≡ take (length t.entries) m.entries → GoesOnAndBack s t
-on_and_back s m t onward first front = record { furthest = m; onward = onward; first = first ∙ onward.first; front = front }
+pub on_and_back : (s m t : Trail) → IsOnward s m → t.first ≡ m.first → t.level ≤ m.level → t.entries ≡ take (length t.entries) m.entries → GoesOnAndBack s t
+on_and_back s m t onward first level front = record { furthest = m; onward = onward; first = first ∙ onward.first; level = omega (arith, level, onward.level); front = front }
 
 -- the store stayed
 pub stays_there : (s t : Trail) → t ≡ s → GoesOnAndBack s t
-stays_there s t is = subst (λ (x : Trail). GoesOnAndBack s x) (sym is) (on_and_back s s s (onward_none s) refl (sym (take_all (length s.entries) s.entries (omega arith))))
+stays_there s t is = subst (λ (x : Trail). GoesOnAndBack s x) (sym is) (on_and_back s s s (onward_none s) refl (omega arith) (sym (take_all (length s.entries) s.entries (omega arith))))
 
 on_before : (s m t : Trail) → IsOnward s m → GoesOnAndBack m t → GoesOnAndBack s t
-on_before s m t onward h = record { furthest = h.furthest; onward = onward_more s m h.furthest onward h.onward; first = h.first ∙ onward.first; front = h.front }
+on_before s m t onward h = record { furthest = h.furthest; onward = onward_more s m h.furthest onward h.onward; first = h.first ∙ onward.first; level = omega (arith, h.level, onward.level); front = h.front }
 
 pub back_after : (s m t : Trail) (level : ℕ) → GoesOnAndBack s m → GoesBack m t level → GoesOnAndBack s t
 back_after s m t level h back =
@@ -66,6 +83,7 @@ back_after s m t level h back =
       furthest = h.furthest;
       onward = h.onward;
       first = ap (λ (x : Trail). x.first) back.is ∙ h.first;
+      level = omega (arith, h.level, ap (λ (x : Trail). x.level) back.is, back.within);
       front = back.front ∙ ap (λ (es : List Entry). take (length t.entries) es) h.front ∙ take-take (length t.entries) (length m.entries) h.furthest.entries fewer;
     }
 

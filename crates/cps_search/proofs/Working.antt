@@ -22,7 +22,7 @@ use Rattle.cps_search.specs.Scope.{Scope, IsScopeOf, AreSameUpTo}
 use Rattle.cps_search.specs.Searches.{Search, IsSettled, IsSoundSearch}
 use Rattle.cps_search.specs.Moves.{fresh, moved, decided}
 use Rattle.cps_search.specs.Turns.{Caused, DecisionDue, GoesOnAndBack, IsOnward, LearntOne, SameRaised, SameSetting, Steps}
-use Rattle.cps_search.specs.Ends.{BrancherTurn, DecidedOne, Decides, EndsAs, EndsRaised, HeardOne, Hears, IsWorking, MovesWith, RunsTo, Stands, TakesTurn, TurnCaused, end_of}
+use Rattle.cps_search.specs.Ends.{BrancherTurn, DecidedOne, Decides, EndsAs, EndsRaised, HeardOne, Hears, IsWorking, MovesWith, OneTurn, RunsTo, Stands, TakesTurn, TurnCaused, end_of}
 use Rattle.cps_search.proofs.Completing.{all_fixed}
 use Rattle.cps_search.proofs.Turning.{back_after, setting_of, setting_same, setting_trans}
 use Rattle.cps_search.proofs.Moving.{ends_by, moves_more, moves_same, takes_turn}
@@ -170,12 +170,13 @@ pub turn_decided : (chooses : Trail → Option Atom → Type 0) (s m t : Search)
 turn_decided chooses s m t rows p q has sound steps h =
     takes_turn chooses s t rows p q turns.Decided has sound
     (setting_trans s m t steps.setting (setting_of m (moved m (decided m.trail h.atom) m.rested) t h.is refl refl refl refl))
+    (λ not. absurd (not refl))
     (decided_one chooses s m t rows p q steps.cause h)
 
 -- the steps that learn, after which the search may go back to level 0
 pub turn_learnt : (chooses : Trail → Option Atom → Type 0) (s m t : Search) (rows : ℕ) (p q : Part) → IsSome s.budget → IsSoundSearch s → Steps s m rows p q (Some turns.Learnt) → Stands m t → TakesTurn chooses s t rows p q turns.Learnt
 turn_learnt chooses s m t rows p q has sound steps stands =
-    takes_turn chooses s t rows p q turns.Learnt has sound (setting_trans s m t steps.setting (setting_stands m t stands)) (learnt_stands s m t rows p q steps.cause stands)
+    takes_turn chooses s t rows p q turns.Learnt has sound (setting_trans s m t steps.setting (setting_stands m t stands)) (λ not. stands_back s.trail m t steps.store stands) (learnt_stands s m t rows p q steps.cause stands)
 
 turn_caused : (chooses : Trail → Option Atom → Type 0) (s t : Search) (rows : ℕ) (p q : Part) (turn : Turn) → Caused s t rows p q (Some turn) → TurnCaused chooses s t rows p q turn
 turn_caused chooses s t rows p q turns.Imported h = h
@@ -189,7 +190,7 @@ turn_caused chooses s t rows p q turns.RoundsDone h = h
 
 -- the steps of any other turn
 pub turn_other : (chooses : Trail → Option Atom → Type 0) (s t : Search) (rows : ℕ) (p q : Part) (turn : Turn) → IsSome s.budget → IsSoundSearch s → Steps s t rows p q (Some turn) → TakesTurn chooses s t rows p q turn
-turn_other chooses s t rows p q turn has sound steps = takes_turn chooses s t rows p q turn has sound steps.setting (turn_caused chooses s t rows p q turn steps.cause)
+turn_other chooses s t rows p q turn has sound steps = takes_turn chooses s t rows p q turn has sound steps.setting (λ not. steps.store) (turn_caused chooses s t rows p q turn steps.cause)
 
 -- in which the brancher stays as it was
 pub brancher_other : (s t : Search) (rows : ℕ) (p q : Part) (turn : Turn) (heard chose same : Type 0) → Caused s t rows p q (Some turn) → (turn ≡ turns.Learnt → ⊥) → same → BrancherTurn turn heard chose same
@@ -252,6 +253,11 @@ ends_raised chooses s t u rows p q turns.Exhausted end e h same = subst (λ (x :
 ends_raised chooses s t u rows p q turns.SawClosed end e h same = subst (λ (x : End). EndsRaised s u x) (end_is ends.SawClosed end e) (ap (λ (x : Search). x.raised) h.same ∙ same)
 ends_raised chooses s t u rows p q (turns.Spent clause below) end e h same = subst (λ (x : End). EndsRaised s u x) (end_is (ends.Spent clause below) end e) (h.raised ∙ same)
 ends_raised chooses s t u rows p q turns.RoundsDone end e h same = absurd h
+
+-- a turn on a board that has as many rows as at first
+pub one_turn : {B : Type 0} (chooses : B → Trail → Option Atom → Type 0) (hears : B → List Atom → Bool → B → Type 0) (stays : B → B → Type 0) (rows now : ℕ) (s t : Search × B) (p q : Part) (turn : Turn) → now ≡ rows → TakesTurn (chooses s.1) s.0 t.0 now p q turn
+    → BrancherTurn turn (HeardOne (λ clause restart. hears s.1 clause restart t.1) s.0 t.0) (stays s.1 t.1) (t.1 ≡ s.1) → OneTurn chooses hears stays rows s t p q turn
+one_turn chooses hears stays rows now s t p q turn same h brancher = record { search = subst (λ (n : ℕ). TakesTurn (chooses s.1) s.0 t.0 n p q turn) same h; brancher = brancher }
 
 -- what a run has done so far
 pub record HasRun (s t : Search) (p q : Part) : Type 0 where

@@ -30,7 +30,7 @@ use Rattle.cps_search.specs.Lessons.{GoesBack}
 use Rattle.cps_search.specs.Scope.{Scope, IsScopeOf}
 use Rattle.cps_search.specs.Searches.{Search, IsSoundSearch, NoneBelow, IsHonestJournal, IsItemAbove, learnt_count}
 use Rattle.cps_search.specs.Moves.{moved, decided}
-use Rattle.cps_search.specs.Turns.{SameSetting, DecisionDue, TookOne, LearntOne, FoundOne, ExhaustedAll, SawMet, SpentAll, IsLess, SameRaised}
+use Rattle.cps_search.specs.Turns.{SameSetting, GoesOnAndBack, DecisionDue, TookOne, LearntOne, FoundOne, ExhaustedAll, SawMet, SpentAll, IsLess, SameRaised}
 
 -- A decision was made where one was due: the atom that was chosen.
 pub record DecidedOne (chooses : Trail → Option Atom → Type 0) (s t : Search) (rows : ℕ) (p q : Part) : Type 0 where
@@ -141,10 +141,31 @@ EndsAs (Some end) t = t.said ≡ Over end
 -- what each turn of a worker does
 pub record TakesTurn (chooses : Trail → Option Atom → Type 0) (s t : Search) (rows : ℕ) (p q : Part) (turn : Turn) : Type 0 where
   pub setting : SameSetting s t
+  -- a decision alone adds what was not inferred
+  pub store : (turn ≡ turns.Decided → ⊥) → GoesOnAndBack s.trail t.trail
   pub cause : TurnCaused chooses s t rows p q turn
   pub moves : MovesWith s t p q
   pub ends : EndsAs (end_of turn) t
   pub lowers : end_of turn ≡ None → Lowers s t rows p.board q.board
+
+-- one turn of a worker whose brancher has these rules, and what it does to the brancher
+pub record OneTurn {B : Type 0} (chooses : B → Trail → Option Atom → Type 0) (hears : B → List Atom → Bool → B → Type 0) (stays : B → B → Type 0) (rows : ℕ) (s t : Search × B) (p q : Part) (turn : Turn) : Type 0 where
+  pub search : TakesTurn (chooses s.1) s.0 t.0 rows p q turn
+  pub brancher : BrancherTurn turn (HeardOne (λ clause restart. hears s.1 clause restart t.1) s.0 t.0) (stays s.1 t.1) (t.1 ≡ s.1)
+
+-- turns one after another, none of which ended the worker
+pub data TakesTurns {B : Type 0} (chooses : B → Trail → Option Atom → Type 0) (hears : B → List Atom → Bool → B → Type 0) (stays : B → B → Type 0) (rows : ℕ) (s : Search × B) (p : Part) : Search × B → Part → Type 0 where
+  none_yet : TakesTurns chooses hears stays rows s p s p
+  one_more : (m t : Search × B) (n q : Part) (turn : Turn) → TakesTurns chooses hears stays rows s p m n → end_of turn ≡ None → OneTurn chooses hears stays rows m t n q turn → TakesTurns chooses hears stays rows s p t q
+
+-- a run of a worker: turns one after another, of which the last ended it so
+pub record RunsInTurns {B : Type 0} (chooses : B → Trail → Option Atom → Type 0) (hears : B → List Atom → Bool → B → Type 0) (stays : B → B → Type 0) (rows : ℕ) (s t : Search × B) (p q : Part) (end : End) : Type 0 where
+  pub before : Search × B
+  pub part : Part
+  pub turns : TakesTurns chooses hears stays rows s p before part
+  pub turn : Turn
+  pub last : OneTurn chooses hears stays rows before t part q turn
+  pub ended : end_of turn ≡ Some end
 
 -- As the actor last saw the two bounds, they had met within the gap.
 pub record LastSawMet (gap : ℕ) (q : BoundsPart) : Type 0 where

@@ -8,7 +8,7 @@ use Rattle.cps_model.specs.Statuses.{is_closed}
 use Rattle.cps_literal.specs.declared.atom.Atom.{Atom}
 use Rattle.cps_literal.specs.Normal.{IsNormal, IsNormalOf}
 use Rattle.cps_instance.specs.Problem.{variable_count}
-use Rattle.cps_trail.specs.Trail.{Trail, Entry, IsFalseNow, open_values}
+use Rattle.cps_trail.specs.Trail.{Trail, Entry, Decision, IsFalseNow, open_values}
 use Rattle.cps_port.specs.declared.entry.Entry.{Entry as BoardEntry}
 use Rattle.cps_port.specs.declared.entry.Share.{Share}
 use Rattle.cps_port.specs.declared.part.BoardPart.{BoardPart}
@@ -75,19 +75,26 @@ pub record BeginsTurn (s : Search) (rows : ℕ) (p q : Part) (z : Bound) : Type 
   pub bounds : SawOpen s p.bounds q.bounds z
   pub board : TookNothing rows p.board q.board
 
--- entries were added at the present level, and values were lost
+-- an entry at this level that was not decided
+pub record IsInferredAt (level : ℕ) (e : Entry) : Type 0 where
+  pub at : e.level ≡ level
+  pub not_decided : e.reason ≡ Decision → ⊥
+
+-- entries were inferred at the present level, and values were lost
 pub record IsOnward (s t : Trail) : Type 0 where
   pub first : t.first ≡ s.first
   pub level : t.level ≡ s.level
   pub added : List Entry
   pub entries : t.entries ≡ s.entries ++ added
+  pub inferred : All (IsInferredAt s.level) added
   pub fewer : open_values t.first t.entries + length added ≤ open_values s.first s.entries
 
--- entries were added, and then the last ones may have been taken back
+-- entries were inferred, and then the last ones may have been taken back
 pub record GoesOnAndBack (s t : Trail) : Type 0 where
   pub furthest : Trail
   pub onward : IsOnward s furthest
   pub first : t.first ≡ s.first
+  pub level : t.level ≤ s.level
   pub front : t.entries ≡ take (length t.entries) furthest.entries
 
 -- what no turn changes

@@ -10,7 +10,7 @@ ghost use Rattle.cps_search.specs.Fixed.{AreFixed};
 ghost use Rattle.cps_search.specs.Scope.{IsScopeOf};
 ghost use Rattle.cps_search.specs.Searches.{HasNoAssumptions, IsSettled, IsSoundSearch};
 ghost use Rattle.cps_search.specs.Moves.{fresh};
-ghost use Rattle.cps_search.specs.Ends.{TakesTurn, BrancherTurn, Decides, HeardOne, Hears, RunsTo, Stands, IsOver, ending, end_of};
+ghost use Rattle.cps_search.specs.Ends.{TakesTurn, BrancherTurn, Decides, HeardOne, Hears, RunsInTurns, RunsTo, Stands, IsOver, ending, end_of};
 
 use crate::brancher::Brancher;
 use crate::end::{End, Said, WorkerKind};
@@ -208,6 +208,7 @@ impl<'a, P: Propagator, B: Brancher + Drop> Worker<'a, P, B> {
         ensures same { (Q.model port.new ≡ Q.model port.old) × (Q.rows port.new ≡ Q.rows port.old) }
         ensures others { Q.stays port.old port.new }
         ensures runs { IfOk result (λ end. RunsTo self.old.0 self.new.0 (Q.part port.old) (Q.part port.new) end) }
+        ensures turns { IfOk result (λ end. RunsInTurns B.chooses B.hears B.stays (Q.rows port.old) self.old self.new (Q.part port.old) (Q.part port.new) end) }
         ensures sound { OnOk result (IsSoundSearch self.new.0) }
         ensures refused { OnErr result (IsTrue self.new.0.refused) }
         ensures stays { IsTrue self.old.0.refused → IsErr result }

@@ -1,5 +1,5 @@
-use Rattle.std.proofs.Common.{◌≡◌, List, Option, subst}
-use Rattle.std.specs.Prelude.{IfSome, map}
+use Rattle.std.proofs.Common.{◌≡◌, List, Option, refl, sym, subst}
+use Rattle.std.specs.Prelude.{IfSome, IsNone, map}
 use Rattle.std.specs.List.{All}
 use Rattle.cps_model.specs.declared.bound.Bound.{Bound}
 use Rattle.cps_model.specs.Solutions.{objective_value, IsFree}
@@ -12,7 +12,7 @@ use Rattle.cps_search.specs.Fixed.{AreFixed}
 use Rattle.cps_search.specs.Searches.{below_bound}
 use Rattle.cps_search.specs.Stepping.{search_of}
 use Rattle.cps_search.proofs.Teaching.{solution_of_free}
-use Rattle.cps_search.proofs.Turning.{found_at}
+use Rattle.cps_search.proofs.Turning.{caused_due, found_at}
 use Rattle.cps_search.proofs.searcher.Searcher.find.Goals as goal
 
 pub offer-requires-clause-solution : goal.offer-requires-clause-solution
@@ -37,3 +37,7 @@ returns-clause-cause g c =
     let objective = subst (λ (x : Option Found). IfSome x (λ f. f.objective ≡ objective_value p.model f.values.items)) c.in-Some.is e.objective in
     found_at s (search_of c.offer.new.self) (g.Q.Port.rows c.args.port.now) (g.Q.Port.part c.args.port.now) (g.Q.Port.part c.offer.new.port) f.values.items f.objective objective fixed
     (solution_of_free p.model f.values.items c.requires.sound.no_assumptions free.0) free.1 o.is o.bounds o.board
+
+pub returns-in_default-clause-cause : goal.returns-in_default-clause-cause
+returns-in_default-clause-cause g c =
+    caused_due (search_of c.args.self.now) _ _ _ c.requires.settled (c.in_ok-found.ensures.none (subst (λ (o : Option Found). IsNone o) (sym c.in_default.is) refl)) refl
