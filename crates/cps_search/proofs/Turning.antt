@@ -22,7 +22,7 @@ use Rattle.cps_search.specs.declared.end.End.TheVariants as ends
 use Rattle.cps_search.specs.declared.end.Said.TheVariants.{Due, Over}
 use Rattle.cps_search.specs.declared.turn.Turn.{Turn}
 use Rattle.cps_search.specs.declared.turn.Turn.TheVariants as turns
-use Rattle.cps_search.specs.Fixed.{AreFixed}
+use Rattle.cps_search.specs.Fixed.{AreFixed, HasValues}
 use Rattle.cps_search.specs.Lessons.{GoesBack}
 use Rattle.cps_search.specs.Searches.{Search, IsNewClause, IsSettled, NoneBelow}
 use Rattle.cps_search.specs.Moves.{below, moved, saying, with_learnt}
@@ -173,9 +173,9 @@ caused_due r t rows m settled left is = record {
     settled_said r t is h = subst (λ (x : Search). IsSettled x) (sym is) (record { tasks = h.tasks; clauses = h.clauses; rested = h.rested })
 
 -- all variables are fixed, and their values are a solution below z
-pub caused_found : (r t : Search) (rows : ℕ) (m q : Part) (a : List ℤ) → AreFixed r.trail (variable_count r.problem) → IsSolution r.problem.model a → IsBelow (objective_value r.problem.model a) r.z
+pub caused_found : (r t : Search) (rows : ℕ) (m q : Part) (a : List ℤ) → AreFixed r.trail (variable_count r.problem) → HasValues r.trail (variable_count r.problem) a → IsSolution r.problem.model a → IsBelow (objective_value r.problem.model a) r.z
     → t ≡ record (below r (At (objective_value r.problem.model a))) { best = Some a } → Offers (At (objective_value r.problem.model a)) m.bounds q.bounds → q.board ≡ m.board → IsCausedFrom r t rows m q (Some turns.Found)
-caused_found r t rows m q a fixed solution under is offers board = record {
+caused_found r t rows m q a fixed values solution under is offers board = record {
   setting = record {
     problem = ap (λ (x : Search). x.problem) is;
     gap = ap (λ (x : Search). x.gap) is;
@@ -200,6 +200,7 @@ caused_found r t rows m q a fixed solution under is offers board = record {
         best = ap (λ (x : Search). x.best) is;
         z = z ∙ ap (λ (p : Problem). At (objective_value p.model a)) same;
         fixed = subst (λ (x : Search). AreFixed x.trail (variable_count x.problem)) (sym is) fixed;
+        values = subst (λ (x : Search). HasValues x.trail (variable_count x.problem) a) (sym is) values;
         seen = offers.seen;
         at_most = subst (λ (b : Bound). BoundLe offers.seen b) (sym z) offers.at_most;
         offered = subst (λ (b : Bound). q.bounds ≡ after_offer m.bounds b offers.seen) (sym z) offers.is;
@@ -326,10 +327,10 @@ took_one s b t rows p m q z looks board is takes = record {
 }
 
 -- the same, where the objective is at hand
-pub found_at : (r t : Search) (rows : ℕ) (m q : Part) (a : List ℤ) (v : ℤ) → v ≡ objective_value r.problem.model a → AreFixed r.trail (variable_count r.problem) → IsSolution r.problem.model a → IsBelow v r.z
+pub found_at : (r t : Search) (rows : ℕ) (m q : Part) (a : List ℤ) (v : ℤ) → v ≡ objective_value r.problem.model a → AreFixed r.trail (variable_count r.problem) → HasValues r.trail (variable_count r.problem) a → IsSolution r.problem.model a → IsBelow v r.z
     → t ≡ record (below r (At v)) { best = Some a } → Offers (At v) m.bounds q.bounds → q.board ≡ m.board → IsCausedFrom r t rows m q (Some turns.Found)
-found_at r t rows m q a v e fixed solution under is offers board =
-    caused_found r t rows m q a fixed solution (subst (λ (z : ℤ). IsBelow z r.z) e under) (is ∙ ap (λ (z : ℤ). record (below r (At z)) { best = Some a }) e)
+found_at r t rows m q a v e fixed values solution under is offers board =
+    caused_found r t rows m q a fixed values solution (subst (λ (z : ℤ). IsBelow z r.z) e under) (is ∙ ap (λ (z : ℤ). record (below r (At z)) { best = Some a }) e)
     (subst (λ (z : ℤ). Offers (At z) m.bounds q.bounds) e offers) board
 
 -- the two bounds had met

@@ -24,7 +24,7 @@ use Rattle.cps_search.specs.declared.end.End.TheVariants as ends
 use Rattle.cps_search.specs.declared.end.Said.TheVariants.{Nothing, Due, Over}
 use Rattle.cps_search.specs.declared.turn.Turn.{Turn}
 use Rattle.cps_search.specs.declared.turn.Turn.TheVariants as turns
-use Rattle.cps_search.specs.Fixed.{AreFixed}
+use Rattle.cps_search.specs.Fixed.{AreFixed, HasValues}
 use Rattle.cps_search.specs.Searches.{Search, NoneBelow, IsNewClause, IsSettled}
 
 -- the one bound is below the other
@@ -200,6 +200,7 @@ pub record FoundOne (s t : Search) (rows : ℕ) (p q : Part) : Type 0 where
   pub best : t.best ≡ Some solution
   pub z : t.z ≡ At (objective_value s.problem.model solution)
   pub fixed : AreFixed t.trail (variable_count t.problem)
+  pub values : HasValues t.trail (variable_count t.problem) solution
   pub seen : Bound
   pub at_most : BoundLe seen t.z
   pub offered : q.bounds ≡ after_offer midway.bounds t.z seen

@@ -8,7 +8,7 @@ use Rattle.cps_instance.specs.declared.task.Task.{Task}
 use Rattle.cps_propagate.specs.Laws.{IsAtRest}
 use Rattle.cps_port.specs.Order.{IsBelow}
 use Rattle.cps_search.specs.declared.found.Found.{Found}
-use Rattle.cps_search.specs.Fixed.{AreFixed}
+use Rattle.cps_search.specs.Fixed.{AreFixed, HasValues}
 use Rattle.cps_search.specs.Searches.{below_bound}
 use Rattle.cps_search.specs.Stepping.{search_of}
 use Rattle.cps_search.proofs.Teaching.{solution_of_free}
@@ -34,6 +34,7 @@ returns-clause-cause g c =
     let both = subst (λ (x : Option Found). IfSome x (λ f. (z : Bound) → All (λ t. IsAtRest t s.trail) (map (below_bound z) p.tasks) → IsFree p.model f.values.items × IsBelow f.objective z)) c.in-Some.is e.solution in
     let free = both s.z rest in
     let fixed = subst (λ (x : Option Found). IfSome x (λ _. AreFixed s.trail (variable_count p))) c.in-Some.is e.fixed in
+    let values = subst (λ (x : Option Found). IfSome x (λ f. HasValues s.trail (variable_count p) f.values.items)) c.in-Some.is e.values in
     let objective = subst (λ (x : Option Found). IfSome x (λ f. f.objective ≡ objective_value p.model f.values.items)) c.in-Some.is e.objective in
-    found_at s (search_of c.offer.new.self) (g.Q.Port.rows c.args.port.now) (g.Q.Port.part c.args.port.now) (g.Q.Port.part c.offer.new.port) f.values.items f.objective objective fixed
+    found_at s (search_of c.offer.new.self) (g.Q.Port.rows c.args.port.now) (g.Q.Port.part c.args.port.now) (g.Q.Port.part c.offer.new.port) f.values.items f.objective objective fixed values
     (solution_of_free p.model f.values.items c.requires.sound.no_assumptions free.0) free.1 o.is o.bounds o.board
