@@ -8,7 +8,7 @@ use Rattle.cps_model.specs.Statuses.{is_closed}
 use Rattle.cps_literal.specs.declared.atom.Atom.{Atom}
 use Rattle.cps_literal.specs.Normal.{IsNormal, IsNormalOf}
 use Rattle.cps_instance.specs.Problem.{variable_count}
-use Rattle.cps_trail.specs.Trail.{Trail, Entry, IsFalseNow, open_values}
+use Rattle.cps_trail.specs.Trail.{Trail, Entry, IsFalseNow, open_values, up_to}
 use Rattle.cps_port.specs.declared.entry.Entry.{Entry as BoardEntry}
 use Rattle.cps_port.specs.declared.entry.Share.{Share}
 use Rattle.cps_port.specs.declared.part.BoardPart.{BoardPart}
@@ -25,6 +25,7 @@ use Rattle.cps_search.specs.declared.end.Said.TheVariants.{Nothing, Due, Over}
 use Rattle.cps_search.specs.declared.turn.Turn.{Turn}
 use Rattle.cps_search.specs.declared.turn.Turn.TheVariants as turns
 use Rattle.cps_search.specs.Fixed.{AreFixed, HasValues}
+use Rattle.cps_search.specs.Lessons.{IsBackLevel}
 use Rattle.cps_search.specs.Searches.{Search, NoneBelow, IsNewClause, IsSettled}
 
 -- the one bound is below the other
@@ -81,6 +82,7 @@ pub record IsOnward (s t : Trail) : Type 0 where
   pub level : t.level ≡ s.level
   pub added : List Entry
   pub entries : t.entries ≡ s.entries ++ added
+  pub levels : All (λ e. e.level ≡ s.level) added
   pub fewer : open_values t.first t.entries + length added ≤ open_values s.first s.entries
 
 -- entries were added, and then the last ones may have been taken back
@@ -188,6 +190,13 @@ pub record LearntOne (s t : Search) (rows : ℕ) (p q : Part) : Type 0 where
   pub raised : SameRaised s t
   pub said : t.said ≡ Nothing
 
+-- The search went back just as far as the clause that it learnt says: its store is that of the end of the level.
+pub record BackAsLearnt (s t : Search) : Type 0 where
+  pub clause : List Atom
+  pub learnt : t.base ≡ with_clause s.base clause t.z Learnt
+  pub level : IsBackLevel s.trail clause t.trail.level
+  pub entries : t.trail.entries ≡ up_to t.trail.level s.trail.entries
+
 -- All variables are fixed: their values are a solution below z, which was offered.
 pub record FoundOne (s t : Search) (rows : ℕ) (p q : Part) : Type 0 where
   pub midway : Part
@@ -251,7 +260,7 @@ abbrev pub Caused : Search → Search → ℕ → Part → Part → Option Turn 
 Caused s t rows p q None = DecisionDue s t rows p q
 Caused s t rows p q (Some turns.Imported) = TookOne s t rows p q
 Caused s t rows p q (Some turns.Decided) = ⊥
-Caused s t rows p q (Some turns.Learnt) = LearntOne s t rows p q
+Caused s t rows p q (Some turns.Learnt) = LearntOne s t rows p q × BackAsLearnt s t
 Caused s t rows p q (Some turns.Found) = FoundOne s t rows p q
 Caused s t rows p q (Some turns.Exhausted) = ExhaustedAll s t rows p q
 Caused s t rows p q (Some turns.SawClosed) = SawMet s t p q

@@ -88,7 +88,7 @@ fn hear_last<B: Brancher>(brancher: &mut B, journal: &[JournalItem]) -> bool
 /// Lets a brancher hear the clause that was learnt last, and goes back to level 0 if it asks for that.
 fn hear<P: Propagator, B: Brancher>(frame: &mut Frame<'_, P>, brancher: &mut B)
     requires running { frame.old.refused ≡ false }
-    ensures heard { (earlier : List JournalItemOf) (clause : List AtomOf) (below : BoundOf) → frame.old.base.journal ≡ earlier ++ JournalItem.Learnt clause below ∷ [] → Hears (λ restart. B.hears brancher.old clause restart brancher.new) frame.new }
+    ensures heard { (earlier : List JournalItemOf) (clause : List AtomOf) (below : BoundOf) → frame.old.base.journal ≡ earlier ++ JournalItem.Learnt clause below ∷ [] → Hears (λ restart. B.hears brancher.old clause restart brancher.new) (frame.new ≡ frame.old) frame.new }
     ensures scope { B.scope brancher.new ≡ B.scope brancher.old }
     ensures saw { (s : Trail) (k : ℕ) → B.agrees brancher.old s k → B.agrees brancher.new s k }
     ensures frame { Stands frame.old frame.new }
@@ -103,7 +103,7 @@ fn hear<P: Propagator, B: Brancher>(frame: &mut Frame<'_, P>, brancher: &mut B)
 /// heard.
 fn hear_turn<P: Propagator, B: Brancher>(frame: &mut Frame<'_, P>, brancher: &mut B, turn: &Turn)
     requires running { frame.old.refused ≡ false }
-    ensures heard { turn.now ≡ Turn.Learnt → (earlier : List JournalItemOf) (clause : List AtomOf) (below : BoundOf) → frame.old.base.journal ≡ earlier ++ JournalItem.Learnt clause below ∷ [] → Hears (λ restart. B.hears brancher.old clause restart brancher.new) frame.new }
+    ensures heard { turn.now ≡ Turn.Learnt → (earlier : List JournalItemOf) (clause : List AtomOf) (below : BoundOf) → frame.old.base.journal ≡ earlier ++ JournalItem.Learnt clause below ∷ [] → Hears (λ restart. B.hears brancher.old clause restart brancher.new) (frame.new ≡ frame.old) frame.new }
     ensures others { (turn.now ≡ Turn.Learnt → ⊥) → (frame.new ≡ frame.old) × (brancher.new ≡ brancher.old) }
     ensures scope { B.scope brancher.new ≡ B.scope brancher.old }
     ensures saw { (s : Trail) (k : ℕ) → B.agrees brancher.old s k → B.agrees brancher.new s k }
