@@ -180,7 +180,7 @@ pub steps_fall : (s t : Search) (rows : â„•) (p q : Part) (turn : Option Turn) â
 steps_fall s t rows p q None sound setting h = (let m = moves_due s t rows p q setting h in record { falls = m.falls; follows = m.follows })
 steps_fall s t rows p q (Some turns.Imported) sound setting h = (let m = moves_taken s t rows p q setting h in record { falls = m.falls; follows = m.follows })
 steps_fall s t rows p q (Some turns.Decided) sound setting h = absurd h
-steps_fall s t rows p q (Some turns.Learnt) sound setting h = (let m = moves_learnt s t rows p q setting h in record { falls = m.falls; follows = m.follows })
+steps_fall s t rows p q (Some turns.Learnt) sound setting h = (let m = moves_learnt s t rows p q setting h.0 in record { falls = m.falls; follows = m.follows })
 steps_fall s t rows p q (Some turns.Found) sound setting h = (let m = moves_found s t rows p q sound setting h in record { falls = m.falls; follows = m.follows })
 steps_fall s t rows p q (Some turns.Exhausted) sound setting h = (let m = moves_exhausted s t rows p q setting h in record { falls = m.falls; follows = m.follows })
 steps_fall s t rows p q (Some turns.SawClosed) sound setting h = (let m = moves_met s t p q setting h in record { falls = m.falls; follows = m.follows })

@@ -1,15 +1,18 @@
 -- How what a turn does has its cause.
 use Rattle.std.specs.Prelude.{IfSome, All}
-use Rattle.std.proofs.Common.{ℕ, ◌≤◌, ◌<◌, ℤ, ◌≡◌, ◌∙◌, ◌⊎◌, inl, inr, Option, Some, None, List, [], ◌∷◌, ◌++◌, length, take, refl, sym, ap, subst, arith, append_assoc, length-append}
+use Rattle.std.proofs.Common.{ℕ, ◌-◌, ◌≤◌, ◌<◌, ℤ, ◌≡◌, ◌∙◌, ◌⊎◌, inl, inr, Option, Some, None, List, [], ◌∷◌, ◌++◌, length, take, refl, sym, ap, subst, arith, append_assoc, length-append}
+use Rattle.std.specs.Prelude.{slice_index_or}
 use Rattle.std.proofs.lemmas.List.{length-take, take-take, take_all}
-use Rattle.std.proofs.lemmas.List.Elements.{All-nil, All-cons, All-append}
+use Rattle.std.proofs.lemmas.List.Elements.{All-append, All-cons, All-nil, All-weaker}
 use Rattle.cps_model.specs.declared.bound.Bound.{Bound}
 use Rattle.cps_model.specs.declared.bound.Bound.TheVariants.{At}
 use Rattle.cps_model.specs.Solutions.{objective_value, IsSolution}
 use Rattle.cps_literal.specs.declared.atom.Atom.{Atom}
 use Rattle.cps_instance.specs.Problem.{Problem, variable_count}
-use Rattle.cps_trail.specs.Trail.{Domains, Trail, Entry, Reason, Decision, Because, IsFalseNow}
+use Rattle.cps_trail.specs.Trail.{Domains, Trail, Entry, Reason, Decision, Because, IsFalseAfter, IsFalseNow, up_to}
 use Rattle.cps_trail.specs.Adds.{AreInferred, Infers, IsGiven}
+use Rattle.cps_trail.proofs.Marks.{up_to-append_above, up_to-up_to}
+use Rattle.cps_conflict.specs.Conflicts.{Asserts}
 use Rattle.cps_port.specs.declared.entry.Entry.{Entry as BoardEntry}
 use Rattle.cps_port.specs.declared.part.BoardPart.{BoardPart}
 use Rattle.cps_port.specs.declared.part.BoundsPart.{BoundsPart}
@@ -19,15 +22,16 @@ use Rattle.cps_port.specs.Parts.{after_offer, after_raise}
 use Rattle.cps_port.specs.Says.{TookEntry}
 use Rattle.cps_clauses.specs.declared.origin.Origin.TheVariants as origins
 use Rattle.cps_clauses.specs.Bases.{Base, with_clause}
+use Rattle.cps_clauses.proofs.Quieting.{IsFalseAfter-later}
 use Rattle.cps_search.specs.declared.end.End.TheVariants as ends
 use Rattle.cps_search.specs.declared.end.Said.TheVariants.{Due, Over}
 use Rattle.cps_search.specs.declared.turn.Turn.{Turn}
 use Rattle.cps_search.specs.declared.turn.Turn.TheVariants as turns
-use Rattle.cps_search.specs.Fixed.{AreFixed}
-use Rattle.cps_search.specs.Lessons.{GoesBack}
+use Rattle.cps_search.specs.Fixed.{AreFixed, HasValues}
+use Rattle.cps_search.specs.Lessons.{GoesBack, IsBackLevel}
 use Rattle.cps_search.specs.Searches.{Search, IsNewClause, IsSettled, NoneBelow}
 use Rattle.cps_search.specs.Moves.{below, moved, saying, with_learnt}
-use Rattle.cps_search.specs.Turns.{BeginsTurn, GoesOnAndBack, IsInferredAt, IsOnward, IsShared, IsShort, Looks, LooksAgain, LooksAtBounds, SameSetting, SawMet, Teaches, TookNothing, TookOne}
+use Rattle.cps_search.specs.Turns.{BackAsLearnt, BeginsTurn, GoesOnAndBack, IsInferredAt, IsOnward, IsShared, IsShort, Looks, LooksAgain, LooksAtBounds, SameSetting, SawMet, Teaches, TookNothing, TookOne}
 use Rattle.cps_search.specs.Stepping.{IsCausedFrom, IsLesson, Offers, Raises, Reaches, TakesOne, UsesEntry}
 
 pub onward_none : (s : Trail) → IsOnward s s
@@ -89,6 +93,49 @@ back_after s m t level h back =
 
 pub back_only : (s t : Trail) (level : ℕ) → GoesBack s t level → GoesOnAndBack s t
 back_only s t level back = back_after s s t level (stays_there s s refl) back
+
+-- What stood at the end of an earlier level stays where entries are added and the store goes back to a later one.
+module _ (s m t : Trail) (level back : ℕ) (onward : IsOnward s m) (went : GoesBack m t level) (below : back < level) where
+  stood : (l : ℕ) → l ≤ back → up_to l t.entries ≡ up_to l s.entries
+  stood l low =
+      ap (λ (x : Trail). up_to l x.entries) went.is ∙ up_to-up_to l level m.entries (omega (arith, below, low)) ∙ ap (λ (es : List Entry). up_to l es) onward.entries
+      ∙ up_to-append_above l s.entries onward.added (All-weaker (IsInferredAt s.level) (λ e. l < e.level) (λ e i. (let same = i.at in omega (arith, same, low, below, went.within, onward.level))) onward.added onward.inferred)
+
+  same_first : t.first ≡ s.first
+  same_first = ap (λ (x : Trail). x.first) went.is ∙ onward.first
+
+  false_later : (l : ℕ) (u : Atom) → l ≤ back → IsFalseAfter s.first (up_to l s.entries) u → IsFalseAfter t.first (up_to l t.entries) u
+  false_later l u low h = subst (λ (ds : Domains). IsFalseAfter ds (up_to l t.entries) u) (sym same_first) (subst (λ (es : List Entry). IsFalseAfter s.first es u) (sym (stood l low)) h)
+
+  false_earlier : (l : ℕ) (u : Atom) → l ≤ back → IsFalseAfter t.first (up_to l t.entries) u → IsFalseAfter s.first (up_to l s.entries) u
+  false_earlier l u low h = subst (λ (es : List Entry). IsFalseAfter s.first es u) (stood l low) (subst (λ (ds : Domains). IsFalseAfter ds (up_to l t.entries) u) same_first h)
+
+-- the level to which a clause sends a search back, by what it asserts at its conflict
+back_level : (s m t : Trail) (clause : List Atom) (u : Atom) (level back : ℕ) → IsOnward s m → GoesBack m t level → Asserts t clause u back → IsBackLevel s clause back
+back_level s m t clause u level back onward went a =
+    let below : back < level = omega (arith, a.below, ap (λ (x : Trail). x.level) went.is) in
+    record {
+      place = a.place;
+      within = a.within;
+      others = λ j d l other. false_earlier s m t level back onward went below back (slice_index_or clause j d) (omega arith) (a.others j d l other);
+      lowest = λ lower less h. a.lowest lower less (λ j d l other. false_later s m t level back onward went below lower (slice_index_or clause j d) (omega (arith, less)) (h j d l other));
+      left_open = λ d h. a.became.not_below
+          (IsFalseAfter-later t.first t.entries back (t.level - 1) u (omega (arith, a.below))
+          (subst (λ (v : Atom). IsFalseAfter t.first (up_to back t.entries) v) (a.is d) (false_later s m t level back onward went below back (slice_index_or clause a.place d) (omega arith) h)));
+    }
+
+-- a search that went back so has learnt the clause
+went_as_learnt : (s r t : Search) (mid : Trail) (clause : List Atom) (u : Atom) (level back : ℕ) → GoesBack r.trail mid level → Asserts mid clause u back → GoesBack mid t.trail back
+    → IsOnward s.trail r.trail → t.base ≡ with_clause s.base clause t.z origins.Learnt → BackAsLearnt s t
+went_as_learnt s r t mid clause u level back went a again onward base =
+    let below : back < level = omega (arith, a.below, ap (λ (x : Trail). x.level) went.is) in
+    let at : t.trail.level ≡ back = ap (λ (x : Trail). x.level) again.is in
+    record {
+      clause = clause;
+      learnt = base;
+      level = subst (λ (n : ℕ). IsBackLevel s.trail clause n) (sym at) (back_level s.trail r.trail mid clause u level back onward went a);
+      entries = ap (λ (x : Trail). x.entries) again.is ∙ stood s.trail r.trail mid level back onward went below back (omega arith) ∙ ap (λ (n : ℕ). up_to n s.trail.entries) (sym at);
+    }
 
 -- a turn that began has come to the search below the bound that it saw
 pub reaches_first : (s : Search) (rows : ℕ) (p m1 m : Part) (z : Bound) (t : Search) → Looks s.gap s.z p.bounds m1.bounds (Some z) → m1.board ≡ p.board → m.bounds ≡ m1.bounds → TookNothing rows m1.board m.board → t ≡ below s z
@@ -191,9 +238,9 @@ caused_due r t rows m settled left is = record {
     settled_said r t is h = subst (λ (x : Search). IsSettled x) (sym is) (record { tasks = h.tasks; clauses = h.clauses; rested = h.rested })
 
 -- all variables are fixed, and their values are a solution below z
-pub caused_found : (r t : Search) (rows : ℕ) (m q : Part) (a : List ℤ) → AreFixed r.trail (variable_count r.problem) → IsSolution r.problem.model a → IsBelow (objective_value r.problem.model a) r.z
+pub caused_found : (r t : Search) (rows : ℕ) (m q : Part) (a : List ℤ) → AreFixed r.trail (variable_count r.problem) → HasValues r.trail (variable_count r.problem) a → IsSolution r.problem.model a → IsBelow (objective_value r.problem.model a) r.z
     → t ≡ record (below r (At (objective_value r.problem.model a))) { best = Some a } → Offers (At (objective_value r.problem.model a)) m.bounds q.bounds → q.board ≡ m.board → IsCausedFrom r t rows m q (Some turns.Found)
-caused_found r t rows m q a fixed solution under is offers board = record {
+caused_found r t rows m q a fixed values solution under is offers board = record {
   setting = record {
     problem = ap (λ (x : Search). x.problem) is;
     gap = ap (λ (x : Search). x.gap) is;
@@ -218,6 +265,7 @@ caused_found r t rows m q a fixed solution under is offers board = record {
         best = ap (λ (x : Search). x.best) is;
         z = z ∙ ap (λ (p : Problem). At (objective_value p.model a)) same;
         fixed = subst (λ (x : Search). AreFixed x.trail (variable_count x.problem)) (sym is) fixed;
+        values = subst (λ (x : Search). HasValues x.trail (variable_count x.problem) a) (sym is) values;
         seen = offers.seen;
         at_most = subst (λ (b : Bound). BoundLe offers.seen b) (sym z) offers.at_most;
         offered = subst (λ (b : Bound). q.bounds ≡ after_offer m.bounds b offers.seen) (sym z) offers.is;
@@ -293,8 +341,9 @@ caused_spent r t rows m trail rested clause store above falses new budget is = r
 -- a clause is learnt
 pub caused_learnt : (r t : Search) (rows : ℕ) (m q : Part) (trail : Trail) (rested : Option ℕ) (clause : List Atom) → GoesOnAndBack r.trail trail → 0 < r.trail.level → All (IsFalseNow r.trail) clause → IsNewClause r.problem r.base.clauses clause r.z
     → IfSome r.budget (λ budget. r.tally < budget) → trail.level < r.trail.level → t ≡ with_learnt (moved r trail rested) clause → q.bounds ≡ m.bounds
-    → (IsShort r.problem.model clause → IsShared rows r.z clause m.board q.board) → ((IsShort r.problem.model clause → ⊥) → q.board ≡ m.board) → IsCausedFrom r t rows m q (Some turns.Learnt)
-caused_learnt r t rows m q trail rested clause store above falses new left back is bounds shared unshared = record {
+    → (IsShort r.problem.model clause → IsShared rows r.z clause m.board q.board) → ((IsShort r.problem.model clause → ⊥) → q.board ≡ m.board)
+    → ((s : Search) → IsOnward s.trail r.trail → t.base ≡ with_clause s.base clause t.z origins.Learnt → BackAsLearnt s t) → IsCausedFrom r t rows m q (Some turns.Learnt)
+caused_learnt r t rows m q trail rested clause store above falses new left back is bounds shared unshared went = record {
   setting = record {
     problem = ap (λ (x : Search). x.problem) is;
     gap = ap (λ (x : Search). x.gap) is;
@@ -307,23 +356,26 @@ caused_learnt r t rows m q trail rested clause store above falses new left back 
       let z : t.z ≡ r.z = ap (λ (x : Search). x.z) is in
       let all = whole s r t (λ (x : Search). with_learnt (moved x trail rested) clause) is reaches.is in
       let at : t.trail ≡ trail = ap (λ (x : Search). x.trail) is in
-      record {
-        midway = m;
-        begins = subst (λ (b : Bound). BeginsTurn s rows o m b) (sym z) reaches.begins;
-        clause = clause;
-        teaches = teaches_from s r t.z clause reaches.is reaches.onward above falses new z;
-        within_budget = subst (λ (x : Search). IfSome x.budget (λ budget. x.tally < budget)) reaches.is left;
-        back = omega (arith, back, ap (λ (x : Trail). x.level) at, reaches.onward.level);
-        tally = ap (λ (x : Search). x.tally) all;
-        base = ap (λ (x : Search). x.base) all ∙ ap (λ (b : Bound). with_clause s.base clause b origins.Learnt) (sym z);
-        bounds = bounds;
-        shared = λ short. subst (λ (b : Bound). IsShared rows b clause m.board q.board) (sym z) (shared (subst (λ (p : Problem). IsShort p.model clause) (sym same) short));
-        kept = λ long. unshared (λ short. long (subst (λ (p : Problem). IsShort p.model clause) same short));
-        imported = ap (λ (x : Search). x.imported) all;
-        best = ap (λ (x : Search). x.best) all;
-        raised = ap (λ (x : Search). x.raised) all;
-        said = ap (λ (x : Search). x.said) is;
-      };
+      let base : t.base ≡ with_clause s.base clause t.z origins.Learnt = ap (λ (x : Search). x.base) all ∙ ap (λ (b : Bound). with_clause s.base clause b origins.Learnt) (sym z) in (
+        record {
+          midway = m;
+          begins = subst (λ (b : Bound). BeginsTurn s rows o m b) (sym z) reaches.begins;
+          clause = clause;
+          teaches = teaches_from s r t.z clause reaches.is reaches.onward above falses new z;
+          within_budget = subst (λ (x : Search). IfSome x.budget (λ budget. x.tally < budget)) reaches.is left;
+          back = omega (arith, back, ap (λ (x : Trail). x.level) at, reaches.onward.level);
+          tally = ap (λ (x : Search). x.tally) all;
+          base = base;
+          bounds = bounds;
+          shared = λ short. subst (λ (b : Bound). IsShared rows b clause m.board q.board) (sym z) (shared (subst (λ (p : Problem). IsShort p.model clause) (sym same) short));
+          kept = λ long. unshared (λ short. long (subst (λ (p : Problem). IsShort p.model clause) same short));
+          imported = ap (λ (x : Search). x.imported) all;
+          best = ap (λ (x : Search). x.best) all;
+          raised = ap (λ (x : Search). x.raised) all;
+          said = ap (λ (x : Search). x.said) is;
+        },
+        went s reaches.onward base,
+      );
 }
 
 -- an entry was taken, after a turn began
@@ -344,10 +396,10 @@ took_one s b t rows p m q z looks board is takes = record {
 }
 
 -- the same, where the objective is at hand
-pub found_at : (r t : Search) (rows : ℕ) (m q : Part) (a : List ℤ) (v : ℤ) → v ≡ objective_value r.problem.model a → AreFixed r.trail (variable_count r.problem) → IsSolution r.problem.model a → IsBelow v r.z
+pub found_at : (r t : Search) (rows : ℕ) (m q : Part) (a : List ℤ) (v : ℤ) → v ≡ objective_value r.problem.model a → AreFixed r.trail (variable_count r.problem) → HasValues r.trail (variable_count r.problem) a → IsSolution r.problem.model a → IsBelow v r.z
     → t ≡ record (below r (At v)) { best = Some a } → Offers (At v) m.bounds q.bounds → q.board ≡ m.board → IsCausedFrom r t rows m q (Some turns.Found)
-found_at r t rows m q a v e fixed solution under is offers board =
-    caused_found r t rows m q a fixed solution (subst (λ (z : ℤ). IsBelow z r.z) e under) (is ∙ ap (λ (z : ℤ). record (below r (At z)) { best = Some a }) e)
+found_at r t rows m q a v e fixed values solution under is offers board =
+    caused_found r t rows m q a fixed values solution (subst (λ (z : ℤ). IsBelow z r.z) e under) (is ∙ ap (λ (z : ℤ). record (below r (At z)) { best = Some a }) e)
     (subst (λ (z : ℤ). Offers (At z) m.bounds q.bounds) e offers) board
 
 -- the two bounds had met
@@ -397,6 +449,7 @@ after_learnt r mid t rows m q clause u level back e went lesson left is again bo
     (is ∙ ap (λ (x : Search). with_learnt (moved x t.trail t.rested) clause) e) bounds
     (subst (λ (x : Search). IsShort x.problem.model clause → IsShared rows x.z clause m.board q.board) e shared)
     (subst (λ (x : Search). (IsShort x.problem.model clause → ⊥) → q.board ≡ m.board) e unshared)
+    (λ s. went_as_learnt s r t mid.trail clause u level back went lesson.asserts again)
 
 pub left_from : (budget : Option ℕ) (tally : ℕ) → IfSome budget (λ b. tally ≤ b) → (budget ≡ Some tally → ⊥) → IfSome budget (λ b. tally < b)
 left_from None tally h k = tt

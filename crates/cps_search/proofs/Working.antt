@@ -21,7 +21,7 @@ use Rattle.cps_search.specs.Fixed.{AreFixed}
 use Rattle.cps_search.specs.Scope.{Scope, IsScopeOf, AreSameUpTo}
 use Rattle.cps_search.specs.Searches.{Search, IsSettled, IsSoundSearch}
 use Rattle.cps_search.specs.Moves.{fresh, moved, decided}
-use Rattle.cps_search.specs.Turns.{Caused, DecisionDue, GoesOnAndBack, IsOnward, LearntOne, SameRaised, SameSetting, Steps}
+use Rattle.cps_search.specs.Turns.{BackAsLearnt, Caused, DecisionDue, GoesOnAndBack, IsOnward, LearntOne, SameRaised, SameSetting, Steps}
 use Rattle.cps_search.specs.Ends.{BrancherTurn, DecidedOne, Decides, EndsAs, EndsRaised, HeardOne, Hears, IsWorking, MovesWith, OneTurn, RunsTo, Stands, TakesTurn, TurnCaused, end_of}
 use Rattle.cps_search.proofs.Completing.{all_fixed}
 use Rattle.cps_search.proofs.Turning.{back_after, setting_of, setting_same, setting_trans}
@@ -128,13 +128,14 @@ pub stands_imported : (m t : Search) → Stands m t → t.imported ≡ m.importe
 stands_imported m t stands = elim stands [ inl same ↦ ap (λ (x : Search). x.imported) same | inr back ↦ ap (λ (x : Search). x.imported) back.1 ]
 
 -- the clause that was learnt is the last of the journal, which the brancher heard
-pub heard_one : (hears : List Atom → Bool → Type 0) (s m t : Search) (rows : ℕ) (p q : Part) → LearntOne s m rows p q → Stands m t
-    → ((earlier : List JournalItem) (clause : List Atom) (below : Bound) → m.base.journal ≡ earlier ++ items.Learnt clause below ∷ [] → Hears (hears clause) t) → HeardOne hears s t
-heard_one hears s m t rows p q h stands heard =
+pub heard_one : (hears : List Atom → Bool → Type 0) (s m t : Search) (rows : ℕ) (p q : Part) → LearntOne s m rows p q → BackAsLearnt s m → Stands m t
+    → ((earlier : List JournalItem) (clause : List Atom) (below : Bound) → m.base.journal ≡ earlier ++ items.Learnt clause below ∷ [] → Hears (hears clause) (t ≡ m) t) → HeardOne hears s t
+heard_one hears s m t rows p q h back stands heard =
+    let answer = heard s.base.journal h.clause m.z (ap (λ (b : Base). b.journal) h.base) in
     record {
       clause = h.clause;
       learnt = stands_base m t stands ∙ h.base ∙ ap (λ (b : Bound). with_clause s.base h.clause b origins.Learnt) (sym (stands_z m t stands));
-      heard = heard s.base.journal h.clause m.z (ap (λ (b : Base). b.journal) h.base);
+      heard = record { restart = answer.restart; said = answer.said; restarts = answer.restarts; goes_on = λ no. subst (λ (x : Search). BackAsLearnt s x) (sym (answer.goes_on no)) back };
     }
 
 -- a decision was made where one was due
@@ -158,7 +159,7 @@ pub imported_few : (s t : Search) (rows : ℕ) (p q : Part) (turn : Option Turn)
 imported_few s t rows p q None few taken small h = omega (arith, few, h.imported)
 imported_few s t rows p q (Some turns.Imported) few taken small h = elim h.used [ inl given ↦ omega (arith, taken, small, given.1, h.takes.left) | inr pass ↦ omega (arith, few, pass.1) ]
 imported_few s t rows p q (Some turns.Decided) few taken small h = absurd h
-imported_few s t rows p q (Some turns.Learnt) few taken small h = omega (arith, few, h.imported)
+imported_few s t rows p q (Some turns.Learnt) few taken small h = omega (arith, few, h.0.imported)
 imported_few s t rows p q (Some turns.Found) few taken small h = omega (arith, few, h.imported)
 imported_few s t rows p q (Some turns.Exhausted) few taken small h = omega (arith, few, h.imported)
 imported_few s t rows p q (Some turns.SawClosed) few taken small h = omega (arith, few, ap (λ (x : Search). x.imported) h.same)
@@ -176,12 +177,12 @@ turn_decided chooses s m t rows p q has sound steps h =
 -- the steps that learn, after which the search may go back to level 0
 pub turn_learnt : (chooses : Trail → Option Atom → Type 0) (s m t : Search) (rows : ℕ) (p q : Part) → IsSome s.budget → IsSoundSearch s → Steps s m rows p q (Some turns.Learnt) → Stands m t → TakesTurn chooses s t rows p q turns.Learnt
 turn_learnt chooses s m t rows p q has sound steps stands =
-    takes_turn chooses s t rows p q turns.Learnt has sound (setting_trans s m t steps.setting (setting_stands m t stands)) (λ not. stands_back s.trail m t steps.store stands) (learnt_stands s m t rows p q steps.cause stands)
+    takes_turn chooses s t rows p q turns.Learnt has sound (setting_trans s m t steps.setting (setting_stands m t stands)) (λ not. stands_back s.trail m t steps.store stands) (learnt_stands s m t rows p q steps.cause.0 stands)
 
 turn_caused : (chooses : Trail → Option Atom → Type 0) (s t : Search) (rows : ℕ) (p q : Part) (turn : Turn) → Caused s t rows p q (Some turn) → TurnCaused chooses s t rows p q turn
 turn_caused chooses s t rows p q turns.Imported h = h
 turn_caused chooses s t rows p q turns.Decided h = absurd h
-turn_caused chooses s t rows p q turns.Learnt h = h
+turn_caused chooses s t rows p q turns.Learnt h = h.0
 turn_caused chooses s t rows p q turns.Found h = h
 turn_caused chooses s t rows p q turns.Exhausted h = h
 turn_caused chooses s t rows p q turns.SawClosed h = h
@@ -223,10 +224,12 @@ turn_heard chooses s m t rows p q turn has sound steps stands same = elim (learn
 
 -- what the brancher heard in it
 pub brancher_heard : (hears : List Atom → Bool → Type 0) (s m t : Search) (rows : ℕ) (p q : Part) (turn : Turn) (chose same : Type 0) → Steps s m rows p q (Some turn) → Stands m t
-    → (turn ≡ turns.Learnt → (earlier : List JournalItem) (clause : List Atom) (below : Bound) → m.base.journal ≡ earlier ++ items.Learnt clause below ∷ [] → Hears (hears clause) t)
+    → (turn ≡ turns.Learnt → (earlier : List JournalItem) (clause : List Atom) (below : Bound) → m.base.journal ≡ earlier ++ items.Learnt clause below ∷ [] → Hears (hears clause) (t ≡ m) t)
     → ((turn ≡ turns.Learnt → ⊥) → same) → BrancherTurn turn (HeardOne hears s t) chose same
 brancher_heard hears s m t rows p q turn chose same steps stands heard stays = elim (learnt_or_not turn) [
-  | inl e ↦ subst (λ (x : Turn). BrancherTurn x (HeardOne hears s t) chose same) (sym e) (heard_one hears s m t rows p q (subst (λ (x : Turn). Caused s m rows p q (Some x)) e steps.cause) stands (heard e))
+  | inl e ↦
+      let cause = subst (λ (x : Turn). Caused s m rows p q (Some x)) e steps.cause in
+      subst (λ (x : Turn). BrancherTurn x (HeardOne hears s t) chose same) (sym e) (heard_one hears s m t rows p q cause.0 cause.1 stands (heard e))
   | inr not ↦ brancher_other s m rows p q turn (HeardOne hears s t) chose same steps.cause not (stays not)
 ]
 

@@ -1,5 +1,5 @@
 -- What a worker does in a turn and in a run, and what is seen of one that has ended.
-use Rattle.std.specs.Prelude.{◌≡◌, ◌⊎◌, ℕ, ◌+◌, ◌<◌, ◌≤◌, ◌^◌, ℤ, Bool, true, Option, Some, None, IfSome, IsSome, List, [], ◌∷◌, ◌++◌, length, All}
+use Rattle.std.specs.Prelude.{◌≡◌, ◌⊎◌, ℕ, ◌+◌, ◌<◌, ◌≤◌, ◌^◌, ℤ, Bool, true, false, Option, Some, None, IfSome, IsSome, List, [], ◌∷◌, ◌++◌, length, All}
 use Rattle.cps_model.specs.declared.bound.Bound.{Bound}
 use Rattle.cps_model.specs.declared.bound.Bound.TheVariants.{At, Infinite}
 use Rattle.cps_model.specs.declared.model.CpModel.{CpModel}
@@ -30,7 +30,7 @@ use Rattle.cps_search.specs.Lessons.{GoesBack}
 use Rattle.cps_search.specs.Scope.{Scope, IsScopeOf}
 use Rattle.cps_search.specs.Searches.{Search, IsSoundSearch, NoneBelow, IsHonestJournal, IsItemAbove, learnt_count}
 use Rattle.cps_search.specs.Moves.{moved, decided}
-use Rattle.cps_search.specs.Turns.{SameSetting, GoesOnAndBack, DecisionDue, TookOne, LearntOne, FoundOne, ExhaustedAll, SawMet, SpentAll, IsLess, SameRaised}
+use Rattle.cps_search.specs.Turns.{SameSetting, GoesOnAndBack, DecisionDue, TookOne, LearntOne, BackAsLearnt, FoundOne, ExhaustedAll, SawMet, SpentAll, IsLess, SameRaised}
 
 -- A decision was made where one was due: the atom that was chosen.
 pub record DecidedOne (chooses : Trail → Option Atom → Type 0) (s t : Search) (rows : ℕ) (p q : Part) : Type 0 where
@@ -59,21 +59,22 @@ pub record Decides (chooses : Trail → Option Atom → Type 0) (s t : Search) :
   pub chosen : chooses s.trail (Some atom)
   pub is : t ≡ moved s (decided s.trail atom) s.rested
 
--- a brancher answered whether to restart, and where it asked for it the search is at level 0
-pub record Hears (heard : Bool → Type 0) (t : Search) : Type 0 where
+-- a brancher answered whether to restart: where it asked for it the search is at level 0, and else it went on so
+pub record Hears (heard : Bool → Type 0) (on : Type 0) (t : Search) : Type 0 where
   pub restart : Bool
   pub said : heard restart
   pub restarts : restart ≡ true → t.trail.level ≡ 0
+  pub goes_on : restart ≡ false → on
 
 -- a search stands, or went back to level 0
 abbrev pub Stands : Search → Search → Type 0
 Stands s t = (t ≡ s) ⊎ (GoesBack s.trail t.trail 0 × (t ≡ moved s t.trail t.rested))
 
--- the brancher heard the clause that was learnt
+-- the brancher heard the clause that was learnt, and where it asked for no restart the search went back just as far as that clause says
 pub record HeardOne (hears : List Atom → Bool → Type 0) (s t : Search) : Type 0 where
   pub clause : List Atom
   pub learnt : t.base ≡ with_clause s.base clause t.z origins.Learnt
-  pub heard : Hears (hears clause) t
+  pub heard : Hears (hears clause) (BackAsLearnt s t) t
 
 -- what a turn does to the brancher: it hears what was learnt, it may keep what it saw when it chose, and else it stays
 abbrev pub BrancherTurn : Turn → Type 0 → Type 0 → Type 0 → Type 0

@@ -8,7 +8,7 @@ use Rattle.cps_model.specs.Statuses.{is_closed}
 use Rattle.cps_literal.specs.declared.atom.Atom.{Atom}
 use Rattle.cps_literal.specs.Normal.{IsNormal, IsNormalOf}
 use Rattle.cps_instance.specs.Problem.{variable_count}
-use Rattle.cps_trail.specs.Trail.{Trail, Entry, Decision, IsFalseNow, open_values}
+use Rattle.cps_trail.specs.Trail.{Trail, Entry, Decision, IsFalseNow, open_values, up_to}
 use Rattle.cps_port.specs.declared.entry.Entry.{Entry as BoardEntry}
 use Rattle.cps_port.specs.declared.entry.Share.{Share}
 use Rattle.cps_port.specs.declared.part.BoardPart.{BoardPart}
@@ -24,7 +24,8 @@ use Rattle.cps_search.specs.declared.end.End.TheVariants as ends
 use Rattle.cps_search.specs.declared.end.Said.TheVariants.{Nothing, Due, Over}
 use Rattle.cps_search.specs.declared.turn.Turn.{Turn}
 use Rattle.cps_search.specs.declared.turn.Turn.TheVariants as turns
-use Rattle.cps_search.specs.Fixed.{AreFixed}
+use Rattle.cps_search.specs.Fixed.{AreFixed, HasValues}
+use Rattle.cps_search.specs.Lessons.{IsBackLevel}
 use Rattle.cps_search.specs.Searches.{Search, NoneBelow, IsNewClause, IsSettled}
 
 -- the one bound is below the other
@@ -195,6 +196,13 @@ pub record LearntOne (s t : Search) (rows : ℕ) (p q : Part) : Type 0 where
   pub raised : SameRaised s t
   pub said : t.said ≡ Nothing
 
+-- The search went back just as far as the clause that it learnt says: its store is that of the end of the level.
+pub record BackAsLearnt (s t : Search) : Type 0 where
+  pub clause : List Atom
+  pub learnt : t.base ≡ with_clause s.base clause t.z Learnt
+  pub level : IsBackLevel s.trail clause t.trail.level
+  pub entries : t.trail.entries ≡ up_to t.trail.level s.trail.entries
+
 -- All variables are fixed: their values are a solution below z, which was offered.
 pub record FoundOne (s t : Search) (rows : ℕ) (p q : Part) : Type 0 where
   pub midway : Part
@@ -207,6 +215,7 @@ pub record FoundOne (s t : Search) (rows : ℕ) (p q : Part) : Type 0 where
   pub best : t.best ≡ Some solution
   pub z : t.z ≡ At (objective_value s.problem.model solution)
   pub fixed : AreFixed t.trail (variable_count t.problem)
+  pub values : HasValues t.trail (variable_count t.problem) solution
   pub seen : Bound
   pub at_most : BoundLe seen t.z
   pub offered : q.bounds ≡ after_offer midway.bounds t.z seen
@@ -257,7 +266,7 @@ abbrev pub Caused : Search → Search → ℕ → Part → Part → Option Turn 
 Caused s t rows p q None = DecisionDue s t rows p q
 Caused s t rows p q (Some turns.Imported) = TookOne s t rows p q
 Caused s t rows p q (Some turns.Decided) = ⊥
-Caused s t rows p q (Some turns.Learnt) = LearntOne s t rows p q
+Caused s t rows p q (Some turns.Learnt) = LearntOne s t rows p q × BackAsLearnt s t
 Caused s t rows p q (Some turns.Found) = FoundOne s t rows p q
 Caused s t rows p q (Some turns.Exhausted) = ExhaustedAll s t rows p q
 Caused s t rows p q (Some turns.SawClosed) = SawMet s t p q

@@ -3,9 +3,10 @@
 //! `Frame` is what all workers have in common: a store, tasks, clauses, and the bound z below which solutions are looked for. Its
 //! `steps` are a turn up to a decision, and each answer has its cause: the two bounds met, an entry of the board was taken, a conflict
 //! ended all, spent the budget or was learnt from, a solution was found, or a decision is due. What is learnt is true below z, was
-//! false in the store, and says something new. `Worker` is a frame with a brancher: a turn decides what the brancher
-//! chooses, lets it hear what was learnt, and restarts where it asks for that. A run of turns comes to an end and says by what, and
-//! `Ended` is what is seen of it then. Where memory was refused, each later call that may take some is refused too.
+//! false in the store, and says something new, and the search goes back just as far as it says. `Worker` is a frame with a
+//! brancher: a turn decides what the brancher chooses, lets it hear what was learnt, and restarts where it asks for that, and only
+//! there. A run of turns comes to an end and says by what, and `Ended` is what is seen of it then. Where memory was refused, each
+//! later call that may take some is refused too.
 //!
 //! A brancher chooses an atom that the store leaves undecided, and nothing exactly where all variables are fixed. It hears each
 //! learnt clause, and answers whether to restart. As long as the first entries stay it keeps what it saw of them, so that a choice need not
