@@ -204,15 +204,12 @@ impl<'a, P: Propagator> Searcher<'a, P> {
         ensures sound { OnOk result (IsSoundSearch (search_of self.new)) }
     {
         self.said = Said::Nothing;
-        match teach(
+        teach(
             &mut self.analyser,
             &mut self.store,
             &mut self.rested,
             conflict,
-        )? {
-            Some(learnt) => Ok(Some(learnt)),
-            None => Ok(None),
-        }
+        )
     }
 
     /// Raises the lower bound to z, below which no solution is.
