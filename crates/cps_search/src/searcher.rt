@@ -399,6 +399,7 @@ impl<'a, P: Propagator> Searcher<'a, P> {
         ensures is { OnOk result (search_of self.new ≡ moved (search_of self.old) (decided self.old.store atom) self.old.rested) }
         ensures sound { OnOk result (IsSoundSearch (search_of self.new)) }
     {
+        // Only here is it known what holds of each store.
         let _ = self.store.entries();
         self.said = Said::Nothing;
         self.store.decide(atom)
