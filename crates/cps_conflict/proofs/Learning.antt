@@ -12,7 +12,7 @@ use Rattle.cps_literal.proofs.Normalizing.{Implies-refl, holds_too}
 use Rattle.cps_trail.specs.Trail.{Domains, Trail, Entry, Decision, BeginsLevel, admits, IsFalseAfter, IsFalseNow, IsSound, IsWithin, EndsAt, up_to}
 use Rattle.cps_trail.proofs.Marks.{up_to-up_to}
 use Rattle.cps_trail.proofs.Times.{IsFalseAfter-take, IsFalseAfter-all, IsFalseAfter-up_to, IsTrueAfter-up_to}
-use Rattle.cps_trail.proofs.Falls.{bool_cases, EndsAt-same, not_both}
+use Rattle.cps_trail.proofs.Falls.{bool_cases, not_both}
 use Rattle.cps_conflict.specs.declared.resolvent.Fallen.{Fallen}
 use Rattle.cps_conflict.specs.Conflicts.{Premises, BecameFalse, NotFalseAtBottom, Asserts}
 use Rattle.cps_conflict.specs.Levels.{IsLevelOf}
@@ -44,6 +44,10 @@ IsFalseAfter-end s level n t ends f = subst (λ (es : List Entry). IsFalseAfter 
 
 pub IsFalseAfter-begin : (s : Trail) (level n : ℕ) (t : Atom) → EndsAt s level n → IsFalseAfter s.first (up_to level s.entries) t → IsFalseAfter s.first (take n s.entries) t
 IsFalseAfter-begin s level n t ends f = subst (λ (es : List Entry). IsFalseAfter s.first es t) (sym ends.front) f
+
+-- what is false at the end of a level is false at the end of each later one
+IsFalseAfter-later : (first : Domains) (es : List Entry) (l m : ℕ) (t : Atom) → l ≤ m → IsFalseAfter first (up_to l es) t → IsFalseAfter first (up_to m es) t
+IsFalseAfter-later first es l m t h f = IsFalseAfter-up_to first (up_to m es) l t (subst (λ (fs : List Entry). IsFalseAfter first fs t) (sym (up_to-up_to l m es h)) f)
 
 -- no entry after the first of the present level is a decision
 pub no_decision : (s : Trail) (start k : ℕ) (d : Entry) → IsSound s → EndsAt s (s.level - 1) start → start < k → k < length s.entries → (get_or s.entries k d).reason ≢ Decision
@@ -142,19 +146,20 @@ module _ (s : Trail) (start n : ℕ) (t : Atom) (earlier : List Fallen) (atoms c
     open_below = λ h. not_both s t from.subject sound (IsTrueAfter-up_to s.first s.entries (s.level - 1) t h) (IsFalseAfter-all s.first s.entries n t from.from.after);
     below = elim (nat_order back s.level) [
       | inl less ↦ less
-      | inr top ↦ absurd (let under = level.lowest (s.level - 1) (omega (arith, top, above)) in omega (arith, EndsAt-same s (s.level - 1) under.0 start under.1 ends, under.2, collects.within))
+      | inr top ↦ absurd (omega (arith, level.lowest (s.level - 1) start (omega (arith, top, above)) ends, collects.within))
     ];
     others = λ j d l ne. IsFalseAfter-end s back level.reached.0 (get_or clause j d) level.reached.1 (IsFalseAfter-take s.first s.entries latest level.reached.0 (get_or clause j d) level.reached.2 (others j d l ne));
     lowest = λ l less all.
-        let under = level.lowest l less in
+        let under = level.below (omega (arith, less)) in
         let some = collects.reached (λ z. absurd (omega (arith, under.2, z))) in
         let has : Contains atoms some.1 = (some.0, some.2, some.3) in
         let to = All-contains (λ u. Any (Implies u) clause) (atoms ++ t ∷ []) some.1 normal_of.covered (Contains-append_left atoms (t ∷ []) some.1 has) in
         elim (nat_cases to.0 at.0) [
           | inl same ↦ All-contains (λ u. Implies u t → ⊥) atoms some.1 collects.apart has (subst (Implies some.1) (sym to.3 ∙ ap (λ (k : ℕ). get_or clause k to.1) same ∙ is to.1) to.4)
           | inr other ↦
-              let there : IsFalseAfter s.first (up_to l s.entries) to.1 = subst (IsFalseAfter s.first (up_to l s.entries)) to.3 (all to.0 to.1 to.2 other) in
-              some.4.not_before under.0 under.2 (implied_false s.first (take under.0 s.entries) some.1 to.1 to.4 (IsFalseAfter-begin s l under.0 to.1 under.1 there))
+              let there : IsFalseAfter s.first (up_to (back - 1) s.entries) to.1 =
+              IsFalseAfter-later s.first s.entries l (back - 1) to.1 (omega (arith, less)) (subst (IsFalseAfter s.first (up_to l s.entries)) to.3 (all to.0 to.1 to.2 other)) in
+              some.4.not_before under.0 under.2 (implied_false s.first (take under.0 s.entries) some.1 to.1 to.4 (IsFalseAfter-begin s (back - 1) under.0 to.1 under.1 there))
         ];
   }
 

@@ -5,8 +5,10 @@ use Rattle.cps_literal.specs.declared.atom.Atom.{Atom}
 use Rattle.cps_instance.specs.declared.task.Task.{Task}
 use Rattle.cps_instance.specs.Tasks.{HoldAll}
 use Rattle.cps_trail.specs.Trail.{Trail}
-use Rattle.cps_trail.specs.Adds.{Infers}
-use Rattle.cps_trail.proofs.Inferring.{Infers-weaker, Infers-trans}
+use Rattle.cps_trail.specs.declared.step.Step.{Step}
+use Rattle.cps_trail.specs.declared.step.Step.TheVariants.{Settled, Conflict}
+use Rattle.cps_trail.specs.Adds.{Infers, Answers}
+use Rattle.cps_trail.proofs.Inferring.{Infers-weaker, Infers-trans, Follows-weaker}
 use Rattle.cps_propagate.specs.Laws.{IsAtRest, IsInStep}
 use Rattle.cps_propagate.proofs.Stepping.{IsInStep-inferred, IsInStep-settled}
 use Rattle.cps_clauses.specs.Quiet.{AllTrue}
@@ -35,3 +37,14 @@ by_clauses tasks clauses s t h = Infers-weaker (AllTrue clauses) (AllHold tasks 
 
 pub by_both : (tasks : List Task) (clauses : List (List Atom)) (s t u : Trail) → Infers (AllTrue clauses) s t → Infers (HoldAll tasks) t u → Infers (AllHold tasks clauses) s u
 by_both tasks clauses s t u h k = Infers-trans (AllHold tasks clauses) s t u (by_clauses tasks clauses s t h) (Infers-weaker (HoldAll tasks) (AllHold tasks clauses) (λ xs d. d.tasks_hold) t u k)
+
+-- a conflict of the clauses, or of the tasks, is one of both
+Answers-weaker : (C D : List ℤ → Type 0) → ((a : List ℤ) → D a → C a) → (s : Trail) (step : Step) → Answers C s step → Answers D s step
+Answers-weaker C D w s Settled h = tt
+Answers-weaker C D w s (Conflict clause) h = record { follows = Follows-weaker C D w s.first clause h.follows; false_now = h.false_now; subjects = h.subjects }
+
+pub answers_of_clauses : (tasks : List Task) (clauses : List (List Atom)) (s : Trail) (step : Step) → Answers (AllTrue clauses) s step → Answers (AllHold tasks clauses) s step
+answers_of_clauses tasks clauses s step h = Answers-weaker (AllTrue clauses) (AllHold tasks clauses) (λ xs k. k.clauses_hold) s step h
+
+pub answers_of_tasks : (tasks : List Task) (clauses : List (List Atom)) (s : Trail) (step : Step) → Answers (HoldAll tasks) s step → Answers (AllHold tasks clauses) s step
+answers_of_tasks tasks clauses s step h = Answers-weaker (HoldAll tasks) (AllHold tasks clauses) (λ xs k. k.tasks_hold) s step h

@@ -1,6 +1,7 @@
 -- What each round of inference takes over from the round before.
 use Rattle.std.specs.Prelude.{All}
-use Rattle.std.proofs.Common.{ℕ, ◌≡◌, Option, sym, subst}
+use Rattle.std.proofs.Common.{ℕ, ◌+◌, ◌≡◌, Option, length, sym, subst}
+use Rattle.cps_instance.specs.Tasks.{HoldAll}
 use Rattle.cps_instance.specs.Fitting.{IsFitting}
 use Rattle.cps_trail.specs.Trail.{Domains, Trail}
 use Rattle.cps_trail.specs.declared.step.Step.{Step}
@@ -8,8 +9,9 @@ use Rattle.cps_trail.specs.Adds.{Infers, Answers}
 use Rattle.cps_trail.proofs.Inferring.{Infers-trans}
 use Rattle.cps_propagate.specs.Agenda.{Agenda}
 use Rattle.cps_propagate.specs.Laws.{IsAtRest, IsInStep}
+use Rattle.cps_propagate.proofs.Visiting.{Infers-nothing}
 use Rattle.cps_clauses.specs.Bases.{Base}
-use Rattle.cps_clauses.specs.Quiet.{IsQuiet, Fits}
+use Rattle.cps_clauses.specs.Quiet.{AllTrue, IsQuiet, Fits}
 use Rattle.cps_clauses.proofs.Quieting.{IsQuiet-infers}
 use Rattle.cps_search.specs.Resting.{AllHold, IsRestedAt}
 use Rattle.cps_search.proofs.Resting.{rested_inferred}
@@ -47,3 +49,14 @@ module _ (a b : Agenda) (c d : Base) (s t : Trail) (agenda : b ≡ a) (base : d 
 
   pub rested_then : (u : Trail) (rested : Option ℕ) → Infers (AllHold b.tasks d.clauses) t u → IsRestedAt a.tasks t rested → IsRestedAt a.tasks u rested
   rested_then u rested h k = rested_inferred (AllHold b.tasks d.clauses) a.tasks t u rested h k
+
+  -- what tasks need after the clauses
+  pub fits_after : (u : Trail) → Infers (AllTrue d.clauses) t u → All (IsFitting s.first) a.tasks → All (IsFitting u.first) b.tasks
+  fits_after u h k = subst (λ (ds : Domains). All (IsFitting ds) b.tasks) (sym h.first) (fits_now k)
+
+  pub rested_after : (u : Trail) (rested : Option ℕ) → Infers (AllTrue d.clauses) t u → IsRestedAt a.tasks t rested → IsRestedAt b.tasks u rested
+  rested_after u rested h k = rested_inferred (AllTrue d.clauses) b.tasks t u rested h (rested_now rested k)
+
+  -- where tasks added nothing, clauses are as quiet as they were before
+  pub quiet_still : (u v : Trail) → Infers (HoldAll b.tasks) u v → length v.entries ≡ length u.entries → IsQuiet d.clauses u (u.level + 1) → IsQuiet c.clauses v (v.level + 1)
+  quiet_still u v h e k = quiet_then v (v.level + 1) (subst (λ (x : Trail). IsQuiet d.clauses x (x.level + 1)) (sym (Infers-nothing (HoldAll b.tasks) u v h e)) k)

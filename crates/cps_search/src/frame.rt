@@ -61,6 +61,7 @@ impl<'a, P: Propagator> Frame<'a, P> {
         ensures is { IfOk result (λ f. f ≡ fresh instance.entry gap budget) }
         ensures sound { IfOk result IsSoundSearch }
     {
+        // Only here is it known what holds of each instance.
         let _ = instance.domains();
         let searcher = Searcher::new(alloc, instance, engine, budget, gap)?;
         Ok(Frame {

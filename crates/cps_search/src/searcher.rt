@@ -204,15 +204,12 @@ impl<'a, P: Propagator> Searcher<'a, P> {
         ensures sound { OnOk result (IsSoundSearch (search_of self.new)) }
     {
         self.said = Said::Nothing;
-        match teach(
+        teach(
             &mut self.analyser,
             &mut self.store,
             &mut self.rested,
             conflict,
-        )? {
-            Some(learnt) => Ok(Some(learnt)),
-            None => Ok(None),
-        }
+        )
     }
 
     /// Raises the lower bound to z, below which no solution is.
@@ -402,6 +399,7 @@ impl<'a, P: Propagator> Searcher<'a, P> {
         ensures is { OnOk result (search_of self.new ≡ moved (search_of self.old) (decided self.old.store atom) self.old.rested) }
         ensures sound { OnOk result (IsSoundSearch (search_of self.new)) }
     {
+        // Only here is it known what holds of each store.
         let _ = self.store.entries();
         self.said = Said::Nothing;
         self.store.decide(atom)

@@ -34,35 +34,6 @@ fn run<P: Propagator>(
     }
 }
 
-/// Settles the clauses, and then runs the tasks.
-fn settle_once<P: Propagator>(
-    base: &mut ClauseBase,
-    engine: &mut Engine<P>,
-    store: &mut Store,
-    rested: Option<usize>,
-) -> Result<Step, AllocError>
-    requires fits { All (IsFitting store.old.first) engine.old.tasks }
-    requires subjects { All (Fits store.old.first) base.old.clauses }
-    requires quiet { IsQuiet base.old.clauses store.old store.old.level }
-    requires rested { IsRestedAt engine.old.tasks store.old rested }
-    ensures keeps_base { OnOk result (base.new ≡ base.old) }
-    ensures keeps_engine { OnOk result (engine.new ≡ engine.old) }
-    ensures infers { OnOk result (Infers (AllHold engine.old.tasks base.old.clauses) store.old store.new) }
-    ensures answers { IfOk result (Answers (AllHold engine.old.tasks base.old.clauses) store.new) }
-    ensures at_rest { result ≡ Ok Step.Settled → All (λ t. IsAtRest t store.new) engine.old.tasks }
-    ensures in_step { result ≡ Ok Step.Settled → IsInStep engine.old.tasks store.new (length store.new.entries) }
-    ensures settled { result ≡ Ok Step.Settled → length store.new.entries ≡ length store.old.entries → IsQuiet base.old.clauses store.new (store.new.level + 1) }
-{
-    match base.settle(store)? {
-        Step::Settled => {}
-        Step::Conflict(clause) => return Ok(Step::Conflict(clause)),
-    }
-    match run(engine, store, rested)? {
-        Step::Settled => Ok(Step::Settled),
-        Step::Conflict(clause) => Ok(Step::Conflict(clause)),
-    }
-}
-
 /// Settles clauses and tasks, each with what the other added, until neither adds anything or one answers a conflict. Notes after
 /// how many entries the tasks last came to rest.
 pub(crate) fn settle_all<P: Propagator>(
@@ -86,8 +57,12 @@ pub(crate) fn settle_all<P: Propagator>(
     ensures sound { result ≡ Ok Step.Settled → IsSound store.new }
 {
     loop {
+        match base.settle(store)? {
+            Step::Settled => {}
+            Step::Conflict(clause) => return Ok(Step::Conflict(clause)),
+        }
         let before = store.entries().len();
-        match settle_once(base, engine, store, *rested)? {
+        match run(engine, store, *rested)? {
             Step::Settled => {}
             Step::Conflict(clause) => return Ok(Step::Conflict(clause)),
         }
