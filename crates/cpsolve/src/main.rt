@@ -15,6 +15,8 @@ mod search;
 mod solve;
 #[cfg(test)]
 mod tests;
+#[cfg(test)]
+mod worker_tests;
 
 use crate::solve::solve_main;
 use cps_outer::{OpenGate, StdSink, StdSource};

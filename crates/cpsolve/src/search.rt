@@ -35,7 +35,7 @@ fn status_of(upper: Bound, lower: Bound) -> Status
 }
 
 /// A worker that follows the strategies and then takes the variables in order, and learns from so many conflicts.
-fn worker_of<'a>(
+pub(crate) fn worker_of<'a>(
     alloc: Global,
     model: &'a ValidModel,
     conflicts: u64,
@@ -51,7 +51,7 @@ fn worker_of<'a>(
 }
 
 /// The upper bound of the shared state.
-fn upper_of(core: &mut CoreState<'_>) -> Bound
+pub(crate) fn upper_of(core: &mut CoreState<'_>) -> Bound
     requires { 0 < actor_count core.old }
     ensures bound { result ≡ core.old.bounds.upper }
     ensures sound { IsSoundCore core.old }
@@ -64,7 +64,7 @@ fn upper_of(core: &mut CoreState<'_>) -> Bound
 }
 
 /// The lower bound of the shared state.
-fn lower_of(core: &mut CoreState<'_>) -> Bound
+pub(crate) fn lower_of(core: &mut CoreState<'_>) -> Bound
     requires { 0 < actor_count core.old }
     ensures { result ≡ core.old.bounds.lower }
 {

@@ -101,15 +101,14 @@ const INPUTS: [(&str, u8, &str); 21] = [
         "status: MODEL_INVALID\n# field fault Repeated at byte 22\n",
     ),
     (
+        "objective { offset: 0.5 }",
+        1,
+        "status: MODEL_INVALID\n# field fault NotWhole at byte 20\n",
+    ),
+    (
         "objective { offset: 1e+2 scaling_factor: -1.0 }",
         0,
         "status: OPTIMAL\nobjective_value: -100\nbest_objective_bound: -100\n",
-    ),
-    (
-        "variables { domain: [0, 9] } \
-         search_strategy { variables: 0 domain_reduction_strategy: SELECT_MAX_VALUE }",
-        0,
-        "status: OPTIMAL\nsolution: 9\n",
     ),
     (
         "variables { domain: [0, 9] } variables { domain: [0, 9] } \
@@ -133,7 +132,7 @@ const INPUTS: [(&str, u8, &str); 21] = [
 const REVERSED: &str = "variables { domain: [3, 2] }";
 
 /// Commands without options and their inputs, each with its exit status and its text.
-const READINGS: [(&str, &str, u8, &str); 22] = [
+const READINGS: [(&str, &str, u8, &str); 25] = [
     ("validate", "", 0, "valid\n"),
     ("validate", PRODUCTION, 0, "valid\n"),
     ("validate", "constraints { linear { } }", 0, "valid\n"),
@@ -185,7 +184,8 @@ const READINGS: [(&str, &str, u8, &str); 22] = [
     ),
     (
         "print",
-        "variables { domain: 0; domain: 10, } # ten\nconstraints { linear: { vars: 0 coeffs: 10 domain: [- 5, 10] } }",
+        "variables: < domain: 0; domain: 0x0A, > # ten\n\
+         constraints [{ linear: { vars: 0 coeffs: 012 domain: [- 5, 10], } }]",
         0,
         TEN,
     ),
@@ -214,6 +214,24 @@ const READINGS: [(&str, &str, u8, &str); 22] = [
     ("print", STEERED_TEXT, 0, STEERED_TEXT),
     ("validate", STEERED, 0, "valid\n"),
     (
+        "validate",
+        "variables { domain: [0, 1] } search_strategy { exprs { vars: 0 } }",
+        1,
+        "status: MODEL_INVALID\n# invalid V5 at strategy 0\n",
+    ),
+    (
+        "validate",
+        "variables { domain: [0, 2] } search_strategy { exprs { vars: 0 coeffs: 4611686018427387903 } }",
+        1,
+        "status: MODEL_INVALID\n# invalid V6 at strategy 0\n",
+    ),
+    (
+        "validate",
+        "variables { domain: [0, 1] } solution_hint { vars: 0 }",
+        1,
+        "status: MODEL_INVALID\n# invalid V17 at hint\n",
+    ),
+    (
         "print",
         "search_strategy { variables: 0 exprs { } }",
         1,
@@ -237,14 +255,14 @@ const TEN: &str = "variables {\n  domain: [0, 10]\n}\n\
     constraints {\n  linear {\n    vars: [0]\n    coeffs: [10]\n    domain: [-5, 10]\n  }\n}\n";
 
 /// Three variables of two values, no two of them equal.
-const THREE_IN_TWO: &str =
+pub(crate) const THREE_IN_TWO: &str =
     "variables { domain: [0, 1] } variables { domain: [0, 1] } variables { domain: [0, 1] } \
     constraints { linear { vars: [0, 1] coeffs: [1, -1] domain: [-1, -1, 1, 1] } } \
     constraints { linear { vars: [0, 2] coeffs: [1, -1] domain: [-1, -1, 1, 1] } } \
     constraints { linear { vars: [1, 2] coeffs: [1, -1] domain: [-1, -1, 1, 1] } }";
 
 /// Three variables of three values, no two of them equal, with the least sum.
-const THREE_IN_THREE: &str =
+pub(crate) const THREE_IN_THREE: &str =
     "variables { domain: [0, 2] } variables { domain: [0, 2] } variables { domain: [0, 2] } \
     constraints { linear { vars: [0, 1] coeffs: [1, -1] domain: [-2, -1, 1, 2] } } \
     constraints { linear { vars: [0, 2] coeffs: [1, -1] domain: [-2, -1, 1, 2] } } \
@@ -252,13 +270,19 @@ const THREE_IN_THREE: &str =
     objective { vars: [0, 1, 2] coeffs: [1, 1, 1] }";
 
 /// Inputs, each with a budget of conflicts and the text that `solve` writes.
-const BUDGETS: [(&str, &str, &str); 3] = [
+const BUDGETS: [(&str, &str, &str); 4] = [
     (THREE_IN_TWO, "0", "status: UNKNOWN\n"),
     (THREE_IN_TWO, "1", "status: INFEASIBLE\n"),
     (
         THREE_IN_THREE,
         "0",
         "status: FEASIBLE\nsolution: 0\nsolution: 1\nsolution: 2\nobjective_value: 3\nbest_objective_bound: 0\n",
+    ),
+    (
+        "variables { domain: [0, 9] } \
+         search_strategy { variables: 0 domain_reduction_strategy: SELECT_MAX_VALUE }",
+        "10000",
+        "status: OPTIMAL\nsolution: 9\n",
     ),
 ];
 
