@@ -1,5 +1,5 @@
 -- The text of a response.
-use Rattle.std.specs.Prelude.{ℕ, ◌^◌, ◌<◌, ◌≤◌, IsTrue, unsigned_abs, ℤ, List, [], ◌++◌, codes, Option, Some, None}
+use Rattle.std.specs.Prelude.{ℕ, ◌^◌, ◌≤◌, IsTrue, unsigned_abs, ℤ, List, [], ◌++◌, codes, Option, Some, None}
 use Rattle.std.specs.List.{flat_map}
 use Rattle.std.specs.Fmt.{signed_decimal}
 use Rattle.cps_model.specs.declared.model.CpModel.{CpModel}
@@ -87,14 +87,14 @@ IsSolved o Feasible solution = IsSummable o solution
 IsSolved o Infeasible solution = Unit {0}
 IsSolved o Unknown solution = Unit {0}
 
--- a bound whose magnitude a sum of a valid model may have
-abbrev pub IsSmallBound : Bound → Type 0
-IsSmallBound Infinite = ⊥
-IsSmallBound (At lower) = unsigned_abs lower < 2 ^ 62
+-- a bound that is a number
+abbrev pub IsFinite : Bound → Type 0
+IsFinite Infinite = ⊥
+IsFinite (At lower) = Unit {0}
 
 -- every response has one but an infeasible one
 abbrev pub IsBounded : Status → Bound → Type 0
-IsBounded Optimal lower = IsSmallBound lower
-IsBounded Feasible lower = IsSmallBound lower
+IsBounded Optimal lower = IsFinite lower
+IsBounded Feasible lower = IsFinite lower
 IsBounded Infeasible lower = Unit {0}
-IsBounded Unknown lower = IsSmallBound lower
+IsBounded Unknown lower = IsFinite lower

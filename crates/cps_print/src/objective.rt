@@ -43,10 +43,10 @@ pub fn sum_of(vars: &[i32], coeffs: &[i64], values: &[i64]) -> i128
 
 /// A sum with its offset.
 fn with_offset(sum: i128, offset: i64) -> i128
-    requires sum { unsigned_abs sum < 2 ^ 62 }
+    requires sum { unsigned_abs sum ≤ 2 ^ 63 }
     requires offset { unsigned_abs offset ≤ 2 ^ 53 }
     ensures value { result ≡ sum +ℤ offset }
-    ensures near { unsigned_abs result < 2 ^ 63 }
+    ensures near { unsigned_abs result < 2 ^ 64 }
 {
     sum + i128::from(offset)
 }
@@ -54,7 +54,7 @@ fn with_offset(sum: i128, offset: i64) -> i128
 /// A number scaled.
 fn scaled(scaling: i64, value: i128) -> i128
     requires scaling { unsigned_abs scaling ≤ 2 ^ 53 }
-    requires value { unsigned_abs value < 2 ^ 63 }
+    requires value { unsigned_abs value < 2 ^ 64 }
     ensures { result ≡ scaling *ℤ value }
 {
     i128::from(scaling) * value
@@ -63,7 +63,7 @@ fn scaled(scaling: i64, value: i128) -> i128
 /// An objective's sum as it is shown.
 pub fn shown_value(objective: &Objective, sum: i128) -> i128
     requires limits { HasLimits objective.now }
-    requires sum { unsigned_abs sum < 2 ^ 62 }
+    requires sum { unsigned_abs sum ≤ 2 ^ 63 }
     ensures { result ≡ shown_value objective.now sum }
 {
     scaled(objective.scaling, with_offset(sum, objective.offset))

@@ -1,9 +1,9 @@
 //! The text of a response.
-ghost use Rattle.std.specs.Prelude.{◌≡◌, ◌++◌, ◌<◌, ◌^◌, IsTrue, OnOk, IfOk, codes, string_bytes, unsigned_abs};
+ghost use Rattle.std.specs.Prelude.{◌≡◌, ◌++◌, IsTrue, OnOk, IfOk, codes, string_bytes};
 ghost use Rattle.std.specs.List.{flat_map};
 ghost use Rattle.std.specs.Fmt.{signed_decimal};
 ghost use Rattle.cps_model.specs.Ready.{is_ready_objective};
-ghost use Rattle.cps_print.specs.Responses.{status_name, line_of, solution_line, solution_lines, shown_solution, shown_lower, value_lines, bound_lines, objective_lines, answer_lines, response_text, HasLimits, IsShowable, IsSummable, IsSolved, IsSmallBound, IsBounded};
+ghost use Rattle.cps_print.specs.Responses.{status_name, line_of, solution_line, solution_lines, shown_solution, shown_lower, value_lines, bound_lines, objective_lines, answer_lines, response_text, HasLimits, IsShowable, IsSummable, IsSolved, IsFinite, IsBounded};
 
 use crate::layout::put_number;
 use crate::objective::{shown_value, sum_of};
@@ -72,7 +72,7 @@ fn put_objective_value(
 /// Appends the lower bound.
 fn put_lower(text: &mut String, objective: &Objective, lower: Bound) -> Result<(), AllocError>
     requires limits { HasLimits objective.now }
-    requires small { IsSmallBound lower }
+    requires finite { IsFinite lower }
     ensures { OnOk result (string_bytes text.new ≡ string_bytes text.old ++ bound_lines objective.now lower) }
 {
     match lower {
@@ -94,7 +94,7 @@ fn put_solution(
 ) -> Result<(), AllocError>
     requires showable { IsShowable objective.now }
     requires solved { IsSummable objective.now solution.now }
-    requires bounded { IsSmallBound lower }
+    requires finite { IsFinite lower }
     ensures { OnOk result (string_bytes text.new ≡ string_bytes text.old
         ++ (solution_lines solution.now ++ objective_lines objective.now solution.now lower)) }
 {
@@ -116,7 +116,7 @@ fn put_bound(
     lower: Bound,
 ) -> Result<(), AllocError>
     requires showable { IsShowable objective.now }
-    requires bounded { IsSmallBound lower }
+    requires finite { IsFinite lower }
     ensures { OnOk result (string_bytes text.new ≡ string_bytes text.old ++ objective_lines objective.now None lower) }
 {
     match objective {

@@ -349,6 +349,24 @@ fn unsolved(rt: HostRuntime) -> Result<(), Fail> {
     assert_response(&rt, alloc, &model, &infeasible, "status: INFEASIBLE\n")
 }
 
+#[test]
+fn lowest_bound(rt: HostRuntime) -> Result<(), Fail> {
+    let alloc = rt.alloc();
+    let model = minimised(alloc, &[], &[], -100, -1)?;
+    let unknown = Response {
+        status: Status::Unknown,
+        solution: None,
+        lower: Bound::At(i64::MIN),
+    };
+    assert_response(
+        &rt,
+        alloc,
+        &model,
+        &unknown,
+        "status: UNKNOWN\nbest_objective_bound: 9223372036854775908\n",
+    )
+}
+
 /// Asserts that this is the second line for a fault.
 fn assert_fault(rt: &impl Abort, alloc: Global, fault: Fault, cause: &str) -> Result<(), Fail> {
     let text = fault_text(alloc, &fault)?;

@@ -1,7 +1,7 @@
 -- What a worker that searched alone leaves is a good outcome, whose lower bound can be written.
-use Rattle.std.specs.Prelude.{Option, Some, None, IfSome, All, map, unsigned_abs, slice_index_or, int_le, ◌+ℤ◌, ◌≤ℤ◌, ℤ}
-use Rattle.std.proofs.Common.{◌≡◌, ℕ, ◌+◌, ◌<◌, ◌≤◌, ◌^◌, List, [], ◌∷◌, ◌++◌, length, true, false, arith, refl, sym, ap, ap₂, subst, ◌∙◌}
-use Rattle.std.proofs.lemmas.Int.{ints, int_max_is}
+use Rattle.std.specs.Prelude.{Option, Some, None, IfSome, All, map, slice_index_or, ℤ}
+use Rattle.std.proofs.Common.{◌≡◌, ℕ, List, [], ◌∷◌, ◌++◌, length, true, false, arith, refl, sym, ap, ap₂, subst, ◌∙◌}
+use Rattle.std.proofs.lemmas.Int.{ints}
 use Rattle.std.proofs.lemmas.List.Elements.{All-nil, All-cons, All-head, All-push, All-weaker}
 use Rattle.cps_model.specs.declared.model.CpModel.{CpModel}
 use Rattle.cps_model.specs.declared.bound.Bound.{Bound}
@@ -11,8 +11,6 @@ use Rattle.cps_model.specs.declared.status.Status.TheVariants.{Optimal, Feasible
 use Rattle.cps_model.specs.Solutions.{objective_value, IsSolution}
 use Rattle.cps_model.specs.Start.{objective_start}
 use Rattle.cps_model.specs.Statuses.{is_closed, status_of, IsAtMost}
-use Rattle.cps_model.specs.Validity.{IsValid}
-use Rattle.cps_model.proofs.Start.{objective_start-small}
 use Rattle.cps_literal.specs.declared.atom.Atom.{Atom}
 use Rattle.cps_instance.specs.Problem.{Problem}
 use Rattle.cps_instance.specs.Strategies.{model_sums}
@@ -24,8 +22,7 @@ use Rattle.cps_port.specs.Others.{OthersStay}
 use Rattle.cps_port.specs.Parts.{newcomer, no_bounds}
 use Rattle.cps_port.specs.Cores.{Core, actor_count, bounds_part, first_core, part_at}
 use Rattle.cps_port.specs.Sound.{least_offer, greatest_raise, IsSoundCore}
-use Rattle.cps_port.proofs.Attained.{attained_small, attained_at}
-use Rattle.cps_port.proofs.Bounding.{BoundLe-refl, BoundLe-trans, greater-first}
+use Rattle.cps_port.proofs.Bounding.{BoundLe-trans, greater-first}
 use Rattle.cps_clauses.specs.declared.journal.JournalItem.{JournalItem}
 use Rattle.cps_clauses.specs.declared.journal.JournalItem.TheVariants.{Learnt, Drop}
 use Rattle.cps_search.specs.declared.end.End.{End}
@@ -35,7 +32,7 @@ use Rattle.cps_search.specs.declared.end.WorkerKind.TheVariants.{Fixed}
 use Rattle.cps_search.specs.Searches.{Search, IsFound, IsHonestJournal, IsItemAbove, IsSoundSearch, learnt_count}
 use Rattle.cps_search.specs.Moves.{fresh}
 use Rattle.cps_search.specs.Ends.{Ending, EndsBy, EndsRaised, IsOver, LastSawMet, RaisedToZ, RunsTo, SpentWhole, best_bound, ending}
-use Rattle.cps_print.specs.Responses.{IsBounded, IsSmallBound}
+use Rattle.cps_print.specs.Responses.{IsBounded, IsFinite}
 use Rattle.cps_command.specs.declared.options.Options.{Options}
 use Rattle.cps_command.specs.Numbers.{AreInRange}
 use Rattle.cpsolve.specs.declared.outcome.Outcome.{Outcome}
@@ -225,23 +222,10 @@ good_alone m options c e o range sound h is =
 
 -- ---- the lower bound that is written
 
--- a lower bound that is at least the least objective by the domains, and at most a solution's objective
-between : (m : CpModel) (l v : ℤ) → IsValid m → objective_start m ≤ℤ l → l ≤ℤ v → unsigned_abs v < 2 ^ 62 → unsigned_abs l < 2 ^ 62
-between m l v valid low high small = let start = objective_start-small m valid in grind (arith, ints)
-
-small_lower : (m : CpModel) (lower : Bound) (a : List ℤ) → IsValid m → IsSolution m a → BoundLe (At (objective_start m)) lower → IsAtMost lower (objective_value m a) → IsSmallBound lower
-small_lower m Infinite a valid s low floor = absurd floor
-small_lower m (At l) a valid s low floor = between m l (objective_value m a) valid low floor (attained_small m (objective_value m a) valid (attained_at m a (objective_value m a) s refl))
-
-greater_second : (a b : Bound) → BoundLe b (greater a b)
-greater_second (At x) (At y) = omega (arith, ints, int_max_is)
-greater_second (At x) Infinite = tt
-greater_second Infinite (At y) = tt
-greater_second Infinite Infinite = tt
-
-raised_least : (o : Option Bound) (start : Bound) → BoundLe start (raised_above o start)
-raised_least None start = BoundLe-refl start
-raised_least (Some b) start = greater_second b start
+-- a lower bound that is at most a solution's objective
+finite_below : (lower : Bound) (v : ℤ) → IsAtMost lower v → IsFinite lower
+finite_below (At l) v h = tt
+finite_below Infinite v h = h
 
 -- a worker that spent its budget raised nothing
 spent_raised : (m : CpModel) (conflicts : ℕ) (c : Core) (e : Ending) (clause : List Atom) (below : Bound) → (h : HasRun m conflicts c e) → e.end ≡ ends.Spent clause below → e.raised ≡ None
@@ -253,24 +237,16 @@ pub bounded_alone : (m : CpModel) (options : Options) (c : Core) (e : Ending) (o
     → IsOutcomeOf c.bounds.upper c.bounds.lower e o → KeepsPromise m 0 options o → IsBounded o.status o.lower
 bounded_alone m options c e o sound h is kept = go o.status refl
   where
-    valid : IsValid m
-    valid = subst IsValid h.first.model h.first.sound.valid
-
-    least : BoundLe (At (objective_start m)) o.lower
-    least =
-        let w = words m options.conflicts c e sound h in
-        subst (λ (b : Bound). BoundLe (At (objective_start m)) b) (sym (is.lower_is ∙ w.lower)) (raised_least e.raised (At (objective_start m)))
-
-    unknown : SpentItsBudget m options.conflicts Infinite e → IsSmallBound o.lower
+    unknown : SpentItsBudget m options.conflicts Infinite e → IsFinite o.lower
     unknown s =
         let w = words m options.conflicts c e sound h in
         let none = spent_raised m options.conflicts c e s.clause s.below h s.end in
         let lower : o.lower ≡ At (objective_start m) = is.lower_is ∙ w.lower ∙ ap (λ (r : Option Bound). raised_above r (At (objective_start m))) none in
-        subst IsSmallBound (sym lower) (objective_start-small m valid)
+        subst IsFinite (sym lower) tt
 
     go : (s : Status) → o.status ≡ s → IsBounded s o.lower
-    go Optimal same = let k = kept.optimal same in small_lower m o.lower k.0 valid k.1.best.solution least k.1.below
-    go Feasible same = let k = kept.feasible same in small_lower m o.lower k.0 valid k.1.solution least k.1.below
+    go Optimal same = let k = kept.optimal same in finite_below o.lower (objective_value m k.0) k.1.below
+    go Feasible same = let k = kept.feasible same in finite_below o.lower (objective_value m k.0) k.1.below
     go Infeasible same = tt
     go Unknown same =
         let k = kept.unknown same in
