@@ -1,6 +1,6 @@
 -- Fields of an older or a newer form.
 use Rattle.std.specs.Str.{bytes_eq}
-use Rattle.std.proofs.Common.{◌≡◌, ℕ, List, [], ◌∷◌, ◌||◌, Bool, true, false, Option, Some, None, Result, Ok, Err, OnOk, IfErr, codes, refl, sym, ◌∙◌}
+use Rattle.std.proofs.Common.{◌≡◌, ℕ, List, ◌∷◌, ◌||◌, Bool, true, false, Option, Some, None, Result, Ok, Err, OnOk, IfErr, codes, refl, ◌∙◌}
 use Rattle.cps_textproto.specs.declared.tree.Field.{Field}
 use Rattle.cps_textproto.specs.Trees.{values_of}
 use Rattle.cps_model.specs.declared.fault.FaultName.TheVariants.{MixedForms}
@@ -16,7 +16,6 @@ use Rattle.cps_schema.specs.Answers.{Refuses}
 use Rattle.cps_schema.specs.Steps.{Passes, Stops, FormedPasses, FormedStops}
 use Rattle.cps_schema.specs.Slots.{AreGiven}
 use Rattle.cps_schema.specs.Parts.{is_other, strategy_slots, IsStrategyGiven}
-use Rattle.cps_schema.proofs.Slots.{given_after}
 
 pub formed_passes : (w : Written) (m : Message) (before : List (List ℕ)) (f : Field) (form : Form) (content : Content) →
     use_of m (token_text w f.name) ≡ Some (formed form content) → has_other_form m form before ≡ false →

@@ -154,7 +154,3 @@ pub record IsSoundSearch (s : Search) : Type 0 where
   pub best : IfSome s.best (IsFound s)
   pub raised : IfSome s.raised (IsLowerBound s.problem.model)
   pub said : SaidSo s s.said
-
--- what a search keeps, whatever is done with it, as long as it has memory: of a search without memory nothing is said
-abbrev pub IsKeptSearch : Search → Type 0
-IsKeptSearch s = s.refused ≡ false → IsSoundSearch s

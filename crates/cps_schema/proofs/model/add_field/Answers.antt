@@ -1,12 +1,10 @@
 use Rattle.std.specs.Option.{option_to_list}
-use Rattle.std.proofs.Common.{◌≡◌, ◌++◌, List, ℕ, ◌∷◌, map, codes, Some, None, true, false, is_some, refl, arith, append_assoc}
+use Rattle.std.proofs.Common.{◌≡◌, ◌++◌, List, ℕ, map, codes, true, is_some, refl, arith, append_assoc}
 use Rattle.std.proofs.lemmas.List.{map-append}
 use Rattle.std.proofs.lemmas.Result.{on_ok_weaker}
 use Rattle.cps_textproto.specs.Trees.{values_of}
-use Rattle.cps_schema.specs.declared.number.Number.TheVariants.{Int32, Int64}
 use Rattle.cps_schema.specs.Sources.{written_of}
 use Rattle.cps_schema.specs.Written.{token_text}
-use Rattle.cps_schema.specs.declared.model.ModelParts.{ModelParts}
 use Rattle.cps_schema.specs.Tables.{model_message, variable_message, constraint_message, objective_message, strategy_message, hint_message, text, message}
 use Rattle.cps_schema.specs.Readings.{value_texts, value_messages, read_variable, read_constraint, read_objective, read_strategy, read_hint}
 use Rattle.cps_schema.specs.Parts.{model_slots}

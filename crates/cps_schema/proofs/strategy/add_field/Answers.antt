@@ -1,19 +1,18 @@
 use Rattle.std.specs.Option.{option_to_list}
-use Rattle.std.proofs.Common.{◌≡◌, ◌++◌, List, ℕ, ◌∷◌, map, codes, Some, None, true, false, is_some, refl, arith, append_assoc}
+use Rattle.std.proofs.Common.{◌≡◌, ◌++◌, List, ℕ, map, codes, true, is_some, refl, arith, append_assoc}
 use Rattle.std.proofs.lemmas.List.{map-append}
 use Rattle.std.proofs.lemmas.Result.{on_ok_weaker}
 use Rattle.cps_textproto.specs.Trees.{values_of}
-use Rattle.cps_schema.specs.declared.number.Number.TheVariants.{Int32, Int64}
+use Rattle.cps_schema.specs.declared.number.Number.TheVariants.{Int32}
 use Rattle.cps_schema.specs.Sources.{written_of}
 use Rattle.cps_schema.specs.Written.{token_text}
 use Rattle.cps_schema.specs.declared.form.Form.TheVariants.{Older, Newer}
 use Rattle.cps_schema.specs.declared.member.Enum.TheVariants.{VariableSelection, DomainReduction}
 use Rattle.cps_schema.specs.Members.{choose_of, select_of}
-use Rattle.cps_schema.specs.Tables.{strategy_message, expression_message, number, member, message, use_in, use_of, table_of}
+use Rattle.cps_schema.specs.Tables.{strategy_message, expression_message, number, member, message, use_of}
 use Rattle.cps_schema.specs.Readings.{value_numbers, value_members, value_messages, read_expression}
 use Rattle.cps_schema.specs.Parts.{strategy_slots, IsStrategyGiven}
-use Rattle.cps_schema.proofs.Steps.{same_text, other_text, table_use, repeated_passes, repeated_stops, not_read_stops, if_passes, if_stops}
-use Rattle.cps_schema.specs.Slots.{AreGiven}
+use Rattle.cps_schema.proofs.Steps.{same_text, other_text, table_use, not_read_stops}
 use Rattle.cps_schema.proofs.Slots.{given_after, slot_passes, slot_stops}
 use Rattle.cps_schema.proofs.Forms.{form_passes, form_stops, choose_given, select_given, no_strategy_field}
 use Rattle.cps_schema.proofs.strategy.add_field.Goals as goal
