@@ -43,19 +43,32 @@ fn active_worker_of<'a>(
     Worker::new(alloc, instance, engine, brancher, conflicts, 0)
 }
 
-/// A turn as a word, and whether the worker has ended.
-fn seen(turn: &Turn) -> (&'static str, bool)
+/// What a turn was.
+#[derive(Clone, Copy, Debug, PartialEq, Eq)]
+enum Kind {
+    Imported,
+    Decided,
+    Learnt,
+    Found,
+    Exhausted,
+    SawClosed,
+    Spent,
+    RoundsDone,
+}
+
+/// What a turn was, and whether the worker has ended.
+fn kind_of(turn: &Turn) -> (Kind, bool)
     ensures { result.1 ≡ false → end_of turn.now ≡ None }
 {
     match turn {
-        Turn::Imported => ("imported", false),
-        Turn::Decided => ("decided", false),
-        Turn::Learnt => ("learnt", false),
-        Turn::Found => ("found", false),
-        Turn::Exhausted => ("exhausted", true),
-        Turn::SawClosed => ("saw closed", true),
-        Turn::Spent(_, _) => ("spent", true),
-        Turn::RoundsDone => ("rounds done", true),
+        Turn::Imported => (Kind::Imported, false),
+        Turn::Decided => (Kind::Decided, false),
+        Turn::Learnt => (Kind::Learnt, false),
+        Turn::Found => (Kind::Found, false),
+        Turn::Exhausted => (Kind::Exhausted, true),
+        Turn::SawClosed => (Kind::SawClosed, true),
+        Turn::Spent(_, _) => (Kind::Spent, true),
+        Turn::RoundsDone => (Kind::RoundsDone, true),
     }
 }
 
@@ -64,7 +77,7 @@ fn turns_of<B: Brancher + Drop, Q: Port>(
     alloc: Global,
     worker: &mut Worker<'_, AnyPropagator, B>,
     port: &mut Q,
-) -> Result<Vec<&'static str>, AllocError>
+) -> Result<Vec<Kind>, AllocError>
     requires running { IsOver worker.old.0.said → ⊥ }
     requires model { Q.model port.old ≡ worker.old.0.problem.model }
     requires imported { worker.old.0.imported ≤ length (Q.part port.old).board.taken }
@@ -73,60 +86,61 @@ fn turns_of<B: Brancher + Drop, Q: Port>(
 {
     let mut turns = Vec::new(alloc);
     for _ in 0..100 {
-        let (turn, has_ended) = seen(&worker.turn(port)?);
-        turns.push(turn)?;
+        let turn = worker.turn(port)?;
+        let (kind, has_ended) = kind_of(&turn);
+        turns.push(kind)?;
         if has_ended {
-            break;
+            return Ok(turns);
         }
     }
     Ok(turns)
 }
 
-/// The turns of a worker that takes the variables in order, alone.
-fn turns_alone(
+/// The turns of a worker that takes the variables in order.
+fn turns_in_order<Q: Port>(
     alloc: Global,
     model: &ValidModel,
+    port: &mut Q,
     conflicts: u64,
-) -> Result<Vec<&'static str>, AllocError>
+) -> Result<Vec<Kind>, AllocError>
     requires budget { conflicts ≤ 10 ^ 9 }
     requires assumptions { HasNoAssumptions model.now }
+    requires model { Q.model port.old ≡ model.now }
+    ensures same { (Q.model port.new ≡ Q.model port.old) × (Q.rows port.new ≡ Q.rows port.old) }
+    ensures others { Q.stays port.old port.new }
 {
-    let mut core = CoreState::new(alloc, model, 1, 1)?;
     let mut worker = worker_of(alloc, model, conflicts)?;
-    let mut port = PlainPort {
-        core: &mut core,
-        actor: 0,
-    };
-    let turns = turns_of(alloc, &mut worker, &mut port);
-    let PlainPort {
-        core: _core,
-        actor: _actor,
-    } = port;
-    turns
+    turns_of(alloc, &mut worker, port)
 }
 
-#[test]
-fn a_worker_alone_takes_its_turns(rt: HostRuntime) -> Result<(), Fail> {
-    let alloc = rt.alloc();
-    let model = model_of(alloc, THREE_IN_TWO)?;
-    let turns = turns_alone(alloc, &model, 1)?;
-    assert_eq!(rt;
-        turns.as_slice(),
-        ["decided", "learnt", "imported", "exhausted"].as_slice()
-    );
-    Ok(())
+/// The turns of a worker that takes the variables by activity.
+fn turns_by_activity<Q: Port>(
+    alloc: Global,
+    model: &ValidModel,
+    port: &mut Q,
+    conflicts: u64,
+) -> Result<Vec<Kind>, AllocError>
+    requires budget { conflicts ≤ 10 ^ 9 }
+    requires assumptions { HasNoAssumptions model.now }
+    requires model { Q.model port.old ≡ model.now }
+    ensures same { (Q.model port.new ≡ Q.model port.old) × (Q.rows port.new ≡ Q.rows port.old) }
+    ensures others { Q.stays port.old port.new }
+{
+    let mut worker = active_worker_of(alloc, model, conflicts)?;
+    turns_of(alloc, &mut worker, port)
 }
 
 /// What two workers did, and the bounds that they left.
 #[derive(Drop)]
 struct Left {
-    first: Vec<&'static str>,
-    second: Vec<&'static str>,
+    first: Vec<Kind>,
+    second: Vec<Kind>,
     upper: Bound,
     lower: Bound,
 }
 
-/// A worker that takes the variables in order, and then one that takes them by activity, over one shared state.
+/// A worker that takes the variables in order, up to so many conflicts, and then one that takes them by activity, over one shared
+/// state.
 fn one_after_the_other(
     alloc: Global,
     model: &ValidModel,
@@ -136,32 +150,43 @@ fn one_after_the_other(
     requires assumptions { HasNoAssumptions model.now }
 {
     let mut core = CoreState::new(alloc, model, 2, 4)?;
-    let mut worker = worker_of(alloc, model, conflicts)?;
     let mut port = PlainPort {
         core: &mut core,
         actor: 0,
     };
-    let first = turns_of(alloc, &mut worker, &mut port);
+    let first = turns_in_order(alloc, model, &mut port, conflicts);
     let PlainPort {
         core: shared,
         actor: _actor,
     } = port;
-    let mut worker = active_worker_of(alloc, model, 10_000)?;
     let mut port = PlainPort {
         core: shared,
         actor: 1,
     };
-    let second = turns_of(alloc, &mut worker, &mut port);
+    let second = turns_by_activity(alloc, model, &mut port, 10);
     let PlainPort {
         core: shared,
         actor: _actor,
     } = port;
     Ok(Left {
-        first: first?,
-        second: second?,
         upper: upper_of(shared),
         lower: lower_of(shared),
+        first: first?,
+        second: second?,
     })
+}
+
+#[test]
+fn a_worker_takes_its_turns(rt: HostRuntime) -> Result<(), Fail> {
+    let alloc = rt.alloc();
+    let model = model_of(alloc, THREE_IN_TWO)?;
+    let left = one_after_the_other(alloc, &model, 1)?;
+    assert_eq!(rt;
+        left.first.as_slice(),
+        [Kind::Decided, Kind::Learnt, Kind::Imported, Kind::Exhausted].as_slice()
+    );
+    assert_eq!(rt; left.second.as_slice(), [Kind::SawClosed].as_slice());
+    Ok(())
 }
 
 #[test]
@@ -171,19 +196,27 @@ fn a_worker_goes_on_from_what_another_shared(rt: HostRuntime) -> Result<(), Fail
     let left = one_after_the_other(alloc, &model, 1)?;
     assert_eq!(rt;
         left.first.as_slice(),
-        ["decided", "decided", "found", "learnt", "imported", "spent"].as_slice()
+        [
+            Kind::Decided,
+            Kind::Decided,
+            Kind::Found,
+            Kind::Learnt,
+            Kind::Imported,
+            Kind::Spent,
+        ]
+        .as_slice()
     );
     assert_eq!(rt;
         left.second.as_slice(),
         [
-            "imported",
-            "decided",
-            "learnt",
-            "imported",
-            "decided",
-            "learnt",
-            "imported",
-            "exhausted"
+            Kind::Imported,
+            Kind::Decided,
+            Kind::Learnt,
+            Kind::Imported,
+            Kind::Decided,
+            Kind::Learnt,
+            Kind::Imported,
+            Kind::Exhausted,
         ]
         .as_slice()
     );
