@@ -5,7 +5,7 @@ use cps_literal::Atom;
 use cps_model::Listed;
 
 /// What a task demands where it is in force. Atoms stand for literals.
-#[derive(Debug, Drop)]
+#[derive(Drop)]
 pub enum Body {
     /// Nothing.
     Empty,
@@ -43,7 +43,7 @@ pub enum Body {
 }
 
 /// A demand, in force where all its enforcement atoms are true.
-#[derive(Debug, Drop)]
+#[derive(Drop)]
 pub struct Task {
     pub enforcement: Listed<Atom>,
     pub body: Body,

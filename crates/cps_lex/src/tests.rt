@@ -1,6 +1,7 @@
 //! Whole texts, cut.
 use super::{LexError, Token, TokenKind, push_text, tokens};
 use std::alloc::Global;
+use std::fmt::Write;
 use std::process::Abort;
 use std::test::Fail;
 
@@ -60,34 +61,16 @@ fn is_one(rt: &impl Abort, alloc: Global, text: &[u8], kind: TokenKind) -> Resul
 #[test]
 fn cuts_numbers(rt: HostRuntime) -> Result<(), Fail> {
     let alloc = rt.alloc();
-    let numbers: [(&[u8], TokenKind); 24] = [
-        (b"0", TokenKind::Decimal),
-        (b"90", TokenKind::Decimal),
-        (b"00", TokenKind::Octal),
-        (b"0777", TokenKind::Octal),
-        (b"0x0", TokenKind::Hexadecimal),
-        (b"0XaF9", TokenKind::Hexadecimal),
-        (b"0x1f", TokenKind::Hexadecimal),
-        (b"0x1e5", TokenKind::Hexadecimal),
-        (b"1.5", TokenKind::Float),
-        (b"10.25", TokenKind::Float),
-        (b"0.", TokenKind::Float),
-        (b"7.", TokenKind::Float),
-        (b".5", TokenKind::Float),
-        (b".05e1", TokenKind::Float),
-        (b"1e5", TokenKind::Float),
-        (b"0E+5", TokenKind::Float),
-        (b"12e-07", TokenKind::Float),
-        (b"1.5e10", TokenKind::Float),
-        (b"1.e5f", TokenKind::Float),
-        (b".5e3F", TokenKind::Float),
-        (b"1f", TokenKind::Float),
-        (b"0F", TokenKind::Float),
-        (b"9.F", TokenKind::Float),
-        (b"1e5f", TokenKind::Float),
+    let numbers = [
+        ("0 90", TokenKind::Decimal),
+        ("00 0777", TokenKind::Octal),
+        ("0x0 0XaF9 0x1f 0x1e5", TokenKind::Hexadecimal),
+        ("1.5 10.25 0. 7. .5 .05e1 1e5 0E+5 12e-07 1.5e10 1.e5f .5e3F 1f 0F 9.F 1e5f", TokenKind::Float),
     ];
-    for (text, kind) in numbers {
-        assert!(rt; is_one(&rt, alloc, text, kind)?);
+    for (words, kind) in numbers {
+        for word in words.split(' ') {
+            assert!(rt; is_one(&rt, alloc, word.as_bytes(), kind)?);
+        }
     }
     let signs = [
         token(TokenKind::Float, 0, 4),
@@ -100,40 +83,70 @@ fn cuts_numbers(rt: HostRuntime) -> Result<(), Fail> {
     Ok(())
 }
 
+/// Each line is a byte and a text that is refused there.
 #[test]
 fn refuses_texts(rt: HostRuntime) -> Result<(), Fail> {
     let alloc = rt.alloc();
-    let texts: [(&[u8], usize); 28] = [
-        // A number that a letter, a digit, `_` or `.` follows is a fault at its first byte.
-        (b"variables { domain: [089, 90] }", 21),
-        (b"a: 1b", 3),
-        (b"a: 1_", 3),
-        (b"a: 08", 3),
-        (b"a: 07a", 3),
-        (b"a: 01f", 3),
-        (b"a: 00.5", 3),
-        (b"a: 0x", 3),
-        (b"a: 0xg", 3),
-        (b"a: 0x1g", 3),
-        (b"a: 0x1.5", 3),
-        (b"a: 1..2", 3),
-        (b"a: 1.5.2", 3),
-        (b"a: 1.5x", 3),
-        (b"a: 1e", 3),
-        (b"a: 1e+", 3),
-        (b"a: 1e5e5", 3),
-        (b"a: 1e5.", 3),
-        (b"a: 1ff", 3),
-        (b"a: 0f1", 3),
-        (b"a: .", 3),
-        (b"a: .e5", 3),
-        (b"a: .f", 3),
-        // No token begins so.
-        (b"a: 1-2+3", 6),
-        (b"a: 0xe+1", 6),
-        (b"a/b", 1),
+    let texts = "\
+        21 variables { domain: [089, 90] }\n\
+        3 a: 1b\n\
+        3 a: 1_\n\
+        3 a: 08\n\
+        3 a: 07a\n\
+        3 a: 01f\n\
+        3 a: 00.5\n\
+        3 a: 0x\n\
+        3 a: 0xg\n\
+        3 a: 0x1g\n\
+        3 a: 0x1.5\n\
+        3 a: 1..2\n\
+        3 a: 1.5.2\n\
+        3 a: 1.5x\n\
+        3 a: 1e\n\
+        3 a: 1e+\n\
+        3 a: 1e5e5\n\
+        3 a: 1e5.\n\
+        3 a: 1ff\n\
+        3 a: 0f1\n\
+        3 a: .\n\
+        3 a: .e5\n\
+        3 a: .f\n\
+        6 a: 1-2+3\n\
+        6 a: 0xe+1\n\
+        1 a/b\n\
+        3 a: '\n\
+        3 a: 'b\n\
+        3 a: \"b'\n\
+        3 a: 'b\"\n\
+        3 a: '\\\n\
+        3 a: '\\'\n\
+        7 a: 'b' 'c\n\
+        3 a: '\\q'\n\
+        3 a: '\\8'\n\
+        3 a: '\\400'\n\
+        3 a: '\\777'\n\
+        3 a: '\\x'\n\
+        3 a: '\\xg'\n\
+        3 a: '\\u004'\n\
+        3 a: '\\u004g'\n\
+        3 a: '\\U0001F60'\n\
+        3 a: '\\uD800'\n\
+        3 a: '\\uDFFF'\n\
+        3 a: '\\U0000D800'\n\
+        3 a: '\\U00110000'\n\
+        3 a: '\\U00200041'\n\
+        3 a: '\\UFFFFFFFF'\n\
+    ";
+    for line in texts.lines() {
+        let (at, text) = line.split_once(' ').ok_or("no text")?;
+        let at = at.parse::<usize>()?;
+        assert_eq!(rt; fault(&rt, alloc, text.as_bytes())?, Some(at));
+    }
+    let texts: [(&[u8], usize); 4] = [
         (b"a \x80", 2),
         (b"a \x00", 2),
+        (b"a: 'b\x0ac'", 3),
+        (b"a: '\\\x0a'", 3),
     ];
     for (text, at) in texts {
         assert_eq!(rt; fault(&rt, alloc, text)?, Some(at));
@@ -148,52 +161,68 @@ fn denotes(rt: &impl Abort, alloc: Global, text: &[u8], wanted: &[u8]) -> Result
     Ok(is_one(rt, alloc, text, TokenKind::Text)? && bytes.as_slice() == wanted)
 }
 
+/// The bytes as hexadecimal digits.
+fn hex(alloc: Global, bytes: &[u8]) -> Result<String, Fail> {
+    let mut digits = String::new(alloc);
+    for byte in bytes {
+        write!(digits, "{byte:02x}")?;
+    }
+    Ok(digits)
+}
+
+/// Each line is a string and the bytes that it denotes.
 #[test]
 fn reads_strings(rt: HostRuntime) -> Result<(), Fail> {
     let alloc = rt.alloc();
-    let strings: [(&[u8], &[u8]); 34] = [
-        (b"''", b""),
-        (b"\"x_1\"", b"x_1"),
-        (b"\"it's\"", b"it's"),
-        (b"'\"#'", b"\"#"),
-        (b"'\x00\t\x80\xff'", b"\x00\t\x80\xff"),
-        // Escapes of one byte.
-        (b"'\\a\\b\\f\\n'", b"\x07\x08\x0c\x0a"),
-        (b"'\\r\\t\\v\\?'", b"\x0d\x09\x0b?"),
-        (b"'\\\\\\'\\\"'", b"\\'\""),
-        // Octal digits, at most three.
-        (b"'\\0'", b"\x00"),
-        (b"'\\7'", b"\x07"),
-        (b"'\\78'", b"\x078"),
-        (b"'\\12'", b"\x0a"),
-        (b"'\\128'", b"\x0a8"),
-        (b"'\\101'", b"A"),
-        (b"'\\1013'", b"A3"),
-        (b"'\\377'", b"\xff"),
-        (b"'\\1\\22\\3'", b"\x01\x12\x03"),
-        // Hexadecimal digits, at most two.
-        (b"'\\x4'", b"\x04"),
-        (b"'\\xfg'", b"\x0fg"),
-        (b"'\\x41'", b"A"),
-        (b"'\\X4a1'", b"J1"),
-        (b"'\\xFF\\x0'", b"\xff\x00"),
-        // Characters of one to four bytes.
-        (b"'\\u0041'", b"A"),
-        (b"'\\u00411'", b"A1"),
-        (b"'\\u007f\\u0080'", b"\x7f\xc2\x80"),
-        (b"'\\u00e9'", b"\xc3\xa9"),
-        (b"'\\u07ff\\u0800'", b"\xdf\xbf\xe0\xa0\x80"),
-        (b"'\\u20AC'", b"\xe2\x82\xac"),
-        (b"'\\uD7FF\\uE000'", b"\xed\x9f\xbf\xee\x80\x80"),
-        (b"'\\uffff'", b"\xef\xbf\xbf"),
-        (b"'\\U00000041'", b"A"),
-        (b"'\\U00010000'", b"\xf0\x90\x80\x80"),
-        (b"'\\U0001F600'", b"\xf0\x9f\x98\x80"),
-        (b"'\\U0010FFFF'", b"\xf4\x8f\xbf\xbf"),
-    ];
-    for (text, wanted) in strings {
-        assert!(rt; denotes(&rt, alloc, text, wanted)?);
+    let strings = "\
+        '' \n\
+        \"x_1\" 785f31\n\
+        \"it's\" 69742773\n\
+        '\"#' 2223\n\
+        '\\a\\b\\f\\n' 07080c0a\n\
+        '\\r\\t\\v\\?' 0d090b3f\n\
+        '\\\\\\'\\\"' 5c2722\n\
+        '\\0' 00\n\
+        '\\7' 07\n\
+        '\\78' 0738\n\
+        '\\12' 0a\n\
+        '\\128' 0a38\n\
+        '\\101' 41\n\
+        '\\1013' 4133\n\
+        '\\377' ff\n\
+        '\\1\\22\\3' 011203\n\
+        '\\x4' 04\n\
+        '\\xfg' 0f67\n\
+        '\\x41' 41\n\
+        '\\X4a1' 4a31\n\
+        '\\xFF\\x0' ff00\n\
+        '\\u0041' 41\n\
+        '\\u00411' 4131\n\
+        '\\u007f\\u0080' 7fc280\n\
+        '\\u00e9' c3a9\n\
+        '\\u07ff\\u0800' dfbfe0a080\n\
+        '\\u20AC' e282ac\n\
+        '\\uD7FF\\uE000' ed9fbfee8080\n\
+        '\\uffff' efbfbf\n\
+        '\\U00000041' 41\n\
+        '\\U00010000' f0908080\n\
+        '\\U0001F600' f09f9880\n\
+        '\\U0010FFFF' f48fbfbf\n\
+    ";
+    for line in strings.lines() {
+        let (text, wanted) = line.split_once(' ').ok_or("no bytes")?;
+        let mut bytes = Vec::new(alloc);
+        push_text(text.as_bytes(), &mut bytes)?;
+        assert!(rt; hex(alloc, bytes.as_slice())?.as_str() == wanted);
+        assert!(rt; is_one(&rt, alloc, text.as_bytes(), TokenKind::Text)?);
     }
+    Ok(())
+}
+
+#[test]
+fn joins_strings(rt: HostRuntime) -> Result<(), Fail> {
+    let alloc = rt.alloc();
+    assert!(rt; denotes(&rt, alloc, b"'\x00\t\x80\xff'", b"\x00\t\x80\xff")?);
     // The values of strings that follow one another are joined.
     let neighbours = [
         token(TokenKind::Text, 0, 3),
@@ -210,41 +239,3 @@ fn reads_strings(rt: HostRuntime) -> Result<(), Fail> {
     Ok(())
 }
 
-#[test]
-fn refuses_strings(rt: HostRuntime) -> Result<(), Fail> {
-    let alloc = rt.alloc();
-    let texts: [(&[u8], usize); 24] = [
-        // A string that is not closed.
-        (b"a: '", 3),
-        (b"a: 'b", 3),
-        (b"a: \"b'", 3),
-        (b"a: 'b\"", 3),
-        (b"a: '\\", 3),
-        (b"a: '\\'", 3),
-        (b"a: 'b' 'c", 7),
-        // A line feed.
-        (b"a: 'b\nc'", 3),
-        (b"a: '\\\n'", 3),
-        // Escapes that are none.
-        (b"a: '\\q'", 3),
-        (b"a: '\\8'", 3),
-        (b"a: '\\400'", 3),
-        (b"a: '\\777'", 3),
-        (b"a: '\\x'", 3),
-        (b"a: '\\xg'", 3),
-        (b"a: '\\u004'", 3),
-        (b"a: '\\u004g'", 3),
-        (b"a: '\\U0001F60'", 3),
-        // Numbers of no character.
-        (b"a: '\\uD800'", 3),
-        (b"a: '\\uDFFF'", 3),
-        (b"a: '\\U0000D800'", 3),
-        (b"a: '\\U00110000'", 3),
-        (b"a: '\\U00200041'", 3),
-        (b"a: '\\UFFFFFFFF'", 3),
-    ];
-    for (text, at) in texts {
-        assert_eq!(rt; fault(&rt, alloc, text)?, Some(at));
-    }
-    Ok(())
-}

@@ -3,7 +3,7 @@ use crate::listed::Listed;
 use crate::text::Text;
 
 /// What a constraint demands. Literals and variables are given by references.
-#[derive(Debug, Drop)]
+#[derive(Drop)]
 pub enum Kind {
     /// Nothing.
     Empty,
@@ -26,7 +26,7 @@ pub enum Kind {
 }
 
 /// A constraint, in force where all its enforcement literals are true.
-#[derive(Debug, Drop)]
+#[derive(Drop)]
 pub struct Constraint {
     pub name: Text,
     pub enforcement: Listed<i32>,

@@ -12,7 +12,7 @@ use itoa::Integer;
 use std::alloc::{AllocError, Global};
 
 /// What is answered to a model. A solution has one value per variable.
-#[derive(Debug, Drop)]
+#[derive(Drop)]
 pub struct Response {
     pub status: Status,
     pub solution: Option<Ints>,

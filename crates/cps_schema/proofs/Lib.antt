@@ -10,3 +10,4 @@ pub mod Objectives
 pub mod GivenKinds
 pub mod ModelFields
 pub mod Laws
+pub mod Loops

@@ -1,10 +1,11 @@
 -- Lists that have not one item, and lists of messages.
 use Rattle.std.specs.Option.{option_or}
-use Rattle.std.proofs.Common.{◌≡◌, ◌≢◌, List, [], ◌∷◌, length, get_or, slice_get, false, Some, None, Vec, Global, refl, sym, ap, ◌∙◌, arith}
+use Rattle.std.proofs.lemmas.Grind.{common_steps}
+use Rattle.std.proofs.Common.{ℕ, ◌+◌, ◌<◌, ◌++◌, drop, map, ◌≡◌, ◌≢◌, List, [], ◌∷◌, length, get_or, slice_get, false, Some, None, Vec, Global, refl, sym, ap, ◌∙◌, arith}
 use Rattle.cps_textproto.specs.declared.tree.Nested.{Nested, Nested', out-Nested}
 use Rattle.cps_textproto.specs.declared.tree.Span.{Span}
 use Rattle.cps_textproto.specs.declared.tree.Items.TheVariants.{Messages}
-use Rattle.cps_textproto.specs.Trees.{Values, no_values, tree_of, span_values, values_of, nested_value, nested_values}
+use Rattle.cps_textproto.specs.Trees.{Tree, Values, no_values, tree_of, span_values, values_of, nested_value, nested_values}
 use Rattle.cps_textproto.proofs.Views.{values_of_messages}
 use Rattle.cps_model.specs.declared.fault.FaultName.TheVariants.{WrongKind}
 use Rattle.cps_schema.specs.declared.number.Number.{Number}
@@ -62,3 +63,14 @@ listed_fault w k (Nested' first node ∷ ms) = ap (λ f. option_or (fields_fault
 pub tree_of_nested : (m : Nested) → tree_of (out-Nested m).node ≡ nested_tree m
 unfolding out-Nested denote.Hole.Carrier.out
 tree_of_nested (Nested' first node) = refl
+
+-- one message more of a list
+pub fault_step : {m : Nested} (w : Written) (k : Message) (list : List Nested) (i : ℕ) → i < length list → m ≡ get_or list i m
+    → fields_fault w k [] (tree_of (out-Nested m).node) ≡ None
+    → trees_fault w k (nested_trees (drop i list)) ≡ trees_fault w k (nested_trees (drop (i + 1) list))
+fault_step w k list i h e f = grind (arith, common_steps, tree_of_nested)
+
+pub added_step : {B : Type 0} {m : Nested} (f : Tree → B) (before after : List B) (list : List Nested) (i : ℕ) → i < length list → m ≡ get_or list i m
+    → after ≡ before ++ (f (tree_of (out-Nested m).node) ∷ [])
+    → before ++ map f (nested_trees (drop i list)) ≡ after ++ map f (nested_trees (drop (i + 1) list))
+added_step f before after list i h e a = grind (arith, common_steps, tree_of_nested)

@@ -310,76 +310,55 @@ fn is_objective(objective: &Objective, refs: &[i32], factors: &[i64], bounds: &[
         && objective.domain.as_slice() == bounds
 }
 
-/// The model of a text.
-fn read(rt: &impl Abort, alloc: Global, text: &str) -> Result<CpModel, Fail> {
-    match answer_of(rt, alloc, text)? {
-        Reading::Model(model) => Ok(model),
-        _ => Err(Fail::from("no model")),
+fn are_variables(model: &CpModel) -> bool {
+    match model.variables.as_slice() {
+        [first, second] => {
+            is_variable(first, &[0, -1, i64::MAX])
+                && is_variable(second, &[])
+                && model.objective.is_none()
+        }
+        _ => false,
     }
 }
 
-#[test]
-fn reads_variables(rt: HostRuntime) -> Result<(), Fail> {
-    let model = read(
-        &rt,
-        rt.alloc(),
-        "variables { domain: [0, - 1] domain: 9223372036854775807; domain: [ ] } variables { } variables: [ ]",
-    )?;
-    let [first, second] = model.variables.as_slice() else {
-        return Err(Fail::from("variables"));
-    };
-    assert!(rt; is_variable(first, &[0, -1, i64::MAX]));
-    assert!(rt; is_variable(second, &[]));
-    assert!(rt; model.objective.is_none());
-    Ok(())
+
+fn are_constraints(model: &CpModel) -> bool {
+    match model.constraints.as_slice() {
+        [first, second, third, every, most, one, odd] => {
+            is_bool_or(first, &[0, i32::MIN], &[i32::MAX])
+                && is_empty(second)
+                && is_linear(third, &[0, 1], &[-3], &[i64::MIN])
+                && matches!(&every.kind, Kind::BoolAnd(read) if read.as_slice() == [1, -2].as_slice())
+                && matches!(&most.kind, Kind::AtMostOne(read) if read.as_slice() == [3].as_slice())
+                && matches!(&one.kind, Kind::ExactlyOne(read) if read.as_slice() == [4, 4].as_slice())
+                && matches!(&odd.kind, Kind::BoolXor(read) if read.as_slice().is_empty())
+        }
+        _ => false,
+    }
 }
 
-#[test]
-fn reads_constraints(rt: HostRuntime) -> Result<(), Fail> {
-    let model = read(
-        &rt,
-        rt.alloc(),
-        "constraints { enforcement_literal: [0, -2147483648] bool_or { literals: 2147483647 } } constraints { } constraints { linear: { vars: 0 vars: [1], coeffs: -3, domain: -9223372036854775808 } } constraints { bool_and { literals: [1, -2] } } constraints { at_most_one { literals: 3 } } constraints { exactly_one { literals: [4, 4] } } constraints { bool_xor { } }",
-    )?;
-    let [first, second, third, every, most, one, odd] = model.constraints.as_slice() else {
-        return Err(Fail::from("constraints"));
-    };
-    assert!(rt; is_bool_or(first, &[0, i32::MIN], &[i32::MAX]));
-    assert!(rt; is_empty(second));
-    assert!(rt; is_linear(third, &[0, 1], &[-3], &[i64::MIN]));
-    assert!(rt;
-        matches!(&every.kind, Kind::BoolAnd(read) if read.as_slice() == [1, -2].as_slice())
-    );
-    assert!(rt; matches!(&most.kind, Kind::AtMostOne(read) if read.as_slice() == [3].as_slice()));
-    assert!(rt;
-        matches!(&one.kind, Kind::ExactlyOne(read) if read.as_slice() == [4, 4].as_slice())
-    );
-    assert!(rt; matches!(&odd.kind, Kind::BoolXor(read) if read.as_slice().is_empty()));
-    Ok(())
+
+fn has_offset(model: &CpModel, offset: i64) -> bool {
+    match &model.objective {
+        Some(objective) => objective.offset == offset,
+        None => false,
+    }
 }
 
-/// The offset of a model's objective.
-fn offset_of(rt: &impl Abort, alloc: Global, text: &str) -> Result<i64, Fail> {
-    match &read(rt, alloc, text)?.objective {
-        Some(objective) => Ok(objective.offset),
-        None => Err(Fail::from("objective")),
+fn is_scaled(model: &CpModel) -> bool {
+    match &model.objective {
+        Some(objective) => {
+            is_objective(objective, &[5], &[7], &[2, 3])
+                && objective.offset == -9007199254740992
+                && objective.scaling == 1
+        }
+        None => false,
     }
 }
 
 #[test]
 fn reads_objectives(rt: HostRuntime) -> Result<(), Fail> {
     let alloc = rt.alloc();
-    let model = read(
-        &rt,
-        alloc,
-        "objective { coeffs: 7 offset: -9007199254740992 scaling_factor: 0 domain: [2, 3] vars: 5 }",
-    )?;
-    let Some(objective) = &model.objective else {
-        return Err(Fail::from("objective"));
-    };
-    assert!(rt; is_objective(objective, &[5], &[7], &[2, 3]));
-    assert_eq!(rt; objective.offset, -9007199254740992);
-    assert_eq!(rt; objective.scaling, 1);
     let floats: [(&str, i64); 12] = [
         ("objective { offset: 1e5 }", 100000),
         ("objective { offset: 1500e-2 }", 15),
@@ -401,38 +380,24 @@ fn reads_objectives(rt: HostRuntime) -> Result<(), Fail> {
         ("objective { offset: - 12.F }", -12),
     ];
     for (text, offset) in floats {
-        assert_eq!(rt; offset_of(&rt, alloc, text)?, offset);
+        assert!(rt; reads(&rt, alloc, text, Sees::Offset(offset))?);
     }
     Ok(())
 }
 
-#[test]
-fn reads_whole_numbers(rt: HostRuntime) -> Result<(), Fail> {
-    let model = read(
-        &rt,
-        rt.alloc(),
-        "variables { domain: [017, 0x1F, 0X1f, -0x10, -017, 00, 0x7fffffffffffffff, -0x8000000000000000] }",
-    )?;
-    let [variable] = model.variables.as_slice() else {
-        return Err(Fail::from("variables"));
-    };
-    assert!(rt; is_variable(variable, &[15, 31, 31, -16, -15, 0, i64::MAX, i64::MIN]));
-    Ok(())
+fn are_whole_numbers(model: &CpModel) -> bool {
+    match model.variables.as_slice() {
+        [variable] => is_variable(variable, &[15, 31, 31, -16, -15, 0, i64::MAX, i64::MIN]),
+        _ => false,
+    }
 }
 
-#[test]
-fn reads_names(rt: HostRuntime) -> Result<(), Fail> {
-    let model = read(
-        &rt,
-        rt.alloc(),
-        "variables { name: 'x' \"\\303\" \"\\244\" } name: \"m\\n\" constraints { name: \"\" }",
-    )?;
-    let [variable] = model.variables.as_slice() else {
-        return Err(Fail::from("variables"));
-    };
-    assert!(rt; variable.name.as_str() == "x\u{e4}");
-    assert!(rt; model.name.as_str() == "m\n");
-    Ok(())
+
+fn are_names(model: &CpModel) -> bool {
+    match model.variables.as_slice() {
+        [variable] => variable.name.as_str() == "x\u{e4}" && model.name.as_str() == "m\n",
+        _ => false,
+    }
 }
 
 /// A strategy chooses so, and has one expression, of these references, coefficients and offset.
@@ -456,48 +421,99 @@ fn is_strategy(
     }
 }
 
-#[test]
-fn reads_steering(rt: HostRuntime) -> Result<(), Fail> {
-    let model = read(
-        &rt,
-        rt.alloc(),
-        "search_strategy { variables: -3 domain_reduction_strategy: SELECT_MAX_VALUE } search_strategy { variable_selection_strategy: 0x4 exprs { vars: 1 coeffs: 2 offset: -017 } domain_reduction_strategy: -0 } solution_hint { values: [4, -5] vars: 0 vars: 1 }",
-    )?;
-    let [older, newer] = model.strategies.as_slice() else {
-        return Err(Fail::from("strategies"));
-    };
-    assert!(rt; is_strategy(older, Choose::First, Select::MaxValue, &[-3], &[1], 0));
-    assert!(rt;
-        is_strategy(
-            newer,
-            Choose::MaxDomainSize,
-            Select::MinValue,
-            &[1],
-            &[2],
-            -15
-        )
-    );
-    let Some(hint) = &model.hint else {
-        return Err(Fail::from("hint"));
-    };
-    assert!(rt; hint.vars.as_slice() == [0, 1].as_slice());
-    assert!(rt; hint.values.as_slice() == [4, -5].as_slice());
-    Ok(())
+fn is_steered(model: &CpModel) -> bool {
+    match (model.strategies.as_slice(), &model.hint) {
+        ([older, newer], Some(hint)) => {
+            is_strategy(older, Choose::First, Select::MaxValue, &[-3], &[1], 0)
+                && is_strategy(
+                    newer,
+                    Choose::MaxDomainSize,
+                    Select::MinValue,
+                    &[1],
+                    &[2],
+                    -15,
+                )
+                && hint.vars.as_slice() == [0, 1].as_slice()
+                && hint.values.as_slice() == [4, -5].as_slice()
+        }
+        _ => false,
+    }
 }
 
-/// A text is a model with one strategy, which chooses so over an expression that says nothing.
-fn has_members(
-    rt: &impl Abort,
-    alloc: Global,
-    text: &str,
-    choose: Choose,
-    select: Select,
-) -> Result<bool, Fail> {
-    let model = read(rt, alloc, text)?;
+fn has_members(model: &CpModel, choose: Choose, select: Select) -> bool {
     match model.strategies.as_slice() {
-        [strategy] => Ok(is_strategy(strategy, choose, select, &[], &[], 0)),
+        [strategy] => is_strategy(strategy, choose, select, &[], &[], 0),
+        _ => false,
+    }
+}
+
+/// What a model is looked at for.
+#[derive(Clone, Copy)]
+enum Sees {
+    Variables,
+    Constraints,
+    Scaled,
+    Offset(i64),
+    WholeNumbers,
+    Names,
+    Steered,
+    Members(Choose, Select),
+}
+
+fn is_so(model: &CpModel, what: Sees) -> bool {
+    match what {
+        Sees::Variables => are_variables(model),
+        Sees::Constraints => are_constraints(model),
+        Sees::Scaled => is_scaled(model),
+        Sees::Offset(offset) => has_offset(model, offset),
+        Sees::WholeNumbers => are_whole_numbers(model),
+        Sees::Names => are_names(model),
+        Sees::Steered => is_steered(model),
+        Sees::Members(choose, select) => has_members(model, choose, select),
+    }
+}
+
+/// A text is read as a model that is so. Here alone a model is let go.
+fn reads(rt: &impl Abort, alloc: Global, text: &str, what: Sees) -> Result<bool, Fail> {
+    match answer_of(rt, alloc, text)? {
+        Reading::Model(model) => Ok(is_so(&model, what)),
         _ => Ok(false),
     }
+}
+
+#[test]
+fn reads_models(rt: HostRuntime) -> Result<(), Fail> {
+    let alloc = rt.alloc();
+    let texts = [
+        (
+            "variables { domain: [0, - 1] domain: 9223372036854775807; domain: [ ] } variables { } variables: [ ]",
+            Sees::Variables,
+        ),
+        (
+            "constraints { enforcement_literal: [0, -2147483648] bool_or { literals: 2147483647 } } constraints { } constraints { linear: { vars: 0 vars: [1], coeffs: -3, domain: -9223372036854775808 } } constraints { bool_and { literals: [1, -2] } } constraints { at_most_one { literals: 3 } } constraints { exactly_one { literals: [4, 4] } } constraints { bool_xor { } }",
+            Sees::Constraints,
+        ),
+        (
+            "objective { coeffs: 7 offset: -9007199254740992 scaling_factor: 0 domain: [2, 3] vars: 5 }",
+            Sees::Scaled,
+        ),
+        (
+            "variables { domain: [017, 0x1F, 0X1f, -0x10, -017, 00, 0x7fffffffffffffff, -0x8000000000000000] }",
+            Sees::WholeNumbers,
+        ),
+        (
+            "variables { name: 'x' \"\\303\" \"\\244\" } name: \"m\\n\" constraints { name: \"\" }",
+            Sees::Names,
+        ),
+        (
+            "search_strategy { variables: -3 domain_reduction_strategy: SELECT_MAX_VALUE } search_strategy { variable_selection_strategy: 0x4 exprs { vars: 1 coeffs: 2 offset: -017 } domain_reduction_strategy: -0 } solution_hint { values: [4, -5] vars: 0 vars: 1 }",
+            Sees::Steered,
+        ),
+    ];
+    for (text, what) in texts {
+        assert!(rt; reads(&rt, alloc, text, what)?);
+    }
+    Ok(())
 }
 
 #[test]
@@ -531,7 +547,7 @@ fn reads_members(rt: HostRuntime) -> Result<(), Fail> {
         ),
     ];
     for (text, choose, select) in texts {
-        assert!(rt; has_members(&rt, alloc, text, choose, select)?);
+        assert!(rt; reads(&rt, alloc, text, Sees::Members(choose, select))?);
     }
     Ok(())
 }

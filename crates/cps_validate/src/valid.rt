@@ -13,7 +13,7 @@ use std::marker::Model;
 use thiserror::Error;
 
 /// A model that keeps every rule. Contracts see it as the model that it keeps.
-#[derive(Debug, Drop)]
+#[derive(Drop)]
 pub struct ValidModel {
     model: CpModel,
 }
