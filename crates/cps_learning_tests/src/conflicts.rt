@@ -1,0 +1,234 @@
+//! What conflicts teach.
+
+ghost use Rattle.std.specs.Prelude.{ℕ, ℤ, ◌<◌, length, IsTrue};
+ghost use Rattle.std.specs.List.{All};
+ghost use Rattle.cps_trail.specs.Trail.{IsFalseNow};
+
+use crate::small::{bits, decided};
+use cps_conflict::{Analyser, conflict_level};
+use cps_domain::Domain;
+use cps_literal::{Atom, Clause, Op, Truth};
+use cps_trail::{Explain, Store};
+use std::alloc::{AllocError, Global};
+use std::test::Fail;
+
+fn at_most(subject: u32, value: i64) -> Atom {
+    Atom {
+        subject,
+        op: Op::Le,
+        value,
+    }
+}
+
+fn at_least(subject: u32, value: i64) -> Atom {
+    Atom {
+        subject,
+        op: Op::Ge,
+        value,
+    }
+}
+
+fn equal(subject: u32, value: i64) -> Atom {
+    Atom {
+        subject,
+        op: Op::Eq,
+        value,
+    }
+}
+
+fn other_than(subject: u32, value: i64) -> Atom {
+    Atom {
+        subject,
+        op: Op::Ne,
+        value,
+    }
+}
+
+/// Makes an atom true because another is false.
+fn implied(alloc: Global, store: &mut Store, other: Atom, atom: Atom) -> Result<(), AllocError> {
+    if store.len() <= atom.subject as usize || store.len() <= other.subject as usize {
+        return Err(AllocError);
+    }
+    match store.truth(other) {
+        Truth::No => {}
+        _ => return Err(AllocError),
+    }
+    let mut reason = Clause::new(alloc);
+    reason.push(other)?;
+    reason.push(atom)?;
+    store.imply(atom, reason)?;
+    Ok(())
+}
+
+/// Nobody who makes reasons.
+struct Nobody;
+
+impl Explain for Nobody {
+    ghost fits = { λ _. λ _. λ _. Unit {0} };
+
+    ghost holds = { λ _. λ _. ⊥ };
+
+    fn explain_into(
+        &self,
+        _store: &Store,
+        _entry: usize,
+        _reason: &mut Vec<Atom>,
+    ) -> Result<(), AllocError> {
+        Err(AllocError)
+    }
+
+    ghost forced = { λ e. λ s. λ k. λ has. λ fits. record { at = λ d. record { at = λ a left holds. absurd holds } } };
+}
+
+/// Whether all of these atoms are false.
+fn all_false(store: &Store, atoms: &[Atom]) -> bool
+    ensures subjects { IsTrue result → All (λ t. t.subject < length store.now.first) atoms.now }
+    ensures false_now { IsTrue result → All (IsFalseNow store.now) atoms.now }
+{
+    for atom in atoms {
+        if store.len() <= atom.subject as usize {
+            return false;
+        }
+        match store.truth(*atom) {
+            Truth::No => {}
+            _ => return false,
+        }
+    }
+    true
+}
+
+/// A step that a store is led by.
+#[derive(Clone, Copy)]
+enum Step {
+    Decide(Atom),
+    /// Makes the second atom true because the first is false.
+    Imply(Atom, Atom),
+}
+
+fn lead(alloc: Global, store: &mut Store, steps: &[Step]) -> Result<(), AllocError> {
+    for step in steps {
+        match *step {
+            Step::Decide(atom) => decided(store, atom)?,
+            Step::Imply(other, atom) => implied(alloc, store, other, atom)?,
+        }
+    }
+    Ok(())
+}
+
+/// What is looked at of a learnt clause: how many atoms it has, the first of them, the level to go back to and the
+/// atom that is asserted there.
+#[derive(Clone, Copy, PartialEq, Eq)]
+struct Lesson {
+    count: usize,
+    first: Atom,
+    back_level: usize,
+    assert: Atom,
+}
+
+/// What a conflict of the present level teaches.
+fn taught(alloc: Global, store: &Store, conflict: &[Atom]) -> Result<Option<Lesson>, AllocError> {
+    if !all_false(store, conflict) {
+        return Ok(None);
+    }
+    let level = store.level();
+    if level == 0 || conflict_level(store, conflict) < level {
+        return Ok(None);
+    }
+    let mut analyser = Analyser::new(alloc);
+    let learnt = analyser.analyse(store, conflict, &Nobody)?;
+    let atoms = learnt.clause.as_slice();
+    let Some(first) = atoms.first() else {
+        return Ok(None);
+    };
+    Ok(Some(Lesson {
+        count: atoms.len(),
+        first: *first,
+        back_level: learnt.back_level,
+        assert: learnt.assert,
+    }))
+}
+
+/// What a conflict teaches in a store of three subjects with the values 0 and 1, and one with 1, 3 and 5.
+fn lesson_of(alloc: Global, steps: &[Step], conflict: &[Atom]) -> Result<Option<Lesson>, AllocError> {
+    let mut store = bits(alloc)?;
+    store.add(Domain::of_bounds(alloc, &[1, 1, 3, 3, 5, 5])?)?;
+    lead(alloc, &mut store, steps)?;
+    taught(alloc, &store, conflict)
+}
+
+#[derive(Clone, Copy)]
+struct Row<'a> {
+    name: &'a str,
+    steps: &'a [Step],
+    conflict: &'a [Atom],
+    lesson: Lesson,
+}
+
+#[test]
+fn conflicts_teach(rt: HostRuntime) -> Result<(), Fail> {
+    let rows = [
+        Row {
+            name: "the decision is asserted",
+            steps: &[
+                Step::Decide(at_most(0, 0)),
+                Step::Imply(at_least(0, 1), at_least(1, 1)),
+                Step::Imply(at_least(0, 1), at_least(2, 1)),
+            ],
+            conflict: &[at_most(1, 0), at_most(2, 0)],
+            lesson: Lesson {
+                count: 1,
+                first: at_least(0, 1),
+                back_level: 0,
+                assert: at_least(0, 1),
+            },
+        },
+        Row {
+            name: "what closes a gap is named",
+            steps: &[
+                Step::Decide(at_most(0, 0)),
+                Step::Imply(at_least(0, 1), other_than(3, 3)),
+                Step::Decide(at_most(1, 0)),
+                Step::Imply(at_least(1, 1), at_least(3, 2)),
+            ],
+            conflict: &[at_least(1, 1), at_most(3, 4)],
+            lesson: Lesson {
+                count: 2,
+                first: at_least(1, 1),
+                back_level: 1,
+                assert: at_least(1, 1),
+            },
+        },
+        Row {
+            name: "two sides are united",
+            steps: &[Step::Decide(equal(3, 3))],
+            conflict: &[at_most(3, 2), at_least(3, 4)],
+            lesson: Lesson {
+                count: 1,
+                first: other_than(3, 3),
+                back_level: 0,
+                assert: other_than(3, 3),
+            },
+        },
+        Row {
+            name: "what is redundant is left out",
+            steps: &[
+                Step::Imply(at_most(3, 0), other_than(3, 5)),
+                Step::Decide(at_most(0, 0)),
+                Step::Imply(at_least(0, 1), at_least(1, 1)),
+                Step::Decide(at_most(2, 0)),
+            ],
+            conflict: &[at_least(0, 1), at_most(1, 0), at_least(2, 1), equal(3, 5)],
+            lesson: Lesson {
+                count: 2,
+                first: at_least(0, 1),
+                back_level: 1,
+                assert: at_least(2, 1),
+            },
+        },
+    ];
+    for row in rows {
+        let answer = lesson_of(rt.alloc(), row.steps, row.conflict)?;
+        assert!(rt; answer == Some(row.lesson), "{}", row.name);
+    }
+    Ok(())
+}

@@ -1,0 +1,56 @@
+//! Small stores, and atoms about their subjects.
+
+ghost use Rattle.std.specs.Prelude.{◌≡◌, length, IfOk};
+ghost use Rattle.cps_clauses.specs.Falls.{IsAtomValue};
+
+use cps_domain::Domain;
+use cps_literal::{Atom, Op, Truth};
+use cps_trail::Store;
+use std::alloc::{AllocError, Global};
+
+/// That a subject is 1 or more.
+pub(crate) fn one(subject: u32) -> Atom
+    ensures subject { result.subject ≡ subject }
+    ensures value { IsAtomValue result.value }
+{
+    Atom {
+        subject,
+        op: Op::Ge,
+        value: 1,
+    }
+}
+
+/// That a subject is 0 or less.
+pub(crate) fn zero(subject: u32) -> Atom
+    ensures subject { result.subject ≡ subject }
+    ensures value { IsAtomValue result.value }
+{
+    Atom {
+        subject,
+        op: Op::Le,
+        value: 0,
+    }
+}
+
+/// A store of three subjects with the values 0 and 1.
+pub(crate) fn bits(alloc: Global) -> Result<Store, AllocError>
+    ensures subjects { IfOk result (λ store. length store.first ≡ 3) }
+    ensures level { IfOk result (λ store. store.level ≡ 0) }
+{
+    let mut domains = Vec::new(alloc);
+    domains.push(Domain::of_bounds(alloc, &[0, 1])?)?;
+    domains.push(Domain::of_bounds(alloc, &[0, 1])?)?;
+    domains.push(Domain::of_bounds(alloc, &[0, 1])?)?;
+    Store::new(alloc, domains.as_slice())
+}
+
+/// Decides an atom where it is undecided.
+pub(crate) fn decided(store: &mut Store, atom: Atom) -> Result<(), AllocError> {
+    if store.len() <= atom.subject as usize {
+        return Err(AllocError);
+    }
+    match store.truth(atom) {
+        Truth::Undecided => store.decide(atom),
+        _ => Ok(()),
+    }
+}
