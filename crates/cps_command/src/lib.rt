@@ -7,8 +7,6 @@
 pub mod command;
 mod options;
 mod table;
-#[cfg(test)]
-mod tests;
 
 pub use command::{Command, command_of};
 pub use options::{LEAST_WORKERS, MOST_CONFLICTS, MOST_WORKERS, Options};

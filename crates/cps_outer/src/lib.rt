@@ -10,14 +10,12 @@ mod copy;
 mod gate;
 mod memory;
 mod standard;
-#[cfg(test)]
-mod tests;
 mod traits;
 mod transfer;
 
 pub use clean::{CleanSink, CleanSource};
 pub use gate::{Gate, OpenGate};
 pub use memory::{MemorySink, MemorySource};
-pub use standard::{StdSink, StdSource};
+pub use standard::{ReaderSource, StdSink, StdSource, WriterSink};
 pub use traits::{Failed, Sink, Source};
 pub use transfer::{ReadError, WriteFault, read_all, write_all};

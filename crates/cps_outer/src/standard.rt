@@ -1,33 +1,37 @@
-//! Standard input and output. They tell no content, so nothing is claimed of it. A standard output that takes
-//! nothing of a piece counts a fault.
-ghost use Rattle.std.specs.Prelude.{◌≡◌, None};
+//! A source over a reader of std, and a sink over a writer of std; standard input and output are two of these. A source has
+//! left what its reader gives, so a read that failed is never taken for the end of the bytes.
+ghost use Rattle.std.specs.Prelude.{◌≡◌};
 
 use crate::traits::{Failed, Sink, Source};
 use std::io::{Read, Stdin, Stdout, Write};
 
-/// Standard input.
+/// A source of the bytes that a reader gives.
 #[derive(Drop)]
-pub struct StdSource {
-    stdin: Stdin,
+pub struct ReaderSource<R: Read> {
+    reader: R,
     faults: u64,
 }
 
-impl StdSource {
-    /// A source over standard input that has not failed yet.
-    pub fn new(stdin: Stdin) -> Self
-        ensures { ⟦<StdSource as Source>⟧.faults result ≡ 0 }
+/// Standard input, which does not tell what is left.
+pub type StdSource = ReaderSource<Stdin>;
+
+impl<R: Read> ReaderSource<R> {
+    /// A source over this reader that has not failed yet.
+    pub fn new(reader: R) -> Self
+        ensures left { ⟦<ReaderSource<R> as Source>⟧.left result ≡ R.remaining reader }
+        ensures faults { ⟦<ReaderSource<R> as Source>⟧.faults result ≡ 0 }
     {
-        StdSource { stdin, faults: 0 }
+        ReaderSource { reader, faults: 0 }
     }
 }
 
-impl Source for StdSource {
-    ghost left = { λ _. None };
+impl<R: Read> Source for ReaderSource<R> {
+    ghost left = { λ s. R.remaining s.reader };
 
     ghost faults = { λ s. s.faults };
 
     fn read(&mut self, buf: &mut [u8]) -> Result<usize, Failed> {
-        match self.stdin.read(buf) {
+        match self.reader.read(buf) {
             Ok(count) => Ok(count),
             Err(_) => {
                 self.faults = self.faults.saturating_add(1);
@@ -37,29 +41,34 @@ impl Source for StdSource {
     }
 }
 
-/// Standard output.
+/// A sink whose bytes go to a writer.
 #[derive(Drop)]
-pub struct StdSink {
-    stdout: Stdout,
+pub struct WriterSink<W: Write> {
+    writer: W,
     faults: u64,
 }
 
-impl StdSink {
-    /// A sink over standard output that has not failed yet.
-    pub fn new(stdout: Stdout) -> Self
-        ensures { ⟦<StdSink as Sink>⟧.faults result ≡ 0 }
+/// Standard output, which does not tell what it took.
+pub type StdSink = WriterSink<Stdout>;
+
+impl<W: Write> WriterSink<W> {
+    /// A sink over this writer that has not failed yet.
+    pub fn new(writer: W) -> Self
+        ensures held { ⟦<WriterSink<W> as Sink>⟧.held result ≡ W.contents writer }
+        ensures faults { ⟦<WriterSink<W> as Sink>⟧.faults result ≡ 0 }
     {
-        StdSink { stdout, faults: 0 }
+        WriterSink { writer, faults: 0 }
     }
 }
 
-impl Sink for StdSink {
-    ghost held = { λ _. None };
+impl<W: Write> Sink for WriterSink<W> {
+    ghost held = { λ s. W.contents s.writer };
 
     ghost faults = { λ s. s.faults };
 
+    /// A writer that takes nothing of a piece has failed, so that writing all ends.
     fn write(&mut self, piece: &[u8]) -> Result<usize, Failed> {
-        match self.stdout.write(piece) {
+        match self.writer.write(piece) {
             Ok(count) if count > 0 => Ok(count),
             _ => {
                 self.faults = self.faults.saturating_add(1);

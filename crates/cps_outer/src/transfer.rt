@@ -56,6 +56,7 @@ pub fn read_all<S: Source>(
     ensures short { IfOk result (λ read. vec_len read ≤ limit) }
     ensures later { S.faults source.old ≤ S.faults source.new }
     ensures fault { IsErrOf result ReadError.ReadFault → Rose (S.faults source.old) (S.faults source.new) }
+    ensures kept { ¬ IsErrOf result ReadError.ReadFault → S.faults source.new ≡ S.faults source.old }
 {
     let mut bytes = Vec::new(alloc);
     let mut buf = [0; PIECE];

@@ -1,8 +1,8 @@
 //! Transfers over sources and sinks in memory, in pieces and with failures.
-use crate::clean::{CleanSink, CleanSource};
-use crate::gate::{Gate, OpenGate};
-use crate::memory::{MemorySink, MemorySource};
-use crate::transfer::{ReadError, WriteFault, read_all, write_all};
+use cps_outer::{
+    CleanSink, CleanSource, Gate, MemorySink, MemorySource, OpenGate, ReadError, WriteFault,
+    read_all, write_all,
+};
 use std::test::Fail;
 
 /// The lengths of the pieces, the numbers of the calls that fail, the limit, and the answer to "abcdef".

@@ -1,6 +1,5 @@
 //! Words with the commands that they are.
-use crate::command::{Command, command_of};
-use crate::options::Options;
+use cps_command::{Command, Options, command_of};
 use std::alloc::{AllocError, Global};
 use std::test::Fail;
 

@@ -1,0 +1,120 @@
+//! Readers and writers of std that fail in mid-stream: the answer is a fault, and never what came before it.
+use cps_outer::{ReadError, ReaderSource, WriteFault, WriterSink, read_all, write_all};
+use std::io::{self, ErrorKind, Read, Write};
+use std::test::Fail;
+
+/// Gives two bytes at a time. The call `failing`, from 0 on, fails, and the next one goes on as if nothing had been.
+#[derive(Drop)]
+struct Stumbling {
+    left: &'static [u8],
+    failing: Option<u32>,
+    calls: u32,
+}
+
+impl Read for Stumbling {
+    fn read(&mut self, buf: &mut [u8]) -> io::Result<usize> {
+        let call = self.calls;
+        self.calls = self.calls.saturating_add(1);
+        if self.failing == Some(call) {
+            return Err(ErrorKind::Other.into());
+        }
+        let count = self.left.len().min(buf.len()).min(2);
+        buf[..count].copy_from_slice(&self.left[..count]);
+        self.left = &self.left[count..];
+        Ok(count)
+    }
+}
+
+/// The call that fails, and what comes of "abcdef".
+const READS: [(Option<u32>, Result<&[u8], ReadError>); 5] = [
+    (None, Ok(b"abcdef")),
+    (Some(0), Err(ReadError::ReadFault)),
+    (Some(1), Err(ReadError::ReadFault)),
+    (Some(3), Err(ReadError::ReadFault)),
+    (Some(4), Ok(b"abcdef")),
+];
+
+#[test]
+fn a_failed_read_is_not_the_end(rt: HostRuntime) -> Result<(), Fail> {
+    let alloc = rt.alloc();
+    for (failing, expected) in READS.iter() {
+        let mut source = ReaderSource::new(Stumbling {
+            left: b"abcdef",
+            failing: *failing,
+            calls: 0,
+        });
+        let read = read_all(alloc, &mut source, 6);
+        match (&read, expected) {
+            (Ok(bytes), Ok(text)) => assert!(rt; bytes.as_slice() == *text),
+            (Err(error), Err(cause)) => assert_eq!(rt; error, cause),
+            _ => assert!(rt; false, "another kind of answer"),
+        }
+    }
+    Ok(())
+}
+
+/// Takes two bytes at a time. The call `failing`, from 0 on, fails, and the call `idle` takes nothing.
+#[derive(Drop)]
+struct Choosy {
+    taken: Vec<u8>,
+    failing: Option<u32>,
+    idle: Option<u32>,
+    calls: u32,
+}
+
+impl Write for Choosy {
+    fn write(&mut self, buf: &[u8]) -> io::Result<usize> {
+        let call = self.calls;
+        self.calls = self.calls.saturating_add(1);
+        if self.failing == Some(call) {
+            return Err(ErrorKind::Other.into());
+        }
+        if self.idle == Some(call) {
+            return Ok(0);
+        }
+        let count = buf.len().min(2);
+        self.taken.extend_from_slice(&buf[..count])?;
+        Ok(count)
+    }
+
+    fn flush(&mut self) -> io::Result<()> {
+        Ok(())
+    }
+}
+
+/// The call that fails and the one that takes nothing, the answer to "abcdef", and what was taken of it.
+const WRITES: [(Option<u32>, Option<u32>, Result<(), WriteFault>, &[u8]); 5] = [
+    (None, None, Ok(()), b"abcdef"),
+    (Some(0), None, Err(WriteFault), b""),
+    (Some(1), None, Err(WriteFault), b"ab"),
+    (None, Some(2), Err(WriteFault), b"abcd"),
+    (Some(3), Some(4), Ok(()), b"abcdef"),
+];
+
+#[test]
+fn a_write_that_takes_nothing_has_failed(rt: HostRuntime) -> Result<(), Fail> {
+    let alloc = rt.alloc();
+    for (failing, idle, expected, taken) in WRITES.iter() {
+        let mut writer = Choosy {
+            taken: Vec::new(alloc),
+            failing: *failing,
+            idle: *idle,
+            calls: 0,
+        };
+        let written = write_all(&mut WriterSink::new(&mut writer), b"abcdef");
+        assert_eq!(rt; &written, expected);
+        assert!(rt; writer.taken.as_slice() == *taken);
+    }
+    Ok(())
+}
+
+#[test]
+fn bytes_in_memory_go_through_std(rt: HostRuntime) -> Result<(), Fail> {
+    let alloc = rt.alloc();
+    let mut source = ReaderSource::new(b"abcdef".as_slice());
+    let read = read_all(alloc, &mut source, 6)?;
+    let mut written = Vec::new(alloc);
+    write_all(&mut WriterSink::new(&mut written), &read)?;
+    assert!(rt; written.as_slice() == b"abcdef".as_slice());
+    Ok(())
+}
