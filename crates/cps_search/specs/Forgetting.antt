@@ -22,3 +22,9 @@ DropsWhenDueFrom learnt stood stand (Drop i ∷ items) = IsDropDue learnt stood 
 
 abbrev pub DropsWhenDue : List JournalItem → Type 0
 DropsWhenDue journal = DropsWhenDueFrom 0 0 0 journal
+
+-- no clause was dropped
+abbrev pub DropsNothing : List JournalItem → Type 0
+DropsNothing [] = ⊤
+DropsNothing (Learnt clause below ∷ items) = DropsNothing items
+DropsNothing (Drop i ∷ items) = ⊥
