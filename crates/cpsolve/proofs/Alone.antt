@@ -28,16 +28,19 @@ use Rattle.cps_clauses.specs.declared.journal.JournalItem.TheVariants.{Learnt, D
 use Rattle.cps_search.specs.declared.end.End.{End}
 use Rattle.cps_search.specs.declared.end.End.TheVariants as ends
 use Rattle.cps_search.specs.declared.end.Said.TheVariants.{Over}
+use Rattle.cps_search.specs.declared.end.WorkerKind.{WorkerKind}
 use Rattle.cps_search.specs.declared.end.WorkerKind.TheVariants.{Fixed}
 use Rattle.cps_search.specs.Searches.{Search, IsFound, IsHonestJournal, IsItemAbove, IsSoundSearch, learnt_count}
 use Rattle.cps_search.specs.Moves.{fresh}
+use Rattle.cps_search.specs.declared.guidance.Guidance.{Guidance}
+use Rattle.cps_search.specs.Guidances.{IsGuidedBy}
 use Rattle.cps_search.specs.Ends.{Ending, EndsBy, EndsRaised, IsOver, LastSawMet, RaisedToZ, RunsTo, SpentWhole, best_bound, ending}
 use Rattle.cps_print.specs.Responses.{IsBounded, IsFinite}
 use Rattle.cps_command.specs.declared.options.Options.{Options}
 use Rattle.cps_command.specs.Numbers.{AreInRange}
 use Rattle.cpsolve.specs.declared.outcome.Outcome.{Outcome}
 use Rattle.cpsolve.specs.declared.search.Finished.{Finished}
-use Rattle.cpsolve.specs.Outcomes.{IsGoodOutcome, SpentItsBudget, KeepsPromise, better, best_of, greatest_raised, kinds_of}
+use Rattle.cpsolve.specs.Outcomes.{IsGoodOutcome, GoesByModel, SpentItsBudget, KeepsPromise, better, best_of, greatest_raised, kinds_of}
 use Rattle.cpsolve.specs.Alone.{Begins, HasFinished, HasRun, IsOutcomeOf}
 use Rattle.cpsolve.proofs.Outcomes.{promise_kept}
 
@@ -201,10 +204,18 @@ good_alone m options c e o range sound h is =
     let sums : e.defs ≡ model_sums m = ap (λ (x : Ending). x.defs) h.seen ∙ ap (λ (p : Problem). p.defs) problem ∙ h.first.sums in
     let found : IfSome e.best (IsSolution m) = subst (λ (b : Option (List ℤ)). IfSome b (IsSolution m)) (sym bests) (best_found m h.done h.done.best model h.sound.best) in
     let kind : e.kind ≡ Fixed = ap (λ (x : Ending). x.kind) h.seen in
+    let goes : GoesByModel m e = record {
+      problem = h.done.problem;
+      instance = h.sound.instance;
+      model = model;
+      sums = sym (ap (λ (x : Ending). x.defs) h.seen);
+      guide = subst (λ (k : WorkerKind). IsGuidedBy k h.done.problem e.guidance) (sym kind) h.guide;
+    } in
     record {
       workers = ap (map (λ (x : Ending). x.kind)) same ∙ one_kind options.workers e one kind;
       sums = subst (All (λ (x : Ending). x.defs ≡ model_sums m)) (sym same)
           (All-cons (λ (x : Ending). x.defs ≡ model_sums m) e [] sums (All-nil (λ (x : Ending). x.defs ≡ model_sums m)));
+      branchers = subst (All (GoesByModel m)) (sym same) (All-cons (GoesByModel m) e [] goes (All-nil (GoesByModel m)));
       status = is.status ∙ ap₂ (λ (u l : Bound). status_of u l 0) (sym is.upper_is) (sym is.lower_is);
       found = subst (All (λ (x : Ending). IfSome x.best (IsSolution m))) (sym same)
           (All-cons (λ (x : Ending). IfSome x.best (IsSolution m)) e [] found (All-nil (λ (x : Ending). IfSome x.best (IsSolution m))));
@@ -275,22 +286,24 @@ pub ends_over : (s t : Search) (p q : Part) (end : End) → RunsTo s t p q end �
 ends_over s t p q end runs = subst IsOver (sym runs.said) tt
 
 -- the port's actor is the one that it was before
-pub has_run : (m : CpModel) (conflicts actor : ℕ) (c d : Core) (s t : Search) (e : Ending) (end : End) → Begins m conflicts s → c ≡ first_core m 1 1
-    → RunsTo s t (part_at c 0) (part_at d actor) end → IsSoundSearch t → t.said ≡ Over e.end → e ≡ ending Fixed e.end t → d.model ≡ c.model → OthersStay 0 actor c d → HasRun m conflicts d e
-has_run m conflicts actor c d s t e end begins first runs sound said seen model others =
+pub has_run : (m : CpModel) (conflicts actor : ℕ) (c d : Core) (s t : Search) (guidance : Guidance) (e : Ending) (end : End) → Begins m conflicts s → c ≡ first_core m 1 1
+    → RunsTo s t (part_at c 0) (part_at d actor) end → IsSoundSearch t → t.said ≡ Over e.end → e ≡ ending Fixed (Some guidance) e.end t → IsGuidedBy Fixed s.problem (Some guidance) → d.model ≡ c.model → OthersStay 0 actor c d → HasRun m conflicts d e
+has_run m conflicts actor c d s t guidance e end begins first runs sound said seen guide model others =
     let both : Over e.end ≡ Over end = sym said ∙ runs.said in
     let same : e.end ≡ end = cc in
     let part : part_at c 0 ≡ newcomer = ap (λ (x : Core). part_at x 0) first in
     let alike = subst (λ (n : ℕ). RunsTo s t (part_at c 0) (part_at d n) end) others.same runs in
     let from = subst (λ (x : Search). RunsTo x t (part_at c 0) (part_at d 0) end) begins.is alike in
     let at = subst (λ (x : Part). RunsTo (fresh begins.problem 0 (Some conflicts)) t x (part_at d 0) end) part from in
+    let guided : e.guidance ≡ Some guidance = ap (λ (x : Ending). x.guidance) seen in
     record {
       problem = begins.problem;
       first = begins.first;
       done = t;
       sound = sound;
       runs = subst (λ (x : End). RunsTo (fresh begins.problem 0 (Some conflicts)) t newcomer (part_at d 0) x) (sym same) at;
-      seen = seen;
+      seen = seen ∙ ap (λ (o : Option Guidance). ending Fixed o e.end t) (sym guided);
+      guide = subst (λ (p : Problem). IsGuidedBy Fixed p e.guidance) (sym runs.setting.problem) (subst (λ (o : Option Guidance). IsGuidedBy Fixed s.problem o) (sym guided) guide);
       model = model ∙ ap (λ (x : Core). x.model) first;
       alone = others.count ∙ ap (λ (x : Core). actor_count x) first;
     }

@@ -12,6 +12,7 @@ use Rattle.cps_search.specs.declared.end.WorkerKind.TheVariants.{Fixed}
 use Rattle.cps_search.specs.Searches.{Search, IsSoundSearch}
 use Rattle.cps_search.specs.Moves.{fresh}
 use Rattle.cps_search.specs.Ends.{Ending, RunsTo, ending}
+use Rattle.cps_search.specs.Guidances.{IsGuidedBy}
 use Rattle.cpsolve.specs.declared.outcome.Outcome.{Outcome}
 use Rattle.cpsolve.specs.declared.search.Finished.{Finished}
 
@@ -34,7 +35,8 @@ pub record HasRun (m : CpModel) (conflicts : ℕ) (c : Core) (e : Ending) : Type
   pub done : Search
   pub sound : IsSoundSearch done
   pub runs : RunsTo (fresh problem 0 (Some conflicts)) done newcomer (part_at c 0) e.end
-  pub seen : e ≡ ending Fixed e.end done
+  pub seen : e ≡ ending Fixed e.guidance e.end done
+  pub guide : IsGuidedBy Fixed done.problem e.guidance
   pub model : c.model ≡ m
   pub alone : actor_count c ≡ 1
 

@@ -4,6 +4,7 @@ ghost use Rattle.cps_model.specs.Statuses.{status_of};
 ghost use Rattle.cps_port.specs.Cores.{actor_count, after};
 ghost use Rattle.cps_port.specs.Sound.{IsSoundCore};
 ghost use Rattle.cps_search.specs.Searches.{HasNoAssumptions};
+ghost use Rattle.cps_search.specs.Guidances.{IsPlanOf};
 ghost use Rattle.cps_command.specs.Numbers.{AreInRange};
 ghost use Rattle.cps_print.specs.Responses.{IsBounded};
 ghost use Rattle.cpsolve.specs.Outcomes.{IsGoodOutcome};
@@ -42,7 +43,8 @@ pub(crate) fn worker_of<'a>(
 ) -> Result<Worker<'a, AnyPropagator, FixedBrancher>, AllocError>
     requires budget { conflicts ≤ 10 ^ 9 }
     requires assumptions { HasNoAssumptions model.now }
-    ensures { IfOk result (λ worker. Begins model.entry.now conflicts worker.0) }
+    ensures begins { IfOk result (λ worker. Begins model.entry.now conflicts worker.0) }
+    ensures brancher { IfOk result (λ worker. IsPlanOf worker.0.problem worker.1.plan) }
 {
     let instance = Instance::of(alloc, model)?;
     let engine = engine_of(alloc, &instance)?;

@@ -1,0 +1,30 @@
+-- When learnt clauses may be dropped.
+use Rattle.std.specs.Prelude.{◌≡◌, ℕ, ◌+◌, ◌-◌, ◌/◌, ◌%◌, ◌<◌, List, [], ◌∷◌, ⊤}
+use Rattle.cps_clauses.specs.declared.journal.JournalItem.{JournalItem}
+use Rattle.cps_clauses.specs.declared.journal.JournalItem.TheVariants.{Learnt, Drop}
+
+-- after each how many learnt clauses some may be dropped
+abbrev pub drop_interval : ℕ
+drop_interval = 2000
+
+-- A clause may be dropped where so many were learnt, so many stood when the last was, and so many stand now: the first number is a
+-- positive multiple of the interval, and at least half of those that stood then stay, rounded down.
+pub record IsDropDue (learnt stood stand : ℕ) : Type 0 where
+  pub some_learnt : 0 < learnt
+  pub interval : learnt % drop_interval ≡ 0
+  pub half_stays : stood / 2 < stand
+
+-- each clause was dropped where that was due, after so many were learnt, of which so many stood when the last was and so many stand
+abbrev pub DropsWhenDueFrom : ℕ → ℕ → ℕ → List JournalItem → Type 0
+DropsWhenDueFrom learnt stood stand [] = ⊤
+DropsWhenDueFrom learnt stood stand (Learnt clause below ∷ items) = DropsWhenDueFrom (learnt + 1) (stand + 1) (stand + 1) items
+DropsWhenDueFrom learnt stood stand (Drop i ∷ items) = IsDropDue learnt stood stand × DropsWhenDueFrom learnt stood (stand - 1) items
+
+abbrev pub DropsWhenDue : List JournalItem → Type 0
+DropsWhenDue journal = DropsWhenDueFrom 0 0 0 journal
+
+-- no clause was dropped
+abbrev pub DropsNothing : List JournalItem → Type 0
+DropsNothing [] = ⊤
+DropsNothing (Learnt clause below ∷ items) = DropsNothing items
+DropsNothing (Drop i ∷ items) = ⊥

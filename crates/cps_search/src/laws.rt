@@ -1,0 +1,56 @@
+//! Laws of all searches. Each is the contract of a function that does nothing.
+
+ghost use Rattle.std.specs.Prelude.{◌≡◌, ℕ, ◌+◌, ◌≤◌, ℤ, List, [], ◌∷◌, ◌++◌, length, All, Option, None};
+ghost use Rattle.cps_model.specs.declared.bound.Bound.TheVariants.{Infinite};
+ghost use Rattle.cps_literal.specs.declared.atom.Atom.{Atom};
+ghost use Rattle.cps_instance.specs.declared.task.Task.{Task};
+ghost use Rattle.cps_instance.specs.Problem.{Problem};
+ghost use Rattle.cps_trail.specs.Trail.{Trail};
+ghost use Rattle.cps_trail.specs.Adds.{Infers};
+ghost use Rattle.cps_port.specs.declared.part.Part.{Part};
+ghost use Rattle.cps_clauses.specs.declared.journal.JournalItem.{JournalItem};
+ghost use Rattle.cps_clauses.specs.declared.journal.JournalItem.TheVariants.{Drop};
+ghost use Rattle.cps_clauses.specs.Quiet.{Fits, IsQuiet};
+ghost use Rattle.cps_search.specs.declared.end.End.{End};
+ghost use Rattle.cps_search.specs.declared.end.WorkerKind.{WorkerKind};
+ghost use Rattle.cps_search.specs.declared.guidance.Guidance.{Guidance};
+ghost use Rattle.cps_search.specs.Forgetting.{DropsNothing};
+ghost use Rattle.cps_search.specs.Giving.{ByAll};
+ghost use Rattle.cps_search.specs.Lessons.{GoesBack};
+ghost use Rattle.cps_search.specs.Moves.{decided, fresh};
+ghost use Rattle.cps_search.specs.Searches.{Search, IsHonestJournal, IsSoundSearch, learnt_count};
+ghost use Rattle.cps_search.specs.Ends.{IsHonestEnding, RunsTo, ending};
+
+use cps_instance::Instance;
+
+/// What changes a store leaves clauses quiet at the levels that remain; inference does so below the present level.
+pub fn quiet_clauses_stay()
+    ensures decision { (clauses : List (List Atom)) (s : Trail) (t : Atom) (below : ℕ) → below ≤ s.level + 1 → IsQuiet clauses s below → IsQuiet clauses (decided s t) below }
+    ensures inference { (tasks : List Task) (clauses : List (List Atom)) (s t : Trail) → Infers (ByAll tasks clauses) s t → IsQuiet clauses s s.level → IsQuiet clauses t t.level }
+    ensures backjump { (clauses : List (List Atom)) (s t : Trail) (level below : ℕ) → GoesBack s t level → below ≤ level + 1 → IsQuiet clauses s below → IsQuiet clauses t below }
+    ensures subject { (clauses : List (List Atom)) (s t : Trail) (domain : List (ℤ × ℤ)) (below : ℕ) → All (Fits s.first) clauses → t ≡ record s { first = s.first ++ domain ∷ [] } → IsQuiet clauses s below → IsQuiet clauses t below }
+{}
+
+/// Over an instance without subjects there is nothing to learn: no clause has an atom.
+pub fn nothing_to_learn_without_subjects()
+    ensures { (p : Problem) (journal : List JournalItem) → p.domains ≡ [] → IsHonestJournal p journal → journal ≡ [] }
+{}
+
+/// There is a number that the length of no journal over an instance goes beyond, where it is honest and nothing was dropped. So a budget
+/// of more conflicts is never spent.
+pub fn honest_journals_are_bounded(instance: &Instance)
+    ensures { (most : ℕ) × ((journal : List JournalItem) → DropsNothing journal → IsHonestJournal instance.now journal → length journal ≤ most) }
+{
+    // Only here is it known what holds of each instance.
+    let _ = instance.domains();
+}
+
+/// In an honest journal nothing was dropped before 2,000 clauses were learnt.
+pub fn nothing_is_dropped_early()
+    ensures { (p : Problem) (earlier later : List JournalItem) (i : ℕ) → IsHonestJournal p (earlier ++ Drop i ∷ later) → 2000 ≤ learnt_count earlier }
+{}
+
+/// A worker whose actor had offered and raised nothing before it began is honest when it has ended.
+pub fn ended_workers_are_honest()
+    ensures { (p : Problem) (gap budget : ℕ) (t : Search) (before after : Part) (kind : WorkerKind) (guidance : Option Guidance) (end : End) → RunsTo (fresh p gap (Some budget)) t before after end → IsSoundSearch t → before.bounds.offered ≡ Infinite → before.bounds.raised ≡ None → IsHonestEnding p.model gap budget after.bounds (ending kind guidance end t) }
+{}
