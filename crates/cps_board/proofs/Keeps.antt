@@ -79,7 +79,7 @@ one_list : (ws : List ℕ) (row : ℕ) (d e : List ℕ) → length d ≡ length 
 one_list ws row d e l a b = same_list d e l (λ k h. sym (a.each k h) ∙ b.each k (omega arith))
 
 -- and so it has one entry
-one_entry : (n : ℕ) (ws : List ℕ) (row : ℕ) (d e : Entry) → IsOpen n ws row d → IsOpen n ws row e → d ≡ e
+pub one_entry : (n : ℕ) (ws : List ℕ) (row : ℕ) (d e : Entry) → IsOpen n ws row d → IsOpen n ws row e → d ≡ e
 one_entry n ws row d e a b =
     let ld = length-entry_words d.below (entry_clause d) in
     let le = length-entry_words e.below (entry_clause e) in

@@ -1,5 +1,5 @@
 pub mod Basics
 pub mod Coded
 pub mod Keeps
+pub mod OneList
 pub mod Filling
-pub mod WorkedClauses

@@ -1,4 +1,4 @@
 pub mod Coding
 pub mod Rows
+pub mod OneList
 pub mod Seats
-pub mod Worked

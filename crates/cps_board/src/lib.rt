@@ -6,13 +6,12 @@
 #![tactic(auto)]
 
 mod coding;
+pub mod laws;
 mod plays;
 mod row;
 mod rule;
 mod seats;
 mod table;
-#[cfg(test)]
-mod tests;
 mod view;
 
 pub use seats::{Board, BoardSeat};

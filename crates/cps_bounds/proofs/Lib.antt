@@ -1,4 +1,3 @@
 pub mod Folds
 pub mod Keeps
 pub mod Offers
-pub mod WorkedFloors

@@ -10,8 +10,6 @@ mod plays;
 mod rule;
 mod seats;
 mod table;
-#[cfg(test)]
-mod tests;
 mod view;
 
 pub use seats::{Bounds, BoundsSeat};

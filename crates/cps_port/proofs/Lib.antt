@@ -4,6 +4,9 @@ pub mod Boarding
 pub mod SoundCore
 pub mod Storing
 pub mod Porting
+pub mod Acting
+pub mod Causes
+pub mod Seeing
 pub mod Attained
 pub mod Places
 pub mod InOrder

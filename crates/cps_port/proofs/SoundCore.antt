@@ -17,7 +17,7 @@ use Rattle.cps_port.specs.Order.{BoundLe, IsNoLower, lesser, raised_above}
 use Rattle.cps_port.specs.Incumbents.{IsIncumbent, IsLowerBound}
 use Rattle.cps_port.specs.Parts.{no_rows, no_bounds}
 use Rattle.cps_port.specs.Cores.{BoardState, BoundsState, Core, first_core, board_part, bounds_part, row_at, actor_count, board_after, bounds_after, after, IsLawful}
-use Rattle.cps_port.specs.Sound.{least_offer, greatest_raise, IsSoundBounds, IsSoundCore, run, AreLawful}
+use Rattle.cps_port.specs.Sound.{least_offer, greatest_raise, IsSoundBounds, IsSoundCore, run, AreLawful, StaysSound}
 use Rattle.cps_port.specs.Kept.{BoardKept, IsKept}
 use Rattle.cps_port.proofs.Bounding.{keeps_offer, keeps_raise, keeps_upper, keeps_lower}
 use Rattle.cps_port.proofs.Boarding.{raise_sound, keeps_draw, keeps_publish, keeps_look}
@@ -124,7 +124,7 @@ same_actors b i (Raise l) = refl
 same_actors b i SeeUpper = refl
 same_actors b i SeeLower = refl
 
-same_parts : (s : BoundsState) (i : ℕ) (event : Event) → length (bounds_after s i event).parts ≡ length s.parts
+pub same_parts : (s : BoundsState) (i : ℕ) (event : Event) → length (bounds_after s i event).parts ≡ length s.parts
 same_parts s i Draw = refl
 same_parts s i (Publish e) = refl
 same_parts s i Look = refl
@@ -152,5 +152,5 @@ run_kept c (e ∷ es) k l = run_kept (after c e.0 e.1) es (keeps c e.0 e.1 k l.0
 -- After every list of events, each lawful where it comes: each row's entry is sound and names its row; the upper bound is
 -- the least offer; the lower bound is the greatest raise, and no solution's objective is below it; what each actor took
 -- are the first rows in order; and each row is one actor's.
-pub sound_core : (m : CpModel) (actors rows : ℕ) (events : List (ℕ × Event)) → IsValid m → rows ≤ 4096 → AreLawful (first_core m actors rows) events → IsSoundCore (run (first_core m actors rows) events)
-sound_core m actors rows events valid few lawful = let c : Core = first_core m actors rows in sound_of (run c events) (run_kept c events (starts m actors rows valid few) lawful)
+pub stays_sound : (c : Core) → IsKept c → StaysSound c
+stays_sound c k events lawful = sound_of (run c events) (run_kept c events k lawful)

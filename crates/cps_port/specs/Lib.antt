@@ -9,4 +9,5 @@ pub mod Sound
 pub mod Kept
 pub mod Views
 pub mod Others
+pub mod Causes
 pub mod Words

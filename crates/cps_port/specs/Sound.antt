@@ -63,3 +63,7 @@ run c (e ∷ es) = run (after c e.0 e.1) es
 abbrev pub AreLawful : Core → List (ℕ × Event) → Type 0
 AreLawful c [] = Unit {0}
 AreLawful c (e ∷ es) = (e.0 < actor_count c) × IsLawful c e.0 e.1 × AreLawful (after c e.0 e.1) es
+
+-- the state is sound after every list of lawful events
+abbrev pub StaysSound : Core → Type 0
+StaysSound c = (events : List (ℕ × Event)) → AreLawful c events → IsSoundCore (run c events)

@@ -5,18 +5,18 @@
 //! After every list of lawful steps, by whichever actors, each clause on the board holds in each assignment that is better
 //! than the incumbent it names, the upper bound is the least objective that was offered, and the lower bound is the
 //! greatest that was raised, and at most every solution's objective.
+//! A port over the plain state takes it through lawful steps of its own actor, and so cannot make up an answer.
 #![tactic(auto)]
 
 pub mod entry;
 pub mod event;
+pub mod laws;
 pub mod order;
 pub mod part;
 pub mod plain_port;
 pub mod port;
 mod seat;
 pub mod state;
-#[cfg(test)]
-mod tests;
 pub mod word;
 
 pub use entry::{Entry, MOST_ATOMS, Share, Taken};

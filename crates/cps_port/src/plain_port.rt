@@ -8,7 +8,8 @@ use crate::state::CoreState;
 use cps_literal::Atom;
 use cps_model::Bound;
 
-/// An actor's access to the shared state, which no other actor uses meanwhile. The actor has no row drawn.
+/// An actor's access to the shared state, which no other actor uses meanwhile. The actor has no row drawn. Each call takes the
+/// state through lawful events of this actor.
 pub struct PlainPort<'a, 'm> {
     /// The state that all actors share.
     pub core: &'a mut CoreState<'m>,
@@ -22,7 +23,7 @@ pub struct PlainPort<'a, 'm> {
 impl Port for PlainPort<'_, '_> {
     ghost use Rattle.std.specs.Prelude.{length};
     ghost use Rattle.cps_port.specs.Cores.{part_at};
-    ghost use Rattle.cps_port.specs.Others.{OthersStay, unmoved, moved_on};
+    ghost use Rattle.cps_port.specs.Others.{ActsAlone, unmoved, moved_on};
 
     ghost model = { λ p. p.core.now.model };
 
@@ -30,7 +31,7 @@ impl Port for PlainPort<'_, '_> {
 
     ghost part = { λ p. part_at p.core.now p.actor };
 
-    ghost stays = { λ p q. OthersStay p.actor q.actor p.core.now q.core.now };
+    ghost stays = { λ p q. ActsAlone p.actor q.actor p.core.now q.core.now };
 
     ghost few = { λ p. p.few };
 

@@ -23,7 +23,7 @@ pub trait Port {
     // what this actor knows
     ghost part: { Self → PartOf };
 
-    // what no call on this port changes, beside the model and the rows
+    // what calls on this port make of all that it is over, in whatever number
     ghost stays: { Self → Self → Type 0 };
 
     /// The upper bound: a solution's objective, or `Infinite`.

@@ -2,7 +2,7 @@
 ghost use Rattle.std.specs.Prelude.{◌≡◌, ◌<◌, ◌≤◌, ◌^◌, ◌↔◌, IfOk, IsTrue, length};
 ghost use Rattle.cps_model.specs.Start.{objective_start};
 ghost use Rattle.cps_port.specs.Cores.{first_core, actor_count, board_part, next_row, row_drawn, after, seen, counted, IsLawful};
-ghost use Rattle.cps_port.specs.Sound.{IsSoundCore};
+ghost use Rattle.cps_port.specs.Sound.{IsSoundCore, StaysSound};
 ghost use Rattle.cps_port.specs.Order.{lesser, greater};
 
 use crate::entry::Entry;
@@ -60,6 +60,7 @@ impl<'a> CoreState<'a> {
         requires { (1 ≤ rows) × (rows ≤ 4096) }
         ensures first { IfOk result (λ core. core ≡ first_core model.now actors rows) }
         ensures sound { IfOk result IsSoundCore }
+        ensures lasting { IfOk result StaysSound }
     {
         // Only here is it known that the model keeps every rule.
         let _ = model.model();

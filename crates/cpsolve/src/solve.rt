@@ -50,6 +50,7 @@ fn answer_of<R: Threads + Wait + Sync, S: Source, G: Gate + Sync>(
     ensures read { OnOk result (IsCommandLine (texts_of words.now) → IsReadThrough (S.left source.old) (S.left source.new)) }
     ensures usage { IsUsageFault (texts_of words.now) → (source.new ≡ source.old) × (result ≢ Err Unanswered.ReadFault) }
     ensures fault { IsErrOf result Unanswered.ReadFault → Rose (S.faults source.old) (S.faults source.new) }
+    ensures kept { result ≢ Err Unanswered.ReadFault → S.faults source.new ≡ S.faults source.old }
 {
     let Some(command) = command_of(alloc, words)? else {
         return Ok(usage_answer(alloc)?);
@@ -70,6 +71,7 @@ fn write_answer<K: Sink>(sink: &mut K, answer: Answer) -> Ran
     ensures whole { result.exit ≢ 4 → (result.exit ≡ answer.exit) × Appends (K.held sink.old) (K.held sink.new) answer.text }
     ensures part { result.exit ≡ 4 → TakesPrefix (K.held sink.old) (K.held sink.new) answer.text }
     ensures fault { result.exit ≡ 4 → Rose (K.faults sink.old) (K.faults sink.new) }
+    ensures kept { result.exit ≢ 4 → K.faults sink.new ≡ K.faults sink.old }
 {
     match write_all(sink, answer.text.as_str().as_bytes()) {
         Ok(()) => Ran {
@@ -110,9 +112,11 @@ pub fn solve_main<R: Threads + Wait + Sync, S: Source, K: Sink, G: Gate + Sync>(
     // Words that have no command leave the source as it was.
     ensures usage { IsUsageFault (texts_of words.now) → (source.new ≡ source.old) × (result.exit ≢ 3) }
 
-    // It does not give up by itself.
+    // It does not give up by itself, and it keeps no fault to itself.
     ensures read_fault { result.exit ≡ 3 → Rose (S.faults source.old) (S.faults source.new) }
+    ensures no_read_fault { result.exit ≢ 3 → S.faults source.new ≡ S.faults source.old }
     ensures write_fault { result.exit ≡ 4 → Rose (K.faults sink.old) (K.faults sink.new) }
+    ensures no_write_fault { result.exit ≢ 4 → K.faults sink.new ≡ K.faults sink.old }
 {
     match answer_of(rt, alloc, words, source, gate) {
         Ok(answer) => write_answer(sink, answer),

@@ -1,4 +1,6 @@
 use Rattle.cps_port.proofs.Porting.{took, found_closed}
+use Rattle.cps_port.proofs.Acting.{acts}
+use Rattle.cps_port.specs.declared.event.Event.TheVariants.{Look}
 use Rattle.cps_port.proofs.plain_port.PlainPortPort.take.Goals as goal
 
 pub returns-in-Some-clause-said : goal.returns-in-Some-clause-said
@@ -8,3 +10,9 @@ returns-in-Some-clause-said c =
 pub returns-in-None-clause-said : goal.returns-in-None-clause-said
 returns-in-None-clause-said c =
     found_closed c.args.self.now.core.now c.look.new.self c.args.self.now.actor c.in-None.ensures.sound.0 c.args.self.now.known c.in-None.ensures.state c.in-None.ensures.entry (c.has_more.ensures.more.0 c.if-not-has_more.false)
+
+pub returns-in-Some-clause-others : goal.returns-in-Some-clause-others
+returns-in-Some-clause-others c = acts c.args.self.now.core.now c.look.new.self c.args.self.now.actor Look c.args.self.now.known (c.has_more.ensures.more.0 c.if-not-has_more.false) c.in-Some.ensures.state
+
+pub returns-in-None-clause-others : goal.returns-in-None-clause-others
+returns-in-None-clause-others c = acts c.args.self.now.core.now c.look.new.self c.args.self.now.actor Look c.args.self.now.known (c.has_more.ensures.more.0 c.if-not-has_more.false) c.in-None.ensures.state

@@ -1,4 +1,6 @@
 use Rattle.cps_port.proofs.Porting.{upper_part}
+use Rattle.cps_port.proofs.Acting.{acts}
+use Rattle.cps_port.specs.declared.event.Event.TheVariants.{SeeUpper}
 use Rattle.cps_port.proofs.plain_port.PlainPortPort.upper.Goals as goal
 
 pub returns-clause-bounds : goal.returns-clause-bounds
@@ -6,3 +8,6 @@ returns-clause-bounds c = let k = upper_part c.args.self.now.core.now c.see_uppe
 
 pub returns-clause-loads : goal.returns-clause-loads
 returns-clause-loads c = let k = upper_part c.args.self.now.core.now c.see_upper.new.self c.args.self.now.actor c.see_upper.ensures.sound.0 c.args.self.now.known c.see_upper.result c.see_upper.ensures.state c.see_upper.ensures.bound in k.1
+
+pub returns-clause-others : goal.returns-clause-others
+returns-clause-others c = acts c.args.self.now.core.now c.see_upper.new.self c.args.self.now.actor SeeUpper c.args.self.now.known tt c.see_upper.ensures.state

@@ -2,7 +2,7 @@
 use Rattle.std.proofs.Common.{◌≡◌, ◌∙◌, ◌<◌, ◌^◌, subst, arith, to_z, of_z, w64, unsigned_abs, ℤ}
 use Rattle.std.proofs.lemmas.Int.{ints}
 use Rattle.cps_model.specs.Validity.{IsValid}
-use Rattle.cps_port.proofs.SoundCore.{sound_of}
+use Rattle.cps_port.proofs.SoundCore.{sound_of, stays_sound}
 use Rattle.cps_port.proofs.Storing.{begins, begins_whole}
 use Rattle.cps_port.proofs.state.CoreState.new.Goals as goal
 
@@ -33,3 +33,12 @@ returns-clause-sound c =
     let start = stays c.objective_start-start.result c.objective_start-start.ensures.near ∙ c.objective_start-start.ensures.value in
     let whole = begins_whole c.args.model.now c.args.actors c.args.rows c.in_ok-rows.rows.items c.in_ok-seats.seats.items c.in_ok-bounds.bounds.items _ rows seats bounds start (subst IsValid c.model.ensures.same c.model.ensures.valid) c.requires.1 (omega arith) in
     sound_of _ whole.kept
+
+pub returns-clause-lasting : goal.returns-clause-lasting
+returns-clause-lasting c =
+    let rows = c.in_ok-rows.ensures.items_if_clones_equal (λ y e. e) in
+    let seats = c.in_ok-seats.ensures.items_if_clones_equal (λ y e. e) in
+    let bounds = c.in_ok-bounds.ensures.items_if_clones_equal (λ y e. e) in
+    let start = stays c.objective_start-start.result c.objective_start-start.ensures.near ∙ c.objective_start-start.ensures.value in
+    let whole = begins_whole c.args.model.now c.args.actors c.args.rows c.in_ok-rows.rows.items c.in_ok-seats.seats.items c.in_ok-bounds.bounds.items _ rows seats bounds start (subst IsValid c.model.ensures.same c.model.ensures.valid) c.requires.1 (omega arith) in
+    stays_sound _ whole.kept

@@ -1,0 +1,5 @@
+use Rattle.cps_port.proofs.Acting.{others_stay}
+use Rattle.cps_port.proofs.laws.leaves_others.Goals as goal
+
+pub returns : goal.returns
+returns c = others_stay

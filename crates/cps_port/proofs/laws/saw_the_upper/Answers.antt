@@ -1,0 +1,5 @@
+use Rattle.cps_port.proofs.Seeing as seeing
+use Rattle.cps_port.proofs.laws.saw_the_upper.Goals as goal
+
+pub returns : goal.returns
+returns c = seeing.saw_the_upper

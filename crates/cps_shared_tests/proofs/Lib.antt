@@ -1,0 +1,3 @@
+pub mod SmallNumbers
+pub mod WorkedClauses
+pub mod WorkedFloors
