@@ -16,6 +16,3 @@ pub use objectives::{display_value, objective};
 pub use solution::satisfies;
 pub use start::objective_start;
 pub use violation::first_violated;
-
-#[cfg(test)]
-mod tests;

@@ -9,7 +9,7 @@ ghost use Rattle.cps_lex.specs.Escapes.{simple_escape, octal_with, hex_with, cod
 use super::bytes::{hex_value, is_hex_digit, is_octal_digit, is_x};
 
 /// What stands before a byte of a string.
-#[derive(Clone, Copy, Debug)]
+#[derive(Clone, Copy)]
 pub enum Place {
     /// The opening quote, a byte that stands for itself, or a whole escape.
     Inside,
@@ -30,7 +30,7 @@ pub enum Place {
 }
 
 /// The bytes of a string's value that a byte of its text completes.
-#[derive(Clone, Copy, Debug)]
+#[derive(Clone, Copy)]
 pub enum Denoted {
     Nothing,
     One(u8),

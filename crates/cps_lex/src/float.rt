@@ -5,7 +5,7 @@ ghost use Rattle.cps_lex.specs.Floats.{next_part, may_be_last, float_from, start
 use super::bytes::{is_digit, is_exponent_mark, is_float_suffix, is_plus_or_minus};
 
 /// The part of a float that its last byte so far belongs to.
-#[derive(Clone, Copy, Debug, PartialEq, Eq)]
+#[derive(Clone, Copy)]
 pub enum Part {
     /// The digit 0 alone.
     Zero,

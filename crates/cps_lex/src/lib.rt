@@ -23,6 +23,3 @@ mod types;
 pub use lexer::tokens;
 pub use text::push_text;
 pub use types::{LexError, Token, TokenKind};
-
-#[cfg(test)]
-mod tests;

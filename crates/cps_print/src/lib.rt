@@ -20,6 +20,3 @@ mod response;
 pub use fault::{Fault, fault_text};
 pub use model::model_text;
 pub use response::{Response, response_text};
-
-#[cfg(test)]
-mod tests;

@@ -1,7 +1,7 @@
 //! The older and the newer form of a message.
 
 /// The form to which a field belongs. Fields of both do not stand in one message.
-#[derive(Clone, Copy, Debug, PartialEq, Eq)]
+#[derive(Clone, Copy)]
 pub enum Form {
     Older,
     Newer,

@@ -40,6 +40,3 @@ mod variable;
 pub use cps_model::FaultName;
 pub use error::SchemaError;
 pub use model::model_of;
-
-#[cfg(test)]
-mod tests;

@@ -17,7 +17,7 @@ use cps_model::{Choose, FaultName, Select};
 use cps_textproto::Field;
 
 /// An enum whose members are given by name or number.
-#[derive(Clone, Copy, Debug, PartialEq, Eq)]
+#[derive(Clone, Copy)]
 pub enum Enum {
     /// Which variable a strategy takes.
     VariableSelection,

@@ -13,7 +13,7 @@ use cps_lex::TokenKind;
 use cps_model::FaultName;
 
 /// A type of numbers.
-#[derive(Clone, Copy, Debug, PartialEq, Eq)]
+#[derive(Clone, Copy)]
 pub enum Number {
     Int64,
     Int32,

@@ -12,7 +12,7 @@ use std::alloc::{AllocError, Global};
 use std::mem;
 
 /// What a token adds to the tree.
-#[derive(Clone, Copy, Debug, PartialEq, Eq)]
+#[derive(Clone, Copy)]
 pub enum Action {
     Nothing,
     /// It names a field.
@@ -41,7 +41,7 @@ pub enum Action {
 
 /// An open message: the fields before it and the messages of its list before it, its field's name, the token
 /// that opened it, and what the machine sees of it.
-#[derive(Debug, Drop)]
+#[derive(Drop)]
 pub struct Opened {
     pub fields: Vec<Field>,
     pub messages: Vec<Nested>,
@@ -53,7 +53,7 @@ pub struct Opened {
 /// The fields so far of the innermost message, the messages round it, and the parts of a field that
 /// is not finished: its name, the token that its scalar begins with, and the scalars and the messages of
 /// its list.
-#[derive(Debug, Drop)]
+#[derive(Drop)]
 pub struct Builder {
     pub fields: Vec<Field>,
     pub opened: Vec<Opened>,

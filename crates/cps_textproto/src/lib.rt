@@ -18,6 +18,3 @@ mod tree;
 
 pub use reading::{TextError, document};
 pub use tree::{Field, Item, Items, Nested, Node, Span};
-
-#[cfg(test)]
-mod tests;

@@ -1,0 +1,89 @@
+//! Models against the rules of a valid model.
+use crate::reading::model_assuming;
+use cps_model::Place;
+use cps_validate::{ValidateError, validate};
+use std::alloc::Global;
+use std::process::Abort;
+use std::test::Fail;
+
+/// The rule that a model breaks first, with its place; `None` if it is valid.
+fn broken(
+    rt: &impl Abort,
+    alloc: Global,
+    text: &str,
+    assumptions: &[i32],
+) -> Result<Option<(u8, Place)>, Fail> {
+    match validate(alloc, model_assuming(rt, alloc, text, assumptions)?) {
+        Ok(_) => Ok(None),
+        Err(ValidateError::Invalid { rule, place }) => Ok(Some((rule, place))),
+        Err(error) => Err(Fail::from(error)),
+    }
+}
+
+/// One variable and one clause, with an assumption.
+#[test]
+fn variables_and_literals(rt: HostRuntime) -> Result<(), Fail> {
+    let rows: [(&str, i32, Option<(u8, Place)>); 6] = [
+        (
+            "variables { domain: [0, -1] } constraints { bool_or { literals: 0 } }",
+            0,
+            Some((1, Place::Variable(0))),
+        ),
+        (
+            "variables { domain: [0, 4611686018427387904] } constraints { bool_or { literals: 0 } }",
+            0,
+            Some((2, Place::Variable(0))),
+        ),
+        (
+            "variables { domain: [0, 1] } constraints { bool_or { literals: 5 } }",
+            0,
+            Some((3, Place::Constraint(0))),
+        ),
+        (
+            "variables { domain: [0, 2] } constraints { bool_or { literals: 0 } }",
+            0,
+            Some((4, Place::Constraint(0))),
+        ),
+        (
+            "variables { domain: [0, 1] } constraints { bool_or { literals: 0 } }",
+            9,
+            Some((3, Place::Assumption(0))),
+        ),
+        (
+            "variables { domain: [0, 1] } constraints { bool_or { literals: 0 } }",
+            -1,
+            None,
+        ),
+    ];
+    for (text, assumption, wanted) in rows {
+        assert_eq!(rt;
+            broken(&rt, rt.alloc(), text, &[assumption])?,
+            wanted,
+            "{text}"
+        );
+    }
+    Ok(())
+}
+
+/// Two variables 0..2^31.
+const WIDE: &str = "variables { domain: [0, 2147483648] } variables { domain: [0, 2147483648] }";
+
+/// A sum of two variables 0..2^31: its coefficients and its domain.
+#[test]
+fn sums(rt: HostRuntime) -> Result<(), Fail> {
+    let alloc = rt.alloc();
+    let rows: [(&str, Option<u8>); 4] = [
+        ("coeffs: [1] domain: [0, 0]", Some(5)),
+        ("coeffs: [1073741824, 1073741824] domain: [0, 0]", Some(6)),
+        ("coeffs: [1073741824, 1073741823] domain: [1, 0]", Some(7)),
+        ("coeffs: [1073741824, 1073741823] domain: [0, 0]", None),
+    ];
+    for (fields, rule) in rows {
+        let text = format!(in alloc;
+            "{WIDE} constraints {{ linear {{ vars: [0, 1] {fields} }} }}"
+        )?;
+        let wanted = rule.map(|rule| (rule, Place::Constraint(0)));
+        assert_eq!(rt; broken(&rt, alloc, text.as_str(), &[])?, wanted, "{fields}");
+    }
+    Ok(())
+}

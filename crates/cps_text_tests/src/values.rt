@@ -1,0 +1,194 @@
+//! Assignments of small models: which are solutions, what the others violate first, and what the objective is.
+use crate::reading::{model, valid_model};
+use cps_eval::{display_value, first_violated, objective, objective_start, satisfies};
+use cps_model::{CpModel, Place};
+use cps_validate::ValidModel;
+use std::alloc::Global;
+use std::process::Abort;
+use std::test::Fail;
+
+/// Asserts that an assignment violates this place first, or that it is a solution if that is `None`.
+fn assert_place(
+    rt: &impl Abort,
+    alloc: Global,
+    model: &ValidModel,
+    values: &[i64],
+    place: Option<Place>,
+) -> Result<(), Fail> {
+    assert_eq!(rt; values.len(), model.model().variables.len());
+    let answers = (
+        satisfies(alloc, model, values)?,
+        first_violated(alloc, model, values)?,
+    );
+    assert_eq!(rt; answers, (place.is_none(), place), "at {values:?}");
+    Ok(())
+}
+
+/// Assignments of two variables, each with the place that it violates first.
+type Places<'a> = &'a [([i64; 2], Option<Place>)];
+
+fn assert_places(
+    rt: &impl Abort,
+    alloc: Global,
+    model: &ValidModel,
+    rows: Places<'_>,
+) -> Result<(), Fail> {
+    for (values, place) in rows {
+        assert_place(rt, alloc, model, values, *place)?;
+    }
+    Ok(())
+}
+
+/// Two variables 0..1.
+const BITS: &str = "variables { domain: [0, 1] } variables { domain: [0, 1] }";
+
+/// Asserts whether a constraint over two variables 0..1 holds.
+fn assert_holds(
+    rt: &impl Abort,
+    alloc: Global,
+    constraint: &str,
+    values: &[i64],
+    holds: bool,
+) -> Result<(), Fail> {
+    let text = format!(in alloc; "{BITS} constraints {{ {constraint} }}")?;
+    let model = valid_model(rt, alloc, text.as_str(), &[])?;
+    let place = if holds {
+        None
+    } else {
+        Some(Place::Constraint(0))
+    };
+    assert_place(rt, alloc, &model, values, place)
+}
+
+/// Literals with values of two variables, and whether some, all, at most one, exactly one and an odd number are true.
+const LITERALS: [(&str, [i64; 2], [bool; 5]); 4] = [
+    ("[0, 1]", [0, 0], [false, false, true, false, false]),
+    ("[0, 1]", [0, 1], [true, false, true, true, true]),
+    ("[0, -2]", [0, 1], [false, false, true, false, false]),
+    ("[0, 0]", [1, 0], [true, true, false, false, false]),
+];
+
+const KINDS: [&str; 5] = [
+    "bool_or",
+    "bool_and",
+    "at_most_one",
+    "exactly_one",
+    "bool_xor",
+];
+
+/// Asserts of which kinds a constraint over these literals holds.
+fn assert_literals(
+    rt: &impl Abort,
+    alloc: Global,
+    literals: &str,
+    values: &[i64],
+    holds: &[bool],
+) -> Result<(), Fail> {
+    for (kind, holds) in KINDS.iter().zip(holds.iter()) {
+        let constraint = format!(in alloc; "{kind} {{ literals: {literals} }}")?;
+        assert_holds(rt, alloc, constraint.as_str(), values, *holds)?;
+    }
+    Ok(())
+}
+
+#[test]
+fn literals_hold(rt: HostRuntime) -> Result<(), Fail> {
+    for (literals, values, holds) in LITERALS {
+        assert_literals(&rt, rt.alloc(), literals, &values, &holds)?;
+    }
+    Ok(())
+}
+
+#[test]
+fn sums_hold(rt: HostRuntime) -> Result<(), Fail> {
+    let sum = "linear { vars: [0, -2] coeffs: [1, 2] domain: [-1, 0] }";
+    for (values, holds) in [([1, 0], false), ([1, 1], true), ([0, 1], false)] {
+        assert_holds(&rt, rt.alloc(), sum, &values, holds)?;
+    }
+    Ok(())
+}
+
+/// The second variable is assumed false, and the first enforces what never holds.
+const PARTS: &str = "variables { domain: [0, 1] } variables { domain: [0, 1] } \
+    constraints { enforcement_literal: 0 bool_or { } }";
+
+#[test]
+fn parts_fail_in_order(rt: HostRuntime) -> Result<(), Fail> {
+    let model = valid_model(&rt, rt.alloc(), PARTS, &[-2])?;
+    let rows: [([i64; 2], Option<Place>); 4] = [
+        ([0, 0], None),
+        ([1, 2], Some(Place::Variable(1))),
+        ([1, 1], Some(Place::Constraint(0))),
+        ([0, 1], Some(Place::Assumption(0))),
+    ];
+    assert_places(&rt, rt.alloc(), &model, &rows)
+}
+
+/// Of two variables 0..10, -3 times the first and -2 times the second are minimised, to a sum from -12 on.
+const SCORED: &str = "variables { domain: [0, 10] } variables { domain: [0, 10] } \
+    objective { vars: [0, 1] coeffs: [-3, -2] domain: [-12, 9223372036854775807] scaling_factor: -1 }";
+
+#[test]
+fn objectives_fail_behind_constraints(rt: HostRuntime) -> Result<(), Fail> {
+    let model = valid_model(&rt, rt.alloc(), SCORED, &[])?;
+    let rows: [([i64; 2], Option<Place>); 2] = [([4, 0], None), ([4, 1], Some(Place::Objective))];
+    assert_places(&rt, rt.alloc(), &model, &rows)
+}
+
+/// Asserts where the objective starts, and what it is at a solution.
+fn assert_objective(
+    rt: &impl Abort,
+    alloc: Global,
+    model: &ValidModel,
+    solution: &[i64],
+    wanted: [i64; 2],
+) -> Result<(), Fail> {
+    assert_eq!(rt; solution.len(), model.model().variables.len());
+    assert!(rt; satisfies(alloc, model, solution)?);
+    assert_eq!(rt;
+        [objective_start(model), objective(model, solution)],
+        wanted
+    );
+    Ok(())
+}
+
+#[test]
+fn objectives_have_values(rt: HostRuntime) -> Result<(), Fail> {
+    let model = valid_model(&rt, rt.alloc(), SCORED, &[])?;
+    assert_objective(&rt, rt.alloc(), &model, &[4, 0], [-50, -12])
+}
+
+/// Asserts what is shown of an objective's sum.
+fn assert_shown(rt: &impl Abort, model: &CpModel, sum: i64, wanted: i128) {
+    match &model.objective {
+        Some(objective) => {
+            assert!(rt; objective.offset.unsigned_abs() <= 1 << 53);
+            assert!(rt; objective.scaling.unsigned_abs() <= 1 << 53);
+            assert_eq!(rt; display_value(model, sum), wanted);
+        }
+        None => assert!(rt; false, "no objective"),
+    }
+}
+
+#[test]
+fn objectives_are_shown(rt: HostRuntime) -> Result<(), Fail> {
+    let rows = [
+        ("objective { scaling_factor: -1 }", -12, 12),
+        ("objective { offset: 100 scaling_factor: -1 }", 0, -100),
+        (
+            "objective { offset: 100 scaling_factor: -1 }",
+            i64::MIN,
+            9223372036854775708,
+        ),
+        (
+            "objective { offset: 100 scaling_factor: -1 }",
+            i64::MAX,
+            -9223372036854775907,
+        ),
+    ];
+    for (text, sum, wanted) in rows {
+        let model = model(&rt, rt.alloc(), text)?;
+        assert_shown(&rt, &model, sum, wanted);
+    }
+    Ok(())
+}
