@@ -1,10 +1,14 @@
 //! What conflicts teach.
 
-ghost use Rattle.std.specs.Prelude.{ℕ, ℤ, ◌<◌, length, IsTrue};
+ghost use Rattle.std.specs.Prelude.{ℕ, ℤ, ◌≡◌, ◌<◌, length, IsTrue, OnOk};
 ghost use Rattle.std.specs.List.{All};
 ghost use Rattle.cps_trail.specs.Trail.{IsFalseNow};
+ghost use Rattle.cps_trail.specs.Notes.{AllFit};
+ghost use Rattle.cps_learning_tests.specs.Resting.{IsAtRest};
 
-use crate::small::{bits, decided};
+use crate::resting::{settle, settle_more};
+use crate::small::{bits, decide, one, zero};
+use cps_clauses::ClauseBase;
 use cps_conflict::{Analyser, conflict_level};
 use cps_domain::Domain;
 use cps_literal::{Atom, Clause, Op, Truth};
@@ -46,7 +50,10 @@ fn other_than(subject: u32, value: i64) -> Atom {
 
 /// Makes an atom true because another is false.
 fn implied(alloc: Global, store: &mut Store, other: Atom, atom: Atom) -> Result<(), AllocError> {
-    if store.len() <= atom.subject as usize || store.len() <= other.subject as usize {
+    if store.len() <= other.subject as usize {
+        return Err(AllocError);
+    }
+    if store.len() <= atom.subject as usize {
         return Err(AllocError);
     }
     match store.truth(other) {
@@ -108,7 +115,7 @@ enum Step {
 fn lead(alloc: Global, store: &mut Store, steps: &[Step]) -> Result<(), AllocError> {
     for step in steps {
         match *step {
-            Step::Decide(atom) => decided(store, atom)?,
+            Step::Decide(atom) => decide(store, atom)?,
             Step::Imply(other, atom) => implied(alloc, store, other, atom)?,
         }
     }
@@ -126,7 +133,14 @@ struct Lesson {
 }
 
 /// What a conflict of the present level teaches.
-fn taught(alloc: Global, store: &Store, conflict: &[Atom]) -> Result<Option<Lesson>, AllocError> {
+fn taught<E: Explain>(
+    alloc: Global,
+    store: &Store,
+    conflict: &[Atom],
+    explain: &E,
+) -> Result<Option<Lesson>, AllocError>
+    requires { AllFit (E.fits explain.now) store.now }
+{
     if !all_false(store, conflict) {
         return Ok(None);
     }
@@ -135,7 +149,7 @@ fn taught(alloc: Global, store: &Store, conflict: &[Atom]) -> Result<Option<Less
         return Ok(None);
     }
     let mut analyser = Analyser::new(alloc);
-    let learnt = analyser.analyse(store, conflict, &Nobody)?;
+    let learnt = analyser.analyse(store, conflict, explain)?;
     let atoms = learnt.clause.as_slice();
     let Some(first) = atoms.first() else {
         return Ok(None);
@@ -149,11 +163,15 @@ fn taught(alloc: Global, store: &Store, conflict: &[Atom]) -> Result<Option<Less
 }
 
 /// What a conflict teaches in a store of three subjects with the values 0 and 1, and one with 1, 3 and 5.
-fn lesson_of(alloc: Global, steps: &[Step], conflict: &[Atom]) -> Result<Option<Lesson>, AllocError> {
+fn lesson_of(
+    alloc: Global,
+    steps: &[Step],
+    conflict: &[Atom],
+) -> Result<Option<Lesson>, AllocError> {
     let mut store = bits(alloc)?;
     store.add(Domain::of_bounds(alloc, &[1, 1, 3, 3, 5, 5])?)?;
     lead(alloc, &mut store, steps)?;
-    taught(alloc, &store, conflict)
+    taught(alloc, &store, conflict, &Nobody)
 }
 
 #[derive(Clone, Copy)]
@@ -230,5 +248,42 @@ fn conflicts_teach(rt: HostRuntime) -> Result<(), Fail> {
         let answer = lesson_of(rt.alloc(), row.steps, row.conflict)?;
         assert!(rt; answer == Some(row.lesson), "{}", row.name);
     }
+    Ok(())
+}
+
+/// Decides that the first subject is 0; by one clause each the second and the third are 1 then.
+fn lead_by_clauses(
+    alloc: Global,
+    base: &mut ClauseBase,
+    store: &mut Store,
+) -> Result<(), AllocError>
+    requires rest { IsAtRest base.old store.old }
+    requires level { store.old.level ≡ 0 }
+    ensures { OnOk result (IsAtRest base.new store.new) }
+{
+    settle_more(alloc, base, store, &[one(0), one(1)])?;
+    settle_more(alloc, base, store, &[one(0), one(2)])?;
+    let from = store.entries().len();
+    decide(store, zero(0))?;
+    settle(base, store, from)
+}
+
+/// What a conflict teaches where the reasons are notes of clauses.
+fn lesson_by_notes(alloc: Global) -> Result<Option<Lesson>, AllocError> {
+    let mut store = bits(alloc)?;
+    let mut base = ClauseBase::new(alloc);
+    lead_by_clauses(alloc, &mut base, &mut store)?;
+    taught(alloc, &store, &[zero(1), zero(2)], &base)
+}
+
+#[test]
+fn notes_of_clauses_teach_the_same(rt: HostRuntime) -> Result<(), Fail> {
+    let wanted = Lesson {
+        count: 1,
+        first: one(0),
+        back_level: 0,
+        assert: one(0),
+    };
+    assert!(rt; lesson_by_notes(rt.alloc())? == Some(wanted));
     Ok(())
 }

@@ -9,4 +9,6 @@ mod bases;
 #[cfg(test)]
 mod conflicts;
 #[cfg(test)]
+mod resting;
+#[cfg(test)]
 mod small;

@@ -1,6 +1,7 @@
 //! Small stores, and atoms about their subjects.
 
-ghost use Rattle.std.specs.Prelude.{◌≡◌, length, IfOk};
+ghost use Rattle.std.specs.Prelude.{◌≡◌, ◌+◌, [], ◌∷◌, ◌++◌, length, IfOk, OnOk};
+ghost use Rattle.cps_trail.specs.Trail.{Decision};
 ghost use Rattle.cps_clauses.specs.Falls.{IsAtomValue};
 
 use cps_domain::Domain;
@@ -36,6 +37,7 @@ pub(crate) fn zero(subject: u32) -> Atom
 pub(crate) fn bits(alloc: Global) -> Result<Store, AllocError>
     ensures subjects { IfOk result (λ store. length store.first ≡ 3) }
     ensures level { IfOk result (λ store. store.level ≡ 0) }
+    ensures entries { IfOk result (λ store. store.entries ≡ []) }
 {
     let mut domains = Vec::new(alloc);
     domains.push(Domain::of_bounds(alloc, &[0, 1])?)?;
@@ -44,13 +46,15 @@ pub(crate) fn bits(alloc: Global) -> Result<Store, AllocError>
     Store::new(alloc, domains.as_slice())
 }
 
-/// Decides an atom where it is undecided.
-pub(crate) fn decided(store: &mut Store, atom: Atom) -> Result<(), AllocError> {
+/// Decides an atom; an error where it is true or false already.
+pub(crate) fn decide(store: &mut Store, atom: Atom) -> Result<(), AllocError>
+    ensures { OnOk result (store.new ≡ record store.old { entries = store.old.entries ++ record { atom = atom; level = store.old.level + 1; reason = Decision } ∷ []; level = store.old.level + 1 }) }
+{
     if store.len() <= atom.subject as usize {
         return Err(AllocError);
     }
     match store.truth(atom) {
         Truth::Undecided => store.decide(atom),
-        _ => Ok(()),
+        _ => Err(AllocError),
     }
 }
