@@ -20,6 +20,10 @@ use Rattle.cps_schema.specs.Steps.{Passes, Stops, KindStops, field_then}
 pub same_text : (a b : List ℕ) (r : Bool) → r ≡ pointwise nat_eq a b → r ≡ true → a ≡ b
 same_text a b r e t = (bytes_eq-Decides a b).0 (sym e ∙ t)
 
+-- the texts that stand for these are the same, too
+pub same_name : (a b text name : List ℕ) (r : Bool) → r ≡ pointwise nat_eq a b → r ≡ true → a ≡ text → b ≡ name → text ≡ name
+same_name a b text name r e t s n = sym s ∙ (same_text a b r e t ∙ n)
+
 -- and one that came out false, of texts that are other names of these
 pub other_text : (a b text name : List ℕ) (r : Bool) → r ≡ pointwise nat_eq a b → r ≡ false → a ≡ text → b ≡ name → bytes_eq text name ≡ false
 other_text a b text name r e t s n = rw (← s, ← n) (sym e ∙ t)

@@ -9,7 +9,7 @@ use Rattle.cps_schema.specs.Tables.{constraint_message, number, text}
 use Rattle.cps_schema.specs.Kinds.{kind_named}
 use Rattle.cps_schema.specs.Readings.{value_numbers, value_texts}
 use Rattle.cps_schema.specs.Parts.{IsConstraintGiven}
-use Rattle.cps_schema.proofs.Steps.{same_text, other_text, table_use, repeated_passes, repeated_stops, not_read_stops, if_passes, if_stops}
+use Rattle.cps_schema.proofs.Steps.{same_name, other_text, table_use, repeated_passes, repeated_stops, not_read_stops, if_passes, if_stops}
 use Rattle.cps_schema.proofs.GivenKinds.{no_constraint_field, constraint_kept, name_given_first, kind_field_passes, kind_field_stops}
 use Rattle.cps_schema.proofs.Slots.{slot_passes, slot_stops}
 use Rattle.cps_schema.proofs.constraint.add_field.Goals as goal
@@ -18,7 +18,7 @@ pub returns-then-eq-clause-passes : goal.returns-then-eq-clause-passes
 returns-then-eq-clause-passes c =
     let w = written_of c.args.source.now in
     let f = c.args.field.now in
-    let name : token_text w f.name ≡ codes "name" = grind (arith, same_text c.token_text-name.result.now c.as_slice.result.now c.eq.result) in
+    let name : token_text w f.name ≡ codes "name" = same_name _ _ _ _ c.eq.result c.eq.ensures c.if-eq.true c.token_text-name.ensures c.as_slice.ensures in
     slot_passes w constraint_message f text c.set_name.result (λ (before : List (List ℕ)). IsConstraintGiven c.args.parts.now before)
     (λ (before : List (List ℕ)). IsConstraintGiven (record c.args.parts.now { name = c.set_name.new.slot }) before)
     (is_some c.args.parts.now.name) (table_use _ _ _ _ name refl) c.set_name.ensures.passes
@@ -32,7 +32,7 @@ pub returns-then-eq-clause-read : goal.returns-then-eq-clause-read
 returns-then-eq-clause-read c =
     let w = written_of c.args.source.now in
     let f = c.args.field.now in
-    let name : token_text w f.name ≡ codes "name" = grind (arith, same_text c.token_text-name.result.now c.as_slice.result.now c.eq.result) in
+    let name : token_text w f.name ≡ codes "name" = same_name _ _ _ _ c.eq.result c.eq.ensures c.if-eq.true c.token_text-name.ensures c.as_slice.ensures in
     on_ok_weaker c.set_name.result
     (λ (added : option_to_list c.set_name.new.slot ≡ option_to_list c.args.parts.now.name ++ value_texts w (values_of f.items)) rest.
     simp (name, added, append_assoc))
@@ -42,7 +42,7 @@ pub returns-then-eq-clause-err : goal.returns-then-eq-clause-err
 returns-then-eq-clause-err c =
     let w = written_of c.args.source.now in
     let f = c.args.field.now in
-    let name : token_text w f.name ≡ codes "name" = grind (arith, same_text c.token_text-name.result.now c.as_slice.result.now c.eq.result) in
+    let name : token_text w f.name ≡ codes "name" = same_name _ _ _ _ c.eq.result c.eq.ensures c.if-eq.true c.token_text-name.ensures c.as_slice.ensures in
     slot_stops w constraint_message f text c.set_name.result (λ (before : List (List ℕ)). IsConstraintGiven c.args.parts.now before)
     (is_some c.args.parts.now.name) (table_use _ _ _ _ name refl) c.set_name.ensures.err (λ before given. rw name given.name)
 
@@ -50,7 +50,7 @@ pub returns-then-eq-2-clause-passes : goal.returns-then-eq-2-clause-passes
 returns-then-eq-2-clause-passes c =
     let w = written_of c.args.source.now in
     let f = c.args.field.now in
-    let name : token_text w f.name ≡ codes "enforcement_literal" = grind (arith, same_text c.token_text-name.result.now c.as_slice-else-eq.result.now c.eq-else-eq.result) in
+    let name : token_text w f.name ≡ codes "enforcement_literal" = same_name _ _ _ _ c.eq-else-eq.result c.eq-else-eq.ensures c.if-eq-2.true c.token_text-name.ensures c.as_slice-else-eq.ensures in
     if_passes w constraint_message f (IsConstraintGiven c.args.parts.now) (IsConstraintGiven (record c.args.parts.now { enforcement = c.add_refs.new.list })) c.add_refs.result
     (repeated_passes w constraint_message f (number Int32) c.add_refs.result (table_use _ _ _ _ name refl) c.add_refs.ensures.fault)
     (constraint_kept c.args.parts.now (record c.args.parts.now { enforcement = c.add_refs.new.list }) refl refl (token_text w f.name) name)
@@ -59,7 +59,7 @@ pub returns-then-eq-2-clause-read : goal.returns-then-eq-2-clause-read
 returns-then-eq-2-clause-read c =
     let w = written_of c.args.source.now in
     let f = c.args.field.now in
-    let name : token_text w f.name ≡ codes "enforcement_literal" = grind (arith, same_text c.token_text-name.result.now c.as_slice-else-eq.result.now c.eq-else-eq.result) in
+    let name : token_text w f.name ≡ codes "enforcement_literal" = same_name _ _ _ _ c.eq-else-eq.result c.eq-else-eq.ensures c.if-eq-2.true c.token_text-name.ensures c.as_slice-else-eq.ensures in
     on_ok_weaker c.add_refs.result
     (λ (added : c.add_refs.new.list.items ≡ c.args.parts.now.enforcement.items ++ value_numbers w (values_of f.items)) rest.
     simp (name, added, append_assoc))
@@ -69,7 +69,7 @@ pub returns-then-eq-2-clause-err : goal.returns-then-eq-2-clause-err
 returns-then-eq-2-clause-err c =
     let w = written_of c.args.source.now in
     let f = c.args.field.now in
-    let name : token_text w f.name ≡ codes "enforcement_literal" = grind (arith, same_text c.token_text-name.result.now c.as_slice-else-eq.result.now c.eq-else-eq.result) in
+    let name : token_text w f.name ≡ codes "enforcement_literal" = same_name _ _ _ _ c.eq-else-eq.result c.eq-else-eq.ensures c.if-eq-2.true c.token_text-name.ensures c.as_slice-else-eq.ensures in
     if_stops w constraint_message f (IsConstraintGiven c.args.parts.now) c.add_refs.result
     (repeated_stops w constraint_message f (number Int32) c.add_refs.result (table_use _ _ _ _ name refl) c.add_refs.ensures.err)
 

@@ -8,7 +8,7 @@ use Rattle.cps_schema.specs.Written.{token_text}
 use Rattle.cps_schema.specs.Tables.{expression_message, number, use_in, table_of}
 use Rattle.cps_schema.specs.Readings.{value_numbers}
 use Rattle.cps_schema.specs.Parts.{expression_slots}
-use Rattle.cps_schema.proofs.Steps.{same_text, table_use, repeated_passes, repeated_stops, not_read_stops, if_passes, if_stops}
+use Rattle.cps_schema.proofs.Steps.{same_name, table_use, repeated_passes, repeated_stops, not_read_stops, if_passes, if_stops}
 use Rattle.cps_schema.specs.Slots.{AreGiven}
 use Rattle.cps_schema.proofs.Slots.{given_after, slot_passes, slot_stops}
 use Rattle.cps_schema.proofs.expression.add_field.Goals as goal
@@ -17,7 +17,7 @@ pub returns-then-eq-clause-passes : goal.returns-then-eq-clause-passes
 returns-then-eq-clause-passes c =
     let w = written_of c.args.source.now in
     let f = c.args.field.now in
-    let name : token_text w f.name ≡ codes "vars" = grind (arith, same_text c.token_text-name.result.now c.as_slice.result.now c.eq.result) in
+    let name : token_text w f.name ≡ codes "vars" = same_name _ _ _ _ c.eq.result c.eq.ensures c.if-eq.true c.token_text-name.ensures c.as_slice.ensures in
     if_passes w expression_message f (λ (before : List (List ℕ)). AreGiven (expression_slots c.args.parts.now) before) (λ (before : List (List ℕ)). AreGiven (expression_slots c.args.parts.now) before) c.add_refs.result
     (repeated_passes w expression_message f (number Int32) c.add_refs.result (table_use _ _ _ _ name refl) c.add_refs.ensures.fault)
     (λ before given. given_after (token_text w f.name) (codes "vars") (expression_slots c.args.parts.now) before name given)
@@ -26,7 +26,7 @@ pub returns-then-eq-clause-read : goal.returns-then-eq-clause-read
 returns-then-eq-clause-read c =
     let w = written_of c.args.source.now in
     let f = c.args.field.now in
-    let name : token_text w f.name ≡ codes "vars" = grind (arith, same_text c.token_text-name.result.now c.as_slice.result.now c.eq.result) in
+    let name : token_text w f.name ≡ codes "vars" = same_name _ _ _ _ c.eq.result c.eq.ensures c.if-eq.true c.token_text-name.ensures c.as_slice.ensures in
     on_ok_weaker c.add_refs.result
     (λ (added : c.add_refs.new.list.items ≡ c.args.parts.now.vars.items ++ value_numbers w (values_of f.items)) rest.
     simp (name, added, append_assoc))
@@ -36,7 +36,7 @@ pub returns-then-eq-clause-err : goal.returns-then-eq-clause-err
 returns-then-eq-clause-err c =
     let w = written_of c.args.source.now in
     let f = c.args.field.now in
-    let name : token_text w f.name ≡ codes "vars" = grind (arith, same_text c.token_text-name.result.now c.as_slice.result.now c.eq.result) in
+    let name : token_text w f.name ≡ codes "vars" = same_name _ _ _ _ c.eq.result c.eq.ensures c.if-eq.true c.token_text-name.ensures c.as_slice.ensures in
     if_stops w expression_message f (λ (before : List (List ℕ)). AreGiven (expression_slots c.args.parts.now) before) c.add_refs.result
     (repeated_stops w expression_message f (number Int32) c.add_refs.result (table_use _ _ _ _ name refl) c.add_refs.ensures.err)
 
@@ -44,7 +44,7 @@ pub returns-then-eq-2-clause-passes : goal.returns-then-eq-2-clause-passes
 returns-then-eq-2-clause-passes c =
     let w = written_of c.args.source.now in
     let f = c.args.field.now in
-    let name : token_text w f.name ≡ codes "coeffs" = grind (arith, same_text c.token_text-name.result.now c.as_slice-else-eq.result.now c.eq-else-eq.result) in
+    let name : token_text w f.name ≡ codes "coeffs" = same_name _ _ _ _ c.eq-else-eq.result c.eq-else-eq.ensures c.if-eq-2.true c.token_text-name.ensures c.as_slice-else-eq.ensures in
     if_passes w expression_message f (λ (before : List (List ℕ)). AreGiven (expression_slots c.args.parts.now) before) (λ (before : List (List ℕ)). AreGiven (expression_slots c.args.parts.now) before) c.add_ints.result
     (repeated_passes w expression_message f (number Int64) c.add_ints.result (table_use _ _ _ _ name refl) c.add_ints.ensures.fault)
     (λ before given. given_after (token_text w f.name) (codes "coeffs") (expression_slots c.args.parts.now) before name given)
@@ -53,7 +53,7 @@ pub returns-then-eq-2-clause-read : goal.returns-then-eq-2-clause-read
 returns-then-eq-2-clause-read c =
     let w = written_of c.args.source.now in
     let f = c.args.field.now in
-    let name : token_text w f.name ≡ codes "coeffs" = grind (arith, same_text c.token_text-name.result.now c.as_slice-else-eq.result.now c.eq-else-eq.result) in
+    let name : token_text w f.name ≡ codes "coeffs" = same_name _ _ _ _ c.eq-else-eq.result c.eq-else-eq.ensures c.if-eq-2.true c.token_text-name.ensures c.as_slice-else-eq.ensures in
     on_ok_weaker c.add_ints.result
     (λ (added : c.add_ints.new.list.items ≡ c.args.parts.now.coeffs.items ++ value_numbers w (values_of f.items)) rest.
     simp (name, added, append_assoc))
@@ -63,7 +63,7 @@ pub returns-then-eq-2-clause-err : goal.returns-then-eq-2-clause-err
 returns-then-eq-2-clause-err c =
     let w = written_of c.args.source.now in
     let f = c.args.field.now in
-    let name : token_text w f.name ≡ codes "coeffs" = grind (arith, same_text c.token_text-name.result.now c.as_slice-else-eq.result.now c.eq-else-eq.result) in
+    let name : token_text w f.name ≡ codes "coeffs" = same_name _ _ _ _ c.eq-else-eq.result c.eq-else-eq.ensures c.if-eq-2.true c.token_text-name.ensures c.as_slice-else-eq.ensures in
     if_stops w expression_message f (λ (before : List (List ℕ)). AreGiven (expression_slots c.args.parts.now) before) c.add_ints.result
     (repeated_stops w expression_message f (number Int64) c.add_ints.result (table_use _ _ _ _ name refl) c.add_ints.ensures.err)
 
@@ -71,7 +71,7 @@ pub returns-then-eq-3-clause-passes : goal.returns-then-eq-3-clause-passes
 returns-then-eq-3-clause-passes c =
     let w = written_of c.args.source.now in
     let f = c.args.field.now in
-    let name : token_text w f.name ≡ codes "offset" = grind (arith, same_text c.token_text-name.result.now c.as_slice-else-eq-2.result.now c.eq-else-eq-2.result) in
+    let name : token_text w f.name ≡ codes "offset" = same_name _ _ _ _ c.eq-else-eq-2.result c.eq-else-eq-2.ensures c.if-eq-3.true c.token_text-name.ensures c.as_slice-else-eq-2.ensures in
     slot_passes w expression_message f (number Int64) c.set_number.result (λ (before : List (List ℕ)). AreGiven (expression_slots c.args.parts.now) before) (λ (before : List (List ℕ)). AreGiven (expression_slots (record c.args.parts.now { offset = c.set_number.new.slot })) before)
     (is_some c.args.parts.now.offset) (table_use _ _ _ _ name refl) c.set_number.ensures.passes
     (λ before given. rw name given.0)
@@ -84,7 +84,7 @@ pub returns-then-eq-3-clause-read : goal.returns-then-eq-3-clause-read
 returns-then-eq-3-clause-read c =
     let w = written_of c.args.source.now in
     let f = c.args.field.now in
-    let name : token_text w f.name ≡ codes "offset" = grind (arith, same_text c.token_text-name.result.now c.as_slice-else-eq-2.result.now c.eq-else-eq-2.result) in
+    let name : token_text w f.name ≡ codes "offset" = same_name _ _ _ _ c.eq-else-eq-2.result c.eq-else-eq-2.ensures c.if-eq-3.true c.token_text-name.ensures c.as_slice-else-eq-2.ensures in
     on_ok_weaker c.set_number.result
     (λ (added : option_to_list c.set_number.new.slot ≡ option_to_list c.args.parts.now.offset ++ value_numbers w (values_of f.items)) rest.
     simp (name, added, append_assoc))
@@ -94,7 +94,7 @@ pub returns-then-eq-3-clause-err : goal.returns-then-eq-3-clause-err
 returns-then-eq-3-clause-err c =
     let w = written_of c.args.source.now in
     let f = c.args.field.now in
-    let name : token_text w f.name ≡ codes "offset" = grind (arith, same_text c.token_text-name.result.now c.as_slice-else-eq-2.result.now c.eq-else-eq-2.result) in
+    let name : token_text w f.name ≡ codes "offset" = same_name _ _ _ _ c.eq-else-eq-2.result c.eq-else-eq-2.ensures c.if-eq-3.true c.token_text-name.ensures c.as_slice-else-eq-2.ensures in
     slot_stops w expression_message f (number Int64) c.set_number.result (λ (before : List (List ℕ)). AreGiven (expression_slots c.args.parts.now) before)
     (is_some c.args.parts.now.offset) (table_use _ _ _ _ name refl) c.set_number.ensures.err (λ before given. rw name given.0)
 

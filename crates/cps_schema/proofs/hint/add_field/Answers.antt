@@ -6,21 +6,21 @@ use Rattle.cps_schema.specs.Sources.{written_of}
 use Rattle.cps_schema.specs.Written.{token_text}
 use Rattle.cps_schema.specs.Tables.{hint_message, number, use_in, table_of}
 use Rattle.cps_schema.specs.Readings.{value_numbers}
-use Rattle.cps_schema.proofs.Steps.{same_text, table_use, repeated_passes, repeated_stops, not_read_stops}
+use Rattle.cps_schema.proofs.Steps.{same_name, table_use, repeated_passes, repeated_stops, not_read_stops}
 use Rattle.cps_schema.proofs.hint.add_field.Goals as goal
 
 pub returns-then-eq-clause-passes : goal.returns-then-eq-clause-passes
 returns-then-eq-clause-passes c =
     let w = written_of c.args.source.now in
     let f = c.args.field.now in
-    let name : token_text w f.name ≡ codes "vars" = grind (arith, same_text c.token_text-name.result.now c.as_slice.result.now c.eq.result) in
+    let name : token_text w f.name ≡ codes "vars" = same_name _ _ _ _ c.eq.result c.eq.ensures c.if-eq.true c.token_text-name.ensures c.as_slice.ensures in
     repeated_passes w hint_message f (number Int32) c.add_refs.result (table_use _ _ _ _ name refl) c.add_refs.ensures.fault
 
 pub returns-then-eq-clause-read : goal.returns-then-eq-clause-read
 returns-then-eq-clause-read c =
     let w = written_of c.args.source.now in
     let f = c.args.field.now in
-    let name : token_text w f.name ≡ codes "vars" = grind (arith, same_text c.token_text-name.result.now c.as_slice.result.now c.eq.result) in
+    let name : token_text w f.name ≡ codes "vars" = same_name _ _ _ _ c.eq.result c.eq.ensures c.if-eq.true c.token_text-name.ensures c.as_slice.ensures in
     on_ok_weaker c.add_refs.result
     (λ (added : c.add_refs.new.list.items ≡ c.args.parts.now.vars.items ++ value_numbers w (values_of f.items)) rest.
     simp (name, added, append_assoc))
@@ -30,21 +30,21 @@ pub returns-then-eq-clause-err : goal.returns-then-eq-clause-err
 returns-then-eq-clause-err c =
     let w = written_of c.args.source.now in
     let f = c.args.field.now in
-    let name : token_text w f.name ≡ codes "vars" = grind (arith, same_text c.token_text-name.result.now c.as_slice.result.now c.eq.result) in
+    let name : token_text w f.name ≡ codes "vars" = same_name _ _ _ _ c.eq.result c.eq.ensures c.if-eq.true c.token_text-name.ensures c.as_slice.ensures in
     repeated_stops w hint_message f (number Int32) c.add_refs.result (table_use _ _ _ _ name refl) c.add_refs.ensures.err
 
 pub returns-then-eq-2-clause-passes : goal.returns-then-eq-2-clause-passes
 returns-then-eq-2-clause-passes c =
     let w = written_of c.args.source.now in
     let f = c.args.field.now in
-    let name : token_text w f.name ≡ codes "values" = grind (arith, same_text c.token_text-name.result.now c.as_slice-else-eq.result.now c.eq-else-eq.result) in
+    let name : token_text w f.name ≡ codes "values" = same_name _ _ _ _ c.eq-else-eq.result c.eq-else-eq.ensures c.if-eq-2.true c.token_text-name.ensures c.as_slice-else-eq.ensures in
     repeated_passes w hint_message f (number Int64) c.add_ints.result (table_use _ _ _ _ name refl) c.add_ints.ensures.fault
 
 pub returns-then-eq-2-clause-read : goal.returns-then-eq-2-clause-read
 returns-then-eq-2-clause-read c =
     let w = written_of c.args.source.now in
     let f = c.args.field.now in
-    let name : token_text w f.name ≡ codes "values" = grind (arith, same_text c.token_text-name.result.now c.as_slice-else-eq.result.now c.eq-else-eq.result) in
+    let name : token_text w f.name ≡ codes "values" = same_name _ _ _ _ c.eq-else-eq.result c.eq-else-eq.ensures c.if-eq-2.true c.token_text-name.ensures c.as_slice-else-eq.ensures in
     on_ok_weaker c.add_ints.result
     (λ (added : c.add_ints.new.list.items ≡ c.args.parts.now.values.items ++ value_numbers w (values_of f.items)) rest.
     simp (name, added, append_assoc))
@@ -54,7 +54,7 @@ pub returns-then-eq-2-clause-err : goal.returns-then-eq-2-clause-err
 returns-then-eq-2-clause-err c =
     let w = written_of c.args.source.now in
     let f = c.args.field.now in
-    let name : token_text w f.name ≡ codes "values" = grind (arith, same_text c.token_text-name.result.now c.as_slice-else-eq.result.now c.eq-else-eq.result) in
+    let name : token_text w f.name ≡ codes "values" = same_name _ _ _ _ c.eq-else-eq.result c.eq-else-eq.ensures c.if-eq-2.true c.token_text-name.ensures c.as_slice-else-eq.ensures in
     repeated_stops w hint_message f (number Int64) c.add_ints.result (table_use _ _ _ _ name refl) c.add_ints.ensures.err
 
 pub returns-else-eq-2-clause-err : goal.returns-else-eq-2-clause-err

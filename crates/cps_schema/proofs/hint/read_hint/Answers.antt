@@ -22,7 +22,10 @@ loop-field-preserved c =
     let before = c.loop-field.invariant.0.0 in
     let rest = field_list (drop (i + 1) items) in
     let h : i < length items = omega arith in
-    let cut = cut_field items i h c.field-item.is in
-    ((token_text w c.field-item.result.name ∷ before,
-    c.loop-field.invariant.0.1 ∙ ap (λ t. fields_fault w hint_message before t) cut ∙ c.in_ok-add_field.ensures.passes before rest),
-    c.loop-field.invariant.1 ∙ ap (λ t. hint_from w c.loop-field.parts t) cut ∙ c.in_ok-add_field.ensures.read rest)
+    let cut = cut_field items i h c.field-item.is in (
+      (
+        token_text w c.field-item.result.name ∷ before,
+        c.loop-field.invariant.0.1 ∙ ap (λ t. fields_fault w hint_message before t) cut ∙ c.in_ok-add_field.ensures.passes before rest,
+      ),
+      c.loop-field.invariant.1 ∙ ap (λ t. hint_from w c.loop-field.parts t) cut ∙ c.in_ok-add_field.ensures.read rest,
+    )

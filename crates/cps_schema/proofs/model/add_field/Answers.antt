@@ -8,7 +8,7 @@ use Rattle.cps_schema.specs.Written.{token_text}
 use Rattle.cps_schema.specs.Tables.{model_message, variable_message, constraint_message, objective_message, strategy_message, hint_message, text, message}
 use Rattle.cps_schema.specs.Readings.{value_texts, value_messages, read_variable, read_constraint, read_objective, read_strategy, read_hint}
 use Rattle.cps_schema.specs.Parts.{model_slots}
-use Rattle.cps_schema.proofs.Steps.{same_text, other_text, table_use, repeated_passes, repeated_stops, not_read_stops, if_passes, if_stops}
+use Rattle.cps_schema.proofs.Steps.{same_name, other_text, table_use, repeated_passes, repeated_stops, not_read_stops, if_passes, if_stops}
 use Rattle.cps_schema.specs.Slots.{AreGiven}
 use Rattle.cps_schema.proofs.Slots.{given_after, slot_passes, slot_stops}
 use Rattle.cps_schema.proofs.ModelFields.{no_model_field}
@@ -18,7 +18,7 @@ pub returns-then-eq-clause-passes : goal.returns-then-eq-clause-passes
 returns-then-eq-clause-passes c =
     let w = written_of c.args.source.now in
     let f = c.args.field.now in
-    let name : token_text w f.name ≡ codes "name" = grind (arith, same_text c.token_text-name.result.now c.as_slice.result.now c.eq.result) in
+    let name : token_text w f.name ≡ codes "name" = same_name _ _ _ _ c.eq.result c.eq.ensures c.if-eq.true c.token_text-name.ensures c.as_slice.ensures in
     slot_passes w model_message f (text) c.set_name.result (λ (before : List (List ℕ)). AreGiven (model_slots c.args.parts.now) before) (λ (before : List (List ℕ)). AreGiven (model_slots (record c.args.parts.now { name = c.set_name.new.slot })) before)
     (is_some c.args.parts.now.name) (table_use _ _ _ _ name refl) c.set_name.ensures.passes
     (λ before given. rw name given.0)
@@ -31,7 +31,7 @@ pub returns-then-eq-clause-read : goal.returns-then-eq-clause-read
 returns-then-eq-clause-read c =
     let w = written_of c.args.source.now in
     let f = c.args.field.now in
-    let name : token_text w f.name ≡ codes "name" = grind (arith, same_text c.token_text-name.result.now c.as_slice.result.now c.eq.result) in
+    let name : token_text w f.name ≡ codes "name" = same_name _ _ _ _ c.eq.result c.eq.ensures c.if-eq.true c.token_text-name.ensures c.as_slice.ensures in
     on_ok_weaker c.set_name.result
     (λ (added : option_to_list c.set_name.new.slot ≡ option_to_list c.args.parts.now.name ++ value_texts w (values_of f.items)) rest.
     simp (name, added, append_assoc))
@@ -41,7 +41,7 @@ pub returns-then-eq-clause-err : goal.returns-then-eq-clause-err
 returns-then-eq-clause-err c =
     let w = written_of c.args.source.now in
     let f = c.args.field.now in
-    let name : token_text w f.name ≡ codes "name" = grind (arith, same_text c.token_text-name.result.now c.as_slice.result.now c.eq.result) in
+    let name : token_text w f.name ≡ codes "name" = same_name _ _ _ _ c.eq.result c.eq.ensures c.if-eq.true c.token_text-name.ensures c.as_slice.ensures in
     slot_stops w model_message f (text) c.set_name.result (λ (before : List (List ℕ)). AreGiven (model_slots c.args.parts.now) before)
     (is_some c.args.parts.now.name) (table_use _ _ _ _ name refl) c.set_name.ensures.err (λ before given. rw name given.0)
 
@@ -49,7 +49,7 @@ pub returns-then-eq-2-clause-passes : goal.returns-then-eq-2-clause-passes
 returns-then-eq-2-clause-passes c =
     let w = written_of c.args.source.now in
     let f = c.args.field.now in
-    let name : token_text w f.name ≡ codes "variables" = grind (arith, same_text c.token_text-name.result.now c.as_slice-else-eq.result.now c.eq-else-eq.result) in
+    let name : token_text w f.name ≡ codes "variables" = same_name _ _ _ _ c.eq-else-eq.result c.eq-else-eq.ensures c.if-eq-2.true c.token_text-name.ensures c.as_slice-else-eq.ensures in
     if_passes w model_message f (λ (before : List (List ℕ)). AreGiven (model_slots c.args.parts.now) before) (λ (before : List (List ℕ)). AreGiven (model_slots c.args.parts.now) before) c.add_variables.result
     (repeated_passes w model_message f (message variable_message) c.add_variables.result (table_use _ _ _ _ name refl) c.add_variables.ensures.fault)
     (λ before given. given_after (token_text w f.name) (codes "variables") (model_slots c.args.parts.now) before name given)
@@ -58,7 +58,7 @@ pub returns-then-eq-2-clause-read : goal.returns-then-eq-2-clause-read
 returns-then-eq-2-clause-read c =
     let w = written_of c.args.source.now in
     let f = c.args.field.now in
-    let name : token_text w f.name ≡ codes "variables" = grind (arith, same_text c.token_text-name.result.now c.as_slice-else-eq.result.now c.eq-else-eq.result) in
+    let name : token_text w f.name ≡ codes "variables" = same_name _ _ _ _ c.eq-else-eq.result c.eq-else-eq.ensures c.if-eq-2.true c.token_text-name.ensures c.as_slice-else-eq.ensures in
     on_ok_weaker c.add_variables.result
     (λ (added : c.add_variables.new.variables.items ≡ c.args.parts.now.variables.items ++ map (read_variable w) (value_messages (values_of f.items))) rest.
     simp (name, added, map-append, append_assoc))
@@ -68,7 +68,7 @@ pub returns-then-eq-2-clause-err : goal.returns-then-eq-2-clause-err
 returns-then-eq-2-clause-err c =
     let w = written_of c.args.source.now in
     let f = c.args.field.now in
-    let name : token_text w f.name ≡ codes "variables" = grind (arith, same_text c.token_text-name.result.now c.as_slice-else-eq.result.now c.eq-else-eq.result) in
+    let name : token_text w f.name ≡ codes "variables" = same_name _ _ _ _ c.eq-else-eq.result c.eq-else-eq.ensures c.if-eq-2.true c.token_text-name.ensures c.as_slice-else-eq.ensures in
     if_stops w model_message f (λ (before : List (List ℕ)). AreGiven (model_slots c.args.parts.now) before) c.add_variables.result
     (repeated_stops w model_message f (message variable_message) c.add_variables.result (table_use _ _ _ _ name refl) c.add_variables.ensures.err)
 
@@ -76,7 +76,7 @@ pub returns-then-eq-3-clause-passes : goal.returns-then-eq-3-clause-passes
 returns-then-eq-3-clause-passes c =
     let w = written_of c.args.source.now in
     let f = c.args.field.now in
-    let name : token_text w f.name ≡ codes "constraints" = grind (arith, same_text c.token_text-name.result.now c.as_slice-else-eq-2.result.now c.eq-else-eq-2.result) in
+    let name : token_text w f.name ≡ codes "constraints" = same_name _ _ _ _ c.eq-else-eq-2.result c.eq-else-eq-2.ensures c.if-eq-3.true c.token_text-name.ensures c.as_slice-else-eq-2.ensures in
     if_passes w model_message f (λ (before : List (List ℕ)). AreGiven (model_slots c.args.parts.now) before) (λ (before : List (List ℕ)). AreGiven (model_slots c.args.parts.now) before) c.add_constraints.result
     (repeated_passes w model_message f (message constraint_message) c.add_constraints.result (table_use _ _ _ _ name refl) c.add_constraints.ensures.fault)
     (λ before given. given_after (token_text w f.name) (codes "constraints") (model_slots c.args.parts.now) before name given)
@@ -85,7 +85,7 @@ pub returns-then-eq-3-clause-read : goal.returns-then-eq-3-clause-read
 returns-then-eq-3-clause-read c =
     let w = written_of c.args.source.now in
     let f = c.args.field.now in
-    let name : token_text w f.name ≡ codes "constraints" = grind (arith, same_text c.token_text-name.result.now c.as_slice-else-eq-2.result.now c.eq-else-eq-2.result) in
+    let name : token_text w f.name ≡ codes "constraints" = same_name _ _ _ _ c.eq-else-eq-2.result c.eq-else-eq-2.ensures c.if-eq-3.true c.token_text-name.ensures c.as_slice-else-eq-2.ensures in
     on_ok_weaker c.add_constraints.result
     (λ (added : c.add_constraints.new.constraints.items ≡ c.args.parts.now.constraints.items ++ map (read_constraint w) (value_messages (values_of f.items))) rest.
     simp (name, added, map-append, append_assoc))
@@ -95,7 +95,7 @@ pub returns-then-eq-3-clause-err : goal.returns-then-eq-3-clause-err
 returns-then-eq-3-clause-err c =
     let w = written_of c.args.source.now in
     let f = c.args.field.now in
-    let name : token_text w f.name ≡ codes "constraints" = grind (arith, same_text c.token_text-name.result.now c.as_slice-else-eq-2.result.now c.eq-else-eq-2.result) in
+    let name : token_text w f.name ≡ codes "constraints" = same_name _ _ _ _ c.eq-else-eq-2.result c.eq-else-eq-2.ensures c.if-eq-3.true c.token_text-name.ensures c.as_slice-else-eq-2.ensures in
     if_stops w model_message f (λ (before : List (List ℕ)). AreGiven (model_slots c.args.parts.now) before) c.add_constraints.result
     (repeated_stops w model_message f (message constraint_message) c.add_constraints.result (table_use _ _ _ _ name refl) c.add_constraints.ensures.err)
 
@@ -103,7 +103,7 @@ pub returns-then-eq-4-clause-passes : goal.returns-then-eq-4-clause-passes
 returns-then-eq-4-clause-passes c =
     let w = written_of c.args.source.now in
     let f = c.args.field.now in
-    let name : token_text w f.name ≡ codes "objective" = grind (arith, same_text c.token_text-name.result.now c.as_slice-else-eq-3.result.now c.eq-else-eq-3.result) in
+    let name : token_text w f.name ≡ codes "objective" = same_name _ _ _ _ c.eq-else-eq-3.result c.eq-else-eq-3.ensures c.if-eq-4.true c.token_text-name.ensures c.as_slice-else-eq-3.ensures in
     slot_passes w model_message f (message objective_message) c.set_objective.result (λ (before : List (List ℕ)). AreGiven (model_slots c.args.parts.now) before) (λ (before : List (List ℕ)). AreGiven (model_slots (record c.args.parts.now { objective = c.set_objective.new.objective })) before)
     (is_some c.args.parts.now.objective) (table_use _ _ _ _ name refl) c.set_objective.ensures.passes
     (λ before given. rw name given.1.0)
@@ -116,7 +116,7 @@ pub returns-then-eq-4-clause-read : goal.returns-then-eq-4-clause-read
 returns-then-eq-4-clause-read c =
     let w = written_of c.args.source.now in
     let f = c.args.field.now in
-    let name : token_text w f.name ≡ codes "objective" = grind (arith, same_text c.token_text-name.result.now c.as_slice-else-eq-3.result.now c.eq-else-eq-3.result) in
+    let name : token_text w f.name ≡ codes "objective" = same_name _ _ _ _ c.eq-else-eq-3.result c.eq-else-eq-3.ensures c.if-eq-4.true c.token_text-name.ensures c.as_slice-else-eq-3.ensures in
     on_ok_weaker c.set_objective.result
     (λ (added : option_to_list c.set_objective.new.objective ≡ option_to_list c.args.parts.now.objective ++ map (read_objective w) (value_messages (values_of f.items))) rest.
     simp (name, added, map-append, append_assoc))
@@ -126,7 +126,7 @@ pub returns-then-eq-4-clause-err : goal.returns-then-eq-4-clause-err
 returns-then-eq-4-clause-err c =
     let w = written_of c.args.source.now in
     let f = c.args.field.now in
-    let name : token_text w f.name ≡ codes "objective" = grind (arith, same_text c.token_text-name.result.now c.as_slice-else-eq-3.result.now c.eq-else-eq-3.result) in
+    let name : token_text w f.name ≡ codes "objective" = same_name _ _ _ _ c.eq-else-eq-3.result c.eq-else-eq-3.ensures c.if-eq-4.true c.token_text-name.ensures c.as_slice-else-eq-3.ensures in
     slot_stops w model_message f (message objective_message) c.set_objective.result (λ (before : List (List ℕ)). AreGiven (model_slots c.args.parts.now) before)
     (is_some c.args.parts.now.objective) (table_use _ _ _ _ name refl) c.set_objective.ensures.err (λ before given. rw name given.1.0)
 
@@ -134,7 +134,7 @@ pub returns-then-eq-5-clause-passes : goal.returns-then-eq-5-clause-passes
 returns-then-eq-5-clause-passes c =
     let w = written_of c.args.source.now in
     let f = c.args.field.now in
-    let name : token_text w f.name ≡ codes "search_strategy" = grind (arith, same_text c.token_text-name.result.now c.as_slice-else-eq-4.result.now c.eq-else-eq-4.result) in
+    let name : token_text w f.name ≡ codes "search_strategy" = same_name _ _ _ _ c.eq-else-eq-4.result c.eq-else-eq-4.ensures c.if-eq-5.true c.token_text-name.ensures c.as_slice-else-eq-4.ensures in
     if_passes w model_message f (λ (before : List (List ℕ)). AreGiven (model_slots c.args.parts.now) before) (λ (before : List (List ℕ)). AreGiven (model_slots c.args.parts.now) before) c.add_strategies.result
     (repeated_passes w model_message f (message strategy_message) c.add_strategies.result (table_use _ _ _ _ name refl) c.add_strategies.ensures.fault)
     (λ before given. given_after (token_text w f.name) (codes "search_strategy") (model_slots c.args.parts.now) before name given)
@@ -143,7 +143,7 @@ pub returns-then-eq-5-clause-read : goal.returns-then-eq-5-clause-read
 returns-then-eq-5-clause-read c =
     let w = written_of c.args.source.now in
     let f = c.args.field.now in
-    let name : token_text w f.name ≡ codes "search_strategy" = grind (arith, same_text c.token_text-name.result.now c.as_slice-else-eq-4.result.now c.eq-else-eq-4.result) in
+    let name : token_text w f.name ≡ codes "search_strategy" = same_name _ _ _ _ c.eq-else-eq-4.result c.eq-else-eq-4.ensures c.if-eq-5.true c.token_text-name.ensures c.as_slice-else-eq-4.ensures in
     on_ok_weaker c.add_strategies.result
     (λ (added : c.add_strategies.new.strategies.items ≡ c.args.parts.now.strategies.items ++ map (read_strategy w) (value_messages (values_of f.items))) rest.
     simp (name, added, map-append, append_assoc))
@@ -153,7 +153,7 @@ pub returns-then-eq-5-clause-err : goal.returns-then-eq-5-clause-err
 returns-then-eq-5-clause-err c =
     let w = written_of c.args.source.now in
     let f = c.args.field.now in
-    let name : token_text w f.name ≡ codes "search_strategy" = grind (arith, same_text c.token_text-name.result.now c.as_slice-else-eq-4.result.now c.eq-else-eq-4.result) in
+    let name : token_text w f.name ≡ codes "search_strategy" = same_name _ _ _ _ c.eq-else-eq-4.result c.eq-else-eq-4.ensures c.if-eq-5.true c.token_text-name.ensures c.as_slice-else-eq-4.ensures in
     if_stops w model_message f (λ (before : List (List ℕ)). AreGiven (model_slots c.args.parts.now) before) c.add_strategies.result
     (repeated_stops w model_message f (message strategy_message) c.add_strategies.result (table_use _ _ _ _ name refl) c.add_strategies.ensures.err)
 
@@ -161,7 +161,7 @@ pub returns-then-eq-6-clause-passes : goal.returns-then-eq-6-clause-passes
 returns-then-eq-6-clause-passes c =
     let w = written_of c.args.source.now in
     let f = c.args.field.now in
-    let name : token_text w f.name ≡ codes "solution_hint" = grind (arith, same_text c.token_text-name.result.now c.as_slice-else-eq-5.result.now c.eq-else-eq-5.result) in
+    let name : token_text w f.name ≡ codes "solution_hint" = same_name _ _ _ _ c.eq-else-eq-5.result c.eq-else-eq-5.ensures c.if-eq-6.true c.token_text-name.ensures c.as_slice-else-eq-5.ensures in
     slot_passes w model_message f (message hint_message) c.set_hint.result (λ (before : List (List ℕ)). AreGiven (model_slots c.args.parts.now) before) (λ (before : List (List ℕ)). AreGiven (model_slots (record c.args.parts.now { hint = c.set_hint.new.hint })) before)
     (is_some c.args.parts.now.hint) (table_use _ _ _ _ name refl) c.set_hint.ensures.passes
     (λ before given. rw name given.1.1.0)
@@ -174,7 +174,7 @@ pub returns-then-eq-6-clause-read : goal.returns-then-eq-6-clause-read
 returns-then-eq-6-clause-read c =
     let w = written_of c.args.source.now in
     let f = c.args.field.now in
-    let name : token_text w f.name ≡ codes "solution_hint" = grind (arith, same_text c.token_text-name.result.now c.as_slice-else-eq-5.result.now c.eq-else-eq-5.result) in
+    let name : token_text w f.name ≡ codes "solution_hint" = same_name _ _ _ _ c.eq-else-eq-5.result c.eq-else-eq-5.ensures c.if-eq-6.true c.token_text-name.ensures c.as_slice-else-eq-5.ensures in
     on_ok_weaker c.set_hint.result
     (λ (added : option_to_list c.set_hint.new.hint ≡ option_to_list c.args.parts.now.hint ++ map (read_hint w) (value_messages (values_of f.items))) rest.
     simp (name, added, map-append, append_assoc))
@@ -184,7 +184,7 @@ pub returns-then-eq-6-clause-err : goal.returns-then-eq-6-clause-err
 returns-then-eq-6-clause-err c =
     let w = written_of c.args.source.now in
     let f = c.args.field.now in
-    let name : token_text w f.name ≡ codes "solution_hint" = grind (arith, same_text c.token_text-name.result.now c.as_slice-else-eq-5.result.now c.eq-else-eq-5.result) in
+    let name : token_text w f.name ≡ codes "solution_hint" = same_name _ _ _ _ c.eq-else-eq-5.result c.eq-else-eq-5.ensures c.if-eq-6.true c.token_text-name.ensures c.as_slice-else-eq-5.ensures in
     slot_stops w model_message f (message hint_message) c.set_hint.result (λ (before : List (List ℕ)). AreGiven (model_slots c.args.parts.now) before)
     (is_some c.args.parts.now.hint) (table_use _ _ _ _ name refl) c.set_hint.ensures.err (λ before given. rw name given.1.1.0)
 

@@ -7,7 +7,7 @@ use Rattle.cps_schema.specs.Written.{token_text}
 use Rattle.cps_schema.specs.Tables.{objective_message, number, use_in, table_of}
 use Rattle.cps_schema.specs.Readings.{value_numbers}
 use Rattle.cps_schema.specs.Parts.{IsGiven}
-use Rattle.cps_schema.proofs.Steps.{same_text, table_use, repeated_passes, repeated_stops, not_read_stops, if_passes, if_stops}
+use Rattle.cps_schema.proofs.Steps.{same_name, table_use, repeated_passes, repeated_stops, not_read_stops, if_passes, if_stops}
 use Rattle.cps_schema.proofs.Objectives.{other_given, offset_passes, offset_stops, scaling_passes, scaling_stops}
 use Rattle.cps_schema.proofs.objective.add_field.Goals as goal
 
@@ -15,7 +15,7 @@ pub returns-then-eq-clause-passes : goal.returns-then-eq-clause-passes
 returns-then-eq-clause-passes c =
     let w = written_of c.args.source.now in
     let f = c.args.field.now in
-    let name : token_text w f.name ≡ codes "vars" = grind (arith, same_text c.token_text-name.result.now c.as_slice.result.now c.eq.result) in
+    let name : token_text w f.name ≡ codes "vars" = same_name _ _ _ _ c.eq.result c.eq.ensures c.if-eq.true c.token_text-name.ensures c.as_slice.ensures in
     if_passes w objective_message f (IsGiven c.args.parts.now.offset c.args.parts.now.scaling) (IsGiven c.args.parts.now.offset c.args.parts.now.scaling) c.add_refs.result
     (repeated_passes w objective_message f (number Int32) c.add_refs.result (table_use _ _ _ _ name refl) c.add_refs.ensures.fault)
     (other_given c.args.parts.now.offset c.args.parts.now.scaling (token_text w f.name) (codes "vars") name refl refl)
@@ -24,7 +24,7 @@ pub returns-then-eq-clause-read : goal.returns-then-eq-clause-read
 returns-then-eq-clause-read c =
     let w = written_of c.args.source.now in
     let f = c.args.field.now in
-    let name : token_text w f.name ≡ codes "vars" = grind (arith, same_text c.token_text-name.result.now c.as_slice.result.now c.eq.result) in
+    let name : token_text w f.name ≡ codes "vars" = same_name _ _ _ _ c.eq.result c.eq.ensures c.if-eq.true c.token_text-name.ensures c.as_slice.ensures in
     on_ok_weaker c.add_refs.result
     (λ (added : c.add_refs.new.list.items ≡ c.args.parts.now.vars.items ++ value_numbers w (values_of f.items)) rest.
     simp (name, added, append_assoc))
@@ -34,7 +34,7 @@ pub returns-then-eq-clause-err : goal.returns-then-eq-clause-err
 returns-then-eq-clause-err c =
     let w = written_of c.args.source.now in
     let f = c.args.field.now in
-    let name : token_text w f.name ≡ codes "vars" = grind (arith, same_text c.token_text-name.result.now c.as_slice.result.now c.eq.result) in
+    let name : token_text w f.name ≡ codes "vars" = same_name _ _ _ _ c.eq.result c.eq.ensures c.if-eq.true c.token_text-name.ensures c.as_slice.ensures in
     if_stops w objective_message f (IsGiven c.args.parts.now.offset c.args.parts.now.scaling) c.add_refs.result
     (repeated_stops w objective_message f (number Int32) c.add_refs.result (table_use _ _ _ _ name refl) c.add_refs.ensures.err)
 
@@ -42,7 +42,7 @@ pub returns-then-eq-2-clause-passes : goal.returns-then-eq-2-clause-passes
 returns-then-eq-2-clause-passes c =
     let w = written_of c.args.source.now in
     let f = c.args.field.now in
-    let name : token_text w f.name ≡ codes "coeffs" = grind (arith, same_text c.token_text-name.result.now c.as_slice-else-eq.result.now c.eq-else-eq.result) in
+    let name : token_text w f.name ≡ codes "coeffs" = same_name _ _ _ _ c.eq-else-eq.result c.eq-else-eq.ensures c.if-eq-2.true c.token_text-name.ensures c.as_slice-else-eq.ensures in
     if_passes w objective_message f (IsGiven c.args.parts.now.offset c.args.parts.now.scaling) (IsGiven c.args.parts.now.offset c.args.parts.now.scaling) c.add_ints.result
     (repeated_passes w objective_message f (number Int64) c.add_ints.result (table_use _ _ _ _ name refl) c.add_ints.ensures.fault)
     (other_given c.args.parts.now.offset c.args.parts.now.scaling (token_text w f.name) (codes "coeffs") name refl refl)
@@ -51,7 +51,7 @@ pub returns-then-eq-2-clause-read : goal.returns-then-eq-2-clause-read
 returns-then-eq-2-clause-read c =
     let w = written_of c.args.source.now in
     let f = c.args.field.now in
-    let name : token_text w f.name ≡ codes "coeffs" = grind (arith, same_text c.token_text-name.result.now c.as_slice-else-eq.result.now c.eq-else-eq.result) in
+    let name : token_text w f.name ≡ codes "coeffs" = same_name _ _ _ _ c.eq-else-eq.result c.eq-else-eq.ensures c.if-eq-2.true c.token_text-name.ensures c.as_slice-else-eq.ensures in
     on_ok_weaker c.add_ints.result
     (λ (added : c.add_ints.new.list.items ≡ c.args.parts.now.coeffs.items ++ value_numbers w (values_of f.items)) rest.
     simp (name, added, append_assoc))
@@ -61,7 +61,7 @@ pub returns-then-eq-2-clause-err : goal.returns-then-eq-2-clause-err
 returns-then-eq-2-clause-err c =
     let w = written_of c.args.source.now in
     let f = c.args.field.now in
-    let name : token_text w f.name ≡ codes "coeffs" = grind (arith, same_text c.token_text-name.result.now c.as_slice-else-eq.result.now c.eq-else-eq.result) in
+    let name : token_text w f.name ≡ codes "coeffs" = same_name _ _ _ _ c.eq-else-eq.result c.eq-else-eq.ensures c.if-eq-2.true c.token_text-name.ensures c.as_slice-else-eq.ensures in
     if_stops w objective_message f (IsGiven c.args.parts.now.offset c.args.parts.now.scaling) c.add_ints.result
     (repeated_stops w objective_message f (number Int64) c.add_ints.result (table_use _ _ _ _ name refl) c.add_ints.ensures.err)
 
@@ -69,35 +69,35 @@ pub returns-then-eq-3-clause-passes : goal.returns-then-eq-3-clause-passes
 returns-then-eq-3-clause-passes c =
     let w = written_of c.args.source.now in
     let f = c.args.field.now in
-    let name : token_text w f.name ≡ codes "offset" = grind (arith, same_text c.token_text-name.result.now c.as_slice-else-eq-2.result.now c.eq-else-eq-2.result) in
+    let name : token_text w f.name ≡ codes "offset" = same_name _ _ _ _ c.eq-else-eq-2.result c.eq-else-eq-2.ensures c.if-eq-3.true c.token_text-name.ensures c.as_slice-else-eq-2.ensures in
     offset_passes w f c.set_number.result c.args.parts.now.offset c.set_number.new.slot c.args.parts.now.scaling name c.set_number.ensures.passes c.set_number.ensures.some
 
 pub returns-then-eq-3-clause-err : goal.returns-then-eq-3-clause-err
 returns-then-eq-3-clause-err c =
     let w = written_of c.args.source.now in
     let f = c.args.field.now in
-    let name : token_text w f.name ≡ codes "offset" = grind (arith, same_text c.token_text-name.result.now c.as_slice-else-eq-2.result.now c.eq-else-eq-2.result) in
+    let name : token_text w f.name ≡ codes "offset" = same_name _ _ _ _ c.eq-else-eq-2.result c.eq-else-eq-2.ensures c.if-eq-3.true c.token_text-name.ensures c.as_slice-else-eq-2.ensures in
     offset_stops w f c.set_number.result c.args.parts.now.offset c.args.parts.now.scaling name c.set_number.ensures.err
 
 pub returns-then-eq-4-clause-passes : goal.returns-then-eq-4-clause-passes
 returns-then-eq-4-clause-passes c =
     let w = written_of c.args.source.now in
     let f = c.args.field.now in
-    let name : token_text w f.name ≡ codes "scaling_factor" = grind (arith, same_text c.token_text-name.result.now c.as_slice-else-eq-3.result.now c.eq-else-eq-3.result) in
+    let name : token_text w f.name ≡ codes "scaling_factor" = same_name _ _ _ _ c.eq-else-eq-3.result c.eq-else-eq-3.ensures c.if-eq-4.true c.token_text-name.ensures c.as_slice-else-eq-3.ensures in
     scaling_passes w f c.set_number-then-eq-4.result c.args.parts.now.scaling c.set_number-then-eq-4.new.slot c.args.parts.now.offset name c.set_number-then-eq-4.ensures.passes c.set_number-then-eq-4.ensures.some
 
 pub returns-then-eq-4-clause-err : goal.returns-then-eq-4-clause-err
 returns-then-eq-4-clause-err c =
     let w = written_of c.args.source.now in
     let f = c.args.field.now in
-    let name : token_text w f.name ≡ codes "scaling_factor" = grind (arith, same_text c.token_text-name.result.now c.as_slice-else-eq-3.result.now c.eq-else-eq-3.result) in
+    let name : token_text w f.name ≡ codes "scaling_factor" = same_name _ _ _ _ c.eq-else-eq-3.result c.eq-else-eq-3.ensures c.if-eq-4.true c.token_text-name.ensures c.as_slice-else-eq-3.ensures in
     scaling_stops w f c.set_number-then-eq-4.result c.args.parts.now.scaling c.args.parts.now.offset name c.set_number-then-eq-4.ensures.err
 
 pub returns-then-eq-5-clause-passes : goal.returns-then-eq-5-clause-passes
 returns-then-eq-5-clause-passes c =
     let w = written_of c.args.source.now in
     let f = c.args.field.now in
-    let name : token_text w f.name ≡ codes "domain" = grind (arith, same_text c.token_text-name.result.now c.as_slice-else-eq-4.result.now c.eq-else-eq-4.result) in
+    let name : token_text w f.name ≡ codes "domain" = same_name _ _ _ _ c.eq-else-eq-4.result c.eq-else-eq-4.ensures c.if-eq-5.true c.token_text-name.ensures c.as_slice-else-eq-4.ensures in
     if_passes w objective_message f (IsGiven c.args.parts.now.offset c.args.parts.now.scaling) (IsGiven c.args.parts.now.offset c.args.parts.now.scaling) c.add_ints-then-eq-5.result
     (repeated_passes w objective_message f (number Int64) c.add_ints-then-eq-5.result (table_use _ _ _ _ name refl) c.add_ints-then-eq-5.ensures.fault)
     (other_given c.args.parts.now.offset c.args.parts.now.scaling (token_text w f.name) (codes "domain") name refl refl)
@@ -106,7 +106,7 @@ pub returns-then-eq-5-clause-err : goal.returns-then-eq-5-clause-err
 returns-then-eq-5-clause-err c =
     let w = written_of c.args.source.now in
     let f = c.args.field.now in
-    let name : token_text w f.name ≡ codes "domain" = grind (arith, same_text c.token_text-name.result.now c.as_slice-else-eq-4.result.now c.eq-else-eq-4.result) in
+    let name : token_text w f.name ≡ codes "domain" = same_name _ _ _ _ c.eq-else-eq-4.result c.eq-else-eq-4.ensures c.if-eq-5.true c.token_text-name.ensures c.as_slice-else-eq-4.ensures in
     if_stops w objective_message f (IsGiven c.args.parts.now.offset c.args.parts.now.scaling) c.add_ints-then-eq-5.result
     (repeated_stops w objective_message f (number Int64) c.add_ints-then-eq-5.result (table_use _ _ _ _ name refl) c.add_ints-then-eq-5.ensures.err)
 

@@ -8,7 +8,7 @@ use Rattle.cps_schema.specs.Written.{token_text}
 use Rattle.cps_schema.specs.Tables.{variable_message, number, text, use_in, table_of}
 use Rattle.cps_schema.specs.Readings.{value_numbers, value_texts}
 use Rattle.cps_schema.specs.Parts.{variable_slots}
-use Rattle.cps_schema.proofs.Steps.{same_text, table_use, repeated_passes, repeated_stops, not_read_stops, if_passes, if_stops}
+use Rattle.cps_schema.proofs.Steps.{same_name, table_use, repeated_passes, repeated_stops, not_read_stops, if_passes, if_stops}
 use Rattle.cps_schema.specs.Slots.{AreGiven}
 use Rattle.cps_schema.proofs.Slots.{given_after, slot_passes, slot_stops}
 use Rattle.cps_schema.proofs.variable.add_field.Goals as goal
@@ -17,7 +17,7 @@ pub returns-then-eq-clause-passes : goal.returns-then-eq-clause-passes
 returns-then-eq-clause-passes c =
     let w = written_of c.args.source.now in
     let f = c.args.field.now in
-    let name : token_text w f.name ≡ codes "name" = grind (arith, same_text c.token_text-name.result.now c.as_slice.result.now c.eq.result) in
+    let name : token_text w f.name ≡ codes "name" = same_name _ _ _ _ c.eq.result c.eq.ensures c.if-eq.true c.token_text-name.ensures c.as_slice.ensures in
     slot_passes w variable_message f (text) c.set_name.result (λ (before : List (List ℕ)). AreGiven (variable_slots c.args.parts.now) before) (λ (before : List (List ℕ)). AreGiven (variable_slots (record c.args.parts.now { name = c.set_name.new.slot })) before)
     (is_some c.args.parts.now.name) (table_use _ _ _ _ name refl) c.set_name.ensures.passes
     (λ before given. rw name given.0)
@@ -30,7 +30,7 @@ pub returns-then-eq-clause-read : goal.returns-then-eq-clause-read
 returns-then-eq-clause-read c =
     let w = written_of c.args.source.now in
     let f = c.args.field.now in
-    let name : token_text w f.name ≡ codes "name" = grind (arith, same_text c.token_text-name.result.now c.as_slice.result.now c.eq.result) in
+    let name : token_text w f.name ≡ codes "name" = same_name _ _ _ _ c.eq.result c.eq.ensures c.if-eq.true c.token_text-name.ensures c.as_slice.ensures in
     on_ok_weaker c.set_name.result
     (λ (added : option_to_list c.set_name.new.slot ≡ option_to_list c.args.parts.now.name ++ value_texts w (values_of f.items)) rest.
     simp (name, added, append_assoc))
@@ -40,7 +40,7 @@ pub returns-then-eq-clause-err : goal.returns-then-eq-clause-err
 returns-then-eq-clause-err c =
     let w = written_of c.args.source.now in
     let f = c.args.field.now in
-    let name : token_text w f.name ≡ codes "name" = grind (arith, same_text c.token_text-name.result.now c.as_slice.result.now c.eq.result) in
+    let name : token_text w f.name ≡ codes "name" = same_name _ _ _ _ c.eq.result c.eq.ensures c.if-eq.true c.token_text-name.ensures c.as_slice.ensures in
     slot_stops w variable_message f (text) c.set_name.result (λ (before : List (List ℕ)). AreGiven (variable_slots c.args.parts.now) before)
     (is_some c.args.parts.now.name) (table_use _ _ _ _ name refl) c.set_name.ensures.err (λ before given. rw name given.0)
 
@@ -48,7 +48,7 @@ pub returns-then-eq-2-clause-passes : goal.returns-then-eq-2-clause-passes
 returns-then-eq-2-clause-passes c =
     let w = written_of c.args.source.now in
     let f = c.args.field.now in
-    let name : token_text w f.name ≡ codes "domain" = grind (arith, same_text c.token_text-name.result.now c.as_slice-else-eq.result.now c.eq-else-eq.result) in
+    let name : token_text w f.name ≡ codes "domain" = same_name _ _ _ _ c.eq-else-eq.result c.eq-else-eq.ensures c.if-eq-2.true c.token_text-name.ensures c.as_slice-else-eq.ensures in
     if_passes w variable_message f (λ (before : List (List ℕ)). AreGiven (variable_slots c.args.parts.now) before) (λ (before : List (List ℕ)). AreGiven (variable_slots c.args.parts.now) before) c.add_ints.result
     (repeated_passes w variable_message f (number Int64) c.add_ints.result (table_use _ _ _ _ name refl) c.add_ints.ensures.fault)
     (λ before given. given_after (token_text w f.name) (codes "domain") (variable_slots c.args.parts.now) before name given)
@@ -57,7 +57,7 @@ pub returns-then-eq-2-clause-read : goal.returns-then-eq-2-clause-read
 returns-then-eq-2-clause-read c =
     let w = written_of c.args.source.now in
     let f = c.args.field.now in
-    let name : token_text w f.name ≡ codes "domain" = grind (arith, same_text c.token_text-name.result.now c.as_slice-else-eq.result.now c.eq-else-eq.result) in
+    let name : token_text w f.name ≡ codes "domain" = same_name _ _ _ _ c.eq-else-eq.result c.eq-else-eq.ensures c.if-eq-2.true c.token_text-name.ensures c.as_slice-else-eq.ensures in
     on_ok_weaker c.add_ints.result
     (λ (added : c.add_ints.new.list.items ≡ c.args.parts.now.domain.items ++ value_numbers w (values_of f.items)) rest.
     simp (name, added, append_assoc))
@@ -67,7 +67,7 @@ pub returns-then-eq-2-clause-err : goal.returns-then-eq-2-clause-err
 returns-then-eq-2-clause-err c =
     let w = written_of c.args.source.now in
     let f = c.args.field.now in
-    let name : token_text w f.name ≡ codes "domain" = grind (arith, same_text c.token_text-name.result.now c.as_slice-else-eq.result.now c.eq-else-eq.result) in
+    let name : token_text w f.name ≡ codes "domain" = same_name _ _ _ _ c.eq-else-eq.result c.eq-else-eq.ensures c.if-eq-2.true c.token_text-name.ensures c.as_slice-else-eq.ensures in
     if_stops w variable_message f (λ (before : List (List ℕ)). AreGiven (variable_slots c.args.parts.now) before) c.add_ints.result
     (repeated_stops w variable_message f (number Int64) c.add_ints.result (table_use _ _ _ _ name refl) c.add_ints.ensures.err)
 
