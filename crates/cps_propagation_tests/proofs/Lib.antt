@@ -1,0 +1,3 @@
+pub mod BitFits
+pub mod Noting
+pub mod SumFits

@@ -1,0 +1,279 @@
+//! Each kind narrows, meets a conflict, and makes its last enforcement atom false.
+
+ghost use Rattle.std.specs.Prelude.{◌≡◌, [], All, IfOk};
+ghost use Rattle.cps_instance.specs.Fitting.{IsFitting};
+ghost use Rattle.cps_propagation_tests.specs.Bits.{IsBit, IsOverBits, four_bits};
+
+use crate::runs::run;
+use crate::stores::{are_bits, at_least, at_most, decide_all};
+use cps_domain::Domain;
+use cps_instance::{Body, Task};
+use cps_literal::Atom;
+use cps_model::Listed;
+use cps_p_bool::Boolean;
+use cps_trail::Store;
+use std::alloc::{AllocError, Global};
+use std::test::Fail;
+
+/// What a run came to: how many atoms its conflict has, how many entries there are, and the last entry's atom.
+type Came = (Option<usize>, usize, Atom);
+
+/// What a list of atoms is to be.
+#[derive(Clone, Copy)]
+enum Kind {
+    Or,
+    And,
+    AtMostOne,
+    ExactlyOne,
+    Xor,
+}
+
+fn yes(subject: u32) -> Atom {
+    at_least(subject, 1)
+}
+
+fn no(subject: u32) -> Atom {
+    at_most(subject, 0)
+}
+
+fn store_of_bits(alloc: Global) -> Result<Store, AllocError>
+    ensures first { IfOk result (λ store. store.first ≡ four_bits) }
+    ensures none { IfOk result (λ store. store.entries ≡ []) }
+{
+    let mut domains = Vec::new(alloc);
+    domains.push(Domain::of_bounds(alloc, &[0, 1])?)?;
+    domains.push(Domain::of_bounds(alloc, &[0, 1])?)?;
+    domains.push(Domain::of_bounds(alloc, &[0, 1])?)?;
+    domains.push(Domain::of_bounds(alloc, &[0, 1])?)?;
+    Store::new(alloc, domains.as_slice())
+}
+
+fn body(alloc: Global, kind: Kind, atoms: &[Atom]) -> Result<Body, AllocError>
+    requires { All (IsBit 0 4) atoms.now }
+    ensures { IfOk result IsOverBits }
+{
+    let list = Listed::from_vec(Vec::from_slice(alloc, atoms)?);
+    match kind {
+        Kind::Or => Ok(Body::BoolOr(list)),
+        Kind::And => Ok(Body::BoolAnd(list)),
+        Kind::AtMostOne => Ok(Body::AtMostOne(list)),
+        Kind::ExactlyOne => Ok(Body::ExactlyOne(list)),
+        Kind::Xor => Ok(Body::BoolXor(list)),
+    }
+}
+
+/// The propagator of a task of a kind.
+fn boolean(
+    alloc: Global,
+    kind: Kind,
+    enforcement: &[Atom],
+    atoms: &[Atom],
+) -> Result<Boolean, AllocError>
+    requires enforcement { All (IsBit 0 4) enforcement.now }
+    requires atoms { All (IsBit 0 4) atoms.now }
+    ensures { IfOk result (λ propagator. IsFitting four_bits propagator) }
+{
+    let body = body(alloc, kind, atoms)?;
+    let task = Task {
+        enforcement: Listed::from_vec(Vec::from_slice(alloc, enforcement)?),
+        body,
+    };
+    let propagator = Boolean::of(alloc, &task)?;
+    Ok(propagator)
+}
+
+/// Runs a propagator after decisions. What the run came to, and the conflict or the reason of the last entry.
+fn ran(
+    alloc: Global,
+    propagator: &mut Boolean,
+    decisions: &[Atom],
+) -> Result<(Came, Vec<Atom>), AllocError>
+    requires { IsFitting four_bits propagator.old }
+{
+    let mut store = store_of_bits(alloc)?;
+    decide_all(&mut store, decisions)?;
+    let (settled, clause) = run(alloc, propagator, &mut store)?;
+    let conflict = if settled { None } else { Some(clause.len()) };
+    let entries = store.entries();
+    match entries.last() {
+        Some(entry) => Ok(((conflict, entries.len(), entry.atom), clause)),
+        None => Ok(((conflict, 0, no(9)), clause)),
+    }
+}
+
+/// The same of the propagator of a task; `None` also where an atom is over none of the four subjects.
+fn explained_trial(
+    alloc: Global,
+    kind: Kind,
+    enforcement: &[Atom],
+    atoms: &[Atom],
+    decisions: &[Atom],
+) -> Option<(Came, Vec<Atom>)> {
+    if !are_bits(0, 4, enforcement) || !are_bits(0, 4, atoms) {
+        return None;
+    }
+    let mut propagator = boolean(alloc, kind, enforcement, atoms).ok()?;
+    ran(alloc, &mut propagator, decisions).ok()
+}
+
+/// What a run came to.
+fn trial(
+    alloc: Global,
+    kind: Kind,
+    enforcement: &[Atom],
+    atoms: &[Atom],
+    decisions: &[Atom],
+) -> Option<Came> {
+    match explained_trial(alloc, kind, enforcement, atoms, decisions) {
+        Some((came, _)) => Some(came),
+        None => None,
+    }
+}
+
+#[test]
+fn a_reason_names_what_was_decided(rt: HostRuntime) -> Result<(), Fail> {
+    let alloc = rt.alloc();
+    let atoms = [yes(0), yes(1)];
+    let decisions = [yes(3), no(0)];
+    let found = explained_trial(alloc, Kind::Or, &[yes(3)], &atoms, &decisions);
+    let (_, reason) = found.ok_or("no run")?;
+    assert_eq!(rt; reason.as_slice(), [no(3), yes(0), yes(1)].as_slice());
+    Ok(())
+}
+
+#[test]
+fn some_atom_is_true(rt: HostRuntime) {
+    let alloc = rt.alloc();
+    let atoms = [yes(0), yes(1)];
+    let narrowed = trial(alloc, Kind::Or, &[yes(3)], &atoms, &[yes(3), no(0)]);
+    assert_eq!(rt; narrowed, Some((None, 3, yes(1))));
+    let conflict = trial(alloc, Kind::Or, &[yes(3)], &atoms, &[yes(3), no(0), no(1)]);
+    assert_eq!(rt; conflict, Some((Some(3), 3, no(1))));
+    let refused = trial(alloc, Kind::Or, &[yes(3)], &atoms, &[no(0), no(1)]);
+    assert_eq!(rt; refused, Some((None, 3, no(3))));
+}
+
+#[test]
+fn all_atoms_are_true(rt: HostRuntime) {
+    let alloc = rt.alloc();
+    let atoms = [yes(0), yes(1)];
+    let narrowed = trial(alloc, Kind::And, &[yes(3)], &atoms, &[yes(3), yes(0)]);
+    assert_eq!(rt; narrowed, Some((None, 3, yes(1))));
+    let conflict = trial(alloc, Kind::And, &[yes(3)], &atoms, &[yes(3), no(1)]);
+    assert_eq!(rt; conflict, Some((Some(2), 3, yes(0))));
+    let refused = trial(alloc, Kind::And, &[yes(3)], &atoms, &[no(1)]);
+    assert_eq!(rt; refused, Some((None, 2, no(3))));
+}
+
+#[test]
+fn one_atom_is_true_at_most(rt: HostRuntime) {
+    let alloc = rt.alloc();
+    let atoms = [yes(0), yes(1), yes(2)];
+    let narrowed = trial(alloc, Kind::AtMostOne, &[yes(3)], &atoms, &[yes(3), yes(1)]);
+    assert_eq!(rt; narrowed, Some((None, 4, no(2))));
+    let conflict = trial(
+        alloc,
+        Kind::AtMostOne,
+        &[yes(3)],
+        &atoms,
+        &[yes(3), yes(0), yes(1)],
+    );
+    assert_eq!(rt; conflict, Some((Some(3), 3, yes(1))));
+    let refused = trial(alloc, Kind::AtMostOne, &[yes(3)], &atoms, &[yes(0), yes(2)]);
+    assert_eq!(rt; refused, Some((None, 3, no(3))));
+    let opposite = trial(
+        alloc,
+        Kind::AtMostOne,
+        &[],
+        &[yes(0), no(0), yes(1)],
+        &[yes(0)],
+    );
+    assert_eq!(rt; opposite, Some((None, 2, no(1))));
+    let repeated = trial(alloc, Kind::AtMostOne, &[], &[yes(0), yes(0)], &[yes(0)]);
+    assert_eq!(rt; repeated, Some((Some(1), 1, yes(0))));
+}
+
+#[test]
+fn one_atom_is_true_and_no_other(rt: HostRuntime) {
+    let alloc = rt.alloc();
+    let atoms = [yes(0), yes(1)];
+    let last = trial(alloc, Kind::ExactlyOne, &[yes(3)], &atoms, &[yes(3), no(0)]);
+    assert_eq!(rt; last, Some((None, 3, yes(1))));
+    let other = trial(
+        alloc,
+        Kind::ExactlyOne,
+        &[yes(3)],
+        &atoms,
+        &[yes(3), yes(0)],
+    );
+    assert_eq!(rt; other, Some((None, 3, no(1))));
+    let conflict = trial(
+        alloc,
+        Kind::ExactlyOne,
+        &[yes(3)],
+        &atoms,
+        &[yes(3), no(0), no(1)],
+    );
+    assert_eq!(rt; conflict, Some((Some(3), 3, no(1))));
+    let refused = trial(
+        alloc,
+        Kind::ExactlyOne,
+        &[yes(3)],
+        &atoms,
+        &[yes(0), yes(1)],
+    );
+    assert_eq!(rt; refused, Some((None, 3, no(3))));
+}
+
+#[test]
+fn an_odd_number_is_true(rt: HostRuntime) {
+    let alloc = rt.alloc();
+    let atoms = [yes(0), yes(1), yes(2)];
+    let even = trial(alloc, Kind::Xor, &[yes(3)], &atoms, &[yes(3), no(0), no(1)]);
+    assert_eq!(rt; even, Some((None, 4, yes(2))));
+    let odd = trial(
+        alloc,
+        Kind::Xor,
+        &[yes(3)],
+        &atoms,
+        &[yes(3), yes(0), no(1)],
+    );
+    assert_eq!(rt; odd, Some((None, 4, no(2))));
+    let all = [yes(3), yes(0), yes(1), no(2)];
+    let conflict = trial(alloc, Kind::Xor, &[yes(3)], &atoms, &all);
+    assert_eq!(rt; conflict, Some((Some(4), 4, no(2))));
+    let refused = trial(alloc, Kind::Xor, &[yes(3)], &atoms, &[no(0), no(1), no(2)]);
+    assert_eq!(rt; refused, Some((None, 4, no(3))));
+}
+
+#[test]
+fn repeated_atoms_are_one(rt: HostRuntime) {
+    let alloc = rt.alloc();
+    let twice = [yes(0), yes(0), yes(1)];
+    let or = trial(alloc, Kind::Or, &[], &twice, &[no(1)]);
+    assert_eq!(rt; or, Some((None, 2, yes(0))));
+    let most = trial(alloc, Kind::AtMostOne, &[], &twice, &[]);
+    assert_eq!(rt; most, Some((None, 1, no(0))));
+    let refused = trial(alloc, Kind::AtMostOne, &[yes(3)], &twice, &[yes(0)]);
+    assert_eq!(rt; refused, Some((None, 2, no(3))));
+    let one = trial(alloc, Kind::ExactlyOne, &[], &twice, &[]);
+    assert_eq!(rt; one, Some((None, 2, yes(1))));
+    let odd = trial(alloc, Kind::Xor, &[], &twice, &[]);
+    assert_eq!(rt; odd, Some((None, 1, yes(1))));
+}
+
+#[test]
+fn one_of_opposite_atoms_is_true(rt: HostRuntime) {
+    let alloc = rt.alloc();
+    let both = [yes(0), no(0), yes(1)];
+    let or = trial(alloc, Kind::Or, &[], &both, &[no(1)]);
+    assert_eq!(rt; or, Some((None, 1, no(1))));
+    let and = trial(alloc, Kind::And, &[yes(3)], &both, &[]);
+    assert_eq!(rt; and, Some((None, 1, no(3))));
+    let most = trial(alloc, Kind::AtMostOne, &[], &both, &[]);
+    assert_eq!(rt; most, Some((None, 1, no(1))));
+    let one = trial(alloc, Kind::ExactlyOne, &[yes(3)], &both, &[yes(1)]);
+    assert_eq!(rt; one, Some((None, 2, no(3))));
+    let odd = trial(alloc, Kind::Xor, &[], &both, &[]);
+    assert_eq!(rt; odd, Some((None, 1, no(1))));
+}

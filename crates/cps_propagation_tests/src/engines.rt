@@ -1,0 +1,199 @@
+//! Engines: of propagators that have nothing to narrow, and of a defined sum after a decision.
+
+ghost use Rattle.std.specs.Prelude.{◌≡◌, [], ◌∷◌, true, Ok, All, IfOk};
+ghost use Rattle.cps_instance.specs.Problem.{sum_task};
+ghost use Rattle.cps_instance.specs.Fitting.{IsFitting};
+ghost use Rattle.cps_trail.specs.Notes.{AllFit, IsGivenAt};
+ghost use Rattle.cps_propagate.specs.Notes.{ByTasks};
+ghost use Rattle.cps_propagation_tests.specs.Sums.{idle_task, sum_domains, tripled_sum};
+
+use crate::stores::{at_least, at_most, decide, has_note};
+use cps_domain::Domain;
+use cps_instance::Term;
+use cps_literal::Atom;
+use cps_p_linear::Linear;
+use cps_propagate::{Engine, Propagator, conclude, push_atom_subjects, push_term_subjects};
+use cps_trail::{Explain, Step, Store};
+use std::alloc::{AllocError, Global};
+use std::test::Fail;
+
+/// A task that demands nothing.
+#[derive(Drop)]
+struct Idle;
+
+impl Propagator for Idle {
+    ghost use Rattle.std.specs.Prelude.{[]};
+    ghost use Rattle.cps_instance.specs.declared.task.Body.TheVariants.{Empty};
+
+    ghost task = { λ _. record { enforcement = []; body = Empty } };
+
+    fn propagate(&mut self, _number: u32, _store: &mut Store) -> Result<Step, AllocError> {
+        Ok(Step::Settled)
+    }
+
+    fn explain_into(
+        &self,
+        store: &Store,
+        entry: usize,
+        reason: &mut Vec<Atom>,
+    ) -> Result<(), AllocError> {
+        reason.clear();
+        conclude(store, entry, reason)
+    }
+
+    fn lower(&mut self, _upper: i64) {}
+
+    fn push_subjects(&self, _subjects: &mut Vec<u32>) -> Result<(), AllocError> {
+        Ok(())
+    }
+
+    fn is_cut(&self) -> bool {
+        false
+    }
+
+    fn is_cheap(&self) -> bool {
+        true
+    }
+}
+
+/// An engine of two idle propagators, whose cuts' end fell.
+fn idle_engine(alloc: Global) -> Result<Engine<Idle>, AllocError>
+    ensures { IfOk result (λ engine. engine.tasks ≡ idle_task ∷ idle_task ∷ []) }
+{
+    let mut list = Vec::new(alloc);
+    list.push(Idle)?;
+    let mut engine = Engine::new(alloc, list)?;
+    engine.add(Idle)?;
+    engine.lower(3);
+    Ok(engine)
+}
+
+/// Whether a run on a store without subjects settles.
+fn settles(alloc: Global, engine: &mut Engine<Idle>) -> Result<bool, AllocError>
+    requires { engine.old.tasks ≡ idle_task ∷ idle_task ∷ [] }
+{
+    let mut store = Store::new(alloc, &[])?;
+    match engine.run(&mut store)? {
+        Step::Settled => Ok(true),
+        Step::Conflict(_) => Ok(false),
+    }
+}
+
+#[test]
+fn idle_propagators_settle(rt: HostRuntime) -> Result<(), Fail> {
+    let mut engine = idle_engine(rt.alloc())?;
+    let is_settled = settles(rt.alloc(), &mut engine)?;
+    assert!(rt; is_settled);
+    Ok(())
+}
+
+#[test]
+fn subjects_in_order(rt: HostRuntime) -> Result<(), Fail> {
+    let mut subjects = Vec::new(rt.alloc());
+    push_atom_subjects(&[at_least(7, 1)], &mut subjects)?;
+    let terms = [
+        Term {
+            coeff: 2,
+            subject: 5,
+        },
+        Term {
+            coeff: -1,
+            subject: 7,
+        },
+    ];
+    push_term_subjects(&terms, &mut subjects)?;
+    assert_eq!(rt; subjects.as_slice(), [7u32, 5, 7].as_slice());
+    Ok(())
+}
+
+/// A subject of the values 0 to 2, and one for three times it and 5 more.
+fn tripled(alloc: Global) -> Result<Store, AllocError>
+    ensures first { IfOk result (λ store. store.first ≡ sum_domains) }
+    ensures none { IfOk result (λ store. store.entries ≡ []) }
+    ensures level { IfOk result (λ store. store.level ≡ 0) }
+{
+    let mut domains = Vec::new(alloc);
+    domains.push(Domain::of_bounds(alloc, &[0, 2])?)?;
+    domains.push(Domain::of_bounds(alloc, &[5, 11])?)?;
+    Store::new(alloc, domains.as_slice())
+}
+
+/// Runs an engine, decides an atom, and runs the engine on from there. Whether all settled.
+fn run_on(engine: &mut Engine<Linear>, store: &mut Store, atom: Atom) -> Result<bool, AllocError>
+    requires fits { All (IsFitting store.old.first) engine.old.tasks }
+    requires none { store.old.entries ≡ [] }
+    requires level { store.old.level ≡ 0 }
+    ensures { result ≡ Ok true → AllFit (IsGivenAt (ByTasks engine.new.tasks)) store.new }
+{
+    match engine.run(store)? {
+        Step::Settled => {}
+        Step::Conflict(_) => return Ok(false),
+    }
+    let from = store.entries().len();
+    let was_open = decide(store, atom)?;
+    if was_open {
+        match engine.run_from(store, from)? {
+            Step::Settled => Ok(true),
+            Step::Conflict(_) => Ok(false),
+        }
+    } else {
+        Ok(false)
+    }
+}
+
+/// The engine of three times the first and 5.
+fn tripling_engine(alloc: Global) -> Result<Engine<Linear>, AllocError>
+    ensures { IfOk result (λ engine. engine.tasks ≡ sum_task 1 tripled_sum ∷ []) }
+{
+    let triple = Term {
+        coeff: 3,
+        subject: 0,
+    };
+    let mut engine: Engine<Linear> = Engine::new(alloc, Vec::new(alloc))?;
+    engine.add_sum(alloc, 1, &[triple], 5)?;
+    Ok(engine)
+}
+
+/// Puts the reason of the last entry into a list, if the entry has a note.
+fn explain_last(
+    engine: &Engine<Linear>,
+    store: &Store,
+    reason: &mut Vec<Atom>,
+) -> Result<(), AllocError>
+    requires { AllFit (IsGivenAt (ByTasks engine.now.tasks)) store.now }
+{
+    let count = store.entries().len();
+    if count > 0 && has_note(store, count - 1) {
+        engine.explain_into(store, count - 1, reason)?;
+    }
+    Ok(())
+}
+
+/// Where the first is at least 1, three times it and 5 is at least 8: puts the reason of that into a list. Whether that came out.
+fn explain_sum(
+    alloc: Global,
+    engine: &mut Engine<Linear>,
+    reason: &mut Vec<Atom>,
+) -> Result<bool, AllocError>
+    requires { engine.old.tasks ≡ sum_task 1 tripled_sum ∷ [] }
+{
+    let mut store = tripled(alloc)?;
+    let is_settled = run_on(engine, &mut store, at_least(0, 1))?;
+    if is_settled {
+        explain_last(engine, &store, reason)?;
+    }
+    Ok(is_settled)
+}
+
+#[test]
+fn an_engine_runs_on_after_a_decision(rt: HostRuntime) -> Result<(), Fail> {
+    let mut reason = Vec::new(rt.alloc());
+    let mut engine = tripling_engine(rt.alloc())?;
+    let is_settled = explain_sum(rt.alloc(), &mut engine, &mut reason)?;
+    assert!(rt; is_settled);
+    assert_eq!(rt;
+        reason.as_slice(),
+        [at_most(0, 0), at_least(1, 8)].as_slice()
+    );
+    Ok(())
+}

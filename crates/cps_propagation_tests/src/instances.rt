@@ -1,0 +1,244 @@
+//! The instances of a model that says nothing, of one with a clause and of one with a strategy.
+use crate::stores::at_most;
+use cps_instance::{Body, Instance};
+use cps_model::{
+    Choose, Constraint, CpModel, Kind, LinearExpr, Listed, Select, Strategy, Text, Variable,
+};
+use cps_validate::{ValidModel, validate};
+use std::alloc::{AllocError, Global};
+use std::test::Fail;
+
+fn model_of(
+    alloc: Global,
+    variables: Listed<Variable>,
+    constraints: Listed<Constraint>,
+) -> CpModel {
+    CpModel {
+        name: Text::new(alloc),
+        variables,
+        constraints,
+        objective: None,
+        strategies: Listed::new(alloc),
+        hint: None,
+        assumptions: Listed::new(alloc),
+    }
+}
+
+/// A variable of the values 0 and 1.
+fn one_variable(alloc: Global) -> Result<Listed<Variable>, AllocError> {
+    let mut variables = Vec::new(alloc);
+    push_variable(alloc, &mut variables, 0, 1)?;
+    Ok(Listed::from_vec(variables))
+}
+
+/// The clause that the variable is not 1.
+fn one_clause(alloc: Global) -> Result<Listed<Constraint>, AllocError> {
+    let literals = Vec::from_slice(alloc, &[-1])?;
+    let mut constraints = Vec::new(alloc);
+    constraints.push(Constraint {
+        name: Text::new(alloc),
+        enforcement: Listed::new(alloc),
+        kind: Kind::BoolOr(Listed::from_vec(literals)),
+    })?;
+    Ok(Listed::from_vec(constraints))
+}
+
+/// How many of each an instance has, whether its first task is the clause, and whether it is of a model without constraints.
+#[derive(Clone, Copy)]
+struct Sizes {
+    variables: usize,
+    subjects: usize,
+    tasks: usize,
+    has_clause: bool,
+    is_unconstrained: bool,
+}
+
+fn sizes_of(instance: &Instance) -> Sizes {
+    Sizes {
+        variables: instance.variable_count(),
+        subjects: instance.domains().len(),
+        tasks: instance.tasks().len(),
+        has_clause: begins_with_the_clause(instance),
+        is_unconstrained: instance.model().model().constraints.is_empty(),
+    }
+}
+
+/// Defines the sum of no term and 5. The number of its subject.
+fn define_constant(instance: &mut Instance) -> Option<u32> {
+    if instance.domains().len() > 1000 {
+        return None;
+    }
+    instance.define(&[], 5).ok()
+}
+
+/// The instance of a model, and what it is with the sum of no term and 5.
+fn posted(alloc: Global, model: &ValidModel) -> Result<(Sizes, Option<u32>, Sizes), AllocError> {
+    let mut instance = Instance::of(alloc, model)?;
+    let first = sizes_of(&instance);
+    let subject = define_constant(&mut instance);
+    Ok((first, subject, sizes_of(&instance)))
+}
+
+fn posted_empty(alloc: Global) -> Option<(Sizes, Option<u32>, Sizes)> {
+    let model = model_of(alloc, Listed::new(alloc), Listed::new(alloc));
+    let valid = validate(alloc, model).ok()?;
+    posted(alloc, &valid).ok()
+}
+
+#[test]
+fn instance_of_an_empty_model(rt: HostRuntime) -> Result<(), Fail> {
+    let (first, subject, then) = posted_empty(rt.alloc()).ok_or("no instance")?;
+    assert_eq!(rt; first.variables, 0);
+    assert!(rt; first.is_unconstrained);
+    assert_eq!(rt; first.tasks, 2);
+    assert_eq!(rt; subject, Some(0));
+    assert_eq!(rt; then.subjects, 1);
+    assert_eq!(rt; then.tasks, 3);
+    Ok(())
+}
+
+/// Whether the first task is that the only variable is at most 0.
+fn begins_with_the_clause(instance: &Instance) -> bool {
+    let Some(task) = instance.tasks().first() else {
+        return false;
+    };
+    let Body::BoolOr(atoms) = &task.body else {
+        return false;
+    };
+    task.enforcement.is_empty() && atoms.as_slice() == [at_most(0, 0)].as_slice()
+}
+
+fn clause_model(alloc: Global) -> Result<CpModel, AllocError> {
+    let variables = one_variable(alloc)?;
+    let constraints = one_clause(alloc)?;
+    Ok(model_of(alloc, variables, constraints))
+}
+
+fn posted_clause(alloc: Global) -> Option<(Sizes, Option<u32>, Sizes)> {
+    let valid = validate(alloc, clause_model(alloc).ok()?).ok()?;
+    posted(alloc, &valid).ok()
+}
+
+#[test]
+fn instance_of_a_clause(rt: HostRuntime) -> Result<(), Fail> {
+    let (first, _, _) = posted_clause(rt.alloc()).ok_or("no instance")?;
+    assert_eq!(rt; first.variables, 1);
+    assert_eq!(rt; first.subjects, 1);
+    assert_eq!(rt; first.tasks, 3);
+    assert!(rt; first.has_clause);
+    Ok(())
+}
+
+/// Adds a variable with the values from one number to another.
+fn push_variable(
+    alloc: Global,
+    variables: &mut Vec<Variable>,
+    low: i64,
+    high: i64,
+) -> Result<(), AllocError> {
+    let domain = Vec::from_slice(alloc, &[low, high])?;
+    variables.push(Variable {
+        name: Text::new(alloc),
+        domain: Listed::from_vec(domain),
+    })?;
+    Ok(())
+}
+
+/// Adds an expression.
+fn push_expr(
+    alloc: Global,
+    exprs: &mut Vec<LinearExpr>,
+    vars: &[i32],
+    coeffs: &[i64],
+    offset: i64,
+) -> Result<(), AllocError> {
+    exprs.push(LinearExpr {
+        vars: Listed::from_vec(Vec::from_slice(alloc, vars)?),
+        coeffs: Listed::from_vec(Vec::from_slice(alloc, coeffs)?),
+        offset,
+    })?;
+    Ok(())
+}
+
+/// Over two variables: one of them, the opposite of the other, its double, it with an offset, both, and it alone.
+const EXPRESSIONS: [(&[i32], &[i64], i64); 6] = [
+    (&[1], &[1], 0),
+    (&[-1], &[1], 0),
+    (&[0], &[2], 0),
+    (&[0], &[1], 5),
+    (&[0, 1], &[1, 1], 0),
+    (&[0], &[1], 0),
+];
+
+/// A strategy over these.
+fn one_strategy(alloc: Global) -> Result<Listed<Strategy>, AllocError> {
+    let mut exprs = Vec::new(alloc);
+    for (vars, coeffs, offset) in EXPRESSIONS.iter() {
+        push_expr(alloc, &mut exprs, vars, coeffs, *offset)?;
+    }
+    let mut strategies = Vec::new(alloc);
+    strategies.push(Strategy {
+        exprs: Listed::from_vec(exprs),
+        choose: Choose::LowestMin,
+        select: Select::MaxValue,
+    })?;
+    Ok(Listed::from_vec(strategies))
+}
+
+/// Variables with the values 0 to 1 and 2 to 5, and the strategy.
+fn steered_model(alloc: Global) -> Result<CpModel, AllocError> {
+    let mut variables = Vec::new(alloc);
+    push_variable(alloc, &mut variables, 0, 1)?;
+    push_variable(alloc, &mut variables, 2, 5)?;
+    let strategies = one_strategy(alloc)?;
+    let mut model = model_of(alloc, Listed::from_vec(variables), Listed::new(alloc));
+    model.strategies = strategies;
+    Ok(model)
+}
+
+/// The least and the greatest value of each subject.
+fn ends_of(alloc: Global, instance: &Instance) -> Result<Vec<(i64, i64)>, AllocError> {
+    let mut ends = Vec::new(alloc);
+    for domain in instance.domains() {
+        ends.push((domain.min(), domain.max()))?;
+    }
+    Ok(ends)
+}
+
+/// Whether the subjects have these least and greatest values.
+fn has_ends(alloc: Global, instance: &Instance, ends: &[(i64, i64)]) -> Result<bool, AllocError> {
+    let found = ends_of(alloc, instance)?;
+    Ok(found.as_slice() == ends)
+}
+
+/// Whether there is one strategy, over these subjects, which chooses and selects as the one above.
+fn is_steered_over(instance: &Instance, subjects: &[u32]) -> bool {
+    match instance.steering() {
+        [steering] => {
+            steering.subjects.as_slice() == subjects
+                && steering.choose == Choose::LowestMin
+                && steering.select == Select::MaxValue
+        }
+        _ => false,
+    }
+}
+
+/// Whether the strategy is over sums of its own where an expression is no variable, whether these have the ends that they are
+/// to have, and how many tasks there are.
+fn steered(alloc: Global, model: &ValidModel) -> Result<(bool, bool, usize), AllocError> {
+    let instance = Instance::of(alloc, model)?;
+    let is_steered = is_steered_over(&instance, &[1, 2, 3, 4, 5, 0]);
+    let ends = [(0, 1), (2, 5), (-1, 0), (0, 2), (5, 6), (2, 6)];
+    let has_ends = has_ends(alloc, &instance, &ends)?;
+    Ok((is_steered, has_ends, instance.tasks().len()))
+}
+
+fn steered_of_model(alloc: Global) -> Option<(bool, bool, usize)> {
+    let valid = validate(alloc, steered_model(alloc).ok()?).ok()?;
+    steered(alloc, &valid).ok()
+}
+
+#[test]
+fn strategies_define_sums(rt: HostRuntime) {
+    assert_eq!(rt; steered_of_model(rt.alloc()), Some((true, true, 6)));
+}
