@@ -4,11 +4,9 @@ ghost use Rattle.cps_board.specs.OneList.{TakesOneList, TakesSoundEntries};
 /// Of what two seats took, the shorter list is the beginning of the longer one.
 pub fn takes_one_list()
     ensures { TakesOneList }
-{
-}
+{}
 
 /// Each entry that a seat took names its row, and is sound.
 pub fn takes_sound_entries()
     ensures { TakesSoundEntries }
-{
-}
+{}

@@ -1,22 +1,19 @@
 -- Clauses that hold in the worked models.
-use Rattle.std.proofs.Common.{◌≡◌, ℕ, zero, suc, ◌+◌, ◌<◌, ◌≤◌, ◌^◌, ℤ, pos, negsuc, ◌≤ℤ◌, ◌<ℤ◌, ◌+ℤ◌, ◌*ℤ◌, List, [], ◌∷◌, Some, true, false, Bool, length, refl, sym, ap, ◌∙◌, subst, arith, nat_eq, to_z, of_z, w64, unsigned_abs}
-use Rattle.std.specs.Prelude.{int_le, ◌||◌, IsTrue, Option, All}
+use Rattle.std.proofs.Common.{◌≡◌, ℕ, zero, suc, ◌+◌, ◌<◌, ◌≤◌, ℤ, pos, ◌≤ℤ◌, ◌<ℤ◌, ◌+ℤ◌, ◌*ℤ◌, List, [], ◌∷◌, true, false, Bool, length, refl, ap, subst, arith}
+use Rattle.std.specs.Prelude.{int_le, ◌||◌, Option, All}
 use Rattle.std.proofs.lemmas.Int.{ints}
-use Rattle.std.proofs.lemmas.Bool.Decides.{nat_tests}
 use Rattle.std.proofs.lemmas.List.Elements.{All-head, All-cons}
 use Rattle.cps_model.specs.declared.bound.Bound.TheVariants.{At, Infinite}
-use Rattle.cps_model.specs.declared.constraint.Constraint.{Constraint}
 use Rattle.cps_model.specs.declared.model.CpModel.{CpModel}
 use Rattle.cps_model.specs.declared.model.Objective.{Objective}
 use Rattle.cps_model.specs.Meaning.{IsSatisfied}
-use Rattle.cps_model.specs.Solutions.{objective_sum, objective_value, IsFree}
+use Rattle.cps_model.specs.Solutions.{objective_sum, objective_value}
 use Rattle.cps_literal.specs.declared.atom.Atom.{Atom}
 use Rattle.cps_literal.specs.declared.atom.Op.TheVariants.{Le, Ge}
-use Rattle.cps_literal.specs.Truth.{value_at, clause_holds}
-use Rattle.cps_port.specs.Order.{IsBelow}
+use Rattle.cps_literal.specs.Truth.{value_at}
 use Rattle.cps_port.specs.Incumbents.{HoldsBelow, IsIncumbent}
 use Rattle.cps_port.specs.Entries.{IsModelAtom, IsShareable}
-use Rattle.cps_shared_tests.specs.Worked.{the_variable, IsMinimised, any_of_nine, IsNine}
+use Rattle.cps_shared_tests.specs.Worked.{IsMinimised, any_of_nine, IsNine}
 
 abbrev pub at_most_six : List Atom
 at_most_six = record { subject = 0; op = Le; value = pos 6 } ∷ []

@@ -1,19 +1,16 @@
 -- No solution of the worked model has an objective below 2.
-use Rattle.std.proofs.Common.{◌≡◌, ℕ, ℤ, pos, ◌≤ℤ◌, List, [], ◌∷◌, Some, true, Bool, refl, sym, ap, ◌∙◌, subst, arith, ◌<◌, ◌^◌, nat_eq, to_z, of_z, w64, unsigned_abs}
-use Rattle.std.specs.Prelude.{int_le, ◌&&◌, ◌||◌, false, IsTrue, Option, All}
+use Rattle.std.proofs.Common.{◌≡◌, ℤ, pos, ◌≤ℤ◌, List, [], ◌∷◌, true, Bool, refl, sym, ap, subst, arith}
+use Rattle.std.specs.Prelude.{int_le, ◌&&◌, ◌||◌, false, Option, All}
 use Rattle.std.proofs.lemmas.Int.{ints}
-use Rattle.std.proofs.lemmas.Bool.Decides.{nat_tests}
 use Rattle.std.proofs.lemmas.List.Elements.{All-head}
 use Rattle.cps_model.specs.declared.bound.Bound.TheVariants.{At}
-use Rattle.cps_model.specs.declared.constraint.Constraint.{Constraint}
 use Rattle.cps_model.specs.declared.model.CpModel.{CpModel}
 use Rattle.cps_model.specs.declared.model.Objective.{Objective}
 use Rattle.cps_model.specs.Meaning.{IsSatisfied}
 use Rattle.cps_model.specs.Solutions.{objective_sum, objective_value, IsSolution}
 use Rattle.cps_model.specs.Values.{sum_of}
-use Rattle.cps_model.proofs.Tests.{and_true, or_true}
 use Rattle.cps_port.specs.Incumbents.{IsLowerBound}
-use Rattle.cps_shared_tests.specs.Worked.{at_least_two, the_variable, IsAtLeastTwo}
+use Rattle.cps_shared_tests.specs.Worked.{at_least_two, IsAtLeastTwo}
 
 at_least : (v : ℤ) → int_le (pos 2) v ≡ true → pos 2 ≤ℤ v
 at_least v h = grind (arith, ints)

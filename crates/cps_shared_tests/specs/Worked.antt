@@ -1,6 +1,6 @@
 -- The worked models: one variable that is the objective, the same where it is at least 2, and nine variables of which at
 -- least one is 1.
-use Rattle.std.specs.Prelude.{◌≡◌, ℤ, pos, List, [], ◌∷◌, Some, length}
+use Rattle.std.specs.Prelude.{◌≡◌, pos, [], ◌∷◌, Some, length}
 use Rattle.cps_model.specs.declared.constraint.Constraint.{Constraint}
 use Rattle.cps_model.specs.declared.constraint.Kind.TheVariants.{BoolOr, Linear}
 use Rattle.cps_model.specs.declared.model.CpModel.{CpModel}

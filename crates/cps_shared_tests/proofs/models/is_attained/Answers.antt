@@ -1,4 +1,4 @@
-use Rattle.std.proofs.Common.{◌≡◌, ◌∙◌, [], ◌∷◌, sym, to_z, of_z, w64}
+use Rattle.std.proofs.Common.{◌∙◌, [], ◌∷◌, sym, to_z, of_z, w64}
 use mir.Facts.{to_z-of_z}
 use Rattle.cps_port.proofs.Attained.{attained_at}
 use Rattle.cps_shared_tests.proofs.SmallNumbers.{same_number, small_number}

@@ -1,4 +1,4 @@
-use Rattle.std.proofs.Common.{◌≡◌, ◌≤ℤ◌, ℤ, subst}
+use Rattle.std.proofs.Common.{ℤ, subst}
 use mir.Facts.{to_z-of_z}
 use Rattle.cps_model.specs.declared.bound.Bound.TheVariants.{At}
 use Rattle.cps_port.specs.Incumbents.{IsLowerBound}
