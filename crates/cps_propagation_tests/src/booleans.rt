@@ -141,6 +141,82 @@ fn a_reason_names_what_was_decided(rt: HostRuntime) -> Result<(), Fail> {
     Ok(())
 }
 
+/// A kind over three literals, what is decided before its run, and the reason of the last entry.
+#[derive(Clone, Copy)]
+struct Reasoned<'a> {
+    kind: Kind,
+    decisions: &'a [Atom],
+    reason: &'a [Atom],
+}
+
+/// The reason of the last entry of a run over these three literals, where the last subject's literal enforces.
+fn reason_of(
+    alloc: Global,
+    kind: Kind,
+    atoms: &[Atom],
+    decisions: &[Atom],
+) -> Option<Vec<Atom>> {
+    match explained_trial(alloc, kind, &[yes(3)], atoms, decisions) {
+        Some((_, reason)) => Some(reason),
+        None => None,
+    }
+}
+
+#[test]
+fn a_reason_names_what_its_rule_used_alone(rt: HostRuntime) -> Result<(), Fail> {
+    let rows = [
+        Reasoned {
+            kind: Kind::And,
+            decisions: &[yes(3), yes(0)],
+            reason: &[no(3), yes(2)],
+        },
+        Reasoned {
+            kind: Kind::And,
+            decisions: &[yes(0), no(1)],
+            reason: &[yes(1), no(3)],
+        },
+        Reasoned {
+            kind: Kind::AtMostOne,
+            decisions: &[yes(3), no(0), yes(1)],
+            reason: &[no(3), no(1), no(2)],
+        },
+        Reasoned {
+            kind: Kind::AtMostOne,
+            decisions: &[no(0), yes(1), yes(2)],
+            reason: &[no(1), no(2), no(3)],
+        },
+        Reasoned {
+            kind: Kind::ExactlyOne,
+            decisions: &[yes(3), no(0), yes(1)],
+            reason: &[no(3), no(1), no(2)],
+        },
+        Reasoned {
+            kind: Kind::ExactlyOne,
+            decisions: &[yes(3), no(2), no(0)],
+            reason: &[no(3), yes(0), yes(2), yes(1)],
+        },
+        Reasoned {
+            kind: Kind::Xor,
+            decisions: &[yes(3), no(1), yes(0)],
+            reason: &[no(3), no(0), yes(1), no(2)],
+        },
+    ];
+    for row in rows {
+        let atoms = [yes(0), yes(1), yes(2)];
+        let found = reason_of(rt.alloc(), row.kind, &atoms, row.decisions).ok_or("no run")?;
+        assert_eq!(rt; found.as_slice(), row.reason);
+    }
+    Ok(())
+}
+
+#[test]
+fn a_reason_of_a_repeated_literal_names_no_other(rt: HostRuntime) -> Result<(), Fail> {
+    let atoms = [yes(0), yes(0), yes(1)];
+    let found = reason_of(rt.alloc(), Kind::AtMostOne, &atoms, &[yes(3), no(1)]).ok_or("no run")?;
+    assert_eq!(rt; found.as_slice(), [no(3), no(0)].as_slice());
+    Ok(())
+}
+
 #[test]
 fn some_atom_is_true(rt: HostRuntime) {
     let alloc = rt.alloc();

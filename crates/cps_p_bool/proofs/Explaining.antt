@@ -1,0 +1,90 @@
+-- Reasons that are made when they are asked for.
+use Rattle.std.proofs.Common.{◌≡◌, ℕ, ◌<◌, false, List, [], ◌∷◌, ◌++◌, length, take, get_or, sym, subst, inl, inr}
+use Rattle.std.specs.List.{list_any, All}
+use Rattle.std.proofs.lemmas.List.{get_or_default}
+use Rattle.std.proofs.lemmas.List.Folds.{list_any_none}
+use Rattle.cps_literal.specs.declared.atom.Atom.{Atom}
+use Rattle.cps_literal.specs.Truth.{atom_holds}
+use Rattle.cps_instance.specs.declared.task.Task.{Task}
+use Rattle.cps_instance.specs.declared.task.Body.{Body}
+use Rattle.cps_instance.specs.declared.task.Body.TheVariants.{BoolOr, BoolAnd, ExactlyOne}
+use Rattle.cps_instance.specs.Tasks.{HoldsTask}
+use Rattle.cps_trail.specs.Trail.{Entry, Trail, IsTrueNow, IsFalseNow, Explains, first_entries}
+use Rattle.cps_trail.specs.Notes.{IsReason}
+use Rattle.cps_propagate.specs.Strength.{OthersAre}
+use Rattle.cps_p_bool.specs.declared.boolean.Kind.{Kind}
+use Rattle.cps_p_bool.specs.Bodies.{body_of}
+use Rattle.cps_p_bool.specs.Seeking.{IsInForce}
+use Rattle.cps_p_bool.specs.Denying.{IsReasonFor, Gives, Excludes, AreLiterals, task_of}
+use Rattle.cps_p_bool.specs.Explaining.{IsExplanation, IsRuledOut, AsksForOne}
+use Rattle.cps_p_bool.specs.Normal.{IsNormal}
+use Rattle.cps_p_bool.proofs.Composing.{within_bits}
+use Rattle.cps_p_bool.proofs.Counting.{any_of_count}
+use Rattle.cps_p_bool.proofs.Denials.{IsOpposite}
+use Rattle.cps_p_bool.proofs.Giving.{explains, follows, by_bool, not_both, IsReasonFor-made, Gives-last}
+use Rattle.cps_p_bool.proofs.Limiting.{enforced_all}
+use Rattle.cps_p_bool.proofs.Placing.{same_or_not}
+use Rattle.cps_p_bool.proofs.Propagating.{gives_rest, gives_sure}
+
+-- the atom that the used literals give is explained by what is denied of them
+pub IsExplanation-given : (s : Trail) (e used : List Atom) (b : Body) (given t : Atom) (clause : List Atom) → given ≡ t → given.subject < length s.first → IsReasonFor s (e ++ used) t clause → Gives s (task_of e b) used given → IsExplanation s (task_of e b) t clause
+IsExplanation-given s e used b given t clause same l r g = record {
+  explained = explains s e used t clause r (subst (λ (u : Atom). u.subject < length s.first) same l);
+  follows = follows s e used t clause r b (subst (λ (u : Atom). Gives s (task_of e b) used u) same g);
+}
+
+-- where the body is ruled out and all enforcement atoms but one are true, that one's opposite is explained
+pub IsExplanation-off : (s : Trail) (e : List Atom) (last : ℕ) (b : Body) (z o t : Atom) (c clause : List Atom) → IsInForce s e last → last < length e → AreLiterals s.first e → IsOpposite (get_or e last z) o → o ≡ t → IsRuledOut s e b c → clause ≡ c ++ o ∷ []
+    → IsExplanation s (task_of e b) t clause
+IsExplanation-off s e last b z o t c clause force l fits opposite same x made =
+    IsExplanation-given s e x.used b o t clause same (subst (λ (i : ℕ). i < length s.first) (sym opposite.subject) (fits last z l).subject)
+    (subst (λ (u : Atom). IsReasonFor s (e ++ x.used) u clause) same (IsReasonFor-made s c clause (e ++ x.used) o x.denies made))
+    (Gives-last s e last x.used b z o force l opposite x.excludes)
+
+-- the reason of an entry is an explanation from the domains as they stood before it
+pub IsReason-explained : (s : Trail) (k : ℕ) (t : Task) (u : Atom) (clause : List Atom) → ((d : Entry) → (get_or s.entries k d).atom ≡ u) → IsExplanation (first_entries s k) t u clause → IsReason (HoldsTask t) s k clause
+IsReason-explained s k t u clause is h = record { explains = λ d. subst (λ (v : Atom). Explains s.first (take k s.entries) clause v) (sym (is d)) h.explained; follows = h.follows }
+
+-- what holds of the parts of a normal form holds of the body
+module _ (s : Trail) (e us : List Atom) (b : Body) (sure : List Atom) (rest : Body) (live : List Atom) (fits : AreLiterals s.first us) (n : IsNormal us b sure rest live) where
+  pub IsExplanation-sure : (t : Atom) (clause : List Atom) → IsExplanation s (task_of e (BoolAnd sure)) t clause → IsExplanation s (task_of e b) t clause
+  IsExplanation-sure t clause h = record { explained = h.explained; follows = record { at = λ xs within on. h.follows.at xs within (gives_sure s e us b sure rest live n fits xs within on) } }
+
+  pub IsExplanation-rest : (t : Atom) (clause : List Atom) → IsExplanation s (task_of e rest) t clause → IsExplanation s (task_of e b) t clause
+  IsExplanation-rest t clause h = record { explained = h.explained; follows = record { at = λ xs within on. h.follows.at xs within (gives_rest s e us b sure rest live n fits xs within on) } }
+
+  pub IsRuledOut-sure : (clause : List Atom) → IsRuledOut s e (BoolAnd sure) clause → IsRuledOut s e b clause
+  IsRuledOut-sure clause h = record { used = h.used; excludes = record { at = λ xs within holds agrees. h.excludes.at xs within ((n.holds xs (within_bits s.first us fits xs within)).0 holds).0 agrees }; denies = h.denies }
+
+  pub IsRuledOut-rest : (clause : List Atom) → IsRuledOut s e rest clause → IsRuledOut s e b clause
+  IsRuledOut-rest clause h = record { used = h.used; excludes = record { at = λ xs within holds agrees. h.excludes.at xs within ((n.holds xs (within_bits s.first us fits xs within)).0 holds).1 agrees }; denies = h.denies }
+
+-- the kind that it is
+pub IsExplanation-kind : (s : Trail) (e us : List Atom) (k j : Kind) (t : Atom) (clause : List Atom) → k ≡ j → IsExplanation s (task_of e (body_of j us)) t clause → IsExplanation s (task_of e (body_of k us)) t clause
+IsExplanation-kind s e us k j t clause same h = subst (λ (i : Kind). IsExplanation s (task_of e (body_of i us)) t clause) (sym same) h
+
+pub IsRuledOut-kind : (s : Trail) (e us : List Atom) (k j : Kind) (clause : List Atom) → k ≡ j → IsRuledOut s e (body_of j us) clause → IsRuledOut s e (body_of k us) clause
+IsRuledOut-kind s e us k j clause same h = subst (λ (i : Kind). IsRuledOut s e (body_of i us) clause) (sym same) h
+
+pub AsksForOne-or : (us : List Atom) → AsksForOne (BoolOr us) us
+AsksForOne-or us = record { some = λ xs h. h }
+
+pub AsksForOne-exactly : (us : List Atom) → AsksForOne (ExactlyOne us) us
+AsksForOne-exactly us = record { some = λ xs h. any_of_count (atom_holds xs) us h }
+
+module _ (s : Trail) (b : Body) (us : List Atom) (n : AsksForOne b us) where
+  pub Excludes-none : All (IsFalseNow s) us → Excludes s b us
+  Excludes-none h = record {
+    at = λ xs within holds agrees.
+        not_both (list_any (atom_holds xs) us) (n.some xs holds) (list_any_none (atom_holds xs) us (λ k d l. (agrees k d l).if_false (h k d l)));
+  }
+
+  pub Gives-only : (p : ℕ) → p < length us → OthersAre (IsFalseNow s) us p → (e : List Atom) (z : Atom) → All (IsTrueNow s) e → Gives s (task_of e b) us (get_or us p z)
+  Gives-only p l others e z trues = record {
+    at = λ xs within holds agrees-e agrees. by_bool (atom_holds xs (get_or us p z)) (λ no.
+        not_both (list_any (atom_holds xs) us) (n.some xs (holds (enforced_all s e xs trues agrees-e)))
+        (list_any_none (atom_holds xs) us (λ k d m. elim (same_or_not k p) [
+          | inl same ↦ subst (λ (i : ℕ). atom_holds xs (get_or us i d) ≡ false) (sym same) (subst (λ (u : Atom). atom_holds xs u ≡ false) (get_or_default us p z d l) no)
+          | inr ne ↦ (agrees k d m).if_false (others k d m ne)
+        ])));
+  }

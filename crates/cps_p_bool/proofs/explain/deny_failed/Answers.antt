@@ -1,0 +1,16 @@
+use Rattle.std.proofs.Common.{◌<◌, List, length, sym, subst, arith}
+use Rattle.cps_literal.specs.declared.atom.Atom.{Atom}
+use Rattle.cps_instance.specs.declared.task.Body.TheVariants.{BoolAnd}
+use Rattle.cps_propagate.proofs.Past.{none}
+use Rattle.cps_p_bool.specs.Denying.{Excludes}
+use Rattle.cps_p_bool.proofs.Conjoining.{Excludes-and}
+use Rattle.cps_p_bool.proofs.explain.deny_failed.Goals as goal
+
+pub returns : goal.returns
+returns c = λ _.
+    let l : c.args.place < length c.args.atoms.now = omega (arith, c.if-place-atoms.false) in
+    record {
+      used = c.as_slice.result.now;
+      excludes = subst (λ (used : List Atom). Excludes c.args.past.now (BoolAnd c.args.atoms.now) used) (sym c.as_slice.ensures) (Excludes-and c.args.past.now c.args.atoms.now c.args.place none l (c.was_false.ensures c.if-not-was_false.false));
+      denies = c.in_ok-deny_antecedents.ensures;
+    }

@@ -1,0 +1,17 @@
+use Rattle.std.proofs.Common.{◌<◌, List, length, sym, subst, arith}
+use Rattle.cps_literal.specs.declared.atom.Atom.{Atom}
+use Rattle.cps_propagate.proofs.Past.{none}
+use Rattle.cps_p_bool.specs.Denying.{Excludes}
+use Rattle.cps_p_bool.proofs.Limiting.{Excludes-two}
+use Rattle.cps_p_bool.proofs.explain.deny_two.Goals as goal
+
+pub returns : goal.returns
+returns c = λ _ body n.
+    let a : c.args.noted.place < c.args.noted.other = omega (arith, c.if-first-second.false) in
+    let l : c.args.noted.other < length c.args.atoms.now = omega (arith, c.if-second-atoms.false) in
+    record {
+      used = c.as_slice.result.now;
+      excludes = subst (λ (used : List Atom). Excludes c.args.past.now body used) (sym c.as_slice.ensures)
+          (Excludes-two body c.args.atoms.now n c.args.past.now c.args.noted.place c.args.noted.other none a l (c.was_true.ensures c.if-not-was_true.false) (c.was_true-2.ensures c.if-not-was_true-2.false));
+      denies = c.in_ok-deny_antecedents.ensures;
+    }
