@@ -150,12 +150,7 @@ struct Reasoned<'a> {
 }
 
 /// The reason of the last entry of a run over these three literals, where the last subject's literal enforces.
-fn reason_of(
-    alloc: Global,
-    kind: Kind,
-    atoms: &[Atom],
-    decisions: &[Atom],
-) -> Option<Vec<Atom>> {
+fn reason_of(alloc: Global, kind: Kind, atoms: &[Atom], decisions: &[Atom]) -> Option<Vec<Atom>> {
     match explained_trial(alloc, kind, &[yes(3)], atoms, decisions) {
         Some((_, reason)) => Some(reason),
         None => None,
