@@ -1,32 +1,40 @@
 -- The store of a search in which a conflict was found.
-use Rattle.std.proofs.Common.{ℤ, ◌≡◌, List, refl, sym, subst}
-use Rattle.cps_model.specs.declared.bound.Bound.{Bound}
+use Rattle.std.specs.List.{Any}
+use Rattle.std.proofs.Common.{◌≡◌, true, List, [], inl, inr, refl, sym, subst}
 use Rattle.cps_literal.specs.declared.atom.Atom.{Atom}
+use Rattle.cps_literal.specs.Truth.{clause_holds}
 use Rattle.cps_instance.specs.declared.task.Task.{Task}
-use Rattle.cps_instance.specs.Problem.{Problem}
-use Rattle.cps_trail.specs.Trail.{Domains, Entry, Reason, Trail, IsSound}
+use Rattle.cps_instance.specs.Tasks.{HoldAll}
+use Rattle.cps_trail.specs.Trail.{Trail, IsSound}
 use Rattle.cps_trail.specs.Adds.{IsConflict}
+use Rattle.cps_propagate.proofs.Listing.{IsConflict-weaker, conflict_of_all}
+use Rattle.cps_conflict.specs.Conflicts.{NotFalseAtBottom}
+use Rattle.cps_clauses.specs.Conflicts.{IsConflictInForce}
 use Rattle.cps_search.specs.Resting.{AllHold}
-use Rattle.cps_search.specs.Giving.{ByAll}
-use Rattle.cps_search.specs.Forcing.{forced_at}
-use Rattle.cps_search.specs.Searches.{Search, ForcedBelow, IsInConflict, IsSoundSearch}
-use Rattle.cps_search.proofs.Giving.{AreGiven-weaker}
-use Rattle.cps_search.proofs.Holding.{IsBelowBound}
-use Rattle.cps_search.proofs.Keeping.{all_below}
+use Rattle.cps_search.specs.Giving.{IsGivenConflict}
+use Rattle.cps_search.specs.Searches.{Search, IsInConflict, IsSoundSearch}
 use Rattle.cps_search.proofs.Teaching.{conflict_over}
 
--- what tasks and clauses give holds below the bound where they do
-forced_below : (p : Problem) (z : Bound) (tasks : List Task) (clauses : List (List Atom)) → IsBelowBound p z (AllHold tasks clauses) → (first : Domains) (before : List Entry) (t : Atom) (r : Reason)
-    → ByAll tasks clauses first before t r → ForcedBelow p z first before t r
-forced_below p z tasks clauses there first before t r g = record {
-  at = λ xs left values. (forced_at tasks clauses first before t r g).at xs left (subst (λ (ys : List ℤ). AllHold tasks clauses ys) (sym values.extends_it) (there values.assignment values.free values.below));
+-- what one task or one clause gives follows from all of them
+conflict_in_force : (tasks : List Task) (clauses : List (List Atom)) (s : Trail) (c : List Atom) → IsConflictInForce clauses s c → IsConflict (AllHold tasks clauses) s c
+conflict_in_force tasks clauses s c k = record {
+  follows = record { at = λ xs within all. subst (λ (x : List Atom). clause_holds x xs ≡ true) (sym k.is) (all.clauses_hold k.number [] k.within) };
+  false_now = k.false_now;
+  subjects = k.subjects;
 }
 
-pub in_conflict : (s : Search) (conflict : List Atom) → IsSoundSearch s → IsSound s.trail → IsConflict (AllHold s.tasks s.base.clauses) s.trail conflict → IsInConflict s.problem s.z s.trail
-in_conflict s conflict h sound is = record {
+pub conflict_of_given : (tasks : List Task) (clauses : List (List Atom)) (s : Trail) (c : List Atom) → IsGivenConflict tasks clauses s c → IsConflict (AllHold tasks clauses) s c
+conflict_of_given tasks clauses s c h = elim h [
+  | inl k ↦ IsConflict-weaker (HoldAll tasks) (AllHold tasks clauses) (λ xs all. all.tasks_hold) s c (conflict_of_all tasks s c k)
+  | inr k ↦ conflict_in_force tasks clauses s c k
+]
+
+pub in_conflict : (s : Search) (conflict : List Atom) → IsSoundSearch s → IsSound s.trail → IsGivenConflict s.tasks s.base.clauses s.trail conflict → Any (NotFalseAtBottom s.trail) conflict → IsInConflict s
+in_conflict s conflict h sound by_one bottom = record {
   sound = sound;
-  reasons = AreGiven-weaker (ByAll s.tasks s.base.clauses) (ForcedBelow s.problem s.z) s.trail (forced_below s.problem s.z s.tasks s.base.clauses (all_below s h)) h.given;
+  given = h.given;
   conflict = conflict;
-  holds = conflict_over s s.trail conflict h refl is;
-  false_now = is.false_now;
+  by_one = by_one;
+  holds = conflict_over s s.trail conflict h refl (conflict_of_given s.tasks s.base.clauses s.trail conflict by_one);
+  open_at_bottom = bottom;
 }

@@ -1,0 +1,20 @@
+-- Which task gives a conflict.
+use Rattle.std.specs.Prelude.{ℕ, ◌<◌, List, length, slice_index_or, ⊤}
+use Rattle.cps_literal.specs.declared.atom.Atom.{Atom}
+use Rattle.cps_instance.specs.declared.task.Task.{Task}
+use Rattle.cps_instance.specs.Tasks.{HoldsTask}
+use Rattle.cps_trail.specs.Trail.{Trail}
+use Rattle.cps_trail.specs.Adds.{IsConflict}
+use Rattle.cps_trail.specs.declared.step.Step.{Step}
+use Rattle.cps_trail.specs.declared.step.Step.TheVariants.{Settled, Conflict}
+
+-- one of the tasks gives a conflict by itself
+pub record IsConflictOfTask (tasks : List Task) (s : Trail) (clause : List Atom) : Type 0 where
+  pub number : ℕ
+  pub within : number < length tasks
+  pub given : (d : Task) → IsConflict (HoldsTask (slice_index_or tasks number d)) s clause
+
+-- what tasks answer: one of them gives the conflict, if there is one
+abbrev pub AnswersByTasks : List Task → Trail → Step → Type 0
+AnswersByTasks tasks s Settled = ⊤
+AnswersByTasks tasks s (Conflict clause) = IsConflictOfTask tasks s clause
