@@ -1,7 +1,7 @@
 -- How long a journal can be that is honest and in which nothing was dropped: there are only so many clauses, and it has none twice.
 use Rattle.std.specs.Prelude.{All, AllPairs, unsigned_abs, int_le, ◌||◌, not, map}
-use Rattle.std.specs.List.{Contains, flat_map, list_any}
-use Rattle.std.proofs.Common.{ℕ, zero, suc, ◌+◌, ◌-◌, ◌^◌, ◌<◌, ◌≤◌, ◌≡◌, ◌∙◌, ◌⊎◌, inl, inr, ℤ, pos, negsuc, ◌≤ℤ◌, ◌<ℤ◌, Bool, true, false, Option, Some, None, List, [], ◌∷◌, ◌++◌, length, length-append, get_or, refl, sym, ap, subst, arith, true≢false}
+use Rattle.std.specs.List.{Contains, flat_map}
+use Rattle.std.proofs.Common.{ℕ, zero, suc, ◌+◌, ◌-◌, ◌^◌, ◌<◌, ◌≤◌, ◌≡◌, ◌∙◌, ◌⊎◌, inl, inr, ℤ, pos, negsuc, ◌≤ℤ◌, Bool, true, false, Option, Some, None, List, [], ◌∷◌, ◌++◌, length, get_or, refl, sym, ap, subst, arith, true≢false}
 use Rattle.std.proofs.lemmas.Int.{ints}
 use Rattle.std.proofs.lemmas.List.{get_or_append_left, get_or_default, get_or_past}
 use Rattle.std.proofs.Math.Seq.{get_or-append_seam}
@@ -17,7 +17,7 @@ use Rattle.cps_literal.proofs.Normalizing.{Implies-refl}
 use Rattle.cps_literal.specs.Truth.{Implies, meets, atom_holds, value_at}
 use Rattle.cps_instance.specs.Terms.{AreIntervals}
 use Rattle.cps_instance.specs.Problem.{Problem, IsInstance}
-use Rattle.cps_trail.specs.Trail.{Domains, first_of}
+use Rattle.cps_trail.specs.Trail.{first_of}
 use Rattle.cps_clauses.specs.declared.journal.JournalItem.{JournalItem}
 use Rattle.cps_clauses.specs.declared.journal.JournalItem.TheVariants.{Learnt, Drop}
 use Rattle.cps_clauses.specs.Journals.{AreHonest, IsStanding}

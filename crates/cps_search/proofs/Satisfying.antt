@@ -1,7 +1,7 @@
 -- The atoms of a learnt clause can be true: each is met by a value of its subject's domain.
 use Rattle.std.specs.Prelude.{All, ◌&&◌}
 use Rattle.std.specs.List.{Contains, list_any}
-use Rattle.std.proofs.Common.{ℕ, ◌<◌, ℤ, ◌≡◌, ◌⊎◌, inl, inr, Bool, true, false, List, length, get_or, refl, sym, ◌∙◌, subst, true≢false}
+use Rattle.std.proofs.Common.{◌<◌, ℤ, ◌≡◌, ◌⊎◌, inl, inr, Bool, true, false, List, length, get_or, refl, sym, ◌∙◌, subst, true≢false}
 use Rattle.std.proofs.lemmas.List.Folds.{Any-from_list_any, list_any-from_Any}
 use Rattle.cps_domain.specs.Window.{is_among}
 use Rattle.cps_domain.proofs.Tests.{both, first_of_both, second_of_both, test_false}

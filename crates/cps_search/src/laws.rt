@@ -5,12 +5,12 @@ ghost use Rattle.cps_model.specs.declared.bound.Bound.TheVariants.{Infinite};
 ghost use Rattle.cps_literal.specs.declared.atom.Atom.{Atom};
 ghost use Rattle.cps_instance.specs.declared.task.Task.{Task};
 ghost use Rattle.cps_instance.specs.Problem.{Problem};
-ghost use Rattle.cps_trail.specs.Trail.{Trail};
+ghost use Rattle.cps_trail.specs.Trail.{Entry, Trail};
 ghost use Rattle.cps_trail.specs.Adds.{Infers};
 ghost use Rattle.cps_port.specs.declared.part.Part.{Part};
 ghost use Rattle.cps_clauses.specs.declared.journal.JournalItem.{JournalItem};
 ghost use Rattle.cps_clauses.specs.declared.journal.JournalItem.TheVariants.{Drop};
-ghost use Rattle.cps_clauses.specs.Quiet.{Fits, IsQuiet};
+ghost use Rattle.cps_clauses.specs.Quiet.{Fits, IsLevelFor, IsQuiet};
 ghost use Rattle.cps_search.specs.declared.end.End.{End};
 ghost use Rattle.cps_search.specs.declared.end.WorkerKind.{WorkerKind};
 ghost use Rattle.cps_search.specs.declared.guidance.Guidance.{Guidance};
@@ -23,10 +23,13 @@ ghost use Rattle.cps_search.specs.Ends.{IsHonestEnding, RunsTo, ending};
 
 use cps_instance::Instance;
 
-/// What changes a store leaves clauses quiet at the levels that remain; inference does so below the present level.
+/// What changes a store leaves clauses quiet at the levels that remain. What adds entries at the present level does so below it, whatever
+/// their reasons; and a clause more does so where the present level is at most the clause's `level_for`.
 pub fn quiet_clauses_stay()
     ensures decision { (clauses : List (List Atom)) (s : Trail) (t : Atom) (below : ℕ) → below ≤ s.level + 1 → IsQuiet clauses s below → IsQuiet clauses (decided s t) below }
     ensures inference { (tasks : List Task) (clauses : List (List Atom)) (s t : Trail) → Infers (ByAll tasks clauses) s t → IsQuiet clauses s s.level → IsQuiet clauses t t.level }
+    ensures imply { (clauses : List (List Atom)) (s t : Trail) (added : List Entry) → t ≡ record s { entries = s.entries ++ added } → All (λ e. e.level ≡ s.level) added → IsQuiet clauses s s.level → IsQuiet clauses t t.level }
+    ensures add { (clauses : List (List Atom)) (s : Trail) (clause : List Atom) (level : ℕ) → IsLevelFor s clause level → s.level ≤ level → IsQuiet clauses s s.level → IsQuiet (clauses ++ clause ∷ []) s s.level }
     ensures backjump { (clauses : List (List Atom)) (s t : Trail) (level below : ℕ) → GoesBack s t level → below ≤ level + 1 → IsQuiet clauses s below → IsQuiet clauses t below }
     ensures subject { (clauses : List (List Atom)) (s t : Trail) (domain : List (ℤ × ℤ)) (below : ℕ) → All (Fits s.first) clauses → t ≡ record s { first = s.first ++ domain ∷ [] } → IsQuiet clauses s below → IsQuiet clauses t below }
 {}
@@ -36,8 +39,8 @@ pub fn nothing_to_learn_without_subjects()
     ensures { (p : Problem) (journal : List JournalItem) → p.domains ≡ [] → IsHonestJournal p journal → journal ≡ [] }
 {}
 
-/// There is a number that the length of no journal over an instance goes beyond, where it is honest and nothing was dropped. So a budget
-/// of more conflicts is never spent.
+/// There is a number that the length of no journal over an instance goes beyond, if it is honest and nothing was dropped. So a budget of
+/// more conflicts is spent only if clauses were dropped.
 pub fn honest_journals_are_bounded(instance: &Instance)
     ensures { (most : ℕ) × ((journal : List JournalItem) → DropsNothing journal → IsHonestJournal instance.now journal → length journal ≤ most) }
 {

@@ -1,0 +1,81 @@
+-- Runs of a worker go by its brancher's guidance.
+use Rattle.std.specs.Prelude.{Bool}
+use Rattle.std.proofs.Common.{ℕ, ◌≡◌, Option, Some, List, ap, subst}
+use Rattle.cps_literal.specs.declared.atom.Atom.{Atom}
+use Rattle.cps_trail.specs.Trail.{Trail}
+use Rattle.cps_port.specs.declared.part.Part.{Part}
+use Rattle.cps_search.specs.declared.end.End.{End}
+use Rattle.cps_search.specs.declared.guidance.Guidance.{Guidance}
+use Rattle.cps_search.specs.declared.turn.Turn.{Turn}
+use Rattle.cps_search.specs.declared.turn.Turn.TheVariants as turns
+use Rattle.cps_search.specs.Searches.{Search}
+use Rattle.cps_search.specs.Ends.{BrancherTurn, HeardOne, OneTurn, RunsInTurns, TakesTurn, TakesTurns, TurnCaused, none_yet, one_more}
+use Rattle.cps_search.specs.Guidances.{ChoosesBy, RunsBy}
+
+-- a choice by one rule is one by another that it implies
+caused_by : (P Q : Trail → Option Atom → Type 0) → ((s : Trail) (choice : Option Atom) → P s choice → Q s choice) → (s t : Search) (rows : ℕ) (p q : Part) (turn : Turn) → TurnCaused P s t rows p q turn → TurnCaused Q s t rows p q turn
+caused_by P Q w s t rows p q turns.Imported h = h
+caused_by P Q w s t rows p q turns.Decided h = record { midway = h.midway; due = h.due; atom = h.atom; undecided = h.undecided; chosen = w h.midway.trail (Some h.atom) h.chosen; is = h.is }
+caused_by P Q w s t rows p q turns.Learnt h = h
+caused_by P Q w s t rows p q turns.Found h = h
+caused_by P Q w s t rows p q turns.Exhausted h = h
+caused_by P Q w s t rows p q turns.SawClosed h = h
+caused_by P Q w s t rows p q (turns.Spent clause below) h = h
+caused_by P Q w s t rows p q turns.RoundsDone h = h
+
+takes_by : (P Q : Trail → Option Atom → Type 0) → ((s : Trail) (choice : Option Atom) → P s choice → Q s choice) → (s t : Search) (rows : ℕ) (p q : Part) (turn : Turn) → TakesTurn P s t rows p q turn → TakesTurn Q s t rows p q turn
+takes_by P Q w s t rows p q turn h = record { setting = h.setting; store = h.store; cause = caused_by P Q w s t rows p q turn h.cause; moves = h.moves; ends = h.ends; lowers = h.lowers }
+
+heard_by : (hears hears' : List Atom → Bool → Type 0) → ((clause : List Atom) (restart : Bool) → hears clause restart → hears' clause restart) → (s t : Search) → HeardOne hears s t → HeardOne hears' s t
+heard_by hears hears' w s t h = record {
+  clause = h.clause;
+  learnt = h.learnt;
+  heard = record { restart = h.heard.restart; said = w h.clause h.heard.restart h.heard.said; restarts = h.heard.restarts; goes_on = h.heard.goes_on };
+}
+
+brancher_by : (turn : Turn) (heard heard' chose chose' same same' : Type 0) → (heard → heard') → (chose → chose') → (same → same') → BrancherTurn turn heard chose same → BrancherTurn turn heard' chose' same'
+brancher_by turns.Imported heard heard' chose chose' same same' f g h k = h k
+brancher_by turns.Decided heard heard' chose chose' same same' f g h k = g k
+brancher_by turns.Learnt heard heard' chose chose' same same' f g h k = f k
+brancher_by turns.Found heard heard' chose chose' same same' f g h k = h k
+brancher_by turns.Exhausted heard heard' chose chose' same same' f g h k = h k
+brancher_by turns.SawClosed heard heard' chose chose' same same' f g h k = h k
+brancher_by (turns.Spent clause below) heard heard' chose chose' same same' f g h k = h k
+brancher_by turns.RoundsDone heard heard' chose chose' same same' f g h k = h k
+
+module _ {B : Type 0} (guidance : B → Guidance) (chooses : B → Trail → Option Atom → Type 0) (hears : B → List Atom → Bool → B → Type 0) (stays : B → B → Type 0)
+    (goes_by : (b : B) (s : Trail) (choice : Option Atom) → chooses b s choice → ChoosesBy (guidance b) s choice)
+    (stays_guided : (b c : B) → stays b c → guidance c ≡ guidance b)
+    (hears_guided : (b c : B) (clause : List Atom) (restart : Bool) → hears b clause restart c → guidance c ≡ guidance b)
+    (rows : ℕ) where
+  abbrev seen : Search × B → Search × Guidance
+  seen s = (s.0, guidance s.1)
+
+  abbrev Heard : Guidance → List Atom → Bool → Guidance → Type 0
+  Heard before clause restart after = after ≡ before
+
+  abbrev Stays : Guidance → Guidance → Type 0
+  Stays before after = after ≡ before
+
+  turn_by : (s t : Search × B) (p q : Part) (turn : Turn) → OneTurn chooses hears stays rows s t p q turn → OneTurn ChoosesBy Heard Stays rows (seen s) (seen t) p q turn
+  turn_by s t p q turn h = record {
+    search = takes_by (chooses s.1) (ChoosesBy (guidance s.1)) (goes_by s.1) s.0 t.0 rows p q turn h.search;
+    brancher = brancher_by turn _ _ _ _ _ _
+        (heard_by (λ clause restart. hears s.1 clause restart t.1) (λ clause restart. guidance t.1 ≡ guidance s.1) (λ clause restart. hears_guided s.1 t.1 clause restart) s.0 t.0)
+        (stays_guided s.1 t.1) (λ same. ap guidance same) h.brancher;
+  }
+
+  turns_by : (s : Search × B) (p : Part) (t : Search × B) (q : Part) → TakesTurns chooses hears stays rows s p t q → TakesTurns ChoosesBy Heard Stays rows (seen s) p (seen t) q
+  turns_by s p t q none_yet = none_yet
+  turns_by s p t q (one_more m u n r turn before goes_on last) = one_more (seen m) (seen u) n r turn (turns_by s p m n before) goes_on (turn_by m u n r turn last)
+
+  pub runs_by : (s t : Search × B) (p q : Part) (end : End) → guidance t.1 ≡ guidance s.1 → RunsInTurns chooses hears stays rows s t p q end → RunsBy (guidance s.1) rows s.0 t.0 p q end
+  runs_by s t p q end same h =
+      subst (λ (g : Guidance). RunsInTurns ChoosesBy Heard Stays rows (seen s) (t.0, g) p q end) same (record {
+        before = seen h.before;
+        part = h.part;
+        turns = turns_by s p h.before h.part h.turns;
+        turn = h.turn;
+        last = turn_by h.before t h.part q h.turn h.last;
+        ended = h.ended;
+      })

@@ -1,0 +1,14 @@
+use Rattle.std.proofs.Common.{Some, subst}
+use Rattle.std.proofs.lemmas.Result.{on_ok_weaker}
+use Rattle.cps_trail.specs.Trail.{Trail}
+use Rattle.cps_search.specs.Choice.{IsUndecided}
+use Rattle.cps_search.proofs.worker.decide_next.Goals as goal
+
+pub returns-clause-decided : goal.returns-clause-decided
+returns-clause-decided g c =
+    on_ok_weaker c.decide.result (λ is. record {
+      atom = c.in-Some.atom;
+      undecided = subst (λ (x : Trail). IsUndecided x c.in-Some.atom) c.store.ensures c.in-Some.ensures.undecided;
+      chosen = subst (λ (x : Trail). g.B.Brancher.chooses c.args.brancher.now x (Some c.in-Some.atom)) c.store.ensures c.in-Some.ensures.rule;
+      is = is;
+    }) c.decide.ensures.decides
