@@ -33,7 +33,7 @@ use Rattle.cps_search.specs.declared.end.WorkerKind.TheVariants.{Fixed}
 use Rattle.cps_search.specs.Searches.{Search, IsFound, IsHonestJournal, IsItemAbove, IsSoundSearch, learnt_count}
 use Rattle.cps_search.specs.Moves.{fresh}
 use Rattle.cps_search.specs.declared.guidance.Guidance.{Guidance}
-use Rattle.cps_search.specs.Guidances.{IsGuidedBy}
+use Rattle.cps_search.specs.Guidances.{IsEndOfRun, IsGuidedBy, RunsBy}
 use Rattle.cps_search.specs.Ends.{Ending, EndsBy, EndsRaised, IsOver, LastSawMet, RaisedToZ, RunsTo, SpentWhole, best_bound, ending}
 use Rattle.cps_print.specs.Responses.{IsBounded, IsFinite}
 use Rattle.cps_command.specs.declared.options.Options.{Options}
@@ -204,18 +204,19 @@ good_alone m options c e o range sound h is =
     let sums : e.defs ≡ model_sums m = ap (λ (x : Ending). x.defs) h.seen ∙ ap (λ (p : Problem). p.defs) problem ∙ h.first.sums in
     let found : IfSome e.best (IsSolution m) = subst (λ (b : Option (List ℤ)). IfSome b (IsSolution m)) (sym bests) (best_found m h.done h.done.best model h.sound.best) in
     let kind : e.kind ≡ Fixed = ap (λ (x : Ending). x.kind) h.seen in
-    let goes : GoesByModel m e = record {
+    let goes : GoesByModel m 0 options.conflicts e = record {
       problem = h.done.problem;
       instance = h.sound.instance;
       model = model;
       sums = sym (ap (λ (x : Ending). x.defs) h.seen);
       guide = subst (λ (k : WorkerKind). IsGuidedBy k h.done.problem e.guidance) (sym kind) h.guide;
+      decisions = subst (λ (p : Problem). IfSome e.guidance (λ guidance. IsEndOfRun p 0 options.conflicts guidance e)) (sym problem) h.decisions;
     } in
     record {
       workers = ap (map (λ (x : Ending). x.kind)) same ∙ one_kind options.workers e one kind;
       sums = subst (All (λ (x : Ending). x.defs ≡ model_sums m)) (sym same)
           (All-cons (λ (x : Ending). x.defs ≡ model_sums m) e [] sums (All-nil (λ (x : Ending). x.defs ≡ model_sums m)));
-      branchers = subst (All (GoesByModel m)) (sym same) (All-cons (GoesByModel m) e [] goes (All-nil (GoesByModel m)));
+      branchers = subst (All (GoesByModel m 0 options.conflicts)) (sym same) (All-cons (GoesByModel m 0 options.conflicts) e [] goes (All-nil (GoesByModel m 0 options.conflicts)));
       status = is.status ∙ ap₂ (λ (u l : Bound). status_of u l 0) (sym is.upper_is) (sym is.lower_is);
       found = subst (All (λ (x : Ending). IfSome x.best (IsSolution m))) (sym same)
           (All-cons (λ (x : Ending). IfSome x.best (IsSolution m)) e [] found (All-nil (λ (x : Ending). IfSome x.best (IsSolution m))));
@@ -286,9 +287,9 @@ pub ends_over : (s t : Search) (p q : Part) (end : End) → RunsTo s t p q end �
 ends_over s t p q end runs = subst IsOver (sym runs.said) tt
 
 -- the port's actor is the one that it was before
-pub has_run : (m : CpModel) (conflicts actor : ℕ) (c d : Core) (s t : Search) (guidance : Guidance) (e : Ending) (end : End) → Begins m conflicts s → c ≡ first_core m 1 1
-    → RunsTo s t (part_at c 0) (part_at d actor) end → IsSoundSearch t → t.said ≡ Over e.end → e ≡ ending Fixed (Some guidance) e.end t → IsGuidedBy Fixed s.problem (Some guidance) → d.model ≡ c.model → OthersStay 0 actor c d → HasRun m conflicts d e
-has_run m conflicts actor c d s t guidance e end begins first runs sound said seen guide model others =
+pub has_run : (m : CpModel) (conflicts actor rows : ℕ) (c d : Core) (s t : Search) (began guidance : Guidance) (e : Ending) (end : End) → Begins m conflicts s → c ≡ first_core m 1 1
+    → RunsTo s t (part_at c 0) (part_at d actor) end → guidance ≡ began → RunsBy began rows s t (part_at c 0) (part_at d actor) end → IsSoundSearch t → t.said ≡ Over e.end → e ≡ ending Fixed (Some guidance) e.end t → IsGuidedBy Fixed s.problem (Some guidance) → d.model ≡ c.model → OthersStay 0 actor c d → HasRun m conflicts d e
+has_run m conflicts actor rows c d s t began guidance e end begins first runs kept by sound said seen guide model others =
     let both : Over e.end ≡ Over end = sym said ∙ runs.said in
     let same : e.end ≡ end = cc in
     let part : part_at c 0 ≡ newcomer = ap (λ (x : Core). part_at x 0) first in
@@ -296,6 +297,7 @@ has_run m conflicts actor c d s t guidance e end begins first runs sound said se
     let from = subst (λ (x : Search). RunsTo x t (part_at c 0) (part_at d 0) end) begins.is alike in
     let at = subst (λ (x : Part). RunsTo (fresh begins.problem 0 (Some conflicts)) t x (part_at d 0) end) part from in
     let guided : e.guidance ≡ Some guidance = ap (λ (x : Ending). x.guidance) seen in
+    let kind : e.kind ≡ Fixed = ap (λ (x : Ending). x.kind) seen in
     record {
       problem = begins.problem;
       first = begins.first;
@@ -304,6 +306,14 @@ has_run m conflicts actor c d s t guidance e end begins first runs sound said se
       runs = subst (λ (x : End). RunsTo (fresh begins.problem 0 (Some conflicts)) t newcomer (part_at d 0) x) (sym same) at;
       seen = seen ∙ ap (λ (o : Option Guidance). ending Fixed o e.end t) (sym guided);
       guide = subst (λ (p : Problem). IsGuidedBy Fixed p e.guidance) (sym runs.setting.problem) (subst (λ (o : Option Guidance). IsGuidedBy Fixed s.problem o) (sym guided) guide);
+      decisions = subst (λ (o : Option Guidance). IfSome o (λ g. IsEndOfRun begins.problem 0 conflicts g e)) (sym guided) (record {
+        rows = rows;
+        done = t;
+        before = part_at c 0;
+        after = part_at d actor;
+        runs = subst (λ (x : Search). RunsBy guidance rows x t (part_at c 0) (part_at d actor) e.end) begins.is (subst (λ (x : End). RunsBy guidance rows s t (part_at c 0) (part_at d actor) x) (sym same) (subst (λ (g : Guidance). RunsBy g rows s t (part_at c 0) (part_at d actor) end) (sym kept) by));
+        seen = seen ∙ ap (λ (k : WorkerKind). ending k (Some guidance) e.end t) (sym kind);
+      });
       model = model ∙ ap (λ (x : Core). x.model) first;
       alone = others.count ∙ ap (λ (x : Core). actor_count x) first;
     }

@@ -1,5 +1,5 @@
 -- What one worker did that searched alone.
-use Rattle.std.specs.Prelude.{◌≡◌, ℕ, Some, [], ◌∷◌}
+use Rattle.std.specs.Prelude.{◌≡◌, ℕ, Some, IfSome, [], ◌∷◌}
 use Rattle.cps_model.specs.declared.model.CpModel.{CpModel}
 use Rattle.cps_model.specs.declared.bound.Bound.{Bound}
 use Rattle.cps_model.specs.Statuses.{status_of}
@@ -12,7 +12,7 @@ use Rattle.cps_search.specs.declared.end.WorkerKind.TheVariants.{Fixed}
 use Rattle.cps_search.specs.Searches.{Search, IsSoundSearch}
 use Rattle.cps_search.specs.Moves.{fresh}
 use Rattle.cps_search.specs.Ends.{Ending, RunsTo, ending}
-use Rattle.cps_search.specs.Guidances.{IsGuidedBy}
+use Rattle.cps_search.specs.Guidances.{IsEndOfRun, IsGuidedBy}
 use Rattle.cpsolve.specs.declared.outcome.Outcome.{Outcome}
 use Rattle.cpsolve.specs.declared.search.Finished.{Finished}
 
@@ -37,6 +37,7 @@ pub record HasRun (m : CpModel) (conflicts : ℕ) (c : Core) (e : Ending) : Type
   pub runs : RunsTo (fresh problem 0 (Some conflicts)) done newcomer (part_at c 0) e.end
   pub seen : e ≡ ending Fixed e.guidance e.end done
   pub guide : IsGuidedBy Fixed done.problem e.guidance
+  pub decisions : IfSome e.guidance (λ guidance. IsEndOfRun problem 0 conflicts guidance e)
   pub model : c.model ≡ m
   pub alone : actor_count c ≡ 1
 

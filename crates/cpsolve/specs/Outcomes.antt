@@ -17,7 +17,7 @@ use Rattle.cps_search.specs.declared.end.WorkerKind.TheVariants.{Fixed, Activity
 use Rattle.cps_search.specs.declared.end.End.TheVariants.{Spent}
 use Rattle.cps_search.specs.Searches.{IsHonestJournal, IsItemAbove, learnt_count}
 use Rattle.cps_search.specs.Ends.{Ending, best_bound}
-use Rattle.cps_search.specs.Guidances.{IsGuidedBy}
+use Rattle.cps_search.specs.Guidances.{IsEndOfRun, IsGuidedBy}
 use Rattle.cps_command.specs.declared.options.Options.{Options}
 use Rattle.cpsolve.specs.declared.outcome.Outcome.{Outcome}
 
@@ -57,20 +57,22 @@ pub record SpentItsBudget (m : CpModel) (conflicts : ℕ) (upper : Bound) (e : E
   pub honest : IsHonestJournal problem (e.journal ++ Learnt clause below ∷ [])
   pub above : All (IsItemAbove upper) (e.journal ++ Learnt clause below ∷ [])
 
--- The brancher of a worker that ended goes by what the model says, over an instance with the worker's sums.
-pub record GoesByModel (m : CpModel) (e : Ending) : Type 0 where
+-- The decisions of a worker that ended went by what the model says, over an instance with the worker's sums: what is seen of the worker is
+-- what a run comes to that begins with nothing known, and each decision of which goes by this guidance.
+pub record GoesByModel (m : CpModel) (gap conflicts : ℕ) (e : Ending) : Type 0 where
   pub problem : Problem
   pub instance : IsInstance problem
   pub model : problem.model ≡ m
   pub sums : problem.defs ≡ e.defs
   pub guide : IsGuidedBy e.kind problem e.guidance
+  pub decisions : IfSome e.guidance (λ guidance. IsEndOfRun problem gap conflicts guidance e)
 
 pub record IsGoodOutcome (m : CpModel) (gap : ℕ) (options : Options) (o : Outcome) : Type 0 where
   -- each worker ended, and is of the kind that its number says, with the sums that the model's strategies write and no others
   pub workers : map (λ e. e.kind) o.ends ≡ kinds_of options.workers
   pub sums : All (λ e. e.defs ≡ model_sums m) o.ends
-  -- a fixed worker's brancher follows the model's strategies and then takes the variables, an activity worker's has the model's hint
-  pub branchers : All (GoesByModel m) o.ends
+  -- a fixed worker decides by the model's strategies and then takes the variables, an activity worker by the model's hint
+  pub branchers : All (GoesByModel m gap options.conflicts) o.ends
   -- the status is that of the two bounds
   pub status : o.status ≡ status_of o.upper o.lower gap
   -- what a worker found is a solution, the outcome's is the best of these, and the upper bound is its objective

@@ -17,8 +17,9 @@ returns-in-Ok c =
     record {
       core = c.run-run.new.port.core.now;
       sound = c.upper_of.ensures.sound;
-      run = has_run c.args.model.now c.args.conflicts c.run-run.new.port.actor _ c.run-run.new.port.core.now first.0 last.0 (Steered last.1.plan) c.finish.result c.in-Ok.field-0
-          c.in_ok-worker.ensures.begins c.in_ok-core.ensures.first ran.runs ran.sound c.finish.ensures.said c.finish.ensures.is
+      run = has_run c.args.model.now c.args.conflicts c.run-run.new.port.actor _ _ c.run-run.new.port.core.now first.0 last.0 (Steered first.1.plan) (Steered last.1.plan) c.finish.result c.in-Ok.field-0
+          c.in_ok-worker.ensures.begins c.in_ok-core.ensures.first ran.runs
+          ran.guidance ran.guided ran.sound c.finish.ensures.said c.finish.ensures.is
           (subst (λ (g : Guidance). IsGuidedBy Fixed first.0.problem (Some g)) (sym ran.guidance) c.in_ok-worker.ensures.brancher) ran.same.0 (others_stay _ _ _ _ ran.others);
       upper_is = c.upper_of.ensures.bound;
       lower_is = c.lower_of.ensures ∙ ap (λ (x : Core). x.bounds.lower) c.upper_of.ensures.after;
