@@ -201,6 +201,22 @@ fn conflicts_teach(rt: HostRuntime) -> Result<(), Fail> {
             },
         },
         Row {
+            name: "the first point through which all goes is not the decision",
+            steps: &[
+                Step::Decide(at_most(0, 0)),
+                Step::Imply(at_least(0, 1), at_least(1, 1)),
+                Step::Imply(at_most(1, 0), at_least(2, 1)),
+                Step::Imply(at_most(1, 0), other_than(3, 3)),
+            ],
+            conflict: &[at_most(2, 0), equal(3, 3)],
+            lesson: Lesson {
+                count: 1,
+                first: at_most(1, 0),
+                back_level: 0,
+                assert: at_most(1, 0),
+            },
+        },
+        Row {
             name: "what closes a gap is named",
             steps: &[
                 Step::Decide(at_most(0, 0)),
