@@ -1,3 +1,15 @@
 pub mod Items
 pub mod Refutes
-pub mod Terms
+pub mod Present
+pub mod Computing
+pub mod Rows
+pub mod Boxes
+pub mod Following
+pub mod Counting
+pub mod Circling
+pub mod Sorting
+pub mod Stepping
+pub mod Loads
+pub mod ActiveEvents
+pub mod Inverses
+pub mod LevelsInOrder

@@ -1,3 +1,9 @@
 pub mod Violations
 pub mod Shown
-pub mod Signs
+pub mod Equal
+pub mod Places
+pub mod Levels
+pub mod Numbers
+pub mod Runs
+pub mod Turns
+pub mod Walks

@@ -1,14 +1,25 @@
 //! Whether what each kind demands holds.
-ghost use Rattle.std.specs.Prelude.{◌≡◌, ◌↔◌, IsTrue};
+ghost use Rattle.std.specs.Prelude.{◌≡◌, ◌↔◌, IfOk, IsTrue};
 ghost use Rattle.std.specs.List.{list_all, list_any};
 ghost use Rattle.cps_model.specs.Values.{literal_holds};
 ghost use Rattle.cps_model.specs.Booleans.{true_count};
 ghost use Rattle.cps_model.specs.Meaning.{Holds, IsSatisfied};
-ghost use Rattle.cps_model.specs.Rules.{sums_of, literals_of};
+ghost use Rattle.cps_model.specs.Rules.{sums_of, literals_of, references_of, has_matching_lists};
 ghost use Rattle.cps_model.specs.Ready.{are_named, are_small, is_ready, is_ready_constraint};
 
-use crate::values::{is_within, literal_holds, literals_hold, sum_of};
-use cps_model::{Constraint, Kind};
+use crate::arithmetic::{is_greatest, is_product, is_quotient, is_remainder};
+use crate::automata::{accepts, transitions};
+use crate::circuits::have_circuit;
+use crate::cumulative::{is_cumulative, uses};
+use crate::intervals::{have_no_overlap, have_no_overlap_2d, is_interval};
+use crate::lookups::{is_element, is_in_table};
+use crate::reservoirs::{events, is_reservoir};
+use crate::sequences::are_inverse;
+use crate::values::{
+    expression_value, literal_holds, literals_hold, reference_values, sum_of, values_of,
+};
+use cps_model::{Constraint, Kind, are_different, is_within};
+use std::alloc::{AllocError, Global};
 
 /// Whether some literal is true.
 fn some_literal_holds(literals: &[i32], values: &[i64]) -> bool
@@ -38,36 +49,177 @@ fn true_count(literals: &[i32], values: &[i64]) -> usize
 }
 
 /// Whether what a kind demands holds, in a model of these constraints.
-fn holds(_constraints: &[Constraint], kind: &Kind, values: &[i64]) -> bool
+fn holds(
+    alloc: Global,
+    constraints: &[Constraint],
+    kind: &Kind,
+    values: &[i64],
+) -> Result<bool, AllocError>
+    requires constraints { IsTrue (list_all (is_ready_constraint values.now) constraints.now) }
     requires literals { IsTrue (are_named values.now (literals_of kind.now)) }
     requires sums { IsTrue (list_all (is_ready values.now) (sums_of kind.now)) }
+    requires references { IsTrue (are_named values.now (references_of kind.now)) }
+    requires lists { IsTrue (has_matching_lists kind.now) }
     requires small { IsTrue (are_small values.now) }
-    ensures { IsTrue result ↔ Holds _constraints.now values.now kind.now }
+    ensures { IfOk result (λ answer. IsTrue answer ↔ Holds constraints.now values.now kind.now) }
 {
     match kind {
-        Kind::Empty => true,
-        Kind::BoolOr(literals) => some_literal_holds(literals.as_slice(), values),
-        Kind::BoolAnd(literals) => literals_hold(literals.as_slice(), values),
-        Kind::AtMostOne(literals) => true_count(literals.as_slice(), values) <= 1,
-        Kind::ExactlyOne(literals) => true_count(literals.as_slice(), values) == 1,
-        Kind::BoolXor(literals) => true_count(literals.as_slice(), values) % 2 == 1,
+        Kind::Empty => Ok(true),
+        Kind::BoolOr(literals) => Ok(some_literal_holds(literals.as_slice(), values)),
+        Kind::BoolAnd(literals) => Ok(literals_hold(literals.as_slice(), values)),
+        Kind::AtMostOne(literals) => Ok(true_count(literals.as_slice(), values) <= 1),
+        Kind::ExactlyOne(literals) => Ok(true_count(literals.as_slice(), values) == 1),
+        Kind::BoolXor(literals) => Ok(true_count(literals.as_slice(), values) % 2 == 1),
         Kind::Linear {
             vars,
             coeffs,
             domain,
-        } => is_within(
+        } => Ok(is_within(
             domain.as_slice(),
             sum_of(vars.as_slice(), coeffs.as_slice(), values),
-        ),
+        )),
+        Kind::IntDiv { target, exprs } => {
+            let numbers = values_of(alloc, exprs.as_slice(), values)?;
+            Ok(is_quotient(expression_value(target, values), numbers.as_slice()))
+        }
+        Kind::IntMod { target, exprs } => {
+            let numbers = values_of(alloc, exprs.as_slice(), values)?;
+            Ok(is_remainder(expression_value(target, values), numbers.as_slice()))
+        }
+        Kind::IntProd { target, exprs } => {
+            let numbers = values_of(alloc, exprs.as_slice(), values)?;
+            Ok(is_product(expression_value(target, values), numbers.as_slice()))
+        }
+        Kind::LinMax { target, exprs } => {
+            let numbers = values_of(alloc, exprs.as_slice(), values)?;
+            Ok(is_greatest(expression_value(target, values), numbers.as_slice()))
+        }
+        Kind::Element {
+            index,
+            target,
+            exprs,
+        } => Ok(is_element(
+            expression_value(index, values),
+            expression_value(target, values),
+            exprs.as_slice(),
+            values,
+        )),
+        Kind::Table {
+            exprs,
+            values: rows,
+            negated,
+        } => {
+            let numbers = values_of(alloc, exprs.as_slice(), values)?;
+            Ok(is_in_table(*negated, rows.as_slice(), numbers.as_slice()))
+        }
+        Kind::AllDiff(exprs) => {
+            let numbers = values_of(alloc, exprs.as_slice(), values)?;
+            Ok(are_different(numbers))
+        }
+        Kind::Interval { start, end, size } => Ok(is_interval(
+            expression_value(start, values),
+            expression_value(end, values),
+            expression_value(size, values),
+        )),
+        Kind::NoOverlap(intervals) => {
+            let answer = have_no_overlap(alloc, constraints, intervals.as_slice(), values)?;
+            Ok(answer)
+        }
+        Kind::Circuit {
+            tails,
+            heads,
+            literals,
+        } => {
+            let answer = have_circuit(
+                alloc,
+                tails.as_slice(),
+                heads.as_slice(),
+                literals.as_slice(),
+                values,
+            )?;
+            Ok(answer)
+        }
+        Kind::Cumulative {
+            capacity,
+            intervals,
+            demands,
+        } => {
+            let present = uses(
+                alloc,
+                constraints,
+                intervals.as_slice(),
+                demands.as_slice(),
+                values,
+            )?;
+            let answer = is_cumulative(
+                alloc,
+                expression_value(capacity, values),
+                present.as_slice(),
+            )?;
+            Ok(answer)
+        }
+        Kind::Automaton {
+            start,
+            finals,
+            tails,
+            heads,
+            labels,
+            exprs,
+        } => {
+            let steps = transitions(alloc, tails.as_slice(), heads.as_slice(), labels.as_slice())?;
+            let numbers = values_of(alloc, exprs.as_slice(), values)?;
+            let answer = accepts(alloc, steps, finals.as_slice(), *start, numbers.as_slice())?;
+            Ok(answer)
+        }
+        Kind::Reservoir {
+            min,
+            max,
+            times,
+            changes,
+            active,
+        } => {
+            let events = events(
+                alloc,
+                times.as_slice(),
+                changes.as_slice(),
+                active.as_slice(),
+                values,
+            )?;
+            Ok(is_reservoir(*min, *max, events))
+        }
+        Kind::Inverse { direct, inverse } => {
+            let direct = reference_values(alloc, direct.as_slice(), values)?;
+            let inverse = reference_values(alloc, inverse.as_slice(), values)?;
+            Ok(are_inverse(direct.as_slice(), inverse.as_slice()))
+        }
+        Kind::NoOverlap2d { x, y } => {
+            let answer = have_no_overlap_2d(
+                alloc,
+                constraints,
+                x.as_slice(),
+                y.as_slice(),
+                values,
+            )?;
+            Ok(answer)
+        }
     }
 }
 
 /// Whether a constraint is satisfied.
-pub fn is_satisfied(constraints: &[Constraint], constraint: &Constraint, values: &[i64]) -> bool
+pub fn is_satisfied(
+    alloc: Global,
+    constraints: &[Constraint],
+    constraint: &Constraint,
+    values: &[i64],
+) -> Result<bool, AllocError>
+    requires constraints { IsTrue (list_all (is_ready_constraint values.now) constraints.now) }
     requires ready { IsTrue (is_ready_constraint values.now constraint.now) }
     requires small { IsTrue (are_small values.now) }
-    ensures { IsTrue result ↔ IsSatisfied constraints.now values.now constraint.now }
+    ensures { IfOk result (λ answer. IsTrue answer ↔ IsSatisfied constraints.now values.now constraint.now) }
 {
-    !literals_hold(constraint.enforcement.as_slice(), values)
-        || holds(constraints, &constraint.kind, values)
+    if !literals_hold(constraint.enforcement.as_slice(), values) {
+        return Ok(true);
+    }
+    let answer = holds(alloc, constraints, &constraint.kind, values)?;
+    Ok(answer)
 }

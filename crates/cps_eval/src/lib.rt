@@ -2,11 +2,22 @@
 //!
 //! `satisfies` says exactly whether an assignment is a solution, and `first_violated` the first place at which it is none:
 //! domains, constraints, objective and assumptions in order. Domains are tested first, so that the rules of a valid model
-//! keep every later sum below 2^62. Each call is linear in the model.
+//! keep every later sum below 2^62. Each call is linear in the model but for sorting; boxes alone, and intervals of which one
+//! ends before it starts, are compared two by two.
 #![tactic(auto)]
 
+mod arithmetic;
+mod automata;
+mod circuits;
+mod cumulative;
+mod intervals;
 mod kinds;
+mod levels;
+mod lookups;
+mod numbers;
 mod objectives;
+mod reservoirs;
+mod sequences;
 mod solution;
 mod start;
 mod values;

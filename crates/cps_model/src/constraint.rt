@@ -1,8 +1,10 @@
 //! A constraint and the kinds that there are.
 use crate::listed::Listed;
+use crate::model::LinearExpr;
 use crate::text::Text;
 
-/// What a constraint demands. Literals and variables are given by references.
+/// What a constraint demands. Literals and variables are given by references, intervals by the numbers of the constraints
+/// that they are.
 #[derive(Drop)]
 pub enum Kind {
     /// Nothing.
@@ -22,6 +24,91 @@ pub enum Kind {
         vars: Listed<i32>,
         coeffs: Listed<i64>,
         domain: Listed<i64>,
+    },
+    /// The target is the first of two expressions divided by the second, rounded towards zero.
+    IntDiv {
+        target: LinearExpr,
+        exprs: Listed<LinearExpr>,
+    },
+    /// The target is what is left of the first of two expressions after it was divided so by the second.
+    IntMod {
+        target: LinearExpr,
+        exprs: Listed<LinearExpr>,
+    },
+    /// The target is the product of the expressions.
+    IntProd {
+        target: LinearExpr,
+        exprs: Listed<LinearExpr>,
+    },
+    /// The target is the greatest of the expressions.
+    LinMax {
+        target: LinearExpr,
+        exprs: Listed<LinearExpr>,
+    },
+    /// The target is the expression whose number is the index.
+    Element {
+        index: LinearExpr,
+        target: LinearExpr,
+        exprs: Listed<LinearExpr>,
+    },
+    /// The expressions' values are a row of the table, whose rows stand in `values` one after another; where it is
+    /// negated, they are none. Without expressions it says nothing.
+    Table {
+        exprs: Listed<LinearExpr>,
+        values: Listed<i64>,
+        negated: bool,
+    },
+    /// No two positions have the same value.
+    AllDiff(Listed<LinearExpr>),
+    /// The arcs whose literals are true lead into and out of each node once, those that are no loops in one circuit.
+    Circuit {
+        tails: Listed<i32>,
+        heads: Listed<i32>,
+        literals: Listed<i32>,
+    },
+    /// An interval, which is present where the constraint is in force: the size is not negative, and takes the start to the end.
+    Interval {
+        start: LinearExpr,
+        end: LinearExpr,
+        size: LinearExpr,
+    },
+    /// Of each two present intervals one ends before the other starts, or as it starts.
+    NoOverlap(Listed<i32>),
+    /// At no time do the present intervals that run then demand more than the capacity.
+    Cumulative {
+        capacity: LinearExpr,
+        intervals: Listed<i32>,
+        demands: Listed<LinearExpr>,
+    },
+    /// Each of two lists of variables says at which place of the other its own places stand.
+    Inverse {
+        direct: Listed<i32>,
+        inverse: Listed<i32>,
+    },
+    /// The expressions' values are the labels of a run from the start to a final state. The transitions stand in three
+    /// lists.
+    Automaton {
+        start: i64,
+        finals: Listed<i64>,
+        tails: Listed<i64>,
+        heads: Listed<i64>,
+        labels: Listed<i64>,
+        exprs: Listed<LinearExpr>,
+    },
+    /// After each active event the changes up to its time add up to a level between `min` and `max`. Without literals
+    /// each event is active.
+    Reservoir {
+        min: i64,
+        max: i64,
+        times: Listed<LinearExpr>,
+        changes: Listed<LinearExpr>,
+        active: Listed<i32>,
+    },
+    /// Of each two boxes whose intervals are present, the one ends before the other starts, or as it starts, in one
+    /// direction.
+    NoOverlap2d {
+        x: Listed<i32>,
+        y: Listed<i32>,
     },
 }
 

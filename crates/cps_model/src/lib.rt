@@ -8,10 +8,13 @@
 #![tactic(auto)]
 
 mod bound;
+mod bounds;
 mod constraint;
 mod fault;
 mod listed;
 mod model;
+mod numbers;
+mod parts;
 mod place;
 mod reference;
 mod status;
@@ -19,12 +22,15 @@ mod steering;
 mod text;
 
 pub use bound::Bound;
+pub use bounds::is_within;
 pub use constraint::{Constraint, Kind};
 pub use fault::FaultName;
 pub use listed::Listed;
 pub use model::{CpModel, LinearExpr, Objective, Variable};
+pub use numbers::{are_different, is_rising};
+pub use parts::{Arc, Area, Event, Run, Transition, Use};
 pub use place::Place;
-pub use reference::variable_of;
+pub use reference::{negated, variable_of};
 pub use status::Status;
 pub use steering::{Choose, Hint, Select, Strategy};
 pub use text::Text;

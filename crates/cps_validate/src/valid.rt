@@ -74,16 +74,20 @@ fn variables_fault(variables: &[Variable]) -> Option<(u8, Place)>
 }
 
 /// The first constraint that breaks a rule.
-fn constraints_fault(variables: &[Variable], constraints: &[Constraint]) -> Option<(u8, Place)>
+fn constraints_fault(
+    alloc: Global,
+    variables: &[Variable],
+    constraints: &[Constraint],
+) -> Result<Option<(u8, Place)>, AllocError>
     requires { length constraints.now ≤ most_items }
-    ensures { result ≡ first_faulty (constraint_fault variables.now constraints.now) Place.Constraint 0 constraints.now }
+    ensures { IfOk result (λ fault. fault ≡ first_faulty (constraint_fault variables.now constraints.now) Place.Constraint 0 constraints.now) }
 {
     for (i, constraint) in constraints.iter().enumerate() {
-        if let Some(rule) = constraint_fault(variables, constraints, constraint) {
-            return Some((rule, Place::Constraint(i as u32)));
+        if let Some(rule) = constraint_fault(alloc, variables, constraints, constraint)? {
+            return Ok(Some((rule, Place::Constraint(i as u32))));
         }
     }
-    None
+    Ok(None)
 }
 
 /// The first strategy that breaks a rule.
@@ -123,7 +127,7 @@ fn first_invalid(alloc: Global, model: &CpModel) -> Result<Option<(u8, Place)>, 
     if let Some(fault) = variables_fault(variables) {
         return Ok(Some(fault));
     }
-    if let Some(fault) = constraints_fault(variables, model.constraints.as_slice()) {
+    if let Some(fault) = constraints_fault(alloc, variables, model.constraints.as_slice())? {
         return Ok(Some(fault));
     }
     if let Some(rule) = objective_fault(variables, &model.objective) {

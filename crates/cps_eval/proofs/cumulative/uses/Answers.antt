@@ -1,0 +1,23 @@
+-- One use more.
+use Rattle.std.proofs.Common.{◌≡◌, ◌∙◌, sym, get_or, pos, arith, rules, FitsSigned, w32}
+use Rattle.std.proofs.lemmas.Int.{to_z-of_z}
+use Rattle.cps_model.specs.Values.{expression_value}
+use Rattle.cps_model.specs.Scheduling.{run_at, use_of}
+use Rattle.cps_eval.proofs.Loads.{uses-more, small_demand-more}
+use Rattle.cps_eval.proofs.cumulative.uses.Goals as goal
+
+pub loop-k-preserved : goal.loop-k-preserved
+loop-k-preserved c =
+    let cs = c.args.constraints.now in
+    let a = c.args.values.now in
+    let is = c.args.intervals.now in
+    let k = c.loop-k.k in
+    let i = get_or is k (pos 0) in
+    let d = c.index-demands-k.result in
+    let fits : FitsSigned w32 i = search rules in
+    let value : c.use_at.result ≡ use_of (run_at cs a i) (expression_value a d) = simp to_z-of_z at c.use_at.ensures.value in
+    rw c.in_ok-push.ensures.items
+    (record {
+      whole = uses-more cs a is c.args.demands.now k d c.in-Some.used c.loop-k.present.items _ (omega arith) (omega arith) c.index-demands-k.is (sym value ∙ c.in-Some.is) c.loop-k.invariant.whole;
+      small = small_demand-more c.loop-k.present.items c.in-Some.used c.loop-k.invariant.small c.in-Some.ensures.near;
+    })
