@@ -12,14 +12,15 @@ ghost use Rattle.cps_schema.specs.Steps.{field_then, Passes, Stops};
 ghost use Rattle.cps_schema.specs.Parts.{constraint_from, IsConstraintGiven};
 
 use super::error::SchemaError;
+use super::message::Message;
 use super::kind::{GivenKind, kind_named, set_kind};
 use super::lists::add_refs;
 use super::names::not_read;
-use super::single::{Messages, fields_of, messages_of};
+use super::single::fields_of;
 use super::source::{Source, token_text};
 use super::text::{name_or_empty, set_name};
 use cps_model::{Constraint, Kind, Listed, Text};
-use cps_textproto::{Field, Nested, Node};
+use cps_textproto::{Field, Node};
 use std::alloc::Global;
 
 const UNREAD: [&[u8]; 17] = [
@@ -114,59 +115,15 @@ fn read_constraint(alloc: Global, source: &Source, node: &Node) -> Result<Constr
     Ok(constraint_of(alloc, parts))
 }
 
-/// Adds the constraint of a message.
-fn add_constraint(
-    alloc: Global,
-    source: &Source,
-    constraints: &mut Vec<Constraint>,
-    node: &Node,
-) -> Result<(), SchemaError>
-    ensures fault { OnOk result (fields_fault (written_of source.now) constraint_message [] (tree_of node.now) ≡ None) }
-    ensures added { OnOk result (constraints.new.items ≡ constraints.old.items ++ read_constraint (written_of source.now) (tree_of node.now) ∷ []) }
-    ensures err { IfErr result (Refuses (fields_fault (written_of source.now) constraint_message [] (tree_of node.now))) }
-{
-    match read_constraint(alloc, source, node) {
-        Ok(constraint) => {
-            constraints.push(constraint)?;
-            Ok(())
-        }
-        Err(error) => Err(error),
-    }
-}
+impl Message for Constraint {
+    ghost use Rattle.cps_schema.specs.Tables.{constraint_message};
+    ghost use Rattle.cps_schema.specs.Readings.{read_constraint};
 
-/// Adds those of a list.
-#[tactic(auto, using(crate::proofs::Values::tree_of_nested))]
-fn add_listed(
-    alloc: Global,
-    source: &Source,
-    constraints: &mut Vec<Constraint>,
-    list: &[Nested],
-) -> Result<(), SchemaError>
-    ensures fault { OnOk result (trees_fault (written_of source.now) constraint_message (nested_trees list.now) ≡ None) }
-    ensures added { OnOk result (constraints.new.items ≡ constraints.old.items ++ map (read_constraint (written_of source.now)) (nested_trees list.now)) }
-    ensures err { IfErr result (Refuses (trees_fault (written_of source.now) constraint_message (nested_trees list.now))) }
-{
-    for nested in list {
-        add_constraint(alloc, source, constraints, &nested.node)?;
-    }
-    Ok(())
-}
+    ghost fields = { constraint_message };
 
-/// Adds those of a field.
-pub(crate) fn add_constraints(
-    alloc: Global,
-    source: &Source,
-    constraints: &mut Vec<Constraint>,
-    field: &Field,
-) -> Result<(), SchemaError>
-    ensures fault { OnOk result (values_fault (written_of source.now) (Some (message constraint_message)) (values_of field.now.items) ≡ None) }
-    ensures added { OnOk result (constraints.new.items
-        ≡ constraints.old.items ++ map (read_constraint (written_of source.now)) (value_messages (values_of field.now.items))) }
-    ensures err { IfErr result (Refuses (values_fault (written_of source.now) (Some (message constraint_message)) (values_of field.now.items))) }
-{
-    match messages_of(field) {
-        Ok(Messages::One(node)) => add_constraint(alloc, source, constraints, node),
-        Ok(Messages::List(list)) => add_listed(alloc, source, constraints, list),
-        Err(error) => Err(error),
+    ghost reads = { read_constraint };
+
+    fn read(alloc: Global, source: &Source, node: &Node) -> Result<Self, SchemaError> {
+        read_constraint(alloc, source, node)
     }
 }

@@ -13,13 +13,14 @@ ghost use Rattle.cps_schema.specs.Slots.{AreGiven};
 ghost use Rattle.cps_schema.specs.Parts.{expression_from, expression_slots};
 
 use super::error::SchemaError;
+use super::message::Message;
 use super::lists::{add_ints, add_refs};
 use super::names::not_read;
 use super::number::Number;
-use super::single::{Messages, fields_of, messages_of, set_number};
+use super::single::{fields_of, set_number};
 use super::source::{Source, token_text};
 use cps_model::{LinearExpr, Listed};
-use cps_textproto::{Field, Nested, Node};
+use cps_textproto::{Field, Node};
 use std::alloc::{AllocError, Global};
 
 const UNREAD: [&[u8]; 0] = [];
@@ -89,60 +90,16 @@ fn read_expression(alloc: Global, source: &Source, node: &Node) -> Result<Linear
     Ok(expression_of(parts))
 }
 
-/// Adds the expression of a message.
-fn add_expression(
-    alloc: Global,
-    source: &Source,
-    expressions: &mut Vec<LinearExpr>,
-    node: &Node,
-) -> Result<(), SchemaError>
-    ensures fault { OnOk result (fields_fault (written_of source.now) expression_message [] (tree_of node.now) ≡ None) }
-    ensures added { OnOk result (expressions.new.items ≡ expressions.old.items ++ read_expression (written_of source.now) (tree_of node.now) ∷ []) }
-    ensures err { IfErr result (Refuses (fields_fault (written_of source.now) expression_message [] (tree_of node.now))) }
-{
-    match read_expression(alloc, source, node) {
-        Ok(expression) => {
-            expressions.push(expression)?;
-            Ok(())
-        }
-        Err(error) => Err(error),
-    }
-}
+impl Message for LinearExpr {
+    ghost use Rattle.cps_schema.specs.Tables.{expression_message};
+    ghost use Rattle.cps_schema.specs.Readings.{read_expression};
 
-/// Adds those of a list.
-#[tactic(auto, using(crate::proofs::Values::tree_of_nested))]
-fn add_listed(
-    alloc: Global,
-    source: &Source,
-    expressions: &mut Vec<LinearExpr>,
-    list: &[Nested],
-) -> Result<(), SchemaError>
-    ensures fault { OnOk result (trees_fault (written_of source.now) expression_message (nested_trees list.now) ≡ None) }
-    ensures added { OnOk result (expressions.new.items ≡ expressions.old.items ++ map (read_expression (written_of source.now)) (nested_trees list.now)) }
-    ensures err { IfErr result (Refuses (trees_fault (written_of source.now) expression_message (nested_trees list.now))) }
-{
-    for nested in list {
-        add_expression(alloc, source, expressions, &nested.node)?;
-    }
-    Ok(())
-}
+    ghost fields = { expression_message };
 
-/// Adds those of a field.
-pub(crate) fn add_expressions(
-    alloc: Global,
-    source: &Source,
-    expressions: &mut Vec<LinearExpr>,
-    field: &Field,
-) -> Result<(), SchemaError>
-    ensures fault { OnOk result (values_fault (written_of source.now) (Some (message expression_message)) (values_of field.now.items) ≡ None) }
-    ensures added { OnOk result (expressions.new.items
-        ≡ expressions.old.items ++ map (read_expression (written_of source.now)) (value_messages (values_of field.now.items))) }
-    ensures err { IfErr result (Refuses (values_fault (written_of source.now) (Some (message expression_message)) (values_of field.now.items))) }
-{
-    match messages_of(field) {
-        Ok(Messages::One(node)) => add_expression(alloc, source, expressions, node),
-        Ok(Messages::List(list)) => add_listed(alloc, source, expressions, list),
-        Err(error) => Err(error),
+    ghost reads = { read_expression };
+
+    fn read(alloc: Global, source: &Source, node: &Node) -> Result<Self, SchemaError> {
+        read_expression(alloc, source, node)
     }
 }
 

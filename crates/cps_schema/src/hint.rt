@@ -10,6 +10,7 @@ ghost use Rattle.cps_schema.specs.Steps.{field_then, Passes, Stops};
 ghost use Rattle.cps_schema.specs.Parts.{hint_from};
 
 use super::error::SchemaError;
+use super::message::Message;
 use super::lists::{add_ints, add_refs};
 use super::names::not_read;
 use super::single::fields_of;
@@ -45,7 +46,7 @@ fn add_field(source: &Source, parts: &mut HintParts, field: &Field) -> Result<()
 }
 
 /// The hint that a message gives.
-pub(crate) fn read_hint(alloc: Global, source: &Source, node: &Node) -> Result<Hint, SchemaError>
+fn read_hint(alloc: Global, source: &Source, node: &Node) -> Result<Hint, SchemaError>
     ensures accepted { IfOk result (λ _. fields_fault (written_of source.now) hint_message [] (tree_of node.now) ≡ None) }
     ensures reading { IfOk result (λ hint. hint ≡ read_hint (written_of source.now) (tree_of node.now)) }
     ensures err { IfErr result (Refuses (fields_fault (written_of source.now) hint_message [] (tree_of node.now))) }
@@ -62,4 +63,17 @@ pub(crate) fn read_hint(alloc: Global, source: &Source, node: &Node) -> Result<H
         vars: Listed::from_vec(vars),
         values: Listed::from_vec(values),
     })
+}
+
+impl Message for Hint {
+    ghost use Rattle.cps_schema.specs.Tables.{hint_message};
+    ghost use Rattle.cps_schema.specs.Readings.{read_hint};
+
+    ghost fields = { hint_message };
+
+    ghost reads = { read_hint };
+
+    fn read(alloc: Global, source: &Source, node: &Node) -> Result<Self, SchemaError> {
+        read_hint(alloc, source, node)
+    }
 }

@@ -27,6 +27,7 @@ mod linear;
 mod lists;
 mod literals;
 mod member;
+mod message;
 mod model;
 mod names;
 mod number;

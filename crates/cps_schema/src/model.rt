@@ -12,19 +12,15 @@ ghost use Rattle.cps_schema.specs.Steps.{field_then, Passes, Stops, SinglePasses
 ghost use Rattle.cps_schema.specs.Slots.{AreGiven};
 ghost use Rattle.cps_schema.specs.Parts.{model_from, model_slots};
 
-use super::constraint::add_constraints;
 use super::error::SchemaError;
-use super::hint::read_hint;
+use super::message::{add_messages, set_once};
 use super::names::not_read;
-use super::objective::read_objective;
-use super::single::{fields_of, single_message};
+use super::single::fields_of;
 use super::source::{Source, token_text};
-use super::strategy::add_strategies;
 use super::text::{name_or_empty, set_name};
-use super::variable::add_variables;
 use cps_lex::Token;
 use cps_model::{
-    Constraint, CpModel, FaultName, Hint, Listed, Objective, Strategy, Text, Variable,
+    Constraint, CpModel, Hint, Listed, Objective, Strategy, Text, Variable,
 };
 use cps_textproto::{Field, Node};
 use std::alloc::Global;
@@ -40,70 +36,6 @@ pub struct ModelParts {
     pub objective: Option<Objective>,
     pub strategies: Vec<Strategy>,
     pub hint: Option<Hint>,
-}
-
-/// Reads the objective, which may not have been read before.
-#[tactic(auto, using(crate::proofs::Steps::single_passes, crate::proofs::Steps::single_stops))]
-fn set_objective(
-    alloc: Global,
-    source: &Source,
-    objective: &mut Option<Objective>,
-    field: &Field,
-) -> Result<(), SchemaError>
-    ensures passes { OnOk result (SinglePasses (written_of source.now) field.now (message objective_message) (is_some objective.old)) }
-    ensures added { OnOk result (option_to_list objective.new
-        ≡ option_to_list objective.old ++ map (read_objective (written_of source.now)) (value_messages (values_of field.now.items))) }
-    ensures some { OnOk result (is_some objective.new ≡ true) }
-    ensures err { IfErr result (SingleStops (written_of source.now) field.now (message objective_message) (is_some objective.old)) }
-{
-    if objective.is_some() {
-        return Err(SchemaError::Fault {
-            name: FaultName::Repeated,
-            token: field.name as usize,
-        });
-    }
-    match single_message(source, field) {
-        Ok(node) => match read_objective(alloc, source, node) {
-            Ok(read) => {
-                *objective = Some(read);
-                Ok(())
-            }
-            Err(error) => Err(error),
-        },
-        Err(error) => Err(error),
-    }
-}
-
-/// Reads the hint, which may not have been read before.
-#[tactic(auto, using(crate::proofs::Steps::single_passes, crate::proofs::Steps::single_stops))]
-fn set_hint(
-    alloc: Global,
-    source: &Source,
-    hint: &mut Option<Hint>,
-    field: &Field,
-) -> Result<(), SchemaError>
-    ensures passes { OnOk result (SinglePasses (written_of source.now) field.now (message hint_message) (is_some hint.old)) }
-    ensures added { OnOk result (option_to_list hint.new
-        ≡ option_to_list hint.old ++ map (read_hint (written_of source.now)) (value_messages (values_of field.now.items))) }
-    ensures some { OnOk result (is_some hint.new ≡ true) }
-    ensures err { IfErr result (SingleStops (written_of source.now) field.now (message hint_message) (is_some hint.old)) }
-{
-    if hint.is_some() {
-        return Err(SchemaError::Fault {
-            name: FaultName::Repeated,
-            token: field.name as usize,
-        });
-    }
-    match single_message(source, field) {
-        Ok(node) => match read_hint(alloc, source, node) {
-            Ok(read) => {
-                *hint = Some(read);
-                Ok(())
-            }
-            Err(error) => Err(error),
-        },
-        Err(error) => Err(error),
-    }
 }
 
 /// Reads a field of a model.
@@ -126,15 +58,15 @@ fn add_field(
     if name == b"name".as_slice() {
         set_name(alloc, source, &mut parts.name, field)
     } else if name == b"variables".as_slice() {
-        add_variables(alloc, source, &mut parts.variables, field)
+        add_messages(alloc, source, &mut parts.variables, field)
     } else if name == b"constraints".as_slice() {
-        add_constraints(alloc, source, &mut parts.constraints, field)
+        add_messages(alloc, source, &mut parts.constraints, field)
     } else if name == b"objective".as_slice() {
-        set_objective(alloc, source, &mut parts.objective, field)
+        set_once(alloc, source, &mut parts.objective, field)
     } else if name == b"search_strategy".as_slice() {
-        add_strategies(alloc, source, &mut parts.strategies, field)
+        add_messages(alloc, source, &mut parts.strategies, field)
     } else if name == b"solution_hint".as_slice() {
-        set_hint(alloc, source, &mut parts.hint, field)
+        set_once(alloc, source, &mut parts.hint, field)
     } else {
         Err(not_read(source, &UNREAD, field.name))
     }

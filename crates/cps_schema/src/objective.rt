@@ -11,6 +11,7 @@ ghost use Rattle.cps_schema.specs.Steps.{field_then, Passes, Stops};
 ghost use Rattle.cps_schema.specs.Parts.{objective_from, IsGiven};
 
 use super::error::SchemaError;
+use super::message::Message;
 use super::lists::{add_ints, add_refs};
 use super::names::not_read;
 use super::number::Number;
@@ -93,7 +94,7 @@ fn objective_of(parts: ObjectiveParts) -> Objective
 }
 
 /// The objective that a message gives.
-pub(crate) fn read_objective(
+fn read_objective(
     alloc: Global,
     source: &Source,
     node: &Node,
@@ -113,4 +114,17 @@ pub(crate) fn read_objective(
         add_field(source, &mut parts, field)?;
     }
     Ok(objective_of(parts))
+}
+
+impl Message for Objective {
+    ghost use Rattle.cps_schema.specs.Tables.{objective_message};
+    ghost use Rattle.cps_schema.specs.Readings.{read_objective};
+
+    ghost fields = { objective_message };
+
+    ghost reads = { read_objective };
+
+    fn read(alloc: Global, source: &Source, node: &Node) -> Result<Self, SchemaError> {
+        read_objective(alloc, source, node)
+    }
 }

@@ -12,16 +12,17 @@ ghost use Rattle.cps_schema.specs.Steps.{field_then, Passes, Stops, FormedPasses
 ghost use Rattle.cps_schema.specs.Parts.{strategy_from, is_other, IsStrategyGiven};
 
 use super::error::SchemaError;
-use super::expression::{add_expressions, add_references};
+use super::message::{Message, add_messages};
+use super::expression::add_references;
 use super::form::Form;
 use super::lists::add_refs;
 use super::member::{set_choose, set_select};
 use super::names::not_read;
 use super::number::Number;
-use super::single::{Messages, fields_of, messages_of};
+use super::single::fields_of;
 use super::source::{Source, token_text};
 use cps_model::{Choose, FaultName, LinearExpr, Listed, Select, Strategy};
-use cps_textproto::{Field, Nested, Node};
+use cps_textproto::{Field, Node};
 use std::alloc::{AllocError, Global};
 
 const UNREAD: [&[u8]; 0] = [];
@@ -87,7 +88,7 @@ fn add_newer(
     ensures err { IfErr result (FormedStops (written_of source.now) field.now Form.Newer (message expression_message) (is_other form.old Form.Newer)) }
 {
     match take_form(form, Form::Newer, field) {
-        Ok(()) => add_expressions(alloc, source, exprs, field),
+        Ok(()) => add_messages(alloc, source, exprs, field),
         Err(error) => Err(error),
     }
 }
@@ -182,59 +183,15 @@ fn read_strategy(alloc: Global, source: &Source, node: &Node) -> Result<Strategy
     Ok(strategy_of(alloc, parts)?)
 }
 
-/// Adds the strategy of a message.
-fn add_strategy(
-    alloc: Global,
-    source: &Source,
-    strategies: &mut Vec<Strategy>,
-    node: &Node,
-) -> Result<(), SchemaError>
-    ensures fault { OnOk result (fields_fault (written_of source.now) strategy_message [] (tree_of node.now) ≡ None) }
-    ensures added { OnOk result (strategies.new.items ≡ strategies.old.items ++ read_strategy (written_of source.now) (tree_of node.now) ∷ []) }
-    ensures err { IfErr result (Refuses (fields_fault (written_of source.now) strategy_message [] (tree_of node.now))) }
-{
-    match read_strategy(alloc, source, node) {
-        Ok(strategy) => {
-            strategies.push(strategy)?;
-            Ok(())
-        }
-        Err(error) => Err(error),
-    }
-}
+impl Message for Strategy {
+    ghost use Rattle.cps_schema.specs.Tables.{strategy_message};
+    ghost use Rattle.cps_schema.specs.Readings.{read_strategy};
 
-/// Adds those of a list.
-#[tactic(auto, using(crate::proofs::Values::tree_of_nested))]
-fn add_listed(
-    alloc: Global,
-    source: &Source,
-    strategies: &mut Vec<Strategy>,
-    list: &[Nested],
-) -> Result<(), SchemaError>
-    ensures fault { OnOk result (trees_fault (written_of source.now) strategy_message (nested_trees list.now) ≡ None) }
-    ensures added { OnOk result (strategies.new.items ≡ strategies.old.items ++ map (read_strategy (written_of source.now)) (nested_trees list.now)) }
-    ensures err { IfErr result (Refuses (trees_fault (written_of source.now) strategy_message (nested_trees list.now))) }
-{
-    for nested in list {
-        add_strategy(alloc, source, strategies, &nested.node)?;
-    }
-    Ok(())
-}
+    ghost fields = { strategy_message };
 
-/// Adds those of a field.
-pub(crate) fn add_strategies(
-    alloc: Global,
-    source: &Source,
-    strategies: &mut Vec<Strategy>,
-    field: &Field,
-) -> Result<(), SchemaError>
-    ensures fault { OnOk result (values_fault (written_of source.now) (Some (message strategy_message)) (values_of field.now.items) ≡ None) }
-    ensures added { OnOk result (strategies.new.items
-        ≡ strategies.old.items ++ map (read_strategy (written_of source.now)) (value_messages (values_of field.now.items))) }
-    ensures err { IfErr result (Refuses (values_fault (written_of source.now) (Some (message strategy_message)) (values_of field.now.items))) }
-{
-    match messages_of(field) {
-        Ok(Messages::One(node)) => add_strategy(alloc, source, strategies, node),
-        Ok(Messages::List(list)) => add_listed(alloc, source, strategies, list),
-        Err(error) => Err(error),
+    ghost reads = { read_strategy };
+
+    fn read(alloc: Global, source: &Source, node: &Node) -> Result<Self, SchemaError> {
+        read_strategy(alloc, source, node)
     }
 }

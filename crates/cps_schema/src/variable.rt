@@ -13,13 +13,14 @@ ghost use Rattle.cps_schema.specs.Slots.{AreGiven};
 ghost use Rattle.cps_schema.specs.Parts.{variable_from, variable_slots};
 
 use super::error::SchemaError;
+use super::message::Message;
 use super::lists::add_ints;
 use super::names::not_read;
-use super::single::{Messages, fields_of, messages_of};
+use super::single::fields_of;
 use super::source::{Source, token_text};
 use super::text::{name_or_empty, set_name};
 use cps_model::{Listed, Text, Variable};
-use cps_textproto::{Field, Nested, Node};
+use cps_textproto::{Field, Node};
 use std::alloc::Global;
 
 const UNREAD: [&[u8]; 0] = [];
@@ -84,59 +85,15 @@ fn read_variable(alloc: Global, source: &Source, node: &Node) -> Result<Variable
     Ok(variable_of(alloc, parts))
 }
 
-/// Adds the variable of a message.
-fn add_variable(
-    alloc: Global,
-    source: &Source,
-    variables: &mut Vec<Variable>,
-    node: &Node,
-) -> Result<(), SchemaError>
-    ensures fault { OnOk result (fields_fault (written_of source.now) variable_message [] (tree_of node.now) ≡ None) }
-    ensures added { OnOk result (variables.new.items ≡ variables.old.items ++ read_variable (written_of source.now) (tree_of node.now) ∷ []) }
-    ensures err { IfErr result (Refuses (fields_fault (written_of source.now) variable_message [] (tree_of node.now))) }
-{
-    match read_variable(alloc, source, node) {
-        Ok(variable) => {
-            variables.push(variable)?;
-            Ok(())
-        }
-        Err(error) => Err(error),
-    }
-}
+impl Message for Variable {
+    ghost use Rattle.cps_schema.specs.Tables.{variable_message};
+    ghost use Rattle.cps_schema.specs.Readings.{read_variable};
 
-/// Adds those of a list.
-#[tactic(auto, using(crate::proofs::Values::tree_of_nested))]
-fn add_listed(
-    alloc: Global,
-    source: &Source,
-    variables: &mut Vec<Variable>,
-    list: &[Nested],
-) -> Result<(), SchemaError>
-    ensures fault { OnOk result (trees_fault (written_of source.now) variable_message (nested_trees list.now) ≡ None) }
-    ensures added { OnOk result (variables.new.items ≡ variables.old.items ++ map (read_variable (written_of source.now)) (nested_trees list.now)) }
-    ensures err { IfErr result (Refuses (trees_fault (written_of source.now) variable_message (nested_trees list.now))) }
-{
-    for nested in list {
-        add_variable(alloc, source, variables, &nested.node)?;
-    }
-    Ok(())
-}
+    ghost fields = { variable_message };
 
-/// Adds those of a field.
-pub(crate) fn add_variables(
-    alloc: Global,
-    source: &Source,
-    variables: &mut Vec<Variable>,
-    field: &Field,
-) -> Result<(), SchemaError>
-    ensures fault { OnOk result (values_fault (written_of source.now) (Some (message variable_message)) (values_of field.now.items) ≡ None) }
-    ensures added { OnOk result (variables.new.items
-        ≡ variables.old.items ++ map (read_variable (written_of source.now)) (value_messages (values_of field.now.items))) }
-    ensures err { IfErr result (Refuses (values_fault (written_of source.now) (Some (message variable_message)) (values_of field.now.items))) }
-{
-    match messages_of(field) {
-        Ok(Messages::One(node)) => add_variable(alloc, source, variables, node),
-        Ok(Messages::List(list)) => add_listed(alloc, source, variables, list),
-        Err(error) => Err(error),
+    ghost reads = { read_variable };
+
+    fn read(alloc: Global, source: &Source, node: &Node) -> Result<Self, SchemaError> {
+        read_variable(alloc, source, node)
     }
 }

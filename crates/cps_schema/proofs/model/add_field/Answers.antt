@@ -50,8 +50,8 @@ returns-then-eq-2-clause-passes c =
     let w = written_of c.args.source.now in
     let f = c.args.field.now in
     let name : token_text w f.name ≡ codes "variables" = same_name _ _ _ _ c.eq-else-eq.result c.eq-else-eq.ensures c.if-eq-2.true c.token_text-name.ensures c.as_slice-else-eq.ensures in
-    if_passes w model_message f (λ (before : List (List ℕ)). AreGiven (model_slots c.args.parts.now) before) (λ (before : List (List ℕ)). AreGiven (model_slots c.args.parts.now) before) c.add_variables.result
-    (repeated_passes w model_message f (message variable_message) c.add_variables.result (table_use _ _ _ _ name refl) c.add_variables.ensures.fault)
+    if_passes w model_message f (λ (before : List (List ℕ)). AreGiven (model_slots c.args.parts.now) before) (λ (before : List (List ℕ)). AreGiven (model_slots c.args.parts.now) before) c.add_messages.result
+    (repeated_passes w model_message f (message variable_message) c.add_messages.result (table_use _ _ _ _ name refl) c.add_messages.ensures.fault)
     (λ before given. given_after (token_text w f.name) (codes "variables") (model_slots c.args.parts.now) before name given)
 
 pub returns-then-eq-2-clause-read : goal.returns-then-eq-2-clause-read
@@ -59,26 +59,26 @@ returns-then-eq-2-clause-read c =
     let w = written_of c.args.source.now in
     let f = c.args.field.now in
     let name : token_text w f.name ≡ codes "variables" = same_name _ _ _ _ c.eq-else-eq.result c.eq-else-eq.ensures c.if-eq-2.true c.token_text-name.ensures c.as_slice-else-eq.ensures in
-    on_ok_weaker c.add_variables.result
-    (λ (added : c.add_variables.new.variables.items ≡ c.args.parts.now.variables.items ++ map (read_variable w) (value_messages (values_of f.items))) rest.
+    on_ok_weaker c.add_messages.result
+    (λ (added : c.add_messages.new.values.items ≡ c.args.parts.now.variables.items ++ map (read_variable w) (value_messages (values_of f.items))) rest.
     simp (name, added, map-append, append_assoc))
-    c.add_variables.ensures.added
+    c.add_messages.ensures.added
 
 pub returns-then-eq-2-clause-err : goal.returns-then-eq-2-clause-err
 returns-then-eq-2-clause-err c =
     let w = written_of c.args.source.now in
     let f = c.args.field.now in
     let name : token_text w f.name ≡ codes "variables" = same_name _ _ _ _ c.eq-else-eq.result c.eq-else-eq.ensures c.if-eq-2.true c.token_text-name.ensures c.as_slice-else-eq.ensures in
-    if_stops w model_message f (λ (before : List (List ℕ)). AreGiven (model_slots c.args.parts.now) before) c.add_variables.result
-    (repeated_stops w model_message f (message variable_message) c.add_variables.result (table_use _ _ _ _ name refl) c.add_variables.ensures.err)
+    if_stops w model_message f (λ (before : List (List ℕ)). AreGiven (model_slots c.args.parts.now) before) c.add_messages.result
+    (repeated_stops w model_message f (message variable_message) c.add_messages.result (table_use _ _ _ _ name refl) c.add_messages.ensures.err)
 
 pub returns-then-eq-3-clause-passes : goal.returns-then-eq-3-clause-passes
 returns-then-eq-3-clause-passes c =
     let w = written_of c.args.source.now in
     let f = c.args.field.now in
     let name : token_text w f.name ≡ codes "constraints" = same_name _ _ _ _ c.eq-else-eq-2.result c.eq-else-eq-2.ensures c.if-eq-3.true c.token_text-name.ensures c.as_slice-else-eq-2.ensures in
-    if_passes w model_message f (λ (before : List (List ℕ)). AreGiven (model_slots c.args.parts.now) before) (λ (before : List (List ℕ)). AreGiven (model_slots c.args.parts.now) before) c.add_constraints.result
-    (repeated_passes w model_message f (message constraint_message) c.add_constraints.result (table_use _ _ _ _ name refl) c.add_constraints.ensures.fault)
+    if_passes w model_message f (λ (before : List (List ℕ)). AreGiven (model_slots c.args.parts.now) before) (λ (before : List (List ℕ)). AreGiven (model_slots c.args.parts.now) before) c.add_messages-then-eq-3.result
+    (repeated_passes w model_message f (message constraint_message) c.add_messages-then-eq-3.result (table_use _ _ _ _ name refl) c.add_messages-then-eq-3.ensures.fault)
     (λ before given. given_after (token_text w f.name) (codes "constraints") (model_slots c.args.parts.now) before name given)
 
 pub returns-then-eq-3-clause-read : goal.returns-then-eq-3-clause-read
@@ -86,57 +86,57 @@ returns-then-eq-3-clause-read c =
     let w = written_of c.args.source.now in
     let f = c.args.field.now in
     let name : token_text w f.name ≡ codes "constraints" = same_name _ _ _ _ c.eq-else-eq-2.result c.eq-else-eq-2.ensures c.if-eq-3.true c.token_text-name.ensures c.as_slice-else-eq-2.ensures in
-    on_ok_weaker c.add_constraints.result
-    (λ (added : c.add_constraints.new.constraints.items ≡ c.args.parts.now.constraints.items ++ map (read_constraint w) (value_messages (values_of f.items))) rest.
+    on_ok_weaker c.add_messages-then-eq-3.result
+    (λ (added : c.add_messages-then-eq-3.new.values.items ≡ c.args.parts.now.constraints.items ++ map (read_constraint w) (value_messages (values_of f.items))) rest.
     simp (name, added, map-append, append_assoc))
-    c.add_constraints.ensures.added
+    c.add_messages-then-eq-3.ensures.added
 
 pub returns-then-eq-3-clause-err : goal.returns-then-eq-3-clause-err
 returns-then-eq-3-clause-err c =
     let w = written_of c.args.source.now in
     let f = c.args.field.now in
     let name : token_text w f.name ≡ codes "constraints" = same_name _ _ _ _ c.eq-else-eq-2.result c.eq-else-eq-2.ensures c.if-eq-3.true c.token_text-name.ensures c.as_slice-else-eq-2.ensures in
-    if_stops w model_message f (λ (before : List (List ℕ)). AreGiven (model_slots c.args.parts.now) before) c.add_constraints.result
-    (repeated_stops w model_message f (message constraint_message) c.add_constraints.result (table_use _ _ _ _ name refl) c.add_constraints.ensures.err)
+    if_stops w model_message f (λ (before : List (List ℕ)). AreGiven (model_slots c.args.parts.now) before) c.add_messages-then-eq-3.result
+    (repeated_stops w model_message f (message constraint_message) c.add_messages-then-eq-3.result (table_use _ _ _ _ name refl) c.add_messages-then-eq-3.ensures.err)
 
 pub returns-then-eq-4-clause-passes : goal.returns-then-eq-4-clause-passes
 returns-then-eq-4-clause-passes c =
     let w = written_of c.args.source.now in
     let f = c.args.field.now in
     let name : token_text w f.name ≡ codes "objective" = same_name _ _ _ _ c.eq-else-eq-3.result c.eq-else-eq-3.ensures c.if-eq-4.true c.token_text-name.ensures c.as_slice-else-eq-3.ensures in
-    slot_passes w model_message f (message objective_message) c.set_objective.result (λ (before : List (List ℕ)). AreGiven (model_slots c.args.parts.now) before) (λ (before : List (List ℕ)). AreGiven (model_slots (record c.args.parts.now { objective = c.set_objective.new.objective })) before)
-    (is_some c.args.parts.now.objective) (table_use _ _ _ _ name refl) c.set_objective.ensures.passes
+    slot_passes w model_message f (message objective_message) c.set_once.result (λ (before : List (List ℕ)). AreGiven (model_slots c.args.parts.now) before) (λ (before : List (List ℕ)). AreGiven (model_slots (record c.args.parts.now { objective = c.set_once.new.slot })) before)
+    (is_some c.args.parts.now.objective) (table_use _ _ _ _ name refl) c.set_once.ensures.passes
     (λ before given. rw name given.1.0)
-    (on_ok_weaker c.set_objective.result
-    (λ (some : is_some c.set_objective.new.objective ≡ true) before given.
+    (on_ok_weaker c.set_once.result
+    (λ (some : is_some c.set_once.new.slot ≡ true) before given.
     rw some (given_after (token_text w f.name) (codes "objective") (model_slots c.args.parts.now) before name given))
-    c.set_objective.ensures.some)
+    c.set_once.ensures.some)
 
 pub returns-then-eq-4-clause-read : goal.returns-then-eq-4-clause-read
 returns-then-eq-4-clause-read c =
     let w = written_of c.args.source.now in
     let f = c.args.field.now in
     let name : token_text w f.name ≡ codes "objective" = same_name _ _ _ _ c.eq-else-eq-3.result c.eq-else-eq-3.ensures c.if-eq-4.true c.token_text-name.ensures c.as_slice-else-eq-3.ensures in
-    on_ok_weaker c.set_objective.result
-    (λ (added : option_to_list c.set_objective.new.objective ≡ option_to_list c.args.parts.now.objective ++ map (read_objective w) (value_messages (values_of f.items))) rest.
+    on_ok_weaker c.set_once.result
+    (λ (added : option_to_list c.set_once.new.slot ≡ option_to_list c.args.parts.now.objective ++ map (read_objective w) (value_messages (values_of f.items))) rest.
     simp (name, added, map-append, append_assoc))
-    c.set_objective.ensures.added
+    c.set_once.ensures.added
 
 pub returns-then-eq-4-clause-err : goal.returns-then-eq-4-clause-err
 returns-then-eq-4-clause-err c =
     let w = written_of c.args.source.now in
     let f = c.args.field.now in
     let name : token_text w f.name ≡ codes "objective" = same_name _ _ _ _ c.eq-else-eq-3.result c.eq-else-eq-3.ensures c.if-eq-4.true c.token_text-name.ensures c.as_slice-else-eq-3.ensures in
-    slot_stops w model_message f (message objective_message) c.set_objective.result (λ (before : List (List ℕ)). AreGiven (model_slots c.args.parts.now) before)
-    (is_some c.args.parts.now.objective) (table_use _ _ _ _ name refl) c.set_objective.ensures.err (λ before given. rw name given.1.0)
+    slot_stops w model_message f (message objective_message) c.set_once.result (λ (before : List (List ℕ)). AreGiven (model_slots c.args.parts.now) before)
+    (is_some c.args.parts.now.objective) (table_use _ _ _ _ name refl) c.set_once.ensures.err (λ before given. rw name given.1.0)
 
 pub returns-then-eq-5-clause-passes : goal.returns-then-eq-5-clause-passes
 returns-then-eq-5-clause-passes c =
     let w = written_of c.args.source.now in
     let f = c.args.field.now in
     let name : token_text w f.name ≡ codes "search_strategy" = same_name _ _ _ _ c.eq-else-eq-4.result c.eq-else-eq-4.ensures c.if-eq-5.true c.token_text-name.ensures c.as_slice-else-eq-4.ensures in
-    if_passes w model_message f (λ (before : List (List ℕ)). AreGiven (model_slots c.args.parts.now) before) (λ (before : List (List ℕ)). AreGiven (model_slots c.args.parts.now) before) c.add_strategies.result
-    (repeated_passes w model_message f (message strategy_message) c.add_strategies.result (table_use _ _ _ _ name refl) c.add_strategies.ensures.fault)
+    if_passes w model_message f (λ (before : List (List ℕ)). AreGiven (model_slots c.args.parts.now) before) (λ (before : List (List ℕ)). AreGiven (model_slots c.args.parts.now) before) c.add_messages-then-eq-5.result
+    (repeated_passes w model_message f (message strategy_message) c.add_messages-then-eq-5.result (table_use _ _ _ _ name refl) c.add_messages-then-eq-5.ensures.fault)
     (λ before given. given_after (token_text w f.name) (codes "search_strategy") (model_slots c.args.parts.now) before name given)
 
 pub returns-then-eq-5-clause-read : goal.returns-then-eq-5-clause-read
@@ -144,49 +144,49 @@ returns-then-eq-5-clause-read c =
     let w = written_of c.args.source.now in
     let f = c.args.field.now in
     let name : token_text w f.name ≡ codes "search_strategy" = same_name _ _ _ _ c.eq-else-eq-4.result c.eq-else-eq-4.ensures c.if-eq-5.true c.token_text-name.ensures c.as_slice-else-eq-4.ensures in
-    on_ok_weaker c.add_strategies.result
-    (λ (added : c.add_strategies.new.strategies.items ≡ c.args.parts.now.strategies.items ++ map (read_strategy w) (value_messages (values_of f.items))) rest.
+    on_ok_weaker c.add_messages-then-eq-5.result
+    (λ (added : c.add_messages-then-eq-5.new.values.items ≡ c.args.parts.now.strategies.items ++ map (read_strategy w) (value_messages (values_of f.items))) rest.
     simp (name, added, map-append, append_assoc))
-    c.add_strategies.ensures.added
+    c.add_messages-then-eq-5.ensures.added
 
 pub returns-then-eq-5-clause-err : goal.returns-then-eq-5-clause-err
 returns-then-eq-5-clause-err c =
     let w = written_of c.args.source.now in
     let f = c.args.field.now in
     let name : token_text w f.name ≡ codes "search_strategy" = same_name _ _ _ _ c.eq-else-eq-4.result c.eq-else-eq-4.ensures c.if-eq-5.true c.token_text-name.ensures c.as_slice-else-eq-4.ensures in
-    if_stops w model_message f (λ (before : List (List ℕ)). AreGiven (model_slots c.args.parts.now) before) c.add_strategies.result
-    (repeated_stops w model_message f (message strategy_message) c.add_strategies.result (table_use _ _ _ _ name refl) c.add_strategies.ensures.err)
+    if_stops w model_message f (λ (before : List (List ℕ)). AreGiven (model_slots c.args.parts.now) before) c.add_messages-then-eq-5.result
+    (repeated_stops w model_message f (message strategy_message) c.add_messages-then-eq-5.result (table_use _ _ _ _ name refl) c.add_messages-then-eq-5.ensures.err)
 
 pub returns-then-eq-6-clause-passes : goal.returns-then-eq-6-clause-passes
 returns-then-eq-6-clause-passes c =
     let w = written_of c.args.source.now in
     let f = c.args.field.now in
     let name : token_text w f.name ≡ codes "solution_hint" = same_name _ _ _ _ c.eq-else-eq-5.result c.eq-else-eq-5.ensures c.if-eq-6.true c.token_text-name.ensures c.as_slice-else-eq-5.ensures in
-    slot_passes w model_message f (message hint_message) c.set_hint.result (λ (before : List (List ℕ)). AreGiven (model_slots c.args.parts.now) before) (λ (before : List (List ℕ)). AreGiven (model_slots (record c.args.parts.now { hint = c.set_hint.new.hint })) before)
-    (is_some c.args.parts.now.hint) (table_use _ _ _ _ name refl) c.set_hint.ensures.passes
+    slot_passes w model_message f (message hint_message) c.set_once-then-eq-6.result (λ (before : List (List ℕ)). AreGiven (model_slots c.args.parts.now) before) (λ (before : List (List ℕ)). AreGiven (model_slots (record c.args.parts.now { hint = c.set_once-then-eq-6.new.slot })) before)
+    (is_some c.args.parts.now.hint) (table_use _ _ _ _ name refl) c.set_once-then-eq-6.ensures.passes
     (λ before given. rw name given.1.1.0)
-    (on_ok_weaker c.set_hint.result
-    (λ (some : is_some c.set_hint.new.hint ≡ true) before given.
+    (on_ok_weaker c.set_once-then-eq-6.result
+    (λ (some : is_some c.set_once-then-eq-6.new.slot ≡ true) before given.
     rw some (given_after (token_text w f.name) (codes "solution_hint") (model_slots c.args.parts.now) before name given))
-    c.set_hint.ensures.some)
+    c.set_once-then-eq-6.ensures.some)
 
 pub returns-then-eq-6-clause-read : goal.returns-then-eq-6-clause-read
 returns-then-eq-6-clause-read c =
     let w = written_of c.args.source.now in
     let f = c.args.field.now in
     let name : token_text w f.name ≡ codes "solution_hint" = same_name _ _ _ _ c.eq-else-eq-5.result c.eq-else-eq-5.ensures c.if-eq-6.true c.token_text-name.ensures c.as_slice-else-eq-5.ensures in
-    on_ok_weaker c.set_hint.result
-    (λ (added : option_to_list c.set_hint.new.hint ≡ option_to_list c.args.parts.now.hint ++ map (read_hint w) (value_messages (values_of f.items))) rest.
+    on_ok_weaker c.set_once-then-eq-6.result
+    (λ (added : option_to_list c.set_once-then-eq-6.new.slot ≡ option_to_list c.args.parts.now.hint ++ map (read_hint w) (value_messages (values_of f.items))) rest.
     simp (name, added, map-append, append_assoc))
-    c.set_hint.ensures.added
+    c.set_once-then-eq-6.ensures.added
 
 pub returns-then-eq-6-clause-err : goal.returns-then-eq-6-clause-err
 returns-then-eq-6-clause-err c =
     let w = written_of c.args.source.now in
     let f = c.args.field.now in
     let name : token_text w f.name ≡ codes "solution_hint" = same_name _ _ _ _ c.eq-else-eq-5.result c.eq-else-eq-5.ensures c.if-eq-6.true c.token_text-name.ensures c.as_slice-else-eq-5.ensures in
-    slot_stops w model_message f (message hint_message) c.set_hint.result (λ (before : List (List ℕ)). AreGiven (model_slots c.args.parts.now) before)
-    (is_some c.args.parts.now.hint) (table_use _ _ _ _ name refl) c.set_hint.ensures.err (λ before given. rw name given.1.1.0)
+    slot_stops w model_message f (message hint_message) c.set_once-then-eq-6.result (λ (before : List (List ℕ)). AreGiven (model_slots c.args.parts.now) before)
+    (is_some c.args.parts.now.hint) (table_use _ _ _ _ name refl) c.set_once-then-eq-6.ensures.err (λ before given. rw name given.1.1.0)
 
 pub returns-else-eq-6-clause-err : goal.returns-else-eq-6-clause-err
 returns-else-eq-6-clause-err c = λ before given.

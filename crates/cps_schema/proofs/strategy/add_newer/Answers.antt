@@ -9,12 +9,12 @@ use Rattle.cps_schema.proofs.strategy.add_newer.Goals as goal
 pub returns-in-Ok-clause-passes : goal.returns-in-Ok-clause-passes
 returns-in-Ok-clause-passes c =
     let alone : is_other c.args.form.now Newer ≡ false = c.in-Ok.ensures.same in
-    formed_ok (written_of c.args.source.now) c.args.field.now Newer (message expression_message) (is_other c.args.form.now Newer) c.add_expressions.result alone c.add_expressions.ensures.fault
+    formed_ok (written_of c.args.source.now) c.args.field.now Newer (message expression_message) (is_other c.args.form.now Newer) c.add_messages.result alone c.add_messages.ensures.fault
 
 pub returns-in-Ok-clause-err : goal.returns-in-Ok-clause-err
 returns-in-Ok-clause-err c =
     let alone : is_other c.args.form.now Newer ≡ false = c.in-Ok.ensures.same in
-    formed_err (written_of c.args.source.now) c.args.field.now Newer (message expression_message) (is_other c.args.form.now Newer) c.add_expressions.result alone c.add_expressions.ensures.err
+    formed_err (written_of c.args.source.now) c.args.field.now Newer (message expression_message) (is_other c.args.form.now Newer) c.add_messages.result alone c.add_messages.ensures.err
 
 pub returns-in-Err-clause-err : goal.returns-in-Err-clause-err
 returns-in-Err-clause-err c = λ m before takes is.
