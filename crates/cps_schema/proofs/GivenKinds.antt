@@ -8,7 +8,7 @@ use Rattle.cps_schema.specs.declared.error.SchemaError.{SchemaError}
 use Rattle.cps_schema.specs.declared.constraint.ConstraintParts.{ConstraintParts}
 use Rattle.cps_schema.specs.declared.kind.GivenKind.{GivenKind}
 use Rattle.cps_schema.specs.declared.kind.KindName.{KindName}
-use Rattle.cps_schema.specs.declared.kind.KindName.TheVariants.{BoolOr, BoolAnd, AtMostOne, ExactlyOne, BoolXor, Linear}
+use Rattle.cps_schema.specs.declared.kind.KindName.TheVariants.{BoolOr, BoolAnd, AtMostOne, ExactlyOne, BoolXor, Linear, NoOverlap}
 use Rattle.cps_schema.specs.Written.{Written, token_text}
 use Rattle.cps_schema.specs.Tables.{Message, constraint_message, Use, one_kind, use_in, table_of, use_of}
 use Rattle.cps_schema.specs.Kinds.{kinds_read, field_name, message_of, kind_named}
@@ -42,6 +42,7 @@ kind_use AtMostOne = refl
 kind_use ExactlyOne = refl
 kind_use BoolXor = refl
 kind_use Linear = refl
+kind_use NoOverlap = refl
 
 enforcement_is_no_kind : is_kind (use_of constraint_message (codes "enforcement_literal")) ≡ false
 unfolding use_of
@@ -58,6 +59,7 @@ name_apart AtMostOne = refl
 name_apart ExactlyOne = refl
 name_apart BoolXor = refl
 name_apart Linear = refl
+name_apart NoOverlap = refl
 
 apart_name : (kind : KindName) → bytes_eq (codes "name") (field_name kind) ≡ false
 apart_name BoolOr = refl
@@ -66,6 +68,7 @@ apart_name AtMostOne = refl
 apart_name ExactlyOne = refl
 apart_name BoolXor = refl
 apart_name Linear = refl
+apart_name NoOverlap = refl
 
 enforcement_apart : (kind : KindName) → bytes_eq (field_name kind) (codes "enforcement_literal") ≡ false
 enforcement_apart BoolOr = refl
@@ -74,6 +77,7 @@ enforcement_apart AtMostOne = refl
 enforcement_apart ExactlyOne = refl
 enforcement_apart BoolXor = refl
 enforcement_apart Linear = refl
+enforcement_apart NoOverlap = refl
 
 -- the line of a kind in the table
 abbrev line_of : KindName → List ℕ × Use

@@ -91,34 +91,40 @@ single_again w m before f content takes again rest = rw (takes, again) refl
 
 -- a field of a kind, the first of the kinds
 kind_step : (w : Written) (m : Message) (before : List (List ℕ)) (f : Field) (k : Message) →
-    use_of m (token_text w f.name) ≡ Some (one_kind k) → is_given before (token_text w f.name) ≡ false → has_kind m before ≡ false →
+    use_of m (token_text w f.name) ≡ Some (one_kind k) → is_given w.closed (token_text w f.name) ≡ false → is_given before (token_text w f.name) ≡ false → has_kind m before ≡ false →
     (rest : Tree) → fields_fault w m before (field_then f rest)
     ≡ option_or (single_fault w (message k) f) (fields_fault w m (token_text w f.name ∷ before) rest)
-kind_step w m before f k takes first alone rest =
-    rw (takes, first, alone)
+kind_step w m before f k takes unclosed first alone rest =
+    rw (takes, unclosed, first, alone)
     (sym (or_assoc (alone_fault w f.name (is_alone f.list (values_of f.items))) (values_fault w (Some (message k)) (values_of f.items))
     (fields_fault w m (token_text w f.name ∷ before) rest)))
 
 pub kind_passes : (w : Written) (m : Message) (before : List (List ℕ)) (f : Field) (k : Message) →
-    use_of m (token_text w f.name) ≡ Some (one_kind k) → is_given before (token_text w f.name) ≡ false → has_kind m before ≡ false →
+    use_of m (token_text w f.name) ≡ Some (one_kind k) → is_given w.closed (token_text w f.name) ≡ false → is_given before (token_text w f.name) ≡ false → has_kind m before ≡ false →
     single_fault w (message k) f ≡ None → Passes w m before f
-kind_passes w m before f k takes first alone clean rest = kind_step w m before f k takes first alone rest ∙ rw clean refl
+kind_passes w m before f k takes unclosed first alone clean rest = kind_step w m before f k takes unclosed first alone rest ∙ rw clean refl
 
 pub kind_stops : (w : Written) (m : Message) (before : List (List ℕ)) (f : Field) (k : Message) →
-    use_of m (token_text w f.name) ≡ Some (one_kind k) → is_given before (token_text w f.name) ≡ false → has_kind m before ≡ false →
+    use_of m (token_text w f.name) ≡ Some (one_kind k) → is_given w.closed (token_text w f.name) ≡ false → is_given before (token_text w f.name) ≡ false → has_kind m before ≡ false →
     (e : SchemaError) → Refuses (single_fault w (message k) f) e → Stops w m before f e
-kind_stops w m before f k takes first alone (Fault name token) refused rest = kind_step w m before f k takes first alone rest ∙ rw refused refl
-kind_stops w m before f k takes first alone OutOfMemory refused rest = tt
+kind_stops w m before f k takes unclosed first alone (Fault name token) refused rest = kind_step w m before f k takes unclosed first alone rest ∙ rw refused refl
+kind_stops w m before f k takes unclosed first alone OutOfMemory refused rest = tt
 
 pub kind_again : (w : Written) (m : Message) (before : List (List ℕ)) (f : Field) (k : Message) →
-    use_of m (token_text w f.name) ≡ Some (one_kind k) → is_given before (token_text w f.name) ≡ true →
+    use_of m (token_text w f.name) ≡ Some (one_kind k) → is_given w.closed (token_text w f.name) ≡ false → is_given before (token_text w f.name) ≡ true →
     Stops w m before f (Fault Repeated f.name)
-kind_again w m before f k takes again rest = rw (takes, again) refl
+kind_again w m before f k takes unclosed again rest = rw (takes, unclosed, again) refl
 
 pub second_kind : (w : Written) (m : Message) (before : List (List ℕ)) (f : Field) (k : Message) →
-    use_of m (token_text w f.name) ≡ Some (one_kind k) → is_given before (token_text w f.name) ≡ false → has_kind m before ≡ true →
+    use_of m (token_text w f.name) ≡ Some (one_kind k) → is_given w.closed (token_text w f.name) ≡ false → is_given before (token_text w f.name) ≡ false → has_kind m before ≡ true →
     Stops w m before f (Fault TwoKinds f.name)
-second_kind w m before f k takes first second rest = rw (takes, first, second) refl
+second_kind w m before f k takes unclosed first second rest = rw (takes, unclosed, first, second) refl
+
+-- a kind that the table closes
+pub closed_stops : (w : Written) (m : Message) (before : List (List ℕ)) (f : Field) (k : Message) →
+    use_of m (token_text w f.name) ≡ Some (one_kind k) → is_given w.closed (token_text w f.name) ≡ true →
+    Stops w m before f (Fault Unsupported f.name)
+closed_stops w m before f k takes closed rest = rw (takes, closed) refl
 
 -- one name more
 pub next_given : (name given : List ℕ) (before : List (List ℕ)) → is_given (given ∷ before) name ≡ (bytes_eq name given || is_given before name)
@@ -141,9 +147,9 @@ if_stops w m f G (Err e) stops = λ before given. stops before
 
 -- the message of a field of the first kind
 pub first_kind_stops : {T : Type 0} (w : Written) (f : Field) (k : Message) (same given : Bool) (r : Result T SchemaError) →
-    same ≡ false → given ≡ false →
+    is_given w.closed (token_text w f.name) ≡ false → same ≡ false → given ≡ false →
     IfErr r (λ e. (m : Message) → Refuses (single_fault w (message m) f) e) →
     IfErr r (KindStops w f k same given)
-first_kind_stops w f k same given (Ok x) different first stops = stops
-first_kind_stops w f k same given (Err e) different first stops = λ m before takes again kinds.
-    kind_stops w m before f k takes (again ∙ different) (kinds ∙ first) e (stops k)
+first_kind_stops w f k same given (Ok x) unclosed different first stops = stops
+first_kind_stops w f k same given (Err e) unclosed different first stops = λ m before takes again kinds.
+    kind_stops w m before f k takes unclosed (again ∙ different) (kinds ∙ first) e (stops k)

@@ -67,16 +67,17 @@ is_other_form form other = false
 unfoldable pub has_other_form : Message → Form → List (List ℕ) → Bool
 has_other_form m form names = list_any (λ name. is_other_form form (use_of m name)) names
 
--- what is wrong with a field's name, given the names of the fields before it in the same message
-abbrev pub name_fault : Message → List (List ℕ) → List ℕ → Option Use → Option FaultName
-name_fault m before name None = Some UnknownField
-name_fault m before name (Some unread) = Some Unsupported
-name_fault m before name (Some (repeated content)) = None
-name_fault m before name (Some (formed form content)) = if has_other_form m form before then Some MixedForms else None
-name_fault m before name (Some (single content)) = if is_given before name then Some Repeated else None
-name_fault m before name (Some (one_kind k)) =
-    if is_given before name then Some Repeated
-    else (if has_kind m before then Some TwoKinds else None)
+-- what is wrong with a field's name, given the names that are closed and those of the fields before it in the same message
+abbrev pub name_fault : List (List ℕ) → Message → List (List ℕ) → List ℕ → Option Use → Option FaultName
+name_fault closed m before name None = Some UnknownField
+name_fault closed m before name (Some unread) = Some Unsupported
+name_fault closed m before name (Some (repeated content)) = None
+name_fault closed m before name (Some (formed form content)) = if has_other_form m form before then Some MixedForms else None
+name_fault closed m before name (Some (single content)) = if is_given before name then Some Repeated else None
+name_fault closed m before name (Some (one_kind k)) =
+    if is_given closed name then Some Unsupported
+    else (if is_given before name then Some Repeated
+    else (if has_kind m before then Some TwoKinds else None))
 
 -- one value that stands in no list
 abbrev pub is_alone : Bool → Values → Bool
@@ -108,7 +109,7 @@ list_fault w (Some unread) name alone = None
 -- what is wrong with a field, its values apart
 abbrev pub field_fault : Written → Message → List (List ℕ) → ℕ → Bool → Values → Option (FaultName × ℕ)
 field_fault w m before name list values =
-    option_or (refused_at name (name_fault m before (token_text w name) (use_of m (token_text w name))))
+    option_or (refused_at name (name_fault w.closed m before (token_text w name) (use_of m (token_text w name))))
     (list_fault w (use_of m (token_text w name)) name (is_alone list values))
 
 abbrev mutual

@@ -3,11 +3,11 @@ use Rattle.std.specs.Prelude.{ℕ, List, [], ◌∷◌, Option, codes}
 use Rattle.std.specs.List.{find}
 use Rattle.std.specs.Str.{bytes_eq}
 use Rattle.cps_schema.specs.declared.kind.KindName.{KindName}
-use Rattle.cps_schema.specs.declared.kind.KindName.TheVariants.{BoolOr, BoolAnd, AtMostOne, ExactlyOne, BoolXor, Linear}
-use Rattle.cps_schema.specs.Tables.{Message, literals_message, linear_message}
+use Rattle.cps_schema.specs.declared.kind.KindName.TheVariants.{BoolOr, BoolAnd, AtMostOne, ExactlyOne, BoolXor, Linear, NoOverlap}
+use Rattle.cps_schema.specs.Tables.{Message, literals_message, linear_message, no_overlap_message}
 
 abbrev pub kinds_read : List KindName
-kinds_read = BoolOr ∷ BoolAnd ∷ AtMostOne ∷ ExactlyOne ∷ BoolXor ∷ Linear ∷ []
+kinds_read = BoolOr ∷ BoolAnd ∷ AtMostOne ∷ ExactlyOne ∷ BoolXor ∷ Linear ∷ NoOverlap ∷ []
 
 -- the name of the field that gives a kind
 abbrev pub field_name : KindName → List ℕ
@@ -17,6 +17,7 @@ field_name AtMostOne = codes "at_most_one"
 field_name ExactlyOne = codes "exactly_one"
 field_name BoolXor = codes "bool_xor"
 field_name Linear = codes "linear"
+field_name NoOverlap = codes "no_overlap"
 
 -- the message of that field
 abbrev pub message_of : KindName → Message
@@ -26,6 +27,7 @@ message_of AtMostOne = literals_message
 message_of ExactlyOne = literals_message
 message_of BoolXor = literals_message
 message_of Linear = linear_message
+message_of NoOverlap = no_overlap_message
 
 -- the kind that a field of this name gives
 abbrev pub kind_named : List ℕ → Option KindName

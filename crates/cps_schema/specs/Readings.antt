@@ -14,7 +14,7 @@ use Rattle.cps_model.specs.declared.steering.Select.TheVariants.{MinValue}
 use Rattle.cps_model.specs.declared.fault.FaultName.{FaultName}
 use Rattle.cps_model.specs.declared.constraint.Constraint.{Constraint}
 use Rattle.cps_model.specs.declared.constraint.Kind.{Kind}
-use Rattle.cps_model.specs.declared.constraint.Kind.TheVariants.{Empty, BoolOr, BoolAnd, AtMostOne, ExactlyOne, BoolXor, Linear}
+use Rattle.cps_model.specs.declared.constraint.Kind.TheVariants.{Empty, BoolOr, BoolAnd, AtMostOne, ExactlyOne, BoolXor, Linear, NoOverlap}
 use Rattle.cps_schema.specs.declared.kind.KindName.{KindName}
 use Rattle.cps_schema.specs.declared.kind.KindName.TheVariants as names
 use Rattle.cps_schema.specs.declared.member.Enum.{Enum}
@@ -97,6 +97,9 @@ read_variable w tree = record { name = read_name w tree; domain = numbers w (cod
 abbrev pub read_literals : Written → Tree → List ℤ
 read_literals w tree = numbers w (codes "literals") tree
 
+abbrev pub read_intervals : Written → Tree → List ℤ
+read_intervals w tree = numbers w (codes "intervals") tree
+
 abbrev pub read_linear : Written → Tree → Kind
 read_linear w tree =
     Linear (numbers w (codes "vars") tree) (numbers w (codes "coeffs") tree) (numbers w (codes "domain") tree)
@@ -109,6 +112,7 @@ read_kind w names.AtMostOne tree = AtMostOne (read_literals w tree)
 read_kind w names.ExactlyOne tree = ExactlyOne (read_literals w tree)
 read_kind w names.BoolXor tree = BoolXor (read_literals w tree)
 read_kind w names.Linear tree = read_linear w tree
+read_kind w names.NoOverlap tree = NoOverlap (read_intervals w tree)
 
 -- the kinds that messages give
 abbrev pub kinds_of : Written → Option KindName → List Tree → List Kind

@@ -10,14 +10,14 @@ use Rattle.cps_schema.specs.Written.{Written}
 use Rattle.cps_schema.specs.Tables.{Content}
 use Rattle.cps_schema.specs.Faults.{is_alone, alone_fault, values_fault}
 
+-- the texts behind references
+abbrev pub names_of : List (Bor (List ℕ)) → List (List ℕ)
+names_of names = map (λ name. name.now) names
+
 abbrev pub written_of : Source → Written
-written_of s = record { bytes = s.bytes.now; tokens = s.tokens.now }
+written_of s = record { bytes = s.bytes.now; tokens = s.tokens.now; closed = names_of s.closed.now }
 
 -- what is wrong with a field that takes one value, its name apart
 abbrev pub single_fault : Written → Content → Field → Option (FaultName × ℕ)
 single_fault w content f =
     option_or (alone_fault w f.name (is_alone f.list (values_of f.items))) (values_fault w (Some content) (values_of f.items))
-
--- the texts behind references
-abbrev pub names_of : List (Bor (List ℕ)) → List (List ℕ)
-names_of names = map (λ name. name.now) names

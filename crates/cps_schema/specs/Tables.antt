@@ -17,6 +17,7 @@ pub data Message : Type 0 where
   constraint_message : Message
   literals_message : Message
   linear_message : Message
+  no_overlap_message : Message
   objective_message : Message
   strategy_message : Message
   expression_message : Message
@@ -67,6 +68,7 @@ table_of constraint_message =
     ∷ (codes "exactly_one", one_kind literals_message)
     ∷ (codes "bool_xor", one_kind literals_message)
     ∷ (codes "linear", one_kind linear_message)
+    ∷ (codes "no_overlap", one_kind no_overlap_message)
     ∷ []
 table_of literals_message =
     (codes "literals", repeated (number Int32))
@@ -75,6 +77,9 @@ table_of linear_message =
     (codes "vars", repeated (number Int32))
     ∷ (codes "coeffs", repeated (number Int64))
     ∷ (codes "domain", repeated (number Int64))
+    ∷ []
+table_of no_overlap_message =
+    (codes "intervals", repeated (number Int32))
     ∷ []
 table_of objective_message =
     (codes "vars", repeated (number Int32))
@@ -117,7 +122,6 @@ unread_names constraint_message =
     ∷ codes "circuit"
     ∷ codes "table"
     ∷ codes "interval"
-    ∷ codes "no_overlap"
     ∷ codes "cumulative"
     ∷ codes "automaton"
     ∷ codes "inverse"
@@ -128,6 +132,7 @@ unread_names constraint_message =
     ∷ []
 unread_names literals_message = []
 unread_names linear_message = []
+unread_names no_overlap_message = []
 unread_names objective_message =
     codes "scaling_was_exact"
     ∷ codes "integer_before_offset"

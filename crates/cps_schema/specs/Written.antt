@@ -1,18 +1,20 @@
 -- What is written on tokens: their texts, and the numbers that they are worth.
-use Rattle.std.specs.Prelude.{ℕ, ◌+◌, Bool, if◌then◌else◌, List, [], drop, Option, Some, None, slice_get, ℤ, pos, neg_ℤ, codes}
+use Rattle.std.specs.Prelude.{ℕ, ◌+◌, Bool, if◌then◌else◌, List, [], drop, Option, Some, None, slice_get, ℤ, pos, neg_ℤ, codes, map}
 use Rattle.std.specs.Option.{option_map, option_map_or, unwrap_or}
 use Rattle.std.specs.Str.{bytes_eq}
 use Rattle.cps_lex.specs.declared.types.Token.{Token}
 use Rattle.cps_lex.specs.declared.types.TokenKind.{TokenKind}
 use Rattle.cps_lex.specs.declared.types.TokenKind.TheVariants.{Decimal, Octal, Hexadecimal, Float}
 use Rattle.cps_lex.specs.Tokens.{text_of}
+use Rattle.cps_schema.specs.declared.closed.TheConstants.{CLOSED}
 use Rattle.cps_schema.specs.Digits.{digits_after, decimal_value}
 use Rattle.cps_schema.specs.Floats.{float_value}
 
--- bytes, and tokens that stand on them
+-- bytes, and tokens that stand on them. Of the fields that a table can close, those with these names are refused.
 pub record Written : Type 0 where
   pub bytes : List ℕ
   pub tokens : List Token
+  pub closed : List (List ℕ)
 
 -- the text of a token, and nothing where there is no token of this number
 unfoldable pub token_text : Written → ℕ → List ℕ
@@ -49,6 +51,9 @@ signed_value negative size = if negative then neg_ℤ (pos size) else pos size
 unfoldable pub number_at : Written → ℕ → ℤ
 number_at w first = signed_value (is_negative w first) (unwrap_or (size_at w first) 0)
 
--- the document of bytes and their tokens
+-- the document of bytes and their tokens, with this table and with the program's
+abbrev pub written_with : List (List ℕ) → List ℕ → List Token → Written
+written_with closed bytes tokens = record { bytes = bytes; tokens = tokens; closed = closed }
+
 abbrev pub written : List ℕ → List Token → Written
-written bytes tokens = record { bytes = bytes; tokens = tokens }
+written bytes tokens = written_with (map (λ name. name.now) CLOSED) bytes tokens

@@ -12,9 +12,9 @@ ghost use Rattle.cps_schema.specs.Steps.{field_then, Passes, Stops};
 ghost use Rattle.cps_schema.specs.Parts.{constraint_from, IsConstraintGiven};
 
 use super::error::SchemaError;
-use super::message::Message;
 use super::kind::{GivenKind, kind_named, set_kind};
 use super::lists::add_refs;
+use super::message::Message;
 use super::names::not_read;
 use super::single::fields_of;
 use super::source::{Source, token_text};
@@ -23,7 +23,7 @@ use cps_model::{Constraint, Kind, Listed, Text};
 use cps_textproto::{Field, Node};
 use std::alloc::Global;
 
-const UNREAD: [&[u8]; 17] = [
+const UNREAD: [&[u8]; 16] = [
     b"int_div",
     b"int_mod",
     b"int_prod",
@@ -33,7 +33,6 @@ const UNREAD: [&[u8]; 17] = [
     b"circuit",
     b"table",
     b"interval",
-    b"no_overlap",
     b"cumulative",
     b"automaton",
     b"inverse",

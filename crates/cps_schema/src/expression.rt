@@ -13,8 +13,8 @@ ghost use Rattle.cps_schema.specs.Slots.{AreGiven};
 ghost use Rattle.cps_schema.specs.Parts.{expression_from, expression_slots};
 
 use super::error::SchemaError;
-use super::message::Message;
 use super::lists::{add_ints, add_refs};
+use super::message::Message;
 use super::names::not_read;
 use super::number::Number;
 use super::single::{fields_of, set_number};

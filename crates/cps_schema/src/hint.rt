@@ -10,8 +10,8 @@ ghost use Rattle.cps_schema.specs.Steps.{field_then, Passes, Stops};
 ghost use Rattle.cps_schema.specs.Parts.{hint_from};
 
 use super::error::SchemaError;
-use super::message::Message;
 use super::lists::{add_ints, add_refs};
+use super::message::Message;
 use super::names::not_read;
 use super::single::fields_of;
 use super::source::{Source, token_text};

@@ -3,7 +3,8 @@ ghost use Rattle.std.specs.Prelude.{◌≡◌, ◌++◌, [], ◌∷◌, false, t
 ghost use Rattle.std.specs.Option.{option_or};
 ghost use Rattle.cps_textproto.specs.Trees.{tree_of, values_of};
 ghost use Rattle.cps_schema.specs.Sources.{written_of, single_fault};
-ghost use Rattle.cps_schema.specs.Tables.{message};
+ghost use Rattle.cps_schema.specs.Written.{token_text};
+ghost use Rattle.cps_schema.specs.Tables.{message, is_given};
 ghost use Rattle.cps_schema.specs.Kinds.{field_name, message_of, kind_named};
 ghost use Rattle.cps_schema.specs.Faults.{fields_fault};
 ghost use Rattle.cps_schema.specs.Readings.{value_messages, read_kind};
@@ -12,10 +13,12 @@ ghost use Rattle.cps_schema.specs.Steps.{KindPasses, KindStops};
 ghost use Rattle.cps_schema.specs.Parts.{kind_list, is_given_as};
 
 use super::error::SchemaError;
+use super::intervals::read_intervals;
 use super::linear::read_linear;
 use super::literals::read_literals;
+use super::names::is_given;
 use super::single::single_message;
-use super::source::Source;
+use super::source::{Source, token_text};
 use cps_model::{FaultName, Kind};
 use cps_textproto::{Field, Node};
 use std::alloc::Global;
@@ -29,15 +32,17 @@ pub enum KindName {
     ExactlyOne,
     BoolXor,
     Linear,
+    NoOverlap,
 }
 
-const KINDS: [KindName; 6] = [
+const KINDS: [KindName; 7] = [
     KindName::BoolOr,
     KindName::BoolAnd,
     KindName::AtMostOne,
     KindName::ExactlyOne,
     KindName::BoolXor,
     KindName::Linear,
+    KindName::NoOverlap,
 ];
 
 /// A kind that was read.
@@ -58,6 +63,7 @@ fn field_name(kind: KindName) -> &'static [u8]
         KindName::ExactlyOne => b"exactly_one",
         KindName::BoolXor => b"bool_xor",
         KindName::Linear => b"linear",
+        KindName::NoOverlap => b"no_overlap",
     }
 }
 
@@ -84,13 +90,14 @@ fn is_given_as(given: &Option<GivenKind>, name: KindName) -> bool
 }
 
 /// The message of a field of a kind, which must be the first.
-#[tactic(auto, using(crate::proofs::Steps::kind_again, crate::proofs::Steps::second_kind, crate::proofs::Steps::kind_stops))]
+#[tactic(auto, using(crate::proofs::Steps::closed_stops, crate::proofs::Steps::kind_again, crate::proofs::Steps::second_kind, crate::proofs::Steps::kind_stops))]
 fn kind_message<'a>(
     source: &Source,
     given: &Option<GivenKind>,
     name: KindName,
     field: &'a Field,
 ) -> Result<&'a Node, SchemaError>
+    ensures unclosed { IfOk result (λ _. is_given (written_of source.now).closed (token_text (written_of source.now) field.now.name) ≡ false) }
     ensures different { IfOk result (λ _. is_given_as given.now name ≡ false) }
     ensures first { IfOk result (λ _. is_some given.now ≡ false) }
     ensures messages { IfOk result (λ node. value_messages (values_of field.now.items) ≡ tree_of node.now ∷ []) }
@@ -99,6 +106,12 @@ fn kind_message<'a>(
     ensures err { IfErr result (KindStops (written_of source.now) field.now (message_of name) (is_given_as given.now name) (is_some given.now)) }
 {
     let token = field.name as usize;
+    if is_given(source.closed, token_text(source, token)) {
+        return Err(SchemaError::Fault {
+            name: FaultName::Unsupported,
+            token,
+        });
+    }
     if is_given_as(given, name) {
         return Err(SchemaError::Fault {
             name: FaultName::Repeated,
@@ -132,6 +145,7 @@ fn read_kind(
         KindName::ExactlyOne => Kind::ExactlyOne(read_literals(alloc, source, node)?),
         KindName::BoolXor => Kind::BoolXor(read_literals(alloc, source, node)?),
         KindName::Linear => read_linear(alloc, source, node)?,
+        KindName::NoOverlap => Kind::NoOverlap(read_intervals(alloc, source, node)?),
     })
 }
 

@@ -15,6 +15,7 @@
 //! Field names, types and their meaning are those of the public message definitions of CP-SAT models.
 #![tactic(auto)]
 
+mod closed;
 mod constraint;
 mod digits;
 mod error;
@@ -22,6 +23,7 @@ mod expression;
 mod float;
 mod form;
 mod hint;
+mod intervals;
 mod kind;
 mod linear;
 mod lists;
@@ -38,6 +40,7 @@ mod strategy;
 mod text;
 mod variable;
 
+pub use closed::CLOSED;
 pub use cps_model::FaultName;
 pub use error::SchemaError;
-pub use model::model_of;
+pub use model::{model_of, model_with};

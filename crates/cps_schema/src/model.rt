@@ -2,8 +2,8 @@
 ghost use Rattle.std.specs.Prelude.{◌≡◌, ◌++◌, ℕ, List, [], ◌∷◌, true, Some, None, map, is_some, OnOk, IfOk, IfErr, option_to_list};
 ghost use Rattle.cps_textproto.specs.Trees.{Tree, no_fields, tree_of, values_of};
 ghost use Rattle.cps_model.specs.declared.model.CpModel.{CpModel};
-ghost use Rattle.cps_schema.specs.Written.{Written, written, token_text};
-ghost use Rattle.cps_schema.specs.Sources.{written_of};
+ghost use Rattle.cps_schema.specs.Written.{Written, written, written_with, token_text};
+ghost use Rattle.cps_schema.specs.Sources.{written_of, names_of};
 ghost use Rattle.cps_schema.specs.Tables.{model_message, variable_message, constraint_message, objective_message, hint_message, message};
 ghost use Rattle.cps_schema.specs.Faults.{values_fault, fields_fault};
 ghost use Rattle.cps_schema.specs.Readings.{ReadsAs, value_messages, read_variable, read_constraint, read_objective, read_hint, read_model};
@@ -12,6 +12,7 @@ ghost use Rattle.cps_schema.specs.Steps.{field_then, Passes, Stops, SinglePasses
 ghost use Rattle.cps_schema.specs.Slots.{AreGiven};
 ghost use Rattle.cps_schema.specs.Parts.{model_from, model_slots};
 
+use super::closed::CLOSED;
 use super::error::SchemaError;
 use super::message::{add_messages, set_once};
 use super::names::not_read;
@@ -19,9 +20,7 @@ use super::single::fields_of;
 use super::source::{Source, token_text};
 use super::text::{name_or_empty, set_name};
 use cps_lex::Token;
-use cps_model::{
-    Constraint, CpModel, Hint, Listed, Objective, Strategy, Text, Variable,
-};
+use cps_model::{Constraint, CpModel, Hint, Listed, Objective, Strategy, Text, Variable};
 use cps_textproto::{Field, Node};
 use std::alloc::Global;
 
@@ -116,7 +115,29 @@ fn read_model(alloc: Global, source: &Source, node: &Node) -> Result<CpModel, Sc
     Ok(model_of_parts(alloc, parts))
 }
 
-/// The model of a document, given its bytes, its tokens and its tree.
+/// The model of a document, given the names of the fields that are closed, its bytes, its tokens and its tree.
+pub fn model_with(
+    alloc: Global,
+    closed: &[&[u8]],
+    bytes: &[u8],
+    tokens: &[Token],
+    node: &Node,
+) -> Result<CpModel, SchemaError>
+    ensures ok { IfOk result (λ model. ReadsAs (written_with (names_of closed.now) bytes.now tokens.now) (tree_of node.now) model) }
+    ensures err { IfErr result (IsRefusal (written_with (names_of closed.now) bytes.now tokens.now) (tree_of node.now)) }
+
+    // A document that has a model is read as it, unless memory runs out.
+    ensures only { (model : CpModel) → ReadsAs (written_with (names_of closed.now) bytes.now tokens.now) (tree_of node.now) model → Gives result model }
+{
+    let source = Source {
+        bytes,
+        tokens,
+        closed,
+    };
+    read_model(alloc, &source, node)
+}
+
+/// The model of a document, given its bytes, its tokens and its tree. The fields of `CLOSED` are refused.
 pub fn model_of(
     alloc: Global,
     bytes: &[u8],
@@ -129,6 +150,5 @@ pub fn model_of(
     // A document that has a model is read as it, unless memory runs out.
     ensures only { (model : CpModel) → ReadsAs (written bytes.now tokens.now) (tree_of node.now) model → Gives result model }
 {
-    let source = Source { bytes, tokens };
-    read_model(alloc, &source, node)
+    model_with(alloc, &CLOSED, bytes, tokens, node)
 }

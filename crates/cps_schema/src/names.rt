@@ -10,7 +10,7 @@ use cps_model::FaultName;
 
 /// The name is one of these.
 #[tactic(auto, unfolding(crate::specs::Tables::is_given))]
-fn is_given(names: &[&[u8]], name: &[u8]) -> bool
+pub(crate) fn is_given(names: &[&[u8]], name: &[u8]) -> bool
     ensures { result ≡ is_given (names_of names.now) name.now }
 {
     for known in names {

@@ -11,8 +11,8 @@ ghost use Rattle.cps_schema.specs.Steps.{field_then, Passes, Stops};
 ghost use Rattle.cps_schema.specs.Parts.{objective_from, IsGiven};
 
 use super::error::SchemaError;
-use super::message::Message;
 use super::lists::{add_ints, add_refs};
+use super::message::Message;
 use super::names::not_read;
 use super::number::Number;
 use super::single::{fields_of, set_number};
@@ -94,11 +94,7 @@ fn objective_of(parts: ObjectiveParts) -> Objective
 }
 
 /// The objective that a message gives.
-fn read_objective(
-    alloc: Global,
-    source: &Source,
-    node: &Node,
-) -> Result<Objective, SchemaError>
+fn read_objective(alloc: Global, source: &Source, node: &Node) -> Result<Objective, SchemaError>
     ensures accepted { IfOk result (λ _. fields_fault (written_of source.now) objective_message [] (tree_of node.now) ≡ None) }
     ensures reading { IfOk result (λ objective. objective ≡ read_objective (written_of source.now) (tree_of node.now)) }
     ensures err { IfErr result (Refuses (fields_fault (written_of source.now) objective_message [] (tree_of node.now))) }

@@ -5,11 +5,12 @@ ghost use Rattle.cps_schema.specs.Sources.{written_of};
 
 use cps_lex::{Token, TokenKind};
 
-/// The bytes of a document, and its tokens.
+/// The bytes of a document and its tokens, and the names of the fields that are closed.
 #[derive(Clone, Copy)]
 pub struct Source<'a> {
     pub bytes: &'a [u8],
     pub tokens: &'a [Token],
+    pub closed: &'a [&'a [u8]],
 }
 
 /// The text of a token, empty where there is no token of this number.

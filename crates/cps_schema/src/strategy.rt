@@ -12,11 +12,11 @@ ghost use Rattle.cps_schema.specs.Steps.{field_then, Passes, Stops, FormedPasses
 ghost use Rattle.cps_schema.specs.Parts.{strategy_from, is_other, IsStrategyGiven};
 
 use super::error::SchemaError;
-use super::message::{Message, add_messages};
 use super::expression::add_references;
 use super::form::Form;
 use super::lists::add_refs;
 use super::member::{set_choose, set_select};
+use super::message::{Message, add_messages};
 use super::names::not_read;
 use super::number::Number;
 use super::single::fields_of;

@@ -13,8 +13,8 @@ ghost use Rattle.cps_schema.specs.Slots.{AreGiven};
 ghost use Rattle.cps_schema.specs.Parts.{variable_from, variable_slots};
 
 use super::error::SchemaError;
-use super::message::Message;
 use super::lists::add_ints;
+use super::message::Message;
 use super::names::not_read;
 use super::single::fields_of;
 use super::source::{Source, token_text};
