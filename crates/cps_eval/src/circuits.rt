@@ -1,7 +1,7 @@
-//! Circuits. Each node is left once exactly where no two selected arcs leave one node and each node is among those that
-//! are left, which a sort of the arcs' tails shows; and so for the heads. Then a walk from one arc that is no loop, to the
-//! arc that leaves where it enters and so on, comes back to its start, and the arcs are a single circuit exactly where it
-//! has come by all of them.
+//! Circuits. Each node is left once exactly where no two selected arcs leave one node and each node is among those
+//! that are left, which a sort of the arcs' tails shows; and so for the heads. Then a walk from one arc that is no
+//! loop, to the arc that leaves where it enters and so on, comes back to its start, and the arcs are a single circuit
+//! exactly where it has come by all of them.
 ghost use Rattle.std.specs.Prelude.{◌≡◌, ◌↔◌, ◌++◌, ◌<◌, ◌≢◌, ℤ, pos, IfOk, OnOk, IfSome, IsTrue, IsPermutation, IsSorted, MatchOption, All, Contains, length, map, count_by, int_le};
 ghost use Rattle.std.specs.List.{list_all};
 ghost use Rattle.std.specs.Ordering.{int_cmp, int_eq};

@@ -1,5 +1,5 @@
-//! A level that events change. The events are sorted by time and added up in that order; the level is looked at after the
-//! last event of each time, since only there it is the level at that time.
+//! A level that events change. The events are sorted by time and added up in that order; the level is looked at after
+//! the last event of each time, since only there it is the level at that time.
 ghost use Rattle.std.specs.Prelude.{◌≡◌, ◌<◌, ◌≤◌, ◌+◌, ◌^◌, ◌↔◌, ◌+ℤ◌, ◌≤ℤ◌, IsTrue, IsPermutation, length, unsigned_abs};
 ghost use Rattle.cps_model.specs.Reservoirs.{IsReservoir};
 ghost use Rattle.cps_eval.specs.Levels.{AreInOrder, have_small_changes, is_last_of_time};

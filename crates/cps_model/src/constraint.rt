@@ -3,8 +3,8 @@ use crate::listed::Listed;
 use crate::model::LinearExpr;
 use crate::text::Text;
 
-/// What a constraint demands. Literals and variables are given by references, intervals by the numbers of the constraints
-/// that they are.
+/// What a constraint demands. Literals and variables are given by references, intervals by the numbers of the
+/// constraints that they are.
 #[derive(Drop)]
 pub enum Kind {
     /// Nothing.
@@ -25,12 +25,12 @@ pub enum Kind {
         coeffs: Listed<i64>,
         domain: Listed<i64>,
     },
-    /// The target is the first of two expressions divided by the second, rounded towards zero.
+    /// The target is the first of two expressions divided by the second, rounded towards zero; never by 0.
     IntDiv {
         target: LinearExpr,
         exprs: Listed<LinearExpr>,
     },
-    /// The target is what is left of the first of two expressions after it was divided so by the second.
+    /// The target is what is left of the first of two expressions after it was divided so by the second, never by 0.
     IntMod {
         target: LinearExpr,
         exprs: Listed<LinearExpr>,
@@ -60,13 +60,15 @@ pub enum Kind {
     },
     /// No two positions have the same value.
     AllDiff(Listed<LinearExpr>),
-    /// The arcs whose literals are true lead into and out of each node once, those that are no loops in one circuit.
+    /// The arcs whose literals are true lead into and out of each node once, those that are no loops in at most one
+    /// circuit.
     Circuit {
         tails: Listed<i32>,
         heads: Listed<i32>,
         literals: Listed<i32>,
     },
-    /// An interval, which is present where the constraint is in force: the size is not negative, and takes the start to the end.
+    /// An interval, which is present where the constraint is in force: the size is not negative, and takes the start
+    /// to the end.
     Interval {
         start: LinearExpr,
         end: LinearExpr,

@@ -3,8 +3,8 @@
 //!
 //! The definitions on which every other crate stands are in `specs/`: the value of references, literals and
 //! expressions at an assignment, when a constraint holds, what a solution and a best solution are, which models are
-//! valid, and which status two bounds show. They follow the comments of the public message definitions of CP-SAT models,
-//! but for the rules of validity with their limits and for the choices that `docs/DECISIONS.md` lists.
+//! valid, and which status two bounds show. They follow the comments of the public message definitions of CP-SAT
+//! models, but for the rules of validity with their limits and for the choices that `docs/DECISIONS.md` lists.
 #![tactic(auto)]
 
 mod bound;
@@ -35,8 +35,8 @@ pub use status::Status;
 pub use steering::{Choose, Hint, Select, Strategy};
 pub use text::Text;
 
-/// References to variables, or numbers of constraints or nodes. A reference `i >= 0` names variable `i`, and `i < 0` names
-/// variable `-i - 1`, negated.
+/// References to variables, or numbers of constraints or nodes. A reference `i >= 0` names variable `i`, and `i < 0`
+/// names variable `-i - 1`, negated.
 pub type Refs = Listed<i32>;
 
 /// Whole numbers.
