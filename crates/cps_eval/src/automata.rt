@@ -1,6 +1,6 @@
-//! Automata: after each label the states that some run can have reached. The transitions are sorted by state and label, so
-//! that those of a state and a label stand together and are found by bisection, and no state is kept twice. So a label
-//! costs no more than the transitions that some run can take at it.
+//! Automata: after each label the states that some run can have reached. The transitions are sorted by state and label,
+//! so that those of a state and a label stand together and are found by bisection, and no state is kept twice. So a
+//! label costs two bisections for each state, and a sort of the heads of the transitions that some run can take at it.
 ghost use Rattle.std.specs.Prelude.{◌≡◌, ◌↔◌, ◌++◌, ◌≤◌, ℤ, List, [], IfOk, IsTrue, IsPermutation, length, map, Contains, OnOk};
 ghost use Rattle.cps_model.specs.Sequences.{transitions, Accepts};
 ghost use Rattle.cps_eval.specs.Runs.{comes_before, comes_up_to, AreGrouped, BeginAt, EndBefore, LeadsBy, LeadsFromSome, SomeAccepts, SomeIsFinal, part};
