@@ -16,3 +16,4 @@ pub mod Steps
 pub mod Slots
 pub mod Open
 pub mod Parts
+pub mod Gathered
