@@ -147,7 +147,7 @@ the_number w name tree = first_or (pos 0) (numbers w name tree)
 -- a field of the name is given
 abbrev pub gives : Written → List ℕ → Tree → Bool
 gives w name no_fields = false
-gives w name (field token list values rest) = bytes_eq (token_text w token) name || gives w name rest
+gives w name (field token _ _ rest) = bytes_eq (token_text w token) name || gives w name rest
 
 abbrev pub read_int_div : Written → Tree → Kind
 read_int_div w tree = IntDiv (the_expression w (codes "target") tree) (expressions w (codes "exprs") tree)

@@ -1,5 +1,5 @@
 //! Messages that are read by a list of their fields: what each field gives is gathered, and the message is made of it.
-ghost use Rattle.std.specs.Prelude.{◌≡◌, ◌<◌, ◌++◌, ◌&&◌, ℕ, List, [], ◌∷◌, true, false, None, Some, map, length, IsTrue, OnOk, IfOk, IfErr, IfSome};
+ghost use Rattle.std.specs.Prelude.{◌≡◌, ◌<◌, ◌++◌, ◌&&◌, ℕ, List, [], ◌∷◌, true, false, None, Some, map, length, OnOk, IfOk, IfErr, IfSome};
 ghost use Rattle.cps_textproto.specs.Trees.{Tree, tree_of, values_of};
 ghost use Rattle.cps_schema.specs.Written.{token_text};
 ghost use Rattle.cps_schema.specs.Sources.{written_of};
@@ -218,7 +218,7 @@ fn add_field(
     parts: &mut Gathered,
     field: &Field,
 ) -> Result<(), SchemaError>
-    requires { IsTrue (are_apart (lines_of parts.old.slots.items)) }
+    requires { are_apart (lines_of parts.old.slots.items) ≡ true }
     ensures passes { OnOk result ((m : Message) (before : List (List ℕ)) →
         IsTableOf m (lines_of parts.old.slots.items) → IsGathered m parts.old before →
         Passes (written_of source.now) m before field.now
@@ -264,7 +264,7 @@ pub(crate) fn gather(
     lines: &[Line],
     node: &Node,
 ) -> Result<Vec<Slot>, SchemaError>
-    requires { IsTrue (are_apart lines.now) }
+    requires { are_apart lines.now ≡ true }
     ensures accepted { IfOk result (λ _. (m : Message) → IsTableOf m lines.now → fields_fault (written_of source.now) m [] (tree_of node.now) ≡ None) }
     ensures reading { IfOk result (λ slots. map held slots.items ≡ map (found (written_of source.now) (tree_of node.now)) lines.now) }
     ensures err { IfErr result (λ e. (m : Message) → IsTableOf m lines.now → Refuses (fields_fault (written_of source.now) m [] (tree_of node.now)) e) }
@@ -274,7 +274,10 @@ pub(crate) fn gather(
         form: None,
     };
     for field in fields_of(node) {
-        add_field(alloc, source, &mut parts, field)?;
+        match add_field(alloc, source, &mut parts, field) {
+            Ok(()) => {}
+            Err(error) => return Err(error),
+        }
     }
     let Gathered { slots, .. } = parts;
     Ok(slots)
