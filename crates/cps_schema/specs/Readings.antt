@@ -136,9 +136,13 @@ expressions w name tree = map (read_expression w) (messages w name tree)
 abbrev pub references : Written → List ℕ → Tree → List LinearExpr
 references w name tree = map reference_expression (numbers w name tree)
 
--- the expression of a single field, without terms and 0 where it is not given
+-- the expression without terms that is 0
+abbrev pub no_expression : LinearExpr
+no_expression = record { vars = []; coeffs = []; offset = pos 0 }
+
+-- the expression of a single field, and that one where it is not given
 abbrev pub the_expression : Written → List ℕ → Tree → LinearExpr
-the_expression w name tree = first_or (record { vars = []; coeffs = []; offset = pos 0 }) (expressions w name tree)
+the_expression w name tree = first_or no_expression (expressions w name tree)
 
 -- the number of a single field, 0 where it is not given
 abbrev pub the_number : Written → List ℕ → Tree → ℤ
