@@ -1,7 +1,7 @@
 -- Variables and constraints are read as they were printed.
 use Rattle.std.specs.Prelude.{codes}
 use Rattle.std.specs.Str.{bytes_eq}
-use Rattle.std.proofs.Common.{◌≡◌, ◌||◌, ℕ, suc, true, false, ℤ, List, [], ◌∷◌, Some, None, ◌⊎◌, inl, inr, refl, subst, ap, ◌∙◌}
+use Rattle.std.proofs.Common.{◌≡◌, ◌||◌, ℕ, suc, true, false, ℤ, List, [], ◌∷◌, Some, None, inl, inr, refl, subst, ap, ◌∙◌}
 use Rattle.cps_lex.specs.Bytes.{is_word_start, is_word}
 use Rattle.cps_lex.specs.Forms.{is_identifier}
 use Rattle.cps_textproto.specs.Trees.{Tree, no_fields, field, no_values, scalar_value, message_value}

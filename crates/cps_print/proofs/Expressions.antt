@@ -10,7 +10,7 @@ use Rattle.cps_schema.specs.declared.number.Number.TheVariants.{Int64, Int32}
 use Rattle.cps_schema.specs.Tables.{use_of, is_given, expression_message}
 use Rattle.cps_schema.specs.Readings as readings
 use Rattle.cps_schema.specs.Readings.{first_or, read_expression}
-use Rattle.cps_print.specs.Layout.{empty, message}
+use Rattle.cps_print.specs.Layout.{empty}
 use Rattle.cps_print.specs.Fields.{followed_by, number_field, list_field, message_field}
 use Rattle.cps_print.specs.Expressions.{printed_expression, is_zero_sum, is_empty_expression, expression_field}
 use Rattle.cps_print.proofs.Cuts.{IsPlain}

@@ -6,7 +6,7 @@ use Rattle.cps_lex.specs.Bytes.{is_word_start, is_word}
 use Rattle.cps_lex.specs.Forms.{is_identifier}
 use Rattle.cps_textproto.specs.Trees.{Tree}
 use Rattle.cps_model.specs.declared.constraint.Kind.{Kind}
-use Rattle.cps_model.specs.declared.constraint.Kind.TheVariants.{Linear, NoOverlap}
+use Rattle.cps_model.specs.declared.constraint.Kind.TheVariants.{NoOverlap}
 use Rattle.cps_schema.specs.Written.{Written}
 use Rattle.cps_schema.specs.declared.number.Number.TheVariants.{Int64, Int32}
 use Rattle.cps_schema.specs.Tables as tables

@@ -2,7 +2,7 @@
 use Rattle.std.specs.Prelude.{map, if◌then◌else◌}
 use Rattle.std.specs.List.{list_all}
 use Rattle.std.specs.Str.{bytes_eq}
-use Rattle.std.proofs.Common.{◌≡◌, ◌||◌, ℕ, zero, suc, Bool, true, false, ℤ, pos, negsuc, List, [], ◌∷◌, ◌++◌, Some, refl, sym, ap, ◌∙◌, append-nil}
+use Rattle.std.proofs.Common.{◌≡◌, ◌||◌, ℕ, suc, Bool, true, false, ℤ, List, [], ◌∷◌, ◌++◌, Some, refl, sym, ap, ◌∙◌, append-nil}
 use Rattle.std.proofs.lemmas.List.{map-append}
 use Rattle.cps_lex.specs.Forms.{is_identifier}
 use Rattle.cps_textproto.specs.Trees.{Tree}
@@ -17,15 +17,15 @@ use Rattle.cps_schema.specs.Tables.{use_of, content_of, is_given, expression_mes
 use Rattle.cps_schema.specs.Faults.{is_other_form, has_other_form}
 use Rattle.cps_schema.specs.Readings as readings
 use Rattle.cps_schema.specs.Readings.{first_or, read_expression, messages}
-use Rattle.cps_print.specs.Layout.{Message, empty, message}
-use Rattle.cps_print.specs.Fields.{followed_by, number_field, list_field, repeated_field, message_field}
+use Rattle.cps_print.specs.Layout.{Message, empty}
+use Rattle.cps_print.specs.Fields.{followed_by, number_field, list_field, message_field}
 use Rattle.cps_print.specs.Expressions.{printed_expression, is_empty_expression, expression_field}
 use Rattle.cps_print.specs.Kinds.{expressions_field}
 use Rattle.cps_print.proofs.Digits.{and_true}
 use Rattle.cps_print.proofs.Cuts.{IsPlain}
 use Rattle.cps_print.proofs.Shown.{Shows, IsAdmitted, TakesMessage, each, formed, alone, printed_numbers, printed_messages, numbers-shown}
 use Rattle.cps_print.proofs.Readable.{Each, AreFit, IsReadableExpression, each_append}
-use Rattle.cps_print.proofs.Fitting.{fit_short, are_short, plain-followed_by, plain-list_field, plain-number_field, plain-repeated_field, admitted-list, admitted-number, admitted-message, admitted-repeated, number_list, printed_numbers-followed_by, printed_numbers-list_field, printed_numbers-number_field, printed_numbers-repeated_field, printed_messages-followed_by, printed_messages-list_field, printed_messages-number_field, printed_messages-repeated_field}
+use Rattle.cps_print.proofs.Fitting.{fit_short, are_short, plain-followed_by, plain-list_field, plain-number_field, plain-repeated_field, admitted-list, admitted-number, admitted-repeated, number_list, printed_numbers-followed_by, printed_numbers-list_field, printed_numbers-number_field, printed_numbers-repeated_field, printed_messages-followed_by, printed_messages-list_field, printed_messages-number_field, printed_messages-repeated_field}
 use Rattle.cps_print.proofs.Back.{each_of, messages_back}
 use Rattle.cps_print.proofs.Expressions.{expression_plain, expression_admitted, expression_back, plain-expression_field, expression_list}
 

@@ -3,7 +3,6 @@ use Rattle.std.specs.Prelude.{map, codes}
 use Rattle.std.proofs.Common.{◌≡◌, ℕ, suc, false, List, [], ◌∷◌, refl, ◌∙◌, append-nil}
 use Rattle.cps_lex.specs.Bytes.{is_word_start, is_word}
 use Rattle.cps_textproto.specs.Trees.{Tree}
-use Rattle.cps_model.specs.declared.model.LinearExpr.{LinearExpr}
 use Rattle.cps_model.specs.declared.steering.Strategy.{Strategy}
 use Rattle.cps_model.specs.declared.steering.Hint.{Hint}
 use Rattle.cps_model.specs.declared.steering.Choose.{Choose}
@@ -20,13 +19,13 @@ use Rattle.cps_schema.specs.Faults.{has_other_form}
 use Rattle.cps_schema.specs.Readings as readings
 use Rattle.cps_schema.specs.Readings.{first_or, read_expression, read_strategy, read_hint}
 use Rattle.cps_print.specs.Layout.{empty}
-use Rattle.cps_print.specs.Fields.{followed_by, number_field, list_field, word_field, repeated_field}
+use Rattle.cps_print.specs.Fields.{followed_by, list_field, word_field, repeated_field}
 use Rattle.cps_print.specs.Expressions.{printed_expression}
 use Rattle.cps_print.specs.Models.{choose_name, select_name, printed_strategy, printed_hint}
 use Rattle.cps_print.proofs.Cuts.{IsPlain}
 use Rattle.cps_print.proofs.Shown.{Shows, IsAdmitted, formed, printed_messages, numbers-shown, members-shown}
 use Rattle.cps_print.proofs.Readable.{IsReadableExpression, IsReadableStrategy, IsReadableHint}
-use Rattle.cps_print.proofs.Fitting.{fit_short, are_short, plain-followed_by, plain-list_field, plain-number_field, IsWord, plain-word_field, plain-repeated_field, admitted-list, admitted-number, IsMember, admitted-word, admitted-repeated, given-other, number_list, member_list, printed}
+use Rattle.cps_print.proofs.Fitting.{are_short, plain-followed_by, plain-list_field, IsWord, plain-word_field, plain-repeated_field, admitted-list, IsMember, admitted-word, admitted-repeated, given-other, member_list, printed}
 use Rattle.cps_print.proofs.Back.{each_of, messages_back}
 use Rattle.cps_print.proofs.Expressions.{expression_plain, expression_admitted, expression_back}
 
