@@ -1,30 +1,34 @@
 -- Variables and constraints are read as they were printed.
 use Rattle.std.specs.Prelude.{codes}
 use Rattle.std.specs.Str.{bytes_eq}
-use Rattle.std.proofs.Common.{◌≡◌, ◌||◌, ℕ, suc, true, false, ℤ, List, [], ◌∷◌, Some, ◌⊎◌, inl, inr, refl, subst, ap, ◌∙◌}
+use Rattle.std.proofs.Common.{◌≡◌, ◌||◌, ℕ, suc, true, false, ℤ, List, [], ◌∷◌, Some, None, inl, inr, refl, subst, ap, ◌∙◌}
 use Rattle.cps_lex.specs.Bytes.{is_word_start, is_word}
 use Rattle.cps_lex.specs.Forms.{is_identifier}
 use Rattle.cps_textproto.specs.Trees.{Tree, no_fields, field, no_values, scalar_value, message_value}
 use Rattle.cps_model.specs.declared.model.Variable.{Variable}
 use Rattle.cps_model.specs.declared.constraint.Constraint.{Constraint}
 use Rattle.cps_model.specs.declared.constraint.Kind.{Kind}
-use Rattle.cps_model.specs.declared.constraint.Kind.TheVariants.{Empty, BoolOr, BoolAnd, AtMostOne, ExactlyOne, BoolXor, Linear}
+use Rattle.cps_model.specs.declared.constraint.Kind.TheVariants.{Empty}
 use Rattle.cps_schema.specs.declared.kind.KindName.{KindName}
 use Rattle.cps_schema.specs.declared.kind.KindName.TheVariants as names
 use Rattle.cps_schema.specs.Written.{Written}
 use Rattle.cps_schema.specs.declared.number.Number.TheVariants.{Int64, Int32}
-use Rattle.cps_schema.specs.Tables.{use_of, is_given, variable_message, constraint_message, literals_message, linear_message}
+use Rattle.cps_schema.specs.Tables as tables
+use Rattle.cps_schema.specs.Tables.{use_of, content_of, is_given, variable_message, constraint_message}
 use Rattle.cps_schema.specs.Kinds.{field_name, message_of, kind_named}
-use Rattle.cps_schema.specs.Faults.{is_kind, has_kind}
+use Rattle.cps_schema.specs.Faults.{is_kind, has_kind, fields_fault}
 use Rattle.cps_schema.specs.Readings as readings
-use Rattle.cps_schema.specs.Readings.{first_or, read_variable, read_literals, read_linear, read_kind, given_kinds, read_constraint}
+use Rattle.cps_schema.specs.Readings.{first_or, read_variable, given_kinds, read_constraint}
 use Rattle.cps_schema.proofs.GivenKinds.{kind_use}
 use Rattle.cps_print.specs.Layout.{Message, empty}
 use Rattle.cps_print.specs.Fields.{followed_by, list_field, text_field, message_field}
-use Rattle.cps_print.specs.Models.{printed_variable, printed_literals, printed_linear, kind_field, printed_constraint}
+use Rattle.cps_print.specs.Kinds.{kind_field}
+use Rattle.cps_print.specs.Models.{printed_variable, printed_constraint}
 use Rattle.cps_print.proofs.Cuts.{IsPlain}
-use Rattle.cps_print.proofs.Shown.{Shows, IsAdmitted, kind, printed_numbers, printed_texts, numbers-shown, texts-shown}
-use Rattle.cps_print.proofs.Readable.{AreFit, IsReadableVariable, IsReadableKind, IsReadableConstraint}
+use Rattle.cps_print.proofs.Shown.{Shows, IsAdmitted, closed_names, kind, content_clash, printed_numbers, printed_texts, numbers-shown, texts-shown}
+use Rattle.cps_print.proofs.Readable.{AreFit, IsReadableText, IsReadableVariable, numbers_fit, name_utf8}
+use Rattle.cps_print.proofs.Parts.{parts_message, parts_plain, parts_admitted}
+use Rattle.cps_print.proofs.KindFields.{AsField, IsReadableKind, kind_readable}
 use Rattle.cps_print.proofs.Fitting.{are_short, plain-followed_by, plain-list_field, plain-text_field, plain-message_field, admitted-list, admitted-text, admitted-message, given-other, text_list, printed}
 use Rattle.cps_print.proofs.Back.{first_text}
 
@@ -52,101 +56,20 @@ variable_back w v t r s =
 
 -- kinds
 
-literals_plain : (room : ℕ) (literals : List ℤ) → AreFit Int32 literals → IsPlain room (printed_literals literals)
-unfolding is_word_start is_word
-literals_plain room literals f = plain-list_field room (codes "literals") literals refl (are_short Int32 literals f)
-
-linear_plain : (room : ℕ) (vars coeffs domain : List ℤ) → AreFit Int32 vars → AreFit Int64 coeffs → AreFit Int64 domain → IsPlain room (printed_linear vars coeffs domain)
-unfolding is_word_start is_word
-linear_plain room vars coeffs domain f g h =
-    plain-followed_by room (list_field (codes "vars") vars) _ (plain-list_field room (codes "vars") vars refl (are_short Int32 vars f))
-    (plain-followed_by room (list_field (codes "coeffs") coeffs) _ (plain-list_field room (codes "coeffs") coeffs refl (are_short Int64 coeffs g))
-    (plain-followed_by room (list_field (codes "domain") domain) empty (plain-list_field room (codes "domain") domain refl (are_short Int64 domain h)) tt))
-
-literals_admitted : (literals : List ℤ) → AreFit Int32 literals → IsAdmitted literals_message [] (printed_literals literals)
-unfolding use_of list_field
-literals_admitted [] f = tt
-literals_admitted (l ∷ ls) f = (record { type = Int32; takes = refl; fit = f }, tt)
-
-linear_admitted : (vars coeffs domain : List ℤ) → AreFit Int32 vars → AreFit Int64 coeffs → AreFit Int64 domain → IsAdmitted linear_message [] (printed_linear vars coeffs domain)
-unfolding use_of
-linear_admitted vars coeffs domain f g h =
-    let last = λ (before : List (List ℕ)). admitted-list linear_message before (codes "domain") domain Int64 empty refl h tt tt in
-    let middle = λ (before : List (List ℕ)). admitted-list linear_message before (codes "coeffs") coeffs Int64 _ refl g (last before) (last (codes "coeffs" ∷ before)) in
-    admitted-list linear_message [] (codes "vars") vars Int32 _ refl f (middle []) (middle (codes "vars" ∷ []))
-
-literals_back : (w : Written) (literals : List ℤ) (t : Tree) → AreFit Int32 literals → Shows w (printed_literals literals) t → read_literals w t ≡ literals
-unfolding use_of
-literals_back w literals t f s =
-    numbers-shown w literals_message [] (codes "literals") Int32 (printed_literals literals) t refl (literals_admitted literals f) s ∙ simp printed
-
-linear_back : (w : Written) (vars coeffs domain : List ℤ) (t : Tree) → AreFit Int32 vars → AreFit Int64 coeffs → AreFit Int64 domain → Shows w (printed_linear vars coeffs domain) t → read_linear w t ≡ Linear vars coeffs domain
-unfolding use_of
-linear_back w vars coeffs domain t f g h s =
-    let a = linear_admitted vars coeffs domain f g h in
-    let v : readings.numbers w (codes "vars") t ≡ vars = numbers-shown w linear_message [] (codes "vars") Int32 (printed_linear vars coeffs domain) t refl a s ∙ simp printed in
-    let c : readings.numbers w (codes "coeffs") t ≡ coeffs = numbers-shown w linear_message [] (codes "coeffs") Int64 (printed_linear vars coeffs domain) t refl a s ∙ simp printed in
-    let d : readings.numbers w (codes "domain") t ≡ domain = numbers-shown w linear_message [] (codes "domain") Int64 (printed_linear vars coeffs domain) t refl a s ∙ simp printed in
-    rw (v, c, d) refl
-
--- a kind as the field that it is printed as
-record AsField (k : Kind) : Type 0 where
-  name : KindName
-  inner : Message
-  is : kind_field k ≡ message_field (field_name name) inner
-  plain : (room : ℕ) → IsPlain room inner
-  admitted : IsAdmitted (message_of name) [] inner
-  back : (w : Written) (t : Tree) → Shows w inner t → read_kind w name t ≡ k
-
-literals_as_field : (name : KindName) (make : List ℤ → Kind) (literals : List ℤ) → AreFit Int32 literals → message_of name ≡ literals_message → ((w : Written) (t : Tree) → read_kind w name t ≡ make (read_literals w t)) → kind_field (make literals) ≡ message_field (field_name name) (printed_literals literals) → AsField (make literals)
-literals_as_field name make literals fit takes reads is = record {
-  name = name;
-  inner = printed_literals literals;
-  is = is;
-  plain = λ room. literals_plain room literals fit;
-  admitted = rw takes (literals_admitted literals fit);
-  back = λ w t s. reads w t ∙ ap make (literals_back w literals t fit s);
-}
-
-as_field : (k : Kind) → IsReadableKind k → (k ≡ Empty) ⊎ AsField k
-as_field Empty r = inl refl
-as_field (BoolOr literals) r = inr (literals_as_field names.BoolOr (λ ls. BoolOr ls) literals r refl (λ w t. refl) refl)
-as_field (BoolAnd literals) r = inr (literals_as_field names.BoolAnd (λ ls. BoolAnd ls) literals r refl (λ w t. refl) refl)
-as_field (AtMostOne literals) r = inr (literals_as_field names.AtMostOne (λ ls. AtMostOne ls) literals r refl (λ w t. refl) refl)
-as_field (ExactlyOne literals) r = inr (literals_as_field names.ExactlyOne (λ ls. ExactlyOne ls) literals r refl (λ w t. refl) refl)
-as_field (BoolXor literals) r = inr (literals_as_field names.BoolXor (λ ls. BoolXor ls) literals r refl (λ w t. refl) refl)
-as_field (Linear vars coeffs domain) r = inr (record {
-  name = names.Linear;
-  inner = printed_linear vars coeffs domain;
-  is = refl;
-  plain = λ room. linear_plain room vars coeffs domain r.0 r.1 r.2;
-  admitted = linear_admitted vars coeffs domain r.0 r.1 r.2;
-  back = λ w t s. linear_back w vars coeffs domain t r.0 r.1 r.2 s;
-})
-
 -- a kind's name can stand in a text, and is that of the kind
 name_plain : (name : KindName) → is_identifier (field_name name) ≡ true
 unfolding is_word_start is_word
 name_plain names.BoolOr = refl
-name_plain names.BoolAnd = refl
-name_plain names.AtMostOne = refl
-name_plain names.ExactlyOne = refl
-name_plain names.BoolXor = refl
-name_plain names.Linear = refl
+name_plain _ = refl
 
 name_named : (name : KindName) → kind_named (field_name name) ≡ Some name
 name_named names.BoolOr = refl
-name_named names.BoolAnd = refl
-name_named names.AtMostOne = refl
-name_named names.ExactlyOne = refl
-name_named names.BoolXor = refl
-name_named names.Linear = refl
+name_named _ = refl
 
-kind_plain : (room : ℕ) (k : Kind) → IsReadableKind k → IsPlain (suc room) (kind_field k)
-kind_plain room k r = by_field (as_field k r) where
-  by_field : (k ≡ Empty) ⊎ AsField k → IsPlain (suc room) (kind_field k)
-  by_field (inl e) = rw e tt
-  by_field (inr f) = rw f.is (plain-message_field room (field_name f.name) f.inner (name_plain f.name) (f.plain room))
+kind_plain : (room : ℕ) (k : Kind) → IsReadableKind k → IsPlain (suc (suc room)) (kind_field k)
+kind_plain room k (inl e) = rw e tt
+kind_plain room k (inr f) =
+    rw f.message.is (plain-message_field (suc room) (field_name f.name) (parts_message f.message.parts) (name_plain f.name) (parts_plain room f.message.parts f.message.named f.message.fit))
 
 -- no kind has been given
 record IsKindFree (before : List (List ℕ)) : Type 0 where
@@ -163,45 +86,37 @@ kind_kept other before apart none f = record {
   kinds = next_kind other before ∙ rw (none, f.kinds) refl;
 }
 
+-- no kind has the name of another field
 name_apart : (name : KindName) → bytes_eq (field_name name) (codes "name") ≡ false
-name_apart names.BoolOr = refl
-name_apart names.BoolAnd = refl
-name_apart names.AtMostOne = refl
-name_apart names.ExactlyOne = refl
-name_apart names.BoolXor = refl
-name_apart names.Linear = refl
+unfolding use_of
+name_apart name =
+    content_clash constraint_message (field_name name) (codes "name") (tables.message (message_of name)) tables.text (ap content_of (kind_use name)) refl (λ e. cc)
 
 enforcement_apart : (name : KindName) → bytes_eq (field_name name) (codes "enforcement_literal") ≡ false
-enforcement_apart names.BoolOr = refl
-enforcement_apart names.BoolAnd = refl
-enforcement_apart names.AtMostOne = refl
-enforcement_apart names.ExactlyOne = refl
-enforcement_apart names.BoolXor = refl
-enforcement_apart names.Linear = refl
+unfolding use_of
+enforcement_apart name =
+    content_clash constraint_message (field_name name) (codes "enforcement_literal") (tables.message (message_of name)) (tables.number Int32) (ap content_of (kind_use name)) refl (λ e. cc)
 
 kind_admitted : (before : List (List ℕ)) (k : Kind) → IsReadableKind k → IsKindFree before → IsAdmitted constraint_message before (followed_by (kind_field k) empty)
 unfolding followed_by
-kind_admitted before k r given = by_field (as_field k r) where
-  by_field : (k ≡ Empty) ⊎ AsField k → IsAdmitted constraint_message before (followed_by (kind_field k) empty)
-  by_field (inl e) = rw e tt
-  by_field (inr f) =
-      rw f.is (admitted-message constraint_message before (field_name f.name) f.inner empty (kind (message_of f.name) (kind_use f.name) (given.names f.name) given.kinds f.admitted) tt)
+kind_admitted before k (inl e) given = rw e tt
+kind_admitted before k (inr f) given =
+    rw f.message.is (admitted-message constraint_message before (field_name f.name) (parts_message f.message.parts) empty (kind (message_of f.name) (kind_use f.name) f.opened (given.names f.name) given.kinds (parts_admitted (message_of f.name) f.message.parts f.message.takes f.message.fit)) tt)
 
 empty_back : (w : Written) (t : Tree) → Shows w empty t → first_or Empty (given_kinds w t) ≡ Empty
 empty_back w no_fields s = refl
 empty_back w _ s = absurd s
 
-field_back : (w : Written) (k : Kind) (f : AsField k) (t : Tree) → Shows w (message_field (field_name f.name) f.inner) t → first_or Empty (given_kinds w t) ≡ k
-field_back w k f (field token false (message_value first inner no_values) no_fields) s = rw (s.0, name_named f.name) (f.back w inner s.1)
+field_back : (w : Written) (k : Kind) (f : AsField k) (t : Tree) → Shows w (message_field (field_name f.name) (parts_message f.message.parts)) t → first_or Empty (given_kinds w t) ≡ k
+field_back w k f (field token false (message_value first inner no_values) no_fields) s =
+    rw (s.0, name_named f.name) (f.message.back w inner (record { takes = f.message.takes; fit = f.message.fit; shows = s.1 }))
 field_back w k f (field token false (message_value first inner no_values) (field t l v more)) s = absurd s.2
 field_back w k f _ s = absurd s
 
 kind_back : (w : Written) (k : Kind) (t : Tree) → IsReadableKind k → Shows w (followed_by (kind_field k) empty) t → first_or Empty (given_kinds w t) ≡ k
 unfolding followed_by
-kind_back w k t r s = by_field (as_field k r) where
-  by_field : (k ≡ Empty) ⊎ AsField k → first_or Empty (given_kinds w t) ≡ k
-  by_field (inl e) = rw e (empty_back w t (subst (λ x. Shows w (followed_by (kind_field x) empty) t) e s))
-  by_field (inr f) = field_back w k f t (subst (λ m. Shows w (followed_by m empty) t) f.is s)
+kind_back w k t (inl e) s = rw e (empty_back w t (subst (λ x. Shows w (followed_by (kind_field x) empty) t) e s))
+kind_back w k t (inr f) s = field_back w k f t (subst (λ m. Shows w (followed_by m empty) t) f.message.is s)
 
 -- the kind stands behind the name and the enforcement literals
 record Behind (w : Written) (m : Message) (t : Tree) : Type 0 where
@@ -226,12 +141,25 @@ behind_name w (b ∷ bytes) m _ s = absurd s
 
 -- constraints
 
-pub constraint_plain : (room : ℕ) (c : Constraint) → IsReadableConstraint c → IsPlain (suc room) (printed_constraint c)
+pub record IsReadableConstraint (c : Constraint) : Type 0 where
+  pub name : IsReadableText c.name
+  pub enforcement : AreFit Int32 c.enforcement
+  pub kind : IsReadableKind c.kind
+
+pub constraint_readable : (w : Written) (t : Tree) → w.closed ≡ closed_names → fields_fault w constraint_message [] t ≡ None → IsReadableConstraint (read_constraint w t)
+unfolding use_of
+constraint_readable w t c e = record {
+  name = name_utf8 w constraint_message t refl e;
+  enforcement = numbers_fit w constraint_message [] (codes "enforcement_literal") Int32 t refl e;
+  kind = kind_readable w t c e;
+}
+
+pub constraint_plain : (room : ℕ) (c : Constraint) → IsReadableConstraint c → IsPlain (suc (suc room)) (printed_constraint c)
 unfolding is_word_start is_word
 constraint_plain room c r =
-    plain-followed_by (suc room) (text_field (codes "name") c.name) _ (plain-text_field (suc room) (codes "name") c.name refl r.name)
-    (plain-followed_by (suc room) (list_field (codes "enforcement_literal") c.enforcement) _ (plain-list_field (suc room) (codes "enforcement_literal") c.enforcement refl (are_short Int32 c.enforcement r.enforcement))
-    (plain-followed_by (suc room) (kind_field c.kind) empty (kind_plain room c.kind r.kind) tt))
+    plain-followed_by (suc (suc room)) (text_field (codes "name") c.name) _ (plain-text_field (suc (suc room)) (codes "name") c.name refl r.name)
+    (plain-followed_by (suc (suc room)) (list_field (codes "enforcement_literal") c.enforcement) _ (plain-list_field (suc (suc room)) (codes "enforcement_literal") c.enforcement refl (are_short Int32 c.enforcement r.enforcement))
+    (plain-followed_by (suc (suc room)) (kind_field c.kind) empty (kind_plain room c.kind r.kind) tt))
 
 none_kind : IsKindFree []
 unfolding is_given has_kind
@@ -253,12 +181,10 @@ constraint_admitted c r =
 
 kind_no_numbers : (name : List ℕ) (k : Kind) → printed_numbers name (kind_field k) ≡ []
 kind_no_numbers name Empty = refl
-kind_no_numbers name (Linear vars coeffs domain) = refl
 kind_no_numbers name _ = refl
 
 kind_no_texts : (name : List ℕ) (k : Kind) → printed_texts name (kind_field k) ≡ []
 kind_no_texts name Empty = refl
-kind_no_texts name (Linear vars coeffs domain) = refl
 kind_no_texts name _ = refl
 
 pub constraint_back : (w : Written) (c : Constraint) (t : Tree) → IsReadableConstraint c → Shows w (printed_constraint c) t → read_constraint w t ≡ c

@@ -12,7 +12,7 @@ use Rattle.cps_schema.specs.declared.member.Enum.{Enum}
 use Rattle.cps_schema.specs.Members.{member_named}
 use Rattle.cps_schema.specs.Readings.{ok_or_zero}
 use Rattle.cps_schema.specs.Tables as tables
-use Rattle.cps_schema.specs.Tables.{use_of, is_given}
+use Rattle.cps_schema.specs.Tables.{use_of, content_of, is_given}
 use Rattle.cps_print.specs.Layout.{Message, empty, number, numbers, word, quoted, message}
 use Rattle.cps_print.specs.Fields.{followed_by, number_field, list_field, word_field, text_field, message_field, repeated_field}
 use Rattle.cps_print.proofs.Digits.{and_true}
@@ -87,18 +87,22 @@ plain-repeated_field room name printed (x ∷ xs) e p = (e, p.0, plain-repeated_
 pub admitted-list : (m : tables.Message) (before : List (List ℕ)) (name : List ℕ) (ns : List ℤ) (type : Number) (others : Message) → use_of m name ≡ Some (tables.repeated (tables.number type)) → AreFit type ns → IsAdmitted m before others → IsAdmitted m (name ∷ before) others → IsAdmitted m before (followed_by (list_field name ns) others)
 unfolding followed_by list_field
 admitted-list m before name [] type others takes fit none some = none
-admitted-list m before name (n ∷ ns) type others takes fit none some = (record { type = type; takes = takes; fit = fit }, some)
+admitted-list m before name (n ∷ ns) type others takes fit none some =
+    (record { type = type; content = ap content_of takes; clear = rw takes refl; listed = rw takes refl; fit = fit }, some)
 
 pub admitted-number : (m : tables.Message) (before : List (List ℕ)) (name : List ℕ) (z : ℤ) (type : Number) (others : Message) → use_of m name ≡ Some (tables.single (tables.number type)) → is_given before name ≡ false → fits type z ≡ true → IsAdmitted m before others → IsAdmitted m (name ∷ before) others → IsAdmitted m before (followed_by (number_field name z) others)
 unfolding followed_by number_field
 admitted-number m before name (pos zero) type others takes first fit none some = none
-admitted-number m before name (pos (suc n)) type others takes first fit none some = (record { type = type; takes = takes; first = first; fit = fit }, some)
-admitted-number m before name (negsuc n) type others takes first fit none some = (record { type = type; takes = takes; first = first; fit = fit }, some)
+admitted-number m before name (pos (suc n)) type others takes first fit none some =
+    (record { type = type; content = ap content_of takes; clear = rw (takes, first) refl; fit = fit }, some)
+admitted-number m before name (negsuc n) type others takes first fit none some =
+    (record { type = type; content = ap content_of takes; clear = rw (takes, first) refl; fit = fit }, some)
 
 pub admitted-text : (m : tables.Message) (before : List (List ℕ)) (name bytes : List ℕ) (others : Message) → use_of m name ≡ Some (tables.single tables.text) → is_given before name ≡ false → IsAdmitted m before others → IsAdmitted m (name ∷ before) others → IsAdmitted m before (followed_by (text_field name bytes) others)
 unfolding followed_by text_field
 admitted-text m before name [] others takes first none some = none
-admitted-text m before name (b ∷ bytes) others takes first none some = (record { takes = takes; first = first }, some)
+admitted-text m before name (b ∷ bytes) others takes first none some =
+    (record { content = ap content_of takes; clear = rw (takes, first) refl }, some)
 
 -- the name of a member, or nothing
 abbrev pub IsMember : Enum → List ℕ → Type 0
@@ -109,7 +113,7 @@ pub admitted-word : (m : tables.Message) (before : List (List ℕ)) (name w : Li
 unfolding followed_by word_field
 admitted-word m before name [] enum others takes first named none some = none
 admitted-word m before name (b ∷ bytes) enum others takes first named none some =
-    (record { enum = enum; member = named.0; takes = takes; first = first; named = named.1 }, some)
+    (record { enum = enum; member = named.0; content = ap content_of takes; clear = rw (takes, first) refl; named = named.1 }, some)
 
 pub admitted-message : (m : tables.Message) (before : List (List ℕ)) (name : List ℕ) (fields others : Message) → TakesMessage m before name (λ k. IsAdmitted k [] fields) → IsAdmitted m (name ∷ before) others → IsAdmitted m before (followed_by (message_field name fields) others)
 unfolding followed_by
@@ -243,6 +247,12 @@ pub printed_messages-list_field : (name other : List ℕ) (ns : List ℤ) → pr
 unfolding list_field
 printed_messages-list_field name other [] = refl
 printed_messages-list_field name other (n ∷ ns) = refl
+
+pub printed_messages-number_field : (name other : List ℕ) (z : ℤ) → printed_messages name (number_field other z) ≡ []
+unfolding number_field
+printed_messages-number_field name other (pos zero) = refl
+printed_messages-number_field name other (pos (suc n)) = refl
+printed_messages-number_field name other (negsuc n) = refl
 
 pub printed_messages-text_field : (name other bytes : List ℕ) → printed_messages name (text_field other bytes) ≡ []
 unfolding text_field

@@ -7,7 +7,11 @@ pub mod Shown
 pub mod Readable
 pub mod Fitting
 pub mod Back
-pub mod Constraints
 pub mod Objectives
+pub mod Expressions
+pub mod Parts
+pub mod KindMessages
+pub mod KindFields
+pub mod Constraints
 pub mod Steering
 pub mod RoundTrip

@@ -1,10 +1,12 @@
 -- Laws of the layout.
 use Rattle.std.specs.List.{flat_map}
 use Rattle.std.specs.Fmt.{signed_decimal}
-use Rattle.std.proofs.Common.{◌≡◌, ◌≢◌, ℕ, zero, suc, ◌+◌, ℤ, pos, negsuc, List, [], ◌∷◌, ◌++◌, refl, sym, ap, ◌∙◌, add-one, append_assoc, append-nil, codes, length, arith, Result, Ok, Err, OnOk}
+use Rattle.std.proofs.Common.{◌≡◌, ◌≢◌, ℕ, zero, suc, true, false, ◌+◌, ℤ, pos, negsuc, List, [], ◌∷◌, ◌++◌, refl, sym, ap, ◌∙◌, add-one, append_assoc, append-nil, codes, length, arith, Result, Ok, Err, OnOk}
 use Rattle.cps_print.specs.Quoting.{in_quotes}
 use Rattle.cps_print.specs.Layout.{Message, empty, number, numbers, word, quoted, message, indent, value_line, in_brackets, list_lines, opening, closing, text_of}
 use Rattle.cps_print.specs.Fields.{followed_by, number_field, list_field, word_field, text_field, message_field, repeated_field}
+use Rattle.cps_model.specs.declared.model.LinearExpr.{LinearExpr}
+use Rattle.cps_print.specs.Expressions.{printed_expression, is_empty_expression, expression_field}
 use Rattle.cps_print.specs.Models.{scaling_field}
 
 -- what holds behind a call that went well
@@ -78,6 +80,17 @@ scaling_field-other (pos (suc (suc n))) h = refl
 scaling_field-other (negsuc n) h = refl
 
 pub ruleset scaling = (text_of-no_scaling, scaling_field-other, append-nil)
+
+-- an empty expression is left out, and else it is a message like others
+pub text_of-no_expression : (level : ℕ) (name : List ℕ) (e : LinearExpr) → is_empty_expression e ≡ true → text_of level (expression_field name e) ≡ []
+unfolding text_of expression_field
+text_of-no_expression level name e h = rw h refl
+
+pub expression_field-other : (name : List ℕ) (e : LinearExpr) → is_empty_expression e ≡ false → expression_field name e ≡ message_field name (printed_expression e)
+unfolding expression_field
+expression_field-other name e h = rw h refl
+
+pub ruleset expression_lines = (text_of-no_expression, expression_field-other, append-nil)
 
 -- what each part of a message adds to its text
 

@@ -2,25 +2,19 @@
 use Rattle.std.specs.Prelude.{map, if◌then◌else◌, codes}
 use Rattle.std.specs.List.{list_all}
 use Rattle.std.specs.Str.{bytes_eq, is_utf8}
-use Rattle.std.specs.Option.{option_or, option_to_list, unwrap_or}
+use Rattle.std.specs.Option.{option_or, unwrap_or}
 use Rattle.std.proofs.lemmas.Slice.Eq.{bytes_eq-Decides}
 use Rattle.std.proofs.lemmas.Str.{is_utf8-from_IsUtf8, IsUtf8-nil}
 use Rattle.std.proofs.lemmas.List.Folds.{list_all-append}
-use Rattle.std.proofs.Common.{◌≡◌, ◌≢◌, ℕ, zero, suc, Bool, true, false, ◌&&◌, ℤ, pos, negsuc, List, [], ◌∷◌, ◌++◌, Option, Some, None, is_some, refl, sym, subst, ap, ◌∙◌}
+use Rattle.std.proofs.Common.{◌≡◌, ◌≢◌, ℕ, zero, suc, Bool, true, false, ◌&&◌, ℤ, pos, negsuc, List, [], ◌∷◌, ◌++◌, Option, Some, None, is_some, refl, sym, ap, ◌∙◌}
 use Rattle.cps_lex.specs.declared.types.TokenKind.{TokenKind}
 use Rattle.cps_textproto.specs.Trees.{Tree, no_fields, field, Values, no_values, scalar_value, message_value}
 use Rattle.cps_model.specs.declared.fault.FaultName.{FaultName}
-use Rattle.cps_model.specs.declared.model.CpModel.{CpModel}
 use Rattle.cps_model.specs.declared.model.Variable.{Variable}
 use Rattle.cps_model.specs.declared.model.Objective.{Objective}
 use Rattle.cps_model.specs.declared.model.LinearExpr.{LinearExpr}
 use Rattle.cps_model.specs.declared.steering.Strategy.{Strategy}
 use Rattle.cps_model.specs.declared.steering.Hint.{Hint}
-use Rattle.cps_model.specs.declared.constraint.Constraint.{Constraint}
-use Rattle.cps_model.specs.declared.constraint.Kind.{Kind}
-use Rattle.cps_model.specs.declared.constraint.Kind.TheVariants.{Empty, BoolOr, BoolAnd, AtMostOne, ExactlyOne, BoolXor, Linear}
-use Rattle.cps_schema.specs.declared.kind.KindName.{KindName}
-use Rattle.cps_schema.specs.declared.kind.KindName.TheVariants as names
 use Rattle.cps_schema.specs.Written.{Written, token_text, token_kind, unsigned_token, size_at, number_at}
 use Rattle.cps_schema.specs.declared.number.Number.{Number}
 use Rattle.cps_schema.specs.declared.number.Number.TheVariants.{Int64, Int32, Exact}
@@ -28,11 +22,9 @@ use Rattle.cps_schema.specs.Numbers.{fits, misfit, token_fault, kind_fault, numb
 use Rattle.cps_schema.specs.Tables as tables
 use Rattle.cps_schema.specs.Tables.{use_of, content_of, model_message, variable_message, constraint_message, literals_message, linear_message, objective_message, strategy_message, expression_message, hint_message}
 use Rattle.cps_schema.specs.Texts.{scalar_tokens, is_string, joined, text_at}
-use Rattle.cps_schema.specs.Kinds.{message_of, kind_named}
 use Rattle.cps_schema.specs.Faults.{refused_at, text_fault, fields_fault, values_fault}
 use Rattle.cps_schema.specs.Readings as readings
 use Rattle.cps_schema.specs.Readings.{first_or, first_of, value_numbers, value_texts, value_messages, messages, read_name, read_variable, read_literals, read_linear, read_kind, kinds_of, given_kinds, read_constraint, scaling_of, read_objective, read_expression, reference_expression, read_strategy, read_hint, read_model}
-use Rattle.cps_schema.proofs.GivenKinds.{named_text, kind_use}
 use Rattle.cps_print.proofs.Digits.{and_true}
 
 abbrev pub Each : {X : Type 0} → (X → Type 0) → List X → Type 0
@@ -49,20 +41,6 @@ IsReadableText bytes = is_utf8 bytes ≡ true
 pub record IsReadableVariable (v : Variable) : Type 0 where
   pub name : IsReadableText v.name
   pub domain : AreFit Int64 v.domain
-
-abbrev pub IsReadableKind : Kind → Type 0
-IsReadableKind Empty = Unit {0}
-IsReadableKind (BoolOr literals) = AreFit Int32 literals
-IsReadableKind (BoolAnd literals) = AreFit Int32 literals
-IsReadableKind (AtMostOne literals) = AreFit Int32 literals
-IsReadableKind (ExactlyOne literals) = AreFit Int32 literals
-IsReadableKind (BoolXor literals) = AreFit Int32 literals
-IsReadableKind (Linear vars coeffs domain) = AreFit Int32 vars × AreFit Int64 coeffs × AreFit Int64 domain
-
-pub record IsReadableConstraint (c : Constraint) : Type 0 where
-  pub name : IsReadableText c.name
-  pub enforcement : AreFit Int32 c.enforcement
-  pub kind : IsReadableKind c.kind
 
 pub record IsReadableObjective (o : Objective) : Type 0 where
   pub vars : AreFit Int32 o.vars
@@ -84,28 +62,19 @@ pub record IsReadableHint (h : Hint) : Type 0 where
   pub vars : AreFit Int32 h.vars
   pub values : AreFit Int64 h.values
 
-pub record IsReadable (m : CpModel) : Type 0 where
-  pub name : IsReadableText m.name
-  pub variables : Each IsReadableVariable m.variables
-  pub constraints : Each IsReadableConstraint m.constraints
-  pub objective : Each IsReadableObjective (option_to_list m.objective)
-  pub strategies : Each IsReadableStrategy m.strategies
-  pub hint : Each IsReadableHint (option_to_list m.hint)
-  pub assumptions : m.assumptions ≡ []
-
-each_append : {X : Type 0} (P : X → Type 0) (xs ys : List X) → Each P xs → Each P ys → Each P (xs ++ ys)
+pub each_append : {X : Type 0} (P : X → Type 0) (xs ys : List X) → Each P xs → Each P ys → Each P (xs ++ ys)
 each_append P [] ys p q = q
 each_append P (x ∷ xs) ys p q = (p.0, each_append P xs ys p.1 q)
 
-each_map : {X Y : Type 0} (P : X → Type 0) (Q : Y → Type 0) (f : X → Y) → ((x : X) → P x → Q (f x)) → (xs : List X) → Each P xs → Each Q (map f xs)
+pub each_map : {X Y : Type 0} (P : X → Type 0) (Q : Y → Type 0) (f : X → Y) → ((x : X) → P x → Q (f x)) → (xs : List X) → Each P xs → Each Q (map f xs)
 each_map P Q f h [] p = tt
 each_map P Q f h (x ∷ xs) p = (h x p.0, each_map P Q f h xs p.1)
 
-or_none : {X : Type 0} (a b : Option X) → option_or a b ≡ None → (a ≡ None) × (b ≡ None)
+pub or_none : {X : Type 0} (a b : Option X) → option_or a b ≡ None → (a ≡ None) × (b ≡ None)
 or_none None b e = (refl, e)
 or_none (Some x) b e = cc
 
-refused_none : (k : ℕ) (o : Option FaultName) → refused_at k o ≡ None → o ≡ None
+pub refused_none : (k : ℕ) (o : Option FaultName) → refused_at k o ≡ None → o ≡ None
 refused_none k None e = refl
 refused_none k (Some name) e = cc
 
@@ -123,7 +92,7 @@ number_fit w type first e =
     let fit = kind_fit type (is_some (size_at w first) && fits type (number_at w first)) (token_kind w (unsigned_token w first)) e in
     (and_true (is_some (size_at w first)) (fits type (number_at w first)) fit).1
 
-both_true : (a b : Bool) → a ≡ true → b ≡ true → (a && b) ≡ true
+pub both_true : (a b : Bool) → a ≡ true → b ≡ true → (a && b) ≡ true
 both_true a b p q = rw (p, q) refl
 
 values_fit : (w : Written) (type : Number) (values : Values) → values_fault w (Some (tables.number type)) values ≡ None → AreFit type (value_numbers w values)
@@ -133,7 +102,7 @@ values_fit w type (scalar_value first end rest) e =
     both_true _ _ (number_fit w type first (refused_none first (number_fault w type first) parts.0)) (values_fit w type rest parts.1)
 values_fit w type (message_value first inner rest) e = cc
 
-values_sound : (w : Written) (k : tables.Message) (values : Values) → values_fault w (Some (tables.message k)) values ≡ None → Each (λ t. fields_fault w k [] t ≡ None) (value_messages values)
+pub values_sound : (w : Written) (k : tables.Message) (values : Values) → values_fault w (Some (tables.message k)) values ≡ None → Each (λ t. fields_fault w k [] t ≡ None) (value_messages values)
 values_sound w k no_values e = tt
 values_sound w k (scalar_value first end rest) e = cc
 values_sound w k (message_value first inner rest) e =
@@ -210,74 +179,26 @@ texts_utf8 w m before name (field token list values rest) takes e =
         each_append IsReadableText (value_texts w values) others (values_utf8 w values clean) rest
     here w m name token values others takes e rest false same = rest
 
-first_text : (ts : List (List ℕ)) → Each IsReadableText ts → IsReadableText (first_or [] ts)
+pub first_text : (ts : List (List ℕ)) → Each IsReadableText ts → IsReadableText (first_or [] ts)
 first_text [] e = is_utf8-from_IsUtf8 [] IsUtf8-nil
 first_text (t ∷ ts) e = e.0
 
-name_utf8 : (w : Written) (m : tables.Message) (t : Tree) → content_of (use_of m (codes "name")) ≡ Some tables.text → fields_fault w m [] t ≡ None → IsReadableText (read_name w t)
+pub name_utf8 : (w : Written) (m : tables.Message) (t : Tree) → content_of (use_of m (codes "name")) ≡ Some tables.text → fields_fault w m [] t ≡ None → IsReadableText (read_name w t)
 name_utf8 w m t takes e = first_text _ (texts_utf8 w m [] (codes "name") t takes e)
 
 -- what each message is read as
 
-variable_readable : (w : Written) (t : Tree) → fields_fault w variable_message [] t ≡ None → IsReadableVariable (read_variable w t)
+pub variable_readable : (w : Written) (t : Tree) → fields_fault w variable_message [] t ≡ None → IsReadableVariable (read_variable w t)
 unfolding use_of
 variable_readable w t e = record { name = name_utf8 w variable_message t refl e; domain = numbers_fit w variable_message [] (codes "domain") Int64 t refl e }
 
-literals_fit : (w : Written) (t : Tree) → fields_fault w literals_message [] t ≡ None → AreFit Int32 (read_literals w t)
-unfolding use_of
-literals_fit w t e = numbers_fit w literals_message [] (codes "literals") Int32 t refl e
-
-linear_readable : (w : Written) (t : Tree) → fields_fault w linear_message [] t ≡ None → IsReadableKind (read_linear w t)
-unfolding use_of
-linear_readable w t e = (
-  numbers_fit w linear_message [] (codes "vars") Int32 t refl e,
-  numbers_fit w linear_message [] (codes "coeffs") Int64 t refl e,
-  numbers_fit w linear_message [] (codes "domain") Int64 t refl e,
-)
-
-kind_readable : (w : Written) (name : KindName) (t : Tree) → fields_fault w (message_of name) [] t ≡ None → IsReadableKind (read_kind w name t)
-kind_readable w names.BoolOr t e = literals_fit w t e
-kind_readable w names.BoolAnd t e = literals_fit w t e
-kind_readable w names.AtMostOne t e = literals_fit w t e
-kind_readable w names.ExactlyOne t e = literals_fit w t e
-kind_readable w names.BoolXor t e = literals_fit w t e
-kind_readable w names.Linear t e = linear_readable w t e
-
-kinds_of_readable : (w : Written) (text : List ℕ) (values : Values) → values_fault w (content_of (use_of constraint_message text)) values ≡ None → (name : Option KindName) → kind_named text ≡ name → Each IsReadableKind (kinds_of w name (value_messages values))
-kinds_of_readable w text values e None named = tt
-kinds_of_readable w text values e (Some name) named =
-    let takes : use_of constraint_message text ≡ Some (tables.one_kind (message_of name)) = ap (λ n. use_of constraint_message n) (named_text text name named) ∙ kind_use name in
-    let clean : values_fault w (Some (tables.message (message_of name))) values ≡ None = sym (ap (λ u. values_fault w (content_of u) values) takes) ∙ e in
-    each_map (λ t. fields_fault w (message_of name) [] t ≡ None) IsReadableKind (read_kind w name) (kind_readable w name) (value_messages values) (values_sound w (message_of name) values clean)
-
-kinds_readable : (w : Written) (before : List (List ℕ)) (t : Tree) → fields_fault w constraint_message before t ≡ None → Each IsReadableKind (given_kinds w t)
-kinds_readable w before no_fields e = tt
-kinds_readable w before (field token list values rest) e =
-    let parts = or_none _ _ e in
-    let inner = or_none (values_fault w (content_of (use_of constraint_message (token_text w token))) values) _ parts.1 in
-    let name = token_text w token in
-    let here = kinds_of_readable w name values inner.0 (kind_named name) refl in
-    each_append IsReadableKind (kinds_of w (kind_named name) (value_messages values)) (given_kinds w rest) here (kinds_readable w (name ∷ before) rest inner.1)
-
-first_kind : (ks : List Kind) → Each IsReadableKind ks → IsReadableKind (first_or Empty ks)
-first_kind [] e = tt
-first_kind (k ∷ ks) e = e.0
-
-constraint_readable : (w : Written) (t : Tree) → fields_fault w constraint_message [] t ≡ None → IsReadableConstraint (read_constraint w t)
-unfolding use_of
-constraint_readable w t e = record {
-  name = name_utf8 w constraint_message t refl e;
-  enforcement = numbers_fit w constraint_message [] (codes "enforcement_literal") Int32 t refl e;
-  kind = first_kind (given_kinds w t) (kinds_readable w [] t e);
-}
-
-zero_fits : (type : Number) → fits type (pos 0) ≡ true
+pub zero_fits : (type : Number) → fits type (pos 0) ≡ true
 unfolding fits
 zero_fits Int64 = refl
 zero_fits Int32 = refl
 zero_fits Exact = refl
 
-first_fit : (type : Number) (ns : List ℤ) → AreFit type ns → fits type (first_or (pos 0) ns) ≡ true
+pub first_fit : (type : Number) (ns : List ℤ) → AreFit type ns → fits type (first_or (pos 0) ns) ≡ true
 first_fit type [] e = zero_fits type
 first_fit type (n ∷ ns) e = (and_true (fits type n) (list_all (fits type) ns) e).0
 
@@ -292,7 +213,7 @@ scaling_nonzero (pos zero) = λ e. cc
 scaling_nonzero (pos (suc n)) = λ e. cc
 scaling_nonzero (negsuc n) = λ e. cc
 
-objective_readable : (w : Written) (t : Tree) → fields_fault w objective_message [] t ≡ None → IsReadableObjective (read_objective w t)
+pub objective_readable : (w : Written) (t : Tree) → fields_fault w objective_message [] t ≡ None → IsReadableObjective (read_objective w t)
 unfolding use_of
 objective_readable w t e = record {
   vars = numbers_fit w objective_message [] (codes "vars") Int32 t refl e;
@@ -303,7 +224,7 @@ objective_readable w t e = record {
   domain = numbers_fit w objective_message [] (codes "domain") Int64 t refl e;
 }
 
-expression_readable : (w : Written) (t : Tree) → fields_fault w expression_message [] t ≡ None → IsReadableExpression (read_expression w t)
+pub expression_readable : (w : Written) (t : Tree) → fields_fault w expression_message [] t ≡ None → IsReadableExpression (read_expression w t)
 unfolding use_of
 expression_readable w t e = record {
   vars = numbers_fit w expression_message [] (codes "vars") Int32 t refl e;
@@ -318,39 +239,16 @@ references_readable (r ∷ rs) e =
     let both = and_true (fits Int32 r) (list_all (fits Int32) rs) e in
     (record { vars = both_true _ _ both.0 refl; coeffs = refl; offset = refl }, references_readable rs both.1)
 
-strategy_readable : (w : Written) (t : Tree) → fields_fault w strategy_message [] t ≡ None → IsReadableStrategy (read_strategy w t)
+pub strategy_readable : (w : Written) (t : Tree) → fields_fault w strategy_message [] t ≡ None → IsReadableStrategy (read_strategy w t)
 unfolding use_of
 strategy_readable w t e =
     each_append IsReadableExpression _ _
     (each_map (λ t. fields_fault w expression_message [] t ≡ None) IsReadableExpression (read_expression w) (expression_readable w) (messages w (codes "exprs") t) (messages_sound w strategy_message [] (codes "exprs") expression_message t refl e))
     (references_readable _ (numbers_fit w strategy_message [] (codes "variables") Int32 t refl e))
 
-hint_readable : (w : Written) (t : Tree) → fields_fault w hint_message [] t ≡ None → IsReadableHint (read_hint w t)
+pub hint_readable : (w : Written) (t : Tree) → fields_fault w hint_message [] t ≡ None → IsReadableHint (read_hint w t)
 unfolding use_of
 hint_readable w t e = record {
   vars = numbers_fit w hint_message [] (codes "vars") Int32 t refl e;
   values = numbers_fit w hint_message [] (codes "values") Int64 t refl e;
 }
-
-first_readable : {X : Type 0} (P : X → Type 0) (xs : List X) → Each P xs → Each P (option_to_list (first_of xs))
-first_readable P [] e = tt
-first_readable P (x ∷ xs) e = (e.0, tt)
-
-model_readable : (w : Written) (t : Tree) → fields_fault w model_message [] t ≡ None → IsReadable (read_model w t)
-unfolding use_of
-model_readable w t e =
-    let objectives = messages_sound w model_message [] (codes "objective") objective_message t refl e in
-    let strategies = messages_sound w model_message [] (codes "search_strategy") strategy_message t refl e in
-    let hints = messages_sound w model_message [] (codes "solution_hint") hint_message t refl e in
-    record {
-      name = name_utf8 w model_message t refl e;
-      variables = each_map (λ t. fields_fault w variable_message [] t ≡ None) IsReadableVariable (read_variable w) (variable_readable w) (messages w (codes "variables") t) (messages_sound w model_message [] (codes "variables") variable_message t refl e);
-      constraints = each_map (λ t. fields_fault w constraint_message [] t ≡ None) IsReadableConstraint (read_constraint w) (constraint_readable w) (messages w (codes "constraints") t) (messages_sound w model_message [] (codes "constraints") constraint_message t refl e);
-      objective = first_readable IsReadableObjective _ (each_map (λ t. fields_fault w objective_message [] t ≡ None) IsReadableObjective (read_objective w) (objective_readable w) (messages w (codes "objective") t) objectives);
-      strategies = each_map (λ t. fields_fault w strategy_message [] t ≡ None) IsReadableStrategy (read_strategy w) (strategy_readable w) (messages w (codes "search_strategy") t) strategies;
-      hint = first_readable IsReadableHint _ (each_map (λ t. fields_fault w hint_message [] t ≡ None) IsReadableHint (read_hint w) (hint_readable w) (messages w (codes "solution_hint") t) hints);
-      assumptions = refl;
-    }
-
-pub read_is_readable : (w : Written) (t : Tree) (m : CpModel) → readings.ReadsAs w t m → IsReadable m
-read_is_readable w t m r = subst IsReadable (sym r.reading) (model_readable w t r.accepted)

@@ -11,21 +11,56 @@ use Rattle.cps_model.specs.declared.model.Objective.{Objective}
 use Rattle.cps_model.specs.declared.steering.Hint.{Hint}
 use Rattle.cps_schema.specs.Written.{Written, written}
 use Rattle.cps_schema.specs.Tables.{use_of, is_given, model_message, variable_message, constraint_message, objective_message, strategy_message, hint_message}
+use Rattle.cps_schema.specs.Faults.{fields_fault}
 use Rattle.cps_schema.specs.Readings as readings
-use Rattle.cps_schema.specs.Readings.{read_variable, read_constraint, read_objective, read_strategy, read_hint, read_model, ReadsAs}
+use Rattle.cps_schema.specs.Readings.{first_of, messages, read_variable, read_constraint, read_objective, read_strategy, read_hint, read_model, ReadsAs}
 use Rattle.cps_print.specs.Layout.{Message, empty, text_of}
 use Rattle.cps_print.specs.Fields.{followed_by, list_field, text_field, repeated_field}
 use Rattle.cps_print.specs.Models.{printed_variable, printed_constraint, printed_objective, objective_field, printed_strategy, printed_hint, hint_field, printed_model, model_text}
 use Rattle.cps_print.specs.ReadBack.{IsReadAs}
 use Rattle.cps_print.proofs.Pieces.{Piece, spelled, tokens_at, tokens_are, symbols_are, written_are}
 use Rattle.cps_print.proofs.Cuts.{IsPlain, pieces, fields_of, spelled-pieces, pieces_sound, symbols-pieces, fields_nest}
-use Rattle.cps_print.proofs.Shown.{Shows, IsAdmitted, each, alone, printed_texts, printed_messages, tree_shows, texts-shown, no_fault}
-use Rattle.cps_print.proofs.Readable.{Each, IsReadable, IsReadableVariable, IsReadableConstraint, IsReadableObjective, IsReadableStrategy, IsReadableHint, read_is_readable}
+use Rattle.cps_print.proofs.Shown.{Shows, IsAdmitted, closed_names, each, alone, printed_texts, printed_messages, tree_shows, texts-shown, no_fault}
+use Rattle.cps_print.proofs.Readable.{Each, IsReadableText, IsReadableVariable, IsReadableObjective, IsReadableStrategy, IsReadableHint, each_map, messages_sound, name_utf8, variable_readable, objective_readable, strategy_readable, hint_readable}
 use Rattle.cps_print.proofs.Fitting.{plain-followed_by, plain-text_field, plain-message_field, plain-repeated_field, admitted-text, admitted-message, admitted-repeated, given-other, text_list, printed}
 use Rattle.cps_print.proofs.Back.{each_of, messages_back, first_given, first_text}
-use Rattle.cps_print.proofs.Constraints.{variable_plain, variable_admitted, variable_back, constraint_plain, constraint_admitted, constraint_back}
+use Rattle.cps_print.proofs.Constraints.{variable_plain, variable_admitted, variable_back, IsReadableConstraint, constraint_readable, constraint_plain, constraint_admitted, constraint_back}
 use Rattle.cps_print.proofs.Objectives.{objective_plain, objective_admitted, objective_back}
 use Rattle.cps_print.proofs.Steering.{strategy_plain, strategy_admitted, strategy_back, hint_plain, hint_admitted, hint_back}
+
+-- what a model is like that a document is read as
+
+record IsReadable (m : CpModel) : Type 0 where
+  name : IsReadableText m.name
+  variables : Each IsReadableVariable m.variables
+  constraints : Each IsReadableConstraint m.constraints
+  objective : Each IsReadableObjective (option_to_list m.objective)
+  strategies : Each IsReadableStrategy m.strategies
+  hint : Each IsReadableHint (option_to_list m.hint)
+  assumptions : m.assumptions ≡ []
+
+first_readable : {X : Type 0} (P : X → Type 0) (xs : List X) → Each P xs → Each P (option_to_list (first_of xs))
+first_readable P [] e = tt
+first_readable P (x ∷ xs) e = (e.0, tt)
+
+model_readable : (w : Written) (t : Tree) → w.closed ≡ closed_names → fields_fault w model_message [] t ≡ None → IsReadable (read_model w t)
+unfolding use_of
+model_readable w t c e =
+    let objectives = messages_sound w model_message [] (codes "objective") objective_message t refl e in
+    let strategies = messages_sound w model_message [] (codes "search_strategy") strategy_message t refl e in
+    let hints = messages_sound w model_message [] (codes "solution_hint") hint_message t refl e in
+    record {
+      name = name_utf8 w model_message t refl e;
+      variables = each_map (λ t. fields_fault w variable_message [] t ≡ None) IsReadableVariable (read_variable w) (variable_readable w) (messages w (codes "variables") t) (messages_sound w model_message [] (codes "variables") variable_message t refl e);
+      constraints = each_map (λ t. fields_fault w constraint_message [] t ≡ None) IsReadableConstraint (read_constraint w) (λ u f. constraint_readable w u c f) (messages w (codes "constraints") t) (messages_sound w model_message [] (codes "constraints") constraint_message t refl e);
+      objective = first_readable IsReadableObjective _ (each_map (λ t. fields_fault w objective_message [] t ≡ None) IsReadableObjective (read_objective w) (objective_readable w) (messages w (codes "objective") t) objectives);
+      strategies = each_map (λ t. fields_fault w strategy_message [] t ≡ None) IsReadableStrategy (read_strategy w) (strategy_readable w) (messages w (codes "search_strategy") t) strategies;
+      hint = first_readable IsReadableHint _ (each_map (λ t. fields_fault w hint_message [] t ≡ None) IsReadableHint (read_hint w) (hint_readable w) (messages w (codes "solution_hint") t) hints);
+      assumptions = refl;
+    }
+
+read_is_readable : (w : Written) (t : Tree) (m : CpModel) → w.closed ≡ closed_names → readings.ReadsAs w t m → IsReadable m
+read_is_readable w t m c r = subst IsReadable (sym r.reading) (model_readable w t c r.accepted)
 
 -- the model, of what is read and of nothing else
 
@@ -55,18 +90,18 @@ unfolding is_word_start is_word
 hint_field_plain room None r = tt
 hint_field_plain room (Some h) r = plain-message_field room (codes "solution_hint") (printed_hint h) refl (hint_plain room h r.0)
 
-core_plain : (room : ℕ) (m : CpModel) → IsReadable m → IsPlain (suc (suc room)) (core m)
+core_plain : (room : ℕ) (m : CpModel) → IsReadable m → IsPlain (suc (suc (suc room))) (core m)
 unfolding is_word_start is_word
 core_plain room m r =
-    plain-followed_by (suc (suc room)) (text_field (codes "name") m.name) _ (plain-text_field (suc (suc room)) (codes "name") m.name refl r.name)
-    (plain-followed_by (suc (suc room)) (repeated_field (codes "variables") printed_variable m.variables) _
-    (plain-repeated_field (suc room) (codes "variables") printed_variable m.variables refl (each_of IsReadableVariable (λ v. IsPlain (suc room) (printed_variable v)) (variable_plain (suc room)) m.variables r.variables))
-    (plain-followed_by (suc (suc room)) (repeated_field (codes "constraints") printed_constraint m.constraints) _
-    (plain-repeated_field (suc room) (codes "constraints") printed_constraint m.constraints refl (each_of IsReadableConstraint (λ c. IsPlain (suc room) (printed_constraint c)) (constraint_plain room) m.constraints r.constraints))
-    (plain-followed_by (suc (suc room)) (objective_field m.objective) _ (objective_field_plain (suc room) m.objective r.objective)
-    (plain-followed_by (suc (suc room)) (repeated_field (codes "search_strategy") printed_strategy m.strategies) _
-    (plain-repeated_field (suc room) (codes "search_strategy") printed_strategy m.strategies refl (each_of IsReadableStrategy (λ s. IsPlain (suc room) (printed_strategy s)) (strategy_plain room) m.strategies r.strategies))
-    (plain-followed_by (suc (suc room)) (hint_field m.hint) empty (hint_field_plain (suc room) m.hint r.hint) tt)))))
+    plain-followed_by (suc (suc (suc room))) (text_field (codes "name") m.name) _ (plain-text_field (suc (suc (suc room))) (codes "name") m.name refl r.name)
+    (plain-followed_by (suc (suc (suc room))) (repeated_field (codes "variables") printed_variable m.variables) _
+    (plain-repeated_field (suc (suc room)) (codes "variables") printed_variable m.variables refl (each_of IsReadableVariable (λ v. IsPlain (suc (suc room)) (printed_variable v)) (variable_plain (suc (suc room))) m.variables r.variables))
+    (plain-followed_by (suc (suc (suc room))) (repeated_field (codes "constraints") printed_constraint m.constraints) _
+    (plain-repeated_field (suc (suc room)) (codes "constraints") printed_constraint m.constraints refl (each_of IsReadableConstraint (λ c. IsPlain (suc (suc room)) (printed_constraint c)) (constraint_plain room) m.constraints r.constraints))
+    (plain-followed_by (suc (suc (suc room))) (objective_field m.objective) _ (objective_field_plain (suc (suc room)) m.objective r.objective)
+    (plain-followed_by (suc (suc (suc room))) (repeated_field (codes "search_strategy") printed_strategy m.strategies) _
+    (plain-repeated_field (suc (suc room)) (codes "search_strategy") printed_strategy m.strategies refl (each_of IsReadableStrategy (λ s. IsPlain (suc (suc room)) (printed_strategy s)) (strategy_plain (suc room)) m.strategies r.strategies))
+    (plain-followed_by (suc (suc (suc room))) (hint_field m.hint) empty (hint_field_plain (suc (suc room)) m.hint r.hint) tt)))))
 
 abbrev IsHintFree : List (List ℕ) → Type 0
 IsHintFree before = is_given before (codes "solution_hint") ≡ false
@@ -172,7 +207,7 @@ core_back w m t r s =
 abbrev model_pieces : Message → List Piece
 model_pieces p = pieces 0 p []
 
-message_back : (p : Message) (m : CpModel) → IsPlain 32 p → ((w : Written) (t : Tree) → Shows w p t → ReadsAs w t m) → IsReadAs (text_of 0 p) m
+message_back : (p : Message) (m : CpModel) → IsPlain 32 p → ((w : Written) (t : Tree) → w.closed ≡ closed_names → Shows w p t → ReadsAs w t m) → IsReadAs (text_of 0 p) m
 message_back p m plain reads =
     let ps = model_pieces p in
     let sound = pieces_sound 32 0 p [] plain tt in
@@ -185,13 +220,13 @@ message_back p m plain reads =
       tree = tree;
       cut = tokens_are ps sound;
       parsed = (fields_of p, (symbols_are ps sound ∙ symbols-pieces 32 0 p [] plain, fields_nest 32 p plain), refl);
-      read = reads w tree shown.0;
+      read = reads w tree refl shown.0;
     } in
     subst (λ bytes. IsReadAs bytes m) text back
 
 pub round_trip : (bytes : List ℕ) (m : CpModel) → IsReadAs bytes m → IsReadAs (model_text m) m
 round_trip bytes m r =
-    let readable = read_is_readable (written bytes r.tokens) r.tree m r.read in
+    let readable = read_is_readable (written bytes r.tokens) r.tree m refl r.read in
     let admitted = core_admitted m readable in
-    let back = message_back (core m) m (core_plain 30 m readable) (λ w t s. record { accepted = no_fault w model_message [] (core m) t s admitted; reading = core_back w m t readable s }) in
+    let back = message_back (core m) m (core_plain 29 m readable) (λ w t c s. record { accepted = no_fault w model_message [] (core m) t c s admitted; reading = core_back w m t readable s }) in
     subst (λ q. IsReadAs (text_of 0 q) m) (sym (printed_core m readable)) back

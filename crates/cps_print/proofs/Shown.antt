@@ -2,7 +2,7 @@
 use Rattle.std.specs.Prelude.{map, slice_get, if◌then◌else◌}
 use Rattle.std.specs.List.{list_all, AllZip}
 use Rattle.std.specs.Str.{bytes_eq, is_utf8}
-use Rattle.std.specs.Option.{option_map, option_map_or}
+use Rattle.std.specs.Option.{option_or, option_map, option_map_or}
 use Rattle.std.proofs.lemmas.Slice.Eq.{bytes_eq-Decides}
 use Rattle.std.specs.Fmt.{decimal}
 use Rattle.std.proofs.lemmas.Bool.Decides.{nat_tests}
@@ -24,7 +24,8 @@ use Rattle.cps_schema.specs.declared.member.Enum.{Enum}
 use Rattle.cps_schema.specs.declared.number.Number.{Number}
 use Rattle.cps_schema.specs.Tables as tables
 use Rattle.cps_schema.specs.Tables.{Content, Use, use_of, content_of, is_given}
-use Rattle.cps_schema.specs.Faults.{has_kind, has_other_form, fields_fault, values_fault}
+use Rattle.cps_schema.specs.declared.closed.TheConstants.{CLOSED}
+use Rattle.cps_schema.specs.Faults.{refused_at, has_kind, has_other_form, name_fault, list_fault, is_alone, fields_fault, values_fault}
 use Rattle.cps_schema.specs.Readings as readings
 use Rattle.cps_schema.specs.Readings.{ok_or_zero, value_numbers, value_messages, messages}
 use Rattle.cps_print.specs.Layout.{Message, empty, number, numbers, word, quoted, message}
@@ -249,43 +250,95 @@ messages-shown w name _ _ s = absurd s
 
 -- the tables admit what is printed
 
+-- the names of the program's table
+abbrev pub closed_names : List (List ℕ)
+closed_names = map (λ name. name.now) CLOSED
+
+-- a field of this name may stand behind fields of those names
+abbrev pub IsClear : tables.Message → List (List ℕ) → List ℕ → Type 0
+IsClear m before name = name_fault closed_names m before name (use_of m name) ≡ None
+
+-- a field of this use may have a list
+abbrev pub is_listed : Option Use → Bool
+is_listed None = false
+is_listed (Some (tables.single content)) = false
+is_listed (Some (tables.repeated content)) = true
+is_listed (Some (tables.formed form content)) = true
+is_listed (Some (tables.one_kind k)) = false
+is_listed (Some tables.unread) = false
+
 pub record TakesNumber (m : tables.Message) (before : List (List ℕ)) (name : List ℕ) (n : ℤ) : Type 0 where
   pub type : Number
-  pub takes : use_of m name ≡ Some (tables.single (tables.number type))
-  pub first : is_given before name ≡ false
+  pub content : content_of (use_of m name) ≡ Some (tables.number type)
+  pub clear : IsClear m before name
   pub fit : fits type n ≡ true
 
-pub record TakesNumbers (m : tables.Message) (name : List ℕ) (ns : List ℤ) : Type 0 where
+pub record TakesNumbers (m : tables.Message) (before : List (List ℕ)) (name : List ℕ) (ns : List ℤ) : Type 0 where
   pub type : Number
-  pub takes : use_of m name ≡ Some (tables.repeated (tables.number type))
+  pub content : content_of (use_of m name) ≡ Some (tables.number type)
+  pub clear : IsClear m before name
+  pub listed : is_listed (use_of m name) ≡ true
   pub fit : list_all (fits type) ns ≡ true
 
 -- a word names a member of the enum that the field takes
 pub record TakesWord (m : tables.Message) (before : List (List ℕ)) (name w : List ℕ) : Type 0 where
   pub enum : Enum
   pub member : ℕ
-  pub takes : use_of m name ≡ Some (tables.single (tables.member enum))
-  pub first : is_given before name ≡ false
+  pub content : content_of (use_of m name) ≡ Some (tables.member enum)
+  pub clear : IsClear m before name
   pub named : member_named enum false w ≡ Ok member
 
 pub record TakesText (m : tables.Message) (before : List (List ℕ)) (name : List ℕ) : Type 0 where
-  pub takes : use_of m name ≡ Some (tables.single tables.text)
-  pub first : is_given before name ≡ false
+  pub content : content_of (use_of m name) ≡ Some tables.text
+  pub clear : IsClear m before name
 
-pub data TakesMessage (m : tables.Message) (before : List (List ℕ)) (name : List ℕ) (Admits : tables.Message → Type 0) : Type 0 where
-  each : (k : tables.Message) → use_of m name ≡ Some (tables.repeated (tables.message k)) → Admits k → TakesMessage m before name Admits
-  formed : (k : tables.Message) (form : Form) → use_of m name ≡ Some (tables.formed form (tables.message k)) → has_other_form m form before ≡ false → Admits k → TakesMessage m before name Admits
-  alone : (k : tables.Message) → use_of m name ≡ Some (tables.single (tables.message k)) → is_given before name ≡ false → Admits k → TakesMessage m before name Admits
-  kind : (k : tables.Message) → use_of m name ≡ Some (tables.one_kind k) → is_given before name ≡ false → has_kind m before ≡ false → Admits k → TakesMessage m before name Admits
+pub record TakesMessage (m : tables.Message) (before : List (List ℕ)) (name : List ℕ) (Admits : tables.Message → Type 0) : Type 0 where
+  pub inner : tables.Message
+  pub content : content_of (use_of m name) ≡ Some (tables.message inner)
+  pub clear : IsClear m before name
+  pub admits : Admits inner
 
 abbrev pub IsAdmitted : tables.Message → List (List ℕ) → Message → Type 0
 IsAdmitted m before empty = Unit {0}
 IsAdmitted m before (number name n more) = TakesNumber m before name n × IsAdmitted m (name ∷ before) more
-IsAdmitted m before (numbers name n ns more) = TakesNumbers m name (n ∷ ns) × IsAdmitted m (name ∷ before) more
+IsAdmitted m before (numbers name n ns more) = TakesNumbers m before name (n ∷ ns) × IsAdmitted m (name ∷ before) more
 IsAdmitted m before (word name w more) = TakesWord m before name w × IsAdmitted m (name ∷ before) more
 IsAdmitted m before (quoted name bytes more) = TakesText m before name × IsAdmitted m (name ∷ before) more
 IsAdmitted m before (message name inner more) =
     TakesMessage m before name (λ k. IsAdmitted k [] inner) × IsAdmitted m (name ∷ before) more
+
+-- a message where a name takes one, of each use
+
+pub each : {m : tables.Message} {before : List (List ℕ)} {name : List ℕ} {Admits : tables.Message → Type 0} (k : tables.Message) → use_of m name ≡ Some (tables.repeated (tables.message k)) → Admits k → TakesMessage m before name Admits
+each k takes admits = record { inner = k; content = ap content_of takes; clear = rw takes refl; admits = admits }
+
+pub formed : {m : tables.Message} {before : List (List ℕ)} {name : List ℕ} {Admits : tables.Message → Type 0} (k : tables.Message) (form : Form) → use_of m name ≡ Some (tables.formed form (tables.message k)) → has_other_form m form before ≡ false → Admits k → TakesMessage m before name Admits
+formed k form takes apart admits = record { inner = k; content = ap content_of takes; clear = rw (takes, apart) refl; admits = admits }
+
+pub alone : {m : tables.Message} {before : List (List ℕ)} {name : List ℕ} {Admits : tables.Message → Type 0} (k : tables.Message) → use_of m name ≡ Some (tables.single (tables.message k)) → is_given before name ≡ false → Admits k → TakesMessage m before name Admits
+alone k takes once admits = record { inner = k; content = ap content_of takes; clear = rw (takes, once) refl; admits = admits }
+
+pub kind : {m : tables.Message} {before : List (List ℕ)} {name : List ℕ} {Admits : tables.Message → Type 0} (k : tables.Message) → use_of m name ≡ Some (tables.one_kind k) → is_given closed_names name ≡ false → is_given before name ≡ false → has_kind m before ≡ false → Admits k → TakesMessage m before name Admits
+kind k takes open_name once only admits =
+    record { inner = k; content = ap content_of takes; clear = rw (takes, open_name, once, only) refl; admits = admits }
+
+-- one value has no fault of a list, and a list none where it may stand
+
+one_clear : (w : Written) (u : Option Use) (k : ℕ) → list_fault w u k true ≡ None
+one_clear w None k = refl
+one_clear w (Some (tables.single content)) k = refl
+one_clear w (Some (tables.repeated content)) k = refl
+one_clear w (Some (tables.formed form content)) k = refl
+one_clear w (Some (tables.one_kind m)) k = refl
+one_clear w (Some tables.unread) k = refl
+
+list_clear : (w : Written) (u : Option Use) (k : ℕ) (alone : Bool) → is_listed u ≡ true → list_fault w u k alone ≡ None
+list_clear w None k alone e = refl
+list_clear w (Some (tables.single content)) k alone e = cc
+list_clear w (Some (tables.repeated content)) k alone e = refl
+list_clear w (Some (tables.formed form content)) k alone e = refl
+list_clear w (Some (tables.one_kind m)) k alone e = cc
+list_clear w (Some tables.unread) k alone e = refl
 
 sized : (w : Written) (first : ℕ) → token_kind w (unsigned_token w first) ≡ Some Decimal → is_some (size_at w first) ≡ true
 unfolding size_at
@@ -305,40 +358,42 @@ numbers_admitted w type (n ∷ ns) (scalar_value first end rest) s f =
     rw (number_admitted w type n first s.0 both.0, numbers_admitted w type ns rest s.1 both.1) refl
 numbers_admitted w type (n ∷ ns) (message_value first tree rest) s f = absurd s
 
-pub no_fault : (w : Written) (m : tables.Message) (before : List (List ℕ)) (p : Message) (t : Tree) → Shows w p t → IsAdmitted m before p → fields_fault w m before t ≡ None
-no_fault w m before empty no_fields s a = refl
-no_fault w m before (number name n more) (field token false (scalar_value first end no_values) rest) s a =
-    let here = number_admitted w a.0.type n first s.1.0 a.0.fit in
-    let others = no_fault w m (name ∷ before) more rest s.2 a.1 in
-    rw (s.0, a.0.takes, a.0.first, here, others) refl
-no_fault w m before (number name n more) (field token false no_values rest) s a = absurd s.1
-no_fault w m before (number name n more) (field token false (scalar_value first end (scalar_value f e others)) rest) s a = absurd s.1.1
-no_fault w m before (number name n more) (field token false (scalar_value first end (message_value f tree others)) rest) s a = absurd s.1.1
-no_fault w m before (number name n more) (field token false (message_value first tree others) rest) s a = absurd s.1
-no_fault w m before (numbers name n ns more) (field token true values rest) s a =
-    let here = numbers_admitted w a.0.type (n ∷ ns) values s.1 a.0.fit in
-    let others = no_fault w m (name ∷ before) more rest s.2 a.1 in
-    rw (s.0, a.0.takes, here, others) refl
-no_fault w m before (word name x more) (field token false (scalar_value first end no_values) rest) s a =
-    let here : member_at w a.0.enum first ≡ Ok a.0.member = s.1 a.0.enum ∙ a.0.named in
-    let others = no_fault w m (name ∷ before) more rest s.2 a.1 in
-    rw (s.0, a.0.takes, a.0.first, here, others) refl
-no_fault w m before (quoted name bytes more) (field token false (scalar_value first end no_values) rest) s a =
-    let others = no_fault w m (name ∷ before) more rest s.2 a.1 in
-    rw (s.0, a.0.takes, a.0.first, s.1, others) refl
-no_fault w m before (message name inner more) (field token false (message_value first tree no_values) rest) s a =
-    let others = no_fault w m (name ∷ before) more rest s.2 a.1 in
-    elim a.0 [
-      | each k takes admits ↦ (let here = no_fault w k [] inner tree s.1 admits in rw (s.0, takes, here, others) refl)
-      | formed k form takes apart admits ↦ (let here = no_fault w k [] inner tree s.1 admits in rw (s.0, takes, apart, here, others) refl)
-      | alone k takes once admits ↦ (let here = no_fault w k [] inner tree s.1 admits in rw (s.0, takes, once, here, others) refl)
-      | kind k takes once only admits ↦ (let here = no_fault w k [] inner tree s.1 admits in rw (s.0, takes, once, only, here, others) refl)
-    ]
-no_fault w m before _ _ s a = absurd s
+-- a field without a fault of its own leaves those of the fields behind it
+field_passed : (w : Written) (m : tables.Message) (before : List (List ℕ)) (name : List ℕ) (token : ℕ) (list : Bool) (values : Values) (rest : Tree) → w.closed ≡ closed_names → token_text w token ≡ name → IsClear m before name → list_fault w (use_of m name) token (is_alone list values) ≡ None → values_fault w (content_of (use_of m name)) values ≡ None → fields_fault w m (name ∷ before) rest ≡ None → fields_fault w m before (field token list values rest) ≡ None
+field_passed w m before name token list values rest closed text clear lists inner others =
+    let own : name_fault w.closed m before name (use_of m name) ≡ None = ap (λ c. name_fault c m before name (use_of m name)) closed ∙ clear in
+    let here : option_or (refused_at token (name_fault w.closed m before name (use_of m name))) (list_fault w (use_of m name) token (is_alone list values)) ≡ None = rw own lists in
+    let whole : option_or (option_or (refused_at token (name_fault w.closed m before name (use_of m name))) (list_fault w (use_of m name) token (is_alone list values))) (option_or (values_fault w (content_of (use_of m name)) values) (fields_fault w m (name ∷ before) rest)) ≡ None = rw (here, inner, others) refl in
+    rw text whole
+
+pub no_fault : (w : Written) (m : tables.Message) (before : List (List ℕ)) (p : Message) (t : Tree) → w.closed ≡ closed_names → Shows w p t → IsAdmitted m before p → fields_fault w m before t ≡ None
+no_fault w m before empty no_fields c s a = refl
+no_fault w m before (number name n more) (field token false (scalar_value first end no_values) rest) c s a =
+    let here : values_fault w (content_of (use_of m name)) (scalar_value first end no_values) ≡ None = rw (a.0.content, number_admitted w a.0.type n first s.1.0 a.0.fit) refl in
+    field_passed w m before name token false (scalar_value first end no_values) rest c s.0 a.0.clear (one_clear w _ token) here (no_fault w m (name ∷ before) more rest c s.2 a.1)
+no_fault w m before (number name n more) (field token false no_values rest) c s a = absurd s.1
+no_fault w m before (number name n more) (field token false (scalar_value first end (scalar_value f e others)) rest) c s a = absurd s.1.1
+no_fault w m before (number name n more) (field token false (scalar_value first end (message_value f tree others)) rest) c s a = absurd s.1.1
+no_fault w m before (number name n more) (field token false (message_value first tree others) rest) c s a = absurd s.1
+no_fault w m before (numbers name n ns more) (field token true values rest) c s a =
+    let here : values_fault w (content_of (use_of m name)) values ≡ None = rw a.0.content (numbers_admitted w a.0.type (n ∷ ns) values s.1 a.0.fit) in
+    field_passed w m before name token true values rest c s.0 a.0.clear (list_clear w _ token (is_alone true values) a.0.listed) here (no_fault w m (name ∷ before) more rest c s.2 a.1)
+no_fault w m before (word name x more) (field token false (scalar_value first end no_values) rest) c s a =
+    let member : member_at w a.0.enum first ≡ Ok a.0.member = s.1 a.0.enum ∙ a.0.named in
+    let here : values_fault w (content_of (use_of m name)) (scalar_value first end no_values) ≡ None = rw (a.0.content, member) refl in
+    field_passed w m before name token false (scalar_value first end no_values) rest c s.0 a.0.clear (one_clear w _ token) here (no_fault w m (name ∷ before) more rest c s.2 a.1)
+no_fault w m before (quoted name bytes more) (field token false (scalar_value first end no_values) rest) c s a =
+    let here : values_fault w (content_of (use_of m name)) (scalar_value first end no_values) ≡ None = rw (a.0.content, s.1) refl in
+    field_passed w m before name token false (scalar_value first end no_values) rest c s.0 a.0.clear (one_clear w _ token) here (no_fault w m (name ∷ before) more rest c s.2 a.1)
+no_fault w m before (message name inner more) (field token false (message_value first tree no_values) rest) c s a =
+    let fields = no_fault w a.0.inner [] inner tree c s.1 a.0.admits in
+    let here : values_fault w (content_of (use_of m name)) (message_value first tree no_values) ≡ None = rw (a.0.content, fields) refl in
+    field_passed w m before name token false (message_value first tree no_values) rest c s.0 a.0.clear (one_clear w _ token) here (no_fault w m (name ∷ before) more rest c s.2 a.1)
+no_fault w m before _ _ c s a = absurd s
 
 -- Where the tables admit a message, what is read under a name is what was printed there: no other field has the name.
 
-content_clash : (m : tables.Message) (a b : List ℕ) (c d : Content) → content_of (use_of m a) ≡ Some c → content_of (use_of m b) ≡ Some d → c ≢ d → bytes_eq a b ≡ false
+pub content_clash : (m : tables.Message) (a b : List ℕ) (c d : Content) → content_of (use_of m a) ≡ Some c → content_of (use_of m b) ≡ Some d → c ≢ d → bytes_eq a b ≡ false
 content_clash m a b c d ca cb other = by (bytes_eq a b) refl where
   by : (same : Bool) → bytes_eq a b ≡ same → same ≡ false
   by false e = refl
@@ -356,9 +411,6 @@ number_no_member type enum = λ e. cc
 member_no_text : (enum : Enum) → tables.member enum ≢ tables.text
 member_no_text enum = λ e. cc
 
-apart_from : (m : tables.Message) (a b : List ℕ) (u : Use) (c d : Content) → use_of m a ≡ Some u → content_of (Some u) ≡ Some c → content_of (use_of m b) ≡ Some d → c ≢ d → bytes_eq a b ≡ false
-apart_from m a b u c d takes is cb other = content_clash m a b c d (ap content_of takes ∙ is) cb other
-
 pub numbers-shown : (w : Written) (m : tables.Message) (before : List (List ℕ)) (name : List ℕ) (type : Number) (p : Message) (t : Tree) → content_of (use_of m name) ≡ Some (tables.number type) → IsAdmitted m before p → Shows w p t → readings.numbers w name t ≡ printed_numbers name p
 numbers-shown w m before name type empty no_fields takes a s = refl
 numbers-shown w m before name type (number other n more) (field token false values rest) takes a s =
@@ -366,10 +418,10 @@ numbers-shown w m before name type (number other n more) (field token false valu
 numbers-shown w m before name type (numbers other n ns more) (field token true values rest) takes a s =
     rw (s.0, value_numbers-shown w (n ∷ ns) values s.1, numbers-shown w m (other ∷ before) name type more rest takes a.1 s.2) refl
 numbers-shown w m before name type (word other x more) (field token false (scalar_value first end no_values) rest) takes a s =
-    let apart = apart_from m other name _ _ _ a.0.takes refl takes (λ e. number_no_member type a.0.enum (sym e)) in
+    let apart = content_clash m other name _ _ a.0.content takes (λ e. number_no_member type a.0.enum (sym e)) in
     rw (s.0, apart) (numbers-shown w m (other ∷ before) name type more rest takes a.1 s.2)
 numbers-shown w m before name type (quoted other bytes more) (field token false (scalar_value first end no_values) rest) takes a s =
-    let apart = apart_from m other name _ _ _ a.0.takes refl takes (λ e. number_no_text type (sym e)) in
+    let apart = content_clash m other name _ _ a.0.content takes (λ e. number_no_text type (sym e)) in
     rw (s.0, apart) (numbers-shown w m (other ∷ before) name type more rest takes a.1 s.2)
 numbers-shown w m before name type (message other inner more) (field token false (message_value first tree no_values) rest) takes a s =
     rw (same_choice {X = List ℤ} (bytes_eq (token_text w token) name) []) (numbers-shown w m (other ∷ before) name type more rest takes a.1 s.2)
@@ -378,13 +430,13 @@ numbers-shown w m before name type _ _ takes a s = absurd s
 pub texts-shown : (w : Written) (m : tables.Message) (before : List (List ℕ)) (name : List ℕ) (p : Message) (t : Tree) → content_of (use_of m name) ≡ Some tables.text → IsAdmitted m before p → Shows w p t → readings.texts w name t ≡ printed_texts name p
 texts-shown w m before name empty no_fields takes a s = refl
 texts-shown w m before name (number other n more) (field token false values rest) takes a s =
-    let apart = apart_from m other name _ _ _ a.0.takes refl takes (number_no_text a.0.type) in
+    let apart = content_clash m other name _ _ a.0.content takes (number_no_text a.0.type) in
     rw (s.0, apart) (texts-shown w m (other ∷ before) name more rest takes a.1 s.2)
 texts-shown w m before name (numbers other n ns more) (field token true values rest) takes a s =
-    let apart = apart_from m other name _ _ _ a.0.takes refl takes (number_no_text a.0.type) in
+    let apart = content_clash m other name _ _ a.0.content takes (number_no_text a.0.type) in
     rw (s.0, apart) (texts-shown w m (other ∷ before) name more rest takes a.1 s.2)
 texts-shown w m before name (word other x more) (field token false (scalar_value first end no_values) rest) takes a s =
-    let apart = apart_from m other name _ _ _ a.0.takes refl takes (member_no_text a.0.enum) in
+    let apart = content_clash m other name _ _ a.0.content takes (member_no_text a.0.enum) in
     rw (s.0, apart) (texts-shown w m (other ∷ before) name more rest takes a.1 s.2)
 texts-shown w m before name (quoted other bytes more) (field token false (scalar_value first end no_values) rest) takes a s =
     rw (s.0, s.1, texts-shown w m (other ∷ before) name more rest takes a.1 s.2) refl
@@ -395,15 +447,15 @@ texts-shown w m before name _ _ takes a s = absurd s
 pub members-shown : (w : Written) (m : tables.Message) (before : List (List ℕ)) (enum : Enum) (name : List ℕ) (p : Message) (t : Tree) → content_of (use_of m name) ≡ Some (tables.member enum) → IsAdmitted m before p → Shows w p t → readings.members w enum name t ≡ printed_members enum name p
 members-shown w m before enum name empty no_fields takes a s = refl
 members-shown w m before enum name (number other n more) (field token false values rest) takes a s =
-    let apart = apart_from m other name _ _ _ a.0.takes refl takes (number_no_member a.0.type enum) in
+    let apart = content_clash m other name _ _ a.0.content takes (number_no_member a.0.type enum) in
     rw (s.0, apart) (members-shown w m (other ∷ before) enum name more rest takes a.1 s.2)
 members-shown w m before enum name (numbers other n ns more) (field token true values rest) takes a s =
-    let apart = apart_from m other name _ _ _ a.0.takes refl takes (number_no_member a.0.type enum) in
+    let apart = content_clash m other name _ _ a.0.content takes (number_no_member a.0.type enum) in
     rw (s.0, apart) (members-shown w m (other ∷ before) enum name more rest takes a.1 s.2)
 members-shown w m before enum name (word other x more) (field token false (scalar_value first end no_values) rest) takes a s =
     rw (s.0, s.1 enum, members-shown w m (other ∷ before) enum name more rest takes a.1 s.2) refl
 members-shown w m before enum name (quoted other bytes more) (field token false (scalar_value first end no_values) rest) takes a s =
-    let apart = apart_from m other name _ _ _ a.0.takes refl takes (λ e. member_no_text enum (sym e)) in
+    let apart = content_clash m other name _ _ a.0.content takes (λ e. member_no_text enum (sym e)) in
     rw (s.0, apart) (members-shown w m (other ∷ before) enum name more rest takes a.1 s.2)
 members-shown w m before enum name (message other inner more) (field token false (message_value first tree no_values) rest) takes a s =
     rw (same_choice {X = List ℕ} (bytes_eq (token_text w token) name) []) (members-shown w m (other ∷ before) enum name more rest takes a.1 s.2)

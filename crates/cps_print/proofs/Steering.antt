@@ -3,7 +3,6 @@ use Rattle.std.specs.Prelude.{map, codes}
 use Rattle.std.proofs.Common.{◌≡◌, ℕ, suc, false, List, [], ◌∷◌, refl, ◌∙◌, append-nil}
 use Rattle.cps_lex.specs.Bytes.{is_word_start, is_word}
 use Rattle.cps_textproto.specs.Trees.{Tree}
-use Rattle.cps_model.specs.declared.model.LinearExpr.{LinearExpr}
 use Rattle.cps_model.specs.declared.steering.Strategy.{Strategy}
 use Rattle.cps_model.specs.declared.steering.Hint.{Hint}
 use Rattle.cps_model.specs.declared.steering.Choose.{Choose}
@@ -20,48 +19,15 @@ use Rattle.cps_schema.specs.Faults.{has_other_form}
 use Rattle.cps_schema.specs.Readings as readings
 use Rattle.cps_schema.specs.Readings.{first_or, read_expression, read_strategy, read_hint}
 use Rattle.cps_print.specs.Layout.{empty}
-use Rattle.cps_print.specs.Fields.{followed_by, number_field, list_field, word_field, repeated_field}
-use Rattle.cps_print.specs.Models.{printed_expression, choose_name, select_name, printed_strategy, printed_hint}
+use Rattle.cps_print.specs.Fields.{followed_by, list_field, word_field, repeated_field}
+use Rattle.cps_print.specs.Expressions.{printed_expression}
+use Rattle.cps_print.specs.Models.{choose_name, select_name, printed_strategy, printed_hint}
 use Rattle.cps_print.proofs.Cuts.{IsPlain}
 use Rattle.cps_print.proofs.Shown.{Shows, IsAdmitted, formed, printed_messages, numbers-shown, members-shown}
 use Rattle.cps_print.proofs.Readable.{IsReadableExpression, IsReadableStrategy, IsReadableHint}
-use Rattle.cps_print.proofs.Fitting.{fit_short, are_short, plain-followed_by, plain-list_field, plain-number_field, IsWord, plain-word_field, plain-repeated_field, admitted-list, admitted-number, IsMember, admitted-word, admitted-repeated, given-other, number_list, member_list, printed}
+use Rattle.cps_print.proofs.Fitting.{are_short, plain-followed_by, plain-list_field, IsWord, plain-word_field, plain-repeated_field, admitted-list, IsMember, admitted-word, admitted-repeated, given-other, member_list, printed}
 use Rattle.cps_print.proofs.Back.{each_of, messages_back}
-use Rattle.cps_print.proofs.Objectives.{first_number}
-
--- expressions
-
-expression_plain : (room : ℕ) (e : LinearExpr) → IsReadableExpression e → IsPlain room (printed_expression e)
-unfolding is_word_start is_word
-expression_plain room e r =
-    plain-followed_by room (list_field (codes "vars") e.vars) _ (plain-list_field room (codes "vars") e.vars refl (are_short Int32 e.vars r.vars))
-    (plain-followed_by room (list_field (codes "coeffs") e.coeffs) _ (plain-list_field room (codes "coeffs") e.coeffs refl (are_short Int64 e.coeffs r.coeffs))
-    (plain-followed_by room (number_field (codes "offset") e.offset) empty (plain-number_field room (codes "offset") e.offset refl (fit_short Int64 e.offset r.offset)) tt))
-
-expression_offset : (e : LinearExpr) → IsReadableExpression e → (before : List (List ℕ)) → is_given before (codes "offset") ≡ false → IsAdmitted expression_message before (followed_by (number_field (codes "offset") e.offset) empty)
-unfolding use_of
-expression_offset e r before f = admitted-number expression_message before (codes "offset") e.offset Int64 empty refl f r.offset tt tt
-
-expression_coeffs : (e : LinearExpr) → IsReadableExpression e → (before : List (List ℕ)) → is_given before (codes "offset") ≡ false → IsAdmitted expression_message before (followed_by (list_field (codes "coeffs") e.coeffs) (followed_by (number_field (codes "offset") e.offset) empty))
-unfolding use_of
-expression_coeffs e r before f =
-    admitted-list expression_message before (codes "coeffs") e.coeffs Int64 _ refl r.coeffs
-    (expression_offset e r before f)
-    (expression_offset e r (codes "coeffs" ∷ before) (given-other before (codes "coeffs") (codes "offset") refl f))
-
-expression_admitted : (e : LinearExpr) → IsReadableExpression e → IsAdmitted expression_message [] (printed_expression e)
-unfolding use_of is_given
-expression_admitted e r =
-    admitted-list expression_message [] (codes "vars") e.vars Int32 _ refl r.vars (expression_coeffs e r [] refl) (expression_coeffs e r (codes "vars" ∷ []) refl)
-
-expression_back : (w : Written) (e : LinearExpr) (t : Tree) → IsReadableExpression e → Shows w (printed_expression e) t → read_expression w t ≡ e
-unfolding use_of
-expression_back w e t r s =
-    let a = expression_admitted e r in
-    let vars : readings.numbers w (codes "vars") t ≡ e.vars = numbers-shown w expression_message [] (codes "vars") Int32 (printed_expression e) t refl a s ∙ simp printed in
-    let coeffs : readings.numbers w (codes "coeffs") t ≡ e.coeffs = numbers-shown w expression_message [] (codes "coeffs") Int64 (printed_expression e) t refl a s ∙ simp printed in
-    let offset : readings.numbers w (codes "offset") t ≡ number_list e.offset = numbers-shown w expression_message [] (codes "offset") Int64 (printed_expression e) t refl a s ∙ simp printed in
-    rw (vars, coeffs, offset, first_number e.offset) refl
+use Rattle.cps_print.proofs.Expressions.{expression_plain, expression_admitted, expression_back}
 
 -- strategies
 

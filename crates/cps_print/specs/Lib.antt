@@ -1,6 +1,8 @@
 pub mod Quoting
 pub mod Layout
 pub mod Fields
+pub mod Expressions
+pub mod Kinds
 pub mod Models
 pub mod ReadBack
 pub mod Responses

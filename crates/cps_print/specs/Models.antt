@@ -3,10 +3,7 @@ use Rattle.std.specs.Prelude.{ℕ, zero, suc, ℤ, pos, negsuc, List, [], ◌∷
 use Rattle.cps_model.specs.declared.model.CpModel.{CpModel}
 use Rattle.cps_model.specs.declared.model.Variable.{Variable}
 use Rattle.cps_model.specs.declared.model.Objective.{Objective}
-use Rattle.cps_model.specs.declared.model.LinearExpr.{LinearExpr}
 use Rattle.cps_model.specs.declared.constraint.Constraint.{Constraint}
-use Rattle.cps_model.specs.declared.constraint.Kind.{Kind}
-use Rattle.cps_model.specs.declared.constraint.Kind.TheVariants.{Empty, BoolOr, BoolAnd, AtMostOne, ExactlyOne, BoolXor, Linear}
 use Rattle.cps_model.specs.declared.steering.Strategy.{Strategy}
 use Rattle.cps_model.specs.declared.steering.Hint.{Hint}
 use Rattle.cps_model.specs.declared.steering.Choose.{Choose}
@@ -15,26 +12,11 @@ use Rattle.cps_model.specs.declared.steering.Select.{Select}
 use Rattle.cps_model.specs.declared.steering.Select.TheVariants.{MinValue, MaxValue, LowerHalf, UpperHalf, MedianValue}
 use Rattle.cps_print.specs.Layout.{Message, empty, number, text_of}
 use Rattle.cps_print.specs.Fields.{fields_of, number_field, list_field, word_field, text_field, message_field, repeated_field}
+use Rattle.cps_print.specs.Expressions.{printed_expression}
+use Rattle.cps_print.specs.Kinds.{kind_field}
 
 abbrev pub printed_variable : Variable → Message
 printed_variable v = fields_of (text_field (codes "name") v.name ∷ list_field (codes "domain") v.domain ∷ [])
-
-abbrev pub printed_literals : List ℤ → Message
-printed_literals literals = list_field (codes "literals") literals
-
-abbrev pub printed_linear : List ℤ → List ℤ → List ℤ → Message
-printed_linear vars coeffs domain =
-    fields_of (list_field (codes "vars") vars ∷ list_field (codes "coeffs") coeffs ∷ list_field (codes "domain") domain ∷ [])
-
--- a kind is a field of its constraint
-abbrev pub kind_field : Kind → Message
-kind_field Empty = empty
-kind_field (BoolOr literals) = message_field (codes "bool_or") (printed_literals literals)
-kind_field (BoolAnd literals) = message_field (codes "bool_and") (printed_literals literals)
-kind_field (AtMostOne literals) = message_field (codes "at_most_one") (printed_literals literals)
-kind_field (ExactlyOne literals) = message_field (codes "exactly_one") (printed_literals literals)
-kind_field (BoolXor literals) = message_field (codes "bool_xor") (printed_literals literals)
-kind_field (Linear vars coeffs domain) = message_field (codes "linear") (printed_linear vars coeffs domain)
 
 abbrev pub printed_constraint : Constraint → Message
 printed_constraint c =
@@ -60,10 +42,6 @@ printed_objective o =
 abbrev pub objective_field : Option Objective → Message
 objective_field None = empty
 objective_field (Some o) = message_field (codes "objective") (printed_objective o)
-
-abbrev pub printed_expression : LinearExpr → Message
-printed_expression e =
-    fields_of (list_field (codes "vars") e.vars ∷ list_field (codes "coeffs") e.coeffs ∷ number_field (codes "offset") e.offset ∷ [])
 
 -- the member of an enum that has number 0 is left out
 abbrev pub choose_name : Choose → List ℕ

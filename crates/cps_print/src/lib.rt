@@ -2,15 +2,19 @@
 //! input is no valid model.
 //!
 //! The contract of each function says its text exactly. A message is laid out by one definition for all kinds (`text_of`
-//! in `specs/Layout.antt`), and each kind adds only which fields it has (`specs/Models.antt`). Every function appends to
-//! one text, so that a model is printed without a copy of any of its parts.
+//! in `specs/Layout.antt`), and each part of a model adds only which fields it has (`specs/Models.antt`, and for what
+//! constraints demand `specs/Kinds.antt`). Every function appends to one text, so that a model is printed without a copy
+//! of any of its parts.
 //!
 //! A model that was read is read back from its text, names, strategies and hint included: what is printed is cut into
 //! pieces that are the tokens (`proofs/Pieces.antt`, `proofs/Cuts.antt`), and the tree of these tokens shows the fields
-//! that were printed (`proofs/Shown.antt`).
+//! that were printed (`proofs/Shown.antt`). The message of a kind is a list of parts that may be left out
+//! (`proofs/Parts.antt`), and each kind adds only which parts it has (`proofs/KindMessages.antt`).
 #![tactic(auto)]
 
+mod expression;
 mod fault;
+mod kind;
 mod layout;
 mod model;
 mod objective;

@@ -3,16 +3,16 @@ ghost use Rattle.std.specs.Prelude.{◌≡◌, ℕ, List, ◌++◌, IfOk, OnOk, 
 ghost use Rattle.std.specs.List.{flat_map};
 ghost use Rattle.cps_print.specs.Layout.{text_of};
 ghost use Rattle.cps_print.specs.Fields.{list_field, message_field, repeated_field};
-ghost use Rattle.cps_print.specs.Models.{printed_variable, printed_literals, printed_linear, kind_field, printed_constraint, scaling_field, printed_objective, objective_field, printed_expression, choose_name, select_name, printed_strategy, printed_hint, hint_field, model_text};
+ghost use Rattle.cps_print.specs.Models.{printed_variable, printed_constraint, scaling_field, printed_objective, objective_field, choose_name, select_name, printed_strategy, printed_hint, hint_field, model_text};
 ghost use Rattle.cps_print.specs.ReadBack.{IsReadAs};
 
+use crate::expression::put_expressions;
+use crate::kind::put_kind;
 use crate::layout::{
     close_message, open_message, put_list_field, put_number_field, put_word_field,
 };
 use crate::quoting::put_text_field;
-use cps_model::{
-    Choose, Constraint, CpModel, Hint, Kind, LinearExpr, Objective, Select, Strategy, Variable,
-};
+use cps_model::{Choose, Constraint, CpModel, Hint, Objective, Select, Strategy, Variable};
 use std::alloc::{AllocError, Global};
 
 #[tactic(auto, using(crate::proofs::Lines::layout))]
@@ -34,52 +34,6 @@ fn put_variables(text: &mut String, variables: &[Variable]) -> Result<(), AllocE
         put_variable(text, variable)?;
     }
     Ok(())
-}
-
-#[tactic(auto, using(crate::proofs::Lines::layout))]
-fn put_literals(text: &mut String, name: &str, literals: &[i32]) -> Result<(), AllocError>
-    ensures { OnOk result (string_bytes text.new ≡ string_bytes text.old
-        ++ text_of 1 (message_field name.now (printed_literals literals.now))) }
-{
-    open_message(text, 1, name)?;
-    put_list_field(text, 2, "literals", literals)?;
-    close_message(text, 1)
-}
-
-#[tactic(auto, using(crate::proofs::Lines::layout))]
-fn put_linear(
-    text: &mut String,
-    vars: &[i32],
-    coeffs: &[i64],
-    domain: &[i64],
-) -> Result<(), AllocError>
-    ensures { OnOk result (string_bytes text.new ≡ string_bytes text.old
-        ++ text_of 1 (message_field (codes "linear") (printed_linear vars.now coeffs.now domain.now))) }
-{
-    open_message(text, 1, "linear")?;
-    put_list_field(text, 2, "vars", vars)?;
-    put_list_field(text, 2, "coeffs", coeffs)?;
-    put_list_field(text, 2, "domain", domain)?;
-    close_message(text, 1)
-}
-
-#[tactic(auto, using(crate::proofs::Lines::layout))]
-fn put_kind(text: &mut String, kind: &Kind) -> Result<(), AllocError>
-    ensures { OnOk result (string_bytes text.new ≡ string_bytes text.old ++ text_of 1 (kind_field kind.now)) }
-{
-    match kind {
-        Kind::Empty => Ok(()),
-        Kind::BoolOr(literals) => put_literals(text, "bool_or", literals.as_slice()),
-        Kind::BoolAnd(literals) => put_literals(text, "bool_and", literals.as_slice()),
-        Kind::AtMostOne(literals) => put_literals(text, "at_most_one", literals.as_slice()),
-        Kind::ExactlyOne(literals) => put_literals(text, "exactly_one", literals.as_slice()),
-        Kind::BoolXor(literals) => put_literals(text, "bool_xor", literals.as_slice()),
-        Kind::Linear {
-            vars,
-            coeffs,
-            domain,
-        } => { put_linear(text, vars.as_slice(), coeffs.as_slice(), domain.as_slice()) }
-    }
 }
 
 #[tactic(auto, using(crate::proofs::Lines::layout))]
@@ -134,28 +88,6 @@ fn put_objective(text: &mut String, objective: &Objective) -> Result<(), AllocEr
     close_message(text, 0)
 }
 
-#[tactic(auto, using(crate::proofs::Lines::layout))]
-fn put_expression(text: &mut String, expression: &LinearExpr) -> Result<(), AllocError>
-    ensures { OnOk result (string_bytes text.new ≡ string_bytes text.old
-        ++ text_of 1 (message_field (codes "exprs") (printed_expression expression.now))) }
-{
-    open_message(text, 1, "exprs")?;
-    put_list_field(text, 2, "vars", expression.vars.as_slice())?;
-    put_list_field(text, 2, "coeffs", expression.coeffs.as_slice())?;
-    put_number_field(text, 2, "offset", expression.offset)?;
-    close_message(text, 1)
-}
-
-fn put_expressions(text: &mut String, expressions: &[LinearExpr]) -> Result<(), AllocError>
-    ensures { OnOk result (string_bytes text.new ≡ string_bytes text.old
-        ++ flat_map (λ e. text_of 1 (message_field (codes "exprs") (printed_expression e))) expressions.now) }
-{
-    for expression in expressions {
-        put_expression(text, expression)?;
-    }
-    Ok(())
-}
-
 /// The word for a choice of variables, none for the one that is meant without a word.
 fn choose_name(choose: Choose) -> &'static str
     ensures { result.now ≡ choose_name choose }
@@ -188,7 +120,7 @@ fn put_strategy(text: &mut String, strategy: &Strategy) -> Result<(), AllocError
         ++ text_of 0 (message_field (codes "search_strategy") (printed_strategy strategy.now))) }
 {
     open_message(text, 0, "search_strategy")?;
-    put_expressions(text, strategy.exprs.as_slice())?;
+    put_expressions(text, 1, "exprs", strategy.exprs.as_slice())?;
     put_word_field(
         text,
         1,

@@ -1,6 +1,6 @@
 -- The lines of its fields.
 use Rattle.cps_print.proofs.Lines.{on_ok, none_left, word_then, repeated_then, message_then}
-use Rattle.cps_print.specs.Models.{printed_expression}
+use Rattle.cps_print.specs.Expressions.{printed_expression}
 use Rattle.cps_print.proofs.model.put_strategy.Goals as goal
 
 pub returns : goal.returns

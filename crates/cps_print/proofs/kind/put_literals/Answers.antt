@@ -1,0 +1,10 @@
+-- The lines of its fields.
+use Rattle.std.proofs.Common.{refl}
+use Rattle.cps_print.proofs.Lines.{on_ok, none_left, list_then, message_then}
+use Rattle.cps_print.proofs.kind.put_literals.Goals as goal
+
+pub returns : goal.returns
+returns c =
+    let fields =
+    list_then 2 _ _ _ _ _ _ _ refl (c.in_ok-put_list_field.ensures {u = tt}) (none_left 2 _) in
+    on_ok c.close_message.result (message_then 1 _ _ _ _ _ _ (c.in_ok-open_message.ensures {u = tt}) fields) c.close_message.ensures
