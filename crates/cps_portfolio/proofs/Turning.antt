@@ -61,8 +61,8 @@ module _ (rows : ℕ) where
   pub still_runs : (g : Guidance) (s t : Search) (p q : Part) (over : Bool) → HasTurned g rows s t p q over → over ≡ false → IsOver t.said → ⊥
   still_runs g s t p q over h on = subst (λ (o : Option End). EndsAs o t) (none_of (end_of h.turn) (sym h.last ∙ on)) h.takes.search.ends
 
-  pub lowers : (g : Guidance) (s t : Search) (p q : Part) (over : Bool) → HasTurned g rows s t p q over → over ≡ false → Lowers s t rows p.board q.board
-  lowers g s t p q over h on = h.takes.search.lowers (none_of (end_of h.turn) (sym h.last ∙ on))
+  pub lowers_by : (g : Guidance) (s t : Search) (p q : Part) (over : Bool) → HasTurned g rows s t p q over → over ≡ false → Lowers s t rows p.board q.board
+  lowers_by g s t p q over h on = h.takes.search.lowers (none_of (end_of h.turn) (sym h.last ∙ on))
 
   -- and one that ended it
   pub turned_last : (g : Guidance) (first s t : Search) (start p q : Part) (over : Bool) → TakesTurnsBy g rows first s start p → HasTurned g rows s t p q over → over ≡ true → HasEnded g rows first t start q
@@ -180,7 +180,7 @@ lighter rows c d k w v still turn = go v.over refl
     go : (b : Bool) → v.over ≡ b → weigh rows d k v < weigh rows c k w
     go true is = let q : weigh rows d k v ≡ 0 = ap (λ (b : Bool). if b then zero else 1 + right) is in omega (arith, was, q)
     go false is =
-        let less = lowered s t rows (part_at c k).board (part_at d k).board turn.before turn.after turn.takes.search.setting (lowers rows (guidance_of w.worker) s t (part_at c k) (part_at d k) v.over turn is) in
+        let less = lowered s t rows (part_at c k).board (part_at d k).board turn.before turn.after turn.takes.search.setting (lowers_by rows (guidance_of w.worker) s t (part_at c k) (part_at d k) v.over turn is) in
         let same : right ≡ left_of (open_values s.problem.domains [] + 1) t rows (part_at d k).board = ap (λ (p : Problem). left_of (open_values p.domains [] + 1) t rows (part_at d k).board) turn.takes.search.setting.problem in
         let q : weigh rows d k v ≡ 1 + right = ap (λ (b : Bool). if b then zero else 1 + right) is in
         omega (arith, was, less, same, q)

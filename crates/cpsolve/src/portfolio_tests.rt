@@ -12,6 +12,7 @@ use std::thread::Threads;
 const MOST_LOOKS: u32 = 100_000_000;
 
 /// A gate that holds worker 0 until worker 1 has arrived, for so many looks at most.
+#[derive(Drop)]
 struct MeetingGate {
     arrived: AtomicBool,
     met_limit: AtomicBool,
