@@ -73,6 +73,8 @@ struct Nobody;
 impl Explain for Nobody {
     ghost fits = { λ _. λ _. λ _. Unit {0} };
 
+    ghost makes = { λ _. λ _. λ _. λ _. ⊥ };
+
     ghost holds = { λ _. λ _. ⊥ };
 
     fn explain_into(
@@ -83,6 +85,8 @@ impl Explain for Nobody {
     ) -> Result<(), AllocError> {
         Err(AllocError)
     }
+
+    ghost made = { λ e. λ s. λ k. λ clause. λ none. absurd none };
 
     ghost forced = { λ e. λ s. λ k. λ has. λ fits. record { at = λ d. record { at = λ a left holds. absurd holds } } };
 }
