@@ -57,7 +57,7 @@ module _ {B : Type 0} (guidance : B → Guidance) (chooses : B → Trail → Opt
   abbrev Stays : Guidance → Guidance → Type 0
   Stays before after = after ≡ before
 
-  turn_by : (s t : Search × B) (p q : Part) (turn : Turn) → OneTurn chooses hears stays rows s t p q turn → OneTurn ChoosesBy Heard Stays rows (seen s) (seen t) p q turn
+  pub turn_by : (s t : Search × B) (p q : Part) (turn : Turn) → OneTurn chooses hears stays rows s t p q turn → OneTurn ChoosesBy Heard Stays rows (seen s) (seen t) p q turn
   turn_by s t p q turn h = record {
     search = takes_by (chooses s.1) (ChoosesBy (guidance s.1)) (goes_by s.1) s.0 t.0 rows p q turn h.search;
     brancher = brancher_by turn _ _ _ _ _ _
