@@ -12,11 +12,12 @@ use Rattle.cps_literal.specs.declared.atom.Atom.{Atom}
 use Rattle.cps_instance.specs.declared.term.Term.{Term}
 use Rattle.cps_instance.specs.declared.task.Task.{Task}
 use Rattle.cps_instance.specs.declared.task.Body.{Body}
-use Rattle.cps_instance.specs.declared.task.Body.TheVariants.{Empty, BoolOr, BoolAnd, AtMostOne, ExactlyOne, BoolXor, Linear, Sum, ObjectiveList, Cut}
+use Rattle.cps_instance.specs.declared.task.Body.TheVariants.{Empty, BoolOr, BoolAnd, AtMostOne, ExactlyOne, BoolXor, Linear, IntDiv, IntMod, IntProd, LinMax, Element, Table, AllDiff, Circuit, Interval, NoOverlap, Cumulative, Inverse, Automaton, Reservoir, NoOverlap2d, Sum, ObjectiveList, Cut}
 use Rattle.cps_instance.specs.Terms.{terms_value, term_subjects, terms_reach, least_of_terms, greatest_of_terms, magnitude, domain_at, Intervals, Domains, AreIntervals, least_of, greatest_of}
 use Rattle.cps_instance.specs.Sums.{DefinedSum, sum_value, extended, least_sum_of, greatest_sum_of, IsSumOf, AreSumsFrom}
-use Rattle.cps_instance.specs.Tasks.{HoldsTask, subjects_of, subjects_of_body, atom_subjects}
-use Rattle.cps_instance.specs.Fitting.{IsLiteral, IsFitting, IsFittingBody}
+use Rattle.cps_instance.specs.declared.task.Span.{Span}
+use Rattle.cps_instance.specs.Tasks.{HoldsTask, subjects_of, subjects_of_body, atom_subjects, subjects_of_span, span_subjects}
+use Rattle.cps_instance.specs.Fitting.{IsLiteral, IsFittingSpan, IsFitting, IsFittingBody}
 use Rattle.cps_instance.specs.Problem.{Means, IsListTask, IsCutTask, sum_task, sum_tasks}
 use Rattle.cps_instance.proofs.Agreeing.{AgreeAt, terms_value-agree, All-append_left, All-append_right}
 use Rattle.cps_instance.proofs.Extending.{length-extended, extended-push, HoldsTask-shorter, HoldsTask-longer, agree-append}
@@ -69,14 +70,14 @@ IsLiteral-longer ds es u l h =
       greatest = λ x c. h.greatest x (ap (λ w. is_among w x) e ∙ c);
     }
 
-are_literals-longer : (ds es : Domains) (us : List Atom) → All (λ s. s < length ds) (atom_subjects us) → All (IsLiteral ds) us → All (IsLiteral (ds ++ es)) us
+pub are_literals-longer : (ds es : Domains) (us : List Atom) → All (λ s. s < length ds) (atom_subjects us) → All (IsLiteral ds) us → All (IsLiteral (ds ++ es)) us
 are_literals-longer ds es [] l h = All-nil (IsLiteral (ds ++ es))
 are_literals-longer ds es (u ∷ us) l h =
     All-cons (IsLiteral (ds ++ es)) u us
     (IsLiteral-longer ds es u (All-head (λ (s : ℕ). s < length ds) u.subject (atom_subjects us) l) (All-head (IsLiteral ds) u us h))
     (are_literals-longer ds es us (All-tail (λ (s : ℕ). s < length ds) u.subject (atom_subjects us) l) (All-tail (IsLiteral ds) u us h))
 
-small-longer : (ds es : Domains) (ts : List Term) → All (λ s. s < length ds) (term_subjects ts) → terms_reach ds ts < 2 ^ 62 → terms_reach (ds ++ es) ts < 2 ^ 62
+pub small-longer : (ds es : Domains) (ts : List Term) → All (λ s. s < length ds) (term_subjects ts) → terms_reach ds ts < 2 ^ 62 → terms_reach (ds ++ es) ts < 2 ^ 62
 small-longer ds es ts l h = let e = terms_reach-same ds (ds ++ es) ts (below_same ds es (term_subjects ts) l) in omega arith
 
 pub IsSumOf-longer : (ds es : Domains) (subject : ℕ) (s : DefinedSum) → subject < length ds → IsSumOf ds subject s → IsSumOf (ds ++ es) subject s
@@ -119,6 +120,15 @@ pub sum_tasks-push : (subject : ℕ) (ss : List DefinedSum) (s : DefinedSum) (n 
 sum_tasks-push subject [] s n e = let same : subject ≡ n = omega arith in ap (λ (i : ℕ). sum_task i s ∷ []) same
 sum_tasks-push subject (r ∷ ss) s n e = ap (λ ts. sum_task subject r ∷ ts) (sum_tasks-push (subject + 1) ss s n (omega arith))
 
+spans_fit-longer : (ds es : Domains) (ss : List Span) → All (λ s. s < length ds) (span_subjects ss) → All (IsFittingSpan ds) ss → All (IsFittingSpan (ds ++ es)) ss
+spans_fit-longer ds es [] l h = All-nil (IsFittingSpan (ds ++ es))
+spans_fit-longer ds es (s ∷ ss) l h =
+    let own = All-append_left (λ (i : ℕ). i < length ds) (subjects_of_span s) (span_subjects ss) l in
+    let presence = All-tail (λ (i : ℕ). i < length ds) s.end (atom_subjects s.presence) (All-tail (λ (i : ℕ). i < length ds) s.start (s.end ∷ atom_subjects s.presence) own) in
+    All-cons (IsFittingSpan (ds ++ es)) s ss
+    (are_literals-longer ds es s.presence presence (All-head (IsFittingSpan ds) s ss h))
+    (spans_fit-longer ds es ss (All-append_right (λ (i : ℕ). i < length ds) (subjects_of_span s) (span_subjects ss) l) (All-tail (IsFittingSpan ds) s ss h))
+
 body_fits-longer : (ds es : Domains) (b : Body) → All (λ s. s < length ds) (subjects_of_body b) → IsFittingBody ds b → IsFittingBody (ds ++ es) b
 body_fits-longer ds es Empty l h = tt
 body_fits-longer ds es (BoolOr atoms) l h = are_literals-longer ds es atoms l h
@@ -127,6 +137,27 @@ body_fits-longer ds es (AtMostOne atoms) l h = are_literals-longer ds es atoms l
 body_fits-longer ds es (ExactlyOne atoms) l h = are_literals-longer ds es atoms l h
 body_fits-longer ds es (BoolXor atoms) l h = are_literals-longer ds es atoms l h
 body_fits-longer ds es (Linear terms bounds) l h = record { small = small-longer ds es terms l h.small; shaped = h.shaped }
+body_fits-longer ds es (IntDiv target exprs) l h = tt
+body_fits-longer ds es (IntMod target exprs) l h = tt
+body_fits-longer ds es (IntProd target exprs) l h = tt
+body_fits-longer ds es (LinMax target exprs) l h = tt
+body_fits-longer ds es (Element index target exprs) l h = tt
+body_fits-longer ds es (Table exprs values negated) l h = tt
+body_fits-longer ds es (AllDiff exprs) l h = tt
+body_fits-longer ds es (Circuit tails heads literals) l h = are_literals-longer ds es literals l h
+body_fits-longer ds es (Interval start end size) l h = tt
+body_fits-longer ds es (NoOverlap spans) l h = spans_fit-longer ds es spans l h
+body_fits-longer ds es (Cumulative capacity spans demands) l h =
+    spans_fit-longer ds es spans (All-append_left (λ (s : ℕ). s < length ds) (span_subjects spans) demands (All-tail (λ (s : ℕ). s < length ds) capacity (span_subjects spans ++ demands) l)) h
+body_fits-longer ds es (Inverse direct inverse) l h = tt
+body_fits-longer ds es (Automaton start finals tails heads labels exprs) l h = tt
+body_fits-longer ds es (Reservoir min max times changes active) l h =
+    are_literals-longer ds es active
+    (All-append_right (λ (s : ℕ). s < length ds) changes (atom_subjects active) (All-append_right (λ (s : ℕ). s < length ds) times (changes ++ atom_subjects active) l)) h
+body_fits-longer ds es (NoOverlap2d x y) l h = record {
+  x_fit = spans_fit-longer ds es x (All-append_left (λ (s : ℕ). s < length ds) (span_subjects x) (span_subjects y) l) h.x_fit;
+  y_fit = spans_fit-longer ds es y (All-append_right (λ (s : ℕ). s < length ds) (span_subjects x) (span_subjects y) l) h.y_fit;
+}
 body_fits-longer ds es (Sum subject terms offset) l h =
     IsSumOf-longer ds es subject (record { terms = terms; offset = offset }) (All-head (λ (s : ℕ). s < length ds) subject (term_subjects terms) l) h
 body_fits-longer ds es (ObjectiveList terms bounds) l h = record { small = small-longer ds es terms l h.small; shaped = h.shaped }

@@ -6,7 +6,7 @@ use Rattle.std.proofs.lemmas.Int.{ints}
 use Rattle.std.proofs.lemmas.List.Elements.{All-nil, All-cons, All-head, All-tail}
 use Rattle.cps_instance.specs.declared.task.Task.{Task}
 use Rattle.cps_instance.specs.declared.task.Body.{Body}
-use Rattle.cps_instance.specs.declared.task.Body.TheVariants.{Empty, BoolOr, BoolAnd, AtMostOne, ExactlyOne, BoolXor, Linear, Sum, ObjectiveList, Cut}
+use Rattle.cps_instance.specs.declared.task.Body.TheVariants.{Cut}
 use Rattle.cps_instance.specs.Terms.{Domains, terms_value}
 use Rattle.cps_instance.specs.Tasks.{HoldsBody, HoldsTask, HoldAll, IsUpTo, atom_subjects, subjects_of, subjects_of_body, lowered, lowered_body, lowered_end, IsBodyUpTo}
 use Rattle.cps_instance.specs.Fitting.{IsFitting, IsFittingBody}
@@ -26,28 +26,12 @@ end_from upper None v h k = k
 end_from upper (Some old) v h k = least_of_both old upper v h k
 
 body_said : (upper : ℤ) (b : Body) (xs : List ℤ) → HoldsBody (lowered_body upper b) xs → HoldsBody b xs × IsBodyUpTo upper b xs
-body_said upper Empty xs h = (h, tt)
-body_said upper (BoolOr atoms) xs h = (h, tt)
-body_said upper (BoolAnd atoms) xs h = (h, tt)
-body_said upper (AtMostOne atoms) xs h = (h, tt)
-body_said upper (ExactlyOne atoms) xs h = (h, tt)
-body_said upper (BoolXor atoms) xs h = (h, tt)
-body_said upper (Linear terms domain) xs h = (h, tt)
-body_said upper (Sum subject terms offset) xs h = (h, tt)
-body_said upper (ObjectiveList terms domain) xs h = (h, tt)
 body_said upper (Cut terms old) xs h = end_said upper old (terms_value xs terms) h
+body_said upper body xs h = (h, tt)
 
 body_from : (upper : ℤ) (b : Body) (xs : List ℤ) → HoldsBody b xs → IsBodyUpTo upper b xs → HoldsBody (lowered_body upper b) xs
-body_from upper Empty xs h k = h
-body_from upper (BoolOr atoms) xs h k = h
-body_from upper (BoolAnd atoms) xs h k = h
-body_from upper (AtMostOne atoms) xs h k = h
-body_from upper (ExactlyOne atoms) xs h k = h
-body_from upper (BoolXor atoms) xs h k = h
-body_from upper (Linear terms domain) xs h k = h
-body_from upper (Sum subject terms offset) xs h k = h
-body_from upper (ObjectiveList terms domain) xs h k = h
 body_from upper (Cut terms old) xs h k = end_from upper old (terms_value xs terms) h k
+body_from upper body xs h k = h
 
 -- a task with a lower end says what it said, and that a cut's sum is at most the end
 pub lowered_said : (upper : ℤ) (t : Task) (xs : List ℤ) → HoldsTask (lowered upper t) xs → HoldsTask t xs
@@ -64,32 +48,16 @@ all_lowered_said upper (t ∷ ts) xs h =
     (all_lowered_said upper ts xs (All-tail (λ u. HoldsTask u xs) (lowered upper t) (map (lowered upper) ts) h))
 
 body_subjects-lowered : (upper : ℤ) (b : Body) → subjects_of_body (lowered_body upper b) ≡ subjects_of_body b
-body_subjects-lowered upper Empty = refl
-body_subjects-lowered upper (BoolOr atoms) = refl
-body_subjects-lowered upper (BoolAnd atoms) = refl
-body_subjects-lowered upper (AtMostOne atoms) = refl
-body_subjects-lowered upper (ExactlyOne atoms) = refl
-body_subjects-lowered upper (BoolXor atoms) = refl
-body_subjects-lowered upper (Linear terms domain) = refl
-body_subjects-lowered upper (Sum subject terms offset) = refl
-body_subjects-lowered upper (ObjectiveList terms domain) = refl
 body_subjects-lowered upper (Cut terms old) = refl
+body_subjects-lowered upper body = refl
 
 -- it reads the same subjects, and fits the same domains
 pub subjects_of-lowered : (upper : ℤ) (t : Task) → subjects_of (lowered upper t) ≡ subjects_of t
 subjects_of-lowered upper t = ap (λ ss. atom_subjects t.enforcement ++ ss) (body_subjects-lowered upper t.body)
 
 body_fits-lowered : (ds : Domains) (upper : ℤ) (b : Body) → IsFittingBody ds b → IsFittingBody ds (lowered_body upper b)
-body_fits-lowered ds upper Empty h = h
-body_fits-lowered ds upper (BoolOr atoms) h = h
-body_fits-lowered ds upper (BoolAnd atoms) h = h
-body_fits-lowered ds upper (AtMostOne atoms) h = h
-body_fits-lowered ds upper (ExactlyOne atoms) h = h
-body_fits-lowered ds upper (BoolXor atoms) h = h
-body_fits-lowered ds upper (Linear terms domain) h = h
-body_fits-lowered ds upper (Sum subject terms offset) h = h
-body_fits-lowered ds upper (ObjectiveList terms domain) h = h
 body_fits-lowered ds upper (Cut terms old) h = record { small = h.small }
+body_fits-lowered ds upper body h = h
 
 pub IsFitting-lowered : (ds : Domains) (upper : ℤ) (t : Task) → IsFitting ds t → IsFitting ds (lowered upper t)
 IsFitting-lowered ds upper t h = record {
@@ -107,16 +75,8 @@ end_twice u v None = refl
 end_twice u v (Some old) = ends_assoc old u v
 
 body_twice : (u v : ℤ) (b : Body) → lowered_body v (lowered_body u b) ≡ lowered_body (int_min u v) b
-body_twice u v Empty = refl
-body_twice u v (BoolOr atoms) = refl
-body_twice u v (BoolAnd atoms) = refl
-body_twice u v (AtMostOne atoms) = refl
-body_twice u v (ExactlyOne atoms) = refl
-body_twice u v (BoolXor atoms) = refl
-body_twice u v (Linear terms domain) = refl
-body_twice u v (Sum subject terms offset) = refl
-body_twice u v (ObjectiveList terms domain) = refl
 body_twice u v (Cut terms old) = ap (λ (e : ℤ). Cut terms (Some e)) (end_twice u v old)
+body_twice u v body = refl
 
 -- two ends are as one, the lesser
 pub lowered-lowered : (u v : ℤ) (t : Task) → lowered v (lowered u t) ≡ lowered (int_min u v) t

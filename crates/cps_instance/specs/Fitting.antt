@@ -6,7 +6,8 @@ use Rattle.cps_literal.specs.declared.atom.Atom.{Atom}
 use Rattle.cps_instance.specs.declared.term.Term.{Term}
 use Rattle.cps_instance.specs.declared.task.Task.{Task}
 use Rattle.cps_instance.specs.declared.task.Body.{Body}
-use Rattle.cps_instance.specs.declared.task.Body.TheVariants.{Empty, BoolOr, BoolAnd, AtMostOne, ExactlyOne, BoolXor, Linear, Sum, ObjectiveList, Cut}
+use Rattle.cps_instance.specs.declared.task.Span.{Span}
+use Rattle.cps_instance.specs.declared.task.Body.TheVariants.{Empty, BoolOr, BoolAnd, AtMostOne, ExactlyOne, BoolXor, Linear, IntDiv, IntMod, IntProd, LinMax, Element, Table, AllDiff, Circuit, Interval, NoOverlap, Cumulative, Inverse, Automaton, Reservoir, NoOverlap2d, Sum, ObjectiveList, Cut}
 use Rattle.cps_instance.specs.Terms.{Domains, AreIntervals, domain_at, terms_reach}
 use Rattle.cps_instance.specs.Sums.{IsSumOf}
 use Rattle.cps_instance.specs.Tasks.{subjects_of}
@@ -27,6 +28,15 @@ pub record AreSmallWithin (domains : Domains) (terms : List Term) (bounds : List
   pub small : terms_reach domains terms < 2 ^ 62
   pub shaped : IsTrue (is_well_shaped bounds)
 
+-- a span's presence atoms stand for literals
+abbrev pub IsFittingSpan : Domains → Span → Type 0
+IsFittingSpan domains s = All (IsLiteral domains) s.presence
+
+-- the spans of two directions
+pub record AreFittingSpans (domains : Domains) (x y : List Span) : Type 0 where
+  pub x_fit : All (IsFittingSpan domains) x
+  pub y_fit : All (IsFittingSpan domains) y
+
 abbrev pub IsFittingBody : Domains → Body → Type 0
 IsFittingBody domains Empty = Unit {0}
 IsFittingBody domains (BoolOr atoms) = All (IsLiteral domains) atoms
@@ -35,6 +45,21 @@ IsFittingBody domains (AtMostOne atoms) = All (IsLiteral domains) atoms
 IsFittingBody domains (ExactlyOne atoms) = All (IsLiteral domains) atoms
 IsFittingBody domains (BoolXor atoms) = All (IsLiteral domains) atoms
 IsFittingBody domains (Linear terms bounds) = AreSmallWithin domains terms bounds
+IsFittingBody domains (IntDiv target exprs) = Unit {0}
+IsFittingBody domains (IntMod target exprs) = Unit {0}
+IsFittingBody domains (IntProd target exprs) = Unit {0}
+IsFittingBody domains (LinMax target exprs) = Unit {0}
+IsFittingBody domains (Element index target exprs) = Unit {0}
+IsFittingBody domains (Table exprs values negated) = Unit {0}
+IsFittingBody domains (AllDiff exprs) = Unit {0}
+IsFittingBody domains (Circuit tails heads literals) = All (IsLiteral domains) literals
+IsFittingBody domains (Interval start end size) = Unit {0}
+IsFittingBody domains (NoOverlap spans) = All (IsFittingSpan domains) spans
+IsFittingBody domains (Cumulative capacity spans demands) = All (IsFittingSpan domains) spans
+IsFittingBody domains (Inverse direct inverse) = Unit {0}
+IsFittingBody domains (Automaton start finals tails heads labels exprs) = Unit {0}
+IsFittingBody domains (Reservoir min max times changes active) = All (IsLiteral domains) active
+IsFittingBody domains (NoOverlap2d x y) = AreFittingSpans domains x y
 IsFittingBody domains (Sum subject terms offset) = IsSumOf domains subject (record { terms = terms; offset = offset })
 IsFittingBody domains (ObjectiveList terms bounds) = AreSmallWithin domains terms bounds
 IsFittingBody domains (Cut terms upper) = AreSmall domains terms

@@ -3,12 +3,20 @@ use Rattle.std.specs.Prelude.{◌≡◌, ℕ, ◌%◌, ◌≤◌, ℤ, ◌+ℤ�
 use Rattle.std.specs.List.{list_all, list_any, count_by}
 use Rattle.std.specs.Int.{int_min}
 use Rattle.cps_model.specs.Within.{is_within, is_allowed}
+use Rattle.cps_model.specs.Arithmetic.{IsQuotient, IsRemainder, IsProduct, IsGreatest}
+use Rattle.cps_model.specs.Lookups.{IsElement, IsInTable, IsAllDifferent}
+use Rattle.cps_model.specs.Circuits.{IsCircuit}
+use Rattle.cps_model.specs.Scheduling.{IsInterval, IsNoOverlap, IsCumulative, IsNoOverlap2d}
+use Rattle.cps_model.specs.Sequences.{AreInverse, transitions, Accepts}
+use Rattle.cps_model.specs.Reservoirs.{IsReservoir}
 use Rattle.cps_literal.specs.declared.atom.Atom.{Atom}
 use Rattle.cps_literal.specs.Truth.{value_at, atom_holds}
 use Rattle.cps_instance.specs.declared.task.Task.{Task}
 use Rattle.cps_instance.specs.declared.task.Body.{Body}
-use Rattle.cps_instance.specs.declared.task.Body.TheVariants.{Empty, BoolOr, BoolAnd, AtMostOne, ExactlyOne, BoolXor, Linear, Sum, ObjectiveList, Cut}
+use Rattle.cps_instance.specs.declared.task.Span.{Span}
+use Rattle.cps_instance.specs.declared.task.Body.TheVariants.{Empty, BoolOr, BoolAnd, AtMostOne, ExactlyOne, BoolXor, Linear, IntDiv, IntMod, IntProd, LinMax, Element, Table, AllDiff, Circuit, Interval, NoOverlap, Cumulative, Inverse, Automaton, Reservoir, NoOverlap2d, Sum, ObjectiveList, Cut}
 use Rattle.cps_instance.specs.Terms.{terms_value, term_subjects}
+use Rattle.cps_instance.specs.Parts.{values_at, true_arcs, span_runs, span_uses, span_areas, changes_at}
 
 -- how many positions have a true atom
 abbrev pub true_atoms : List ℤ → List Atom → ℕ
@@ -28,6 +36,21 @@ HoldsBody (AtMostOne atoms) xs = true_atoms xs atoms ≤ 1
 HoldsBody (ExactlyOne atoms) xs = true_atoms xs atoms ≡ 1
 HoldsBody (BoolXor atoms) xs = true_atoms xs atoms % 2 ≡ 1
 HoldsBody (Linear terms domain) xs = IsTrue (is_within domain (terms_value xs terms))
+HoldsBody (IntDiv target exprs) xs = IsQuotient (value_at xs target) (values_at xs exprs)
+HoldsBody (IntMod target exprs) xs = IsRemainder (value_at xs target) (values_at xs exprs)
+HoldsBody (IntProd target exprs) xs = IsProduct (value_at xs target) (values_at xs exprs)
+HoldsBody (LinMax target exprs) xs = IsGreatest (value_at xs target) (values_at xs exprs)
+HoldsBody (Element index target exprs) xs = IsElement (value_at xs index) (value_at xs target) (values_at xs exprs)
+HoldsBody (Table exprs values negated) xs = IsInTable negated values (values_at xs exprs)
+HoldsBody (AllDiff exprs) xs = IsAllDifferent (values_at xs exprs)
+HoldsBody (Circuit tails heads literals) xs = IsCircuit (tails ++ heads) (true_arcs xs tails heads literals)
+HoldsBody (Interval start end size) xs = IsInterval (value_at xs start) (value_at xs end) (value_at xs size)
+HoldsBody (NoOverlap spans) xs = IsNoOverlap (span_runs xs spans)
+HoldsBody (Cumulative capacity spans demands) xs = IsCumulative (value_at xs capacity) (span_uses xs spans demands)
+HoldsBody (Inverse direct inverse) xs = AreInverse (values_at xs direct) (values_at xs inverse)
+HoldsBody (Automaton start finals tails heads labels exprs) xs = Accepts (transitions tails heads labels) finals start (values_at xs exprs)
+HoldsBody (Reservoir min max times changes active) xs = IsReservoir min max (changes_at xs times changes active)
+HoldsBody (NoOverlap2d x y) xs = IsNoOverlap2d (span_areas xs x y)
 HoldsBody (Sum subject terms offset) xs = value_at xs subject ≡ terms_value xs terms +ℤ offset
 HoldsBody (ObjectiveList terms domain) xs = IsTrue (is_allowed domain (terms_value xs terms))
 HoldsBody (Cut terms upper) xs = IsUpTo upper (terms_value xs terms)
@@ -43,6 +66,14 @@ HoldAll tasks xs = All (λ t. HoldsTask t xs) tasks
 abbrev pub atom_subjects : List Atom → List ℕ
 atom_subjects atoms = map (λ u. u.subject) atoms
 
+-- the subjects that a span's place depends on
+abbrev pub subjects_of_span : Span → List ℕ
+subjects_of_span s = s.start ∷ s.end ∷ atom_subjects s.presence
+
+abbrev pub span_subjects : List Span → List ℕ
+span_subjects [] = []
+span_subjects (s ∷ ss) = subjects_of_span s ++ span_subjects ss
+
 -- the subjects that a task reads
 abbrev pub subjects_of_body : Body → List ℕ
 subjects_of_body Empty = []
@@ -52,6 +83,21 @@ subjects_of_body (AtMostOne atoms) = atom_subjects atoms
 subjects_of_body (ExactlyOne atoms) = atom_subjects atoms
 subjects_of_body (BoolXor atoms) = atom_subjects atoms
 subjects_of_body (Linear terms domain) = term_subjects terms
+subjects_of_body (IntDiv target exprs) = target ∷ exprs
+subjects_of_body (IntMod target exprs) = target ∷ exprs
+subjects_of_body (IntProd target exprs) = target ∷ exprs
+subjects_of_body (LinMax target exprs) = target ∷ exprs
+subjects_of_body (Element index target exprs) = index ∷ target ∷ exprs
+subjects_of_body (Table exprs values negated) = exprs
+subjects_of_body (AllDiff exprs) = exprs
+subjects_of_body (Circuit tails heads literals) = atom_subjects literals
+subjects_of_body (Interval start end size) = start ∷ end ∷ size ∷ []
+subjects_of_body (NoOverlap spans) = span_subjects spans
+subjects_of_body (Cumulative capacity spans demands) = capacity ∷ span_subjects spans ++ demands
+subjects_of_body (Inverse direct inverse) = direct ++ inverse
+subjects_of_body (Automaton start finals tails heads labels exprs) = exprs
+subjects_of_body (Reservoir min max times changes active) = times ++ (changes ++ atom_subjects active)
+subjects_of_body (NoOverlap2d x y) = span_subjects x ++ span_subjects y
 subjects_of_body (Sum subject terms offset) = subject ∷ term_subjects terms
 subjects_of_body (ObjectiveList terms domain) = term_subjects terms
 subjects_of_body (Cut terms upper) = term_subjects terms
@@ -67,15 +113,7 @@ lowered_end upper (Some old) = int_min old upper
 -- a cut's end falls to the lesser of itself and `upper`, and other tasks stay
 abbrev pub lowered_body : ℤ → Body → Body
 lowered_body upper (Cut terms old) = Cut terms (Some (lowered_end upper old))
-lowered_body upper Empty = Empty
-lowered_body upper (BoolOr atoms) = BoolOr atoms
-lowered_body upper (BoolAnd atoms) = BoolAnd atoms
-lowered_body upper (AtMostOne atoms) = AtMostOne atoms
-lowered_body upper (ExactlyOne atoms) = ExactlyOne atoms
-lowered_body upper (BoolXor atoms) = BoolXor atoms
-lowered_body upper (Linear terms domain) = Linear terms domain
-lowered_body upper (Sum subject terms offset) = Sum subject terms offset
-lowered_body upper (ObjectiveList terms domain) = ObjectiveList terms domain
+lowered_body upper body = body
 
 abbrev pub lowered : ℤ → Task → Task
 lowered upper t = record { enforcement = t.enforcement; body = lowered_body upper t.body }
@@ -83,12 +121,4 @@ lowered upper t = record { enforcement = t.enforcement; body = lowered_body uppe
 -- what is cut off: the sum of a cut is at most `upper`
 abbrev pub IsBodyUpTo : ℤ → Body → List ℤ → Type 0
 IsBodyUpTo upper (Cut terms old) xs = terms_value xs terms ≤ℤ upper
-IsBodyUpTo upper Empty xs = Unit {0}
-IsBodyUpTo upper (BoolOr atoms) xs = Unit {0}
-IsBodyUpTo upper (BoolAnd atoms) xs = Unit {0}
-IsBodyUpTo upper (AtMostOne atoms) xs = Unit {0}
-IsBodyUpTo upper (ExactlyOne atoms) xs = Unit {0}
-IsBodyUpTo upper (BoolXor atoms) xs = Unit {0}
-IsBodyUpTo upper (Linear terms domain) xs = Unit {0}
-IsBodyUpTo upper (Sum subject terms offset) xs = Unit {0}
-IsBodyUpTo upper (ObjectiveList terms domain) xs = Unit {0}
+IsBodyUpTo upper body xs = Unit {0}

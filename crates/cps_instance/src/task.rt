@@ -4,7 +4,18 @@ use crate::term::Term;
 use cps_literal::Atom;
 use cps_model::Listed;
 
-/// What a task demands where it is in force. Atoms stand for literals.
+/// An interval, present where all its presence atoms are true.
+#[derive(Drop)]
+pub struct Span {
+    pub start: u32,
+    pub end: u32,
+    pub size: u32,
+    pub presence: Listed<Atom>,
+    /// How far the end is from the start, where that is the same at all values of the model's variables.
+    pub length: Option<i64>,
+}
+
+/// What a task demands where it is in force. Atoms stand for literals, subjects for expressions, and spans for intervals.
 #[derive(Drop)]
 pub enum Body {
     /// Nothing.
@@ -23,6 +34,90 @@ pub enum Body {
     Linear {
         terms: Listed<Term>,
         domain: Listed<i64>,
+    },
+    /// The target is the first of two values divided by the second, rounded towards zero.
+    IntDiv {
+        target: u32,
+        exprs: Listed<u32>,
+    },
+    /// The target is what is left of the first of two values after it was divided so by the second.
+    IntMod {
+        target: u32,
+        exprs: Listed<u32>,
+    },
+    /// The target is the product of the values.
+    IntProd {
+        target: u32,
+        exprs: Listed<u32>,
+    },
+    /// The target is the greatest of the values.
+    LinMax {
+        target: u32,
+        exprs: Listed<u32>,
+    },
+    /// The target is the value whose number is the index.
+    Element {
+        index: u32,
+        target: u32,
+        exprs: Listed<u32>,
+    },
+    /// The values are a row of the table, whose rows stand in `values` one after another; where it is negated, they are
+    /// none. Without subjects it says nothing.
+    Table {
+        exprs: Listed<u32>,
+        values: Listed<i64>,
+        negated: bool,
+    },
+    /// No two positions have the same value.
+    AllDiff(Listed<u32>),
+    /// The arcs whose atoms are true lead into and out of each node once, those that are no loops in one circuit.
+    Circuit {
+        tails: Listed<i32>,
+        heads: Listed<i32>,
+        literals: Listed<Atom>,
+    },
+    /// The size is not negative, and takes the start to the end.
+    Interval {
+        start: u32,
+        end: u32,
+        size: u32,
+    },
+    /// Of each two present spans one ends before the other starts, or as it starts.
+    NoOverlap(Listed<Span>),
+    /// At no time do the present spans that run then demand more than the capacity.
+    Cumulative {
+        capacity: u32,
+        intervals: Listed<Span>,
+        demands: Listed<u32>,
+    },
+    /// Each of two lists of values says at which place of the other its own places stand.
+    Inverse {
+        direct: Listed<u32>,
+        inverse: Listed<u32>,
+    },
+    /// The values are the labels of a run from the start to a final state. The transitions stand in three lists.
+    Automaton {
+        start: i64,
+        finals: Listed<i64>,
+        tails: Listed<i64>,
+        heads: Listed<i64>,
+        labels: Listed<i64>,
+        exprs: Listed<u32>,
+    },
+    /// After each active event the changes up to its time add up to a level between `min` and `max`. Without atoms each
+    /// event is active.
+    Reservoir {
+        min: i64,
+        max: i64,
+        times: Listed<u32>,
+        changes: Listed<u32>,
+        active: Listed<Atom>,
+    },
+    /// Of each two boxes whose spans are present, the one ends before the other starts, or as it starts, in one
+    /// direction.
+    NoOverlap2d {
+        x: Listed<Span>,
+        y: Listed<Span>,
     },
     /// The subject has the value of the sum of the terms and the offset.
     Sum {
