@@ -34,7 +34,8 @@ use Rattle.cps_search.specs.Searches.{Search, IsFound, IsHonestJournal, IsItemAb
 use Rattle.cps_search.specs.Moves.{fresh}
 use Rattle.cps_search.specs.declared.guidance.Guidance.{Guidance}
 use Rattle.cps_search.specs.Guidances.{IsEndOfRun, IsGuidedBy, RunsBy}
-use Rattle.cps_search.specs.Ends.{Ending, EndsBy, EndsRaised, IsOver, LastSawMet, RaisedToZ, RunsTo, SpentWhole, best_bound, ending}
+use Rattle.cps_search.specs.Ends.{Ending, EndsBy, EndsRaised, IsOver, LastSawMet, RaisedToZ, RunsTo, SpentWhole, ending}
+use Rattle.cps_search.specs.Following.{best_bound}
 use Rattle.cps_print.specs.Responses.{IsBounded, IsFinite}
 use Rattle.cps_command.specs.declared.options.Options.{Options}
 use Rattle.cps_command.specs.Numbers.{AreInRange}

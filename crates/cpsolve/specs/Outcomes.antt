@@ -16,7 +16,8 @@ use Rattle.cps_search.specs.declared.end.WorkerKind.{WorkerKind}
 use Rattle.cps_search.specs.declared.end.WorkerKind.TheVariants.{Fixed, Activity}
 use Rattle.cps_search.specs.declared.end.End.TheVariants.{Spent}
 use Rattle.cps_search.specs.Searches.{IsHonestJournal, IsItemAbove, learnt_count}
-use Rattle.cps_search.specs.Ends.{Ending, best_bound}
+use Rattle.cps_search.specs.Ends.{Ending}
+use Rattle.cps_search.specs.Following.{best_bound}
 use Rattle.cps_search.specs.Guidances.{IsEndOfRun, IsGuidedBy}
 use Rattle.cps_command.specs.declared.options.Options.{Options}
 use Rattle.cpsolve.specs.declared.outcome.Outcome.{Outcome}
