@@ -23,8 +23,8 @@ use Rattle.cps_port.proofs.Bounding.{BoundLe-trans, lesser-first, lesser-second,
 use Rattle.cps_search.specs.declared.end.End.{End}
 use Rattle.cps_search.specs.declared.end.Said.TheVariants.{Over}
 use Rattle.cps_search.specs.declared.end.WorkerKind.{WorkerKind}
-use Rattle.cps_search.specs.declared.guidance.Guidance.{Guidance}
-use Rattle.cps_search.specs.Guidances.{IsGuidedBy, RunsBy}
+use Rattle.cps_branch.specs.declared.guidance.Guidance.{Guidance}
+use Rattle.cps_search.specs.Guided.{IsGuidedBy, RunsBy}
 use Rattle.cps_search.specs.Searches.{Search}
 use Rattle.cps_search.specs.Ends.{Ending, IsOver, IsHonestEnding, RunsTo, ending}
 use Rattle.cps_search.specs.Following.{best_bound}

@@ -23,10 +23,11 @@ use Rattle.cps_port.specs.Incumbents.{IsLowerBound}
 use Rattle.cps_port.specs.Sound.{IsSoundCore, least_offer, greatest_raise}
 use Rattle.cps_search.specs.declared.end.End.{End}
 use Rattle.cps_search.specs.declared.end.WorkerKind.{WorkerKind}
-use Rattle.cps_search.specs.declared.guidance.Guidance.{Guidance}
+use Rattle.cps_branch.specs.declared.guidance.Guidance.{Guidance}
 use Rattle.cps_search.specs.Searches.{Search}
 use Rattle.cps_search.specs.Moves.{fresh}
-use Rattle.cps_search.specs.Guidances.{ChoosesBy, IsGuidedBy}
+use Rattle.cps_search.specs.Guided.{IsGuidedBy}
+use Rattle.cps_branch.specs.Guidances.{ChoosesBy}
 use Rattle.cps_search.specs.Ends.{Ending, EndsAs, IsHonestEnding, IsOver, Lowers, TakesTurns, none_yet, one_more, end_of, ending}
 use Rattle.cps_search.specs.Following.{best_bound}
 use Rattle.cps_search.proofs.Weighing.{left_of, lowered}

@@ -15,8 +15,8 @@ use Rattle.cps_port.specs.Order.{BoundLe, IsNoLower, raised_above}
 use Rattle.cps_search.specs.declared.end.End.{End}
 use Rattle.cps_search.specs.declared.end.Said.TheVariants.{Over}
 use Rattle.cps_search.specs.declared.end.WorkerKind.{WorkerKind}
-use Rattle.cps_search.specs.declared.guidance.Guidance.{Guidance}
-use Rattle.cps_search.specs.Guidances.{IsGuidedBy}
+use Rattle.cps_branch.specs.declared.guidance.Guidance.{Guidance}
+use Rattle.cps_search.specs.Guided.{IsGuidedBy}
 use Rattle.cps_search.specs.Searches.{Search}
 use Rattle.cps_search.specs.Ends.{Ending, IsOver, IsHonestEnding, ending}
 use Rattle.cps_search.specs.Following.{best_bound}

@@ -15,8 +15,8 @@ use Rattle.cps_search.specs.declared.end.End.TheVariants as ends
 use Rattle.cps_search.specs.declared.end.Said.{Said}
 use Rattle.cps_search.specs.declared.end.Said.TheVariants.{Nothing, Due, Over}
 use Rattle.cps_search.specs.declared.end.WorkerKind.{WorkerKind}
-use Rattle.cps_search.specs.declared.guidance.Guidance.{Guidance}
-use Rattle.cps_search.specs.Guidances.{IsGuidedBy}
+use Rattle.cps_branch.specs.declared.guidance.Guidance.{Guidance}
+use Rattle.cps_search.specs.Guided.{IsGuidedBy}
 use Rattle.cps_search.specs.Searches.{Search}
 use Rattle.cps_search.specs.Moves.{fresh}
 use Rattle.cps_search.specs.Ends.{Ending, IsOver, ending}

@@ -7,12 +7,13 @@ use Rattle.cps_port.specs.declared.part.Part.{Part}
 use Rattle.cps_search.specs.declared.end.End.{End}
 use Rattle.cps_search.specs.declared.end.WorkerKind.{WorkerKind}
 use Rattle.cps_search.specs.declared.end.WorkerKind.TheVariants as kinds
-use Rattle.cps_search.specs.declared.guidance.Guidance.{Guidance}
-use Rattle.cps_search.specs.declared.guidance.Guidance.TheVariants.{Steered, Hinted}
+use Rattle.cps_branch.specs.declared.guidance.Guidance.{Guidance}
+use Rattle.cps_branch.specs.declared.guidance.Guidance.TheVariants.{Steered, Hinted}
 use Rattle.cps_search.specs.declared.turn.Turn.{Turn}
 use Rattle.cps_search.specs.Searches.{Search, IsSoundSearch}
 use Rattle.cps_search.specs.Moves.{fresh}
-use Rattle.cps_search.specs.Guidances.{ChoosesBy, RunsBy}
+use Rattle.cps_search.specs.Guided.{RunsBy}
+use Rattle.cps_branch.specs.Guidances.{ChoosesBy}
 use Rattle.cps_search.specs.Ends.{OneTurn, RunsTo, TakesTurns, end_of}
 use Rattle.cps_portfolio.specs.declared.worker.AnyWorker.{AnyWorker}
 use Rattle.cps_portfolio.specs.declared.worker.AnyWorker.TheVariants.{Fixed, Activity}

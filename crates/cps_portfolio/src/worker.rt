@@ -1,6 +1,7 @@
 //! A worker of any kind.
 ghost use Rattle.std.specs.Prelude.{◌≡◌, ◌≤◌, ◌^◌, length, OnOk, IfOk, Some, is_some};
-ghost use Rattle.cps_search.specs.Guidances.{AreHintsOf, IsGuidedBy, IsPlanOf};
+ghost use Rattle.cps_search.specs.Guided.{IsGuidedBy};
+ghost use Rattle.cps_branch.specs.Guidances.{AreHintsOf, IsPlanOf};
 ghost use Rattle.cps_search.specs.Searches.{HasNoAssumptions};
 ghost use Rattle.cps_search.specs.Ends.{IsOver, ending, end_of};
 ghost use Rattle.cps_portfolio.specs.Workers.{search_of, kind_of, guidance_of, worker_kind, Begins, HasEnded, HasTurned};

@@ -23,9 +23,9 @@ use Rattle.cps_clauses.specs.declared.journal.JournalItem.TheVariants.{Learnt, D
 use Rattle.cps_clauses.specs.Journals.{AreHonest, IsStanding}
 use Rattle.cps_clauses.specs.Quiet.{WeakensTo}
 use Rattle.cps_search.specs.Forgetting.{DropsNothing}
-use Rattle.cps_search.specs.Strategies.{values_of}
+use Rattle.cps_branch.specs.Strategies.{values_of}
 use Rattle.cps_search.specs.Searches.{IsHonestJournal, IsWorthy}
-use Rattle.cps_search.proofs.Values.{among_values}
+use Rattle.cps_branch.proofs.Values.{among_values}
 use Rattle.cps_search.proofs.Valuing.{small_in}
 
 -- ---- a list without repetition is no longer than one that has its elements

@@ -5,12 +5,13 @@ use Rattle.cps_literal.specs.declared.atom.Atom.{Atom}
 use Rattle.cps_trail.specs.Trail.{Trail}
 use Rattle.cps_port.specs.declared.part.Part.{Part}
 use Rattle.cps_search.specs.declared.end.End.{End}
-use Rattle.cps_search.specs.declared.guidance.Guidance.{Guidance}
+use Rattle.cps_branch.specs.declared.guidance.Guidance.{Guidance}
 use Rattle.cps_search.specs.declared.turn.Turn.{Turn}
 use Rattle.cps_search.specs.declared.turn.Turn.TheVariants as turns
 use Rattle.cps_search.specs.Searches.{Search}
 use Rattle.cps_search.specs.Ends.{BrancherTurn, HeardOne, OneTurn, RunsInTurns, TakesTurn, TakesTurns, TurnCaused, none_yet, one_more}
-use Rattle.cps_search.specs.Guidances.{ChoosesBy, RunsBy}
+use Rattle.cps_search.specs.Guided.{RunsBy}
+use Rattle.cps_branch.specs.Guidances.{ChoosesBy}
 
 -- a choice by one rule is one by another that it implies
 caused_by : (P Q : Trail → Option Atom → Type 0) → ((s : Trail) (choice : Option Atom) → P s choice → Q s choice) → (s t : Search) (rows : ℕ) (p q : Part) (turn : Turn) → TurnCaused P s t rows p q turn → TurnCaused Q s t rows p q turn

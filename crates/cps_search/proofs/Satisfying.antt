@@ -11,10 +11,10 @@ use Rattle.cps_literal.specs.Truth.{meets, IsFalseOn}
 use Rattle.cps_instance.specs.Problem.{Problem}
 use Rattle.cps_trail.specs.Trail.{Domains, Trail, first_of, up_to}
 use Rattle.cps_conflict.specs.Conflicts.{NotFalseAtBottom}
-use Rattle.cps_search.specs.Strategies.{values_of}
+use Rattle.cps_branch.specs.Strategies.{values_of}
 use Rattle.cps_search.specs.Searches.{IsSatisfiable}
 use Rattle.cps_search.proofs.Refuting.{admitted_first}
-use Rattle.cps_search.proofs.Values.{among_values}
+use Rattle.cps_branch.proofs.Values.{among_values}
 
 on_or_off : (b : Bool) → (b ≡ true) ⊎ (b ≡ false)
 on_or_off true = inl refl

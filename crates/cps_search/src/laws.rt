@@ -13,7 +13,7 @@ ghost use Rattle.cps_clauses.specs.declared.journal.JournalItem.TheVariants.{Dro
 ghost use Rattle.cps_clauses.specs.Quiet.{Fits, IsLevelFor, IsQuiet};
 ghost use Rattle.cps_search.specs.declared.end.End.{End};
 ghost use Rattle.cps_search.specs.declared.end.WorkerKind.{WorkerKind};
-ghost use Rattle.cps_search.specs.declared.guidance.Guidance.{Guidance};
+ghost use Rattle.cps_branch.specs.declared.guidance.Guidance.{Guidance};
 ghost use Rattle.cps_search.specs.Forgetting.{DropsNothing};
 ghost use Rattle.cps_search.specs.Giving.{ByAll};
 ghost use Rattle.cps_search.specs.Lessons.{GoesBack};

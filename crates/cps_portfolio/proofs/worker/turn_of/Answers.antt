@@ -1,8 +1,8 @@
 -- The turn goes by the brancher's guidance, which it leaves.
 use Rattle.std.proofs.Common.{Some, ap, subst}
 use Rattle.cps_search.specs.Ends.{OneTurn}
-use Rattle.cps_search.specs.Guidances.{ChoosesBy}
-use Rattle.cps_search.specs.declared.guidance.Guidance.{Guidance}
+use Rattle.cps_branch.specs.Guidances.{ChoosesBy}
+use Rattle.cps_branch.specs.declared.guidance.Guidance.{Guidance}
 use Rattle.cps_search.proofs.Guiding.{turn_by}
 use Rattle.cps_portfolio.specs.Workers.{TurnsBy}
 use Rattle.cps_portfolio.proofs.worker.turn_of.Goals as goal

@@ -1,7 +1,7 @@
 use Rattle.std.proofs.Common.{Some, subst}
 use Rattle.std.proofs.lemmas.Result.{on_ok_weaker}
 use Rattle.cps_trail.specs.Trail.{Trail}
-use Rattle.cps_search.specs.Choice.{IsUndecided}
+use Rattle.cps_branch.specs.Choice.{IsUndecided}
 use Rattle.cps_search.proofs.worker.decide_next.Goals as goal
 
 pub returns-clause-decided : goal.returns-clause-decided

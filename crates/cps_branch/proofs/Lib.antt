@@ -1,0 +1,11 @@
+pub mod Fixing
+pub mod Values
+pub mod Selecting
+pub mod Taking
+pub mod Planning
+pub mod Hinting
+pub mod Numbering
+pub mod Raising
+pub mod Leading
+pub mod Playing
+pub mod Aside

@@ -1,0 +1,12 @@
+pub mod Fixed
+pub mod Choice
+pub mod Strategies
+pub mod Hints
+pub mod Scope
+pub mod Noting
+pub mod Tournament
+pub mod SetAside
+pub mod Agreeing
+pub mod Luby
+pub mod Activities
+pub mod Guidances
