@@ -5,6 +5,7 @@ ghost use Rattle.cps_board.specs.Seats as boards;
 ghost use Rattle.cps_bounds.specs.Seats as words;
 ghost use Rattle.cps_bounds.specs.Rule.{all_splits};
 ghost use Rattle.cps_options.specs.Ranges.{AreInRange};
+ghost use Rattle.cps_kinds.specs.Kinds.{AreAllPropagated};
 ghost use Rattle.cps_search.specs.Searches.{HasNoAssumptions};
 ghost use Rattle.cps_portfolio.specs.Outcomes.{IsGoodOutcome};
 ghost use Rattle.cps_portfolio.specs.Crews.{words_splits, IsSeated, IsCrew, AreBack, AreGathered};
@@ -38,6 +39,7 @@ fn seat_one<'a>(
 ) -> Result<Seated<'a>, AllocError>
     requires range { AreInRange options.now }
     requires assumptions { HasNoAssumptions model.now }
+    requires kinds { AreAllPropagated model.now }
     requires room { (2 ≤ boards.splits_of kept.old.board_seat) × (2 ≤ words.splits_of kept.old.bounds_seat) }
     ensures tables { OnOk result ((kept.new.board.now ≡ kept.old.board.now) × (kept.new.bounds.now ≡ kept.old.bounds.now)) }
     ensures part { OnOk result (words.part_of kept.new.bounds_seat ≡ words.part_of kept.old.bounds_seat) }
@@ -64,6 +66,7 @@ fn seat_all<'a>(
 ) -> Result<Vec<Seated<'a>>, AllocError>
     requires range { AreInRange options.now }
     requires assumptions { HasNoAssumptions model.now }
+    requires kinds { AreAllPropagated model.now }
     requires whole { (boards.splits_of kept.old.board_seat ≡ all_splits) × (words.splits_of kept.old.bounds_seat ≡ all_splits) }
     ensures tables { OnOk result ((kept.new.board.now ≡ kept.old.board.now) × (kept.new.bounds.now ≡ kept.old.bounds.now)) }
     ensures part { OnOk result (words.part_of kept.new.bounds_seat ≡ words.part_of kept.old.bounds_seat) }
@@ -122,6 +125,7 @@ pub fn solve<R: Threads + Wait + Sync, G: Gate + Sync>(
 ) -> Result<Outcome, AllocError>
     requires range { AreInRange options.now }
     requires assumptions { HasNoAssumptions model.now }
+    requires kinds { AreAllPropagated model.now }
     ensures { IfOk result (IsGoodOutcome model.now options.now) }
 {
     let (bounds, bounds_seat) = Bounds::new(alloc, model)?;

@@ -2,6 +2,7 @@
 ghost use Rattle.std.specs.Prelude.{◌≡◌, ◌≤◌, ◌^◌, length, OnOk, IfOk, Some, is_some};
 ghost use Rattle.cps_search.specs.Guided.{IsGuidedBy};
 ghost use Rattle.cps_branch.specs.Guidances.{AreHintsOf, IsPlanOf};
+ghost use Rattle.cps_kinds.specs.Kinds.{AreAllPropagated};
 ghost use Rattle.cps_search.specs.Searches.{HasNoAssumptions};
 ghost use Rattle.cps_search.specs.Ends.{IsOver, ending, end_of};
 ghost use Rattle.cps_portfolio.specs.Workers.{search_of, kind_of, guidance_of, worker_kind, Begins, HasEnded, HasTurned};
@@ -32,6 +33,7 @@ fn fixed_worker<'a>(
 ) -> Result<Worker<'a, AnyPropagator, FixedBrancher>, AllocError>
     requires budget { conflicts ≤ 10 ^ 9 }
     requires assumptions { HasNoAssumptions model.now }
+    requires kinds { AreAllPropagated model.now }
     ensures begins { IfOk result (λ worker. Begins model.entry.now gap conflicts worker.0) }
     ensures plan { IfOk result (λ worker. IsPlanOf worker.0.problem worker.1.plan) }
 {
@@ -49,6 +51,7 @@ fn activity_worker<'a>(
 ) -> Result<Worker<'a, AnyPropagator, ActivityBrancher>, AllocError>
     requires budget { conflicts ≤ 10 ^ 9 }
     requires assumptions { HasNoAssumptions model.now }
+    requires kinds { AreAllPropagated model.now }
     ensures begins { IfOk result (λ worker. Begins model.entry.now gap conflicts worker.0) }
     ensures hints { IfOk result (λ worker. AreHintsOf worker.0.problem worker.1.hints) }
 {
@@ -113,6 +116,7 @@ impl<'a> AnyWorker<'a> {
     ) -> Result<AnyWorker<'a>, AllocError>
         requires budget { conflicts ≤ 10 ^ 9 }
         requires assumptions { HasNoAssumptions model.now }
+        requires kinds { AreAllPropagated model.now }
         ensures begins { IfOk result (λ worker. Begins model.entry.now gap conflicts (search_of worker)) }
         ensures kind { IfOk result (λ worker. kind_of worker ≡ worker_kind number) }
         ensures guide { IfOk result (λ worker. IsGuidedBy (kind_of worker) (search_of worker).problem (Some (guidance_of worker))) }

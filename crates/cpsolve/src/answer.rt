@@ -5,6 +5,7 @@ ghost use Rattle.cps_print.specs.Faults.{fault_text};
 ghost use Rattle.cps_print.specs.Models.{model_text};
 ghost use Rattle.cps_print.specs.ReadBack.{IsReadAs};
 ghost use Rattle.cps_print.specs.Responses.{IsShowable};
+ghost use Rattle.cps_kinds.specs.Kinds.{AreAllPropagated};
 ghost use Rattle.cps_search.specs.Searches.{HasNoAssumptions};
 ghost use Rattle.cps_options.specs.Ranges.{AreInRange};
 ghost use Rattle.cps_portfolio.specs.Outcomes.{IsGoodOutcome};
@@ -81,6 +82,7 @@ fn outcome_of<R: Threads + Wait + Sync, G: Gate + Sync>(
 ) -> Result<Outcome, AllocError>
     requires range { AreInRange options.now }
     requires assumptions { HasNoAssumptions model.now }
+    requires kinds { AreAllPropagated model.now }
     ensures good { IfOk result (IsGoodOutcome model.now options.now) }
     ensures drawn { IsTrue options.now.interleave → IfOk result (λ o. IsDrawnRun model.now options.now 4096 o.ends) }
 {
@@ -101,6 +103,7 @@ fn solve_answer<R: Threads + Wait + Sync, G: Gate + Sync>(
 ) -> Result<Answer, AllocError>
     requires showable { IsShowable model.now.objective }
     requires assumptions { HasNoAssumptions model.now }
+    requires kinds { AreAllPropagated model.now }
     requires range { AreInRange options.now }
     ensures { IfOk result (Solves options.now model.now) }
 {
