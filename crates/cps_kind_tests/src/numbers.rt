@@ -1,5 +1,5 @@
 //! Kinds that compute a number of others, or look one up.
-use crate::building::{constant, ints, satisfy_one, value_of, values_of};
+use crate::building::{constant, constants, ints, satisfy_one, value_of, values_of};
 use cps_model::{Kind, LinearExpr, Listed};
 use std::alloc::{AllocError, Global};
 use std::test::Fail;
@@ -27,6 +27,30 @@ fn quotients_are_rounded_towards_zero(rt: HostRuntime) -> Result<(), Fail> {
             satisfy_one(&rt, alloc, kind, WIDE, &values)?,
             holds,
             "{values:?}"
+        );
+    }
+    Ok(())
+}
+
+/// A dividend, a divisor, a quotient, and whether it is that of the two.
+#[test]
+fn divisors_may_be_negative(rt: HostRuntime) -> Result<(), Fail> {
+    let alloc = rt.alloc();
+    let rows = [
+        (8, -3, -2, true),
+        (8, -3, -3, false),
+        (-8, -3, 2, true),
+        (-8, -3, 3, false),
+    ];
+    for (number, divisor, quotient, holds) in rows {
+        let kind = Kind::IntDiv {
+            target: constant(alloc, quotient),
+            exprs: constants(alloc, &[number, divisor])?,
+        };
+        assert_eq!(rt;
+            satisfy_one(&rt, alloc, kind, WIDE, &[])?,
+            holds,
+            "{number} {quotient}"
         );
     }
     Ok(())
@@ -151,6 +175,20 @@ fn tables_have_rows(rt: HostRuntime) -> Result<(), Fail> {
 }
 
 #[test]
+fn a_table_without_rows_has_none(rt: HostRuntime) -> Result<(), Fail> {
+    let alloc = rt.alloc();
+    for negated in [false, true] {
+        let kind = Kind::Table {
+            exprs: values_of(alloc, &[0])?,
+            values: Listed::new(alloc),
+            negated,
+        };
+        assert_eq!(rt; satisfy_one(&rt, alloc, kind, WIDE, &[0])?, negated);
+    }
+    Ok(())
+}
+
+#[test]
 fn a_table_without_columns_says_nothing(rt: HostRuntime) -> Result<(), Fail> {
     let alloc = rt.alloc();
     for negated in [false, true] {
@@ -173,6 +211,21 @@ fn all_different(rt: HostRuntime) -> Result<(), Fail> {
             satisfy_one(&rt, alloc, kind, WIDE, &values)?,
             holds,
             "{values:?}"
+        );
+    }
+    Ok(())
+}
+
+/// A reference below 0 has its variable's value negated.
+#[test]
+fn a_variable_and_its_opposite(rt: HostRuntime) -> Result<(), Fail> {
+    let alloc = rt.alloc();
+    for (value, holds) in [(0, false), (3, true)] {
+        let kind = Kind::AllDiff(values_of(alloc, &[0, -1])?);
+        assert_eq!(rt;
+            satisfy_one(&rt, alloc, kind, WIDE, &[value])?,
+            holds,
+            "{value}"
         );
     }
     Ok(())

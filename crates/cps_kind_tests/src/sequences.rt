@@ -59,6 +59,40 @@ fn there_is_one_circuit(rt: HostRuntime) -> Result<(), Fail> {
     Ok(())
 }
 
+/// Two arcs from node 0 to node 1 and one back.
+fn parallel(alloc: Global) -> Result<Kind, AllocError> {
+    Ok(Kind::Circuit {
+        tails: refs(alloc, &[0, 0, 1])?,
+        heads: refs(alloc, &[1, 1, 0])?,
+        literals: refs(alloc, &[0, 1, 2])?,
+    })
+}
+
+#[test]
+fn parallel_arcs_count_each(rt: HostRuntime) -> Result<(), Fail> {
+    for (values, holds) in [([1, 0, 1], true), ([0, 1, 1], true), ([1, 1, 1], false)] {
+        let kind = parallel(rt.alloc())?;
+        assert_eq!(rt;
+            satisfy_one(&rt, rt.alloc(), kind, BITS, &values)?,
+            holds,
+            "{values:?}"
+        );
+    }
+    Ok(())
+}
+
+#[test]
+fn no_arcs_are_a_circuit(rt: HostRuntime) -> Result<(), Fail> {
+    let alloc = rt.alloc();
+    let kind = Kind::Circuit {
+        tails: refs(alloc, &[])?,
+        heads: refs(alloc, &[])?,
+        literals: refs(alloc, &[])?,
+    };
+    assert!(rt; satisfy_one(&rt, alloc, kind, BITS, &[])?);
+    Ok(())
+}
+
 #[test]
 fn inverses_lead_back(rt: HostRuntime) -> Result<(), Fail> {
     let alloc = rt.alloc();
@@ -72,6 +106,24 @@ fn inverses_lead_back(rt: HostRuntime) -> Result<(), Fail> {
         let kind = Kind::Inverse {
             direct: refs(alloc, &[0, 1, 2])?,
             inverse: refs(alloc, &[3, 4, 5])?,
+        };
+        assert_eq!(rt;
+            satisfy_one(&rt, alloc, kind, WIDE, &values)?,
+            holds,
+            "{values:?}"
+        );
+    }
+    Ok(())
+}
+
+/// The first list's first place is the opposite of a variable.
+#[test]
+fn inverses_of_opposites(rt: HostRuntime) -> Result<(), Fail> {
+    let alloc = rt.alloc();
+    for (values, holds) in [([-1, 0, 1, 0], true), ([1, 0, 1, 0], false)] {
+        let kind = Kind::Inverse {
+            direct: refs(alloc, &[-1, 1])?,
+            inverse: refs(alloc, &[2, 3])?,
         };
         assert_eq!(rt;
             satisfy_one(&rt, alloc, kind, WIDE, &values)?,
@@ -121,6 +173,24 @@ fn automata_accept_by_some_run(rt: HostRuntime) -> Result<(), Fail> {
     Ok(())
 }
 
+/// Without positions a run ends where it starts.
+#[test]
+fn an_automaton_without_positions(rt: HostRuntime) -> Result<(), Fail> {
+    let alloc = rt.alloc();
+    for (start, holds) in [(1, true), (0, false)] {
+        let kind = Kind::Automaton {
+            start,
+            finals: ints(alloc, &[1])?,
+            tails: ints(alloc, &[0])?,
+            heads: ints(alloc, &[1])?,
+            labels: ints(alloc, &[5])?,
+            exprs: constants(alloc, &[])?,
+        };
+        assert_eq!(rt; satisfy_one(&rt, alloc, kind, WIDE, &[])?, holds, "{start}");
+    }
+    Ok(())
+}
+
 /// One comes at time 0, and one goes at the first variable's time.
 fn reservoir(alloc: Global) -> Result<Kind, AllocError> {
     let mut times = constants(alloc, &[0])?.into_vec();
@@ -162,6 +232,48 @@ fn events_may_be_inactive(rt: HostRuntime) -> Result<(), Fail> {
             satisfy_one(&rt, alloc, kind, BITS, &values)?,
             holds,
             "{values:?}"
+        );
+    }
+    Ok(())
+}
+
+/// Two changes at one time; the level between them is none.
+#[test]
+fn changes_of_one_time_add_up(rt: HostRuntime) -> Result<(), Fail> {
+    let alloc = rt.alloc();
+    for (changes, holds) in [([2, -1], true), ([-1, 2], true), ([2, 0], false)] {
+        let kind = Kind::Reservoir {
+            min: 0,
+            max: 1,
+            times: constants(alloc, &[3, 3])?,
+            changes: constants(alloc, &changes)?,
+            active: refs(alloc, &[])?,
+        };
+        assert_eq!(rt;
+            satisfy_one(&rt, alloc, kind, WIDE, &[])?,
+            holds,
+            "{changes:?}"
+        );
+    }
+    Ok(())
+}
+
+/// Where literals are listed and none is true, nothing changes.
+#[test]
+fn no_event_may_be_active(rt: HostRuntime) -> Result<(), Fail> {
+    let alloc = rt.alloc();
+    for (value, holds) in [(0, true), (1, false)] {
+        let kind = Kind::Reservoir {
+            min: 0,
+            max: 1,
+            times: constants(alloc, &[3])?,
+            changes: constants(alloc, &[5])?,
+            active: refs(alloc, &[0])?,
+        };
+        assert_eq!(rt;
+            satisfy_one(&rt, alloc, kind, BITS, &[value])?,
+            holds,
+            "{value}"
         );
     }
     Ok(())

@@ -51,6 +51,29 @@ fn intervals_do_not_overlap(rt: HostRuntime) -> Result<(), Fail> {
     Ok(())
 }
 
+/// An interval of size 0 at the edge of another, and one interval named twice.
+#[test]
+fn intervals_without_size(rt: HostRuntime) -> Result<(), Fail> {
+    let alloc = rt.alloc();
+    let rows = [
+        ((5, 0), [0, 1], true),
+        ((0, 0), [0, 1], true),
+        ((3, 0), [0, 1], false),
+        ((3, 0), [1, 1], true),
+        ((3, 1), [1, 1], false),
+    ];
+    for (span, indices, holds) in rows {
+        let mut constraints = intervals(alloc, &[(0, 5), span])?;
+        constraints.push(enforced(alloc, &[], Kind::NoOverlap(refs(alloc, &indices)?))?)?;
+        assert_eq!(rt;
+            satisfy(&rt, alloc, constraints, BITS, &[1, 1])?,
+            holds,
+            "{span:?} {indices:?}"
+        );
+    }
+    Ok(())
+}
+
 #[test]
 fn loads_stay_within_the_capacity(rt: HostRuntime) -> Result<(), Fail> {
     let alloc = rt.alloc();
@@ -58,6 +81,7 @@ fn loads_stay_within_the_capacity(rt: HostRuntime) -> Result<(), Fail> {
         (3, [1, 1, 1], false),
         (4, [1, 1, 1], true),
         (2, [1, 0, 1], true),
+        (2, [0, 1, 1], true),
         (-1, [0, 0, 0], false),
     ];
     for (capacity, values, holds) in rows {
@@ -91,6 +115,27 @@ fn boxes_are_apart_one_way(rt: HostRuntime) -> Result<(), Fail> {
             satisfy(&rt, alloc, constraints, BITS, &[1, 1, 1, 1])?,
             holds,
             "{start}"
+        );
+    }
+    Ok(())
+}
+
+/// A box inside another, with and without area, and one of which an interval is absent.
+#[test]
+fn boxes_inside_others(rt: HostRuntime) -> Result<(), Fail> {
+    let alloc = rt.alloc();
+    let rows = [(0, 1, false), (1, 1, false), (1, 0, true)];
+    for (size, present, holds) in rows {
+        let mut constraints = intervals(alloc, &[(0, 5), (0, 5), (2, size), (2, size)])?;
+        let kind = Kind::NoOverlap2d {
+            x: refs(alloc, &[0, 2])?,
+            y: refs(alloc, &[1, 3])?,
+        };
+        constraints.push(enforced(alloc, &[], kind)?)?;
+        assert_eq!(rt;
+            satisfy(&rt, alloc, constraints, BITS, &[1, 1, 1, present])?,
+            holds,
+            "{size} {present}"
         );
     }
     Ok(())

@@ -1,5 +1,5 @@
-//! What the rules of a valid model are for. Each function does nothing: its contract is a law of every assignment within
-//! the domains.
+//! What the rules of a valid model are for. Each function does nothing: its contract is a law of every assignment
+//! within the domains.
 ghost use Rattle.cps_validate.specs.Laws.{IsBetweenLeastAndGreatest, DividesByNoZero, RefusesOnlyZero, HasPositiveModuli, HasSmallProducts, HasNoNegativeDemand, NamesIntervals};
 
 use crate::valid::ValidModel;
