@@ -18,8 +18,11 @@ use Rattle.cps_print.specs.declared.fault.Fault.TheVariants.{Text, Field, Rule}
 use Rattle.cps_print.specs.ReadBack.{IsReadAs}
 use Rattle.cps_print.specs.Responses.{IsShowable}
 use Rattle.cps_print.proofs.Readable.{read_is_readable}
+use Rattle.cps_schema.proofs.Opened.{model_open}
+use Rattle.cps_kinds.specs.Kinds.{AreAllPropagated}
 use Rattle.cps_search.specs.Searches.{HasNoAssumptions}
 use Rattle.cpsolve.proofs.Limits.{showable}
+use Rattle.cpsolve.proofs.Opening.{open_propagated}
 use Rattle.cpsolve.specs.declared.input.Unread.{Unread}
 use Rattle.cpsolve.specs.declared.input.Unread.TheVariants as unread
 use Rattle.cpsolve.specs.Inputs.{most_bytes, byte_of, HasNo, IsModelText, IsInput, HasFault}
@@ -88,3 +91,7 @@ meant_showable bytes m meant = showable (written bytes meant.this.tokens) meant.
 -- and has no assumptions
 pub meant_assumptions : (bytes : List ℕ) (m : CpModel) → IsMeant bytes m → HasNoAssumptions m
 meant_assumptions bytes m meant = (read_is_readable (written bytes meant.this.tokens) meant.this.tree m meant.this.read).assumptions
+
+-- and only kinds that have a propagator
+pub meant_propagated : (bytes : List ℕ) (m : CpModel) → IsMeant bytes m → AreAllPropagated m
+meant_propagated bytes m meant = open_propagated m (model_open (written bytes meant.this.tokens) meant.this.tree m meant.this.read)

@@ -1,3 +1,4 @@
+pub mod Opening
 pub mod Inputs
 pub mod Given
 pub mod Answering
