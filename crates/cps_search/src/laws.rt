@@ -21,7 +21,7 @@ ghost use Rattle.cps_search.specs.Moves.{decided, fresh};
 ghost use Rattle.cps_search.specs.Searches.{Search, IsHonestJournal, IsSoundSearch, learnt_count};
 ghost use Rattle.cps_search.specs.Ends.{IsHonestEnding, RunsInTurns, RunsTo, ending};
 
-use crate::brancher::Brancher;
+use cps_branch::Brancher;
 use cps_instance::Instance;
 
 /// What changes a store leaves clauses quiet at the levels that remain. What adds entries at the present level does so below it, whatever
