@@ -1,5 +1,5 @@
 //! Worked texts for the crates that read, judge and print models, through their public calls: bytes to tokens (`cutting`),
-//! tokens to a tree (`documents`), documents that are refused (`refusals`) and that are read (`models`), the rules of a
+//! tokens to a tree (`documents`), documents that are refused (`refusals`) and that are read (`models`, `kinds`), the rules of a
 //! valid model (`rules`), assignments of a model (`values`), and what is written of models (`printing`, and `printed_kinds`
 //! for the kinds of constraints that are closed to a user) and of answers to them (`responses`).
 //!
@@ -11,6 +11,8 @@
 mod cutting;
 #[cfg(test)]
 mod documents;
+#[cfg(test)]
+mod kinds;
 #[cfg(test)]
 mod models;
 #[cfg(test)]
