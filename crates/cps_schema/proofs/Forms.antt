@@ -34,7 +34,7 @@ pub mixed_stops : (w : Written) (m : Message) (before : List (List ℕ)) (f : Fi
 mixed_stops w m before f form content takes mixed rest = rw (takes, mixed) refl
 
 -- one name more
-next_form : (m : Message) (form : Form) (given : List ℕ) (before : List (List ℕ)) →
+pub next_form : (m : Message) (form : Form) (given : List ℕ) (before : List (List ℕ)) →
     has_other_form m form (given ∷ before) ≡ (is_other_form form (use_of m given) || has_other_form m form before)
 unfolding has_other_form
 next_form m form given before = refl
@@ -83,7 +83,7 @@ own_form Newer Older = refl
 own_form Newer Newer = refl
 
 -- what was not the other form's is that of its own alone
-joined_form : (given : Option Form) (own form : Form) → is_other given own ≡ false →
+pub joined_form : (given : Option Form) (own form : Form) → is_other given own ≡ false →
     (is_other (Some own) form || is_other given form) ≡ is_other (Some own) form
 joined_form None Older Older e = refl
 joined_form None Older Newer e = refl

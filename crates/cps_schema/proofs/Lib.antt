@@ -11,3 +11,5 @@ pub mod GivenKinds
 pub mod ModelFields
 pub mod Laws
 pub mod Loops
+pub mod TruthValues
+pub mod Gatherings

@@ -10,7 +10,7 @@ use Rattle.cps_textproto.proofs.Views.{values_of_messages}
 use Rattle.cps_model.specs.declared.fault.FaultName.TheVariants.{WrongKind}
 use Rattle.cps_schema.specs.declared.number.Number.{Number}
 use Rattle.cps_schema.specs.Written.{Written}
-use Rattle.cps_schema.specs.Tables.{Message, number, message}
+use Rattle.cps_schema.specs.Tables.{Message, number, truth, message}
 use Rattle.cps_schema.specs.Faults.{is_alone, values_fault, fields_fault}
 use Rattle.cps_schema.specs.Readings.{value_messages}
 use Rattle.cps_schema.specs.Values.{nested_tree, nested_trees, trees_fault}
@@ -74,3 +74,20 @@ pub added_step : {B : Type 0} {m : Nested} (f : Tree → B) (before after : List
     → after ≡ before ++ (f (tree_of (out-Nested m).node) ∷ [])
     → before ++ map f (nested_trees (drop i list)) ≡ after ++ map f (nested_trees (drop (i + 1) list))
 added_step f before after list i h e a = grind (arith, common_steps, tree_of_nested)
+
+-- a message stands where a truth value is taken
+truth_message : (w : Written) (m : Nested) (ms : List Nested) → values_fault w (Some truth) (nested_values (m ∷ ms)) ≡ Some (WrongKind, (out-Nested m).first)
+unfolding out-Nested denote.Hole.Carrier.out
+truth_message w (Nested' first node) ms = refl
+
+some_truth_message : (w : Written) (ms : List Nested) (m : Nested) → Some m ≡ slice_get ms 0 →
+    values_fault w (Some truth) (nested_values ms) ≡ Some (WrongKind, (out-Nested m).first)
+some_truth_message w [] m e = cc
+some_truth_message w (x ∷ ms) m e =
+    let same : m ≡ x = cc in
+    rw same (truth_message w x ms)
+
+pub no_truth_message : (w : Written) (list : Vec Nested Global) (ms : List Nested) (m : Nested) → ms ≡ list.items → Some m ≡ slice_get ms 0 →
+    values_fault w (Some truth) (values_of (Messages list)) ≡ Some (WrongKind, (out-Nested m).first)
+no_truth_message w list ms m e first =
+    ap (λ (vs : Values). values_fault w (Some truth) vs) (values_of_messages list ∙ ap nested_values (sym e)) ∙ some_truth_message w ms m first

@@ -12,7 +12,8 @@ use Rattle.cps_schema.specs.Written.{Written, token_text}
 use Rattle.cps_schema.specs.Numbers.{number_fault}
 use Rattle.cps_schema.specs.Texts.{text_at}
 use Rattle.cps_schema.specs.Members.{member_at}
-use Rattle.cps_schema.specs.Tables.{Message, model_message, Content, number, text, member, message, Use, single, repeated, formed, one_kind, unread, is_given, use_of, content_of}
+use Rattle.cps_schema.specs.Truths.{truth_at}
+use Rattle.cps_schema.specs.Tables.{Message, model_message, Content, number, truth, text, member, message, Use, single, repeated, closable, formed, formed_single, one_kind, unread, is_given, use_of, content_of}
 
 -- with the token at which it is refused
 abbrev pub refused_at : ℕ → Option FaultName → Option (FaultName × ℕ)
@@ -24,6 +25,11 @@ abbrev pub text_fault : Option (List ℕ) → Option FaultName
 text_fault None = Some WrongKind
 text_fault (Some bytes) = None
 
+-- what is wrong with one that is no truth value
+abbrev pub truth_fault : Option Bool → Option FaultName
+truth_fault None = Some WrongKind
+truth_fault (Some b) = None
+
 -- what is wrong with one that gives no member of an enum
 abbrev pub member_fault : Result ℕ FaultName → Option FaultName
 member_fault (Ok n) = None
@@ -33,6 +39,7 @@ member_fault (Err name) = Some name
 abbrev pub scalar_fault : Written → Option Content → ℕ → ℕ → Option (FaultName × ℕ)
 scalar_fault w None first end = None
 scalar_fault w (Some (number type)) first end = refused_at first (number_fault w type first)
+scalar_fault w (Some truth) first end = refused_at first (truth_fault (truth_at w first))
 scalar_fault w (Some text) first end = refused_at first (text_fault (text_at w first end))
 scalar_fault w (Some (member enum)) first end = refused_at first (member_fault (member_at w enum first))
 scalar_fault w (Some (message m)) first end = Some (WrongKind, first)
@@ -41,6 +48,7 @@ scalar_fault w (Some (message m)) first end = Some (WrongKind, first)
 abbrev pub message_fault : Option Content → ℕ → (Message → Option (FaultName × ℕ)) → Option (FaultName × ℕ)
 message_fault None first inner = None
 message_fault (Some (number type)) first inner = Some (WrongKind, first)
+message_fault (Some truth) first inner = Some (WrongKind, first)
 message_fault (Some text) first inner = Some (WrongKind, first)
 message_fault (Some (member enum)) first inner = Some (WrongKind, first)
 message_fault (Some (message m)) first inner = inner m
@@ -49,7 +57,9 @@ abbrev pub is_kind : Option Use → Bool
 is_kind None = false
 is_kind (Some (single content)) = false
 is_kind (Some (repeated content)) = false
+is_kind (Some (closable content)) = false
 is_kind (Some (formed form content)) = false
+is_kind (Some (formed_single form content)) = false
 is_kind (Some (one_kind m)) = true
 is_kind (Some unread) = false
 
@@ -60,7 +70,9 @@ has_kind m names = list_any (λ name. is_kind (use_of m name)) names
 -- the use is that of a field of the other form
 abbrev pub is_other_form : Form → Option Use → Bool
 is_other_form Older (Some (formed Newer content)) = true
+is_other_form Older (Some (formed_single Newer content)) = true
 is_other_form Newer (Some (formed Older content)) = true
+is_other_form Newer (Some (formed_single Older content)) = true
 is_other_form form other = false
 
 -- one of the names is that of a field of the other form
@@ -72,7 +84,11 @@ abbrev pub name_fault : List (List ℕ) → Message → List (List ℕ) → List
 name_fault closed m before name None = Some UnknownField
 name_fault closed m before name (Some unread) = Some Unsupported
 name_fault closed m before name (Some (repeated content)) = None
+name_fault closed m before name (Some (closable content)) = if is_given closed name then Some Unsupported else None
 name_fault closed m before name (Some (formed form content)) = if has_other_form m form before then Some MixedForms else None
+name_fault closed m before name (Some (formed_single form content)) =
+    if is_given before name then Some Repeated
+    else (if has_other_form m form before then Some MixedForms else None)
 name_fault closed m before name (Some (single content)) = if is_given before name then Some Repeated else None
 name_fault closed m before name (Some (one_kind k)) =
     if is_given closed name then Some Unsupported
@@ -102,7 +118,9 @@ abbrev pub list_fault : Written → Option Use → ℕ → Bool → Option (Faul
 list_fault w None name alone = None
 list_fault w (Some (single content)) name alone = alone_fault w name alone
 list_fault w (Some (repeated content)) name alone = None
+list_fault w (Some (closable content)) name alone = None
 list_fault w (Some (formed form content)) name alone = None
+list_fault w (Some (formed_single form content)) name alone = alone_fault w name alone
 list_fault w (Some (one_kind m)) name alone = alone_fault w name alone
 list_fault w (Some unread) name alone = None
 

@@ -4,6 +4,7 @@ pub mod Written
 pub mod Sources
 pub mod Numbers
 pub mod Texts
+pub mod Truths
 pub mod Members
 pub mod Tables
 pub mod Kinds
@@ -13,4 +14,6 @@ pub mod Answers
 pub mod Values
 pub mod Steps
 pub mod Slots
+pub mod Open
 pub mod Parts
+pub mod Gathered

@@ -1,5 +1,5 @@
 -- Which model a document is read as.
-use Rattle.std.specs.Prelude.{◌≡◌, ℕ, suc, if◌then◌else◌, List, [], ◌∷◌, ◌++◌, map, Option, Some, None, Result, Ok, Err, ℤ, pos, negsuc, zero, codes}
+use Rattle.std.specs.Prelude.{◌≡◌, ℕ, suc, Bool, true, false, ◌||◌, if◌then◌else◌, List, [], ◌∷◌, ◌++◌, map, Option, Some, None, Result, Ok, Err, ℤ, pos, negsuc, zero, codes}
 use Rattle.std.specs.Option.{unwrap_or}
 use Rattle.std.specs.Str.{bytes_eq}
 use Rattle.cps_textproto.specs.Trees.{Tree, no_fields, field, Values, no_values, scalar_value, message_value}
@@ -14,13 +14,14 @@ use Rattle.cps_model.specs.declared.steering.Select.TheVariants.{MinValue}
 use Rattle.cps_model.specs.declared.fault.FaultName.{FaultName}
 use Rattle.cps_model.specs.declared.constraint.Constraint.{Constraint}
 use Rattle.cps_model.specs.declared.constraint.Kind.{Kind}
-use Rattle.cps_model.specs.declared.constraint.Kind.TheVariants.{Empty, BoolOr, BoolAnd, AtMostOne, ExactlyOne, BoolXor, Linear, NoOverlap}
+use Rattle.cps_model.specs.declared.constraint.Kind.TheVariants.{Empty, BoolOr, BoolAnd, AtMostOne, ExactlyOne, BoolXor, Linear, IntDiv, IntMod, IntProd, LinMax, Element, Table, AllDiff, Circuit, Interval, NoOverlap, Cumulative, Inverse, Automaton, Reservoir, NoOverlap2d}
 use Rattle.cps_schema.specs.declared.kind.KindName.{KindName}
 use Rattle.cps_schema.specs.declared.kind.KindName.TheVariants as names
 use Rattle.cps_schema.specs.declared.member.Enum.{Enum}
 use Rattle.cps_schema.specs.declared.member.Enum.TheVariants.{VariableSelection, DomainReduction}
 use Rattle.cps_schema.specs.Written.{Written, token_text, number_at}
 use Rattle.cps_schema.specs.Texts.{text_at}
+use Rattle.cps_schema.specs.Truths.{truth_at}
 use Rattle.cps_schema.specs.Members.{member_at, choose_of, select_of}
 use Rattle.cps_schema.specs.Tables.{model_message}
 use Rattle.cps_schema.specs.Kinds.{kind_named}
@@ -57,6 +58,12 @@ value_members w enum no_values = []
 value_members w enum (scalar_value first end rest) = ok_or_zero (member_at w enum first) ∷ value_members w enum rest
 value_members w enum (message_value first inner rest) = value_members w enum rest
 
+-- the truth values of values
+abbrev pub value_truths : Written → Values → List Bool
+value_truths w no_values = []
+value_truths w (scalar_value first end rest) = unwrap_or (truth_at w first) false ∷ value_truths w rest
+value_truths w (message_value first inner rest) = value_truths w rest
+
 -- the messages of values
 abbrev pub value_messages : Values → List Tree
 value_messages no_values = []
@@ -81,6 +88,12 @@ members w enum name no_fields = []
 members w enum name (field token list values rest) =
     (if bytes_eq (token_text w token) name then value_members w enum values else []) ++ members w enum name rest
 
+-- their truth values
+abbrev pub truths : Written → List ℕ → Tree → List Bool
+truths w name no_fields = []
+truths w name (field token list values rest) =
+    (if bytes_eq (token_text w token) name then value_truths w values else []) ++ truths w name rest
+
 -- their messages
 abbrev pub messages : Written → List ℕ → Tree → List Tree
 messages w name no_fields = []
@@ -103,6 +116,109 @@ read_intervals w tree = numbers w (codes "intervals") tree
 abbrev pub read_linear : Written → Tree → Kind
 read_linear w tree =
     Linear (numbers w (codes "vars") tree) (numbers w (codes "coeffs") tree) (numbers w (codes "domain") tree)
+
+abbrev pub read_expression : Written → Tree → LinearExpr
+read_expression w tree = record {
+  vars = numbers w (codes "vars") tree;
+  coeffs = numbers w (codes "coeffs") tree;
+  offset = first_or (pos 0) (numbers w (codes "offset") tree);
+}
+
+-- a reference as an expression
+abbrev pub reference_expression : ℤ → LinearExpr
+reference_expression reference = record { vars = reference ∷ []; coeffs = pos 1 ∷ []; offset = pos 0 }
+
+-- the expressions of all fields of a name
+abbrev pub expressions : Written → List ℕ → Tree → List LinearExpr
+expressions w name tree = map (read_expression w) (messages w name tree)
+
+-- the same of references
+abbrev pub references : Written → List ℕ → Tree → List LinearExpr
+references w name tree = map reference_expression (numbers w name tree)
+
+-- the expression of a single field, without terms and 0 where it is not given
+abbrev pub the_expression : Written → List ℕ → Tree → LinearExpr
+the_expression w name tree = first_or (record { vars = []; coeffs = []; offset = pos 0 }) (expressions w name tree)
+
+-- the number of a single field, 0 where it is not given
+abbrev pub the_number : Written → List ℕ → Tree → ℤ
+the_number w name tree = first_or (pos 0) (numbers w name tree)
+
+-- a field of the name is given
+abbrev pub gives : Written → List ℕ → Tree → Bool
+gives w name no_fields = false
+gives w name (field token _ _ rest) = bytes_eq (token_text w token) name || gives w name rest
+
+abbrev pub read_int_div : Written → Tree → Kind
+read_int_div w tree = IntDiv (the_expression w (codes "target") tree) (expressions w (codes "exprs") tree)
+
+abbrev pub read_int_mod : Written → Tree → Kind
+read_int_mod w tree = IntMod (the_expression w (codes "target") tree) (expressions w (codes "exprs") tree)
+
+abbrev pub read_int_prod : Written → Tree → Kind
+read_int_prod w tree = IntProd (the_expression w (codes "target") tree) (expressions w (codes "exprs") tree)
+
+abbrev pub read_lin_max : Written → Tree → Kind
+read_lin_max w tree = LinMax (the_expression w (codes "target") tree) (expressions w (codes "exprs") tree)
+
+abbrev pub read_all_diff : Written → Tree → Kind
+read_all_diff w tree = AllDiff (expressions w (codes "exprs") tree)
+
+-- An element is given in the newer or the older form. One without a fault has not both.
+abbrev pub is_older_element : Written → Tree → Bool
+is_older_element w tree = gives w (codes "index") tree || gives w (codes "target") tree || gives w (codes "vars") tree
+
+abbrev pub read_newer_element : Written → Tree → Kind
+read_newer_element w tree =
+    Element (the_expression w (codes "linear_index") tree) (the_expression w (codes "linear_target") tree)
+    (expressions w (codes "exprs") tree)
+
+abbrev pub read_older_element : Written → Tree → Kind
+read_older_element w tree =
+    Element (reference_expression (the_number w (codes "index") tree)) (reference_expression (the_number w (codes "target") tree))
+    (references w (codes "vars") tree)
+
+abbrev pub read_element : Written → Tree → Kind
+read_element w tree = if is_older_element w tree then read_older_element w tree else read_newer_element w tree
+
+-- So are the expressions of a table and of an automaton.
+abbrev pub expressions_of_a_form : Written → Tree → List LinearExpr
+expressions_of_a_form w tree = expressions w (codes "exprs") tree ++ references w (codes "vars") tree
+
+abbrev pub read_table : Written → Tree → Kind
+read_table w tree =
+    Table (expressions_of_a_form w tree) (numbers w (codes "values") tree) (first_or false (truths w (codes "negated") tree))
+
+abbrev pub read_circuit : Written → Tree → Kind
+read_circuit w tree =
+    Circuit (numbers w (codes "tails") tree) (numbers w (codes "heads") tree) (numbers w (codes "literals") tree)
+
+abbrev pub read_interval : Written → Tree → Kind
+read_interval w tree =
+    Interval (the_expression w (codes "start") tree) (the_expression w (codes "end") tree) (the_expression w (codes "size") tree)
+
+abbrev pub read_cumulative : Written → Tree → Kind
+read_cumulative w tree =
+    Cumulative (the_expression w (codes "capacity") tree) (numbers w (codes "intervals") tree)
+    (expressions w (codes "demands") tree)
+
+abbrev pub read_inverse : Written → Tree → Kind
+read_inverse w tree = Inverse (numbers w (codes "f_direct") tree) (numbers w (codes "f_inverse") tree)
+
+abbrev pub read_automaton : Written → Tree → Kind
+read_automaton w tree =
+    Automaton (the_number w (codes "starting_state") tree) (numbers w (codes "final_states") tree)
+    (numbers w (codes "transition_tail") tree) (numbers w (codes "transition_head") tree)
+    (numbers w (codes "transition_label") tree) (expressions_of_a_form w tree)
+
+abbrev pub read_reservoir : Written → Tree → Kind
+read_reservoir w tree =
+    Reservoir (the_number w (codes "min_level") tree) (the_number w (codes "max_level") tree)
+    (expressions w (codes "time_exprs") tree) (expressions w (codes "level_changes") tree)
+    (numbers w (codes "active_literals") tree)
+
+abbrev pub read_boxes : Written → Tree → Kind
+read_boxes w tree = NoOverlap2d (numbers w (codes "x_intervals") tree) (numbers w (codes "y_intervals") tree)
 
 -- the kind of this name that a message gives
 abbrev pub read_kind : Written → KindName → Tree → Kind
@@ -146,17 +262,6 @@ read_objective w tree = record {
   scaling = scaling_of (first_or (pos 0) (numbers w (codes "scaling_factor") tree));
   domain = numbers w (codes "domain") tree;
 }
-
-abbrev pub read_expression : Written → Tree → LinearExpr
-read_expression w tree = record {
-  vars = numbers w (codes "vars") tree;
-  coeffs = numbers w (codes "coeffs") tree;
-  offset = first_or (pos 0) (numbers w (codes "offset") tree);
-}
-
--- a reference as an expression
-abbrev pub reference_expression : ℤ → LinearExpr
-reference_expression reference = record { vars = reference ∷ []; coeffs = pos 1 ∷ []; offset = pos 0 }
 
 -- A strategy's expressions are given in the newer or the older form. One without a fault has not both.
 abbrev pub read_strategy : Written → Tree → Strategy

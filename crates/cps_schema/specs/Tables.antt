@@ -17,7 +17,18 @@ pub data Message : Type 0 where
   constraint_message : Message
   literals_message : Message
   linear_message : Message
+  linear_argument_message : Message
+  all_diff_message : Message
+  element_message : Message
+  table_message : Message
+  circuit_message : Message
+  interval_message : Message
   no_overlap_message : Message
+  cumulative_message : Message
+  automaton_message : Message
+  inverse_message : Message
+  reservoir_message : Message
+  no_overlap_2d_message : Message
   objective_message : Message
   strategy_message : Message
   expression_message : Message
@@ -25,6 +36,7 @@ pub data Message : Type 0 where
 
 pub data Content : Type 0 where
   number : Number → Content
+  truth : Content
   text : Content
   member : Enum → Content
   message : Message → Content
@@ -35,8 +47,12 @@ pub data Use : Type 0 where
   single : Content → Use
   -- values, and those of all fields of the name add up in order
   repeated : Content → Use
+  -- the same of a field that a table can close
+  closable : Content → Use
   -- the same of a field of an older or a newer form, which do not stand in one message
   formed : Form → Content → Use
+  -- one value, in one field of the name, of such a form
+  formed_single : Form → Content → Use
   -- one message, and a constraint has at most one field of this use
   one_kind : Message → Use
   -- the field is known, and not read
@@ -78,8 +94,68 @@ table_of linear_message =
     ∷ (codes "coeffs", repeated (number Int64))
     ∷ (codes "domain", repeated (number Int64))
     ∷ []
+table_of linear_argument_message =
+    (codes "target", single (message expression_message))
+    ∷ (codes "exprs", repeated (message expression_message))
+    ∷ []
+table_of all_diff_message =
+    (codes "exprs", repeated (message expression_message))
+    ∷ []
+table_of element_message =
+    (codes "linear_index", formed_single Newer (message expression_message))
+    ∷ (codes "linear_target", formed_single Newer (message expression_message))
+    ∷ (codes "exprs", formed Newer (message expression_message))
+    ∷ (codes "index", formed_single Older (number Int32))
+    ∷ (codes "target", formed_single Older (number Int32))
+    ∷ (codes "vars", formed Older (number Int32))
+    ∷ []
+table_of table_message =
+    (codes "exprs", formed Newer (message expression_message))
+    ∷ (codes "vars", formed Older (number Int32))
+    ∷ (codes "values", repeated (number Int64))
+    ∷ (codes "negated", single truth)
+    ∷ []
+table_of circuit_message =
+    (codes "tails", repeated (number Int32))
+    ∷ (codes "heads", repeated (number Int32))
+    ∷ (codes "literals", repeated (number Int32))
+    ∷ []
+table_of interval_message =
+    (codes "start", single (message expression_message))
+    ∷ (codes "end", single (message expression_message))
+    ∷ (codes "size", single (message expression_message))
+    ∷ []
 table_of no_overlap_message =
     (codes "intervals", repeated (number Int32))
+    ∷ []
+table_of cumulative_message =
+    (codes "capacity", single (message expression_message))
+    ∷ (codes "intervals", repeated (number Int32))
+    ∷ (codes "demands", repeated (message expression_message))
+    ∷ []
+table_of automaton_message =
+    (codes "starting_state", single (number Int64))
+    ∷ (codes "final_states", repeated (number Int64))
+    ∷ (codes "transition_tail", repeated (number Int64))
+    ∷ (codes "transition_head", repeated (number Int64))
+    ∷ (codes "transition_label", repeated (number Int64))
+    ∷ (codes "exprs", formed Newer (message expression_message))
+    ∷ (codes "vars", formed Older (number Int32))
+    ∷ []
+table_of inverse_message =
+    (codes "f_direct", repeated (number Int32))
+    ∷ (codes "f_inverse", repeated (number Int32))
+    ∷ []
+table_of reservoir_message =
+    (codes "min_level", single (number Int64))
+    ∷ (codes "max_level", single (number Int64))
+    ∷ (codes "time_exprs", repeated (message expression_message))
+    ∷ (codes "level_changes", repeated (message expression_message))
+    ∷ (codes "active_literals", repeated (number Int32))
+    ∷ []
+table_of no_overlap_2d_message =
+    (codes "x_intervals", repeated (number Int32))
+    ∷ (codes "y_intervals", repeated (number Int32))
     ∷ []
 table_of objective_message =
     (codes "vars", repeated (number Int32))
@@ -132,7 +208,18 @@ unread_names constraint_message =
     ∷ []
 unread_names literals_message = []
 unread_names linear_message = []
+unread_names linear_argument_message = []
+unread_names all_diff_message = []
+unread_names element_message = []
+unread_names table_message = []
+unread_names circuit_message = []
+unread_names interval_message = []
 unread_names no_overlap_message = []
+unread_names cumulative_message = []
+unread_names automaton_message = []
+unread_names inverse_message = []
+unread_names reservoir_message = []
+unread_names no_overlap_2d_message = []
 unread_names objective_message =
     codes "scaling_was_exact"
     ∷ codes "integer_before_offset"
@@ -161,6 +248,8 @@ abbrev pub content_of : Option Use → Option Content
 content_of None = None
 content_of (Some (single content)) = Some content
 content_of (Some (repeated content)) = Some content
+content_of (Some (closable content)) = Some content
 content_of (Some (formed form content)) = Some content
+content_of (Some (formed_single form content)) = Some content
 content_of (Some (one_kind m)) = Some (message m)
 content_of (Some unread) = None

@@ -22,6 +22,7 @@ mod error;
 mod expression;
 mod float;
 mod form;
+mod gather;
 mod hint;
 mod intervals;
 mod kind;
@@ -38,6 +39,7 @@ mod single;
 mod source;
 mod strategy;
 mod text;
+mod truth;
 mod variable;
 
 pub use closed::CLOSED;

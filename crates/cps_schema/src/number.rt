@@ -62,7 +62,7 @@ pub(crate) fn is_negative(source: &Source, first: u32) -> bool
 }
 
 /// The whole number that a token of this kind writes, or the greatest of 64 bits where it is greater, if it writes one.
-fn size_of(kind: TokenKind, text: &[u8]) -> Option<u64>
+pub(crate) fn size_of(kind: TokenKind, text: &[u8]) -> Option<u64>
     ensures { result ≡ option_map capped (token_size (Some kind) text.now) }
 {
     match kind {

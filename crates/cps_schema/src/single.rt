@@ -6,7 +6,7 @@ ghost use Rattle.cps_textproto.specs.Trees.{tree_of, field_list, values_of, span
 ghost use Rattle.cps_schema.specs.declared.number.Number.{Number};
 ghost use Rattle.cps_schema.specs.Written.{Written};
 ghost use Rattle.cps_schema.specs.Sources.{written_of, single_fault};
-ghost use Rattle.cps_schema.specs.Tables.{Message, number, message};
+ghost use Rattle.cps_schema.specs.Tables.{Message, number, truth, message};
 ghost use Rattle.cps_schema.specs.Faults.{bracket, is_alone, values_fault, fields_fault};
 ghost use Rattle.cps_schema.specs.Readings.{value_numbers, value_messages};
 ghost use Rattle.cps_schema.specs.Answers.{Refuses};
@@ -178,6 +178,7 @@ pub(crate) fn single_message<'a>(source: &Source, field: &'a Field) -> Result<&'
 pub(crate) fn no_messages(messages: &Vec<Nested>) -> Result<(), SchemaError>
     ensures none { OnOk result (values_of (Items.Messages messages.now) ≡ no_values) }
     ensures err { IfErr result (λ e. (w : Written) (type : Number) → Refuses (values_fault w (Some (number type)) (values_of (Items.Messages messages.now))) e) }
+    ensures truths { IfErr result (λ e. (w : Written) → Refuses (values_fault w (Some truth) (values_of (Items.Messages messages.now))) e) }
 {
     match messages.first() {
         None => Ok(()),

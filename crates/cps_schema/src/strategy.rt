@@ -13,7 +13,7 @@ ghost use Rattle.cps_schema.specs.Parts.{strategy_from, is_other, IsStrategyGive
 
 use super::error::SchemaError;
 use super::expression::add_references;
-use super::form::Form;
+use super::form::{Form, take_form};
 use super::lists::add_refs;
 use super::member::{set_choose, set_select};
 use super::message::{Message, add_messages};
@@ -21,7 +21,7 @@ use super::names::not_read;
 use super::number::Number;
 use super::single::fields_of;
 use super::source::{Source, token_text};
-use cps_model::{Choose, FaultName, LinearExpr, Listed, Select, Strategy};
+use cps_model::{Choose, LinearExpr, Listed, Select, Strategy};
 use cps_textproto::{Field, Node};
 use std::alloc::{AllocError, Global};
 
@@ -36,40 +36,6 @@ pub struct StrategyParts {
     pub form: Option<Form>,
     pub choose: Option<Choose>,
     pub select: Option<Select>,
-}
-
-/// A form is known, and it is the other one.
-fn is_other(given: Option<Form>, form: Form) -> bool
-    ensures { result ≡ is_other given form }
-{
-    match given {
-        Some(Form::Older) => match form {
-            Form::Older => false,
-            Form::Newer => true,
-        },
-        Some(Form::Newer) => match form {
-            Form::Older => true,
-            Form::Newer => false,
-        },
-        None => false,
-    }
-}
-
-/// Notes the form of a field, which must be that of the earlier ones.
-fn take_form(given: &mut Option<Form>, form: Form, field: &Field) -> Result<(), SchemaError>
-    ensures same { OnOk result (is_other given.old form ≡ false) }
-    ensures taken { OnOk result (given.new ≡ Some form) }
-    ensures other { IfErr result (λ e. is_other given.old form ≡ true) }
-    ensures err { IfErr result (λ e. e ≡ SchemaError.Fault FaultName.MixedForms field.now.name) }
-{
-    if is_other(*given, form) {
-        return Err(SchemaError::Fault {
-            name: FaultName::MixedForms,
-            token: field.name as usize,
-        });
-    }
-    *given = Some(form);
-    Ok(())
 }
 
 /// Adds the expressions of a field of the newer form.

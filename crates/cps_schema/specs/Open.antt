@@ -1,0 +1,40 @@
+-- Which kinds a model that was read can have.
+use Rattle.std.specs.Prelude.{ℕ, Bool, true, false, not, List, All, IsTrue, codes}
+use Rattle.std.specs.List.{list_any}
+use Rattle.std.specs.Str.{bytes_eq}
+use Rattle.cps_model.specs.declared.model.CpModel.{CpModel}
+use Rattle.cps_model.specs.declared.constraint.Kind.{Kind}
+use Rattle.cps_model.specs.declared.constraint.Kind.TheVariants.{Empty, BoolOr, BoolAnd, AtMostOne, ExactlyOne, BoolXor, Linear, IntDiv, IntMod, IntProd, LinMax, Element, Table, AllDiff, Circuit, Interval, NoOverlap, Cumulative, Inverse, Automaton, Reservoir, NoOverlap2d}
+
+-- the field of this name is not closed
+abbrev pub is_open_name : List (List ℕ) → List ℕ → Bool
+is_open_name closed name = not (list_any (bytes_eq name) closed)
+
+-- a field of these that are not closed gives the kind. Some kinds are not read from any field yet.
+abbrev pub is_open : List (List ℕ) → Kind → Bool
+is_open closed Empty = true
+is_open closed (BoolOr literals) = is_open_name closed (codes "bool_or")
+is_open closed (BoolAnd literals) = is_open_name closed (codes "bool_and")
+is_open closed (AtMostOne literals) = is_open_name closed (codes "at_most_one")
+is_open closed (ExactlyOne literals) = is_open_name closed (codes "exactly_one")
+is_open closed (BoolXor literals) = is_open_name closed (codes "bool_xor")
+is_open closed (Linear vars coeffs domain) = is_open_name closed (codes "linear")
+is_open closed (IntDiv target exprs) = false
+is_open closed (IntMod target exprs) = false
+is_open closed (IntProd target exprs) = false
+is_open closed (LinMax target exprs) = false
+is_open closed (Element index target exprs) = false
+is_open closed (Table exprs values negated) = false
+is_open closed (AllDiff exprs) = false
+is_open closed (Circuit tails heads literals) = false
+is_open closed (Interval start end size) = false
+is_open closed (NoOverlap intervals) = is_open_name closed (codes "no_overlap")
+is_open closed (Cumulative capacity intervals demands) = false
+is_open closed (Inverse direct inverse) = false
+is_open closed (Automaton start finals tails heads labels exprs) = false
+is_open closed (Reservoir min max times changes active) = false
+is_open closed (NoOverlap2d x y) = false
+
+-- the kind of each constraint is open
+abbrev pub OpenKinds : List (List ℕ) → CpModel → Type 0
+OpenKinds closed model = All (λ c. IsTrue (is_open closed c.kind)) model.constraints

@@ -1,0 +1,113 @@
+//! Truth values.
+ghost use Rattle.std.specs.Prelude.{◌≡◌, ◌++◌, [], ◌∷◌, false, Some, None, OnOk, IfErr};
+ghost use Rattle.std.specs.Option.{unwrap_or};
+ghost use Rattle.cps_textproto.specs.Trees.{span_values, values_of};
+ghost use Rattle.cps_schema.specs.Sources.{written_of};
+ghost use Rattle.cps_schema.specs.Truths.{truth_named, truth_numbered, truth_of, truth_at};
+ghost use Rattle.cps_schema.specs.Tables.{truth};
+ghost use Rattle.cps_schema.specs.Faults.{refused_at, truth_fault, values_fault};
+ghost use Rattle.cps_schema.specs.Readings.{value_truths};
+ghost use Rattle.cps_schema.specs.Answers.{Refuses};
+
+use super::error::SchemaError;
+use super::number::size_of;
+use super::single::{no_messages, wrong_kind};
+use super::source::{Source, token_kind, token_text};
+use cps_lex::TokenKind;
+use cps_textproto::{Field, Item, Items, Span};
+
+/// The truth value that a word names, if it names one.
+fn truth_named(name: &[u8]) -> Option<bool>
+    ensures { result ≡ truth_named name.now }
+{
+    if name == b"true".as_slice() || name == b"True".as_slice() || name == b"t".as_slice() {
+        Some(true)
+    } else if name == b"false".as_slice() || name == b"False".as_slice() || name == b"f".as_slice() {
+        Some(false)
+    } else {
+        None
+    }
+}
+
+/// 1 is true and 0 is false.
+fn truth_numbered(size: Option<u64>) -> Option<bool>
+    ensures { result ≡ truth_numbered size }
+{
+    match size {
+        Some(1) => Some(true),
+        Some(0) => Some(false),
+        _ => None,
+    }
+}
+
+/// The truth value that a token of this kind gives, if it gives one.
+#[tactic(auto, using(crate::proofs::TruthValues::capped_truth))]
+fn truth_of(kind: TokenKind, text: &[u8]) -> Option<bool>
+    ensures { result ≡ truth_of (Some kind) text.now }
+{
+    match kind {
+        TokenKind::Identifier => truth_named(text),
+        TokenKind::Decimal | TokenKind::Octal | TokenKind::Hexadecimal => {
+            truth_numbered(size_of(kind, text))
+        }
+        TokenKind::Float | TokenKind::Text | TokenKind::Sign => None,
+    }
+}
+
+/// The truth value that the scalar at token `first` gives, if it gives one.
+#[tactic(auto, unfolding(crate::specs::Truths::truth_at))]
+fn truth_at(source: &Source, first: u32) -> Option<bool>
+    ensures { result ≡ truth_at (written_of source.now) first }
+{
+    match token_kind(source, first as usize) {
+        Some(kind) => truth_of(kind, token_text(source, first as usize)),
+        None => None,
+    }
+}
+
+/// Adds the truth value of the scalar at token `first`.
+fn add_truth(source: &Source, list: &mut Vec<bool>, first: u32) -> Result<(), SchemaError>
+    ensures fault { OnOk result (truth_fault (truth_at (written_of source.now) first) ≡ None) }
+    ensures added { OnOk result (list.new.items ≡ list.old.items ++ unwrap_or (truth_at (written_of source.now) first) false ∷ []) }
+    ensures err { IfErr result (Refuses (refused_at first (truth_fault (truth_at (written_of source.now) first)))) }
+{
+    match truth_at(source, first) {
+        Some(value) => {
+            list.push(value)?;
+            Ok(())
+        }
+        None => Err(wrong_kind(first as usize)),
+    }
+}
+
+/// Adds the truth values of the scalars of a list.
+fn add_truth_spans(source: &Source, list: &mut Vec<bool>, spans: &[Span]) -> Result<(), SchemaError>
+    ensures fault { OnOk result (values_fault (written_of source.now) (Some truth) (span_values spans.now) ≡ None) }
+    ensures added { OnOk result (list.new.items
+        ≡ list.old.items ++ value_truths (written_of source.now) (span_values spans.now)) }
+    ensures err { IfErr result (Refuses (values_fault (written_of source.now) (Some truth) (span_values spans.now))) }
+{
+    for span in spans {
+        add_truth(source, list, span.first)?;
+    }
+    Ok(())
+}
+
+/// Adds the truth values of a field.
+pub(crate) fn add_truths(
+    source: &Source,
+    list: &mut Vec<bool>,
+    field: &Field,
+) -> Result<(), SchemaError>
+    ensures fault { OnOk result (values_fault (written_of source.now) (Some truth) (values_of field.now.items) ≡ None) }
+    ensures added { OnOk result (list.new.items
+        ≡ list.old.items ++ value_truths (written_of source.now) (values_of field.now.items)) }
+    ensures err { IfErr result (Refuses (values_fault (written_of source.now) (Some truth) (values_of field.now.items))) }
+{
+    match &field.items {
+        Items::One(Item::Scalar { first, .. }) => add_truth(source, list, *first),
+        Items::One(Item::Message { first, .. }) => Err(wrong_kind(*first as usize)),
+        Items::Scalars(spans) => add_truth_spans(source, list, spans),
+        Items::Messages(messages) => no_messages(messages),
+    }
+}
