@@ -3,13 +3,15 @@ use Rattle.std.specs.Prelude.{map, if◌then◌else◌}
 use Rattle.std.specs.List.{list_all}
 use Rattle.std.specs.Str.{bytes_eq, is_utf8}
 use Rattle.std.proofs.lemmas.Int.{ints}
-use Rattle.std.proofs.Common.{◌≡◌, ℕ, zero, suc, Bool, true, false, ℤ, pos, negsuc, List, [], ◌∷◌, ◌++◌, Some, Ok, refl, sym, ap, ◌∙◌, append-nil, append_assoc, arith}
+use Rattle.std.proofs.Common.{◌≡◌, ℕ, zero, suc, Bool, true, false, ◌||◌, ℤ, pos, negsuc, List, [], ◌∷◌, ◌++◌, Some, Ok, refl, sym, ap, ◌∙◌, append-nil, append_assoc, arith}
 use Rattle.cps_lex.specs.Forms.{is_identifier}
 use Rattle.cps_schema.specs.declared.number.Number.{Number}
 use Rattle.cps_schema.specs.declared.number.Number.TheVariants.{Int64, Int32, Exact}
 use Rattle.cps_schema.specs.Numbers.{fits}
 use Rattle.cps_schema.specs.declared.member.Enum.{Enum}
 use Rattle.cps_schema.specs.Members.{member_named}
+use Rattle.cps_schema.specs.Truths.{truth_named}
+use Rattle.std.specs.Option.{unwrap_or}
 use Rattle.cps_schema.specs.Readings.{ok_or_zero}
 use Rattle.cps_schema.specs.Tables as tables
 use Rattle.cps_schema.specs.Tables.{use_of, content_of, is_given}
@@ -17,7 +19,7 @@ use Rattle.cps_print.specs.Layout.{Message, empty, number, numbers, word, quoted
 use Rattle.cps_print.specs.Fields.{followed_by, number_field, list_field, word_field, text_field, message_field, repeated_field}
 use Rattle.cps_print.proofs.Digits.{and_true}
 use Rattle.cps_print.proofs.Cuts.{IsShort, AreShort, IsPlain}
-use Rattle.cps_print.proofs.Shown.{IsAdmitted, TakesMessage, printed_numbers, printed_texts, printed_members, printed_messages}
+use Rattle.cps_print.proofs.Shown.{IsAdmitted, TakesMessage, printed_numbers, printed_texts, printed_members, printed_messages, printed_truths, is_printed}
 use Rattle.cps_print.proofs.Readable.{Each, AreFit}
 
 -- numbers that fit a type are short
@@ -113,7 +115,7 @@ pub admitted-word : (m : tables.Message) (before : List (List ℕ)) (name w : Li
 unfolding followed_by word_field
 admitted-word m before name [] enum others takes first named none some = none
 admitted-word m before name (b ∷ bytes) enum others takes first named none some =
-    (record { enum = enum; member = named.0; content = ap content_of takes; clear = rw (takes, first) refl; named = named.1 }, some)
+    (record { value = tables.member enum; content = ap content_of takes; clear = rw (takes, first) refl; named = named }, some)
 
 pub admitted-message : (m : tables.Message) (before : List (List ℕ)) (name : List ℕ) (fields others : Message) → TakesMessage m before name (λ k. IsAdmitted k [] fields) → IsAdmitted m (name ∷ before) others → IsAdmitted m before (followed_by (message_field name fields) others)
 unfolding followed_by
@@ -266,6 +268,45 @@ printed_messages-word_field name other (b ∷ bytes) = refl
 
 pub printed_messages-message_field : (name other : List ℕ) (fields : Message) → printed_messages name (message_field other fields) ≡ (if bytes_eq other name then fields ∷ [] else [])
 printed_messages-message_field name other fields = append-nil (if bytes_eq other name then fields ∷ [] else [])
+
+pub printed_truths-followed_by : (name : List ℕ) (a b : Message) → printed_truths name (followed_by a b) ≡ printed_truths name a ++ printed_truths name b
+unfolding followed_by
+printed_truths-followed_by name empty b = refl
+printed_truths-followed_by name (number other n more) b = printed_truths-followed_by name more b
+printed_truths-followed_by name (numbers other n ns more) b = printed_truths-followed_by name more b
+printed_truths-followed_by name (word other w more) b =
+    ap (λ xs. (if bytes_eq other name then unwrap_or (truth_named w) false ∷ [] else []) ++ xs) (printed_truths-followed_by name more b) ∙ sym (append_assoc (if bytes_eq other name then unwrap_or (truth_named w) false ∷ [] else []) (printed_truths name more) (printed_truths name b))
+printed_truths-followed_by name (quoted other bytes more) b = printed_truths-followed_by name more b
+printed_truths-followed_by name (message other inner more) b = printed_truths-followed_by name more b
+
+pub printed_truths-list_field : (name other : List ℕ) (ns : List ℤ) → printed_truths name (list_field other ns) ≡ []
+unfolding list_field
+printed_truths-list_field name other [] = refl
+printed_truths-list_field name other (n ∷ ns) = refl
+
+pub printed_truths-number_field : (name other : List ℕ) (z : ℤ) → printed_truths name (number_field other z) ≡ []
+unfolding number_field
+printed_truths-number_field name other (pos zero) = refl
+printed_truths-number_field name other (pos (suc n)) = refl
+printed_truths-number_field name other (negsuc n) = refl
+
+pub printed_truths-repeated_field : {X : Type 0} (name other : List ℕ) (printed : X → Message) (xs : List X) → printed_truths name (repeated_field other printed xs) ≡ []
+unfolding repeated_field
+printed_truths-repeated_field name other printed [] = refl
+printed_truths-repeated_field name other printed (x ∷ xs) = printed_truths-repeated_field name other printed xs
+
+or_assoc : (a b c : Bool) → (a || (b || c)) ≡ ((a || b) || c)
+or_assoc true b c = refl
+or_assoc false b c = refl
+
+pub is_printed-followed_by : (name : List ℕ) (a b : Message) → is_printed name (followed_by a b) ≡ (is_printed name a || is_printed name b)
+unfolding followed_by
+is_printed-followed_by name empty b = refl
+is_printed-followed_by name (number other n more) b = rw (is_printed-followed_by name more b) (or_assoc (bytes_eq other name) (is_printed name more) (is_printed name b))
+is_printed-followed_by name (numbers other n ns more) b = rw (is_printed-followed_by name more b) (or_assoc (bytes_eq other name) (is_printed name more) (is_printed name b))
+is_printed-followed_by name (word other w more) b = rw (is_printed-followed_by name more b) (or_assoc (bytes_eq other name) (is_printed name more) (is_printed name b))
+is_printed-followed_by name (quoted other bytes more) b = rw (is_printed-followed_by name more b) (or_assoc (bytes_eq other name) (is_printed name more) (is_printed name b))
+is_printed-followed_by name (message other inner more) b = rw (is_printed-followed_by name more b) (or_assoc (bytes_eq other name) (is_printed name more) (is_printed name b))
 
 choice-cons : {X : Type 0} (b : Bool) (x : X) (xs : List X) → (if b then x ∷ [] else []) ++ (if b then xs else []) ≡ (if b then x ∷ xs else [])
 choice-cons true x xs = refl

@@ -232,12 +232,15 @@ expression_readable w t e = record {
   offset = first_fit Int64 _ (numbers_fit w expression_message [] (codes "offset") Int64 t refl e);
 }
 
-references_readable : (rs : List ℤ) → AreFit Int32 rs → Each IsReadableExpression (map reference_expression rs)
+pub reference_readable : (r : ℤ) → fits Int32 r ≡ true → IsReadableExpression (reference_expression r)
 unfolding fits
+reference_readable r e = record { vars = both_true _ _ e refl; coeffs = refl; offset = refl }
+
+pub references_readable : (rs : List ℤ) → AreFit Int32 rs → Each IsReadableExpression (map reference_expression rs)
 references_readable [] e = tt
 references_readable (r ∷ rs) e =
     let both = and_true (fits Int32 r) (list_all (fits Int32) rs) e in
-    (record { vars = both_true _ _ both.0 refl; coeffs = refl; offset = refl }, references_readable rs both.1)
+    (reference_readable r both.0, references_readable rs both.1)
 
 pub strategy_readable : (w : Written) (t : Tree) → fields_fault w strategy_message [] t ≡ None → IsReadableStrategy (read_strategy w t)
 unfolding use_of

@@ -2,11 +2,11 @@
 use Rattle.std.specs.Prelude.{map, slice_get, if◌then◌else◌}
 use Rattle.std.specs.List.{list_all, AllZip}
 use Rattle.std.specs.Str.{bytes_eq, is_utf8}
-use Rattle.std.specs.Option.{option_or, option_map, option_map_or}
+use Rattle.std.specs.Option.{option_or, option_map, option_map_or, unwrap_or}
 use Rattle.std.proofs.lemmas.Slice.Eq.{bytes_eq-Decides}
 use Rattle.std.specs.Fmt.{decimal}
 use Rattle.std.proofs.lemmas.Bool.Decides.{nat_tests}
-use Rattle.std.proofs.Common.{◌≡◌, ◌≢◌, ℕ, zero, suc, ◌-◌, ◌^◌, ◌<◌, Bool, true, false, ◌==◌, ℤ, pos, negsuc, List, [], ◌∷◌, ◌++◌, take, drop, Option, Some, None, is_some, Ok, refl, sym, ap, ◌∙◌, append-nil, add-one, arith}
+use Rattle.std.proofs.Common.{◌≡◌, ◌≢◌, ℕ, zero, suc, ◌-◌, ◌^◌, ◌<◌, Bool, true, false, ◌==◌, ◌||◌, ℤ, pos, negsuc, List, [], ◌∷◌, ◌++◌, take, drop, Option, Some, None, is_some, Ok, refl, sym, ap, ◌∙◌, append-nil, add-one, arith}
 use Rattle.cps_lex.specs.declared.types.Token.{Token}
 use Rattle.cps_lex.specs.declared.types.TokenKind.TheVariants.{Identifier, Decimal, Text}
 use Rattle.cps_lex.specs.Bytes.{is_digit, is_word_start, is_word}
@@ -19,6 +19,7 @@ use Rattle.cps_schema.specs.Written.{Written, token_text, token_kind, is_negativ
 use Rattle.cps_schema.specs.Numbers.{fits, number_fault}
 use Rattle.cps_schema.specs.Texts.{text_at}
 use Rattle.cps_schema.specs.Members.{member_at, member_named}
+use Rattle.cps_schema.specs.Truths.{truth_named, truth_at}
 use Rattle.cps_schema.specs.declared.form.Form.{Form}
 use Rattle.cps_schema.specs.declared.member.Enum.{Enum}
 use Rattle.cps_schema.specs.declared.number.Number.{Number}
@@ -45,9 +46,10 @@ ShowNumbers w [] no_values = Unit {0}
 ShowNumbers w (n ∷ ns) (scalar_value first end rest) = ShowsNumber w n first × ShowNumbers w ns rest
 ShowNumbers w _ _ = ⊥
 
--- a word gives the member of that name
-abbrev pub ShowsWord : Written → List ℕ → ℕ → Type 0
-ShowsWord w x first = (enum : Enum) → member_at w enum first ≡ member_named enum false x
+-- a word gives the member and the truth value of that name
+pub record ShowsWord (w : Written) (x : List ℕ) (first : ℕ) : Type 0 where
+  pub member : (enum : Enum) → member_at w enum first ≡ member_named enum false x
+  pub truth : truth_at w first ≡ truth_named x
 
 abbrev pub Shows : Written → Message → Tree → Type 0
 Shows w empty no_fields = Unit {0}
@@ -93,10 +95,13 @@ word_positive (b ∷ bs) e =
     rw other refl
 
 word_shown : (w : Written) (k : ℕ) (x : List ℕ) → is_identifier x ≡ true → token_text w k ≡ x → token_kind w k ≡ Some Identifier → ShowsWord w x k
-unfolding member_at is_negative
-word_shown w k x e text kind = λ enum.
+unfolding member_at truth_at is_negative
+word_shown w k x e text kind =
     let positive = word_positive x e in
-    rw (text, positive, kind, text) refl
+    record {
+      member = λ enum. rw (text, positive, kind, text) refl;
+      truth = rw (kind, text) refl;
+    }
 
 not_minus : (b : ℕ) → is_digit b ≡ true → (b == 45) ≡ false
 unfolding is_digit
@@ -202,6 +207,24 @@ printed_members enum name (word other w more) =
 printed_members enum name (quoted other bytes more) = printed_members enum name more
 printed_members enum name (message other inner more) = printed_members enum name more
 
+-- the truth values that are printed as words
+abbrev pub printed_truths : List ℕ → Message → List Bool
+printed_truths name empty = []
+printed_truths name (number other n more) = printed_truths name more
+printed_truths name (numbers other n ns more) = printed_truths name more
+printed_truths name (word other w more) = (if bytes_eq other name then unwrap_or (truth_named w) false ∷ [] else []) ++ printed_truths name more
+printed_truths name (quoted other bytes more) = printed_truths name more
+printed_truths name (message other inner more) = printed_truths name more
+
+-- a field of this name is printed
+abbrev pub is_printed : List ℕ → Message → Bool
+is_printed name empty = false
+is_printed name (number other n more) = bytes_eq other name || is_printed name more
+is_printed name (numbers other n ns more) = bytes_eq other name || is_printed name more
+is_printed name (word other w more) = bytes_eq other name || is_printed name more
+is_printed name (quoted other bytes more) = bytes_eq other name || is_printed name more
+is_printed name (message other inner more) = bytes_eq other name || is_printed name more
+
 abbrev pub printed_messages : List ℕ → Message → List Message
 printed_messages name empty = []
 printed_messages name (number other n more) = printed_messages name more
@@ -263,7 +286,9 @@ abbrev pub is_listed : Option Use → Bool
 is_listed None = false
 is_listed (Some (tables.single content)) = false
 is_listed (Some (tables.repeated content)) = true
+is_listed (Some (tables.closable content)) = true
 is_listed (Some (tables.formed form content)) = true
+is_listed (Some (tables.formed_single form content)) = false
 is_listed (Some (tables.one_kind k)) = false
 is_listed (Some tables.unread) = false
 
@@ -280,13 +305,19 @@ pub record TakesNumbers (m : tables.Message) (before : List (List ℕ)) (name : 
   pub listed : is_listed (use_of m name) ≡ true
   pub fit : list_all (fits type) ns ≡ true
 
--- a word names a member of the enum that the field takes
+-- a word that is a value of this content: a member of the enum, or a truth value
+abbrev pub IsWordOf : Content → List ℕ → Type 0
+IsWordOf (tables.number type) w = ⊥
+IsWordOf tables.truth w = (b : Bool) × (truth_named w ≡ Some b)
+IsWordOf tables.text w = ⊥
+IsWordOf (tables.member enum) w = (k : ℕ) × (member_named enum false w ≡ Ok k)
+IsWordOf (tables.message m) w = ⊥
+
 pub record TakesWord (m : tables.Message) (before : List (List ℕ)) (name w : List ℕ) : Type 0 where
-  pub enum : Enum
-  pub member : ℕ
-  pub content : content_of (use_of m name) ≡ Some (tables.member enum)
+  pub value : Content
+  pub content : content_of (use_of m name) ≡ Some value
   pub clear : IsClear m before name
-  pub named : member_named enum false w ≡ Ok member
+  pub named : IsWordOf value w
 
 pub record TakesText (m : tables.Message) (before : List (List ℕ)) (name : List ℕ) : Type 0 where
   pub content : content_of (use_of m name) ≡ Some tables.text
@@ -318,6 +349,10 @@ formed k form takes apart admits = record { inner = k; content = ap content_of t
 pub alone : {m : tables.Message} {before : List (List ℕ)} {name : List ℕ} {Admits : tables.Message → Type 0} (k : tables.Message) → use_of m name ≡ Some (tables.single (tables.message k)) → is_given before name ≡ false → Admits k → TakesMessage m before name Admits
 alone k takes once admits = record { inner = k; content = ap content_of takes; clear = rw (takes, once) refl; admits = admits }
 
+pub alone_formed : {m : tables.Message} {before : List (List ℕ)} {name : List ℕ} {Admits : tables.Message → Type 0} (k : tables.Message) (form : Form) → use_of m name ≡ Some (tables.formed_single form (tables.message k)) → is_given before name ≡ false → has_other_form m form before ≡ false → Admits k → TakesMessage m before name Admits
+alone_formed k form takes once apart admits =
+    record { inner = k; content = ap content_of takes; clear = rw (takes, once, apart) refl; admits = admits }
+
 pub kind : {m : tables.Message} {before : List (List ℕ)} {name : List ℕ} {Admits : tables.Message → Type 0} (k : tables.Message) → use_of m name ≡ Some (tables.one_kind k) → is_given closed_names name ≡ false → is_given before name ≡ false → has_kind m before ≡ false → Admits k → TakesMessage m before name Admits
 kind k takes open_name once only admits =
     record { inner = k; content = ap content_of takes; clear = rw (takes, open_name, once, only) refl; admits = admits }
@@ -328,7 +363,9 @@ one_clear : (w : Written) (u : Option Use) (k : ℕ) → list_fault w u k true �
 one_clear w None k = refl
 one_clear w (Some (tables.single content)) k = refl
 one_clear w (Some (tables.repeated content)) k = refl
+one_clear w (Some (tables.closable content)) k = refl
 one_clear w (Some (tables.formed form content)) k = refl
+one_clear w (Some (tables.formed_single form content)) k = refl
 one_clear w (Some (tables.one_kind m)) k = refl
 one_clear w (Some tables.unread) k = refl
 
@@ -336,7 +373,9 @@ list_clear : (w : Written) (u : Option Use) (k : ℕ) (alone : Bool) → is_list
 list_clear w None k alone e = refl
 list_clear w (Some (tables.single content)) k alone e = cc
 list_clear w (Some (tables.repeated content)) k alone e = refl
+list_clear w (Some (tables.closable content)) k alone e = refl
 list_clear w (Some (tables.formed form content)) k alone e = refl
+list_clear w (Some (tables.formed_single form content)) k alone e = cc
 list_clear w (Some (tables.one_kind m)) k alone e = cc
 list_clear w (Some tables.unread) k alone e = refl
 
@@ -357,6 +396,13 @@ numbers_admitted w type (n ∷ ns) (scalar_value first end rest) s f =
     let both = and_true (fits type n) (list_all (fits type) ns) f in
     rw (number_admitted w type n first s.0 both.0, numbers_admitted w type ns rest s.1 both.1) refl
 numbers_admitted w type (n ∷ ns) (message_value first tree rest) s f = absurd s
+
+word_admitted : (w : Written) (value : Content) (x : List ℕ) (first end : ℕ) → ShowsWord w x first → IsWordOf value x → values_fault w (Some value) (scalar_value first end no_values) ≡ None
+word_admitted w (tables.number type) x first end s i = absurd i
+word_admitted w tables.truth x first end s i = rw (s.truth, i.1) refl
+word_admitted w tables.text x first end s i = absurd i
+word_admitted w (tables.member enum) x first end s i = rw (s.member enum, i.1) refl
+word_admitted w (tables.message m) x first end s i = absurd i
 
 -- a field without a fault of its own leaves those of the fields behind it
 field_passed : (w : Written) (m : tables.Message) (before : List (List ℕ)) (name : List ℕ) (token : ℕ) (list : Bool) (values : Values) (rest : Tree) → w.closed ≡ closed_names → token_text w token ≡ name → IsClear m before name → list_fault w (use_of m name) token (is_alone list values) ≡ None → values_fault w (content_of (use_of m name)) values ≡ None → fields_fault w m (name ∷ before) rest ≡ None → fields_fault w m before (field token list values rest) ≡ None
@@ -379,8 +425,7 @@ no_fault w m before (numbers name n ns more) (field token true values rest) c s 
     let here : values_fault w (content_of (use_of m name)) values ≡ None = rw a.0.content (numbers_admitted w a.0.type (n ∷ ns) values s.1 a.0.fit) in
     field_passed w m before name token true values rest c s.0 a.0.clear (list_clear w _ token (is_alone true values) a.0.listed) here (no_fault w m (name ∷ before) more rest c s.2 a.1)
 no_fault w m before (word name x more) (field token false (scalar_value first end no_values) rest) c s a =
-    let member : member_at w a.0.enum first ≡ Ok a.0.member = s.1 a.0.enum ∙ a.0.named in
-    let here : values_fault w (content_of (use_of m name)) (scalar_value first end no_values) ≡ None = rw (a.0.content, member) refl in
+    let here : values_fault w (content_of (use_of m name)) (scalar_value first end no_values) ≡ None = rw a.0.content (word_admitted w a.0.value x first end s.1 a.0.named) in
     field_passed w m before name token false (scalar_value first end no_values) rest c s.0 a.0.clear (one_clear w _ token) here (no_fault w m (name ∷ before) more rest c s.2 a.1)
 no_fault w m before (quoted name bytes more) (field token false (scalar_value first end no_values) rest) c s a =
     let here : values_fault w (content_of (use_of m name)) (scalar_value first end no_values) ≡ None = rw (a.0.content, s.1) refl in
@@ -405,6 +450,26 @@ content_clash m a b c d ca cb other = by (bytes_eq a b) refl where
 number_no_text : (type : Number) → tables.number type ≢ tables.text
 number_no_text type = λ e. cc
 
+word_no_number : (value : Content) (x : List ℕ) (type : Number) → IsWordOf value x → value ≢ tables.number type
+word_no_number (tables.number t) x type i = absurd i
+word_no_number tables.truth x type i = λ e. cc
+word_no_number tables.text x type i = absurd i
+word_no_number (tables.member enum) x type i = λ e. cc
+word_no_number (tables.message m) x type i = absurd i
+
+word_no_text : (value : Content) (x : List ℕ) → IsWordOf value x → value ≢ tables.text
+word_no_text (tables.number t) x i = absurd i
+word_no_text tables.truth x i = λ e. cc
+word_no_text tables.text x i = absurd i
+word_no_text (tables.member enum) x i = λ e. cc
+word_no_text (tables.message m) x i = absurd i
+
+number_no_truth : (type : Number) → tables.number type ≢ tables.truth
+number_no_truth type = λ e. cc
+
+text_no_truth : tables.text ≢ tables.truth
+text_no_truth = λ e. cc
+
 number_no_member : (type : Number) (enum : Enum) → tables.number type ≢ tables.member enum
 number_no_member type enum = λ e. cc
 
@@ -418,7 +483,7 @@ numbers-shown w m before name type (number other n more) (field token false valu
 numbers-shown w m before name type (numbers other n ns more) (field token true values rest) takes a s =
     rw (s.0, value_numbers-shown w (n ∷ ns) values s.1, numbers-shown w m (other ∷ before) name type more rest takes a.1 s.2) refl
 numbers-shown w m before name type (word other x more) (field token false (scalar_value first end no_values) rest) takes a s =
-    let apart = content_clash m other name _ _ a.0.content takes (λ e. number_no_member type a.0.enum (sym e)) in
+    let apart = content_clash m other name _ _ a.0.content takes (word_no_number a.0.value x type a.0.named) in
     rw (s.0, apart) (numbers-shown w m (other ∷ before) name type more rest takes a.1 s.2)
 numbers-shown w m before name type (quoted other bytes more) (field token false (scalar_value first end no_values) rest) takes a s =
     let apart = content_clash m other name _ _ a.0.content takes (λ e. number_no_text type (sym e)) in
@@ -436,7 +501,7 @@ texts-shown w m before name (numbers other n ns more) (field token true values r
     let apart = content_clash m other name _ _ a.0.content takes (number_no_text a.0.type) in
     rw (s.0, apart) (texts-shown w m (other ∷ before) name more rest takes a.1 s.2)
 texts-shown w m before name (word other x more) (field token false (scalar_value first end no_values) rest) takes a s =
-    let apart = content_clash m other name _ _ a.0.content takes (member_no_text a.0.enum) in
+    let apart = content_clash m other name _ _ a.0.content takes (word_no_text a.0.value x a.0.named) in
     rw (s.0, apart) (texts-shown w m (other ∷ before) name more rest takes a.1 s.2)
 texts-shown w m before name (quoted other bytes more) (field token false (scalar_value first end no_values) rest) takes a s =
     rw (s.0, s.1, texts-shown w m (other ∷ before) name more rest takes a.1 s.2) refl
@@ -453,10 +518,36 @@ members-shown w m before enum name (numbers other n ns more) (field token true v
     let apart = content_clash m other name _ _ a.0.content takes (number_no_member a.0.type enum) in
     rw (s.0, apart) (members-shown w m (other ∷ before) enum name more rest takes a.1 s.2)
 members-shown w m before enum name (word other x more) (field token false (scalar_value first end no_values) rest) takes a s =
-    rw (s.0, s.1 enum, members-shown w m (other ∷ before) enum name more rest takes a.1 s.2) refl
+    rw (s.0, s.1.member enum, members-shown w m (other ∷ before) enum name more rest takes a.1 s.2) refl
 members-shown w m before enum name (quoted other bytes more) (field token false (scalar_value first end no_values) rest) takes a s =
     let apart = content_clash m other name _ _ a.0.content takes (λ e. member_no_text enum (sym e)) in
     rw (s.0, apart) (members-shown w m (other ∷ before) enum name more rest takes a.1 s.2)
 members-shown w m before enum name (message other inner more) (field token false (message_value first tree no_values) rest) takes a s =
     rw (same_choice {X = List ℕ} (bytes_eq (token_text w token) name) []) (members-shown w m (other ∷ before) enum name more rest takes a.1 s.2)
 members-shown w m before enum name _ _ takes a s = absurd s
+
+pub truths-shown : (w : Written) (m : tables.Message) (before : List (List ℕ)) (name : List ℕ) (p : Message) (t : Tree) → content_of (use_of m name) ≡ Some tables.truth → IsAdmitted m before p → Shows w p t → readings.truths w name t ≡ printed_truths name p
+truths-shown w m before name empty no_fields takes a s = refl
+truths-shown w m before name (number other n more) (field token false values rest) takes a s =
+    let apart = content_clash m other name _ _ a.0.content takes (number_no_truth a.0.type) in
+    rw (s.0, apart) (truths-shown w m (other ∷ before) name more rest takes a.1 s.2)
+truths-shown w m before name (numbers other n ns more) (field token true values rest) takes a s =
+    let apart = content_clash m other name _ _ a.0.content takes (number_no_truth a.0.type) in
+    rw (s.0, apart) (truths-shown w m (other ∷ before) name more rest takes a.1 s.2)
+truths-shown w m before name (word other x more) (field token false (scalar_value first end no_values) rest) takes a s =
+    rw (s.0, s.1.truth, truths-shown w m (other ∷ before) name more rest takes a.1 s.2) refl
+truths-shown w m before name (quoted other bytes more) (field token false (scalar_value first end no_values) rest) takes a s =
+    let apart = content_clash m other name _ _ a.0.content takes text_no_truth in
+    rw (s.0, apart) (truths-shown w m (other ∷ before) name more rest takes a.1 s.2)
+truths-shown w m before name (message other inner more) (field token false (message_value first tree no_values) rest) takes a s =
+    rw (same_choice {X = List Bool} (bytes_eq (token_text w token) name) []) (truths-shown w m (other ∷ before) name more rest takes a.1 s.2)
+truths-shown w m before name _ _ takes a s = absurd s
+
+pub gives-shown : (w : Written) (name : List ℕ) (p : Message) (t : Tree) → Shows w p t → readings.gives w name t ≡ is_printed name p
+gives-shown w name empty no_fields s = refl
+gives-shown w name (number other n more) (field token false values rest) s = rw (s.0, gives-shown w name more rest s.2) refl
+gives-shown w name (numbers other n ns more) (field token true values rest) s = rw (s.0, gives-shown w name more rest s.2) refl
+gives-shown w name (word other x more) (field token false (scalar_value first end no_values) rest) s = rw (s.0, gives-shown w name more rest s.2) refl
+gives-shown w name (quoted other bytes more) (field token false (scalar_value first end no_values) rest) s = rw (s.0, gives-shown w name more rest s.2) refl
+gives-shown w name (message other inner more) (field token false (message_value first tree no_values) rest) s = rw (s.0, gives-shown w name more rest s.2) refl
+gives-shown w name _ _ s = absurd s
