@@ -96,15 +96,15 @@ pub slot_given : (text : List ℕ) (slots : List Slot) (slot : Slot) (before : L
 slot_given text [] slot before e given = cc
 slot_given text (s ∷ slots) slot before e given =
     by_test (bytes_eq text s.line.0.now) refl (λ n. slot_given text slots slot before n given.1) where
-  by_test : (b : Bool) → bytes_eq text s.line.0.now ≡ b → (slot_named slots text ≡ Some slot → is_given before text ≡ slot.given) →
-      is_given before text ≡ slot.given
-  by_test true t more =
-      let this : Some s ≡ Some slot = rw t at e in
-      let one : s ≡ slot = cc in
-      rw (same_bytes text s.line.0.now t, ← one) given.0
-  by_test false t more =
-      let other : slot_named slots text ≡ Some slot = rw t at e in
-      more other
+      by_test : (b : Bool) → bytes_eq text s.line.0.now ≡ b → (slot_named slots text ≡ Some slot → is_given before text ≡ slot.given) →
+          is_given before text ≡ slot.given
+      by_test true t more =
+          let this : Some s ≡ Some slot = rw t at e in
+          let one : s ≡ slot = cc in
+          rw (same_bytes text s.line.0.now t, ← one) given.0
+      by_test false t more =
+          let other : slot_named slots text ≡ Some slot = rw t at e in
+          more other
 
 both_true : (a b : Bool) → (a && b) ≡ true → (a ≡ true) × (b ≡ true)
 both_true true true e = (refl, refl)
@@ -165,19 +165,19 @@ marks_put text [] old new before e same given apart all = tt
 marks_put text (s ∷ slots) old new before e same given apart all =
     let first = apart_first s slots apart in
     by_test (bytes_eq text s.line.0.now) refl first (λ n. marks_put text slots old new before n same given first.1 all.1) where
-  by_test : (b : Bool) → bytes_eq text s.line.0.now ≡ b → LacksName s.line.0.now slots × (are_apart (lines_of slots) ≡ true) →
-      (slot_named slots text ≡ Some old → AreGiven (marks (put_named slots text new)) (text ∷ before)) →
-      AreGiven (marks (put_named (s ∷ slots) text new)) (text ∷ before)
-  by_test true t first more =
-      let this : Some s ≡ Some old = rw t at e in
-      let one : s ≡ old = cc in
-      let name : text ≡ s.line.0.now = same_bytes text s.line.0.now t in
-      let line : new.line ≡ s.line = cc in
-      let own : is_given (s.line.0.now ∷ before) s.line.0.now ≡ true = next_given s.line.0.now s.line.0.now before ∙ rw (same_itself s.line.0.now) refl in
-      rw (t, line, given, name) (own, marks_lacking s.line.0.now slots before first.0 all.1)
-  by_test false t first more =
-      let other : slot_named slots text ≡ Some old = rw t at e in
-      rw t (next_given s.line.0.now text before ∙ rw (differs_back text s.line.0.now t) all.0, more other)
+      by_test : (b : Bool) → bytes_eq text s.line.0.now ≡ b → LacksName s.line.0.now slots × (are_apart (lines_of slots) ≡ true) →
+          (slot_named slots text ≡ Some old → AreGiven (marks (put_named slots text new)) (text ∷ before)) →
+          AreGiven (marks (put_named (s ∷ slots) text new)) (text ∷ before)
+      by_test true t first more =
+          let this : Some s ≡ Some old = rw t at e in
+          let one : s ≡ old = cc in
+          let name : text ≡ s.line.0.now = same_bytes text s.line.0.now t in
+          let line : new.line ≡ s.line = cc in
+          let own : is_given (s.line.0.now ∷ before) s.line.0.now ≡ true = next_given s.line.0.now s.line.0.now before ∙ rw (same_itself s.line.0.now) refl in
+          rw (t, line, given, name) (own, marks_lacking s.line.0.now slots before first.0 all.1)
+      by_test false t first more =
+          let other : slot_named slots text ≡ Some old = rw t at e in
+          rw t (next_given s.line.0.now text before ∙ rw (differs_back text s.line.0.now t) all.0, more other)
 
 -- the slot at a place
 pub record Placed (slots : List Slot) (name : List ℕ) (place : ℕ) : Type 0 where
@@ -190,21 +190,24 @@ place_behind : (k : ℕ) (slots : List Slot) (name : List ℕ) (place : ℕ) →
 place_behind k [] name place e = cc
 place_behind k (slot ∷ slots) name place e =
     by_test (bytes_eq name slot.line.0.now) refl (λ n. place_behind (k + 1) slots name place n) where
-  by_test : (b : Bool) → bytes_eq name slot.line.0.now ≡ b →
-      (line_place (k + 1) slots name ≡ Some place → (j : ℕ) × (place ≡ j + (k + 1)) × Placed slots name j) →
-      (j : ℕ) × (place ≡ j + k) × Placed (slot ∷ slots) name j
-  by_test true t more =
-      let this : Some k ≡ Some place = rw t at e in
-      let same : place ≡ k = cc in
-      (0, same ∙ sym (zero-add k), record { within = omega arith; named = λ d. rw t refl; put = λ new. rw t refl })
-  by_test false t more =
-      let other : line_place (k + 1) slots name ≡ Some place = rw t at e in
-      let rest = more other in
-      (suc rest.0, (let same : place ≡ rest.0 + (k + 1) = rest.1 in omega arith), record {
-        within = (let below : rest.0 < length slots = rest.2.within in omega arith);
-        named = λ d. rw t (rest.2.named d);
-        put = λ new. rw t (ap (λ (ss : List Slot). slot ∷ ss) (rest.2.put new));
-      })
+      by_test : (b : Bool) → bytes_eq name slot.line.0.now ≡ b →
+          (line_place (k + 1) slots name ≡ Some place → (j : ℕ) × (place ≡ j + (k + 1)) × Placed slots name j) →
+          (j : ℕ) × (place ≡ j + k) × Placed (slot ∷ slots) name j
+      by_test true t more =
+          let this : Some k ≡ Some place = rw t at e in
+          let same : place ≡ k = cc in
+          (0, same ∙ sym (zero-add k), record { within = omega arith; named = λ d. rw t refl; put = λ new. rw t refl })
+      by_test false t more =
+          let other : line_place (k + 1) slots name ≡ Some place = rw t at e in
+          let rest = more other in (
+            suc rest.0,
+            (let same : place ≡ rest.0 + (k + 1) = rest.1 in omega arith),
+            record {
+              within = (let below : rest.0 < length slots = rest.2.within in omega arith);
+              named = λ d. rw t (rest.2.named d);
+              put = λ new. rw t (ap (λ (ss : List Slot). slot ∷ ss) (rest.2.put new));
+            },
+          )
 
 pub placed : (slots : List Slot) (name : List ℕ) (place : ℕ) → line_place 0 slots name ≡ Some place → Placed slots name place
 placed slots name place e =
@@ -309,8 +312,13 @@ or_or false b c = refl
 
 joined_assoc : (a b c : Found) → joined (joined a b) c ≡ joined a (joined b c)
 joined_assoc a b c =
-    rw (or_or a.given b.given c.given, append_assoc a.references b.references c.references, append_assoc a.numbers b.numbers c.numbers,
-    append_assoc a.truths b.truths c.truths, append_assoc a.expressions b.expressions c.expressions) refl
+    rw (
+      or_or a.given b.given c.given,
+      append_assoc a.references b.references c.references,
+      append_assoc a.numbers b.numbers c.numbers,
+      append_assoc a.truths b.truths c.truths,
+      append_assoc a.expressions b.expressions c.expressions,
+    ) refl
 
 joined_none : (w : Written) (h : Found) (contents : Contents) (name : List ℕ) → joined h (found_of w contents name no_fields) ≡ h
 joined_none w h References name = rw (or_false h.given, append-nil h.references, append-nil h.numbers, append-nil h.truths, append-nil h.expressions) refl
@@ -368,21 +376,21 @@ all_step w f rest [] old new e same added apart = cc
 all_step w f rest (s ∷ slots) old new e same added apart =
     let first = apart_first s slots apart in
     by_test (bytes_eq (token_text w f.name) s.line.0.now) refl first (λ n. all_step w f rest slots old new n same added first.1) where
-  by_test : (b : Bool) → bytes_eq (token_text w f.name) s.line.0.now ≡ b → LacksName s.line.0.now slots × (are_apart (lines_of slots) ≡ true) →
-      (slot_named slots (token_text w f.name) ≡ Some old → all_from w slots (field_then f rest) ≡ all_from w (put_named slots (token_text w f.name) new) rest) →
-      all_from w (s ∷ slots) (field_then f rest) ≡ all_from w (put_named (s ∷ slots) (token_text w f.name) new) rest
-  by_test true t first more =
-      let this : Some s ≡ Some old = rw t at e in
-      let one : s ≡ old = cc in
-      let name : token_text w f.name ≡ s.line.0.now = same_bytes (token_text w f.name) s.line.0.now t in
-      let lacks : LacksName (token_text w f.name) slots = rw name first.0 in
-      let own : found_from w (field_then f rest) s ≡ found_from w rest new = own_slot w f rest s new t (rw one same) (rw one added) in
-      rw t (ap (λ (h : Found). h ∷ all_from w slots (field_then f rest)) own
-      ∙ ap (λ (hs : List Found). found_from w rest new ∷ hs) (all_lacking w f rest slots lacks))
-  by_test false t first more =
-      let other : slot_named slots (token_text w f.name) ≡ Some old = rw t at e in
-      rw t (ap (λ (h : Found). h ∷ all_from w slots (field_then f rest)) (other_slot w f rest s t)
-      ∙ ap (λ (hs : List Found). found_from w rest s ∷ hs) (more other))
+      by_test : (b : Bool) → bytes_eq (token_text w f.name) s.line.0.now ≡ b → LacksName s.line.0.now slots × (are_apart (lines_of slots) ≡ true) →
+          (slot_named slots (token_text w f.name) ≡ Some old → all_from w slots (field_then f rest) ≡ all_from w (put_named slots (token_text w f.name) new) rest) →
+          all_from w (s ∷ slots) (field_then f rest) ≡ all_from w (put_named (s ∷ slots) (token_text w f.name) new) rest
+      by_test true t first more =
+          let this : Some s ≡ Some old = rw t at e in
+          let one : s ≡ old = cc in
+          let name : token_text w f.name ≡ s.line.0.now = same_bytes (token_text w f.name) s.line.0.now t in
+          let lacks : LacksName (token_text w f.name) slots = rw name first.0 in
+          let own : found_from w (field_then f rest) s ≡ found_from w rest new = own_slot w f rest s new t (rw one same) (rw one added) in
+          rw t (ap (λ (h : Found). h ∷ all_from w slots (field_then f rest)) own
+          ∙ ap (λ (hs : List Found). found_from w rest new ∷ hs) (all_lacking w f rest slots lacks))
+      by_test false t first more =
+          let other : slot_named slots (token_text w f.name) ≡ Some old = rw t at e in
+          rw t (ap (λ (h : Found). h ∷ all_from w slots (field_then f rest)) (other_slot w f rest s t)
+          ∙ ap (λ (hs : List Found). found_from w rest s ∷ hs) (more other))
 
 -- before any field, and behind the last
 

@@ -1,20 +1,26 @@
 -- The kinds among a constraint's fields.
+use Rattle.std.specs.Option.{option_to_list}
 use Rattle.std.specs.List.{find}
 use Rattle.std.specs.Str.{bytes_eq}
 use Rattle.std.proofs.lemmas.Slice.Eq.{bytes_eq-Decides}
-use Rattle.std.proofs.Common.{◌≡◌, ℕ, List, [], ◌∷◌, ◌||◌, Bool, true, false, cond, if◌then◌else◌, map, Option, Some, None, is_some, Result, Ok, Err, OnOk, IfErr, codes, refl, ap, ◌∙◌}
+use Rattle.std.proofs.Common.{◌≡◌, ℕ, ℤ, List, [], ◌∷◌, ◌++◌, append_assoc, ◌||◌, Bool, true, false, cond, if◌then◌else◌, map, Option, Some, None, is_some, Result, Ok, Err, OnOk, IfErr, codes, refl, sym, ap, ◌∙◌}
 use Rattle.cps_textproto.specs.declared.tree.Field.{Field}
+use Rattle.cps_textproto.specs.Trees.{Tree, values_of}
+use Rattle.cps_model.specs.declared.constraint.Constraint.{Constraint}
+use Rattle.cps_model.specs.declared.constraint.Kind.{Kind}
+use Rattle.cps_model.specs.declared.constraint.Kind.TheVariants.{Empty}
 use Rattle.cps_schema.specs.declared.error.SchemaError.{SchemaError}
 use Rattle.cps_schema.specs.declared.constraint.ConstraintParts.{ConstraintParts}
 use Rattle.cps_schema.specs.declared.kind.GivenKind.{GivenKind}
 use Rattle.cps_schema.specs.declared.kind.KindName.{KindName}
-use Rattle.cps_schema.specs.declared.kind.KindName.TheVariants.{BoolOr, BoolAnd, AtMostOne, ExactlyOne, BoolXor, Linear, NoOverlap}
+use Rattle.cps_schema.specs.declared.kind.KindName.TheVariants.{BoolOr, BoolAnd, AtMostOne, ExactlyOne, BoolXor, IntDiv, IntMod, IntProd, LinMax, Linear, AllDiff, Element, Circuit, Table, Interval, NoOverlap, Cumulative, Automaton, Inverse, Reservoir, NoOverlap2d}
 use Rattle.cps_schema.specs.Written.{Written, token_text}
 use Rattle.cps_schema.specs.Tables.{Message, constraint_message, Use, one_kind, use_in, table_of, use_of}
 use Rattle.cps_schema.specs.Kinds.{kinds_read, field_name, message_of, kind_named}
 use Rattle.cps_schema.specs.Faults.{is_kind, has_kind}
-use Rattle.cps_schema.specs.Steps.{Passes, Stops, KindPasses, KindStops}
-use Rattle.cps_schema.specs.Parts.{is_given_as, IsKindGiven, IsConstraintGiven}
+use Rattle.cps_schema.specs.Readings.{first_or, numbers, texts, value_messages, read_kind, kinds_of, given_kinds}
+use Rattle.cps_schema.specs.Steps.{field_then, Passes, Stops, KindPasses, KindStops}
+use Rattle.cps_schema.specs.Parts.{kind_list, constraint_from, is_given_as, IsKindGiven, IsConstraintGiven}
 use Rattle.cps_schema.proofs.Steps.{next_given}
 
 -- one name more
@@ -41,8 +47,22 @@ kind_use BoolAnd = refl
 kind_use AtMostOne = refl
 kind_use ExactlyOne = refl
 kind_use BoolXor = refl
+kind_use IntDiv = refl
+kind_use IntMod = refl
+kind_use IntProd = refl
+kind_use LinMax = refl
 kind_use Linear = refl
+kind_use AllDiff = refl
+kind_use Element = refl
+kind_use Circuit = refl
+kind_use Table = refl
+kind_use Interval = refl
 kind_use NoOverlap = refl
+kind_use Cumulative = refl
+kind_use Automaton = refl
+kind_use Inverse = refl
+kind_use Reservoir = refl
+kind_use NoOverlap2d = refl
 
 enforcement_is_no_kind : is_kind (use_of constraint_message (codes "enforcement_literal")) ≡ false
 unfolding use_of
@@ -58,8 +78,22 @@ name_apart BoolAnd = refl
 name_apart AtMostOne = refl
 name_apart ExactlyOne = refl
 name_apart BoolXor = refl
+name_apart IntDiv = refl
+name_apart IntMod = refl
+name_apart IntProd = refl
+name_apart LinMax = refl
 name_apart Linear = refl
+name_apart AllDiff = refl
+name_apart Element = refl
+name_apart Circuit = refl
+name_apart Table = refl
+name_apart Interval = refl
 name_apart NoOverlap = refl
+name_apart Cumulative = refl
+name_apart Automaton = refl
+name_apart Inverse = refl
+name_apart Reservoir = refl
+name_apart NoOverlap2d = refl
 
 apart_name : (kind : KindName) → bytes_eq (codes "name") (field_name kind) ≡ false
 apart_name BoolOr = refl
@@ -67,8 +101,22 @@ apart_name BoolAnd = refl
 apart_name AtMostOne = refl
 apart_name ExactlyOne = refl
 apart_name BoolXor = refl
+apart_name IntDiv = refl
+apart_name IntMod = refl
+apart_name IntProd = refl
+apart_name LinMax = refl
 apart_name Linear = refl
+apart_name AllDiff = refl
+apart_name Element = refl
+apart_name Circuit = refl
+apart_name Table = refl
+apart_name Interval = refl
 apart_name NoOverlap = refl
+apart_name Cumulative = refl
+apart_name Automaton = refl
+apart_name Inverse = refl
+apart_name Reservoir = refl
+apart_name NoOverlap2d = refl
 
 enforcement_apart : (kind : KindName) → bytes_eq (field_name kind) (codes "enforcement_literal") ≡ false
 enforcement_apart BoolOr = refl
@@ -76,8 +124,22 @@ enforcement_apart BoolAnd = refl
 enforcement_apart AtMostOne = refl
 enforcement_apart ExactlyOne = refl
 enforcement_apart BoolXor = refl
+enforcement_apart IntDiv = refl
+enforcement_apart IntMod = refl
+enforcement_apart IntProd = refl
+enforcement_apart LinMax = refl
 enforcement_apart Linear = refl
+enforcement_apart AllDiff = refl
+enforcement_apart Element = refl
+enforcement_apart Circuit = refl
+enforcement_apart Table = refl
+enforcement_apart Interval = refl
 enforcement_apart NoOverlap = refl
+enforcement_apart Cumulative = refl
+enforcement_apart Automaton = refl
+enforcement_apart Inverse = refl
+enforcement_apart Reservoir = refl
+enforcement_apart NoOverlap2d = refl
 
 -- the line of a kind in the table
 abbrev line_of : KindName → List ℕ × Use
@@ -187,3 +249,41 @@ pub kind_field_stops : (w : Written) (f : Field) (kind : KindName) (r : Result (
     IfErr r (λ e. (before : List (List ℕ)) → IsConstraintGiven old before → Stops w constraint_message before f e)
 kind_field_stops w f kind (Ok x) old named stops = stops
 kind_field_stops w f kind (Err e) old named stops = λ before given. field_stops w f kind (Err e) old.given named stops before given.kind
+
+other_texts : (w : Written) (f : Field) (rest : Tree) (name : List ℕ) → bytes_eq (token_text w f.name) name ≡ false →
+    texts w name (field_then f rest) ≡ texts w name rest
+other_texts w f rest name e = rw e refl
+
+other_numbers : (w : Written) (f : Field) (rest : Tree) (name : List ℕ) → bytes_eq (token_text w f.name) name ≡ false →
+    numbers w name (field_then f rest) ≡ numbers w name rest
+other_numbers w f rest name e = rw e refl
+
+same_constraint : (name : Option (List ℕ)) (enforcement : List ℤ) (n m : List (List ℕ)) (d e : List ℤ) (k l : Kind) → n ≡ m → d ≡ e → k ≡ l →
+    ◌≡◌ {A = Constraint} (record { name = first_or [] (option_to_list name ++ n); enforcement = enforcement ++ d; kind = k })
+    (record { name = first_or [] (option_to_list name ++ m); enforcement = enforcement ++ e; kind = l })
+same_constraint name enforcement n m d e k l a b c = rw (a, b, c) refl
+
+-- one kind more
+kinds_more : (old new more : List Kind) (rest : List Kind) → new ≡ old ++ more → first_or Empty (old ++ (more ++ rest)) ≡ first_or Empty (new ++ rest)
+kinds_more old new more rest e = rw (e, append_assoc old more rest) refl
+
+pub kind_field_read : (w : Written) (f : Field) (kind : KindName) (r : Result (Unit {0}) SchemaError) (old new : ConstraintParts) →
+    new.name ≡ old.name → new.enforcement ≡ old.enforcement → kind_named (token_text w f.name) ≡ Some kind →
+    OnOk r (kind_list new.given ≡ kind_list old.given ++ map (read_kind w kind) (value_messages (values_of f.items))) →
+    OnOk r ((rest : Tree) → constraint_from w old (field_then f rest) ≡ constraint_from w new rest)
+kind_field_read w f kind (Ok x) old new same kept named added = λ rest.
+    let text = named_text (token_text w f.name) kind named in
+    let given : List Kind = map (read_kind w kind) (value_messages (values_of f.items)) in
+    let kinds : first_or Empty (kind_list old.given ++ given_kinds w (field_then f rest)) ≡ first_or Empty (kind_list old.given ++ (given ++ given_kinds w rest)) =
+    ap (λ (k : Option KindName). first_or Empty (kind_list old.given ++ (kinds_of w k (value_messages (values_of f.items)) ++ given_kinds w rest))) named in
+    rw (same, kept)
+    (same_constraint old.name old.enforcement.items (texts w (codes "name") (field_then f rest)) (texts w (codes "name") rest)
+    (numbers w (codes "enforcement_literal") (field_then f rest)) (numbers w (codes "enforcement_literal") rest)
+    (first_or Empty (kind_list old.given ++ given_kinds w (field_then f rest))) (first_or Empty (kind_list new.given ++ given_kinds w rest))
+    (other_texts w f rest (codes "name") (rw text (name_apart kind))) (other_numbers w f rest (codes "enforcement_literal") (rw text (enforcement_apart kind)))
+    (kinds ∙ kinds_more (kind_list old.given) (kind_list new.given) given (given_kinds w rest) added))
+kind_field_read w f kind (Err e) old new same kept named added = added
+
+-- the kind of the text that a name is
+pub named_as : (name text : List ℕ) (kind : Option KindName) → name ≡ text → kind ≡ kind_named name → kind_named text ≡ kind
+named_as name text kind same named = ap kind_named (sym same) ∙ sym named

@@ -3,6 +3,9 @@ use Rattle.std.specs.Prelude.{◌≡◌, ℕ, ◌+◌, Bool, true, false, ◌&&�
 use Rattle.std.specs.Option.{option_or}
 use Rattle.std.specs.List.{list_any}
 use Rattle.std.specs.Str.{bytes_eq}
+use Rattle.std.specs.Global.{Global}
+use Rattle.std.specs.declared.vec.IntoIter.{IntoIter}
+use Rattle.std.specs.Vec.Iter.{into_iter_items}
 use Rattle.cps_textproto.specs.declared.tree.Field.{Field}
 use Rattle.cps_textproto.specs.Trees.{Tree, Values, values_of}
 use Rattle.cps_model.specs.declared.fault.FaultName.{FaultName}
@@ -20,7 +23,7 @@ use Rattle.cps_schema.specs.declared.gather.Gathered.{Gathered}
 use Rattle.cps_schema.specs.Written.{Written, token_text}
 use Rattle.cps_schema.specs.Tables.{Message, Content, number, truth, message, expression_message, Use, single, repeated, formed, formed_single, Table, table_of, unread_names}
 use Rattle.cps_schema.specs.Faults.{refused_at, is_alone, alone_fault, has_other_form, values_fault}
-use Rattle.cps_schema.specs.Readings.{value_numbers, value_truths, value_messages, read_expression, numbers, truths, expressions, gives}
+use Rattle.cps_schema.specs.Readings.{first_or, value_numbers, value_truths, value_messages, read_expression, numbers, truths, expressions, gives}
 use Rattle.cps_schema.specs.Slots.{AreGiven}
 use Rattle.cps_schema.specs.Parts.{is_other}
 
@@ -167,3 +170,15 @@ form_behind given (OneOf form contents) = Some form
 abbrev pub line_place : ℕ → List Slot → List ℕ → Option ℕ
 line_place k [] name = None
 line_place k (slot ∷ slots) name = if bytes_eq name slot.line.0.now then Some k else line_place (k + 1) slots name
+
+-- what the slots give that are left
+abbrev pub left : IntoIter Slot Global → List Found
+left slots = map held (into_iter_items slots)
+
+abbrev pub behind_first : List Found → List Found
+behind_first [] = []
+behind_first (f ∷ fs) = fs
+
+-- what the first of these gives, and nothing where there is none
+abbrev pub next : List Found → Found
+next fs = first_or nothing fs

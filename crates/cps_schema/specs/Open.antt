@@ -10,7 +10,7 @@ use Rattle.cps_model.specs.declared.constraint.Kind.TheVariants.{Empty, BoolOr, 
 abbrev pub is_open_name : List (List ℕ) → List ℕ → Bool
 is_open_name closed name = not (list_any (bytes_eq name) closed)
 
--- a field of these that are not closed gives the kind. Some kinds are not read from any field yet.
+-- the field that gives the kind is not closed
 abbrev pub is_open : List (List ℕ) → Kind → Bool
 is_open closed Empty = true
 is_open closed (BoolOr literals) = is_open_name closed (codes "bool_or")
@@ -18,22 +18,22 @@ is_open closed (BoolAnd literals) = is_open_name closed (codes "bool_and")
 is_open closed (AtMostOne literals) = is_open_name closed (codes "at_most_one")
 is_open closed (ExactlyOne literals) = is_open_name closed (codes "exactly_one")
 is_open closed (BoolXor literals) = is_open_name closed (codes "bool_xor")
+is_open closed (IntDiv target exprs) = is_open_name closed (codes "int_div")
+is_open closed (IntMod target exprs) = is_open_name closed (codes "int_mod")
+is_open closed (IntProd target exprs) = is_open_name closed (codes "int_prod")
+is_open closed (LinMax target exprs) = is_open_name closed (codes "lin_max")
 is_open closed (Linear vars coeffs domain) = is_open_name closed (codes "linear")
-is_open closed (IntDiv target exprs) = false
-is_open closed (IntMod target exprs) = false
-is_open closed (IntProd target exprs) = false
-is_open closed (LinMax target exprs) = false
-is_open closed (Element index target exprs) = false
-is_open closed (Table exprs values negated) = false
-is_open closed (AllDiff exprs) = false
-is_open closed (Circuit tails heads literals) = false
-is_open closed (Interval start end size) = false
+is_open closed (AllDiff exprs) = is_open_name closed (codes "all_diff")
+is_open closed (Element index target exprs) = is_open_name closed (codes "element")
+is_open closed (Circuit tails heads literals) = is_open_name closed (codes "circuit")
+is_open closed (Table exprs values negated) = is_open_name closed (codes "table")
+is_open closed (Interval start end size) = is_open_name closed (codes "interval")
 is_open closed (NoOverlap intervals) = is_open_name closed (codes "no_overlap")
-is_open closed (Cumulative capacity intervals demands) = false
-is_open closed (Inverse direct inverse) = false
-is_open closed (Automaton start finals tails heads labels exprs) = false
-is_open closed (Reservoir min max times changes active) = false
-is_open closed (NoOverlap2d x y) = false
+is_open closed (Cumulative capacity intervals demands) = is_open_name closed (codes "cumulative")
+is_open closed (Automaton start finals tails heads labels exprs) = is_open_name closed (codes "automaton")
+is_open closed (Inverse direct inverse) = is_open_name closed (codes "inverse")
+is_open closed (Reservoir min max times changes active) = is_open_name closed (codes "reservoir")
+is_open closed (NoOverlap2d x y) = is_open_name closed (codes "no_overlap_2d")
 
 -- the kind of each constraint is open
 abbrev pub OpenKinds : List (List ℕ) → CpModel → Type 0

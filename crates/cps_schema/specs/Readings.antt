@@ -136,9 +136,13 @@ expressions w name tree = map (read_expression w) (messages w name tree)
 abbrev pub references : Written → List ℕ → Tree → List LinearExpr
 references w name tree = map reference_expression (numbers w name tree)
 
--- the expression of a single field, without terms and 0 where it is not given
+-- the expression without terms that is 0
+abbrev pub no_expression : LinearExpr
+no_expression = record { vars = []; coeffs = []; offset = pos 0 }
+
+-- the expression of a single field, and that one where it is not given
 abbrev pub the_expression : Written → List ℕ → Tree → LinearExpr
-the_expression w name tree = first_or (record { vars = []; coeffs = []; offset = pos 0 }) (expressions w name tree)
+the_expression w name tree = first_or no_expression (expressions w name tree)
 
 -- the number of a single field, 0 where it is not given
 abbrev pub the_number : Written → List ℕ → Tree → ℤ
@@ -227,8 +231,22 @@ read_kind w names.BoolAnd tree = BoolAnd (read_literals w tree)
 read_kind w names.AtMostOne tree = AtMostOne (read_literals w tree)
 read_kind w names.ExactlyOne tree = ExactlyOne (read_literals w tree)
 read_kind w names.BoolXor tree = BoolXor (read_literals w tree)
+read_kind w names.IntDiv tree = read_int_div w tree
+read_kind w names.IntMod tree = read_int_mod w tree
+read_kind w names.IntProd tree = read_int_prod w tree
+read_kind w names.LinMax tree = read_lin_max w tree
 read_kind w names.Linear tree = read_linear w tree
+read_kind w names.AllDiff tree = read_all_diff w tree
+read_kind w names.Element tree = read_element w tree
+read_kind w names.Circuit tree = read_circuit w tree
+read_kind w names.Table tree = read_table w tree
+read_kind w names.Interval tree = read_interval w tree
 read_kind w names.NoOverlap tree = NoOverlap (read_intervals w tree)
+read_kind w names.Cumulative tree = read_cumulative w tree
+read_kind w names.Automaton tree = read_automaton w tree
+read_kind w names.Inverse tree = read_inverse w tree
+read_kind w names.Reservoir tree = read_reservoir w tree
+read_kind w names.NoOverlap2d tree = read_boxes w tree
 
 -- the kinds that messages give
 abbrev pub kinds_of : Written → Option KindName → List Tree → List Kind

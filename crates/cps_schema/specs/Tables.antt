@@ -83,8 +83,22 @@ table_of constraint_message =
     ∷ (codes "at_most_one", one_kind literals_message)
     ∷ (codes "exactly_one", one_kind literals_message)
     ∷ (codes "bool_xor", one_kind literals_message)
+    ∷ (codes "int_div", one_kind linear_argument_message)
+    ∷ (codes "int_mod", one_kind linear_argument_message)
+    ∷ (codes "int_prod", one_kind linear_argument_message)
+    ∷ (codes "lin_max", one_kind linear_argument_message)
     ∷ (codes "linear", one_kind linear_message)
+    ∷ (codes "all_diff", one_kind all_diff_message)
+    ∷ (codes "element", one_kind element_message)
+    ∷ (codes "circuit", one_kind circuit_message)
+    ∷ (codes "table", one_kind table_message)
+    ∷ (codes "interval", one_kind interval_message)
     ∷ (codes "no_overlap", one_kind no_overlap_message)
+    ∷ (codes "cumulative", one_kind cumulative_message)
+    ∷ (codes "automaton", one_kind automaton_message)
+    ∷ (codes "inverse", one_kind inverse_message)
+    ∷ (codes "reservoir", one_kind reservoir_message)
+    ∷ (codes "no_overlap_2d", one_kind no_overlap_2d_message)
     ∷ []
 table_of literals_message =
     (codes "literals", repeated (number Int32))
@@ -189,21 +203,7 @@ unread_names model_message =
     ∷ []
 unread_names variable_message = []
 unread_names constraint_message =
-    codes "int_div"
-    ∷ codes "int_mod"
-    ∷ codes "int_prod"
-    ∷ codes "lin_max"
-    ∷ codes "all_diff"
-    ∷ codes "element"
-    ∷ codes "circuit"
-    ∷ codes "table"
-    ∷ codes "interval"
-    ∷ codes "cumulative"
-    ∷ codes "automaton"
-    ∷ codes "inverse"
-    ∷ codes "reservoir"
-    ∷ codes "no_overlap_2d"
-    ∷ codes "routes"
+    codes "routes"
     ∷ codes "dummy_constraint"
     ∷ []
 unread_names literals_message = []

@@ -3,4 +3,20 @@
 //! is taken out opens the field.
 
 /// The names of these fields.
-pub const CLOSED: [&[u8]; 1] = [b"no_overlap"];
+pub const CLOSED: [&[u8]; 15] = [
+    b"int_div",
+    b"int_mod",
+    b"int_prod",
+    b"lin_max",
+    b"all_diff",
+    b"element",
+    b"circuit",
+    b"table",
+    b"interval",
+    b"no_overlap",
+    b"cumulative",
+    b"automaton",
+    b"inverse",
+    b"reservoir",
+    b"no_overlap_2d",
+];

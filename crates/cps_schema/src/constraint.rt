@@ -23,24 +23,7 @@ use cps_model::{Constraint, Kind, Listed, Text};
 use cps_textproto::{Field, Node};
 use std::alloc::Global;
 
-const UNREAD: [&[u8]; 16] = [
-    b"int_div",
-    b"int_mod",
-    b"int_prod",
-    b"lin_max",
-    b"all_diff",
-    b"element",
-    b"circuit",
-    b"table",
-    b"interval",
-    b"cumulative",
-    b"automaton",
-    b"inverse",
-    b"reservoir",
-    b"no_overlap_2d",
-    b"routes",
-    b"dummy_constraint",
-];
+const UNREAD: [&[u8]; 2] = [b"routes", b"dummy_constraint"];
 
 /// What was read so far of a constraint.
 #[derive(Drop)]

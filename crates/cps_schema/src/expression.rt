@@ -104,7 +104,7 @@ impl Message for LinearExpr {
 }
 
 /// A reference as an expression.
-fn reference_expression(alloc: Global, reference: i32) -> Result<LinearExpr, AllocError>
+pub(crate) fn reference_expression(alloc: Global, reference: i32) -> Result<LinearExpr, AllocError>
     ensures { IfOk result (λ expression. expression ≡ reference_expression reference) }
 {
     let mut vars = Vec::with_capacity(alloc, 1)?;

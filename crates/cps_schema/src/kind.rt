@@ -1,6 +1,8 @@
 //! The kinds of constraints.
 ghost use Rattle.std.specs.Prelude.{◌≡◌, ◌++◌, [], ◌∷◌, false, true, Some, None, map, is_some, OnOk, IfOk, IfErr};
 ghost use Rattle.std.specs.Option.{option_or};
+ghost use Rattle.std.specs.List.{find};
+ghost use Rattle.std.specs.Str.{bytes_eq};
 ghost use Rattle.cps_textproto.specs.Trees.{tree_of, values_of};
 ghost use Rattle.cps_schema.specs.Sources.{written_of, single_fault};
 ghost use Rattle.cps_schema.specs.Written.{token_text};
@@ -12,13 +14,24 @@ ghost use Rattle.cps_schema.specs.Answers.{Refuses};
 ghost use Rattle.cps_schema.specs.Steps.{KindPasses, KindStops};
 ghost use Rattle.cps_schema.specs.Parts.{kind_list, is_given_as};
 
+use super::all_diff::read_all_diff;
+use super::argument::{read_int_div, read_int_mod, read_int_prod, read_lin_max};
+use super::automaton::read_automaton;
+use super::boxes::read_boxes;
+use super::circuit::read_circuit;
+use super::cumulative::read_cumulative;
+use super::element::read_element;
 use super::error::SchemaError;
+use super::interval::read_interval;
 use super::intervals::read_intervals;
+use super::inverse::read_inverse;
 use super::linear::read_linear;
 use super::literals::read_literals;
 use super::names::is_given;
+use super::reservoir::read_reservoir;
 use super::single::single_message;
 use super::source::{Source, token_text};
+use super::table::read_table;
 use cps_model::{FaultName, Kind};
 use cps_textproto::{Field, Node};
 use std::alloc::Global;
@@ -31,18 +44,46 @@ pub enum KindName {
     AtMostOne,
     ExactlyOne,
     BoolXor,
+    IntDiv,
+    IntMod,
+    IntProd,
+    LinMax,
     Linear,
+    AllDiff,
+    Element,
+    Circuit,
+    Table,
+    Interval,
     NoOverlap,
+    Cumulative,
+    Automaton,
+    Inverse,
+    Reservoir,
+    NoOverlap2d,
 }
 
-const KINDS: [KindName; 7] = [
+const KINDS: [KindName; 21] = [
     KindName::BoolOr,
     KindName::BoolAnd,
     KindName::AtMostOne,
     KindName::ExactlyOne,
     KindName::BoolXor,
+    KindName::IntDiv,
+    KindName::IntMod,
+    KindName::IntProd,
+    KindName::LinMax,
     KindName::Linear,
+    KindName::AllDiff,
+    KindName::Element,
+    KindName::Circuit,
+    KindName::Table,
+    KindName::Interval,
     KindName::NoOverlap,
+    KindName::Cumulative,
+    KindName::Automaton,
+    KindName::Inverse,
+    KindName::Reservoir,
+    KindName::NoOverlap2d,
 ];
 
 /// A kind that was read.
@@ -62,21 +103,42 @@ fn field_name(kind: KindName) -> &'static [u8]
         KindName::AtMostOne => b"at_most_one",
         KindName::ExactlyOne => b"exactly_one",
         KindName::BoolXor => b"bool_xor",
+        KindName::IntDiv => b"int_div",
+        KindName::IntMod => b"int_mod",
+        KindName::IntProd => b"int_prod",
+        KindName::LinMax => b"lin_max",
         KindName::Linear => b"linear",
+        KindName::AllDiff => b"all_diff",
+        KindName::Element => b"element",
+        KindName::Circuit => b"circuit",
+        KindName::Table => b"table",
+        KindName::Interval => b"interval",
         KindName::NoOverlap => b"no_overlap",
+        KindName::Cumulative => b"cumulative",
+        KindName::Automaton => b"automaton",
+        KindName::Inverse => b"inverse",
+        KindName::Reservoir => b"reservoir",
+        KindName::NoOverlap2d => b"no_overlap_2d",
     }
+}
+
+/// The first of these kinds that a field of this name gives.
+fn find_named(kinds: &[KindName], name: &[u8]) -> Option<KindName>
+    ensures { result ≡ find (λ kind. bytes_eq name.now (field_name kind)) kinds.now }
+{
+    for kind in kinds {
+        if name == field_name(*kind) {
+            return Some(*kind);
+        }
+    }
+    None
 }
 
 /// The kind that a field of this name gives.
 pub(crate) fn kind_named(name: &[u8]) -> Option<KindName>
     ensures { result ≡ kind_named name.now }
 {
-    for kind in &KINDS {
-        if name == field_name(*kind) {
-            return Some(*kind);
-        }
-    }
-    None
+    find_named(&KINDS, name)
 }
 
 /// The field of this kind is the one that was read.
@@ -138,15 +200,29 @@ fn read_kind(
     ensures reading { IfOk result (λ kind. kind ≡ read_kind (written_of source.now) name (tree_of node.now)) }
     ensures err { IfErr result (Refuses (fields_fault (written_of source.now) (message_of name) [] (tree_of node.now))) }
 {
-    Ok(match name {
-        KindName::BoolOr => Kind::BoolOr(read_literals(alloc, source, node)?),
-        KindName::BoolAnd => Kind::BoolAnd(read_literals(alloc, source, node)?),
-        KindName::AtMostOne => Kind::AtMostOne(read_literals(alloc, source, node)?),
-        KindName::ExactlyOne => Kind::ExactlyOne(read_literals(alloc, source, node)?),
-        KindName::BoolXor => Kind::BoolXor(read_literals(alloc, source, node)?),
-        KindName::Linear => read_linear(alloc, source, node)?,
-        KindName::NoOverlap => Kind::NoOverlap(read_intervals(alloc, source, node)?),
-    })
+    match name {
+        KindName::BoolOr => Ok(Kind::BoolOr(read_literals(alloc, source, node)?)),
+        KindName::BoolAnd => Ok(Kind::BoolAnd(read_literals(alloc, source, node)?)),
+        KindName::AtMostOne => Ok(Kind::AtMostOne(read_literals(alloc, source, node)?)),
+        KindName::ExactlyOne => Ok(Kind::ExactlyOne(read_literals(alloc, source, node)?)),
+        KindName::BoolXor => Ok(Kind::BoolXor(read_literals(alloc, source, node)?)),
+        KindName::IntDiv => read_int_div(alloc, source, node),
+        KindName::IntMod => read_int_mod(alloc, source, node),
+        KindName::IntProd => read_int_prod(alloc, source, node),
+        KindName::LinMax => read_lin_max(alloc, source, node),
+        KindName::Linear => read_linear(alloc, source, node),
+        KindName::AllDiff => read_all_diff(alloc, source, node),
+        KindName::Element => read_element(alloc, source, node),
+        KindName::Circuit => read_circuit(alloc, source, node),
+        KindName::Table => read_table(alloc, source, node),
+        KindName::Interval => read_interval(alloc, source, node),
+        KindName::NoOverlap => Ok(Kind::NoOverlap(read_intervals(alloc, source, node)?)),
+        KindName::Cumulative => read_cumulative(alloc, source, node),
+        KindName::Automaton => read_automaton(alloc, source, node),
+        KindName::Inverse => read_inverse(alloc, source, node),
+        KindName::Reservoir => read_reservoir(alloc, source, node),
+        KindName::NoOverlap2d => read_boxes(alloc, source, node),
+    }
 }
 
 /// Reads a field of a kind, which must be the first.

@@ -15,16 +15,25 @@
 //! Field names, types and their meaning are those of the public message definitions of CP-SAT models.
 #![tactic(auto)]
 
+mod all_diff;
+mod argument;
+mod automaton;
+mod boxes;
+mod circuit;
 mod closed;
 mod constraint;
+mod cumulative;
 mod digits;
+mod element;
 mod error;
 mod expression;
 mod float;
 mod form;
 mod gather;
 mod hint;
+mod interval;
 mod intervals;
+mod inverse;
 mod kind;
 mod linear;
 mod lists;
@@ -35,9 +44,12 @@ mod model;
 mod names;
 mod number;
 mod objective;
+mod reservoir;
 mod single;
 mod source;
 mod strategy;
+mod table;
+mod taking;
 mod text;
 mod truth;
 mod variable;

@@ -22,7 +22,10 @@ fn truth_named(name: &[u8]) -> Option<bool>
 {
     if name == b"true".as_slice() || name == b"True".as_slice() || name == b"t".as_slice() {
         Some(true)
-    } else if name == b"false".as_slice() || name == b"False".as_slice() || name == b"f".as_slice() {
+    } else if name == b"false".as_slice()
+        || name == b"False".as_slice()
+        || name == b"f".as_slice()
+    {
         Some(false)
     } else {
         None

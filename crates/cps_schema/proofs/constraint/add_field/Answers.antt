@@ -6,11 +6,10 @@ use Rattle.cps_schema.specs.declared.number.Number.TheVariants.{Int32}
 use Rattle.cps_schema.specs.Sources.{written_of}
 use Rattle.cps_schema.specs.Written.{token_text}
 use Rattle.cps_schema.specs.Tables.{constraint_message, number, text}
-use Rattle.cps_schema.specs.Kinds.{kind_named}
 use Rattle.cps_schema.specs.Readings.{value_numbers, value_texts}
 use Rattle.cps_schema.specs.Parts.{IsConstraintGiven}
 use Rattle.cps_schema.proofs.Steps.{same_name, other_text, table_use, repeated_passes, repeated_stops, not_read_stops, if_passes, if_stops}
-use Rattle.cps_schema.proofs.GivenKinds.{no_constraint_field, constraint_kept, name_given_first, kind_field_passes, kind_field_stops}
+use Rattle.cps_schema.proofs.GivenKinds.{no_constraint_field, constraint_kept, name_given_first, kind_field_passes, kind_field_read, kind_field_stops, named_as}
 use Rattle.cps_schema.proofs.Slots.{slot_passes, slot_stops}
 use Rattle.cps_schema.proofs.constraint.add_field.Goals as goal
 
@@ -77,14 +76,21 @@ pub returns-in-Some-clause-passes : goal.returns-in-Some-clause-passes
 returns-in-Some-clause-passes c =
     let w = written_of c.args.source.now in
     let f = c.args.field.now in
-    let named : kind_named (token_text w f.name) ≡ Some c.in-Some.kind = grind arith in
+    let named = named_as c.token_text-name.result.now (token_text w f.name) (Some c.in-Some.kind) c.token_text-name.ensures c.in-Some.ensures in
     kind_field_passes w f c.in-Some.kind c.set_kind.result c.args.parts.now (record c.args.parts.now { given = c.set_kind.new.given }) refl named c.set_kind.ensures.passes c.set_kind.ensures.none c.set_kind.ensures.set
+
+pub returns-in-Some-clause-read : goal.returns-in-Some-clause-read
+returns-in-Some-clause-read c =
+    let w = written_of c.args.source.now in
+    let f = c.args.field.now in
+    let named = named_as c.token_text-name.result.now (token_text w f.name) (Some c.in-Some.kind) c.token_text-name.ensures c.in-Some.ensures in
+    kind_field_read w f c.in-Some.kind c.set_kind.result c.args.parts.now (record c.args.parts.now { given = c.set_kind.new.given }) refl refl named c.set_kind.ensures.added
 
 pub returns-in-Some-clause-err : goal.returns-in-Some-clause-err
 returns-in-Some-clause-err c =
     let w = written_of c.args.source.now in
     let f = c.args.field.now in
-    let named : kind_named (token_text w f.name) ≡ Some c.in-Some.kind = grind arith in
+    let named = named_as c.token_text-name.result.now (token_text w f.name) (Some c.in-Some.kind) c.token_text-name.ensures c.in-Some.ensures in
     kind_field_stops w f c.in-Some.kind c.set_kind.result c.args.parts.now named c.set_kind.ensures.err
 
 pub returns-in_default-clause-err : goal.returns-in_default-clause-err
@@ -93,7 +99,7 @@ returns-in_default-clause-err c = λ before given.
     let f = c.args.field.now in
     let text = token_text w f.name in
     let name = c.token_text-name in
-    let none : kind_named text ≡ None = grind arith in
+    let none = named_as name.result.now text None name.ensures c.in_default.ensures in
     let other = no_constraint_field text
     (other_text name.result.now c.as_slice.result.now text (codes "name") c.eq.result c.eq.ensures c.if-eq.false name.ensures c.as_slice.ensures)
     (other_text name.result.now c.as_slice-else-eq.result.now text (codes "enforcement_literal") c.eq-else-eq.result c.eq-else-eq.ensures c.if-eq-2.false name.ensures c.as_slice-else-eq.ensures) none in

@@ -63,10 +63,10 @@ loop-field-preserved c =
       accepted = (
         token_text w c.field-item.result.name ∷ before,
         λ m is.
-          let kept = c.loop-field.invariant.accepted.1 m is in
-          let same : IsTableOf m (lines_of c.loop-field.parts.slots.items) = rw c.loop-field.invariant.lines is in
-          let passes = step.passes m before same kept.1 in
-          (kept.0 ∙ ap (λ (tree : Tree). fields_fault w m before tree) cut ∙ passes.0 rest, passes.1),
+            let kept = c.loop-field.invariant.accepted.1 m is in
+            let same : IsTableOf m (lines_of c.loop-field.parts.slots.items) = rw c.loop-field.invariant.lines is in
+            let passes = step.passes m before same kept.1 in
+            (kept.0 ∙ ap (λ (tree : Tree). fields_fault w m before tree) cut ∙ passes.0 rest, passes.1),
       );
       reading = c.loop-field.invariant.reading ∙ ap (λ (tree : Tree). all_from w c.loop-field.parts.slots.items tree) cut ∙ step.read rest;
     }

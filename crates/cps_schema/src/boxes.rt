@@ -1,0 +1,39 @@
+//! Boxes that do not overlap.
+ghost use Rattle.std.specs.Prelude.{◌≡◌, [], None, IfOk, IfErr};
+ghost use Rattle.cps_textproto.specs.Trees.{tree_of};
+ghost use Rattle.cps_schema.specs.Sources.{written_of};
+ghost use Rattle.cps_schema.specs.Tables.{no_overlap_2d_message};
+ghost use Rattle.cps_schema.specs.Faults.{fields_fault};
+ghost use Rattle.cps_schema.specs.Readings.{read_boxes};
+ghost use Rattle.cps_schema.specs.Answers.{Refuses};
+
+use super::error::SchemaError;
+use super::gather::Contents::References;
+use super::gather::Takes::Many;
+use super::gather::{Line, gather};
+use super::source::Source;
+use super::taking::next_references;
+use cps_model::Kind;
+use cps_textproto::Node;
+use std::alloc::Global;
+
+const FIELDS: [Line; 2] = [
+    Line(b"x_intervals", Many(References)),
+    Line(b"y_intervals", Many(References)),
+];
+
+/// The boxes that a message gives.
+pub(crate) fn read_boxes(alloc: Global, source: &Source, node: &Node) -> Result<Kind, SchemaError>
+    ensures accepted { IfOk result (λ _. fields_fault (written_of source.now) no_overlap_2d_message [] (tree_of node.now) ≡ None) }
+    ensures reading { IfOk result (λ kind. kind ≡ read_boxes (written_of source.now) (tree_of node.now)) }
+    ensures err { IfErr result (Refuses (fields_fault (written_of source.now) no_overlap_2d_message [] (tree_of node.now))) }
+{
+    let mut slots = match gather(alloc, source, &FIELDS, node) {
+        Ok(slots) => slots.into_iter(),
+        Err(error) => return Err(error),
+    };
+    Ok(Kind::NoOverlap2d {
+        x: next_references(alloc, &mut slots),
+        y: next_references(alloc, &mut slots),
+    })
+}

@@ -1,0 +1,43 @@
+//! Tables.
+ghost use Rattle.std.specs.Prelude.{◌≡◌, [], None, IfOk, IfErr};
+ghost use Rattle.cps_textproto.specs.Trees.{tree_of};
+ghost use Rattle.cps_schema.specs.Sources.{written_of};
+ghost use Rattle.cps_schema.specs.Tables.{table_message};
+ghost use Rattle.cps_schema.specs.Faults.{fields_fault};
+ghost use Rattle.cps_schema.specs.Readings.{read_table};
+ghost use Rattle.cps_schema.specs.Answers.{Refuses};
+
+use super::error::SchemaError;
+use super::form::Form::{Newer, Older};
+use super::gather::Contents::{Expressions, Numbers, References, Truths};
+use super::gather::Takes::{Many, ManyOf, One};
+use super::gather::{Line, gather};
+use super::source::Source;
+use super::taking::{next_expressions_of_a_form, next_numbers, next_truth};
+use cps_model::Kind;
+use cps_textproto::Node;
+use std::alloc::Global;
+
+const FIELDS: [Line; 4] = [
+    Line(b"exprs", ManyOf(Newer, Expressions)),
+    Line(b"vars", ManyOf(Older, References)),
+    Line(b"values", Many(Numbers)),
+    Line(b"negated", One(Truths)),
+];
+
+/// The table that a message gives.
+pub(crate) fn read_table(alloc: Global, source: &Source, node: &Node) -> Result<Kind, SchemaError>
+    ensures accepted { IfOk result (λ _. fields_fault (written_of source.now) table_message [] (tree_of node.now) ≡ None) }
+    ensures reading { IfOk result (λ kind. kind ≡ read_table (written_of source.now) (tree_of node.now)) }
+    ensures err { IfErr result (Refuses (fields_fault (written_of source.now) table_message [] (tree_of node.now))) }
+{
+    let mut slots = match gather(alloc, source, &FIELDS, node) {
+        Ok(slots) => slots.into_iter(),
+        Err(error) => return Err(error),
+    };
+    Ok(Kind::Table {
+        exprs: next_expressions_of_a_form(alloc, &mut slots)?,
+        values: next_numbers(alloc, &mut slots),
+        negated: next_truth(&mut slots),
+    })
+}
