@@ -3,7 +3,7 @@ use Rattle.std.specs.Prelude.{if◌then◌else◌, codes}
 use Rattle.std.proofs.Common.{◌≡◌, ℕ, Bool, true, false, List, [], ◌∷◌, Option, Some, None, ◌⊎◌, inl, inr, refl, sym, subst, ap, ◌∙◌}
 use Rattle.cps_textproto.specs.Trees.{Tree, no_fields, field, Values}
 use Rattle.cps_model.specs.declared.constraint.Kind.{Kind}
-use Rattle.cps_model.specs.declared.constraint.Kind.TheVariants.{Empty, BoolOr, BoolAnd, AtMostOne, ExactlyOne, BoolXor}
+use Rattle.cps_model.specs.declared.constraint.Kind.TheVariants.{Empty, BoolOr, BoolAnd, AtMostOne, ExactlyOne, BoolXor, IntDiv, IntMod, IntProd, LinMax}
 use Rattle.cps_model.specs.declared.fault.FaultName.{FaultName}
 use Rattle.cps_model.specs.declared.fault.FaultName.TheVariants.{Unsupported, Repeated, TwoKinds}
 use Rattle.cps_schema.specs.declared.kind.KindName.{KindName}
@@ -17,7 +17,7 @@ use Rattle.cps_schema.specs.Readings.{first_or, value_messages, read_kind, kinds
 use Rattle.cps_schema.proofs.GivenKinds.{named_text, kind_use}
 use Rattle.cps_print.proofs.Shown.{closed_names}
 use Rattle.cps_print.proofs.Readable.{Each, each_append, each_map, or_none, refused_none, values_sound}
-use Rattle.cps_print.proofs.KindMessages.{AsMessage, IsReadBack, literals_back, linear_back, no_overlap_back}
+use Rattle.cps_print.proofs.KindMessages.{AsMessage, IsReadBack, literals_back, arithmetic_back, linear_back, all_diff_back, element_back, circuit_back, table_back, interval_back, no_overlap_back, cumulative_back, automaton_back, inverse_back, reservoir_back, no_overlap_2d_back}
 
 -- a kind as a field that is not closed
 pub record AsField (k : Kind) : Type 0 where
@@ -31,8 +31,22 @@ kind_back names.BoolAnd = literals_back (codes "bool_and") (λ ls. BoolAnd ls) (
 kind_back names.AtMostOne = literals_back (codes "at_most_one") (λ ls. AtMostOne ls) (λ ls. refl)
 kind_back names.ExactlyOne = literals_back (codes "exactly_one") (λ ls. ExactlyOne ls) (λ ls. refl)
 kind_back names.BoolXor = literals_back (codes "bool_xor") (λ ls. BoolXor ls) (λ ls. refl)
+kind_back names.IntDiv = arithmetic_back (codes "int_div") (λ target exprs. IntDiv target exprs) (λ target exprs. refl)
+kind_back names.IntMod = arithmetic_back (codes "int_mod") (λ target exprs. IntMod target exprs) (λ target exprs. refl)
+kind_back names.IntProd = arithmetic_back (codes "int_prod") (λ target exprs. IntProd target exprs) (λ target exprs. refl)
+kind_back names.LinMax = arithmetic_back (codes "lin_max") (λ target exprs. LinMax target exprs) (λ target exprs. refl)
 kind_back names.Linear = linear_back
+kind_back names.AllDiff = all_diff_back
+kind_back names.Element = element_back
+kind_back names.Circuit = circuit_back
+kind_back names.Table = table_back
+kind_back names.Interval = interval_back
 kind_back names.NoOverlap = no_overlap_back
+kind_back names.Cumulative = cumulative_back
+kind_back names.Automaton = automaton_back
+kind_back names.Inverse = inverse_back
+kind_back names.Reservoir = reservoir_back
+kind_back names.NoOverlap2d = no_overlap_2d_back
 
 -- the kinds that the fields of a constraint give
 

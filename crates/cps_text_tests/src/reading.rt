@@ -1,7 +1,7 @@
 //! The way from a text to its model.
 use cps_lex::{Token, tokens};
 use cps_model::{CpModel, Listed};
-use cps_schema::{FaultName, SchemaError, model_of};
+use cps_schema::{FaultName, SchemaError, model_of, model_with};
 use cps_textproto::document;
 use cps_validate::{ValidModel, validate};
 use std::alloc::Global;
@@ -49,6 +49,26 @@ pub fn refusal(rt: &impl Abort, alloc: Global, text: &str) -> Result<(FaultName,
     assert!(rt; bytes.len() < 1000);
     let tokens = tokens(alloc, bytes)?;
     fault_of(meaning(rt, alloc, bytes, &tokens)?, &tokens)
+}
+
+/// The same where no field is closed.
+fn meaning_of_all(
+    rt: &impl Abort,
+    alloc: Global,
+    bytes: &[u8],
+    tokens: &[Token],
+) -> Result<Result<CpModel, SchemaError>, Fail> {
+    assert!(rt; tokens.len() < 1000);
+    let node = document(alloc, bytes, tokens)?;
+    Ok(model_with(alloc, &[], bytes, tokens, &node))
+}
+
+/// The model that a text is read as where no field is closed.
+pub fn model_of_all(rt: &impl Abort, alloc: Global, text: &str) -> Result<CpModel, Fail> {
+    let bytes = text.as_bytes();
+    assert!(rt; bytes.len() < 1000);
+    let tokens = tokens(alloc, bytes)?;
+    Ok(meaning_of_all(rt, alloc, bytes, &tokens)??)
 }
 
 /// The model that a text is read as, with these assumptions.

@@ -1,4 +1,6 @@
-//! Constraints of each further kind in canonical form, over models that are built part by part.
+//! Constraints of each further kind in canonical form, over models that are built part by part, and kinds that a text gives
+//! in the older form.
+use crate::reading::model_of_all;
 use cps_model::{Constraint, CpModel, Kind, LinearExpr, Listed, Text};
 use cps_print::model_text;
 use std::alloc::{AllocError, Global};
@@ -62,13 +64,23 @@ fn model_of_kind(alloc: Global, kind: Kind) -> Result<CpModel, AllocError> {
     })
 }
 
-/// Asserts that this is what is written of a kind.
-fn assert_kind(rt: &impl Abort, alloc: Global, kind: Kind, wanted: &str) -> Result<(), Fail> {
-    let model = model_of_kind(alloc, kind)?;
-    let printed = model_text(alloc, &model)?;
+/// Asserts that this is what is written of a model's one constraint.
+fn assert_constraint(
+    rt: &impl Abort,
+    alloc: Global,
+    model: &CpModel,
+    wanted: &str,
+) -> Result<(), Fail> {
+    let printed = model_text(alloc, model)?;
     let wanted = format!(in alloc; "constraints {{\n{wanted}}}\n")?;
     assert_eq!(rt; printed.as_str(), wanted.as_str());
     Ok(())
+}
+
+/// Asserts that this is what is written of a kind.
+fn assert_kind(rt: &impl Abort, alloc: Global, kind: Kind, wanted: &str) -> Result<(), Fail> {
+    let model = model_of_kind(alloc, kind)?;
+    assert_constraint(rt, alloc, &model, wanted)
 }
 
 #[test]
@@ -311,4 +323,35 @@ fn no_overlap_2d(rt: HostRuntime) -> Result<(), Fail> {
         kind,
         "  no_overlap_2d {\n    x_intervals: [0, 1]\n    y_intervals: [2, 3]\n  }\n",
     )
+}
+
+/// Kinds in the older form, and what is written of each.
+const OLDER: [(&str, &str); 3] = [
+    (
+        "element { vars: [1, 2] index: 0 target: -1 }",
+        "  element {\n    linear_index {\n      vars: [0]\n      coeffs: [1]\n    }\n    \
+         linear_target {\n      vars: [-1]\n      coeffs: [1]\n    }\n    \
+         exprs {\n      vars: [1]\n      coeffs: [1]\n    }\n    \
+         exprs {\n      vars: [2]\n      coeffs: [1]\n    }\n  }\n",
+    ),
+    (
+        "table { negated: 1 values: 3 vars: 0 }",
+        "  table {\n    exprs {\n      vars: [0]\n      coeffs: [1]\n    }\n    values: [3]\n    negated: true\n  }\n",
+    ),
+    (
+        "automaton { vars: 3 final_states: 0 starting_state: 2 }",
+        "  automaton {\n    starting_state: 2\n    final_states: [0]\n    \
+         exprs {\n      vars: [3]\n      coeffs: [1]\n    }\n  }\n",
+    ),
+];
+
+#[test]
+fn older_forms(rt: HostRuntime) -> Result<(), Fail> {
+    let alloc = rt.alloc();
+    for (kind, wanted) in OLDER {
+        let text = format!(in alloc; "constraints {{ {kind} }}")?;
+        let model = model_of_all(&rt, alloc, text.as_str())?;
+        assert_constraint(&rt, alloc, &model, wanted)?;
+    }
+    Ok(())
 }
