@@ -13,3 +13,4 @@ pub mod Laws
 pub mod Loops
 pub mod TruthValues
 pub mod Gatherings
+pub mod Opened

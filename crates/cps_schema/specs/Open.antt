@@ -1,10 +1,16 @@
 -- Which kinds a model that was read can have.
-use Rattle.std.specs.Prelude.{ℕ, Bool, true, false, not, List, All, IsTrue, codes}
+use Rattle.std.specs.Prelude.{ℕ, Bool, true, false, not, List, All, IsTrue, codes, map}
 use Rattle.std.specs.List.{list_any}
 use Rattle.std.specs.Str.{bytes_eq}
 use Rattle.cps_model.specs.declared.model.CpModel.{CpModel}
+use Rattle.cps_model.specs.declared.constraint.Constraint.{Constraint}
 use Rattle.cps_model.specs.declared.constraint.Kind.{Kind}
 use Rattle.cps_model.specs.declared.constraint.Kind.TheVariants.{Empty, BoolOr, BoolAnd, AtMostOne, ExactlyOne, BoolXor, Linear, IntDiv, IntMod, IntProd, LinMax, Element, Table, AllDiff, Circuit, Interval, NoOverlap, Cumulative, Inverse, Automaton, Reservoir, NoOverlap2d}
+use Rattle.cps_schema.specs.declared.closed.TheConstants.{CLOSED}
+
+-- the fields that the program's table closes
+abbrev pub closed_names : List (List ℕ)
+closed_names = map (λ name. name.now) CLOSED
 
 -- the field of this name is not closed
 abbrev pub is_open_name : List (List ℕ) → List ℕ → Bool
@@ -37,4 +43,4 @@ is_open closed (NoOverlap2d x y) = is_open_name closed (codes "no_overlap_2d")
 
 -- the kind of each constraint is open
 abbrev pub OpenKinds : List (List ℕ) → CpModel → Type 0
-OpenKinds closed model = All (λ c. IsTrue (is_open closed c.kind)) model.constraints
+OpenKinds closed model = All (λ (c : Constraint). IsTrue (is_open closed c.kind)) model.constraints

@@ -11,6 +11,7 @@ ghost use Rattle.cps_schema.specs.Answers.{Refuses, IsRefusal, Gives};
 ghost use Rattle.cps_schema.specs.Steps.{field_then, Passes, Stops, SinglePasses, SingleStops};
 ghost use Rattle.cps_schema.specs.Slots.{AreGiven};
 ghost use Rattle.cps_schema.specs.Parts.{model_from, model_slots};
+ghost use Rattle.cps_schema.specs.Open.{closed_names, OpenKinds};
 
 use super::closed::CLOSED;
 use super::error::SchemaError;
@@ -124,6 +125,7 @@ pub fn model_with(
     node: &Node,
 ) -> Result<CpModel, SchemaError>
     ensures ok { IfOk result (λ model. ReadsAs (written_with (names_of closed.now) bytes.now tokens.now) (tree_of node.now) model) }
+    ensures kinds { IfOk result (λ model. OpenKinds (names_of closed.now) model) }
     ensures err { IfErr result (IsRefusal (written_with (names_of closed.now) bytes.now tokens.now) (tree_of node.now)) }
 
     // A document that has a model is read as it, unless memory runs out.
@@ -145,6 +147,7 @@ pub fn model_of(
     node: &Node,
 ) -> Result<CpModel, SchemaError>
     ensures ok { IfOk result (λ model. ReadsAs (written bytes.now tokens.now) (tree_of node.now) model) }
+    ensures kinds { IfOk result (λ model. OpenKinds closed_names model) }
     ensures err { IfErr result (IsRefusal (written bytes.now tokens.now) (tree_of node.now)) }
 
     // A document that has a model is read as it, unless memory runs out.
