@@ -7,7 +7,7 @@ use Rattle.cps_lex.specs.Forms.{is_identifier}
 use Rattle.cps_textproto.specs.Trees.{Tree}
 use Rattle.cps_model.specs.declared.model.LinearExpr.{LinearExpr}
 use Rattle.cps_model.specs.declared.constraint.Kind.{Kind}
-use Rattle.cps_model.specs.declared.constraint.Kind.TheVariants.{Linear, NoOverlap, Element, AllDiff}
+use Rattle.cps_model.specs.declared.constraint.Kind.TheVariants.{NoOverlap, Element, AllDiff}
 use Rattle.cps_schema.specs.Written.{Written}
 use Rattle.cps_schema.specs.declared.number.Number.{Number}
 use Rattle.cps_schema.specs.declared.number.Number.TheVariants.{Int64, Int32}
@@ -15,7 +15,7 @@ use Rattle.cps_schema.specs.Numbers.{fits}
 use Rattle.cps_schema.specs.Tables as tables
 use Rattle.cps_schema.specs.Tables.{use_of, content_of, is_given, literals_message, linear_message, linear_argument_message, all_diff_message, element_message, table_message, circuit_message, interval_message, no_overlap_message, cumulative_message, automaton_message, inverse_message, reservoir_message, no_overlap_2d_message, expression_message}
 use Rattle.cps_schema.specs.Faults.{has_other_form, fields_fault}
-use Rattle.cps_schema.specs.Readings.{first_or, numbers, truths, messages, read_literals, read_intervals, read_linear, read_expression, reference_expression, expressions, references, the_expression, the_number, read_all_diff, is_older_element, read_newer_element, read_older_element, read_element, expressions_of_a_form, read_table, read_circuit, read_interval, read_cumulative, read_inverse, read_automaton, read_reservoir, read_boxes}
+use Rattle.cps_schema.specs.Readings.{first_or, numbers, truths, messages, read_literals, read_intervals, read_linear, read_expression, expressions, references, the_expression, the_number, read_all_diff, is_older_element, read_newer_element, read_older_element, read_element, expressions_of_a_form, read_table, read_circuit, read_interval, read_cumulative, read_inverse, read_automaton, read_reservoir, read_boxes}
 use Rattle.cps_print.specs.Fields.{message_field}
 use Rattle.cps_print.specs.Kinds.{printed_literals, printed_arithmetic, kind_field}
 use Rattle.cps_print.proofs.Readable.{Each, IsReadableExpression, each_append, each_map, numbers_fit, messages_sound, first_fit, expression_readable, reference_readable, references_readable}
