@@ -71,6 +71,18 @@ pub fn model_of_all(rt: &impl Abort, alloc: Global, text: &str) -> Result<CpMode
     Ok(meaning_of_all(rt, alloc, bytes, &tokens)??)
 }
 
+/// The fault for which a text is refused even then, with the first byte of the token at which it is.
+pub fn refusal_of_all(
+    rt: &impl Abort,
+    alloc: Global,
+    text: &str,
+) -> Result<(FaultName, u32), Fail> {
+    let bytes = text.as_bytes();
+    assert!(rt; bytes.len() < 1000);
+    let tokens = tokens(alloc, bytes)?;
+    fault_of(meaning_of_all(rt, alloc, bytes, &tokens)?, &tokens)
+}
+
 /// The model that a text is read as, with these assumptions.
 pub fn model_assuming(
     rt: &impl Abort,

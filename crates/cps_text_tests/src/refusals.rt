@@ -26,7 +26,7 @@ UnknownField at 12: variables { domian: 0 }
 Repeated at 22: objective { offset: 1 offset: 2 }
 Repeated at 22: objective { offset: 1 offset: x }
 Repeated at 14: objective { } objective: 0
-Unsupported at 14: constraints { all_diff { } }
+Unsupported at 14: constraints { routes { } }
 Repeated at 26: constraints { bool_or { } bool_or: 0 }
 TwoKinds at 26: constraints { bool_or { } linear: 0 }
 TwoKinds at 30: constraints { at_most_one { } exactly_one { } }
@@ -36,6 +36,26 @@ Repeated at 18: solution_hint { } solution_hint { }
 MixedForms at 28: search_strategy { exprs { } variables: 0 }
 MixedForms at 33: search_strategy { variables: [ ] exprs: 0 }
 Repeated at 49: search_strategy { variable_selection_strategy: 0 variable_selection_strategy: 1.0 }
+";
+
+const CLOSED: &str = "\
+Unsupported at 14: constraints { int_div { } }
+Unsupported at 14: constraints { int_mod { } }
+Unsupported at 14: constraints { int_prod { } }
+Unsupported at 14: constraints { lin_max { } }
+Unsupported at 14: constraints { all_diff { } }
+Unsupported at 14: constraints { element { } }
+Unsupported at 14: constraints { circuit { } }
+Unsupported at 14: constraints { table { } }
+Unsupported at 14: constraints { interval { } }
+Unsupported at 14: constraints { no_overlap { } }
+Unsupported at 14: constraints { cumulative { } }
+Unsupported at 14: constraints { automaton { } }
+Unsupported at 14: constraints { inverse { } }
+Unsupported at 14: constraints { reservoir { } }
+Unsupported at 14: constraints { no_overlap_2d { } }
+Unsupported at 26: constraints { bool_or { } circuit { } }
+Unsupported at 25: constraints { linear { } lin_max: 0 }
 ";
 
 const FORMS: &str = "\
@@ -91,7 +111,7 @@ WrongKind at 34: search_strategy { exprs { offset: 1f } }
 
 #[test]
 fn refuses_fields(rt: HostRuntime) -> Result<(), Fail> {
-    for lines in [NAMES, FORMS, NUMBERS, MEMBERS] {
+    for lines in [NAMES, CLOSED, FORMS, NUMBERS, MEMBERS] {
         assert_refusals(&rt, rt.alloc(), lines)?;
     }
     Ok(())

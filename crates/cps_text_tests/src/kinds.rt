@@ -1,0 +1,234 @@
+//! Documents with each kind of constraint, read as models where no field is closed, and refused where all are.
+use crate::reading::{model_of_all, refusal_of_all};
+use cps_model::{Kind, LinearExpr, Listed};
+use std::alloc::Global;
+use std::process::Abort;
+use std::test::Fail;
+
+/// An expression: its references, its coefficients and its offset.
+fn expression(alloc: Global, e: &LinearExpr) -> Result<String, Fail> {
+    let vars = e.vars.as_slice();
+    let coeffs = e.coeffs.as_slice();
+    let offset = e.offset;
+    Ok(format!(in alloc; "{vars:?}{coeffs:?}{offset}")?)
+}
+
+fn expressions(alloc: Global, list: &Listed<LinearExpr>) -> Result<String, Fail> {
+    let mut shown = String::new(alloc);
+    for e in list.as_slice() {
+        let text = expression(alloc, e)?;
+        shown.push_str(text.as_str())?;
+        shown.push_str(";")?;
+    }
+    Ok(shown)
+}
+
+/// A kind of a target and expressions.
+fn argument(
+    alloc: Global,
+    target: &LinearExpr,
+    exprs: &Listed<LinearExpr>,
+) -> Result<String, Fail> {
+    let target = expression(alloc, target)?;
+    let exprs = expressions(alloc, exprs)?;
+    Ok(format!(in alloc; "{target} of {exprs}")?)
+}
+
+/// What a kind of lists and numbers holds.
+fn listed(alloc: Global, kind: &Kind) -> Result<String, Fail> {
+    match kind {
+        Kind::Circuit {
+            tails,
+            heads,
+            literals,
+        } => {
+            let (a, b, c) = (tails.as_slice(), heads.as_slice(), literals.as_slice());
+            Ok(format!(in alloc; "{a:?}{b:?}{c:?}")?)
+        }
+        Kind::NoOverlap(intervals) => {
+            let a = intervals.as_slice();
+            Ok(format!(in alloc; "{a:?}")?)
+        }
+        Kind::Inverse { direct, inverse } => {
+            let (a, b) = (direct.as_slice(), inverse.as_slice());
+            Ok(format!(in alloc; "{a:?}{b:?}")?)
+        }
+        Kind::NoOverlap2d { x, y } => {
+            let (a, b) = (x.as_slice(), y.as_slice());
+            Ok(format!(in alloc; "{a:?}{b:?}")?)
+        }
+        _ => Err(Fail::from("another kind")),
+    }
+}
+
+/// What a kind of times holds.
+fn timed(alloc: Global, kind: &Kind) -> Result<String, Fail> {
+    match kind {
+        Kind::Interval { start, end, size } => {
+            let start = expression(alloc, start)?;
+            let end = expression(alloc, end)?;
+            let size = expression(alloc, size)?;
+            Ok(format!(in alloc; "{start} {end} {size}")?)
+        }
+        Kind::Cumulative {
+            capacity,
+            intervals,
+            demands,
+        } => {
+            let capacity = expression(alloc, capacity)?;
+            let intervals = intervals.as_slice();
+            let demands = expressions(alloc, demands)?;
+            Ok(format!(in alloc; "{capacity} {intervals:?} {demands}")?)
+        }
+        Kind::Reservoir {
+            min,
+            max,
+            times,
+            changes,
+            active,
+        } => {
+            let times = expressions(alloc, times)?;
+            let changes = expressions(alloc, changes)?;
+            let active = active.as_slice();
+            Ok(format!(in alloc; "{min} {max} {times} {changes} {active:?}")?)
+        }
+        _ => listed(alloc, kind),
+    }
+}
+
+/// What a kind holds.
+fn shown(alloc: Global, kind: &Kind) -> Result<String, Fail> {
+    match kind {
+        Kind::IntDiv { target, exprs } => argument(alloc, target, exprs),
+        Kind::IntMod { target, exprs } => argument(alloc, target, exprs),
+        Kind::IntProd { target, exprs } => argument(alloc, target, exprs),
+        Kind::LinMax { target, exprs } => argument(alloc, target, exprs),
+        Kind::AllDiff(exprs) => expressions(alloc, exprs),
+        Kind::Element {
+            index,
+            target,
+            exprs,
+        } => {
+            let index = expression(alloc, index)?;
+            let rest = argument(alloc, target, exprs)?;
+            Ok(format!(in alloc; "{index} {rest}")?)
+        }
+        Kind::Table {
+            exprs,
+            values,
+            negated,
+        } => {
+            let exprs = expressions(alloc, exprs)?;
+            let values = values.as_slice();
+            Ok(format!(in alloc; "{exprs} {values:?} {negated}")?)
+        }
+        Kind::Automaton {
+            start,
+            finals,
+            tails,
+            heads,
+            labels,
+            exprs,
+        } => {
+            let exprs = expressions(alloc, exprs)?;
+            let (a, b) = (finals.as_slice(), tails.as_slice());
+            let (c, d) = (heads.as_slice(), labels.as_slice());
+            Ok(format!(in alloc; "{start} {a:?}{b:?}{c:?}{d:?} {exprs}")?)
+        }
+        _ => timed(alloc, kind),
+    }
+}
+
+const ARITHMETIC: &str = "\
+[0][1]0 of [1][2]3;[][]-4;: int_div { exprs { vars: 1 coeffs: 2 offset: 3 } target { vars: 0 coeffs: 1 } exprs { offset: -4 } }
+[][]7 of : int_mod { target { offset: 7 } }
+[][]0 of [2][1]0;: int_prod { exprs { vars: 2 coeffs: 1 } }
+[-1][1]0 of [][]1;[][]2;: lin_max { target: { vars: [-1] coeffs: [1] } exprs: [ { offset: 1 }, { offset: 2 } ] }
+[3][1]0;[][]5;: all_diff { exprs { vars: 3 coeffs: 1 } exprs { offset: 5 } }
+";
+
+const LISTS: &str = "\
+[0][1]0 [1][1]0 of [][]5;[2][1]0;: element { linear_index { vars: 0 coeffs: 1 } linear_target { vars: 1 coeffs: 1 } exprs { offset: 5 } exprs { vars: 2 coeffs: 1 } }
+[][]0 [][]0 of : element { }
+[4][1]0 [5][1]0 of [6][1]0;[-8][1]0;: element { vars: 6 target: 5 vars: [-8] index: 4 }
+[0][1]0 [0][1]0 of [1][1]0;: element { vars: [1] }
+[0][1]0 [0][1]0 of : element { vars: [] }
+[0][1]0 [2][1]0 of : element { target: 2 }
+[0][1]0;[][]1; [7, 8] true: table { exprs { vars: 0 coeffs: 1 } values: [7, 8] exprs { offset: 1 } negated: true }
+[0][1]0;[1][1]0; [-7] false: table { vars: [0, 1] values: -7 negated: f }
+ [] true: table { negated: 0x1 }
+ [] false: table { negated: 00 }
+[0, 1][1, 0][2, -3]: circuit { literals: [2, -3] heads: [1, 0] tails: [0, 1] }
+[0, 1][1, 0]: inverse { f_inverse: [1, 0] f_direct: 0 f_direct: 1 }
+-1 [2][0][1][3] [5][1]0;: automaton { starting_state: -1 final_states: 2 transition_tail: 0 transition_head: 1 transition_label: 3 vars: 5 }
+0 [][][][] [][]6;: automaton { exprs { offset: 6 } }
+";
+
+const TIMES: &str = "\
+[0][1]0 [0][1]3 [][]3: interval { start { vars: 0 coeffs: 1 } end { vars: 0 coeffs: 1 offset: 3 } size { offset: 3 } }
+[][]0 [][]0 [][]0: interval { }
+[0, 2]: no_overlap { intervals: [0, 2] }
+[][]9 [0, 1] [][]2;[3][1]0;: cumulative { demands { offset: 2 } intervals: [0, 1] demands { vars: 3 coeffs: 1 } capacity { offset: 9 } }
+-1 4 [][]2; [][]-1; [0]: reservoir { min_level: -1 max_level: 4 time_exprs { offset: 2 } level_changes { offset: -1 } active_literals: 0 }
+[0, 1][2, 3]: no_overlap_2d { x_intervals: [0, 1] y_intervals: 2 y_intervals: 3 }
+";
+
+/// Each line is what a kind holds, and the field that gives it.
+#[test]
+fn reads_kinds(rt: HostRuntime) -> Result<(), Fail> {
+    for lines in [ARITHMETIC, LISTS, TIMES] {
+        for line in lines.lines() {
+            let (wanted, field) = line.split_once(": ").ok_or("no field")?;
+            let text = format!(in rt.alloc(); "constraints {{ {field} }}")?;
+            let model = model_of_all(&rt, rt.alloc(), text.as_str())?;
+            let constraint = model.constraints.as_slice().first().ok_or("no constraint")?;
+            let held = shown(rt.alloc(), &constraint.kind)?;
+            assert_eq!(rt; held.as_str(), wanted, "{field}");
+        }
+    }
+    Ok(())
+}
+
+const FAULTS: &str = "\
+MixedForms at 41: constraints { element { linear_index { } vars: 0 } }
+MixedForms at 33: constraints { element { index: 0 exprs { } } }
+MixedForms at 34: constraints { element { vars: [ ] linear_target { } } }
+MixedForms at 32: constraints { table { exprs { } vars: 0 } }
+MixedForms at 34: constraints { automaton { vars: 0 exprs { } } }
+Repeated at 33: constraints { element { index: 0 index: 1 } }
+Repeated at 42: constraints { element { linear_target { } linear_target { } } }
+Repeated at 36: constraints { table { negated: true negated: true } }
+Repeated at 35: constraints { interval { start { } start { } } }
+Repeated at 26: constraints { circuit { } circuit { } }
+TwoKinds at 26: constraints { circuit { } table { } }
+TwoKinds at 26: constraints { lin_max { } int_div { } }
+WrongKind at 31: constraints { table { negated: 2 } }
+WrongKind at 31: constraints { table { negated: -1 } }
+WrongKind at 31: constraints { table { negated: - true } }
+WrongKind at 31: constraints { table { negated: TRUE } }
+WrongKind at 31: constraints { table { negated: 1.0 } }
+WrongKind at 31: constraints { table { negated: \"t\" } }
+WrongKind at 31: constraints { table { negated: [true] } }
+WrongKind at 31: constraints { table { negated: { } } }
+WrongKind at 31: constraints { element { index: [0] } }
+WrongKind at 38: constraints { element { linear_index: 0 } }
+WrongKind at 31: constraints { interval { start [ { } ] } }
+WrongKind at 31: constraints { circuit { tails: { } } }
+OutOfRange at 31: constraints { element { index: 2147483648 } }
+OutOfRange at 42: constraints { automaton { starting_state: 9223372036854775808 } }
+UnknownField at 25: constraints { interval { presence: 0 } }
+Unsupported at 14: constraints { routes { } }
+Unsupported at 14: constraints { dummy_constraint { } }
+";
+
+/// Each line is a fault with its byte, and a text that is refused so where no field is closed.
+#[test]
+fn refuses_fields_of_kinds(rt: HostRuntime) -> Result<(), Fail> {
+    for line in FAULTS.lines() {
+        let (wanted, text) = line.split_once(": ").ok_or("no text")?;
+        let (name, byte) = refusal_of_all(&rt, rt.alloc(), text)?;
+        let held = format!(in rt.alloc(); "{name:?} at {byte}")?;
+        assert_eq!(rt; held.as_str(), wanted, "{text}");
+    }
+    Ok(())
+}
