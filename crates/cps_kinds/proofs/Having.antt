@@ -12,7 +12,7 @@ use Rattle.cps_instance.specs.Sums.{DefinedSum}
 use Rattle.cps_instance.specs.Problem.{sum_task, sum_tasks}
 use Rattle.cps_instance.specs.Posting.{span_at, body_of, task_of, tasks_with, constraint_tasks, subject_lists, list_task, cut_task, objective_tasks}
 use Rattle.cps_instance.specs.Strategies.{model_sums, first_of_constraints, first_tasks}
-use Rattle.cps_kinds.specs.Kinds.{has_propagator, is_propagated}
+use Rattle.cps_kinds.specs.Kinds.{has_propagator, is_propagated, AreAllPropagated}
 
 abbrev pub HasPropagator : Task → Type 0
 HasPropagator t = has_propagator t.body ≡ true
@@ -34,7 +34,7 @@ sums_have n [] = All-nil HasPropagator
 sums_have n (s ∷ ss) = All-cons HasPropagator (sum_task n s) (sum_tasks (n + 1) ss) refl (sums_have (n + 1) ss)
 
 -- what an engine of a model's instance asks, where each kind of the model is one with a propagator
-pub first_tasks-have : (m : CpModel) → All (λ c. is_propagated c.kind ≡ true) m.constraints → All HasPropagator (first_tasks m)
+pub first_tasks-have : (m : CpModel) → AreAllPropagated m → All HasPropagator (first_tasks m)
 first_tasks-have m h =
     let lists = subject_lists (first_of_constraints m) m.constraints in
     let sums = sum_tasks (length m.variables) (model_sums m) in
