@@ -5,6 +5,7 @@ ghost use Rattle.cps_print.specs.Faults.{fault_text};
 ghost use Rattle.cps_print.specs.Models.{model_text};
 ghost use Rattle.cps_print.specs.ReadBack.{IsReadAs};
 ghost use Rattle.cps_print.specs.Responses.{IsShowable};
+ghost use Rattle.cps_kinds.specs.Kinds.{AreAllPropagated};
 ghost use Rattle.cps_search.specs.Searches.{HasNoAssumptions};
 ghost use Rattle.cps_command.specs.Numbers.{AreInRange};
 ghost use Rattle.cpsolve.specs.Inputs.{most_bytes, IsModelText, IsInput};
@@ -79,6 +80,7 @@ fn solve_answer<R: Threads + Wait + Sync, G: Gate + Sync>(
 ) -> Result<Answer, AllocError>
     requires showable { IsShowable model.now.objective }
     requires assumptions { HasNoAssumptions model.now }
+    requires kinds { AreAllPropagated model.now }
     requires range { AreInRange options.now }
     ensures { IfOk result (Solves options.now model.now) }
 {

@@ -3,6 +3,7 @@ ghost use Rattle.std.specs.Prelude.{◌≡◌, ◌<◌, ◌≤◌, ◌^◌, IfOk
 ghost use Rattle.cps_model.specs.Statuses.{status_of};
 ghost use Rattle.cps_port.specs.Cores.{actor_count, after};
 ghost use Rattle.cps_port.specs.Sound.{IsSoundCore};
+ghost use Rattle.cps_kinds.specs.Kinds.{AreAllPropagated};
 ghost use Rattle.cps_search.specs.Searches.{HasNoAssumptions};
 ghost use Rattle.cps_search.specs.Guidances.{IsPlanOf};
 ghost use Rattle.cps_command.specs.Numbers.{AreInRange};
@@ -43,6 +44,7 @@ pub(crate) fn worker_of<'a>(
 ) -> Result<Worker<'a, AnyPropagator, FixedBrancher>, AllocError>
     requires budget { conflicts ≤ 10 ^ 9 }
     requires assumptions { HasNoAssumptions model.now }
+    requires kinds { AreAllPropagated model.now }
     ensures begins { IfOk result (λ worker. Begins model.entry.now conflicts worker.0) }
     ensures brancher { IfOk result (λ worker. IsPlanOf worker.0.problem worker.1.plan) }
 {
@@ -88,6 +90,7 @@ struct Finished {
 fn search(alloc: Global, model: &ValidModel, conflicts: u64) -> Result<Finished, AllocError>
     requires budget { conflicts ≤ 10 ^ 9 }
     requires assumptions { HasNoAssumptions model.now }
+    requires kinds { AreAllPropagated model.now }
     ensures { IfOk result (HasFinished model.now conflicts) }
 {
     let mut core = CoreState::new(alloc, model, 1, ROWS)?;
@@ -143,6 +146,7 @@ pub fn outcome_of(
 ) -> Result<Outcome, AllocError>
     requires range { AreInRange options.now }
     requires assumptions { HasNoAssumptions model.now }
+    requires kinds { AreAllPropagated model.now }
     ensures good { IfOk result (IsGoodOutcome model.now 0 options.now) }
     ensures bounded { IfOk result (λ o. IsBounded o.status o.lower) }
 {

@@ -1,6 +1,7 @@
 //! Workers turn by turn, alone and one after the other: their turns and the bounds that they leave were worked out by hand.
 ghost use Rattle.std.specs.Prelude.{◌≡◌, ◌≤◌, ◌^◌, length, false, None, IfOk};
 ghost use Rattle.cps_search.specs.Ends.{IsOver, end_of};
+ghost use Rattle.cps_kinds.specs.Kinds.{AreAllPropagated};
 ghost use Rattle.cps_search.specs.Searches.{HasNoAssumptions};
 ghost use Rattle.cpsolve.specs.Alone.{Begins};
 
@@ -19,6 +20,7 @@ use std::test::Fail;
 /// The model of a text.
 fn model_of(alloc: Global, text: &str) -> Result<ValidModel, Unread>
     ensures assumptions { IfOk result HasNoAssumptions }
+    ensures kinds { IfOk result AreAllPropagated }
 {
     let bytes = text.as_bytes();
     if bytes.len() > 1000 {
@@ -35,6 +37,7 @@ fn active_worker_of<'a>(
 ) -> Result<Worker<'a, AnyPropagator, ActivityBrancher>, AllocError>
     requires budget { conflicts ≤ 10 ^ 9 }
     requires assumptions { HasNoAssumptions model.now }
+    requires kinds { AreAllPropagated model.now }
     ensures { IfOk result (λ worker. Begins model.entry.now conflicts worker.0) }
 {
     let instance = Instance::of(alloc, model)?;
@@ -105,6 +108,7 @@ fn turns_in_order<Q: Port>(
 ) -> Result<Vec<Kind>, AllocError>
     requires budget { conflicts ≤ 10 ^ 9 }
     requires assumptions { HasNoAssumptions model.now }
+    requires kinds { AreAllPropagated model.now }
     requires model { Q.model port.old ≡ model.now }
     ensures same { (Q.model port.new ≡ Q.model port.old) × (Q.rows port.new ≡ Q.rows port.old) }
     ensures others { Q.stays port.old port.new }
@@ -122,6 +126,7 @@ fn turns_by_activity<Q: Port>(
 ) -> Result<Vec<Kind>, AllocError>
     requires budget { conflicts ≤ 10 ^ 9 }
     requires assumptions { HasNoAssumptions model.now }
+    requires kinds { AreAllPropagated model.now }
     requires model { Q.model port.old ≡ model.now }
     ensures same { (Q.model port.new ≡ Q.model port.old) × (Q.rows port.new ≡ Q.rows port.old) }
     ensures others { Q.stays port.old port.new }
@@ -148,6 +153,7 @@ fn one_after_the_other(
 ) -> Result<Left, AllocError>
     requires budget { conflicts ≤ 10 ^ 9 }
     requires assumptions { HasNoAssumptions model.now }
+    requires kinds { AreAllPropagated model.now }
 {
     let mut core = CoreState::new(alloc, model, 2, 4)?;
     let mut port = PlainPort {
