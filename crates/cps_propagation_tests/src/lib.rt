@@ -16,3 +16,5 @@ mod runs;
 mod stores;
 #[cfg(test)]
 mod sums;
+#[cfg(test)]
+mod tasks;
