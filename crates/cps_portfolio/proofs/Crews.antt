@@ -26,7 +26,8 @@ use Rattle.cps_search.specs.declared.end.WorkerKind.{WorkerKind}
 use Rattle.cps_search.specs.declared.guidance.Guidance.{Guidance}
 use Rattle.cps_search.specs.Guidances.{IsGuidedBy, RunsBy}
 use Rattle.cps_search.specs.Searches.{Search}
-use Rattle.cps_search.specs.Ends.{Ending, IsOver, IsHonestEnding, RunsTo, best_bound, ending}
+use Rattle.cps_search.specs.Ends.{Ending, IsOver, IsHonestEnding, RunsTo, ending}
+use Rattle.cps_search.specs.Following.{best_bound}
 use Rattle.cps_search.proofs.Bounds.{greater-second, same_bound}
 use Rattle.cps_search.proofs.Ending.{honest_ending}
 use Rattle.cps_portfolio.specs.declared.seats.Seated.{Seated}

@@ -18,7 +18,8 @@ use Rattle.cps_clauses.specs.declared.journal.JournalItem.TheVariants.{Learnt, D
 use Rattle.cps_search.specs.declared.end.End.{End}
 use Rattle.cps_search.specs.declared.end.End.TheVariants as ends
 use Rattle.cps_search.specs.Searches.{IsItemAbove}
-use Rattle.cps_search.specs.Ends.{Ending, IsHonestEnding, IsWhy, best_bound}
+use Rattle.cps_search.specs.Ends.{Ending, IsHonestEnding, IsWhy}
+use Rattle.cps_search.specs.Following.{best_bound}
 use Rattle.cps_search.proofs.Bounds.{greater-second}
 use Rattle.cps_options.specs.declared.options.Options.{Options}
 use Rattle.cps_portfolio.specs.declared.outcome.Outcome.{Outcome}

@@ -27,7 +27,8 @@ use Rattle.cps_search.specs.declared.guidance.Guidance.{Guidance}
 use Rattle.cps_search.specs.Searches.{Search}
 use Rattle.cps_search.specs.Moves.{fresh}
 use Rattle.cps_search.specs.Guidances.{ChoosesBy, IsGuidedBy}
-use Rattle.cps_search.specs.Ends.{Ending, EndsAs, IsHonestEnding, IsOver, Lowers, TakesTurns, none_yet, one_more, best_bound, end_of, ending}
+use Rattle.cps_search.specs.Ends.{Ending, EndsAs, IsHonestEnding, IsOver, Lowers, TakesTurns, none_yet, one_more, end_of, ending}
+use Rattle.cps_search.specs.Following.{best_bound}
 use Rattle.cps_search.proofs.Weighing.{left_of, lowered}
 use Rattle.cps_search.proofs.Working.{HasRun, run_begins, run_goes_on, run_ends}
 use Rattle.cps_portfolio.specs.declared.interleaved.Turning.{Turning}

@@ -18,7 +18,8 @@ use Rattle.cps_search.specs.declared.end.WorkerKind.{WorkerKind}
 use Rattle.cps_search.specs.declared.guidance.Guidance.{Guidance}
 use Rattle.cps_search.specs.Guidances.{IsGuidedBy}
 use Rattle.cps_search.specs.Searches.{Search}
-use Rattle.cps_search.specs.Ends.{Ending, IsOver, IsHonestEnding, best_bound, ending}
+use Rattle.cps_search.specs.Ends.{Ending, IsOver, IsHonestEnding, ending}
+use Rattle.cps_search.specs.Following.{best_bound}
 use Rattle.cps_portfolio.specs.declared.seats.Seated.{Seated}
 use Rattle.cps_portfolio.specs.Ports.{part_of, SeatsStay}
 use Rattle.cps_portfolio.specs.Workers.{search_of, kind_of, guidance_of, worker_kind, Begins, HasEnded}

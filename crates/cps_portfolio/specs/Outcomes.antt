@@ -17,7 +17,8 @@ use Rattle.cps_clauses.specs.declared.journal.JournalItem.TheVariants.{Learnt}
 use Rattle.cps_search.specs.declared.end.WorkerKind.{WorkerKind}
 use Rattle.cps_search.specs.declared.end.End.TheVariants.{Spent}
 use Rattle.cps_search.specs.Searches.{IsHonestJournal, IsItemAbove, learnt_count}
-use Rattle.cps_search.specs.Ends.{Ending, IsHonestEnding, best_bound}
+use Rattle.cps_search.specs.Ends.{Ending, IsHonestEnding}
+use Rattle.cps_search.specs.Following.{best_bound}
 use Rattle.cps_search.specs.Guidances.{IsEndOfRun, IsGuidedBy}
 use Rattle.cps_options.specs.declared.options.Options.{Options}
 use Rattle.cps_portfolio.specs.declared.outcome.Outcome.{Outcome}

@@ -2,7 +2,7 @@
 ghost use Rattle.std.specs.Prelude.{◌≡◌, All, IfOk, IfSome};
 ghost use Rattle.cps_model.specs.Statuses.{status_of};
 ghost use Rattle.cps_model.specs.Solutions.{IsSolution};
-ghost use Rattle.cps_search.specs.Ends.{best_bound};
+ghost use Rattle.cps_search.specs.Following.{best_bound};
 ghost use Rattle.cps_portfolio.specs.Outcomes.{IsGoodOutcome, CameTo, best_of};
 
 use crate::outcome::{Outcome, Reached};

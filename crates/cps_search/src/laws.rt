@@ -19,8 +19,9 @@ ghost use Rattle.cps_search.specs.Giving.{ByAll};
 ghost use Rattle.cps_search.specs.Lessons.{GoesBack};
 ghost use Rattle.cps_search.specs.Moves.{decided, fresh};
 ghost use Rattle.cps_search.specs.Searches.{Search, IsHonestJournal, IsSoundSearch, learnt_count};
-ghost use Rattle.cps_search.specs.Ends.{IsHonestEnding, RunsTo, ending};
+ghost use Rattle.cps_search.specs.Ends.{IsHonestEnding, RunsInTurns, RunsTo, ending};
 
+use crate::brancher::Brancher;
 use cps_instance::Instance;
 
 /// What changes a store leaves clauses quiet at the levels that remain. What adds entries at the present level does so below it, whatever
@@ -56,4 +57,9 @@ pub fn nothing_is_dropped_early()
 /// A worker whose actor had offered and raised nothing before it began is honest when it has ended.
 pub fn ended_workers_are_honest()
     ensures { (p : Problem) (gap budget : ℕ) (t : Search) (before after : Part) (kind : WorkerKind) (guidance : Option Guidance) (end : End) → RunsTo (fresh p gap (Some budget)) t before after end → IsSoundSearch t → before.bounds.offered ≡ Infinite → before.bounds.raised ≡ None → IsHonestEnding p.model gap budget after.bounds (ending kind guidance end t) }
+{}
+
+/// Turns of a worker one after another, of which the last ended it, come to what a run comes to, whoever else stepped between them.
+pub fn turns_come_to_a_run<B: Brancher>()
+    ensures { (rows : ℕ) (s t : Search × B) (p q : Part) (end : End) → (h : RunsInTurns B.chooses B.hears B.stays rows s t p q end) → IsSoundSearch h.before.0 → RunsTo s.0 t.0 p q end }
 {}

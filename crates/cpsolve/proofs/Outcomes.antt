@@ -12,7 +12,8 @@ use Rattle.cps_model.specs.Solutions.{objective_value, IsSolution, IsBest, HasNo
 use Rattle.cps_model.specs.Statuses.{is_closed, status_of, IsAtMost}
 use Rattle.cps_model.specs.Validity.{IsValid}
 use Rattle.cps_model.proofs.Inside.{model_ready}
-use Rattle.cps_search.specs.Ends.{Ending, best_bound}
+use Rattle.cps_search.specs.Ends.{Ending}
+use Rattle.cps_search.specs.Following.{best_bound}
 use Rattle.cps_print.specs.Responses.{IsBounded, IsFinite, IsSummable, IsSolved}
 use Rattle.cps_options.specs.declared.options.Options.{Options}
 use Rattle.cps_portfolio.specs.declared.outcome.Outcome.{Outcome}
