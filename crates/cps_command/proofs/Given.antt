@@ -1,7 +1,7 @@
 -- The number that an option has is the one that is read, and the command that words have is the one that they say.
 use Rattle.std.specs.Prelude.{Option, Some, None, Ok, Err, Result, Box, MatchOption, IsTrue, Bool, true, false, codes, option_map}
 use Rattle.std.specs.Box.{box_value}
-use Rattle.std.proofs.Common.{◌≡◌, ◌↔◌, ℕ, ◌<◌, ◌^◌, List, arith, sym, ◌∙◌, ap, ap₂, refl, subst, slice_index}
+use Rattle.std.proofs.Common.{◌≡◌, ◌↔◌, ℕ, ◌<◌, ◌^◌, List, arith, sym, ◌∙◌, ap, refl, subst, slice_index}
 use Rattle.std.specs.Str.Parse.{ParsesUnsigned}
 use Rattle.clap.specs.Words.{Row, Text, ReadsOne, one_text, rows_of, subcommand_name_of, subcommand_of, subcommand_rows, subcommand_rows_of}
 use Rattle.clap.specs.declared.parser.matches.ArgMatches.{ArgMatches}
@@ -106,6 +106,15 @@ solve_no_print says h k = other_name says (codes "solve") (codes "print") (λ (e
 validate_no_print : (says : Option (Text × List Row)) → HasName (codes "validate") says → HasName (codes "print") says → ⊥
 validate_no_print says h k = other_name says (codes "validate") (codes "print") (λ (e : 118 ≡ 112). omega arith) h k
 
+abbrev make : ℕ → ℕ → ℕ → Bool → ℕ → Options
+make workers conflicts seed interleave gap = record { workers = workers; conflicts = conflicts; seed = seed; interleave = interleave; gap = gap }
+
+alike_options : (o p : Options) → o.workers ≡ p.workers → o.conflicts ≡ p.conflicts → o.seed ≡ p.seed → o.interleave ≡ p.interleave → o.gap ≡ p.gap → o ≡ p
+alike_options o p workers conflicts seed interleave gap =
+    ap (λ (n : ℕ). make n o.conflicts o.seed o.interleave o.gap) workers ∙ ap (λ (n : ℕ). make p.workers n o.seed o.interleave o.gap) conflicts
+    ∙ ap (λ (n : ℕ). make p.workers p.conflicts n o.interleave o.gap) seed ∙ ap (λ (b : Bool). make p.workers p.conflicts p.seed b o.gap) interleave
+    ∙ ap (λ (n : ℕ). make p.workers p.conflicts p.seed p.interleave n) gap
+
 -- words have one list of options
 same_options : (says : Option (Text × List Row)) (o p : Options) → HasOptions says o → HasOptions says p → o ≡ p
 same_options says o p h k =
@@ -117,7 +126,7 @@ same_options says o p h k =
     let seed = same_number (codes "seed") h.rows o.seed p.seed h.options.seed other.seed in
     let interleave = same_switch (IsOn (codes "interleave") h.rows) o.interleave p.interleave h.options.interleave other.interleave in
     let gap : o.gap ≡ p.gap = h.options.gap ∙ sym other.gap in
-    cc
+    alike_options o p workers conflicts seed interleave gap
 
 one_said : (says : Option (Text × List Row)) (c d : Command) → Says says c → Says says d → c ≡ d
 one_said says (Solve o) (Solve p) h k = ap (λ (q : Options). Solve q) (same_options says o p h.1 k.1)
