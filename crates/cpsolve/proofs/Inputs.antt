@@ -17,11 +17,10 @@ use Rattle.cps_print.specs.declared.fault.Fault.{Fault}
 use Rattle.cps_print.specs.declared.fault.Fault.TheVariants.{Text, Field, Rule}
 use Rattle.cps_print.specs.ReadBack.{IsReadAs}
 use Rattle.cps_print.specs.Responses.{IsShowable}
-use Rattle.cps_print.proofs.Readable.{read_is_readable}
 use Rattle.cps_schema.proofs.Opened.{model_open}
 use Rattle.cps_kinds.specs.Kinds.{AreAllPropagated}
 use Rattle.cps_search.specs.Searches.{HasNoAssumptions}
-use Rattle.cpsolve.proofs.Limits.{showable}
+use Rattle.cpsolve.proofs.Limits.{showable, none_assumed}
 use Rattle.cpsolve.proofs.Opening.{open_propagated}
 use Rattle.cpsolve.specs.declared.input.Unread.{Unread}
 use Rattle.cpsolve.specs.declared.input.Unread.TheVariants as unread
@@ -90,7 +89,7 @@ meant_showable bytes m meant = showable (written bytes meant.this.tokens) meant.
 
 -- and has no assumptions
 pub meant_assumptions : (bytes : List ℕ) (m : CpModel) → IsMeant bytes m → HasNoAssumptions m
-meant_assumptions bytes m meant = (read_is_readable (written bytes meant.this.tokens) meant.this.tree m meant.this.read).assumptions
+meant_assumptions bytes m meant = none_assumed (written bytes meant.this.tokens) meant.this.tree m meant.this.read
 
 -- and only kinds that have a propagator
 pub meant_propagated : (bytes : List ℕ) (m : CpModel) → IsMeant bytes m → AreAllPropagated m

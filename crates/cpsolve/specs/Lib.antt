@@ -1,5 +1,6 @@
 pub mod Inputs
 pub mod Reading
 pub mod Outcomes
+pub mod Alone
 pub mod Answers
 pub mod Runs

@@ -10,9 +10,8 @@
 
 mod answer;
 mod input;
-#[cfg(test)]
-mod portfolio_tests;
-mod ran;
+mod outcome;
+mod search;
 mod solve;
 #[cfg(test)]
 mod tests;
