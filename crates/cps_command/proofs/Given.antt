@@ -1,18 +1,20 @@
 -- The number that an option has is the one that is read, and the command that words have is the one that they say.
-use Rattle.std.specs.Prelude.{Option, Some, None, Ok, Err, Result, Box, MatchOption, codes, option_map}
+use Rattle.std.specs.Prelude.{Option, Some, None, Ok, Err, Result, Box, MatchOption, IsTrue, Bool, true, false, codes, option_map}
 use Rattle.std.specs.Box.{box_value}
-use Rattle.std.proofs.Common.{◌≡◌, ℕ, ◌<◌, ◌^◌, List, arith, sym, ◌∙◌, ap, ap₂, refl, subst, slice_index}
+use Rattle.std.proofs.Common.{◌≡◌, ◌↔◌, ℕ, ◌<◌, ◌^◌, List, arith, sym, ◌∙◌, ap, refl, subst, slice_index}
 use Rattle.std.specs.Str.Parse.{ParsesUnsigned}
 use Rattle.clap.specs.Words.{Row, Text, ReadsOne, one_text, rows_of, subcommand_name_of, subcommand_of, subcommand_rows, subcommand_rows_of}
 use Rattle.clap.specs.declared.parser.matches.ArgMatches.{ArgMatches}
 use Rattle.clap.specs.declared.parser.matches.ArgMatches.TheViews.{out-ArgMatches, out-SubCommand}
+use Rattle.clap.specs.Matches.{first_value}
 use Rattle.clap.specs.declared.parser.matches.Found.{Found}
 use Rattle.clap.specs.declared.parser.matches.SubCommand.{SubCommand}
-use Rattle.clap.proofs.WalkLemmas.{one_text-rows}
+use Rattle.clap.proofs.WalkLemmas.{first_value-rows, one_text-rows}
 use Rattle.cps_command.specs.declared.command.Command.{Command}
 use Rattle.cps_command.specs.declared.command.Command.TheVariants.{Solve, Validate, Print}
-use Rattle.cps_command.specs.declared.options.Options.{Options}
-use Rattle.cps_command.specs.Numbers.{IsNumber, HasNumber, AreInRange, AreOptions}
+use Rattle.cps_options.specs.declared.options.Options.{Options}
+use Rattle.cps_options.specs.Ranges.{AreInRange}
+use Rattle.cps_command.specs.Numbers.{IsNumber, HasNumber, IsOn, AreOptions}
 use Rattle.cps_command.specs.Rules.{command_table}
 use Rattle.cps_command.specs.Lines.{IsPassed, HasName, HasOptions, Says, SaysNothing, CommandLine, IsUsageFault, HasOneCommand}
 
@@ -34,6 +36,26 @@ same_number id rows i j h k =
     let first = h.number.value in
     let second = k.number.value in
     cc
+
+-- a fact has one truth value
+same_switch : (P : Type 0) (a b : Bool) → IsTrue a ↔ P → IsTrue b ↔ P → a ≡ b
+same_switch P true b h k = sym (k.1 (h.0 refl))
+same_switch P false true h k = absurd (let on : false ≡ true = h.1 (k.0 refl) in cc)
+same_switch P false false h k = refl
+
+-- the value that is read of an option without a value
+pub switch_given : (f : Found) (id : List ℕ) (text : List ℕ) (same : Bool) → first_value f id ≡ Some text → IsTrue same ↔ (text ≡ codes "true") → IsTrue same ↔ IsOn id (rows_of f)
+switch_given f id text same read h = (
+  (λ on. sym (first_value-rows f id) ∙ read ∙ ap (λ (t : List ℕ). Some t) (h.0 on)),
+  (λ on. let both : Some text ≡ Some (codes "true") = sym read ∙ first_value-rows f id ∙ on in h.1 (let e : text ≡ codes "true" = cc in e)),
+)
+
+-- and without one it is off
+pub no_switch_given : (f : Found) (id : List ℕ) → first_value f id ≡ None → IsTrue false ↔ IsOn id (rows_of f)
+no_switch_given f id none = (
+  (λ on. absurd (let q : false ≡ true = on in cc)),
+  (λ on. absurd (let q : None ≡ Some (codes "true") = sym none ∙ first_value-rows f id ∙ on in cc)),
+)
 
 -- numbers out of their ranges are no options
 pub out_of_range : (rows : List Row) (o : Options) → HasNumber (codes "workers") rows o.workers → HasNumber (codes "conflicts") rows o.conflicts → (AreInRange o → ⊥)
@@ -84,6 +106,15 @@ solve_no_print says h k = other_name says (codes "solve") (codes "print") (λ (e
 validate_no_print : (says : Option (Text × List Row)) → HasName (codes "validate") says → HasName (codes "print") says → ⊥
 validate_no_print says h k = other_name says (codes "validate") (codes "print") (λ (e : 118 ≡ 112). omega arith) h k
 
+abbrev make : ℕ → ℕ → ℕ → Bool → ℕ → Options
+make workers conflicts seed interleave gap = record { workers = workers; conflicts = conflicts; seed = seed; interleave = interleave; gap = gap }
+
+alike_options : (o p : Options) → o.workers ≡ p.workers → o.conflicts ≡ p.conflicts → o.seed ≡ p.seed → o.interleave ≡ p.interleave → o.gap ≡ p.gap → o ≡ p
+alike_options o p workers conflicts seed interleave gap =
+    ap (λ (n : ℕ). make n o.conflicts o.seed o.interleave o.gap) workers ∙ ap (λ (n : ℕ). make p.workers n o.seed o.interleave o.gap) conflicts
+    ∙ ap (λ (n : ℕ). make p.workers p.conflicts n o.interleave o.gap) seed ∙ ap (λ (b : Bool). make p.workers p.conflicts p.seed b o.gap) interleave
+    ∙ ap (λ (n : ℕ). make p.workers p.conflicts p.seed p.interleave n) gap
+
 -- words have one list of options
 same_options : (says : Option (Text × List Row)) (o p : Options) → HasOptions says o → HasOptions says p → o ≡ p
 same_options says o p h k =
@@ -92,8 +123,10 @@ same_options says o p h k =
     let other = subst (λ (r : List Row). AreOptions r p) rows k.options in
     let workers = same_number (codes "workers") h.rows o.workers p.workers h.options.workers other.workers in
     let conflicts = same_number (codes "conflicts") h.rows o.conflicts p.conflicts h.options.conflicts other.conflicts in
-    let options : ℕ → ℕ → Options = λ w c. record { workers = w; conflicts = c } in
-    ap₂ options workers conflicts
+    let seed = same_number (codes "seed") h.rows o.seed p.seed h.options.seed other.seed in
+    let interleave = same_switch (IsOn (codes "interleave") h.rows) o.interleave p.interleave h.options.interleave other.interleave in
+    let gap : o.gap ≡ p.gap = h.options.gap ∙ sym other.gap in
+    alike_options o p workers conflicts seed interleave gap
 
 one_said : (says : Option (Text × List Row)) (c d : Command) → Says says c → Says says d → c ≡ d
 one_said says (Solve o) (Solve p) h k = ap (λ (q : Options). Solve q) (same_options says o p h.1 k.1)

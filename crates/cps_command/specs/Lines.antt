@@ -5,7 +5,7 @@ use Rattle.std.specs.declared.alloc.Global.{Global}
 use Rattle.clap.specs.Words.{Row, Text, fault_of, subcommand_of}
 use Rattle.cps_command.specs.declared.command.Command.{Command}
 use Rattle.cps_command.specs.declared.command.Command.TheVariants.{Solve, Validate, Print}
-use Rattle.cps_command.specs.declared.options.Options.{Options}
+use Rattle.cps_options.specs.declared.options.Options.{Options}
 use Rattle.cps_command.specs.Rules.{command_table}
 use Rattle.cps_command.specs.Numbers.{AreOptions}
 

@@ -1,8 +1,9 @@
 -- What the options of a command are, by what `clap` found.
-use Rattle.std.specs.Prelude.{◌≡◌, ℕ, ◌≤◌, List, codes, Some}
+use Rattle.std.specs.Prelude.{◌≡◌, ◌↔◌, ℕ, ◌<◌, ◌^◌, List, codes, IsTrue, Some}
 use Rattle.std.specs.Str.Parse.{IsNumeral, digits_value, without_leading_plus}
-use Rattle.clap.specs.Words.{Row, one_of}
-use Rattle.cps_command.specs.declared.options.Options.{Options}
+use Rattle.clap.specs.Words.{Row, first_of, one_of}
+use Rattle.cps_options.specs.declared.options.Options.{Options}
+use Rattle.cps_options.specs.Ranges.{AreInRange}
 
 -- the text is a number in decimal digits, before which a plus may stand
 pub record IsNumber (text : List ℕ) (n : ℕ) : Type 0 where
@@ -15,14 +16,16 @@ pub record HasNumber (option : List ℕ) (rows : List Row) (n : ℕ) : Type 0 wh
   pub is : one_of option rows ≡ Some text
   pub number : IsNumber text n
 
--- one worker, and at most 10^9 conflicts
-pub record AreInRange (o : Options) : Type 0 where
-  pub some_worker : 1 ≤ o.workers
-  pub workers : o.workers ≤ 1
-  pub conflicts : o.conflicts ≤ 1000000000
+-- an option without a value was given
+abbrev pub IsOn : List ℕ → List Row → Type 0
+IsOn option rows = first_of option rows ≡ Some (codes "true")
 
--- the options have these numbers, which are in their ranges
+-- the options have these numbers, which are in their ranges, and no gap
 pub record AreOptions (rows : List Row) (o : Options) : Type 0 where
   pub workers : HasNumber (codes "workers") rows o.workers
   pub conflicts : HasNumber (codes "conflicts") rows o.conflicts
+  pub seed : HasNumber (codes "seed") rows o.seed
+  pub seed_fits : o.seed < 2 ^ 64
+  pub interleave : IsTrue o.interleave ↔ IsOn (codes "interleave") rows
+  pub gap : o.gap ≡ 0
   pub range : AreInRange o

@@ -2,6 +2,7 @@
 use Rattle.std.specs.Prelude.{true, pos, [], ◌∷◌, codes, Some}
 use Rattle.clap.specs.Words.{App, Rule, Shape, new_app, new_rule, with_rule, with_subcommand}
 use Rattle.clap.specs.Simple.{on_top}
+use Rattle.clap.specs.declared.builder.action.ArgAction.TheVariants.{SetTrue}
 use Rattle.clap.specs.declared.builder.value_parser.ValueParser.TheVariants as vp
 
 -- `--workers N`, a number of 32 bits
@@ -9,7 +10,7 @@ unfoldable pub workers_rule : Rule
 workers_rule = record (new_rule (codes "workers")) {
   long = Some (codes "workers");
   parser = Some (vp.Signed (pos 0) (pos 4294967295));
-  defaults = codes "1" ∷ [];
+  defaults = codes "4" ∷ [];
 }
 
 -- `--conflicts N`, a number of 64 bits
@@ -20,9 +21,24 @@ conflicts_rule = record (new_rule (codes "conflicts")) {
   defaults = codes "10000" ∷ [];
 }
 
--- `solve [--workers N] [--conflicts N]`
+-- `--seed N`, a number of 64 bits
+unfoldable pub seed_rule : Rule
+seed_rule = record (new_rule (codes "seed")) {
+  long = Some (codes "seed");
+  parser = Some (vp.Unsigned 0 18446744073709551615);
+  defaults = codes "1" ∷ [];
+}
+
+-- `--interleave`, whose value is `true` where it is given, and else `false`
+unfoldable pub interleave_rule : Rule
+interleave_rule = record (new_rule (codes "interleave")) {
+  long = Some (codes "interleave");
+  action = Some SetTrue;
+}
+
+-- `solve [--workers N] [--conflicts N] [--seed N] [--interleave]`
 unfoldable pub solve_line : App
-solve_line = with_rule (with_rule (new_app (codes "solve")) workers_rule) conflicts_rule
+solve_line = with_rule (with_rule (with_rule (with_rule (new_app (codes "solve")) workers_rule) conflicts_rule) seed_rule) interleave_rule
 
 -- a command that wants a subcommand
 abbrev pub wants_subcommand : Shape → Shape

@@ -3,9 +3,10 @@ ghost use Rattle.std.specs.Prelude.{IfOk, MatchOption};
 ghost use Rattle.clap.specs.Words.{subcommand_rows_of};
 ghost use Rattle.cps_command.specs.Lines.{texts_of, Says, SaysNothing, CommandLine, IsUsageFault, HasOneCommand};
 
-use crate::options::{Options, options_of};
+use crate::options::options_of;
 use crate::table::matches_of;
 use clap::ArgMatches;
+use cps_options::Options;
 use std::alloc::{AllocError, Global};
 
 /// What the program is told to do.

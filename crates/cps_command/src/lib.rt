@@ -9,4 +9,4 @@ mod options;
 mod table;
 
 pub use command::{Command, command_of};
-pub use options::{LEAST_WORKERS, MOST_CONFLICTS, MOST_WORKERS, Options};
+pub use cps_options::Options;

@@ -1,28 +1,14 @@
 //! The options of a command.
 ghost use Rattle.std.specs.Prelude.{ℕ, ◌^◌, ◌<◌, ◌↔◌, IsTrue, MatchOption};
 ghost use Rattle.clap.specs.Words.{found_of, rows_of};
-ghost use Rattle.cps_command.specs.Numbers.{HasNumber, AreInRange, AreOptions};
-ghost use Rattle.cps_command.specs.declared.options.Options.{Options as OptionsOf};
+ghost use Rattle.cps_command.specs.Numbers.{HasNumber, IsOn, AreOptions};
+ghost use Rattle.cps_options.specs.declared.options.Options.{Options as OptionsOf};
 
 use clap::ArgMatches;
+use cps_options::Options;
 
-/// The fewest workers that may search.
-pub const LEAST_WORKERS: u32 = 1;
-
-/// The most workers that may search.
-pub const MOST_WORKERS: u32 = 1;
-
-/// The most conflicts from which a worker may be told to learn.
-pub const MOST_CONFLICTS: u64 = 1_000_000_000;
-
-/// How a model is solved.
-#[derive(Debug, Clone, Copy, PartialEq, Eq)]
-pub struct Options {
-    /// How many workers search, at least `LEAST_WORKERS` and at most `MOST_WORKERS`.
-    pub workers: u32,
-    /// From how many conflicts each worker may learn, at most `MOST_CONFLICTS`.
-    pub conflicts: u64,
-}
+/// The gap of every command so far: what is called optimal is a best solution.
+const NO_GAP: u64 = 0;
 
 /// The number that an option of 32 bits has, none where it has none.
 fn number_of(matches: &ArgMatches<'_>, option: &str) -> Option<u32>
@@ -40,13 +26,14 @@ fn long_number_of(matches: &ArgMatches<'_>, option: &str) -> Option<u64>
     matches.get_one::<u64>(option)
 }
 
-/// Whether the options are in their ranges.
-fn are_in_range(options: &Options) -> bool
-    ensures { IsTrue result ↔ AreInRange options.now }
+/// Whether an option without a value was given.
+fn is_on(matches: &ArgMatches<'_>, option: &str) -> bool
+    ensures { IsTrue result ↔ IsOn option.now (rows_of (found_of matches.now)) }
 {
-    LEAST_WORKERS <= options.workers
-        && options.workers <= MOST_WORKERS
-        && options.conflicts <= MOST_CONFLICTS
+    match matches.get_str(option) {
+        Some(text) => text == "true",
+        None => false,
+    }
 }
 
 /// The options that were given, none where one of them is out of its range.
@@ -59,8 +46,17 @@ pub(crate) fn options_of(matches: &ArgMatches<'_>) -> Option<Options>
     let Some(conflicts) = long_number_of(matches, "conflicts") else {
         return None;
     };
-    let options = Options { workers, conflicts };
-    if are_in_range(&options) {
+    let Some(seed) = long_number_of(matches, "seed") else {
+        return None;
+    };
+    let options = Options {
+        workers,
+        conflicts,
+        seed,
+        interleave: is_on(matches, "interleave"),
+        gap: NO_GAP,
+    };
+    if options.are_in_range() {
         return Some(options);
     }
     None

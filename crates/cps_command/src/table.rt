@@ -2,11 +2,11 @@
 ghost use Rattle.std.specs.Prelude.{◌≡◌, ◌≢◌, [], false, IfOk, MatchOption};
 ghost use Rattle.clap.specs.Words.{app_of, rule_of, fault_of, subcommand_of, subcommand_rows_of};
 ghost use Rattle.clap.specs.declared.builder.Command.TheViews.{out-Command};
-ghost use Rattle.cps_command.specs.Rules.{workers_rule, conflicts_rule, solve_line, command_table};
+ghost use Rattle.cps_command.specs.Rules.{workers_rule, conflicts_rule, seed_rule, interleave_rule, solve_line, command_table};
 ghost use Rattle.cps_command.specs.Lines.{texts_of, IsPassed};
 
 use clap::error::ErrorKind;
-use clap::{Arg, ArgMatches, Command, value_parser};
+use clap::{Arg, ArgAction, ArgMatches, Command, value_parser};
 use std::alloc::{AllocError, Global};
 
 /// `--workers N`
@@ -17,7 +17,7 @@ fn workers_option<'a>(alloc: Global) -> Arg<'a>
     Arg::new(alloc, "workers")
         .long("workers")
         .value_parser(value_parser!(u32))
-        .default_value("1")
+        .default_value("4")
 }
 
 /// `--conflicts N`
@@ -31,14 +31,41 @@ fn conflicts_option<'a>(alloc: Global) -> Arg<'a>
         .default_value("10000")
 }
 
-/// `solve [--workers N] [--conflicts N]`
+/// `--seed N`
+fn seed_option<'a>(alloc: Global) -> Arg<'a>
+    ensures rule { rule_of result ≡ seed_rule }
+    ensures local { result.global ≡ false }
+{
+    Arg::new(alloc, "seed")
+        .long("seed")
+        .value_parser(value_parser!(u64))
+        .default_value("1")
+}
+
+/// `--interleave`
+fn interleave_option<'a>(alloc: Global) -> Arg<'a>
+    ensures rule { rule_of result ≡ interleave_rule }
+    ensures local { result.global ≡ false }
+{
+    Arg::new(alloc, "interleave")
+        .long("interleave")
+        .action(ArgAction::SetTrue)
+}
+
+/// `solve [--workers N] [--conflicts N] [--seed N] [--interleave]`
 fn solve_line<'a>(alloc: Global) -> Result<Command<'a>, AllocError>
     ensures app { IfOk result (λ c. app_of c ≡ solve_line) }
     ensures local { IfOk result (λ c. (out-Command c).has_globals ≡ false) }
 {
     let workers = workers_option(alloc);
     let conflicts = conflicts_option(alloc);
-    Command::new(alloc, "solve").arg(workers)?.arg(conflicts)
+    let seed = seed_option(alloc);
+    let interleave = interleave_option(alloc);
+    Command::new(alloc, "solve")
+        .arg(workers)?
+        .arg(conflicts)?
+        .arg(seed)?
+        .arg(interleave)
 }
 
 /// All lines.

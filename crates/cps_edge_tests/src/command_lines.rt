@@ -1,15 +1,19 @@
 //! Words with the commands that they are.
-use cps_command::{Command, Options, command_of};
+use cps_command::{Command, command_of};
+use cps_options::Options;
 use std::alloc::{AllocError, Global};
 use std::test::Fail;
 
 /// Words, each with the command that they are.
-const LINES: [(&[&str], Option<Command>); 27] = [
+const LINES: [(&[&str], Option<Command>); 35] = [
     (
         &["cpsolve", "solve"],
         Some(Command::Solve(Options {
-            workers: 1,
+            workers: 4,
             conflicts: 10_000,
+            seed: 1,
+            interleave: false,
+            gap: 0,
         })),
     ),
     (
@@ -17,20 +21,49 @@ const LINES: [(&[&str], Option<Command>); 27] = [
         Some(Command::Solve(Options {
             workers: 1,
             conflicts: 0,
+            seed: 1,
+            interleave: false,
+            gap: 0,
         })),
     ),
     (
-        &["cpsolve", "solve", "--conflicts", "7", "--workers", "1"],
+        &["cpsolve", "solve", "--conflicts", "7", "--workers", "16"],
         Some(Command::Solve(Options {
-            workers: 1,
+            workers: 16,
             conflicts: 7,
+            seed: 1,
+            interleave: false,
+            gap: 0,
         })),
     ),
     (
         &["cpsolve", "solve", "--conflicts=1000000000"],
         Some(Command::Solve(Options {
-            workers: 1,
+            workers: 4,
             conflicts: 1_000_000_000,
+            seed: 1,
+            interleave: false,
+            gap: 0,
+        })),
+    ),
+    (
+        &["cpsolve", "solve", "--interleave", "--seed", "7"],
+        Some(Command::Solve(Options {
+            workers: 4,
+            conflicts: 10_000,
+            seed: 7,
+            interleave: true,
+            gap: 0,
+        })),
+    ),
+    (
+        &["cpsolve", "solve", "--seed=18446744073709551615"],
+        Some(Command::Solve(Options {
+            workers: 4,
+            conflicts: 10_000,
+            seed: 18_446_744_073_709_551_615,
+            interleave: false,
+            gap: 0,
         })),
     ),
     (&["cpsolve", "validate"], Some(Command::Validate)),
@@ -50,9 +83,18 @@ const LINES: [(&[&str], Option<Command>); 27] = [
     ),
     (&["cpsolve", "solve", "--workers", "0"], None),
     (&["cpsolve", "solve", "--workers", "17"], None),
+    (
+        &["cpsolve", "solve", "--seed", "18446744073709551616"],
+        None,
+    ),
+    (&["cpsolve", "solve", "--interleave=true"], None),
+    (&["cpsolve", "solve", "--interleave", "true"], None),
+    (&["cpsolve", "solve", "--interleave", "--interleave"], None),
+    (&["cpsolve", "solve", "--gap", "1"], None),
     (&["cpsolve", "solve", "x"], None),
     (&["cpsolve", "solve", "--help"], None),
     (&["cpsolve", "validate", "x"], None),
+    (&["cpsolve", "validate", "--interleave"], None),
     (&["cpsolve", "validate", "--help"], None),
     (&["cpsolve", "print", "x"], None),
     (&["cpsolve", "print", "--conflicts", "1"], None),

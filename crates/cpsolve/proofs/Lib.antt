@@ -4,4 +4,3 @@ pub mod Given
 pub mod Answering
 pub mod Limits
 pub mod Outcomes
-pub mod Alone

@@ -14,10 +14,11 @@ use Rattle.cps_model.specs.Validity.{IsValid}
 use Rattle.cps_model.proofs.Inside.{model_ready}
 use Rattle.cps_search.specs.Ends.{Ending}
 use Rattle.cps_search.specs.Following.{best_bound}
-use Rattle.cps_print.specs.Responses.{IsSummable, IsSolved}
-use Rattle.cps_command.specs.declared.options.Options.{Options}
-use Rattle.cpsolve.specs.declared.outcome.Outcome.{Outcome}
-use Rattle.cpsolve.specs.Outcomes.{IsGoodOutcome, KeepsPromise, SpentItsBudget, better, best_of}
+use Rattle.cps_print.specs.Responses.{IsBounded, IsFinite, IsSummable, IsSolved}
+use Rattle.cps_options.specs.declared.options.Options.{Options}
+use Rattle.cps_portfolio.specs.declared.outcome.Outcome.{Outcome}
+use Rattle.cps_portfolio.specs.Outcomes.{IsGoodOutcome, SpentItsBudget, better, best_of}
+use Rattle.cpsolve.specs.Outcomes.{KeepsPromise}
 
 -- ---- the best of what the workers found is a solution
 
@@ -95,17 +96,17 @@ promises m gap options status (Some a) lower ends false met same solution below 
       unknown = λ e. absurd cc;
     }
 
-promised : (m : CpModel) (gap : ℕ) (options : Options) (o : Outcome) → IsGoodOutcome m gap options o → Promises m gap options o.status o.solution o.lower o.ends
-promised m gap options o good =
+promised : (m : CpModel) (options : Options) (o : Outcome) → IsGoodOutcome m options o → Promises m options.gap options o.status o.solution o.lower o.ends
+promised m options o good =
     let solution = subst (λ (s : Option (List ℤ)). IfSome s (IsSolution m)) (sym good.solution) (best_is m o.ends good.found) in
-    promises m gap options o.status o.solution o.lower o.ends (is_closed o.lower (best_bound m o.solution) gap) refl
-    (good.status ∙ ap (λ (u : Bound). status_of u o.lower gap) good.upper) solution good.floor
-    (subst (λ (u : Bound). is_closed o.lower u gap ≡ false → All (SpentItsBudget m options.conflicts u) o.ends) good.upper good.spent)
+    promises m options.gap options o.status o.solution o.lower o.ends (is_closed o.lower (best_bound m o.solution) options.gap) refl
+    (good.status ∙ ap (λ (u : Bound). status_of u o.lower options.gap) good.upper) solution good.floor
+    (subst (λ (u : Bound). is_closed o.lower u options.gap ≡ false → All (SpentItsBudget m options.conflicts u) o.ends) good.upper good.spent)
 
 -- a good outcome keeps the promise of its status
-pub promise_kept : (m : CpModel) (gap : ℕ) (options : Options) (o : Outcome) → IsGoodOutcome m gap options o → KeepsPromise m gap options o
-promise_kept m gap options o good =
-    let p = promised m gap options o good in
+pub promise_kept : (m : CpModel) (options : Options) (o : Outcome) → IsGoodOutcome m options o → KeepsPromise m options o
+promise_kept m options o good =
+    let p = promised m options o good in
     record {
       optimal = λ e. let found = p.optimal e in (found.0, record { this = found.1; best = found.2; below = found.3; near = found.4 });
       infeasible = p.infeasible;
@@ -119,13 +120,38 @@ summable : (m : CpModel) (o : Outcome) (a : List ℤ) → IsValid m → o.soluti
 summable m o a valid this solution =
     subst (λ (s : Option (List ℤ)). IsSummable m.objective s) (sym this) (model_ready m a valid solution.free.domains).objective
 
-solved_by : (m : CpModel) (gap : ℕ) (options : Options) (o : Outcome) (status : Status) → IsValid m → KeepsPromise m gap options o → o.status ≡ status → IsSolved m.objective status o.solution
-solved_by m gap options o Optimal valid kept e = let found = kept.optimal e in summable m o found.0 valid found.1.this found.1.best.solution
-solved_by m gap options o Feasible valid kept e = let found = kept.feasible e in summable m o found.0 valid found.1.this found.1.solution
-solved_by m gap options o Infeasible valid kept e = tt
-solved_by m gap options o Unknown valid kept e = tt
+solved_by : (m : CpModel) (options : Options) (o : Outcome) (status : Status) → IsValid m → KeepsPromise m options o → o.status ≡ status → IsSolved m.objective status o.solution
+solved_by m options o Optimal valid kept e = let found = kept.optimal e in summable m o found.0 valid found.1.this found.1.best.solution
+solved_by m options o Feasible valid kept e = let found = kept.feasible e in summable m o found.0 valid found.1.this found.1.solution
+solved_by m options o Infeasible valid kept e = tt
+solved_by m options o Unknown valid kept e = tt
 
-pub solved : (m n : CpModel) (gap : ℕ) (options : Options) (o : Outcome) → n ≡ m → IsValid n → IsGoodOutcome m gap options o → IsSolved n.objective o.status o.solution
-solved m n gap options o same valid good =
-    let here = subst (λ (k : CpModel). IsGoodOutcome k gap options o) (sym same) good in
-    solved_by n gap options o o.status valid (promise_kept n gap options o here) refl
+pub solved : (m n : CpModel) (options : Options) (o : Outcome) → n ≡ m → IsValid n → IsGoodOutcome m options o → IsSolved n.objective o.status o.solution
+solved m n options o same valid good =
+    let here = subst (λ (k : CpModel). IsGoodOutcome k options o) (sym same) good in
+    solved_by n options o o.status valid (promise_kept n options o here) refl
+
+-- ---- the lower bound can be written
+
+-- a lower bound that is at most a solution's objective
+finite_below : (lower : Bound) (v : ℤ) → IsAtMost lower v → IsFinite lower
+finite_below (At l) v h = tt
+finite_below Infinite v h = h
+
+-- bounds of which the lower one is infinite are closed
+unknown_finite : (upper lower : Bound) (gap : ℕ) → status_of upper lower gap ≡ Unknown → IsFinite lower
+unknown_finite upper (At l) gap e = tt
+unknown_finite (At u) Infinite gap e = absurd cc
+unknown_finite Infinite Infinite gap e = absurd cc
+
+pub bounded : (m : CpModel) (options : Options) (o : Outcome) → IsGoodOutcome m options o → IsBounded o.status o.lower
+bounded m options o good = go o.status refl
+  where
+    kept : KeepsPromise m options o
+    kept = promise_kept m options o good
+
+    go : (s : Status) → o.status ≡ s → IsBounded s o.lower
+    go Optimal same = let k = kept.optimal same in finite_below o.lower (objective_value m k.0) k.1.below
+    go Feasible same = let k = kept.feasible same in finite_below o.lower (objective_value m k.0) k.1.below
+    go Infeasible same = tt
+    go Unknown same = unknown_finite o.upper o.lower options.gap (sym good.status ∙ same)

@@ -1,5 +1,5 @@
 -- What the program answers to a command line and an input: an exit status, an outcome and a text.
-use Rattle.std.specs.Prelude.{◌≡◌, ℕ, List, [], ◌∷◌, ◌++◌, codes, Some, None}
+use Rattle.std.specs.Prelude.{◌≡◌, ℕ, List, [], ◌∷◌, ◌++◌, codes, IsTrue, Some, None}
 use Rattle.cps_model.specs.declared.model.CpModel.{CpModel}
 use Rattle.cps_print.specs.declared.fault.Fault.{Fault}
 use Rattle.cps_print.specs.declared.response.Response.{Response}
@@ -12,12 +12,14 @@ use Rattle.cpsolve.specs.declared.input.Unread.{Unread}
 use Rattle.cpsolve.specs.declared.input.Unread.TheVariants as unread
 use Rattle.cps_command.specs.declared.command.Command.{Command}
 use Rattle.cps_command.specs.declared.command.Command.TheVariants.{Solve, Validate, Print}
-use Rattle.cps_command.specs.declared.options.Options.{Options}
-use Rattle.cps_command.specs.Numbers.{AreInRange}
+use Rattle.cps_options.specs.declared.options.Options.{Options}
+use Rattle.cps_options.specs.Ranges.{AreInRange}
 use Rattle.cps_command.specs.Lines.{CommandLine, IsUsageFault}
-use Rattle.cpsolve.specs.declared.outcome.Outcome.{Outcome}
+use Rattle.cps_portfolio.specs.declared.outcome.Outcome.{Outcome}
+use Rattle.cps_portfolio.specs.Outcomes.{IsGoodOutcome}
+use Rattle.cps_portfolio.specs.Turning.{IsDrawnRun}
 use Rattle.cpsolve.specs.Inputs.{HasFault, HasNo, IsInput, IsModelText}
-use Rattle.cpsolve.specs.Outcomes.{IsGoodOutcome, KeepsPromise}
+use Rattle.cpsolve.specs.Outcomes.{KeepsPromise}
 
 abbrev pub usage_text : List ℕ
 usage_text = codes "usage: cpsolve solve|validate|print|gen|demo|check" ++ 10 ∷ []
@@ -35,14 +37,16 @@ pub record IsText (status : ℕ) (bytes : List ℕ) (answer : Answer) : Type 0 w
 abbrev pub response_of : Outcome → Response
 response_of o = record { status = o.status; solution = o.solution; lower = o.lower }
 
--- `solve` of a valid model: the response of an outcome that is good for the options
+-- `solve` of a valid model: the response of an outcome that is good for the options, and where the workers take turns it is that of the
+-- turns that the seed draws
 pub record Solves (options : Options) (m : CpModel) (answer : Answer) : Type 0 where
   pub found : Outcome
   pub exit : answer.exit ≡ 0
   pub outcome : answer.outcome ≡ Some found
   pub text : answer.text ≡ response_text m (response_of found)
-  pub good : IsGoodOutcome m 0 options found
-  pub promise : KeepsPromise m 0 options found
+  pub good : IsGoodOutcome m options found
+  pub promise : KeepsPromise m options found
+  pub drawn : IsTrue options.interleave → IsDrawnRun m options 4096 found.ends
 
 -- `validate` of a valid model: that it is valid
 abbrev pub Validates : CpModel → Answer → Type 0

@@ -1,6 +1,5 @@
 pub mod Inputs
 pub mod Reading
 pub mod Outcomes
-pub mod Alone
 pub mod Answers
 pub mod Runs

@@ -1,90 +1,13 @@
--- What the outcome of a search says of its model, and what its status promises.
-use Rattle.std.specs.Prelude.{◌≡◌, ℕ, ◌-◌, true, false, if◌then◌else◌, ℤ, int_lt, Option, Some, None, IfSome, List, [], ◌∷◌, ◌++◌, map, replicate, All}
+-- What the status of an outcome promises.
+use Rattle.std.specs.Prelude.{◌≡◌, ℕ, true, ℤ, Some, None, List, All}
 use Rattle.cps_model.specs.declared.model.CpModel.{CpModel}
-use Rattle.cps_model.specs.declared.bound.Bound.{Bound}
 use Rattle.cps_model.specs.declared.bound.Bound.TheVariants.{At, Infinite}
 use Rattle.cps_model.specs.declared.status.Status.TheVariants.{Optimal, Feasible, Infeasible, Unknown}
 use Rattle.cps_model.specs.Solutions.{objective_value, IsSolution, IsBest, HasNoSolution}
-use Rattle.cps_model.specs.Start.{objective_start}
-use Rattle.cps_model.specs.Statuses.{is_closed, status_of, IsAtMost}
-use Rattle.cps_literal.specs.declared.atom.Atom.{Atom}
-use Rattle.cps_instance.specs.Problem.{Problem, IsInstance}
-use Rattle.cps_instance.specs.Strategies.{model_sums}
-use Rattle.cps_port.specs.Order.{raised_above}
-use Rattle.cps_clauses.specs.declared.journal.JournalItem.TheVariants.{Learnt}
-use Rattle.cps_search.specs.declared.end.WorkerKind.{WorkerKind}
-use Rattle.cps_search.specs.declared.end.WorkerKind.TheVariants.{Fixed, Activity}
-use Rattle.cps_search.specs.declared.end.End.TheVariants.{Spent}
-use Rattle.cps_search.specs.Searches.{IsHonestJournal, IsItemAbove, learnt_count}
-use Rattle.cps_search.specs.Ends.{Ending}
-use Rattle.cps_search.specs.Following.{best_bound}
-use Rattle.cps_search.specs.Guided.{IsEndOfRun, IsGuidedBy}
-use Rattle.cps_command.specs.declared.options.Options.{Options}
-use Rattle.cpsolve.specs.declared.outcome.Outcome.{Outcome}
-
--- the kinds of the workers by number: the first is a fixed one
-abbrev pub kinds_of : ℕ → List WorkerKind
-kinds_of workers = Fixed ∷ replicate (workers - 1) Activity
-
--- the better of two solutions, and the first where the other is no better
-abbrev pub better : CpModel → Option (List ℤ) → Option (List ℤ) → Option (List ℤ)
-better m None b = b
-better m (Some a) None = Some a
-better m (Some a) (Some b) = if int_lt (objective_value m b) (objective_value m a) then Some b else Some a
-
--- the best solution that any worker found, that of the lowest number where several are as good
-abbrev pub best_of : CpModel → List Ending → Option (List ℤ)
-best_of m [] = None
-best_of m (e ∷ es) = better m e.best (best_of m es)
-
--- the greatest of a bound and of those to which the workers raised it
-abbrev pub greatest_raised : Bound → List Ending → Bound
-greatest_raised start [] = start
-greatest_raised start (e ∷ es) = raised_above e.raised (greatest_raised start es)
-
--- A worker spent its budget of conflicts: it learnt from as many as it may, and ended with the clause that one more teaches. Its journal
--- with this clause at the end is honest, and no clause of it is about what is better than the least objective that was found.
-pub record SpentItsBudget (m : CpModel) (conflicts : ℕ) (upper : Bound) (e : Ending) : Type 0 where
-  pub tally : e.tally ≡ conflicts
-  pub learnt : learnt_count e.journal ≡ conflicts
-  pub clause : List Atom
-  pub below : Bound
-  pub end : e.end ≡ Spent clause below
-  -- an instance of the model with the worker's sums, over whose subjects the clauses are
-  pub problem : Problem
-  pub instance : IsInstance problem
-  pub model : problem.model ≡ m
-  pub sums : problem.defs ≡ e.defs
-  pub honest : IsHonestJournal problem (e.journal ++ Learnt clause below ∷ [])
-  pub above : All (IsItemAbove upper) (e.journal ++ Learnt clause below ∷ [])
-
--- The decisions of a worker that ended went by what the model says, over an instance with the worker's sums: what is seen of the worker is
--- what a run comes to that begins with nothing known, and each decision of which goes by this guidance.
-pub record GoesByModel (m : CpModel) (gap conflicts : ℕ) (e : Ending) : Type 0 where
-  pub problem : Problem
-  pub instance : IsInstance problem
-  pub model : problem.model ≡ m
-  pub sums : problem.defs ≡ e.defs
-  pub guide : IsGuidedBy e.kind problem e.guidance
-  pub decisions : IfSome e.guidance (λ guidance. IsEndOfRun problem gap conflicts guidance e)
-
-pub record IsGoodOutcome (m : CpModel) (gap : ℕ) (options : Options) (o : Outcome) : Type 0 where
-  -- each worker ended, and is of the kind that its number says, with the sums that the model's strategies write and no others
-  pub workers : map (λ e. e.kind) o.ends ≡ kinds_of options.workers
-  pub sums : All (λ e. e.defs ≡ model_sums m) o.ends
-  -- a fixed worker decides by the model's strategies and then takes the variables, an activity worker by the model's hint
-  pub branchers : All (GoesByModel m gap options.conflicts) o.ends
-  -- the status is that of the two bounds
-  pub status : o.status ≡ status_of o.upper o.lower gap
-  -- what a worker found is a solution, the outcome's is the best of these, and the upper bound is its objective
-  pub found : All (λ e. IfSome e.best (IsSolution m)) o.ends
-  pub solution : o.solution ≡ best_of m o.ends
-  pub upper : o.upper ≡ best_bound m o.solution
-  -- the lower bound is the greatest of the least objective by the domains and of what the workers raised it to, and no solution is below
-  pub lower : o.lower ≡ greatest_raised (At (objective_start m)) o.ends
-  pub floor : (a : List ℤ) → IsSolution m a → IsAtMost o.lower (objective_value m a)
-  -- where the bounds have not met, each worker spent its budget
-  pub spent : is_closed o.lower o.upper gap ≡ false → All (SpentItsBudget m options.conflicts o.upper) o.ends
+use Rattle.cps_model.specs.Statuses.{is_closed, IsAtMost}
+use Rattle.cps_options.specs.declared.options.Options.{Options}
+use Rattle.cps_portfolio.specs.declared.outcome.Outcome.{Outcome}
+use Rattle.cps_portfolio.specs.Outcomes.{SpentItsBudget}
 
 -- a solution that none beats by more than the gap, with a lower bound that is at most its objective and within the gap of it
 pub record IsOptimal (m : CpModel) (gap : ℕ) (o : Outcome) (a : List ℤ) : Type 0 where
@@ -106,8 +29,8 @@ pub record IsUnknown (m : CpModel) (options : Options) (o : Outcome) : Type 0 wh
   pub spent : All (SpentItsBudget m options.conflicts Infinite) o.ends
 
 -- what each status promises
-pub record KeepsPromise (m : CpModel) (gap : ℕ) (options : Options) (o : Outcome) : Type 0 where
-  pub optimal : o.status ≡ Optimal → (a : List ℤ) × IsOptimal m gap o a
+pub record KeepsPromise (m : CpModel) (options : Options) (o : Outcome) : Type 0 where
+  pub optimal : o.status ≡ Optimal → (a : List ℤ) × IsOptimal m options.gap o a
   pub infeasible : o.status ≡ Infeasible → HasNoSolution m
   pub feasible : o.status ≡ Feasible → (a : List ℤ) × IsFeasible m options o a
   pub unknown : o.status ≡ Unknown → IsUnknown m options o

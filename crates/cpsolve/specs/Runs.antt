@@ -3,7 +3,7 @@ use Rattle.std.specs.Prelude.{◌≡◌, ◌≢◌, ◌==◌, ◌||◌, ℕ, ◌
 use Rattle.std.specs.Io.KnownBytes.{Appends}
 use Rattle.cps_outer.specs.Transfers.{TakesPrefix}
 use Rattle.cpsolve.specs.declared.answer.Answer.{Answer}
-use Rattle.cpsolve.specs.declared.outcome.Ran.{Ran}
+use Rattle.cpsolve.specs.declared.ran.Ran.{Ran}
 use Rattle.cpsolve.specs.Inputs.{most_bytes}
 use Rattle.cpsolve.specs.Answers.{Answers}
 

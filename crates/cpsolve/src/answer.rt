@@ -1,22 +1,24 @@
 //! The answer to a command line and an input, before it is written. Each command has a function that takes its model from the
 //! input and one that answers the model; the faults of an input have one answer for all commands.
-ghost use Rattle.std.specs.Prelude.{◌≡◌, ◌≤◌, ℕ, List, IfOk, length, string_bytes};
+ghost use Rattle.std.specs.Prelude.{◌≡◌, ◌≤◌, ℕ, List, IfOk, IsTrue, length, string_bytes};
 ghost use Rattle.cps_print.specs.Faults.{fault_text};
 ghost use Rattle.cps_print.specs.Models.{model_text};
 ghost use Rattle.cps_print.specs.ReadBack.{IsReadAs};
 ghost use Rattle.cps_print.specs.Responses.{IsShowable};
 ghost use Rattle.cps_kinds.specs.Kinds.{AreAllPropagated};
 ghost use Rattle.cps_search.specs.Searches.{HasNoAssumptions};
-ghost use Rattle.cps_command.specs.Numbers.{AreInRange};
+ghost use Rattle.cps_options.specs.Ranges.{AreInRange};
+ghost use Rattle.cps_portfolio.specs.Outcomes.{IsGoodOutcome};
+ghost use Rattle.cps_portfolio.specs.Turning.{IsDrawnRun};
 ghost use Rattle.cpsolve.specs.Inputs.{most_bytes, IsModelText, IsInput};
 ghost use Rattle.cpsolve.specs.Answers.{usage_text, valid_text, IsText, IsFaultText, Solves, Validates, Prints, AnswersInput, Does, IsInRange};
 
 use crate::input::{Unread, read_model, valid_model_of};
-use crate::outcome::Outcome;
-use crate::search::outcome_of;
-use cps_command::{Command, Options};
+use cps_command::Command;
 use cps_model::{CpModel, Text};
+use cps_options::Options;
 use cps_outer::Gate;
+use cps_portfolio::{Outcome, solve, solve_interleaved};
 use cps_print::{Fault, Response, fault_text, model_text, response_text};
 use cps_validate::ValidModel;
 use std::alloc::{AllocError, Global};
@@ -70,13 +72,34 @@ fn unread_answer(alloc: Global, unread: Unread) -> Result<Answer, AllocError>
     }
 }
 
-/// The answer of `solve` to a valid model.
-fn solve_answer<R: Threads + Wait + Sync, G: Gate + Sync>(
-    _rt: &R,
+/// What workers come to that search a model in threads, or in turns where the options say so.
+fn outcome_of<R: Threads + Wait + Sync, G: Gate + Sync>(
+    rt: &R,
     alloc: Global,
     model: &ValidModel,
     options: &Options,
-    _gate: &G,
+    gate: &G,
+) -> Result<Outcome, AllocError>
+    requires range { AreInRange options.now }
+    requires assumptions { HasNoAssumptions model.now }
+    requires kinds { AreAllPropagated model.now }
+    ensures good { IfOk result (IsGoodOutcome model.now options.now) }
+    ensures drawn { IsTrue options.now.interleave → IfOk result (λ o. IsDrawnRun model.now options.now 4096 o.ends) }
+{
+    if options.interleave {
+        solve_interleaved(alloc, model, options)
+    } else {
+        solve(rt, alloc, model, options, gate)
+    }
+}
+
+/// The answer of `solve` to a valid model.
+fn solve_answer<R: Threads + Wait + Sync, G: Gate + Sync>(
+    rt: &R,
+    alloc: Global,
+    model: &ValidModel,
+    options: &Options,
+    gate: &G,
 ) -> Result<Answer, AllocError>
     requires showable { IsShowable model.now.objective }
     requires assumptions { HasNoAssumptions model.now }
@@ -90,7 +113,7 @@ fn solve_answer<R: Threads + Wait + Sync, G: Gate + Sync>(
         upper,
         lower,
         ends,
-    } = outcome_of(alloc, model, options)?;
+    } = outcome_of(rt, alloc, model, options, gate)?;
     let response = Response {
         status,
         solution,

@@ -10,8 +10,9 @@
 
 mod answer;
 mod input;
-mod outcome;
-mod search;
+#[cfg(test)]
+mod portfolio_tests;
+mod ran;
 mod solve;
 #[cfg(test)]
 mod tests;

@@ -9,7 +9,7 @@ ghost use Rattle.cpsolve.specs.Runs.{is_silent, AreLeft, IsReadThrough, GivesOut
 ghost use Rattle.cpsolve.specs.declared.solve.Unanswered.TheVariants.{OutOfMemory};
 
 use crate::answer::{Answer, command_answer, fault_answer, usage_answer};
-use crate::outcome::Ran;
+use crate::ran::Ran;
 use cps_command::command_of;
 use cps_outer::{Gate, ReadError, Sink, Source, WriteFault, read_all, write_all};
 use cps_print::Fault;

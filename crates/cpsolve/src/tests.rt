@@ -10,8 +10,8 @@ const PRODUCTION: &str = "variables { domain: [0, 10] } variables { domain: [0, 
     constraints { linear { vars: [0, 1] coeffs: [1, 3] domain: [-9223372036854775808, 6] } } \
     objective { vars: [0, 1] coeffs: [-3, -2] scaling_factor: -1 }";
 
-/// Inputs of `solve`, each with its exit status and its text.
-const INPUTS: [(&str, u8, &str); 21] = [
+/// Inputs of `solve` that have one answer, whatever workers do, each with its exit status and its text.
+const INPUTS: [(&str, u8, &str); 20] = [
     ("", 0, "status: OPTIMAL\n"),
     (
         PRODUCTION,
@@ -109,12 +109,6 @@ const INPUTS: [(&str, u8, &str); 21] = [
         "objective { offset: 1e+2 scaling_factor: -1.0 }",
         0,
         "status: OPTIMAL\nobjective_value: -100\nbest_objective_bound: -100\n",
-    ),
-    (
-        "variables { domain: [0, 9] } variables { domain: [0, 9] } \
-         search_strategy { exprs { vars: [0, 1] coeffs: [1, -1] } domain_reduction_strategy: SELECT_MAX_VALUE }",
-        0,
-        "status: OPTIMAL\nsolution: 9\nsolution: 0\n",
     ),
     (
         "variables { domain: [0, 1] } search_strategy { } search_strategy { variables: 1 }",
@@ -269,8 +263,8 @@ pub(crate) const THREE_IN_THREE: &str =
     constraints { linear { vars: [1, 2] coeffs: [1, -1] domain: [-2, -1, 1, 2] } } \
     objective { vars: [0, 1, 2] coeffs: [1, 1, 1] }";
 
-/// Inputs, each with a budget of conflicts and the text that `solve` writes.
-const BUDGETS: [(&str, &str, &str); 4] = [
+/// Inputs, each with a budget of conflicts and the text that one worker of `solve` writes.
+const BUDGETS: [(&str, &str, &str); 5] = [
     (THREE_IN_TWO, "0", "status: UNKNOWN\n"),
     (THREE_IN_TWO, "1", "status: INFEASIBLE\n"),
     (
@@ -284,14 +278,22 @@ const BUDGETS: [(&str, &str, &str); 4] = [
         "10000",
         "status: OPTIMAL\nsolution: 9\n",
     ),
+    (
+        "variables { domain: [0, 9] } variables { domain: [0, 9] } \
+         search_strategy { exprs { vars: [0, 1] coeffs: [1, -1] } domain_reduction_strategy: SELECT_MAX_VALUE }",
+        "10000",
+        "status: OPTIMAL\nsolution: 9\nsolution: 0\n",
+    ),
 ];
 
 /// Words that are no command line.
-const FAULTY_WORDS: [&[&str]; 10] = [
+const FAULTY_WORDS: [&[&str]; 12] = [
     &["cpsolve"],
     &["cpsolve", "solve", "--workers", "0"],
     &["cpsolve", "solve", "--workers", "17"],
     &["cpsolve", "solve", "--conflicts", "1000000001"],
+    &["cpsolve", "solve", "--seed", "18446744073709551616"],
+    &["cpsolve", "solve", "--gap", "1"],
     &["cpsolve", "print", "x"],
     &["cpsolve", "print", "--conflicts", "1"],
     &["cpsolve", "validate", "x"],
@@ -311,7 +313,7 @@ const BEGINNINGS: [(&str, &str, bool); 3] = [
 ];
 
 /// The words of a command line.
-fn words_of(alloc: Global, texts: &[&str]) -> Result<Vec<String>, AllocError> {
+pub(crate) fn words_of(alloc: Global, texts: &[&str]) -> Result<Vec<String>, AllocError> {
     let mut words = Vec::new(alloc);
     for text in texts {
         words.push(String::from_str(alloc, text)?)?;
@@ -320,7 +322,7 @@ fn words_of(alloc: Global, texts: &[&str]) -> Result<Vec<String>, AllocError> {
 }
 
 /// A source over a text, read in pieces of these lengths at first, of which the calls of these numbers fail.
-fn source_of(
+pub(crate) fn source_of(
     alloc: Global,
     text: &str,
     pieces: &[usize],

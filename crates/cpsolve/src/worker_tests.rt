@@ -3,16 +3,15 @@ ghost use Rattle.std.specs.Prelude.{◌≡◌, ◌≤◌, ◌^◌, length, false
 ghost use Rattle.cps_search.specs.Ends.{IsOver, end_of};
 ghost use Rattle.cps_kinds.specs.Kinds.{AreAllPropagated};
 ghost use Rattle.cps_search.specs.Searches.{HasNoAssumptions};
-ghost use Rattle.cpsolve.specs.Alone.{Begins};
+ghost use Rattle.cps_portfolio.specs.Workers.{Begins};
 
 use crate::input::{Unread, valid_model_of};
-use crate::search::{lower_of, upper_of, worker_of};
 use crate::tests::{THREE_IN_THREE, THREE_IN_TWO};
 use cps_instance::Instance;
 use cps_kinds::{AnyPropagator, engine_of};
 use cps_model::Bound;
 use cps_port::{CoreState, PlainPort, Port};
-use cps_search::{ActivityBrancher, Brancher, Turn, Worker};
+use cps_search::{ActivityBrancher, Brancher, FixedBrancher, Turn, Worker};
 use cps_validate::ValidModel;
 use std::alloc::{AllocError, Global};
 use std::test::Fail;
@@ -29,6 +28,23 @@ fn model_of(alloc: Global, text: &str) -> Result<ValidModel, Unread>
     valid_model_of(alloc, bytes)
 }
 
+/// A worker that takes variables in order, and learns from so many conflicts.
+fn ordered_worker_of<'a>(
+    alloc: Global,
+    model: &'a ValidModel,
+    conflicts: u64,
+) -> Result<Worker<'a, AnyPropagator, FixedBrancher>, AllocError>
+    requires budget { conflicts ≤ 10 ^ 9 }
+    requires assumptions { HasNoAssumptions model.now }
+    requires kinds { AreAllPropagated model.now }
+    ensures { IfOk result (λ worker. Begins model.entry.now 0 conflicts worker.0) }
+{
+    let instance = Instance::of(alloc, model)?;
+    let engine = engine_of(alloc, &instance)?;
+    let brancher = FixedBrancher::of(alloc, &instance)?;
+    Worker::new(alloc, instance, engine, brancher, conflicts, 0)
+}
+
 /// A worker that takes variables by activity, and learns from so many conflicts.
 fn active_worker_of<'a>(
     alloc: Global,
@@ -38,7 +54,7 @@ fn active_worker_of<'a>(
     requires budget { conflicts ≤ 10 ^ 9 }
     requires assumptions { HasNoAssumptions model.now }
     requires kinds { AreAllPropagated model.now }
-    ensures { IfOk result (λ worker. Begins model.entry.now conflicts worker.0) }
+    ensures { IfOk result (λ worker. Begins model.entry.now 0 conflicts worker.0) }
 {
     let instance = Instance::of(alloc, model)?;
     let engine = engine_of(alloc, &instance)?;
@@ -113,7 +129,7 @@ fn turns_in_order<Q: Port>(
     ensures same { (Q.model port.new ≡ Q.model port.old) × (Q.rows port.new ≡ Q.rows port.old) }
     ensures others { Q.stays port.old port.new }
 {
-    let mut worker = worker_of(alloc, model, conflicts)?;
+    let mut worker = ordered_worker_of(alloc, model, conflicts)?;
     turns_of(alloc, &mut worker, port)
 }
 
@@ -170,15 +186,17 @@ fn one_after_the_other(
         actor: 1,
     };
     let second = turns_by_activity(alloc, model, &mut port, 10);
+    let upper = port.upper();
+    let lower = port.lower();
     let PlainPort {
-        core: shared,
+        core: _core,
         actor: _actor,
     } = port;
     Ok(Left {
-        upper: upper_of(shared),
-        lower: lower_of(shared),
         first: first?,
         second: second?,
+        upper,
+        lower,
     })
 }
 

@@ -8,5 +8,7 @@ use Rattle.cps_command.proofs.table.solve_line.Goals as goal
 pub returns-clause-app : goal.returns-clause-app
 unfolding solve_line
 returns-clause-app c =
-    let first = c.in_ok-arg.ensures.shape c.workers_option-workers.ensures.local ∙ ap₂ with_rule c.new.ensures.app c.workers_option-workers.ensures.rule in
-    IfOk-weaker c.arg-2.result _ _ (λ r added. added.shape c.conflicts_option-conflicts.ensures.local ∙ ap₂ with_rule first c.conflicts_option-conflicts.ensures.rule) c.arg-2.ensures
+    let workers = c.in_ok-arg.ensures.shape c.workers_option-workers.ensures.local ∙ ap₂ with_rule c.new.ensures.app c.workers_option-workers.ensures.rule in
+    let conflicts = c.in_ok-arg-2.ensures.shape c.conflicts_option-conflicts.ensures.local ∙ ap₂ with_rule workers c.conflicts_option-conflicts.ensures.rule in
+    let seed = c.in_ok-arg-3.ensures.shape c.seed_option-seed.ensures.local ∙ ap₂ with_rule conflicts c.seed_option-seed.ensures.rule in
+    IfOk-weaker c.arg-4.result _ _ (λ r added. added.shape c.interleave_option-interleave.ensures.local ∙ ap₂ with_rule seed c.interleave_option-interleave.ensures.rule) c.arg-4.ensures

@@ -1,11 +1,14 @@
 -- The outcome is good, and so it keeps its promise.
-use Rattle.cpsolve.proofs.Outcomes.{promise_kept, solved}
+use Rattle.cpsolve.proofs.Outcomes.{bounded, promise_kept, solved}
 use Rattle.std.proofs.Common.{rules, refl}
 use Rattle.cpsolve.proofs.answer.solve_answer.Goals as goal
 
 pub response_text-requires-clause-solved : goal.response_text-requires-clause-solved
 response_text-requires-clause-solved g c =
-    solved c.args.model.now c.model.result.now 0 c.args.options.now _ c.model.ensures.same c.model.ensures.valid c.in_ok-status.ensures.good
+    solved c.args.model.now c.model.result.now c.args.options.now _ c.model.ensures.same c.model.ensures.valid c.in_ok-status.ensures.good
+
+pub response_text-requires-clause-bounded : goal.response_text-requires-clause-bounded
+response_text-requires-clause-bounded g c = bounded c.args.model.now c.args.options.now _ c.in_ok-status.ensures.good
 
 pub returns : goal.returns
 returns g c =
@@ -15,5 +18,6 @@ returns g c =
       outcome = refl;
       text = search rules;
       good = c.in_ok-status.ensures.good;
-      promise = promise_kept c.args.model.now 0 c.args.options.now _ c.in_ok-status.ensures.good;
+      promise = promise_kept c.args.model.now c.args.options.now _ c.in_ok-status.ensures.good;
+      drawn = c.in_ok-status.ensures.drawn;
     }

@@ -1,0 +1,38 @@
+//! The options of a solving command.
+ghost use Rattle.std.specs.Prelude.{◌↔◌, IsTrue};
+ghost use Rattle.cps_options.specs.Ranges.{AreInRange};
+
+/// The fewest workers that may search.
+pub const LEAST_WORKERS: u32 = 1;
+
+/// The most workers that may search.
+pub const MOST_WORKERS: u32 = 16;
+
+/// The most conflicts from which a worker may be told to learn.
+pub const MOST_CONFLICTS: u64 = 1_000_000_000;
+
+/// How a model is solved.
+#[derive(Debug, Clone, Copy, PartialEq, Eq)]
+pub struct Options {
+    /// How many workers search, at least `LEAST_WORKERS` and at most `MOST_WORKERS`.
+    pub workers: u32,
+    /// From how many conflicts each worker may learn, at most `MOST_CONFLICTS`.
+    pub conflicts: u64,
+    /// Where the words begin by which the turns of an interleaved run are drawn.
+    pub seed: u64,
+    /// Whether the workers take turns in one thread.
+    pub interleave: bool,
+    /// By how much the objective of a solution may miss the best one.
+    pub gap: u64,
+}
+
+impl Options {
+    /// Whether the numbers are in their ranges.
+    pub fn are_in_range(&self) -> bool
+        ensures { IsTrue result ↔ AreInRange self.now }
+    {
+        LEAST_WORKERS <= self.workers
+            && self.workers <= MOST_WORKERS
+            && self.conflicts <= MOST_CONFLICTS
+    }
+}

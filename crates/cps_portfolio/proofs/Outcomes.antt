@@ -1,0 +1,147 @@
+-- What workers came to, with the bounds that they left, is a good outcome.
+use Rattle.std.specs.Prelude.{Option, Some, None, IfSome, All, int_lt, if◌then◌else◌, Bool, true, false, ℤ}
+use Rattle.std.proofs.Common.{◌≡◌, ◌≢◌, ℕ, List, [], ◌∷◌, arith, refl, sym, ap, subst, ◌∙◌}
+use Rattle.std.proofs.lemmas.Int.{ints}
+use Rattle.std.proofs.lemmas.List.Elements.{All-nil, All-cons, All-push, All-weaker}
+use Rattle.cps_model.specs.declared.model.CpModel.{CpModel}
+use Rattle.cps_model.specs.declared.bound.Bound.{Bound}
+use Rattle.cps_model.specs.declared.bound.Bound.TheVariants.{At, Infinite}
+use Rattle.cps_model.specs.Solutions.{objective_value, IsSolution}
+use Rattle.cps_model.specs.Start.{objective_start}
+use Rattle.cps_model.specs.Statuses.{is_closed, status_of, IsAtMost}
+use Rattle.cps_instance.specs.Strategies.{model_sums}
+use Rattle.cps_port.specs.Order.{BoundLe, IsNoLower, greater, raised_above}
+use Rattle.cps_port.specs.Incumbents.{IsLowerBound}
+use Rattle.cps_port.proofs.Bounding.{BoundLe-refl, BoundLe-trans, greater-first}
+use Rattle.cps_clauses.specs.declared.journal.JournalItem.{JournalItem}
+use Rattle.cps_clauses.specs.declared.journal.JournalItem.TheVariants.{Learnt, Drop}
+use Rattle.cps_search.specs.declared.end.End.{End}
+use Rattle.cps_search.specs.declared.end.End.TheVariants as ends
+use Rattle.cps_search.specs.Searches.{IsItemAbove}
+use Rattle.cps_search.specs.Ends.{Ending, IsHonestEnding, IsWhy}
+use Rattle.cps_search.specs.Following.{best_bound}
+use Rattle.cps_search.proofs.Bounds.{greater-second}
+use Rattle.cps_options.specs.declared.options.Options.{Options}
+use Rattle.cps_portfolio.specs.declared.outcome.Outcome.{Outcome}
+use Rattle.cps_portfolio.specs.Outcomes.{IsGoodOutcome, GoesByModel, SpentItsBudget, EndedWithin, CameTo, better, best_of, greatest_raised}
+
+-- ---- bounds that meet
+
+meet : (lower upper : Bound) (gap : ℕ) → BoundLe upper lower → is_closed lower upper gap ≡ true
+meet Infinite upper gap h = refl
+meet (At l) Infinite gap h = absurd h
+meet (At l) (At u) gap h = grind (arith, ints)
+
+better_meet : (l u : Bound) (lower upper : Bound) (gap : ℕ) → BoundLe l lower → BoundLe upper u → is_closed l u gap ≡ true → is_closed lower upper gap ≡ true
+better_meet l u Infinite upper gap low high h = refl
+better_meet Infinite u (At lower) upper gap low high h = absurd low
+better_meet (At l) Infinite (At lower) upper gap low high h = cc
+better_meet (At l) (At u) (At lower) Infinite gap low high h = absurd high
+better_meet (At l) (At u) (At lower) (At upper) gap low high h = grind (arith, ints)
+
+floor_of : (m : CpModel) (b : Bound) → IsLowerBound m b → (a : List ℤ) → IsSolution m a → IsAtMost b (objective_value m a)
+unfolding IsLowerBound
+floor_of m b h = h
+
+-- ---- each raise is below the greatest
+
+raised_first : (o : Option Bound) (b r : Bound) → o ≡ Some r → BoundLe r (raised_above o b)
+raised_first None b r e = absurd cc
+raised_first (Some a) b r e = let q : a ≡ r = cc in subst (λ (x : Bound). BoundLe x (greater a b)) q (greater-first a b)
+
+raised_second : (o : Option Bound) (b : Bound) → BoundLe b (raised_above o b)
+raised_second None b = BoundLe-refl b
+raised_second (Some a) b = greater-second a b
+
+-- what a worker raised to is at most a bound
+abbrev RaisedBelow : Bound → Ending → Type 0
+RaisedBelow top e = (r : Bound) → e.raised ≡ Some r → BoundLe r top
+
+raised_in : (start : Bound) (es : List Ending) → All (RaisedBelow (greatest_raised start es)) es
+raised_in start [] = All-nil (RaisedBelow start)
+raised_in start (e ∷ es) =
+    let rest = greatest_raised start es in
+    All-cons (RaisedBelow (raised_above e.raised rest)) e es (λ r is. raised_first e.raised rest r is)
+    (All-weaker (RaisedBelow rest) (RaisedBelow (raised_above e.raised rest)) (λ x h r is. BoundLe-trans r rest (raised_above e.raised rest) (h r is) (raised_second e.raised rest)) es (raised_in start es))
+
+-- ---- a worker that left the bounds apart spent its budget
+
+raise_above : (upper z : Bound) (i : JournalItem) → BoundLe upper z → IsItemAbove z i → IsItemAbove upper i
+raise_above upper z (Learnt clause below) le h = BoundLe-trans upper z below le h
+raise_above upper z (Drop i) le h = tt
+
+spent_apart : (m : CpModel) (gap conflicts : ℕ) (upper lower : Bound) (e : Ending) → EndedWithin m gap conflicts upper lower e → RaisedBelow lower e → is_closed lower upper gap ≡ false → SpentItsBudget m conflicts upper e
+spent_apart m gap conflicts upper lower e h raised apart = go e.end refl w.why
+  where
+    w : IsHonestEnding m gap conflicts h.part e
+    w = h.ended
+
+    up : BoundLe upper w.z
+    up = BoundLe-trans upper h.part.saw_upper w.z h.above w.least
+
+    go : (end : End) → e.end ≡ end → IsWhy w.problem gap conflicts w.z h.part e end → SpentItsBudget m conflicts upper e
+    go ends.Exhausted is why =
+        absurd (let met = meet lower upper gap (BoundLe-trans upper why.0 lower (BoundLe-trans upper w.z why.0 up why.2) (raised why.0 why.1)) in cc)
+    go ends.SawClosed is why =
+        let low : BoundLe why.lower lower = subst (λ (o : Option Bound). IsNoLower o lower) why.saw_lower h.below in
+        let high : BoundLe upper why.upper = subst (λ (b : Bound). BoundLe upper b) why.saw_upper h.above in
+        absurd (let met = better_meet why.lower why.upper lower upper gap low high why.closed in cc)
+    go (ends.Spent clause below) is why = record {
+      tally = why.0;
+      learnt = sym w.counted ∙ why.0;
+      clause = clause;
+      below = below;
+      end = is;
+      problem = w.problem;
+      instance = w.instance;
+      model = w.model;
+      sums = w.defs;
+      honest = why.2;
+      above = All-push (IsItemAbove upper) e.journal (Learnt clause below) (All-weaker (IsItemAbove w.z) (IsItemAbove upper) (λ i k. raise_above upper w.z i up k) e.journal w.above) (BoundLe-trans upper w.z below up why.1);
+    }
+    go ends.RoundsDone is why = absurd why
+
+-- ---- the outcome
+
+pub all_found : (m : CpModel) (gap conflicts workers : ℕ) (upper lower : Bound) (es : List Ending) → CameTo m gap conflicts workers upper lower es → All (λ (e : Ending). IfSome e.best (IsSolution m)) es
+all_found m gap conflicts workers upper lower es h = All-weaker (EndedWithin m gap conflicts upper lower) (λ (e : Ending). IfSome e.best (IsSolution m)) (λ e k. k.ended.best) es h.each
+
+pub good_outcome : (m : CpModel) (options : Options) (o : Outcome) → CameTo m options.gap options.conflicts options.workers o.upper o.lower o.ends → o.status ≡ status_of o.upper o.lower options.gap → o.solution ≡ best_of m o.ends
+    → IsGoodOutcome m options o
+good_outcome m options o h status solution = record {
+  workers = h.kinds;
+  sums = All-weaker (EndedWithin m options.gap options.conflicts o.upper o.lower) (λ (e : Ending). e.defs ≡ model_sums m) (λ e k. k.sums) o.ends h.each;
+  branchers = All-weaker (EndedWithin m options.gap options.conflicts o.upper o.lower) (GoesByModel m options.gap options.conflicts) (λ e k. k.goes) o.ends h.each;
+  status = status;
+  found = all_found m options.gap options.conflicts options.workers o.upper o.lower o.ends h;
+  solution = solution;
+  upper = h.upper_is ∙ ap (best_bound m) (sym solution);
+  lower = h.lower_is;
+  floor = floor_of m o.lower h.floor;
+  spent = λ apart i d l.
+      let raised = subst (λ (b : Bound). All (RaisedBelow b) o.ends) (sym h.lower_is) (raised_in (At (objective_start m)) o.ends) in
+      spent_apart m options.gap options.conflicts o.upper o.lower _ (h.each i d l) (raised i d l) apart;
+}
+
+-- ---- the first of the best solutions
+
+best_same : (m : CpModel) (b : Option (List ℤ)) → better m None b ≡ b
+best_same m b = refl
+
+-- a solution whose objective is the best one's is the first of the best
+pub better_here : (m : CpModel) (a : List ℤ) (o : Option (List ℤ)) → At (objective_value m a) ≡ best_bound m (better m (Some a) o) → better m (Some a) o ≡ Some a
+better_here m a None e = refl
+better_here m a (Some b) e = go (int_lt (objective_value m b) (objective_value m a)) refl e
+  where
+    go : (t : Bool) → int_lt (objective_value m b) (objective_value m a) ≡ t → At (objective_value m a) ≡ best_bound m (if t then Some b else Some a) → (if t then Some b else Some a) ≡ Some a
+    go true less same = absurd (let q : objective_value m a ≡ objective_value m b = cc in grind (arith, ints))
+    go false less same = refl
+
+-- and one whose objective is another is not
+pub better_there : (m : CpModel) (a : List ℤ) (o : Option (List ℤ)) → At (objective_value m a) ≢ best_bound m (better m (Some a) o) → better m (Some a) o ≡ o
+better_there m a None e = absurd (e refl)
+better_there m a (Some b) e = go (int_lt (objective_value m b) (objective_value m a)) e
+  where
+    go : (t : Bool) → At (objective_value m a) ≢ best_bound m (if t then Some b else Some a) → (if t then Some b else Some a) ≡ Some b
+    go true same = refl
+    go false same = absurd (same refl)

@@ -1,0 +1,349 @@
+-- Workers that take turns.
+use Rattle.std.specs.Prelude.{Option, Some, None, is_some, Bool, true, false, if◌then◌else◌, All, map}
+use Rattle.std.specs.List.{range_with_len}
+use Rattle.std.proofs.lemmas.List.Elements.{All-nil, All-cons}
+use Rattle.std.proofs.Common.{◌≡◌, ◌≢◌, refl, sym, ap, subst, ◌∙◌, ℕ, zero, suc, ◌+◌, ◌<◌, ◌≤◌, ◌%◌, List, [], ◌∷◌, length, get_or, set, drop, arith, length-set, ap₂, replicate}
+use Rattle.std.proofs.lemmas.List.{drop_more, length-replicate}
+use Rattle.rand_pcg.specs.Lcg.{Lcg}
+use Rattle.rand_pcg.specs.Pcg.{pcg32}
+use Rattle.cps_model.specs.declared.model.CpModel.{CpModel}
+use Rattle.cps_model.specs.declared.bound.Bound.{Bound}
+use Rattle.cps_model.specs.declared.bound.Bound.TheVariants.{At}
+use Rattle.cps_model.specs.Start.{objective_start}
+use Rattle.cps_instance.specs.Problem.{Problem}
+use Rattle.cps_trail.specs.Trail.{open_values}
+use Rattle.cps_port.specs.declared.entry.Entry.{Entry}
+use Rattle.cps_port.specs.Cores.{Core, part_at, actor_count, first_core}
+use Rattle.cps_port.specs.Parts.{newcomer, no_rows, no_bounds}
+use Rattle.cps_port.specs.declared.part.BoardPart.{BoardPart}
+use Rattle.cps_port.specs.declared.part.BoundsPart.{BoundsPart}
+use Rattle.cps_port.specs.declared.part.Part.{Part}
+use Rattle.cps_port.specs.Others.{ActsAlone}
+use Rattle.cps_port.specs.Order.{BoundLe, IsNoLower, lesser, raised_above}
+use Rattle.cps_port.specs.Incumbents.{IsLowerBound}
+use Rattle.cps_port.specs.Sound.{IsSoundCore, least_offer, greatest_raise}
+use Rattle.cps_search.specs.declared.end.End.{End}
+use Rattle.cps_search.specs.declared.end.WorkerKind.{WorkerKind}
+use Rattle.cps_branch.specs.declared.guidance.Guidance.{Guidance}
+use Rattle.cps_search.specs.Searches.{Search}
+use Rattle.cps_search.specs.Moves.{fresh}
+use Rattle.cps_search.specs.Guided.{IsGuidedBy}
+use Rattle.cps_branch.specs.Guidances.{ChoosesBy}
+use Rattle.cps_search.specs.Ends.{Ending, EndsAs, IsHonestEnding, IsOver, Lowers, TakesTurns, none_yet, one_more, end_of, ending}
+use Rattle.cps_search.specs.Following.{best_bound}
+use Rattle.cps_search.proofs.Weighing.{left_of, lowered}
+use Rattle.cps_search.proofs.Working.{HasRun, run_begins, run_goes_on, run_ends}
+use Rattle.cps_portfolio.specs.declared.interleaved.Turning.{Turning}
+use Rattle.cps_portfolio.specs.Workers.{search_of, kind_of, guidance_of, worker_kind, TakesTurnsBy, HasEnded, HasTurned}
+use Rattle.cps_portfolio.specs.Outcomes.{CameTo, EndedWithin, GoesByModel, best_of, greatest_raised}
+use Rattle.cps_portfolio.specs.Crews.{IsDone}
+use Rattle.cps_portfolio.specs.Turning.{AtWork, IsTurning, AreTurning, IsFresh, AreFresh, one_at_work, count_at_work, end_said, ended_of, place_at_work, drawn_place, TakesTurnAt, TakesDrawnTurns}
+use Rattle.cps_portfolio.specs.Turning.{one_more as one_drawn}
+use Rattle.cps_portfolio.proofs.Crews.{done_from, lesser_best, over_is}
+
+none_of : (o : Option End) → is_some o ≡ false → o ≡ None
+none_of None e = refl
+none_of (Some x) e = absurd cc
+
+some_of : (o : Option End) → is_some o ≡ true → (end : End) × (o ≡ Some end)
+some_of None e = absurd cc
+some_of (Some x) e = (x, refl)
+
+-- ---- what turns one after another came to
+
+module _ (rows : ℕ) where
+  -- what was done by any turns that did not end the worker
+  pub has_run : (s : Search × Guidance) (p : Part) (t : Search × Guidance) (q : Part) → TakesTurns ChoosesBy (λ before clause restart after. after ≡ before) (λ before after. after ≡ before) rows s p t q → HasRun s.0 t.0 p q
+  has_run s p t q none_yet = run_begins s.0 p
+  has_run s p t q (one_more m u n r turn before goes_on last) = run_goes_on (ChoosesBy m.1) s.0 m.0 u.0 rows p n r turn goes_on (has_run s p m n before) last.search
+
+  -- one turn more that did not end the worker
+  pub turned_on : (g : Guidance) (first s t : Search) (start p q : Part) (over : Bool) → TakesTurnsBy g rows first s start p → HasTurned g rows s t p q over → over ≡ false → TakesTurnsBy g rows first t start q
+  turned_on g first s t start p q over before h on = one_more (s, g) (t, g) p q h.turn before (none_of (end_of h.turn) (sym h.last ∙ on)) h.takes
+
+  pub still_runs : (g : Guidance) (s t : Search) (p q : Part) (over : Bool) → HasTurned g rows s t p q over → over ≡ false → IsOver t.said → ⊥
+  still_runs g s t p q over h on = subst (λ (o : Option End). EndsAs o t) (none_of (end_of h.turn) (sym h.last ∙ on)) h.takes.search.ends
+
+  pub lowers_by : (g : Guidance) (s t : Search) (p q : Part) (over : Bool) → HasTurned g rows s t p q over → over ≡ false → Lowers s t rows p.board q.board
+  lowers_by g s t p q over h on = h.takes.search.lowers (none_of (end_of h.turn) (sym h.last ∙ on))
+
+  -- and one that ended it
+  pub turned_last : (g : Guidance) (first s t : Search) (start p q : Part) (over : Bool) → TakesTurnsBy g rows first s start p → HasTurned g rows s t p q over → over ≡ true → HasEnded g rows first t start q
+  turned_last g first s t start p q over before h stopped =
+      let e = some_of (end_of h.turn) (sym h.last ∙ stopped) in
+      record {
+        end = e.0;
+        runs = run_ends (ChoosesBy g) first s t rows start p q h.turn e.0 h.before (has_run (first, g) start (s, g) p before) h.takes.search e.1;
+        guided = record { before = (s, g); part = p; turns = before; turn = h.turn; last = h.takes; ended = e.1 };
+        sound = h.after;
+      }
+
+-- ---- one of a list changes
+
+module _ {A : Type 0} where
+  pub each_set : (P Q : ℕ → A → Type 0) (xs : List A) (k : ℕ) (x : A) → ((i : ℕ) (d : A) → i < length xs → P i (get_or xs i d)) → Q k x → ((i : ℕ) → i ≢ k → (y : A) → P i y → Q i y) → (i : ℕ) (d : A) → i < length xs → Q i (get_or (set xs k x) i d)
+  each_set P Q [] k x h q o i d l = absurd (omega (arith, l))
+  each_set P Q (y ∷ ys) zero x h q o zero d l = q
+  each_set P Q (y ∷ ys) zero x h q o (suc i) d l = o (suc i) (λ e. absurd (omega (arith, e))) (get_or ys i d) (h (suc i) d l)
+  each_set P Q (y ∷ ys) (suc k) x h q o zero d l = o zero (λ e. absurd (omega (arith, e))) y (h zero d l)
+  each_set P Q (y ∷ ys) (suc k) x h q o (suc i) d l =
+      each_set (λ j. P (suc j)) (λ j. Q (suc j)) ys k x (λ j b m. h (suc j) b (omega (arith, m))) q (λ j n. o (suc j) (λ e. n (omega (arith, e)))) i d (omega (arith, l))
+
+  -- numbers of each place, added up
+  abbrev pub total_by : (ℕ → A → ℕ) → List A → ℕ
+  total_by f [] = 0
+  total_by f (x ∷ xs) = f 0 x + total_by (λ i. f (suc i)) xs
+
+  same_by : (f g : ℕ → A → ℕ) (xs : List A) → ((i : ℕ) (y : A) → g i y ≡ f i y) → total_by g xs ≡ total_by f xs
+  same_by f g [] h = refl
+  same_by f g (x ∷ xs) h = let first = h 0 x in let rest = same_by (λ i. f (suc i)) (λ i. g (suc i)) xs (λ i y. h (suc i) y) in omega (arith, first, rest)
+
+  pub less_by : (f g : ℕ → A → ℕ) (xs : List A) (k : ℕ) (x d : A) → k < length xs → g k x < f k (get_or xs k d) → ((i : ℕ) → i ≢ k → (y : A) → g i y ≡ f i y) → total_by g (set xs k x) < total_by f xs
+  less_by f g [] k x d l less same = absurd (omega (arith, l))
+  less_by f g (y ∷ ys) zero x d l less same =
+      let rest = same_by (λ i. f (suc i)) (λ i. g (suc i)) ys (λ i b. same (suc i) (λ e. absurd (omega (arith, e))) b) in
+      omega (arith, less, rest)
+  less_by f g (y ∷ ys) (suc k) x d l less same =
+      let first = same zero (λ e. absurd (omega (arith, e))) y in
+      let rest = less_by (λ i. f (suc i)) (λ i. g (suc i)) ys k x d (omega (arith, l)) less (λ i n b. same (suc i) (λ e. n (omega (arith, e))) b) in
+      omega (arith, first, rest)
+
+-- ---- a worker's turn among others
+
+pub at_work : (m : CpModel) (gap conflicts rows : ℕ) (c : Core) (crew : List Turning) (i : ℕ) (d : Turning) → AreTurning m gap conflicts rows c crew → i < length crew → (get_or crew i d).over ≡ false
+    → AtWork m gap conflicts rows (worker_kind i) (guidance_of (get_or crew i d).worker) (search_of (get_or crew i d).worker) (part_at c i)
+at_work m gap conflicts rows c crew i d h l still = (h.each i d l).at_work still
+
+pub work_model : (m : CpModel) (gap conflicts rows : ℕ) (kind : WorkerKind) (g : Guidance) (s : Search) (q : Part) → AtWork m gap conflicts rows kind g s q → s.problem.model ≡ m
+work_model m gap conflicts rows kind g s q h =
+    let run = has_run rows (fresh h.problem gap (Some conflicts), g) newcomer (s, g) q h.turns in
+    ap (λ (p : Problem). p.model) run.setting.problem ∙ h.first.model
+
+pub work_imported : (m : CpModel) (gap conflicts rows : ℕ) (kind : WorkerKind) (g : Guidance) (s : Search) (q : Part) → AtWork m gap conflicts rows kind g s q → s.imported ≤ length q.board.taken
+work_imported m gap conflicts rows kind g s q h =
+    let run = has_run rows (fresh h.problem gap (Some conflicts), g) newcomer (s, g) q h.turns in
+    run.moves.imports (omega arith)
+
+turns_on : (m : CpModel) (gap conflicts rows : ℕ) (c d : Core) (i : ℕ) (w v : Turning) → IsTurning m gap conflicts rows c i w → w.over ≡ false → kind_of v.worker ≡ kind_of w.worker → guidance_of v.worker ≡ guidance_of w.worker
+    → HasTurned (guidance_of w.worker) rows (search_of w.worker) (search_of v.worker) (part_at c i) (part_at d i) v.over → IsTurning m gap conflicts rows d i v
+turns_on m gap conflicts rows c d i w v h still kind same turn =
+    let a = h.at_work still in
+    let g = guidance_of w.worker in
+    let s = fresh a.problem gap (Some conflicts) in
+    record {
+      kind = kind ∙ h.kind;
+      at_work = λ on. subst (λ (x : Guidance). AtWork m gap conflicts rows (worker_kind i) x (search_of v.worker) (part_at d i)) (sym same) (record {
+        problem = a.problem;
+        first = a.first;
+        guide = a.guide;
+        turns = turned_on rows g s (search_of w.worker) (search_of v.worker) newcomer (part_at c i) (part_at d i) v.over a.turns turn on;
+        running = still_runs rows g (search_of w.worker) (search_of v.worker) (part_at c i) (part_at d i) v.over turn on;
+      });
+      done = λ stopped. subst (λ (x : Guidance). IsDone m gap conflicts (worker_kind i) x (part_at d i).bounds (search_of v.worker)) (sym same)
+          (done_from m gap conflicts (worker_kind i) g rows s (search_of v.worker) newcomer (part_at d i) (record { problem = a.problem; first = a.first; is = refl }) a.guide refl refl
+          (turned_last rows g s (search_of w.worker) (search_of v.worker) newcomer (part_at c i) (part_at d i) v.over a.turns turn stopped));
+    }
+
+pub all_turn_on : (m : CpModel) (gap conflicts rows : ℕ) (c d : Core) (crew : List Turning) (k : ℕ) (w v : Turning) → AreTurning m gap conflicts rows c crew → k < length crew → get_or crew k w ≡ w → w.over ≡ false → kind_of v.worker ≡ kind_of w.worker
+    → guidance_of v.worker ≡ guidance_of w.worker → HasTurned (guidance_of w.worker) rows (search_of w.worker) (search_of v.worker) (part_at c k) (part_at d k) v.over → ((i : ℕ) → i ≢ k → part_at d i ≡ part_at c i)
+    → AreTurning m gap conflicts rows d (set crew k v)
+all_turn_on m gap conflicts rows c d crew k w v h l is still kind same turn others =
+    let here = subst (λ (x : Turning). IsTurning m gap conflicts rows c k x) is (h.each k w l) in
+    let every = each_set (IsTurning m gap conflicts rows c) (IsTurning m gap conflicts rows d) crew k v h.each (turns_on m gap conflicts rows c d k w v here still kind same turn) (λ i n y t. record {
+      kind = t.kind;
+      at_work = λ on. subst (AtWork m gap conflicts rows (worker_kind i) (guidance_of y.worker) (search_of y.worker)) (sym (others i n)) (t.at_work on);
+      done = λ stopped. subst (λ (q : Part). IsDone m gap conflicts (worker_kind i) (guidance_of y.worker) q.bounds (search_of y.worker)) (sym (others i n)) (t.done stopped);
+    }) in
+    record { each = λ i b m. every i b (omega (arith, m, length-set crew k v)) }
+
+-- ---- why the turns come to an end
+
+-- what a worker has left to do
+abbrev pub weigh : ℕ → Core → ℕ → Turning → ℕ
+weigh rows c i w = if w.over then 0 else 1 + left_of (open_values (search_of w.worker).problem.domains [] + 1) (search_of w.worker) rows (part_at c i).board
+
+lighter : (rows : ℕ) (c d : Core) (k : ℕ) (w v : Turning) → w.over ≡ false → HasTurned (guidance_of w.worker) rows (search_of w.worker) (search_of v.worker) (part_at c k) (part_at d k) v.over → weigh rows d k v < weigh rows c k w
+lighter rows c d k w v still turn = go v.over refl
+  where
+    s : Search
+    s = search_of w.worker
+
+    t : Search
+    t = search_of v.worker
+
+    left : ℕ
+    left = left_of (open_values s.problem.domains [] + 1) s rows (part_at c k).board
+
+    right : ℕ
+    right = left_of (open_values t.problem.domains [] + 1) t rows (part_at d k).board
+
+    was : weigh rows c k w ≡ 1 + left
+    was = ap (λ (b : Bool). if b then zero else 1 + left) still
+
+    go : (b : Bool) → v.over ≡ b → weigh rows d k v < weigh rows c k w
+    go true is = let q : weigh rows d k v ≡ 0 = ap (λ (b : Bool). if b then zero else 1 + right) is in omega (arith, was, q)
+    go false is =
+        let less = lowered s t rows (part_at c k).board (part_at d k).board turn.before turn.after turn.takes.search.setting (lowers_by rows (guidance_of w.worker) s t (part_at c k) (part_at d k) v.over turn is) in
+        let same : right ≡ left_of (open_values s.problem.domains [] + 1) t rows (part_at d k).board = ap (λ (p : Problem). left_of (open_values p.domains [] + 1) t rows (part_at d k).board) turn.takes.search.setting.problem in
+        let q : weigh rows d k v ≡ 1 + right = ap (λ (b : Bool). if b then zero else 1 + right) is in
+        omega (arith, was, less, same, q)
+
+pub all_lighter : (rows : ℕ) (c d : Core) (crew : List Turning) (k : ℕ) (w v : Turning) → k < length crew → get_or crew k w ≡ w → w.over ≡ false → HasTurned (guidance_of w.worker) rows (search_of w.worker) (search_of v.worker) (part_at c k) (part_at d k) v.over
+    → ((i : ℕ) → i ≢ k → part_at d i ≡ part_at c i) → total_by (weigh rows d) (set crew k v) < total_by (weigh rows c) crew
+all_lighter rows c d crew k w v l is still turn others =
+    less_by (weigh rows c) (weigh rows d) crew k v w l (subst (λ (x : Turning). weigh rows d k v < weigh rows c k x) (sym is) (lighter rows c d k w v still turn))
+    (λ i n y. ap (λ (q : Part). if y.over then zero else 1 + left_of (open_values (search_of y.worker).problem.domains [] + 1) (search_of y.worker) rows q.board) (others i n))
+
+-- ---- how many are at work
+
+pub count_drop : (crew : List Turning) (i : ℕ) (d : Turning) → i < length crew → count_at_work (drop i crew) ≡ one_at_work (get_or crew i d) + count_at_work (drop (i + 1) crew)
+count_drop crew i d l = ap count_at_work (drop_more crew i d l)
+
+-- where the workers before a place are left out, the ranks of those that had not ended are counted down
+pub found_at : (crew : List Turning) (i : ℕ) (d : Turning) → i < length crew → (get_or crew i d).over ≡ false → place_at_work (drop i crew) 0 ≡ 0
+found_at crew i d l still = subst (λ (ws : List Turning). place_at_work ws 0 ≡ 0) (sym (drop_more crew i d l)) (ap (λ (b : Bool). if b then 1 + place_at_work (drop (i + 1) crew) 0 else zero) still)
+
+pub passed_over : (crew : List Turning) (i left : ℕ) (d : Turning) → i < length crew → (get_or crew i d).over ≡ true → place_at_work (drop i crew) left ≡ 1 + place_at_work (drop (i + 1) crew) left
+passed_over crew i left d l over = ap (λ (ws : List Turning). place_at_work ws left) (drop_more crew i d l) ∙ skip left
+  where
+    skip : (k : ℕ) → place_at_work (get_or crew i d ∷ drop (i + 1) crew) k ≡ 1 + place_at_work (drop (i + 1) crew) k
+    skip zero = ap (λ (b : Bool). if b then 1 + place_at_work (drop (i + 1) crew) 0 else zero) over
+    skip (suc k) = ap (λ (b : Bool). 1 + place_at_work (drop (i + 1) crew) (if b then suc k else k)) over
+
+pub counted_down : (crew : List Turning) (i left : ℕ) (d : Turning) → i < length crew → (get_or crew i d).over ≡ false → place_at_work (drop i crew) (suc left) ≡ 1 + place_at_work (drop (i + 1) crew) left
+counted_down crew i left d l still = ap (λ (ws : List Turning). place_at_work ws (suc left)) (drop_more crew i d l) ∙ ap (λ (b : Bool). 1 + place_at_work (drop (i + 1) crew) (if b then suc left else left)) still
+
+pub all_over : (crew : List Turning) → count_at_work crew ≡ 0 → (i : ℕ) (d : Turning) → i < length crew → (get_or crew i d).over ≡ true
+all_over [] e i d l = absurd (omega (arith, l))
+all_over (w ∷ ws) e zero d l = go w.over refl
+  where
+    go : (b : Bool) → w.over ≡ b → w.over ≡ true
+    go true is = is
+    go false is = absurd (let q : one_at_work w ≡ 1 = ap (λ (b : Bool). if b then zero else 1) is in omega (arith, e, q))
+all_over (w ∷ ws) e (suc i) d l = all_over ws (omega (arith, e)) i d (omega (arith, l))
+
+-- ---- the drawn schedule
+
+same_read : {A : Type 0} (xs : List A) (k : ℕ) (a b : A) → k < length xs → get_or xs k a ≡ get_or xs k b
+same_read [] k a b l = absurd (omega (arith, l))
+same_read (x ∷ xs) zero a b l = refl
+same_read (x ∷ xs) (suc k) a b l = same_read xs k a b (omega (arith, l))
+
+some_at_work : (count : ℕ) → (count ≡ 0 → ⊥) → 0 < count
+some_at_work zero h = absurd (h refl)
+some_at_work (suc n) h = omega arith
+
+-- one turn more, of the worker that was drawn
+pub drawn_more : (rows : ℕ) (c : Core) (crew : List Turning) (begun : Lcg) (d e : Core) (later : List Turning) (next : Turning) (words after : Lcg) (word count place : ℕ) (any : Turning)
+    → TakesDrawnTurns rows c crew begun d later words → (word, after) ≡ pcg32 words → count ≡ count_at_work later → (count ≡ 0 → ⊥) → place ≡ place_at_work later (word % count) → place < length later
+    → HasTurned (guidance_of (get_or later place any).worker) rows (search_of (get_or later place any).worker) (search_of next.worker) (part_at d place) (part_at e place) next.over → ActsAlone place place d e
+    → TakesDrawnTurns rows c crew begun e (set later place next) after
+drawn_more rows c crew begun d e later next words after word count place any before step counted some is within turn alone =
+    let word_is : word ≡ (pcg32 words).0 = ap (λ (x : ℕ × Lcg). x.0) step in
+    let after_is : after ≡ (pcg32 words).1 = ap (λ (x : ℕ × Lcg). x.1) step in
+    let here : place ≡ drawn_place later words = is ∙ ap₂ (λ (x n : ℕ). place_at_work later (x % n)) word_is counted in
+    let read : get_or later place any ≡ get_or later place next = same_read later place any next within in
+    let took : TakesTurnAt place rows d e later next = record {
+      some_left = subst (λ (n : ℕ). 0 < n) counted (some_at_work count some);
+      alone = alone;
+      turned = subst (λ (x : Turning). HasTurned (guidance_of x.worker) rows (search_of x.worker) (search_of next.worker) (part_at d place) (part_at e place) next.over) read turn;
+    } in
+    let more = one_drawn d e later next words before (subst (λ (k : ℕ). TakesTurnAt k rows d e later next) here took) in
+    subst (λ (k : ℕ). TakesDrawnTurns rows c crew begun e (set later k next) after) (sym here) (subst (λ (g : Lcg). TakesDrawnTurns rows c crew begun e (set later (drawn_place later words) next) g) (sym after_is) more)
+
+-- ---- workers that begin
+
+replicated : {A : Type 0} (n i : ℕ) (x : A) → get_or (replicate n x) i x ≡ x
+replicated zero i x = refl
+replicated (suc n) zero x = refl
+replicated (suc n) (suc i) x = replicated n i x
+
+fresh_part : (m : CpModel) (actors rows i : ℕ) → part_at (first_core m actors rows) i ≡ newcomer
+fresh_part m actors rows i = ap₂ (λ (b : BoardPart) (q : BoundsPart). let p : Part = record { board = b; bounds = q } in p) (replicated actors i no_rows) (replicated actors i no_bounds)
+
+-- a state begins with as many rows as it was made with
+pub first_rows : (m : CpModel) (actors rows : ℕ) → length (first_core m actors rows).board.rows ≡ rows
+first_rows m actors rows = length-replicate {A = Option Entry} rows None
+
+pub all_fresh : (m : CpModel) (gap conflicts board actors rows : ℕ) (c : Core) (crew : List Turning) → c ≡ first_core m actors rows → AreFresh m gap conflicts crew → AreTurning m gap conflicts board c crew
+all_fresh m gap conflicts board actors rows c crew is h = record { each = λ i d l. one i (get_or crew i d) (h.each i d l) }
+  where
+    one : (i : ℕ) (w : Turning) → IsFresh m gap conflicts i w → IsTurning m gap conflicts board c i w
+    one i w k =
+        let b = k.begins in
+        let g = guidance_of w.worker in
+        let s = fresh b.problem gap (Some conflicts) in
+        let part : part_at c i ≡ newcomer = ap (λ (x : Core). part_at x i) is ∙ fresh_part m actors rows i in
+        let kind = subst (λ (x : WorkerKind). IsGuidedBy x (search_of w.worker).problem (Some g)) k.kind k.guide in
+        record {
+          kind = k.kind;
+          at_work = λ still. record {
+            problem = b.problem;
+            first = b.first;
+            guide = subst (λ (x : Search). IsGuidedBy (worker_kind i) x.problem (Some g)) b.is kind;
+            turns = subst (λ (q : Part). TakesTurnsBy g board s (search_of w.worker) newcomer q) (sym part) (subst (λ (x : Search). TakesTurnsBy g board s x newcomer newcomer) (sym b.is) none_yet);
+            running = λ over. subst (λ (x : Search). IsOver x.said) b.is over;
+          };
+          done = λ stopped. absurd (let q : false ≡ true = sym k.not_over ∙ stopped in cc);
+        }
+
+-- ---- workers that have all ended
+
+record IsConcluded (m : CpModel) (gap conflicts : ℕ) (upper lower : Bound) (number : ℕ) (q : BoundsPart) (w : Turning) : Type 0 where
+  kind : kind_of w.worker ≡ worker_kind number
+  done : IsDone m gap conflicts (worker_kind number) (guidance_of w.worker) q (search_of w.worker)
+  above : BoundLe upper q.saw_upper
+  below : IsNoLower q.saw_lower lower
+
+record AreConcluded (m : CpModel) (gap conflicts : ℕ) (upper lower : Bound) (first count : ℕ) (ps : List BoundsPart) (es : List Ending) : Type 0 where
+  kinds : map (λ (e : Ending). e.kind) es ≡ map worker_kind (range_with_len first count)
+  offered : least_offer ps ≡ best_bound m (best_of m es)
+  raised : (start : Bound) → greatest_raise start ps ≡ greatest_raised start es
+  each : All (EndedWithin m gap conflicts upper lower) es
+
+module _ (m : CpModel) (gap conflicts : ℕ) (upper lower : Bound) where
+  concluded : (first : ℕ) (crew : List Turning) (ps : List BoundsPart) → length ps ≡ length crew → ((i : ℕ) (d : Turning) → i < length crew → IsConcluded m gap conflicts upper lower (first + i) (get_or ps i no_bounds) (get_or crew i d))
+      → AreConcluded m gap conflicts upper lower first (length crew) ps (map ended_of crew)
+  concluded first [] [] len h = record { kinds = refl; offered = refl; raised = λ start. refl; each = All-nil (EndedWithin m gap conflicts upper lower) }
+  concluded first [] (p ∷ ps) len h = absurd (omega (arith, len))
+  concluded first (w ∷ ws) [] len h = absurd (omega (arith, len))
+  concluded first (w ∷ ws) (p ∷ ps) len h =
+      let k : IsConcluded m gap conflicts upper lower first p w = subst (λ (j : ℕ). IsConcluded m gap conflicts upper lower j p w) (let q : first + 0 ≡ first = omega arith in q) (h 0 w (omega arith)) in
+      let rest = concluded (first + 1) ws ps (omega (arith, len))
+      (λ i d l. subst (λ (j : ℕ). IsConcluded m gap conflicts upper lower j (get_or ps i no_bounds) (get_or ws i d)) (let q : first + suc i ≡ first + 1 + i = omega arith in q) (h (suc i) d (omega (arith, l)))) in
+      let s = search_of w.worker in
+      let end : end_said s.said ≡ k.done.end = ap end_said k.done.over in
+      let g = guidance_of w.worker in
+      let is : ended_of w ≡ ending (worker_kind first) (Some g) k.done.end s = ap₂ (λ (x : WorkerKind) (y : End). ending x (Some g) y s) k.kind end in
+      let honest : IsHonestEnding m gap conflicts p (ended_of w) = subst (IsHonestEnding m gap conflicts p) (sym is) k.done.honest in
+      record {
+        kinds = ap₂ (λ (x : WorkerKind) (xs : List WorkerKind). x ∷ xs) k.kind rest.kinds;
+        offered = ap₂ lesser honest.offered rest.offered ∙ lesser_best m (ended_of w).best (best_of m (map ended_of ws));
+        raised = λ start. ap₂ raised_above honest.raised (rest.raised start);
+        each = All-cons (EndedWithin m gap conflicts upper lower) (ended_of w) (map ended_of ws) (record {
+          part = p;
+          ended = honest;
+          sums = k.done.sums;
+          goes = subst (GoesByModel m gap conflicts) (sym is) k.done.goes;
+          above = k.above;
+          below = k.below;
+        }) rest.each;
+      }
+
+pub came_in_turns : (m : CpModel) (gap conflicts rows workers : ℕ) (c : Core) (crew : List Turning) → IsSoundCore c → c.model ≡ m → length crew ≡ workers → actor_count c ≡ length crew → AreTurning m gap conflicts rows c crew → count_at_work crew ≡ 0
+    → CameTo m gap conflicts workers c.bounds.upper c.bounds.lower (map ended_of crew)
+came_in_turns m gap conflicts rows workers c crew sound model len actors h none =
+    let all = concluded m gap conflicts c.bounds.upper c.bounds.lower 0 crew c.bounds.parts (sound.both ∙ actors) (λ i d l.
+    let t = h.each i d l in
+    subst (λ (j : ℕ). IsConcluded m gap conflicts c.bounds.upper c.bounds.lower j (get_or c.bounds.parts i no_bounds) (get_or crew i d)) (let q : i ≡ 0 + i = omega arith in q)
+    (record { kind = t.kind; done = t.done (all_over crew none i d l); above = sound.bounds.saw_upper i; below = sound.bounds.saw_lower i })) in
+    record {
+      kinds = all.kinds ∙ ap (λ (n : ℕ). map worker_kind (range_with_len 0 n)) len;
+      upper_is = sound.bounds.upper ∙ all.offered;
+      lower_is = sound.bounds.lower ∙ all.raised (At (objective_start c.model)) ∙ ap (λ (x : CpModel). greatest_raised (At (objective_start x)) (map ended_of crew)) model;
+      floor = subst (λ (x : CpModel). IsLowerBound x c.bounds.lower) model sound.bounds.floor;
+      each = all.each;
+    }
+
+pub each_over : (m : CpModel) (gap conflicts rows : ℕ) (c : Core) (crew : List Turning) → AreTurning m gap conflicts rows c crew → count_at_work crew ≡ 0 → All (λ (w : Turning). IsOver (search_of w.worker).said) crew
+each_over m gap conflicts rows c crew h none i d l = let k = (h.each i d l).done (all_over crew none i d l) in over_is (search_of (get_or crew i d).worker) k.end k.over

@@ -1,0 +1,23 @@
+-- One more worker, which knows nothing yet.
+use Rattle.std.proofs.Common.{rules, ◌≡◌, ℕ, false, length, refl, sym, subst, List, [], ◌∷◌, ◌++◌}
+use Rattle.cps_portfolio.specs.declared.interleaved.Turning.{Turning}
+use Rattle.cps_portfolio.specs.Turning.{IsFresh, AreFresh}
+use Rattle.cps_portfolio.proofs.Crews.{each_push}
+use Rattle.cps_portfolio.proofs.interleaved.crew_of.Goals as goal
+
+pub loop-number-preserved : goal.loop-number-preserved
+loop-number-preserved c =
+    let m = c.args.model.now in
+    let o = c.args.options.now in
+    let i = c.loop-number.invariant in
+    let k = c.in_ok-worker.ensures in
+    let x : Turning = record { worker = c.in_ok-worker.worker; over = false } in
+    let xs : List Turning = c.loop-number.crew.items in
+    let e : c.push.new.self.items ≡ xs ++ x ∷ [] = search rules in
+    let len : length xs ≡ c.loop-number.number = search rules in
+    let one : IsFresh m o.gap o.conflicts c.loop-number.number x = record { begins = k.begins; kind = k.kind; guide = k.guide; not_over = refl } in
+    let all = each_push (IsFresh m o.gap o.conflicts) xs x i.each.each (subst (λ (j : ℕ). IsFresh m o.gap o.conflicts j x) (sym len) one) in
+    record {
+      count = search rules;
+      each = subst (λ (l : List Turning). AreFresh m o.gap o.conflicts l) (sym e) (record { each = all });
+    }

@@ -1,0 +1,26 @@
+-- The turn goes by the brancher's guidance, which it leaves.
+use Rattle.std.proofs.Common.{◌≡◌, subst}
+use Rattle.cps_search.specs.Ends.{OneTurn}
+use Rattle.cps_branch.specs.Guidances.{ChoosesBy}
+use Rattle.cps_branch.specs.declared.guidance.Guidance.{Guidance}
+use Rattle.cps_search.proofs.Guiding.{turn_by}
+use Rattle.cps_portfolio.proofs.worker.turn_of.Goals as goal
+
+pub returns-clause-turn : goal.returns-clause-turn
+returns-clause-turn g c =
+    let k = c.in_ok-turn.ensures in
+    let s = c.args.worker.now in
+    let t = c.turn.new.self in
+    let p = g.Q.Port.part c.args.port.now in
+    let q = g.Q.Port.part c.turn.new.port in
+    let rows = g.Q.Port.rows c.args.port.now in
+    let before = g.B.Brancher.guidance s.1 in
+    let takes = turn_by g.B.Brancher.guidance g.B.Brancher.chooses g.B.Brancher.hears g.B.Brancher.stays g.met.B.Brancher.goes_by g.met.B.Brancher.stays_guided g.met.B.Brancher.hears_guided
+    rows s t p q c.in_ok-turn.turn (record { search = k.turn; brancher = k.brancher }) in
+    record {
+      before = k.sound.0;
+      after = k.sound.1;
+      turn = c.in_ok-turn.turn;
+      takes = subst (λ (x : Guidance). OneTurn ChoosesBy (λ h clause restart after. after ≡ h) (λ h after. after ≡ h) rows (s.0, before) (t.0, x) p q c.in_ok-turn.turn) k.guidance takes;
+      last = c.is_last.ensures;
+    }

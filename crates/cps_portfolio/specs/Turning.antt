@@ -1,0 +1,111 @@
+-- Workers that take turns over one state, and which of them takes the next turn.
+use Rattle.std.specs.Prelude.{◌≡◌, ℕ, zero, suc, ◌+◌, ◌<◌, ◌%◌, true, false, if◌then◌else◌, List, [], ◌∷◌, map, length, Some, slice_index_or, slice_set}
+use Rattle.rand_pcg.specs.Lcg.{Lcg, started, increment_of}
+use Rattle.rand_pcg.specs.Pcg.{multiplier_64, pcg32}
+use Rattle.cps_model.specs.declared.model.CpModel.{CpModel}
+use Rattle.cps_instance.specs.Problem.{Problem}
+use Rattle.cps_options.specs.declared.options.Options.{Options}
+use Rattle.cps_port.specs.declared.part.Part.{Part}
+use Rattle.cps_port.specs.Parts.{newcomer}
+use Rattle.cps_port.specs.Cores.{Core, part_at, first_core}
+use Rattle.cps_port.specs.Others.{ActsAlone}
+use Rattle.cps_port.specs.Totals.{total}
+use Rattle.cps_search.specs.declared.end.End.{End}
+use Rattle.cps_search.specs.declared.end.End.TheVariants as ends
+use Rattle.cps_search.specs.declared.end.Said.{Said}
+use Rattle.cps_search.specs.declared.end.Said.TheVariants.{Nothing, Due, Over}
+use Rattle.cps_search.specs.declared.end.WorkerKind.{WorkerKind}
+use Rattle.cps_branch.specs.declared.guidance.Guidance.{Guidance}
+use Rattle.cps_search.specs.Guided.{IsGuidedBy}
+use Rattle.cps_search.specs.Searches.{Search}
+use Rattle.cps_search.specs.Moves.{fresh}
+use Rattle.cps_search.specs.Ends.{Ending, IsOver, ending}
+use Rattle.cps_portfolio.specs.declared.interleaved.Turning.{Turning}
+use Rattle.cps_portfolio.specs.Workers.{search_of, kind_of, guidance_of, worker_kind, IsFirstInstance, Begins, TakesTurnsBy, HasTurned}
+use Rattle.cps_portfolio.specs.Crews.{IsDone}
+
+-- ---- workers that have turns left
+
+-- a worker that may take a turn: it took its turns so far on a board of so many rows, by its guidance
+pub record AtWork (m : CpModel) (gap conflicts rows : ℕ) (kind : WorkerKind) (guidance : Guidance) (s : Search) (q : Part) : Type 0 where
+  pub problem : Problem
+  pub first : IsFirstInstance m problem
+  pub guide : IsGuidedBy kind problem (Some guidance)
+  pub turns : TakesTurnsBy guidance rows (fresh problem gap (Some conflicts)) s newcomer q
+  pub running : IsOver s.said → ⊥
+
+-- the worker of this number is at work, or has ended honestly
+pub record IsTurning (m : CpModel) (gap conflicts rows : ℕ) (c : Core) (number : ℕ) (w : Turning) : Type 0 where
+  pub kind : kind_of w.worker ≡ worker_kind number
+  pub at_work : w.over ≡ false → AtWork m gap conflicts rows (worker_kind number) (guidance_of w.worker) (search_of w.worker) (part_at c number)
+  pub done : w.over ≡ true → IsDone m gap conflicts (worker_kind number) (guidance_of w.worker) (part_at c number).bounds (search_of w.worker)
+
+pub record AreTurning (m : CpModel) (gap conflicts rows : ℕ) (c : Core) (crew : List Turning) : Type 0 where
+  pub each : (i : ℕ) (d : Turning) → i < length crew → IsTurning m gap conflicts rows c i (slice_index_or crew i d)
+
+abbrev pub one_at_work : Turning → ℕ
+one_at_work w = if w.over then 0 else 1
+
+-- how many workers have not ended
+abbrev pub count_at_work : List Turning → ℕ
+count_at_work crew = total one_at_work crew
+
+-- the worker of this number, which knows nothing yet
+pub record IsFresh (m : CpModel) (gap conflicts number : ℕ) (w : Turning) : Type 0 where
+  pub begins : Begins m gap conflicts (search_of w.worker)
+  pub kind : kind_of w.worker ≡ worker_kind number
+  pub guide : IsGuidedBy (kind_of w.worker) (search_of w.worker).problem (Some (guidance_of w.worker))
+  pub not_over : w.over ≡ false
+
+pub record AreFresh (m : CpModel) (gap conflicts : ℕ) (crew : List Turning) : Type 0 where
+  pub each : (i : ℕ) (d : Turning) → i < length crew → IsFresh m gap conflicts i (slice_index_or crew i d)
+
+-- ---- what is seen of workers that have ended
+
+abbrev pub end_said : Said → End
+end_said Nothing = ends.RoundsDone
+end_said Due = ends.RoundsDone
+end_said (Over end) = end
+
+abbrev pub ended_of : Turning → Ending
+ended_of w = ending (kind_of w.worker) (Some (guidance_of w.worker)) (end_said (search_of w.worker).said) (search_of w.worker)
+
+-- ---- the drawn schedule
+
+-- the number of the worker of this rank among those that have not ended
+abbrev pub place_at_work : List Turning → ℕ → ℕ
+place_at_work [] rank = 0
+place_at_work (w ∷ ws) zero = if w.over then 1 + place_at_work ws 0 else 0
+place_at_work (w ∷ ws) (suc rank) = 1 + place_at_work ws (if w.over then suc rank else rank)
+
+-- the worker whose turn is next: the generator's next word, modulo the number of workers that have not ended, is its rank among these
+abbrev pub drawn_place : List Turning → Lcg → ℕ
+drawn_place crew words = place_at_work crew ((pcg32 words).0 % count_at_work crew)
+
+-- the generator of a seed
+abbrev pub words_of_seed : ℕ → Lcg
+words_of_seed seed = started 64 multiplier_64 seed (increment_of 64 0)
+
+-- the worker at this place took a turn, alone at the state, and is `next` after it
+pub record TakesTurnAt (place rows : ℕ) (c d : Core) (crew : List Turning) (next : Turning) : Type 0 where
+  pub some_left : 0 < count_at_work crew
+  pub alone : ActsAlone place place c d
+  pub turned : HasTurned (guidance_of (slice_index_or crew place next).worker) rows (search_of (slice_index_or crew place next).worker) (search_of next.worker) (part_at c place) (part_at d place) next.over
+
+-- turns one after another, each of the worker that was drawn
+pub data TakesDrawnTurns (rows : ℕ) (c : Core) (crew : List Turning) (words : Lcg) : Core → List Turning → Lcg → Type 0 where
+  none_yet : TakesDrawnTurns rows c crew words c crew words
+  one_more : (d e : Core) (later : List Turning) (next : Turning) (left : Lcg) → TakesDrawnTurns rows c crew words d later left → TakesTurnAt (drawn_place later left) rows d e later next
+      → TakesDrawnTurns rows c crew words e (slice_set later (drawn_place later left) next) (pcg32 left).1
+
+-- these are the ends of workers that knew nothing at first, and took drawn turns until all had ended
+pub record IsDrawnRun (m : CpModel) (options : Options) (rows : ℕ) (es : List Ending) : Type 0 where
+  pub crew : List Turning
+  pub count : length crew ≡ options.workers
+  pub begins : AreFresh m options.gap options.conflicts crew
+  pub core : Core
+  pub last : List Turning
+  pub words : Lcg
+  pub turns : TakesDrawnTurns rows (first_core m options.workers rows) crew (words_of_seed options.seed) core last words
+  pub all_over : count_at_work last ≡ 0
+  pub seen : es ≡ map ended_of last

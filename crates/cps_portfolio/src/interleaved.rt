@@ -1,0 +1,214 @@
+//! The search of a model by workers that take turns over one state.
+ghost use Rattle.std.specs.Prelude.{◌≡◌, ℕ, ◌<◌, ◌≤◌, length, vec_len, All, IfOk, OnOk, map, false, None, slice_index_or};
+ghost use Rattle.rand_pcg.specs.Lcg.{Lcg};
+ghost use Rattle.cps_options.specs.Ranges.{AreInRange};
+ghost use Rattle.cps_port.specs.Cores.{actor_count, board_part, part_at, after};
+ghost use Rattle.cps_port.specs.Others.{ActsAlone};
+ghost use Rattle.cps_port.specs.Sound.{IsSoundCore};
+ghost use Rattle.cps_kinds.specs.Kinds.{AreAllPropagated};
+ghost use Rattle.cps_search.specs.Searches.{HasNoAssumptions};
+ghost use Rattle.cps_search.specs.Ends.{IsOver};
+ghost use Rattle.cps_portfolio.specs.Workers.{search_of, kind_of, guidance_of, HasTurned};
+ghost use Rattle.cps_portfolio.specs.Outcomes.{IsGoodOutcome};
+ghost use Rattle.cps_portfolio.specs.Turning.{AreTurning, AreFresh, count_at_work, ended_of, place_at_work, words_of_seed, TakesDrawnTurns, IsDrawnRun};
+ghost use Rattle.cps_portfolio.specs.declared.interleaved.Turning.{Turning as TurningOf};
+
+use crate::conclusion::outcome_of;
+use crate::outcome::{Outcome, Reached};
+use crate::worker::AnyWorker;
+use cps_model::Bound;
+use cps_options::Options;
+use cps_port::{CoreState, Event, PlainPort, Seen};
+use cps_search::Ended;
+use cps_validate::ValidModel;
+use rand_core::utils::NextWord;
+use rand_pcg::Lcg64Xsh32;
+use std::alloc::{AllocError, Global};
+
+/// How many rows the board has.
+const ROWS: u32 = 4096;
+
+/// A worker, and whether it has ended.
+#[derive(Drop)]
+pub struct Turning<'a> {
+    /// The worker.
+    pub worker: AnyWorker<'a>,
+    /// Whether it has ended.
+    pub over: bool,
+}
+
+/// All workers, before their first turns.
+fn crew_of<'a>(
+    alloc: Global,
+    model: &'a ValidModel,
+    options: &Options,
+) -> Result<Vec<Turning<'a>>, AllocError>
+    requires range { AreInRange options.now }
+    requires assumptions { HasNoAssumptions model.now }
+    requires kinds { AreAllPropagated model.now }
+    ensures count { IfOk result (λ crew. vec_len crew ≡ options.now.workers) }
+    ensures each { IfOk result (λ crew. AreFresh model.entry.now options.now.gap options.now.conflicts crew.items) }
+{
+    let mut crew = Vec::new(alloc);
+    for number in 0..options.workers {
+        let worker = AnyWorker::of(alloc, model, number, options.conflicts, options.gap)?;
+        crew.push(Turning {
+            worker,
+            over: false,
+        })?;
+    }
+    Ok(crew)
+}
+
+/// How many workers have not ended.
+fn count_at_work(crew: &[Turning<'_>]) -> usize
+    ensures count { result ≡ count_at_work crew.now }
+{
+    let mut count = 0;
+    for turning in crew {
+        if !turning.over {
+            count += 1;
+        }
+    }
+    count
+}
+
+/// The place of the worker of this rank among those that have not ended.
+fn place_of(crew: &[Turning<'_>], rank: usize) -> usize
+    requires { rank < count_at_work crew.now }
+    ensures place { result ≡ place_at_work crew.now rank }
+    ensures within { result < length crew.now }
+    ensures at_work { (d : TurningOf) → (slice_index_or crew.now result d).over ≡ false }
+{
+    let mut left = rank;
+    for (place, turning) in crew.iter().enumerate() {
+        if !turning.over {
+            if left == 0 {
+                return place;
+            }
+            left -= 1;
+        }
+    }
+    unreachable!()
+}
+
+/// Lets an actor's worker take a turn, and answers whether it was the last.
+fn take_turn(
+    port: &mut PlainPort<'_, '_>,
+    worker: &mut AnyWorker<'_>,
+    actor: u32,
+) -> Result<bool, AllocError>
+    requires actor { actor < actor_count port.old.core.now }
+    requires idle { (board_part port.old.core.now.board actor).drawn ≡ None }
+    requires running { IsOver (search_of worker.old).said → ⊥ }
+    requires model { port.old.core.now.model ≡ (search_of worker.old).problem.model }
+    requires imported { (search_of worker.old).imported ≤ length (part_at port.old.core.now actor).board.taken }
+    ensures same { (port.new.core.now.model ≡ port.old.core.now.model) × (length port.new.core.now.board.rows ≡ length port.old.core.now.board.rows) }
+    ensures idle { (board_part port.new.core.now.board actor).drawn ≡ None }
+    ensures alone { ActsAlone actor actor port.old.core.now port.new.core.now }
+    ensures kind { kind_of worker.new ≡ kind_of worker.old }
+    ensures guidance { guidance_of worker.new ≡ guidance_of worker.old }
+    ensures turn { IfOk result (HasTurned (guidance_of worker.old) (length port.old.core.now.board.rows) (search_of worker.old) (search_of worker.new) (part_at port.old.core.now actor) (part_at port.new.core.now actor)) }
+{
+    port.actor = actor;
+    worker.turn(port)
+}
+
+/// Lets the workers take turns until all have ended. Each turn's worker is drawn among those that have not ended.
+fn take_turns(
+    port: &mut PlainPort<'_, '_>,
+    crew: &mut [Turning<'_>],
+    options: &Options,
+) -> Result<(), AllocError>
+    requires count { (actor_count port.old.core.now ≡ length crew.old) × (length crew.old ≤ 16) }
+    requires idle { (i : ℕ) → (board_part port.old.core.now.board i).drawn ≡ None }
+    requires crew { AreTurning port.old.core.now.model options.now.gap options.now.conflicts (length port.old.core.now.board.rows) port.old.core.now crew.old }
+    ensures same { OnOk result (port.new.core.now.model ≡ port.old.core.now.model) }
+    ensures count { OnOk result (actor_count port.new.core.now ≡ actor_count port.old.core.now) }
+    ensures len { length crew.new ≡ length crew.old }
+    ensures actors { actor_count port.old.core.now ≡ length crew.new }
+    ensures crew { OnOk result (AreTurning port.old.core.now.model options.now.gap options.now.conflicts (length port.old.core.now.board.rows) port.new.core.now crew.new) }
+    ensures over { OnOk result (count_at_work crew.new ≡ 0) }
+    ensures drawn { OnOk result ((words : Lcg) × TakesDrawnTurns (length port.old.core.now.board.rows) port.old.core.now crew.old (words_of_seed options.now.seed) port.new.core.now crew.new words) }
+{
+    let mut words = Lcg64Xsh32::new(options.seed, 0);
+    'turns: loop {
+        let count = count_at_work(crew);
+        if count == 0 {
+            return Ok(());
+        }
+        let word: u32 = words.next_word();
+        let place = place_of(crew, word as usize % count);
+        let turning = &mut crew[place];
+        turning.over = take_turn(port, &mut turning.worker, place as u32)?;
+    }
+}
+
+/// The upper bound of the state.
+fn upper_of(core: &mut CoreState<'_>) -> Bound
+    requires { 0 < actor_count core.old }
+    ensures bound { result ≡ core.old.bounds.upper }
+    ensures sound { IsSoundCore core.old }
+    ensures after { core.new ≡ after core.old 0 Event.SeeUpper }
+{
+    match core.step(0, Event::SeeUpper) {
+        Seen::Word(bound) => bound,
+        _ => unreachable!(),
+    }
+}
+
+/// The lower bound of the state.
+fn lower_of(core: &mut CoreState<'_>) -> Bound
+    requires { 0 < actor_count core.old }
+    ensures { result ≡ core.old.bounds.lower }
+{
+    match core.step(0, Event::SeeLower) {
+        Seen::Word(bound) => bound,
+        _ => unreachable!(),
+    }
+}
+
+/// The ends of all workers.
+fn finish_all(alloc: Global, mut crew: Vec<Turning<'_>>) -> Result<Vec<Ended>, AllocError>
+    requires { All (λ c. IsOver (search_of c.worker).said) crew.items }
+    ensures { IfOk result (λ ends. ends.items ≡ map ended_of crew.entry.items) }
+{
+    let mut ends = Vec::new(alloc);
+    while let Some(turning) = crew.pop() {
+        let Turning { worker, over: _ } = turning;
+        ends.insert(0, worker.finish())?;
+    }
+    Ok(ends)
+}
+
+/// Solves a model: so many workers take turns until the bounds meet or each has spent its budget. Each turn's worker is drawn among those
+/// that have not ended, in rising order, by a word of `Lcg64Xsh32::new(seed, 0)` modulo their number. So the same options give the same
+/// outcome.
+pub fn solve_interleaved(
+    alloc: Global,
+    model: &ValidModel,
+    options: &Options,
+) -> Result<Outcome, AllocError>
+    requires range { AreInRange options.now }
+    requires assumptions { HasNoAssumptions model.now }
+    requires kinds { AreAllPropagated model.now }
+    ensures good { IfOk result (IsGoodOutcome model.now options.now) }
+    ensures drawn { IfOk result (λ o. IsDrawnRun model.now options.now 4096 o.ends) }
+{
+    let mut core = CoreState::new(alloc, model, options.workers, ROWS)?;
+    let mut crew = crew_of(alloc, model, options)?;
+    let mut port = PlainPort {
+        core: &mut core,
+        actor: 0,
+    };
+    let turns = take_turns(&mut port, crew.as_mut_slice(), options);
+    let PlainPort {
+        core: shared,
+        actor: _actor,
+    } = port;
+    turns?;
+    let upper = upper_of(shared);
+    let lower = lower_of(shared);
+    let ends = finish_all(alloc, crew)?;
+    outcome_of(alloc, model, options, Reached { upper, lower, ends })
+}

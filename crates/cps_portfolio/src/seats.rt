@@ -1,0 +1,42 @@
+//! Workers with their ports over the shared tables.
+ghost use Rattle.std.specs.Prelude.{◌≡◌, ℕ, ◌<◌, length, All, slice_index_or};
+ghost use Rattle.cps_portfolio.specs.Crews.{IsReady, Worked};
+ghost use Rattle.cps_portfolio.specs.declared.seats.Seated.{Seated as SeatedOf};
+
+use crate::table_port::TablePort;
+use crate::worker::AnyWorker;
+use cps_outer::Gate;
+use std::thread;
+use std::thread::Threads;
+
+/// A worker with its port.
+#[derive(Drop)]
+pub struct Seated<'a> {
+    /// The worker.
+    pub worker: AnyWorker<'a>,
+    /// Its seats at the tables.
+    pub port: TablePort<'a>,
+    /// Its number.
+    pub number: u32,
+    /// Whether it could not have memory.
+    pub refused: bool,
+}
+
+/// Lets a worker pass the gate, and then search to its end.
+fn work<G: Gate>(gate: &G, seated: &mut Seated<'_>)
+    requires { IsReady seated.old }
+    ensures { Worked seated.old seated.new }
+{
+    gate.arrive(seated.number);
+    seated.refused = seated.worker.run(&mut seated.port).is_err();
+}
+
+/// Lets all workers search to their ends, each in a thread of its own where one can be made.
+pub fn work_all<R: Threads + Sync, G: Gate + Sync>(rt: &R, crew: &mut [Seated<'_>], gate: &G)
+    requires some { 0 < length crew.old }
+    requires ready { All IsReady crew.old }
+    ensures len { length crew.new ≡ length crew.old }
+    ensures each { (i : ℕ) (d : SeatedOf) → i < length crew.old → Worked (slice_index_or crew.old i d) (slice_index_or crew.new i d) }
+{
+    thread::for_each_mut(rt, crew, crew.len(), &|_, seated| work(gate, seated));
+}
