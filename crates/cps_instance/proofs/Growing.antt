@@ -17,7 +17,7 @@ use Rattle.cps_instance.specs.Terms.{terms_value, term_subjects, terms_reach, le
 use Rattle.cps_instance.specs.Sums.{DefinedSum, sum_value, extended, least_sum_of, greatest_sum_of, IsSumOf, AreSumsFrom}
 use Rattle.cps_instance.specs.declared.task.Span.{Span}
 use Rattle.cps_instance.specs.Tasks.{HoldsTask, subjects_of, subjects_of_body, atom_subjects, subjects_of_span, span_subjects}
-use Rattle.cps_instance.specs.Fitting.{IsLiteral, IsFittingSpan, IsFitting, IsFittingBody}
+use Rattle.cps_instance.specs.Fitting.{IsLiteral, IsFittingSpan, IsNeverNegative, IsFitting, IsFittingBody}
 use Rattle.cps_instance.specs.Problem.{Means, IsListTask, IsCutTask, sum_task, sum_tasks}
 use Rattle.cps_instance.proofs.Agreeing.{AgreeAt, terms_value-agree, All-append_left, All-append_right}
 use Rattle.cps_instance.proofs.Extending.{length-extended, extended-push, HoldsTask-shorter, HoldsTask-longer, agree-append}
@@ -129,6 +129,14 @@ spans_fit-longer ds es (s ∷ ss) l h =
     (are_literals-longer ds es s.presence presence (All-head (IsFittingSpan ds) s ss h))
     (spans_fit-longer ds es ss (All-append_right (λ (i : ℕ). i < length ds) (subjects_of_span s) (span_subjects ss) l) (All-tail (IsFittingSpan ds) s ss h))
 
+demands_fit-longer : (ds es : Domains) (is : List ℕ) → All (λ s. s < length ds) is → All (IsNeverNegative ds) is → All (IsNeverNegative (ds ++ es)) is
+demands_fit-longer ds es [] l h = All-nil (IsNeverNegative (ds ++ es))
+demands_fit-longer ds es (i ∷ is) l h =
+    let e = same-append ds es i (All-head (λ (s : ℕ). s < length ds) i is l) in
+    All-cons (IsNeverNegative (ds ++ es)) i is
+    (λ x c. All-head (IsNeverNegative ds) i is h x (ap (λ w. is_among w x) e ∙ c))
+    (demands_fit-longer ds es is (All-tail (λ (s : ℕ). s < length ds) i is l) (All-tail (IsNeverNegative ds) i is h))
+
 body_fits-longer : (ds es : Domains) (b : Body) → All (λ s. s < length ds) (subjects_of_body b) → IsFittingBody ds b → IsFittingBody (ds ++ es) b
 body_fits-longer ds es Empty l h = tt
 body_fits-longer ds es (BoolOr atoms) l h = are_literals-longer ds es atoms l h
@@ -148,7 +156,11 @@ body_fits-longer ds es (Circuit tails heads literals) l h = are_literals-longer 
 body_fits-longer ds es (Interval start end size) l h = tt
 body_fits-longer ds es (NoOverlap spans) l h = spans_fit-longer ds es spans l h
 body_fits-longer ds es (Cumulative capacity spans demands) l h =
-    spans_fit-longer ds es spans (All-append_left (λ (s : ℕ). s < length ds) (span_subjects spans) demands (All-tail (λ (s : ℕ). s < length ds) capacity (span_subjects spans ++ demands) l)) h
+    let parts = All-tail (λ (s : ℕ). s < length ds) capacity (span_subjects spans ++ demands) l in
+    record {
+      spans_fit = spans_fit-longer ds es spans (All-append_left (λ (s : ℕ). s < length ds) (span_subjects spans) demands parts) h.spans_fit;
+      demands_fit = demands_fit-longer ds es demands (All-append_right (λ (s : ℕ). s < length ds) (span_subjects spans) demands parts) h.demands_fit;
+    }
 body_fits-longer ds es (Inverse direct inverse) l h = tt
 body_fits-longer ds es (Automaton start finals tails heads labels exprs) l h = tt
 body_fits-longer ds es (Reservoir min max times changes active) l h =

@@ -1,5 +1,5 @@
 -- What a propagator may count on: a task whose subjects have domains in which none of its sums leaves its type.
-use Rattle.std.specs.Prelude.{◌≡◌, ◌<◌, ◌^◌, ℤ, pos, ◌≤ℤ◌, IsTrue, true, List, length, All}
+use Rattle.std.specs.Prelude.{◌≡◌, ℕ, ◌<◌, ◌^◌, ℤ, pos, ◌≤ℤ◌, IsTrue, true, List, length, All}
 use Rattle.cps_model.specs.Within.{is_well_shaped}
 use Rattle.cps_domain.specs.Window.{is_among}
 use Rattle.cps_literal.specs.declared.atom.Atom.{Atom}
@@ -37,6 +37,15 @@ pub record AreFittingSpans (domains : Domains) (x y : List Span) : Type 0 where
   pub x_fit : All (IsFittingSpan domains) x
   pub y_fit : All (IsFittingSpan domains) y
 
+-- a subject with no value below 0
+abbrev pub IsNeverNegative : Domains → ℕ → Type 0
+IsNeverNegative domains i = (x : ℤ) → is_among (domain_at domains i) x ≡ true → pos 0 ≤ℤ x
+
+-- spans, each with a demand that is never negative
+pub record AreFittingDemands (domains : Domains) (spans : List Span) (demands : List ℕ) : Type 0 where
+  pub spans_fit : All (IsFittingSpan domains) spans
+  pub demands_fit : All (IsNeverNegative domains) demands
+
 abbrev pub IsFittingBody : Domains → Body → Type 0
 IsFittingBody domains Empty = Unit {0}
 IsFittingBody domains (BoolOr atoms) = All (IsLiteral domains) atoms
@@ -55,7 +64,7 @@ IsFittingBody domains (AllDiff exprs) = Unit {0}
 IsFittingBody domains (Circuit tails heads literals) = All (IsLiteral domains) literals
 IsFittingBody domains (Interval start end size) = Unit {0}
 IsFittingBody domains (NoOverlap spans) = All (IsFittingSpan domains) spans
-IsFittingBody domains (Cumulative capacity spans demands) = All (IsFittingSpan domains) spans
+IsFittingBody domains (Cumulative capacity spans demands) = AreFittingDemands domains spans demands
 IsFittingBody domains (Inverse direct inverse) = Unit {0}
 IsFittingBody domains (Automaton start finals tails heads labels exprs) = Unit {0}
 IsFittingBody domains (Reservoir min max times changes active) = All (IsLiteral domains) active
