@@ -23,22 +23,58 @@ def references(rng):
     return numbers(rng, -(2**31), 2**31 - 1)
 
 
-def constraint(rng):
-    made = pb.ConstraintProto(name=rng.choice(WORDS), enforcement_literal=references(rng))
-    kind = rng.choice(["bool_or", "bool_and", "bool_xor", "at_most_one", "exactly_one", "linear", None])
-    if kind == "linear":
-        made.linear.SetInParent()
-        made.linear.vars.extend(references(rng))
-        made.linear.coeffs.extend(wholes(rng))
-        made.linear.domain.extend(wholes(rng))
-    elif kind:
-        getattr(made, kind).SetInParent()
-        getattr(made, kind).literals.extend(references(rng))
-    return made
-
-
 def expression(rng):
     return pb.LinearExpressionProto(vars=references(rng), coeffs=wholes(rng), offset=rng.choice(WHOLE))
+
+
+def set_expression(rng, field):
+    """A single expression. One that says nothing is left out, as the printed form does."""
+    made = expression(rng)
+    if made != pb.LinearExpressionProto():
+        field.CopyFrom(made)
+
+
+def expressions(rng):
+    return [expression(rng) for _ in range(rng.randint(0, 3))]
+
+
+# How the fields of each kind are drawn. A kind that is no message of literals has a line here.
+DRAWN = {
+    "linear": {"vars": references, "coeffs": wholes, "domain": wholes},
+    "int_div": {"target": set_expression, "exprs": expressions},
+    "int_mod": {"target": set_expression, "exprs": expressions},
+    "int_prod": {"target": set_expression, "exprs": expressions},
+    "lin_max": {"target": set_expression, "exprs": expressions},
+    "all_diff": {"exprs": expressions},
+    "element": {"linear_index": set_expression, "linear_target": set_expression, "exprs": expressions},
+    "circuit": {"tails": references, "heads": references, "literals": references},
+    "table": {"exprs": expressions, "values": wholes},
+    "interval": {"start": set_expression, "end": set_expression, "size": set_expression},
+    "no_overlap": {"intervals": references},
+    "cumulative": {"capacity": set_expression, "intervals": references, "demands": expressions},
+}
+LITERALS = ["bool_or", "bool_and", "bool_xor", "at_most_one", "exactly_one"]
+
+
+def fill(rng, message, fields):
+    message.SetInParent()
+    for name, draw in fields.items():
+        if draw is set_expression:
+            draw(rng, getattr(message, name))
+        else:
+            getattr(message, name).extend(draw(rng))
+
+
+def constraint(rng):
+    made = pb.ConstraintProto(name=rng.choice(WORDS), enforcement_literal=references(rng))
+    kind = rng.choice(LITERALS + list(DRAWN) + [None])
+    if kind in DRAWN:
+        fill(rng, getattr(made, kind), DRAWN[kind])
+    elif kind:
+        fill(rng, getattr(made, kind), {"literals": references})
+    if kind == "table" and rng.random() < 0.5:
+        made.table.negated = True
+    return made
 
 
 def strategy(rng):

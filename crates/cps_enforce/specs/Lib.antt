@@ -1,1 +1,4 @@
-pub mod Rules
+pub mod Force
+pub mod Reasons
+pub mod Settling
+pub mod Tasks

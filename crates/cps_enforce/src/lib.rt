@@ -1,12 +1,15 @@
-//! Rules and their enforcement: one propagator for every kind whose rule looks at domains.
+//! A propagator of each rule: enforcement literals, notes, conflicts, reasons, and looking again until nothing is left to narrow.
 //!
-//! A rule knows its body alone. It looks at a store and says which atoms the body gives there, or that the body cannot hold, and, when it
-//! is asked, by which facts. `Enforced` makes a propagator of it: it keeps the enforcement literals, makes each atom true with a note, looks
-//! again until nothing is left to narrow, makes the last open enforcement literal false where the body cannot hold, and turns facts into
-//! reasons. What a rule says of its facts is proved, and where it names none the reason is all that was narrowed before of what the task
-//! reads. Half-reified constraints are those of Feydy, Somogyi and Stuckey, "Half reification and flattening" (2011).
+//! A rule knows its body alone. Where all enforcement literals are true, what the rule gives is made true, with a note of the rule's hint; where
+//! one is open and the body cannot hold, that literal is made false. Reasons are made when they are asked for, from the domains as they
+//! stood before, and where the rule finds none, from all that was narrowed before of what the task reads.
 #![tactic(auto)]
 
-mod rule;
+mod enforced;
+mod explain;
+mod force;
+mod narrow;
+mod reasons;
+mod settle;
 
-pub use rule::{Hint, Look, Narrowing, Rule};
+pub use enforced::Enforced;

@@ -1,5 +1,5 @@
 -- What a rule may say of a body in a store: what it gives, when it cannot hold, when it is at rest, and by which facts.
-use Rattle.std.specs.Prelude.{◌≡◌, ℕ, ◌<◌, ℤ, true, Bool, List, length, All}
+use Rattle.std.specs.Prelude.{◌≡◌, ◌<◌, ℤ, true, List, length, All}
 use Rattle.cps_literal.specs.declared.atom.Atom.{Atom}
 use Rattle.cps_literal.specs.Truth.{atom_holds}
 use Rattle.cps_instance.specs.declared.task.Body.{Body}
@@ -9,15 +9,14 @@ use Rattle.cps_instance.specs.Tasks.{HoldsBody, subjects_of_body}
 use Rattle.cps_trail.specs.Trail.{Trail, IsTrueNow, IsWithin, IsAdmitted, IsInside}
 use Rattle.cps_propagate.specs.Now.{IsFixedNow, AreOpen}
 use Rattle.cps_propagate.specs.Strength.{IsStrongBody, IsExcludedBody}
-use Rattle.cps_enforce.specs.declared.rule.Look.{Look}
-use Rattle.cps_enforce.specs.declared.rule.Hint.{Hint}
-use Rattle.cps_enforce.specs.declared.rule.Look.TheVariants.{Possible, Impossible}
+use Rattle.cps_rule.specs.declared.rule.Look.{Look}
+use Rattle.cps_rule.specs.declared.rule.Look.TheVariants.{Possible, Impossible}
 
 -- a body whose subjects have domains, whose intervals rise, and that fits them
-pub record IsFittingRule (domains : Domains) (body : Body) : Type 0 where
-  pub subjects : All (λ i. i < length domains) (subjects_of_body body)
-  pub sound : All (λ i. AreIntervals (domain_at domains i)) (subjects_of_body body)
-  pub body : IsFittingBody domains body
+pub record IsFittingRule (domains : Domains) (b : Body) : Type 0 where
+  pub subjects : All (λ i. i < length domains) (subjects_of_body b)
+  pub sound : All (λ i. AreIntervals (domain_at domains i)) (subjects_of_body b)
+  pub body : IsFittingBody domains b
 
 -- an atom is true wherever the body holds at values that the store leaves
 pub record IsGiven (body : Body) (s : Trail) (target : Atom) : Type 0 where
@@ -45,18 +44,18 @@ pub record IsFact (s : Trail) (u : Atom) : Type 0 where
   pub true_now : IsTrueNow s u
 
 abbrev pub AreFacts : Trail → List Atom → Type 0
-AreFacts s facts = All (IsFact s) facts
+AreFacts s us = All (IsFact s) us
 
 -- each atom of a list is true at a list of values
 abbrev pub AllTrueAt : List ℤ → List Atom → Type 0
-AllTrueAt xs facts = All (λ u. atom_holds xs u ≡ true) facts
+AllTrueAt xs us = All (λ u. atom_holds xs u ≡ true) us
 
 -- a body and facts of the store give an atom, within the first domains
-pub record IsExplained (body : Body) (s : Trail) (target : Atom) (facts : List Atom) : Type 0 where
-  pub facts : AreFacts s facts
-  pub gives : (xs : List ℤ) → IsWithin s.first xs → AllTrueAt xs facts → HoldsBody body xs → atom_holds xs target ≡ true
+pub record IsExplained (body : Body) (s : Trail) (target : Atom) (us : List Atom) : Type 0 where
+  pub facts : AreFacts s us
+  pub gives : (xs : List ℤ) → IsWithin s.first xs → AllTrueAt xs us → HoldsBody body xs → atom_holds xs target ≡ true
 
 -- a body cannot hold beside facts of the store, within the first domains
-pub record IsRefuted (body : Body) (s : Trail) (facts : List Atom) : Type 0 where
-  pub facts : AreFacts s facts
-  pub excludes : (xs : List ℤ) → IsWithin s.first xs → AllTrueAt xs facts → HoldsBody body xs → ⊥
+pub record IsRefuted (body : Body) (s : Trail) (us : List Atom) : Type 0 where
+  pub facts : AreFacts s us
+  pub excludes : (xs : List ℤ) → IsWithin s.first xs → AllTrueAt xs us → HoldsBody body xs → ⊥

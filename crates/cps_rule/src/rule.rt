@@ -29,12 +29,12 @@ pub enum Look {
 
 /// A body that is to hold, and what it says of the domains of a store.
 pub trait Rule: Drop {
-    ghost use Rattle.std.specs.Prelude.{◌≡◌, ◌++◌, OnOk, All, IfOk};
+    ghost use Rattle.std.specs.Prelude.{◌≡◌, ◌++◌, true, OnOk, All, IfOk};
     ghost use Rattle.cps_instance.specs.declared.task.Body.{Body};
     ghost use Rattle.cps_instance.specs.Tasks.{subjects_of_body};
     ghost use Rattle.cps_trail.specs.Trail.{IsTrueNow};
     ghost use Rattle.cps_propagate.specs.Strength.{IsExcludedBody};
-    ghost use Rattle.cps_enforce.specs.Rules.{IsFittingRule, IsGiven, IsImpossible, IsSeen, IsAtRest, IsExplained, IsRefuted};
+    ghost use Rattle.cps_rule.specs.Rules.{IsFittingRule, IsGiven, IsImpossible, IsSeen, IsAtRest, IsExplained, IsRefuted};
 
     /// The body.
     ghost body: { Self → Body };

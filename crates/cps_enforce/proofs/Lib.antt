@@ -1,0 +1,5 @@
+pub mod Denials
+pub mod Forces
+pub mod Tasks
+pub mod Past
+pub mod Passes

@@ -1,0 +1,106 @@
+//! The propagator of a rule.
+
+use crate::explain::{explain_by_past, explain_by_rule};
+use crate::narrow::{Header, Room};
+use crate::reasons::push_all_subjects;
+use crate::settle::run;
+use cps_literal::Atom;
+use cps_propagate::Propagator;
+use cps_rule::{Narrowing, Rule};
+use cps_trail::{Step, Store};
+use std::alloc::{AllocError, Global};
+use std::marker::Model;
+
+/// A task that a rule looks at, in force where its enforcement literals are true. Contracts see the task.
+#[derive(Drop)]
+pub struct Enforced<R: Rule> {
+    alloc: Global,
+    enforcement: Vec<Atom>,
+    rule: R,
+    /// Room for what a look finds.
+    found: Vec<Narrowing>,
+    room: Room,
+}
+
+impl<R: Rule> Model for Enforced<R> {
+    ghost use Rattle.cps_instance.specs.declared.task.Task.{Task};
+
+    ghost Value = { Task };
+
+    ghost use Rattle.cps_enforce.specs.Reasons.{task_of};
+    ghost use Rattle.cps_enforce.specs.Tasks.{IsCostly};
+
+    ghost view = { λ e. task_of e.enforcement.items (R.body e.rule) };
+
+    ghost invariant = { λ e. IsCostly (R.body e.rule) };
+}
+
+impl<R: Rule> Enforced<R> {
+    ghost use Rattle.std.specs.Prelude.{◌≡◌, IfOk};
+    ghost use Rattle.cps_enforce.specs.Reasons.{task_of};
+    ghost use Rattle.cps_enforce.specs.Tasks.{IsCostly};
+
+    /// The propagator of a rule's body, in force where these atoms are true. The body is neither an objective's cut nor one of literals
+    /// alone.
+    pub fn new(alloc: Global, enforcement: &[Atom], rule: R) -> Result<Self, AllocError>
+        requires { IsCostly (R.body rule) }
+        ensures { IfOk result (λ propagator. propagator ≡ task_of enforcement.now (R.body rule)) }
+    {
+        Ok(Enforced {
+            alloc,
+            enforcement: Vec::from_slice(alloc, enforcement)?,
+            rule,
+            found: Vec::new(alloc),
+            room: Room::new(alloc),
+        })
+    }
+}
+
+impl<R: Rule> Propagator for Enforced<R> {
+    ghost task = { λ t. t };
+
+    fn propagate(&mut self, number: u32, store: &mut Store) -> Result<Step, AllocError> {
+        let header = Header {
+            number,
+            enforcement: self.enforcement.as_slice(),
+        };
+        run(
+            &header,
+            &mut self.rule,
+            &mut self.found,
+            &mut self.room,
+            store,
+        )
+    }
+
+    fn explain_into(
+        &self,
+        store: &Store,
+        entry: usize,
+        reason: &mut Vec<Atom>,
+    ) -> Result<(), AllocError> {
+        let enforcement = self.enforcement.as_slice();
+        if explain_by_rule(self.alloc, store, entry, enforcement, &self.rule, reason)? {
+            return Ok(());
+        }
+        explain_by_past(self.alloc, store, entry, enforcement, &self.rule, reason)
+    }
+
+    fn lower(&mut self, _upper: i64) {
+        let _ = &self.rule;
+    }
+
+    fn push_subjects(&self, subjects: &mut Vec<u32>) -> Result<(), AllocError> {
+        push_all_subjects(self.enforcement.as_slice(), &self.rule, subjects)
+    }
+
+    fn is_cut(&self) -> bool {
+        let _ = &self.rule;
+        false
+    }
+
+    fn is_cheap(&self) -> bool {
+        let _ = &self.rule;
+        false
+    }
+}

@@ -1,0 +1,196 @@
+//! What a task in force does to a store: it makes true what its rule gives, or answers why it cannot.
+
+ghost use Rattle.std.specs.Prelude.{◌≡◌, All, OnOk, IfOk};
+ghost use Rattle.cps_instance.specs.Tasks.{HoldsTask};
+ghost use Rattle.cps_trail.specs.Trail.{IsTrueNow, IsFalseNow};
+ghost use Rattle.cps_trail.specs.Adds.{Infers, Answers, IsConflict};
+ghost use Rattle.cps_trail.specs.Notes.{ByTask};
+ghost use Rattle.cps_rule.specs.Rules.{IsGiven, IsImpossible};
+ghost use Rattle.cps_enforce.specs.Reasons.{task_of};
+ghost use Rattle.cps_enforce.specs.Settling.{IsInForce, IsResting};
+
+use crate::reasons::{deny_all, give_by, push_all_subjects, refuse_by};
+use cps_literal::{Atom, Clause};
+use cps_propagate::narrow_later;
+use cps_rule::{Hint, Look, Narrowing, Rule};
+use cps_trail::{Note, Step, Store};
+use std::alloc::{AllocError, Global};
+
+/// A task's number, and its enforcement atoms.
+#[derive(Clone, Copy)]
+pub(crate) struct Header<'a> {
+    pub(crate) number: u32,
+    pub(crate) enforcement: &'a [Atom],
+}
+
+/// Room for a conflict in work. Its memory is kept for the next.
+#[derive(Drop)]
+pub(crate) struct Room {
+    alloc: Global,
+    facts: Vec<Atom>,
+    reason: Vec<Atom>,
+    subjects: Vec<u32>,
+}
+
+impl Room {
+    /// Room for a conflict.
+    pub(crate) fn new(alloc: Global) -> Self {
+        Room {
+            alloc,
+            facts: Vec::new(alloc),
+            reason: Vec::new(alloc),
+            subjects: Vec::new(alloc),
+        }
+    }
+
+    /// The conflict that the reason in work is.
+    fn conflict(&self) -> Result<Step, AllocError>
+        ensures { IfOk result (λ step. step ≡ Step.Conflict self.now.reason.items) }
+    {
+        Ok(Step::Conflict(Clause::from_slice(self.alloc, self.reason.as_slice())?))
+    }
+}
+
+/// Makes the conflict that names all that was narrowed of what the task reads.
+fn refuse_by_past<R: Rule>(
+    enforcement: &[Atom],
+    rule: &R,
+    room: &mut Room,
+    store: &Store,
+) -> Result<(), AllocError>
+    requires force { IsInForce store.now enforcement.now (R.body rule.now) }
+    requires impossible { IsImpossible (R.body rule.now) store.now }
+    ensures { OnOk result (IsConflict (HoldsTask (task_of enforcement.now (R.body rule.now))) store.now room.new.reason.items) }
+{
+    room.subjects.clear();
+    push_all_subjects(enforcement, rule, &mut room.subjects)?;
+    let place = store.entries().len();
+    deny_all(store, place, room.subjects.as_slice(), &mut room.reason)?;
+    Ok(())
+}
+
+/// Makes the conflict of a body that cannot hold.
+fn refuse<R: Rule>(
+    enforcement: &[Atom],
+    rule: &R,
+    hint: Hint,
+    room: &mut Room,
+    store: &Store,
+) -> Result<(), AllocError>
+    requires force { IsInForce store.now enforcement.now (R.body rule.now) }
+    requires impossible { IsImpossible (R.body rule.now) store.now }
+    ensures { OnOk result (IsConflict (HoldsTask (task_of enforcement.now (R.body rule.now))) store.now room.new.reason.items) }
+{
+    let past = store.present();
+    let is_refuted = rule.refute(&past, hint, &mut room.facts)?;
+    if is_refuted {
+        let facts = room.facts.as_slice();
+        refuse_by(&past, enforcement, facts, &mut room.reason)?;
+        return Ok(());
+    }
+    refuse_by_past(enforcement, rule, room, store)?;
+    Ok(())
+}
+
+/// Makes the conflict of a body that gives an atom which is false.
+fn contradict<R: Rule>(
+    enforcement: &[Atom],
+    rule: &R,
+    narrowing: &Narrowing,
+    room: &mut Room,
+    store: &Store,
+) -> Result<(), AllocError>
+    requires force { IsInForce store.now enforcement.now (R.body rule.now) }
+    requires given { IsGiven (R.body rule.now) store.now narrowing.now.target }
+    requires false_now { IsFalseNow store.now narrowing.now.target }
+    ensures { OnOk result (IsConflict (HoldsTask (task_of enforcement.now (R.body rule.now))) store.now room.new.reason.items) }
+{
+    let past = store.present();
+    let target = narrowing.target;
+    let is_explained = rule.explain(&past, target, narrowing.hint, &mut room.facts)?;
+    if is_explained {
+        let facts = room.facts.as_slice();
+        give_by(&past, enforcement, facts, target, &mut room.reason)?;
+        return Ok(());
+    }
+    refuse_by_past(enforcement, rule, room, store)?;
+    Ok(())
+}
+
+/// Makes an atom true that the body gives.
+fn narrow<R: Rule>(
+    header: &Header,
+    rule: &R,
+    narrowing: &Narrowing,
+    room: &mut Room,
+    store: &mut Store,
+) -> Result<Step, AllocError>
+    requires force { IsInForce store.old header.now.enforcement.now (R.body rule.now) }
+    requires given { IsGiven (R.body rule.now) store.old narrowing.now.target }
+    ensures infers { OnOk result (Infers (ByTask header.now.number (HoldsTask (task_of header.now.enforcement.now (R.body rule.now)))) store.old store.new) }
+    ensures answers { IfOk result (Answers (HoldsTask (task_of header.now.enforcement.now (R.body rule.now))) store.new) }
+    ensures made { result ≡ Ok Step.Settled → IsTrueNow store.new narrowing.now.target }
+{
+    let note = Note::Task {
+        task: header.number,
+        a: narrowing.hint.a,
+        b: narrowing.hint.b,
+    };
+    let is_made = narrow_later(store, narrowing.target, note)?;
+    if is_made {
+        return Ok(Step::Settled);
+    }
+    contradict(header.enforcement, rule, narrowing, room, store)?;
+    let step = room.conflict()?;
+    Ok(step)
+}
+
+/// Makes true all that the body gives.
+fn narrow_all<R: Rule>(
+    header: &Header,
+    rule: &R,
+    found: &[Narrowing],
+    room: &mut Room,
+    store: &mut Store,
+) -> Result<Step, AllocError>
+    requires force { IsInForce store.old header.now.enforcement.now (R.body rule.now) }
+    requires given { All (λ n. IsGiven (R.body rule.now) store.old n.target) found.now }
+    ensures infers { OnOk result (Infers (ByTask header.now.number (HoldsTask (task_of header.now.enforcement.now (R.body rule.now)))) store.old store.new) }
+    ensures answers { IfOk result (Answers (HoldsTask (task_of header.now.enforcement.now (R.body rule.now))) store.new) }
+    ensures made { result ≡ Ok Step.Settled → All (λ n. IsTrueNow store.new n.target) found.now }
+{
+    for narrowing in found {
+        match narrow(header, rule, narrowing, room, store)? {
+            Step::Settled => {}
+            Step::Conflict(clause) => return Ok(Step::Conflict(clause)),
+        }
+    }
+    Ok(Step::Settled)
+}
+
+/// Looks once, and makes true what the body gives.
+pub(crate) fn pass<R: Rule>(
+    header: &Header,
+    rule: &mut R,
+    found: &mut Vec<Narrowing>,
+    room: &mut Room,
+    store: &mut Store,
+) -> Result<Step, AllocError>
+    requires force { IsInForce store.old header.now.enforcement.now (R.body rule.old) }
+    ensures keeps { R.body rule.new ≡ R.body rule.old }
+    ensures infers { OnOk result (Infers (ByTask header.now.number (HoldsTask (task_of header.now.enforcement.now (R.body rule.old)))) store.old store.new) }
+    ensures answers { IfOk result (Answers (HoldsTask (task_of header.now.enforcement.now (R.body rule.old))) store.new) }
+    ensures rest { result ≡ Ok Step.Settled → store.new.entries ≡ store.old.entries → IsResting (R.body rule.old) store.new }
+{
+    match rule.look(store, found)? {
+        Look::Possible => {
+            let step = narrow_all(header, rule, found.as_slice(), room, store)?;
+            Ok(step)
+        }
+        Look::Impossible(hint) => {
+            refuse(header.enforcement, rule, hint, room, store)?;
+            let step = room.conflict()?;
+            Ok(step)
+        }
+    }
+}

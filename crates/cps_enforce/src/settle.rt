@@ -1,0 +1,104 @@
+//! A visit: what a task does to a store, by its enforcement atoms.
+
+ghost use Rattle.std.specs.Prelude.{◌≡◌, OnOk, IfOk};
+ghost use Rattle.cps_instance.specs.Tasks.{HoldsTask};
+ghost use Rattle.cps_instance.specs.Fitting.{IsFitting};
+ghost use Rattle.cps_trail.specs.Adds.{Infers, Answers};
+ghost use Rattle.cps_trail.specs.Notes.{ByTask};
+ghost use Rattle.cps_enforce.specs.Force.{IsOpenAt};
+ghost use Rattle.cps_enforce.specs.Reasons.{task_of};
+ghost use Rattle.cps_enforce.specs.Settling.{IsInForce, IsAside, IsResting, IsSettled};
+
+use crate::force::{Force, force_of};
+use crate::narrow::{Header, Room, pass};
+use cps_propagate::narrow_later;
+use cps_rule::{Look, Narrowing, Rule};
+use cps_trail::{Note, Step, Store};
+use std::alloc::AllocError;
+
+/// Looks, and makes true what the body gives, until that narrows nothing.
+fn settle<R: Rule>(
+    header: &Header,
+    rule: &mut R,
+    found: &mut Vec<Narrowing>,
+    room: &mut Room,
+    store: &mut Store,
+) -> Result<Step, AllocError>
+    requires force { IsInForce store.old header.now.enforcement.now (R.body rule.old) }
+    ensures keeps { R.body rule.new ≡ R.body rule.old }
+    ensures infers { OnOk result (Infers (ByTask header.now.number (HoldsTask (task_of header.now.enforcement.now (R.body rule.old)))) store.old store.new) }
+    ensures answers { IfOk result (Answers (HoldsTask (task_of header.now.enforcement.now (R.body rule.old))) store.new) }
+    ensures rest { result ≡ Ok Step.Settled → IsResting (R.body rule.old) store.new }
+{
+    loop {
+        let before = store.entries().len();
+        match pass(header, rule, found, room, store)? {
+            Step::Settled => {}
+            Step::Conflict(clause) => return Ok(Step::Conflict(clause)),
+        }
+        if store.entries().len() == before {
+            return Ok(Step::Settled);
+        }
+    }
+}
+
+/// Makes the one open enforcement atom false where the body cannot hold.
+fn disable<R: Rule>(
+    header: &Header,
+    place: usize,
+    rule: &mut R,
+    found: &mut Vec<Narrowing>,
+    store: &mut Store,
+) -> Result<Step, AllocError>
+    requires fits { IsFitting store.old.first (task_of header.now.enforcement.now (R.body rule.old)) }
+    requires open { IsOpenAt store.old header.now.enforcement.now place }
+    ensures keeps { R.body rule.new ≡ R.body rule.old }
+    ensures infers { OnOk result (Infers (ByTask header.now.number (HoldsTask (task_of header.now.enforcement.now (R.body rule.old)))) store.old store.new) }
+    ensures answers { IfOk result (Answers (HoldsTask (task_of header.now.enforcement.now (R.body rule.old))) store.new) }
+    ensures aside { result ≡ Ok Step.Settled → IsAside store.new header.now.enforcement.now place (R.body rule.old) }
+{
+    let hint = match rule.look(store, found)? {
+        Look::Possible => return Ok(Step::Settled),
+        Look::Impossible(hint) => hint,
+    };
+    let negation = header.enforcement[place].negate();
+    let note = Note::Task {
+        task: header.number,
+        a: hint.a,
+        b: hint.b,
+    };
+    let is_made = narrow_later(store, negation, note)?;
+    if !is_made {
+        unreachable!();
+    }
+    // Each subject has a value left, so an atom that is false is not true.
+    let _entries = store.entries();
+    Ok(Step::Settled)
+}
+
+/// Does what a task does to a store, by its enforcement atoms.
+pub(crate) fn run<R: Rule>(
+    header: &Header,
+    rule: &mut R,
+    found: &mut Vec<Narrowing>,
+    room: &mut Room,
+    store: &mut Store,
+) -> Result<Step, AllocError>
+    requires fits { IsFitting store.old.first (task_of header.now.enforcement.now (R.body rule.old)) }
+    ensures keeps { R.body rule.new ≡ R.body rule.old }
+    ensures infers { OnOk result (Infers (ByTask header.now.number (HoldsTask (task_of header.now.enforcement.now (R.body rule.old)))) store.old store.new) }
+    ensures answers { IfOk result (Answers (HoldsTask (task_of header.now.enforcement.now (R.body rule.old))) store.new) }
+    ensures settled { result ≡ Ok Step.Settled → IsSettled store.new header.now.enforcement.now (R.body rule.old) }
+{
+    match force_of(&store.present(), header.enforcement) {
+        Force::Idle => Ok(Step::Settled),
+        Force::Open(place) => {
+            let step = disable(header, place, rule, found, store)?;
+            Ok(step)
+        }
+        Force::On => {
+            let step = settle(header, rule, found, room, store)?;
+            Ok(step)
+        }
+    }
+}
