@@ -1,0 +1,9 @@
+pub mod Counting
+pub mod Certifying
+pub mod Bodies
+pub mod Ends
+pub mod Giving
+pub mod Holding
+pub mod Explaining
+pub mod Barring
+pub mod Tasks

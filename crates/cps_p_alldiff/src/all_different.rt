@@ -1,0 +1,143 @@
+//! The rule of all-different.
+ghost use Rattle.std.specs.Prelude.{◌≡◌, IfOk, IfSome, IsTrue, Contains};
+ghost use Rattle.cps_p_alldiff.specs.Intervals.{AreEnds};
+
+use crate::bars::{clear_all, clear_fixed};
+use crate::facts::{add_near, hold};
+use crate::find::Finder;
+use crate::interval::{Interval, are_ends, measure, numbers};
+use crate::judge::judge;
+use crate::settled::Settled;
+use cps_enforce::Enforced;
+use cps_instance::{Body, Task};
+use cps_literal::Atom;
+use cps_rule::{Hint, Look, Narrowing, Rule};
+use cps_trail::{Before, Store};
+use std::alloc::{AllocError, Global};
+use std::marker::Model;
+
+/// The rule of a body `AllDiff`. Contracts see the body. A hint is the ends of a full or of a crowded interval.
+#[derive(Drop)]
+pub struct AllDifferentRule {
+    subjects: Vec<u32>,
+    ends: Vec<Interval>,
+    finder: Finder,
+    settled: Settled,
+}
+
+impl Model for AllDifferentRule {
+    ghost use Rattle.cps_instance.specs.declared.task.Body.{Body};
+    ghost use Rattle.cps_instance.specs.declared.task.Body.TheVariants.{AllDiff};
+
+    ghost Value = { Body };
+
+    ghost view = { λ r. AllDiff r.subjects.items };
+}
+
+/// Whether a subject is among these.
+fn is_among(subjects: &[u32], subject: u32) -> bool
+    ensures { IsTrue result → Contains subjects.now subject }
+{
+    subjects.contains(&subject)
+}
+
+/// The interval of a hint, if it is one.
+fn hall_of(hint: Hint) -> Option<Interval>
+    ensures { IfSome result AreEnds }
+{
+    let hall = Interval {
+        low: hint.a,
+        high: hint.b,
+    };
+    if are_ends(&hall) { Some(hall) } else { None }
+}
+
+impl AllDifferentRule {
+    ghost use Rattle.cps_p_alldiff.specs.Bars.{is_all_diff};
+
+    /// The rule of a body that is `AllDiff`.
+    pub fn new(alloc: Global, body: &Body) -> Result<Self, AllocError>
+        requires { IsTrue (is_all_diff body.now) }
+        ensures { IfOk result (λ rule. rule ≡ body.now) }
+    {
+        let subjects = match body {
+            Body::AllDiff(subjects) => Vec::from_slice(alloc, subjects.as_slice())?,
+            _ => unreachable!(),
+        };
+        Ok(AllDifferentRule {
+            subjects,
+            ends: Vec::new(alloc),
+            finder: Finder::new(alloc),
+            settled: Settled::new(alloc),
+        })
+    }
+
+    /// The propagator of a task whose body is `AllDiff`.
+    pub fn of(alloc: Global, task: &Task) -> Result<Enforced<AllDifferentRule>, AllocError>
+        requires { IsTrue (is_all_diff task.now.body) }
+        ensures { IfOk result (λ propagator. propagator ≡ task.now) }
+    {
+        let rule = AllDifferentRule::new(alloc, &task.body)?;
+        let propagator = Enforced::new(alloc, task.enforcement.as_slice(), rule)?;
+        Ok(propagator)
+    }
+}
+
+impl Rule for AllDifferentRule {
+    ghost body = { λ r. r };
+
+    fn look(&mut self, store: &Store, found: &mut Vec<Narrowing>) -> Result<Look, AllocError> {
+        found.clear();
+        let subjects = self.subjects.as_slice();
+        measure(store, subjects, &mut self.ends)?;
+        let ends = self.ends.as_slice();
+        match judge(ends, &mut self.finder)? {
+            Some(hall) => Ok(Look::Impossible(Hint {
+                a: hall.low,
+                b: hall.high,
+            })),
+            None => {
+                self.settled.begin(store.entries(), ends.len())?;
+                clear_fixed(store, subjects, ends, &mut self.settled, found)?;
+                clear_all(store, subjects, ends, self.finder.halls.as_slice(), found)?;
+                Ok(Look::Possible)
+            }
+        }
+    }
+
+    fn explain(
+        &self,
+        past: &Before,
+        target: Atom,
+        hint: Hint,
+        facts: &mut Vec<Atom>,
+    ) -> Result<bool, AllocError> {
+        let subjects = self.subjects.as_slice();
+        let Some(hall) = hall_of(hint) else {
+            return Ok(false);
+        };
+        if !is_among(subjects, target.subject) {
+            return Ok(false);
+        }
+        let needed = numbers(&hall);
+        if !hold(past, subjects, Some(target.subject), &hall, needed, facts)? {
+            return Ok(false);
+        }
+        let given = add_near(past, target, &hall, facts)?;
+        Ok(given)
+    }
+
+    fn refute(&self, past: &Before, hint: Hint, facts: &mut Vec<Atom>) -> Result<bool, AllocError> {
+        let Some(hall) = hall_of(hint) else {
+            return Ok(false);
+        };
+        let needed = numbers(&hall) + 1;
+        let crowded = hold(past, self.subjects.as_slice(), None, &hall, needed, facts)?;
+        Ok(crowded)
+    }
+
+    fn push_subjects(&self, subjects: &mut Vec<u32>) -> Result<(), AllocError> {
+        subjects.extend_from_slice(self.subjects.as_slice())?;
+        Ok(())
+    }
+}

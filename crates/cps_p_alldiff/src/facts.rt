@@ -1,0 +1,115 @@
+//! The facts of an explanation.
+ghost use Rattle.std.specs.Prelude.{◌≡◌, ◌<◌, length, All, IfSome, IfOk, IsTrue};
+ghost use Rattle.cps_propagate.specs.Strength.{IsHeld};
+ghost use Rattle.cps_p_alldiff.specs.Intervals.{IsInRange};
+ghost use Rattle.cps_p_alldiff.specs.Facts.{IsBound, IsNear, AreHolding, is_other};
+
+use crate::interval::Interval;
+use cps_literal::{Atom, Op, Truth};
+use cps_trail::Before;
+use std::alloc::AllocError;
+
+/// Whether a subject is another than a given one.
+fn is_other(apart: Option<u32>, subject: u32) -> bool
+    ensures { result ≡ is_other apart subject }
+{
+    match apart {
+        Some(given) => given != subject,
+        None => true,
+    }
+}
+
+/// Whether each value that a subject could have lies in an interval.
+fn was_within(past: &Before, subject: u32, hall: &Interval) -> bool
+    requires { subject < length past.now.first }
+    ensures { IsTrue result → IsHeld past.now hall.now.low hall.now.high subject }
+{
+    let (low, high) = past.ends(subject);
+    hall.low <= low && high <= hall.high
+}
+
+/// Puts facts in the place of what a list holds by which so many positions have values in an interval, apart from those of one
+/// subject. Answers whether there are so many. Each fact is as weak as that needs.
+pub(crate) fn hold(
+    past: &Before,
+    subjects: &[u32],
+    apart: Option<u32>,
+    hall: &Interval,
+    needed: u64,
+    facts: &mut Vec<Atom>,
+) -> Result<bool, AllocError>
+    requires subjects { All (λ i. i < length past.now.first) subjects.now }
+    requires range { IsInRange hall.now }
+    ensures { IfOk result (λ enough. IsTrue enough → AreHolding past.now subjects.now apart hall.now needed facts.new.items) }
+{
+    facts.clear();
+    let mut left = needed;
+    for subject in subjects {
+        if left == 0 {
+            return Ok(true);
+        }
+        if is_other(apart, *subject) && was_within(past, *subject, hall) {
+            facts.push(Atom {
+                subject: *subject,
+                op: Op::Ge,
+                value: hall.low,
+            })?;
+            facts.push(Atom {
+                subject: *subject,
+                op: Op::Le,
+                value: hall.high,
+            })?;
+            left -= 1;
+        }
+    }
+    Ok(left == 0)
+}
+
+/// The bound that, beside an interval that a subject's value is not in, gives an atom.
+fn near_of(target: Atom, hall: &Interval) -> Option<Atom>
+    requires { IsInRange hall.now }
+    ensures { IfSome result (IsBound target hall.now) }
+{
+    if target.op == Op::Ge && target.value <= hall.high + 1 {
+        return Some(Atom {
+            subject: target.subject,
+            op: Op::Ge,
+            value: hall.low,
+        });
+    }
+    if target.op == Op::Le && hall.low - 1 <= target.value {
+        return Some(Atom {
+            subject: target.subject,
+            op: Op::Le,
+            value: hall.high,
+        });
+    }
+    None
+}
+
+/// Adds the fact that an atom needs beside an interval that its subject's value is not in, if it needs one. Answers whether the
+/// atom is given so, and the fact was true.
+pub(crate) fn add_near(
+    past: &Before,
+    target: Atom,
+    hall: &Interval,
+    facts: &mut Vec<Atom>,
+) -> Result<bool, AllocError>
+    requires subject { target.subject < length past.now.first }
+    requires range { IsInRange hall.now }
+    ensures { IfOk result (λ given. IsTrue given → IsNear past.now target hall.now facts.old.items facts.new.items) }
+{
+    if target.op == Op::Ne {
+        return Ok(hall.low <= target.value && target.value <= hall.high);
+    }
+    let Some(near) = near_of(target, hall) else {
+        return Ok(false);
+    };
+    match past.truth(near) {
+        Truth::Yes => {
+            facts.push(near)?;
+            Ok(true)
+        }
+        _ => Ok(false),
+    }
+}

@@ -1,0 +1,88 @@
+//! Intervals of whole numbers, and the ends of what subjects can be now.
+ghost use Rattle.std.specs.Prelude.{◌≡◌, ◌<◌, ◌≤◌, ◌^◌, IsTrue, false, length, All, OnOk};
+ghost use Rattle.cps_p_alldiff.specs.Intervals.{covers, covered, numbers, IsInRange, AreEnds, IsFull, IsOverfull, AreHulls};
+
+use cps_trail::Store;
+use std::alloc::AllocError;
+
+/// An interval, with its least and its greatest number.
+#[derive(Clone, Copy, Debug, Default, PartialEq, Eq)]
+pub(crate) struct Interval {
+    pub(crate) low: i64,
+    pub(crate) high: i64,
+}
+
+/// The greatest magnitude of a value that a domain may have.
+const LIMIT: i64 = (1 << 62) - 1;
+
+/// Whether a domain may have the two ends as values, and the first is not greater than the second.
+pub(crate) fn are_ends(hall: &Interval) -> bool
+    ensures yes { IsTrue result → AreEnds hall.now }
+    ensures no { result ≡ false → AreEnds hall.now → ⊥ }
+{
+    -LIMIT <= hall.low && hall.low <= hall.high && hall.high <= LIMIT
+}
+
+/// Whether an interval has all numbers of another.
+pub(crate) fn covers(hall: &Interval, ends: &Interval) -> bool
+    ensures { result ≡ covers hall.now ends.now }
+{
+    hall.low <= ends.low && ends.high <= hall.high
+}
+
+/// How many of these intervals an interval covers.
+fn covered(hall: &Interval, ends: &[Interval]) -> usize
+    ensures { result ≡ covered hall.now ends.now }
+{
+    ends.iter().filter(|each| covers(hall, each)).count()
+}
+
+/// How many numbers there are in an interval.
+pub(crate) fn numbers(hall: &Interval) -> u64
+    requires { IsInRange hall.now }
+    ensures is { result ≡ numbers hall.now }
+    ensures small { result ≤ 2 ^ 63 }
+{
+    hall.high.abs_diff(hall.low) + 1
+}
+
+/// Whether an interval covers as many of these as it has numbers.
+pub(crate) fn is_full(hall: &Interval, ends: &[Interval]) -> bool
+    ensures { IsTrue result → IsFull ends.now hall.now }
+{
+    if !are_ends(hall) {
+        return false;
+    }
+    numbers(hall) <= covered(hall, ends) as u64
+}
+
+/// Whether it covers more.
+pub(crate) fn is_overfull(hall: &Interval, ends: &[Interval]) -> bool
+    ensures yes { IsTrue result → IsOverfull ends.now hall.now }
+    ensures no { result ≡ false → AreEnds hall.now → covered hall.now ends.now ≤ numbers hall.now }
+{
+    if !are_ends(hall) {
+        return false;
+    }
+    numbers(hall) < covered(hall, ends) as u64
+}
+
+/// The ends of what each subject can be now.
+pub(crate) fn measure(
+    store: &Store,
+    subjects: &[u32],
+    ends: &mut Vec<Interval>,
+) -> Result<(), AllocError>
+    requires { All (λ i. i < length store.now.first) subjects.now }
+    ensures { OnOk result (AreHulls store.now subjects.now ends.new.items) }
+{
+    ends.clear();
+    for subject in subjects {
+        let domain = store.domain(*subject);
+        ends.push(Interval {
+            low: domain.min(),
+            high: domain.max(),
+        })?;
+    }
+    Ok(())
+}
