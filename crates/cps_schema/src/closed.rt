@@ -3,12 +3,11 @@
 //! is taken out opens the field.
 
 /// The names of these fields.
-pub const CLOSED: [&[u8]; 15] = [
+pub const CLOSED: [&[u8]; 14] = [
     b"int_div",
     b"int_mod",
     b"int_prod",
     b"lin_max",
-    b"all_diff",
     b"element",
     b"circuit",
     b"table",
