@@ -1,2 +1,21 @@
-//! In work.
+//! The rules of `element` and `table`.
+//!
+//! Both bodies say that one of several cases holds: of an element the index is a place, and the expression there has the target's value;
+//! of a table the values are a row. A rule drops the cases that the domains rule out, and narrows to what those that are left admit. A
+//! narrowing is explained by one or two facts for each case: they rule it out, or give the narrowing there. `element` compares domains
+//! by their ends, and by values where one of two has a single one; `table` scans its rows for those that the domains leave, and keeps each
+//! subject between the ends of its column there. Values inside a column's ends that no row has are left. The scan is the plain form of
+//! simple tabular reduction: Lecoutre, "STR2: optimized simple tabular reduction for table constraints" (2011).
 #![tactic(auto)]
+
+mod bans;
+mod denials;
+mod element;
+mod facts;
+mod justify;
+mod places;
+mod rows;
+mod table;
+
+pub use element::Element;
+pub use table::Table;

@@ -1,0 +1,16 @@
+use Rattle.std.proofs.Common.{rules, FitsSigned, w64}
+use Rattle.cps_p_arith.proofs.Clamping.{product_off, product_at}
+use Rattle.cps_p_arith.proofs.Scaling.{fits_between}
+use Rattle.cps_p_arith.proofs.product.excludes_product.Goals as goal
+
+pub returns-clause-sound : goal.returns-clause-sound
+returns-clause-sound c = λ t v ns at within e.
+    let fl : FitsSigned w64 c.args.target.low = search rules in
+    let fh : FitsSigned w64 c.args.target.high = search rules in
+    product_off c.args.members.now c.product_range-range.result c.args.target v ns (fits_between c.args.target.low c.args.target.high v fl fh at) c.product_range-range.ensures (c.is_apart.ensures.apart t) at within e
+
+pub returns-clause-exact : goal.returns-clause-exact
+returns-clause-exact c = λ f v ns at fixed.
+    let fl : FitsSigned w64 c.args.target.low = search rules in
+    let fv : FitsSigned w64 v = rw at.from at fl in
+    product_at c.args.members.now c.product_range-range.result c.args.target v ns fv c.product_range-range.ensures (c.is_apart.ensures.from f) (c.is_apart.ensures.to f) at fixed

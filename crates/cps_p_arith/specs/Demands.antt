@@ -1,0 +1,153 @@
+-- What is demanded of a target and its members, and what bounds of their values say of it.
+use Rattle.std.specs.Prelude.{◌≡◌, ℕ, ◌<◌, ℤ, true, false, Bool, Option, Some, None, List, [], ◌∷◌, ◌++◌, length, All}
+use Rattle.std.specs.List.{AllZip}
+use Rattle.cps_model.specs.Arithmetic.{IsQuotient, IsProduct, IsGreatest}
+use Rattle.cps_literal.specs.declared.atom.Atom.{Atom}
+use Rattle.cps_literal.specs.Truth.{value_at, atom_holds}
+use Rattle.cps_instance.specs.declared.task.Body.{Body}
+use Rattle.cps_instance.specs.declared.task.Body.TheVariants.{IntDiv, IntProd, LinMax}
+use Rattle.cps_instance.specs.Terms.{Domains, AreIntervals, domain_at}
+use Rattle.cps_instance.specs.Parts.{values_at}
+use Rattle.cps_trail.specs.Trail.{Trail, admits, IsWithin}
+use Rattle.cps_trail.specs.Changes.{IsHull}
+use Rattle.cps_rule.specs.Rules.{AreFacts, AllTrueAt}
+use Rattle.cps_p_arith.specs.declared.ends.Ends.{Ends}
+use Rattle.cps_p_arith.specs.declared.bounds.Bounds.{Bounds}
+use Rattle.cps_p_arith.specs.declared.bounds.Demand.{Demand}
+use Rattle.cps_p_arith.specs.declared.bounds.Place.{Place}
+use Rattle.cps_rule.specs.declared.rule.Narrowing.{Narrowing}
+use Rattle.cps_p_arith.specs.declared.relation.Relation.{Relation}
+use Rattle.cps_p_arith.specs.declared.relation.Relation.TheVariants.{Quotient, Product, Greatest}
+use Rattle.cps_p_arith.specs.Ranges.{IsIn, AreIn, IsAt, AreAt}
+
+abbrev pub Relates : Relation → ℤ → List ℤ → Type 0
+Relates Quotient v ns = IsQuotient v ns
+Relates Product v ns = IsProduct v ns
+Relates Greatest v ns = IsGreatest v ns
+
+abbrev pub body_by : Relation → ℕ → List ℕ → Body
+body_by Quotient target exprs = IntDiv target exprs
+body_by Product target exprs = IntProd target exprs
+body_by Greatest target exprs = LinMax target exprs
+
+-- the body that a demand stands for
+abbrev pub body_of : Demand → Body
+body_of d = body_by d.relation d.target d.exprs.items
+
+-- no value of the target belongs to values of the members
+abbrev pub IsExcludedBy : Relation → Ends → List Ends → Type 0
+IsExcludedBy k target members = (v : ℤ) (ns : List ℤ) → IsIn target v → AreIn members ns → Relates k v ns → ⊥
+
+-- where all are fixed, the target's value belongs to those of the members
+abbrev pub IsComputed : Relation → Ends → List Ends → Type 0
+IsComputed k target members = (v : ℤ) (ns : List ℤ) → IsAt target v → AreAt members ns → Relates k v ns
+
+-- a demand's subjects have domains
+pub record AreKnown (first : Domains) (d : Demand) : Type 0 where
+  pub target : d.target < length first
+  pub exprs : All (λ i. i < length first) d.exprs.items
+
+-- the ends of what a subject may be
+abbrev pub IsHullNow : Trail → ℕ → Ends → Type 0
+IsHullNow s i e = IsHull (admits s.first s.entries i) (e.low, e.high)
+
+-- bounds that are read off a store
+pub record AreMeasured (s : Trail) (d : Demand) (b : Bounds) : Type 0 where
+  pub target : IsHullNow s d.target b.target
+  pub members : AllZip (IsHullNow s) d.exprs.items b.members.items
+
+-- a subject's value lies between ends
+abbrev pub IsHeldIn : List ℤ → ℕ → Ends → Type 0
+IsHeldIn xs i e = IsIn e (value_at xs i)
+
+abbrev pub AreHeldEach : List ℤ → List ℕ → List Ends → Type 0
+AreHeldEach xs is es = AllZip (IsHeldIn xs) is es
+
+-- the values of a demand's subjects lie between the bounds
+pub record AreHeld (b : Bounds) (d : Demand) (xs : List ℤ) : Type 0 where
+  pub target : IsIn b.target (value_at xs d.target)
+  pub members : AreHeldEach xs d.exprs.items b.members.items
+
+-- they are what the bounds say
+pub record AreFixedAt (b : Bounds) (d : Demand) (xs : List ℤ) : Type 0 where
+  pub target : IsAt b.target (value_at xs d.target)
+  pub members : AllZip (λ i e. IsAt e (value_at xs i)) d.exprs.items b.members.items
+
+abbrev pub IsMet : Demand → List ℤ → Type 0
+IsMet d xs = Relates d.relation (value_at xs d.target) (values_at xs d.exprs.items)
+
+-- no values between the bounds meet the demand
+pub record IsMissed (b : Bounds) (d : Demand) : Type 0 where
+  pub at : (xs : List ℤ) → AreHeld b d xs → IsMet d xs → ⊥
+
+-- where all bounds are fixed, they meet it
+pub record IsComputedBy (b : Bounds) (d : Demand) : Type 0 where
+  pub at : (xs : List ℤ) → AreFixedAt b d xs → IsMet d xs
+
+-- a subject is one of a demand's
+abbrev pub IsNamed : Demand → ℕ → Type 0
+IsNamed d i = (m : ℕ) → All (λ j. j < m) (d.target ∷ d.exprs.items) → i < m
+
+-- a subject of a demand whose value lies between ends where all lie between the bounds
+pub record IsPlace (b : Bounds) (d : Demand) (p : Place) : Type 0 where
+  pub named : IsNamed d p.subject
+  pub held : (xs : List ℤ) → AreHeld b d xs → IsIn p.ends (value_at xs p.subject)
+
+-- an atom is true wherever values between the bounds meet the demand
+pub record IsImplied (b : Bounds) (d : Demand) (u : Atom) : Type 0 where
+  pub named : IsNamed d u.subject
+  pub at : (xs : List ℤ) → AreHeld b d xs → IsMet d xs → atom_holds xs u ≡ true
+
+abbrev pub AreImplied : Bounds → Demand → List Narrowing → Type 0
+AreImplied b d ns = All (λ n. IsImplied b d n.target) ns
+
+-- a list of narrowings has one more, where there is an atom
+abbrev pub Adds : Option Atom → List Narrowing → List Narrowing → Type 0
+Adds None old new = new ≡ old
+Adds (Some u) old new = (n : Narrowing) × (n.target ≡ u) × (new ≡ old ++ n ∷ [])
+
+-- an atom, where there is one, is true
+abbrev pub IsSupposed : Option Atom → List ℤ → Type 0
+IsSupposed None xs = Unit {0}
+IsSupposed (Some u) xs = atom_holds xs u ≡ true
+
+-- after more facts an atom is true wherever they are and what is supposed is
+pub record Needs (s : Trail) (supposed : Option Atom) (u : Atom) (old new : List Atom) : Type 0 where
+  pub facts : AreFacts s new
+  pub keeps : (xs : List ℤ) → AllTrueAt xs new → AllTrueAt xs old
+  pub holds : (xs : List ℤ) → AllTrueAt xs new → IsSupposed supposed xs → atom_holds xs u ≡ true
+
+-- and within the first domains
+pub record NeedsWithin (s : Trail) (supposed : Option Atom) (u : Atom) (old new : List Atom) : Type 0 where
+  pub facts : AreFacts s new
+  pub keeps : (xs : List ℤ) → AllTrueAt xs new → AllTrueAt xs old
+  pub holds : (xs : List ℤ) → IsWithin s.first xs → AllTrueAt xs new → IsSupposed supposed xs → atom_holds xs u ≡ true
+
+-- after more facts a subject's value lies between ends wherever they are and what is supposed is
+pub record Supports (s : Trail) (supposed : Option Atom) (i : ℕ) (e : Ends) (old new : List Atom) : Type 0 where
+  pub facts : AreFacts s new
+  pub keeps : (xs : List ℤ) → AllTrueAt xs new → AllTrueAt xs old
+  pub holds : (xs : List ℤ) → IsWithin s.first xs → AllTrueAt xs new → IsSupposed supposed xs → IsHeldIn xs i e
+
+-- and those of several subjects
+pub record SupportsEach (s : Trail) (supposed : Option Atom) (is : List ℕ) (es : List Ends) (old new : List Atom) : Type 0 where
+  pub facts : AreFacts s new
+  pub keeps : (xs : List ℤ) → AllTrueAt xs new → AllTrueAt xs old
+  pub holds : (xs : List ℤ) → IsWithin s.first xs → AllTrueAt xs new → IsSupposed supposed xs → AreHeldEach xs is es
+
+-- facts beside which, and beside what is supposed, the demand is not met
+pub record Refutes (s : Trail) (d : Demand) (supposed : Option Atom) (facts : List Atom) : Type 0 where
+  pub true_now : AreFacts s facts
+  pub excludes : (xs : List ℤ) → IsWithin s.first xs → AllTrueAt xs facts → IsSupposed supposed xs → IsMet d xs → ⊥
+
+-- the first domains of a demand's subjects are in order
+pub record AreSoundFor (first : Domains) (d : Demand) : Type 0 where
+  pub target : AreIntervals (domain_at first d.target)
+  pub exprs : All (λ i. AreIntervals (domain_at first i)) d.exprs.items
+
+-- a body is of one of the kinds whose rule stands
+abbrev pub is_arithmetic : Body → Bool
+is_arithmetic (IntDiv target exprs) = true
+is_arithmetic (IntProd target exprs) = true
+is_arithmetic (LinMax target exprs) = true
+is_arithmetic body = false

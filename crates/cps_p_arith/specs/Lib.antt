@@ -1,0 +1,4 @@
+pub mod Ranges
+pub mod Products
+pub mod Divisions
+pub mod Demands

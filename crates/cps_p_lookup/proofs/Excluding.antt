@@ -1,0 +1,95 @@
+-- How facts rule the rows of a table out.
+use Rattle.std.specs.Prelude.{not}
+use Rattle.std.proofs.Common.{◌≡◌, ◌≢◌, ℕ, ℤ, pos, ◌+◌, ◌*◌, ◌/◌, ◌<◌, ◌≤◌, Bool, true, false, List, [], ◌∷◌, ◌++◌, length, get_or, refl, sym, ap, subst, ◌∙◌, Option, Some, None, arith, inl, inr}
+use Rattle.std.proofs.lemmas.Int.{ints}
+use Rattle.std.proofs.lemmas.Bool.{cases_lt}
+use Rattle.std.proofs.lemmas.List.Elements.{All-get_or}
+use Rattle.cps_domain.specs.Window.{equals}
+use Rattle.cps_literal.specs.declared.atom.Atom.{Atom}
+use Rattle.cps_literal.specs.declared.atom.Op.TheVariants.{Le, Ge, Eq, Ne}
+use Rattle.cps_literal.specs.Truth.{value_at, atom_holds, meets}
+use Rattle.cps_model.specs.Lookups.{row_at}
+use Rattle.cps_instance.specs.declared.task.Body.TheVariants.{Table}
+use Rattle.cps_instance.specs.Parts.{values_at}
+use Rattle.cps_trail.specs.Trail.{Trail}
+use Rattle.cps_rule.specs.Rules.{AllTrueAt, AreFacts}
+use Rattle.cps_p_lookup.specs.Facts.{Adds, Grows, Denied, Gives}
+use Rattle.cps_p_lookup.specs.Tabling.{ClosesRow, IsMetAt, IsAgainst, IsBarred, IsOffBy, IsSure, Holds, AreSure}
+use Rattle.cps_p_lookup.proofs.Growing.{adds_grows, adds_holds, grows_same, grows_trans, no_facts}
+use Rattle.cps_p_lookup.proofs.Tables.{row_value, same_row, in_table, not_in, row_before}
+
+both_not : (b : Bool) → b ≡ true → b ≡ false → ⊥
+both_not b p q = let e : true ≡ false = sym p ∙ q in cc
+
+pub met_closes : (s : Trail) (es : List ℕ) (row : List ℤ) (u : Atom) (old : List Atom) → IsMetAt es row u → ClosesRow s es row (Some u) old old
+met_closes s es row u old m = record {
+  grows = grows_same s old old refl;
+  closed = λ xs all e deny. both_not (atom_holds xs u) (ap (λ j. meets u.op u.value (value_at xs j)) (sym m.subject) ∙ ap (λ v. meets u.op u.value v) (row_value xs es row m.column m.within e) ∙ m.met) deny;
+}
+
+pub barred_closes : (s : Trail) (es : List ℕ) (row : List ℤ) (goal : Option Atom) (old : List Atom) → IsBarred es row old → ClosesRow s es row goal old old
+barred_closes s es row goal old b = record { grows = grows_same s old old refl; closed = λ xs all e deny. b.at xs all e }
+
+pub against_bars : (es : List ℕ) (row : List ℤ) (facts : List Atom) (k : ℕ) (d : Atom) → k < length facts → IsAgainst es row (get_or facts k d) → IsBarred es row facts
+against_bars es row facts k d l m = record {
+  at = λ xs all e.
+      let u = get_or facts k d in
+      both_not (atom_holds xs u) (All-get_or (λ w. atom_holds xs w ≡ true) facts k d l all) (ap (λ j. meets u.op u.value (value_at xs j)) (sym m.subject) ∙ ap (λ v. meets u.op u.value v) (row_value xs es row m.column m.within e) ∙ m.unmet);
+}
+
+pub off_closes : (s : Trail) (es : List ℕ) (row : List ℤ) (k : ℕ) (goal : Option Atom) (u : Atom) (old mid new : List Atom) → k < length es → IsOffBy (get_or es k 0) (get_or row k (pos 0)) u → mid ≡ old → Adds s u mid new → ClosesRow s es row goal old new
+off_closes s es row k goal u old mid new l o same a = record {
+  grows = grows_trans s old mid new (grows_same s old mid same) (adds_grows s u mid new a);
+  closed = λ xs all e deny. o.other (value_at xs (get_or es k 0)) (ap (λ j. meets u.op u.value (value_at xs j)) (sym o.subject) ∙ adds_holds s u mid new a xs all) (row_value xs es row k l e);
+}
+
+pub excluded_more : (s : Trail) (es : List ℕ) (values : List ℤ) (n : ℕ) (row : List ℤ) (goal : Option Atom) (old new : List Atom) → row ≡ row_at (length es) values n → ((r : ℕ) → r < n → (xs : List ℤ) → AllTrueAt xs old → values_at xs es ≡ row_at (length es) values r → Denied goal xs → ⊥) → ClosesRow s es row goal old new
+    → (r : ℕ) → r < n + 1 → (xs : List ℤ) → AllTrueAt xs new → values_at xs es ≡ row_at (length es) values r → Denied goal xs → ⊥
+excluded_more s es values n row goal old new is h c r l xs all e deny = elim (cases_lt r n) [
+  | inl before ↦ h r before xs (c.grows.kept xs all) e deny
+  | inr after ↦ (let at : r ≡ n = omega arith in c.closed xs all (e ∙ ap (λ m. row_at (length es) values m) at ∙ sym is) deny)
+]
+
+pub excluded_all : (s : Trail) (es : List ℕ) (values : List ℤ) (n : ℕ) (goal : Option Atom) (none new : List Atom) → 0 < length es → none ≡ [] → Grows s none new → length values / length es ≤ n → ((r : ℕ) → r < n → (xs : List ℤ) → AllTrueAt xs new → values_at xs es ≡ row_at (length es) values r → Denied goal xs → ⊥)
+    → Gives (Table es values false) s goal new
+excluded_all s es values n goal none new p empty grows past h = record {
+  facts = grows.facts (no_facts s none empty);
+  excludes = λ xs within all holds deny. (let r = in_table xs es values p holds in let b = row_before (length values) (length es) r.0 p r.1 in h r.0 (omega arith) xs all r.2 deny);
+}
+
+equals_is : (a b : ℤ) → equals a b ≡ true → a ≡ b
+equals_is a b e = grind (arith, ints)
+
+not_false : (b : Bool) → not b ≡ false → b ≡ true
+not_false true h = refl
+not_false false h = sym h
+
+pub off_sure : (u : Atom) (i : ℕ) (v : ℤ) → u.subject ≡ i → u.value ≡ v → u.op ≡ Ne → (facts : List Atom) → IsSure i v (Some u) facts
+off_sure u i v at is op facts = record {
+  at = λ xs all deny.
+      let a : not (equals (value_at xs i) v) ≡ false = ap (λ j. not (equals (value_at xs j) v)) (sym at) ∙ ap (λ w. not (equals (value_at xs u.subject) w)) (sym is) ∙ ap (λ o. meets o u.value (value_at xs u.subject)) (sym op) ∙ deny in
+      equals_is (value_at xs i) v (not_false (equals (value_at xs i) v) a);
+}
+
+pub holds_off : (s : Trail) (i : ℕ) (v : ℤ) (goal : Option Atom) (u : Atom) (old : List Atom) → goal ≡ Some u → IsSure i v (Some u) old → Holds s i v goal old old
+holds_off s i v goal u old is h = record { grows = grows_same s old old refl; sure = subst (λ g. IsSure i v g old) (sym is) h }
+
+pub holds_fact : (s : Trail) (i : ℕ) (v : ℤ) (goal : Option Atom) (u : Atom) (old new : List Atom) → u ≡ record { subject = i; op = Eq; value = v } → Adds s u old new → Holds s i v goal old new
+holds_fact s i v goal u old new is a = record {
+  grows = adds_grows s u old new a;
+  sure = record { at = λ xs all deny. equals_is (value_at xs i) v (subst (λ (w : Atom). atom_holds xs w ≡ true) is (adds_holds s u old new a xs all)) };
+}
+
+pub sure_more : (s : Trail) (es : List ℕ) (row : List ℤ) (n : ℕ) (goal : Option Atom) (old new : List Atom) → ((k : ℕ) → k < n → IsSure (get_or es k 0) (get_or row k (pos 0)) goal old) → Holds s (get_or es n 0) (get_or row n (pos 0)) goal old new
+    → (k : ℕ) → k < n + 1 → IsSure (get_or es k 0) (get_or row k (pos 0)) goal new
+sure_more s es row n goal old new h a k l = elim (cases_lt k n) [
+  | inl before ↦ record { at = λ xs all deny. (h k before).at xs (a.grows.kept xs all) deny }
+  | inr after ↦ (let is : k ≡ n = omega arith in subst (λ m. IsSure (get_or es m 0) (get_or row m (pos 0)) goal new) (sym is) a.sure)
+]
+
+pub sure_gives : (s : Trail) (es : List ℕ) (values : List ℤ) (r : ℕ) (row : List ℤ) (goal : Option Atom) (none new : List Atom) → 0 < length es → (r + 1) * length es ≤ length values → row ≡ row_at (length es) values r → length row ≡ length es → none ≡ [] → AreSure s es row goal none new
+    → Gives (Table es values true) s goal new
+sure_gives s es values r row goal none new p within is long empty h = record {
+  facts = h.grows.facts (no_facts s none empty);
+  excludes = λ xs in' all holds deny. not_in xs es values r p holds within (same_row xs es row long (λ k l. (h.at k l).at xs all deny) ∙ is);
+}

@@ -1,0 +1,7 @@
+pub mod Growing
+pub mod Elements
+pub mod Closing
+pub mod Placing
+pub mod Tables
+pub mod Excluding
+pub mod Tasks

@@ -1,0 +1,48 @@
+use Rattle.std.proofs.Common.{◌≡◌, ◌<◌, ◌^◌, ℤ, ℕ, List, pos, true, sym, ap, refl, get_or, rules, arith, FitsSigned, w64, ◌∙◌}
+use Rattle.std.proofs.lemmas.Int.{to_z-of_z, to_z_pos}
+use Rattle.cps_domain.specs.Window.{contains}
+use Rattle.cps_instance.specs.declared.task.Body.TheVariants.{Element}
+use Rattle.cps_trail.specs.Trail.{IsAdmitted}
+use Rattle.cps_p_lookup.specs.Elements.{IsChosen}
+use Rattle.cps_p_lookup.proofs.Placing.{more_given, apart_not, visited_none, off_given, here_seen, open_last}
+use Rattle.cps_p_lookup.proofs.places.visit.Goals as goal
+use Rattle.cps_p_lookup.proofs.places.visit.Goals.{In_ok-push}
+
+small : (k : ℕ) → k < 2 ^ 62 → k < 2 ^ 63
+small k l = omega arith
+
+pub returns-then-can_meet-clause-visited : goal.returns-then-can_meet-clause-visited
+returns-then-can_meet-clause-visited c =
+    let s = c.args.store.now in
+    let k = c.args.place in
+    let a = c.min.result in
+    let b = c.max.result in
+    let fa : FitsSigned w64 a = search rules in
+    let fb : FitsSigned w64 b = search rules in
+    let at = to_z_pos w64 k (small k c.requires.small) in
+    let has : contains c.domain-index.result.now (pos k) ≡ true = rw at at (sym c.if-not-contains.ensures) in
+    let d = c.widened.ensures in
+    record {
+      wider = d.wider;
+      here = here_seen s c.args.lookup.now.index c.args.lookup.now.target c.args.lookup.now.exprs.now k c.domain-expr.result.now a b _ _ c.widened.result c.requires.place c.requires.fits c.domain-expr.ensures
+          c.min.ensures.least c.max.ensures.greatest (to_z-of_z w64 a fa) (to_z-of_z w64 b fb) d.here;
+      last = λ old. open_last s c.args.lookup.now.index c.args.lookup.now.target c.args.lookup.now.exprs.now k c.domain-index.result.now c.domain-expr.result.now c.domain.result.now c.widened.result c.requires.place d.last
+          c.domain-index.ensures c.domain-expr.ensures c.domain.ensures has (c.can_meet.ensures.meet c.if-can_meet.true);
+    }
+
+closed : (c : In_ok-push) (xs : List ℤ) → IsAdmitted c.args.store.now.first c.args.store.now.entries xs → IsChosen c.args.lookup.now.index c.args.lookup.now.target (get_or c.args.lookup.now.exprs.now c.args.place 0) c.args.place xs → ⊥
+closed c = apart_not c.args.store.now c.args.lookup.now.index c.args.lookup.now.target c.args.lookup.now.exprs.now c.args.place c.domain-expr.result.now c.domain.result.now c.requires.place c.requires.fits c.domain-expr.ensures c.domain.ensures
+    (c.can_meet.ensures.apart c.if-can_meet.false)
+
+pub returns-clause-given : goal.returns-clause-given
+returns-clause-given c =
+    let s = c.args.store.now in
+    let k = c.args.place in
+    let i = c.args.lookup.now.index in
+    let t = c.args.lookup.now.target in
+    let es = c.args.lookup.now.exprs.now in
+    more_given (Element i t es) s c.args.found.now.items c.push.new.self.items (record { target = c.atom-target.result; hint = record { a = pos 0; b = pos 0 } }) c.in_ok-push.ensures.items
+    (off_given s i t es k c.atom-target.result (rw (to_z_pos w64 k (small k c.requires.small)) at c.atom-target.ensures) c.requires.fits (closed c)) c.requires.given
+
+pub returns-clause-visited : goal.returns-clause-visited
+returns-clause-visited c = visited_none c.args.store.now c.args.lookup.now.index c.args.lookup.now.target c.args.lookup.now.exprs.now c.args.place c.args.scan (closed c)

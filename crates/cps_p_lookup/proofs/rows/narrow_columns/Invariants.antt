@@ -1,0 +1,8 @@
+use Rattle.std.proofs.Common.{false}
+use Rattle.std.specs.List.{All}
+use Rattle.cps_instance.specs.declared.task.Body.TheVariants.{Table}
+use Rattle.cps_rule.specs.Rules.{IsGiven}
+use Rattle.cps_p_lookup.proofs.rows.narrow_columns.Given as goal
+
+abbrev pub invariant-loop-column : goal.invariant-loop-column
+invariant-loop-column l = All (λ n. IsGiven (Table l.grid.exprs.now l.grid.values.now false) l.store n.target) l.found.items

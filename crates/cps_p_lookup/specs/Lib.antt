@@ -1,0 +1,4 @@
+pub mod Facts
+pub mod Elements
+pub mod Tabling
+pub mod Bodies

@@ -1,0 +1,223 @@
+//! The places of an index that are left, and what they leave.
+
+ghost use Rattle.std.specs.Prelude.{ℕ, ℤ, pos, negsuc, ◌≡◌, ◌<◌, ◌≤◌, ◌≤ℤ◌, ◌^◌, ◌-◌, length, All, IfOk, OnOk, IsTrue, true, false, slice_index_or};
+ghost use Rattle.cps_domain.specs.Window.{contains};
+ghost use Rattle.cps_literal.specs.declared.atom.Atom.{Atom as AtomOf};
+ghost use Rattle.cps_literal.specs.declared.atom.Op.{Op as OpOf};
+ghost use Rattle.cps_instance.specs.declared.task.Body.{Body};
+ghost use Rattle.cps_instance.specs.declared.task.Body.TheVariants.{Element};
+ghost use Rattle.cps_rule.specs.Rules.{IsGiven, IsSeen, IsAtRest};
+ghost use Rattle.cps_p_lookup.specs.Elements.{IsFit, IsCovered, IsSeenAt, IsLastOpen, MayMeet, IsVisited, IsScanned};
+
+use crate::facts::{LIMIT, atom};
+use cps_domain::Domain;
+use cps_literal::{Atom, Op};
+use cps_rule::{Hint, Look, Narrowing};
+use cps_trail::Store;
+use std::alloc::AllocError;
+
+/// A hint that says nothing.
+pub(crate) const NO_HINT: Hint = Hint { a: 0, b: 0 };
+
+/// What an element is made of.
+#[derive(Clone, Copy)]
+pub(crate) struct Lookup<'a> {
+    pub(crate) index: u32,
+    pub(crate) target: u32,
+    pub(crate) exprs: &'a [u32],
+}
+
+/// What the places seen so far leave.
+#[derive(Clone, Copy)]
+pub(crate) struct Scan {
+    /// How many places are open: none, one, or two, which stands for more.
+    pub(crate) open: u32,
+    /// The last of them.
+    pub(crate) last: usize,
+    /// The least and the greatest value at them.
+    pub(crate) least: i64,
+    pub(crate) greatest: i64,
+}
+
+/// Whether two domains may have a value in common: by their ends, and by values where one has a single one.
+pub(crate) fn can_meet(expr: &Domain, target: &Domain) -> bool
+    ensures apart { result ≡ false → (x : ℤ) → contains expr.now x ≡ true → contains target.now x ≡ true → ⊥ }
+    ensures meet { result ≡ true → (x : ℤ) → contains expr.now x ≡ true → ((y : ℤ) → contains expr.now y ≡ true → y ≡ x) → contains target.now x ≡ true }
+{
+    let low = expr.min();
+    let high = expr.max();
+    let least = target.min();
+    let greatest = target.max();
+    if low == high {
+        return target.contains(low);
+    }
+    if least == greatest {
+        return expr.contains(least);
+    }
+    low <= greatest && least <= high
+}
+
+/// The place from which on an index of at least `low` lies.
+pub(crate) fn first_place(low: i64) -> usize
+    ensures { (k : ℕ) → low ≤ℤ pos k → result ≤ k }
+{
+    if low < 0 { 0 } else { low as usize }
+}
+
+/// The place before which an index of at most `high` lies, among so many places.
+pub(crate) fn end_of_places(high: i64, places: usize) -> usize
+    ensures inside { result ≤ places }
+    ensures covers { (k : ℕ) → k < places → pos k ≤ℤ high → k < result }
+{
+    if high < 0 {
+        return 0;
+    }
+    let last = high as usize;
+    if last < places { last + 1 } else { places }
+}
+
+/// The last of some places.
+fn last_place(places: usize) -> i64
+    requires some { 0 < places }
+    requires small { places < 2 ^ 62 }
+    ensures { result ≡ pos (places - 1) }
+{
+    (places - 1) as i64
+}
+
+/// One open place more.
+fn widened(scan: Scan, place: usize, low: i64, high: i64) -> Scan
+    ensures some { 0 < result.open }
+    ensures last { result.last ≡ place }
+    ensures here { (v : ℤ) → low ≤ℤ v → v ≤ℤ high → IsCovered place result v }
+    ensures wider { (p : ℕ) (v : ℤ) → IsCovered p scan v → IsCovered p result v }
+{
+    if scan.open == 0 {
+        return Scan {
+            open: 1,
+            last: place,
+            least: low,
+            greatest: high,
+        };
+    }
+    Scan {
+        open: 2,
+        last: place,
+        least: scan.least.min(low),
+        greatest: scan.greatest.max(high),
+    }
+}
+
+/// Looks at one place: keeps the index off it, or counts it.
+fn visit(
+    store: &Store,
+    lookup: &Lookup,
+    place: usize,
+    scan: Scan,
+    found: &mut Vec<Narrowing>,
+) -> Result<Scan, AllocError>
+    requires fits { IsFit store.now.first lookup.now.index lookup.now.target lookup.now.exprs.now }
+    requires place { place < length lookup.now.exprs.now }
+    requires small { place < 2 ^ 62 }
+    requires given { All (λ n. IsGiven (Element lookup.now.index lookup.now.target lookup.now.exprs.now) store.now n.target) found.old.items }
+    ensures given { OnOk result (All (λ n. IsGiven (Element lookup.now.index lookup.now.target lookup.now.exprs.now) store.now n.target) found.new.items) }
+    ensures visited { IfOk result (IsVisited store.now lookup.now.index lookup.now.target lookup.now.exprs.now place scan) }
+{
+    let index = store.domain(lookup.index);
+    if !index.contains(place as i64) {
+        return Ok(scan);
+    }
+    let expr = store.domain(lookup.exprs[place]);
+    if can_meet(expr, store.domain(lookup.target)) {
+        return Ok(widened(scan, place, expr.min(), expr.max()));
+    }
+    let target = atom(lookup.index, Op::Ne, place as i64);
+    found.push(Narrowing {
+        target,
+        hint: NO_HINT,
+    })?;
+    Ok(scan)
+}
+
+/// Adds the atoms that a subject lies between two ends, but those that are true already.
+pub(crate) fn bound(
+    store: &Store,
+    subject: u32,
+    low: i64,
+    high: i64,
+    found: &mut Vec<Narrowing>,
+) -> Result<(), AllocError>
+    requires { subject < length store.now.first }
+    ensures { OnOk result ((body : Body) → ((u : AtomOf) → u ≡ record { subject = subject; op = OpOf.Ge; value = low } → IsGiven body store.now u) → ((u : AtomOf) → u ≡ record { subject = subject; op = OpOf.Le; value = high } → IsGiven body store.now u) → All (λ n. IsGiven body store.now n.target) found.old.items → All (λ n. IsGiven body store.now n.target) found.new.items) }
+{
+    let domain = store.domain(subject);
+    if domain.min() < low {
+        let target = atom(subject, Op::Ge, low);
+        found.push(Narrowing {
+            target,
+            hint: NO_HINT,
+        })?;
+    }
+    if high < domain.max() {
+        let target = atom(subject, Op::Le, high);
+        found.push(Narrowing {
+            target,
+            hint: NO_HINT,
+        })?;
+    }
+    Ok(())
+}
+
+/// Keeps the index among the places, and off those that are closed. Says what the others leave.
+pub(crate) fn scan_places(
+    store: &Store,
+    lookup: &Lookup,
+    found: &mut Vec<Narrowing>,
+) -> Result<Scan, AllocError>
+    requires fits { IsFit store.now.first lookup.now.index lookup.now.target lookup.now.exprs.now }
+    ensures given { OnOk result (All (λ n. IsGiven (Element lookup.now.index lookup.now.target lookup.now.exprs.now) store.now n.target) found.new.items) }
+    ensures scanned { IfOk result (IsScanned store.now lookup.now.index lookup.now.target lookup.now.exprs.now) }
+{
+    found.clear();
+    let index = store.domain(lookup.index);
+    let places = lookup.exprs.len();
+    if 0 < places && places <= LIMIT as usize {
+        bound(store, lookup.index, 0, last_place(places), found)?;
+    }
+    let from = first_place(index.min());
+    let to = end_of_places(index.max(), places);
+    let mut scan = Scan {
+        open: 0,
+        last: 0,
+        least: 0,
+        greatest: 0,
+    };
+    for place in from..to {
+        scan = visit(store, lookup, place, scan, found)?;
+    }
+    Ok(scan)
+}
+
+/// What an element gives, or that it cannot hold.
+pub(crate) fn look_up(
+    store: &Store,
+    lookup: &Lookup,
+    found: &mut Vec<Narrowing>,
+) -> Result<Look, AllocError>
+    requires fits { IsFit store.now.first lookup.now.index lookup.now.target lookup.now.exprs.now }
+    ensures given { OnOk result (All (λ n. IsGiven (Element lookup.now.index lookup.now.target lookup.now.exprs.now) store.now n.target) found.new.items) }
+    ensures seen { IfOk result (IsSeen (Element lookup.now.index lookup.now.target lookup.now.exprs.now) store.now) }
+    ensures rest { result ≡ Ok Look.Possible → IsAtRest (Element lookup.now.index lookup.now.target lookup.now.exprs.now) store.now }
+{
+    let scan = scan_places(store, lookup, found)?;
+    if scan.open == 0 {
+        return Ok(Look::Impossible(NO_HINT));
+    }
+    bound(store, lookup.target, scan.least, scan.greatest, found)?;
+    if scan.open == 1 {
+        let target = store.domain(lookup.target);
+        let expr = lookup.exprs[scan.last];
+        bound(store, expr, target.min(), target.max(), found)?;
+    }
+    Ok(Look::Possible)
+}

@@ -1,0 +1,197 @@
+//! The rows of a table that are left, and what they leave.
+
+ghost use Rattle.std.specs.Prelude.{ℕ, ℤ, pos, ◌≡◌, ◌<◌, ◌≤◌, ◌+◌, ◌*◌, [], length, All, IfOk, OnOk, IsTrue, true, false, slice_index_or};
+ghost use Rattle.cps_literal.specs.Truth.{meets};
+ghost use Rattle.cps_model.specs.Lookups.{row_at};
+ghost use Rattle.cps_instance.specs.declared.task.Body.TheVariants.{Table};
+ghost use Rattle.cps_rule.specs.Rules.{IsGiven, IsSeen, IsAtRest};
+ghost use Rattle.cps_p_lookup.specs.Tabling.{IsOpenRow, IsDeadRow, IsLive, AreLive};
+
+use crate::facts::{atom, is_met};
+use crate::places::NO_HINT;
+use cps_literal::{Atom, Op, Truth};
+use cps_rule::{Look, Narrowing};
+use cps_trail::Store;
+use std::alloc::AllocError;
+
+/// A table: its subjects, and its rows one after another.
+#[derive(Clone, Copy)]
+pub(crate) struct Grid<'a> {
+    pub(crate) exprs: &'a [u32],
+    pub(crate) values: &'a [i64],
+}
+
+/// A row of a table.
+pub(crate) fn row_at(values: &[i64], width: usize, row: usize) -> &[i64]
+    requires { (row + 1) * width ≤ length values.now }
+    ensures same { result.now ≡ row_at width values.now row }
+    ensures long { length result.now ≡ width }
+{
+    &values[row * width..row * width + width]
+}
+
+/// Whether each subject may have its value of a row.
+fn is_open(store: &Store, exprs: &[u32], row: &[i64]) -> bool
+    requires fits { All (λ e. e < length store.now.first) exprs.now }
+    requires long { length row.now ≡ length exprs.now }
+    ensures yes { result ≡ true → IsOpenRow store.now exprs.now row.now }
+    ensures dead { result ≡ false → IsDeadRow store.now exprs.now row.now }
+{
+    for (k, subject) in exprs.iter().enumerate() {
+        if !store.domain(*subject).contains(row[k]) {
+            return false;
+        }
+    }
+    true
+}
+
+/// Makes a list that of the rows that are left.
+fn collect(
+    store: &Store,
+    exprs: &[u32],
+    values: &[i64],
+    rows: &mut Vec<usize>,
+) -> Result<(), AllocError>
+    requires fits { All (λ e. e < length store.now.first) exprs.now }
+    requires some { 0 < length exprs.now }
+    ensures { OnOk result (AreLive store.now exprs.now values.now rows.new.items) }
+{
+    rows.clear();
+    let width = exprs.len();
+    for row in 0..values.len() / width {
+        if is_open(store, exprs, row_at(values, width, row)) {
+            rows.push(row)?;
+        }
+    }
+    Ok(())
+}
+
+/// Whether each of some rows meets an atom at a column.
+fn all_meet(values: &[i64], width: usize, rows: &[usize], column: usize, atom: Atom) -> bool
+    requires column { column < width }
+    requires rows { All (λ r. (r + 1) * width ≤ length values.now) rows.now }
+    ensures { result ≡ true → All (λ r. meets atom.op atom.value (slice_index_or (row_at width values.now r) column (pos 0)) ≡ true) rows.now }
+{
+    for row in rows {
+        if !is_met(atom, row_at(values, width, *row)[column]) {
+            return false;
+        }
+    }
+    true
+}
+
+/// Adds an atom about a column's subject, if each of the rows that are left meets it and it is not true already.
+fn propose(
+    store: &Store,
+    grid: &Grid,
+    rows: &[usize],
+    column: usize,
+    op: Op,
+    value: i64,
+    found: &mut Vec<Narrowing>,
+) -> Result<(), AllocError>
+    requires fits { All (λ e. e < length store.now.first) grid.now.exprs.now }
+    requires column { column < length grid.now.exprs.now }
+    requires rows { AreLive store.now grid.now.exprs.now grid.now.values.now rows.now }
+    requires given { All (λ n. IsGiven (Table grid.now.exprs.now grid.now.values.now false) store.now n.target) found.old.items }
+    ensures { OnOk result (All (λ n. IsGiven (Table grid.now.exprs.now grid.now.values.now false) store.now n.target) found.new.items) }
+{
+    let target = atom(grid.exprs[column], op, value);
+    match store.truth(target) {
+        Truth::Yes => return Ok(()),
+        _ => {}
+    }
+    if all_meet(grid.values, grid.exprs.len(), rows, column, target) {
+        found.push(Narrowing {
+            target,
+            hint: NO_HINT,
+        })?;
+    }
+    Ok(())
+}
+
+/// The least and the greatest value of a column of some rows.
+fn ends(grid: &Grid, rows: &[usize], column: usize) -> (i64, i64)
+    requires column { column < length grid.now.exprs.now }
+    requires rows { All (λ r. (r + 1) * length grid.now.exprs.now ≤ length grid.now.values.now) rows.now }
+{
+    let mut low = i64::MAX;
+    let mut high = i64::MIN;
+    for row in rows {
+        let value = row_at(grid.values, grid.exprs.len(), *row)[column];
+        low = low.min(value);
+        high = high.max(value);
+    }
+    (low, high)
+}
+
+/// Keeps a column's subject between the ends of the rows that are left.
+fn narrow_column(
+    store: &Store,
+    grid: &Grid,
+    rows: &[usize],
+    column: usize,
+    found: &mut Vec<Narrowing>,
+) -> Result<(), AllocError>
+    requires fits { All (λ e. e < length store.now.first) grid.now.exprs.now }
+    requires column { column < length grid.now.exprs.now }
+    requires rows { AreLive store.now grid.now.exprs.now grid.now.values.now rows.now }
+    requires given { All (λ n. IsGiven (Table grid.now.exprs.now grid.now.values.now false) store.now n.target) found.old.items }
+    ensures { OnOk result (All (λ n. IsGiven (Table grid.now.exprs.now grid.now.values.now false) store.now n.target) found.new.items) }
+{
+    let (low, high) = ends(grid, rows, column);
+    propose(store, grid, rows, column, Op::Ge, low, found)?;
+    propose(store, grid, rows, column, Op::Le, high, found)
+}
+
+/// Keeps each column's subject between the ends of the rows that are left.
+fn narrow_columns(
+    store: &Store,
+    grid: &Grid,
+    rows: &[usize],
+    found: &mut Vec<Narrowing>,
+) -> Result<(), AllocError>
+    requires fits { All (λ e. e < length store.now.first) grid.now.exprs.now }
+    requires rows { AreLive store.now grid.now.exprs.now grid.now.values.now rows.now }
+    ensures { OnOk result (All (λ n. IsGiven (Table grid.now.exprs.now grid.now.values.now false) store.now n.target) found.new.items) }
+{
+    found.clear();
+    for column in 0..grid.exprs.len() {
+        narrow_column(store, grid, rows, column, found)?;
+    }
+    Ok(())
+}
+
+/// What rows that are left say of their table.
+fn verdict(_store: &Store, _grid: &Grid, rows: &[usize]) -> Look
+    requires fits { All (λ e. e < length _store.now.first) _grid.now.exprs.now }
+    requires some { 0 < length _grid.now.exprs.now }
+    requires rows { AreLive _store.now _grid.now.exprs.now _grid.now.values.now rows.now }
+    ensures seen { IsSeen (Table _grid.now.exprs.now _grid.now.values.now false) _store.now result }
+    ensures rest { result ≡ Look.Possible → IsAtRest (Table _grid.now.exprs.now _grid.now.values.now false) _store.now }
+{
+    let left = rows.len();
+    if left == 0 {
+        return Look::Impossible(NO_HINT);
+    }
+    Look::Possible
+}
+
+/// What a table gives, or that it cannot hold.
+pub(crate) fn look_among(
+    store: &Store,
+    grid: &Grid,
+    rows: &mut Vec<usize>,
+    found: &mut Vec<Narrowing>,
+) -> Result<Look, AllocError>
+    requires fits { All (λ e. e < length store.now.first) grid.now.exprs.now }
+    requires some { 0 < length grid.now.exprs.now }
+    ensures given { OnOk result (All (λ n. IsGiven (Table grid.now.exprs.now grid.now.values.now false) store.now n.target) found.new.items) }
+    ensures seen { IfOk result (IsSeen (Table grid.now.exprs.now grid.now.values.now false) store.now) }
+    ensures rest { result ≡ Ok Look.Possible → IsAtRest (Table grid.now.exprs.now grid.now.values.now false) store.now }
+{
+    collect(store, grid.exprs, grid.values, rows)?;
+    let live = rows.as_slice();
+    narrow_columns(store, grid, live, found)?;
+    Ok(verdict(store, grid, live))
+}

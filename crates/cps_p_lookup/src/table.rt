@@ -1,0 +1,145 @@
+//! A table: the values are a row, or none where it is negated.
+
+ghost use Rattle.std.specs.Prelude.{◌≡◌, ◌<◌, length, All, OnOk, IfOk, Ok, true, IsTrue};
+ghost use Rattle.cps_rule.specs.Rules.{IsGiven, IsSeen, IsAtRest};
+ghost use Rattle.cps_p_lookup.specs.Facts.{Gives};
+ghost use Rattle.cps_instance.specs.declared.task.Body.TheVariants.{Table as TableOf};
+
+use crate::bans::look_outside;
+use crate::denials::{exclude, fix};
+use crate::rows::{Grid, look_among};
+use cps_enforce::Enforced;
+use cps_instance::{Body, Task};
+use cps_literal::Atom;
+use cps_model::Listed;
+use cps_rule::{Hint, Look, Narrowing, Rule};
+use cps_trail::{Before, Store};
+use std::alloc::{AllocError, Global};
+
+/// The rule of a table.
+#[derive(Drop)]
+pub struct Table {
+    exprs: Listed<u32>,
+    values: Listed<i64>,
+    negated: bool,
+    /// Room for the rows that are left.
+    rows: Vec<usize>,
+}
+
+impl Table {
+    ghost use Rattle.cps_p_lookup.specs.Bodies.{is_table, table_of};
+
+    /// The rule of a body that is `Table`.
+    fn new(alloc: Global, body: &Body) -> Result<Self, AllocError>
+        requires { IsTrue (is_table body.now) }
+        ensures { IfOk result (λ rule. table_of rule.exprs rule.values rule.negated ≡ body.now) }
+    {
+        match body {
+            Body::Table {
+                exprs,
+                values,
+                negated,
+            } => Ok(Table {
+                exprs: Listed::from_vec(Vec::from_slice(alloc, exprs.as_slice())?),
+                values: Listed::from_vec(Vec::from_slice(alloc, values.as_slice())?),
+                negated: *negated,
+                rows: Vec::new(alloc),
+            }),
+            _ => unreachable!(),
+        }
+    }
+
+    /// The propagator of a task whose body is `Table`.
+    pub fn of(alloc: Global, task: &Task) -> Result<Enforced<Table>, AllocError>
+        requires { IsTrue (is_table task.now.body) }
+        ensures { IfOk result (λ propagator. propagator ≡ task.now) }
+    {
+        let rule = Table::new(alloc, &task.body)?;
+        let propagator = Enforced::new(alloc, task.enforcement.as_slice(), rule)?;
+        Ok(propagator)
+    }
+}
+
+/// What a table gives, or that it cannot hold.
+fn look_at(
+    store: &Store,
+    grid: &Grid,
+    negated: bool,
+    rows: &mut Vec<usize>,
+    found: &mut Vec<Narrowing>,
+) -> Result<Look, AllocError>
+    requires fits { All (λ e. e < length store.now.first) grid.now.exprs.now }
+    ensures given { OnOk result (All (λ n. IsGiven (TableOf grid.now.exprs.now grid.now.values.now negated) store.now n.target) found.new.items) }
+    ensures seen { IfOk result (IsSeen (TableOf grid.now.exprs.now grid.now.values.now negated) store.now) }
+    ensures rest { result ≡ Ok Look.Possible → IsAtRest (TableOf grid.now.exprs.now grid.now.values.now negated) store.now }
+{
+    if grid.exprs.is_empty() {
+        found.clear();
+        return Ok(Look::Possible);
+    }
+    if negated {
+        look_outside(store, grid, found)
+    } else {
+        look_among(store, grid, rows, found)
+    }
+}
+
+/// Makes the facts those by which a table gives an atom, or by which it cannot hold where there is none to give.
+fn justify_at(
+    past: &Before,
+    grid: &Grid,
+    negated: bool,
+    goal: Option<Atom>,
+    row: i64,
+    facts: &mut Vec<Atom>,
+) -> Result<bool, AllocError>
+    requires fits { All (λ e. e < length past.now.first) grid.now.exprs.now }
+    ensures { result ≡ Ok true → Gives (TableOf grid.now.exprs.now grid.now.values.now negated) past.now goal facts.new.items }
+{
+    if grid.exprs.is_empty() {
+        return Ok(false);
+    }
+    if negated {
+        fix(past, grid, goal, row, facts)
+    } else {
+        exclude(past, grid, goal, facts)
+    }
+}
+
+impl Rule for Table {
+    ghost body = { λ t. TableOf t.exprs t.values t.negated };
+
+    fn look(&mut self, store: &Store, found: &mut Vec<Narrowing>) -> Result<Look, AllocError> {
+        let grid = Grid {
+            exprs: self.exprs.as_slice(),
+            values: self.values.as_slice(),
+        };
+        look_at(store, &grid, self.negated, &mut self.rows, found)
+    }
+
+    fn explain(
+        &self,
+        past: &Before,
+        target: Atom,
+        hint: Hint,
+        facts: &mut Vec<Atom>,
+    ) -> Result<bool, AllocError> {
+        let grid = Grid {
+            exprs: self.exprs.as_slice(),
+            values: self.values.as_slice(),
+        };
+        justify_at(past, &grid, self.negated, Some(target), hint.a, facts)
+    }
+
+    fn refute(&self, past: &Before, hint: Hint, facts: &mut Vec<Atom>) -> Result<bool, AllocError> {
+        let grid = Grid {
+            exprs: self.exprs.as_slice(),
+            values: self.values.as_slice(),
+        };
+        justify_at(past, &grid, self.negated, None, hint.a, facts)
+    }
+
+    fn push_subjects(&self, subjects: &mut Vec<u32>) -> Result<(), AllocError> {
+        subjects.extend_from_slice(self.exprs.as_slice())
+    }
+}
