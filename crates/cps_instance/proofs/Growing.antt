@@ -161,7 +161,7 @@ body_fits-longer ds es (Cumulative capacity spans demands) l h =
       spans_fit = spans_fit-longer ds es spans (All-append_left (λ (s : ℕ). s < length ds) (span_subjects spans) demands parts) h.spans_fit;
       demands_fit = demands_fit-longer ds es demands (All-append_right (λ (s : ℕ). s < length ds) (span_subjects spans) demands parts) h.demands_fit;
     }
-body_fits-longer ds es (Inverse direct inverse) l h = tt
+body_fits-longer ds es (Inverse direct inverse) l h = h
 body_fits-longer ds es (Automaton start finals tails heads labels exprs) l h = tt
 body_fits-longer ds es (Reservoir min max times changes active) l h =
     are_literals-longer ds es active

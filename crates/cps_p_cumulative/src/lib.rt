@@ -1,2 +1,25 @@
-//! In work.
+//! The rule of resources that spans use together.
+//!
+//! At no time do the present spans that run then demand more than the capacity. A span whose greatest start lies before its least end surely
+//! runs between them: its compulsory part. The body cannot hold where the least demands of compulsory parts pass the greatest capacity at some
+//! time; where the rule does not say so, they pass it at no time, and that is proved of the sweep itself.
+//!
+//! Starts are pushed later and ends earlier past the times at which others leave no room, demands are cut to what others leave, the capacity
+//! is raised to the highest load, and a span without room whose presence has one open atom is made absent. A finder without a contract proposes
+//! an atom and a time; what it proposes counts where its denial is seen to overload that time. One proved search for facts does that, and makes
+//! each reason, so a reason speaks of one time: spans are present, start by then, end later, and demand enough.
+//!
+//! The algorithm is the time table with pointwise explanations of Schutt, Feydy, Stuckey and Wallace, "Explaining the cumulative propagator"
+//! (2011), over a sweep as that of Letort, Beldiceanu and Carlsson, "A scalable sweep algorithm for the cumulative constraint" (2012).
 #![tactic(auto)]
+
+mod charge;
+mod cumulative;
+mod judge;
+mod measure;
+mod part;
+mod propose;
+mod resource;
+mod segments;
+
+pub use cumulative::Cumulative;

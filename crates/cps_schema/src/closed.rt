@@ -3,19 +3,10 @@
 //! is taken out opens the field.
 
 /// The names of these fields.
-pub const CLOSED: [&[u8]; 14] = [
-    b"int_div",
+pub const CLOSED: [&[u8]; 5] = [
     b"int_mod",
-    b"int_prod",
-    b"lin_max",
-    b"element",
-    b"circuit",
-    b"table",
-    b"interval",
-    b"no_overlap",
     b"cumulative",
     b"automaton",
-    b"inverse",
     b"reservoir",
     b"no_overlap_2d",
 ];

@@ -434,19 +434,18 @@ fn a_second_write_fails(rt: HostRuntime) -> Result<(), Fail> {
     Ok(())
 }
 
+// The length of the input is judged before the command works on it, so one command stands for all.
 #[test]
 fn an_input_is_too_long(rt: HostRuntime) -> Result<(), Fail> {
     let alloc = rt.alloc();
-    for command in COMMANDS.iter() {
-        let words = words_of(alloc, &["cpsolve", command])?;
-        let spaces = vec![in alloc; b' '; 67_108_865]?;
-        let mut source = MemorySource::new(spaces, Vec::new(alloc), Vec::new(alloc));
-        let mut sink = MemorySink::new(alloc, 100, Vec::new(alloc));
-        let ran = solve_main(&rt, alloc, &words, &mut source, &mut sink, &OpenGate);
-        assert_eq!(rt; ran.exit, 1, "{command}");
-        assert!(rt; ran.outcome.is_none(), "{command}");
-        let text = "status: MODEL_INVALID\n# input longer than 67108864 bytes\n";
-        assert!(rt; sink.bytes() == text.as_bytes(), "{command}");
-    }
+    let words = words_of(alloc, &["cpsolve", "solve"])?;
+    let spaces = vec![in alloc; b' '; 67_108_865]?;
+    let mut source = MemorySource::new(spaces, Vec::new(alloc), Vec::new(alloc));
+    let mut sink = MemorySink::new(alloc, 100, Vec::new(alloc));
+    let ran = solve_main(&rt, alloc, &words, &mut source, &mut sink, &OpenGate);
+    assert_eq!(rt; ran.exit, 1);
+    assert!(rt; ran.outcome.is_none());
+    let text = "status: MODEL_INVALID\n# input longer than 67108864 bytes\n";
+    assert!(rt; sink.bytes() == text.as_bytes());
     Ok(())
 }

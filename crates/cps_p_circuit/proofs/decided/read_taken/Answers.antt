@@ -1,0 +1,14 @@
+use Rattle.std.proofs.Common.{arith, ℕ, ◌<◌, length, pos}
+use Rattle.cps_literal.specs.declared.atom.Op.TheVariants.{Le}
+use Rattle.cps_propagate.specs.Now.{IsFixedNow}
+use Rattle.cps_p_circuit.proofs.Deciding.{subject_holds, taken_more}
+use Rattle.cps_p_circuit.proofs.decided.read_taken.Goals as goal
+
+pub known-requires : goal.known-requires
+known-requires c = subject_holds (λ i. i < length c.args.store.now.first) c.args.literals.now c.loop-literal.literal-index _ (omega arith) c.requires
+
+pub returns-in-None-clause-no : goal.returns-in-None-clause-no
+returns-in-None-clause-no c = λ e fixed. c.in-None.ensures (subject_holds (IsFixedNow c.args.store.now) c.args.literals.now c.loop-literal.literal-index _ (omega arith) fixed)
+
+pub loop-literal-preserved : goal.loop-literal-preserved
+loop-literal-preserved c = taken_more c.args.store.now c.args.literals.now c.loop-literal.literal-index (record { subject = 0; op = Le; value = pos 0 }) _ _ c.in-Some.holds (omega arith) c.in_ok-push-in-Some.ensures.items c.loop-literal.invariant c.in-Some.ensures

@@ -1,0 +1,5 @@
+use Rattle.cps_p_circuit.proofs.Clashing.{none_out}
+use Rattle.cps_p_circuit.proofs.graph.Graph.none_out.Goals as goal
+
+pub returns : goal.returns
+returns c = λ ok. none_out c.args.self.now.nodes.items c.args.self.now.from.items c.args.self.now.to.items _ c.args.k c.args.self.now.numbered (rw c.as_slice.ensures.value at (rw c.arcs.ensures at (c.push_none.ensures ok)))

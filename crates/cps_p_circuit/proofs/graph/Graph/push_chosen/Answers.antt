@@ -1,0 +1,20 @@
+use Rattle.std.proofs.Common.{arith, ap, sym, ◌∙◌, length, ◌-◌, ◌≡◌, ◌<◌, ◌≤◌, slice_index, refl}
+use Rattle.cps_p_circuit.specs.Clashes.{taking}
+use Rattle.cps_p_circuit.proofs.Clashing.{lifted, chosen_more, least}
+use Rattle.cps_p_circuit.proofs.graph.Graph.push_chosen.Goals as goal
+
+pub loop-v-preserved : goal.loop-v-preserved
+loop-v-preserved c =
+    let from = c.args.self.now.from.items in
+    let to = c.args.self.now.to.items in
+    let via = c.args.via.now in
+    let v = c.loop-v.v in
+    let k = slice_index via v - 2 in
+    let within : k < least from to = omega (arith, c.arcs.ensures, c.if-k-arcs.false) in
+    let origin : slice_index from k ≡ v = sym c.tail.ensures.is ∙ c.if-tail-v.false in
+    let at : slice_index via (slice_index to k) ≡ slice_index via c.head-target.result = ap (slice_index via) (sym c.head-target.ensures.is) in
+    let target : 1 ≤ slice_index via (slice_index to k) = omega (arith, at, c.if-via-target-eq0.false) in
+    record {
+      grows = λ p h. lifted _ _ (taking k) p c.in_ok-push.ensures.items (c.loop-v.invariant.grows p h);
+      chosen = chosen_more from to (least from to) via _ _ v k c.in_ok-push.ensures.items c.loop-v.invariant.chosen refl within origin target;
+    }

@@ -1,0 +1,10 @@
+use Rattle.std.proofs.Common.{arith, rules, pos, sym, ◌∙◌, FitsSigned, w32}
+use Rattle.std.proofs.lemmas.Int.{to_z-of_z}
+use Rattle.std.proofs.lemmas.List.{get_or_default}
+use Rattle.cps_p_circuit.proofs.numbers.place_in.Goals as goal
+
+pub returns-clause-is : goal.returns-clause-is
+returns-clause-is c =
+    let l = c.requires.1 in
+    let fits : FitsSigned w32 c.args.number = search rules in
+    absurd (c.loop-place.invariant c.requires.0 (omega (arith, c.requires.1, c.loop-place-test.false)) (get_or_default c.args.numbers.now c.requires.0 (pos 0) c.args.number l ∙ c.requires.2 ∙ sym (to_z-of_z w32 c.args.number fits)))

@@ -1,0 +1,15 @@
+use Rattle.std.proofs.Common.{arith, pos}
+use Rattle.cps_literal.specs.declared.atom.Op.TheVariants.{Le}
+use Rattle.cps_p_circuit.proofs.Showing.{kept_more, kept_denied, atom_inside}
+use Rattle.cps_p_circuit.proofs.shown.keep.Goals as goal
+
+pub was_true-requires : goal.was_true-requires
+was_true-requires c = atom_inside c.args.past.now c.args.literals.now _ c.in-Some.atom (record { subject = 0; op = Le; value = pos 0 }) c.in-Some.ensures c.requires
+
+pub loop-sign-preserved-then-follows : goal.loop-sign-preserved-then-follows
+loop-sign-preserved-then-follows c = kept_denied _ _ _ c.args.used.now c.loop-sign.sign-index _ _ c.in-Some.atom (omega arith) c.in-Some.ensures (c.follows.ensures c.if-follows.true) c.loop-sign.invariant
+
+pub loop-sign-preserved : goal.loop-sign-preserved
+loop-sign-preserved c = kept_more _ _ _ c.args.used.now c.loop-sign.sign-index _ _ _ c.in-Some.atom (omega arith) c.in-Some.ensures
+    (atom_inside c.args.past.now c.args.literals.now _ c.in-Some.atom (record { subject = 0; op = Le; value = pos 0 }) c.in-Some.ensures c.requires)
+    (c.was_true.ensures c.if-not-was_true.false) c.in_ok-push.ensures.items c.loop-sign.invariant

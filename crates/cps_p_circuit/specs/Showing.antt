@@ -1,0 +1,50 @@
+-- What a body and atoms that are true show.
+use Rattle.std.specs.Prelude.{◌≡◌, ℕ, ◌<◌, ℤ, Bool, true, false, Option, List, map, length, slice_index_or, All, IfSome, ◌++◌}
+use Rattle.cps_literal.specs.declared.atom.Atom.{Atom}
+use Rattle.cps_literal.specs.Truth.{atom_holds}
+use Rattle.cps_instance.specs.declared.task.Body.{Body}
+use Rattle.cps_instance.specs.declared.task.Body.TheVariants.{Circuit}
+use Rattle.cps_instance.specs.Tasks.{HoldsBody, atom_subjects}
+use Rattle.cps_trail.specs.Trail.{Trail, IsInside}
+use Rattle.cps_propagate.specs.Now.{IsFixedNow, AreOpen}
+use Rattle.cps_rule.specs.Rules.{AreFacts, AllTrueAt}
+use Rattle.cps_p_circuit.specs.declared.clash.Sign.{Sign}
+use Rattle.cps_p_circuit.specs.Graphs.{number, IsRound}
+use Rattle.cps_p_circuit.specs.Clashes.{IsMet}
+
+-- the body of arcs between nodes
+abbrev pub body_by : List ℤ → List ℕ → List ℕ → List Atom → Body
+body_by nodes from to literals = Circuit (map (number nodes) from) (map (number nodes) to) literals
+
+-- whether each literal is true
+abbrev pub taken_at : List ℤ → List Atom → List Bool
+taken_at xs literals = map (atom_holds xs) literals
+
+-- an atom that says of an arc's literal what a sign says of the arc
+pub record IsAtomOf (literals : List Atom) (p : Sign) (u : Atom) : Type 0 where
+  pub within : p.arc < length literals
+  pub subject : (d : Atom) → u.subject ≡ (slice_index_or literals p.arc d).subject
+  pub inside : IsInside u.value
+  pub gives : (xs : List ℤ) → atom_holds xs u ≡ true → IsMet (taken_at xs literals) p
+
+-- facts, and an atom beside them, make the signs true
+pub record AreKept (s : Trail) (literals : List Atom) (denied : Option Atom) (used : List Sign) (us : List Atom) : Type 0 where
+  pub facts : AreFacts s us
+  pub gives : (xs : List ℤ) → AllTrueAt xs us → IfSome denied (λ u. atom_holds xs u ≡ true) → All (IsMet (taken_at xs literals)) used
+
+-- a body cannot hold beside facts, and beside an atom
+pub record IsShown (b : Body) (s : Trail) (denied : Option Atom) (us : List Atom) : Type 0 where
+  pub facts : AreFacts s us
+  pub excludes : (xs : List ℤ) → AllTrueAt xs us → IfSome denied (λ u. atom_holds xs u ≡ true) → HoldsBody b xs → ⊥
+
+-- the literals are known, and those that are true are listed
+pub record AreTaken (s : Trail) (literals : List Atom) (taken : List Bool) : Type 0 where
+  pub is : (xs : List ℤ) → AreOpen s xs (atom_subjects literals) → taken_at xs literals ≡ taken
+
+-- the subjects are not all fixed
+abbrev pub IsOpenStill : Trail → List Atom → Type 0
+IsOpenStill s literals = All (IsFixedNow s) (atom_subjects literals) → ⊥
+
+abbrev pub is_circuit_body : Body → Bool
+is_circuit_body (Circuit tails heads literals) = true
+is_circuit_body _ = false

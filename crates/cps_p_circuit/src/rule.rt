@@ -1,0 +1,275 @@
+//! The rule of circuits: degrees, and the body itself where all is known.
+
+ghost use Rattle.std.specs.Prelude.{◌≡◌, ◌<◌, ◌++◌, Ok, OnOk, IfOk, All, IfSome, true, map, length, Option};
+ghost use Rattle.cps_instance.specs.declared.task.Body.TheVariants.{Circuit};
+ghost use Rattle.cps_instance.specs.Tasks.{atom_subjects};
+ghost use Rattle.cps_p_circuit.specs.Graphs.{number};
+
+use crate::build::graph_of;
+use crate::clash::{Sign, Witness};
+use crate::decided::{is_round, read_taken};
+use crate::find::{Candidate, Finder};
+use crate::graph::Graph;
+use crate::hints::{Claim, claim_of};
+use crate::shown::{atom_of, keep};
+use crate::tour::marks_from;
+use cps_enforce::Enforced;
+use cps_instance::{Body, Task};
+use cps_literal::{Atom, Truth};
+use cps_propagate::push_atom_subjects;
+use cps_rule::{Hint, Look, Narrowing, Rule};
+use cps_trail::{Before, Store};
+use std::alloc::{AllocError, Global};
+
+/// The rule of a circuit.
+#[derive(Drop)]
+pub struct CircuitRule {
+    alloc: Global,
+    graph: Graph,
+    literals: Vec<Atom>,
+    taken: Vec<bool>,
+    finder: Finder,
+}
+
+impl CircuitRule {
+    ghost use Rattle.std.specs.Prelude.{◌≡◌, ◌<◌, Ok, OnOk, IfOk, IsTrue, All, IfSome, true, None, length};
+    ghost use Rattle.cps_instance.specs.Tasks.{atom_subjects};
+    ghost use Rattle.cps_instance.specs.declared.task.Body.TheVariants.{Circuit};
+    ghost use Rattle.cps_rule.specs.Rules.{IsExplained, IsRefuted, IsGiven, IsImpossible};
+    ghost use Rattle.cps_p_circuit.specs.Clashes.{IsClash};
+    ghost use Rattle.cps_p_circuit.specs.Showing.{IsShown, body_by, is_circuit_body};
+
+    /// The rule of arcs between numbered nodes.
+    pub fn new(
+        alloc: Global,
+        tails: &[i32],
+        heads: &[i32],
+        literals: &[Atom],
+    ) -> Result<Self, AllocError>
+        ensures { IfOk result (λ r. body_by r.graph.nodes.items r.graph.from.items r.graph.to.items r.literals.items ≡ Circuit tails.now heads.now literals.now) }
+    {
+        Ok(CircuitRule {
+            alloc,
+            graph: graph_of(alloc, tails, heads)?,
+            literals: Vec::from_slice(alloc, literals)?,
+            taken: Vec::new(alloc),
+            finder: Finder::new(alloc),
+        })
+    }
+
+    /// The rule of a body that is `Circuit`.
+    pub fn of_body(alloc: Global, body: &Body) -> Result<Self, AllocError>
+        requires { IsTrue (is_circuit_body body.now) }
+        ensures { IfOk result (λ r. body_by r.graph.nodes.items r.graph.from.items r.graph.to.items r.literals.items ≡ body.now) }
+    {
+        match body {
+            Body::Circuit {
+                tails,
+                heads,
+                literals,
+            } => CircuitRule::new(
+                alloc,
+                tails.as_slice(),
+                heads.as_slice(),
+                literals.as_slice(),
+            ),
+            _ => unreachable!(),
+        }
+    }
+
+    /// The propagator of a task whose body is `Circuit`.
+    pub fn of(alloc: Global, task: &Task) -> Result<Enforced<CircuitRule>, AllocError>
+        requires { IsTrue (is_circuit_body task.now.body) }
+        ensures { IfOk result (λ propagator. propagator ≡ task.now) }
+    {
+        let rule = CircuitRule::of_body(alloc, &task.body)?;
+        let propagator = Enforced::new(alloc, task.enforcement.as_slice(), rule)?;
+        Ok(propagator)
+    }
+
+    /// Taken arcs that come back to where they began, while another node is on the circuit too.
+    fn tour(
+        &self,
+        past: &Before,
+        denied: Option<Atom>,
+        arc: usize,
+        outer: Witness,
+        used: &mut Vec<Sign>,
+    ) -> Result<bool, AllocError>
+        requires { All (λ i. i < length past.now.first) (atom_subjects self.now.literals.items) }
+        ensures { result ≡ Ok true → IsClash self.now.graph.nodes.items self.now.graph.from.items self.now.graph.to.items used.new.items }
+    {
+        let marks = marks_from(
+            self.alloc,
+            &self.graph,
+            self.literals.as_slice(),
+            past,
+            denied,
+            arc,
+        )?;
+        let inner = Witness { arc, moves: true };
+        self.graph.cut(marks.as_slice(), inner, outer, used)
+    }
+
+    /// Signs that leave no circuit, as a hint says.
+    fn clash(
+        &self,
+        past: &Before,
+        denied: Option<Atom>,
+        hint: Hint,
+        used: &mut Vec<Sign>,
+    ) -> Result<bool, AllocError>
+        requires { All (λ i. i < length past.now.first) (atom_subjects self.now.literals.items) }
+        ensures { result ≡ Ok true → IsClash self.now.graph.nodes.items self.now.graph.from.items self.now.graph.to.items used.new.items }
+    {
+        match claim_of(hint) {
+            Claim::TwoOut(i, j) => self.graph.two_out((i, j), used),
+            Claim::TwoIn(i, j) => self.graph.two_in((i, j), used),
+            Claim::NoneOut(k) => self.graph.none_out(k, used),
+            Claim::NoneIn(k) => self.graph.none_in(k, used),
+            Claim::Tour(k, outer) => self.tour(past, denied, k, outer, used),
+            Claim::Other => Ok(false),
+        }
+    }
+
+    /// Facts beside which, and beside an atom, the body cannot hold.
+    fn show(
+        &self,
+        past: &Before,
+        denied: Option<Atom>,
+        hint: Hint,
+        facts: &mut Vec<Atom>,
+    ) -> Result<bool, AllocError>
+        requires { All (λ i. i < length past.now.first) (atom_subjects self.now.literals.items) }
+        ensures { result ≡ Ok true → IsShown (body_by self.now.graph.nodes.items self.now.graph.from.items self.now.graph.to.items self.now.literals.items) past.now denied facts.new.items }
+    {
+        let mut used = Vec::new(self.alloc);
+        if !self.clash(past, denied, hint, &mut used)? {
+            return Ok(false);
+        }
+        keep(
+            self.literals.as_slice(),
+            past,
+            denied,
+            used.as_slice(),
+            facts,
+        )
+    }
+
+    /// Facts that give an atom.
+    fn reason(
+        &self,
+        past: &Before,
+        target: Atom,
+        hint: Hint,
+        facts: &mut Vec<Atom>,
+    ) -> Result<bool, AllocError>
+        requires { All (λ i. i < length past.now.first) (atom_subjects self.now.literals.items) }
+        ensures { result ≡ Ok true → IsExplained (body_by self.now.graph.nodes.items self.now.graph.from.items self.now.graph.to.items self.now.literals.items) past.now target facts.new.items }
+    {
+        if target.value < -4 || target.value > 4 {
+            return Ok(false);
+        }
+        let denied = target.negate();
+        self.show(past, Some(denied), hint, facts)
+    }
+
+    /// Adds a candidate that the body gives and that is not true yet.
+    fn accept(
+        &self,
+        store: &Store,
+        candidate: Candidate,
+        facts: &mut Vec<Atom>,
+        found: &mut Vec<Narrowing>,
+    ) -> Result<(), AllocError>
+        requires { All (λ i. i < length store.now.first) (atom_subjects self.now.literals.items) }
+        ensures { OnOk result (All (λ n. IsGiven (body_by self.now.graph.nodes.items self.now.graph.from.items self.now.graph.to.items self.now.literals.items) store.now n.target) found.old.items
+            → All (λ n. IsGiven (body_by self.now.graph.nodes.items self.now.graph.from.items self.now.graph.to.items self.now.literals.items) store.now n.target) found.new.items) }
+    {
+        let Some(target) = atom_of(self.literals.as_slice(), candidate.sign) else {
+            return Ok(());
+        };
+        match store.truth(target) {
+            Truth::Yes => return Ok(()),
+            _ => {}
+        }
+        let past = store.present();
+        if !self.reason(&past, target, candidate.hint, facts)? {
+            return Ok(());
+        }
+        found.push(Narrowing {
+            target,
+            hint: candidate.hint,
+        })?;
+        Ok(())
+    }
+
+    /// Puts what the candidates give in the place of what a list holds.
+    fn gather(&self, store: &Store, found: &mut Vec<Narrowing>) -> Result<(), AllocError>
+        requires { All (λ i. i < length store.now.first) (atom_subjects self.now.literals.items) }
+        ensures { OnOk result (All (λ n. IsGiven (body_by self.now.graph.nodes.items self.now.graph.from.items self.now.graph.to.items self.now.literals.items) store.now n.target) found.new.items) }
+    {
+        found.clear();
+        let mut facts = Vec::new(self.alloc);
+        for k in 0..self.finder.candidates.len() {
+            let candidate = self.finder.candidates[k];
+            self.accept(store, candidate, &mut facts, found)?;
+        }
+        Ok(())
+    }
+
+    /// Whether a hint shows that the body cannot hold.
+    fn fails(&self, store: &Store, hint: Hint) -> Result<bool, AllocError>
+        requires { All (λ i. i < length store.now.first) (atom_subjects self.now.literals.items) }
+        ensures { result ≡ Ok true → IsImpossible (body_by self.now.graph.nodes.items self.now.graph.from.items self.now.graph.to.items self.now.literals.items) store.now }
+    {
+        let mut facts = Vec::new(self.alloc);
+        let past = store.present();
+        self.show(&past, None, hint, &mut facts)
+    }
+}
+
+impl Rule for CircuitRule {
+    ghost use Rattle.std.specs.Prelude.{map};
+    ghost use Rattle.cps_instance.specs.declared.task.Body.{Body};
+    ghost use Rattle.cps_p_circuit.specs.Showing.{body_by};
+
+    ghost body = { λ r. body_by r.graph.nodes.items r.graph.from.items r.graph.to.items r.literals.items };
+
+    fn look(&mut self, store: &Store, found: &mut Vec<Narrowing>) -> Result<Look, AllocError> {
+        found.clear();
+        self.finder
+            .find(&self.graph, self.literals.as_slice(), store)?;
+        if let Some(hint) = self.finder.conflict {
+            if self.fails(store, hint)? {
+                return Ok(Look::Impossible(hint));
+            }
+        }
+        if read_taken(self.literals.as_slice(), store, &mut self.taken)? {
+            if is_round(self.alloc, &self.graph, self.taken.as_slice())? {
+                return Ok(Look::Possible);
+            }
+            return Ok(Look::Impossible(Hint { a: 0, b: 7 }));
+        }
+        self.gather(store, found)?;
+        Ok(Look::Possible)
+    }
+
+    fn explain(
+        &self,
+        past: &Before,
+        target: Atom,
+        hint: Hint,
+        facts: &mut Vec<Atom>,
+    ) -> Result<bool, AllocError> {
+        self.reason(past, target, hint, facts)
+    }
+
+    fn refute(&self, past: &Before, hint: Hint, facts: &mut Vec<Atom>) -> Result<bool, AllocError> {
+        self.show(past, None, hint, facts)
+    }
+
+    fn push_subjects(&self, subjects: &mut Vec<u32>) -> Result<(), AllocError> {
+        push_atom_subjects(self.literals.as_slice(), subjects)
+    }
+}

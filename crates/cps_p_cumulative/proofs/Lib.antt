@@ -1,0 +1,5 @@
+pub mod Running
+pub mod Resting
+pub mod Relied
+pub mod Profiled
+pub mod Summing

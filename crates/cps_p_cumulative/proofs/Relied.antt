@@ -1,0 +1,221 @@
+-- How facts come to give what is relied on.
+use Rattle.std.proofs.Common.{ℕ, zero, suc, inl, inr, min, ◌+◌, ◌<◌, ◌≤◌, ℤ, pos, ◌+ℤ◌, ◌-ℤ◌, ◌≤ℤ◌, ◌<ℤ◌, ◌≡◌, Bool, true, false, not, ◌&&◌, List, [], ◌∷◌, ◌++◌, length, take, drop, get_or, refl, sym, ◌∙◌, ap, subst, arith}
+use Rattle.std.specs.Prelude.{Option, Some, None, IfSome, ◌⊎◌}
+use Rattle.std.specs.List.{list_all, All}
+use Rattle.std.proofs.lemmas.Int.{ints}
+use Rattle.std.proofs.lemmas.List.{drop_more}
+use Rattle.std.proofs.lemmas.List.Elements.{All-nil, All-push, All-head, All-more}
+use Rattle.cps_domain.specs.Window.{is_among}
+use Rattle.cps_domain.proofs.Tests.{first_of_both, true_le, le_true}
+use Rattle.cps_literal.specs.declared.atom.Atom.{Atom}
+use Rattle.cps_literal.specs.declared.atom.Op.TheVariants.{Le, Ge}
+use Rattle.cps_literal.specs.Truth.{meets, value_at, atom_holds, Implies}
+use Rattle.cps_instance.specs.declared.task.Span.{Span}
+use Rattle.cps_instance.specs.Parts.{span_end}
+use Rattle.cps_instance.specs.Tasks.{HoldsBody}
+use Rattle.cps_instance.proofs.Agreeing.{All-append_left, All-append_right}
+use Rattle.cps_trail.specs.Trail.{Trail, Domains, IsTrueNow, IsTrueAfter, IsWithin, IsAdmitted, IsInside, first_of, admits, leaves}
+use Rattle.cps_rule.specs.Rules.{IsFact, AreFacts, IsGiven, IsExplained, IsRefuted}
+use Rattle.cps_p_cumulative.specs.declared.resource.Resource.{Resource}
+use Rattle.cps_p_cumulative.specs.Running.{is_running, demands_at, body_of}
+use Rattle.cps_p_cumulative.specs.Relying.{Relies, IsTaken, IsCharged, IsBound, IsLater}
+use Rattle.cps_p_cumulative.proofs.Running.{demands-cons, running, all_hold, demand-runs, demand-some}
+use Rattle.cps_p_cumulative.proofs.Profiled.{demands-past}
+
+-- what is so anyhow
+pub Relies-none : (s : Trail) (a : Atom) (P : List ℤ → Type 0) (us : List Atom) → AreFacts s us → ((xs : List ℤ) → IsWithin s.first xs → atom_holds xs a ≡ true → P xs) → Relies s a P us us
+Relies-none s a P us f h = record { facts = f; kept = λ xs all. all; gives = λ xs w all b. h xs w b }
+
+-- first one thing and then another
+pub Relies-then : (s : Trail) (a : Atom) (P Q R : List ℤ → Type 0) (old mid new : List Atom) → Relies s a P old mid → Relies s a Q mid new → ((xs : List ℤ) → IsWithin s.first xs → P xs → Q xs → R xs) → Relies s a R old new
+Relies-then s a P Q R old mid new p q r = record {
+  facts = q.facts;
+  kept = λ xs all. p.kept xs (q.kept xs all);
+  gives = λ xs w all b. r xs w (p.gives xs w (q.kept xs all) b) (q.gives xs w all b);
+}
+
+pub Relies-so : (s : Trail) (a : Atom) (P Q : List ℤ → Type 0) (old new : List Atom) → Relies s a P old new → ((xs : List ℤ) → IsWithin s.first xs → P xs → Q xs) → Relies s a Q old new
+Relies-so s a P Q old new p r = record { facts = p.facts; kept = p.kept; gives = λ xs w all b. r xs w (p.gives xs w all b) }
+
+-- what the assumed atom gives
+pub Relies-implied : (s : Trail) (a u : Atom) (us : List Atom) → AreFacts s us → Implies a u → Relies s a (λ xs. atom_holds xs u ≡ true) us us
+Relies-implied s a u us f i = Relies-none s a (λ xs. atom_holds xs u ≡ true) us f (λ xs w b. subst (λ (k : ℕ). meets u.op u.value (value_at xs k) ≡ true) i.subject (i.follows (value_at xs a.subject) b))
+
+first_admits : (first : Domains) (i : ℕ) (x : ℤ) → is_among (first_of first i) x ≡ true → admits first [] i x ≡ true
+unfolding admits
+first_admits first i x h = with_true (is_among (first_of first i) x) h
+  where
+    with_true : (b : Bool) → b ≡ true → (b && true) ≡ true
+    with_true b e = ap (λ c. c && true) e
+
+-- what each first value meets
+pub Relies-always : (s : Trail) (a u : Atom) (us : List Atom) → u.subject < length s.first → AreFacts s us → IsTrueAfter s.first [] u → Relies s a (λ xs. atom_holds xs u ≡ true) us us
+Relies-always s a u us inside f h = Relies-none s a (λ xs. atom_holds xs u ≡ true) us f (λ xs w b. h (value_at xs u.subject) (first_admits s.first u.subject (value_at xs u.subject) (w u.subject inside)))
+
+-- one fact more
+pub Relies-fact : (s : Trail) (a u : Atom) (us new : List Atom) → new ≡ us ++ u ∷ [] → u.subject < length s.first → IsInside u.value → IsTrueNow s u → AreFacts s us → Relies s a (λ xs. atom_holds xs u ≡ true) us new
+Relies-fact s a u us new is inside value now f = subst (λ (vs : List Atom). Relies s a (λ xs. atom_holds xs u ≡ true) us vs) (sym is) (record {
+  facts = All-push (IsFact s) us u f (record { subject = inside; inside = value; true_now = now });
+  kept = λ xs all. All-append_left (λ v. atom_holds xs v ≡ true) us (u ∷ []) all;
+  gives = λ xs w all b. All-head (λ v. atom_holds xs v ≡ true) u [] (All-append_right (λ v. atom_holds xs v ≡ true) us (u ∷ []) all);
+})
+
+-- one atom more of a list
+pub Relies-more : (s : Trail) (a : Atom) (atoms : List Atom) (k : ℕ) (d : Atom) (old mid new : List Atom) → k < length atoms
+    → Relies s a (λ xs. All (λ u. atom_holds xs u ≡ true) (take k atoms)) old mid → Relies s a (λ xs. atom_holds xs (get_or atoms k d) ≡ true) mid new → Relies s a (λ xs. All (λ u. atom_holds xs u ≡ true) (take (k + 1) atoms)) old new
+Relies-more s a atoms k d old mid new l p q = Relies-then s a (λ xs. All (λ u. atom_holds xs u ≡ true) (take k atoms)) (λ xs. atom_holds xs (get_or atoms k d) ≡ true) (λ xs. All (λ u. atom_holds xs u ≡ true) (take (k + 1) atoms)) old mid new p q
+    (λ xs w here this. All-more (λ u. atom_holds xs u ≡ true) atoms k d l here this)
+
+-- nothing charged
+pub charged-none : (t : ℤ) (ps : List Span) (ds : List ℕ) (need : ℤ) (xs : List ℤ) → IsCharged t ps ds need 0 need xs
+charged-none t ps ds need xs = record { demanded = omega (arith, ints) }
+
+-- one span more
+pub charged-more : (t : ℤ) (ps : List Span) (ds : List ℕ) (need : ℤ) (k : ℕ) (p : Span) (d : ℕ) (left after : ℤ) (xs : List ℤ) → k < length ps → k < length ds
+    → IsCharged t ps ds need k left xs → IsTaken t (get_or ps k p) (get_or ds k d) left after xs → IsCharged t ps ds need (k + 1) after xs
+charged-more t ps ds need k p d left after xs l m h this =
+    let e : demands_at xs t (drop k ps) (drop k ds) ≡ demands_at xs t (get_or ps k p ∷ drop (k + 1) ps) (get_or ds k d ∷ drop (k + 1) ds) =
+    ap (λ (qs : List Span). demands_at xs t qs (drop k ds)) (drop_more ps k p l) ∙ ap (λ (es : List ℕ). demands_at xs t (get_or ps k p ∷ drop (k + 1) ps) es) (drop_more ds k d m) in
+    let f = demands-cons xs t (get_or ps k p) (get_or ds k d) (drop (k + 1) ps) (drop (k + 1) ds) in
+    let g = h.demanded in
+    let i = this.demanded in
+    record { demanded = omega (arith, ints) }
+
+-- where the assumed atom denies one, that one is given
+pub explained : (s : Trail) (r : Resource) (a u : Atom) (facts : List Atom) → a.subject ≡ u.subject → ((x : ℤ) → meets a.op a.value x ≡ not (meets u.op u.value x))
+    → Relies s a (λ xs. HoldsBody (body_of r) xs → ⊥) [] facts → IsExplained (body_of r) s u facts
+explained s r a u facts same denies h = record {
+  facts = h.facts;
+  gives = λ xs w all holds. yes' (atom_holds xs u) (λ no'. h.gives xs w all (ap (λ (k : ℕ). meets a.op a.value (value_at xs k)) same ∙ denies (value_at xs u.subject) ∙ ap not no') holds);
+}
+  where
+    yes' : (b : Bool) → (b ≡ false → ⊥) → b ≡ true
+    yes' true f = refl
+    yes' false f = absurd (f refl)
+
+-- where the assumed atom is the first fact, the body cannot hold
+pub refuted : (s : Trail) (r : Resource) (a : Atom) (facts : List Atom) → Relies s a (λ xs. HoldsBody (body_of r) xs → ⊥) (a ∷ []) facts → IsRefuted (body_of r) s facts
+refuted s r a facts h = record {
+  facts = h.facts;
+  excludes = λ xs w all. h.gives xs w all (All-head (λ v. atom_holds xs v ≡ true) a [] (h.kept xs all));
+}
+
+pub within_of : (s : Trail) (xs : List ℤ) → IsAdmitted s.first s.entries xs → IsWithin s.first xs
+unfolding admits
+within_of s xs h = λ i l. first_of_both (is_among (first_of s.first i) (value_at xs i)) (list_all (leaves i (value_at xs i)) s.entries) (h i l)
+
+-- what facts explain is given
+pub given : (s : Trail) (r : Resource) (u : Atom) (facts : List Atom) → u.subject < length s.first → IsExplained (body_of r) s u facts → IsGiven (body_of r) s u
+given s r u facts inside h = record {
+  subject = inside;
+  at = λ xs admitted holds. h.gives xs (within_of s xs admitted) (λ k d l. (h.facts k d l).true_now (value_at xs (get_or facts k d).subject) (admitted (get_or facts k d).subject (h.facts k d l).subject)) holds;
+}
+
+-- an atom that is a span's later end
+pub later-some : (first : Domains) (t far : ℤ) (p : Span) (u : Atom) → p.length ≡ Some far → p.start < length first → IsBound p.start ((t +ℤ pos 1) -ℤ far) u → IsLater first t p u
+later-some first t far p u e l h = record {
+  subject = subst (λ (v : Atom). v.subject < length first) (sym h.is) l;
+  inside = subst (λ (v : Atom). IsInside v.value) (sym h.is) h.inside;
+  after = λ xs holds.
+      let a = true_le ((t +ℤ pos 1) -ℤ far) (value_at xs p.start) (subst (λ (v : Atom). atom_holds xs v ≡ true) h.is holds) in
+      subst (λ (o : Option ℤ). t <ℤ span_end xs p.start p.end o) (sym e) (by (value_at xs p.start) a);
+}
+  where
+    by : (x : ℤ) → ((t +ℤ pos 1) -ℤ far) ≤ℤ x → t <ℤ (x +ℤ far)
+    by x a = omega (arith, ints)
+
+pub later-none : (first : Domains) (t : ℤ) (p : Span) (u : Atom) → p.length ≡ None → p.end < length first → IsBound p.end (t +ℤ pos 1) u → IsLater first t p u
+later-none first t p u e l h = record {
+  subject = subst (λ (v : Atom). v.subject < length first) (sym h.is) l;
+  inside = subst (λ (v : Atom). IsInside v.value) (sym h.is) h.inside;
+  after = λ xs holds.
+      let a = true_le (t +ℤ pos 1) (value_at xs p.end) (subst (λ (v : Atom). atom_holds xs v ≡ true) h.is holds) in
+      subst (λ (o : Option ℤ). t <ℤ span_end xs p.start p.end o) (sym e) (by (value_at xs p.end) a);
+}
+  where
+    by : (x : ℤ) → (t +ℤ pos 1) ≤ℤ x → t <ℤ x
+    by x a = omega (arith, ints)
+
+pub later-some-of : (first : Domains) (t far : ℤ) (p : Span) (r : Option Atom) (v : ℤ) → p.length ≡ Some far → p.start < length first → IfSome r (IsBound p.start v) → v ≡ (t +ℤ pos 1) -ℤ far → IfSome r (IsLater first t p)
+later-some-of first t far p None v e l h same = h
+later-some-of first t far p (Some u) v e l h same = later-some first t far p u e l (subst (λ (x : ℤ). IsBound p.start x u) same h)
+
+pub later-none-of : (first : Domains) (t : ℤ) (p : Span) (r : Option Atom) (v : ℤ) → p.length ≡ None → p.end < length first → IfSome r (IsBound p.end v) → v ≡ t +ℤ pos 1 → IfSome r (IsLater first t p)
+later-none-of first t p None v e l h same = h
+later-none-of first t p (Some u) v e l h same = later-none first t p u e l (subst (λ (x : ℤ). IsBound p.end x u) same h)
+
+-- that a span is present, starts by a time and ends later
+pub run-relied : (s : Trail) (a : Atom) (t : ℤ) (p : Span) (atoms : List Atom) (u last : Atom) (old one two new : List Atom) → atoms ≡ p.presence → u ≡ record { subject = p.start; op = Le; value = t } → IsLater s.first t p last
+    → Relies s a (λ xs. All (λ v. atom_holds xs v ≡ true) atoms) old one → Relies s a (λ xs. atom_holds xs u ≡ true) one two → Relies s a (λ xs. atom_holds xs last ≡ true) two new → Relies s a (λ xs. is_running xs t p ≡ true) old new
+run-relied s a t p atoms u last old one two new is starts later h i j =
+    Relies-then s a (λ xs. All (λ v. atom_holds xs v ≡ true) atoms × (atom_holds xs u ≡ true)) (λ xs. atom_holds xs last ≡ true) (λ xs. is_running xs t p ≡ true) old two new
+    (Relies-then s a (λ xs. All (λ v. atom_holds xs v ≡ true) atoms) (λ xs. atom_holds xs u ≡ true) (λ xs. All (λ v. atom_holds xs v ≡ true) atoms × (atom_holds xs u ≡ true)) old one two h i (λ xs w b c. (b, c)))
+    j
+    (λ xs w b c. running xs t p
+    (subst (λ (us : List Atom). list_all (atom_holds xs) us ≡ true) is (all_hold xs atoms b.0))
+    (true_le (value_at xs p.start) t (subst (λ (v : Atom). atom_holds xs v ≡ true) starts b.1))
+    (later.after xs c))
+
+-- a span that is passed over, and one that counts
+pub charge-skip : (s : Trail) (a : Atom) (t : ℤ) (p : Span) (d : ℕ) (left after : ℤ) (u : Atom) (old new : List Atom) → left ≡ after → u ≡ record { subject = d; op = Ge; value = pos 0 } → Relies s a (λ xs. atom_holds xs u ≡ true) old new
+    → Relies s a (IsTaken t p d left after) old new
+charge-skip s a t p d left after u old new same is h = Relies-so s a (λ xs. atom_holds xs u ≡ true) (IsTaken t p d left after) old new h
+    (λ xs w b. (let e = demand-some xs t p d (true_le (pos 0) (value_at xs d) (subst (λ (v : Atom). atom_holds xs v ≡ true) is b)) in record { demanded = omega (arith, ints) }))
+
+pub charge-run : (s : Trail) (a : Atom) (t : ℤ) (p : Span) (d : ℕ) (left after counted : ℤ) (u : Atom) (old mid new : List Atom) → after ≡ left -ℤ counted → u ≡ record { subject = d; op = Ge; value = counted }
+    → Relies s a (λ xs. is_running xs t p ≡ true) old mid → Relies s a (λ xs. atom_holds xs u ≡ true) mid new → Relies s a (IsTaken t p d left after) old new
+charge-run s a t p d left after counted u old mid new same is h i = Relies-then s a (λ xs. is_running xs t p ≡ true) (λ xs. atom_holds xs u ≡ true) (IsTaken t p d left after) old mid new h i
+    (λ xs w b c. (let e = demand-runs xs t p d b in let f = true_le counted (value_at xs d) (subst (λ (v : Atom). atom_holds xs v ≡ true) is c) in record { demanded = omega (arith, ints) }))
+
+-- a loop over the spans
+pub charge-none : (s : Trail) (a : Atom) (t : ℤ) (ps : List Span) (ds : List ℕ) (need : ℤ) (us : List Atom) → AreFacts s us → Relies s a (IsCharged t ps ds need 0 need) us us
+charge-none s a t ps ds need us f = Relies-none s a (IsCharged t ps ds need 0 need) us f (λ xs w b. charged-none t ps ds need xs)
+
+pub charge-more : (s : Trail) (a : Atom) (t : ℤ) (ps : List Span) (ds : List ℕ) (need : ℤ) (k : ℕ) (p : Span) (d : ℕ) (left after : ℤ) (old mid new : List Atom) → k < length ps → k < length ds
+    → Relies s a (IsCharged t ps ds need k left) old mid → Relies s a (IsTaken t (get_or ps k p) (get_or ds k d) left after) mid new → Relies s a (IsCharged t ps ds need (k + 1) after) old new
+charge-more s a t ps ds need k p d left after old mid new l m h i =
+    Relies-then s a (IsCharged t ps ds need k left) (IsTaken t (get_or ps k p) (get_or ds k d) left after) (IsCharged t ps ds need (k + 1) after) old mid new h i (λ xs w b c. charged-more t ps ds need k p d left after xs l m b c)
+
+-- what passes the greatest capacity
+pub over-capacity : (s : Trail) (a : Atom) (t : ℤ) (r : Resource) (most need : ℤ) (u : Atom) (old mid new : List Atom) → need ≡ most +ℤ pos 1 → u ≡ record { subject = r.capacity; op = Le; value = most }
+    → Relies s a (λ xs. atom_holds xs u ≡ true) old mid → Relies s a (λ xs. need ≤ℤ demands_at xs t r.spans r.demands) mid new → Relies s a (λ xs. HoldsBody (body_of r) xs → ⊥) old new
+over-capacity s a t r most need u old mid new same is h i = Relies-then s a (λ xs. atom_holds xs u ≡ true) (λ xs. need ≤ℤ demands_at xs t r.spans r.demands) (λ xs. HoldsBody (body_of r) xs → ⊥) old mid new h i
+    (λ xs w b c holds. (let e = true_le (value_at xs r.capacity) most (subst (λ (v : Atom). atom_holds xs v ≡ true) is b) in let f = holds.enough t in absurd (omega (arith, ints))))
+
+pub no-capacity : (s : Trail) (a : Atom) (r : Resource) (most : ℤ) (u : Atom) (old new : List Atom) → most <ℤ pos 0 → u ≡ record { subject = r.capacity; op = Le; value = most }
+    → Relies s a (λ xs. atom_holds xs u ≡ true) old new → Relies s a (λ xs. HoldsBody (body_of r) xs → ⊥) old new
+no-capacity s a r most u old new below is h = Relies-so s a (λ xs. atom_holds xs u ≡ true) (λ xs. HoldsBody (body_of r) xs → ⊥) old new h
+    (λ xs w b holds. (let e = true_le (value_at xs r.capacity) most (subst (λ (v : Atom). atom_holds xs v ≡ true) is b) in let f = holds.some_room in absurd (omega (arith, ints))))
+
+-- the same, by what the code reads
+pub charge-step : (s : Trail) (a : Atom) (t : ℤ) (ps rs : List Span) (ds es : List ℕ) (need known : ℤ) (k : ℕ) (p : Span) (d : ℕ) (left had after got : ℤ) (old mid new : List Atom) → k < length rs → k < length es → rs ≡ ps → es ≡ ds → p ≡ get_or rs k p → d ≡ get_or es k 0
+    → Relies s a (IsCharged t ps ds need k left) old mid → Relies s a (IsTaken t p d had after) mid new → had ≡ left → known ≡ need → got ≡ after → Relies s a (IsCharged t ps ds known (k + 1) got) old new
+charge-step s a t ps rs ds es need known k p d left had after got old mid new l m same alike is-p is-d h i e f g =
+    let q : get_or ps k p ≡ p = ap (λ (qs : List Span). get_or qs k p) (sym same) ∙ sym is-p in
+    let r : get_or ds k 0 ≡ d = ap (λ (qs : List ℕ). get_or qs k 0) (sym alike) ∙ sym is-d in
+    let l' : k < length ps = subst (λ (qs : List Span). k < length qs) same l in
+    let m' : k < length ds = subst (λ (qs : List ℕ). k < length qs) alike m in
+    let j : Relies s a (IsTaken t (get_or ps k p) (get_or ds k 0) left after) mid new =
+    subst (λ (x : ℤ). Relies s a (IsTaken t (get_or ps k p) (get_or ds k 0) x after) mid new) e
+    (subst (λ (n : ℕ). Relies s a (IsTaken t (get_or ps k p) n had after) mid new) (sym r)
+    (subst (λ (u : Span). Relies s a (IsTaken t u d had after) mid new) (sym q) i)) in
+    let b = charge-more s a t ps ds need k p 0 left after old mid new l' m' h j in
+    subst (λ (x : ℤ). Relies s a (IsCharged t ps ds x (k + 1) got) old new) (sym f) (subst (λ (x : ℤ). Relies s a (IsCharged t ps ds need (k + 1) x) old new) (sym g) b)
+
+le_or : (a b : ℕ) → (a ≤ b) ⊎ (b ≤ a)
+le_or zero b = inl (omega arith)
+le_or (suc a) zero = inr (omega arith)
+le_or (suc a) (suc b) = elim (le_or a b) [ inl h ↦ inl (omega arith) | inr h ↦ inr (omega arith) ]
+
+pub min_past : (a b k m : ℕ) → m ≡ min a b → m ≤ k → (a ≤ k) ⊎ (b ≤ k)
+min_past a b k m e l = elim (le_or a b) [ inl h ↦ inl (omega arith) | inr h ↦ inr (omega arith) ]
+
+pub charge-done : (s : Trail) (a : Atom) (t : ℤ) (ps : List Span) (ds : List ℕ) (need known : ℤ) (k : ℕ) (left : ℤ) (old new : List Atom) → (length ps ≤ k) ⊎ (length ds ≤ k) → Relies s a (IsCharged t ps ds need k left) old new → left ≤ℤ pos 0 → known ≡ need
+    → Relies s a (λ xs. known ≤ℤ demands_at xs t ps ds) old new
+charge-done s a t ps ds need known k left old new past h none same = Relies-so s a (IsCharged t ps ds need k left) (λ xs. known ≤ℤ demands_at xs t ps ds) old new h (λ xs w b. (let e = demands-past xs t ps ds k past in let f = b.demanded in omega (arith, ints)))
+
+-- the greatest capacity is a fact
+pub fact-capacity : (s : Trail) (i : ℕ) (most : ℤ) (u : Atom) (us : List Atom) → us ≡ u ∷ [] → u ≡ record { subject = i; op = Le; value = most } → i < length s.first → IsInside most → ((x : ℤ) → admits s.first s.entries i x ≡ true → x ≤ℤ most) → AreFacts s us
+fact-capacity s i most u us is same l inside up =
+    let fact : IsFact s (record { subject = i; op = Le; value = most }) = record { subject = l; inside = inside; true_now = λ x o. le_true x most (up x o) } in
+    subst (λ (vs : List Atom). AreFacts s vs) (sym is) (subst (λ (v : Atom). AreFacts s (v ∷ [])) (sym same) (All-push (IsFact s) [] (record { subject = i; op = Le; value = most }) (All-nil (IsFact s)) fact))

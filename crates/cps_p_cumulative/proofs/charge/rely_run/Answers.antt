@@ -1,0 +1,24 @@
+use Rattle.std.proofs.Common.{◌≡◌, true, subst, sym, List, length, ◌<◌, rules, FitsSigned, w64}
+use Rattle.std.specs.List.{All}
+use Rattle.std.specs.Prelude.{Ok}
+use Rattle.std.proofs.lemmas.Int.{to_z-of_z}
+use Rattle.cps_literal.specs.declared.atom.Atom.{Atom}
+use Rattle.cps_p_cumulative.proofs.Running.{start-inside, presence-inside}
+use Rattle.cps_p_cumulative.proofs.Relied.{run-relied}
+use Rattle.cps_p_cumulative.proofs.charge.rely_run.Goals as goal
+
+pub rely_all-requires-clause-subjects : goal.rely_all-requires-clause-subjects
+rely_all-requires-clause-subjects c = subst (λ (us : List Atom). All (λ u. u.subject < length c.args.past.now.first) us) (sym c.as_slice.ensures) (presence-inside c.args.past.now.first c.args.span.now c.requires.span)
+
+pub rely-requires-clause-subject : goal.rely-requires-clause-subject
+rely-requires-clause-subject c = let l = start-inside c.args.past.now.first c.args.span.now c.requires.span in rw c.at_most.ensures l
+
+pub returns : goal.returns
+returns c = λ ok.
+    let one : c.rely_all.result ≡ Ok true = cc in
+    let two : c.rely.result ≡ Ok true = cc in
+    let f : FitsSigned w64 c.args.case.time = search rules in
+    let starts = rw (to_z-of_z w64 c.args.case.time f) at c.at_most.ensures in
+    let later = rw (to_z-of_z w64 c.args.case.time f) at c.in-Some.ensures in
+    run-relied c.args.past.now c.args.case.assumed c.args.case.time c.args.span.now c.as_slice.result.now c.at_most.result c.in-Some.last c.args.facts.now.items c.rely_all.new.facts.items c.rely.new.facts.items c.rely-2.new.facts.items
+    c.as_slice.ensures starts later (c.rely_all.ensures one) (c.rely.ensures two) (c.rely-2.ensures ok)

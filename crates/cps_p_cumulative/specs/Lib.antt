@@ -1,0 +1,4 @@
+pub mod Profile
+pub mod Running
+pub mod Measuring
+pub mod Relying

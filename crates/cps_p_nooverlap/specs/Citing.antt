@@ -1,0 +1,17 @@
+-- Lists of facts that say something.
+use Rattle.std.specs.Prelude.{ℤ, List, All}
+use Rattle.cps_instance.specs.declared.task.Body.{Body}
+use Rattle.cps_rule.specs.declared.rule.Narrowing.{Narrowing}
+use Rattle.cps_literal.specs.declared.atom.Atom.{Atom}
+use Rattle.cps_trail.specs.Trail.{Trail}
+use Rattle.cps_rule.specs.Rules.{AreFacts, AllTrueAt, IsGiven}
+
+-- a list of facts grew, and where all of it is true something holds
+pub record Cites (s : Trail) (old new : List Atom) (P : List ℤ → Type 0) : Type 0 where
+  pub facts : AreFacts s old → AreFacts s new
+  pub kept : (xs : List ℤ) → AllTrueAt xs new → AllTrueAt xs old
+  pub gives : (xs : List ℤ) → AllTrueAt xs new → P xs
+
+-- each target of a list is given where each of an older list is
+abbrev pub GivesMore : Body → Trail → List Narrowing → List Narrowing → Type 0
+GivesMore body s old new = All (λ n. IsGiven body s n.target) old → All (λ n. IsGiven body s n.target) new

@@ -1,0 +1,4 @@
+pub mod Citing
+pub mod Hulls
+pub mod Intervals
+pub mod Spans

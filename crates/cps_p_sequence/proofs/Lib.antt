@@ -1,0 +1,3 @@
+pub mod Inverting
+pub mod Finding
+pub mod Tasks

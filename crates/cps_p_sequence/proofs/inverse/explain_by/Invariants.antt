@@ -1,0 +1,4 @@
+use Rattle.cps_p_sequence.proofs.inverse.explain_by.Given as goal
+
+abbrev pub invariant-loop-place : goal.invariant-loop-place
+invariant-loop-place l = Unit {0}

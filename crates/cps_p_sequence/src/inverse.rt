@@ -1,0 +1,353 @@
+//! The rule of two lists that are each other's inverse.
+ghost use Rattle.std.specs.Prelude.{◌≡◌, ◌<◌, ℤ, pos, ◌≤ℤ◌, ◌<ℤ◌, true, List, length, Contains, All, OnOk, IfOk, IsTrue};
+ghost use Rattle.cps_literal.specs.Truth.{meets};
+ghost use Rattle.cps_instance.specs.declared.task.Body.{Body as BodyOf};
+ghost use Rattle.cps_trail.specs.Trail.{IsInside};
+ghost use Rattle.cps_propagate.specs.Now.{IsOpenTo};
+ghost use Rattle.cps_rule.specs.Rules.{IsExplained};
+ghost use Rattle.cps_p_sequence.specs.Inverses.{AreGiven, AreTrue, HasPlace, IsMatched, ArePaired, AllPaired, IsWithinPlaces, AreMirroredAt, AreMirrored};
+
+use cps_enforce::Enforced;
+use cps_instance::{Body, Task};
+use cps_literal::{Atom, Op, Truth};
+use cps_rule::{Hint, Look, Narrowing, Rule};
+use cps_trail::{Before, Store};
+use std::alloc::{AllocError, Global};
+use std::marker::Model;
+
+/// The rule of a body `Inverse`. Contracts see the body. A hint says nothing.
+#[derive(Drop)]
+pub struct InverseRule {
+    direct: Vec<u32>,
+    inverse: Vec<u32>,
+}
+
+impl Model for InverseRule {
+    ghost use Rattle.cps_instance.specs.declared.task.Body.{Body};
+    ghost use Rattle.cps_instance.specs.declared.task.Body.TheVariants.{Inverse};
+
+    ghost Value = { Body };
+
+    ghost view = { λ r. Inverse r.direct.items r.inverse.items };
+}
+
+/// A position of one of the lists, by its subject and its number there.
+#[derive(Clone, Copy)]
+struct Position {
+    subject: u32,
+    number: i64,
+}
+
+/// An atom that is given, with a hint that says nothing.
+fn given(target: Atom) -> Narrowing
+    ensures { result.target ≡ target }
+{
+    Narrowing {
+        target,
+        hint: Hint { a: 0, b: 0 },
+    }
+}
+
+/// Adds what keeps a subject's values from being negative.
+fn keep_from_zero(store: &Store, subject: u32, found: &mut Vec<Narrowing>) -> Result<(), AllocError>
+    requires { subject < length store.now.first }
+    ensures given { OnOk result ((b : BodyOf) → (count : ℤ) → HasPlace b subject count → AreGiven b store.now found.old.items → AreGiven b store.now found.new.items) }
+    ensures kept { OnOk result (AreTrue store.now found.new.items → AreTrue store.now found.old.items) }
+    ensures least { OnOk result (AreTrue store.now found.new.items → (x : ℤ) → IsOpenTo store.now subject x → pos 0 ≤ℤ x) }
+{
+    if 0 <= store.domain(subject).min() {
+        return Ok(());
+    }
+    found.push(given(Atom {
+        subject,
+        op: Op::Ge,
+        value: 0,
+    }))?;
+    Ok(())
+}
+
+/// Adds what keeps a subject's values below a number.
+fn keep_below(
+    store: &Store,
+    subject: u32,
+    count: i64,
+    found: &mut Vec<Narrowing>,
+) -> Result<(), AllocError>
+    requires subject { subject < length store.now.first }
+    requires count { pos 0 ≤ℤ count }
+    ensures given { OnOk result ((b : BodyOf) → HasPlace b subject count → AreGiven b store.now found.old.items → AreGiven b store.now found.new.items) }
+    ensures kept { OnOk result (AreTrue store.now found.new.items → AreTrue store.now found.old.items) }
+    ensures below { OnOk result (AreTrue store.now found.new.items → (x : ℤ) → IsOpenTo store.now subject x → x <ℤ count) }
+{
+    if store.domain(subject).max() < count {
+        return Ok(());
+    }
+    found.push(given(Atom {
+        subject,
+        op: Op::Le,
+        value: count - 1,
+    }))?;
+    Ok(())
+}
+
+/// Adds what keeps the values of subjects among so many places.
+fn keep_within(
+    store: &Store,
+    subjects: &[u32],
+    count: i64,
+    found: &mut Vec<Narrowing>,
+) -> Result<(), AllocError>
+    requires subjects { All (λ i. i < length store.now.first) subjects.now }
+    requires count { pos 0 ≤ℤ count }
+    ensures given { OnOk result ((b : BodyOf) → All (λ i. HasPlace b i count) subjects.now → AreGiven b store.now found.old.items → AreGiven b store.now found.new.items) }
+    ensures kept { OnOk result (AreTrue store.now found.new.items → AreTrue store.now found.old.items) }
+    ensures within { OnOk result (AreTrue store.now found.new.items → All (λ i. IsWithinPlaces store.now i count) subjects.now) }
+{
+    for subject in subjects {
+        keep_from_zero(store, *subject, found)?;
+        keep_below(store, *subject, count, found)?;
+    }
+    Ok(())
+}
+
+/// Adds what keeps a position off the number of another one that cannot have its own.
+fn keep_off(
+    store: &Store,
+    one: Position,
+    other: Position,
+    found: &mut Vec<Narrowing>,
+) -> Result<(), AllocError>
+    requires one { one.subject < length store.now.first }
+    requires other { other.subject < length store.now.first }
+    ensures given { OnOk result ((b : BodyOf) → IsMatched b one.subject one.number other.subject other.number → AreGiven b store.now found.old.items → AreGiven b store.now found.new.items) }
+    ensures kept { OnOk result (AreTrue store.now found.new.items → AreTrue store.now found.old.items) }
+    ensures mirrored { OnOk result (AreTrue store.now found.new.items → IsOpenTo store.now one.subject other.number → IsOpenTo store.now other.subject one.number) }
+{
+    if !store.domain(one.subject).contains(other.number) {
+        return Ok(());
+    }
+    if store.domain(other.subject).contains(one.number) {
+        return Ok(());
+    }
+    found.push(given(Atom {
+        subject: one.subject,
+        op: Op::Ne,
+        value: other.number,
+    }))?;
+    Ok(())
+}
+
+/// Adds what keeps a position and those of a list off each other's numbers, where one cannot have the other's.
+fn keep_apart(
+    store: &Store,
+    one: Position,
+    others: &[u32],
+    found: &mut Vec<Narrowing>,
+) -> Result<(), AllocError>
+    requires one { one.subject < length store.now.first }
+    requires others { All (λ i. i < length store.now.first) others.now }
+    ensures given { OnOk result ((b : BodyOf) → ArePaired b one.subject one.number others.now → AreGiven b store.now found.old.items → AreGiven b store.now found.new.items) }
+    ensures kept { OnOk result (AreTrue store.now found.new.items → AreTrue store.now found.old.items) }
+    ensures mirrored { OnOk result (AreTrue store.now found.new.items → AreMirroredAt store.now one.subject one.number others.now) }
+{
+    for (place, subject) in others.iter().enumerate() {
+        let other = Position {
+            subject: *subject,
+            number: place as i64,
+        };
+        keep_off(store, one, other, found)?;
+        keep_off(store, other, one, found)?;
+    }
+    Ok(())
+}
+
+/// Adds what keeps each position of the first list and those of the second off each other's numbers.
+fn mirror(
+    store: &Store,
+    direct: &[u32],
+    inverse: &[u32],
+    found: &mut Vec<Narrowing>,
+) -> Result<(), AllocError>
+    requires direct { All (λ i. i < length store.now.first) direct.now }
+    requires inverse { All (λ i. i < length store.now.first) inverse.now }
+    ensures given { OnOk result ((b : BodyOf) → AllPaired b direct.now inverse.now → AreGiven b store.now found.old.items → AreGiven b store.now found.new.items) }
+    ensures kept { OnOk result (AreTrue store.now found.new.items → AreTrue store.now found.old.items) }
+    ensures mirrored { OnOk result (AreTrue store.now found.new.items → AreMirrored store.now direct.now inverse.now) }
+{
+    for (place, subject) in direct.iter().enumerate() {
+        let one = Position {
+            subject: *subject,
+            number: place as i64,
+        };
+        keep_apart(store, one, inverse, found)?;
+    }
+    Ok(())
+}
+
+/// Whether each number among so many places meets an atom.
+fn is_wide(target: Atom, count: i64) -> bool
+    requires { pos 0 ≤ℤ count }
+    ensures { IsTrue result → (x : ℤ) → pos 0 ≤ℤ x → x <ℤ count → meets target.op target.value x ≡ true }
+{
+    match target.op {
+        Op::Ge => target.value <= 0,
+        Op::Le => count - 1 <= target.value,
+        _ => false,
+    }
+}
+
+/// Whether a subject is among these.
+fn is_among(subjects: &[u32], subject: u32) -> bool
+    ensures { IsTrue result → Contains subjects.now subject }
+{
+    subjects.contains(&subject)
+}
+
+/// The greatest number that a fact may name.
+const LIMIT: i64 = (1 << 62) - 1;
+
+/// Puts the fact by which a position cannot have the place that an atom denies it: that place's position cannot have its number.
+/// Answers whether it was true.
+fn explain_by(
+    past: &Before,
+    target: Atom,
+    number: i64,
+    others: &[u32],
+    facts: &mut Vec<Atom>,
+) -> Result<bool, AllocError>
+    requires others { All (λ i. i < length past.now.first) others.now }
+    requires number { pos 0 ≤ℤ number }
+    requires op { target.op ≡ Op.Ne }
+    ensures { IfOk result (λ known. IsTrue known → (b : BodyOf) → ArePaired b target.subject number others.now → IsExplained b past.now target facts.new.items) }
+{
+    if LIMIT < number {
+        return Ok(false);
+    }
+    for (place, other) in others.iter().enumerate() {
+        if place as i64 == target.value {
+            let fact = Atom {
+                subject: *other,
+                op: Op::Ne,
+                value: number,
+            };
+            match past.truth(fact) {
+                Truth::Yes => {
+                    facts.clear();
+                    facts.push(fact)?;
+                    return Ok(true);
+                }
+                _ => return Ok(false),
+            }
+        }
+    }
+    Ok(false)
+}
+
+/// The same, for a position of a list whose subject is the atom's.
+fn explain_from(
+    past: &Before,
+    target: Atom,
+    own: &[u32],
+    others: &[u32],
+    facts: &mut Vec<Atom>,
+) -> Result<bool, AllocError>
+    requires others { All (λ i. i < length past.now.first) others.now }
+    requires op { target.op ≡ Op.Ne }
+    ensures { IfOk result (λ known. IsTrue known → (b : BodyOf) → AllPaired b own.now others.now → IsExplained b past.now target facts.new.items) }
+{
+    for (place, subject) in own.iter().enumerate() {
+        if *subject == target.subject && explain_by(past, target, place as i64, others, facts)? {
+            return Ok(true);
+        }
+    }
+    Ok(false)
+}
+
+impl InverseRule {
+    ghost use Rattle.cps_p_sequence.specs.Inverses.{is_inverse};
+
+    /// The rule of a body that is `Inverse`.
+    pub fn new(alloc: Global, body: &Body) -> Result<Self, AllocError>
+        requires { IsTrue (is_inverse body.now) }
+        ensures { IfOk result (λ rule. rule ≡ body.now) }
+    {
+        match body {
+            Body::Inverse { direct, inverse } => Ok(InverseRule {
+                direct: Vec::from_slice(alloc, direct.as_slice())?,
+                inverse: Vec::from_slice(alloc, inverse.as_slice())?,
+            }),
+            _ => unreachable!(),
+        }
+    }
+
+    /// The propagator of a task whose body is `Inverse`.
+    pub fn of(alloc: Global, task: &Task) -> Result<Enforced<InverseRule>, AllocError>
+        requires { IsTrue (is_inverse task.now.body) }
+        ensures { IfOk result (λ propagator. propagator ≡ task.now) }
+    {
+        let rule = InverseRule::new(alloc, &task.body)?;
+        let propagator = Enforced::new(alloc, task.enforcement.as_slice(), rule)?;
+        Ok(propagator)
+    }
+}
+
+impl Rule for InverseRule {
+    ghost body = { λ r. r };
+
+    fn look(&mut self, store: &Store, found: &mut Vec<Narrowing>) -> Result<Look, AllocError> {
+        found.clear();
+        let direct = self.direct.as_slice();
+        let inverse = self.inverse.as_slice();
+        let count = direct.len() as i64;
+        keep_within(store, direct, count, found)?;
+        keep_within(store, inverse, count, found)?;
+        mirror(store, direct, inverse, found)?;
+        Ok(Look::Possible)
+    }
+
+    fn explain(
+        &self,
+        past: &Before,
+        target: Atom,
+        _hint: Hint,
+        facts: &mut Vec<Atom>,
+    ) -> Result<bool, AllocError> {
+        let direct = self.direct.as_slice();
+        let inverse = self.inverse.as_slice();
+        facts.clear();
+        match target.op {
+            Op::Ne => {
+                if explain_from(past, target, direct, inverse, facts)? {
+                    return Ok(true);
+                }
+                let known = explain_from(past, target, inverse, direct, facts)?;
+                Ok(known)
+            }
+            _ => {
+                if !is_wide(target, direct.len() as i64) {
+                    return Ok(false);
+                }
+                if is_among(direct, target.subject) {
+                    return Ok(true);
+                }
+                Ok(is_among(inverse, target.subject))
+            }
+        }
+    }
+
+    fn refute(
+        &self,
+        _past: &Before,
+        _hint: Hint,
+        _facts: &mut Vec<Atom>,
+    ) -> Result<bool, AllocError> {
+        let _ = &self.direct;
+        Ok(false)
+    }
+
+    fn push_subjects(&self, subjects: &mut Vec<u32>) -> Result<(), AllocError> {
+        subjects.extend_from_slice(self.direct.as_slice())?;
+        subjects.extend_from_slice(self.inverse.as_slice())?;
+        Ok(())
+    }
+}
