@@ -127,6 +127,12 @@ decided s r h is-fixed xs are-open =
 pub at_rest : (s : Trail) (r : Resource) → HasCapacity s r.capacity r.spans r.demands → IsAtRest (body_of r) s
 at_rest s r h = record { decided = decided s r h; strong = h }
 
+-- where demands have no value below 0, none is negative at values that the store leaves
+some_of : (s : Trail) (ds : List ℕ) → All (λ i. i < length s.first) ds → All (IsNeverNegative s.first) ds → (xs : List ℤ) → IsAdmitted s.first s.entries xs → AreSome xs ds
+some_of s ds inside fit xs admitted = λ k d l.
+    let i = get_or ds k d in
+    fit k d l (value_at xs i) (admits-within s.first s.entries i (value_at xs i) (admitted i (inside k d l)))
+
 -- parts that leave room
 pub has_capacity : (s : Trail) (r : Resource) (parts : List Part) (most : ℕ) → IsProfile s r.spans r.demands parts → IsRoomy parts most → IsOpenTo s r.capacity (pos most) → HasCapacity s r.capacity r.spans r.demands
 has_capacity s r parts most profile roomy reached = record {
@@ -136,12 +142,6 @@ has_capacity s r parts most profile roomy reached = record {
       let c = up (pos most) reached in
       omega (arith, ints);
 }
-
--- demands that are never negative are not so at values that the store leaves
-some_of : (s : Trail) (ds : List ℕ) → All (λ i. i < length s.first) ds → All (IsNeverNegative s.first) ds → (xs : List ℤ) → IsAdmitted s.first s.entries xs → AreSome xs ds
-some_of s ds inside fit xs admitted = λ k d l.
-    let i = get_or ds k d in
-    fit k d l (value_at xs i) (admits-within s.first s.entries i (value_at xs i) (admitted i (inside k d l)))
 
 -- and that do not
 pub impossible : (s : Trail) (r : Resource) (parts : List Part) (most : ℕ) (t : ℤ) → IsResourceOf s.first r → IsProfile s r.spans r.demands parts → IsOver parts most t → ((x : ℤ) → IsOpenTo s r.capacity x → x ≤ℤ pos most)

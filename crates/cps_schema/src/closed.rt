@@ -3,9 +3,8 @@
 //! is taken out opens the field.
 
 /// The names of these fields.
-pub const CLOSED: [&[u8]; 5] = [
+pub const CLOSED: [&[u8]; 4] = [
     b"int_mod",
-    b"cumulative",
     b"automaton",
     b"reservoir",
     b"no_overlap_2d",

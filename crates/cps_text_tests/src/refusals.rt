@@ -39,23 +39,12 @@ Repeated at 49: search_strategy { variable_selection_strategy: 0 variable_select
 ";
 
 const CLOSED: &str = "\
-Unsupported at 14: constraints { int_div { } }
 Unsupported at 14: constraints { int_mod { } }
-Unsupported at 14: constraints { int_prod { } }
-Unsupported at 14: constraints { lin_max { } }
-Unsupported at 14: constraints { all_diff { } }
-Unsupported at 14: constraints { element { } }
-Unsupported at 14: constraints { circuit { } }
-Unsupported at 14: constraints { table { } }
-Unsupported at 14: constraints { interval { } }
-Unsupported at 14: constraints { no_overlap { } }
-Unsupported at 14: constraints { cumulative { } }
 Unsupported at 14: constraints { automaton { } }
-Unsupported at 14: constraints { inverse { } }
 Unsupported at 14: constraints { reservoir { } }
 Unsupported at 14: constraints { no_overlap_2d { } }
-Unsupported at 26: constraints { bool_or { } circuit { } }
-Unsupported at 25: constraints { linear { } lin_max: 0 }
+Unsupported at 26: constraints { bool_or { } automaton { } }
+Unsupported at 25: constraints { linear { } reservoir: 0 }
 ";
 
 const FORMS: &str = "\

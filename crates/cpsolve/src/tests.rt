@@ -11,7 +11,7 @@ const PRODUCTION: &str = "variables { domain: [0, 10] } variables { domain: [0, 
     objective { vars: [0, 1] coeffs: [-3, -2] scaling_factor: -1 }";
 
 /// Inputs of `solve` that have one answer, whatever workers do, each with its exit status and its text.
-const INPUTS: [(&str, u8, &str); 20] = [
+const INPUTS: [(&str, u8, &str); 39] = [
     ("", 0, "status: OPTIMAL\n"),
     (
         PRODUCTION,
@@ -119,6 +119,118 @@ const INPUTS: [(&str, u8, &str); 20] = [
         "variables { domain: [0, 1] } solution_hint { vars: [0, -1] values: [0, 0] }",
         1,
         "status: MODEL_INVALID\n# invalid V17 at hint\n",
+    ),
+    (
+        "variables { domain: [0, 1] } variables { domain: [0, 1] } variables { domain: [0, 1] } constraints { \
+         all_diff { exprs { vars: [0] coeffs: [1] } exprs { vars: [1] coeffs: [1] } exprs { vars: [2] coeffs: \
+         [1] } } }",
+        0,
+        "status: INFEASIBLE\n",
+    ),
+    (
+        "variables { domain: [-10, 10] } constraints { int_div { target { vars: [0] coeffs: [1] } exprs { \
+         offset: -10 } exprs { offset: 3 } } }",
+        0,
+        "status: OPTIMAL\nsolution: -3\n",
+    ),
+    (
+        "variables { domain: [-1, 1] } constraints { int_div { exprs { offset: 4 } exprs { vars: [0] coeffs: \
+         [1] } } }",
+        1,
+        "status: MODEL_INVALID\n# invalid V8 at constraint 0\n",
+    ),
+    (
+        "variables { domain: [0, 9] } constraints { int_prod { target { vars: [0] coeffs: [1] } } }",
+        0,
+        "status: OPTIMAL\nsolution: 1\n",
+    ),
+    (
+        "variables { domain: [-9, 9] } constraints { lin_max { target { vars: [0] coeffs: [1] } exprs { \
+         offset: -3 } exprs { offset: -5 } } }",
+        0,
+        "status: OPTIMAL\nsolution: -3\n",
+    ),
+    (
+        "variables { domain: [1, 1] } variables { domain: [0, 9] } variables { domain: [4, 4] } variables { \
+         domain: [7, 7] } constraints { element { index: 0 target: 1 vars: [2, 3] } }",
+        0,
+        "status: OPTIMAL\nsolution: 1\nsolution: 7\nsolution: 4\nsolution: 7\n",
+    ),
+    (
+        "variables { domain: [2, 2] } variables { domain: [0, 9] } variables { domain: [4, 4] } variables { \
+         domain: [7, 7] } constraints { element { index: 0 target: 1 vars: [2, 3] } }",
+        0,
+        "status: INFEASIBLE\n",
+    ),
+    (
+        "variables { domain: [1, 2] } variables { domain: [1, 2] } constraints { table { vars: [0, 1] values: \
+         [1, 1, 2, 2, 2, 1] negated: true } }",
+        0,
+        "status: OPTIMAL\nsolution: 1\nsolution: 2\n",
+    ),
+    (
+        "constraints { table { negated: true } } constraints { table { } }",
+        0,
+        "status: OPTIMAL\n",
+    ),
+    (
+        "constraints { table { values: 1 } }",
+        1,
+        "status: MODEL_INVALID\n# invalid V14 at constraint 0\n",
+    ),
+    (
+        "variables { domain: [0, 1] } constraints { circuit { tails: [0, 1, 2, 3] heads: [1, 0, 3, 2] \
+         literals: [0, 0, 0, 0] } }",
+        0,
+        "status: INFEASIBLE\n",
+    ),
+    (
+        "variables { domain: [0, 1] } constraints { circuit { tails: [0, 0] heads: [0, 0] literals: [0, -1] } \
+         }",
+        1,
+        "status: MODEL_INVALID\n# invalid V15 at constraint 0\n",
+    ),
+    (
+        "constraints { interval { end { offset: 5 } size { offset: 5 } } } constraints { interval { start { \
+         offset: 3 } end { offset: 3 } } } constraints { no_overlap { intervals: [0, 1] } }",
+        0,
+        "status: INFEASIBLE\n",
+    ),
+    (
+        "constraints { interval { end { offset: 5 } size { offset: 5 } } } constraints { interval { start { \
+         offset: 5 } end { offset: 5 } } } constraints { no_overlap { intervals: [0, 1] } }",
+        0,
+        "status: OPTIMAL\n",
+    ),
+    (
+        "constraints { cumulative { capacity { offset: -1 } } }",
+        0,
+        "status: INFEASIBLE\n",
+    ),
+    (
+        "constraints { interval { end { offset: 3 } size { offset: 3 } } } constraints { interval { start { \
+         offset: 2 } end { offset: 4 } size { offset: 2 } } } constraints { cumulative { capacity { offset: 3 \
+         } intervals: [0, 1] demands { offset: 2 } demands { offset: 2 } } }",
+        0,
+        "status: INFEASIBLE\n",
+    ),
+    (
+        "constraints { interval { end { offset: 3 } size { offset: 3 } } } constraints { interval { start { \
+         offset: 2 } end { offset: 4 } size { offset: 2 } } } constraints { cumulative { capacity { offset: 4 \
+         } intervals: [0, 1] demands { offset: 2 } demands { offset: 2 } } }",
+        0,
+        "status: OPTIMAL\n",
+    ),
+    (
+        "variables { domain: [0, 1] } variables { domain: [1, 1] } variables { domain: [0, 1] } variables { \
+         domain: [0, 1] } constraints { inverse { f_direct: [0, 1] f_inverse: [2, 3] } }",
+        0,
+        "status: OPTIMAL\nsolution: 0\nsolution: 1\nsolution: 0\nsolution: 1\n",
+    ),
+    (
+        "variables { domain: [0, 0] } constraints { inverse { f_direct: 0 } }",
+        1,
+        "status: MODEL_INVALID\n# invalid V5 at constraint 0\n",
     ),
 ];
 
