@@ -14,7 +14,7 @@ pub(crate) fn draws_of(seed: u64, stream: u64) -> Lcg64Xsh32
 }
 
 /// A number below `limit`: the next word modulo it.
-#[tactic(auto, unfolding(crate::specs::Draws::next_word), unfolding(crate::specs::Draws::after_word))]
+#[tactic(auto, unfolding(crate::specs::Draws::next_word, crate::specs::Draws::after_word))]
 pub(crate) fn below(draws: &mut Lcg64Xsh32, limit: u32) -> u32
     requires { 0 < limit }
     ensures value { result ≡ next_word draws.old % limit }
