@@ -3,7 +3,7 @@ ghost use Rattle.std.specs.Prelude.{◌≡◌, ◌+◌, ◌-◌, ◌*◌, ◌<�
 ghost use Rattle.cps_model.specs.declared.constraint.Kind.TheVariants as kinds;
 ghost use Rattle.cps_gen.specs.Draws.{draws_of};
 ghost use Rattle.cps_gen.specs.Parts.{first, in_force};
-ghost use Rattle.cps_gen.specs.Jobshop.{tasks, machine, run, no_sooner, is_later, last_task, tasks_on, jobshop_constraints, jobshop};
+ghost use Rattle.cps_gen.specs.Jobshop.{tasks, machine, duration, run, no_sooner, is_later, last_task, tasks_on, jobshop_constraints, jobshop};
 ghost use Rattle.cps_gen.specs.Shops.{draws_in, IsShop};
 
 use crate::draws::{below, draws_of};
@@ -24,6 +24,17 @@ struct Shop {
     seed: u64,
     durations: Vec<u32>,
     horizon: u32,
+}
+
+impl Shop {
+    /// How long a task runs.
+    fn duration(&self, task: u32) -> u32
+        requires shop { IsShop self.now }
+        requires task { task < self.now.size * self.now.size }
+        ensures { result ≡ duration (draws_in self.now) task }
+    {
+        self.durations[task as usize]
+    }
 }
 
 /// Draws the durations of all tasks.
@@ -56,7 +67,7 @@ fn run(alloc: Global, shop: &Shop, task: u32) -> Result<Constraint, AllocError>
     requires task { task < shop.now.size * shop.now.size }
     ensures { IfOk result (λ c. c ≡ in_force (run (draws_in shop.now) task)) }
 {
-    let duration = shop.durations[task as usize];
+    let duration = shop.duration(task);
     let kind = Kind::Interval {
         start: moved(alloc, task, 0)?,
         end: moved(alloc, task, duration)?,
@@ -72,7 +83,7 @@ fn no_sooner(alloc: Global, shop: &Shop, later: u32, task: u32) -> Result<Constr
     requires task { task < shop.now.size * shop.now.size }
     ensures { IfOk result (λ c. c ≡ in_force (no_sooner (draws_in shop.now) shop.now.size later task)) }
 {
-    let duration = shop.durations[task as usize];
+    let duration = shop.duration(task);
     let bounds = vec![in alloc; i64::from(duration), i64::from(shop.horizon)]?;
     let kind = Kind::Linear {
         vars: Listed::from_vec(vec![in alloc; later as i32, task as i32]?),

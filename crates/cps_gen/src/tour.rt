@@ -1,5 +1,5 @@
 //! Tours.
-ghost use Rattle.std.specs.Prelude.{◌≡◌, ◌≤◌, length, IfOk};
+ghost use Rattle.std.specs.Prelude.{◌≡◌, ◌≤◌, length, vec_len, IfOk};
 ghost use Rattle.cps_gen.specs.Draws.{draws_of};
 ghost use Rattle.cps_gen.specs.Tour.{arcs, tails, heads, costs, tour};
 
@@ -29,6 +29,8 @@ fn arcs_of(alloc: Global, size: u32, seed: u64) -> Result<Arcs, AllocError>
     ensures tails { IfOk result (λ arcs. arcs.tails.items ≡ tails size) }
     ensures heads { IfOk result (λ arcs. arcs.heads.items ≡ heads size) }
     ensures costs { IfOk result (λ each. each.costs.items ≡ costs (draws_of seed 3) (length (arcs size))) }
+    ensures count { IfOk result (λ each. vec_len each.costs ≡ length (arcs size)) }
+    ensures few { IfOk result (λ each. vec_len each.costs ≤ 3600) }
 {
     let mut draws = draws_of(seed, STREAM);
     let mut tails = Vec::new(alloc);

@@ -28,10 +28,10 @@ loop-task-preserved c =
     let g = draws_of c.args.seed 2 in
     let t = c.loop-task._task in
     let before = c.loop-task.invariant in
-    let is = draw_is g _ t 20 c.below.result before.draws c.below.ensures.value in
+    let is = draw_is g _ t 20 c.below-duration.result before.draws c.below-duration.ensures.value in
     record {
-      draws = draw_more g _ c.below.new.draws t (t + 1) before.draws c.below.ensures.after refl;
+      draws = draw_more g _ c.below-duration.new.draws t (t + 1) before.draws c.below-duration.ensures.after refl;
       durations = c.in_ok-push.ensures.items ∙ made_more (duration g) t [] c.loop-task.durations.items _ (ap (λ (n : ℕ). 1 + n) is) before.durations;
-      horizon = ap (λ (n : ℕ). n + (1 + c.below.result)) before.horizon ∙ ap (λ (n : ℕ). sum_by (duration g) (first t) + (1 + n)) is
+      horizon = ap (λ (n : ℕ). n + (1 + c.below-duration.result)) before.horizon ∙ ap (λ (n : ℕ). sum_by (duration g) (first t) + (1 + n)) is
           ∙ sym (sum_more (duration g) t);
     }
