@@ -1,5 +1,5 @@
 -- One more draw of a generator.
-use Rattle.std.proofs.Common.{◌≡◌, ℕ, suc, ◌+◌, ◌<◌, ◌≤◌, ◌%◌, arith, refl, sym, ap, ◌∙◌}
+use Rattle.std.proofs.Common.{◌≡◌, ℕ, suc, ◌+◌, ◌<◌, ◌≤◌, ◌%◌, arith, refl, ap, ◌∙◌}
 use Rattle.rand_pcg.specs.Lcg.{Lcg}
 use Rattle.cps_gen.specs.Draws.{next_word, after_word, after_words, drawn}
 

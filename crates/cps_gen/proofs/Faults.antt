@@ -1,20 +1,18 @@
 -- A model of which each part keeps each rule is valid.
-use Rattle.std.specs.Prelude.{if◌then◌else◌, ◌==◌, ◌&&◌, nat_le, nat_lt, ◌^◌, sum_by, Option, Some, None, int_le}
+use Rattle.std.specs.Prelude.{◌==◌, ◌&&◌, nat_le, nat_lt, ◌^◌, sum_by, Option, Some, None, int_le}
 use Rattle.std.specs.List.{list_all, All}
-use Rattle.std.proofs.Common.{◌≡◌, ℕ, ◌+◌, ◌<◌, ◌≤◌, ℤ, pos, List, [], ◌∷◌, ◌++◌, length, Bool, true, false, arith, refl, ap, ◌∙◌}
+use Rattle.std.proofs.Common.{◌≡◌, ℕ, ◌+◌, ◌<◌, ◌≤◌, ℤ, pos, List, [], ◌∷◌, ◌++◌, length, Bool, true, arith, refl, ap, ◌∙◌}
 use Rattle.std.proofs.lemmas.Bool.{lt-ltb, le-leb, and_from}
 use Rattle.std.proofs.lemmas.List.Elements.{All-head, All-tail}
-use Rattle.cps_model.specs.declared.model.CpModel.{CpModel}
 use Rattle.cps_model.specs.declared.model.Variable.{Variable}
 use Rattle.cps_model.specs.declared.model.LinearExpr.{LinearExpr}
 use Rattle.cps_model.specs.declared.model.Objective.{Objective}
 use Rattle.cps_model.specs.declared.constraint.Constraint.{Constraint}
-use Rattle.cps_model.specs.declared.constraint.Kind.{Kind}
 use Rattle.cps_model.specs.declared.constraint.Kind.TheVariants.{Linear, Circuit, Interval, NoOverlap}
 use Rattle.cps_model.specs.declared.place.Place.{Place}
 use Rattle.cps_model.specs.declared.place.Place.TheVariants as places
 use Rattle.cps_model.specs.Within.{is_well_shaped}
-use Rattle.cps_model.specs.Rules.{is_small, names, names_boolean, names_variables, is_paired, has_small_reach}
+use Rattle.cps_model.specs.Rules.{names, names_boolean, names_variables, is_paired, has_small_reach}
 use Rattle.cps_model.specs.KindRules.{names_interval, has_nodes}
 use Rattle.cps_model.specs.Validity.{first_broken, or_else, at_place, first_faulty, variable_fault, constraint_fault, objective_fault, size_fault, variable_entries, constraint_entries, entry_count, IsValid}
 use Rattle.cps_gen.specs.Parts.{up_to, in_force, least_of, model_of}
@@ -29,7 +27,7 @@ none_faulty : {X : Type 0} (fault : X → Option ℕ) (place : ℕ → Place) (i
 none_faulty fault place i [] h = refl
 none_faulty fault place i (x ∷ xs) h =
     or_none (at_place (place i) (fault x)) (first_faulty fault place (i + 1) xs) (at_none (place i) (fault x) (All-head (λ y. fault y ≡ None) x xs h))
-        (none_faulty fault place (i + 1) xs (All-tail (λ y. fault y ≡ None) x xs h))
+    (none_faulty fault place (i + 1) xs (All-tail (λ y. fault y ≡ None) x xs h))
 
 -- the parts of a model that keep the rules
 pub record AreKept (vs : List Variable) (cs : List Constraint) (o : Objective) : Type 0 where
@@ -47,7 +45,7 @@ size_kept vs cs o k =
     let b : nat_le (length cs) (2 ^ 20) ≡ true = le-leb _ _ k.few_constraints in
     let c : nat_le (entry_count m) (2 ^ 24) ≡ true = le-leb _ _ (omega (arith, k.entries)) in
     let all : (nat_le (length vs) (2 ^ 20) && nat_le (length cs) (2 ^ 20) && nat_le (entry_count m) (2 ^ 24)) ≡ true =
-        and_from _ _ (and_from _ _ a b) c in
+    and_from _ _ (and_from _ _ a b) c in
     ap (λ (t : Bool). first_broken ((18, t) ∷ (18, nat_lt 0 (2 ^ 32)) ∷ [])) all
 
 pub valid_from : (vs : List Variable) (cs : List Constraint) (o : Objective) → AreKept vs cs o → IsValid (model_of vs cs o)

@@ -1,7 +1,7 @@
 -- A job shop is valid.
-use Rattle.std.specs.Prelude.{int_le, ◌-◌, ◌/◌, ◌%◌, ◌^◌, ◌==◌, filter, replicate, sum_by, unsigned_abs, slice_get, IsTrue, Some, None}
-use Rattle.std.specs.List.{list_all, All, range_with_len}
-use Rattle.std.proofs.Common.{◌≡◌, ℕ, zero, suc, ◌+◌, ◌*◌, ◌<◌, ◌≤◌, ℤ, pos, neg_ℤ, List, [], ◌∷◌, ◌++◌, length, map, Bool, true, arith, refl, ap, sym, ◌∙◌, lit<, lit≤}
+use Rattle.std.specs.Prelude.{int_le, ◌-◌, ◌^◌, ◌==◌, filter, replicate, unsigned_abs, slice_get, IsTrue, None}
+use Rattle.std.specs.List.{All, range_with_len}
+use Rattle.std.proofs.Common.{◌≡◌, ℕ, zero, suc, ◌+◌, ◌*◌, ◌<◌, ◌≤◌, pos, neg_ℤ, List, [], ◌∷◌, ◌++◌, length, map, true, arith, refl, ◌∙◌, lit<, lit≤}
 use Rattle.std.proofs.Math.Nat.{mul-le-mul, mul-le-mul_right}
 use Rattle.std.proofs.lemmas.Bool.{le-leb}
 use Rattle.std.proofs.lemmas.List.{length-replicate, length-map, length-append}
@@ -12,7 +12,7 @@ use Rattle.std.proofs.lemmas.List.FromFn.{length-map-range_with_len}
 use Rattle.rand_pcg.specs.Lcg.{Lcg}
 use Rattle.cps_model.specs.declared.model.Variable.{Variable}
 use Rattle.cps_model.specs.declared.constraint.Constraint.{Constraint}
-use Rattle.cps_model.specs.declared.constraint.Kind.TheVariants.{Linear, NoOverlap}
+use Rattle.cps_model.specs.declared.constraint.Kind.TheVariants.{NoOverlap}
 use Rattle.cps_model.specs.Within.{is_well_shaped}
 use Rattle.cps_model.specs.KindRules.{is_interval, is_some_interval, names_interval}
 use Rattle.cps_model.specs.Validity.{variable_fault, constraint_fault, variable_entries, constraint_entries, IsValid}
@@ -128,15 +128,15 @@ all_good g n few =
     let later = All-filter (is_later n) (λ t. t < n * n) (tasks n) each in
     All-append P _ _
     (All-append P _ _
-        (All-append P _ _
-            (All-map P (λ t. in_force (run g t)) (tasks n)
-                (All-weaker (λ t. t < n * n) (λ t. P (in_force (run g t))) (λ t lt. good_run g n t few lt) (tasks n) each))
-            (All-map P (λ t. in_force (no_sooner g n t (t - 1))) (filter (is_later n) (tasks n))
-                (All-weaker (λ t. t < n * n) (λ t. P (in_force (no_sooner g n t (t - 1)))) (λ t lt. good_no_sooner g n t (t - 1) few (omega arith) (omega arith))
-                    (filter (is_later n) (tasks n)) later)))
-        (All-map P (λ job. in_force (no_sooner g n (n * n) (last_task n job))) (first n)
-            (All-weaker (λ job. job < n) (λ job. P (in_force (no_sooner g n (n * n) (last_task n job))))
-                (λ job lt. good_no_sooner g n (n * n) (last_task n job) few (omega arith) (last_below n job lt)) (first n) (below_first n))))
+    (All-append P _ _
+    (All-map P (λ t. in_force (run g t)) (tasks n)
+    (All-weaker (λ t. t < n * n) (λ t. P (in_force (run g t))) (λ t lt. good_run g n t few lt) (tasks n) each))
+    (All-map P (λ t. in_force (no_sooner g n t (t - 1))) (filter (is_later n) (tasks n))
+    (All-weaker (λ t. t < n * n) (λ t. P (in_force (no_sooner g n t (t - 1)))) (λ t lt. good_no_sooner g n t (t - 1) few (omega arith) (omega arith))
+    (filter (is_later n) (tasks n)) later)))
+    (All-map P (λ job. in_force (no_sooner g n (n * n) (last_task n job))) (first n)
+    (All-weaker (λ job. job < n) (λ job. P (in_force (no_sooner g n (n * n) (last_task n job))))
+    (λ job lt. good_no_sooner g n (n * n) (last_task n job) few (omega arith) (last_below n job lt)) (first n) (below_first n))))
     (All-map P (λ m. in_force (NoOverlap (map pos (tasks_on n m)))) (first n) (λ k d lt. good_machine g n _ few))
 
 pub jobshop_told : (g : Lcg) (n : ℕ) → n ≤ 16 → All (λ c. IsTrue (is_generated c.kind)) (jobshop_constraints g n)

@@ -1,15 +1,13 @@
 -- A knapsack is valid.
-use Rattle.std.specs.Prelude.{int_le, ◌/◌, ◌^◌, ◌==◌, replicate, sum_by, unsigned_abs, Some, None}
-use Rattle.std.specs.List.{list_all, All}
-use Rattle.std.proofs.Common.{◌≡◌, ℕ, ◌+◌, ◌*◌, ◌<◌, ◌≤◌, ℤ, pos, neg_ℤ, List, [], ◌∷◌, length, map, true, arith, refl, ap, sym, ◌∙◌, lit<, lit≤}
+use Rattle.std.specs.Prelude.{int_le, ◌/◌, ◌^◌, replicate, unsigned_abs, None}
+use Rattle.std.specs.List.{All}
+use Rattle.std.proofs.Common.{◌≡◌, ℕ, ◌+◌, ◌*◌, ◌<◌, ◌≤◌, pos, neg_ℤ, [], ◌∷◌, length, true, arith, lit<, lit≤}
 use Rattle.std.proofs.lemmas.Bool.{le-leb}
-use Rattle.std.proofs.lemmas.List.{length-replicate, length-map}
+use Rattle.std.proofs.lemmas.List.{length-replicate}
 use Rattle.std.proofs.lemmas.List.Elements.{All-nil, All-cons, All-replicate, All-map}
 use Rattle.std.proofs.lemmas.List.Folds.{sum_by-replicate}
-use Rattle.std.proofs.lemmas.List.FromFn.{length-map-range_with_len, length-range_with_len}
+use Rattle.std.proofs.lemmas.List.FromFn.{length-map-range_with_len}
 use Rattle.rand_pcg.specs.Lcg.{Lcg}
-use Rattle.cps_model.specs.declared.model.Variable.{Variable}
-use Rattle.cps_model.specs.declared.constraint.Constraint.{Constraint}
 use Rattle.cps_model.specs.declared.constraint.Kind.TheVariants.{Linear}
 use Rattle.cps_model.specs.Within.{is_well_shaped}
 use Rattle.cps_model.specs.Validity.{variable_fault, constraint_fault, variable_entries, IsValid}
@@ -17,7 +15,6 @@ use Rattle.cps_model.proofs.Inside.{unsigned_abs-neg}
 use Rattle.cps_gen.specs.Parts.{first, references, up_to, in_force, least_of}
 use Rattle.cps_gen.specs.Knapsack.{weight, value, weights, losses, total_weight, knapsack}
 use Rattle.cps_gen.proofs.Drawn.{one_to}
-use Rattle.cps_gen.proofs.Lists.{sum_small}
 use Rattle.cps_gen.proofs.Faults.{valid_from, up_to_kept, linear_kept, least_kept}
 use Rattle.cps_gen.proofs.Reaches.{references_named, small_reach, equally_many}
 
@@ -47,7 +44,7 @@ knapsack_valid g n few =
       variables = All-replicate (λ v. variable_fault v ≡ None) n (up_to 1) (up_to_kept 1 (lit< tt));
       constraints = All-cons (λ k. constraint_fault vs (c ∷ []) k ≡ None) c []
           (linear_kept vs (c ∷ []) (references n) (weights g n) domain (references_named n (up_to 1)) (equally_many n pos (λ i. pos (weight g i)))
-              (small_reach n 1 100 0 (references n) (weights g n) (weights_small g n) heavy) shaped)
+          (small_reach n 1 100 0 (references n) (weights g n) (weights_small g n) heavy) shaped)
           (All-nil (λ k. constraint_fault vs (c ∷ []) k ≡ None));
       objective = least_kept vs (references n) (losses g n) (neg_ℤ (pos 1)) (references_named n (up_to 1)) (equally_many n pos (λ i. neg_ℤ (pos (value g i))))
           (small_reach n 1 100 0 (references n) (losses g n) (losses_small g n) dear);

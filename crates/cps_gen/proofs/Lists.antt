@@ -1,10 +1,10 @@
 -- Lists that are made by number, and one more item of each.
 use Rattle.std.specs.Prelude.{sum_by, filter}
-use Rattle.std.specs.List.{range_with_len, All}
-use Rattle.std.proofs.Common.{◌≡◌, ℕ, ◌+◌, ◌*◌, ◌<◌, ◌≤◌, Bool, true, false, cond, List, [], ◌∷◌, ◌++◌, length, map, replicate, get_or, arith, refl, sym, ap, subst, ◌∙◌, zero-add}
-use Rattle.std.proofs.lemmas.List.{map-append, map_push, length-map, replicate_more, append-nil, append_assoc}
+use Rattle.std.specs.List.{range_with_len}
+use Rattle.std.proofs.Common.{◌≡◌, ℕ, ◌+◌, ◌*◌, ◌<◌, ◌≤◌, Bool, true, false, cond, List, [], ◌∷◌, ◌++◌, length, map, get_or, arith, refl, sym, ap, subst, ◌∙◌, zero-add}
+use Rattle.std.proofs.lemmas.List.{map_push, append-nil, append_assoc}
 use Rattle.std.proofs.lemmas.List.Elements.{filter-append}
-use Rattle.std.proofs.lemmas.List.FromFn.{map-range_with_len_more, get_or-map-range_with_len, length-range_with_len, get_or-range_with_len}
+use Rattle.std.proofs.lemmas.List.FromFn.{map-range_with_len_more, length-range_with_len, get_or-range_with_len}
 use Rattle.std.proofs.lemmas.List.Sums.{sum_by_push, sum_by-le, length-filter, count_by-le-length, get_or-le-sum_by}
 
 -- one more number

@@ -1,19 +1,18 @@
 -- References to variables from 0 to one number, and how far sums over them go.
-use Rattle.std.specs.Prelude.{nat_lt, ◌^◌, ◌==◌, replicate, unsigned_abs, slice_get, slice_index_or, Option, Some, None}
-use Rattle.std.specs.List.{list_all, All, range_with_len}
-use Rattle.std.proofs.Common.{◌≡◌, ℕ, zero, suc, ◌+◌, ◌*◌, ◌<◌, ◌≤◌, ℤ, pos, List, [], ◌∷◌, length, get_or, map, Bool, true, arith, refl, ap, sym, subst, ◌∙◌, zero-add}
+use Rattle.std.specs.Prelude.{nat_lt, ◌^◌, ◌==◌, replicate, unsigned_abs, slice_index_or}
+use Rattle.std.specs.List.{list_all, All}
+use Rattle.std.proofs.Common.{◌≡◌, ℕ, zero, suc, ◌+◌, ◌*◌, ◌<◌, ◌≤◌, ℤ, pos, List, [], ◌∷◌, length, map, true, arith, refl, ap, sym, ◌∙◌}
 use Rattle.std.proofs.Math.Nat.{mul-le-mul}
 use Rattle.std.proofs.lemmas.Bool.{lt-ltb, eq-eqb}
 use Rattle.std.proofs.lemmas.List.{length-replicate, length-map}
-use Rattle.std.proofs.lemmas.List.Elements.{All-head, All-tail, All-nil, All-cons, All-replicate, All-map, All-weaker}
+use Rattle.std.proofs.lemmas.List.Elements.{All-head, All-tail, All-replicate, All-map, All-weaker}
 use Rattle.std.proofs.lemmas.List.Folds.{list_all-map}
 use Rattle.std.proofs.lemmas.List.Sums.{list_all-from_AllPass}
 use Rattle.std.proofs.lemmas.List.FromFn.{get_or-range_with_len, length-range_with_len}
 use Rattle.cps_model.specs.declared.model.Variable.{Variable}
-use Rattle.cps_model.specs.declared.model.LinearExpr.{LinearExpr}
 use Rattle.cps_model.specs.Values.{variable_of}
 use Rattle.cps_model.specs.Reach.{magnitude_of, magnitude_at, reach_of}
-use Rattle.cps_model.specs.Rules.{names, names_boolean, has_small_reach, is_small}
+use Rattle.cps_model.specs.Rules.{names, names_boolean, has_small_reach}
 use Rattle.cps_gen.specs.Parts.{first, references, up_to}
 
 -- so many numbers are below it
@@ -44,7 +43,7 @@ pub references_boolean : (count : ℕ) → list_all (names_boolean (replicate co
 references_boolean count =
     list_all-map (names_boolean (replicate count (up_to 1))) pos (first count)
     ∙ list_all-from_AllPass (λ i. names_boolean (replicate count (up_to 1)) (pos i)) (first count)
-        (All-weaker (λ i. i < count) (λ i. names_boolean (replicate count (up_to 1)) (pos i) ≡ true) (boolean_at count) (first count) (below_first count))
+    (All-weaker (λ i. i < count) (λ i. names_boolean (replicate count (up_to 1)) (pos i) ≡ true) (boolean_at count) (first count) (below_first count))
 
 -- no bound is further from 0 than the greatest
 at_most : (ms : List ℕ) (greatest i : ℕ) → All (λ m. m ≤ greatest) ms → slice_index_or ms i 0 ≤ greatest
@@ -55,8 +54,8 @@ at_most (m ∷ ms) greatest (suc i) h = at_most ms greatest i (All-tail (λ m. m
 magnitude_small : (count greatest : ℕ) (r : ℤ) → magnitude_at (replicate count (up_to greatest)) r ≤ greatest
 magnitude_small count greatest r =
     at_most (map magnitude_of (replicate count (up_to greatest))) greatest (variable_of r)
-        (All-map (λ m. m ≤ greatest) magnitude_of (replicate count (up_to greatest))
-            (All-replicate (λ v. magnitude_of v ≤ greatest) count (up_to greatest) (omega arith)))
+    (All-map (λ m. m ≤ greatest) magnitude_of (replicate count (up_to greatest))
+    (All-replicate (λ v. magnitude_of v ≤ greatest) count (up_to greatest) (omega arith)))
 
 -- so many terms go no further than the most that one may
 reach_small : (count greatest most : ℕ) (rs cs : List ℤ) → All (λ c. unsigned_abs c ≤ most) cs → reach_of (replicate count (up_to greatest)) rs cs ≤ length cs * (most * greatest)

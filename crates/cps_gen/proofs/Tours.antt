@@ -1,7 +1,7 @@
 -- A tour is valid.
-use Rattle.std.specs.Prelude.{int_le, ◌/◌, ◌%◌, ◌^◌, ◌==◌, ◌&&◌, filter, replicate, sum_by, unsigned_abs, Some, None}
+use Rattle.std.specs.Prelude.{int_le, ◌/◌, ◌%◌, ◌^◌, ◌==◌, replicate, unsigned_abs, None}
 use Rattle.std.specs.List.{list_all, All}
-use Rattle.std.proofs.Common.{◌≡◌, ℕ, ◌+◌, ◌*◌, ◌<◌, ◌≤◌, ℤ, pos, List, [], ◌∷◌, length, map, Bool, true, false, not, arith, refl, ap, sym, ◌∙◌, lit<, lit≤}
+use Rattle.std.proofs.Common.{◌≡◌, ℕ, ◌+◌, ◌*◌, ◌<◌, ◌≤◌, ℤ, pos, List, [], ◌∷◌, length, map, true, false, arith, refl, ap, sym, ◌∙◌, lit<, lit≤}
 use Rattle.std.proofs.Math.Nat.{mul-le-mul}
 use Rattle.std.proofs.lemmas.Bool.{le-leb, eq-eqb, eqb-false, and_from, not-true, false_from_ne_true}
 use Rattle.std.proofs.lemmas.Bool.Decides.{Decides-int_eq}
@@ -11,7 +11,6 @@ use Rattle.std.proofs.lemmas.List.Elements.{All-head, All-tail, All-nil, All-con
 use Rattle.std.proofs.lemmas.List.Folds.{sum_by-replicate}
 use Rattle.std.proofs.lemmas.List.FromFn.{length-map-range_with_len}
 use Rattle.rand_pcg.specs.Lcg.{Lcg}
-use Rattle.cps_model.specs.declared.constraint.Constraint.{Constraint}
 use Rattle.cps_model.specs.declared.constraint.Kind.TheVariants.{Circuit}
 use Rattle.cps_model.specs.KindRules.{loop_nodes, has_no_two_equal, has_nodes}
 use Rattle.cps_model.specs.Validity.{variable_fault, constraint_fault, variable_entries, IsValid}
@@ -70,7 +69,7 @@ tour_valid g n few =
       variables = All-replicate (λ v. variable_fault v ≡ None) count (up_to 1) (up_to_kept 1 (lit< tt));
       constraints = All-cons (λ k. constraint_fault vs (c ∷ []) k ≡ None) c []
           (circuit_kept vs (c ∷ []) (tails n) (heads n) (references count) (references_named count (up_to 1)) (references_boolean count)
-              (eq-eqb _ _ (tail_count ∙ sym head_count)) (eq-eqb _ _ (tail_count ∙ sym literal_count)) (nodes_kept n (references count)))
+          (eq-eqb _ _ (tail_count ∙ sym head_count)) (eq-eqb _ _ (tail_count ∙ sym literal_count)) (nodes_kept n (references count)))
           (All-nil (λ k. constraint_fault vs (c ∷ []) k ≡ None));
       objective = least_kept vs (references count) (costs g count) (pos 1) (references_named count (up_to 1)) (equally_many count pos (λ a. pos (cost g a)))
           (small_reach count 1 100 0 (references count) (costs g count) (costs_small g count) dear);

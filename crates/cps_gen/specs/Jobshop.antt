@@ -1,6 +1,6 @@
 -- A job shop of n jobs on n machines: each job has n steps, each on another machine, in order. Task t is step t % n of job
 -- t / n. Variable t is when task t starts, and variable n * n is when all tasks have ended.
-use Rattle.std.specs.Prelude.{ℕ, ◌+◌, ◌-◌, ◌*◌, ◌/◌, ◌%◌, ◌==◌, Bool, not, ℤ, pos, neg_ℤ, List, [], ◌∷◌, ◌++◌, map, filter, replicate, sum_by}
+use Rattle.std.specs.Prelude.{ℕ, ◌+◌, ◌-◌, ◌*◌, ◌/◌, ◌%◌, ◌==◌, Bool, not, pos, neg_ℤ, List, [], ◌∷◌, ◌++◌, map, filter, replicate, sum_by}
 use Rattle.rand_pcg.specs.Lcg.{Lcg}
 use Rattle.cps_model.specs.declared.model.CpModel.{CpModel}
 use Rattle.cps_model.specs.declared.constraint.Constraint.{Constraint}

@@ -94,11 +94,7 @@ fn no_sooner(alloc: Global, shop: &Shop, later: u32, task: u32) -> Result<Constr
 }
 
 /// Adds that all tasks run.
-fn add_runs(
-    alloc: Global,
-    shop: &Shop,
-    constraints: &mut Vec<Constraint>,
-) -> Result<(), AllocError>
+fn add_runs(alloc: Global, shop: &Shop, constraints: &mut Vec<Constraint>) -> Result<(), AllocError>
     requires { IsShop shop.now }
     ensures { OnOk result (constraints.new.items ≡ constraints.old.items ++ map (λ t. in_force (run (draws_in shop.now) t)) (tasks shop.now.size)) }
 {
@@ -137,11 +133,7 @@ fn last_task(size: u32, job: u32) -> u32
 }
 
 /// Adds that all has ended no sooner than the last task of each job.
-fn add_ends(
-    alloc: Global,
-    shop: &Shop,
-    constraints: &mut Vec<Constraint>,
-) -> Result<(), AllocError>
+fn add_ends(alloc: Global, shop: &Shop, constraints: &mut Vec<Constraint>) -> Result<(), AllocError>
     requires { IsShop shop.now }
     ensures { OnOk result (constraints.new.items ≡ constraints.old.items
         ++ map (λ job. in_force (no_sooner (draws_in shop.now) shop.now.size (shop.now.size * shop.now.size) (last_task shop.now.size job))) (first shop.now.size)) }

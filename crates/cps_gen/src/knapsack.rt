@@ -80,10 +80,5 @@ pub(crate) fn knapsack(alloc: Global, size: u32, seed: u64) -> Result<CpModel, A
     let constraints = capacity(alloc, size, Listed::from_vec(weights), total)?;
     let vars = references(alloc, size)?;
     let objective = least_of(alloc, vars, Listed::from_vec(losses), -1);
-    Ok(model_of(
-        alloc,
-        variables(alloc, size, 1)?,
-        constraints,
-        objective,
-    ))
+    Ok(model_of(alloc, variables(alloc, size, 1)?, constraints, objective))
 }

@@ -50,7 +50,7 @@ fn has_objective(model: &CpModel, coeffs: &[i64], scaling: i64) -> bool {
 fn is_load(constraint: &Constraint, weights: &[i64], most: i64) -> bool {
     match &constraint.kind {
         Kind::Linear { coeffs, domain, .. } => {
-            coeffs.as_slice() == weights && domain.as_slice() == &[0, most]
+            coeffs.as_slice() == weights && domain.as_slice() == [0, most].as_slice()
         }
         _ => false,
     }
@@ -86,24 +86,116 @@ fn runs_are(model: &CpModel, durations: &[i64]) -> bool {
     true
 }
 
-/// Whether a model has one constraint, which passes.
-fn has_one(model: &CpModel, passes: impl Fn(&Constraint) -> bool) -> bool {
-    match model.constraints.as_slice() {
-        [constraint] => passes(constraint),
-        _ => false,
-    }
-}
-
-/// Whether a generated model has so many variables and constraints.
-fn counts_are(
+/// The generated model, none where the family has none of this size.
+fn model_of(
     alloc: Global,
     family: Family,
     size: u32,
-    counts: (usize, usize),
-) -> Result<bool, AllocError> {
+    seed: u64,
+) -> Result<Option<CpModel>, AllocError> {
     if !family.is_in_range(size) {
-        return Ok(false);
+        return Ok(None);
     }
-    let model = generate(alloc, family, size, 1)?;
-    Ok((model.variables.len(), model.constraints.len()) == counts)
+    Ok(Some(generate(alloc, family, size, seed)?))
+}
+
+/// Whether a knapsack has these numbers.
+fn knapsack_is(
+    alloc: Global,
+    (size, seed): (u32, u64),
+    weights: &[i64],
+    losses: &[i64],
+    most: i64,
+) -> Result<bool, AllocError> {
+    let Some(model) = model_of(alloc, Family::Knapsack, size, seed)? else {
+        return Ok(false);
+    };
+    let [load] = model.constraints.as_slice() else {
+        return Ok(false);
+    };
+    Ok(has_objective(&model, losses, -1) && is_load(load, weights, most))
+}
+
+/// Whether the tasks of a job shop run so long.
+fn jobshop_is(
+    alloc: Global,
+    size: u32,
+    seed: u64,
+    durations: &[i64],
+) -> Result<bool, AllocError> {
+    let Some(model) = model_of(alloc, Family::Jobshop, size, seed)? else {
+        return Ok(false);
+    };
+    Ok(has_objective(&model, &[1], 1) && runs_are(&model, durations))
+}
+
+/// Whether a tour has these arcs and costs.
+fn tour_is(
+    alloc: Global,
+    (size, seed): (u32, u64),
+    tails: &[i32],
+    heads: &[i32],
+    costs: &[i64],
+) -> Result<bool, AllocError> {
+    let Some(model) = model_of(alloc, Family::Tour, size, seed)? else {
+        return Ok(false);
+    };
+    let [circuit] = model.constraints.as_slice() else {
+        return Ok(false);
+    };
+    Ok(has_objective(&model, costs, 1) && is_circuit(circuit, tails, heads))
+}
+
+/// How many variables and constraints a model has.
+fn counts_of(
+    alloc: Global,
+    family: Family,
+    size: u32,
+) -> Result<Option<(usize, usize)>, AllocError> {
+    let Some(model) = model_of(alloc, family, size, 1)? else {
+        return Ok(None);
+    };
+    Ok(Some((model.variables.len(), model.constraints.len())))
+}
+
+#[test]
+fn knapsacks(rt: HostRuntime) -> Result<(), Fail> {
+    let alloc = rt.alloc();
+    for (size, seed, weights, losses, most) in KNAPSACKS {
+        assert!(rt; knapsack_is(alloc, (size, seed), weights, losses, most)?, "{size} {seed}");
+    }
+    Ok(())
+}
+
+#[test]
+fn jobshops(rt: HostRuntime) -> Result<(), Fail> {
+    let alloc = rt.alloc();
+    for (size, seed, durations) in JOBSHOPS {
+        assert!(rt; jobshop_is(alloc, size, seed, durations)?, "{size} {seed}");
+    }
+    Ok(())
+}
+
+#[test]
+fn tours(rt: HostRuntime) -> Result<(), Fail> {
+    let alloc = rt.alloc();
+    for (size, seed, tails, heads, costs) in TOURS {
+        assert!(rt; tour_is(alloc, (size, seed), tails, heads, costs)?, "{size} {seed}");
+    }
+    Ok(())
+}
+
+#[test]
+fn counts(rt: HostRuntime) -> Result<(), Fail> {
+    let alloc = rt.alloc();
+    for (family, size, counts) in [
+        (Family::Knapsack, 10_000, (10_000, 1)),
+        (Family::Jobshop, 1, (2, 3)),
+        (Family::Jobshop, 16, (257, 528)),
+        (Family::Tour, 2, (2, 1)),
+        (Family::Tour, 60, (3540, 1)),
+    ] {
+        assert!(rt; counts_of(alloc, family, size)? == Some(counts), "{size}");
+    }
+    Ok(())
 }

@@ -10,4 +10,4 @@ loop-machine-preserved c =
     let n = c.args.shop.now.size in
     c.in_ok-push.ensures.items
     ∙ made_more (λ m. in_force (NoOverlap (map pos (tasks_on n m)))) c.loop-machine.machine c.args.constraints.now.items c.loop-machine.constraints.items _
-        (c.in_force.ensures ∙ ap (λ refs. in_force (NoOverlap refs)) c.in_ok-tasks_on.ensures) c.loop-machine.invariant
+    (c.in_force.ensures ∙ ap (λ refs. in_force (NoOverlap refs)) c.in_ok-tasks_on.ensures) c.loop-machine.invariant

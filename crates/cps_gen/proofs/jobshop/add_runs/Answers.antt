@@ -9,4 +9,4 @@ pub loop-task-preserved : goal.loop-task-preserved
 loop-task-preserved c =
     c.in_ok-push.ensures.items
     ∙ made_more (λ t. in_force (run (draws_in c.args.shop.now) t)) c.loop-task.task c.args.constraints.now.items c.loop-task.constraints.items _
-        c.in_ok-run.ensures c.loop-task.invariant
+    c.in_ok-run.ensures c.loop-task.invariant

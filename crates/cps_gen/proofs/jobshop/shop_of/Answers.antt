@@ -1,5 +1,5 @@
 use Rattle.std.specs.Prelude.{sum_by}
-use Rattle.std.proofs.Common.{◌≡◌, ℕ, ◌+◌, ◌*◌, ◌≤◌, [], arith, refl, sym, ap, subst, ◌∙◌, lit<}
+use Rattle.std.proofs.Common.{ℕ, ◌+◌, ◌*◌, ◌≤◌, [], arith, refl, sym, ap, subst, ◌∙◌, lit<}
 use Rattle.cps_gen.specs.Draws.{draws_of}
 use Rattle.cps_gen.specs.Parts.{first}
 use Rattle.cps_gen.specs.Jobshop.{duration}

@@ -1,5 +1,5 @@
 -- The durations below the index are drawn, a word for each.
-use Rattle.std.proofs.Common.{◌≡◌, map, ◌≤◌, ◌*◌}
+use Rattle.std.proofs.Common.{◌≡◌, map}
 use Rattle.std.specs.Prelude.{sum_by}
 use Rattle.cps_gen.specs.Draws.{draws_of, after_words}
 use Rattle.cps_gen.specs.Parts.{first}

@@ -1,4 +1,4 @@
-use Rattle.std.proofs.Common.{◌≡◌, ℕ, ◌+◌, ◌*◌, ◌≤◌, ℤ, pos, neg_ℤ, List, [], ◌∷◌, ◌++◌, arith, refl, sym, ap, subst, ◌∙◌, lit<}
+use Rattle.std.proofs.Common.{ℕ, ◌+◌, ◌*◌, ◌≤◌, pos, neg_ℤ, [], arith, refl, sym, ap, subst, ◌∙◌, lit<}
 use Rattle.std.proofs.lemmas.Int.{ints}
 use Rattle.cps_gen.specs.Draws.{draws_of}
 use Rattle.cps_gen.specs.Knapsack.{weight, value, total_weight}

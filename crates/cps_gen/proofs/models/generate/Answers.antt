@@ -25,34 +25,34 @@ has (Err f) m P p e = e
 pub returns-in-Knapsack-clause-stated : goal.returns-in-Knapsack-clause-stated
 returns-in-Knapsack-clause-stated c =
     stated c.knapsack.result (knapsack (draws_of c.args.seed 1) c.args.size) (generated c.args.family c.args.size c.args.seed)
-        (generated_knapsack c.args.family c.args.size c.args.seed c.in-Knapsack.is) c.knapsack.ensures
+    (generated_knapsack c.args.family c.args.size c.args.seed c.in-Knapsack.is) c.knapsack.ensures
 
 pub returns-in-Knapsack-clause-valid : goal.returns-in-Knapsack-clause-valid
 returns-in-Knapsack-clause-valid c =
     has c.knapsack.result (generated c.args.family c.args.size c.args.seed) IsValid (generated_valid c.args.family c.args.size c.args.seed c.requires.range)
-        (returns-in-Knapsack-clause-stated c)
+    (returns-in-Knapsack-clause-stated c)
 
 pub returns-in-Jobshop-clause-stated : goal.returns-in-Jobshop-clause-stated
 returns-in-Jobshop-clause-stated c =
     stated c.jobshop.result (jobshop (draws_of c.args.seed 2) c.args.size) (generated c.args.family c.args.size c.args.seed)
-        (generated_jobshop c.args.family c.args.size c.args.seed c.in-Jobshop.is) c.jobshop.ensures
+    (generated_jobshop c.args.family c.args.size c.args.seed c.in-Jobshop.is) c.jobshop.ensures
 
 pub returns-in-Jobshop-clause-valid : goal.returns-in-Jobshop-clause-valid
 returns-in-Jobshop-clause-valid c =
     has c.jobshop.result (generated c.args.family c.args.size c.args.seed) IsValid (generated_valid c.args.family c.args.size c.args.seed c.requires.range)
-        (returns-in-Jobshop-clause-stated c)
+    (returns-in-Jobshop-clause-stated c)
 
 pub returns-in-Jobshop-clause-kinds : goal.returns-in-Jobshop-clause-kinds
 returns-in-Jobshop-clause-kinds c =
     has c.jobshop.result (generated c.args.family c.args.size c.args.seed) (λ m. All (λ k. IsTrue (is_generated k.kind)) m.constraints)
-        (generated_told c.args.family c.args.size c.args.seed c.requires.range) (returns-in-Jobshop-clause-stated c)
+    (generated_told c.args.family c.args.size c.args.seed c.requires.range) (returns-in-Jobshop-clause-stated c)
 
 pub returns-in-Tour-clause-stated : goal.returns-in-Tour-clause-stated
 returns-in-Tour-clause-stated c =
     stated c.tour.result (tour (draws_of c.args.seed 3) c.args.size) (generated c.args.family c.args.size c.args.seed)
-        (generated_tour c.args.family c.args.size c.args.seed c.in-Tour.is) c.tour.ensures
+    (generated_tour c.args.family c.args.size c.args.seed c.in-Tour.is) c.tour.ensures
 
 pub returns-in-Tour-clause-valid : goal.returns-in-Tour-clause-valid
 returns-in-Tour-clause-valid c =
     has c.tour.result (generated c.args.family c.args.size c.args.seed) IsValid (generated_valid c.args.family c.args.size c.args.seed c.requires.range)
-        (returns-in-Tour-clause-stated c)
+    (returns-in-Tour-clause-stated c)

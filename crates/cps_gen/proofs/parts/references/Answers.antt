@@ -1,4 +1,4 @@
-use Rattle.std.proofs.Common.{ℤ, pos, [], arith, ◌∙◌}
+use Rattle.std.proofs.Common.{pos, [], arith, ◌∙◌}
 use Rattle.std.proofs.lemmas.Int.{ints}
 use Rattle.cps_gen.proofs.Lists.{made_more}
 use Rattle.cps_gen.proofs.parts.references.Goals as goal

@@ -1,4 +1,4 @@
-use Rattle.std.proofs.Common.{◌≡◌, ℕ, ◌*◌, ◌<◌, length, get_or, arith, ap, ◌∙◌, refl}
+use Rattle.std.proofs.Common.{◌≡◌, ◌*◌, length, get_or, arith, ap, ◌∙◌}
 use Rattle.std.proofs.lemmas.List.FromFn.{length-map-range_with_len, get_or-map-range_with_len}
 use Rattle.cps_gen.specs.Jobshop.{duration}
 use Rattle.cps_gen.specs.Shops.{draws_in}
@@ -8,7 +8,7 @@ pub index-requires : goal.index-requires
 index-requires c =
     let shop = c.args.self.now in
     let long : length shop.durations.items ≡ shop.size * shop.size =
-        ap length c.requires.shop.durations ∙ length-map-range_with_len (duration (draws_in shop)) 0 (shop.size * shop.size) in
+    ap length c.requires.shop.durations ∙ length-map-range_with_len (duration (draws_in shop)) 0 (shop.size * shop.size) in
     omega (arith, long)
 
 pub returns : goal.returns
