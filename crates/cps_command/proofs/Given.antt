@@ -58,13 +58,15 @@ no_switch_given f id none = (
 )
 
 -- numbers out of their ranges are no options
-pub out_of_range : (rows : List Row) (o : Options) → HasNumber (codes "workers") rows o.workers → HasNumber (codes "conflicts") rows o.conflicts → (AreInRange o → ⊥)
+pub out_of_range : (rows : List Row) (o : Options) → HasNumber (codes "workers") rows o.workers → HasNumber (codes "conflicts") rows o.conflicts
+    → HasNumber (codes "gap") rows o.gap → (AreInRange o → ⊥)
     → (p : Options) → AreOptions rows p → ⊥
-out_of_range rows o ow oc out p a =
+out_of_range rows o ow oc og out p a =
     let workers = same_number (codes "workers") rows o.workers p.workers ow a.workers in
     let conflicts = same_number (codes "conflicts") rows o.conflicts p.conflicts oc a.conflicts in
+    let gap = same_number (codes "gap") rows o.gap p.gap og a.gap in
     let range = a.range in
-    out (record { some_worker = omega arith; workers = omega arith; conflicts = omega arith })
+    out (record { some_worker = omega arith; workers = omega arith; conflicts = omega arith; gap = omega arith })
 
 -- what a getter reads of an option is the option's number, and nothing only where it has none that there is room for
 pub number_given : {E : Type 0} (k : ℕ) (f : Found) (id : List ℕ) (r : Option ℕ) (gives : List ℕ → Result ℕ E → Type 0)
@@ -125,7 +127,7 @@ same_options says o p h k =
     let conflicts = same_number (codes "conflicts") h.rows o.conflicts p.conflicts h.options.conflicts other.conflicts in
     let seed = same_number (codes "seed") h.rows o.seed p.seed h.options.seed other.seed in
     let interleave = same_switch (IsOn (codes "interleave") h.rows) o.interleave p.interleave h.options.interleave other.interleave in
-    let gap : o.gap ≡ p.gap = h.options.gap ∙ sym other.gap in
+    let gap = same_number (codes "gap") h.rows o.gap p.gap h.options.gap other.gap in
     alike_options o p workers conflicts seed interleave gap
 
 one_said : (says : Option (Text × List Row)) (c d : Command) → Says says c → Says says d → c ≡ d

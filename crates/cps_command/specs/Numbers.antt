@@ -20,12 +20,12 @@ pub record HasNumber (option : List ℕ) (rows : List Row) (n : ℕ) : Type 0 wh
 abbrev pub IsOn : List ℕ → List Row → Type 0
 IsOn option rows = first_of option rows ≡ Some (codes "true")
 
--- the options have these numbers, which are in their ranges, and no gap
+-- the options have these numbers, which are in their ranges
 pub record AreOptions (rows : List Row) (o : Options) : Type 0 where
   pub workers : HasNumber (codes "workers") rows o.workers
   pub conflicts : HasNumber (codes "conflicts") rows o.conflicts
   pub seed : HasNumber (codes "seed") rows o.seed
   pub seed_fits : o.seed < 2 ^ 64
   pub interleave : IsTrue o.interleave ↔ IsOn (codes "interleave") rows
-  pub gap : o.gap ≡ 0
+  pub gap : HasNumber (codes "gap") rows o.gap
   pub range : AreInRange o

@@ -36,9 +36,19 @@ interleave_rule = record (new_rule (codes "interleave")) {
   action = Some SetTrue;
 }
 
--- `solve [--workers N] [--conflicts N] [--seed N] [--interleave]`
+-- `--gap G`, a number of 64 bits
+unfoldable pub gap_rule : Rule
+gap_rule = record (new_rule (codes "gap")) {
+  long = Some (codes "gap");
+  parser = Some (vp.Unsigned 0 18446744073709551615);
+  defaults = codes "0" ∷ [];
+}
+
+-- `solve [--workers N] [--conflicts N] [--seed N] [--interleave] [--gap G]`
 unfoldable pub solve_line : App
-solve_line = with_rule (with_rule (with_rule (with_rule (new_app (codes "solve")) workers_rule) conflicts_rule) seed_rule) interleave_rule
+solve_line =
+    with_rule (with_rule (with_rule (with_rule (with_rule (new_app (codes "solve")) workers_rule) conflicts_rule) seed_rule) interleave_rule)
+    gap_rule
 
 -- a command that wants a subcommand
 abbrev pub wants_subcommand : Shape → Shape

@@ -7,9 +7,6 @@ ghost use Rattle.cps_options.specs.declared.options.Options.{Options as OptionsO
 use clap::ArgMatches;
 use cps_options::Options;
 
-/// The gap of every command so far: what is called optimal is a best solution.
-const NO_GAP: u64 = 0;
-
 /// The number that an option of 32 bits has, none where it has none.
 fn number_of(matches: &ArgMatches<'_>, option: &str) -> Option<u32>
     ensures { MatchOption result ((n : ℕ) → HasNumber option.now (rows_of (found_of matches.now)) n → n < 2 ^ 32 → ⊥)
@@ -49,12 +46,15 @@ pub(crate) fn options_of(matches: &ArgMatches<'_>) -> Option<Options>
     let Some(seed) = long_number_of(matches, "seed") else {
         return None;
     };
+    let Some(gap) = long_number_of(matches, "gap") else {
+        return None;
+    };
     let options = Options {
         workers,
         conflicts,
         seed,
         interleave: is_on(matches, "interleave"),
-        gap: NO_GAP,
+        gap,
     };
     if options.are_in_range() {
         return Some(options);

@@ -2,7 +2,7 @@
 ghost use Rattle.std.specs.Prelude.{◌≡◌, ◌≢◌, [], false, IfOk, MatchOption};
 ghost use Rattle.clap.specs.Words.{app_of, rule_of, fault_of, subcommand_of, subcommand_rows_of};
 ghost use Rattle.clap.specs.declared.builder.Command.TheViews.{out-Command};
-ghost use Rattle.cps_command.specs.Rules.{workers_rule, conflicts_rule, seed_rule, interleave_rule, solve_line, command_table};
+ghost use Rattle.cps_command.specs.Rules.{workers_rule, conflicts_rule, seed_rule, interleave_rule, gap_rule, solve_line, command_table};
 ghost use Rattle.cps_command.specs.Lines.{texts_of, IsPassed};
 
 use clap::error::ErrorKind;
@@ -52,7 +52,18 @@ fn interleave_option<'a>(alloc: Global) -> Arg<'a>
         .action(ArgAction::SetTrue)
 }
 
-/// `solve [--workers N] [--conflicts N] [--seed N] [--interleave]`
+/// `--gap G`
+fn gap_option<'a>(alloc: Global) -> Arg<'a>
+    ensures rule { rule_of result ≡ gap_rule }
+    ensures local { result.global ≡ false }
+{
+    Arg::new(alloc, "gap")
+        .long("gap")
+        .value_parser(value_parser!(u64))
+        .default_value("0")
+}
+
+/// `solve [--workers N] [--conflicts N] [--seed N] [--interleave] [--gap G]`
 fn solve_line<'a>(alloc: Global) -> Result<Command<'a>, AllocError>
     ensures app { IfOk result (λ c. app_of c ≡ solve_line) }
     ensures local { IfOk result (λ c. (out-Command c).has_globals ≡ false) }
@@ -61,11 +72,13 @@ fn solve_line<'a>(alloc: Global) -> Result<Command<'a>, AllocError>
     let conflicts = conflicts_option(alloc);
     let seed = seed_option(alloc);
     let interleave = interleave_option(alloc);
+    let gap = gap_option(alloc);
     Command::new(alloc, "solve")
         .arg(workers)?
         .arg(conflicts)?
         .arg(seed)?
-        .arg(interleave)
+        .arg(interleave)?
+        .arg(gap)
 }
 
 /// All lines.

@@ -5,7 +5,7 @@ use std::alloc::{AllocError, Global};
 use std::test::Fail;
 
 /// Words, each with the command that they are.
-const LINES: [(&[&str], Option<Command>); 35] = [
+const LINES: [(&[&str], Option<Command>); 42] = [
     (
         &["cpsolve", "solve"],
         Some(Command::Solve(Options {
@@ -66,6 +66,26 @@ const LINES: [(&[&str], Option<Command>); 35] = [
             gap: 0,
         })),
     ),
+    (
+        &["cpsolve", "solve", "--gap", "3", "--conflicts", "0"],
+        Some(Command::Solve(Options {
+            workers: 4,
+            conflicts: 0,
+            seed: 1,
+            interleave: false,
+            gap: 3,
+        })),
+    ),
+    (
+        &["cpsolve", "solve", "--gap=9223372036854775807"],
+        Some(Command::Solve(Options {
+            workers: 4,
+            conflicts: 10_000,
+            seed: 1,
+            interleave: false,
+            gap: 9_223_372_036_854_775_807,
+        })),
+    ),
     (&["cpsolve", "validate"], Some(Command::Validate)),
     (&["x", "validate"], Some(Command::Validate)),
     (&["cpsolve", "print"], Some(Command::Print)),
@@ -90,11 +110,16 @@ const LINES: [(&[&str], Option<Command>); 35] = [
     (&["cpsolve", "solve", "--interleave=true"], None),
     (&["cpsolve", "solve", "--interleave", "true"], None),
     (&["cpsolve", "solve", "--interleave", "--interleave"], None),
-    (&["cpsolve", "solve", "--gap", "1"], None),
+    (&["cpsolve", "solve", "--gap", "9223372036854775808"], None),
+    (&["cpsolve", "solve", "--gap", "18446744073709551616"], None),
+    (&["cpsolve", "solve", "--gap", "-1"], None),
+    (&["cpsolve", "solve", "--gap"], None),
+    (&["cpsolve", "solve", "--gap", "1", "--gap", "2"], None),
     (&["cpsolve", "solve", "x"], None),
     (&["cpsolve", "solve", "--help"], None),
     (&["cpsolve", "validate", "x"], None),
     (&["cpsolve", "validate", "--interleave"], None),
+    (&["cpsolve", "validate", "--gap", "0"], None),
     (&["cpsolve", "validate", "--help"], None),
     (&["cpsolve", "print", "x"], None),
     (&["cpsolve", "print", "--conflicts", "1"], None),

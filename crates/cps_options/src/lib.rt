@@ -3,4 +3,4 @@
 
 mod options;
 
-pub use options::{LEAST_WORKERS, MOST_CONFLICTS, MOST_WORKERS, Options};
+pub use options::{GREATEST_GAP, LEAST_WORKERS, MOST_CONFLICTS, MOST_WORKERS, Options};

@@ -11,6 +11,9 @@ pub const MOST_WORKERS: u32 = 16;
 /// The most conflicts from which a worker may be told to learn.
 pub const MOST_CONFLICTS: u64 = 1_000_000_000;
 
+/// The greatest gap that may be left.
+pub const GREATEST_GAP: u64 = 9_223_372_036_854_775_807;
+
 /// How a model is solved.
 #[derive(Debug, Clone, Copy, PartialEq, Eq)]
 pub struct Options {
@@ -22,7 +25,7 @@ pub struct Options {
     pub seed: u64,
     /// Whether the workers take turns in one thread.
     pub interleave: bool,
-    /// By how much the objective of a solution may miss the best one.
+    /// By how much the objective of a solution may miss the best one, at most `GREATEST_GAP`.
     pub gap: u64,
 }
 
@@ -34,5 +37,6 @@ impl Options {
         LEAST_WORKERS <= self.workers
             && self.workers <= MOST_WORKERS
             && self.conflicts <= MOST_CONFLICTS
+            && self.gap <= GREATEST_GAP
     }
 }

@@ -120,13 +120,7 @@ const INPUTS: [(&str, u8, &str); 39] = [
         1,
         "status: MODEL_INVALID\n# invalid V17 at hint\n",
     ),
-    (
-        "variables { domain: [0, 1] } variables { domain: [0, 1] } variables { domain: [0, 1] } constraints { \
-         all_diff { exprs { vars: [0] coeffs: [1] } exprs { vars: [1] coeffs: [1] } exprs { vars: [2] coeffs: \
-         [1] } } }",
-        0,
-        "status: INFEASIBLE\n",
-    ),
+    (THREE_DIFFERENT, 0, "status: INFEASIBLE\n"),
     (
         "variables { domain: [-10, 10] } constraints { int_div { target { vars: [0] coeffs: [1] } exprs { \
          offset: -10 } exprs { offset: 3 } } }",
@@ -360,6 +354,12 @@ const STEERED_TEXT: &str =
 const TEN: &str = "variables {\n  domain: [0, 10]\n}\n\
     constraints {\n  linear {\n    vars: [0]\n    coeffs: [10]\n    domain: [-5, 10]\n  }\n}\n";
 
+/// Three variables of two values that are all different.
+const THREE_DIFFERENT: &str =
+    "variables { domain: [0, 1] } variables { domain: [0, 1] } variables { domain: [0, 1] } constraints { \
+    all_diff { exprs { vars: [0] coeffs: [1] } exprs { vars: [1] coeffs: [1] } exprs { vars: [2] coeffs: \
+    [1] } } }";
+
 /// Three variables of two values, no two of them equal.
 pub(crate) const THREE_IN_TWO: &str =
     "variables { domain: [0, 1] } variables { domain: [0, 1] } variables { domain: [0, 1] } \
@@ -375,25 +375,66 @@ pub(crate) const THREE_IN_THREE: &str =
     constraints { linear { vars: [1, 2] coeffs: [1, -1] domain: [-2, -1, 1, 2] } } \
     objective { vars: [0, 1, 2] coeffs: [1, 1, 1] }";
 
-/// Inputs, each with a budget of conflicts and the text that one worker of `solve` writes.
-const BUDGETS: [(&str, &str, &str); 5] = [
-    (THREE_IN_TWO, "0", "status: UNKNOWN\n"),
-    (THREE_IN_TWO, "1", "status: INFEASIBLE\n"),
+/// Lines of `solve` with options and their inputs, each with the text that is written.
+const LINES: [(&[&str], &str, &str); 8] = [
     (
+        &["cpsolve", "solve", "--workers", "1", "--conflicts", "0"],
+        THREE_IN_TWO,
+        "status: UNKNOWN\n",
+    ),
+    (
+        &["cpsolve", "solve", "--workers", "1", "--conflicts", "1"],
+        THREE_IN_TWO,
+        "status: INFEASIBLE\n",
+    ),
+    (
+        &["cpsolve", "solve", "--workers", "1", "--conflicts", "0"],
         THREE_IN_THREE,
-        "0",
         "status: FEASIBLE\nsolution: 0\nsolution: 1\nsolution: 2\nobjective_value: 3\nbest_objective_bound: 0\n",
     ),
     (
+        &[
+            "cpsolve",
+            "solve",
+            "--workers",
+            "1",
+            "--conflicts",
+            "0",
+            "--gap",
+            "2",
+        ],
+        THREE_IN_THREE,
+        "status: FEASIBLE\nsolution: 0\nsolution: 1\nsolution: 2\nobjective_value: 3\nbest_objective_bound: 0\n",
+    ),
+    (
+        &[
+            "cpsolve",
+            "solve",
+            "--workers",
+            "1",
+            "--conflicts",
+            "0",
+            "--gap",
+            "3",
+        ],
+        THREE_IN_THREE,
+        "status: OPTIMAL\nsolution: 0\nsolution: 1\nsolution: 2\nobjective_value: 3\nbest_objective_bound: 0\n",
+    ),
+    (
+        &["cpsolve", "solve", "--gap", "5"],
+        THREE_DIFFERENT,
+        "status: INFEASIBLE\n",
+    ),
+    (
+        &["cpsolve", "solve", "--workers", "1"],
         "variables { domain: [0, 9] } \
          search_strategy { variables: 0 domain_reduction_strategy: SELECT_MAX_VALUE }",
-        "10000",
         "status: OPTIMAL\nsolution: 9\n",
     ),
     (
+        &["cpsolve", "solve", "--workers", "1"],
         "variables { domain: [0, 9] } variables { domain: [0, 9] } \
          search_strategy { exprs { vars: [0, 1] coeffs: [1, -1] } domain_reduction_strategy: SELECT_MAX_VALUE }",
-        "10000",
         "status: OPTIMAL\nsolution: 9\nsolution: 0\n",
     ),
 ];
@@ -405,7 +446,7 @@ const FAULTY_WORDS: [&[&str]; 12] = [
     &["cpsolve", "solve", "--workers", "17"],
     &["cpsolve", "solve", "--conflicts", "1000000001"],
     &["cpsolve", "solve", "--seed", "18446744073709551616"],
-    &["cpsolve", "solve", "--gap", "1"],
+    &["cpsolve", "solve", "--gap", "9223372036854775808"],
     &["cpsolve", "print", "x"],
     &["cpsolve", "print", "--conflicts", "1"],
     &["cpsolve", "validate", "x"],
@@ -478,20 +519,10 @@ fn readings_have_their_answers(rt: HostRuntime) -> Result<(), Fail> {
 }
 
 #[test]
-fn budgets_have_their_answers(rt: HostRuntime) -> Result<(), Fail> {
+fn lines_have_their_answers(rt: HostRuntime) -> Result<(), Fail> {
     let alloc = rt.alloc();
-    for (input, conflicts, text) in BUDGETS.iter() {
-        let words = words_of(
-            alloc,
-            &[
-                "cpsolve",
-                "solve",
-                "--workers",
-                "1",
-                "--conflicts",
-                conflicts,
-            ],
-        )?;
+    for (line, input, text) in LINES.iter() {
+        let words = words_of(alloc, line)?;
         let mut source = source_of(alloc, input, &[], &[])?;
         let mut sink = MemorySink::new(alloc, 10, Vec::new(alloc));
         let ran = solve_main(&rt, alloc, &words, &mut source, &mut sink, &OpenGate);
