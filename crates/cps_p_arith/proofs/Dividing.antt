@@ -11,7 +11,7 @@ pub is_divided : (n d : ℤ) → d ≢ pos 0 → IsDivided n d (int_div n d) (in
 is_divided n d h = record { sum = quot-rem n d; less = rest_less n d h; up = rest_positive n d; down = rest_negative n d }
 
 -- a rest is less than a positive divisor
-below : (r d : ℤ) → pos 1 ≤ℤ d → unsigned_abs r < unsigned_abs d → r <ℤ d
+pub below : (r d : ℤ) → pos 1 ≤ℤ d → unsigned_abs r < unsigned_abs d → r <ℤ d
 below (pos r) (pos d) p l = omega (arith, ints)
 below (pos r) (negsuc d) p l = absurd (omega (arith, ints))
 below (negsuc r) (pos d) p l = omega (arith, ints)
@@ -79,4 +79,13 @@ divided_both n d q r h = record {
   less = rw (neg_size r, neg_size d) h.less;
   up = λ p. let t = h.down (omega (arith, ints)) in omega (arith, ints);
   down = λ p. let t = h.up (omega (arith, ints)) in omega (arith, ints);
+}
+
+-- and so are opposite quotients by opposite divisors
+pub divided_turned : (n d q r : ℤ) → IsDivided n d q r → IsDivided n (neg_ℤ d) (neg_ℤ q) r
+divided_turned n d q r h = record {
+  sum = (let s = h.sum in let t = neg_times q (neg_ℤ d) in let m = neg_times d q in let a = *ℤ_comm q (neg_ℤ d) in let b = *ℤ_comm q d in omega (arith, ints));
+  less = rw (neg_size d) h.less;
+  up = h.up;
+  down = h.down;
 }

@@ -6,11 +6,12 @@ use Rattle.cps_enforce.specs.Reasons.{task_of}
 use Rattle.cps_enforce.specs.Tasks.{IsCostly}
 use Rattle.cps_p_arith.specs.declared.bounds.Demand.{Demand}
 use Rattle.cps_p_arith.specs.declared.relation.Relation.{Relation}
-use Rattle.cps_p_arith.specs.declared.relation.Relation.TheVariants.{Quotient, Product, Greatest}
+use Rattle.cps_p_arith.specs.declared.relation.Relation.TheVariants.{Quotient, Remainder, Product, Greatest}
 use Rattle.cps_p_arith.specs.Demands.{body_by, body_of}
 
 costly_by : (k : Relation) (t : ℕ) (es : List ℕ) → IsCostly (body_by k t es)
 costly_by Quotient t es = record { cut = refl; cheap = refl }
+costly_by Remainder t es = record { cut = refl; cheap = refl }
 costly_by Product t es = record { cut = refl; cheap = refl }
 costly_by Greatest t es = record { cut = refl; cheap = refl }
 

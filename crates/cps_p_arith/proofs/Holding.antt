@@ -21,33 +21,38 @@ use Rattle.cps_p_arith.specs.declared.ends.Ends.{Ends}
 use Rattle.cps_p_arith.specs.declared.bounds.Bounds.{Bounds}
 use Rattle.cps_p_arith.specs.declared.bounds.Demand.{Demand}
 use Rattle.cps_p_arith.specs.declared.relation.Relation.{Relation}
-use Rattle.cps_p_arith.specs.declared.relation.Relation.TheVariants.{Quotient, Product, Greatest}
+use Rattle.cps_p_arith.specs.declared.relation.Relation.TheVariants.{Quotient, Remainder, Product, Greatest}
 use Rattle.cps_p_arith.specs.Ranges.{IsIn, IsAt}
 use Rattle.cps_p_arith.specs.Demands.{Relates, body_by, body_of, IsHullNow, IsHeldIn, AreHeldEach, AreKnown, AreMeasured, AreHeld, AreFixedAt, IsMissed, IsComputedBy, IsPlace, IsImplied, AreImplied, Needs, NeedsWithin, Supports, SupportsEach, Refutes, AreSoundFor, Adds}
 use Rattle.cps_p_arith.proofs.Zips.{zip_at, zip_both}
 
 met_by : (k : Relation) (t : ℕ) (es : List ℕ) (xs : List ℤ) → Relates k (value_at xs t) (values_at xs es) → HoldsBody (body_by k t es) xs
 met_by Quotient t es xs h = h
+met_by Remainder t es xs h = h
 met_by Product t es xs h = h
 met_by Greatest t es xs h = h
 
 holds_by : (k : Relation) (t : ℕ) (es : List ℕ) (xs : List ℤ) → HoldsBody (body_by k t es) xs → Relates k (value_at xs t) (values_at xs es)
 holds_by Quotient t es xs h = h
+holds_by Remainder t es xs h = h
 holds_by Product t es xs h = h
 holds_by Greatest t es xs h = h
 
 pub subjects_by : (k : Relation) (t : ℕ) (es : List ℕ) → subjects_of_body (body_by k t es) ≡ t ∷ es
 subjects_by Quotient t es = refl
+subjects_by Remainder t es = refl
 subjects_by Product t es = refl
 subjects_by Greatest t es = refl
 
 strong_by : (k : Relation) (t : ℕ) (es : List ℕ) (s : Trail) → IsStrongBody (body_by k t es) s
 strong_by Quotient t es s = tt
+strong_by Remainder t es s = tt
 strong_by Product t es s = tt
 strong_by Greatest t es s = tt
 
 unseen_by : (k : Relation) (t : ℕ) (es : List ℕ) (s : Trail) → IsExcludedBody (body_by k t es) s → ⊥
 unseen_by Quotient t es s h = h
+unseen_by Remainder t es s h = h
 unseen_by Product t es s h = h
 unseen_by Greatest t es s h = h
 

@@ -3,6 +3,7 @@ pub mod Maxima
 pub mod Scaling
 pub mod Clamping
 pub mod Dividing
+pub mod Rests
 pub mod Holding
 pub mod Pairs
 pub mod Faces

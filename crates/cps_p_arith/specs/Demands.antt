@@ -1,11 +1,11 @@
 -- What is demanded of a target and its members, and what bounds of their values say of it.
 use Rattle.std.specs.Prelude.{◌≡◌, ℕ, ◌<◌, ℤ, true, false, Bool, Option, Some, None, List, [], ◌∷◌, ◌++◌, length, All}
 use Rattle.std.specs.List.{AllZip}
-use Rattle.cps_model.specs.Arithmetic.{IsQuotient, IsProduct, IsGreatest}
+use Rattle.cps_model.specs.Arithmetic.{IsQuotient, IsRemainder, IsProduct, IsGreatest}
 use Rattle.cps_literal.specs.declared.atom.Atom.{Atom}
 use Rattle.cps_literal.specs.Truth.{value_at, atom_holds}
 use Rattle.cps_instance.specs.declared.task.Body.{Body}
-use Rattle.cps_instance.specs.declared.task.Body.TheVariants.{IntDiv, IntProd, LinMax}
+use Rattle.cps_instance.specs.declared.task.Body.TheVariants.{IntDiv, IntMod, IntProd, LinMax}
 use Rattle.cps_instance.specs.Terms.{Domains, AreIntervals, domain_at}
 use Rattle.cps_instance.specs.Parts.{values_at}
 use Rattle.cps_trail.specs.Trail.{Trail, admits, IsWithin}
@@ -17,16 +17,18 @@ use Rattle.cps_p_arith.specs.declared.bounds.Demand.{Demand}
 use Rattle.cps_p_arith.specs.declared.bounds.Place.{Place}
 use Rattle.cps_rule.specs.declared.rule.Narrowing.{Narrowing}
 use Rattle.cps_p_arith.specs.declared.relation.Relation.{Relation}
-use Rattle.cps_p_arith.specs.declared.relation.Relation.TheVariants.{Quotient, Product, Greatest}
+use Rattle.cps_p_arith.specs.declared.relation.Relation.TheVariants.{Quotient, Remainder, Product, Greatest}
 use Rattle.cps_p_arith.specs.Ranges.{IsIn, AreIn, IsAt, AreAt}
 
 abbrev pub Relates : Relation → ℤ → List ℤ → Type 0
 Relates Quotient v ns = IsQuotient v ns
+Relates Remainder v ns = IsRemainder v ns
 Relates Product v ns = IsProduct v ns
 Relates Greatest v ns = IsGreatest v ns
 
 abbrev pub body_by : Relation → ℕ → List ℕ → Body
 body_by Quotient target exprs = IntDiv target exprs
+body_by Remainder target exprs = IntMod target exprs
 body_by Product target exprs = IntProd target exprs
 body_by Greatest target exprs = LinMax target exprs
 
@@ -148,6 +150,7 @@ pub record AreSoundFor (first : Domains) (d : Demand) : Type 0 where
 -- a body is of one of the kinds whose rule stands
 abbrev pub is_arithmetic : Body → Bool
 is_arithmetic (IntDiv target exprs) = true
+is_arithmetic (IntMod target exprs) = true
 is_arithmetic (IntProd target exprs) = true
 is_arithmetic (LinMax target exprs) = true
 is_arithmetic body = false

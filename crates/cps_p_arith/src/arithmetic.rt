@@ -48,6 +48,9 @@ fn demand_of_body(alloc: Global, body: &Body) -> Result<Demand, AllocError>
         Body::IntDiv { target, exprs } => {
             demand_of(alloc, Relation::Quotient, *target, exprs.as_slice())
         }
+        Body::IntMod { target, exprs } => {
+            demand_of(alloc, Relation::Remainder, *target, exprs.as_slice())
+        }
         Body::IntProd { target, exprs } => {
             demand_of(alloc, Relation::Product, *target, exprs.as_slice())
         }
@@ -59,7 +62,7 @@ fn demand_of_body(alloc: Global, body: &Body) -> Result<Demand, AllocError>
 }
 
 impl Arithmetic {
-    /// The propagator of a task whose body is `IntDiv`, `IntProd` or `LinMax`.
+    /// The propagator of a task whose body is `IntDiv`, `IntMod`, `IntProd` or `LinMax`.
     pub fn of(alloc: Global, task: &Task) -> Result<Enforced<Arithmetic>, AllocError>
         requires { IsTrue (is_arithmetic task.now.body) }
         ensures { IfOk result (λ propagator. propagator ≡ task.now) }

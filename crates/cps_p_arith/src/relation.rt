@@ -7,12 +7,15 @@ use crate::ends::Ends;
 use crate::greatest::excludes_greatest;
 use crate::product::excludes_product;
 use crate::quotient::excludes_quotient;
+use crate::remainder::excludes_remainder;
 
 /// What the target is of its members.
 #[derive(Clone, Copy, Debug, PartialEq, Eq)]
 pub(crate) enum Relation {
     /// The first of two divided by the second, rounded towards zero.
     Quotient,
+    /// What that division leaves of the first.
+    Remainder,
     /// Their product.
     Product,
     /// The greatest of them.
@@ -27,6 +30,7 @@ impl Relation {
     {
         match self {
             Relation::Quotient => excludes_quotient(target, members),
+            Relation::Remainder => excludes_remainder(target, members),
             Relation::Product => excludes_product(target, members),
             Relation::Greatest => excludes_greatest(target, members),
         }
