@@ -1,1 +1,3 @@
 pub mod Inverses
+pub mod Networks
+pub mod Runs

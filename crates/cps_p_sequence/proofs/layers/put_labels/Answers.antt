@@ -1,0 +1,67 @@
+use Rattle.std.proofs.Common.{◌≡◌, ◌<◌, ℤ, pos, true, false, length, get_or, refl, sym, ◌∙◌, ap, subst, rules, arith, w64, FitsSigned}
+use Rattle.std.proofs.lemmas.Int.{to_z-of_z}
+use Rattle.std.proofs.lemmas.List.{get_or_default}
+use Rattle.cps_p_sequence.specs.declared.states.Step.{Step}
+use Rattle.cps_p_sequence.proofs.Layering.{labels_begun, labels_passed, labels_more, labels_sorted}
+use Rattle.cps_p_sequence.proofs.layers.put_labels.Goals as goal
+
+abbrev no_step : Step
+no_step = record { tail = 0; head = 0; label = pos 0 }
+
+pub bounds-tails-step : goal.bounds-tails-step
+bounds-tails-step c = (c.requires.tails c.loop-step.step-index no_step c.loop-step-test.true).tail
+
+pub bounds-heads-step : goal.bounds-heads-step
+bounds-heads-step c = (c.requires.heads c.loop-step.step-index no_step c.loop-step-test.true).head
+
+pub loop-step-init : goal.loop-step-init
+loop-step-init c = labels_begun c.args.store.now c.args.position.now.subject c.args.position.now.steps.now c.args.tails.now c.args.heads.now c.clear.new.self.items c.clear.ensures.items
+
+pub loop-step-preserved-then-not-tails-step : goal.loop-step-preserved-then-not-tails-step
+loop-step-preserved-then-not-tails-step c =
+    let y = c.args.position.now in
+    let n = c.loop-step.step-index in
+    let t = get_or y.steps.now n no_step in
+    let l = c.loop-step-test.true in
+    labels_passed c.args.store.now y.subject y.steps.now c.args.tails.now c.args.heads.now n c.loop-step.labels.items t l (get_or_default y.steps.now n no_step t l)
+    (λ o a b. (let no' = c.if-not-tails-step.true in let e : false ≡ true = sym no' ∙ a in cc e)) c.loop-step.invariant
+
+pub loop-step-preserved-then-not-heads-step : goal.loop-step-preserved-then-not-heads-step
+loop-step-preserved-then-not-heads-step c =
+    let y = c.args.position.now in
+    let n = c.loop-step.step-index in
+    let t = get_or y.steps.now n no_step in
+    let l = c.loop-step-test.true in
+    labels_passed c.args.store.now y.subject y.steps.now c.args.tails.now c.args.heads.now n c.loop-step.labels.items t l (get_or_default y.steps.now n no_step t l)
+    (λ o a b. (let no' = c.if-not-heads-step.true in let e : false ≡ true = sym no' ∙ b in cc e)) c.loop-step.invariant
+
+pub loop-step-preserved-then-not-is_open : goal.loop-step-preserved-then-not-is_open
+loop-step-preserved-then-not-is_open c =
+    let y = c.args.position.now in
+    let n = c.loop-step.step-index in
+    let t = get_or y.steps.now n no_step in
+    let l = c.loop-step-test.true in
+    let f : FitsSigned w64 t.label = search rules in
+    let decided = simp to_z-of_z at c.is_open.ensures in
+    labels_passed c.args.store.now y.subject y.steps.now c.args.tails.now c.args.heads.now n c.loop-step.labels.items t l (get_or_default y.steps.now n no_step t l)
+    (λ o a b. (let no' = c.if-not-is_open.true in let e : false ≡ true = sym no' ∙ decided.1 o in cc e)) c.loop-step.invariant
+
+pub loop-step-preserved : goal.loop-step-preserved
+loop-step-preserved c =
+    let y = c.args.position.now in
+    let n = c.loop-step.step-index in
+    let t = get_or y.steps.now n no_step in
+    let l = c.loop-step-test.true in
+    let f : FitsSigned w64 t.label = search rules in
+    let decided = simp to_z-of_z at c.is_open.ensures in
+    let items = simp to_z-of_z at c.in_ok-push.ensures.items in
+    labels_more c.args.store.now y.subject y.steps.now c.args.tails.now c.args.heads.now n c.loop-step.labels.items c.push.new.self.items t l (get_or_default y.steps.now n no_step t l) items
+    (decided.0 c.if-not-is_open.false) c.if-not-tails-step.false c.if-not-heads-step.false c.loop-step.invariant
+
+pub returns-clause-alive : goal.returns-clause-alive
+returns-clause-alive c =
+    let y = c.args.position.now in
+    let n = c.loop-step.step-index in
+    let past = c.loop-step-test.false in
+    let p = labels_sorted c.args.store.now y.subject y.steps.now c.args.tails.now c.args.heads.now n c.loop-step.labels.items c.make_distinct.new.numbers.items c.make_distinct.ensures.kept c.make_distinct.ensures.added_none c.loop-step.invariant in
+    record { all = λ k d m l. p.all k d (omega arith) l; led = p.led }

@@ -1,0 +1,54 @@
+use Rattle.std.proofs.Common.{◌≡◌, ◌<◌, ℤ, pos, true, false, length, get_or, refl, sym, ◌∙◌, ap, subst, rules, arith, w64, FitsSigned}
+use Rattle.std.proofs.lemmas.Int.{to_z-of_z}
+use Rattle.std.proofs.lemmas.List.{get_or_default}
+use Rattle.cps_p_sequence.specs.declared.states.Step.{Step}
+use Rattle.cps_p_sequence.proofs.Layering.{tails_begun, tails_passed, tails_marked}
+use Rattle.cps_p_sequence.proofs.layers.tails_of.Goals as goal
+
+abbrev no_step : Step
+no_step = record { tail = 0; head = 0; label = pos 0 }
+
+pub bounds-heads-step : goal.bounds-heads-step
+bounds-heads-step c = (c.requires.steps c.loop-step.step-index no_step c.loop-step-test.true).head
+
+pub index_mut-requires : goal.index_mut-requires
+index_mut-requires c =
+    let l = (c.requires.steps c.loop-step.step-index no_step c.loop-step-test.true).tail in
+    let size = c.loop-step.invariant.size in
+    omega arith
+
+pub loop-step-init : goal.loop-step-init
+loop-step-init c = tails_begun c.args.store.now c.args.subject c.args.steps.now c.args.heads.now c.in_ok-tails.tails.items c.in_ok-tails.ensures.size c.in_ok-tails.ensures.blank
+
+pub loop-step-preserved-then-not-heads-step : goal.loop-step-preserved-then-not-heads-step
+loop-step-preserved-then-not-heads-step c =
+    let steps = c.args.steps.now in
+    let n = c.loop-step.step-index in
+    let t = get_or steps n no_step in
+    let l = c.loop-step-test.true in
+    tails_passed c.args.store.now c.args.subject steps c.args.heads.now n c.loop-step.tails.items t l (get_or_default steps n no_step t l)
+    (λ o h. (let no' = c.if-not-heads-step.true in let e : false ≡ true = sym no' ∙ h in cc e)) c.loop-step.invariant
+
+pub loop-step-preserved-then-not-is_open : goal.loop-step-preserved-then-not-is_open
+loop-step-preserved-then-not-is_open c =
+    let steps = c.args.steps.now in
+    let n = c.loop-step.step-index in
+    let t = get_or steps n no_step in
+    let l = c.loop-step-test.true in
+    let f : FitsSigned w64 t.label = search rules in
+    let decided = simp to_z-of_z at c.is_open.ensures in
+    tails_passed c.args.store.now c.args.subject steps c.args.heads.now n c.loop-step.tails.items t l (get_or_default steps n no_step t l)
+    (λ o h. (let no' = c.if-not-is_open.true in let e : false ≡ true = sym no' ∙ decided.1 o in cc e)) c.loop-step.invariant
+
+pub loop-step-preserved : goal.loop-step-preserved
+loop-step-preserved c =
+    let steps = c.args.steps.now in
+    let n = c.loop-step.step-index in
+    let t = get_or steps n no_step in
+    let l = c.loop-step-test.true in
+    let f : FitsSigned w64 t.label = search rules in
+    let decided = simp to_z-of_z at c.is_open.ensures in
+    let inside = (c.requires.steps n no_step l).tail in
+    let size = c.loop-step.invariant.size in
+    tails_marked c.args.store.now c.args.subject steps c.args.heads.now n c.loop-step.tails.items _ t l (get_or_default steps n no_step t l) (omega arith) refl
+    (decided.0 c.if-not-is_open.false) c.if-not-heads-step.false c.loop-step.invariant

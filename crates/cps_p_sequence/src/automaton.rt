@@ -1,0 +1,165 @@
+//! The rule of an automaton.
+ghost use Rattle.std.specs.Prelude.{◌≡◌, IfOk, IsTrue};
+
+use crate::layers::{Network, look_at};
+use crate::states::{Step, mark_finals, number_of, states_of, steps_of, transitions};
+use cps_enforce::Enforced;
+use cps_instance::{Body, Task};
+use cps_literal::Atom;
+use cps_rule::{Hint, Look, Narrowing, Rule};
+use cps_trail::{Before, Store};
+use std::alloc::{AllocError, Global};
+use std::marker::Model;
+
+/// The rule of a body `Automaton`. Contracts see the body. A hint says nothing.
+#[derive(Drop)]
+pub struct AutomatonRule {
+    alloc: Global,
+    start: i64,
+    finals: Vec<i64>,
+    tails: Vec<i64>,
+    heads: Vec<i64>,
+    labels: Vec<i64>,
+    exprs: Vec<u32>,
+    /// The states, rising. The number of one is its place here.
+    states: Vec<i64>,
+    /// The number of the start.
+    first: usize,
+    /// Which states are final.
+    last: Vec<bool>,
+    /// The transitions by numbers of states.
+    steps: Vec<Step>,
+}
+
+impl Model for AutomatonRule {
+    ghost use Rattle.cps_model.specs.Sequences.{transitions};
+    ghost use Rattle.cps_instance.specs.declared.task.Body.{Body};
+    ghost use Rattle.cps_instance.specs.declared.task.Body.TheVariants.{Automaton};
+    ghost use Rattle.cps_p_sequence.specs.Networks.{IsNetwork};
+
+    ghost Value = { Body };
+
+    ghost view = { λ r. Automaton r.start r.finals.items r.tails.items r.heads.items r.labels.items r.exprs.items };
+
+    ghost invariant = { λ r. IsNetwork (transitions r.tails.items r.heads.items r.labels.items) r.finals.items r.start r.states.items r.first r.last.items r.steps.items };
+}
+
+impl AutomatonRule {
+    ghost use Rattle.cps_instance.specs.declared.task.Body.TheVariants.{Automaton as AutomatonOf};
+    ghost use Rattle.cps_p_sequence.specs.Networks.{is_automaton};
+
+    /// The rule of an automaton's lists.
+    fn over(
+        alloc: Global,
+        start: i64,
+        finals: &[i64],
+        steps: (&[i64], &[i64], &[i64]),
+        exprs: &[u32],
+    ) -> Result<Self, AllocError>
+        ensures { IfOk result (λ rule. rule ≡ AutomatonOf start finals.now steps.entry.0.now steps.entry.1.now steps.entry.2.now exprs.now) }
+    {
+        let own_finals = Vec::from_slice(alloc, finals)?;
+        let tails = Vec::from_slice(alloc, steps.0)?;
+        let heads = Vec::from_slice(alloc, steps.1)?;
+        let labels = Vec::from_slice(alloc, steps.2)?;
+        let own_exprs = Vec::from_slice(alloc, exprs)?;
+        let raw = transitions(alloc, steps.0, steps.1, steps.2)?;
+        let listed = raw.as_slice();
+        let states = states_of(alloc, start, listed)?;
+        let named = states.as_slice();
+        let first = number_of(named, start);
+        let last = mark_finals(alloc, named, finals)?;
+        let numbered = steps_of(alloc, named, listed)?;
+        Ok(AutomatonRule {
+            alloc,
+            start,
+            finals: own_finals,
+            tails,
+            heads,
+            labels,
+            exprs: own_exprs,
+            states,
+            first,
+            last,
+            steps: numbered,
+        })
+    }
+
+    /// The rule of a body that is `Automaton`.
+    pub fn new(alloc: Global, body: &Body) -> Result<Self, AllocError>
+        requires { IsTrue (is_automaton body.now) }
+        ensures { IfOk result (λ rule. rule ≡ body.now) }
+    {
+        match body {
+            Body::Automaton {
+                start,
+                finals,
+                tails,
+                heads,
+                labels,
+                exprs,
+            } => {
+                let steps = (tails.as_slice(), heads.as_slice(), labels.as_slice());
+                AutomatonRule::over(alloc, *start, finals.as_slice(), steps, exprs.as_slice())
+            }
+            _ => unreachable!(),
+        }
+    }
+
+    /// The propagator of a task whose body is `Automaton`.
+    pub fn of(alloc: Global, task: &Task) -> Result<Enforced<AutomatonRule>, AllocError>
+        requires { IsTrue (is_automaton task.now.body) }
+        ensures { IfOk result (λ propagator. propagator ≡ task.now) }
+    {
+        let rule = AutomatonRule::new(alloc, &task.body)?;
+        let propagator = Enforced::new(alloc, task.enforcement.as_slice(), rule)?;
+        Ok(propagator)
+    }
+}
+
+impl Rule for AutomatonRule {
+    ghost body = { λ r. r };
+
+    fn look(&mut self, store: &Store, found: &mut Vec<Narrowing>) -> Result<Look, AllocError> {
+        let last = self.last.as_slice();
+        let steps = self.steps.as_slice();
+        let subjects = self.exprs.as_slice();
+        let net = Network {
+            first: self.first,
+            last,
+            steps,
+            subjects,
+        };
+        let possible = look_at(self.alloc, store, &net, found)?;
+        if possible {
+            return Ok(Look::Possible);
+        }
+        Ok(Look::Impossible(Hint { a: 0, b: 0 }))
+    }
+
+    fn explain(
+        &self,
+        _past: &Before,
+        _target: Atom,
+        _hint: Hint,
+        _facts: &mut Vec<Atom>,
+    ) -> Result<bool, AllocError> {
+        let _ = &self.states;
+        Ok(false)
+    }
+
+    fn refute(
+        &self,
+        _past: &Before,
+        _hint: Hint,
+        _facts: &mut Vec<Atom>,
+    ) -> Result<bool, AllocError> {
+        let _ = &self.states;
+        Ok(false)
+    }
+
+    fn push_subjects(&self, subjects: &mut Vec<u32>) -> Result<(), AllocError> {
+        subjects.extend_from_slice(self.exprs.as_slice())?;
+        Ok(())
+    }
+}
