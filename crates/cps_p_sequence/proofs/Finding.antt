@@ -67,7 +67,7 @@ high_true s i count v is-v now x o = let p = true_le x v (now x o) in omega (ari
 not_both : (b : Bool) → b ≡ true → not b ≡ true → ⊥
 not_both b yes' no' = let e : false ≡ true = ap not (sym yes') ∙ no' in cc e
 
-unequal : (a b : ℤ) → (a ≡ b → ⊥) → not (equals a b) ≡ true
+pub unequal : (a b : ℤ) → (a ≡ b → ⊥) → not (equals a b) ≡ true
 unequal a b ne = elim (bool_cases (equals a b)) [ inl e ↦ absurd (ne (equals_is a b e)) | inr e ↦ ap not e ]
 
 -- where another position cannot have a number, one cannot have the other's

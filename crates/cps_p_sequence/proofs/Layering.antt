@@ -7,7 +7,7 @@ use Rattle.std.proofs.lemmas.List.Elements.{All-nil, All-push, All-head, Contain
 use Rattle.cps_domain.proofs.Tests.{true_le, le_true}
 use Rattle.cps_literal.specs.declared.atom.Atom.{Atom}
 use Rattle.cps_literal.specs.declared.atom.Op.{Op}
-use Rattle.cps_literal.specs.declared.atom.Op.TheVariants.{Le, Ge}
+use Rattle.cps_literal.specs.declared.atom.Op.TheVariants.{Le, Ge, Ne}
 use Rattle.cps_literal.specs.Truth.{value_at}
 use Rattle.cps_instance.specs.declared.task.Body.{Body}
 use Rattle.cps_instance.specs.Tasks.{HoldsBody}
@@ -20,12 +20,13 @@ use Rattle.cps_rule.specs.Rules.{IsGiven}
 use Rattle.cps_p_sequence.specs.declared.states.Step.{Step}
 use Rattle.cps_p_sequence.specs.Networks.{IsMarked, IsRising}
 use Rattle.cps_p_sequence.specs.Runs.{CanEnd, CanReach, AreEnding, AreReached, AreRows, AreTails, AreHeads, IsLed, AreLabels, IsAlive, HasLabels, IsFollowed, AllGiven, AllTrue, AreEndsAlive, AreFound, IsFrom, IsUpTo, IsDead, IsNarrowed, IsLooked}
+use Rattle.cps_p_sequence.proofs.Finding.{unequal}
 use Rattle.cps_p_sequence.proofs.Numbering.{unmarked, marked_here, marked_still, marked_before}
 
-last_or : (k n : ℕ) → k < n + 1 → (k < n) ⊎ (k ≡ n)
+pub last_or : (k n : ℕ) → k < n + 1 → (k < n) ⊎ (k ≡ n)
 last_or k n l = grind arith
 
-item_at : (steps : List Step) (k n : ℕ) (d t : Step) → n < length steps → t ≡ get_or steps n t → k ≡ n → t ≡ get_or steps k d
+pub item_at : (steps : List Step) (k n : ℕ) (d t : Step) → n < length steps → t ≡ get_or steps n t → k ≡ n → t ≡ get_or steps k d
 item_at steps k n d t l is e = is ∙ get_or_default steps n t d l ∙ ap (λ (j : ℕ). get_or steps j d) (sym e)
 
 -- the tails of steps to marked states
@@ -113,6 +114,15 @@ module _ (s : Trail) (i : ℕ) (steps : List Step) (tails heads : List Bool) whe
     ];
   }
 
+  pub labels_listed : (n : ℕ) (labels : List ℤ) (t : Step) → n < length steps → t ≡ get_or steps n t → Contains labels t.label → AreLabels s i steps n tails heads labels → AreLabels s i steps (n + 1) tails heads labels
+  labels_listed n labels t l is has p = record {
+    all = λ k d m o. elim (last_or k n m) [
+      | inl q ↦ p.all k d q o
+      | inr q ↦ subst (λ (x : Step). IsOpenTo s i x.label → IsMarked tails x.tail → IsMarked heads x.head → Contains labels x.label) (item_at steps k n d t l is q) (λ x y z. has)
+    ];
+    led = p.led;
+  }
+
   pub labels_sorted : (n : ℕ) (old new : List ℤ) → ((v : ℤ) → Contains old v → Contains new v) → ((v : ℤ) → Contains new v → Contains old v) → AreLabels s i steps n tails heads old → AreLabels s i steps n tails heads new
   labels_sorted n old new kept none p = record { all = λ k d l m o a b. kept (get_or steps k d).label (p.all k d l m o a b); led = λ v c. p.led v (none v c) }
 
@@ -195,9 +205,9 @@ module _ (s : Trail) (steps : List Step) (last : List Bool) where
           let size : length row ≡ length last = ending.size in
           let at : length rows - length last ≡ length below = omega arith in
           let top : drop (length rows - length last) rows ≡ row =
-              ap (λ (j : ℕ). drop j rows) at ∙ ap (λ (xs : List Bool). drop (length below) xs) e ∙ drop-append-le (length below) below row (omega arith) ∙ ap (λ (xs : List Bool). xs ++ row) (drop_all (length below) below (omega arith)) in
+          ap (λ (j : ℕ). drop j rows) at ∙ ap (λ (xs : List Bool). drop (length below) xs) e ∙ drop-append-le (length below) below row (omega arith) ∙ ap (λ (xs : List Bool). xs ++ row) (drop_all (length below) below (omega arith)) in
           let under : take (length rows - length last) rows ≡ below =
-              ap (λ (j : ℕ). take j rows) at ∙ ap (λ (xs : List Bool). take (length below) xs) e ∙ take-append-le (length below) below row (omega arith) ∙ take_all (length below) below (omega arith) in
+          ap (λ (j : ℕ). take j rows) at ∙ ap (λ (xs : List Bool). take (length below) xs) e ∙ take-append-le (length below) below row (omega arith) ∙ take_all (length below) below (omega arith) in
           record {
             room = omega arith;
             top = subst (λ (r : List Bool). AreEnding s steps last (drop (n + 1) is) r) (sym top) ending;
@@ -230,10 +240,12 @@ module _ (s : Trail) (steps : List Step) (last : List Bool) where
         → AreFound s steps first last is n old → AreFound s steps first last is (n + 1) new
     found_more old new given kept ends p = record {
       given = λ b f. given b (has_labels b f) (p.given b f);
-      ends = λ all. record { at = λ k v m o h. elim (last_or k n m) [
-        | inl q ↦ (p.ends (kept all)).at k v q o h
-        | inr q ↦ subst (λ (j : ℕ). IsAlive s steps first last is j v) (sym q) (labels_alive v (ends all labels_open v (subst (λ (j : ℕ). IsEndNow s j v) (ap (λ (j : ℕ). get_or is j 0) q ∙ sym is-i) h)))
-      ] };
+      ends = λ all. record {
+        at = λ k v m o h. elim (last_or k n m) [
+          | inl q ↦ (p.ends (kept all)).at k v q o h
+          | inr q ↦ subst (λ (j : ℕ). IsAlive s steps first last is j v) (sym q) (labels_alive v (ends all labels_open v (subst (λ (j : ℕ). IsEndNow s j v) (ap (λ (j : ℕ). get_or is j 0) q ∙ sym is-i) h)))
+        ];
+      };
     }
 
     pub dead_by : (found : List Narrowing) → labels ≡ [] → AreFound s steps first last is n found → IsDead s steps first last is found
@@ -291,6 +303,13 @@ module _ (s : Trail) (old new : List Narrowing) (n : Narrowing) (pushed : new �
 
       pub up_to_true : AllTrue s new → (x : ℤ) → IsOpenTo s i x → x ≤ℤ v
       up_to_true all x o = true_le x v (subst (λ (u : Atom). IsTrueNow s u) le (more_true all) x o)
+
+-- a label that is none of a subject's own
+module _ (s : Trail) (old new : List Narrowing) (n : Narrowing) (pushed : new ≡ old ++ n ∷ []) (i : ℕ) (v : ℤ) (subject : n.target.subject ≡ i) (value : n.target.value ≡ v) (op : n.target.op ≡ Ne) where
+  pub hole_given : (b : Body) (labels : List ℤ) → i < length s.first → (Contains labels v → ⊥) → HasLabels b s i labels → AllGiven b s old → AllGiven b s new
+  hole_given b labels inside none h =
+      more_given s old new n pushed b (subst (λ (u : Atom). IsGiven b s u) (sym (same_atom n.target i Ne v subject op value))
+      (record { subject = inside; at = λ xs admitted body. unequal (value_at xs i) v (λ e. none (subst (λ (x : ℤ). Contains labels x) e (h.at xs admitted body))) }))
 
 -- the first and the last of rising labels
 module _ (s : Trail) (i : ℕ) (labels : List ℤ) (some : 0 < length labels) (rising : IsRising labels) where

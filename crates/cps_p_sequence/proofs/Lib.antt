@@ -6,3 +6,5 @@ pub mod Numbering
 pub mod Running
 pub mod Layering
 pub mod Seeing
+pub mod Growing
+pub mod Cutting

@@ -1,9 +1,10 @@
 -- Steps by the numbers of their states.
-use Rattle.std.specs.Prelude.{All, Contains}
+use Rattle.std.specs.Prelude.{All, Contains, IsPermutation}
 use Rattle.std.proofs.Common.{◌≡◌, ◌⊎◌, inl, inr, ℕ, zero, suc, ◌+◌, ◌<◌, ◌≤◌, ℤ, pos, Bool, true, false, List, [], ◌∷◌, ◌++◌, length, map, take, drop, get_or, set, replicate, refl, sym, ◌∙◌, ap, subst, arith, append_assoc, get_or-set_same, get_or-set_other}
 use Rattle.std.proofs.lemmas.Bool.{cases_lt, cases_eq}
-use Rattle.std.proofs.lemmas.List.{drop_more, drop_all, take_more, get_or_default, get_or-map, length-map, map-append, length-set, length-replicate, get_or-replicate}
-use Rattle.std.proofs.lemmas.List.Elements.{All-nil, All-push, Contains-append_left, Contains-push}
+use Rattle.std.proofs.lemmas.List.{drop_more, drop_all, take_all, take_more, get_or_default, get_or-map, length-map, map-append, length-set, length-replicate, get_or-replicate}
+use Rattle.std.proofs.lemmas.List.Elements.{All-nil, All-push, All-contains, Contains-append_left, Contains-push}
+use Rattle.std.proofs.lemmas.List.Sorted.{Contains-permutation, IsPermutation-sym}
 use Rattle.cps_model.specs.declared.parts.Transition.{Transition}
 use Rattle.cps_model.specs.Sequences.{transitions}
 use Rattle.cps_p_sequence.specs.declared.states.Step.{Step}
@@ -24,12 +25,12 @@ pub transitions-none : (ts hs ls : List ℤ) (k : ℕ) → (k < length ts → k 
 transitions-none ts hs ls k over = elim (cases_lt k (length ts)) [
   | inr p ↦ ap (λ (xs : List ℤ). transitions xs (drop k hs) (drop k ls)) (drop_all k ts p)
   | inl p ↦ elim (cases_lt k (length hs)) [
-      | inr q ↦ ap (λ (xs : List ℤ). transitions (drop k ts) xs (drop k ls)) (drop_all k hs q) ∙ no_heads (drop k ts) (drop k ls)
-      | inl q ↦ elim (cases_lt k (length ls)) [
-          | inr r ↦ ap (λ (xs : List ℤ). transitions (drop k ts) (drop k hs) xs) (drop_all k ls r) ∙ no_labels (drop k ts) (drop k hs)
-          | inl r ↦ absurd (over p q r)
-        ]
+    | inr q ↦ ap (λ (xs : List ℤ). transitions (drop k ts) xs (drop k ls)) (drop_all k hs q) ∙ no_heads (drop k ts) (drop k ls)
+    | inl q ↦ elim (cases_lt k (length ls)) [
+      | inr r ↦ ap (λ (xs : List ℤ). transitions (drop k ts) (drop k hs) xs) (drop_all k ls r) ∙ no_labels (drop k ts) (drop k hs)
+      | inl r ↦ absurd (over p q r)
     ]
+  ]
 ]
 
 -- one transition more
@@ -100,6 +101,11 @@ unmarked row blank q h = elim (cases_lt q (length row)) [
     beyond [] q l = refl
     beyond (x ∷ xs) zero l = absurd (omega arith)
     beyond (x ∷ xs) (suc q) l = beyond xs q (omega arith)
+
+pub marked_within : (row : List Bool) (q : ℕ) → IsMarked row q → q < length row
+marked_within [] q h = absurd (let e : false ≡ true = h in cc e)
+marked_within (x ∷ xs) zero h = omega arith
+marked_within (x ∷ xs) (suc q) h = let l = marked_within xs q h in omega arith
 
 pub marked_here : (row : List Bool) (q : ℕ) → q < length row → IsMarked (set row q true) q
 marked_here row q l = get_or-set_same row q true false l
@@ -178,11 +184,28 @@ network_from raw finals start states first last steps rising number ends within 
         let t = get_or steps c.0 no_step in
         (t, (c.0, l, get_or_default steps c.0 t no_step l), sym (get_or-map (named states) steps c.0 no_step r l) ∙ c.2)
 
+-- the same steps in another order
+pub network_sorted : (raw : List Transition) (finals : List ℤ) (start : ℤ) (states : List ℤ) (first : ℕ) (last : List Bool) (steps sorted : List Step) → IsPermutation steps sorted → IsNetwork raw finals start states first last steps → IsNetwork raw finals start states first last sorted
+network_sorted raw finals start states first last steps sorted moved net = record {
+  within = λ k d l. (let t = get_or sorted k d in All-contains (IsStepWithin (length last)) steps t net.within (back t (k, l, get_or_default sorted k t d l)));
+  given = λ t c. net.given t (back t c);
+  numbered = λ r c. (let n = net.numbered r c in (n.0, Contains-permutation steps sorted n.0 moved n.1, n.2));
+  distinct = net.distinct;
+  begin = net.begin;
+  start_is = net.start_is;
+  listed = net.listed;
+  marked = net.marked;
+}
+  where
+    back : (t : Step) → Contains sorted t → Contains steps t
+    back t c = Contains-permutation sorted steps t (IsPermutation-sym steps sorted moved) c
+
 -- a row none of whose states is marked, and one with one that is
-pub blank_of : (row : List Bool) (n : ℕ) → row ≡ replicate n false → (length row ≡ n) × ((q : ℕ) → q < length row → get_or row q false ≡ false)
-blank_of row n e =
-    let size : length row ≡ n = ap (λ (xs : List Bool). length xs) e ∙ length-replicate n false in
-    (size, λ q l. ap (λ (xs : List Bool). get_or xs q false) e ∙ get_or-replicate n q false false (omega arith))
+pub none_marked : (row old : List Bool) (n m : ℕ) → old ≡ [] → row ≡ take n old ++ replicate m false → (q : ℕ) → q < length row → get_or row q false ≡ false
+none_marked row old n m none is q l =
+    let e : row ≡ replicate m false = is ∙ ap (λ (xs : List Bool). take n xs ++ replicate m false) none ∙ ap (λ (xs : List Bool). xs ++ replicate m false) (take_all n [] (omega arith)) in
+    let size : length row ≡ m = ap (λ (xs : List Bool). length xs) e ∙ length-replicate m false in
+    ap (λ (xs : List Bool). get_or xs q false) e ∙ get_or-replicate m q false false (omega arith)
 
 pub one_marked : (row : List Bool) (i : ℕ) → i < length row → ((q : ℕ) → q < length row → get_or row q false ≡ false) → (q : ℕ) → (IsMarked (set row i true) q → q ≡ i) × (q ≡ i → IsMarked (set row i true) q)
 one_marked row i l blank q = (

@@ -29,7 +29,7 @@ fixed_labels s (i ∷ is) xs (l ∷ ls) f o z =
     ap (λ (v : ℤ). v ∷ ls) here ∙ ap (λ (vs : List ℤ). value_at xs i ∷ vs) rest
 
 module _ (raw : List Transition) (finals : List ℤ) (start : ℤ) (states : List ℤ) (first : ℕ) (last : List Bool) (steps : List Step) (net : IsNetwork raw finals start states first last steps) (s : Trail) where
-  within_of : (t : Step) → Contains steps t → IsStepWithin (length last) t
+  pub within_of : (t : Step) → Contains steps t → IsStepWithin (length last) t
   within_of t c = All-contains (IsStepWithin (length last)) steps t net.within c
 
   -- the step of a transition
@@ -51,9 +51,9 @@ module _ (raw : List Transition) (finals : List ℤ) (start : ℤ) (states : Lis
       (f.0, f.1, f.2, here, end_from xs is f.0.head w.head (All-tail (λ j. IsOpenTo s j (value_at xs j)) i is o) rest)
 
   -- the step that they take at a position
-  step_at : (xs : List ℤ) (is : List ℕ) (k : ℕ) → k < length is → AreOpen s xs is → (q : ℕ) → q < length last → Accepts raw finals (state_at states q) (values_at xs (drop k is))
+  pub step_at : (xs : List ℤ) (is : List ℕ) (k : ℕ) → k < length is → (q : ℕ) → q < length last → Accepts raw finals (state_at states q) (values_at xs (drop k is))
       → (t : Step) × Contains steps t × (t.tail ≡ q) × (t.label ≡ value_at xs (get_or is k 0)) × Accepts raw finals (state_at states t.head) (values_at xs (drop (k + 1) is))
-  step_at xs is k l o q m acc =
+  step_at xs is k l q m acc =
       let i = get_or is k 0 in
       let now : Accepts raw finals (state_at states q) (value_at xs i ∷ values_at xs (drop (k + 1) is)) = subst (λ (js : List ℕ). Accepts raw finals (state_at states q) (values_at xs js)) (drop_more is k 0 l) acc in
       let f = follow q now.0 (value_at xs i) m now.1 in
@@ -65,7 +65,7 @@ module _ (raw : List Transition) (finals : List ℤ) (start : ℤ) (states : Lis
   reach_at xs is (suc k) l o acc =
       let before = reach_at xs is k (omega arith) o acc in
       let m : k < length is = omega arith in
-      let f = step_at xs is k m o before.0 before.1 before.3 in
+      let f = step_at xs is k m before.0 before.1 before.3 in
       let w = within_of f.0 f.1 in
       let here : IsOpenTo s (get_or is k 0) f.0.label = subst (λ (v : ℤ). IsOpenTo s (get_or is k 0) v) (sym f.3) (o k 0 m) in
       let from : CanReach s steps first is k f.0.tail = subst (λ (q : ℕ). CanReach s steps first is k q) (sym f.2) before.2 in
@@ -75,7 +75,7 @@ module _ (raw : List Transition) (finals : List ℤ) (start : ℤ) (states : Lis
   pub alive_at : (xs : List ℤ) (is : List ℕ) (k : ℕ) → k < length is → AreOpen s xs is → Accepts raw finals start (values_at xs is) → IsAlive s steps first last is k (value_at xs (get_or is k 0))
   alive_at xs is k l o acc =
       let r = reach_at xs is k (omega arith) o acc in
-      let f = step_at xs is k l o r.0 r.1 r.3 in
+      let f = step_at xs is k l r.0 r.1 r.3 in
       let w = within_of f.0 f.1 in
       let from : CanReach s steps first is k f.0.tail = subst (λ (q : ℕ). CanReach s steps first is k q) (sym f.2) r.2 in
       (f.0, f.1, f.3, o k 0 l, from, end_from xs (drop (k + 1) is) f.0.head w.head (All-drop (λ j. IsOpenTo s j (value_at xs j)) (k + 1) is o) f.4)

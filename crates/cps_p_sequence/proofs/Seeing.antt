@@ -1,6 +1,6 @@
 -- What the rule of an automaton knows of a body, which is seen through its lists.
 use Rattle.std.specs.Prelude.{All}
-use Rattle.std.proofs.Common.{◌≡◌, ℕ, ◌<◌, ℤ, Bool, true, false, List, length, sym, ◌∙◌, ap, subst}
+use Rattle.std.proofs.Common.{◌≡◌, ℕ, ◌<◌, ℤ, Bool, true, false, Option, List, length, sym, ◌∙◌, ap, subst}
 use Rattle.cps_model.specs.Sequences.{transitions}
 use Rattle.cps_instance.specs.declared.task.Body.{Body}
 use Rattle.cps_instance.specs.declared.task.Body.TheVariants.{Automaton}
@@ -12,7 +12,11 @@ use Rattle.cps_p_sequence.specs.declared.states.Step.{Step}
 use Rattle.cps_p_sequence.specs.Networks.{IsNetwork, IsStepWithin}
 use Rattle.cps_rule.specs.declared.rule.Narrowing.{Narrowing}
 use Rattle.cps_p_sequence.specs.Runs.{CanEnd, IsFollowed, AreEndsAlive, AreFound, IsDead, IsLooked}
+use Rattle.cps_literal.specs.declared.atom.Atom.{Atom}
+use Rattle.cps_p_sequence.specs.Facts.{Gives}
+use Rattle.cps_p_sequence.specs.Cuts.{IsCut}
 use Rattle.cps_p_sequence.proofs.Running.{body_followed, body_rests, body_possible}
+use Rattle.cps_p_sequence.proofs.Cutting.{cut_gives}
 
 -- what a look's answer says
 pub looked_some : (s : Trail) (steps : List Step) (first : ℕ) (last : List Bool) (is : List ℕ) (found : List Narrowing) (r : Bool) → r ≡ true → IsLooked s steps first last is found r → CanEnd s steps last is first × AreFound s steps first last is (length is) found
@@ -49,3 +53,6 @@ module _ (b : Body) (start : ℤ) (finals tails heads labels : List ℤ) (is is'
 
     pub seen_possible : CanEnd s steps' last' is' first → IsExcludedBody b s → ⊥
     seen_possible h = subst (λ (x : Body). IsExcludedBody x s → ⊥) is_body (body_possible start finals tails heads labels states first last' steps' network s is' h)
+
+    pub seen_gives : (goal : Option Atom) (us : List Atom) → IsCut s goal steps' first last' is' us → Gives b s goal us
+    seen_gives goal us h = subst (λ (x : Body). Gives x s goal us) is_body (cut_gives start finals tails heads labels states first last' steps' network s goal is' us h)

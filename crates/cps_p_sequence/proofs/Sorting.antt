@@ -60,9 +60,9 @@ pub rising_differ : (ns : List ℤ) → IsRising ns → (i j : ℕ) → i < leng
 rising_differ ns h i j l m e = elim (cases_lt i j) [
   | inl p ↦ absurd (apart (state_at ns i) (state_at ns j) e (h i j p m))
   | inr p ↦ elim (cases_lt j i) [
-      | inl q ↦ absurd (apart (state_at ns j) (state_at ns i) (sym e) (h j i q l))
-      | inr q ↦ omega arith
-    ]
+    | inl q ↦ absurd (apart (state_at ns j) (state_at ns i) (sym e) (h j i q l))
+    | inr q ↦ omega arith
+  ]
 ]
   where
     apart : (x y : ℤ) → x ≡ y → x <ℤ y → ⊥

@@ -1,3 +1,5 @@
 pub mod Inverses
 pub mod Networks
 pub mod Runs
+pub mod Facts
+pub mod Cuts

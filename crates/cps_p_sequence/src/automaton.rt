@@ -1,8 +1,11 @@
 //! The rule of an automaton.
 ghost use Rattle.std.specs.Prelude.{◌≡◌, IfOk, IsTrue};
 
-use crate::layers::{Network, look_at};
-use crate::states::{Step, mark_finals, number_of, states_of, steps_of, transitions};
+use crate::cuts::cut;
+use crate::layers::{Network, Room, look_at};
+use crate::states::{
+    Step, make_distinct, mark_finals, number_of, sort_by_label, states_of, steps_of, transitions,
+};
 use cps_enforce::Enforced;
 use cps_instance::{Body, Task};
 use cps_literal::Atom;
@@ -27,8 +30,11 @@ pub struct AutomatonRule {
     first: usize,
     /// Which states are final.
     last: Vec<bool>,
-    /// The transitions by numbers of states.
+    /// The transitions by numbers of states, those with one label side by side.
     steps: Vec<Step>,
+    /// The labels of the transitions, rising.
+    alphabet: Vec<i64>,
+    room: Room,
 }
 
 impl Model for AutomatonRule {
@@ -69,7 +75,10 @@ impl AutomatonRule {
         let named = states.as_slice();
         let first = number_of(named, start);
         let last = mark_finals(alloc, named, finals)?;
-        let numbered = steps_of(alloc, named, listed)?;
+        let mut numbered = steps_of(alloc, named, listed)?;
+        sort_by_label(&mut numbered);
+        let mut alphabet = Vec::from_slice(alloc, steps.2)?;
+        make_distinct(&mut alphabet);
         Ok(AutomatonRule {
             alloc,
             start,
@@ -82,6 +91,8 @@ impl AutomatonRule {
             first,
             last,
             steps: numbered,
+            alphabet,
+            room: Room::new(alloc),
         })
     }
 
@@ -123,14 +134,16 @@ impl Rule for AutomatonRule {
     fn look(&mut self, store: &Store, found: &mut Vec<Narrowing>) -> Result<Look, AllocError> {
         let last = self.last.as_slice();
         let steps = self.steps.as_slice();
+        let alphabet = self.alphabet.as_slice();
         let subjects = self.exprs.as_slice();
         let net = Network {
             first: self.first,
             last,
             steps,
+            alphabet,
             subjects,
         };
-        let possible = look_at(self.alloc, store, &net, found)?;
+        let possible = look_at(store, &net, &mut self.room, found)?;
         if possible {
             return Ok(Look::Possible);
         }
@@ -139,23 +152,45 @@ impl Rule for AutomatonRule {
 
     fn explain(
         &self,
-        _past: &Before,
-        _target: Atom,
+        past: &Before,
+        target: Atom,
         _hint: Hint,
-        _facts: &mut Vec<Atom>,
+        facts: &mut Vec<Atom>,
     ) -> Result<bool, AllocError> {
-        let _ = &self.states;
-        Ok(false)
+        let last = self.last.as_slice();
+        let steps = self.steps.as_slice();
+        let alphabet = self.alphabet.as_slice();
+        let subjects = self.exprs.as_slice();
+        let net = Network {
+            first: self.first,
+            last,
+            steps,
+            alphabet,
+            subjects,
+        };
+        let is_cut = cut(self.alloc, past, &net, Some(target), facts)?;
+        Ok(is_cut)
     }
 
     fn refute(
         &self,
-        _past: &Before,
+        past: &Before,
         _hint: Hint,
-        _facts: &mut Vec<Atom>,
+        facts: &mut Vec<Atom>,
     ) -> Result<bool, AllocError> {
-        let _ = &self.states;
-        Ok(false)
+        let last = self.last.as_slice();
+        let steps = self.steps.as_slice();
+        let alphabet = self.alphabet.as_slice();
+        let subjects = self.exprs.as_slice();
+        let net = Network {
+            first: self.first,
+            last,
+            steps,
+            alphabet,
+            subjects,
+        };
+        let is_cut = cut(self.alloc, past, &net, None, facts)?;
+        Ok(is_cut)
     }
 
     fn push_subjects(&self, subjects: &mut Vec<u32>) -> Result<(), AllocError> {

@@ -9,11 +9,12 @@ ghost use Rattle.cps_propagate.specs.Strength.{IsEndNow};
 ghost use Rattle.cps_p_sequence.specs.Networks.{IsRising, IsStepWithin, IsMarked};
 ghost use Rattle.cps_p_sequence.specs.Runs.{AreTails, AreHeads, AreLabels, AreEnding, AreReached, AreRows, HasLabels, IsFrom, IsUpTo, AllGiven, AllTrue, IsNarrowed, IsLooked};
 
-use crate::states::{Step, blank_row, make_distinct};
+use crate::states::{Step, blank, is_listed, make_distinct};
 use cps_literal::{Atom, Op};
 use cps_rule::{Hint, Narrowing};
 use cps_trail::Store;
 use std::alloc::{AllocError, Global};
+use std::mem::swap;
 
 /// An automaton by numbered states, over subjects.
 #[derive(Clone, Copy)]
@@ -22,14 +23,41 @@ pub(crate) struct Network<'a> {
     /// Which states are final.
     pub(crate) last: &'a [bool],
     pub(crate) steps: &'a [Step],
+    /// The labels of the steps, rising.
+    pub(crate) alphabet: &'a [i64],
     pub(crate) subjects: &'a [u32],
+}
+
+/// Room for a look. Its memory is kept for the next.
+#[derive(Drop)]
+pub(crate) struct Room {
+    /// For each position that is not yet walked past, the states after it from which a run can end, the last position's first.
+    rows: Vec<bool>,
+    /// The row in work.
+    row: Vec<bool>,
+    /// The states that a run can have reached.
+    reached: Vec<bool>,
+    /// The labels of a position.
+    labels: Vec<i64>,
+}
+
+impl Room {
+    /// Room for looks.
+    pub(crate) fn new(alloc: Global) -> Self {
+        Room {
+            rows: Vec::new(alloc),
+            row: Vec::new(alloc),
+            reached: Vec::new(alloc),
+            labels: Vec::new(alloc),
+        }
+    }
 }
 
 /// The steps of an automaton at the position of a subject.
 #[derive(Clone, Copy)]
-struct Position<'a> {
-    subject: u32,
-    steps: &'a [Step],
+pub(crate) struct Position<'a> {
+    pub(crate) subject: u32,
+    pub(crate) steps: &'a [Step],
 }
 
 /// Whether a subject may have a value.
@@ -42,17 +70,17 @@ fn is_open(store: &Store, subject: u32, value: i64) -> bool
 
 /// The states from which an open step leads to a marked one.
 fn tails_of(
-    alloc: Global,
     store: &Store,
     subject: u32,
     steps: &[Step],
     heads: &[bool],
-) -> Result<Vec<bool>, AllocError>
+    tails: &mut Vec<bool>,
+) -> Result<(), AllocError>
     requires subject { subject < length store.now.first }
     requires steps { All (IsStepWithin (length heads.now)) steps.now }
-    ensures { IfOk result (λ tails. AreTails store.now subject steps.now (length steps.now) heads.now tails.items) }
+    ensures { OnOk result (AreTails store.now subject steps.now (length steps.now) heads.now tails.new.items) }
 {
-    let mut tails = blank_row(alloc, heads.len())?;
+    blank(tails, heads.len())?;
     for step in steps {
         if !heads[step.head] {
             continue;
@@ -62,22 +90,22 @@ fn tails_of(
         }
         tails[step.tail] = true;
     }
-    Ok(tails)
+    Ok(())
 }
 
 /// The states to which an open step leads from a marked one.
 fn heads_of(
-    alloc: Global,
     store: &Store,
     subject: u32,
     steps: &[Step],
     tails: &[bool],
-) -> Result<Vec<bool>, AllocError>
+    heads: &mut Vec<bool>,
+) -> Result<(), AllocError>
     requires subject { subject < length store.now.first }
     requires steps { All (IsStepWithin (length tails.now)) steps.now }
-    ensures { IfOk result (λ heads. AreHeads store.now subject steps.now (length steps.now) tails.now heads.items) }
+    ensures { OnOk result (AreHeads store.now subject steps.now (length steps.now) tails.now heads.new.items) }
 {
-    let mut heads = blank_row(alloc, tails.len())?;
+    blank(heads, tails.len())?;
     for step in steps {
         if !tails[step.tail] {
             continue;
@@ -87,7 +115,17 @@ fn heads_of(
         }
         heads[step.head] = true;
     }
-    Ok(heads)
+    Ok(())
+}
+
+/// Whether a label is the last of a list.
+fn is_last_label(labels: &[i64], label: i64) -> bool
+    ensures { IsTrue result → Contains labels.now label }
+{
+    match labels.last() {
+        Some(last) => *last == label,
+        None => false,
+    }
 }
 
 /// Puts the labels of the steps that are alive between marked states in the place of what a list holds, rising.
@@ -113,6 +151,9 @@ fn put_labels(
             continue;
         }
         if !is_open(store, position.subject, step.label) {
+            continue;
+        }
+        if is_last_label(labels, step.label) {
             continue;
         }
         labels.push(step.label)?;
@@ -190,35 +231,82 @@ fn keep_ends(
     Ok(())
 }
 
-/// The states from which a run may end, before the first position. Before it, the same for the other positions is added to a list, a row
-/// for each, the last position's first.
-fn end_rows(
-    alloc: Global,
+/// Adds what keeps a subject off the labels between its first and its last one that are none of its own.
+fn keep_holes(
     store: &Store,
-    net: &Network,
-    rows: &mut Vec<bool>,
-) -> Result<Vec<bool>, AllocError>
+    subject: u32,
+    alphabet: &[i64],
+    labels: &[i64],
+    found: &mut Vec<Narrowing>,
+) -> Result<(), AllocError>
+    requires subject { subject < length store.now.first }
+    requires some { 0 < length labels.now }
+    requires rising { IsRising labels.now }
+    ensures given { OnOk result ((b : BodyOf) → HasLabels b store.now subject labels.now → AllGiven b store.now found.old.items → AllGiven b store.now found.new.items) }
+    ensures kept { OnOk result (AllTrue store.now found.new.items → AllTrue store.now found.old.items) }
+{
+    let (least, greatest) = (labels[0], labels[labels.len() - 1]);
+    for label in alphabet {
+        if *label < least || greatest < *label {
+            continue;
+        }
+        if is_listed(labels, *label) {
+            continue;
+        }
+        if !is_open(store, subject, *label) {
+            continue;
+        }
+        found.push(given(subject, Op::Ne, *label))?;
+    }
+    Ok(())
+}
+
+/// Adds what keeps a subject between the first and the last of its labels, and off those between them that are none of its own.
+fn keep_labels(
+    store: &Store,
+    subject: u32,
+    alphabet: &[i64],
+    labels: &[i64],
+    found: &mut Vec<Narrowing>,
+) -> Result<(), AllocError>
+    requires subject { subject < length store.now.first }
+    requires some { 0 < length labels.now }
+    requires rising { IsRising labels.now }
+    ensures given { OnOk result ((b : BodyOf) → HasLabels b store.now subject labels.now → AllGiven b store.now found.old.items → AllGiven b store.now found.new.items) }
+    ensures kept { OnOk result (AllTrue store.now found.new.items → AllTrue store.now found.old.items) }
+    ensures ends { OnOk result (AllTrue store.now found.new.items → ((v : ℤ) → Contains labels.now v → IsOpenTo store.now subject v) → (v : ℤ) → IsEndNow store.now subject v → Contains labels.now v) }
+{
+    keep_ends(store, subject, labels, found)?;
+    keep_holes(store, subject, alphabet, labels, found)?;
+    Ok(())
+}
+
+/// Puts the states from which a run may end, before the first position, in the place of the row in work. Before it, the same for after each
+/// position is put in the place of the rows, the last position's first.
+fn end_rows(store: &Store, net: &Network, room: &mut Room) -> Result<(), AllocError>
     requires subjects { All (λ i. i < length store.now.first) net.now.subjects.now }
     requires steps { All (IsStepWithin (length net.now.last.now)) net.now.steps.now }
-    ensures rows { OnOk result (AreRows store.now net.now.steps.now net.now.last.now net.now.subjects.now rows.new.items) }
-    ensures ends { IfOk result (λ ends. AreEnding store.now net.now.steps.now net.now.last.now net.now.subjects.now ends.items) }
+    ensures rows { OnOk result (AreRows store.now net.now.steps.now net.now.last.now net.now.subjects.now room.new.rows.items) }
+    ensures ends { OnOk result (AreEnding store.now net.now.steps.now net.now.last.now net.now.subjects.now room.new.row.items) }
 {
-    rows.clear();
-    let mut ends = Vec::from_slice(alloc, net.last)?;
+    room.rows.clear();
+    room.row.clear();
+    room.row.extend_from_slice(net.last)?;
     for after in 0..net.subjects.len() {
         let subject = net.subjects[net.subjects.len() - 1 - after];
-        let heads = ends.as_slice();
-        rows.extend_from_slice(heads)?;
-        let row = tails_of(alloc, store, subject, net.steps, heads)?;
-        ends = row;
+        let heads = room.row.as_slice();
+        room.rows.extend_from_slice(heads)?;
+        tails_of(store, subject, net.steps, heads, &mut room.reached)?;
+        swap(&mut room.row, &mut room.reached);
     }
-    Ok(ends)
+    Ok(())
 }
 
 /// The last row of a list of rows.
-fn top_row(rows: &[bool], count: usize) -> &[bool]
+pub(crate) fn top_row(rows: &[bool], count: usize) -> &[bool]
     requires { count ≤ length rows.now }
-    ensures { result.now ≡ drop (length rows.now - count) rows.now }
+    ensures rows { result.now ≡ drop (length rows.now - count) rows.now }
+    ensures size { length result.now ≡ count }
 {
     &rows[rows.len() - count..]
 }
@@ -231,64 +319,61 @@ fn is_marked(row: &[bool], state: usize) -> bool
     row[state]
 }
 
-/// A row in which one state is marked.
-fn first_row(alloc: Global, first: usize, count: usize) -> Result<Vec<bool>, AllocError>
+/// Puts marks for so many states, of which one is marked, in the place of what a row holds.
+pub(crate) fn mark_first(row: &mut Vec<bool>, first: usize, count: usize) -> Result<(), AllocError>
     requires { first < count }
-    ensures size { IfOk result (λ row. length row.items ≡ count) }
-    ensures marked { IfOk result (λ row. (q : ℕ) → IsMarked row.items q ↔ (q ≡ first)) }
+    ensures size { OnOk result (length row.new.items ≡ count) }
+    ensures marked { OnOk result ((q : ℕ) → IsMarked row.new.items q ↔ (q ≡ first)) }
 {
-    let mut row = blank_row(alloc, count)?;
+    blank(row, count)?;
     row[first] = true;
-    Ok(row)
+    Ok(())
 }
 
-/// Puts what keeps each subject's values between the first and the last of the labels that are alive in the place of what a list holds.
-/// Answers false where none is.
+/// Puts what keeps each subject at labels that are alive in the place of what a list holds. Answers false where none is.
 fn narrow(
-    alloc: Global,
     store: &Store,
     net: &Network,
-    rows: &mut Vec<bool>,
+    room: &mut Room,
     found: &mut Vec<Narrowing>,
 ) -> Result<bool, AllocError>
     requires subjects { All (λ i. i < length store.now.first) net.now.subjects.now }
     requires steps { All (IsStepWithin (length net.now.last.now)) net.now.steps.now }
     requires first { net.now.first < length net.now.last.now }
-    requires rows { AreRows store.now net.now.steps.now net.now.last.now net.now.subjects.now rows.old.items }
+    requires rows { AreRows store.now net.now.steps.now net.now.last.now net.now.subjects.now room.old.rows.items }
     ensures { IfOk result (IsNarrowed store.now net.now.steps.now net.now.first net.now.last.now net.now.subjects.now found.new.items) }
 {
     found.clear();
     let count = net.last.len();
-    let mut labels = Vec::new(alloc);
-    let mut reached = first_row(alloc, net.first, count)?;
+    mark_first(&mut room.reached, net.first, count)?;
     for subject in net.subjects {
         let position = Position {
             subject: *subject,
             steps: net.steps,
         };
-        let stack = rows.as_slice();
+        let stack = room.rows.as_slice();
         let heads = top_row(stack, count);
-        let before = reached.as_slice();
-        put_labels(store, &position, before, heads, &mut labels)?;
-        if labels.is_empty() {
+        let before = room.reached.as_slice();
+        put_labels(store, &position, before, heads, &mut room.labels)?;
+        if room.labels.is_empty() {
             return Ok(false);
         }
-        let kept = labels.as_slice();
-        keep_ends(store, *subject, kept, found)?;
-        let tails = reached.as_slice();
-        let row = heads_of(alloc, store, *subject, net.steps, tails)?;
-        reached = row;
-        let below = rows.len() - count;
-        rows.truncate(below);
+        let kept = room.labels.as_slice();
+        keep_labels(store, *subject, net.alphabet, kept, found)?;
+        let tails = room.reached.as_slice();
+        heads_of(store, *subject, net.steps, tails, &mut room.row)?;
+        swap(&mut room.reached, &mut room.row);
+        let below = room.rows.len() - count;
+        room.rows.truncate(below);
     }
     Ok(true)
 }
 
 /// Puts what an automaton leaves to its subjects in the place of what a list holds. Answers false where no run is left.
 pub(crate) fn look_at(
-    alloc: Global,
     store: &Store,
     net: &Network,
+    room: &mut Room,
     found: &mut Vec<Narrowing>,
 ) -> Result<bool, AllocError>
     requires subjects { All (λ i. i < length store.now.first) net.now.subjects.now }
@@ -297,12 +382,11 @@ pub(crate) fn look_at(
     ensures { IfOk result (IsLooked store.now net.now.steps.now net.now.first net.now.last.now net.now.subjects.now found.new.items) }
 {
     found.clear();
-    let mut rows = Vec::new(alloc);
-    let ends = end_rows(alloc, store, net, &mut rows)?;
-    let whole = ends.as_slice();
+    end_rows(store, net, room)?;
+    let whole = room.row.as_slice();
     if !is_marked(whole, net.first) {
         return Ok(false);
     }
-    let possible = narrow(alloc, store, net, &mut rows, found)?;
+    let possible = narrow(store, net, room, found)?;
     Ok(possible)
 }

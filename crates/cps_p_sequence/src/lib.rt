@@ -10,6 +10,8 @@
 #![tactic(auto)]
 
 mod automaton;
+mod cuts;
+mod facts;
 mod inverse;
 mod layers;
 mod states;

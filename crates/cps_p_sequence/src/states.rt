@@ -1,5 +1,5 @@
 //! An automaton whose states have numbers, so that rows of marks stand for sets of states.
-ghost use Rattle.std.specs.Prelude.{◌≡◌, ℕ, ◌<◌, ◌++◌, ◌∷◌, [], ℤ, length, map, Contains, All, IfOk, OnOk, IfSome, IsNone, slice_index_or, false};
+ghost use Rattle.std.specs.Prelude.{◌≡◌, ℕ, ◌<◌, ◌++◌, ◌∷◌, [], ℤ, length, map, Contains, All, IfOk, OnOk, IfSome, IsNone, IsPermutation, slice_index_or, false};
 ghost use Rattle.cps_model.specs.Sequences.{transitions};
 ghost use Rattle.cps_p_sequence.specs.Networks.{IsRising, IsNumberOf, IsStepWithin, AreFinals, named};
 
@@ -24,7 +24,7 @@ pub(crate) fn make_distinct(numbers: &mut Vec<i64>)
     numbers.dedup();
 }
 
-/// The number of a state, if it is listed.
+/// The place of a number in a rising list, if it is there.
 fn find(states: &[i64], state: i64) -> Option<usize>
     requires { IsRising states.now }
     ensures some { IfSome result (λ number. IsNumberOf states.now state number) }
@@ -34,6 +34,14 @@ fn find(states: &[i64], state: i64) -> Option<usize>
         Ok(number) => Some(number),
         Err(_) => None,
     }
+}
+
+/// Whether a rising list has a number.
+pub(crate) fn is_listed(numbers: &[i64], number: i64) -> bool
+    requires { IsRising numbers.now }
+    ensures { result ≡ false → Contains numbers.now number → ⊥ }
+{
+    find(numbers, number).is_some()
 }
 
 /// The number of a state that is listed.
@@ -121,13 +129,21 @@ pub(crate) fn steps_of(
     Ok(steps)
 }
 
-/// A row of marks for so many states, none of which is marked.
-pub(crate) fn blank_row(alloc: Global, count: usize) -> Result<Vec<bool>, AllocError>
-    ensures size { IfOk result (λ row. length row.items ≡ count) }
-    ensures blank { IfOk result (λ row. (q : ℕ) → q < length row.items → slice_index_or row.items q false ≡ false) }
+/// Puts marks for so many states, none of which is marked, in the place of what a row holds.
+pub(crate) fn blank(row: &mut Vec<bool>, count: usize) -> Result<(), AllocError>
+    ensures size { OnOk result (length row.new.items ≡ count) }
+    ensures blank { OnOk result ((q : ℕ) → q < length row.new.items → slice_index_or row.new.items q false ≡ false) }
 {
-    let row = vec![in alloc; false; count]?;
-    Ok(row)
+    row.clear();
+    row.resize(count, false)?;
+    Ok(())
+}
+
+/// Sorts steps by their labels.
+pub(crate) fn sort_by_label(steps: &mut Vec<Step>)
+    ensures { IsPermutation steps.old.items steps.new.items }
+{
+    steps.sort_unstable_by_key(|step| step.label);
 }
 
 /// Marks the states that are listed.
@@ -139,7 +155,8 @@ pub(crate) fn mark_finals(
     requires { IsRising states.now }
     ensures { IfOk result (λ last. AreFinals finals.now states.now (length finals.now) last.items) }
 {
-    let mut last = blank_row(alloc, states.len())?;
+    let mut last = Vec::new(alloc);
+    blank(&mut last, states.len())?;
     for state in finals {
         let number = match find(states, *state) {
             Some(number) => number,

@@ -18,7 +18,7 @@ index_mut-requires c =
     omega arith
 
 pub loop-step-init : goal.loop-step-init
-loop-step-init c = heads_begun c.args.store.now c.args.subject c.args.steps.now c.args.tails.now c.in_ok-heads.heads.items c.in_ok-heads.ensures.size c.in_ok-heads.ensures.blank
+loop-step-init c = heads_begun c.args.store.now c.args.subject c.args.steps.now c.args.tails.now c.blank.new.row.items c.in_ok-blank.ensures.size c.in_ok-blank.ensures.blank
 
 pub loop-step-preserved-then-not-tails-step : goal.loop-step-preserved-then-not-tails-step
 loop-step-preserved-then-not-tails-step c =

@@ -10,14 +10,14 @@ loop-subject-init c =
     let net = c.args.net.now in
     record {
       rows = c.requires.rows;
-      reached = reached_begun s net.steps.now net.last.now net.first (length net.last.now) net.subjects.now c.in_ok-reached.reached.items c.in_ok-reached.ensures.size c.in_ok-reached.ensures.marked;
+      reached = reached_begun s net.steps.now net.last.now net.first (length net.last.now) net.subjects.now c.mark_first.new.row.items c.in_ok-mark_first.ensures.size c.in_ok-mark_first.ensures.marked;
       found = found_begun s net.steps.now net.last.now net.first net.subjects.now c.clear.new.self.items c.clear.ensures.items;
     }
 
 pub top_row-heads-requires : goal.top_row-heads-requires
 top_row-heads-requires c =
     let net = c.args.net.now in
-    let top = top_of c.args.store.now net.steps.now net.last.now net.subjects.now c.loop-subject.subject-index c.loop-subject.rows.items c.loop-subject-test.true c.loop-subject.invariant.rows in
+    let top = top_of c.args.store.now net.steps.now net.last.now net.subjects.now c.loop-subject.subject-index c.loop-subject.room.rows.items c.loop-subject-test.true c.loop-subject.invariant.rows in
     rw c.as_slice-stack.ensures.value top.room
 
 pub put_labels-requires-clause-tails : goal.put_labels-requires-clause-tails
@@ -28,8 +28,8 @@ put_labels-requires-clause-tails c =
 pub put_labels-requires-clause-heads : goal.put_labels-requires-clause-heads
 put_labels-requires-clause-heads c =
     let net = c.args.net.now in
-    let top = top_of c.args.store.now net.steps.now net.last.now net.subjects.now c.loop-subject.subject-index c.loop-subject.rows.items c.loop-subject-test.true c.loop-subject.invariant.rows in
-    let at : c.top_row-heads.result.now ≡ drop (length c.loop-subject.rows.items - length net.last.now) c.loop-subject.rows.items = c.top_row-heads.ensures ∙ ap (λ (xs : List Bool). drop (length xs - length net.last.now) xs) c.as_slice-stack.ensures.value in
+    let top = top_of c.args.store.now net.steps.now net.last.now net.subjects.now c.loop-subject.subject-index c.loop-subject.room.rows.items c.loop-subject-test.true c.loop-subject.invariant.rows in
+    let at : c.top_row-heads.result.now ≡ drop (length c.loop-subject.room.rows.items - length net.last.now) c.loop-subject.room.rows.items = c.top_row-heads.ensures.rows ∙ ap (λ (xs : List Bool). drop (length xs - length net.last.now) xs) c.as_slice-stack.ensures.value in
     let e : length c.top_row-heads.result.now ≡ length net.last.now = ap (λ (xs : List Bool). length xs) at ∙ top.top.size in
     λ k d l. subst (λ (n : ℕ). IsStepWithin n (get_or net.steps.now k d)) (sym e) (c.requires.steps k d l)
 
@@ -40,19 +40,19 @@ returns-then-is_empty c =
     let is = net.subjects.now in
     let n = c.loop-subject.subject-index in
     let l = c.loop-subject-test.true in
-    let old = c.loop-subject.rows.items in
+    let old = c.loop-subject.room.rows.items in
     let top = top_of s net.steps.now net.last.now is n old l c.loop-subject.invariant.rows in
-    let at : c.top_row-heads.result.now ≡ drop (length old - length net.last.now) old = c.top_row-heads.ensures ∙ ap (λ (xs : List Bool). drop (length xs - length net.last.now) xs) c.as_slice-stack.ensures.value in
-    let labels = labels_at s (get_or is n 0) net.steps.now c.loop-subject.reached.items c.as_slice-before.result.now (drop (length old - length net.last.now) old) c.top_row-heads.result.now c.put_labels.new.labels.items c.as_slice-before.ensures.value at c.in_ok-put_labels.ensures.alive in
+    let at : c.top_row-heads.result.now ≡ drop (length old - length net.last.now) old = c.top_row-heads.ensures.rows ∙ ap (λ (xs : List Bool). drop (length xs - length net.last.now) xs) c.as_slice-stack.ensures.value in
+    let labels = labels_at s (get_or is n 0) net.steps.now c.loop-subject.room.reached.items c.as_slice-before.result.now (drop (length old - length net.last.now) old) c.top_row-heads.result.now c.put_labels.new.labels.items c.as_slice-before.ensures.value at c.in_ok-put_labels.ensures.alive in
     let none : length c.put_labels.new.labels.items ≡ 0 = search rules in
-    dead_by s net.steps.now net.last.now net.first (length net.last.now) is n (get_or is n 0) c.loop-subject.reached.items (drop (length old - length net.last.now) old) c.put_labels.new.labels.items l refl
+    dead_by s net.steps.now net.last.now net.first (length net.last.now) is n (get_or is n 0) c.loop-subject.room.reached.items (drop (length old - length net.last.now) old) c.put_labels.new.labels.items l refl
     c.loop-subject.invariant.reached top.top labels c.loop-subject.found.items (empty_is c.put_labels.new.labels.items none) c.loop-subject.invariant.found
 
-pub keep_ends-requires-clause-some : goal.keep_ends-requires-clause-some
-keep_ends-requires-clause-some c = rw c.as_slice-kept.ensures.value (search rules)
+pub keep_labels-requires-clause-some : goal.keep_labels-requires-clause-some
+keep_labels-requires-clause-some c = rw c.as_slice-kept.ensures.value (search rules)
 
-pub keep_ends-requires-clause-rising : goal.keep_ends-requires-clause-rising
-keep_ends-requires-clause-rising c = rw c.as_slice-kept.ensures.value c.in_ok-put_labels.ensures.rising
+pub keep_labels-requires-clause-rising : goal.keep_labels-requires-clause-rising
+keep_labels-requires-clause-rising c = rw c.as_slice-kept.ensures.value c.in_ok-put_labels.ensures.rising
 
 pub heads_of-requires-clause-steps : goal.heads_of-requires-clause-steps
 heads_of-requires-clause-steps c =
@@ -62,7 +62,7 @@ heads_of-requires-clause-steps c =
 pub overflow_sub-below : goal.overflow_sub-below
 overflow_sub-below c =
     let net = c.args.net.now in
-    let top = top_of c.args.store.now net.steps.now net.last.now net.subjects.now c.loop-subject.subject-index c.loop-subject.rows.items c.loop-subject-test.true c.loop-subject.invariant.rows in
+    let top = top_of c.args.store.now net.steps.now net.last.now net.subjects.now c.loop-subject.subject-index c.loop-subject.room.rows.items c.loop-subject-test.true c.loop-subject.invariant.rows in
     let room = top.room in
     search rules
 
@@ -74,21 +74,21 @@ loop-subject-preserved c =
     let n = c.loop-subject.subject-index in
     let i = get_or is n 0 in
     let l = c.loop-subject-test.true in
-    let old = c.loop-subject.rows.items in
+    let old = c.loop-subject.room.rows.items in
     let top = top_of s net.steps.now net.last.now is n old l c.loop-subject.invariant.rows in
-    let at : c.top_row-heads.result.now ≡ drop (length old - length net.last.now) old = c.top_row-heads.ensures ∙ ap (λ (xs : List Bool). drop (length xs - length net.last.now) xs) c.as_slice-stack.ensures.value in
-    let labels = labels_at s i net.steps.now c.loop-subject.reached.items c.as_slice-before.result.now (drop (length old - length net.last.now) old) c.top_row-heads.result.now c.put_labels.new.labels.items c.as_slice-before.ensures.value at c.in_ok-put_labels.ensures.alive in
-    let heads = heads_at s i net.steps.now c.loop-subject.reached.items c.as_slice-tails.result.now c.in_ok-row.row.items c.as_slice-tails.ensures.value c.in_ok-row.ensures in
-    let same : vec_len c.loop-subject.rows ≡ length old = search rules in
+    let at : c.top_row-heads.result.now ≡ drop (length old - length net.last.now) old = c.top_row-heads.ensures.rows ∙ ap (λ (xs : List Bool). drop (length xs - length net.last.now) xs) c.as_slice-stack.ensures.value in
+    let labels = labels_at s i net.steps.now c.loop-subject.room.reached.items c.as_slice-before.result.now (drop (length old - length net.last.now) old) c.top_row-heads.result.now c.put_labels.new.labels.items c.as_slice-before.ensures.value at c.in_ok-put_labels.ensures.alive in
+    let heads = heads_at s i net.steps.now c.loop-subject.room.reached.items c.as_slice-tails.result.now c.heads_of.new.heads.items c.as_slice-tails.ensures.value c.in_ok-heads_of.ensures in
+    let same : vec_len c.loop-subject.room.rows ≡ length old = search rules in
     let cut : c.truncate.new.self.items ≡ take (length old - length net.last.now) old = c.truncate.ensures.items ∙ ap (λ (m : ℕ). take (m - length net.last.now) old) (c.len.ensures ∙ same) in
     record {
       rows = subst (λ (xs : List Bool). AreRows s net.steps.now net.last.now (drop (n + 1) is) xs) (sym cut) top.below;
-      reached = reached_more s net.steps.now net.last.now net.first (length net.last.now) is n i c.loop-subject.reached.items c.in_ok-row.row.items refl c.loop-subject.invariant.reached heads;
-      found = found_more s net.steps.now net.last.now net.first (length net.last.now) is n i c.loop-subject.reached.items (drop (length old - length net.last.now) old) c.put_labels.new.labels.items l refl
-          c.loop-subject.invariant.reached top.top labels c.loop-subject.found.items c.keep_ends.new.found.items
-          (given_at s i c.put_labels.new.labels.items c.as_slice-kept.result.now c.loop-subject.found.items c.keep_ends.new.found.items c.as_slice-kept.ensures.value c.in_ok-keep_ends.ensures.given)
-          c.in_ok-keep_ends.ensures.kept
-          (listed_ends s i c.put_labels.new.labels.items c.as_slice-kept.result.now c.keep_ends.new.found.items c.as_slice-kept.ensures.value c.in_ok-keep_ends.ensures.ends)
+      reached = rw c.swap.ensures.x_after (reached_more s net.steps.now net.last.now net.first (length net.last.now) is n i c.loop-subject.room.reached.items c.heads_of.new.heads.items refl c.loop-subject.invariant.reached heads);
+      found = found_more s net.steps.now net.last.now net.first (length net.last.now) is n i c.loop-subject.room.reached.items (drop (length old - length net.last.now) old) c.put_labels.new.labels.items l refl
+          c.loop-subject.invariant.reached top.top labels c.loop-subject.found.items c.keep_labels.new.found.items
+          (given_at s i c.put_labels.new.labels.items c.as_slice-kept.result.now c.loop-subject.found.items c.keep_labels.new.found.items c.as_slice-kept.ensures.value c.in_ok-keep_labels.ensures.given)
+          c.in_ok-keep_labels.ensures.kept
+          (listed_ends s i c.put_labels.new.labels.items c.as_slice-kept.result.now c.keep_labels.new.found.items c.as_slice-kept.ensures.value c.in_ok-keep_labels.ensures.ends)
           c.loop-subject.invariant.found;
     }
 

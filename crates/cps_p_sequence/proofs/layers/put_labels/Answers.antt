@@ -2,7 +2,7 @@ use Rattle.std.proofs.Common.{◌≡◌, ◌<◌, ℤ, pos, true, false, length,
 use Rattle.std.proofs.lemmas.Int.{to_z-of_z}
 use Rattle.std.proofs.lemmas.List.{get_or_default}
 use Rattle.cps_p_sequence.specs.declared.states.Step.{Step}
-use Rattle.cps_p_sequence.proofs.Layering.{labels_begun, labels_passed, labels_more, labels_sorted}
+use Rattle.cps_p_sequence.proofs.Layering.{labels_begun, labels_passed, labels_listed, labels_more, labels_sorted}
 use Rattle.cps_p_sequence.proofs.layers.put_labels.Goals as goal
 
 abbrev no_step : Step
@@ -45,6 +45,16 @@ loop-step-preserved-then-not-is_open c =
     let decided = simp to_z-of_z at c.is_open.ensures in
     labels_passed c.args.store.now y.subject y.steps.now c.args.tails.now c.args.heads.now n c.loop-step.labels.items t l (get_or_default y.steps.now n no_step t l)
     (λ o a b. (let no' = c.if-not-is_open.true in let e : false ≡ true = sym no' ∙ decided.1 o in cc e)) c.loop-step.invariant
+
+pub loop-step-preserved-then-is_last_label : goal.loop-step-preserved-then-is_last_label
+loop-step-preserved-then-is_last_label c =
+    let y = c.args.position.now in
+    let n = c.loop-step.step-index in
+    let t = get_or y.steps.now n no_step in
+    let l = c.loop-step-test.true in
+    let f : FitsSigned w64 t.label = search rules in
+    let listed = simp to_z-of_z at (rw c.deref.ensures.value at c.is_last_label.ensures) in
+    labels_listed c.args.store.now y.subject y.steps.now c.args.tails.now c.args.heads.now n c.loop-step.labels.items t l (get_or_default y.steps.now n no_step t l) (listed c.if-is_last_label.true) c.loop-step.invariant
 
 pub loop-step-preserved : goal.loop-step-preserved
 loop-step-preserved c =

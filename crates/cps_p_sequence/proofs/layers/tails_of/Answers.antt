@@ -18,7 +18,7 @@ index_mut-requires c =
     omega arith
 
 pub loop-step-init : goal.loop-step-init
-loop-step-init c = tails_begun c.args.store.now c.args.subject c.args.steps.now c.args.heads.now c.in_ok-tails.tails.items c.in_ok-tails.ensures.size c.in_ok-tails.ensures.blank
+loop-step-init c = tails_begun c.args.store.now c.args.subject c.args.steps.now c.args.heads.now c.blank.new.row.items c.in_ok-blank.ensures.size c.in_ok-blank.ensures.blank
 
 pub loop-step-preserved-then-not-heads-step : goal.loop-step-preserved-then-not-heads-step
 loop-step-preserved-then-not-heads-step c =

@@ -4,7 +4,7 @@ use Rattle.cps_p_sequence.proofs.Numbering.{finals_begun, finals_found, finals_p
 use Rattle.cps_p_sequence.proofs.states.mark_finals.Goals as goal
 
 pub loop-state-init : goal.loop-state-init
-loop-state-init c = finals_begun c.args.finals.now c.args.states.now c.in_ok-last.last.items c.in_ok-last.ensures.size c.in_ok-last.ensures.blank
+loop-state-init c = finals_begun c.args.finals.now c.args.states.now c.blank.new.row.items c.in_ok-blank.ensures.size c.in_ok-blank.ensures.blank
 
 pub index_mut-requires : goal.index_mut-requires
 index_mut-requires c = let l = c.in-Some.ensures.some.inside in let size = c.loop-state.invariant.size in omega arith

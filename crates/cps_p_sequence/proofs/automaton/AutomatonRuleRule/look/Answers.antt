@@ -51,5 +51,7 @@ pub returns-clause-seen : goal.returns-clause-seen
 returns-clause-seen c =
     let r = c.self.inside in
     let dead = looked_none c.args.store.now c.as_slice-steps.result.now r.first c.as_slice-last.result.now c.as_slice-subjects.result.now c.look_at.new.found.items c.in_ok-possible.possible c.if-possible.false c.in_ok-possible.ensures in
-    record { at = dead.nowhere c.args.self.now (seen_followed c.args.self.now r.start r.finals.items r.tails.items r.heads.items r.labels.items r.exprs.items c.as_slice-subjects.result.now r.states.items r.first r.last.items c.as_slice-last.result.now r.steps.items c.as_slice-steps.result.now
-    c.self.view_is c.as_slice-subjects.ensures.value c.as_slice-last.ensures.value c.as_slice-steps.ensures.value c.self.invariant c.args.store.now c.requires.fits) }
+    record {
+      at = dead.nowhere c.args.self.now (seen_followed c.args.self.now r.start r.finals.items r.tails.items r.heads.items r.labels.items r.exprs.items c.as_slice-subjects.result.now r.states.items r.first r.last.items c.as_slice-last.result.now r.steps.items c.as_slice-steps.result.now
+          c.self.view_is c.as_slice-subjects.ensures.value c.as_slice-last.ensures.value c.as_slice-steps.ensures.value c.self.invariant c.args.store.now c.requires.fits);
+    }

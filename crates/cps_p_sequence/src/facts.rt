@@ -1,0 +1,71 @@
+//! Atoms, and those of them that were true.
+
+ghost use Rattle.std.specs.Prelude.{◌≡◌, ◌<◌, length, IsTrue, true, false, Ok, Contains};
+ghost use Rattle.cps_literal.specs.Truth.{meets};
+ghost use Rattle.cps_trail.specs.Trail.{IsInside};
+ghost use Rattle.cps_p_sequence.specs.Facts.{Adds};
+
+use cps_literal::{Atom, Op, Truth};
+use cps_trail::Before;
+use std::alloc::AllocError;
+
+/// The greatest magnitude of a value that a domain may have.
+pub(crate) const LIMIT: i64 = (1 << 62) - 1;
+
+/// Whether a domain may have a value.
+fn is_inside(value: i64) -> bool
+    ensures { IsTrue result → IsInside value }
+{
+    -LIMIT <= value && value <= LIMIT
+}
+
+/// An atom.
+pub(crate) fn atom(subject: u32, op: Op, value: i64) -> Atom
+    ensures { result ≡ record { subject = subject; op = op; value = value } }
+{
+    Atom { subject, op, value }
+}
+
+/// Whether a number meets an atom.
+pub(crate) fn is_met(atom: Atom, number: i64) -> bool
+    ensures { result ≡ meets atom.op atom.value number }
+{
+    match atom.op {
+        Op::Le => number <= atom.value,
+        Op::Ge => atom.value <= number,
+        Op::Eq => number == atom.value,
+        Op::Ne => number != atom.value,
+    }
+}
+
+/// Whether an atom is the last of a list.
+pub(crate) fn is_last(facts: &[Atom], atom: Atom) -> bool
+    ensures { IsTrue result → Contains facts.now atom }
+{
+    match facts.last() {
+        Some(last) => *last == atom,
+        None => false,
+    }
+}
+
+/// Adds an atom, if it was true and can be negated.
+pub(crate) fn push_fact(
+    past: &Before,
+    atom: Atom,
+    facts: &mut Vec<Atom>,
+) -> Result<bool, AllocError>
+    requires { atom.subject < length past.now.first }
+    ensures yes { result ≡ Ok true → Adds past.now atom facts.old.items facts.new.items }
+    ensures no { result ≡ Ok false → facts.new.items ≡ facts.old.items }
+{
+    if !is_inside(atom.value) {
+        return Ok(false);
+    }
+    match past.truth(atom) {
+        Truth::Yes => {
+            facts.push(atom)?;
+            Ok(true)
+        }
+        _ => Ok(false),
+    }
+}
