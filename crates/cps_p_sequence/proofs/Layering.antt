@@ -3,7 +3,7 @@ use Rattle.std.specs.Prelude.{All, Contains, int_le}
 use Rattle.std.proofs.Common.{◌≡◌, ◌⊎◌, inl, inr, ℕ, zero, suc, ◌+◌, ◌-◌, ◌<◌, ◌≤◌, ℤ, pos, ◌≤ℤ◌, Bool, true, false, List, [], ◌∷◌, ◌++◌, length, take, drop, get_or, set, refl, sym, ◌∙◌, ap, subst, arith}
 use Rattle.std.proofs.lemmas.Int.{ints}
 use Rattle.std.proofs.lemmas.List.{drop_more, drop_all, take_all, get_or_default, length-set, length-append, take-append-le, drop-append-le}
-use Rattle.std.proofs.lemmas.List.Elements.{All-nil, All-push, All-head, Contains-append_left, Contains-push, Contains-push_cases}
+use Rattle.std.proofs.lemmas.List.Elements.{All-nil, All-push, All-head, All-contains, Contains-append_left, Contains-push, Contains-push_cases}
 use Rattle.cps_domain.proofs.Tests.{true_le, le_true}
 use Rattle.cps_literal.specs.declared.atom.Atom.{Atom}
 use Rattle.cps_literal.specs.declared.atom.Op.{Op}
@@ -19,8 +19,8 @@ use Rattle.cps_rule.specs.declared.rule.Narrowing.{Narrowing}
 use Rattle.cps_rule.specs.Rules.{IsGiven}
 use Rattle.cps_p_sequence.specs.declared.states.Step.{Step}
 use Rattle.cps_p_sequence.specs.Networks.{IsMarked, IsRising}
-use Rattle.cps_p_sequence.specs.Runs.{CanEnd, CanReach, AreEnding, AreReached, AreRows, AreTails, AreHeads, IsLed, AreLabels, IsAlive, HasLabels, IsFollowed, AllGiven, AllTrue, AreEndsAlive, AreFound, IsFrom, IsUpTo, IsDead, IsNarrowed, IsLooked}
-use Rattle.cps_p_sequence.proofs.Finding.{unequal}
+use Rattle.cps_p_sequence.specs.Runs.{CanEnd, CanReach, AreEnding, AreReached, AreRows, AreTails, AreHeads, IsLed, AreLabels, IsAlive, HasLabels, HasLabelsOf, AreClosed, IsFollowed, AllGiven, AllTrue, AreEndsAlive, AreFound, IsFrom, IsUpTo, IsDead, IsNarrowed, IsLooked}
+use Rattle.cps_p_sequence.proofs.Finding.{unequal, off_true}
 use Rattle.cps_p_sequence.proofs.Numbering.{unmarked, marked_here, marked_still, marked_before}
 
 pub last_or : (k n : ℕ) → k < n + 1 → (k < n) ⊎ (k ≡ n)
@@ -235,15 +235,20 @@ module _ (s : Trail) (steps : List Step) (last : List Bool) where
     pub has_labels : (b : Body) → IsFollowed b s steps first last is → HasLabels b s i labels
     has_labels b f = record { at = λ xs admitted body. subst (λ (j : ℕ). Contains labels (value_at xs j)) (sym is-i) (alive_labels (value_at xs (get_or is n 0)) (f.at n l xs admitted body)) }
 
-    pub found_more : (old new : List Narrowing)
-        → ((b : Body) → HasLabels b s i labels → AllGiven b s old → AllGiven b s new) → (AllTrue s new → AllTrue s old) → (AllTrue s new → ((v : ℤ) → Contains labels v → IsOpenTo s i v) → (v : ℤ) → IsEndNow s i v → Contains labels v)
+    pub found_more : (alphabet : List ℤ) → HasLabelsOf steps alphabet → (old new : List Narrowing)
+        → ((b : Body) → HasLabels b s i labels → AllGiven b s old → AllGiven b s new) → (AllTrue s new → AllTrue s old) → (AllTrue s new → ((v : ℤ) → Contains labels v → IsOpenTo s i v) → (v : ℤ) → IsEndNow s i v → Contains labels v) → (AllTrue s new → AreClosed s i alphabet labels)
         → AreFound s steps first last is n old → AreFound s steps first last is (n + 1) new
-    found_more old new given kept ends p = record {
+    found_more alphabet covers old new given kept ends closed p = record {
       given = λ b f. given b (has_labels b f) (p.given b f);
       ends = λ all. record {
         at = λ k v m o h. elim (last_or k n m) [
           | inl q ↦ (p.ends (kept all)).at k v q o h
           | inr q ↦ subst (λ (j : ℕ). IsAlive s steps first last is j v) (sym q) (labels_alive v (ends all labels_open v (subst (λ (j : ℕ). IsEndNow s j v) (ap (λ (j : ℕ). get_or is j 0) q ∙ sym is-i) h)))
+        ];
+        labels = λ k t m o c open'. elim (last_or k n m) [
+          | inl q ↦ (p.ends (kept all)).labels k t q o c open'
+          | inr q ↦ subst (λ (j : ℕ). IsAlive s steps first last is j t.label) (sym q)
+              (labels_alive t.label (closed all t.label (All-contains (λ x. Contains alphabet x.label) steps t covers c) (subst (λ (j : ℕ). IsOpenTo s j t.label) (ap (λ (j : ℕ). get_or is j 0) q ∙ sym is-i) open')))
         ];
       };
     }
@@ -257,7 +262,7 @@ module _ (s : Trail) (steps : List Step) (last : List Bool) where
   pub found_begun : (first : ℕ) (is : List ℕ) (found : List Narrowing) → found ≡ [] → AreFound s steps first last is 0 found
   found_begun first is found e = record {
     given = λ b f. subst (λ (ns : List Narrowing). AllGiven b s ns) (sym e) (All-nil (λ (n : Narrowing). IsGiven b s n.target));
-    ends = λ all. record { at = λ k v m o h. absurd (omega arith) };
+    ends = λ all. record { at = λ k v m o h. absurd (omega arith); labels = λ k t m o c open'. absurd (omega arith) };
   }
 
   pub dead_from : (first : ℕ) (is : List ℕ) (ends : List Bool) (found : List Narrowing) → found ≡ [] → get_or ends first false ≡ false → AreEnding s steps last is ends → IsDead s steps first last is found
@@ -310,6 +315,23 @@ module _ (s : Trail) (old new : List Narrowing) (n : Narrowing) (pushed : new �
   hole_given b labels inside none h =
       more_given s old new n pushed b (subst (λ (u : Atom). IsGiven b s u) (sym (same_atom n.target i Ne v subject op value))
       (record { subject = inside; at = λ xs admitted body. unequal (value_at xs i) v (λ e. none (subst (λ (x : ℤ). Contains labels x) e (h.at xs admitted body))) }))
+
+  pub hole_true : AllTrue s new → IsOpenTo s i v → ⊥
+  hole_true all o = off_true s i v (subst (λ (u : Atom). IsTrueNow s u) (same_atom n.target i Ne v subject op value) (more_true s old new n pushed all)) o
+
+-- values of an alphabet that a subject may have, so far
+module _ (s : Trail) (i : ℕ) (alphabet labels : List ℤ) (n : ℕ) where
+  pub closed_more : ((k : ℕ) → k < n → IsOpenTo s i (get_or alphabet k (pos 0)) → Contains labels (get_or alphabet k (pos 0))) → (IsOpenTo s i (get_or alphabet n (pos 0)) → Contains labels (get_or alphabet n (pos 0)))
+      → (k : ℕ) → k < n + 1 → IsOpenTo s i (get_or alphabet k (pos 0)) → Contains labels (get_or alphabet k (pos 0))
+  closed_more before here k l = elim (last_or k n l) [
+    | inl m ↦ before k m
+    | inr e ↦ subst (λ (j : ℕ). IsOpenTo s i (get_or alphabet j (pos 0)) → Contains labels (get_or alphabet j (pos 0))) (sym e) here
+  ]
+
+  pub closed_whole : length alphabet ≤ n → ((k : ℕ) → k < n → IsOpenTo s i (get_or alphabet k (pos 0)) → Contains labels (get_or alphabet k (pos 0))) → AreClosed s i alphabet labels
+  closed_whole l before v has =
+      let m = has.1 in
+      subst (λ (x : ℤ). IsOpenTo s i x → Contains labels x) (get_or_default alphabet has.0 (pos 0) v has.1 ∙ has.2) (before has.0 (omega arith))
 
 -- the first and the last of rising labels
 module _ (s : Trail) (i : ℕ) (labels : List ℤ) (some : 0 < length labels) (rising : IsRising labels) where

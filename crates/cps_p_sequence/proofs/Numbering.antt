@@ -9,6 +9,7 @@ use Rattle.cps_model.specs.declared.parts.Transition.{Transition}
 use Rattle.cps_model.specs.Sequences.{transitions}
 use Rattle.cps_p_sequence.specs.declared.states.Step.{Step}
 use Rattle.cps_p_sequence.specs.Networks.{IsRising, IsNumberOf, IsMarked, AreFinals, IsNetwork, IsStepWithin, named, state_at}
+use Rattle.cps_p_sequence.specs.Runs.{HasLabelsOf}
 use Rattle.cps_p_sequence.proofs.Sorting.{rising_differ}
 
 no_heads : (ts ls : List ℤ) → transitions ts [] ls ≡ []
@@ -233,3 +234,18 @@ named_by states raw n old new i j r l is e a b p =
       within = subst (λ (ts : List Step). All (IsStepWithin (length states)) ts) (sym e) (All-push (IsStepWithin (length states)) old t p.within (record { tail = a.inside; head = b.inside }));
       same = named_more states raw n old new t r l is e same p.same;
     }
+
+-- the labels of the steps
+label_in : (ts hs ls : List ℤ) (r : Transition) → Contains (transitions ts hs ls) r → Contains ls r.label
+label_in [] hs ls r c = absurd (let l = c.1 in omega arith)
+label_in (t ∷ ts) [] ls r c = absurd (let l = c.1 in omega arith)
+label_in (t ∷ ts) (h ∷ hs) [] r c = absurd (let l = c.1 in omega arith)
+label_in (t ∷ ts) (h ∷ hs) (l ∷ ls) r (zero, m, e) = (0, omega arith, ap (λ (x : Transition). x.label) e)
+label_in (t ∷ ts) (h ∷ hs) (l ∷ ls) r (suc k, m, e) =
+    let rest = label_in ts hs ls r (k, omega arith, e) in
+    (suc rest.0, (let n = rest.1 in omega arith), rest.2)
+
+pub labels_covered : (ts hs ls finals : List ℤ) (start : ℤ) (states : List ℤ) (first : ℕ) (last : List Bool) (steps : List Step) (alphabet : List ℤ) → ((n : ℤ) → Contains ls n → Contains alphabet n) → IsNetwork (transitions ts hs ls) finals start states first last steps → HasLabelsOf steps alphabet
+labels_covered ts hs ls finals start states first last steps alphabet kept net k d l =
+    let t = get_or steps k d in
+    kept t.label (label_in ts hs ls (named states t) (net.given t (k, l, get_or_default steps k t d l)))

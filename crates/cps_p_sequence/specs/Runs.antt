@@ -79,14 +79,23 @@ AllGiven b s found = All (λ n. IsGiven b s n.target) found
 abbrev pub AllTrue : Trail → List Narrowing → Type 0
 AllTrue s found = All (λ n. IsTrueNow s n.target) found
 
--- the least and the greatest value at each of the first n positions are labels of a run
+-- at each of the first n positions the least and the greatest value are labels of a run, and so is each value that is the label of a step
 pub record AreEndsAlive (s : Trail) (steps : List Step) (first : ℕ) (last : List Bool) (is : List ℕ) (n : ℕ) : Type 0 where
   pub at : (k : ℕ) (v : ℤ) → k < n → k < length is → IsEndNow s (slice_index_or is k 0) v → IsAlive s steps first last is k v
+  pub labels : (k : ℕ) (t : Step) → k < n → k < length is → Contains steps t → IsOpenTo s (slice_index_or is k 0) t.label → IsAlive s steps first last is k t.label
 
 -- what is found at the first n positions
 pub record AreFound (s : Trail) (steps : List Step) (first : ℕ) (last : List Bool) (is : List ℕ) (n : ℕ) (found : List Narrowing) : Type 0 where
   pub given : (b : Body) → IsFollowed b s steps first last is → AllGiven b s found
   pub ends : AllTrue s found → AreEndsAlive s steps first last is n
+
+-- a list has the labels of steps
+abbrev pub HasLabelsOf : List Step → List ℤ → Type 0
+HasLabelsOf steps alphabet = All (λ t. Contains alphabet t.label) steps
+
+-- each value of an alphabet that a subject may have is one of some labels
+abbrev pub AreClosed : Trail → ℕ → List ℤ → List ℤ → Type 0
+AreClosed s i alphabet labels = (v : ℤ) → Contains alphabet v → IsOpenTo s i v → Contains labels v
 
 -- wherever the body holds, a subject's value is at least a number, and at most one
 pub record IsFrom (b : Body) (s : Trail) (i : ℕ) (least : ℤ) : Type 0 where

@@ -42,12 +42,13 @@ impl Model for AutomatonRule {
     ghost use Rattle.cps_instance.specs.declared.task.Body.{Body};
     ghost use Rattle.cps_instance.specs.declared.task.Body.TheVariants.{Automaton};
     ghost use Rattle.cps_p_sequence.specs.Networks.{IsNetwork};
+    ghost use Rattle.cps_p_sequence.specs.Runs.{HasLabelsOf};
 
     ghost Value = { Body };
 
     ghost view = { λ r. Automaton r.start r.finals.items r.tails.items r.heads.items r.labels.items r.exprs.items };
 
-    ghost invariant = { λ r. IsNetwork (transitions r.tails.items r.heads.items r.labels.items) r.finals.items r.start r.states.items r.first r.last.items r.steps.items };
+    ghost invariant = { λ r. IsNetwork (transitions r.tails.items r.heads.items r.labels.items) r.finals.items r.start r.states.items r.first r.last.items r.steps.items × HasLabelsOf r.steps.items r.alphabet.items };
 }
 
 impl AutomatonRule {

@@ -7,7 +7,7 @@ ghost use Rattle.cps_instance.specs.declared.task.Body.{Body as BodyOf};
 ghost use Rattle.cps_propagate.specs.Now.{IsOpenTo};
 ghost use Rattle.cps_propagate.specs.Strength.{IsEndNow};
 ghost use Rattle.cps_p_sequence.specs.Networks.{IsRising, IsStepWithin, IsMarked};
-ghost use Rattle.cps_p_sequence.specs.Runs.{AreTails, AreHeads, AreLabels, AreEnding, AreReached, AreRows, HasLabels, IsFrom, IsUpTo, AllGiven, AllTrue, IsNarrowed, IsLooked};
+ghost use Rattle.cps_p_sequence.specs.Runs.{AreTails, AreHeads, AreLabels, AreEnding, AreReached, AreRows, HasLabels, HasLabelsOf, AreClosed, IsFrom, IsUpTo, AllGiven, AllTrue, IsNarrowed, IsLooked};
 
 use crate::states::{Step, blank, is_listed, make_distinct};
 use cps_literal::{Atom, Op};
@@ -231,8 +231,8 @@ fn keep_ends(
     Ok(())
 }
 
-/// Adds what keeps a subject off the labels between its first and its last one that are none of its own.
-fn keep_holes(
+/// Adds what keeps a subject off the labels of an alphabet that are none of its own.
+fn keep_off_others(
     store: &Store,
     subject: u32,
     alphabet: &[i64],
@@ -240,16 +240,12 @@ fn keep_holes(
     found: &mut Vec<Narrowing>,
 ) -> Result<(), AllocError>
     requires subject { subject < length store.now.first }
-    requires some { 0 < length labels.now }
     requires rising { IsRising labels.now }
     ensures given { OnOk result ((b : BodyOf) → HasLabels b store.now subject labels.now → AllGiven b store.now found.old.items → AllGiven b store.now found.new.items) }
     ensures kept { OnOk result (AllTrue store.now found.new.items → AllTrue store.now found.old.items) }
+    ensures closed { OnOk result (AllTrue store.now found.new.items → AreClosed store.now subject alphabet.now labels.now) }
 {
-    let (least, greatest) = (labels[0], labels[labels.len() - 1]);
     for label in alphabet {
-        if *label < least || greatest < *label {
-            continue;
-        }
         if is_listed(labels, *label) {
             continue;
         }
@@ -261,7 +257,7 @@ fn keep_holes(
     Ok(())
 }
 
-/// Adds what keeps a subject between the first and the last of its labels, and off those between them that are none of its own.
+/// Adds what keeps a subject between the first and the last of its labels, and off those of an alphabet that are none of its own.
 fn keep_labels(
     store: &Store,
     subject: u32,
@@ -275,9 +271,10 @@ fn keep_labels(
     ensures given { OnOk result ((b : BodyOf) → HasLabels b store.now subject labels.now → AllGiven b store.now found.old.items → AllGiven b store.now found.new.items) }
     ensures kept { OnOk result (AllTrue store.now found.new.items → AllTrue store.now found.old.items) }
     ensures ends { OnOk result (AllTrue store.now found.new.items → ((v : ℤ) → Contains labels.now v → IsOpenTo store.now subject v) → (v : ℤ) → IsEndNow store.now subject v → Contains labels.now v) }
+    ensures closed { OnOk result (AllTrue store.now found.new.items → AreClosed store.now subject alphabet.now labels.now) }
 {
     keep_ends(store, subject, labels, found)?;
-    keep_holes(store, subject, alphabet, labels, found)?;
+    keep_off_others(store, subject, alphabet, labels, found)?;
     Ok(())
 }
 
@@ -340,6 +337,7 @@ fn narrow(
     requires subjects { All (λ i. i < length store.now.first) net.now.subjects.now }
     requires steps { All (IsStepWithin (length net.now.last.now)) net.now.steps.now }
     requires first { net.now.first < length net.now.last.now }
+    requires alphabet { HasLabelsOf net.now.steps.now net.now.alphabet.now }
     requires rows { AreRows store.now net.now.steps.now net.now.last.now net.now.subjects.now room.old.rows.items }
     ensures { IfOk result (IsNarrowed store.now net.now.steps.now net.now.first net.now.last.now net.now.subjects.now found.new.items) }
 {
@@ -379,6 +377,7 @@ pub(crate) fn look_at(
     requires subjects { All (λ i. i < length store.now.first) net.now.subjects.now }
     requires steps { All (IsStepWithin (length net.now.last.now)) net.now.steps.now }
     requires first { net.now.first < length net.now.last.now }
+    requires alphabet { HasLabelsOf net.now.steps.now net.now.alphabet.now }
     ensures { IfOk result (IsLooked store.now net.now.steps.now net.now.first net.now.last.now net.now.subjects.now found.new.items) }
 {
     found.clear();

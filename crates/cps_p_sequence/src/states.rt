@@ -1,5 +1,5 @@
 //! An automaton whose states have numbers, so that rows of marks stand for sets of states.
-ghost use Rattle.std.specs.Prelude.{◌≡◌, ℕ, ◌<◌, ◌++◌, ◌∷◌, [], ℤ, length, map, Contains, All, IfOk, OnOk, IfSome, IsNone, IsPermutation, slice_index_or, false};
+ghost use Rattle.std.specs.Prelude.{◌≡◌, ℕ, ◌<◌, ◌++◌, ◌∷◌, [], ℤ, length, map, Contains, All, IfOk, OnOk, IfSome, IsTrue, IsNone, IsPermutation, slice_index_or, false};
 ghost use Rattle.cps_model.specs.Sequences.{transitions};
 ghost use Rattle.cps_p_sequence.specs.Networks.{IsRising, IsNumberOf, IsStepWithin, AreFinals, named};
 
@@ -39,9 +39,13 @@ fn find(states: &[i64], state: i64) -> Option<usize>
 /// Whether a rising list has a number.
 pub(crate) fn is_listed(numbers: &[i64], number: i64) -> bool
     requires { IsRising numbers.now }
-    ensures { result ≡ false → Contains numbers.now number → ⊥ }
+    ensures listed { IsTrue result → Contains numbers.now number }
+    ensures missing { result ≡ false → Contains numbers.now number → ⊥ }
 {
-    find(numbers, number).is_some()
+    match find(numbers, number) {
+        Some(_) => true,
+        None => false,
+    }
 }
 
 /// The number of a state that is listed.

@@ -85,10 +85,11 @@ loop-subject-preserved c =
       rows = subst (λ (xs : List Bool). AreRows s net.steps.now net.last.now (drop (n + 1) is) xs) (sym cut) top.below;
       reached = rw c.swap.ensures.x_after (reached_more s net.steps.now net.last.now net.first (length net.last.now) is n i c.loop-subject.room.reached.items c.heads_of.new.heads.items refl c.loop-subject.invariant.reached heads);
       found = found_more s net.steps.now net.last.now net.first (length net.last.now) is n i c.loop-subject.room.reached.items (drop (length old - length net.last.now) old) c.put_labels.new.labels.items l refl
-          c.loop-subject.invariant.reached top.top labels c.loop-subject.found.items c.keep_labels.new.found.items
+          c.loop-subject.invariant.reached top.top labels net.alphabet.now c.requires.alphabet c.loop-subject.found.items c.keep_labels.new.found.items
           (given_at s i c.put_labels.new.labels.items c.as_slice-kept.result.now c.loop-subject.found.items c.keep_labels.new.found.items c.as_slice-kept.ensures.value c.in_ok-keep_labels.ensures.given)
           c.in_ok-keep_labels.ensures.kept
           (listed_ends s i c.put_labels.new.labels.items c.as_slice-kept.result.now c.keep_labels.new.found.items c.as_slice-kept.ensures.value c.in_ok-keep_labels.ensures.ends)
+          (rw c.as_slice-kept.ensures.value at c.in_ok-keep_labels.ensures.closed)
           c.loop-subject.invariant.found;
     }
 
@@ -96,4 +97,4 @@ pub returns : goal.returns
 returns c =
     let f = c.loop-subject.invariant.found in
     let past = c.loop-subject-test.false in
-    record { given = f.given; ends = λ all. record { at = λ k v l m h. (f.ends all).at k v (omega arith) m h } }
+    record { given = f.given; ends = λ all. record { at = λ k v l m h. (f.ends all).at k v (omega arith) m h; labels = λ k t l m h o. (f.ends all).labels k t (omega arith) m h o } }
