@@ -48,7 +48,9 @@ impl Model for AutomatonRule {
 
     ghost view = { λ r. Automaton r.start r.finals.items r.tails.items r.heads.items r.labels.items r.exprs.items };
 
-    ghost invariant = { λ r. IsNetwork (transitions r.tails.items r.heads.items r.labels.items) r.finals.items r.start r.states.items r.first r.last.items r.steps.items × HasLabelsOf r.steps.items r.alphabet.items };
+    ghost invariant = { λ r. IsNetwork
+        (transitions r.tails.items r.heads.items r.labels.items) r.finals.items r.start r.states.items
+        r.first r.last.items r.steps.items × HasLabelsOf r.steps.items r.alphabet.items };
 }
 
 impl AutomatonRule {
@@ -63,7 +65,9 @@ impl AutomatonRule {
         steps: (&[i64], &[i64], &[i64]),
         exprs: &[u32],
     ) -> Result<Self, AllocError>
-        ensures { IfOk result (λ rule. rule ≡ AutomatonOf start finals.now steps.entry.0.now steps.entry.1.now steps.entry.2.now exprs.now) }
+        ensures { IfOk result
+            (λ rule. rule ≡ AutomatonOf start finals.now steps.entry.0.now steps.entry.1.now
+            steps.entry.2.now exprs.now) }
     {
         let own_finals = Vec::from_slice(alloc, finals)?;
         let tails = Vec::from_slice(alloc, steps.0)?;

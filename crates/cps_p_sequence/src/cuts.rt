@@ -1,10 +1,11 @@
 //! Why an automaton denies a position a value, or has no run: what was gone along a cut of its layers.
 //!
-//! A first walk, from the end back, marks the states from which a run could end in the domains as they stood. Nothing is proved of it: it
-//! only guides the second one, which goes from the start on, and marks each state to which the labels of values can lead beside the facts
-//! that it cites. A step to a state from which no run could end needs no fact; each other one from a marked state is ruled out by a fact about
-//! its label: below or above what its position could have, by one end for all such labels, or off it. Where no final state is marked in
-//! the end, no values beside the facts are labels of a run.
+//! A first walk, from the end back, marks the states from which a run could end in the domains as they stood. Nothing
+//! is proved of it: it only guides the second one, which goes from the start on, and marks each state to which the
+//! labels of values can lead beside the facts that it cites. A step to a state from which no run could end needs no
+//! fact; each other one from a marked state is ruled out by a fact about its label: below or above what its position
+//! could have, by one end for all such labels, or off it. Where no final state is marked in the end, no values beside
+//! the facts are labels of a run.
 ghost use Rattle.std.specs.Prelude.{◌≡◌, ◌≤◌, ◌<◌, ℕ, ℤ, true, Option, List, length, slice_index_or, All, Ok, OnOk, IfOk, IsTrue};
 ghost use Rattle.cps_literal.specs.Truth.{value_at};
 ghost use Rattle.cps_literal.specs.declared.atom.Op.TheVariants.{Le, Ge};
@@ -186,7 +187,8 @@ fn push_bound(
 ) -> Result<Option<i64>, AllocError>
     requires { subject < length past.now.first }
     ensures grows { OnOk result (Grows past.now facts.old.items facts.new.items) }
-    ensures bounded { IfOk result (λ kept. (xs : List ℤ) → AllTrueAt xs facts.new.items → IsBounded op kept (value_at xs subject)) }
+    ensures bounded { IfOk result (λ kept. (xs : List ℤ) → AllTrueAt xs facts.new.items →
+        IsBounded op kept (value_at xs subject)) }
 {
     match bound {
         Some(value) => {
@@ -215,7 +217,8 @@ fn push_limits(
     Ok(Limits { low, high })
 }
 
-/// Whether a label is ruled out of a subject by the facts, to which the one that it is off it is added where that is needed.
+/// Whether a label is ruled out of a subject by the facts, to which the one that it is off it is added where that is
+/// needed.
 fn rule_out(
     past: &Before,
     subject: u32,
@@ -225,7 +228,8 @@ fn rule_out(
 ) -> Result<bool, AllocError>
     requires { subject < length past.now.first }
     ensures grows { OnOk result (Grows past.now facts.old.items facts.new.items) }
-    ensures out { result ≡ Ok true → IsLimited facts.old.items subject limits.now → (goal : Option Atom) → IsOut goal facts.new.items subject label }
+    ensures out { result ≡ Ok true → IsLimited facts.old.items subject limits.now → (goal : Option Atom) →
+        IsOut goal facts.new.items subject label }
 {
     if is_beyond(Op::Ge, limits.low, label) {
         return Ok(true);
@@ -252,7 +256,8 @@ fn is_no_way(
     requires subject { layer.now.subject < length past.now.first }
     requires head { step.now.head < length layer.now.guide.now }
     ensures grows { OnOk result (Grows past.now facts.old.items facts.new.items) }
-    ensures out { result ≡ Ok true → IsLimited facts.old.items layer.now.subject limits.now → IsOut layer.now.goal facts.new.items layer.now.subject step.now.label }
+    ensures out { result ≡ Ok true → IsLimited facts.old.items layer.now.subject limits.now →
+        IsOut layer.now.goal facts.new.items layer.now.subject step.now.label }
 {
     if is_denied(layer.goal, layer.subject, step.label) {
         return Ok(true);
@@ -264,8 +269,8 @@ fn is_no_way(
     Ok(is_out)
 }
 
-/// Marks the states after a position to which labels can lead from the states before it beside the facts, to which those that are needed
-/// are added.
+/// Marks the states after a position to which labels can lead from the states before it beside the facts, to which
+/// those that are needed are added.
 fn lead_on(
     past: &Before,
     layer: &Layer,
@@ -275,7 +280,8 @@ fn lead_on(
     requires subject { layer.now.subject < length past.now.first }
     requires tails { All (IsStepWithin (length layer.now.tails.now)) layer.now.steps.now }
     requires guide { All (IsStepWithin (length layer.now.guide.now)) layer.now.steps.now }
-    ensures { OnOk result (Comes past.now layer.now.goal layer.now.subject layer.now.steps.now (length layer.now.steps.now) layer.now.tails.now heads.new.items facts.old.items facts.new.items) }
+    ensures { OnOk result (Comes past.now layer.now.goal layer.now.subject layer.now.steps.now
+        (length layer.now.steps.now) layer.now.tails.now heads.new.items facts.old.items facts.new.items) }
 {
     blank(heads, layer.tails.len())?;
     let proposed = limits_of(past, layer);
@@ -305,8 +311,8 @@ fn is_cut_off(row: &[bool], last: &[bool]) -> bool
     true
 }
 
-/// Puts facts beside which no values are labels of a run, where an atom is to be false if there is one, in the place of what a list holds.
-/// Answers whether they are such.
+/// Puts facts beside which no values are labels of a run, where an atom is to be false if there is one, in the place
+/// of what a list holds. Answers whether they are such.
 pub(crate) fn cut(
     alloc: Global,
     past: &Before,
@@ -317,7 +323,9 @@ pub(crate) fn cut(
     requires subjects { All (λ i. i < length past.now.first) net.now.subjects.now }
     requires steps { All (IsStepWithin (length net.now.last.now)) net.now.steps.now }
     requires first { net.now.first < length net.now.last.now }
-    ensures { result ≡ Ok true → IsCut past.now goal net.now.steps.now net.now.first net.now.last.now net.now.subjects.now facts.new.items }
+    ensures { result ≡ Ok true →
+        IsCut past.now goal net.now.steps.now net.now.first net.now.last.now net.now.subjects.now
+        facts.new.items }
 {
     facts.clear();
     let count = net.last.len();

@@ -1,7 +1,8 @@
-//! What an automaton leaves to each position: the states that a run can have reached before it, from the first position on, and those from
-//! which a run can end after it, from the last one back. A step is alive between a marked state of the one row and one of the other, where
-//! its label is open; only labels of such steps stay. This is the layered graph of G. Pesant, "A regular language membership constraint for
-//! finite sequences of variables" (CP 2004), with rows of marks in place of lists of arcs.
+//! What an automaton leaves to each position: the states that a run can have reached before it, from the first
+//! position on, and those from which a run can end after it, from the last one back. A step is alive between a marked
+//! state of the one row and one of the other, where its label is open; only labels of such steps stay. This is the
+//! layered graph of G. Pesant, "A regular language membership constraint for finite sequences of variables" (CP
+//! 2004), with rows of marks in place of lists of arcs.
 ghost use Rattle.std.specs.Prelude.{◌≡◌, ◌↔◌, ◌-◌, ◌<◌, ◌≤◌, ℕ, ℤ, ◌≤ℤ◌, false, length, drop, slice_index_or, Contains, All, OnOk, IfOk, IsTrue};
 ghost use Rattle.cps_instance.specs.declared.task.Body.{Body as BodyOf};
 ghost use Rattle.cps_propagate.specs.Now.{IsOpenTo};
@@ -31,7 +32,8 @@ pub(crate) struct Network<'a> {
 /// Room for a look. Its memory is kept for the next.
 #[derive(Drop)]
 pub(crate) struct Room {
-    /// For each position that is not yet walked past, the states after it from which a run can end, the last position's first.
+    /// For each position that is not yet walked past, the states after it from which a run can end, the last
+    /// position's first.
     rows: Vec<bool>,
     /// The row in work.
     row: Vec<bool>,
@@ -139,7 +141,8 @@ fn put_labels(
     requires subject { position.now.subject < length store.now.first }
     requires tails { All (IsStepWithin (length tails.now)) position.now.steps.now }
     requires heads { All (IsStepWithin (length heads.now)) position.now.steps.now }
-    ensures alive { OnOk result (AreLabels store.now position.now.subject position.now.steps.now (length position.now.steps.now) tails.now heads.now labels.new.items) }
+    ensures alive { OnOk result (AreLabels store.now position.now.subject position.now.steps.now
+        (length position.now.steps.now) tails.now heads.now labels.new.items) }
     ensures rising { OnOk result (IsRising labels.new.items) }
 {
     labels.clear();
@@ -162,7 +165,7 @@ fn put_labels(
     Ok(())
 }
 
-/// An atom that is given, with the position as its hint.
+/// An atom that is given, with a hint that says nothing.
 fn given(subject: u32, op: Op, value: i64) -> Narrowing
     ensures subject { result.target.subject ≡ subject }
     ensures op { result.target.op ≡ op }
@@ -182,9 +185,11 @@ fn keep_from(
     found: &mut Vec<Narrowing>,
 ) -> Result<(), AllocError>
     requires { subject < length store.now.first }
-    ensures given { OnOk result ((b : BodyOf) → IsFrom b store.now subject least → AllGiven b store.now found.old.items → AllGiven b store.now found.new.items) }
+    ensures given { OnOk result ((b : BodyOf) → IsFrom b store.now subject least →
+        AllGiven b store.now found.old.items → AllGiven b store.now found.new.items) }
     ensures kept { OnOk result (AllTrue store.now found.new.items → AllTrue store.now found.old.items) }
-    ensures from { OnOk result (AllTrue store.now found.new.items → (x : ℤ) → IsOpenTo store.now subject x → least ≤ℤ x) }
+    ensures from { OnOk result (AllTrue store.now found.new.items → (x : ℤ) →
+        IsOpenTo store.now subject x → least ≤ℤ x) }
 {
     if least <= store.domain(subject).min() {
         return Ok(());
@@ -201,9 +206,11 @@ fn keep_up_to(
     found: &mut Vec<Narrowing>,
 ) -> Result<(), AllocError>
     requires { subject < length store.now.first }
-    ensures given { OnOk result ((b : BodyOf) → IsUpTo b store.now subject greatest → AllGiven b store.now found.old.items → AllGiven b store.now found.new.items) }
+    ensures given { OnOk result ((b : BodyOf) → IsUpTo b store.now subject greatest →
+        AllGiven b store.now found.old.items → AllGiven b store.now found.new.items) }
     ensures kept { OnOk result (AllTrue store.now found.new.items → AllTrue store.now found.old.items) }
-    ensures up_to { OnOk result (AllTrue store.now found.new.items → (x : ℤ) → IsOpenTo store.now subject x → x ≤ℤ greatest) }
+    ensures up_to { OnOk result (AllTrue store.now found.new.items → (x : ℤ) →
+        IsOpenTo store.now subject x → x ≤ℤ greatest) }
 {
     if store.domain(subject).max() <= greatest {
         return Ok(());
@@ -222,9 +229,11 @@ fn keep_ends(
     requires subject { subject < length store.now.first }
     requires some { 0 < length labels.now }
     requires rising { IsRising labels.now }
-    ensures given { OnOk result ((b : BodyOf) → HasLabels b store.now subject labels.now → AllGiven b store.now found.old.items → AllGiven b store.now found.new.items) }
+    ensures given { OnOk result ((b : BodyOf) → HasLabels b store.now subject labels.now →
+        AllGiven b store.now found.old.items → AllGiven b store.now found.new.items) }
     ensures kept { OnOk result (AllTrue store.now found.new.items → AllTrue store.now found.old.items) }
-    ensures ends { OnOk result (AllTrue store.now found.new.items → ((v : ℤ) → Contains labels.now v → IsOpenTo store.now subject v) → (v : ℤ) → IsEndNow store.now subject v → Contains labels.now v) }
+    ensures ends { OnOk result (AllTrue store.now found.new.items → ((v : ℤ) → Contains labels.now v →
+        IsOpenTo store.now subject v) → (v : ℤ) → IsEndNow store.now subject v → Contains labels.now v) }
 {
     keep_from(store, subject, labels[0], found)?;
     keep_up_to(store, subject, labels[labels.len() - 1], found)?;
@@ -241,9 +250,11 @@ fn keep_off_others(
 ) -> Result<(), AllocError>
     requires subject { subject < length store.now.first }
     requires rising { IsRising labels.now }
-    ensures given { OnOk result ((b : BodyOf) → HasLabels b store.now subject labels.now → AllGiven b store.now found.old.items → AllGiven b store.now found.new.items) }
+    ensures given { OnOk result ((b : BodyOf) → HasLabels b store.now subject labels.now →
+        AllGiven b store.now found.old.items → AllGiven b store.now found.new.items) }
     ensures kept { OnOk result (AllTrue store.now found.new.items → AllTrue store.now found.old.items) }
-    ensures closed { OnOk result (AllTrue store.now found.new.items → AreClosed store.now subject alphabet.now labels.now) }
+    ensures closed { OnOk result (AllTrue store.now found.new.items →
+        AreClosed store.now subject alphabet.now labels.now) }
 {
     for label in alphabet {
         if is_listed(labels, *label) {
@@ -257,7 +268,8 @@ fn keep_off_others(
     Ok(())
 }
 
-/// Adds what keeps a subject between the first and the last of its labels, and off those of an alphabet that are none of its own.
+/// Adds what keeps a subject between the first and the last of its labels, and off those of an alphabet that are none
+/// of its own.
 fn keep_labels(
     store: &Store,
     subject: u32,
@@ -268,23 +280,28 @@ fn keep_labels(
     requires subject { subject < length store.now.first }
     requires some { 0 < length labels.now }
     requires rising { IsRising labels.now }
-    ensures given { OnOk result ((b : BodyOf) → HasLabels b store.now subject labels.now → AllGiven b store.now found.old.items → AllGiven b store.now found.new.items) }
+    ensures given { OnOk result ((b : BodyOf) → HasLabels b store.now subject labels.now →
+        AllGiven b store.now found.old.items → AllGiven b store.now found.new.items) }
     ensures kept { OnOk result (AllTrue store.now found.new.items → AllTrue store.now found.old.items) }
-    ensures ends { OnOk result (AllTrue store.now found.new.items → ((v : ℤ) → Contains labels.now v → IsOpenTo store.now subject v) → (v : ℤ) → IsEndNow store.now subject v → Contains labels.now v) }
-    ensures closed { OnOk result (AllTrue store.now found.new.items → AreClosed store.now subject alphabet.now labels.now) }
+    ensures ends { OnOk result (AllTrue store.now found.new.items → ((v : ℤ) → Contains labels.now v →
+        IsOpenTo store.now subject v) → (v : ℤ) → IsEndNow store.now subject v → Contains labels.now v) }
+    ensures closed { OnOk result (AllTrue store.now found.new.items →
+        AreClosed store.now subject alphabet.now labels.now) }
 {
     keep_ends(store, subject, labels, found)?;
     keep_off_others(store, subject, alphabet, labels, found)?;
     Ok(())
 }
 
-/// Puts the states from which a run may end, before the first position, in the place of the row in work. Before it, the same for after each
-/// position is put in the place of the rows, the last position's first.
+/// Puts the states from which a run may end, before the first position, in the place of the row in work. Before it,
+/// the same for after each position is put in the place of the rows, the last position's first.
 fn end_rows(store: &Store, net: &Network, room: &mut Room) -> Result<(), AllocError>
     requires subjects { All (λ i. i < length store.now.first) net.now.subjects.now }
     requires steps { All (IsStepWithin (length net.now.last.now)) net.now.steps.now }
-    ensures rows { OnOk result (AreRows store.now net.now.steps.now net.now.last.now net.now.subjects.now room.new.rows.items) }
-    ensures ends { OnOk result (AreEnding store.now net.now.steps.now net.now.last.now net.now.subjects.now room.new.row.items) }
+    ensures rows { OnOk result
+        (AreRows store.now net.now.steps.now net.now.last.now net.now.subjects.now room.new.rows.items) }
+    ensures ends { OnOk result
+        (AreEnding store.now net.now.steps.now net.now.last.now net.now.subjects.now room.new.row.items) }
 {
     room.rows.clear();
     room.row.clear();
@@ -327,7 +344,8 @@ pub(crate) fn mark_first(row: &mut Vec<bool>, first: usize, count: usize) -> Res
     Ok(())
 }
 
-/// Puts what keeps each subject at labels that are alive in the place of what a list holds. Answers false where none is.
+/// Puts what keeps each subject at labels that are alive in the place of what a list holds. Answers false where none
+/// is.
 fn narrow(
     store: &Store,
     net: &Network,
@@ -339,7 +357,9 @@ fn narrow(
     requires first { net.now.first < length net.now.last.now }
     requires alphabet { HasLabelsOf net.now.steps.now net.now.alphabet.now }
     requires rows { AreRows store.now net.now.steps.now net.now.last.now net.now.subjects.now room.old.rows.items }
-    ensures { IfOk result (IsNarrowed store.now net.now.steps.now net.now.first net.now.last.now net.now.subjects.now found.new.items) }
+    ensures { IfOk result
+        (IsNarrowed store.now net.now.steps.now net.now.first net.now.last.now net.now.subjects.now
+        found.new.items) }
 {
     found.clear();
     let count = net.last.len();
@@ -378,7 +398,9 @@ pub(crate) fn look_at(
     requires steps { All (IsStepWithin (length net.now.last.now)) net.now.steps.now }
     requires first { net.now.first < length net.now.last.now }
     requires alphabet { HasLabelsOf net.now.steps.now net.now.alphabet.now }
-    ensures { IfOk result (IsLooked store.now net.now.steps.now net.now.first net.now.last.now net.now.subjects.now found.new.items) }
+    ensures { IfOk result
+        (IsLooked store.now net.now.steps.now net.now.first net.now.last.now net.now.subjects.now
+        found.new.items) }
 {
     found.clear();
     end_rows(store, net, room)?;
