@@ -1,0 +1,71 @@
+//! The rows of the board that a worker filled itself, and has not taken back yet.
+//!
+//! A worker takes each row of the board once, its own too. Rows are taken in the order of their numbers, so the own ones come back in the
+//! order in which they were shared, and it is enough to look at the next of them. Its clause is in force already: were it added again, it
+//! would stand twice, and be watched twice.
+
+ghost use Rattle.std.specs.Prelude.{◌≡◌, ◌≤◌, ◌<◌, length, IsTrue};
+ghost use Rattle.cps_port.specs.Entries.{entry_clause, most_atoms};
+ghost use Rattle.cps_clauses.specs.Watches.{clause_of};
+ghost use Rattle.cps_search.specs.Shelves.{shelf_of, StandsIn};
+
+use cps_clauses::ClauseBase;
+use cps_literal::Atom;
+use cps_port::Entry;
+use std::alloc::{AllocError, Global};
+
+/// A row that this worker filled, and the number of its clause in the base.
+#[derive(Clone, Copy)]
+struct OwnRow {
+    row: u32,
+    clause: u32,
+}
+
+/// The own rows in their order, and how many of them were taken.
+#[derive(Drop)]
+pub(crate) struct OwnRows {
+    rows: Vec<OwnRow>,
+    taken: usize,
+}
+
+impl OwnRows {
+    /// No row yet.
+    pub fn new(alloc: Global) -> Self {
+        OwnRows {
+            rows: Vec::new(alloc),
+            taken: 0,
+        }
+    }
+
+    /// Notes the row in which the clause of this number stands, if one was left for it.
+    pub fn add(&mut self, row: Option<u32>, clause: u32) -> Result<(), AllocError> {
+        if let Some(row) = row {
+            self.rows.push(OwnRow { row, clause })?;
+        }
+        Ok(())
+    }
+
+    /// Whether an entry is the next own row, and its clause stands in the base. That row is then taken.
+    pub fn take_back(&mut self, base: &ClauseBase, entry: &Entry) -> bool
+        requires few { entry.now.len ≤ most_atoms }
+        ensures { IsTrue result → StandsIn (shelf_of base.now) (entry_clause entry.now) }
+    {
+        let Some(own) = self.rows.get(self.taken).copied() else {
+            return false;
+        };
+        if own.row != entry.row {
+            return false;
+        }
+        if self.taken < self.rows.len() {
+            self.taken += 1;
+        }
+        stands_at(base, own.clause, entry.clause())
+    }
+}
+
+/// Whether the clause of this number is in force and has just these atoms.
+fn stands_at(base: &ClauseBase, number: u32, atoms: &[Atom]) -> bool
+    ensures { IsTrue result → StandsIn (shelf_of base.now) atoms.now }
+{
+    base.in_force(number) && base.clause(number) == atoms
+}
