@@ -34,6 +34,11 @@ def set_expression(rng, field):
         field.CopyFrom(made)
 
 
+def set_whole(rng):
+    """A single number."""
+    return rng.choice(WHOLE)
+
+
 def expressions(rng):
     return [expression(rng) for _ in range(rng.randint(0, 3))]
 
@@ -52,6 +57,23 @@ DRAWN = {
     "interval": {"start": set_expression, "end": set_expression, "size": set_expression},
     "no_overlap": {"intervals": references},
     "cumulative": {"capacity": set_expression, "intervals": references, "demands": expressions},
+    "inverse": {"f_direct": references, "f_inverse": references},
+    "automaton": {
+        "starting_state": set_whole,
+        "final_states": wholes,
+        "transition_tail": wholes,
+        "transition_head": wholes,
+        "transition_label": wholes,
+        "exprs": expressions,
+    },
+    "reservoir": {
+        "min_level": set_whole,
+        "max_level": set_whole,
+        "time_exprs": expressions,
+        "level_changes": expressions,
+        "active_literals": references,
+    },
+    "no_overlap_2d": {"x_intervals": references, "y_intervals": references},
 }
 LITERALS = ["bool_or", "bool_and", "bool_xor", "at_most_one", "exactly_one"]
 
@@ -61,6 +83,8 @@ def fill(rng, message, fields):
     for name, draw in fields.items():
         if draw is set_expression:
             draw(rng, getattr(message, name))
+        elif draw is set_whole:
+            setattr(message, name, draw(rng))
         else:
             getattr(message, name).extend(draw(rng))
 
