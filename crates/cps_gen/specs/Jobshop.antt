@@ -1,5 +1,5 @@
--- A job shop of n jobs on n machines: each job has n steps, each on another machine, in order. Task t is step t % n of job
--- t / n. Variable t is when task t starts, and variable n * n is when all tasks have ended.
+-- A job shop of n jobs on n machines: each job has n steps, each on another machine, in order. Task t is step t % n of
+-- job t / n. Variable t is when task t starts, and variable n * n is when all tasks have ended.
 use Rattle.std.specs.Prelude.{ℕ, ◌+◌, ◌-◌, ◌*◌, ◌/◌, ◌%◌, ◌==◌, Bool, not, pos, neg_ℤ, List, [], ◌∷◌, ◌++◌, map, filter, replicate, sum_by}
 use Rattle.rand_pcg.specs.Lcg.{Lcg}
 use Rattle.cps_model.specs.declared.model.CpModel.{CpModel}
@@ -46,8 +46,8 @@ last_task n job = job * n + (n - 1)
 abbrev pub tasks_on : ℕ → ℕ → List ℕ
 tasks_on n m = filter (λ t. machine n t == m) (tasks n)
 
--- All tasks run. Each that is not the first of its job starts when the one before it has ended, or later. All has ended no
--- sooner than the last task of each job. No two tasks of a machine run at once.
+-- All tasks run. Each that is not the first of its job starts when the one before it has ended, or later. All has ended
+-- no sooner than the last task of each job. No two tasks of a machine run at once.
 abbrev pub jobshop_constraints : Lcg → ℕ → List Constraint
 jobshop_constraints draws n =
     map (λ t. in_force (run draws t)) (tasks n)

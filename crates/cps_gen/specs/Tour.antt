@@ -1,5 +1,5 @@
--- A tour of n nodes: variable a says whether arc a is taken. Pair p has the nodes p / n and p % n, and there is an arc from
--- the first to the second of each pair of two nodes that differ, in order.
+-- A tour of n nodes: variable a says whether arc a is taken. Pair p has the nodes p / n and p % n, and there is an arc
+-- from the first to the second of each pair of two nodes that differ, in order.
 use Rattle.std.specs.Prelude.{ℕ, ◌+◌, ◌*◌, ◌/◌, ◌%◌, ◌==◌, Bool, not, ℤ, pos, List, [], ◌∷◌, map, filter, length, replicate}
 use Rattle.rand_pcg.specs.Lcg.{Lcg}
 use Rattle.cps_model.specs.declared.model.CpModel.{CpModel}

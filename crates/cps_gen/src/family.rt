@@ -38,8 +38,8 @@ impl Family {
         }
     }
 
-    /// Whether the family has a model of this size: a knapsack of 1 to 10,000 items, a job shop of 1 to 16 jobs, a tour of
-    /// 2 to 60 nodes.
+    /// Whether the family has a model of this size: a knapsack of 1 to 10,000 items, a job shop of 1 to 16 jobs,
+    /// a tour of 2 to 60 nodes.
     pub fn is_in_range(self, size: u32) -> bool
         ensures { result ≡ is_in_range self size }
     {

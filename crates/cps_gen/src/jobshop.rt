@@ -96,7 +96,8 @@ fn no_sooner(alloc: Global, shop: &Shop, later: u32, task: u32) -> Result<Constr
 /// Adds that all tasks run.
 fn add_runs(alloc: Global, shop: &Shop, constraints: &mut Vec<Constraint>) -> Result<(), AllocError>
     requires { IsShop shop.now }
-    ensures { OnOk result (constraints.new.items ≡ constraints.old.items ++ map (λ t. in_force (run (draws_in shop.now) t)) (tasks shop.now.size)) }
+    ensures { OnOk result (constraints.new.items ≡ constraints.old.items
+        ++ map (λ t. in_force (run (draws_in shop.now) t)) (tasks shop.now.size)) }
 {
     for task in 0..square(shop.size) {
         constraints.push(run(alloc, shop, task)?)?;
@@ -112,7 +113,8 @@ fn add_orders(
 ) -> Result<(), AllocError>
     requires { IsShop shop.now }
     ensures { OnOk result (constraints.new.items ≡ constraints.old.items
-        ++ map (λ t. in_force (no_sooner (draws_in shop.now) shop.now.size t (t - 1))) (filter (is_later shop.now.size) (tasks shop.now.size))) }
+        ++ map (λ t. in_force (no_sooner (draws_in shop.now) shop.now.size t (t - 1)))
+        (filter (is_later shop.now.size) (tasks shop.now.size))) }
 {
     for task in 0..square(shop.size) {
         if task % shop.size != 0 {
@@ -136,7 +138,9 @@ fn last_task(size: u32, job: u32) -> u32
 fn add_ends(alloc: Global, shop: &Shop, constraints: &mut Vec<Constraint>) -> Result<(), AllocError>
     requires { IsShop shop.now }
     ensures { OnOk result (constraints.new.items ≡ constraints.old.items
-        ++ map (λ job. in_force (no_sooner (draws_in shop.now) shop.now.size (shop.now.size * shop.now.size) (last_task shop.now.size job))) (first shop.now.size)) }
+        ++ map (λ job. in_force
+        (no_sooner (draws_in shop.now) shop.now.size (shop.now.size * shop.now.size) (last_task shop.now.size job)))
+        (first shop.now.size)) }
 {
     let end = square(shop.size);
     for job in 0..shop.size {

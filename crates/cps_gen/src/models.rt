@@ -11,8 +11,8 @@ use crate::tour::tour;
 use cps_model::CpModel;
 use std::alloc::{AllocError, Global};
 
-/// The model of a family with this size and seed. It is valid, has no assumptions, and its constraints are linear, circuits,
-/// intervals and lists of intervals that do not overlap.
+/// The model of a family with this size and seed. It is valid, has no assumptions, and its constraints are linear,
+/// circuits, intervals and lists of intervals that do not overlap.
 pub fn generate(alloc: Global, family: Family, size: u32, seed: u64) -> Result<CpModel, AllocError>
     requires range { IsTrue (is_in_range family size) }
     ensures stated { IfOk result (λ m. m ≡ generated family size seed) }

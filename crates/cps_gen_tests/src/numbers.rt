@@ -117,12 +117,7 @@ fn knapsack_is(
 }
 
 /// Whether the tasks of a job shop run so long.
-fn jobshop_is(
-    alloc: Global,
-    size: u32,
-    seed: u64,
-    durations: &[i64],
-) -> Result<bool, AllocError> {
+fn jobshop_is(alloc: Global, size: u32, seed: u64, durations: &[i64]) -> Result<bool, AllocError> {
     let Some(model) = model_of(alloc, Family::Jobshop, size, seed)? else {
         return Ok(false);
     };
@@ -162,7 +157,10 @@ fn counts_of(
 fn knapsacks(rt: HostRuntime) -> Result<(), Fail> {
     let alloc = rt.alloc();
     for (size, seed, weights, losses, most) in KNAPSACKS {
-        assert!(rt; knapsack_is(alloc, (size, seed), weights, losses, most)?, "{size} {seed}");
+        assert!(rt;
+            knapsack_is(alloc, (size, seed), weights, losses, most)?,
+            "{size} {seed}"
+        );
     }
     Ok(())
 }
@@ -180,7 +178,10 @@ fn jobshops(rt: HostRuntime) -> Result<(), Fail> {
 fn tours(rt: HostRuntime) -> Result<(), Fail> {
     let alloc = rt.alloc();
     for (size, seed, tails, heads, costs) in TOURS {
-        assert!(rt; tour_is(alloc, (size, seed), tails, heads, costs)?, "{size} {seed}");
+        assert!(rt;
+            tour_is(alloc, (size, seed), tails, heads, costs)?,
+            "{size} {seed}"
+        );
     }
     Ok(())
 }
