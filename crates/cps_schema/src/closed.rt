@@ -3,4 +3,4 @@
 //! is taken out opens the field.
 
 /// The names of these fields.
-pub const CLOSED: [&[u8]; 4] = [b"int_mod", b"automaton", b"reservoir", b"no_overlap_2d"];
+pub const CLOSED: [&[u8]; 2] = [b"reservoir", b"no_overlap_2d"];

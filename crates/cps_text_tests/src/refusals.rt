@@ -39,11 +39,9 @@ Repeated at 49: search_strategy { variable_selection_strategy: 0 variable_select
 ";
 
 const CLOSED: &str = "\
-Unsupported at 14: constraints { int_mod { } }
-Unsupported at 14: constraints { automaton { } }
 Unsupported at 14: constraints { reservoir { } }
 Unsupported at 14: constraints { no_overlap_2d { } }
-Unsupported at 26: constraints { bool_or { } automaton { } }
+Unsupported at 26: constraints { bool_or { } reservoir { } }
 Unsupported at 25: constraints { linear { } reservoir: 0 }
 ";
 
