@@ -8,5 +8,5 @@ pub returns-then-in_force : goal.returns-then-in_force
 returns-then-in_force c = λ same. record {
   number = c.args.number;
   in_force = c.in_force.ensures.0 c.if-in_force.true;
-  same = sym c.clause.ensures ∙ (slice_eq-Decides eq_Decides c.clause.result.now c.args.atoms.now c.eq.result c.eq.ensures).0 same
+  same = sym c.clause.ensures ∙ (slice_eq-Decides eq_Decides c.clause.result.now c.args.atoms.now c.eq.result c.eq.ensures).0 same;
 }
