@@ -75,7 +75,7 @@ pub target_high : (s : Trail) (i t : ℕ) (es : List ℕ) (scan : Scan) → IsFi
 target_high s i t es scan f h high is u e = given_by s i t es u (subst (λ n. n < length s.first) (ap (λ (w : Atom). w.subject) (sym e)) f.target) (λ xs k a l c. le_holds xs u t high e (subst (λ (v : ℤ). value_at xs t ≤ℤ v) (sym is) ((h.seen k l).at xs a c).greatest))
 
 -- the expression at the one place that is open has the target's value
-same_value : (s : Trail) (i t : ℕ) (es : List ℕ) (scan : Scan) → IsScanned s i t es scan → scan.open ≡ 1 → (xs : List ℤ) (k : ℕ) → IsAdmitted s.first s.entries xs → k < length es → IsChosen i t (get_or es k 0) k xs → value_at xs (get_or es scan.last 0) ≡ value_at xs t
+pub same_value : (s : Trail) (i t : ℕ) (es : List ℕ) (scan : Scan) → IsScanned s i t es scan → scan.open ≡ 1 → (xs : List ℤ) (k : ℕ) → IsAdmitted s.first s.entries xs → k < length es → IsChosen i t (get_or es k 0) k xs → value_at xs (get_or es scan.last 0) ≡ value_at xs t
 same_value s i t es scan h one xs k a l c = ap (λ n. value_at xs (get_or es n 0)) (((h.seen k l).at xs a c).alone one) ∙ c.same
 
 pub expr_low : (s : Trail) (i t : ℕ) (es : List ℕ) (scan : Scan) (low : ℤ) → IsFit s.first i t es → IsScanned s i t es scan → scan.open ≡ 1 → scan.last < length es → ((x : ℤ) → IsOpenTo s t x → low ≤ℤ x)

@@ -5,3 +5,4 @@ pub mod Placing
 pub mod Tables
 pub mod Excluding
 pub mod Tasks
+pub mod Missing

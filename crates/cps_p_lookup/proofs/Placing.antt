@@ -36,10 +36,10 @@ apart_not s i t es k E T l f ofE ofT apart xs a c =
 pub visited_none : (s : Trail) (i t : ℕ) (es : List ℕ) (k : ℕ) (scan : Scan) → ((xs : List ℤ) → IsAdmitted s.first s.entries xs → IsChosen i t (get_or es k 0) k xs → ⊥) → IsVisited s i t es k scan scan
 visited_none s i t es k scan h = record { wider = λ p v w. w; here = record { at = λ xs a c. absurd (h xs a c) }; last = λ l. l }
 
-equals_is : (a b : ℤ) → equals a b ≡ true → a ≡ b
+pub equals_is : (a b : ℤ) → equals a b ≡ true → a ≡ b
 equals_is a b e = grind (arith, ints)
 
-not_off : (b : Bool) → (b ≡ true → ⊥) → not b ≡ true
+pub not_off : (b : Bool) → (b ≡ true → ⊥) → not b ≡ true
 not_off true h = absurd (h refl)
 not_off false h = refl
 

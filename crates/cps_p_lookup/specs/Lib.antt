@@ -2,3 +2,4 @@ pub mod Facts
 pub mod Elements
 pub mod Tabling
 pub mod Bodies
+pub mod Gaps

@@ -3,6 +3,7 @@
 ghost use Rattle.std.specs.Prelude.{◌≡◌, IfOk, IsTrue};
 ghost use Rattle.cps_instance.specs.declared.task.Body.TheVariants.{Element as ElementOf};
 
+use crate::gaps::Gaps;
 use crate::justify::justify;
 use crate::places::{Lookup, look_up};
 use cps_enforce::Enforced;
@@ -19,6 +20,8 @@ pub struct Element {
     index: u32,
     target: u32,
     exprs: Listed<u32>,
+    /// Room for a search of gaps in the target's domain.
+    gaps: Gaps,
 }
 
 impl Element {
@@ -38,6 +41,7 @@ impl Element {
                 index: *index,
                 target: *target,
                 exprs: Listed::from_vec(Vec::from_slice(alloc, exprs.as_slice())?),
+                gaps: Gaps::new(alloc),
             }),
             _ => unreachable!(),
         }
@@ -71,8 +75,12 @@ impl Rule for Element {
     ghost body = { λ e. ElementOf e.index e.target e.exprs };
 
     fn look(&mut self, store: &Store, found: &mut Vec<Narrowing>) -> Result<Look, AllocError> {
-        let lookup = self.lookup();
-        look_up(store, &lookup, found)
+        let lookup = Lookup {
+            index: self.index,
+            target: self.target,
+            exprs: self.exprs.as_slice(),
+        };
+        look_up(store, &lookup, &mut self.gaps, found)
     }
 
     fn explain(

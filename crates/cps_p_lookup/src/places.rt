@@ -2,14 +2,13 @@
 
 ghost use Rattle.std.specs.Prelude.{ℕ, ℤ, pos, negsuc, ◌≡◌, ◌<◌, ◌≤◌, ◌≤ℤ◌, ◌^◌, ◌-◌, length, All, IfOk, OnOk, IsTrue, true, false, slice_index_or};
 ghost use Rattle.cps_domain.specs.Window.{contains};
-ghost use Rattle.cps_literal.specs.declared.atom.Atom.{Atom as AtomOf};
-ghost use Rattle.cps_literal.specs.declared.atom.Op.{Op as OpOf};
-ghost use Rattle.cps_instance.specs.declared.task.Body.{Body};
 ghost use Rattle.cps_instance.specs.declared.task.Body.TheVariants.{Element};
 ghost use Rattle.cps_rule.specs.Rules.{IsGiven, IsSeen, IsAtRest};
 ghost use Rattle.cps_p_lookup.specs.Elements.{IsFit, IsCovered, IsSeenAt, IsLastOpen, MayMeet, IsVisited, IsScanned};
+ghost use Rattle.cps_p_lookup.specs.Gaps.{KeepsBetween, AreListed, Lists};
 
 use crate::facts::{LIMIT, atom};
+use crate::gaps::{Gaps, copy_holes, exclude_missing, is_worth};
 use cps_domain::Domain;
 use cps_literal::{Atom, Op};
 use cps_rule::{Hint, Look, Narrowing};
@@ -148,7 +147,7 @@ pub(crate) fn bound(
     found: &mut Vec<Narrowing>,
 ) -> Result<(), AllocError>
     requires { subject < length store.now.first }
-    ensures { OnOk result ((body : Body) → ((u : AtomOf) → u ≡ record { subject = subject; op = OpOf.Ge; value = low } → IsGiven body store.now u) → ((u : AtomOf) → u ≡ record { subject = subject; op = OpOf.Le; value = high } → IsGiven body store.now u) → All (λ n. IsGiven body store.now n.target) found.old.items → All (λ n. IsGiven body store.now n.target) found.new.items) }
+    ensures { OnOk result (KeepsBetween subject low high store.now found.old.items found.new.items) }
 {
     let domain = store.domain(subject);
     if domain.min() < low {
@@ -198,10 +197,121 @@ pub(crate) fn scan_places(
     Ok(scan)
 }
 
+/// Keeps the target between the ends of the open places, and, where one place is left, the expression there between the target's.
+fn bound_both(
+    store: &Store,
+    lookup: &Lookup,
+    scan: Scan,
+    found: &mut Vec<Narrowing>,
+) -> Result<(), AllocError>
+    requires fits { IsFit store.now.first lookup.now.index lookup.now.target lookup.now.exprs.now }
+    requires scanned { IsScanned store.now lookup.now.index lookup.now.target lookup.now.exprs.now scan }
+    requires some { 0 < scan.open }
+    requires given { All (λ n. IsGiven (Element lookup.now.index lookup.now.target lookup.now.exprs.now) store.now n.target) found.old.items }
+    ensures { OnOk result (All (λ n. IsGiven (Element lookup.now.index lookup.now.target lookup.now.exprs.now) store.now n.target) found.new.items) }
+{
+    bound(store, lookup.target, scan.least, scan.greatest, found)?;
+    if scan.open == 1 {
+        let target = store.domain(lookup.target);
+        let expr = lookup.exprs[scan.last];
+        bound(store, expr, target.min(), target.max(), found)?;
+    }
+    Ok(())
+}
+
+/// Keeps the target off the values that the expression at the one place that is left has not, and the other way round.
+fn align(
+    store: &Store,
+    lookup: &Lookup,
+    scan: Scan,
+    gaps: &mut Gaps,
+    found: &mut Vec<Narrowing>,
+) -> Result<(), AllocError>
+    requires fits { IsFit store.now.first lookup.now.index lookup.now.target lookup.now.exprs.now }
+    requires scanned { IsScanned store.now lookup.now.index lookup.now.target lookup.now.exprs.now scan }
+    requires one { scan.open ≡ 1 }
+    requires given { All (λ n. IsGiven (Element lookup.now.index lookup.now.target lookup.now.exprs.now) store.now n.target) found.old.items }
+    ensures { OnOk result (All (λ n. IsGiven (Element lookup.now.index lookup.now.target lookup.now.exprs.now) store.now n.target) found.new.items) }
+{
+    let expr = lookup.exprs[scan.last];
+    let target = store.domain(lookup.target);
+    let other = store.domain(expr);
+    copy_holes(lookup.target, target, other, gaps, found)?;
+    copy_holes(expr, other, target, gaps, found)?;
+    Ok(())
+}
+
+/// Adds the value at a place, where the place is open. Answers false where it has several.
+fn list_value(
+    store: &Store,
+    lookup: &Lookup,
+    place: usize,
+    values: &mut Vec<i64>,
+) -> Result<bool, AllocError>
+    requires fits { IsFit store.now.first lookup.now.index lookup.now.target lookup.now.exprs.now }
+    requires place { place < length lookup.now.exprs.now }
+    requires small { place < 2 ^ 62 }
+    ensures { result ≡ Ok true → Lists store.now lookup.now.index lookup.now.target lookup.now.exprs.now place values.old.items values.new.items }
+{
+    let index = store.domain(lookup.index);
+    if !index.contains(place as i64) {
+        return Ok(true);
+    }
+    let expr = store.domain(lookup.exprs[place]);
+    let low = expr.min();
+    let high = expr.max();
+    if low != high {
+        return Ok(false);
+    }
+    values.push(low)?;
+    Ok(true)
+}
+
+/// Makes a list that of the values at the open places. Answers false where one of them has several.
+fn list_values(store: &Store, lookup: &Lookup, values: &mut Vec<i64>) -> Result<bool, AllocError>
+    requires fits { IsFit store.now.first lookup.now.index lookup.now.target lookup.now.exprs.now }
+    ensures { result ≡ Ok true → AreListed store.now lookup.now.index lookup.now.target lookup.now.exprs.now values.new.items }
+{
+    values.clear();
+    let places = lookup.exprs.len();
+    if places > LIMIT as usize {
+        return Ok(false);
+    }
+    for place in 0..places {
+        if !list_value(store, lookup, place, values)? {
+            return Ok(false);
+        }
+    }
+    Ok(true)
+}
+
+/// Keeps the target off the values that no open place has, where each has a single value.
+fn narrow_inside(
+    store: &Store,
+    lookup: &Lookup,
+    gaps: &mut Gaps,
+    found: &mut Vec<Narrowing>,
+) -> Result<(), AllocError>
+    requires fits { IsFit store.now.first lookup.now.index lookup.now.target lookup.now.exprs.now }
+    requires given { All (λ n. IsGiven (Element lookup.now.index lookup.now.target lookup.now.exprs.now) store.now n.target) found.old.items }
+    ensures { OnOk result (All (λ n. IsGiven (Element lookup.now.index lookup.now.target lookup.now.exprs.now) store.now n.target) found.new.items) }
+{
+    let target = store.domain(lookup.target);
+    if !is_worth(target, lookup.exprs.len()) {
+        return Ok(());
+    }
+    if !list_values(store, lookup, &mut gaps.listed)? {
+        return Ok(());
+    }
+    exclude_missing(lookup.target, target, gaps, found)?;
+    Ok(())
+}
+
 /// What an element gives, or that it cannot hold.
 pub(crate) fn look_up(
     store: &Store,
     lookup: &Lookup,
+    gaps: &mut Gaps,
     found: &mut Vec<Narrowing>,
 ) -> Result<Look, AllocError>
     requires fits { IsFit store.now.first lookup.now.index lookup.now.target lookup.now.exprs.now }
@@ -213,11 +323,11 @@ pub(crate) fn look_up(
     if scan.open == 0 {
         return Ok(Look::Impossible(NO_HINT));
     }
-    bound(store, lookup.target, scan.least, scan.greatest, found)?;
+    bound_both(store, lookup, scan, found)?;
     if scan.open == 1 {
-        let target = store.domain(lookup.target);
-        let expr = lookup.exprs[scan.last];
-        bound(store, expr, target.min(), target.max(), found)?;
+        align(store, lookup, scan, gaps, found)?;
+    } else {
+        narrow_inside(store, lookup, gaps, found)?;
     }
     Ok(Look::Possible)
 }

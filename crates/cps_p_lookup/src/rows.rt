@@ -1,6 +1,6 @@
 //! The rows of a table that are left, and what they leave.
 
-ghost use Rattle.std.specs.Prelude.{ℕ, ℤ, pos, ◌≡◌, ◌<◌, ◌≤◌, ◌+◌, ◌*◌, [], length, All, IfOk, OnOk, IsTrue, true, false, slice_index_or};
+ghost use Rattle.std.specs.Prelude.{ℕ, ℤ, pos, ◌≡◌, ◌<◌, ◌≤◌, ◌+◌, ◌*◌, [], length, All, IfOk, OnOk, IsTrue, true, false, slice_index_or, Contains};
 ghost use Rattle.cps_literal.specs.Truth.{meets};
 ghost use Rattle.cps_model.specs.Lookups.{row_at};
 ghost use Rattle.cps_instance.specs.declared.task.Body.TheVariants.{Table};
@@ -8,17 +8,35 @@ ghost use Rattle.cps_rule.specs.Rules.{IsGiven, IsSeen, IsAtRest};
 ghost use Rattle.cps_p_lookup.specs.Tabling.{IsOpenRow, IsDeadRow, IsLive, AreLive};
 
 use crate::facts::{atom, is_met};
+use crate::gaps::{Gaps, exclude_missing, is_worth};
 use crate::places::NO_HINT;
 use cps_literal::{Atom, Op, Truth};
 use cps_rule::{Look, Narrowing};
 use cps_trail::Store;
-use std::alloc::AllocError;
+use std::alloc::{AllocError, Global};
 
 /// A table: its subjects, and its rows one after another.
 #[derive(Clone, Copy)]
 pub(crate) struct Grid<'a> {
     pub(crate) exprs: &'a [u32],
     pub(crate) values: &'a [i64],
+}
+
+/// Room for the rows that are left, and for a search of gaps in their columns.
+#[derive(Drop)]
+pub(crate) struct Room {
+    rows: Vec<usize>,
+    gaps: Gaps,
+}
+
+impl Room {
+    /// Room that is empty.
+    pub(crate) fn new(alloc: Global) -> Self {
+        Room {
+            rows: Vec::new(alloc),
+            gaps: Gaps::new(alloc),
+        }
+    }
 }
 
 /// A row of a table.
@@ -144,11 +162,56 @@ fn narrow_column(
     propose(store, grid, rows, column, Op::Le, high, found)
 }
 
-/// Keeps each column's subject between the ends of the rows that are left.
+/// Makes a list that of a column's values in some rows.
+fn copy_column(
+    grid: &Grid,
+    rows: &[usize],
+    column: usize,
+    values: &mut Vec<i64>,
+) -> Result<(), AllocError>
+    requires column { column < length grid.now.exprs.now }
+    requires rows { All (λ r. (r + 1) * length grid.now.exprs.now ≤ length grid.now.values.now) rows.now }
+    ensures { OnOk result (All (λ r. Contains values.new.items (slice_index_or (row_at (length grid.now.exprs.now) grid.now.values.now r) column (pos 0))) rows.now) }
+{
+    values.clear();
+    for row in rows {
+        let value = row_at(grid.values, grid.exprs.len(), *row)[column];
+        values.push(value)?;
+    }
+    Ok(())
+}
+
+/// Keeps a column's subject off the values between its ends that none of the rows has.
+fn narrow_inside(
+    store: &Store,
+    grid: &Grid,
+    rows: &[usize],
+    column: usize,
+    gaps: &mut Gaps,
+    found: &mut Vec<Narrowing>,
+) -> Result<(), AllocError>
+    requires fits { All (λ e. e < length store.now.first) grid.now.exprs.now }
+    requires column { column < length grid.now.exprs.now }
+    requires rows { AreLive store.now grid.now.exprs.now grid.now.values.now rows.now }
+    requires given { All (λ n. IsGiven (Table grid.now.exprs.now grid.now.values.now false) store.now n.target) found.old.items }
+    ensures { OnOk result (All (λ n. IsGiven (Table grid.now.exprs.now grid.now.values.now false) store.now n.target) found.new.items) }
+{
+    let subject = grid.exprs[column];
+    let domain = store.domain(subject);
+    if !is_worth(domain, rows.len()) {
+        return Ok(());
+    }
+    copy_column(grid, rows, column, &mut gaps.listed)?;
+    exclude_missing(subject, domain, gaps, found)?;
+    Ok(())
+}
+
+/// Keeps each column's subject to the values that the rows which are left have there; of a large domain, between their ends.
 fn narrow_columns(
     store: &Store,
     grid: &Grid,
     rows: &[usize],
+    gaps: &mut Gaps,
     found: &mut Vec<Narrowing>,
 ) -> Result<(), AllocError>
     requires fits { All (λ e. e < length store.now.first) grid.now.exprs.now }
@@ -158,6 +221,7 @@ fn narrow_columns(
     found.clear();
     for column in 0..grid.exprs.len() {
         narrow_column(store, grid, rows, column, found)?;
+        narrow_inside(store, grid, rows, column, gaps, found)?;
     }
     Ok(())
 }
@@ -181,7 +245,7 @@ fn verdict(_store: &Store, _grid: &Grid, rows: &[usize]) -> Look
 pub(crate) fn look_among(
     store: &Store,
     grid: &Grid,
-    rows: &mut Vec<usize>,
+    room: &mut Room,
     found: &mut Vec<Narrowing>,
 ) -> Result<Look, AllocError>
     requires fits { All (λ e. e < length store.now.first) grid.now.exprs.now }
@@ -190,8 +254,8 @@ pub(crate) fn look_among(
     ensures seen { IfOk result (IsSeen (Table grid.now.exprs.now grid.now.values.now false) store.now) }
     ensures rest { result ≡ Ok Look.Possible → IsAtRest (Table grid.now.exprs.now grid.now.values.now false) store.now }
 {
-    collect(store, grid.exprs, grid.values, rows)?;
-    let live = rows.as_slice();
-    narrow_columns(store, grid, live, found)?;
+    collect(store, grid.exprs, grid.values, &mut room.rows)?;
+    let live = room.rows.as_slice();
+    narrow_columns(store, grid, live, &mut room.gaps, found)?;
     Ok(verdict(store, grid, live))
 }

@@ -7,7 +7,7 @@ ghost use Rattle.cps_instance.specs.declared.task.Body.TheVariants.{Table as Tab
 
 use crate::bans::look_outside;
 use crate::denials::{exclude, fix};
-use crate::rows::{Grid, look_among};
+use crate::rows::{Grid, Room, look_among};
 use cps_enforce::Enforced;
 use cps_instance::{Body, Task};
 use cps_literal::Atom;
@@ -22,8 +22,7 @@ pub struct Table {
     exprs: Listed<u32>,
     values: Listed<i64>,
     negated: bool,
-    /// Room for the rows that are left.
-    rows: Vec<usize>,
+    room: Room,
 }
 
 impl Table {
@@ -43,7 +42,7 @@ impl Table {
                 exprs: Listed::from_vec(Vec::from_slice(alloc, exprs.as_slice())?),
                 values: Listed::from_vec(Vec::from_slice(alloc, values.as_slice())?),
                 negated: *negated,
-                rows: Vec::new(alloc),
+                room: Room::new(alloc),
             }),
             _ => unreachable!(),
         }
@@ -65,7 +64,7 @@ fn look_at(
     store: &Store,
     grid: &Grid,
     negated: bool,
-    rows: &mut Vec<usize>,
+    room: &mut Room,
     found: &mut Vec<Narrowing>,
 ) -> Result<Look, AllocError>
     requires fits { All (λ e. e < length store.now.first) grid.now.exprs.now }
@@ -80,7 +79,7 @@ fn look_at(
     if negated {
         look_outside(store, grid, found)
     } else {
-        look_among(store, grid, rows, found)
+        look_among(store, grid, room, found)
     }
 }
 
@@ -114,7 +113,7 @@ impl Rule for Table {
             exprs: self.exprs.as_slice(),
             values: self.values.as_slice(),
         };
-        look_at(store, &grid, self.negated, &mut self.rows, found)
+        look_at(store, &grid, self.negated, &mut self.room, found)
     }
 
     fn explain(

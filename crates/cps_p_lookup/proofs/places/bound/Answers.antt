@@ -21,10 +21,11 @@ lower c body low before = elim c.if-min-low.branch [
 ]
 
 pub returns-in_ok-push-2 : goal.returns-in_ok-push-2
-returns-in_ok-push-2 c =
-    λ body low high before.
-    more_given body c.args.store.now c.if-min-low.found.items c.push-then-high-max.new.self.items (record { target = c.atom-target-then-high-max.result; hint = record { a = pos 0; b = pos 0 } }) c.in_ok-push-2.ensures.items
-    (high c.atom-target-then-high-max.result (rw (to_z-of_z w64 c.args.high c.ranges.high) at c.atom-target-then-high-max.ensures)) (lower (goal.at.returns-in_ok-push-2 c).After-max body low before)
+returns-in_ok-push-2 c = record {
+  at = λ body low high before.
+      more_given body c.args.store.now c.if-min-low.found.items c.push-then-high-max.new.self.items (record { target = c.atom-target-then-high-max.result; hint = record { a = pos 0; b = pos 0 } }) c.in_ok-push-2.ensures.items
+      (high c.atom-target-then-high-max.result (rw (to_z-of_z w64 c.args.high c.ranges.high) at c.atom-target-then-high-max.ensures)) (lower (goal.at.returns-in_ok-push-2 c).After-max body low before);
+}
 
 pub returns-else-high-max : goal.returns-else-high-max
-returns-else-high-max c = λ body low high before. lower (goal.at.returns-else-high-max c).After-max body low before
+returns-else-high-max c = record { at = λ body low high before. lower (goal.at.returns-else-high-max c).After-max body low before }

@@ -22,7 +22,7 @@ loop-place-init c =
         | then-places-gt0+then-places+in_ok-bound w ↦
             (let f : FitsSigned w64 w.last_place.result = search rules in
             subst (λ (ns : List Narrowing). All (λ (n : Narrowing). IsGiven (Element i t es) s n.target) ns) (ap (λ v. v.items) (sym w.found-is))
-            (w.in_ok-bound.ensures (Element i t es) (index_low s i t es c.requires.fits) (index_high s i t es c.requires.fits _ (to_z-of_z w64 w.last_place.result f ∙ w.last_place.ensures)) none))
+            (w.in_ok-bound.ensures.at (Element i t es) (index_low s i t es c.requires.fits) (index_high s i t es c.requires.fits _ (to_z-of_z w64 w.last_place.result f ∙ w.last_place.ensures)) none))
         | else-places-gt0 w ↦ subst (λ (ns : List Narrowing). All (λ (n : Narrowing). IsGiven (Element i t es) s n.target) ns) (ap (λ v. v.items) (sym w.found-is)) none
       ];
       seen = λ k a b l. absurd (omega arith);

@@ -1,0 +1,46 @@
+use Rattle.std.proofs.Common.{◌≡◌, ◌<◌, ◌≤ℤ◌, ℤ, ◌∙◌, sym, arith, rules, FitsSigned, w64, length, get_or}
+use Rattle.std.proofs.lemmas.Int.{to_z-of_z}
+use Rattle.std.specs.List.{All}
+use Rattle.cps_instance.specs.declared.task.Body.TheVariants.{Element}
+use Rattle.cps_propagate.specs.Now.{IsOpenTo}
+use Rattle.cps_rule.specs.declared.rule.Narrowing.{Narrowing}
+use Rattle.cps_rule.specs.Rules.{IsGiven}
+use Rattle.cps_p_lookup.proofs.Elements.{target_low, target_high, expr_low, expr_high}
+use Rattle.cps_p_lookup.proofs.places.bound_both.Goals as goal
+use Rattle.cps_p_lookup.proofs.places.bound_both.Goals.{In_ok-bound}
+
+bounded : (c : In_ok-bound) → All (λ (n : Narrowing). IsGiven (Element c.args.lookup.now.index c.args.lookup.now.target c.args.lookup.now.exprs.now) c.args.store.now n.target) c.bound.new.found.items
+bounded c =
+    let s = c.args.store.now in
+    let i = c.args.lookup.now.index in
+    let t = c.args.lookup.now.target in
+    let es = c.args.lookup.now.exprs.now in
+    let scan = c.args.scan in
+    let h = c.requires.scanned in
+    let fl : FitsSigned w64 scan.least = search rules in
+    let fh : FitsSigned w64 scan.greatest = search rules in
+    c.in_ok-bound.ensures.at (Element i t es) (target_low s i t es scan c.requires.fits h _ (to_z-of_z w64 scan.least fl)) (target_high s i t es scan c.requires.fits h _ (to_z-of_z w64 scan.greatest fh)) c.requires.given
+
+pub returns-in_ok-bound-2 : goal.returns-in_ok-bound-2
+returns-in_ok-bound-2 c =
+    let s = c.args.store.now in
+    let i = c.args.lookup.now.index in
+    let t = c.args.lookup.now.target in
+    let es = c.args.lookup.now.exprs.now in
+    let scan = c.args.scan in
+    let h = c.requires.scanned in
+    let inside : scan.last < length es = h.last.place c.requires.some in
+    let low = c.min.result in
+    let high = c.max.result in
+    let fl : FitsSigned w64 low = search rules in
+    let fh : FitsSigned w64 high = search rules in
+    let el = to_z-of_z w64 low fl in
+    let eh = to_z-of_z w64 high fh in
+    let D = c.domain-target.ensures in
+    let least : (x : ℤ) → IsOpenTo s t x → low ≤ℤ x = λ x o. c.min.ensures.least x (D x ∙ o) in
+    let greatest : (x : ℤ) → IsOpenTo s t x → x ≤ℤ high = λ x o. c.max.ensures.greatest x (D x ∙ o) in
+    c.in_ok-bound-2.ensures.at (Element i t es)
+    (rw el (expr_low s i t es scan low c.requires.fits h c.if-scan-eq1.true inside least)) (rw eh (expr_high s i t es scan high c.requires.fits h c.if-scan-eq1.true inside greatest)) (bounded (goal.at.returns-in_ok-bound-2 c).In_ok-bound)
+
+pub returns-else-scan-eq1 : goal.returns-else-scan-eq1
+returns-else-scan-eq1 c = bounded (goal.at.returns-else-scan-eq1 c).In_ok-bound
