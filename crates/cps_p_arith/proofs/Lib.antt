@@ -4,6 +4,7 @@ pub mod Scaling
 pub mod Clamping
 pub mod Dividing
 pub mod Rests
+pub mod Opposites
 pub mod Holding
 pub mod Pairs
 pub mod Faces

@@ -1,5 +1,5 @@
 -- What division leaves.
-use Rattle.std.proofs.Common.{zero, suc, ◌+◌, ◌^◌, ◌≤◌, ◌<◌, ℕ, ℤ, pos, negsuc, neg_ℤ, ◌+ℤ◌, ◌-ℤ◌, ◌*ℤ◌, ◌≤ℤ◌, ◌<ℤ◌, ◌≡◌, ◌≢◌, ◌∙◌, refl, sym, arith, List, [], ◌∷◌, length, get_or, FitsSigned, w64}
+use Rattle.std.proofs.Common.{◌+◌, ◌^◌, ◌≤◌, ℕ, ℤ, pos, negsuc, ◌+ℤ◌, ◌-ℤ◌, ◌*ℤ◌, ◌≤ℤ◌, ◌<ℤ◌, ◌≡◌, ◌≢◌, ◌∙◌, refl, sym, arith, List, [], ◌∷◌, length, get_or, FitsSigned, w64}
 use Rattle.std.specs.Prelude.{unsigned_abs, int_div, int_rem}
 use Rattle.std.proofs.lemmas.Int.{ints, by_lt_z, quot-rem, fits_signed_from_abs}
 use Rattle.std.proofs.Math.IntN.{*ℤ_comm}

@@ -9,6 +9,7 @@ ghost use Rattle.cps_p_arith.specs.Products.{clamped, IsProductRange};
 
 use crate::ends::Ends;
 use crate::range::{Range, is_apart, joined};
+use crate::signs::excludes_signs;
 
 /// A number that is greater than each value.
 const FAR: i128 = 9_223_372_036_854_775_809;
@@ -79,5 +80,5 @@ pub(crate) fn excludes_product(target: Ends, members: &[Ends]) -> bool
     ensures exact { result ≡ false → (v : ℤ) (ns : List ℤ) → IsAt target v → AreAt members.now ns → IsProduct v ns }
 {
     let range = product_range(members);
-    is_apart(target, range)
+    is_apart(target, range) || excludes_signs(target, members)
 }
