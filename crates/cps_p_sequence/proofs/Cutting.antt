@@ -1,10 +1,9 @@
 -- Where labels lead beside facts, and what a cut gives.
-use Rattle.std.specs.Prelude.{All, Contains, not}
-use Rattle.std.proofs.Common.{◌≡◌, ◌⊎◌, inl, inr, ℕ, zero, suc, ◌+◌, ◌<◌, ◌≤◌, ℤ, pos, Bool, true, false, Option, Some, None, List, [], ◌∷◌, ◌++◌, length, drop, get_or, set, refl, sym, ◌∙◌, ap, subst, arith}
+use Rattle.std.specs.Prelude.{not}
+use Rattle.std.proofs.Common.{◌≡◌, inl, inr, ℕ, zero, suc, ◌+◌, ◌<◌, ◌≤◌, ℤ, Bool, true, false, Option, List, [], length, drop, get_or, set, refl, sym, ◌∙◌, ap, subst, arith}
 use Rattle.std.proofs.lemmas.Int.{ints}
 use Rattle.std.proofs.lemmas.Bool.{cases_lt}
-use Rattle.std.proofs.lemmas.List.{drop_more, drop_all, get_or_default, length-set}
-use Rattle.std.proofs.lemmas.List.Elements.{All-contains}
+use Rattle.std.proofs.lemmas.List.{drop_all, length-set}
 use Rattle.cps_domain.specs.Window.{equals}
 use Rattle.cps_model.specs.declared.parts.Transition.{Transition}
 use Rattle.cps_model.specs.Sequences.{transitions, Accepts}
@@ -12,18 +11,17 @@ use Rattle.cps_literal.specs.declared.atom.Atom.{Atom}
 use Rattle.cps_literal.specs.declared.atom.Op.{Op}
 use Rattle.cps_literal.specs.declared.atom.Op.TheVariants.{Ge, Le, Ne}
 use Rattle.cps_literal.specs.Truth.{value_at, atom_holds, meets}
-use Rattle.cps_instance.specs.declared.task.Body.{Body}
 use Rattle.cps_instance.specs.declared.task.Body.TheVariants.{Automaton}
 use Rattle.cps_instance.specs.Parts.{values_at}
 use Rattle.cps_trail.specs.Trail.{Trail}
-use Rattle.cps_rule.specs.Rules.{AreFacts, AllTrueAt}
+use Rattle.cps_rule.specs.Rules.{AllTrueAt}
 use Rattle.cps_p_sequence.specs.declared.states.Step.{Step}
 use Rattle.cps_p_sequence.specs.declared.cuts.Limits.{Limits}
 use Rattle.cps_p_sequence.specs.Networks.{IsNetwork, IsMarked, state_at}
 use Rattle.cps_p_sequence.specs.Facts.{Grows, Denied, Gives, IsBounded}
 use Rattle.cps_p_sequence.specs.Cuts.{IsOut, IsLimited, Leads, Comes, AreCome, IsCut}
 use Rattle.cps_p_sequence.proofs.Numbering.{marked_here, marked_still, marked_within}
-use Rattle.cps_p_sequence.proofs.Growing.{grows_trans, grows_same, no_facts}
+use Rattle.cps_p_sequence.proofs.Growing.{grows_trans, no_facts}
 use Rattle.cps_p_sequence.proofs.Layering.{last_or, item_at}
 use Rattle.cps_p_sequence.proofs.Running.{step_at, within_of}
 

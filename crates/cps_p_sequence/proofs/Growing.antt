@@ -1,14 +1,13 @@
 -- How facts grow, and what they give.
-use Rattle.std.proofs.Common.{◌≡◌, ℕ, ℤ, ◌+◌, ◌<◌, Bool, true, false, List, [], ◌∷◌, ◌++◌, length, refl, sym, subst, ◌∙◌, Option, Some, None, arith}
-use Rattle.std.specs.List.{All, Contains}
+use Rattle.std.proofs.Common.{◌≡◌, ℤ, Bool, true, false, List, [], ◌∷◌, refl, sym, subst, Some, None}
+use Rattle.std.specs.List.{Contains}
 use Rattle.std.proofs.lemmas.List.Elements.{All-nil, All-weaker, All-push, All-contains, All-contains_itself, Contains-push, Contains-append_left}
 use Rattle.cps_literal.specs.declared.atom.Atom.{Atom}
 use Rattle.cps_literal.specs.Truth.{atom_holds}
 use Rattle.cps_instance.specs.declared.task.Body.{Body}
-use Rattle.cps_instance.specs.Tasks.{HoldsBody}
-use Rattle.cps_trail.specs.Trail.{Trail, IsWithin}
+use Rattle.cps_trail.specs.Trail.{Trail}
 use Rattle.cps_rule.specs.Rules.{IsFact, AreFacts, AllTrueAt, IsExplained, IsRefuted}
-use Rattle.cps_p_sequence.specs.Facts.{Adds, Grows, Denied, Gives, IsBounded}
+use Rattle.cps_p_sequence.specs.Facts.{Adds, Grows, Gives}
 
 pub adds_grows : (s : Trail) (u : Atom) (old new : List Atom) → Adds s u old new → Grows s old new
 adds_grows s u old new h = record {

@@ -1,5 +1,5 @@
 -- Rows of marks, layer by layer, and what is found at each.
-use Rattle.std.specs.Prelude.{All, Contains, int_le}
+use Rattle.std.specs.Prelude.{Contains}
 use Rattle.std.proofs.Common.{◌≡◌, ◌⊎◌, inl, inr, ℕ, zero, suc, ◌+◌, ◌-◌, ◌<◌, ◌≤◌, ℤ, pos, ◌≤ℤ◌, Bool, true, false, List, [], ◌∷◌, ◌++◌, length, take, drop, get_or, set, refl, sym, ◌∙◌, ap, subst, arith}
 use Rattle.std.proofs.lemmas.Int.{ints}
 use Rattle.std.proofs.lemmas.List.{drop_more, drop_all, take_all, get_or_default, length-set, length-append, take-append-le, drop-append-le}
@@ -10,16 +10,15 @@ use Rattle.cps_literal.specs.declared.atom.Op.{Op}
 use Rattle.cps_literal.specs.declared.atom.Op.TheVariants.{Le, Ge, Ne}
 use Rattle.cps_literal.specs.Truth.{value_at}
 use Rattle.cps_instance.specs.declared.task.Body.{Body}
-use Rattle.cps_instance.specs.Tasks.{HoldsBody}
 use Rattle.cps_instance.proofs.Agreeing.{All-append_left, All-append_right}
-use Rattle.cps_trail.specs.Trail.{Trail, IsTrueNow, IsAdmitted}
+use Rattle.cps_trail.specs.Trail.{Trail, IsTrueNow}
 use Rattle.cps_propagate.specs.Now.{IsOpenTo}
 use Rattle.cps_propagate.specs.Strength.{IsEndNow}
 use Rattle.cps_rule.specs.declared.rule.Narrowing.{Narrowing}
 use Rattle.cps_rule.specs.Rules.{IsGiven}
 use Rattle.cps_p_sequence.specs.declared.states.Step.{Step}
 use Rattle.cps_p_sequence.specs.Networks.{IsMarked, IsRising}
-use Rattle.cps_p_sequence.specs.Runs.{CanEnd, CanReach, AreEnding, AreReached, AreRows, AreTails, AreHeads, IsLed, AreLabels, IsAlive, HasLabels, HasLabelsOf, AreClosed, IsFollowed, AllGiven, AllTrue, AreEndsAlive, AreFound, IsFrom, IsUpTo, IsDead, IsNarrowed, IsLooked}
+use Rattle.cps_p_sequence.specs.Runs.{CanEnd, AreEnding, AreReached, AreRows, AreTails, AreHeads, AreLabels, IsAlive, HasLabels, HasLabelsOf, AreClosed, IsFollowed, AllGiven, AllTrue, AreFound, IsFrom, IsUpTo, IsDead, IsNarrowed, IsLooked}
 use Rattle.cps_p_sequence.proofs.Finding.{unequal, off_true}
 use Rattle.cps_p_sequence.proofs.Numbering.{unmarked, marked_here, marked_still, marked_before}
 

@@ -1,13 +1,12 @@
 -- Runs of an automaton, and where they may go by the numbers of its states.
 use Rattle.std.specs.Prelude.{All, Contains}
 use Rattle.std.specs.List.{AllZip}
-use Rattle.std.proofs.Common.{◌≡◌, ℕ, zero, suc, ◌+◌, ◌<◌, ◌≤◌, ℤ, pos, Bool, true, false, List, [], ◌∷◌, length, drop, get_or, refl, sym, ◌∙◌, ap, subst, arith}
+use Rattle.std.proofs.Common.{◌≡◌, ℕ, zero, suc, ◌+◌, ◌<◌, ◌≤◌, ℤ, pos, Bool, List, [], ◌∷◌, length, drop, get_or, refl, sym, ◌∙◌, ap, subst, arith}
 use Rattle.std.proofs.lemmas.List.{drop_more}
 use Rattle.std.proofs.lemmas.List.Elements.{All-contains, All-head, All-tail, All-drop}
 use Rattle.cps_model.specs.declared.parts.Transition.{Transition}
 use Rattle.cps_model.specs.Sequences.{transitions, Accepts}
 use Rattle.cps_literal.specs.Truth.{value_at}
-use Rattle.cps_instance.specs.declared.task.Body.{Body}
 use Rattle.cps_instance.specs.declared.task.Body.TheVariants.{Automaton}
 use Rattle.cps_instance.specs.Parts.{values_at}
 use Rattle.cps_trail.specs.Trail.{Trail, IsAdmitted}
@@ -15,7 +14,7 @@ use Rattle.cps_propagate.specs.Now.{IsOpenTo, IsFixedNow, AreOpen}
 use Rattle.cps_propagate.specs.Strength.{IsRunNow, HasRuns}
 use Rattle.cps_rule.specs.Rules.{IsAtRest}
 use Rattle.cps_p_sequence.specs.declared.states.Step.{Step}
-use Rattle.cps_p_sequence.specs.Networks.{IsNetwork, IsMarked, IsStepWithin, named, state_at}
+use Rattle.cps_p_sequence.specs.Networks.{IsNetwork, IsStepWithin, state_at}
 use Rattle.cps_p_sequence.specs.Runs.{CanEnd, CanReach, IsAlive, IsFollowed, AreEndsAlive}
 
 -- where each subject is fixed, what a run may have is what they have

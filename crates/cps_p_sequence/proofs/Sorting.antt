@@ -2,8 +2,8 @@
 use Rattle.std.specs.Prelude.{Contains, IsSorted}
 use Rattle.std.specs.List.Sorted.{IsStrictlySortedBy, IsNonDecreasingBy, IsPartitionPoint}
 use Rattle.std.specs.Ordering.{int_cmp, int_eq, is_lt, eq_by_cmp, ordering_index}
-use Rattle.std.proofs.Common.{◌≡◌, ◌⊎◌, ℕ, zero, suc, ◌+◌, ◌<◌, ℤ, pos, ◌<ℤ◌, Bool, true, false, List, [], ◌∷◌, length, get_or, sym, subst, arith, inl, inr, Less, Equal, Greater}
-use Rattle.std.proofs.lemmas.Int.{ints, by_lt_z}
+use Rattle.std.proofs.Common.{◌≡◌, ℕ, zero, suc, ◌+◌, ◌<◌, ℤ, pos, ◌<ℤ◌, true, false, List, [], ◌∷◌, length, get_or, sym, subst, arith, inl, inr, Less, Equal, Greater}
+use Rattle.std.proofs.lemmas.Int.{ints}
 use Rattle.std.proofs.lemmas.Bool.{cases_lt}
 use Rattle.std.proofs.lemmas.Cmp.{int_cmp_total}
 use Rattle.std.proofs.lemmas.List.{get_or_default}

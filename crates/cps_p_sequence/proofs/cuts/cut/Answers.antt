@@ -1,5 +1,4 @@
-use Rattle.std.proofs.Common.{◌≡◌, ℕ, Bool, true, false, Ok, List, length, get_or, refl, sym, ◌∙◌, ap, subst, arith}
-use Rattle.cps_literal.specs.declared.atom.Atom.{Atom}
+use Rattle.std.proofs.Common.{◌≡◌, ℕ, Bool, true, List, length, get_or, refl, sym, ◌∙◌, ap, subst, arith}
 use Rattle.cps_p_sequence.specs.Networks.{IsStepWithin}
 use Rattle.cps_p_sequence.specs.Cuts.{Comes}
 use Rattle.cps_p_sequence.proofs.Cutting.{come_begun, come_more, come_cut}

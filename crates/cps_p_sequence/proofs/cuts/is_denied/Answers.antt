@@ -1,4 +1,4 @@
-use Rattle.std.proofs.Common.{◌≡◌, true, sym, ◌∙◌, Option, subst}
+use Rattle.std.proofs.Common.{sym, ◌∙◌, Option, subst}
 use Rattle.std.proofs.lemmas.Int.{to_z-of_z}
 use Rattle.cps_literal.specs.declared.atom.Atom.{Atom}
 use Rattle.cps_p_sequence.specs.Facts.{Denied}

@@ -1,4 +1,4 @@
-use Rattle.std.proofs.Common.{◌≡◌, Bool, true, false, Ok, refl, rules, w64, FitsSigned}
+use Rattle.std.proofs.Common.{refl, rules, w64, FitsSigned}
 use Rattle.std.proofs.lemmas.Int.{to_z-of_z}
 use Rattle.cps_p_sequence.proofs.Growing.{grows_same}
 use Rattle.cps_p_sequence.proofs.cuts.is_no_way.Goals as goal

@@ -1,4 +1,4 @@
-use Rattle.std.proofs.Common.{◌≡◌, true, refl, sym, ap, Ok}
+use Rattle.std.proofs.Common.{◌≡◌, true, refl, ap, Ok}
 use Rattle.std.proofs.lemmas.Int.{to_z-of_z}
 use Rattle.std.proofs.lemmas.List.Elements.{All-contains}
 use Rattle.cps_literal.specs.declared.atom.Atom.{Atom}

@@ -1,4 +1,4 @@
-use Rattle.std.proofs.Common.{◌≡◌, ◌<◌, ℤ, pos, true, false, length, get_or, refl, sym, ◌∙◌, ap, subst, rules, arith, w64, FitsSigned}
+use Rattle.std.proofs.Common.{◌≡◌, pos, true, false, get_or, refl, sym, ◌∙◌, rules, arith, w64, FitsSigned}
 use Rattle.std.proofs.lemmas.Int.{to_z-of_z}
 use Rattle.std.proofs.lemmas.List.{get_or_default}
 use Rattle.cps_p_sequence.specs.declared.states.Step.{Step}

@@ -1,4 +1,4 @@
-use Rattle.std.proofs.Common.{◌≡◌, ◌∙◌, sym, pos, get_or, below_more, below_none, rules, arith, w64, FitsSigned}
+use Rattle.std.proofs.Common.{◌∙◌, sym, pos, get_or, rules, arith, w64, FitsSigned}
 use Rattle.std.proofs.lemmas.Int.{to_z-of_z}
 use Rattle.cps_p_sequence.proofs.Layering.{hole_given, hole_true, more_kept, closed_more, closed_whole}
 use Rattle.cps_p_sequence.proofs.layers.keep_off_others.Goals as goal

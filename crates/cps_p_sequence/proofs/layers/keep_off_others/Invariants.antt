@@ -1,4 +1,4 @@
-use Rattle.std.proofs.Common.{ℕ, ◌<◌, pos, get_or, length}
+use Rattle.std.proofs.Common.{ℕ, ◌<◌, pos, get_or}
 use Rattle.std.specs.Prelude.{Contains}
 use Rattle.cps_instance.specs.declared.task.Body.{Body}
 use Rattle.cps_propagate.specs.Now.{IsOpenTo}

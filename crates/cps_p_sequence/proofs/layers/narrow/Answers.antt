@@ -1,4 +1,4 @@
-use Rattle.std.proofs.Common.{◌≡◌, ◌<◌, ◌+◌, ◌-◌, ℕ, List, Bool, length, take, drop, get_or, refl, sym, ◌∙◌, ap, subst, arith, rules, vec_len}
+use Rattle.std.proofs.Common.{◌≡◌, ◌+◌, ◌-◌, ℕ, List, Bool, length, take, drop, get_or, refl, sym, ◌∙◌, ap, subst, arith, rules, vec_len}
 use Rattle.cps_p_sequence.specs.Networks.{IsStepWithin}
 use Rattle.cps_p_sequence.specs.Runs.{AreRows}
 use Rattle.cps_p_sequence.proofs.Layering.{top_of, reached_begun, reached_more, found_begun, found_more, dead_by, labels_at, heads_at, given_at, listed_ends, empty_is}

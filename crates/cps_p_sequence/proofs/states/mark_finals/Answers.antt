@@ -1,4 +1,4 @@
-use Rattle.std.proofs.Common.{◌<◌, get_or, pos, length, refl, rules, arith, w64, FitsSigned}
+use Rattle.std.proofs.Common.{get_or, pos, refl, rules, arith, w64, FitsSigned}
 use Rattle.std.proofs.lemmas.Int.{to_z-of_z}
 use Rattle.cps_p_sequence.proofs.Numbering.{finals_begun, finals_found, finals_passed}
 use Rattle.cps_p_sequence.proofs.states.mark_finals.Goals as goal

@@ -1,4 +1,4 @@
-use Rattle.std.proofs.Common.{◌≡◌, pos, get_or, rules, arith, refl, ap, ◌∙◌, w64, FitsSigned}
+use Rattle.std.proofs.Common.{pos, get_or, rules, ◌∙◌, w64, FitsSigned}
 use Rattle.std.proofs.lemmas.Int.{to_z-of_z}
 use Rattle.std.proofs.lemmas.List.{get_or_default, take_all}
 use Rattle.cps_model.specs.declared.parts.Transition.{Transition}

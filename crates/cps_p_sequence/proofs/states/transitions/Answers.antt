@@ -1,5 +1,5 @@
 -- One transition more, and all of them.
-use Rattle.std.proofs.Common.{◌≡◌, ◌++◌, ◌∙◌, List, get_or, pos, arith, rules, refl, sym, ap, FitsSigned, w64}
+use Rattle.std.proofs.Common.{◌++◌, ◌∙◌, List, get_or, pos, arith, rules, refl, sym, ap, FitsSigned, w64}
 use Rattle.std.proofs.lemmas.Int.{to_z-of_z}
 use Rattle.std.proofs.lemmas.List.{append-nil}
 use Rattle.cps_model.specs.declared.parts.Transition.{Transition}

@@ -1,8 +1,5 @@
-use Rattle.std.proofs.Common.{◌≡◌, ℤ, List, sym, ◌∙◌, ap, subst, rules, w64, FitsSigned}
+use Rattle.std.proofs.Common.{w64, FitsSigned}
 use Rattle.std.proofs.lemmas.Int.{to_z-of_z}
-use Rattle.cps_model.specs.declared.parts.Transition.{Transition}
-use Rattle.cps_model.specs.Sequences.{transitions}
-use Rattle.cps_p_sequence.specs.Networks.{IsNetwork}
 use Rattle.cps_p_sequence.proofs.Numbering.{network_from, network_sorted, labels_covered}
 use Rattle.cps_p_sequence.proofs.automaton.AutomatonRule.over.Goals as goal
 

@@ -1,4 +1,4 @@
-use Rattle.std.proofs.Common.{Some, None}
+use Rattle.std.proofs.Common.{Some}
 use Rattle.cps_p_sequence.proofs.Seeing.{seen_subjects, seen_steps, seen_first, seen_gives}
 use Rattle.cps_p_sequence.proofs.Growing.{explained_by}
 use Rattle.cps_p_sequence.proofs.automaton.AutomatonRuleRule.explain.Goals as goal
