@@ -3,3 +3,5 @@ pub mod Resting
 pub mod Relied
 pub mod Profiled
 pub mod Summing
+pub mod Moves
+pub mod Levelled

@@ -10,6 +10,7 @@ use Rattle.cps_domain.proofs.Tests.{first_of_both, true_le, le_true}
 use Rattle.cps_literal.specs.declared.atom.Atom.{Atom}
 use Rattle.cps_literal.specs.declared.atom.Op.TheVariants.{Le, Ge}
 use Rattle.cps_literal.specs.Truth.{meets, value_at, atom_holds, Implies}
+use Rattle.cps_instance.specs.declared.task.Body.{Body}
 use Rattle.cps_instance.specs.declared.task.Span.{Span}
 use Rattle.cps_instance.specs.Parts.{span_end}
 use Rattle.cps_instance.specs.Tasks.{HoldsBody}
@@ -82,9 +83,9 @@ charged-more t ps ds need k p d left after xs l m h this =
     record { demanded = omega (arith, ints) }
 
 -- where the assumed atom denies one, that one is given
-pub explained : (s : Trail) (r : Resource) (a u : Atom) (facts : List Atom) → a.subject ≡ u.subject → ((x : ℤ) → meets a.op a.value x ≡ not (meets u.op u.value x))
-    → Relies s a (λ xs. HoldsBody (body_of r) xs → ⊥) [] facts → IsExplained (body_of r) s u facts
-explained s r a u facts same denies h = record {
+pub explained : (s : Trail) (b : Body) (a u : Atom) (facts : List Atom) → a.subject ≡ u.subject → ((x : ℤ) → meets a.op a.value x ≡ not (meets u.op u.value x))
+    → Relies s a (λ xs. HoldsBody b xs → ⊥) [] facts → IsExplained b s u facts
+explained s b a u facts same denies h = record {
   facts = h.facts;
   gives = λ xs w all holds. yes' (atom_holds xs u) (λ no'. h.gives xs w all (ap (λ (k : ℕ). meets a.op a.value (value_at xs k)) same ∙ denies (value_at xs u.subject) ∙ ap not no') holds);
 }
@@ -94,8 +95,8 @@ explained s r a u facts same denies h = record {
     yes' false f = absurd (f refl)
 
 -- where the assumed atom is the first fact, the body cannot hold
-pub refuted : (s : Trail) (r : Resource) (a : Atom) (facts : List Atom) → Relies s a (λ xs. HoldsBody (body_of r) xs → ⊥) (a ∷ []) facts → IsRefuted (body_of r) s facts
-refuted s r a facts h = record {
+pub refuted : (s : Trail) (b : Body) (a : Atom) (facts : List Atom) → Relies s a (λ xs. HoldsBody b xs → ⊥) (a ∷ []) facts → IsRefuted b s facts
+refuted s b a facts h = record {
   facts = h.facts;
   excludes = λ xs w all. h.gives xs w all (All-head (λ v. atom_holds xs v ≡ true) a [] (h.kept xs all));
 }
@@ -105,8 +106,8 @@ unfolding admits
 within_of s xs h = λ i l. first_of_both (is_among (first_of s.first i) (value_at xs i)) (list_all (leaves i (value_at xs i)) s.entries) (h i l)
 
 -- what facts explain is given
-pub given : (s : Trail) (r : Resource) (u : Atom) (facts : List Atom) → u.subject < length s.first → IsExplained (body_of r) s u facts → IsGiven (body_of r) s u
-given s r u facts inside h = record {
+pub given : (s : Trail) (b : Body) (u : Atom) (facts : List Atom) → u.subject < length s.first → IsExplained b s u facts → IsGiven b s u
+given s b u facts inside h = record {
   subject = inside;
   at = λ xs admitted holds. h.gives xs (within_of s xs admitted) (λ k d l. (h.facts k d l).true_now (value_at xs (get_or facts k d).subject) (admitted (get_or facts k d).subject (h.facts k d l).subject)) holds;
 }

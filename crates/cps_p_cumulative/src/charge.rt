@@ -57,7 +57,12 @@ pub(crate) fn at_least(subject: u32, value: i64) -> Atom
 }
 
 /// Sees that an atom is true: the assumed one gives it, or it is put among the facts, unless each first value meets it.
-fn rely(past: &Before, case: Case, atom: Atom, facts: &mut Vec<Atom>) -> Result<bool, AllocError>
+pub(crate) fn rely(
+    past: &Before,
+    case: Case,
+    atom: Atom,
+    facts: &mut Vec<Atom>,
+) -> Result<bool, AllocError>
     requires subject { atom.subject < length past.now.first }
     requires facts { AreFacts past.now facts.old.items }
     ensures { result ≡ Ok true → Relies past.now case.assumed (λ xs. atom_holds xs atom ≡ true) facts.old.items facts.new.items }
@@ -142,7 +147,7 @@ fn rely_run(
 }
 
 /// Whether an atom was true, or the assumed one gives it.
-fn is_known(past: &Before, case: Case, atom: Atom) -> bool
+pub(crate) fn is_known(past: &Before, case: Case, atom: Atom) -> bool
     requires { atom.subject < length past.now.first }
 {
     if case.assumed.implies(atom) {

@@ -9,6 +9,10 @@
 //! an atom and a time; what it proposes counts where its denial is seen to overload that time. One proved search for facts does that, and makes
 //! each reason, so a reason speaks of one time: spans are present, start by then, end later, and demand enough.
 //!
+//! A tank's level is looked at in the same way: events surely by a time count their least change, open ones only where that takes away, and where
+//! the sum passes a limit the tank cannot hold. An event is pushed, made to take place or made not to, or its change bounded, where the
+//! denial is seen to make the level pass.
+//!
 //! The algorithm is the time table with pointwise explanations of Schutt, Feydy, Stuckey and Wallace, "Explaining the cumulative propagator"
 //! (2011), over a sweep as that of Letort, Beldiceanu and Carlsson, "A scalable sweep algorithm for the cumulative constraint" (2012).
 #![tactic(auto)]
@@ -16,10 +20,16 @@
 mod charge;
 mod cumulative;
 mod judge;
+mod level;
 mod measure;
 mod part;
+mod passing;
 mod propose;
+mod pushes;
+mod reservoir;
 mod resource;
 mod segments;
+mod tank;
 
 pub use cumulative::Cumulative;
+pub use reservoir::Reservoir;

@@ -18,7 +18,7 @@ returns-in_ok-push c =
     let u = c.args.narrowing.target in
     let ok : c.charge.result ≡ Ok true = cc in
     let facts = c.charge.new.facts.items in
-    let e = explained s r c.negate.result u facts c.negate.ensures.subject c.negate.ensures.negated
+    let e = explained s (body_of r) c.negate.result u facts c.negate.ensures.subject c.negate.ensures.negated
     (subst (λ (us : List Atom). Relies s c.negate.result (λ xs. HoldsBody (body_of r) xs → ⊥) us facts) c.clear.ensures.items (c.charge.ensures ok)) in
     subst (λ (ns : List Narrowing). All (λ n. IsGiven (body_of r) s n.target) ns) (sym c.in_ok-push.ensures.items)
-    (All-push (λ (n : Narrowing). IsGiven (body_of r) s n.target) c.args.found.now.items c.args.narrowing c.requires.found (given s r u facts c.requires.subject e))
+    (All-push (λ (n : Narrowing). IsGiven (body_of r) s n.target) c.args.found.now.items c.args.narrowing c.requires.found (given s (body_of r) u facts c.requires.subject e))

@@ -14,5 +14,5 @@ pub returns : goal.returns
 returns c = λ ok.
     let s = c.args.past.now in
     let r = c.args.self.now.resource in
-    explained s r c.negate.result c.args.target c.charge.new.facts.items c.negate.ensures.subject c.negate.ensures.negated
+    explained s (body_of r) c.negate.result c.args.target c.charge.new.facts.items c.negate.ensures.subject c.negate.ensures.negated
     (subst (λ (us : List Atom). Relies s c.negate.result (λ xs. HoldsBody (body_of r) xs → ⊥) us c.charge.new.facts.items) c.clear.ensures.items (c.charge.ensures ok))

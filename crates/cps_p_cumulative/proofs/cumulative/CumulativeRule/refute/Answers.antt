@@ -27,5 +27,5 @@ pub returns : goal.returns
 returns c = λ ok.
     let s = c.args.past.now in
     let r = c.args.self.now.resource in
-    refuted s r c.at_most.result c.charge.new.facts.items
+    refuted s (body_of r) c.at_most.result c.charge.new.facts.items
     (subst (λ (us : List Atom). Relies s c.at_most.result (λ xs. HoldsBody (body_of r) xs → ⊥) us c.charge.new.facts.items) (one c.clear.new.self.items c.push.new.self.items c.at_most.result c.clear.ensures.items c.in_ok-push.ensures.items) (c.charge.ensures ok))

@@ -1,0 +1,366 @@
+-- What is seen of a level, and of what facts give of it.
+use Rattle.std.proofs.Common.{ℕ, zero, suc, inl, inr, get_or, take, unsigned_abs, ◌+◌, ◌*◌, ◌^◌, ◌<◌, ◌≤◌, ℤ, pos, neg_ℤ, ◌+ℤ◌, ◌≤ℤ◌, ◌<ℤ◌, ◌≡◌, ◌⊎◌, Bool, true, false, not, cond, ◌&&◌, List, [], ◌∷◌, ◌++◌, length, refl, sym, ◌∙◌, ap, subst, arith}
+use Rattle.std.specs.Prelude.{int_le, Option, Some, None, IfSome, Result, Ok}
+use Rattle.std.specs.declared.alloc.AllocError.{AllocError}
+use Rattle.std.specs.List.{All}
+use Rattle.std.proofs.lemmas.Int.{ints}
+use Rattle.std.proofs.lemmas.List.{take_more, take_all}
+use Rattle.std.proofs.lemmas.List.Elements.{All-head, All-tail, All-nil, All-cons, All-more}
+use Rattle.cps_domain.proofs.Tests.{true_le, le_true, le_false, both}
+use Rattle.cps_model.proofs.Sums.{unsigned_abs-add}
+use Rattle.cps_literal.specs.declared.atom.Atom.{Atom}
+use Rattle.cps_literal.specs.declared.atom.Op.TheVariants.{Le, Ge}
+use Rattle.cps_literal.specs.Truth.{meets, value_at, atom_holds}
+use Rattle.cps_instance.specs.Tasks.{HoldsBody, subjects_of_body}
+use Rattle.cps_instance.proofs.Agreeing.{All-append_left, All-append_right}
+use Rattle.cps_trail.specs.Trail.{Trail, Domains, IsTrueNow, IsFalseNow, IsWithin, IsAdmitted}
+use Rattle.cps_propagate.specs.Now.{IsOpenTo, IsFixedNow, AreOpen}
+use Rattle.cps_rule.specs.Rules.{AreFacts, IsFittingRule, IsImpossible, IsAtRest}
+use Rattle.cps_p_cumulative.specs.declared.tank.Tank.{Tank}
+use Rattle.cps_p_cumulative.specs.declared.tank.Move.{Move}
+use Rattle.cps_p_cumulative.specs.declared.tank.Side.{Side}
+use Rattle.cps_p_cumulative.specs.declared.tank.Side.TheVariants.{Over, Under}
+use Rattle.cps_p_cumulative.specs.Levels.{toward, is_active, has_acted, share_of, total, moves_of, tank_body, limit, active_subjects, move_subjects, IsMoveOf, IsTankOf, IsShare, IsLevel, IsSure, IsSureFixed, IsLeastToward, IsKeptAt, AreKeptTo, IsTowardBound, IsRest, IsAdded, AreAdded, IsAmong, AreMovesOpen, AreMovesFixed}
+use Rattle.cps_p_cumulative.specs.Relying.{Relies}
+use Rattle.cps_p_cumulative.proofs.Moves.{moves_all, total-last, HasBegun, passed, never_passed}
+use Rattle.cps_p_cumulative.proofs.Relied.{Relies-none, Relies-then, Relies-so}
+
+-- the subjects of an event
+pub on_time : (P : ℕ → Type 0) (m : Move) → All P (move_subjects m) → P m.time
+on_time P m h = All-head P m.time (m.change ∷ active_subjects m.active) h
+
+pub on_change : (P : ℕ → Type 0) (m : Move) → All P (move_subjects m) → P m.change
+on_change P m h = All-head P m.change (active_subjects m.active) (All-tail P m.time (m.change ∷ active_subjects m.active) h)
+
+pub on_atom : (P : ℕ → Type 0) (m : Move) (u : Atom) → m.active ≡ Some u → All P (move_subjects m) → P u.subject
+on_atom P m u e h = All-head P u.subject [] (subst (λ (o : Option Atom). All P (active_subjects o)) e (All-tail P m.change (active_subjects m.active) (All-tail P m.time (m.change ∷ active_subjects m.active) h)))
+
+-- whether an event takes place, wherever its subjects may be, and where they are fixed
+pub record IsActiveSure (s : Trail) (m : Move) (v : Bool) : Type 0 where
+  pub sure : (xs : List ℤ) → AreOpen s xs (move_subjects m) → is_active xs m.active ≡ v
+
+pub record IsActiveFixed (s : Trail) (m : Move) (v : Bool) : Type 0 where
+  pub sure : (xs : List ℤ) → AreOpen s xs (move_subjects m) → All (IsFixedNow s) (move_subjects m) → is_active xs m.active ≡ v
+
+pub active_none : (s : Trail) (m : Move) → m.active ≡ None → IsActiveSure s m true
+active_none s m e = record { sure = λ xs o. ap (is_active xs) e }
+
+pub active_true : (s : Trail) (m : Move) (u : Atom) → m.active ≡ Some u → IsTrueNow s u → IsActiveSure s m true
+active_true s m u e h = record { sure = λ xs o. ap (is_active xs) e ∙ h (value_at xs u.subject) (on_atom (λ i. IsOpenTo s i (value_at xs i)) m u e o) }
+
+pub active_false : (s : Trail) (m : Move) (u : Atom) → m.active ≡ Some u → IsFalseNow s u → IsActiveSure s m false
+active_false s m u e h = record { sure = λ xs o. ap (is_active xs) e ∙ h (value_at xs u.subject) (on_atom (λ i. IsOpenTo s i (value_at xs i)) m u e o) }
+
+pub active_fixed : (s : Trail) (m : Move) (v : Bool) → IsActiveSure s m v → IsActiveFixed s m v
+active_fixed s m v h = record { sure = λ xs o f. h.sure xs o }
+
+either : (b : Bool) → (b ≡ true → ⊥) → b ≡ false
+either true f = absurd (f refl)
+either false f = refl
+
+either_true : (b : Bool) → (b ≡ false → ⊥) → b ≡ true
+either_true true f = refl
+either_true false f = absurd (f refl)
+
+pub active_not_true : (s : Trail) (m : Move) (u : Atom) → m.active ≡ Some u → (IsTrueNow s u → ⊥) → IsActiveFixed s m false
+active_not_true s m u e h = record {
+  sure = λ xs o f. ap (is_active xs) e ∙ either (atom_holds xs u) (λ holds. h (λ x may.
+      ap (meets u.op u.value) (on_atom (IsFixedNow s) m u e f x (value_at xs u.subject) may (on_atom (λ i. IsOpenTo s i (value_at xs i)) m u e o)) ∙ holds));
+}
+
+pub active_not_false : (s : Trail) (m : Move) (u : Atom) → m.active ≡ Some u → (IsFalseNow s u → ⊥) → IsActiveFixed s m true
+active_not_false s m u e h = record {
+  sure = λ xs o f. ap (is_active xs) e ∙ either_true (atom_holds xs u) (λ holds. h (λ x may.
+      ap (meets u.op u.value) (on_atom (IsFixedNow s) m u e f x (value_at xs u.subject) may (on_atom (λ i. IsOpenTo s i (value_at xs i)) m u e o)) ∙ holds));
+}
+
+and_false : (a b : Bool) → b ≡ false → (a && b) ≡ false
+and_false true b e = e
+and_false false b e = refl
+
+no_and : (a b : Bool) → a ≡ false → (a && b) ≡ false
+no_and a b e = ap (λ c. c && b) e
+
+-- that it has taken place by a time, or has not
+pub sure_acted : (s : Trail) (t late : ℤ) (m : Move) → late ≤ℤ t → ((x : ℤ) → IsOpenTo s m.time x → x ≤ℤ late) → IsActiveSure s m true → IsSure s t m true
+sure_acted s t late m l up h = record {
+  sure = λ xs o. (let a = up (value_at xs m.time) (on_time (λ i. IsOpenTo s i (value_at xs i)) m o) in
+      both (is_active xs m.active) (int_le (value_at xs m.time) t) (h.sure xs o) (le_true (value_at xs m.time) t (omega (arith, ints))));
+}
+
+pub sure_later : (s : Trail) (t early : ℤ) (m : Move) → t <ℤ early → ((x : ℤ) → IsOpenTo s m.time x → early ≤ℤ x) → IsSure s t m false
+sure_later s t early m l down = record {
+  sure = λ xs o. (let a = down (value_at xs m.time) (on_time (λ i. IsOpenTo s i (value_at xs i)) m o) in
+      and_false (is_active xs m.active) (int_le (value_at xs m.time) t) (le_false (value_at xs m.time) t (omega (arith, ints))));
+}
+
+pub sure_absent : (s : Trail) (t : ℤ) (m : Move) → IsActiveSure s m false → IsSure s t m false
+sure_absent s t m h = record { sure = λ xs o. no_and (is_active xs m.active) (int_le (value_at xs m.time) t) (h.sure xs o) }
+
+pub fixed_later : (s : Trail) (t late : ℤ) (m : Move) → t <ℤ late → IsOpenTo s m.time late → IsSureFixed s t m false
+fixed_later s t late m l reached = record {
+  sure = λ xs o f. (let e = on_time (IsFixedNow s) m f late (value_at xs m.time) reached (on_time (λ i. IsOpenTo s i (value_at xs i)) m o) in
+      and_false (is_active xs m.active) (int_le (value_at xs m.time) t) (le_false (value_at xs m.time) t (omega (arith, ints))));
+}
+
+pub fixed_absent : (s : Trail) (t : ℤ) (m : Move) → IsActiveFixed s m false → IsSureFixed s t m false
+fixed_absent s t m h = record { sure = λ xs o f. no_and (is_active xs m.active) (int_le (value_at xs m.time) t) (h.sure xs o f) }
+
+pub fixed_acted : (s : Trail) (t early : ℤ) (m : Move) → early ≤ℤ t → IsOpenTo s m.time early → IsActiveFixed s m true → IsSureFixed s t m true
+fixed_acted s t early m l reached h = record {
+  sure = λ xs o f. (let e = on_time (IsFixedNow s) m f early (value_at xs m.time) reached (on_time (λ i. IsOpenTo s i (value_at xs i)) m o) in
+      both (is_active xs m.active) (int_le (value_at xs m.time) t) (h.sure xs o f) (le_true (value_at xs m.time) t (omega (arith, ints))));
+}
+
+-- what an event adds
+share_acted : (side : Side) (xs : List ℤ) (t : ℤ) (m : Move) → has_acted xs t m ≡ true → share_of side xs t m ≡ toward side (value_at xs m.change)
+share_acted side xs t m e = ap (λ b. cond b (toward side (value_at xs m.change)) (pos 0)) e
+
+share_rests : (side : Side) (xs : List ℤ) (t : ℤ) (m : Move) → has_acted xs t m ≡ false → share_of side xs t m ≡ pos 0
+share_rests side xs t m e = ap (λ b. cond b (toward side (value_at xs m.change)) (pos 0)) e
+
+at_least_share : (side : Side) (xs : List ℤ) (t v : ℤ) (m : Move) → v ≤ℤ toward side (value_at xs m.change) → v ≤ℤ pos 0 → v ≤ℤ share_of side xs t m
+at_least_share side xs t v m a b = by (has_acted xs t m)
+  where
+    by : (c : Bool) → v ≤ℤ cond c (toward side (value_at xs m.change)) (pos 0)
+    by true = a
+    by false = b
+
+pub share_none : (s : Trail) (t : ℤ) (side : Side) (m : Move) → IsSure s t m false → IsShare s t side m (pos 0)
+share_none s t side m h = record {
+  sound = λ xs o. (let e = share_rests side xs t m (h.sure xs o) in omega (arith, ints));
+  exact = λ xs o f. (let e = share_rests side xs t m (h.sure xs o) in omega (arith, ints));
+  near = omega arith;
+}
+
+pub share_sure : (s : Trail) (t : ℤ) (side : Side) (m : Move) (v : ℤ) → IsSure s t m true → IsLeastToward s side m.change v → IsShare s t side m v
+share_sure s t side m v h l = record {
+  sound = λ xs o. (let e = share_acted side xs t m (h.sure xs o) in let a = l.least (value_at xs m.change) (on_change (λ i. IsOpenTo s i (value_at xs i)) m o) in omega (arith, ints));
+  exact = λ xs o f. (let e = share_acted side xs t m (h.sure xs o) in let a = l.reached (value_at xs m.change) (on_change (λ i. IsOpenTo s i (value_at xs i)) m o) (on_change (IsFixedNow s) m f) in omega (arith, ints));
+  near = l.near;
+}
+
+differ : true ≡ false → ⊥
+differ e = cc
+
+pub share_open : (s : Trail) (t : ℤ) (side : Side) (m : Move) (v : ℤ) → IsSureFixed s t m true → IsSureFixed s t m false → IsLeastToward s side m.change v → v ≤ℤ pos 0 → IsShare s t side m v
+share_open s t side m v yes' no' l low = record {
+  sound = λ xs o. at_least_share side xs t v m (l.least (value_at xs m.change) (on_change (λ i. IsOpenTo s i (value_at xs i)) m o)) low;
+  exact = λ xs o f. absurd (differ (sym (yes'.sure xs o f) ∙ no'.sure xs o f));
+  near = l.near;
+}
+
+pub share_open_none : (s : Trail) (t : ℤ) (side : Side) (m : Move) (v : ℤ) → IsSureFixed s t m true → IsSureFixed s t m false → IsLeastToward s side m.change v → pos 0 ≤ℤ v → IsShare s t side m (pos 0)
+share_open_none s t side m v yes' no' l low = record {
+  sound = λ xs o. at_least_share side xs t (pos 0) m (let a = l.least (value_at xs m.change) (on_change (λ i. IsOpenTo s i (value_at xs i)) m o) in omega (arith, ints)) (omega (arith, ints));
+  exact = λ xs o f. absurd (differ (sym (yes'.sure xs o f) ∙ no'.sure xs o f));
+  near = omega arith;
+}
+
+-- what events add
+pub level_none : (s : Trail) (t : ℤ) (side : Side) → IsLevel s t side [] (pos 0)
+level_none s t side = record { sound = λ xs o. omega (arith, ints); exact = λ xs o f. omega (arith, ints) }
+
+level_last : (s : Trail) (t : ℤ) (side : Side) (ms : List Move) (m : Move) (v w x : ℤ) → IsLevel s t side ms v → IsShare s t side m w → x ≡ v +ℤ w → IsLevel s t side (ms ++ m ∷ []) x
+level_last s t side ms m v w x h i e = record {
+  sound = λ xs o.
+      let a = h.sound xs (All-append_left (λ n. AreOpen s xs (move_subjects n)) ms (m ∷ []) o) in
+      let b = i.sound xs (All-head (λ n. AreOpen s xs (move_subjects n)) m [] (All-append_right (λ n. AreOpen s xs (move_subjects n)) ms (m ∷ []) o)) in
+      let c = total-last side xs t ms m in
+      omega (arith, ints);
+  exact = λ xs o f.
+      let a = h.exact xs (All-append_left (λ n. AreOpen s xs (move_subjects n)) ms (m ∷ []) o) (All-append_left (λ n. All (IsFixedNow s) (move_subjects n)) ms (m ∷ []) f) in
+      let b = i.exact xs (All-head (λ n. AreOpen s xs (move_subjects n)) m [] (All-append_right (λ n. AreOpen s xs (move_subjects n)) ms (m ∷ []) o)) (All-head (λ n. All (IsFixedNow s) (move_subjects n)) m [] (All-append_right (λ n. All (IsFixedNow s) (move_subjects n)) ms (m ∷ []) f)) in
+      let c = total-last side xs t ms m in
+      omega (arith, ints);
+}
+
+pub near_step : (k : ℕ) (v w x : ℤ) → x ≡ v +ℤ w → unsigned_abs v ≤ k * 2 ^ 63 → unsigned_abs w ≤ 2 ^ 63 → unsigned_abs x ≤ (k + 1) * 2 ^ 63
+near_step k v w x step near small =
+    let sums = unsigned_abs-add v w in
+    let same = ap unsigned_abs step in
+    omega arith
+
+pub level_more : (s : Trail) (t : ℤ) (side : Side) (ms : List Move) (k : ℕ) (m : Move) (v w x : ℤ) → k < length ms → m ≡ get_or ms k m → IsLevel s t side (take k ms) v → IsShare s t side m w → x ≡ v +ℤ w → IsLevel s t side (take (k + 1) ms) x
+level_more s t side ms k m v w x l is h i e =
+    subst (λ (ns : List Move). IsLevel s t side ns x) (sym (take_more ms k m l))
+    (level_last s t side (take k ms) (get_or ms k m) v w x h (subst (λ (n : Move). IsShare s t side n w) is i) e)
+
+pub level_step : (s : Trail) (t u : ℤ) (side : Side) (ms : List Move) (k : ℕ) (m : Move) (v w x : ℤ) → k < length ms → m ≡ get_or ms k m → IsLevel s t side (take k ms) v → IsShare s u side m w → u ≡ t → x ≡ v +ℤ w → IsLevel s t side (take (k + 1) ms) x
+level_step s t u side ms k m v w x l is h i same e = level_more s t side ms k m v w x l is h (subst (λ (y : ℤ). IsShare s y side m w) same i) e
+
+pub level_all : (s : Trail) (t : ℤ) (side : Side) (ms : List Move) (k : ℕ) (v : ℤ) → length ms ≤ k → IsLevel s t side (take k ms) v → IsLevel s t side ms v
+level_all s t side ms k v l h = subst (λ (ns : List Move). IsLevel s t side ns v) (take_all k ms l) h
+
+-- the tank's events over the subjects of a store
+pub tank_inside : (first : Domains) (k : Tank) → IsFittingRule first (tank_body k) → IsTankOf first k
+tank_inside first k h = moves_all (λ i. i < length first) k h.subjects
+
+pub move_inside : (first : Domains) (k : Tank) (j : ℕ) (m : Move) → IsTankOf first k → j < length (moves_of k) → m ≡ get_or (moves_of k) j m → IsMoveOf first m
+move_inside first k j m h l is = subst (λ (n : Move). IsMoveOf first n) (sym is) (h j m l)
+
+moves_open : (s : Trail) (k : Tank) (xs : List ℤ) → IsTankOf s.first k → IsAdmitted s.first s.entries xs → AreMovesOpen s xs (moves_of k)
+moves_open s k xs inside admitted = λ j d l i e m. admitted (get_or (move_subjects (get_or (moves_of k) j d)) i e) (inside j d l i e m)
+
+-- a level that passes a limit
+pub over_limit : (s : Trail) (k : Tank) (side : Side) (t v lim : ℤ) (m : Move) → IsTankOf s.first k → IsAmong (moves_of k) m → lim ≡ limit k side → lim <ℤ v → IsLevel s t side (moves_of k) v → (pos 0 ≤ℤ lim) ⊎ IsSure s t m true → IsImpossible (tank_body k) s
+over_limit s k side t v lim m inside among same over level asked = record {
+  at = λ xs admitted holds.
+      let o = moves_open s k xs inside admitted in
+      let a = level.sound xs o in
+      passed k side xs t (omega (arith, ints)) (by xs o asked) holds;
+}
+  where
+    by : (xs : List ℤ) → AreMovesOpen s xs (moves_of k) → (pos 0 ≤ℤ lim) ⊎ IsSure s t m true → (pos 0 ≤ℤ limit k side) ⊎ HasBegun xs t (moves_of k)
+    by xs o (inl room) = inl (omega (arith, ints))
+    by xs o (inr sure) =
+        let here : AreOpen s xs (move_subjects m) = subst (λ (n : Move). AreOpen s xs (move_subjects n)) (sym among.is) (o among.place m among.within) in
+        inr (record { place = among.place; event = m; within = among.within; acted = subst (λ (n : Move). has_acted xs t n ≡ true) among.is (sure.sure xs here) })
+
+among_open : (P : ℕ → Type 0) (ms : List Move) (m : Move) → IsAmong ms m → All (λ n. All P (move_subjects n)) ms → All P (move_subjects m)
+among_open P ms m among h = subst (λ (n : Move). All P (move_subjects n)) (sym among.is) (h among.place m among.within)
+
+-- and one that does not
+pub kept_below : (s : Trail) (k : Tank) (side : Side) (t v lim : ℤ) (m : Move) → IsAmong (moves_of k) m → lim ≡ limit k side → v ≤ℤ lim → IsLevel s t side (moves_of k) v → IsOpenTo s m.time t → IsKeptAt s k side m
+kept_below s k side t v lim m among same under level reached = record {
+  kept = λ xs o f active.
+      let e = on_time (IsFixedNow s) m (among_open (IsFixedNow s) (moves_of k) m among f) t (value_at xs m.time) reached (on_time (λ i. IsOpenTo s i (value_at xs i)) m (among_open (λ i. IsOpenTo s i (value_at xs i)) (moves_of k) m among o)) in
+      let a = level.exact xs o f in
+      subst (λ (u : ℤ). total side xs u (moves_of k) ≤ℤ limit k side) e (omega (arith, ints));
+}
+
+pub kept_absent : (s : Trail) (k : Tank) (side : Side) (t : ℤ) (m : Move) → IsAmong (moves_of k) m → ((x : ℤ) → IsOpenTo s m.time x → x ≤ℤ t) → IsSureFixed s t m false → IsKeptAt s k side m
+kept_absent s k side t m among up absent = record {
+  kept = λ xs o f active.
+      let here = among_open (λ i. IsOpenTo s i (value_at xs i)) (moves_of k) m among o in
+      let a = absent.sure xs here (among_open (IsFixedNow s) (moves_of k) m among f) in
+      let b = both (is_active xs m.active) (int_le (value_at xs m.time) t) active (le_true (value_at xs m.time) t (up (value_at xs m.time) (on_time (λ i. IsOpenTo s i (value_at xs i)) m here))) in
+      absurd (differ (sym b ∙ a));
+}
+
+pub kept_none : (s : Trail) (k : Tank) → AreKeptTo s k 0
+kept_none s k = record { over = All-nil (IsKeptAt s k Over); under = All-nil (IsKeptAt s k Under) }
+
+pub kept_more : (s : Trail) (k : Tank) (n : ℕ) (m : Move) → n < length (moves_of k) → m ≡ get_or (moves_of k) n m → AreKeptTo s k n → IsKeptAt s k Over m → IsKeptAt s k Under m → AreKeptTo s k (n + 1)
+kept_more s k n m l is h over under = record {
+  over = All-more (IsKeptAt s k Over) (moves_of k) n m l h.over (subst (λ (e : Move). IsKeptAt s k Over e) is over);
+  under = All-more (IsKeptAt s k Under) (moves_of k) n m l h.under (subst (λ (e : Move). IsKeptAt s k Under e) is under);
+}
+
+pub at_rest_of : (s : Trail) (k : Tank) (n : ℕ) → length (moves_of k) ≤ n → AreKeptTo s k n → IsAtRest (tank_body k) s
+at_rest_of s k n l h = record {
+  decided = λ is-fixed xs are-open.
+      let f = moves_all (IsFixedNow s) k is-fixed in
+      let o = moves_all (λ i. IsOpenTo s i (value_at xs i)) k are-open in
+      never_passed k xs (λ side j d m active. (all side j d m).kept xs o f active);
+  strong = tt;
+}
+  where
+    all : (side : Side) → All (IsKeptAt s k side) (moves_of k)
+    all Over = subst (λ (ms : List Move). All (IsKeptAt s k Over) ms) (take_all n (moves_of k) l) h.over
+    all Under = subst (λ (ms : List Move). All (IsKeptAt s k Under) ms) (take_all n (moves_of k) l) h.under
+
+-- an atom about a change
+pub toward-over : (side : Side) (i : ℕ) (v w : ℤ) (u : Atom) → side ≡ Over → u ≡ record { subject = i; op = Ge; value = w } → w ≡ v → IsTowardBound side i v u
+toward-over side i v w u is-side is e = subst (λ (d : Side). IsTowardBound d i v u) (sym is-side) (record {
+  subject = ap (λ (a : Atom). a.subject) is;
+  gives = λ xs holds. (let a = true_le w (value_at xs i) (subst (λ (b : Atom). atom_holds xs b ≡ true) is holds) in omega (arith, ints));
+})
+
+pub toward-under : (side : Side) (i : ℕ) (v w : ℤ) (u : Atom) → side ≡ Under → u ≡ record { subject = i; op = Le; value = w } → w ≡ neg_ℤ v → IsTowardBound side i v u
+toward-under side i v w u is-side is e = subst (λ (d : Side). IsTowardBound d i v u) (sym is-side) (record {
+  subject = ap (λ (a : Atom). a.subject) is;
+  gives = λ xs holds. (let a = true_le (value_at xs i) w (subst (λ (b : Atom). atom_holds xs b ≡ true) is holds) in omega (arith, ints));
+})
+
+-- an atom by which an event has not taken place
+pub rest-absent : (first : Domains) (t : ℤ) (m : Move) (u n : Atom) → IsMoveOf first m → m.active ≡ Some u → n.subject ≡ u.subject → ((x : ℤ) → meets n.op n.value x ≡ not (meets u.op u.value x)) → IsRest first t m n
+rest-absent first t m u n inside e same denies = record {
+  subject = subst (λ (i : ℕ). i < length first) (sym same) (on_atom (λ i. i < length first) m u e inside);
+  gives = λ xs holds.
+      let a : not (atom_holds xs u) ≡ true = sym (ap (λ (i : ℕ). meets n.op n.value (value_at xs i)) same ∙ denies (value_at xs u.subject)) ∙ holds in
+      no_and (is_active xs m.active) (int_le (value_at xs m.time) t) (ap (is_active xs) e ∙ unnot (atom_holds xs u) a);
+}
+  where
+    unnot : (b : Bool) → not b ≡ true → b ≡ false
+    unnot true h = cc
+    unnot false h = refl
+
+pub rest-later : (first : Domains) (t v : ℤ) (m : Move) (u : Atom) → IsMoveOf first m → u ≡ record { subject = m.time; op = Ge; value = v } → v ≡ t +ℤ pos 1 → IsRest first t m u
+rest-later first t v m u inside is e = record {
+  subject = subst (λ (a : Atom). a.subject < length first) (sym is) (on_time (λ i. i < length first) m inside);
+  gives = λ xs holds. (let a = true_le v (value_at xs m.time) (subst (λ (b : Atom). atom_holds xs b ≡ true) is holds) in
+      and_false (is_active xs m.active) (int_le (value_at xs m.time) t) (le_false (value_at xs m.time) t (omega (arith, ints))));
+}
+
+-- that an event has taken place
+pub acted-relied : (s : Trail) (a : Atom) (t : ℤ) (m : Move) (u : Atom) (old mid new : List Atom) → u ≡ record { subject = m.time; op = Le; value = t } → Relies s a (λ xs. is_active xs m.active ≡ true) old mid → Relies s a (λ xs. atom_holds xs u ≡ true) mid new
+    → Relies s a (λ xs. has_acted xs t m ≡ true) old new
+acted-relied s a t m u old mid new is h i = Relies-then s a (λ xs. is_active xs m.active ≡ true) (λ xs. atom_holds xs u ≡ true) (λ xs. has_acted xs t m ≡ true) old mid new h i
+    (λ xs w b c. both (is_active xs m.active) (int_le (value_at xs m.time) t) b (subst (λ (v : Atom). atom_holds xs v ≡ true) is c))
+
+-- what one event adds
+pub added-rest : (s : Trail) (a : Atom) (side : Side) (t v : ℤ) (m : Move) (u : Atom) (old new : List Atom) → pos 0 ≡ v → IsRest s.first t m u → Relies s a (λ xs. atom_holds xs u ≡ true) old new → Relies s a (IsAdded side t m v) old new
+added-rest s a side t v m u old new e rest h = Relies-so s a (λ xs. atom_holds xs u ≡ true) (IsAdded side t m v) old new h
+    (λ xs w b. record { added = (let f = share_rests side xs t m (rest.gives xs b) in omega (arith, ints)) })
+
+pub added-least : (s : Trail) (a : Atom) (side : Side) (t v had : ℤ) (m : Move) (u : Atom) (old new : List Atom) → had ≡ v → had ≤ℤ pos 0 → IsTowardBound side m.change had u → Relies s a (λ xs. atom_holds xs u ≡ true) old new
+    → Relies s a (IsAdded side t m v) old new
+added-least s a side t v had m u old new e low bound h = Relies-so s a (λ xs. atom_holds xs u ≡ true) (IsAdded side t m v) old new h
+    (λ xs w b. record { added = subst (λ (x : ℤ). x ≤ℤ share_of side xs t m) e (at_least_share side xs t had m (bound.gives xs b) low) })
+
+pub added-acted : (s : Trail) (a : Atom) (side : Side) (t v had : ℤ) (m : Move) (u : Atom) (old mid new : List Atom) → had ≡ v → IsTowardBound side m.change had u → Relies s a (λ xs. atom_holds xs u ≡ true) old mid → Relies s a (λ xs. has_acted xs t m ≡ true) mid new
+    → Relies s a (IsAdded side t m v) old new
+added-acted s a side t v had m u old mid new e bound h i = Relies-then s a (λ xs. atom_holds xs u ≡ true) (λ xs. has_acted xs t m ≡ true) (IsAdded side t m v) old mid new h i
+    (λ xs w b c. record { added = (let f = share_acted side xs t m c in let l = bound.gives xs b in omega (arith, ints)) })
+
+-- the number of an answer
+pub some_number : (x v : ℤ) → ◌≡◌ {A = Result (Option ℤ) AllocError} (Ok (Some x)) (Ok (Some v)) → x ≡ v
+some_number x v e = cc
+
+-- what events add
+pub added-none : (s : Trail) (a : Atom) (side : Side) (t : ℤ) (us : List Atom) → AreFacts s us → Relies s a (AreAdded side t [] (pos 0)) us us
+added-none s a side t us f = Relies-none s a (AreAdded side t [] (pos 0)) us f (λ xs w b. record { added = omega (arith, ints) })
+
+pub added-more : (s : Trail) (a : Atom) (side : Side) (t : ℤ) (ms : List Move) (k : ℕ) (m : Move) (v w x : ℤ) (old mid new : List Atom) → k < length ms → m ≡ get_or ms k m
+    → Relies s a (AreAdded side t (take k ms) v) old mid → Relies s a (IsAdded side t m w) mid new → x ≡ v +ℤ w → Relies s a (AreAdded side t (take (k + 1) ms) x) old new
+added-more s a side t ms k m v w x old mid new l is h i e = Relies-then s a (AreAdded side t (take k ms) v) (IsAdded side t m w) (AreAdded side t (take (k + 1) ms) x) old mid new h i
+    (λ xs u b c. record {
+      added =
+          let f : total side xs t (take (k + 1) ms) ≡ total side xs t (take k ms) +ℤ share_of side xs t m =
+          ap (total side xs t) (take_more ms k m l) ∙ total-last side xs t (take k ms) (get_or ms k m) ∙ ap (λ (n : Move). total side xs t (take k ms) +ℤ share_of side xs t n) (sym is) in
+          let p = b.added in
+          let q = c.added in
+          omega (arith, ints);
+    })
+
+pub added-all : (s : Trail) (a : Atom) (side : Side) (t : ℤ) (ms : List Move) (k : ℕ) (x v : ℤ) (old new : List Atom) → length ms ≤ k → Relies s a (AreAdded side t (take k ms) x) old new → x ≡ v → Relies s a (AreAdded side t ms v) old new
+added-all s a side t ms k x v old new l h e = subst (λ (y : ℤ). Relies s a (AreAdded side t ms y) old new) e (subst (λ (ns : List Move). Relies s a (AreAdded side t ns x) old new) (take_all k ms l) h)
+
+-- what passes a limit
+pub passed-room : (s : Trail) (a : Atom) (k : Tank) (side : Side) (t v lim : ℤ) (old new : List Atom) → lim ≡ limit k side → lim <ℤ v → pos 0 ≤ℤ lim → Relies s a (AreAdded side t (moves_of k) v) old new
+    → Relies s a (λ xs. HoldsBody (tank_body k) xs → ⊥) old new
+passed-room s a k side t v lim old new same over room h = Relies-so s a (AreAdded side t (moves_of k) v) (λ xs. HoldsBody (tank_body k) xs → ⊥) old new h
+    (λ xs w b. (let p = b.added in passed k side xs t (omega (arith, ints)) (inl (omega (arith, ints)))))
+
+pub passed-begun : (s : Trail) (a : Atom) (k : Tank) (side : Side) (t v lim : ℤ) (j : ℕ) (m : Move) (old mid new : List Atom) → lim ≡ limit k side → lim <ℤ v → j < length (moves_of k) → m ≡ get_or (moves_of k) j m
+    → Relies s a (AreAdded side t (moves_of k) v) old mid → Relies s a (λ xs. has_acted xs t m ≡ true) mid new → Relies s a (λ xs. HoldsBody (tank_body k) xs → ⊥) old new
+passed-begun s a k side t v lim j m old mid new same over l is h i = Relies-then s a (AreAdded side t (moves_of k) v) (λ xs. has_acted xs t m ≡ true) (λ xs. HoldsBody (tank_body k) xs → ⊥) old mid new h i
+    (λ xs w b c. (let p = b.added in passed k side xs t (omega (arith, ints)) (inr (record { place = j; event = m; within = l; acted = subst (λ (n : Move). has_acted xs t n ≡ true) is c }))))
+
+pub active_inside : (first : Domains) (m : Move) → IsMoveOf first m → IfSome m.active (λ u. u.subject < length first)
+active_inside first m h = by m.active (All-tail (λ i. i < length first) m.change (active_subjects m.active) (All-tail (λ i. i < length first) m.time (m.change ∷ active_subjects m.active) h))
+  where
+    by : (o : Option Atom) → All (λ i. i < length first) (active_subjects o) → IfSome o (λ u. u.subject < length first)
+    by None all = tt
+    by (Some u) all = All-head (λ i. i < length first) u.subject [] all
+
+-- that an event takes place
+pub active-relied : (s : Trail) (a u : Atom) (o : Option Atom) (old new : List Atom) → o ≡ Some u → Relies s a (λ xs. atom_holds xs u ≡ true) old new → Relies s a (λ xs. is_active xs o ≡ true) old new
+active-relied s a u o old new e h = subst (λ (p : Option Atom). Relies s a (λ xs. is_active xs p ≡ true) old new) (sym e) h
+
+pub active-free : (s : Trail) (a : Atom) (o : Option Atom) (us : List Atom) → o ≡ None → AreFacts s us → Relies s a (λ xs. is_active xs o ≡ true) us us
+active-free s a o us e f = subst (λ (p : Option Atom). Relies s a (λ xs. is_active xs p ≡ true) us us) (sym e) (Relies-none s a (λ xs. is_active xs None ≡ true) us f (λ xs w b. refl))
+
+pub ok_true : (r : Result Bool AllocError) (b : Bool) → r ≡ Ok b → b ≡ true → r ≡ Ok true
+ok_true r b e f = e ∙ ap (λ v. Ok v) f

@@ -1,0 +1,21 @@
+use Rattle.std.proofs.Common.{◌≡◌, ◌<◌, length, rules, arith, FitsSigned}
+use Rattle.std.specs.Prelude.{Ok, Some}
+use Rattle.std.specs.Int.{w128}
+use Rattle.std.proofs.lemmas.Int.{ints, to_z-of_z}
+use Rattle.cps_p_cumulative.specs.Levels.{moves_of}
+use Rattle.cps_p_cumulative.proofs.Levelled.{added-more, added-all, some_number}
+use Rattle.cps_p_cumulative.proofs.passing.charge_moves.Goals as goal
+
+pub loop-k-preserved : goal.loop-k-preserved
+loop-k-preserved c =
+    let l : c.loop-k.k < length (moves_of c.args.tank.now) = (let a = c.count-k-end.ensures in let b = c.loop-k-test.true in omega arith) in
+    let added = c.in-Some.added in
+    let ok : c.charge_move.result ≡ Ok (Some added) = cc in
+    added-more c.args.past.now c.args.case.assumed c.args.side c.args.case.time (moves_of c.args.tank.now) c.loop-k.k c.move_at.result _ added _ c.args.facts.now.items c.loop-k.facts.items c.charge_move.new.facts.items
+    l c.move_at.ensures c.loop-k.invariant (c.charge_move.ensures added ok) (let h = c.in-Some-plus_within.ensures in let q = c.loop-k.sum-is in search (rules, ints))
+
+pub returns : goal.returns
+returns c = λ v ok.
+    let e = some_number _ v ok in
+    added-all c.args.past.now c.args.case.assumed c.args.side c.args.case.time (moves_of c.args.tank.now) c.loop-k.k _ v c.args.facts.now.items c.loop-k.facts.items
+    (let a = c.count-k-end.ensures in let b = c.loop-k-test.false in omega arith) c.loop-k.invariant (let q = c.loop-k.sum-is in search (rules, ints))

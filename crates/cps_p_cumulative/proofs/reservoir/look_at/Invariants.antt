@@ -1,0 +1,7 @@
+use Rattle.std.specs.List.{All}
+use Rattle.cps_rule.specs.Rules.{IsGiven}
+use Rattle.cps_p_cumulative.specs.Levels.{tank_body}
+use Rattle.cps_p_cumulative.proofs.reservoir.look_at.Given as goal
+
+abbrev pub invariant-loop-k : goal.invariant-loop-k
+invariant-loop-k l = All (λ n. IsGiven (tank_body l.tank) l.past n.target) l.found.items

@@ -1,0 +1,148 @@
+-- What events do to a level at a time and a list of values.
+use Rattle.std.specs.Prelude.{◌≡◌, ℕ, ◌<◌, ◌≤◌, ◌^◌, ℤ, pos, neg_ℤ, ◌+ℤ◌, ◌≤ℤ◌, unsigned_abs, int_le, Bool, true, false, ◌&&◌, if◌then◌else◌, Option, Some, None, List, [], ◌∷◌, length, slice_index_or, take, All}
+use Rattle.cps_literal.specs.declared.atom.Atom.{Atom}
+use Rattle.cps_literal.specs.Truth.{value_at, atom_holds}
+use Rattle.cps_instance.specs.declared.task.Body.{Body}
+use Rattle.cps_instance.specs.declared.task.Body.TheVariants.{Reservoir}
+use Rattle.cps_trail.specs.Trail.{Trail, Domains}
+use Rattle.cps_propagate.specs.Now.{IsOpenTo, IsFixedNow, AreOpen}
+use Rattle.cps_p_cumulative.specs.declared.tank.Tank.{Tank}
+use Rattle.cps_p_cumulative.specs.declared.tank.Move.{Move}
+use Rattle.cps_p_cumulative.specs.declared.tank.Side.{Side}
+use Rattle.cps_p_cumulative.specs.declared.tank.Side.TheVariants.{Over, Under}
+
+-- a number as it counts towards a side: towards the greatest level, or towards the least
+abbrev pub toward : Side → ℤ → ℤ
+toward Over x = x
+toward Under x = neg_ℤ x
+
+-- whether an event takes place
+abbrev pub is_active : List ℤ → Option Atom → Bool
+is_active xs None = true
+is_active xs (Some u) = atom_holds xs u
+
+-- whether it has taken place by a time
+abbrev pub has_acted : List ℤ → ℤ → Move → Bool
+has_acted xs t m = is_active xs m.active && int_le (value_at xs m.time) t
+
+-- what it has added by then towards a side
+abbrev pub share_of : Side → List ℤ → ℤ → Move → ℤ
+share_of side xs t m = if has_acted xs t m then toward side (value_at xs m.change) else pos 0
+
+-- and all events
+abbrev pub total : Side → List ℤ → ℤ → List Move → ℤ
+total side xs t [] = pos 0
+total side xs t (m ∷ ms) = share_of side xs t m +ℤ total side xs t ms
+
+-- events without atoms, and with atoms
+abbrev pub free_moves : List ℕ → List ℕ → List Move
+free_moves (t ∷ ts) (c ∷ cs) = record { time = t; change = c; active = None } ∷ free_moves ts cs
+free_moves [] cs = []
+free_moves (t ∷ ts) [] = []
+
+abbrev pub tied_moves : List ℕ → List ℕ → List Atom → List Move
+tied_moves (t ∷ ts) (c ∷ cs) (u ∷ us) = record { time = t; change = c; active = Some u } ∷ tied_moves ts cs us
+tied_moves [] cs us = []
+tied_moves (t ∷ ts) [] us = []
+tied_moves (t ∷ ts) (c ∷ cs) [] = []
+
+abbrev pub all_moves : List ℕ → List ℕ → List Atom → List Move
+all_moves ts cs [] = free_moves ts cs
+all_moves ts cs (u ∷ us) = tied_moves ts cs (u ∷ us)
+
+abbrev pub moves_of : Tank → List Move
+moves_of k = all_moves k.times k.changes k.active
+
+-- what a tank asks
+abbrev pub tank_body : Tank → Body
+tank_body k = Reservoir k.min k.max k.times k.changes k.active
+
+-- how far the level may go to a side
+abbrev pub limit : Tank → Side → ℤ
+limit k Over = k.max
+limit k Under = neg_ℤ k.min
+
+-- the subjects of an event
+abbrev pub active_subjects : Option Atom → List ℕ
+active_subjects None = []
+active_subjects (Some u) = u.subject ∷ []
+
+abbrev pub move_subjects : Move → List ℕ
+move_subjects m = m.time ∷ m.change ∷ active_subjects m.active
+
+-- an event, and the events of a tank, over the subjects of a store
+abbrev pub IsMoveOf : Domains → Move → Type 0
+IsMoveOf first m = All (λ i. i < length first) (move_subjects m)
+
+abbrev pub IsTankOf : Domains → Tank → Type 0
+IsTankOf first k = All (IsMoveOf first) (moves_of k)
+
+-- What an event adds towards a side at values that a store leaves, or more, and no less than it adds where its subjects are fixed.
+pub record IsShare (s : Trail) (t : ℤ) (side : Side) (m : Move) (v : ℤ) : Type 0 where
+  pub sound : (xs : List ℤ) → AreOpen s xs (move_subjects m) → v ≤ℤ share_of side xs t m
+  pub exact : (xs : List ℤ) → AreOpen s xs (move_subjects m) → All (IsFixedNow s) (move_subjects m) → share_of side xs t m ≤ℤ v
+  pub near : unsigned_abs v ≤ 2 ^ 63
+
+-- the values that a list has for the subjects of events are ones that they may have now, and those subjects are fixed
+abbrev pub AreMovesOpen : Trail → List ℤ → List Move → Type 0
+AreMovesOpen s xs ms = All (λ m. AreOpen s xs (move_subjects m)) ms
+
+abbrev pub AreMovesFixed : Trail → List Move → Type 0
+AreMovesFixed s ms = All (λ m. All (IsFixedNow s) (move_subjects m)) ms
+
+-- and all events
+pub record IsLevel (s : Trail) (t : ℤ) (side : Side) (ms : List Move) (v : ℤ) : Type 0 where
+  pub sound : (xs : List ℤ) → AreMovesOpen s xs ms → v ≤ℤ total side xs t ms
+  pub exact : (xs : List ℤ) → AreMovesOpen s xs ms → AreMovesFixed s ms → total side xs t ms ≤ℤ v
+
+-- whether an event has taken place by a time, wherever its subjects may be now
+pub record IsSure (s : Trail) (t : ℤ) (m : Move) (v : Bool) : Type 0 where
+  pub sure : (xs : List ℤ) → AreOpen s xs (move_subjects m) → has_acted xs t m ≡ v
+
+-- and where they are fixed
+pub record IsSureFixed (s : Trail) (t : ℤ) (m : Move) (v : Bool) : Type 0 where
+  pub sure : (xs : List ℤ) → AreOpen s xs (move_subjects m) → All (IsFixedNow s) (move_subjects m) → has_acted xs t m ≡ v
+
+-- the least that an event's change counts towards a side
+pub record IsLeastToward (s : Trail) (side : Side) (i : ℕ) (v : ℤ) : Type 0 where
+  pub least : (x : ℤ) → IsOpenTo s i x → v ≤ℤ toward side x
+  pub reached : (x : ℤ) → IsOpenTo s i x → IsFixedNow s i → toward side x ≤ℤ v
+  pub near : unsigned_abs v ≤ 2 ^ 63
+
+-- where all is fixed and an event takes place, the level at its time does not pass the limit of a side
+pub record IsKeptAt (s : Trail) (k : Tank) (side : Side) (m : Move) : Type 0 where
+  pub kept : (xs : List ℤ) → AreMovesOpen s xs (moves_of k) → AreMovesFixed s (moves_of k) → is_active xs m.active ≡ true → total side xs (value_at xs m.time) (moves_of k) ≤ℤ limit k side
+
+-- and at the time of each of the first events
+pub record AreKeptTo (s : Trail) (k : Tank) (n : ℕ) : Type 0 where
+  pub over : All (IsKeptAt s k Over) (take n (moves_of k))
+  pub under : All (IsKeptAt s k Under) (take n (moves_of k))
+
+-- an atom says that an event's change counts so much towards a side, or more
+pub record IsTowardBound (side : Side) (i : ℕ) (v : ℤ) (u : Atom) : Type 0 where
+  pub subject : u.subject ≡ i
+  pub gives : (xs : List ℤ) → atom_holds xs u ≡ true → v ≤ℤ toward side (value_at xs i)
+
+-- an atom says that an event has not taken place by a time
+pub record IsRest (first : Domains) (t : ℤ) (m : Move) (u : Atom) : Type 0 where
+  pub subject : u.subject < length first
+  pub gives : (xs : List ℤ) → atom_holds xs u ≡ true → has_acted xs t m ≡ false
+
+-- an event adds so much towards a side by a time, or more
+pub record IsAdded (side : Side) (t : ℤ) (m : Move) (v : ℤ) (xs : List ℤ) : Type 0 where
+  pub added : v ≤ℤ share_of side xs t m
+
+-- and events together
+pub record AreAdded (side : Side) (t : ℤ) (ms : List Move) (v : ℤ) (xs : List ℤ) : Type 0 where
+  pub added : v ≤ℤ total side xs t ms
+
+-- an event is one of a list
+pub record IsAmong (ms : List Move) (m : Move) : Type 0 where
+  pub place : ℕ
+  pub within : place < length ms
+  pub is : m ≡ slice_index_or ms place m
+
+-- a body is that of a tank
+abbrev pub IsReservoirBody : Body → Type 0
+IsReservoirBody (Reservoir min max times changes active) = Unit {0}
+IsReservoirBody body = ⊥
