@@ -4,3 +4,6 @@ pub mod Timing
 pub mod Pairing
 pub mod Resting
 pub mod Citing
+pub mod Packing_laws
+pub mod Crowding
+pub mod Claims

@@ -1,4 +1,6 @@
 pub mod Citing
+pub mod Crowds
 pub mod Hulls
 pub mod Intervals
+pub mod Packing
 pub mod Spans

@@ -33,7 +33,11 @@ pub(crate) fn pair_of(hint: Hint, count: usize) -> Option<Pair>
 }
 
 /// Adds each of these atoms, where all were true.
-fn cite_all(past: &Before, atoms: &[Atom], facts: &mut Vec<Atom>) -> Result<bool, AllocError>
+pub(crate) fn cite_all(
+    past: &Before,
+    atoms: &[Atom],
+    facts: &mut Vec<Atom>,
+) -> Result<bool, AllocError>
     requires { All (λ u. u.subject < length past.now.first) atoms.now }
     ensures { result ≡ Ok true → Cites past.now facts.old.items facts.new.items (λ xs. list_all (atom_holds xs) atoms.now ≡ true) }
 {
@@ -183,7 +187,7 @@ pub(crate) fn refute_pair(
 }
 
 /// Whether two atoms are the same.
-fn same_atom(one: Atom, other: Atom) -> bool
+pub(crate) fn same_atom(one: Atom, other: Atom) -> bool
     ensures { IsTrue result → one ≡ other }
 {
     one == other

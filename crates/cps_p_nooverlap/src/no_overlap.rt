@@ -1,14 +1,14 @@
 //! Spans that do not overlap.
 ghost use Rattle.std.specs.Prelude.{◌≡◌, ◌++◌, length, OnOk, IfOk};
-ghost use Rattle.cps_instance.specs.Tasks.{span_subjects, atom_subjects};
+ghost use Rattle.cps_instance.specs.Tasks.{span_subjects};
 
-use crate::explain::{explain_pair, pair_of, refute_pair};
-use crate::pairs::meet_all;
 use crate::seen::{Seen, see};
+use crate::sets::{Desk, explain_both, meet_both, refute_both};
 use cps_enforce::Enforced;
 use cps_instance::{Body, Span, Task};
 use cps_literal::Atom;
 use cps_model::Listed;
+use cps_propagate::push_atom_subjects;
 use cps_rule::{Hint, Look, Narrowing, Rule};
 use cps_trail::{Before, Store};
 use std::alloc::{AllocError, Global};
@@ -19,16 +19,8 @@ pub struct NoOverlap {
     spans: Listed<Span>,
     /// What the store leaves to each span. Its memory is kept for the next look.
     seen: Vec<Seen>,
-}
-
-/// Adds the subjects of atoms at the end of a list.
-fn push_atoms(atoms: &[Atom], subjects: &mut Vec<u32>) -> Result<(), AllocError>
-    ensures { OnOk result (subjects.new.items ≡ subjects.old.items ++ atom_subjects atoms.now) }
-{
-    for atom in atoms {
-        subjects.push(atom.subject)?;
-    }
-    Ok(())
+    alloc: Global,
+    desk: Desk,
 }
 
 /// Adds the subjects of spans at the end of a list.
@@ -38,7 +30,7 @@ fn push_spans(spans: &[Span], subjects: &mut Vec<u32>) -> Result<(), AllocError>
     for span in spans {
         subjects.push(span.start)?;
         subjects.push(span.end)?;
-        push_atoms(span.presence.as_slice(), subjects)?;
+        push_atom_subjects(span.presence.as_slice(), subjects)?;
     }
     Ok(())
 }
@@ -68,6 +60,8 @@ impl NoOverlap {
         Ok(NoOverlap {
             spans: Listed::from_vec(copies),
             seen: Vec::new(alloc),
+            alloc,
+            desk: Desk::new(alloc),
         })
     }
 }
@@ -99,8 +93,10 @@ impl Rule for NoOverlap {
     fn look(&mut self, store: &Store, found: &mut Vec<Narrowing>) -> Result<Look, AllocError> {
         found.clear();
         see(store, self.spans.as_slice(), &mut self.seen)?;
-        match meet_all(store, self.spans.as_slice(), self.seen.as_slice(), found)? {
-            Some(pair) => Ok(Look::Impossible(pair.hint())),
+        let spans = self.spans.as_slice();
+        let seen = self.seen.as_slice();
+        match meet_both(store, spans, seen, &mut self.desk, found)? {
+            Some(hint) => Ok(Look::Impossible(hint)),
             None => Ok(Look::Possible),
         }
     }
@@ -112,18 +108,12 @@ impl Rule for NoOverlap {
         hint: Hint,
         facts: &mut Vec<Atom>,
     ) -> Result<bool, AllocError> {
-        match pair_of(hint, self.spans.len()) {
-            Some(pair) => explain_pair(past, self.spans.as_slice(), pair, target, facts),
-            None => Ok(false),
-        }
+        let wanted = Narrowing { target, hint };
+        explain_both(self.alloc, past, self.spans.as_slice(), wanted, facts)
     }
 
     fn refute(&self, past: &Before, hint: Hint, facts: &mut Vec<Atom>) -> Result<bool, AllocError> {
-        facts.clear();
-        match pair_of(hint, self.spans.len()) {
-            Some(pair) => refute_pair(past, self.spans.as_slice(), pair, facts),
-            None => Ok(false),
-        }
+        refute_both(self.alloc, past, self.spans.as_slice(), hint, facts)
     }
 
     fn push_subjects(&self, subjects: &mut Vec<u32>) -> Result<(), AllocError> {

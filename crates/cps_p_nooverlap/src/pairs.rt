@@ -46,7 +46,11 @@ impl Pair {
 }
 
 /// Adds an atom, where there is one.
-fn propose(target: Option<Atom>, hint: Hint, found: &mut Vec<Narrowing>) -> Result<(), AllocError>
+pub(crate) fn propose(
+    target: Option<Atom>,
+    hint: Hint,
+    found: &mut Vec<Narrowing>,
+) -> Result<(), AllocError>
     ensures { OnOk result (Proposes target found.old.items found.new.items) }
 {
     if let Some(target) = target {

@@ -9,15 +9,15 @@ use Rattle.cps_p_nooverlap.proofs.no_overlap.NoOverlapRule.look.Goals as goal
 pub see-requires : goal.see-requires
 see-requires c = subst (λ (ps : List Span). AreSpans c.args.store.now.first ps) (sym c.as_slice.ensures) (are_spans c.args.store.now.first c.args.self.now.spans c.requires.fits)
 
-pub meet_all-requires-clause-spans : goal.meet_all-requires-clause-spans
-meet_all-requires-clause-spans c = subst (λ (ps : List Span). AreSpans c.args.store.now.first ps) (sym c.as_slice-2.ensures) (are_spans c.args.store.now.first c.args.self.now.spans c.requires.fits)
+pub meet_both-requires-clause-spans : goal.meet_both-requires-clause-spans
+meet_both-requires-clause-spans c = subst (λ (ps : List Span). AreSpans c.args.store.now.first ps) (sym c.as_slice-spans.ensures) (are_spans c.args.store.now.first c.args.self.now.spans c.requires.fits)
 
 pub returns-in-None-clause-rest : goal.returns-in-None-clause-rest
 returns-in-None-clause-rest c e all =
     let s = c.args.store.now in
     let ps = c.args.self.now.spans in
-    let none : c.meet_all.result ≡ Ok None = search rules in
-    let allowed = c.meet_all.ensures.allowed none in
+    let none : c.meet_both.result ≡ Ok None = search rules in
+    let allowed = c.meet_both.ensures.allowed none in
     let seen = subst (λ (qs : List Span). AllZip (IsSeen s) qs c.see.new.seen.items) c.as_slice.ensures c.in_ok-see.ensures in
     at_rest s ps c.see.new.seen.items seen
-    (subst (λ (vs : List Seen). AreAllowed vs (length ps)) c.as_slice-3.ensures.value (subst (λ (qs : List Span). AreAllowed c.as_slice-3.result.now (length qs)) c.as_slice-2.ensures allowed))
+    (subst (λ (vs : List Seen). AreAllowed vs (length ps)) c.as_slice-seen.ensures.value (subst (λ (qs : List Span). AreAllowed c.as_slice-seen.result.now (length qs)) c.as_slice-spans.ensures allowed))

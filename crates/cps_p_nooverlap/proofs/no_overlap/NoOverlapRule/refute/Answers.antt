@@ -4,5 +4,5 @@ use Rattle.cps_p_nooverlap.specs.Spans.{AreSpans}
 use Rattle.cps_p_nooverlap.proofs.Resting.{are_spans}
 use Rattle.cps_p_nooverlap.proofs.no_overlap.NoOverlapRule.refute.Goals as goal
 
-pub refute_pair-requires-clause-spans : goal.refute_pair-requires-clause-spans
-refute_pair-requires-clause-spans c = subst (λ (ps : List Span). AreSpans c.args.past.now.first ps) (sym c.as_slice.ensures) (are_spans c.args.past.now.first c.args.self.now.spans c.requires.fits)
+pub refute_both-requires : goal.refute_both-requires
+refute_both-requires c = subst (λ (ps : List Span). AreSpans c.args.past.now.first ps) (sym c.as_slice.ensures) (are_spans c.args.past.now.first c.args.self.now.spans c.requires.fits)

@@ -1,0 +1,11 @@
+use Rattle.std.proofs.Common.{◌<◌, arith}
+use Rattle.cps_p_nooverlap.specs.Crowds.{IsRun}
+use Rattle.cps_p_nooverlap.proofs.Citing.{cites_none, cites_as}
+use Rattle.cps_p_nooverlap.proofs.windows.cite_counted.Goals as goal
+
+pub returns-then-weight-eq0 : goal.returns-then-weight-eq0
+returns-then-weight-eq0 c e = cites_none c.args.past.now c.args.facts.now.items _ (λ xs l. let zero = c.if-weight-eq0.true in absurd (omega arith))
+
+pub returns : goal.returns
+returns c e =
+    cites_as c.args.past.now c.args.facts.now.items c.cite_run.new.facts.items (λ xs. IsRun xs c.args.span.now c.args.weight c.args.window.from c.args.window.to) (λ xs. 0 < c.args.weight → IsRun xs c.args.span.now c.args.weight c.args.window.from c.args.window.to) (λ xs h l. h) (c.cite_run.ensures e)
