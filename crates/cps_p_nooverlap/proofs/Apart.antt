@@ -12,17 +12,17 @@ use Rattle.cps_instance.specs.declared.task.Span.{Span}
 use Rattle.cps_instance.specs.Parts.{span_end, span_run, span_runs}
 use Rattle.cps_p_nooverlap.specs.Spans.{start_at, end_of, is_present, IsBefore}
 
-abbrev run_at : List ℤ → Span → Run
+abbrev pub run_at : List ℤ → Span → Run
 run_at xs p = record { start = value_at xs p.start; end = span_end xs p.start p.end p.length }
 
 pub end_same : (xs : List ℤ) (a b : ℕ) (far : Option ℤ) → span_end xs a b far ≡ end_of far (value_at xs a) (value_at xs b)
 end_same xs a b (Some f) = refl
 end_same xs a b None = refl
 
-run_some : (xs : List ℤ) (p : Span) → is_present xs p ≡ true → span_run xs p ≡ Some (run_at xs p)
+pub run_some : (xs : List ℤ) (p : Span) → is_present xs p ≡ true → span_run xs p ≡ Some (run_at xs p)
 run_some xs p e = ap (λ b. let o : Option Run = if b then Some (run_at xs p) else None in o) e
 
-run_none : (xs : List ℤ) (p : Span) → is_present xs p ≡ false → span_run xs p ≡ None
+pub run_none : (xs : List ℤ) (p : Span) → is_present xs p ≡ false → span_run xs p ≡ None
 run_none xs p e = ap (λ b. let o : Option Run = if b then Some (run_at xs p) else None in o) e
 
 all_later : (Q : Run → Type 0) (o : Option Run) (rs : List Run) → All Q (cons_option o rs) → All Q rs
@@ -47,7 +47,7 @@ pairs_later : (o : Option Run) (rs : List Run) → AllPairs Apart (cons_option o
 pairs_later None rs h = h
 pairs_later (Some r) rs h = pairs_tail r rs h
 
-before : (xs : List ℤ) (p q : Span) → Apart (run_at xs p) (run_at xs q) → IsBefore xs p q ⊎ IsBefore xs q p
+pub before : (xs : List ℤ) (p q : Span) → Apart (run_at xs p) (run_at xs q) → IsBefore xs p q ⊎ IsBefore xs q p
 before xs p q h =
     let a = span_end xs p.start p.end p.length in
     let b = span_end xs q.start q.end q.length in
@@ -56,15 +56,15 @@ before xs p q h =
       | inr e ↦ inr (subst (λ (z : ℤ). z ≤ℤ start_at xs p) (end_same xs q.start q.end q.length) (true_le b (start_at xs p) e))
     ]
 
-or_left : (a b : Bool) → a ≡ true → (a || b) ≡ true
+pub or_left : (a b : Bool) → a ≡ true → (a || b) ≡ true
 or_left true b e = refl
 or_left false b e = absurd (true≢false (sym e))
 
-or_right : (a b : Bool) → b ≡ true → (a || b) ≡ true
+pub or_right : (a b : Bool) → b ≡ true → (a || b) ≡ true
 or_right true b e = refl
 or_right false b e = e
 
-apart : (xs : List ℤ) (p q : Span) → IsBefore xs p q ⊎ IsBefore xs q p → Apart (run_at xs p) (run_at xs q)
+pub apart : (xs : List ℤ) (p q : Span) → IsBefore xs p q ⊎ IsBefore xs q p → Apart (run_at xs p) (run_at xs q)
 apart xs p q (inl h) =
     let a = span_end xs p.start p.end p.length in
     let b = span_end xs q.start q.end q.length in

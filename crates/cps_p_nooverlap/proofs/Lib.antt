@@ -7,3 +7,6 @@ pub mod Citing
 pub mod Packing_laws
 pub mod Crowding
 pub mod Claims
+pub mod Disjoint
+pub mod Boxing
+pub mod Box_facts

@@ -29,7 +29,7 @@ pub all_hold : (xs : List ℤ) (us : List Atom) → All (λ u. atom_holds xs u �
 all_hold xs [] h = refl
 all_hold xs (u ∷ us) h = both (atom_holds xs u) (list_all (atom_holds xs) us) (All-head (λ v. atom_holds xs v ≡ true) u us h) (all_hold xs us (All-tail (λ v. atom_holds xs v ≡ true) u us h))
 
-less_or : (a b : ℕ) → a ≢ b → (a < b) ⊎ (b < a)
+pub less_or : (a b : ℕ) → a ≢ b → (a < b) ⊎ (b < a)
 less_or zero zero n = absurd (n refl)
 less_or zero (suc b) n = inl (omega arith)
 less_or (suc a) zero n = inr (omega arith)

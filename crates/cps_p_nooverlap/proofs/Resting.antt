@@ -55,13 +55,13 @@ module _ (s : Trail) (ps : List Span) (vs : List Seen) (seen : AllZip (IsSeen s)
     here : IsSeen s (get_or ps k d) (get_or vs k no_seen)
     here = zip_at (IsSeen s) ps vs k d no_seen seen l
 
-    start_fixed : (get_or vs k no_seen).times.start_high ≤ℤ start_at xs (get_or ps k d)
+    pub start_fixed : (get_or vs k no_seen).times.start_high ≤ℤ start_at xs (get_or ps k d)
     start_fixed = here.times.start_fixed (fixed_here 0 0 (omega arith)) (start_at xs (get_or ps k d)) (open_here 0 0 (omega arith))
 
-    end_fixed : end_at xs (get_or ps k d) ≤ℤ (get_or vs k no_seen).times.end_low
+    pub end_fixed : end_at xs (get_or ps k d) ≤ℤ (get_or vs k no_seen).times.end_low
     end_fixed = here.times.end_fixed (fixed_here 0 0 (omega arith)) (fixed_here 1 0 (omega arith)) (start_at xs (get_or ps k d)) (value_at xs (get_or ps k d).end) (open_here 0 0 (omega arith)) (open_here 1 0 (omega arith))
 
-    sure : is_present xs (get_or ps k d) ≡ true → IsTrue (get_or vs k no_seen).presence.sure
+    pub sure : is_present xs (get_or ps k d) ≡ true → IsTrue (get_or vs k no_seen).presence.sure
     sure h = by_test (get_or vs k no_seen).presence.sure refl
       where
         by_test : (b : Bool) → (get_or vs k no_seen).presence.sure ≡ b → (get_or vs k no_seen).presence.sure ≡ true

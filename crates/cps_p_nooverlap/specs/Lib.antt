@@ -1,3 +1,4 @@
+pub mod Boxes
 pub mod Citing
 pub mod Crowds
 pub mod Hulls

@@ -50,7 +50,7 @@ pub(crate) fn cite_all(
 }
 
 /// Adds that a span starts at a time or earlier.
-fn cite_start_up_to(
+pub(crate) fn cite_start_up_to(
     past: &Before,
     span: &Span,
     time: i128,
@@ -66,7 +66,7 @@ fn cite_start_up_to(
 }
 
 /// Adds that a span ends at a time or later.
-fn cite_end_from(
+pub(crate) fn cite_end_from(
     past: &Before,
     span: &Span,
     time: i128,
@@ -92,7 +92,7 @@ fn least_end(past: &Before, span: &Span) -> i128
 }
 
 /// Adds that one span ends after another starts.
-fn cite_late(
+pub(crate) fn cite_late(
     past: &Before,
     late: &Span,
     early: &Span,
@@ -115,7 +115,7 @@ fn cite_late(
 }
 
 /// Adds that two spans are present.
-fn cite_present(
+pub(crate) fn cite_present(
     past: &Before,
     one: &Span,
     other: &Span,
@@ -151,7 +151,7 @@ fn cite_order(
 }
 
 /// Adds why two spans cannot both be present: each ends after the other starts.
-fn cite_clash(
+pub(crate) fn cite_clash(
     past: &Before,
     spans: &[Span],
     pair: Pair,

@@ -19,6 +19,9 @@
 //! varying length and optional spans are not looked at in sets.
 #![tactic(auto)]
 
+mod box_pairs;
+mod box_reasons;
+mod boxes;
 mod crowd;
 mod edges;
 mod explain;
@@ -32,5 +35,6 @@ mod seen;
 mod sets;
 mod windows;
 
+pub use boxes::Boxes;
 pub use interval::Interval;
 pub use no_overlap::NoOverlap;

@@ -24,7 +24,7 @@ pub struct NoOverlap {
 }
 
 /// Adds the subjects of spans at the end of a list.
-fn push_spans(spans: &[Span], subjects: &mut Vec<u32>) -> Result<(), AllocError>
+pub(crate) fn push_spans(spans: &[Span], subjects: &mut Vec<u32>) -> Result<(), AllocError>
     ensures { OnOk result (subjects.new.items ≡ subjects.old.items ++ span_subjects spans.now) }
 {
     for span in spans {
@@ -36,7 +36,7 @@ fn push_spans(spans: &[Span], subjects: &mut Vec<u32>) -> Result<(), AllocError>
 }
 
 /// The same span again.
-fn copy_span(alloc: Global, span: &Span) -> Result<Span, AllocError>
+pub(crate) fn copy_span(alloc: Global, span: &Span) -> Result<Span, AllocError>
     ensures { IfOk result (λ copy. copy ≡ span.now) }
 {
     Ok(Span {

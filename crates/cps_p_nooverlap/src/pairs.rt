@@ -60,7 +60,7 @@ pub(crate) fn propose(
 }
 
 /// That a span starts at a time or later, unless that is so.
-fn later_start(span: &Span, times: &Times, time: i128) -> Option<Atom>
+pub(crate) fn later_start(span: &Span, times: &Times, time: i128) -> Option<Atom>
     ensures { IfSome result (λ u. Says span.now u (λ xs. time ≤ℤ start_at xs span.now)) }
 {
     if time <= times.start_low {
@@ -70,7 +70,7 @@ fn later_start(span: &Span, times: &Times, time: i128) -> Option<Atom>
 }
 
 /// That a span ends at a time or earlier, unless that is so.
-fn earlier_end(span: &Span, times: &Times, time: i128) -> Option<Atom>
+pub(crate) fn earlier_end(span: &Span, times: &Times, time: i128) -> Option<Atom>
     ensures { IfSome result (λ u. Says span.now u (λ xs. end_at xs span.now ≤ℤ time)) }
 {
     if times.end_high <= time {

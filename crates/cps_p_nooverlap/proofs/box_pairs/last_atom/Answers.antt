@@ -1,0 +1,18 @@
+use Rattle.std.proofs.Common.{◌≡◌, pos, refl, ap, get_or}
+use Rattle.cps_literal.specs.declared.atom.Atom.{Atom}
+use Rattle.cps_literal.specs.declared.atom.Op.TheVariants.{Le}
+use Rattle.cps_p_nooverlap.specs.declared.seen.Seen.{Seen}
+use Rattle.cps_p_nooverlap.proofs.Boxing.{last_makes}
+use Rattle.cps_p_nooverlap.proofs.box_pairs.last_atom.Goals as goal
+
+abbrev no_atom : Atom
+no_atom = record { subject = 0; op = Le; value = pos 0 }
+
+pub returns-then-last-atoms : goal.returns-then-last-atoms
+returns-then-last-atoms c =
+    let d = c.index-as_slice-place.result in
+    let atoms = c.as_slice-atoms.ensures in
+    let there = c.index-as_slice-place.is in
+    let spans = c.as_slice.ensures in
+    let same : c.as_slice-atoms.result.now ≡ (get_or c.args.direction.now.spans c.args.place c.index-as_slice-place.result).presence = cc in
+    last_makes c.args._store.now c.args.direction.now c.requires.direction c.args.place c.seen_of-last.result.presence.last d no_atom c.as_slice-atoms.result.now _ c.requires.place same c.if-last-atoms.true (ap (λ (w : Seen). w.presence.last) c.seen_of-last.ensures) refl

@@ -1,0 +1,8 @@
+use Rattle.std.proofs.Common.{Ok, ◌≡◌, true, rules}
+use Rattle.cps_p_nooverlap.proofs.Box_facts.{cites_refuted}
+use Rattle.cps_p_nooverlap.proofs.box_reasons.refute_boxes.Goals as goal
+
+pub returns : goal.returns
+returns c e =
+    let one : c.cite_boxes.result ≡ Ok true = search rules in
+    cites_refuted c.args.x.now c.args.y.now c.args.pair c.requires.pair c.args.past.now c.args.facts.now.items c.cite_boxes.new.facts.items c.cite_overlap.new.facts.items (c.cite_boxes.ensures one) (c.cite_overlap.ensures e)

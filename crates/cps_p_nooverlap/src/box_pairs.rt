@@ -1,0 +1,331 @@
+//! What two boxes give that do not overlap.
+//!
+//! Where neither of two spans can come first in one direction, the boxes are apart in the other one, and there they are ordered as two spans
+//! are that do not overlap. Where neither can come first in either direction, one of the boxes is absent, or the body cannot hold.
+//! Each step is written for a direction `along` which boxes are ordered and one `across` it, and serves both ways.
+ghost use Rattle.std.specs.Prelude.{◌≡◌, ◌<◌, length, slice_index_or, true, false, OnOk, IfOk, IfSome, IsTrue, ◌↔◌};
+ghost use Rattle.cps_p_nooverlap.specs.Spans.{IsPair, no_seen};
+ghost use Rattle.cps_p_nooverlap.specs.Boxes.{IsDirection, AreBoxes, AddsGiven, LeavesNone, BoxComesBefore, IsBoxAbsent, IsLate, IsOpenOrder, Overlap, MayBeApart, IsSureBox, AreBoxesAllowed, AllowsBoxes, AreAllAllowed, MakesPresent, MakesBoxPresent, IsCount};
+
+use crate::pairs::{Pair, earlier_end, later_start, propose};
+use crate::seen::{Seen, see};
+use cps_instance::Span;
+use cps_literal::Atom;
+use cps_model::Listed;
+use cps_rule::Narrowing;
+use cps_trail::Store;
+use std::alloc::AllocError;
+
+/// One direction of boxes: their spans there, and what a store leaves to each. Its memory is kept for the next look.
+#[derive(Drop)]
+pub(crate) struct Direction {
+    pub(crate) spans: Listed<Span>,
+    pub(crate) seen: Vec<Seen>,
+}
+
+impl Direction {
+    ghost use Rattle.std.specs.Prelude.{◌≡◌, OnOk};
+    ghost use Rattle.cps_p_nooverlap.specs.Spans.{AreSpans};
+    ghost use Rattle.cps_p_nooverlap.specs.Boxes.{IsDirection};
+
+    /// Looks at what a store leaves to the spans.
+    pub(crate) fn look(&mut self, store: &Store) -> Result<(), AllocError>
+        requires { AreSpans store.now.first self.old.spans }
+        ensures spans { self.new.spans ≡ self.old.spans }
+        ensures seen { OnOk result (IsDirection store.now self.new) }
+    {
+        see(store, self.spans.as_slice(), &mut self.seen)
+    }
+}
+
+/// How many boxes have a span in each of two directions.
+pub(crate) fn count_of(x: &[Span], y: &[Span]) -> usize
+    ensures { IsCount (length x.now) (length y.now) result }
+{
+    x.len().min(y.len())
+}
+
+/// What stands at a place.
+fn read(seen: &[Seen], place: usize) -> Seen
+    requires { place < length seen.now }
+    ensures { result ≡ slice_index_or seen.now place no_seen }
+{
+    seen[place]
+}
+
+/// What was seen of a span.
+fn seen_of(_store: &Store, direction: &Direction, place: usize) -> Seen
+    requires direction { IsDirection _store.now direction.now }
+    requires place { place < length direction.now.spans }
+    ensures { result ≡ slice_index_or direction.now.seen.items place no_seen }
+{
+    read(direction.seen.as_slice(), place)
+}
+
+/// Whether the first of two boxes cannot come after the second one in a direction.
+fn is_late(_store: &Store, direction: &Direction, pair: Pair) -> bool
+    requires direction { IsDirection _store.now direction.now }
+    requires pair { IsPair (length direction.now.spans) pair }
+    ensures late { IsTrue result → IsLate direction.now.seen.items pair }
+    ensures open { result ≡ false → IsOpenOrder direction.now.seen.items pair }
+{
+    let before = seen_of(_store, direction, pair.before);
+    let after = seen_of(_store, direction, pair.after);
+    before.times.start_high < after.times.end_low
+}
+
+/// Whether neither of two boxes can come first in a direction.
+fn overlap(_store: &Store, direction: &Direction, pair: Pair) -> bool
+    requires direction { IsDirection _store.now direction.now }
+    requires pair { IsPair (length direction.now.spans) pair }
+    ensures yes { IsTrue result → Overlap direction.now.seen.items pair }
+    ensures no { result ≡ false → MayBeApart direction.now.seen.items pair }
+{
+    is_late(_store, direction, pair) && is_late(_store, direction, pair.swapped())
+}
+
+/// Whether a box is surely present.
+fn is_sure(_store: &Store, along: &Direction, across: &Direction, place: usize) -> bool
+    requires along { IsDirection _store.now along.now }
+    requires across { IsDirection _store.now across.now }
+    requires in_along { place < length along.now.spans }
+    requires in_across { place < length across.now.spans }
+    ensures { IsTrue result ↔ IsSureBox along.now.seen.items across.now.seen.items place }
+{
+    let one = seen_of(_store, along, place);
+    let other = seen_of(_store, across, place);
+    one.presence.sure && other.presence.sure
+}
+
+/// Adds what follows where one box comes before another in a direction.
+fn follow(
+    _store: &Store,
+    along: &Direction,
+    _across: &Direction,
+    pair: Pair,
+    found: &mut Vec<Narrowing>,
+) -> Result<(), AllocError>
+    requires along { IsDirection _store.now along.now }
+    requires pair { IsPair (length along.now.spans) pair }
+    requires order { BoxComesBefore _store.now along.now.spans _across.now.spans pair }
+    ensures { OnOk result (AddsGiven _store.now along.now.spans _across.now.spans found.old.items found.new.items) }
+{
+    let spans = along.spans.as_slice();
+    let before = seen_of(_store, along, pair.before).times;
+    let after = seen_of(_store, along, pair.after).times;
+    let start = later_start(&spans[pair.after], &after, before.end_low);
+    propose(start, pair.hint(), found)?;
+    let end = earlier_end(&spans[pair.before], &before, after.start_high);
+    propose(end, pair.hint(), found)?;
+    Ok(())
+}
+
+/// Adds what two boxes give in a direction, which overlap across it.
+fn order(
+    _store: &Store,
+    along: &Direction,
+    across: &Direction,
+    pair: Pair,
+    found: &mut Vec<Narrowing>,
+) -> Result<(), AllocError>
+    requires along { IsDirection _store.now along.now }
+    requires across { IsDirection _store.now across.now }
+    requires pair { AreBoxes along.now.spans across.now.spans pair }
+    requires overlap { Overlap across.now.seen.items pair }
+    ensures { OnOk result (AddsGiven _store.now along.now.spans across.now.spans found.old.items found.new.items) }
+{
+    let before = is_sure(_store, along, across, pair.before);
+    let after = is_sure(_store, along, across, pair.after);
+    if !before || !after {
+        return Ok(());
+    }
+    if is_late(_store, along, pair) {
+        return follow(_store, along, across, pair, found);
+    }
+    let turned = pair.swapped();
+    if is_late(_store, along, turned) {
+        return follow(_store, along, across, turned, found);
+    }
+    Ok(())
+}
+
+/// The one atom of a span that may be false, where there is one.
+fn last_atom(_store: &Store, direction: &Direction, place: usize) -> Option<Atom>
+    requires direction { IsDirection _store.now direction.now }
+    requires place { place < length direction.now.spans }
+    ensures { IfSome result (MakesPresent _store.now direction.now.spans place) }
+{
+    let span = &direction.spans.as_slice()[place];
+    let atoms = span.presence.as_slice();
+    let last = seen_of(_store, direction, place).presence.last;
+    if last < atoms.len() {
+        return Some(atoms[last]);
+    }
+    None
+}
+
+/// The one atom that two spans have in common of those that may be false, where neither has another.
+fn common_atom(_store: &Store, along: &Direction, across: &Direction, place: usize) -> Option<Atom>
+    requires along { IsDirection _store.now along.now }
+    requires across { IsDirection _store.now across.now }
+    requires in_along { place < length along.now.spans }
+    requires in_across { place < length across.now.spans }
+    ensures { IfSome result (MakesBoxPresent _store.now along.now.spans across.now.spans place) }
+{
+    let one = last_atom(_store, along, place)?;
+    let other = last_atom(_store, across, place)?;
+    if one == other {
+        return Some(one);
+    }
+    None
+}
+
+/// The one atom of a box that may be false, where there is one.
+fn last_of_box(_store: &Store, along: &Direction, across: &Direction, place: usize) -> Option<Atom>
+    requires along { IsDirection _store.now along.now }
+    requires across { IsDirection _store.now across.now }
+    requires in_along { place < length along.now.spans }
+    requires in_across { place < length across.now.spans }
+    ensures { IfSome result (MakesBoxPresent _store.now along.now.spans across.now.spans place) }
+{
+    if seen_of(_store, along, place).presence.sure {
+        return last_atom(_store, across, place);
+    }
+    if seen_of(_store, across, place).presence.sure {
+        return last_atom(_store, along, place);
+    }
+    common_atom(_store, along, across, place)
+}
+
+/// Adds that a box is absent, where one of its atoms alone is open.
+fn exclude(
+    _store: &Store,
+    x: &Direction,
+    y: &Direction,
+    pair: Pair,
+    found: &mut Vec<Narrowing>,
+) -> Result<(), AllocError>
+    requires x { IsDirection _store.now x.now }
+    requires y { IsDirection _store.now y.now }
+    requires in_x { pair.before < length x.now.spans }
+    requires in_y { pair.before < length y.now.spans }
+    requires absent { IsBoxAbsent _store.now x.now.spans y.now.spans pair.before }
+    ensures { OnOk result (AddsGiven _store.now x.now.spans y.now.spans found.old.items found.new.items) }
+{
+    if let Some(atom) = last_of_box(_store, x, y, pair.before) {
+        found.push(Narrowing {
+            target: atom.negate(),
+            hint: pair.hint(),
+        })?;
+    }
+    Ok(())
+}
+
+/// Adds what two boxes give that overlap in both directions. Answers true where both are surely present.
+fn clash(
+    _store: &Store,
+    x: &Direction,
+    y: &Direction,
+    pair: Pair,
+    found: &mut Vec<Narrowing>,
+) -> Result<bool, AllocError>
+    requires x { IsDirection _store.now x.now }
+    requires y { IsDirection _store.now y.now }
+    requires pair { AreBoxes x.now.spans y.now.spans pair }
+    requires in_x { Overlap x.now.seen.items pair }
+    requires in_y { Overlap y.now.seen.items pair }
+    ensures given { OnOk result (AddsGiven _store.now x.now.spans y.now.spans found.old.items found.new.items) }
+    ensures impossible { result ≡ Ok true → LeavesNone _store.now x.now.spans y.now.spans }
+    ensures allowed { result ≡ Ok false → AreBoxesAllowed x.now.seen.items y.now.seen.items pair }
+{
+    let before = is_sure(_store, x, y, pair.before);
+    let after = is_sure(_store, x, y, pair.after);
+    if before && after {
+        return Ok(true);
+    }
+    if after {
+        exclude(_store, x, y, pair, found)?;
+    } else if before {
+        exclude(_store, x, y, pair.swapped(), found)?;
+    }
+    Ok(false)
+}
+
+/// Adds what two boxes give. Answers true where they leave no way.
+fn meet(
+    _store: &Store,
+    x: &Direction,
+    y: &Direction,
+    pair: Pair,
+    found: &mut Vec<Narrowing>,
+) -> Result<bool, AllocError>
+    requires x { IsDirection _store.now x.now }
+    requires y { IsDirection _store.now y.now }
+    requires pair { AreBoxes x.now.spans y.now.spans pair }
+    ensures given { OnOk result (AddsGiven _store.now x.now.spans y.now.spans found.old.items found.new.items) }
+    ensures impossible { result ≡ Ok true → LeavesNone _store.now x.now.spans y.now.spans }
+    ensures allowed { result ≡ Ok false → AreBoxesAllowed x.now.seen.items y.now.seen.items pair }
+{
+    let in_x = overlap(_store, x, pair);
+    let in_y = overlap(_store, y, pair);
+    if in_x && in_y {
+        return clash(_store, x, y, pair, found);
+    }
+    if in_y {
+        order(_store, x, y, pair, found)?;
+    } else if in_x {
+        order(_store, y, x, pair, found)?;
+    }
+    Ok(false)
+}
+
+/// Adds what one box gives with each that stands before it, or finds one with which it leaves no way.
+fn meet_below(
+    _store: &Store,
+    x: &Direction,
+    y: &Direction,
+    place: usize,
+    found: &mut Vec<Narrowing>,
+) -> Result<Option<Pair>, AllocError>
+    requires x { IsDirection _store.now x.now }
+    requires y { IsDirection _store.now y.now }
+    requires place_x { place < length x.now.spans }
+    requires place_y { place < length y.now.spans }
+    ensures given { OnOk result (AddsGiven _store.now x.now.spans y.now.spans found.old.items found.new.items) }
+    ensures impossible { IfOk result (λ answer. IfSome answer (λ pair. LeavesNone _store.now x.now.spans y.now.spans)) }
+    ensures allowed { result ≡ Ok None → AllowsBoxes x.now.seen.items y.now.seen.items place place }
+{
+    for other in 0..place {
+        let pair = Pair {
+            before: place,
+            after: other,
+        };
+        if meet(_store, x, y, pair, found)? {
+            return Ok(Some(pair));
+        }
+    }
+    Ok(None)
+}
+
+/// Adds what each two boxes give, or finds two that leave no way.
+pub(crate) fn meet_all(
+    _store: &Store,
+    x: &Direction,
+    y: &Direction,
+    count: usize,
+    found: &mut Vec<Narrowing>,
+) -> Result<Option<Pair>, AllocError>
+    requires x { IsDirection _store.now x.now }
+    requires y { IsDirection _store.now y.now }
+    requires count { IsCount (length x.now.spans) (length y.now.spans) count }
+    ensures given { OnOk result (AddsGiven _store.now x.now.spans y.now.spans found.old.items found.new.items) }
+    ensures impossible { IfOk result (λ answer. IfSome answer (λ pair. LeavesNone _store.now x.now.spans y.now.spans)) }
+    ensures allowed { result ≡ Ok None → AreAllAllowed x.now.seen.items y.now.seen.items count }
+{
+    for place in 0..count {
+        if let Some(pair) = meet_below(_store, x, y, place, found)? {
+            return Ok(Some(pair));
+        }
+    }
+    Ok(None)
+}

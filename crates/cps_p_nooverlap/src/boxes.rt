@@ -1,0 +1,113 @@
+//! Boxes that do not overlap.
+ghost use Rattle.std.specs.Prelude.{◌≡◌, length, IfOk, IfSome};
+ghost use Rattle.cps_p_nooverlap.specs.Boxes.{AreBoxes};
+
+use crate::box_pairs::{Direction, count_of, meet_all};
+use crate::box_reasons::{Claim, explain_boxes, refute_boxes};
+use crate::explain::pair_of;
+use crate::no_overlap::{copy_span, push_spans};
+use crate::pairs::Pair;
+use cps_enforce::Enforced;
+use cps_instance::{Body, Span, Task};
+use cps_literal::Atom;
+use cps_model::Listed;
+use cps_rule::{Hint, Look, Narrowing, Rule};
+use cps_trail::{Before, Store};
+use std::alloc::{AllocError, Global};
+
+/// The rule of boxes that do not overlap.
+#[derive(Drop)]
+pub struct Boxes {
+    x: Direction,
+    y: Direction,
+}
+
+/// A direction of boxes with these spans, of which nothing is seen yet.
+fn direction_of(alloc: Global, spans: &[Span]) -> Result<Direction, AllocError>
+    ensures { IfOk result (λ direction. direction.spans ≡ spans.now) }
+{
+    let mut copies = Vec::new(alloc);
+    for span in spans {
+        copies.push(copy_span(alloc, span)?)?;
+    }
+    Ok(Direction {
+        spans: Listed::from_vec(copies),
+        seen: Vec::new(alloc),
+    })
+}
+
+/// The two boxes that a hint names, where they are two of them.
+fn boxes_of(hint: Hint, x: &[Span], y: &[Span]) -> Option<Pair>
+    ensures { IfSome result (AreBoxes x.now y.now) }
+{
+    pair_of(hint, count_of(x, y))
+}
+
+impl Boxes {
+    ghost use Rattle.std.specs.Prelude.{◌≡◌, true, IfOk};
+    ghost use Rattle.cps_p_nooverlap.specs.Boxes.{is_no_overlap_2d};
+
+    /// The propagator of a task that asks that boxes do not overlap.
+    pub fn of(alloc: Global, task: &Task) -> Result<Enforced<Boxes>, AllocError>
+        requires { is_no_overlap_2d task.now.body ≡ true }
+        ensures { IfOk result (λ propagator. propagator ≡ task.now) }
+    {
+        match &task.body {
+            Body::NoOverlap2d { x, y } => {
+                let rule = Boxes {
+                    x: direction_of(alloc, x.as_slice())?,
+                    y: direction_of(alloc, y.as_slice())?,
+                };
+                Enforced::new(alloc, task.enforcement.as_slice(), rule)
+            }
+            _ => unreachable!(),
+        }
+    }
+}
+
+impl Rule for Boxes {
+    ghost use Rattle.cps_instance.specs.declared.task.Body.TheVariants.{NoOverlap2d};
+
+    ghost body = { λ r. NoOverlap2d r.x.spans r.y.spans };
+
+    fn look(&mut self, store: &Store, found: &mut Vec<Narrowing>) -> Result<Look, AllocError> {
+        found.clear();
+        self.x.look(store)?;
+        self.y.look(store)?;
+        let count = count_of(self.x.spans.as_slice(), self.y.spans.as_slice());
+        match meet_all(store, &self.x, &self.y, count, found)? {
+            Some(pair) => Ok(Look::Impossible(pair.hint())),
+            None => Ok(Look::Possible),
+        }
+    }
+
+    fn explain(
+        &self,
+        past: &Before,
+        target: Atom,
+        hint: Hint,
+        facts: &mut Vec<Atom>,
+    ) -> Result<bool, AllocError> {
+        let x = self.x.spans.as_slice();
+        let y = self.y.spans.as_slice();
+        match boxes_of(hint, x, y) {
+            Some(pair) => explain_boxes(past, x, y, Claim { pair, target }, facts),
+            None => Ok(false),
+        }
+    }
+
+    fn refute(&self, past: &Before, hint: Hint, facts: &mut Vec<Atom>) -> Result<bool, AllocError> {
+        facts.clear();
+        let x = self.x.spans.as_slice();
+        let y = self.y.spans.as_slice();
+        match boxes_of(hint, x, y) {
+            Some(pair) => refute_boxes(past, x, y, pair, facts),
+            None => Ok(false),
+        }
+    }
+
+    fn push_subjects(&self, subjects: &mut Vec<u32>) -> Result<(), AllocError> {
+        push_spans(self.x.spans.as_slice(), subjects)?;
+        push_spans(self.y.spans.as_slice(), subjects)
+    }
+}
