@@ -1,6 +1,8 @@
 -- What some arcs being taken and others not leaves no circuit.
-use Rattle.std.specs.Prelude.{◌≡◌, ◌≢◌, ◌⊎◌, ℕ, ◌+◌, ◌-◌, ◌≤◌, ◌<◌, ℤ, Bool, true, false, List, [], ◌∷◌, length, slice_index, slice_index_or, All, Contains}
+use Rattle.std.specs.Prelude.{◌≡◌, ◌≢◌, ◌⊎◌, ℕ, ◌+◌, ◌-◌, ◌≤◌, ◌<◌, ℤ, Bool, true, false}
+use Rattle.std.specs.Prelude.{List, [], ◌∷◌, length, slice_index, slice_index_or, All, Contains}
 use Rattle.cps_p_circuit.specs.declared.clash.Sign.{Sign}
+use Rattle.cps_p_circuit.specs.declared.graph.Graph.{Graph}
 use Rattle.cps_p_circuit.specs.Graphs.{IsRound}
 
 abbrev pub taking : ℕ → Sign
@@ -15,6 +17,9 @@ IsMet taken p = slice_index_or taken p.arc false ≡ p.holds
 -- no taken arcs that meet the signs are a circuit
 pub record IsClash (nodes : List ℤ) (from to : List ℕ) (used : List Sign) : Type 0 where
   pub none : (taken : List Bool) → All (IsMet taken) used → IsRound nodes from to taken → ⊥
+
+abbrev pub IsClashOf : Graph → List Sign → Type 0
+IsClashOf graph used = IsClash graph.nodes.items graph.from.items graph.to.items used
 
 -- what a list has, another has
 abbrev pub Grows : List Sign → List Sign → Type 0
@@ -38,7 +43,8 @@ pub record IsDeserted (ends : List ℕ) (arcs k : ℕ) (used : List Sign) : Type
 pub record IsOnTour (from to : List ℕ) (arcs k : ℕ) (used : List Sign) : Type 0 where
   pub within : k < arcs
   pub sure : ((slice_index from k ≢ slice_index to k) × Contains used (taking k))
-      ⊎ ((j : ℕ) → j < arcs → slice_index from j ≡ slice_index from k → slice_index to j ≡ slice_index from k → Contains used (leaving j))
+      ⊎ ((j : ℕ) → j < arcs → slice_index from j ≡ slice_index from k → slice_index to j ≡ slice_index from k
+      → Contains used (leaving j))
 
 -- the arc that is taken from a marked node leads to a marked node
 pub record IsChosen (from to : List ℕ) (arcs : ℕ) (via : List ℕ) (used : List Sign) (v k : ℕ) : Type 0 where
@@ -49,8 +55,11 @@ pub record IsChosen (from to : List ℕ) (arcs : ℕ) (via : List ℕ) (used : L
 
 -- Nodes are marked by 1, or by 2 and an arc that is taken from there to a marked node.
 abbrev pub AreChosen : List ℕ → List ℕ → ℕ → List ℕ → List Sign → ℕ → Type 0
-AreChosen from to arcs via used n = (v : ℕ) → v < n → 2 ≤ slice_index via v → IsChosen from to arcs via used v (slice_index via v - 2)
+AreChosen from to arcs via used n =
+    (v : ℕ) → v < n → 2 ≤ slice_index via v → IsChosen from to arcs via used v (slice_index via v - 2)
 
 -- no arc is taken that leads out of the nodes that are marked by 1
 abbrev pub AreLeft : List ℕ → List ℕ → List ℕ → List Sign → ℕ → Type 0
-AreLeft from to via used n = (k : ℕ) → k < n → slice_index via (slice_index from k) ≡ 1 → slice_index via (slice_index to k) ≡ 0 → Contains used (leaving k)
+AreLeft from to via used n =
+    (k : ℕ) → k < n → slice_index via (slice_index from k) ≡ 1 → slice_index via (slice_index to k) ≡ 0
+    → Contains used (leaving k)

@@ -1,5 +1,6 @@
 -- Arcs between nodes, which are named by their places in a list of their numbers.
-use Rattle.std.specs.Prelude.{◌≡◌, if◌then◌else◌, ℕ, ◌<◌, ℤ, pos, Bool, List, [], ◌∷◌, ◌++◌, map, length, slice_index, slice_index_or}
+use Rattle.std.specs.Prelude.{◌≡◌, if◌then◌else◌, ℕ, ◌<◌, ℤ, pos, Bool}
+use Rattle.std.specs.Prelude.{List, [], ◌∷◌, ◌++◌, map, length, slice_index, slice_index_or}
 use Rattle.cps_model.specs.declared.parts.Arc.{Arc}
 use Rattle.cps_model.specs.Circuits.{IsCircuit}
 
@@ -14,7 +15,8 @@ arc_at nodes from to k = record { tail = number nodes (slice_index from k); head
 -- the arcs that are taken
 abbrev pub arcs_by : List ℤ → List ℕ → List ℕ → List Bool → List Arc
 arcs_by nodes (a ∷ fs) (b ∷ hs) (t ∷ ts) =
-    if t then record { tail = number nodes a; head = number nodes b } ∷ arcs_by nodes fs hs ts else arcs_by nodes fs hs ts
+    if t then record { tail = number nodes a; head = number nodes b } ∷ arcs_by nodes fs hs ts
+    else arcs_by nodes fs hs ts
 arcs_by nodes [] hs ts = []
 arcs_by nodes (a ∷ fs) [] ts = []
 arcs_by nodes (a ∷ fs) (b ∷ hs) [] = []

@@ -1,5 +1,6 @@
 -- What a body and atoms that are true show.
-use Rattle.std.specs.Prelude.{◌≡◌, ℕ, ◌<◌, ℤ, Bool, true, false, Option, List, map, length, slice_index_or, All, IfSome, ◌++◌}
+use Rattle.std.specs.Prelude.{◌≡◌, ℕ, ◌<◌, ℤ, Bool, true, false, Option, IfSome}
+use Rattle.std.specs.Prelude.{List, map, length, slice_index_or, All, ◌++◌}
 use Rattle.cps_literal.specs.declared.atom.Atom.{Atom}
 use Rattle.cps_literal.specs.Truth.{atom_holds}
 use Rattle.cps_instance.specs.declared.task.Body.{Body}
@@ -9,12 +10,16 @@ use Rattle.cps_trail.specs.Trail.{Trail, IsInside}
 use Rattle.cps_propagate.specs.Now.{IsFixedNow, AreOpen}
 use Rattle.cps_rule.specs.Rules.{AreFacts, AllTrueAt}
 use Rattle.cps_p_circuit.specs.declared.clash.Sign.{Sign}
+use Rattle.cps_p_circuit.specs.declared.graph.Graph.{Graph}
 use Rattle.cps_p_circuit.specs.Graphs.{number, IsRound}
 use Rattle.cps_p_circuit.specs.Clashes.{IsMet}
 
 -- the body of arcs between nodes
 abbrev pub body_by : List ℤ → List ℕ → List ℕ → List Atom → Body
 body_by nodes from to literals = Circuit (map (number nodes) from) (map (number nodes) to) literals
+
+abbrev pub body_of : Graph → List Atom → Body
+body_of graph literals = body_by graph.nodes.items graph.from.items graph.to.items literals
 
 -- whether each literal is true
 abbrev pub taken_at : List ℤ → List Atom → List Bool
@@ -28,9 +33,11 @@ pub record IsAtomOf (literals : List Atom) (p : Sign) (u : Atom) : Type 0 where
   pub gives : (xs : List ℤ) → atom_holds xs u ≡ true → IsMet (taken_at xs literals) p
 
 -- facts, and an atom beside them, make the signs true
-pub record AreKept (s : Trail) (literals : List Atom) (denied : Option Atom) (used : List Sign) (us : List Atom) : Type 0 where
+pub record AreKept (s : Trail) (literals : List Atom) (denied : Option Atom) (used : List Sign)
+    (us : List Atom) : Type 0 where
   pub facts : AreFacts s us
-  pub gives : (xs : List ℤ) → AllTrueAt xs us → IfSome denied (λ u. atom_holds xs u ≡ true) → All (IsMet (taken_at xs literals)) used
+  pub gives : (xs : List ℤ) → AllTrueAt xs us → IfSome denied (λ u. atom_holds xs u ≡ true)
+      → All (IsMet (taken_at xs literals)) used
 
 -- a body cannot hold beside facts, and beside an atom
 pub record IsShown (b : Body) (s : Trail) (denied : Option Atom) (us : List Atom) : Type 0 where

@@ -1,5 +1,6 @@
 -- Walks along arcs of which no two leave one node.
-use Rattle.std.specs.Prelude.{◌≡◌, ◌≢◌, ℕ, ◌<◌, Bool, true, false, ℤ, pos, ◌<ℤ◌, List, length, slice_index_or, All, AllPairs, Contains}
+use Rattle.std.specs.Prelude.{◌≡◌, ◌≢◌, ℕ, ◌<◌, Bool, true, false, ℤ, pos, ◌<ℤ◌}
+use Rattle.std.specs.Prelude.{List, length, slice_index_or, All, AllPairs, Contains}
 use Rattle.cps_model.specs.declared.parts.Arc.{Arc}
 use Rattle.cps_model.specs.Circuits.{Leads}
 

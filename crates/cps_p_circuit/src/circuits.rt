@@ -2,11 +2,13 @@
 //! that are left, which a sort of the arcs' tails shows; and so for the heads. Then a walk from one arc that is no
 //! loop, to the arc that leaves where it enters and so on, comes back to its start, and the arcs are a single circuit
 //! exactly where it has come by all of them.
-ghost use Rattle.std.specs.Prelude.{◌≡◌, ◌↔◌, ◌++◌, ◌<◌, ◌≢◌, ℤ, pos, IfOk, OnOk, IfSome, IsTrue, IsPermutation, IsSorted, MatchOption, All, Contains, length, map, count_by, int_le};
+ghost use Rattle.std.specs.Prelude.{◌≡◌, ◌↔◌, ◌++◌, ◌<◌, ◌≢◌, ℤ, pos, length, map, count_by, int_le};
+ghost use Rattle.std.specs.Prelude.{IfOk, OnOk, IfSome, IsTrue, IsPermutation, IsSorted, MatchOption, All, Contains};
 ghost use Rattle.std.specs.List.{list_all};
 ghost use Rattle.std.specs.Ordering.{int_cmp, int_eq};
 ghost use Rattle.cps_model.specs.Circuits.{selected, is_loop, moves, leaves, enters, IsCircuit};
-ghost use Rattle.cps_p_circuit.specs.Walks.{LeaveApart, AreRising, EnterEach, AreSingle, LeavesAt, NoneLeaves, SeenFrom, IsNext};
+ghost use Rattle.cps_p_circuit.specs.Walks.{LeaveApart, AreRising, EnterEach, AreSingle};
+ghost use Rattle.cps_p_circuit.specs.Walks.{LeavesAt, NoneLeaves, SeenFrom, IsNext};
 
 use crate::numbers::is_listed;
 use cps_model::{Arc, is_rising};

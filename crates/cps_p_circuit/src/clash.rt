@@ -1,7 +1,8 @@
-//! Arcs that cannot be a circuit: signs of some arcs, whether each is taken, that leave none. What a search proposes is tested here.
+//! Arcs that cannot be a circuit: signs of some arcs, whether each is taken, that leave none. What a search proposes is
+//! tested here.
 
 ghost use Rattle.std.specs.Prelude.{◌≡◌, ◌≤◌, ◌<◌, min, length, Ok, IfOk, true};
-ghost use Rattle.cps_p_circuit.specs.Clashes.{IsClash, IsPair, IsDeserted, IsOnTour, AreChosen, AreLeft, Grows};
+ghost use Rattle.cps_p_circuit.specs.Clashes.{IsClashOf, IsPair, IsDeserted, IsOnTour, AreChosen, AreLeft, Grows};
 
 use crate::graph::Graph;
 use std::alloc::AllocError;
@@ -75,32 +76,32 @@ fn push_none(
 
 impl Graph {
     ghost use Rattle.std.specs.Prelude.{◌≡◌, ◌≤◌, ◌<◌, min, length, Ok, IfOk, true};
-    ghost use Rattle.cps_p_circuit.specs.Clashes.{IsClash, IsOnTour, AreChosen, AreLeft, Grows};
+    ghost use Rattle.cps_p_circuit.specs.Clashes.{IsClashOf, IsOnTour, AreChosen, AreLeft, Grows};
 
     /// Two arcs are taken that leave one node.
     pub fn two_out(&self, pair: (usize, usize), used: &mut Vec<Sign>) -> Result<bool, AllocError>
-        ensures { result ≡ Ok true → IsClash self.now.nodes.items self.now.from.items self.now.to.items used.new.items }
+        ensures { result ≡ Ok true → IsClashOf self.now used.new.items }
     {
         push_two(self.from.as_slice(), self.arcs(), pair, used)
     }
 
     /// Two arcs are taken that enter one node.
     pub fn two_in(&self, pair: (usize, usize), used: &mut Vec<Sign>) -> Result<bool, AllocError>
-        ensures { result ≡ Ok true → IsClash self.now.nodes.items self.now.from.items self.now.to.items used.new.items }
+        ensures { result ≡ Ok true → IsClashOf self.now used.new.items }
     {
         push_two(self.to.as_slice(), self.arcs(), pair, used)
     }
 
     /// No arc is taken that leaves this one's tail.
     pub fn none_out(&self, k: usize, used: &mut Vec<Sign>) -> Result<bool, AllocError>
-        ensures { result ≡ Ok true → IsClash self.now.nodes.items self.now.from.items self.now.to.items used.new.items }
+        ensures { result ≡ Ok true → IsClashOf self.now used.new.items }
     {
         push_none(self.from.as_slice(), self.arcs(), k, used)
     }
 
     /// No arc is taken that enters this one's head.
     pub fn none_in(&self, k: usize, used: &mut Vec<Sign>) -> Result<bool, AllocError>
-        ensures { result ≡ Ok true → IsClash self.now.nodes.items self.now.from.items self.now.to.items used.new.items }
+        ensures { result ≡ Ok true → IsClashOf self.now used.new.items }
     {
         push_none(self.to.as_slice(), self.arcs(), k, used)
     }
@@ -109,7 +110,8 @@ impl Graph {
     fn push_stay(&self, k: usize, used: &mut Vec<Sign>) -> Result<(), AllocError>
         requires { k < min (length self.now.from.items) (length self.now.to.items) }
         ensures grows { IfOk result (λ u. Grows used.old.items used.new.items) }
-        ensures sure { IfOk result (λ u. IsOnTour self.now.from.items self.now.to.items (min (length self.now.from.items) (length self.now.to.items)) k used.new.items) }
+        ensures sure { IfOk result (λ u. IsOnTour self.now.from.items self.now.to.items
+            (min (length self.now.from.items) (length self.now.to.items)) k used.new.items) }
     {
         let node = self.tail(k);
         for j in 0..self.arcs() {
@@ -127,7 +129,8 @@ impl Graph {
     /// Adds what shows that a node is on the circuit.
     fn push_witness(&self, witness: Witness, used: &mut Vec<Sign>) -> Result<bool, AllocError>
         ensures grows { IfOk result (λ u. Grows used.old.items used.new.items) }
-        ensures sure { result ≡ Ok true → IsOnTour self.now.from.items self.now.to.items (min (length self.now.from.items) (length self.now.to.items)) witness.arc used.new.items }
+        ensures sure { result ≡ Ok true → IsOnTour self.now.from.items self.now.to.items
+            (min (length self.now.from.items) (length self.now.to.items)) witness.arc used.new.items }
     {
         let k = witness.arc;
         if k >= self.arcs() {
@@ -151,7 +154,8 @@ impl Graph {
     fn push_chosen(&self, via: &[usize], used: &mut Vec<Sign>) -> Result<bool, AllocError>
         requires { length via.now ≡ length self.now.nodes.items }
         ensures grows { IfOk result (λ u. Grows used.old.items used.new.items) }
-        ensures chosen { result ≡ Ok true → AreChosen self.now.from.items self.now.to.items (min (length self.now.from.items) (length self.now.to.items)) via.now used.new.items (length via.now) }
+        ensures chosen { result ≡ Ok true → AreChosen self.now.from.items self.now.to.items
+            (min (length self.now.from.items) (length self.now.to.items)) via.now used.new.items (length via.now) }
     {
         for v in 0..via.len() {
             if via[v] < 2 {
@@ -177,7 +181,8 @@ impl Graph {
     fn push_left(&self, via: &[usize], used: &mut Vec<Sign>) -> Result<(), AllocError>
         requires { length via.now ≡ length self.now.nodes.items }
         ensures grows { IfOk result (λ u. Grows used.old.items used.new.items) }
-        ensures left { IfOk result (λ u. AreLeft self.now.from.items self.now.to.items via.now used.new.items (min (length self.now.from.items) (length self.now.to.items))) }
+        ensures left { IfOk result (λ u. AreLeft self.now.from.items self.now.to.items via.now used.new.items
+            (min (length self.now.from.items) (length self.now.to.items))) }
     {
         for k in 0..self.arcs() {
             if via[self.tail(k)] != 1 || via[self.head(k)] != 0 {
@@ -191,7 +196,8 @@ impl Graph {
         Ok(())
     }
 
-    /// Nodes are marked, and no arc that may be taken leads out of them, but of two nodes that are on the circuit one is marked.
+    /// Nodes are marked, and no arc that may be taken leads out of them, but of two nodes that are on the circuit one
+    /// is marked.
     pub fn cut(
         &self,
         via: &[usize],
@@ -199,7 +205,7 @@ impl Graph {
         outer: Witness,
         used: &mut Vec<Sign>,
     ) -> Result<bool, AllocError>
-        ensures { result ≡ Ok true → IsClash self.now.nodes.items self.now.from.items self.now.to.items used.new.items }
+        ensures { result ≡ Ok true → IsClashOf self.now used.new.items }
     {
         used.clear();
         if via.len() != self.nodes.len() {

@@ -1,6 +1,7 @@
 //! Whether the arcs are a circuit, where each literal is known.
 
-ghost use Rattle.std.specs.Prelude.{◌≡◌, ◌↔◌, ◌<◌, ◌++◌, Ok, IfOk, OnOk, IsTrue, All, true, false, map, length, min, MatchOption, List, ℤ};
+ghost use Rattle.std.specs.Prelude.{◌≡◌, ◌↔◌, ◌<◌, ◌++◌, Ok, IfOk, OnOk, IsTrue, All, MatchOption};
+ghost use Rattle.std.specs.Prelude.{true, false, map, length, min, List, ℤ};
 ghost use Rattle.cps_literal.specs.Truth.{value_at, atom_holds};
 ghost use Rattle.cps_propagate.specs.Now.{IsFixedNow, IsOpenTo};
 ghost use Rattle.cps_instance.specs.Tasks.{atom_subjects};
@@ -17,7 +18,8 @@ use std::alloc::{AllocError, Global};
 /// Whether an atom is true, where that is known.
 fn known(store: &Store, atom: Atom) -> Option<bool>
     requires { atom.subject < length store.now.first }
-    ensures { MatchOption result (IsFixedNow store.now atom.subject → ⊥) (λ b. (xs : List ℤ) → IsOpenTo store.now atom.subject (value_at xs atom.subject) → atom_holds xs atom ≡ b) }
+    ensures { MatchOption result (IsFixedNow store.now atom.subject → ⊥) (λ b. (xs : List ℤ)
+        → IsOpenTo store.now atom.subject (value_at xs atom.subject) → atom_holds xs atom ≡ b) }
 {
     // each subject has a value left
     let _ = store.entries();
@@ -61,7 +63,8 @@ fn add_numbers(nodes: &[i32], ends: &[usize], numbers: &mut Vec<i64>) -> Result<
 
 /// The arcs that are taken.
 fn taken_arcs(alloc: Global, graph: &Graph, taken: &[bool]) -> Result<Vec<Arc>, AllocError>
-    ensures { IfOk result (λ arcs. arcs.items ≡ arcs_by graph.now.nodes.items graph.now.from.items graph.now.to.items taken.now) }
+    ensures { IfOk result (λ arcs.
+        arcs.items ≡ arcs_by graph.now.nodes.items graph.now.from.items graph.now.to.items taken.now) }
 {
     let mut arcs = Vec::new(alloc);
     let count = graph.arcs().min(taken.len());
@@ -78,7 +81,8 @@ fn taken_arcs(alloc: Global, graph: &Graph, taken: &[bool]) -> Result<Vec<Arc>, 
 
 /// Whether the arcs that are taken are a circuit.
 pub fn is_round(alloc: Global, graph: &Graph, taken: &[bool]) -> Result<bool, AllocError>
-    ensures { IfOk result (λ answer. IsTrue answer ↔ IsRound graph.now.nodes.items graph.now.from.items graph.now.to.items taken.now) }
+    ensures { IfOk result (λ answer.
+        IsTrue answer ↔ IsRound graph.now.nodes.items graph.now.from.items graph.now.to.items taken.now) }
 {
     let mut numbers = Vec::new(alloc);
     add_numbers(graph.nodes.as_slice(), graph.from.as_slice(), &mut numbers)?;

@@ -1,11 +1,13 @@
-//! What degrees may give. Nothing is proved of it but that it is safe and ends: the rule tests each candidate.
+//! What degrees, chains and reachability may give. Nothing is proved of it but that it is safe and ends: the rule tests
+//! each candidate.
 
 ghost use Rattle.std.specs.Prelude.{◌<◌, ◌≤◌, All, length};
 ghost use Rattle.cps_instance.specs.Tasks.{atom_subjects};
 
 use crate::clash::{Sign, Witness};
 use crate::graph::Graph;
-use crate::hints::{Claim, hint_of};
+use crate::hints::{Claim, Parting, Way, hint_of};
+use crate::reach::{Links, Reach};
 use crate::tour::{clear_slots, head_of, set_slot, slot_at, tail_of};
 use cps_literal::{Atom, Truth};
 use cps_rule::Hint;
@@ -19,7 +21,8 @@ pub struct Candidate {
     pub hint: Hint,
 }
 
-/// What was seen of the arcs at one end of a node: an arc that is taken, an arc that is open, numbered from 1, and how many are open.
+/// What was seen of the arcs at one end of a node: any arc, one that is taken and one that is open, numbered from 1,
+/// and how many are open.
 #[derive(Clone, Copy)]
 struct Degree {
     any: usize,
@@ -54,13 +57,18 @@ const UNSURE: Sure = Sure {
 pub struct Finder {
     out: Vec<Degree>,
     into: Vec<Degree>,
-    /// For each node, whether a loop there is taken or open.
+    /// For each node, 1 more than a loop there that is taken or open.
     loops: Vec<usize>,
+    /// For each arc, 1 where it is not taken.
+    shut: Vec<usize>,
     /// For each node on a chain of taken arcs, 1 more than the chain's first node.
     label: Vec<usize>,
     /// For the last node of a chain, 1 more than its first node.
     first: Vec<usize>,
     sure: Sure,
+    /// The nodes that a sure one leads to, and those that lead there.
+    ahead: Reach,
+    behind: Reach,
     pub candidates: Vec<Candidate>,
     pub conflict: Option<Hint>,
 }
@@ -128,9 +136,12 @@ impl Finder {
             out: Vec::new(alloc),
             into: Vec::new(alloc),
             loops: Vec::new(alloc),
+            shut: Vec::new(alloc),
             label: Vec::new(alloc),
             first: Vec::new(alloc),
             sure: UNSURE,
+            ahead: Reach::new(alloc),
+            behind: Reach::new(alloc),
             candidates: Vec::new(alloc),
             conflict: None,
         }
@@ -155,11 +166,10 @@ impl Finder {
         }
         count_arc(&mut self.out, from, k, truth);
         count_arc(&mut self.into, to, k, truth);
-        if from == to {
-            match truth {
-                Truth::No => {}
-                _ => set_slot(&mut self.loops, from, 1),
-            }
+        if let Truth::No = truth {
+            set_slot(&mut self.shut, k, 1);
+        } else if from == to {
+            set_slot(&mut self.loops, from, k.wrapping_add(1));
         }
     }
 
@@ -213,21 +223,29 @@ impl Finder {
         node
     }
 
-    /// Keeps an arc whose tail is surely on the circuit.
-    fn note_sure(&mut self, graph: &Graph, node: usize) {
+    /// What shows that a node is on the circuit, if it surely is. That no loop is taken there comes first: where
+    /// there is none, that needs no fact.
+    fn witness(&self, graph: &Graph, node: usize) -> Option<Witness> {
         let any = degree_at(self.out.as_slice(), node).any;
-        let by = self.next_of(graph, node);
-        let witness = if by != 0 {
-            Witness {
-                arc: by - 1,
-                moves: true,
-            }
-        } else if any != 0 && slot_at(self.loops.as_slice(), node) == 0 {
-            Witness {
+        if any != 0 && slot_at(self.loops.as_slice(), node) == 0 {
+            return Some(Witness {
                 arc: any - 1,
                 moves: false,
-            }
-        } else {
+            });
+        }
+        let by = self.next_of(graph, node);
+        if by == 0 {
+            return None;
+        }
+        Some(Witness {
+            arc: by - 1,
+            moves: true,
+        })
+    }
+
+    /// Keeps an arc whose tail is surely on the circuit.
+    fn note_sure(&mut self, graph: &Graph, node: usize) {
+        let Some(witness) = self.witness(graph, node) else {
             return;
         };
         let label = slot_at(self.label.as_slice(), node);
@@ -309,6 +327,57 @@ impl Finder {
         Ok(())
     }
 
+    /// Sees that a node is parted from one that is surely on the circuit: if it is on the circuit too, that is a
+    /// conflict, and else its loop is proposed.
+    fn set_apart(
+        &mut self,
+        graph: &Graph,
+        node: usize,
+        way: Way,
+        root: Witness,
+    ) -> Result<(), AllocError> {
+        if let Some(other) = self.witness(graph, node) {
+            let parting = Parting { way, root, other };
+            self.conflict = Some(hint_of(Claim::Parted(parting)));
+            return Ok(());
+        }
+        let stay = slot_at(self.loops.as_slice(), node);
+        if stay == 0 || degree_at(self.out.as_slice(), node).taken != 0 {
+            return Ok(());
+        }
+        let other = Witness {
+            arc: stay - 1,
+            moves: false,
+        };
+        self.candidates.push(Candidate {
+            sign: Sign {
+                arc: stay - 1,
+                holds: true,
+            },
+            hint: hint_of(Claim::Parted(Parting { way, root, other })),
+        })?;
+        Ok(())
+    }
+
+    /// Looks at the nodes that a node which is surely on the circuit does not lead to, or that do not lead there.
+    fn part(&mut self, graph: &Graph, links: &Links) -> Result<(), AllocError> {
+        let Some(root) = self.sure.one else {
+            return Ok(());
+        };
+        let start = tail_of(graph, root.arc);
+        let shut = self.shut.as_slice();
+        self.ahead.explore(links, Way::Forward, shut, start)?;
+        self.behind.explore(links, Way::Back, shut, start)?;
+        for v in 0..graph.nodes.len() {
+            if !self.ahead.has(v) {
+                self.set_apart(graph, v, Way::Forward, root)?;
+            } else if !self.behind.has(v) {
+                self.set_apart(graph, v, Way::Back, root)?;
+            }
+        }
+        Ok(())
+    }
+
     /// Proposes what the degrees of a node give.
     fn require(&mut self, degree: Degree, claim: Claim) -> Result<(), AllocError> {
         if degree.any != 0 && degree.taken == 0 && degree.count == 0 {
@@ -350,10 +419,11 @@ impl Finder {
         Ok(())
     }
 
-    /// Looks for what degrees give.
+    /// Looks for what degrees, chains and reachability give.
     pub fn find(
         &mut self,
         graph: &Graph,
+        links: &Links,
         literals: &[Atom],
         store: &Store,
     ) -> Result<(), AllocError>
@@ -366,12 +436,14 @@ impl Finder {
         reset(&mut self.into, nodes)?;
         clear_slots(&mut self.loops, nodes)?;
         let arcs = graph.arcs().min(literals.len());
+        clear_slots(&mut self.shut, arcs)?;
         for k in 0..arcs {
             let truth = store.truth(literals[k]);
             self.count(graph, k, truth);
         }
         self.require_all(nodes)?;
         self.follow_all(graph)?;
+        self.part(graph, links)?;
         self.exclude_all(graph, literals, store)
     }
 }

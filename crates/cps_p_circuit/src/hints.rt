@@ -1,9 +1,28 @@
-//! Hints: what a narrowing was found by, in two numbers.
+//! Hints: what a narrowing was found by, in two numbers. Nowhere else are claims numbers.
+//!
+//! The remainder of the second number by `CODES` is the claim's code. The rest of it and the first number are
+//! arcs or witnesses.
 
 ghost use Rattle.std.specs.Prelude.{pos, ◌≤ℤ◌, ◌^◌};
 
 use crate::clash::Witness;
 use cps_rule::Hint;
+
+/// The way in which a search goes by arcs.
+#[derive(Clone, Copy)]
+pub enum Way {
+    Forward,
+    Back,
+}
+
+/// Two nodes that are on the circuit: forward, the first does not lead to the other, and back, the other does not lead
+/// to it.
+#[derive(Clone, Copy)]
+pub struct Parting {
+    pub way: Way,
+    pub root: Witness,
+    pub other: Witness,
+}
 
 /// Why arcs cannot be a circuit.
 #[derive(Clone, Copy)]
@@ -16,15 +35,36 @@ pub enum Claim {
     NoneOut(usize),
     /// No arc is taken that enters this arc's head.
     NoneIn(usize),
-    /// The taken arcs from the tail of the first arc on come back there, and the tail of the other arc is elsewhere and on the circuit,
-    /// since the arc is taken or since no loop is taken there.
+    /// The taken arcs from the tail of the first arc on come back there, and the tail of the other arc is elsewhere
+    /// and on the circuit, since the arc is taken or since no loop is taken there.
     Tour(usize, Witness),
+    /// No arcs that may be taken lead from one node that is on the circuit to another.
+    Parted(Parting),
     /// Something else.
     Other,
 }
 
 /// Indices of arcs in hints are below this.
 const MOST: usize = 1 << 40;
+
+/// There are as many codes.
+const CODES: i64 = 8;
+
+const TWO_OUT: i64 = 0;
+
+const TWO_IN: i64 = 1;
+
+const NONE_OUT: i64 = 2;
+
+const NONE_IN: i64 = 3;
+
+const TOUR: i64 = 4;
+
+const PARTED_FORWARD: i64 = 5;
+
+const PARTED_BACK: i64 = 6;
+
+const OTHER: i64 = 7;
 
 /// An index as a number; 0 for one that is too great.
 fn packed(index: usize) -> i64
@@ -34,9 +74,34 @@ fn packed(index: usize) -> i64
     if index < MOST { index as i64 } else { 0 }
 }
 
+/// A witness as a number: twice its arc, and 1 more where it says that the arc is taken.
+fn packed_witness(witness: Witness) -> i64
+    ensures low { pos 0 ≤ℤ result }
+    ensures high { result ≤ℤ pos (2 ^ 42) }
+{
+    packed(witness.arc) * 2 + if witness.moves { 1 } else { 0 }
+}
+
 /// A number as an index.
 fn index_of(number: i64) -> usize {
     if number < 0 { 0 } else { number as usize }
+}
+
+/// A number as a witness.
+fn witness_of(number: usize) -> Witness {
+    Witness {
+        arc: number / 2,
+        moves: number % 2 == 1,
+    }
+}
+
+/// The parting of two numbers.
+fn parting_of(way: Way, first: usize, second: usize) -> Parting {
+    Parting {
+        way,
+        root: witness_of(first),
+        other: witness_of(second),
+    }
 }
 
 /// The hint of a claim.
@@ -44,45 +109,48 @@ pub fn hint_of(claim: Claim) -> Hint {
     match claim {
         Claim::TwoOut(i, j) => Hint {
             a: packed(i),
-            b: packed(j) * 8,
+            b: packed(j) * CODES + TWO_OUT,
         },
         Claim::TwoIn(i, j) => Hint {
             a: packed(i),
-            b: packed(j) * 8 + 1,
+            b: packed(j) * CODES + TWO_IN,
         },
-        Claim::NoneOut(k) => Hint { a: packed(k), b: 2 },
-        Claim::NoneIn(k) => Hint { a: packed(k), b: 3 },
+        Claim::NoneOut(k) => Hint {
+            a: packed(k),
+            b: NONE_OUT,
+        },
+        Claim::NoneIn(k) => Hint {
+            a: packed(k),
+            b: NONE_IN,
+        },
         Claim::Tour(k, outer) => Hint {
             a: packed(k),
-            b: packed(outer.arc) * 8 + if outer.moves { 4 } else { 5 },
+            b: packed_witness(outer) * CODES + TOUR,
         },
-        Claim::Other => Hint { a: 0, b: 7 },
+        Claim::Parted(parting) => Hint {
+            a: packed_witness(parting.root),
+            b: packed_witness(parting.other) * CODES
+                + match parting.way {
+                    Way::Forward => PARTED_FORWARD,
+                    Way::Back => PARTED_BACK,
+                },
+        },
+        Claim::Other => Hint { a: 0, b: OTHER },
     }
 }
 
 /// The claim of a hint.
 pub fn claim_of(hint: Hint) -> Claim {
-    let i = index_of(hint.a);
-    let b = index_of(hint.b);
-    match b % 8 {
-        0 => Claim::TwoOut(i, b / 8),
-        1 => Claim::TwoIn(i, b / 8),
-        2 => Claim::NoneOut(i),
-        3 => Claim::NoneIn(i),
-        4 => Claim::Tour(
-            i,
-            Witness {
-                arc: b / 8,
-                moves: true,
-            },
-        ),
-        5 => Claim::Tour(
-            i,
-            Witness {
-                arc: b / 8,
-                moves: false,
-            },
-        ),
+    let first = index_of(hint.a);
+    let second = index_of(hint.b / CODES);
+    match hint.b % CODES {
+        TWO_OUT => Claim::TwoOut(first, second),
+        TWO_IN => Claim::TwoIn(first, second),
+        NONE_OUT => Claim::NoneOut(first),
+        NONE_IN => Claim::NoneIn(first),
+        TOUR => Claim::Tour(first, witness_of(second)),
+        PARTED_FORWARD => Claim::Parted(parting_of(Way::Forward, first, second)),
+        PARTED_BACK => Claim::Parted(parting_of(Way::Back, first, second)),
         _ => Claim::Other,
     }
 }

@@ -1,4 +1,4 @@
-//! The rule of circuits: degrees, and the body itself where all is known.
+//! The rule of circuits: degrees, chains and reachability, and the body itself where all is known.
 
 ghost use Rattle.std.specs.Prelude.{◌≡◌, ◌<◌, ◌++◌, Ok, OnOk, IfOk, All, IfSome, true, map, length, Option};
 ghost use Rattle.cps_instance.specs.declared.task.Body.TheVariants.{Circuit};
@@ -10,9 +10,10 @@ use crate::clash::{Sign, Witness};
 use crate::decided::{is_round, read_taken};
 use crate::find::{Candidate, Finder};
 use crate::graph::Graph;
-use crate::hints::{Claim, claim_of};
-use crate::shown::{atom_of, keep};
-use crate::tour::marks_from;
+use crate::hints::{Claim, Parting, Way, claim_of, hint_of};
+use crate::reach::{Links, closed_nodes};
+use crate::shown::{FARTHEST, atom_of, keep};
+use crate::tour::{marks_from, tail_of};
 use cps_enforce::Enforced;
 use cps_instance::{Body, Task};
 use cps_literal::{Atom, Truth};
@@ -26,6 +27,7 @@ use std::alloc::{AllocError, Global};
 pub struct CircuitRule {
     alloc: Global,
     graph: Graph,
+    links: Links,
     literals: Vec<Atom>,
     taken: Vec<bool>,
     finder: Finder,
@@ -36,8 +38,8 @@ impl CircuitRule {
     ghost use Rattle.cps_instance.specs.Tasks.{atom_subjects};
     ghost use Rattle.cps_instance.specs.declared.task.Body.TheVariants.{Circuit};
     ghost use Rattle.cps_rule.specs.Rules.{IsExplained, IsRefuted, IsGiven, IsImpossible};
-    ghost use Rattle.cps_p_circuit.specs.Clashes.{IsClash};
-    ghost use Rattle.cps_p_circuit.specs.Showing.{IsShown, body_by, is_circuit_body};
+    ghost use Rattle.cps_p_circuit.specs.Clashes.{IsClashOf};
+    ghost use Rattle.cps_p_circuit.specs.Showing.{IsShown, body_of, is_circuit_body};
 
     /// The rule of arcs between numbered nodes.
     pub fn new(
@@ -46,11 +48,14 @@ impl CircuitRule {
         heads: &[i32],
         literals: &[Atom],
     ) -> Result<Self, AllocError>
-        ensures { IfOk result (λ r. body_by r.graph.nodes.items r.graph.from.items r.graph.to.items r.literals.items ≡ Circuit tails.now heads.now literals.now) }
+        ensures { IfOk result (λ r. body_of r.graph r.literals.items ≡ Circuit tails.now heads.now literals.now) }
     {
+        let graph = graph_of(alloc, tails, heads)?;
+        let links = Links::of(alloc, &graph)?;
         Ok(CircuitRule {
             alloc,
-            graph: graph_of(alloc, tails, heads)?,
+            graph,
+            links,
             literals: Vec::from_slice(alloc, literals)?,
             taken: Vec::new(alloc),
             finder: Finder::new(alloc),
@@ -60,7 +65,7 @@ impl CircuitRule {
     /// The rule of a body that is `Circuit`.
     pub fn of_body(alloc: Global, body: &Body) -> Result<Self, AllocError>
         requires { IsTrue (is_circuit_body body.now) }
-        ensures { IfOk result (λ r. body_by r.graph.nodes.items r.graph.from.items r.graph.to.items r.literals.items ≡ body.now) }
+        ensures { IfOk result (λ r. body_of r.graph r.literals.items ≡ body.now) }
     {
         match body {
             Body::Circuit {
@@ -97,7 +102,7 @@ impl CircuitRule {
         used: &mut Vec<Sign>,
     ) -> Result<bool, AllocError>
         requires { All (λ i. i < length past.now.first) (atom_subjects self.now.literals.items) }
-        ensures { result ≡ Ok true → IsClash self.now.graph.nodes.items self.now.graph.from.items self.now.graph.to.items used.new.items }
+        ensures { result ≡ Ok true → IsClashOf self.now.graph used.new.items }
     {
         let marks = marks_from(
             self.alloc,
@@ -111,6 +116,26 @@ impl CircuitRule {
         self.graph.cut(marks.as_slice(), inner, outer, used)
     }
 
+    /// Nodes that no arc leaves which may be taken, between two nodes that are on the circuit.
+    fn parted(
+        &self,
+        past: &Before,
+        parting: &Parting,
+        used: &mut Vec<Sign>,
+    ) -> Result<bool, AllocError>
+        requires { All (λ i. i < length past.now.first) (atom_subjects self.now.literals.items) }
+        ensures { result ≡ Ok true → IsClashOf self.now.graph used.new.items }
+    {
+        let start = tail_of(&self.graph, parting.root.arc);
+        let literals = self.literals.as_slice();
+        let reach = closed_nodes(self.alloc, &self.links, literals, past, parting.way, start)?;
+        let (inner, outer) = match parting.way {
+            Way::Forward => (parting.root, parting.other),
+            Way::Back => (parting.other, parting.root),
+        };
+        self.graph.cut(reach.marks(), inner, outer, used)
+    }
+
     /// Signs that leave no circuit, as a hint says.
     fn clash(
         &self,
@@ -120,7 +145,7 @@ impl CircuitRule {
         used: &mut Vec<Sign>,
     ) -> Result<bool, AllocError>
         requires { All (λ i. i < length past.now.first) (atom_subjects self.now.literals.items) }
-        ensures { result ≡ Ok true → IsClash self.now.graph.nodes.items self.now.graph.from.items self.now.graph.to.items used.new.items }
+        ensures { result ≡ Ok true → IsClashOf self.now.graph used.new.items }
     {
         match claim_of(hint) {
             Claim::TwoOut(i, j) => self.graph.two_out((i, j), used),
@@ -128,6 +153,7 @@ impl CircuitRule {
             Claim::NoneOut(k) => self.graph.none_out(k, used),
             Claim::NoneIn(k) => self.graph.none_in(k, used),
             Claim::Tour(k, outer) => self.tour(past, denied, k, outer, used),
+            Claim::Parted(parting) => self.parted(past, &parting, used),
             Claim::Other => Ok(false),
         }
     }
@@ -141,7 +167,8 @@ impl CircuitRule {
         facts: &mut Vec<Atom>,
     ) -> Result<bool, AllocError>
         requires { All (λ i. i < length past.now.first) (atom_subjects self.now.literals.items) }
-        ensures { result ≡ Ok true → IsShown (body_by self.now.graph.nodes.items self.now.graph.from.items self.now.graph.to.items self.now.literals.items) past.now denied facts.new.items }
+        ensures { result ≡ Ok true
+            → IsShown (body_of self.now.graph self.now.literals.items) past.now denied facts.new.items }
     {
         let mut used = Vec::new(self.alloc);
         if !self.clash(past, denied, hint, &mut used)? {
@@ -165,9 +192,10 @@ impl CircuitRule {
         facts: &mut Vec<Atom>,
     ) -> Result<bool, AllocError>
         requires { All (λ i. i < length past.now.first) (atom_subjects self.now.literals.items) }
-        ensures { result ≡ Ok true → IsExplained (body_by self.now.graph.nodes.items self.now.graph.from.items self.now.graph.to.items self.now.literals.items) past.now target facts.new.items }
+        ensures { result ≡ Ok true
+            → IsExplained (body_of self.now.graph self.now.literals.items) past.now target facts.new.items }
     {
-        if target.value < -4 || target.value > 4 {
+        if target.value < -FARTHEST || target.value > FARTHEST {
             return Ok(false);
         }
         let denied = target.negate();
@@ -183,8 +211,9 @@ impl CircuitRule {
         found: &mut Vec<Narrowing>,
     ) -> Result<(), AllocError>
         requires { All (λ i. i < length store.now.first) (atom_subjects self.now.literals.items) }
-        ensures { OnOk result (All (λ n. IsGiven (body_by self.now.graph.nodes.items self.now.graph.from.items self.now.graph.to.items self.now.literals.items) store.now n.target) found.old.items
-            → All (λ n. IsGiven (body_by self.now.graph.nodes.items self.now.graph.from.items self.now.graph.to.items self.now.literals.items) store.now n.target) found.new.items) }
+        ensures { OnOk result (
+            All (λ n. IsGiven (body_of self.now.graph self.now.literals.items) store.now n.target) found.old.items
+            → All (λ n. IsGiven (body_of self.now.graph self.now.literals.items) store.now n.target) found.new.items) }
     {
         let Some(target) = atom_of(self.literals.as_slice(), candidate.sign) else {
             return Ok(());
@@ -207,7 +236,8 @@ impl CircuitRule {
     /// Puts what the candidates give in the place of what a list holds.
     fn gather(&self, store: &Store, found: &mut Vec<Narrowing>) -> Result<(), AllocError>
         requires { All (λ i. i < length store.now.first) (atom_subjects self.now.literals.items) }
-        ensures { OnOk result (All (λ n. IsGiven (body_by self.now.graph.nodes.items self.now.graph.from.items self.now.graph.to.items self.now.literals.items) store.now n.target) found.new.items) }
+        ensures { OnOk result (
+            All (λ n. IsGiven (body_of self.now.graph self.now.literals.items) store.now n.target) found.new.items) }
     {
         found.clear();
         let mut facts = Vec::new(self.alloc);
@@ -221,7 +251,7 @@ impl CircuitRule {
     /// Whether a hint shows that the body cannot hold.
     fn fails(&self, store: &Store, hint: Hint) -> Result<bool, AllocError>
         requires { All (λ i. i < length store.now.first) (atom_subjects self.now.literals.items) }
-        ensures { result ≡ Ok true → IsImpossible (body_by self.now.graph.nodes.items self.now.graph.from.items self.now.graph.to.items self.now.literals.items) store.now }
+        ensures { result ≡ Ok true → IsImpossible (body_of self.now.graph self.now.literals.items) store.now }
     {
         let mut facts = Vec::new(self.alloc);
         let past = store.present();
@@ -232,14 +262,14 @@ impl CircuitRule {
 impl Rule for CircuitRule {
     ghost use Rattle.std.specs.Prelude.{map};
     ghost use Rattle.cps_instance.specs.declared.task.Body.{Body};
-    ghost use Rattle.cps_p_circuit.specs.Showing.{body_by};
+    ghost use Rattle.cps_p_circuit.specs.Showing.{body_of};
 
-    ghost body = { λ r. body_by r.graph.nodes.items r.graph.from.items r.graph.to.items r.literals.items };
+    ghost body = { λ r. body_of r.graph r.literals.items };
 
     fn look(&mut self, store: &Store, found: &mut Vec<Narrowing>) -> Result<Look, AllocError> {
         found.clear();
         self.finder
-            .find(&self.graph, self.literals.as_slice(), store)?;
+            .find(&self.graph, &self.links, self.literals.as_slice(), store)?;
         if let Some(hint) = self.finder.conflict {
             if self.fails(store, hint)? {
                 return Ok(Look::Impossible(hint));
@@ -249,7 +279,7 @@ impl Rule for CircuitRule {
             if is_round(self.alloc, &self.graph, self.taken.as_slice())? {
                 return Ok(Look::Possible);
             }
-            return Ok(Look::Impossible(Hint { a: 0, b: 7 }));
+            return Ok(Look::Impossible(hint_of(Claim::Other)));
         }
         self.gather(store, found)?;
         Ok(Look::Possible)

@@ -11,6 +11,9 @@ use cps_literal::{Atom, Truth};
 use cps_trail::Before;
 use std::alloc::AllocError;
 
+/// A literal is an atom about a number that is 0 or 1. Its value and its opposite's are no farther from 0 than this.
+pub const FARTHEST: i64 = 2;
+
 /// The atom that says of an arc's literal what a sign says of the arc.
 pub fn atom_of(literals: &[Atom], sign: Sign) -> Option<Atom>
     ensures { IfSome result (λ u. IsAtomOf literals.now sign u) }
@@ -26,7 +29,7 @@ pub fn atom_of(literals: &[Atom], sign: Sign) -> Option<Atom>
         return Some(literal);
     }
     let opposite = literal.negate();
-    if opposite.value < -2 || opposite.value > 2 {
+    if opposite.value < -FARTHEST || opposite.value > FARTHEST {
         return None;
     }
     Some(opposite)
@@ -53,7 +56,8 @@ pub fn was_true(past: &Before, atom: Atom) -> bool
     }
 }
 
-/// Puts the facts that make signs true, beside an atom, in the place of what a list holds. Answers false where one was not true.
+/// Puts the facts that make signs true, beside an atom, in the place of what a list holds. Answers false where one
+/// was not true.
 pub fn keep(
     literals: &[Atom],
     past: &Before,

@@ -1,4 +1,5 @@
-//! Marks of the nodes that taken arcs lead by. Nothing is proved of them but that they are safe and end: `Graph::cut` tests them.
+//! Marks of the nodes that taken arcs lead by. Nothing is proved of them but that they are safe and end: `Graph::cut`
+//! tests them.
 
 ghost use Rattle.std.specs.Prelude.{◌<◌, All, length};
 ghost use Rattle.cps_instance.specs.Tasks.{atom_subjects};
