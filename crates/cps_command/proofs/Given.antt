@@ -11,12 +11,16 @@ use Rattle.clap.specs.declared.parser.matches.Found.{Found}
 use Rattle.clap.specs.declared.parser.matches.SubCommand.{SubCommand}
 use Rattle.clap.proofs.WalkLemmas.{first_value-rows, one_text-rows}
 use Rattle.cps_command.specs.declared.command.Command.{Command}
-use Rattle.cps_command.specs.declared.command.Command.TheVariants.{Solve, Validate, Print}
+use Rattle.cps_command.specs.declared.command.Command.TheVariants.{Solve, Validate, Print, Gen, Demo}
+use Rattle.cps_gen.specs.declared.family.Family.{Family}
+use Rattle.cps_gen.specs.declared.family.Family.TheVariants.{Knapsack, Jobshop, Tour}
+use Rattle.cps_gen.specs.Families.{family_name}
+use Rattle.cps_command.specs.declared.recipe.Recipe.{Recipe}
 use Rattle.cps_options.specs.declared.options.Options.{Options}
 use Rattle.cps_options.specs.Ranges.{AreInRange}
-use Rattle.cps_command.specs.Numbers.{IsNumber, HasNumber, IsOn, AreOptions}
+use Rattle.cps_command.specs.Numbers.{IsNumber, HasNumber, IsOn, AreOptions, NamesFamily, IsRecipe}
 use Rattle.cps_command.specs.Rules.{command_table}
-use Rattle.cps_command.specs.Lines.{IsPassed, HasName, HasOptions, Says, SaysNothing, CommandLine, IsUsageFault, HasOneCommand}
+use Rattle.cps_command.specs.Lines.{IsPassed, HasName, HasOptions, HasRecipe, Says, SaysNothing, CommandLine, IsUsageFault, HasOneCommand}
 
 -- a text that is read is a number
 pub read_number : {E : Type 0} (k : ℕ) (text : List ℕ) (n : ℕ) (r : Result ℕ E) → r ≡ Ok n → ParsesUnsigned k 10 text r → IsNumber text n
@@ -92,21 +96,35 @@ entered_name m = go (out-ArgMatches m).subcommand
 pub has_name : (m : ArgMatches) (name : List ℕ) → subcommand_name_of m ≡ Some name → HasName name (subcommand_rows_of m)
 has_name m name entered = sym (entered_name m) ∙ entered
 
+-- words that begin with two bytes are two
+other_word : (name other : List ℕ) → (slice_index name 0 ≡ slice_index other 0 → ⊥) → name ≡ other → ⊥
+other_word name other apart same = apart (ap (λ (t : List ℕ). slice_index t 0) same)
+
 -- words say one name, so none that begins with another byte
 other_name : (says : Option (Text × List Row)) (name other : List ℕ) → (slice_index name 0 ≡ slice_index other 0 → ⊥) → HasName name says → HasName other says → ⊥
 other_name says name other apart h k =
     let both : Some name ≡ Some other = sym h ∙ k in
     let same : name ≡ other = cc in
-    apart (ap (λ (t : List ℕ). slice_index t 0) same)
+    other_word name other apart same
 
-solve_no_validate : (says : Option (Text × List Row)) → HasName (codes "solve") says → HasName (codes "validate") says → ⊥
-solve_no_validate says h k = other_name says (codes "solve") (codes "validate") (λ (e : 115 ≡ 118). omega arith) h k
+-- the name of a command
+abbrev name_of : Command → List ℕ
+name_of (Solve o) = codes "solve"
+name_of Validate = codes "validate"
+name_of Print = codes "print"
+name_of (Gen r) = codes "gen"
+name_of (Demo r) = codes "demo"
 
-solve_no_print : (says : Option (Text × List Row)) → HasName (codes "solve") says → HasName (codes "print") says → ⊥
-solve_no_print says h k = other_name says (codes "solve") (codes "print") (λ (e : 115 ≡ 112). omega arith) h k
+said_name : (says : Option (Text × List Row)) (c : Command) → Says says c → HasName (name_of c) says
+said_name says (Solve o) h = h.0
+said_name says Validate h = h
+said_name says Print h = h
+said_name says (Gen r) h = h.0
+said_name says (Demo r) h = h.0
 
-validate_no_print : (says : Option (Text × List Row)) → HasName (codes "validate") says → HasName (codes "print") says → ⊥
-validate_no_print says h k = other_name says (codes "validate") (codes "print") (λ (e : 118 ≡ 112). omega arith) h k
+-- words that have one name say no command of another
+no_other : (says : Option (Text × List Row)) (name : List ℕ) (c : Command) → HasName name says → (slice_index name 0 ≡ slice_index (name_of c) 0 → ⊥) → Says says c → ⊥
+no_other says name c h apart k = other_name says name (name_of c) apart h (said_name says c k)
 
 abbrev make : ℕ → ℕ → ℕ → Bool → ℕ → Options
 make workers conflicts seed interleave gap = record { workers = workers; conflicts = conflicts; seed = seed; interleave = interleave; gap = gap }
@@ -130,16 +148,83 @@ same_options says o p h k =
     let gap = same_number (codes "gap") h.rows o.gap p.gap h.options.gap other.gap in
     alike_options o p workers conflicts seed interleave gap
 
+-- two families have two names
+same_family : (f g : Family) → family_name f ≡ family_name g → f ≡ g
+same_family Knapsack Knapsack e = refl
+same_family Jobshop Jobshop e = refl
+same_family Tour Tour e = refl
+same_family Knapsack Jobshop e = absurd (other_word (codes "knapsack") (codes "jobshop") (λ (n : 107 ≡ 106). omega arith) e)
+same_family Knapsack Tour e = absurd (other_word (codes "knapsack") (codes "tour") (λ (n : 107 ≡ 116). omega arith) e)
+same_family Jobshop Knapsack e = absurd (other_word (codes "jobshop") (codes "knapsack") (λ (n : 106 ≡ 107). omega arith) e)
+same_family Jobshop Tour e = absurd (other_word (codes "jobshop") (codes "tour") (λ (n : 106 ≡ 116). omega arith) e)
+same_family Tour Knapsack e = absurd (other_word (codes "tour") (codes "knapsack") (λ (n : 116 ≡ 107). omega arith) e)
+same_family Tour Jobshop e = absurd (other_word (codes "tour") (codes "jobshop") (λ (n : 116 ≡ 106). omega arith) e)
+
+-- what is read of a word names one family
+pub one_family : (rows : List Row) (f g : Family) → NamesFamily rows f → NamesFamily rows g → f ≡ g
+one_family rows f g h k =
+    let both : Some (family_name f) ≡ Some (family_name g) = sym h ∙ k in
+    let names : family_name f ≡ family_name g = cc in
+    same_family f g names
+
+-- the family whose name was read, and none where it is no family's
+pub family_given : (f : Found) (name : List ℕ) (found : Option Family) → first_value f (codes "family") ≡ Some name
+    → MatchOption found ((g : Family) → family_name g ≡ name → ⊥) (λ (g : Family). family_name g ≡ name)
+    → MatchOption found ((g : Family) → NamesFamily (rows_of f) g → ⊥) (NamesFamily (rows_of f))
+family_given f name None read none = λ g names.
+    let both : Some (family_name g) ≡ Some name = sym names ∙ sym (first_value-rows f (codes "family")) ∙ read in
+    let same : family_name g ≡ name = cc in
+    none g same
+family_given f name (Some g) read same = sym (first_value-rows f (codes "family")) ∙ read ∙ ap (λ (t : List ℕ). Some t) (sym same)
+
+-- nothing that was read names no family
+pub no_family_given : (f : Found) → first_value f (codes "family") ≡ None → (g : Family) → NamesFamily (rows_of f) g → ⊥
+no_family_given f read g names = absurd (let q : None ≡ Some (family_name g) = sym read ∙ first_value-rows f (codes "family") ∙ names in cc)
+
+abbrev bake : Family → ℕ → ℕ → Recipe
+bake family size seed = record { family = family; size = size; seed = seed }
+
+alike_recipes : (r t : Recipe) → r.family ≡ t.family → r.size ≡ t.size → r.seed ≡ t.seed → r ≡ t
+alike_recipes r t family size seed =
+    ap (λ (f : Family). bake f r.size r.seed) family ∙ ap (λ (n : ℕ). bake t.family n r.seed) size ∙ ap (λ (n : ℕ). bake t.family t.size n) seed
+
+-- words name one model
+same_recipe : (says : Option (Text × List Row)) (r t : Recipe) → HasRecipe says r → HasRecipe says t → r ≡ t
+same_recipe says r t h k =
+    let both : Some k.rows ≡ Some h.rows = sym k.are ∙ h.are in
+    let rows : k.rows ≡ h.rows = cc in
+    let other = subst (λ (x : List Row). IsRecipe x t) rows k.recipe in
+    let family = one_family h.rows r.family t.family h.recipe.family other.family in
+    let size = same_number (codes "size") h.rows r.size t.size h.recipe.size other.size in
+    let seed = same_number (codes "seed") h.rows r.seed t.seed h.recipe.seed other.seed in
+    alike_recipes r t family size seed
+
 one_said : (says : Option (Text × List Row)) (c d : Command) → Says says c → Says says d → c ≡ d
 one_said says (Solve o) (Solve p) h k = ap (λ (q : Options). Solve q) (same_options says o p h.1 k.1)
-one_said says (Solve o) Validate h k = absurd (solve_no_validate says h.0 k)
-one_said says (Solve o) Print h k = absurd (solve_no_print says h.0 k)
-one_said says Validate (Solve p) h k = absurd (solve_no_validate says k.0 h)
 one_said says Validate Validate h k = refl
-one_said says Validate Print h k = absurd (validate_no_print says h k)
-one_said says Print (Solve p) h k = absurd (solve_no_print says k.0 h)
-one_said says Print Validate h k = absurd (validate_no_print says k h)
 one_said says Print Print h k = refl
+one_said says (Gen r) (Gen t) h k = ap (λ (q : Recipe). Gen q) (same_recipe says r t h.1 k.1)
+one_said says (Demo r) (Demo t) h k = ap (λ (q : Recipe). Demo q) (same_recipe says r t h.1 k.1)
+one_said says (Solve o) Validate h k = absurd (no_other says (name_of (Solve o)) Validate (said_name says (Solve o) h) (λ (e : 115 ≡ 118). omega arith) k)
+one_said says (Solve o) Print h k = absurd (no_other says (name_of (Solve o)) Print (said_name says (Solve o) h) (λ (e : 115 ≡ 112). omega arith) k)
+one_said says (Solve o) (Gen t) h k = absurd (no_other says (name_of (Solve o)) (Gen t) (said_name says (Solve o) h) (λ (e : 115 ≡ 103). omega arith) k)
+one_said says (Solve o) (Demo t) h k = absurd (no_other says (name_of (Solve o)) (Demo t) (said_name says (Solve o) h) (λ (e : 115 ≡ 100). omega arith) k)
+one_said says Validate (Solve p) h k = absurd (no_other says (name_of Validate) (Solve p) (said_name says Validate h) (λ (e : 118 ≡ 115). omega arith) k)
+one_said says Validate Print h k = absurd (no_other says (name_of Validate) Print (said_name says Validate h) (λ (e : 118 ≡ 112). omega arith) k)
+one_said says Validate (Gen t) h k = absurd (no_other says (name_of Validate) (Gen t) (said_name says Validate h) (λ (e : 118 ≡ 103). omega arith) k)
+one_said says Validate (Demo t) h k = absurd (no_other says (name_of Validate) (Demo t) (said_name says Validate h) (λ (e : 118 ≡ 100). omega arith) k)
+one_said says Print (Solve p) h k = absurd (no_other says (name_of Print) (Solve p) (said_name says Print h) (λ (e : 112 ≡ 115). omega arith) k)
+one_said says Print Validate h k = absurd (no_other says (name_of Print) Validate (said_name says Print h) (λ (e : 112 ≡ 118). omega arith) k)
+one_said says Print (Gen t) h k = absurd (no_other says (name_of Print) (Gen t) (said_name says Print h) (λ (e : 112 ≡ 103). omega arith) k)
+one_said says Print (Demo t) h k = absurd (no_other says (name_of Print) (Demo t) (said_name says Print h) (λ (e : 112 ≡ 100). omega arith) k)
+one_said says (Gen r) (Solve p) h k = absurd (no_other says (name_of (Gen r)) (Solve p) (said_name says (Gen r) h) (λ (e : 103 ≡ 115). omega arith) k)
+one_said says (Gen r) Validate h k = absurd (no_other says (name_of (Gen r)) Validate (said_name says (Gen r) h) (λ (e : 103 ≡ 118). omega arith) k)
+one_said says (Gen r) Print h k = absurd (no_other says (name_of (Gen r)) Print (said_name says (Gen r) h) (λ (e : 103 ≡ 112). omega arith) k)
+one_said says (Gen r) (Demo t) h k = absurd (no_other says (name_of (Gen r)) (Demo t) (said_name says (Gen r) h) (λ (e : 103 ≡ 100). omega arith) k)
+one_said says (Demo r) (Solve p) h k = absurd (no_other says (name_of (Demo r)) (Solve p) (said_name says (Demo r) h) (λ (e : 100 ≡ 115). omega arith) k)
+one_said says (Demo r) Validate h k = absurd (no_other says (name_of (Demo r)) Validate (said_name says (Demo r) h) (λ (e : 100 ≡ 118). omega arith) k)
+one_said says (Demo r) Print h k = absurd (no_other says (name_of (Demo r)) Print (said_name says (Demo r) h) (λ (e : 100 ≡ 112). omega arith) k)
+one_said says (Demo r) (Gen t) h k = absurd (no_other says (name_of (Demo r)) (Gen t) (said_name says (Demo r) h) (λ (e : 100 ≡ 103). omega arith) k)
 
 -- words have one command
 pub one_command : (words : List (List ℕ)) → HasOneCommand words
@@ -152,8 +237,10 @@ no_options says found name rows none (Solve o) said =
     let both : Some said.1.rows ≡ Some found = sym said.1.are ∙ rows in
     let alike : said.1.rows ≡ found = cc in
     none o (subst (λ (r : List Row). AreOptions r o) alike said.1.options)
-no_options says found name rows none Validate said = solve_no_validate says name said
-no_options says found name rows none Print said = solve_no_print says name said
+no_options says found name rows none Validate said = no_other says (codes "solve") Validate name (λ (e : 115 ≡ 118). omega arith) said
+no_options says found name rows none Print said = no_other says (codes "solve") Print name (λ (e : 115 ≡ 112). omega arith) said
+no_options says found name rows none (Gen r) said = no_other says (codes "solve") (Gen r) name (λ (e : 115 ≡ 103). omega arith) said
+no_options says found name rows none (Demo r) said = no_other says (codes "solve") (Demo r) name (λ (e : 115 ≡ 100). omega arith) said
 
 -- what words say that pass is their command
 pub passed_command : (words : List (List ℕ)) (says : Option (Text × List Row)) (found : Option Command) → IsPassed words says

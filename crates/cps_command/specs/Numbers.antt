@@ -1,7 +1,10 @@
--- What the options of a command are, by what `clap` found.
+-- What the options of a command and the model that it names are, by what `clap` found.
 use Rattle.std.specs.Prelude.{◌≡◌, ◌↔◌, ℕ, ◌<◌, ◌^◌, List, codes, IsTrue, Some}
 use Rattle.std.specs.Str.Parse.{IsNumeral, digits_value, without_leading_plus}
 use Rattle.clap.specs.Words.{Row, first_of, one_of}
+use Rattle.cps_gen.specs.declared.family.Family.{Family}
+use Rattle.cps_gen.specs.Families.{family_name, is_in_range}
+use Rattle.cps_command.specs.declared.recipe.Recipe.{Recipe}
 use Rattle.cps_options.specs.declared.options.Options.{Options}
 use Rattle.cps_options.specs.Ranges.{AreInRange}
 
@@ -29,3 +32,15 @@ pub record AreOptions (rows : List Row) (o : Options) : Type 0 where
   pub interleave : IsTrue o.interleave ↔ IsOn (codes "interleave") rows
   pub gap : HasNumber (codes "gap") rows o.gap
   pub range : AreInRange o
+
+-- the word for this family was given
+abbrev pub NamesFamily : List Row → Family → Type 0
+NamesFamily rows f = first_of (codes "family") rows ≡ Some (family_name f)
+
+-- the model to be generated has this family, size and seed, and the family has models of that size
+pub record IsRecipe (rows : List Row) (r : Recipe) : Type 0 where
+  pub family : NamesFamily rows r.family
+  pub size : HasNumber (codes "size") rows r.size
+  pub range : IsTrue (is_in_range r.family r.size)
+  pub seed : HasNumber (codes "seed") rows r.seed
+  pub seed_fits : r.seed < 2 ^ 64

@@ -1,6 +1,6 @@
 -- The table of commands, as one simple command of `clap`.
 use Rattle.std.specs.Prelude.{true, pos, [], ◌∷◌, codes, Some}
-use Rattle.clap.specs.Words.{App, Rule, Shape, new_app, new_rule, with_rule, with_subcommand}
+use Rattle.clap.specs.Words.{App, Rule, Shape, Text, new_app, new_rule, with_rule, with_subcommand}
 use Rattle.clap.specs.Simple.{on_top}
 use Rattle.clap.specs.declared.builder.action.ArgAction.TheVariants.{SetTrue}
 use Rattle.clap.specs.declared.builder.value_parser.ValueParser.TheVariants as vp
@@ -50,6 +50,28 @@ solve_line =
     with_rule (with_rule (with_rule (with_rule (with_rule (new_app (codes "solve")) workers_rule) conflicts_rule) seed_rule) interleave_rule)
     gap_rule
 
+-- `FAMILY`, a word
+unfoldable pub family_rule : Rule
+family_rule = record (new_rule (codes "family")) { required = true }
+
+-- `SIZE`, a number of 32 bits
+unfoldable pub size_rule : Rule
+size_rule = record (new_rule (codes "size")) {
+  required = true;
+  parser = Some (vp.Signed (pos 0) (pos 4294967295));
+}
+
+-- `SEED`, a number of 64 bits
+unfoldable pub drawing_rule : Rule
+drawing_rule = record (new_rule (codes "seed")) {
+  required = true;
+  parser = Some (vp.Unsigned 0 18446744073709551615);
+}
+
+-- a command with `FAMILY SIZE SEED` behind it
+unfoldable pub generating_line : Text → App
+generating_line name = with_rule (with_rule (with_rule (new_app name) family_rule) size_rule) drawing_rule
+
 -- a command that wants a subcommand
 abbrev pub wants_subcommand : Shape → Shape
 wants_subcommand s = record s { subcommand_required = true }
@@ -66,5 +88,9 @@ print_line = new_app (codes "print")
 unfoldable pub command_table : App
 command_table =
     with_subcommand
+    (with_subcommand
+    (with_subcommand
     (with_subcommand (with_subcommand (on_top wants_subcommand (new_app (codes "cpsolve"))) solve_line.top) validate_line.top)
-    print_line.top
+    print_line.top)
+    (generating_line (codes "gen")).top)
+    (generating_line (codes "demo")).top

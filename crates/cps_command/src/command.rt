@@ -1,9 +1,10 @@
 //! What the program is told to do.
-ghost use Rattle.std.specs.Prelude.{IfOk, MatchOption};
+ghost use Rattle.std.specs.Prelude.{◌≡◌, IfOk, MatchOption};
 ghost use Rattle.clap.specs.Words.{subcommand_rows_of};
-ghost use Rattle.cps_command.specs.Lines.{texts_of, Says, SaysNothing, CommandLine, IsUsageFault, HasOneCommand};
+ghost use Rattle.cps_command.specs.Lines.{texts_of, Says, SaysNothing, CommandLine, IsUsageFault, HasOneCommand, reads};
 
 use crate::options::options_of;
+use crate::recipe::{Recipe, recipe_of};
 use crate::table::matches_of;
 use clap::ArgMatches;
 use cps_options::Options;
@@ -18,9 +19,25 @@ pub enum Command {
     Validate,
     /// Read a model, valid or not, and write its canonical text.
     Print,
+    /// Write the canonical text of a generated model.
+    Gen(Recipe),
+    /// Solve a generated model, and say in four lines what came of it.
+    Demo(Recipe),
 }
 
-/// The command that a line says, none where its options are out of their ranges.
+impl Command {
+    /// Whether the command reads an input.
+    pub fn reads(&self) -> bool
+        ensures { result ≡ reads self.now }
+    {
+        match self {
+            Command::Solve(_) | Command::Validate | Command::Print => true,
+            Command::Gen(_) | Command::Demo(_) => false,
+        }
+    }
+}
+
+/// The command that a line says, none where its options are out of their ranges, or there is no such model to generate.
 fn command_in(line: &ArgMatches<'_>) -> Option<Command>
     ensures { MatchOption result (SaysNothing (subcommand_rows_of line.now)) (Says (subcommand_rows_of line.now)) }
 {
@@ -32,6 +49,12 @@ fn command_in(line: &ArgMatches<'_>) -> Option<Command>
     }
     if line.subcommand_matches("print").is_some() {
         return Some(Command::Print);
+    }
+    if let Some(line) = line.subcommand_matches("gen") {
+        return Some(Command::Gen(recipe_of(line)?));
+    }
+    if let Some(line) = line.subcommand_matches("demo") {
+        return Some(Command::Demo(recipe_of(line)?));
     }
     None
 }

@@ -7,16 +7,16 @@ ghost use Rattle.cps_options.specs.declared.options.Options.{Options as OptionsO
 use clap::ArgMatches;
 use cps_options::Options;
 
-/// The number that an option of 32 bits has, none where it has none.
-fn number_of(matches: &ArgMatches<'_>, option: &str) -> Option<u32>
+/// The number that an option of 32 bits has, or an argument, none where it has none.
+pub(crate) fn number_of(matches: &ArgMatches<'_>, option: &str) -> Option<u32>
     ensures { MatchOption result ((n : ℕ) → HasNumber option.now (rows_of (found_of matches.now)) n → n < 2 ^ 32 → ⊥)
         (HasNumber option.now (rows_of (found_of matches.now))) }
 {
     matches.get_one::<u32>(option)
 }
 
-/// The number that an option of 64 bits has, none where it has none.
-fn long_number_of(matches: &ArgMatches<'_>, option: &str) -> Option<u64>
+/// The number that an option of 64 bits has, or an argument, none where it has none.
+pub(crate) fn long_number_of(matches: &ArgMatches<'_>, option: &str) -> Option<u64>
     ensures { MatchOption result ((n : ℕ) → HasNumber option.now (rows_of (found_of matches.now)) n → n < 2 ^ 64 → ⊥)
         (HasNumber option.now (rows_of (found_of matches.now))) }
 {

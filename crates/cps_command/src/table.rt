@@ -2,7 +2,7 @@
 ghost use Rattle.std.specs.Prelude.{◌≡◌, ◌≢◌, [], false, IfOk, MatchOption};
 ghost use Rattle.clap.specs.Words.{app_of, rule_of, fault_of, subcommand_of, subcommand_rows_of};
 ghost use Rattle.clap.specs.declared.builder.Command.TheViews.{out-Command};
-ghost use Rattle.cps_command.specs.Rules.{workers_rule, conflicts_rule, seed_rule, interleave_rule, gap_rule, solve_line, command_table};
+ghost use Rattle.cps_command.specs.Rules.{workers_rule, conflicts_rule, seed_rule, interleave_rule, gap_rule, family_rule, size_rule, drawing_rule, solve_line, generating_line, command_table};
 ghost use Rattle.cps_command.specs.Lines.{texts_of, IsPassed};
 
 use clap::error::ErrorKind;
@@ -81,6 +81,45 @@ fn solve_line<'a>(alloc: Global) -> Result<Command<'a>, AllocError>
         .arg(gap)
 }
 
+/// `FAMILY`
+fn family_argument<'a>(alloc: Global) -> Arg<'a>
+    ensures rule { rule_of result ≡ family_rule }
+    ensures local { result.global ≡ false }
+{
+    Arg::new(alloc, "family").required(true)
+}
+
+/// `SIZE`
+fn size_argument<'a>(alloc: Global) -> Arg<'a>
+    ensures rule { rule_of result ≡ size_rule }
+    ensures local { result.global ≡ false }
+{
+    Arg::new(alloc, "size")
+        .required(true)
+        .value_parser(value_parser!(u32))
+}
+
+/// `SEED`
+fn drawing_argument<'a>(alloc: Global) -> Arg<'a>
+    ensures rule { rule_of result ≡ drawing_rule }
+    ensures local { result.global ≡ false }
+{
+    Arg::new(alloc, "seed")
+        .required(true)
+        .value_parser(value_parser!(u64))
+}
+
+/// A command with `FAMILY SIZE SEED` behind it.
+fn generating_line<'a>(alloc: Global, name: &'a str) -> Result<Command<'a>, AllocError>
+    ensures app { IfOk result (λ c. app_of c ≡ generating_line name.entry.now) }
+    ensures local { IfOk result (λ c. (out-Command c).has_globals ≡ false) }
+{
+    let family = family_argument(alloc);
+    let size = size_argument(alloc);
+    let seed = drawing_argument(alloc);
+    Command::new(alloc, name).arg(family)?.arg(size)?.arg(seed)
+}
+
 /// All lines.
 fn command_table<'a>(alloc: Global) -> Result<Command<'a>, AllocError>
     ensures { IfOk result (λ c. app_of c ≡ command_table) }
@@ -88,11 +127,15 @@ fn command_table<'a>(alloc: Global) -> Result<Command<'a>, AllocError>
     let solve = solve_line(alloc)?;
     let validate = Command::new(alloc, "validate");
     let print = Command::new(alloc, "print");
+    let generate = generating_line(alloc, "gen")?;
+    let demonstrate = generating_line(alloc, "demo")?;
     Command::new(alloc, "cpsolve")
         .subcommand_required(true)
         .subcommand(solve)?
         .subcommand(validate)?
-        .subcommand(print)
+        .subcommand(print)?
+        .subcommand(generate)?
+        .subcommand(demonstrate)
 }
 
 /// What the words say by the table, none where they are no line of it.

@@ -1,11 +1,11 @@
 //! Words with the commands that they are.
-use cps_command::{Command, command_of};
+use cps_command::{Command, Family, Recipe, command_of};
 use cps_options::Options;
 use std::alloc::{AllocError, Global};
 use std::test::Fail;
 
 /// Words, each with the command that they are.
-const LINES: [(&[&str], Option<Command>); 42] = [
+const LINES: [(&[&str], Option<Command>); 61] = [
     (
         &["cpsolve", "solve"],
         Some(Command::Solve(Options {
@@ -90,6 +90,46 @@ const LINES: [(&[&str], Option<Command>); 42] = [
     (&["x", "validate"], Some(Command::Validate)),
     (&["cpsolve", "print"], Some(Command::Print)),
     (&["x", "print"], Some(Command::Print)),
+    (
+        &["cpsolve", "gen", "knapsack", "100", "3"],
+        Some(Command::Gen(Recipe {
+            family: Family::Knapsack,
+            size: 100,
+            seed: 3,
+        })),
+    ),
+    (
+        &["x", "gen", "tour", "60", "18446744073709551615"],
+        Some(Command::Gen(Recipe {
+            family: Family::Tour,
+            size: 60,
+            seed: 18_446_744_073_709_551_615,
+        })),
+    ),
+    (
+        &["cpsolve", "demo", "jobshop", "16", "0"],
+        Some(Command::Demo(Recipe {
+            family: Family::Jobshop,
+            size: 16,
+            seed: 0,
+        })),
+    ),
+    (&["cpsolve", "gen", "tour", "1", "5"], None),
+    (&["cpsolve", "gen", "tour", "61", "5"], None),
+    (&["cpsolve", "gen", "jobshop", "0", "5"], None),
+    (&["cpsolve", "gen", "jobshop", "17", "5"], None),
+    (&["cpsolve", "gen", "knapsack", "0", "5"], None),
+    (&["cpsolve", "gen", "knapsack", "10001", "5"], None),
+    (&["cpsolve", "gen", "knapsack", "4294967297", "5"], None),
+    (&["cpsolve", "demo", "tour", "1", "5"], None),
+    (&["cpsolve", "gen", "rosters", "5", "5"], None),
+    (&["cpsolve", "gen", "5", "tour", "5"], None),
+    (&["cpsolve", "gen", "tour", "5", "-1"], None),
+    (&["cpsolve", "gen", "tour", "5"], None),
+    (&["cpsolve", "gen", "tour", "5", "5", "5"], None),
+    (&["cpsolve", "gen", "tour", "5", "--seed", "5"], None),
+    (&["cpsolve", "demo"], None),
+    (&["cpsolve", "demo", "--help"], None),
     (&["cpsolve", "solve", "--conflicts", "1000000001"], None),
     (
         &["cpsolve", "solve", "--conflicts", "18446744073709551616"],

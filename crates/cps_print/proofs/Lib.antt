@@ -1,4 +1,5 @@
 pub mod Lines
+pub mod Demonstrations
 pub mod Digits
 pub mod Pieces
 pub mod Quoted

@@ -6,4 +6,5 @@ pub mod Kinds
 pub mod Models
 pub mod ReadBack
 pub mod Responses
+pub mod Demonstrations
 pub mod Faults

@@ -1,5 +1,5 @@
-//! The texts that are written: a model in its canonical form, a response to it, and the two lines that say why an
-//! input is no valid model.
+//! The texts that are written: a model in its canonical form, a response to it, the four lines of a demonstration, and
+//! the two lines that say why an input is no valid model.
 //!
 //! The contract of each function says its text exactly. A message is laid out by one definition for all kinds (`text_of`
 //! in `specs/Layout.antt`), and each part of a model adds only which fields it has (`specs/Models.antt`, and for what
@@ -12,6 +12,7 @@
 //! (`proofs/Parts.antt`), and each kind adds only which parts it has (`proofs/KindMessages.antt`).
 #![tactic(auto)]
 
+mod demonstration;
 mod expression;
 mod fault;
 mod kind;
@@ -21,6 +22,7 @@ mod objective;
 mod quoting;
 mod response;
 
+pub use demonstration::demo_text;
 pub use fault::{Fault, fault_text};
 pub use model::model_text;
 pub use response::{Response, response_text};

@@ -20,7 +20,8 @@ pub struct Response {
     pub lower: Bound,
 }
 
-fn status_name(status: Status) -> &'static str
+/// The word for a status.
+pub fn status_name(status: Status) -> &'static str
     ensures { result.now ≡ status_name status }
 {
     match status {
@@ -32,7 +33,7 @@ fn status_name(status: Status) -> &'static str
 }
 
 /// Appends the line of a number.
-fn put_line<N: Integer>(text: &mut String, field: &str, value: N) -> Result<(), AllocError>
+pub fn put_line<N: Integer>(text: &mut String, field: &str, value: N) -> Result<(), AllocError>
     ensures { OnOk result (string_bytes text.new ≡ string_bytes text.old ++ line_of field.now (N.text value)) }
 {
     text.push_str(field)?;
@@ -52,7 +53,7 @@ fn put_values(text: &mut String, values: &[i64]) -> Result<(), AllocError>
 }
 
 /// Appends the objective's value at a solution.
-fn put_objective_value(
+pub fn put_objective_value(
     text: &mut String,
     objective: &Objective,
     values: &[i64],

@@ -1,16 +1,16 @@
 -- What was left to read, and what it is answered with.
 use Rattle.std.specs.Prelude.{IfSome, Option, Some, None, Ok, Err, length}
-use Rattle.std.proofs.Common.{◌≡◌, ℕ, zero, suc, ◌<◌, ◌≤◌, List, [], ◌∷◌, drop, arith, refl, sym, ap, ◌∙◌}
+use Rattle.std.proofs.Common.{◌≡◌, true, false, ℕ, zero, suc, ◌<◌, ◌≤◌, List, [], ◌∷◌, drop, arith, refl, sym, ap, ◌∙◌}
 use Rattle.std.specs.declared.vec.Vec.{Vec}
 use Rattle.std.specs.declared.alloc.Global.{Global}
 use Rattle.cps_outer.specs.Transfers.{ReadsAll}
-use Rattle.cps_outer.specs.declared.transfer.ReadError.TheVariants as reads
+use Rattle.cps_outer.specs.declared.transfer.ReadError.TheVariants as errors
 use Rattle.cps_print.specs.declared.fault.Fault.TheVariants.{TooLong}
 use Rattle.cps_print.specs.Faults.{fault_text}
 use Rattle.cpsolve.specs.declared.answer.Answer.{Answer}
 use Rattle.cps_command.specs.declared.command.Command.{Command}
-use Rattle.cps_command.specs.declared.command.Command.TheVariants.{Solve, Validate, Print}
-use Rattle.cps_command.specs.Lines.{CommandLine, IsUsageFault}
+use Rattle.cps_command.specs.declared.command.Command.TheVariants.{Solve, Validate, Print, Gen, Demo}
+use Rattle.cps_command.specs.Lines.{CommandLine, IsUsageFault, ReadsNothing, reads}
 use Rattle.cpsolve.specs.Inputs.{most_bytes, HasNo, IsModelText, IsInput}
 use Rattle.cpsolve.specs.Answers.{usage_text, IsText, Answers, Does, IsInRange}
 use Rattle.cpsolve.specs.Answers.Answers.{usage, command}
@@ -43,7 +43,7 @@ long_list zero = (0 ∷ [], omega arith)
 long_list (suc n) = let rest = long_list n in (0 ∷ rest.0, omega (arith, rest.1))
 
 -- more bytes than the limit were left
-long_left : (limit : ℕ) (old new : Option (List ℕ)) → IfSome old (λ bytes. ReadsAll limit bytes new (Err reads.TooLong)) → (bytes : List ℕ) × AreLeft old bytes × (limit < length bytes)
+long_left : (limit : ℕ) (old new : Option (List ℕ)) → IfSome old (λ bytes. ReadsAll limit bytes new (Err errors.TooLong)) → (bytes : List ℕ) × AreLeft old bytes × (limit < length bytes)
 long_left limit None new h = let some = long_list limit in (some.0, tt, some.1)
 long_left limit (Some bytes) new h = (bytes, refl, h.0)
 
@@ -67,22 +67,39 @@ no_long_input : (bytes : List ℕ) → most_bytes < length bytes → HasNo IsInp
 no_long_input bytes long m input = no_long_text most_bytes bytes refl long m input.text
 
 -- a command that reads refuses a long input
-refuses_long : (c : Command) (bytes : List ℕ) (answer : Answer) → most_bytes < length bytes → IsText 1 (fault_text TooLong) answer → Does c bytes answer
-refuses_long (Solve options) bytes answer long text = refused TooLong long (no_long_input bytes long) text
-refuses_long Validate bytes answer long text = refused TooLong long (no_long_input bytes long) text
-refuses_long Print bytes answer long text = refused TooLong long (no_long_text most_bytes bytes refl long) text
+refuses_long : (c : Command) (bytes : List ℕ) (answer : Answer) → reads c ≡ true → most_bytes < length bytes → IsText 1 (fault_text TooLong) answer → Does c bytes answer
+refuses_long (Solve options) bytes answer reading long text = refused TooLong long (no_long_input bytes long) text
+refuses_long Validate bytes answer reading long text = refused TooLong long (no_long_input bytes long) text
+refuses_long Print bytes answer reading long text = refused TooLong long (no_long_text most_bytes bytes refl long) text
+refuses_long (Gen r) bytes answer reading long text = absurd cc
+refuses_long (Demo r) bytes answer reading long text = absurd cc
 
-pub long_given : (words : List (List ℕ)) (old new : Option (List ℕ)) (answer : Answer) (c : Command) → CommandLine words c
-    → IfSome old (λ bytes. ReadsAll most_bytes bytes new (Err reads.TooLong)) → IsText 1 (fault_text TooLong) answer → Given words old answer
-long_given words old new answer c line h text =
-    let long = long_left most_bytes old new h in (long.0, long.1, command c line (refuses_long c long.0 answer long.2 text))
+pub long_given : (words : List (List ℕ)) (old new : Option (List ℕ)) (answer : Answer) (c : Command) → CommandLine words c → reads c ≡ true
+    → IfSome old (λ bytes. ReadsAll most_bytes bytes new (Err errors.TooLong)) → IsText 1 (fault_text TooLong) answer → Given words old answer
+long_given words old new answer c line reading h text =
+    let long = long_left most_bytes old new h in (long.0, long.1, command c line (refuses_long c long.0 answer reading long.2 text))
 
 -- a command of a line has its options in their ranges
 pub line_in_range : (words : List (List ℕ)) (c : Command) → CommandLine words c → IsInRange c
 line_in_range words (Solve options) line = line.says.1.options.range
 line_in_range words Validate line = tt
 line_in_range words Print line = tt
+line_in_range words (Gen r) line = line.says.1.recipe.range
+line_in_range words (Demo r) line = line.says.1.recipe.range
 
--- words that have a command are no usage fault
-pub no_usage : {A : Type 0} (words : List (List ℕ)) (c : Command) → CommandLine words c → IsUsageFault words → A
-no_usage words c line fault = absurd (fault c line)
+-- what a command does that reads nothing is an answer to whatever was left
+does_any : (c : Command) (some bytes : List ℕ) (answer : Answer) → reads c ≡ false → Does c some answer → Does c bytes answer
+does_any (Solve o) some bytes answer reading does = absurd cc
+does_any Validate some bytes answer reading does = absurd cc
+does_any Print some bytes answer reading does = absurd cc
+does_any (Gen r) some bytes answer reading does = does
+does_any (Demo r) some bytes answer reading does = does
+
+pub unread_given : (words : List (List ℕ)) (left : Option (List ℕ)) (bytes : List ℕ) (answer : Answer) (c : Command) → CommandLine words c → reads c ≡ false
+    → Does c bytes answer → Given words left answer
+unread_given words left bytes answer c line reading does =
+    let some = some_left left in (some.0, some.1, command c line (does_any c bytes some.0 answer reading does))
+
+-- words that have a command that reads are none that read nothing
+pub no_reading : {A : Type 0} (words : List (List ℕ)) (c : Command) → CommandLine words c → reads c ≡ true → ReadsNothing words → A
+no_reading words c line reading nothing = absurd (let no = nothing c line in cc)

@@ -4,3 +4,4 @@ pub mod Given
 pub mod Answering
 pub mod Limits
 pub mod Outcomes
+pub mod Recipes

@@ -14,6 +14,7 @@ use Rattle.cps_model.specs.Validity.{IsValid}
 use Rattle.cps_model.proofs.Inside.{model_ready}
 use Rattle.cps_search.specs.Ends.{Ending}
 use Rattle.cps_search.specs.Following.{best_bound}
+use Rattle.cps_print.specs.Demonstrations.{IsReadySolution}
 use Rattle.cps_print.specs.Responses.{IsBounded, IsFinite, IsSummable, IsSolved}
 use Rattle.cps_options.specs.declared.options.Options.{Options}
 use Rattle.cps_portfolio.specs.declared.outcome.Outcome.{Outcome}
@@ -130,6 +131,17 @@ pub solved : (m n : CpModel) (options : Options) (o : Outcome) → n ≡ m → I
 solved m n options o same valid good =
     let here = subst (λ (k : CpModel). IsGoodOutcome k options o) (sym same) good in
     solved_by n options o o.status valid (promise_kept n options o here) refl
+
+-- the same, whatever the status
+pub ready : (m n : CpModel) (options : Options) (o : Outcome) → n ≡ m → IsValid n → IsGoodOutcome m options o → IsReadySolution n.objective o.solution
+ready m n options o same valid good = go o.solution (subst (λ (s : Option (List ℤ)). IfSome s (IsSolution n)) (sym here.solution) (best_is n o.ends here.found))
+  where
+    here : IsGoodOutcome n options o
+    here = subst (λ (k : CpModel). IsGoodOutcome k options o) (sym same) good
+
+    go : (s : Option (List ℤ)) → IfSome s (IsSolution n) → IsReadySolution n.objective s
+    go None h = tt
+    go (Some a) h = (model_ready n a valid h.free.domains).objective
 
 -- ---- the lower bound can be written
 

@@ -1,9 +1,10 @@
 -- What the program answers to a command line and an input: an exit status, an outcome and a text.
-use Rattle.std.specs.Prelude.{◌≡◌, ℕ, List, [], ◌∷◌, ◌++◌, codes, IsTrue, Some, None}
+use Rattle.std.specs.Prelude.{◌≡◌, ℕ, List, [], ◌∷◌, ◌++◌, codes, true, IsTrue, Some, None}
 use Rattle.cps_model.specs.declared.model.CpModel.{CpModel}
 use Rattle.cps_print.specs.declared.fault.Fault.{Fault}
 use Rattle.cps_print.specs.declared.response.Response.{Response}
 use Rattle.cps_print.specs.Faults.{fault_text}
+use Rattle.cps_print.specs.Demonstrations.{demo_text}
 use Rattle.cps_print.specs.Models.{model_text}
 use Rattle.cps_print.specs.ReadBack.{IsReadAs}
 use Rattle.cps_print.specs.Responses.{response_text}
@@ -11,10 +12,14 @@ use Rattle.cpsolve.specs.declared.answer.Answer.{Answer}
 use Rattle.cpsolve.specs.declared.input.Unread.{Unread}
 use Rattle.cpsolve.specs.declared.input.Unread.TheVariants as unread
 use Rattle.cps_command.specs.declared.command.Command.{Command}
-use Rattle.cps_command.specs.declared.command.Command.TheVariants.{Solve, Validate, Print}
+use Rattle.cps_command.specs.declared.command.Command.TheVariants.{Solve, Validate, Print, Gen, Demo}
 use Rattle.cps_options.specs.declared.options.Options.{Options}
 use Rattle.cps_options.specs.Ranges.{AreInRange}
+use Rattle.cps_command.specs.declared.recipe.Recipe.{Recipe}
 use Rattle.cps_command.specs.Lines.{CommandLine, IsUsageFault}
+use Rattle.cps_gen.specs.Families.{is_in_range}
+use Rattle.cps_gen.specs.Generated.{generated}
+use Rattle.cps_model.specs.Validity.{IsValid}
 use Rattle.cps_portfolio.specs.declared.outcome.Outcome.{Outcome}
 use Rattle.cps_portfolio.specs.Outcomes.{IsGoodOutcome}
 use Rattle.cps_portfolio.specs.Turning.{IsDrawnRun}
@@ -57,6 +62,30 @@ pub record Prints (m : CpModel) (answer : Answer) : Type 0 where
   pub canonical : IsText 0 (model_text m) answer
   pub back : IsReadAs answer.text m
 
+-- the model that is generated
+abbrev pub model_of : Recipe → CpModel
+model_of r = generated r.family r.size r.seed
+
+-- the options of a demonstration: those of `solve` where nothing is said, but that the workers take turns that the seed draws
+abbrev pub demo_options : ℕ → Options
+demo_options seed = record { workers = 4; conflicts = 10000; seed = seed; interleave = true; gap = 0 }
+
+-- `gen`: the canonical text of the model, which is valid
+pub record Generates (r : Recipe) (answer : Answer) : Type 0 where
+  pub valid : IsValid (model_of r)
+  pub canonical : IsText 0 (model_text (model_of r)) answer
+
+-- `demo`: the four lines of an outcome that is good for the model, which is valid, and is that of the turns that the seed draws
+pub record Demonstrates (r : Recipe) (answer : Answer) : Type 0 where
+  pub found : Outcome
+  pub exit : answer.exit ≡ 0
+  pub outcome : answer.outcome ≡ Some found
+  pub text : answer.text ≡ demo_text (model_of r) found.status found.solution
+  pub valid : IsValid (model_of r)
+  pub good : IsGoodOutcome (model_of r) (demo_options r.seed) found
+  pub promise : KeepsPromise (model_of r) (demo_options r.seed) found
+  pub drawn : IsDrawnRun (model_of r) (demo_options r.seed) 4096 found.ends
+
 -- the text for an input that is refused; want of memory has none
 abbrev pub IsFaultText : Unread → Answer → Type 0
 IsFaultText (unread.Fault fault) answer = IsText 1 (fault_text fault) answer
@@ -69,17 +98,21 @@ pub data AnswersInput (is_input : List ℕ → CpModel → Type 0) (does : CpMod
       → AnswersInput is_input does bytes answer
 
 -- What each command does. A valid model is solved, or said to be valid; `print` takes every model, so no broken rule makes it
--- refuse one.
+-- refuse one. `gen` and `demo` look at no input.
 abbrev pub Does : Command → List ℕ → Answer → Type 0
 Does (Solve options) bytes answer = AnswersInput IsInput (Solves options) bytes answer
 Does Validate bytes answer = AnswersInput IsInput Validates bytes answer
 Does Print bytes answer = AnswersInput IsModelText Prints bytes answer
+Does (Gen r) bytes answer = Generates r answer
+Does (Demo r) bytes answer = Demonstrates r answer
 
--- a command whose options are in their ranges
+-- a command whose options are in their ranges, or whose model is of a size that its family has
 abbrev pub IsInRange : Command → Type 0
 IsInRange (Solve options) = AreInRange options
 IsInRange Validate = Unit {0}
 IsInRange Print = Unit {0}
+IsInRange (Gen r) = IsTrue (is_in_range r.family r.size)
+IsInRange (Demo r) = IsTrue (is_in_range r.family r.size)
 
 -- the usage line for words that have no command, and else what their command does
 pub data Answers (words : List (List ℕ)) (bytes : List ℕ) (answer : Answer) : Type 0 where

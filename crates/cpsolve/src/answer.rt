@@ -1,5 +1,5 @@
-//! The answer to a command line and an input, before it is written. Each command has a function that takes its model from the
-//! input and one that answers the model; the faults of an input have one answer for all commands.
+//! The answer to a command line and an input, before it is written. Each command that reads has a function that takes its model
+//! from the input and one that answers the model; the faults of an input have one answer for all commands.
 ghost use Rattle.std.specs.Prelude.{◌≡◌, ◌≤◌, ℕ, List, IfOk, IsTrue, length, string_bytes};
 ghost use Rattle.cps_print.specs.Faults.{fault_text};
 ghost use Rattle.cps_print.specs.Models.{model_text};
@@ -13,6 +13,7 @@ ghost use Rattle.cps_portfolio.specs.Turning.{IsDrawnRun};
 ghost use Rattle.cpsolve.specs.Inputs.{most_bytes, IsModelText, IsInput};
 ghost use Rattle.cpsolve.specs.Answers.{usage_text, valid_text, IsText, IsFaultText, Solves, Validates, Prints, AnswersInput, Does, IsInRange};
 
+use crate::generation::{demo_answer, gen_answer};
 use crate::input::{Unread, read_model, valid_model_of};
 use cps_command::Command;
 use cps_model::{CpModel, Text};
@@ -34,7 +35,7 @@ pub struct Answer {
 }
 
 /// A text with no outcome.
-fn text_answer(exit: u8, text: String) -> Answer
+pub fn text_answer(exit: u8, text: String) -> Answer
     ensures { IsText exit (string_bytes text) result }
 {
     Answer {
@@ -190,7 +191,7 @@ fn print_input(alloc: Global, bytes: &[u8]) -> Result<Answer, AllocError>
     }
 }
 
-/// What a command answers to an input that is not too long.
+/// What a command answers to an input that is not too long. A command that generates a model looks at none.
 pub fn command_answer<R: Threads + Wait + Sync, G: Gate + Sync>(
     rt: &R,
     alloc: Global,
@@ -206,5 +207,7 @@ pub fn command_answer<R: Threads + Wait + Sync, G: Gate + Sync>(
         Command::Solve(options) => solve_input(rt, alloc, &options, bytes, gate),
         Command::Validate => validate_input(alloc, bytes),
         Command::Print => print_input(alloc, bytes),
+        Command::Gen(recipe) => gen_answer(alloc, &recipe),
+        Command::Demo(recipe) => demo_answer(alloc, &recipe),
     }
 }

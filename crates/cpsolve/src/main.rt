@@ -1,5 +1,5 @@
 //! `cpsolve` reads a constraint model in text form, and searches it for a best solution and writes a response, or says that it is
-//! valid, or writes it in canonical form.
+//! valid, or writes it in canonical form. It also generates models, and writes them or says what came of solving them.
 //!
 //! `solve_main` is the whole program over any source of bytes and any sink, and its contract says what the program does:
 //! OPTIMAL comes only with a solution that none beats by more than the gap that the words give, INFEASIBLE only where there is
@@ -9,6 +9,9 @@
 #![tactic(auto)]
 
 mod answer;
+mod generation;
+#[cfg(test)]
+mod generation_tests;
 mod input;
 #[cfg(test)]
 mod portfolio_tests;

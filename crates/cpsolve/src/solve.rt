@@ -4,7 +4,7 @@ ghost use Rattle.std.specs.Io.KnownBytes.{Appends};
 ghost use Rattle.cps_outer.specs.Faults.{Rose};
 ghost use Rattle.cps_outer.specs.Transfers.{TakesPrefix};
 ghost use Rattle.cpsolve.specs.Answers.{Answers};
-ghost use Rattle.cps_command.specs.Lines.{texts_of, IsCommandLine, IsUsageFault};
+ghost use Rattle.cps_command.specs.Lines.{texts_of, IsReadingLine, ReadsNothing};
 ghost use Rattle.cpsolve.specs.Runs.{is_silent, AreLeft, IsReadThrough, GivesOut};
 ghost use Rattle.cpsolve.specs.declared.solve.Unanswered.TheVariants.{OutOfMemory};
 
@@ -47,14 +47,17 @@ fn answer_of<R: Threads + Wait + Sync, S: Source, G: Gate + Sync>(
     gate: &G,
 ) -> Result<Answer, Unanswered>
     ensures right { IfOk result (λ answer. (bytes : List ℕ) × AreLeft (S.left source.old) bytes × Answers (texts_of words.now) bytes answer) }
-    ensures read { OnOk result (IsCommandLine (texts_of words.now) → IsReadThrough (S.left source.old) (S.left source.new)) }
-    ensures usage { IsUsageFault (texts_of words.now) → (source.new ≡ source.old) × (result ≢ Err Unanswered.ReadFault) }
+    ensures read { OnOk result (IsReadingLine (texts_of words.now) → IsReadThrough (S.left source.old) (S.left source.new)) }
+    ensures nothing { ReadsNothing (texts_of words.now) → (source.new ≡ source.old) × (result ≢ Err Unanswered.ReadFault) }
     ensures fault { IsErrOf result Unanswered.ReadFault → Rose (S.faults source.old) (S.faults source.new) }
     ensures kept { result ≢ Err Unanswered.ReadFault → S.faults source.new ≡ S.faults source.old }
 {
     let Some(command) = command_of(alloc, words)? else {
         return Ok(usage_answer(alloc)?);
     };
+    if !command.reads() {
+        return Ok(command_answer(rt, alloc, command, &[], gate)?);
+    }
     match read_all(alloc, source, MOST_BYTES) {
         Ok(bytes) => Ok(command_answer(rt, alloc, command, &bytes, gate)?),
         Err(ReadError::TooLong) => Ok(fault_answer(alloc, &Fault::TooLong)?),
@@ -106,11 +109,11 @@ pub fn solve_main<R: Threads + Wait + Sync, S: Source, K: Sink, G: Gate + Sync>(
     ensures exits { result.exit ≤ 5 }
 
     // Where there is a text, a command that reads has read all, or one byte more than an input may have.
-    ensures read { is_silent result.exit ≡ false → IsCommandLine (texts_of words.now)
+    ensures read { is_silent result.exit ≡ false → IsReadingLine (texts_of words.now)
         → IsReadThrough (S.left source.old) (S.left source.new) }
 
-    // Words that have no command leave the source as it was.
-    ensures usage { IsUsageFault (texts_of words.now) → (source.new ≡ source.old) × (result.exit ≢ 3) }
+    // Words that have no command, or one that generates a model, leave the source as it was.
+    ensures nothing { ReadsNothing (texts_of words.now) → (source.new ≡ source.old) × (result.exit ≢ 3) }
 
     // It does not give up by itself, and it keeps no fault to itself.
     ensures read_fault { result.exit ≡ 3 → Rose (S.faults source.old) (S.faults source.new) }

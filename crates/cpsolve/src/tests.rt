@@ -440,7 +440,7 @@ const LINES: [(&[&str], &str, &str); 8] = [
 ];
 
 /// Words that are no command line.
-const FAULTY_WORDS: [&[&str]; 12] = [
+const FAULTY_WORDS: [&[&str]; 15] = [
     &["cpsolve"],
     &["cpsolve", "solve", "--workers", "0"],
     &["cpsolve", "solve", "--workers", "17"],
@@ -453,16 +453,21 @@ const FAULTY_WORDS: [&[&str]; 12] = [
     &["cpsolve", "validate", "--help"],
     &["cpsolve", "validate", "print"],
     &["cpsolve", "solves"],
+    &["cpsolve", "gen", "tour", "1", "5"],
+    &["cpsolve", "gen", "jobshop", "17", "5"],
+    &["cpsolve", "gen", "knapsack", "0", "5"],
 ];
 
 /// The commands that read a model.
 const COMMANDS: [&str; 3] = ["solve", "validate", "print"];
 
-/// Commands, each with the first three bytes that it writes for a variable of two values, and whether it has an outcome.
-const BEGINNINGS: [(&str, &str, bool); 3] = [
-    ("solve", "sta", true),
-    ("validate", "val", false),
-    ("print", "var", false),
+/// Words of commands, each with the first three bytes that it writes for a variable of two values, and whether it has an outcome.
+const BEGINNINGS: [(&[&str], &str, bool); 5] = [
+    (&["cpsolve", "solve"], "sta", true),
+    (&["cpsolve", "validate"], "val", false),
+    (&["cpsolve", "print"], "var", false),
+    (&["cpsolve", "gen", "tour", "2", "7"], "var", false),
+    (&["cpsolve", "demo", "tour", "2", "7"], "var", true),
 ];
 
 /// The words of a command line.
@@ -565,14 +570,14 @@ fn a_second_read_fails(rt: HostRuntime) -> Result<(), Fail> {
 #[test]
 fn a_second_write_fails(rt: HostRuntime) -> Result<(), Fail> {
     let alloc = rt.alloc();
-    for (command, held, has_outcome) in BEGINNINGS.iter() {
-        let words = words_of(alloc, &["cpsolve", command])?;
+    for (words, held, has_outcome) in BEGINNINGS.iter() {
+        let words = words_of(alloc, words)?;
         let mut source = source_of(alloc, "variables { domain: [0, 1] }", &[], &[])?;
         let mut sink = MemorySink::new(alloc, 3, vec![in alloc; 1]?);
         let ran = solve_main(&rt, alloc, &words, &mut source, &mut sink, &OpenGate);
-        assert_eq!(rt; ran.exit, 4, "{command}");
-        assert_eq!(rt; ran.outcome.is_some(), *has_outcome, "{command}");
-        assert!(rt; sink.bytes() == held.as_bytes(), "{command}");
+        assert_eq!(rt; ran.exit, 4, "at {held}");
+        assert_eq!(rt; ran.outcome.is_some(), *has_outcome, "at {held}");
+        assert!(rt; sink.bytes() == held.as_bytes(), "at {held}");
     }
     Ok(())
 }

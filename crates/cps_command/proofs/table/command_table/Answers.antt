@@ -13,5 +13,7 @@ returns c =
     let none = top ∙ ap (on_top wants_subcommand) c.new.ensures.app in
     let solve = c.in_ok-subcommand.ensures.shape c.in_ok-solve.ensures.local ∙ ap₂ with_subcommand none (ap (λ (a : App). a.top) c.in_ok-solve.ensures.app) in
     let validate = c.in_ok-subcommand-2.ensures.shape c.new-validate.ensures.local ∙ ap₂ with_subcommand solve (ap (λ (a : App). a.top) c.new-validate.ensures.app) in
-    IfOk-weaker c.subcommand-3.result _ _ (λ r added. added.shape c.new-print.ensures.local
-    ∙ ap₂ with_subcommand validate (ap (λ (a : App). a.top) c.new-print.ensures.app)) c.subcommand-3.ensures
+    let print = c.in_ok-subcommand-3.ensures.shape c.new-print.ensures.local ∙ ap₂ with_subcommand validate (ap (λ (a : App). a.top) c.new-print.ensures.app) in
+    let generate = c.in_ok-subcommand-4.ensures.shape c.in_ok-generate.ensures.local ∙ ap₂ with_subcommand print (ap (λ (a : App). a.top) c.in_ok-generate.ensures.app) in
+    IfOk-weaker c.subcommand-5.result _ _ (λ r added. added.shape c.in_ok-demonstrate.ensures.local
+    ∙ ap₂ with_subcommand generate (ap (λ (a : App). a.top) c.in_ok-demonstrate.ensures.app)) c.subcommand-5.ensures
