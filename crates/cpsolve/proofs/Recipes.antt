@@ -1,5 +1,5 @@
 -- A generated model can be shown and solved, and what a demonstration says of it.
-use Rattle.std.specs.Prelude.{IsTrue, Some, unsigned_abs}
+use Rattle.std.specs.Prelude.{IsTrue, Some}
 use Rattle.std.proofs.Common.{◌≡◌, ◌∙◌, ℕ, true, refl, ap, subst, All, arith}
 use Rattle.std.proofs.lemmas.List.Elements.{All-weaker}
 use Rattle.cps_model.specs.declared.model.CpModel.{CpModel}

@@ -72,6 +72,6 @@ fn a_generated_model_is_valid(rt: HostRuntime) -> Result<(), Fail> {
     let mut sink = MemorySink::new(alloc, 100, Vec::new(alloc));
     let ran = solve_main(&rt, alloc, &words, &mut source, &mut sink, &OpenGate);
     assert_eq!(rt; ran.exit, 0);
-    assert!(rt; sink.bytes() == b"valid\n");
+    assert!(rt; sink.bytes() == "valid\n".as_bytes());
     Ok(())
 }
