@@ -38,13 +38,6 @@ MixedForms at 33: search_strategy { variables: [ ] exprs: 0 }
 Repeated at 49: search_strategy { variable_selection_strategy: 0 variable_selection_strategy: 1.0 }
 ";
 
-const CLOSED: &str = "\
-Unsupported at 14: constraints { reservoir { } }
-Unsupported at 14: constraints { no_overlap_2d { } }
-Unsupported at 26: constraints { bool_or { } reservoir { } }
-Unsupported at 25: constraints { linear { } reservoir: 0 }
-";
-
 const FORMS: &str = "\
 WrongKind at 20: objective { offset: [1] }
 WrongKind at 10: objective [ ]
@@ -98,7 +91,7 @@ WrongKind at 34: search_strategy { exprs { offset: 1f } }
 
 #[test]
 fn refuses_fields(rt: HostRuntime) -> Result<(), Fail> {
-    for lines in [NAMES, CLOSED, FORMS, NUMBERS, MEMBERS] {
+    for lines in [NAMES, FORMS, NUMBERS, MEMBERS] {
         assert_refusals(&rt, rt.alloc(), lines)?;
     }
     Ok(())
