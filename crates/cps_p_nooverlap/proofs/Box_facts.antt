@@ -1,6 +1,6 @@
 -- Facts by which two boxes give what they give.
 use Rattle.std.specs.Prelude.{not}
-use Rattle.std.specs.List.{All, list_all}
+use Rattle.std.specs.List.{list_all}
 use Rattle.std.proofs.Common.{◌≡◌, ◌<◌, ◌+◌, ◌≤ℤ◌, ◌<ℤ◌, ℕ, ℤ, Bool, true, false, List, [], length, get_or, take, refl, sym, ◌∙◌, ap, subst, arith}
 use Rattle.std.proofs.lemmas.Int.{ints}
 use Rattle.std.proofs.lemmas.List.{get_or_default}
@@ -17,7 +17,7 @@ use Rattle.cps_p_nooverlap.specs.declared.pairs.Pair.{Pair}
 use Rattle.cps_p_nooverlap.specs.Citing.{Cites}
 use Rattle.cps_p_nooverlap.specs.Spans.{start_at, end_at, is_present, IsBefore, Says, IsPair, ClashesAt}
 use Rattle.cps_p_nooverlap.specs.Boxes.{AreBoxes, ArePresent, AreDisjoint, OrdersBoxes}
-use Rattle.cps_p_nooverlap.proofs.Citing.{cites_then, cites_as}
+use Rattle.cps_p_nooverlap.proofs.Citing.{cites_as}
 use Rattle.cps_p_nooverlap.proofs.Boxing.{first_of, none_of, no_span, kept_of}
 
 -- what is read at two places of a list

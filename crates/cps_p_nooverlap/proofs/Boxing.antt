@@ -1,7 +1,7 @@
 -- What two boxes give.
 use Rattle.std.specs.Prelude.{not, IsTrue, IfSome}
-use Rattle.std.specs.List.{All, AllZip, list_all}
-use Rattle.std.proofs.Common.{◌≡◌, ◌≢◌, ℕ, zero, suc, ◌<◌, ◌≤ℤ◌, ◌<ℤ◌, ◌⊎◌, inl, inr, ℤ, Bool, true, false, Option, Some, None, List, [], ◌∷◌, ◌++◌, ◌+◌, length, get_or, refl, sym, ◌∙◌, ap, subst, arith}
+use Rattle.std.specs.List.{All, AllZip}
+use Rattle.std.proofs.Common.{◌≡◌, ◌≢◌, ℕ, zero, suc, ◌<◌, ◌≤ℤ◌, ◌<ℤ◌, ◌⊎◌, inl, inr, ℤ, true, Option, None, List, [], ◌++◌, ◌+◌, length, get_or, refl, sym, ◌∙◌, ap, subst, arith}
 use Rattle.std.proofs.lemmas.Int.{ints}
 use Rattle.std.proofs.lemmas.List.{get_or_default}
 use Rattle.std.proofs.lemmas.List.Elements.{All-nil}
@@ -9,23 +9,22 @@ use Rattle.cps_literal.specs.declared.atom.Atom.{Atom}
 use Rattle.cps_literal.specs.Truth.{value_at, atom_holds, meets}
 use Rattle.cps_instance.specs.declared.task.Span.{Span}
 use Rattle.cps_instance.specs.declared.task.Body.{Body}
-use Rattle.cps_instance.specs.declared.task.Body.TheVariants.{NoOverlap, NoOverlap2d}
+use Rattle.cps_instance.specs.declared.task.Body.TheVariants.{NoOverlap2d}
 use Rattle.cps_instance.specs.Terms.{Domains, AreIntervals, domain_at}
-use Rattle.cps_instance.specs.Tasks.{HoldsBody, span_subjects}
+use Rattle.cps_instance.specs.Tasks.{span_subjects}
 use Rattle.cps_instance.proofs.Agreeing.{All-append_left, All-append_right}
-use Rattle.cps_trail.specs.Trail.{Trail, IsTrueNow, IsAdmitted}
+use Rattle.cps_trail.specs.Trail.{Trail, IsAdmitted}
 use Rattle.cps_propagate.specs.Now.{IsOpenTo, IsFixedNow, AreOpen}
 use Rattle.cps_rule.specs.declared.rule.Narrowing.{Narrowing}
-use Rattle.cps_rule.specs.Rules.{IsGiven, IsImpossible, IsAtRest, IsFittingRule}
+use Rattle.cps_rule.specs.Rules.{IsGiven, IsAtRest, IsFittingRule}
 use Rattle.cps_p_nooverlap.specs.declared.pairs.Pair.{Pair}
 use Rattle.cps_p_nooverlap.specs.declared.seen.Seen.{Seen}
 use Rattle.cps_p_nooverlap.specs.declared.box_pairs.Direction.{Direction}
 use Rattle.cps_p_nooverlap.specs.Hulls.{Proposes}
-use Rattle.cps_p_nooverlap.specs.Citing.{GivesMore}
 use Rattle.cps_p_nooverlap.specs.Spans.{start_at, end_at, is_present, IsBefore, AreSpans, IsSeen, Says, IsPair, IsSmallAtom, ClashesAt, no_seen}
-use Rattle.cps_p_nooverlap.specs.Boxes.{IsDirection, AreBoxes, ArePresent, AreApart, AreDisjoint, KeepsApart, AddsGiven, LeavesNone, OrdersBoxes, BoxComesBefore, IsBoxAbsent, IsLate, Overlap, MayBeApart, IsSureBox, AreBoxesAllowed, AllowsBoxes, AreAllAllowed, MakesPresent, MakesBoxPresent, IsCount, pair_of_places}
-use Rattle.cps_p_nooverlap.proofs.Timing.{zip_at, zip_length, IfSome-map}
-use Rattle.cps_p_nooverlap.proofs.Pairing.{all_hold, less_or, present_at, swapped_pair, start_most, end_least, surely, gives_proposed}
+use Rattle.cps_p_nooverlap.specs.Boxes.{IsDirection, AreBoxes, ArePresent, AreDisjoint, KeepsApart, AddsGiven, LeavesNone, BoxComesBefore, IsBoxAbsent, IsLate, Overlap, MayBeApart, IsSureBox, AreBoxesAllowed, AllowsBoxes, AreAllAllowed, MakesPresent, MakesBoxPresent, IsCount, pair_of_places}
+use Rattle.cps_p_nooverlap.proofs.Timing.{zip_at, zip_length}
+use Rattle.cps_p_nooverlap.proofs.Pairing.{all_hold, less_or, swapped_pair, start_most, end_least, surely, gives_proposed}
 use Rattle.cps_p_nooverlap.proofs.Citing.{denies, says_within, literals_small}
 use Rattle.cps_p_nooverlap.proofs.Resting.{are_spans, start_fixed, end_fixed, sure}
 use Rattle.cps_p_nooverlap.proofs.Disjoint.{Either, AllDisjoint, disjoint_of, no_overlap_2d}

@@ -1,4 +1,4 @@
-use Rattle.std.proofs.Common.{List, ◌≡◌, ◌≤ℤ◌, ap, subst, rules, FitsSigned, get_or}
+use Rattle.std.proofs.Common.{◌≡◌, ◌≤ℤ◌, subst, rules, FitsSigned, get_or}
 use Rattle.std.specs.Prelude.{IfSome}
 use Rattle.std.proofs.lemmas.Int.{to_z-of_z}
 use mir.Syntax.{w128}

@@ -1,6 +1,5 @@
-use Rattle.std.proofs.Common.{List, ◌<◌, ◌≡◌, length, get_or, sym, subst}
+use Rattle.std.proofs.Common.{List, ◌<◌, length, sym, subst}
 use Rattle.cps_p_nooverlap.specs.declared.seen.Seen.{Seen}
-use Rattle.cps_p_nooverlap.specs.Spans.{no_seen}
 use Rattle.cps_p_nooverlap.proofs.Boxing.{seen_at}
 use Rattle.cps_p_nooverlap.proofs.box_pairs.seen_of.Goals as goal
 
