@@ -5,8 +5,9 @@
 //! before the other it comes after it, which bounds the one's start and the other's end; where neither can come
 //! first, one of them is absent, or the body cannot hold. Where no two give anything new, it looks at the surely
 //! present spans of a fixed length together: more of them than a window of time has room for cannot be, and one for
-//! which the others leave no room in their window comes after them, or with time reversed before them. Where all is
-//! fixed, each says whether its body holds.
+//! which the others leave no room in their window comes after them, or with time reversed before them. `Boxes` looks
+//! at each two rectangles: where they surely overlap in one direction, they are ordered in the other as spans are. Where
+//! all is fixed, each says whether its body holds.
 //!
 //! A reason names bounds and presence literals, each tested against the past before it is used; of the two bounds
 //! that keep one span from coming before another, one is loosened as far as the other lets it. What sets of spans
