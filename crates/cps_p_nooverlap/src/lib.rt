@@ -16,8 +16,8 @@
 //! These are the disjunctive precedences of two tasks and edge finding, in its quadratic form, with its check of
 //! overloads, as in Baptiste, Le Pape and Nuijten, "Constraint-Based Scheduling" (2001), chapter 2. Vilím,
 //! "Filtering Algorithms for the Unary Resource Constraint" (2008), finds the same in n log n, by trees, and has
-//! two rules more that are not here: detectable precedences over sets, and not-first with not-last. Spans of
-//! varying length and optional spans are not looked at in sets.
+//! two rules more that are not here: detectable precedences over sets, and not-first with not-last. Spans whose
+//! length varies and spans that may be absent are not looked at in sets.
 #![tactic(auto)]
 
 mod box_pairs;
