@@ -11,7 +11,7 @@ const PRODUCTION: &str = "variables { domain: [0, 10] } variables { domain: [0, 
     objective { vars: [0, 1] coeffs: [-3, -2] scaling_factor: -1 }";
 
 /// Inputs of `solve` that have one answer, whatever workers do, each with its exit status and its text.
-const INPUTS: [(&str, u8, &str); 39] = [
+const INPUTS: [(&str, u8, &str); 47] = [
     ("", 0, "status: OPTIMAL\n"),
     (
         PRODUCTION,
@@ -225,6 +225,58 @@ const INPUTS: [(&str, u8, &str); 39] = [
         "variables { domain: [0, 0] } constraints { inverse { f_direct: 0 } }",
         1,
         "status: MODEL_INVALID\n# invalid V5 at constraint 0\n",
+    ),
+    (
+        "variables { domain: [-9, 9] } constraints { int_mod { target { vars: [0] coeffs: [1] } exprs { \
+         offset: -7 } exprs { offset: 3 } } }",
+        0,
+        "status: OPTIMAL\nsolution: -1\n",
+    ),
+    (
+        "variables { domain: [0, 9] } variables { domain: [0, 9] } variables { domain: [0, 9] } constraints { \
+         automaton { final_states: 1 transition_tail: [0, 1] transition_head: [1, 0] transition_label: [5, 6] \
+         vars: [0, 1, 2] } }",
+        0,
+        "status: OPTIMAL\nsolution: 5\nsolution: 6\nsolution: 5\n",
+    ),
+    (
+        "variables { domain: [0, 9] } variables { domain: [0, 9] } constraints { automaton { final_states: 1 \
+         transition_tail: [0, 1] transition_head: [1, 0] transition_label: [5, 6] vars: [0, 1] } }",
+        0,
+        "status: INFEASIBLE\n",
+    ),
+    (
+        "constraints { interval { end { offset: 2 } size { offset: 2 } } } constraints { interval { end { \
+         offset: 2 } size { offset: 2 } } } constraints { interval { start { offset: 1 } end { offset: 3 } \
+         size { offset: 2 } } } constraints { interval { start { offset: 1 } end { offset: 3 } size { offset: \
+         2 } } } constraints { no_overlap_2d { x_intervals: [0, 2] y_intervals: [1, 3] } }",
+        0,
+        "status: INFEASIBLE\n",
+    ),
+    (
+        "constraints { interval { end { offset: 2 } size { offset: 2 } } } constraints { interval { end { \
+         offset: 2 } size { offset: 2 } } } constraints { interval { start { offset: 2 } end { offset: 4 } \
+         size { offset: 2 } } } constraints { interval { start { offset: 1 } end { offset: 3 } size { offset: \
+         2 } } } constraints { no_overlap_2d { x_intervals: [0, 2] y_intervals: [1, 3] } }",
+        0,
+        "status: OPTIMAL\n",
+    ),
+    (
+        "variables { domain: [3, 3] } constraints { reservoir { max_level: 1 time_exprs { } time_exprs { vars: \
+         0 coeffs: 1 } level_changes { offset: 1 } level_changes { offset: -1 } } }",
+        0,
+        "status: OPTIMAL\nsolution: 3\n",
+    ),
+    (
+        "variables { domain: [-2, -1] } constraints { reservoir { max_level: 1 time_exprs { } time_exprs { \
+         vars: 0 coeffs: 1 } level_changes { offset: 1 } level_changes { offset: -1 } } }",
+        0,
+        "status: INFEASIBLE\n",
+    ),
+    (
+        "constraints { reservoir { min_level: 1 max_level: 2 } }",
+        1,
+        "status: MODEL_INVALID\n# invalid V19 at constraint 0\n",
     ),
 ];
 
