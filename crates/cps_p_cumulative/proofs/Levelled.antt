@@ -1,26 +1,26 @@
 -- What is seen of a level, and of what facts give of it.
-use Rattle.std.proofs.Common.{ℕ, zero, suc, inl, inr, get_or, take, unsigned_abs, ◌+◌, ◌*◌, ◌^◌, ◌<◌, ◌≤◌, ℤ, pos, neg_ℤ, ◌+ℤ◌, ◌≤ℤ◌, ◌<ℤ◌, ◌≡◌, ◌⊎◌, Bool, true, false, not, cond, ◌&&◌, List, [], ◌∷◌, ◌++◌, length, refl, sym, ◌∙◌, ap, subst, arith}
+use Rattle.std.proofs.Common.{ℕ, inl, inr, get_or, take, unsigned_abs, ◌+◌, ◌*◌, ◌^◌, ◌<◌, ◌≤◌, ℤ, pos, neg_ℤ, ◌+ℤ◌, ◌≤ℤ◌, ◌<ℤ◌, ◌≡◌, ◌⊎◌, Bool, true, false, not, cond, ◌&&◌, List, [], ◌∷◌, ◌++◌, length, refl, sym, ◌∙◌, ap, subst, arith}
 use Rattle.std.specs.Prelude.{int_le, Option, Some, None, IfSome, Result, Ok}
 use Rattle.std.specs.declared.alloc.AllocError.{AllocError}
 use Rattle.std.specs.List.{All}
 use Rattle.std.proofs.lemmas.Int.{ints}
 use Rattle.std.proofs.lemmas.List.{take_more, take_all}
-use Rattle.std.proofs.lemmas.List.Elements.{All-head, All-tail, All-nil, All-cons, All-more}
+use Rattle.std.proofs.lemmas.List.Elements.{All-head, All-tail, All-nil, All-more}
 use Rattle.cps_domain.proofs.Tests.{true_le, le_true, le_false, both}
 use Rattle.cps_model.proofs.Sums.{unsigned_abs-add}
 use Rattle.cps_literal.specs.declared.atom.Atom.{Atom}
 use Rattle.cps_literal.specs.declared.atom.Op.TheVariants.{Le, Ge}
 use Rattle.cps_literal.specs.Truth.{meets, value_at, atom_holds}
-use Rattle.cps_instance.specs.Tasks.{HoldsBody, subjects_of_body}
+use Rattle.cps_instance.specs.Tasks.{HoldsBody}
 use Rattle.cps_instance.proofs.Agreeing.{All-append_left, All-append_right}
-use Rattle.cps_trail.specs.Trail.{Trail, Domains, IsTrueNow, IsFalseNow, IsWithin, IsAdmitted}
+use Rattle.cps_trail.specs.Trail.{Trail, Domains, IsTrueNow, IsFalseNow, IsAdmitted}
 use Rattle.cps_propagate.specs.Now.{IsOpenTo, IsFixedNow, AreOpen}
 use Rattle.cps_rule.specs.Rules.{AreFacts, IsFittingRule, IsImpossible, IsAtRest}
 use Rattle.cps_p_cumulative.specs.declared.tank.Tank.{Tank}
 use Rattle.cps_p_cumulative.specs.declared.tank.Move.{Move}
 use Rattle.cps_p_cumulative.specs.declared.tank.Side.{Side}
 use Rattle.cps_p_cumulative.specs.declared.tank.Side.TheVariants.{Over, Under}
-use Rattle.cps_p_cumulative.specs.Levels.{toward, is_active, has_acted, share_of, total, moves_of, tank_body, limit, active_subjects, move_subjects, IsMoveOf, IsTankOf, IsShare, IsLevel, IsSure, IsSureFixed, IsLeastToward, IsKeptAt, AreKeptTo, IsTowardBound, IsRest, IsAdded, AreAdded, IsAmong, AreMovesOpen, AreMovesFixed}
+use Rattle.cps_p_cumulative.specs.Levels.{toward, is_active, has_acted, share_of, total, moves_of, tank_body, limit, active_subjects, move_subjects, IsMoveOf, IsTankOf, IsShare, IsLevel, IsSure, IsSureFixed, IsLeastToward, IsKeptAt, AreKeptTo, IsTowardBound, IsRest, IsAdded, AreAdded, IsAmong, AreMovesOpen}
 use Rattle.cps_p_cumulative.specs.Relying.{Relies}
 use Rattle.cps_p_cumulative.proofs.Moves.{moves_all, total-last, HasBegun, passed, never_passed}
 use Rattle.cps_p_cumulative.proofs.Relied.{Relies-none, Relies-then, Relies-so}

@@ -1,6 +1,6 @@
 -- The events of a tank: their subjects, and the level that they make.
-use Rattle.std.proofs.Common.{ℕ, zero, suc, inl, inr, min, get_or, ◌+◌, ◌<◌, ◌≤◌, ℤ, pos, neg_ℤ, ◌+ℤ◌, ◌≤ℤ◌, ◌<ℤ◌, ◌≡◌, ◌⊎◌, Bool, true, false, cond, ◌&&◌, ◌==◌, List, [], ◌∷◌, ◌++◌, length, refl, sym, ◌∙◌, ap, subst, arith}
-use Rattle.std.specs.Prelude.{int_le, Option, Some, None}
+use Rattle.std.proofs.Common.{ℕ, zero, suc, inl, inr, min, get_or, ◌<◌, ℤ, pos, neg_ℤ, ◌+ℤ◌, ◌≤ℤ◌, ◌<ℤ◌, ◌≡◌, ◌⊎◌, Bool, true, false, cond, ◌&&◌, ◌==◌, List, [], ◌∷◌, ◌++◌, length, refl, sym, ◌∙◌, ap, subst, arith}
+use Rattle.std.specs.Prelude.{int_le, Some, None}
 use Rattle.std.specs.List.{All}
 use Rattle.std.proofs.lemmas.Int.{ints}
 use Rattle.std.proofs.lemmas.List.Elements.{All-head, All-tail, All-nil, All-cons}
@@ -16,7 +16,7 @@ use Rattle.cps_p_cumulative.specs.declared.tank.Tank.{Tank}
 use Rattle.cps_p_cumulative.specs.declared.tank.Move.{Move}
 use Rattle.cps_p_cumulative.specs.declared.tank.Side.{Side}
 use Rattle.cps_p_cumulative.specs.declared.tank.Side.TheVariants.{Over, Under}
-use Rattle.cps_p_cumulative.specs.Levels.{toward, is_active, has_acted, share_of, total, free_moves, tied_moves, all_moves, moves_of, tank_body, limit, active_subjects, move_subjects}
+use Rattle.cps_p_cumulative.specs.Levels.{toward, is_active, has_acted, share_of, total, free_moves, tied_moves, all_moves, moves_of, tank_body, limit, move_subjects}
 
 -- what is so of all subjects is so of those of each event
 free_all : (P : ℕ → Type 0) (ts cs : List ℕ) → All P ts → All P cs → All (λ m. All P (move_subjects m)) (free_moves ts cs)

@@ -1,4 +1,4 @@
-use Rattle.std.proofs.Common.{◌≤◌, rules, ℤ, ◌<ℤ◌, ◌≤ℤ◌}
+use Rattle.std.proofs.Common.{rules, ◌<ℤ◌, ◌≤ℤ◌}
 use Rattle.std.proofs.lemmas.Int.{ints}
 use Rattle.cps_p_cumulative.proofs.Levelled.{fixed_later, fixed_absent, sure_acted, active_true, active_not_true}
 use Rattle.cps_p_cumulative.proofs.level.has_surely_acted.Goals as goal

@@ -1,4 +1,4 @@
-use Rattle.std.proofs.Common.{◌≤ℤ◌, pos, inl, inr, rules, FitsSigned, w64}
+use Rattle.std.proofs.Common.{inl, inr, rules, FitsSigned, w64}
 use Rattle.std.proofs.lemmas.Int.{ints, to_z-of_z}
 use Rattle.cps_p_cumulative.proofs.level.is_asked.Goals as goal
 

@@ -1,4 +1,4 @@
-use Rattle.std.proofs.Common.{◌≡◌, ◌<◌, ◌+ℤ◌, ℤ, length, rules, arith, FitsSigned, w64, to_z}
+use Rattle.std.proofs.Common.{◌≡◌, ◌<◌, ◌+ℤ◌, length, rules, arith, FitsSigned, w64, to_z}
 use Rattle.std.specs.Int.{w128}
 use Rattle.std.proofs.lemmas.Int.{ints, to_z-of_z}
 use Rattle.cps_p_cumulative.specs.Levels.{moves_of}

@@ -1,4 +1,4 @@
-use Rattle.std.proofs.Common.{◌≤◌, true, rules, ℤ, ◌<ℤ◌, ◌≤ℤ◌}
+use Rattle.std.proofs.Common.{true, rules, ◌<ℤ◌, ◌≤ℤ◌}
 use Rattle.std.proofs.lemmas.Int.{ints}
 use Rattle.cps_p_cumulative.proofs.Levelled.{fixed_acted, sure_later, sure_absent, active_false, active_not_false, active_fixed, active_none}
 use Rattle.cps_p_cumulative.proofs.level.may_have_acted.Goals as goal

@@ -1,7 +1,6 @@
-use Rattle.std.proofs.Common.{◌≡◌, ◌<ℤ◌, ◌≤ℤ◌, ◌⊎◌, pos, rules, FitsSigned, w64}
+use Rattle.std.proofs.Common.{◌<ℤ◌, ◌≤ℤ◌, rules, FitsSigned, w64}
 use Rattle.std.specs.Int.{w128}
 use Rattle.std.proofs.lemmas.Int.{ints, to_z-of_z}
-use Rattle.cps_p_cumulative.specs.Levels.{limit, moves_of, IsLevel}
 use Rattle.cps_p_cumulative.proofs.Levelled.{over_limit, kept_below, kept_absent}
 use Rattle.cps_p_cumulative.proofs.level.passes.Goals as goal
 

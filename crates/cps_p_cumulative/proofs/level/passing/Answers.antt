@@ -1,4 +1,4 @@
-use Rattle.std.proofs.Common.{◌≡◌, ◌<◌, ◌≤◌, length, arith}
+use Rattle.std.proofs.Common.{◌<◌, length, arith}
 use Rattle.cps_p_cumulative.specs.Levels.{moves_of}
 use Rattle.cps_p_cumulative.proofs.Levelled.{on_time, move_inside, kept_more, at_rest_of}
 use Rattle.cps_p_cumulative.proofs.level.passing.Goals as goal

@@ -1,8 +1,7 @@
-use Rattle.std.proofs.Common.{◌≡◌, ◌<◌, ◌≤ℤ◌, pos, true, false, length, rules, FitsSigned, w64}
+use Rattle.std.proofs.Common.{◌<◌, ◌≤ℤ◌, pos, length, rules, FitsSigned, w64}
 use Rattle.std.specs.Int.{w128}
 use Rattle.std.proofs.lemmas.Int.{ints, to_z-of_z}
-use Rattle.cps_p_cumulative.specs.Levels.{IsSure, IsSureFixed, IsLeastToward}
-use Rattle.cps_p_cumulative.proofs.Levelled.{on_change, share_none, share_sure, share_open, share_open_none}
+use Rattle.cps_p_cumulative.proofs.Levelled.{on_change, share_sure, share_open, share_open_none}
 use Rattle.cps_p_cumulative.proofs.level.share.Goals as goal
 
 pub least_toward-least-requires : goal.least_toward-least-requires

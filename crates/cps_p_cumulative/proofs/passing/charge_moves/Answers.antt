@@ -1,7 +1,6 @@
-use Rattle.std.proofs.Common.{◌≡◌, ◌<◌, length, rules, arith, FitsSigned}
+use Rattle.std.proofs.Common.{◌≡◌, ◌<◌, length, rules, arith}
 use Rattle.std.specs.Prelude.{Ok, Some}
-use Rattle.std.specs.Int.{w128}
-use Rattle.std.proofs.lemmas.Int.{ints, to_z-of_z}
+use Rattle.std.proofs.lemmas.Int.{ints}
 use Rattle.cps_p_cumulative.specs.Levels.{moves_of}
 use Rattle.cps_p_cumulative.proofs.Levelled.{added-more, added-all, some_number}
 use Rattle.cps_p_cumulative.proofs.passing.charge_moves.Goals as goal
