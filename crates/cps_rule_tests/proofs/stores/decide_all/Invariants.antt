@@ -1,0 +1,6 @@
+use Rattle.std.proofs.Common.{◌≡◌}
+use Rattle.cps_rule_tests.specs.Noted.{HasNoNotes}
+use Rattle.cps_rule_tests.proofs.stores.decide_all.Given as goal
+
+abbrev pub invariant-loop-atom : goal.invariant-loop-atom
+invariant-loop-atom l = (l.store.first ≡ l.fn.store.first) × (HasNoNotes l.fn.store → HasNoNotes l.store)

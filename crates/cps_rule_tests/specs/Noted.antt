@@ -1,0 +1,13 @@
+-- Stores with the notes of one task, or with none.
+use Rattle.std.specs.Prelude.{ℕ, ◌<◌, length}
+use Rattle.cps_instance.specs.declared.task.Task.{Task}
+use Rattle.cps_instance.specs.Tasks.{HoldsTask}
+use Rattle.cps_trail.specs.Trail.{Trail}
+use Rattle.cps_trail.specs.Notes.{AllFit, ByTask, HasNote, IsGivenAt}
+
+abbrev pub HasNoNotes : Trail → Type 0
+HasNoNotes s = (k : ℕ) → k < length s.entries → HasNote s k → ⊥
+
+-- each note of the store is that of a task with this number, which gives the entry's atom
+abbrev pub AreNotesOf : ℕ → Task → Trail → Type 0
+AreNotesOf number task s = AllFit (IsGivenAt (ByTask number (HoldsTask task))) s

@@ -1,0 +1,73 @@
+//! Lists of values that all differ.
+
+ghost use Rattle.std.specs.Prelude.{IfOk};
+ghost use Rattle.cps_rule_tests.specs.Ready.{IsPlain};
+
+use crate::runs::{Left, Outcome, leaves, trial};
+use crate::stores::Ends;
+use cps_enforce::Enforced;
+use cps_instance::{Body, Task};
+use cps_model::Listed;
+use cps_p_alldiff::AllDifferentRule;
+use std::alloc::{AllocError, Global};
+use std::test::Fail;
+
+/// What is left of these ends of all subjects; nothing where the constraint cannot hold.
+#[derive(Clone, Copy)]
+struct Row<'a> {
+    ends: &'a [Ends],
+    left: &'a [Left],
+}
+
+/// The propagator of three subjects that all differ.
+fn all_different(alloc: Global) -> Result<Enforced<AllDifferentRule>, AllocError>
+    ensures { IfOk result (λ propagator. IsPlain propagator) }
+{
+    let exprs = Listed::from_vec(Vec::from_slice(alloc, &[0, 1, 2])?);
+    let task = Task {
+        enforcement: Listed::new(alloc),
+        body: Body::AllDiff(exprs),
+    };
+    let propagator = AllDifferentRule::of(alloc, &task)?;
+    Ok(propagator)
+}
+
+fn differing(alloc: Global, ends: &[Ends]) -> Result<Option<Outcome>, AllocError> {
+    let mut propagator = all_different(alloc)?;
+    trial(alloc, &mut propagator, ends, &[])
+}
+
+#[test]
+fn full_intervals_are_left_to_their_positions(rt: HostRuntime) -> Result<(), Fail> {
+    let rows = [
+        // two have 1 and 2 to themselves
+        Row {
+            ends: &[(1, 2), (1, 2), (1, 3)],
+            left: &[(0, 1, 2), (1, 1, 2), (2, 3, 3)],
+        },
+        Row {
+            ends: &[(3, 4), (1, 4), (3, 4)],
+            left: &[(0, 3, 4), (1, 1, 2), (2, 3, 4)],
+        },
+        // one after another
+        Row {
+            ends: &[(1, 3), (1, 2), (1, 1)],
+            left: &[(0, 3, 3), (1, 2, 2), (2, 1, 1)],
+        },
+        // any two leave the third a value at each end
+        Row {
+            ends: &[(1, 3), (1, 3), (1, 3)],
+            left: &[(0, 1, 3), (1, 1, 3), (2, 1, 3)],
+        },
+        // three do not fit into two
+        Row {
+            ends: &[(1, 2), (1, 2), (1, 2)],
+            left: &[],
+        },
+    ];
+    for row in rows {
+        let is_held = leaves(differing(rt.alloc(), row.ends)?, row.left);
+        assert!(rt; is_held);
+    }
+    Ok(())
+}
