@@ -1,12 +1,13 @@
 -- What is seen of a level, and of what facts give of it.
-use Rattle.std.proofs.Common.{ℕ, inl, inr, get_or, take, unsigned_abs, ◌+◌, ◌*◌, ◌^◌, ◌<◌, ◌≤◌, ℤ, pos, neg_ℤ, ◌+ℤ◌, ◌≤ℤ◌, ◌<ℤ◌, ◌≡◌, ◌⊎◌, Bool, true, false, not, cond, ◌&&◌, List, [], ◌∷◌, ◌++◌, length, refl, sym, ◌∙◌, ap, subst, arith}
-use Rattle.std.specs.Prelude.{int_le, Option, Some, None, IfSome, Result, Ok}
+use Rattle.std.proofs.Common.{ℕ, inl, inr, get_or, take, unsigned_abs, ◌+◌, ◌*◌, ◌^◌, ◌<◌, ◌≤◌, ℤ, pos, neg_ℤ, ◌+ℤ◌, ◌≤ℤ◌, ◌<ℤ◌, ◌≡◌, ◌⊎◌, Bool, true, false, not, cond, ◌&&◌, List, [], ◌∷◌, ◌++◌, length, refl, sym, ◌∙◌, ap, subst, arith, negsuc, FitsSigned, w64}
+use Rattle.std.specs.Prelude.{int_le, Option, Some, None, IfSome, IfOk, Result, Ok, Err}
 use Rattle.std.specs.declared.alloc.AllocError.{AllocError}
 use Rattle.std.specs.List.{All}
 use Rattle.std.proofs.lemmas.Int.{ints}
 use Rattle.std.proofs.lemmas.List.{take_more, take_all}
 use Rattle.std.proofs.lemmas.List.Elements.{All-head, All-tail, All-nil, All-more}
 use Rattle.cps_domain.proofs.Tests.{true_le, le_true, le_false, both}
+use Rattle.cps_model.proofs.Inside.{unsigned_abs-neg}
 use Rattle.cps_model.proofs.Sums.{unsigned_abs-add}
 use Rattle.cps_literal.specs.declared.atom.Atom.{Atom}
 use Rattle.cps_literal.specs.declared.atom.Op.TheVariants.{Le, Ge}
@@ -15,14 +16,19 @@ use Rattle.cps_instance.specs.Tasks.{HoldsBody}
 use Rattle.cps_instance.proofs.Agreeing.{All-append_left, All-append_right}
 use Rattle.cps_trail.specs.Trail.{Trail, Domains, IsTrueNow, IsFalseNow, IsAdmitted}
 use Rattle.cps_propagate.specs.Now.{IsOpenTo, IsFixedNow, AreOpen}
-use Rattle.cps_rule.specs.Rules.{AreFacts, IsFittingRule, IsImpossible, IsAtRest}
+use Rattle.cps_rule.specs.declared.rule.Hint.{Hint}
+use Rattle.cps_rule.specs.declared.rule.Look.{Look}
+use Rattle.cps_rule.specs.declared.rule.Look.TheVariants.{Possible, Impossible}
+use Rattle.cps_rule.specs.Rules.{AreFacts, IsFittingRule, IsImpossible, IsAtRest, IsSeen}
+use Rattle.cps_propagate.specs.Strength.{MayHaveActed, MayHaveRested}
 use Rattle.cps_p_cumulative.specs.declared.tank.Tank.{Tank}
 use Rattle.cps_p_cumulative.specs.declared.tank.Move.{Move}
 use Rattle.cps_p_cumulative.specs.declared.tank.Side.{Side}
 use Rattle.cps_p_cumulative.specs.declared.tank.Side.TheVariants.{Over, Under}
-use Rattle.cps_p_cumulative.specs.Levels.{toward, is_active, has_acted, share_of, total, moves_of, tank_body, limit, active_subjects, move_subjects, IsMoveOf, IsTankOf, IsShare, IsLevel, IsSure, IsSureFixed, IsLeastToward, IsKeptAt, AreKeptTo, IsTowardBound, IsRest, IsAdded, AreAdded, IsAmong, AreMovesOpen}
+use Rattle.cps_p_cumulative.specs.Levels.{toward, is_active, has_acted, share_of, total, moves_of, tank_body, limit, active_subjects, move_subjects, IsMoveOf, IsTankOf, IsShareToward, MayAddUp, StaysFrom, IsShare, IsLevel, MayBeActive, IsSure, IsSureFixed, IsLeastToward, AllowsZero, HasRoomAfter, HasRoomTo, IsTowardBound, IsRest, IsAdded, AreAdded, AreMovesOpen, AreMovesFixed}
 use Rattle.cps_p_cumulative.specs.Relying.{Relies}
-use Rattle.cps_p_cumulative.proofs.Moves.{moves_all, total-last, HasBegun, passed, never_passed}
+use Rattle.cps_p_cumulative.proofs.Moves.{moves_all, total-last, toward-none, passed, never_passed}
+use Rattle.cps_p_cumulative.proofs.Rising.{zero_limit, has_levels}
 use Rattle.cps_p_cumulative.proofs.Relied.{Relies-none, Relies-then, Relies-so}
 
 -- the subjects of an event
@@ -38,21 +44,32 @@ on_atom P m u e h = All-head P u.subject [] (subst (λ (o : Option Atom). All P 
 -- whether an event takes place, wherever its subjects may be, and where they are fixed
 pub record IsActiveSure (s : Trail) (m : Move) (v : Bool) : Type 0 where
   pub sure : (xs : List ℤ) → AreOpen s xs (move_subjects m) → is_active xs m.active ≡ v
+  pub may : MayBeActive s m.active v
 
 pub record IsActiveFixed (s : Trail) (m : Move) (v : Bool) : Type 0 where
   pub sure : (xs : List ℤ) → AreOpen s xs (move_subjects m) → All (IsFixedNow s) (move_subjects m) → is_active xs m.active ≡ v
+  pub may : MayBeActive s m.active v
+
+may_as : (s : Trail) (m : Move) (o : Option Atom) (v : Bool) → m.active ≡ o → MayBeActive s o v → MayBeActive s m.active v
+may_as s m o v e h = subst (λ (p : Option Atom). MayBeActive s p v) (sym e) h
 
 pub active_none : (s : Trail) (m : Move) → m.active ≡ None → IsActiveSure s m true
-active_none s m e = record { sure = λ xs o. ap (is_active xs) e }
+active_none s m e = record { sure = λ xs o. ap (is_active xs) e; may = may_as s m None true e tt }
 
-pub active_true : (s : Trail) (m : Move) (u : Atom) → m.active ≡ Some u → IsTrueNow s u → IsActiveSure s m true
-active_true s m u e h = record { sure = λ xs o. ap (is_active xs) e ∙ h (value_at xs u.subject) (on_atom (λ i. IsOpenTo s i (value_at xs i)) m u e o) }
+pub active_true : (s : Trail) (m : Move) (u : Atom) → m.active ≡ Some u → IsTrueNow s u → (IsFalseNow s u → ⊥) → IsActiveSure s m true
+active_true s m u e h never = record {
+  sure = λ xs o. ap (is_active xs) e ∙ h (value_at xs u.subject) (on_atom (λ i. IsOpenTo s i (value_at xs i)) m u e o);
+  may = may_as s m (Some u) true e never;
+}
 
-pub active_false : (s : Trail) (m : Move) (u : Atom) → m.active ≡ Some u → IsFalseNow s u → IsActiveSure s m false
-active_false s m u e h = record { sure = λ xs o. ap (is_active xs) e ∙ h (value_at xs u.subject) (on_atom (λ i. IsOpenTo s i (value_at xs i)) m u e o) }
+pub active_false : (s : Trail) (m : Move) (u : Atom) → m.active ≡ Some u → IsFalseNow s u → (IsTrueNow s u → ⊥) → IsActiveSure s m false
+active_false s m u e h never = record {
+  sure = λ xs o. ap (is_active xs) e ∙ h (value_at xs u.subject) (on_atom (λ i. IsOpenTo s i (value_at xs i)) m u e o);
+  may = may_as s m (Some u) false e never;
+}
 
 pub active_fixed : (s : Trail) (m : Move) (v : Bool) → IsActiveSure s m v → IsActiveFixed s m v
-active_fixed s m v h = record { sure = λ xs o f. h.sure xs o }
+active_fixed s m v h = record { sure = λ xs o f. h.sure xs o; may = h.may }
 
 either : (b : Bool) → (b ≡ true → ⊥) → b ≡ false
 either true f = absurd (f refl)
@@ -66,12 +83,14 @@ pub active_not_true : (s : Trail) (m : Move) (u : Atom) → m.active ≡ Some u 
 active_not_true s m u e h = record {
   sure = λ xs o f. ap (is_active xs) e ∙ either (atom_holds xs u) (λ holds. h (λ x may.
       ap (meets u.op u.value) (on_atom (IsFixedNow s) m u e f x (value_at xs u.subject) may (on_atom (λ i. IsOpenTo s i (value_at xs i)) m u e o)) ∙ holds));
+  may = may_as s m (Some u) false e h;
 }
 
 pub active_not_false : (s : Trail) (m : Move) (u : Atom) → m.active ≡ Some u → (IsFalseNow s u → ⊥) → IsActiveFixed s m true
 active_not_false s m u e h = record {
   sure = λ xs o f. ap (is_active xs) e ∙ either_true (atom_holds xs u) (λ holds. h (λ x may.
       ap (meets u.op u.value) (on_atom (IsFixedNow s) m u e f x (value_at xs u.subject) may (on_atom (λ i. IsOpenTo s i (value_at xs i)) m u e o)) ∙ holds));
+  may = may_as s m (Some u) true e h;
 }
 
 and_false : (a b : Bool) → b ≡ false → (a && b) ≡ false
@@ -82,34 +101,38 @@ no_and : (a b : Bool) → a ≡ false → (a && b) ≡ false
 no_and a b e = ap (λ c. c && b) e
 
 -- that it has taken place by a time, or has not
-pub sure_acted : (s : Trail) (t late : ℤ) (m : Move) → late ≤ℤ t → ((x : ℤ) → IsOpenTo s m.time x → x ≤ℤ late) → IsActiveSure s m true → IsSure s t m true
-sure_acted s t late m l up h = record {
+pub sure_acted : (s : Trail) (t late : ℤ) (m : Move) → late ≤ℤ t → IsOpenTo s m.time late → ((x : ℤ) → IsOpenTo s m.time x → x ≤ℤ late) → IsActiveSure s m true → IsSure s t m true
+sure_acted s t late m l reached up h = record {
   sure = λ xs o. (let a = up (value_at xs m.time) (on_time (λ i. IsOpenTo s i (value_at xs i)) m o) in
       both (is_active xs m.active) (int_le (value_at xs m.time) t) (h.sure xs o) (le_true (value_at xs m.time) t (omega (arith, ints))));
+  may = record { possible = h.may; value = late; reached = reached; by = l };
 }
 
-pub sure_later : (s : Trail) (t early : ℤ) (m : Move) → t <ℤ early → ((x : ℤ) → IsOpenTo s m.time x → early ≤ℤ x) → IsSure s t m false
-sure_later s t early m l down = record {
+pub sure_later : (s : Trail) (t early : ℤ) (m : Move) → t <ℤ early → IsOpenTo s m.time early → ((x : ℤ) → IsOpenTo s m.time x → early ≤ℤ x) → IsSure s t m false
+sure_later s t early m l reached down = record {
   sure = λ xs o. (let a = down (value_at xs m.time) (on_time (λ i. IsOpenTo s i (value_at xs i)) m o) in
       and_false (is_active xs m.active) (int_le (value_at xs m.time) t) (le_false (value_at xs m.time) t (omega (arith, ints))));
+  may = inr (early, reached, l);
 }
 
 pub sure_absent : (s : Trail) (t : ℤ) (m : Move) → IsActiveSure s m false → IsSure s t m false
-sure_absent s t m h = record { sure = λ xs o. no_and (is_active xs m.active) (int_le (value_at xs m.time) t) (h.sure xs o) }
+sure_absent s t m h = record { sure = λ xs o. no_and (is_active xs m.active) (int_le (value_at xs m.time) t) (h.sure xs o); may = inl h.may }
 
 pub fixed_later : (s : Trail) (t late : ℤ) (m : Move) → t <ℤ late → IsOpenTo s m.time late → IsSureFixed s t m false
 fixed_later s t late m l reached = record {
   sure = λ xs o f. (let e = on_time (IsFixedNow s) m f late (value_at xs m.time) reached (on_time (λ i. IsOpenTo s i (value_at xs i)) m o) in
       and_false (is_active xs m.active) (int_le (value_at xs m.time) t) (le_false (value_at xs m.time) t (omega (arith, ints))));
+  may = inr (late, reached, l);
 }
 
 pub fixed_absent : (s : Trail) (t : ℤ) (m : Move) → IsActiveFixed s m false → IsSureFixed s t m false
-fixed_absent s t m h = record { sure = λ xs o f. no_and (is_active xs m.active) (int_le (value_at xs m.time) t) (h.sure xs o f) }
+fixed_absent s t m h = record { sure = λ xs o f. no_and (is_active xs m.active) (int_le (value_at xs m.time) t) (h.sure xs o f); may = inl h.may }
 
 pub fixed_acted : (s : Trail) (t early : ℤ) (m : Move) → early ≤ℤ t → IsOpenTo s m.time early → IsActiveFixed s m true → IsSureFixed s t m true
 fixed_acted s t early m l reached h = record {
   sure = λ xs o f. (let e = on_time (IsFixedNow s) m f early (value_at xs m.time) reached (on_time (λ i. IsOpenTo s i (value_at xs i)) m o) in
       both (is_active xs m.active) (int_le (value_at xs m.time) t) (h.sure xs o f) (le_true (value_at xs m.time) t (omega (arith, ints))));
+  may = record { possible = h.may; value = early; reached = reached; by = l };
 }
 
 -- what an event adds
@@ -126,10 +149,26 @@ at_least_share side xs t v m a b = by (has_acted xs t m)
     by true = a
     by false = b
 
+-- what an event may have added by a time it may have added by a later one too, as long as nothing becomes sure of it
+acted_later : (s : Trail) (t u : ℤ) (m : Move) → t ≤ℤ u → MayHaveActed s t m.time m.active → MayHaveActed s u m.time m.active
+acted_later s t u m l h = record { possible = h.possible; value = h.value; reached = h.reached; by = (let a = h.by in omega (arith, ints)) }
+
+rested_later : (s : Trail) (t u : ℤ) (m : Move) → StaysFrom s t u m → MayHaveRested s t m.time m.active → MayHaveRested s u m.time m.active
+rested_later s t u m stays (inl may) = inl may
+rested_later s t u m (inl due) (inr later) = (let a = due later.0 later.1 in let b = later.2 in absurd (omega (arith, ints)))
+rested_later s t u m (inr after) (inr later) = inr after
+
+share_may_act : (s : Trail) (t : ℤ) (side : Side) (m : Move) (v : ℤ) → MayHaveActed s t m.time m.active → IsLeastToward s side m.change v → (u : ℤ) → t ≤ℤ u → StaysFrom s t u m → IsShareToward side s u m v
+share_may_act s t side m v acted l u after stays = (l.attained.0, inl (acted_later s t u m after acted, l.attained.1), l.attained.2)
+
+share_may_rest : (s : Trail) (t : ℤ) (side : Side) (m : Move) → MayHaveRested s t m.time m.active → (u : ℤ) → t ≤ℤ u → StaysFrom s t u m → IsShareToward side s u m (pos 0)
+share_may_rest s t side m rested u after stays = (pos 0, inr (rested_later s t u m stays rested, refl), toward-none side)
+
 pub share_none : (s : Trail) (t : ℤ) (side : Side) (m : Move) → IsSure s t m false → IsShare s t side m (pos 0)
 share_none s t side m h = record {
   sound = λ xs o. (let e = share_rests side xs t m (h.sure xs o) in omega (arith, ints));
   exact = λ xs o f. (let e = share_rests side xs t m (h.sure xs o) in omega (arith, ints));
+  may = share_may_rest s t side m h.may;
   near = omega arith;
 }
 
@@ -137,6 +176,7 @@ pub share_sure : (s : Trail) (t : ℤ) (side : Side) (m : Move) (v : ℤ) → Is
 share_sure s t side m v h l = record {
   sound = λ xs o. (let e = share_acted side xs t m (h.sure xs o) in let a = l.least (value_at xs m.change) (on_change (λ i. IsOpenTo s i (value_at xs i)) m o) in omega (arith, ints));
   exact = λ xs o f. (let e = share_acted side xs t m (h.sure xs o) in let a = l.reached (value_at xs m.change) (on_change (λ i. IsOpenTo s i (value_at xs i)) m o) (on_change (IsFixedNow s) m f) in omega (arith, ints));
+  may = share_may_act s t side m v h.may l;
   near = l.near;
 }
 
@@ -147,6 +187,7 @@ pub share_open : (s : Trail) (t : ℤ) (side : Side) (m : Move) (v : ℤ) → Is
 share_open s t side m v yes' no' l low = record {
   sound = λ xs o. at_least_share side xs t v m (l.least (value_at xs m.change) (on_change (λ i. IsOpenTo s i (value_at xs i)) m o)) low;
   exact = λ xs o f. absurd (differ (sym (yes'.sure xs o f) ∙ no'.sure xs o f));
+  may = share_may_act s t side m v yes'.may l;
   near = l.near;
 }
 
@@ -154,12 +195,39 @@ pub share_open_none : (s : Trail) (t : ℤ) (side : Side) (m : Move) (v : ℤ) �
 share_open_none s t side m v yes' no' l low = record {
   sound = λ xs o. at_least_share side xs t (pos 0) m (let a = l.least (value_at xs m.change) (on_change (λ i. IsOpenTo s i (value_at xs i)) m o) in omega (arith, ints)) (omega (arith, ints));
   exact = λ xs o f. absurd (differ (sym (yes'.sure xs o f) ∙ no'.sure xs o f));
+  may = share_may_rest s t side m no'.may;
   near = omega arith;
 }
 
+number_size : (n : ℤ) → FitsSigned w64 n → unsigned_abs n ≤ 2 ^ 63
+number_size (pos n) f = let g = f.sfits in omega (arith, ints)
+number_size (negsuc n) f = let g = f.sfits in omega (arith, ints)
+
+-- the least that a change counts, by the ends of what it may be
+pub least-over : (s : Trail) (side : Side) (i : ℕ) (low v : ℤ) → side ≡ Over → v ≡ toward side low → IsOpenTo s i low → ((x : ℤ) → IsOpenTo s i x → low ≤ℤ x) → FitsSigned w64 low → IsLeastToward s side i v
+least-over s side i low v is e open' below fits = subst (λ (d : Side). v ≡ toward d low → IsLeastToward s d i v) (sym is) (λ f. record {
+  least = λ x o. (let a = below x o in omega (arith, ints));
+  reached = λ x o is-fixed. (let a = is-fixed low x open' o in omega (arith, ints));
+  attained = (low, open', f);
+  near = subst (λ (z : ℤ). unsigned_abs z ≤ 2 ^ 63) (sym f) (number_size low fits);
+}) e
+
+pub least-under : (s : Trail) (side : Side) (i : ℕ) (high v : ℤ) → side ≡ Under → v ≡ toward side high → IsOpenTo s i high → ((x : ℤ) → IsOpenTo s i x → x ≤ℤ high) → FitsSigned w64 high → IsLeastToward s side i v
+least-under s side i high v is e open' above fits = subst (λ (d : Side). v ≡ toward d high → IsLeastToward s d i v) (sym is) (λ f. record {
+  least = λ x o. (let a = above x o in omega (arith, ints));
+  reached = λ x o is-fixed. (let a = is-fixed high x open' o in omega (arith, ints));
+  attained = (high, open', f);
+  near = subst (λ (z : ℤ). unsigned_abs z ≤ 2 ^ 63) (sym f) (subst (λ (n : ℕ). n ≤ 2 ^ 63) (sym (unsigned_abs-neg high)) (number_size high fits));
+}) e
+
 -- what events add
 pub level_none : (s : Trail) (t : ℤ) (side : Side) → IsLevel s t side [] (pos 0)
-level_none s t side = record { sound = λ xs o. omega (arith, ints); exact = λ xs o f. omega (arith, ints) }
+level_none s t side = record { sound = λ xs o. omega (arith, ints); exact = λ xs o f. omega (arith, ints); may = λ u after stays. refl }
+
+may_add_last : (side : Side) (s : Trail) (u : ℤ) (ms : List Move) (m : Move) (v w x : ℤ) → MayAddUp side s u ms v → IsShareToward side s u m w → x ≡ v +ℤ w → MayAddUp side s u (ms ++ m ∷ []) x
+may_add_last side s u [] m v w x h i e = (w, pos 0, i, refl, (let a : v ≡ pos 0 = h in omega (arith, ints)))
+may_add_last side s u (n ∷ ms) m v w x h i e =
+    (h.0, h.1 +ℤ w, h.2, may_add_last side s u ms m h.1 w (h.1 +ℤ w) h.3 i refl, (let a = h.4 in omega (arith, ints)))
 
 level_last : (s : Trail) (t : ℤ) (side : Side) (ms : List Move) (m : Move) (v w x : ℤ) → IsLevel s t side ms v → IsShare s t side m w → x ≡ v +ℤ w → IsLevel s t side (ms ++ m ∷ []) x
 level_last s t side ms m v w x h i e = record {
@@ -173,6 +241,9 @@ level_last s t side ms m v w x h i e = record {
       let b = i.exact xs (All-head (λ n. AreOpen s xs (move_subjects n)) m [] (All-append_right (λ n. AreOpen s xs (move_subjects n)) ms (m ∷ []) o)) (All-head (λ n. All (IsFixedNow s) (move_subjects n)) m [] (All-append_right (λ n. All (IsFixedNow s) (move_subjects n)) ms (m ∷ []) f)) in
       let c = total-last side xs t ms m in
       omega (arith, ints);
+  may = λ u after stays.
+      may_add_last side s u ms m v w x (h.may u after (All-append_left (StaysFrom s t u) ms (m ∷ []) stays))
+      (i.may u after (All-head (StaysFrom s t u) m [] (All-append_right (StaysFrom s t u) ms (m ∷ []) stays))) e;
 }
 
 pub near_step : (k : ℕ) (v w x : ℤ) → x ≡ v +ℤ w → unsigned_abs v ≤ k * 2 ^ 63 → unsigned_abs w ≤ 2 ^ 63 → unsigned_abs x ≤ (k + 1) * 2 ^ 63
@@ -203,62 +274,56 @@ moves_open : (s : Trail) (k : Tank) (xs : List ℤ) → IsTankOf s.first k → I
 moves_open s k xs inside admitted = λ j d l i e m. admitted (get_or (move_subjects (get_or (moves_of k) j d)) i e) (inside j d l i e m)
 
 -- a level that passes a limit
-pub over_limit : (s : Trail) (k : Tank) (side : Side) (t v lim : ℤ) (m : Move) → IsTankOf s.first k → IsAmong (moves_of k) m → lim ≡ limit k side → lim <ℤ v → IsLevel s t side (moves_of k) v → (pos 0 ≤ℤ lim) ⊎ IsSure s t m true → IsImpossible (tank_body k) s
-over_limit s k side t v lim m inside among same over level asked = record {
-  at = λ xs admitted holds.
-      let o = moves_open s k xs inside admitted in
-      let a = level.sound xs o in
-      passed k side xs t (omega (arith, ints)) (by xs o asked) holds;
+pub over_limit : (s : Trail) (k : Tank) (side : Side) (t v lim : ℤ) → AllowsZero k → IsTankOf s.first k → lim ≡ limit k side → lim <ℤ v → IsLevel s t side (moves_of k) v → IsImpossible (tank_body k) s
+over_limit s k side t v lim zero inside same over level = record {
+  at = λ xs admitted holds. (let a = level.sound xs (moves_open s k xs inside admitted) in passed k side xs t (omega (arith, ints)) (inl (zero_limit k side zero)) holds);
 }
-  where
-    by : (xs : List ℤ) → AreMovesOpen s xs (moves_of k) → (pos 0 ≤ℤ lim) ⊎ IsSure s t m true → (pos 0 ≤ℤ limit k side) ⊎ HasBegun xs t (moves_of k)
-    by xs o (inl room) = inl (omega (arith, ints))
-    by xs o (inr sure) =
-        let here : AreOpen s xs (move_subjects m) = subst (λ (n : Move). AreOpen s xs (move_subjects n)) (sym among.is) (o among.place m among.within) in
-        inr (record { place = among.place; event = m; within = among.within; acted = subst (λ (n : Move). has_acted xs t n ≡ true) among.is (sure.sure xs here) })
-
-among_open : (P : ℕ → Type 0) (ms : List Move) (m : Move) → IsAmong ms m → All (λ n. All P (move_subjects n)) ms → All P (move_subjects m)
-among_open P ms m among h = subst (λ (n : Move). All P (move_subjects n)) (sym among.is) (h among.place m among.within)
 
 -- and one that does not
-pub kept_below : (s : Trail) (k : Tank) (side : Side) (t v lim : ℤ) (m : Move) → IsAmong (moves_of k) m → lim ≡ limit k side → v ≤ℤ lim → IsLevel s t side (moves_of k) v → IsOpenTo s m.time t → IsKeptAt s k side m
-kept_below s k side t v lim m among same under level reached = record {
-  kept = λ xs o f active.
-      let e = on_time (IsFixedNow s) m (among_open (IsFixedNow s) (moves_of k) m among f) t (value_at xs m.time) reached (on_time (λ i. IsOpenTo s i (value_at xs i)) m (among_open (λ i. IsOpenTo s i (value_at xs i)) (moves_of k) m among o)) in
-      let a = level.exact xs o f in
-      subst (λ (u : ℤ). total side xs u (moves_of k) ≤ℤ limit k side) e (omega (arith, ints));
+pub room_after : (s : Trail) (k : Tank) (side : Side) (t v lim : ℤ) (m : Move) → lim ≡ limit k side → v ≤ℤ lim → IsLevel s t side (moves_of k) v → IsOpenTo s m.time t → ((x : ℤ) → IsOpenTo s m.time x → x ≤ℤ t) → HasRoomAfter s k side m
+room_after s k side t v lim m same under level reached last = record {
+  late = t;
+  reached = reached;
+  last = last;
+  room = record { sum = v; level = level; below = omega (arith, ints) };
 }
 
-pub kept_absent : (s : Trail) (k : Tank) (side : Side) (t : ℤ) (m : Move) → IsAmong (moves_of k) m → ((x : ℤ) → IsOpenTo s m.time x → x ≤ℤ t) → IsSureFixed s t m false → IsKeptAt s k side m
-kept_absent s k side t m among up absent = record {
-  kept = λ xs o f active.
-      let here = among_open (λ i. IsOpenTo s i (value_at xs i)) (moves_of k) m among o in
-      let a = absent.sure xs here (among_open (IsFixedNow s) (moves_of k) m among f) in
-      let b = both (is_active xs m.active) (int_le (value_at xs m.time) t) active (le_true (value_at xs m.time) t (up (value_at xs m.time) (on_time (λ i. IsOpenTo s i (value_at xs i)) m here))) in
-      absurd (differ (sym b ∙ a));
+pub room_none : (s : Trail) (k : Tank) → HasRoomTo s k 0
+room_none s k = record { over = All-nil (HasRoomAfter s k Over); under = All-nil (HasRoomAfter s k Under) }
+
+pub room_more : (s : Trail) (k : Tank) (n : ℕ) (m : Move) → n < length (moves_of k) → m ≡ get_or (moves_of k) n m → HasRoomTo s k n → HasRoomAfter s k Over m → HasRoomAfter s k Under m → HasRoomTo s k (n + 1)
+room_more s k n m l is h over under = record {
+  over = All-more (HasRoomAfter s k Over) (moves_of k) n m l h.over (subst (λ (e : Move). HasRoomAfter s k Over e) is over);
+  under = All-more (HasRoomAfter s k Under) (moves_of k) n m l h.under (subst (λ (e : Move). HasRoomAfter s k Under e) is under);
 }
 
-pub kept_none : (s : Trail) (k : Tank) → AreKeptTo s k 0
-kept_none s k = record { over = All-nil (IsKeptAt s k Over); under = All-nil (IsKeptAt s k Under) }
+-- where all is fixed the level at an event's time is the one that has room
+kept_at : (s : Trail) (k : Tank) (side : Side) (m : Move) (xs : List ℤ) → HasRoomAfter s k side m → AreMovesOpen s xs (moves_of k) → AreMovesFixed s (moves_of k) → AreOpen s xs (move_subjects m) → All (IsFixedNow s) (move_subjects m)
+    → total side xs (value_at xs m.time) (moves_of k) ≤ℤ limit k side
+kept_at s k side m xs h o f own is-fixed =
+    let e = on_time (IsFixedNow s) m is-fixed h.late (value_at xs m.time) h.reached (on_time (λ i. IsOpenTo s i (value_at xs i)) m own) in
+    let a = h.room.level.exact xs o f in
+    let b = h.room.below in
+    subst (λ (u : ℤ). total side xs u (moves_of k) ≤ℤ limit k side) e (omega (arith, ints))
 
-pub kept_more : (s : Trail) (k : Tank) (n : ℕ) (m : Move) → n < length (moves_of k) → m ≡ get_or (moves_of k) n m → AreKeptTo s k n → IsKeptAt s k Over m → IsKeptAt s k Under m → AreKeptTo s k (n + 1)
-kept_more s k n m l is h over under = record {
-  over = All-more (IsKeptAt s k Over) (moves_of k) n m l h.over (subst (λ (e : Move). IsKeptAt s k Over e) is over);
-  under = All-more (IsKeptAt s k Under) (moves_of k) n m l h.under (subst (λ (e : Move). IsKeptAt s k Under e) is under);
-}
-
-pub at_rest_of : (s : Trail) (k : Tank) (n : ℕ) → length (moves_of k) ≤ n → AreKeptTo s k n → IsAtRest (tank_body k) s
-at_rest_of s k n l h = record {
+pub at_rest_of : (s : Trail) (k : Tank) (n : ℕ) → AllowsZero k → length (moves_of k) ≤ n → HasRoomTo s k n → IsAtRest (tank_body k) s
+at_rest_of s k n zero l h = record {
   decided = λ is-fixed xs are-open.
       let f = moves_all (IsFixedNow s) k is-fixed in
       let o = moves_all (λ i. IsOpenTo s i (value_at xs i)) k are-open in
-      never_passed k xs (λ side j d m active. (all side j d m).kept xs o f active);
-  strong = tt;
+      never_passed k xs (λ side j d m active. kept_at s k side (get_or (moves_of k) j d) xs (all side j d m) o f (o j d m) (f j d m));
+  strong = has_levels s k zero all;
 }
   where
-    all : (side : Side) → All (IsKeptAt s k side) (moves_of k)
-    all Over = subst (λ (ms : List Move). All (IsKeptAt s k Over) ms) (take_all n (moves_of k) l) h.over
-    all Under = subst (λ (ms : List Move). All (IsKeptAt s k Under) ms) (take_all n (moves_of k) l) h.under
+    all : (side : Side) → All (HasRoomAfter s k side) (moves_of k)
+    all Over = subst (λ (ms : List Move). All (HasRoomAfter s k Over) ms) (take_all n (moves_of k) l) h.over
+    all Under = subst (λ (ms : List Move). All (HasRoomAfter s k Under) ms) (take_all n (moves_of k) l) h.under
+
+-- what a look at the tank says
+pub tank_seen : (s : Trail) (k : Tank) (r : Result Look AllocError) → ((hint : Hint) → r ≡ Ok (Impossible hint) → IsImpossible (tank_body k) s) → (r ≡ Ok Possible → IsAtRest (tank_body k) s) → IfOk r (IsSeen (tank_body k) s)
+tank_seen s k (Ok Possible) never rest = λ excluded. excluded (rest refl).strong
+tank_seen s k (Ok (Impossible hint)) never rest = never hint refl
+tank_seen s k (Err e) never rest = tt
 
 -- an atom about a change
 pub toward-over : (side : Side) (i : ℕ) (v w : ℤ) (u : Atom) → side ≡ Over → u ≡ record { subject = i; op = Ge; value = w } → w ≡ v → IsTowardBound side i v u

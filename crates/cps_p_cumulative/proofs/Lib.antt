@@ -4,4 +4,5 @@ pub mod Relied
 pub mod Profiled
 pub mod Summing
 pub mod Moves
+pub mod Rising
 pub mod Levelled

@@ -106,7 +106,7 @@ toward-more Over false change rest sum e = ap (λ x. pos 0 +ℤ x) e
 toward-more Under true change rest sum e = omega (arith, ints)
 toward-more Under false change rest sum e = omega (arith, ints)
 
-toward-none : (side : Side) → pos 0 ≡ toward side (pos 0)
+pub toward-none : (side : Side) → pos 0 ≡ toward side (pos 0)
 toward-none Over = refl
 toward-none Under = refl
 
@@ -193,7 +193,7 @@ record IsLatest (t : ℤ) (es : List Event) (v : ℤ) : Type 0 where
   pub by : v ≤ℤ t
   pub last : All (λ e. (e.time ≤ℤ v) ⊎ (t <ℤ e.time)) es
 
-le_or_lt : (a b : ℤ) → (a ≤ℤ b) ⊎ (b <ℤ a)
+pub le_or_lt : (a b : ℤ) → (a ≤ℤ b) ⊎ (b <ℤ a)
 le_or_lt a b = by (int_le a b) refl
   where
     by : (v : Bool) → int_le a b ≡ v → (a ≤ℤ b) ⊎ (b <ℤ a)

@@ -1,11 +1,12 @@
 -- What events do to a level at a time and a list of values.
-use Rattle.std.specs.Prelude.{◌≡◌, ℕ, ◌<◌, ◌≤◌, ◌^◌, ℤ, pos, neg_ℤ, ◌+ℤ◌, ◌≤ℤ◌, unsigned_abs, int_le, Bool, true, false, ◌&&◌, if◌then◌else◌, Option, Some, None, List, [], ◌∷◌, length, slice_index_or, take, All}
+use Rattle.std.specs.Prelude.{◌≡◌, ◌⊎◌, ℕ, ◌<◌, ◌≤◌, ◌^◌, ℤ, pos, neg_ℤ, ◌+ℤ◌, ◌≤ℤ◌, ◌<ℤ◌, unsigned_abs, int_le, Bool, true, false, ◌&&◌, if◌then◌else◌, Option, Some, None, List, [], ◌∷◌, length, take, All}
 use Rattle.cps_literal.specs.declared.atom.Atom.{Atom}
 use Rattle.cps_literal.specs.Truth.{value_at, atom_holds}
 use Rattle.cps_instance.specs.declared.task.Body.{Body}
 use Rattle.cps_instance.specs.declared.task.Body.TheVariants.{Reservoir}
 use Rattle.cps_trail.specs.Trail.{Trail, Domains}
 use Rattle.cps_propagate.specs.Now.{IsOpenTo, IsFixedNow, AreOpen}
+use Rattle.cps_propagate.specs.Strength.{MayBeTrue, MayBeFalse, MayHaveActed, MayHaveRested, IsShareNow}
 use Rattle.cps_p_cumulative.specs.declared.tank.Tank.{Tank}
 use Rattle.cps_p_cumulative.specs.declared.tank.Move.{Move}
 use Rattle.cps_p_cumulative.specs.declared.tank.Side.{Side}
@@ -77,10 +78,24 @@ IsMoveOf first m = All (λ i. i < length first) (move_subjects m)
 abbrev pub IsTankOf : Domains → Tank → Type 0
 IsTankOf first k = All (IsMoveOf first) (moves_of k)
 
--- What an event adds towards a side at values that a store leaves, or more, and no less than it adds where its subjects are fixed.
+-- what an event may have added towards a side by a time, and events together, each by itself
+abbrev pub IsShareToward : Side → Trail → ℤ → Move → ℤ → Type 0
+IsShareToward side s t m v = (x : ℤ) × IsShareNow s t m.time m.change m.active x × (v ≡ toward side x)
+
+abbrev pub MayAddUp : Side → Trail → ℤ → List Move → ℤ → Type 0
+MayAddUp side s t [] v = v ≡ pos 0
+MayAddUp side s t (m ∷ ms) v = (own : ℤ) × (rest : ℤ) × IsShareToward side s t m own × MayAddUp side s t ms rest × (v ≡ own +ℤ rest)
+
+-- from one time to another nothing becomes sure of an event: it is due by the one, or may be due after the other
+abbrev pub StaysFrom : Trail → ℤ → ℤ → Move → Type 0
+StaysFrom s t u m = ((x : ℤ) → IsOpenTo s m.time x → x ≤ℤ t) ⊎ ((x : ℤ) × IsOpenTo s m.time x × (u <ℤ x))
+
+-- What an event adds towards a side at values that a store leaves, or more, and no less than it adds where its subjects are fixed. It may
+-- have added just that, by that time and by a later one as long as nothing becomes sure of it.
 pub record IsShare (s : Trail) (t : ℤ) (side : Side) (m : Move) (v : ℤ) : Type 0 where
   pub sound : (xs : List ℤ) → AreOpen s xs (move_subjects m) → v ≤ℤ share_of side xs t m
   pub exact : (xs : List ℤ) → AreOpen s xs (move_subjects m) → All (IsFixedNow s) (move_subjects m) → share_of side xs t m ≤ℤ v
+  pub may : (u : ℤ) → t ≤ℤ u → StaysFrom s t u m → IsShareToward side s u m v
   pub near : unsigned_abs v ≤ 2 ^ 63
 
 -- the values that a list has for the subjects of events are ones that they may have now, and those subjects are fixed
@@ -94,29 +109,57 @@ AreMovesFixed s ms = All (λ m. All (IsFixedNow s) (move_subjects m)) ms
 pub record IsLevel (s : Trail) (t : ℤ) (side : Side) (ms : List Move) (v : ℤ) : Type 0 where
   pub sound : (xs : List ℤ) → AreMovesOpen s xs ms → v ≤ℤ total side xs t ms
   pub exact : (xs : List ℤ) → AreMovesOpen s xs ms → AreMovesFixed s ms → total side xs t ms ≤ℤ v
+  pub may : (u : ℤ) → t ≤ℤ u → All (StaysFrom s t u) ms → MayAddUp side s u ms v
+
+-- an event may take place, or may not
+abbrev pub MayBeActive : Trail → Option Atom → Bool → Type 0
+MayBeActive s active true = MayBeTrue s active
+MayBeActive s active false = MayBeFalse s active
+
+-- it may have taken place by a time, or may not have
+abbrev pub MayBe : Trail → ℤ → Move → Bool → Type 0
+MayBe s t m true = MayHaveActed s t m.time m.active
+MayBe s t m false = MayHaveRested s t m.time m.active
 
 -- whether an event has taken place by a time, wherever its subjects may be now
 pub record IsSure (s : Trail) (t : ℤ) (m : Move) (v : Bool) : Type 0 where
   pub sure : (xs : List ℤ) → AreOpen s xs (move_subjects m) → has_acted xs t m ≡ v
+  pub may : MayBe s t m v
 
 -- and where they are fixed
 pub record IsSureFixed (s : Trail) (t : ℤ) (m : Move) (v : Bool) : Type 0 where
   pub sure : (xs : List ℤ) → AreOpen s xs (move_subjects m) → All (IsFixedNow s) (move_subjects m) → has_acted xs t m ≡ v
+  pub may : MayBe s t m v
 
 -- the least that an event's change counts towards a side
 pub record IsLeastToward (s : Trail) (side : Side) (i : ℕ) (v : ℤ) : Type 0 where
   pub least : (x : ℤ) → IsOpenTo s i x → v ≤ℤ toward side x
   pub reached : (x : ℤ) → IsOpenTo s i x → IsFixedNow s i → toward side x ≤ℤ v
+  pub attained : (x : ℤ) × IsOpenTo s i x × (v ≡ toward side x)
   pub near : unsigned_abs v ≤ 2 ^ 63
 
--- where all is fixed and an event takes place, the level at its time does not pass the limit of a side
-pub record IsKeptAt (s : Trail) (k : Tank) (side : Side) (m : Move) : Type 0 where
-  pub kept : (xs : List ℤ) → AreMovesOpen s xs (moves_of k) → AreMovesFixed s (moves_of k) → is_active xs m.active ≡ true → total side xs (value_at xs m.time) (moves_of k) ≤ℤ limit k side
+-- 0 lies between the limits
+pub record AllowsZero (k : Tank) : Type 0 where
+  pub low : k.min ≤ℤ pos 0
+  pub high : pos 0 ≤ℤ k.max
 
--- and at the time of each of the first events
-pub record AreKeptTo (s : Trail) (k : Tank) (n : ℕ) : Type 0 where
-  pub over : All (IsKeptAt s k Over) (take n (moves_of k))
-  pub under : All (IsKeptAt s k Under) (take n (moves_of k))
+-- at a time what events add towards a side at least is not past the limit
+pub record HasRoomAt (s : Trail) (k : Tank) (side : Side) (t : ℤ) : Type 0 where
+  pub sum : ℤ
+  pub level : IsLevel s t side (moves_of k) sum
+  pub below : sum ≤ℤ limit k side
+
+-- so at the last time at which an event may take place
+pub record HasRoomAfter (s : Trail) (k : Tank) (side : Side) (m : Move) : Type 0 where
+  pub late : ℤ
+  pub reached : IsOpenTo s m.time late
+  pub last : (x : ℤ) → IsOpenTo s m.time x → x ≤ℤ late
+  pub room : HasRoomAt s k side late
+
+-- and after each of the first events
+pub record HasRoomTo (s : Trail) (k : Tank) (n : ℕ) : Type 0 where
+  pub over : All (HasRoomAfter s k Over) (take n (moves_of k))
+  pub under : All (HasRoomAfter s k Under) (take n (moves_of k))
 
 -- an atom says that an event's change counts so much towards a side, or more
 pub record IsTowardBound (side : Side) (i : ℕ) (v : ℤ) (u : Atom) : Type 0 where
@@ -135,12 +178,6 @@ pub record IsAdded (side : Side) (t : ℤ) (m : Move) (v : ℤ) (xs : List ℤ) 
 -- and events together
 pub record AreAdded (side : Side) (t : ℤ) (ms : List Move) (v : ℤ) (xs : List ℤ) : Type 0 where
   pub added : v ≤ℤ total side xs t ms
-
--- an event is one of a list
-pub record IsAmong (ms : List Move) (m : Move) : Type 0 where
-  pub place : ℕ
-  pub within : place < length ms
-  pub is : m ≡ slice_index_or ms place m
 
 -- a body is that of a tank
 abbrev pub IsReservoirBody : Body → Type 0

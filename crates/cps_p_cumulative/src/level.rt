@@ -1,12 +1,12 @@
 //! Whether the level at a time surely passes a limit.
 //!
 //! An event that has surely taken place by the time counts its least change, one that surely has not counts nothing, and any other
-//! whichever is less. That sum is no more than what the level comes to, and where all is fixed it is the level. A level is
-//! looked at from one event's greatest time. Where the limit is beyond 0 that event must surely take place, since without an
-//! event by then the level is not asked for.
-ghost use Rattle.std.specs.Prelude.{◌≡◌, ◌⊎◌, ◌≤◌, ◌<◌, ◌^◌, ◌-◌, ◌+ℤ◌, ◌≤ℤ◌, pos, unsigned_abs, length, false, true, IsTrue, IfSome, None};
+//! whichever is less. That sum is no more than what the level comes to, and where all is fixed it is the level. It rises only at an
+//! event's greatest time, where the event becomes sure, so the levels at these times tell of every time. Before any event the level is 0, which
+//! lies between the limits.
+ghost use Rattle.std.specs.Prelude.{◌≡◌, ◌≤◌, ◌<◌, ◌^◌, ◌-◌, ◌+ℤ◌, unsigned_abs, length, false, true, IsTrue, IfSome, None};
 ghost use Rattle.cps_rule.specs.Rules.{IsImpossible, IsAtRest};
-ghost use Rattle.cps_p_cumulative.specs.Levels.{IsMoveOf, IsTankOf, IsShare, IsLevel, IsSure, IsSureFixed, IsLeastToward, IsKeptAt, IsAmong, moves_of, tank_body};
+ghost use Rattle.cps_p_cumulative.specs.Levels.{IsMoveOf, IsTankOf, IsShare, IsLevel, IsSure, IsSureFixed, IsLeastToward, AllowsZero, HasRoomAfter, moves_of, tank_body};
 
 use crate::tank::{Move, Side, Tank, toward};
 use cps_literal::Truth;
@@ -100,31 +100,16 @@ pub(crate) fn least_level(past: &Before, time: i64, side: Side, tank: &Tank) -> 
     sum
 }
 
-/// Whether the level at a time is asked for: where its limit leaves room for 0 it may as well be, and else an event takes place by then.
-fn is_asked(past: &Before, limit: i128, time: i64, event: &Move) -> bool
-    requires { IsMoveOf past.now.first event.now }
-    ensures yes { IsTrue result → (pos 0 ≤ℤ limit) ⊎ IsSure past.now time event.now true }
-    ensures no { result ≡ false → IsSureFixed past.now time event.now false }
-{
-    if 0 <= limit {
-        return true;
-    }
-    has_surely_acted(past, time, event)
-}
-
 /// Whether the level surely passes a side's limit at an event's greatest time.
 fn passes(past: &Before, tank: &Tank, side: Side, event: &Move) -> bool
     requires tank { IsTankOf past.now.first tank.now }
+    requires zero { AllowsZero tank.now }
     requires event { IsMoveOf past.now.first event.now }
-    requires among { IsAmong (moves_of tank.now) event.now }
     ensures over { IsTrue result → IsImpossible (tank_body tank.now) past.now }
-    ensures kept { result ≡ false → IsKeptAt past.now tank.now side event.now }
+    ensures room { result ≡ false → HasRoomAfter past.now tank.now side event.now }
 {
     let time = past.ends(event.time).1;
     let limit = tank.limit(side);
-    if !is_asked(past, limit, time, event) {
-        return false;
-    }
     let level = least_level(past, time, side, tank);
     if limit < level {
         return true;
@@ -135,6 +120,7 @@ fn passes(past: &Before, tank: &Tank, side: Side, event: &Move) -> bool
 /// A time at which the level surely passes a limit.
 pub(crate) fn passing(past: &Before, tank: &Tank) -> Option<Hint>
     requires tank { IsTankOf past.now.first tank.now }
+    requires zero { AllowsZero tank.now }
     ensures over { IfSome result (λ hint. IsImpossible (tank_body tank.now) past.now) }
     ensures kept { result ≡ None → IsAtRest (tank_body tank.now) past.now }
 {

@@ -1,7 +1,7 @@
 //! The rule of a tank.
 ghost use Rattle.std.specs.Prelude.{◌≡◌, ◌<◌, All, IfOk, IfSome, OnOk, Ok, length};
 ghost use Rattle.cps_rule.specs.Rules.{IsFittingRule, IsGiven, IsImpossible, IsAtRest, IsSeen, IsExplained, IsRefuted};
-ghost use Rattle.cps_p_cumulative.specs.Levels.{IsTankOf, moves_of, tank_body};
+ghost use Rattle.cps_p_cumulative.specs.Levels.{IsTankOf, AllowsZero, moves_of, tank_body};
 
 use crate::charge::{Case, at_most, is_inside};
 use crate::level::{hint_at, least_level, passing};
@@ -133,6 +133,7 @@ fn look_at(
     found: &mut Vec<Narrowing>,
 ) -> Result<Look, AllocError>
     requires tank { IsTankOf past.now.first tank.now }
+    requires zero { AllowsZero tank.now }
     ensures given { OnOk result (All (λ n. IsGiven (tank_body tank.now) past.now n.target) found.new.items) }
     ensures impossible { (hint : Hint) → result ≡ Ok (Look.Impossible hint) → IsImpossible (tank_body tank.now) past.now }
     ensures possible { result ≡ Ok Look.Possible → IsAtRest (tank_body tank.now) past.now }

@@ -1,6 +1,6 @@
 use Rattle.std.proofs.Common.{rules, ◌<ℤ◌, ◌≤ℤ◌}
 use Rattle.std.proofs.lemmas.Int.{ints}
-use Rattle.cps_p_cumulative.proofs.Levelled.{fixed_later, fixed_absent, sure_acted, active_true, active_not_true}
+use Rattle.cps_p_cumulative.proofs.Levelled.{fixed_later, fixed_absent, sure_acted, active_true, active_not_true, active_none}
 use Rattle.cps_p_cumulative.proofs.level.has_surely_acted.Goals as goal
 
 pub returns-then-time-ends-clause-no : goal.returns-then-time-ends-clause-no
@@ -13,7 +13,15 @@ returns-in-Yes-clause-yes c = λ e.
     let s = c.args.past.now in
     let m = c.args.event.now in
     let l : c.ends.result.1 ≤ℤ c.args.time = (let h = c.if-time-ends.false in search (rules, ints)) in
-    sure_acted s c.args.time c.ends.result.1 m l c.ends.ensures.greatest (active_true s m c.in-Some.atom c.in-Some.is (c.truth.ensures.yes.0 c.in-Yes.is))
+    sure_acted s c.args.time c.ends.result.1 m l c.ends.ensures.high c.ends.ensures.greatest
+    (active_true s m c.in-Some.atom c.in-Some.is (c.truth.ensures.yes.0 c.in-Yes.is) (λ h. (let e = c.truth.ensures.no.1 h in let d = c.in-Yes.is in cc)))
+
+pub returns-in-None-clause-yes : goal.returns-in-None-clause-yes
+returns-in-None-clause-yes c = λ e.
+    let s = c.args.past.now in
+    let m = c.args.event.now in
+    let l : c.ends.result.1 ≤ℤ c.args.time = (let h = c.if-time-ends.false in search (rules, ints)) in
+    sure_acted s c.args.time c.ends.result.1 m l c.ends.ensures.high c.ends.ensures.greatest (active_none s m c.in-None.is)
 
 pub returns-in_default : goal.returns-in_default
 returns-in_default c =

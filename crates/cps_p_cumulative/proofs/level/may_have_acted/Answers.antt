@@ -6,13 +6,13 @@ use Rattle.cps_p_cumulative.proofs.level.may_have_acted.Goals as goal
 pub returns-then-time-ends-clause-no : goal.returns-then-time-ends-clause-no
 returns-then-time-ends-clause-no c = λ e.
     let l : c.args.time <ℤ c.ends.result.0 = (let h = c.if-time-ends.true in search (rules, ints)) in
-    sure_later c.args.past.now c.args.time c.ends.result.0 c.args.event.now l c.ends.ensures.least
+    sure_later c.args.past.now c.args.time c.ends.result.0 c.args.event.now l c.ends.ensures.low c.ends.ensures.least
 
 pub returns-in-No-clause-no : goal.returns-in-No-clause-no
 returns-in-No-clause-no c = λ e.
     let s = c.args.past.now in
     let m = c.args.event.now in
-    sure_absent s c.args.time m (active_false s m c.in-Some.atom c.in-Some.is (c.truth.ensures.no.0 c.in-No.is))
+    sure_absent s c.args.time m (active_false s m c.in-Some.atom c.in-Some.is (c.truth.ensures.no.0 c.in-No.is) (λ h. (let e = c.truth.ensures.yes.1 h in let d = c.in-No.is in cc)))
 
 pub returns-in_default : goal.returns-in_default
 returns-in_default c =

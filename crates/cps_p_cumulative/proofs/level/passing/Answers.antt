@@ -1,6 +1,6 @@
 use Rattle.std.proofs.Common.{◌<◌, length, arith}
 use Rattle.cps_p_cumulative.specs.Levels.{moves_of}
-use Rattle.cps_p_cumulative.proofs.Levelled.{on_time, move_inside, kept_more, at_rest_of}
+use Rattle.cps_p_cumulative.proofs.Levelled.{on_time, move_inside, room_more, at_rest_of}
 use Rattle.cps_p_cumulative.proofs.level.passing.Goals as goal
 
 pub ends-requires : goal.ends-requires
@@ -18,8 +18,8 @@ ends-requires-then-passes-2 c =
 pub loop-k-preserved : goal.loop-k-preserved
 loop-k-preserved c =
     let l : c.loop-k.k < length (moves_of c.args.tank.now) = (let a = c.count-k-end.ensures in let b = c.loop-k-test.true in omega arith) in
-    kept_more c.args.past.now c.args.tank.now c.loop-k.k c.move_at-event.result l c.move_at-event.ensures c.loop-k.invariant (c.passes.ensures.kept c.if-passes.false) (c.passes-in-loop-k.ensures.kept c.if-passes-2.false)
+    room_more c.args.past.now c.args.tank.now c.loop-k.k c.move_at-event.result l c.move_at-event.ensures c.loop-k.invariant (c.passes.ensures.room c.if-passes.false) (c.passes-in-loop-k.ensures.room c.if-passes-2.false)
 
 pub returns-clause-kept : goal.returns-clause-kept
 returns-clause-kept c = λ e.
-    at_rest_of c.args.past.now c.args.tank.now c.loop-k.k (let a = c.count-k-end.ensures in let b = c.loop-k-test.false in omega arith) c.loop-k.invariant
+    at_rest_of c.args.past.now c.args.tank.now c.loop-k.k c.requires.zero (let a = c.count-k-end.ensures in let b = c.loop-k-test.false in omega arith) c.loop-k.invariant

@@ -1,11 +1,18 @@
 use Rattle.std.proofs.Common.{◌<◌, ◌≤ℤ◌, pos, length, rules, FitsSigned, w64}
 use Rattle.std.specs.Int.{w128}
 use Rattle.std.proofs.lemmas.Int.{ints, to_z-of_z}
-use Rattle.cps_p_cumulative.proofs.Levelled.{on_change, share_sure, share_open, share_open_none}
+use Rattle.cps_p_cumulative.proofs.Levelled.{on_change, share_none, share_sure, share_open, share_open_none}
 use Rattle.cps_p_cumulative.proofs.level.share.Goals as goal
 
 pub least_toward-least-requires : goal.least_toward-least-requires
 least_toward-least-requires c = on_change (λ i. i < length c.args.past.now.first) c.args.event.now c.requires
+
+pub returns-then-not-may_have_acted : goal.returns-then-not-may_have_acted
+returns-then-not-may_have_acted c =
+    let t = c.args.time in
+    let f : FitsSigned w64 t = search rules in
+    let no = rw (to_z-of_z w64 t f) at (c.may_have_acted.ensures.no c.if-not-may_have_acted.true) in
+    share_none c.args.past.now t c.args.side c.args.event.now no
 
 pub returns-then-has_surely_acted : goal.returns-then-has_surely_acted
 returns-then-has_surely_acted c =
