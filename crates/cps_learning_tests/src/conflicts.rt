@@ -16,7 +16,7 @@ use cps_trail::{Explain, Store};
 use std::alloc::{AllocError, Global};
 use std::test::Fail;
 
-fn at_most(subject: u32, value: i64) -> Atom {
+pub(crate) fn at_most(subject: u32, value: i64) -> Atom {
     Atom {
         subject,
         op: Op::Le,
@@ -24,7 +24,7 @@ fn at_most(subject: u32, value: i64) -> Atom {
     }
 }
 
-fn at_least(subject: u32, value: i64) -> Atom {
+pub(crate) fn at_least(subject: u32, value: i64) -> Atom {
     Atom {
         subject,
         op: Op::Ge,
@@ -68,7 +68,7 @@ fn implied(alloc: Global, store: &mut Store, other: Atom, atom: Atom) -> Result<
 }
 
 /// Nobody who makes reasons.
-struct Nobody;
+pub(crate) struct Nobody;
 
 impl Explain for Nobody {
     ghost fits = { λ _. λ _. λ _. Unit {0} };
@@ -92,7 +92,7 @@ impl Explain for Nobody {
 }
 
 /// Whether all of these atoms are false.
-fn all_false(store: &Store, atoms: &[Atom]) -> bool
+pub(crate) fn all_false(store: &Store, atoms: &[Atom]) -> bool
     ensures subjects { IsTrue result → All (λ t. t.subject < length store.now.first) atoms.now }
     ensures false_now { IsTrue result → All (IsFalseNow store.now) atoms.now }
 {
@@ -110,13 +110,13 @@ fn all_false(store: &Store, atoms: &[Atom]) -> bool
 
 /// A step that a store is led by.
 #[derive(Clone, Copy)]
-enum Step {
+pub(crate) enum Step {
     Decide(Atom),
     /// Makes the second atom true because the first is false.
     Imply(Atom, Atom),
 }
 
-fn lead(alloc: Global, store: &mut Store, steps: &[Step]) -> Result<(), AllocError> {
+pub(crate) fn lead(alloc: Global, store: &mut Store, steps: &[Step]) -> Result<(), AllocError> {
     for step in steps {
         match *step {
             Step::Decide(atom) => decide(store, atom)?,
