@@ -25,7 +25,7 @@ use Rattle.cps_print.specs.Fields.{followed_by, list_field, text_field, message_
 use Rattle.cps_print.specs.Kinds.{kind_field}
 use Rattle.cps_print.specs.Models.{printed_variable, printed_constraint}
 use Rattle.cps_print.proofs.Cuts.{IsPlain}
-use Rattle.cps_print.proofs.Shown.{Shows, IsAdmitted, closed_names, kind, content_clash, printed_numbers, printed_texts, numbers-shown, texts-shown}
+use Rattle.cps_print.proofs.Shown.{Shows, IsAdmitted, kind, content_clash, printed_numbers, printed_texts, numbers-shown, texts-shown}
 use Rattle.cps_print.proofs.Readable.{AreFit, IsReadableText, IsReadableVariable, numbers_fit, name_utf8}
 use Rattle.cps_print.proofs.Parts.{parts_message, parts_plain, parts_admitted}
 use Rattle.cps_print.proofs.KindFields.{AsField, IsReadableKind, kind_readable}
@@ -40,16 +40,16 @@ variable_plain room v r =
     plain-followed_by room (text_field (codes "name") v.name) _ (plain-text_field room (codes "name") v.name refl r.name)
     (plain-followed_by room (list_field (codes "domain") v.domain) empty (plain-list_field room (codes "domain") v.domain refl (are_short Int64 v.domain r.domain)) tt)
 
-pub variable_admitted : (v : Variable) → IsReadableVariable v → IsAdmitted variable_message [] (printed_variable v)
+pub variable_admitted : (closed : List (List ℕ)) (v : Variable) → IsReadableVariable v → IsAdmitted closed variable_message [] (printed_variable v)
 unfolding use_of is_given
-variable_admitted v r =
-    let domain = λ (before : List (List ℕ)). admitted-list variable_message before (codes "domain") v.domain Int64 empty refl r.domain tt tt in
-    admitted-text variable_message [] (codes "name") v.name _ refl refl (domain []) (domain (codes "name" ∷ []))
+variable_admitted closed v r =
+    let domain = λ (before : List (List ℕ)). admitted-list closed variable_message before (codes "domain") v.domain Int64 empty refl r.domain tt tt in
+    admitted-text closed variable_message [] (codes "name") v.name _ refl refl (domain []) (domain (codes "name" ∷ []))
 
 pub variable_back : (w : Written) (v : Variable) (t : Tree) → IsReadableVariable v → Shows w (printed_variable v) t → read_variable w t ≡ v
 unfolding use_of
 variable_back w v t r s =
-    let a = variable_admitted v r in
+    let a = variable_admitted w.closed v r in
     let name : readings.texts w (codes "name") t ≡ text_list v.name = texts-shown w variable_message [] (codes "name") (printed_variable v) t refl a s ∙ simp printed in
     let domain : readings.numbers w (codes "domain") t ≡ v.domain = numbers-shown w variable_message [] (codes "domain") Int64 (printed_variable v) t refl a s ∙ simp printed in
     rw (name, domain, first_text v.name) refl
@@ -66,9 +66,9 @@ name_named : (name : KindName) → kind_named (field_name name) ≡ Some name
 name_named names.BoolOr = refl
 name_named _ = refl
 
-kind_plain : (room : ℕ) (k : Kind) → IsReadableKind k → IsPlain (suc (suc room)) (kind_field k)
-kind_plain room k (inl e) = rw e tt
-kind_plain room k (inr f) =
+kind_plain : (closed : List (List ℕ)) (room : ℕ) (k : Kind) → IsReadableKind closed k → IsPlain (suc (suc room)) (kind_field k)
+kind_plain closed room k (inl e) = rw e tt
+kind_plain closed room k (inr f) =
     rw f.message.is (plain-message_field (suc room) (field_name f.name) (parts_message f.message.parts) (name_plain f.name) (parts_plain room f.message.parts f.message.named f.message.fit))
 
 -- no kind has been given
@@ -97,23 +97,23 @@ unfolding use_of
 enforcement_apart name =
     content_clash constraint_message (field_name name) (codes "enforcement_literal") (tables.message (message_of name)) (tables.number Int32) (ap content_of (kind_use name)) refl (λ e. cc)
 
-kind_admitted : (before : List (List ℕ)) (k : Kind) → IsReadableKind k → IsKindFree before → IsAdmitted constraint_message before (followed_by (kind_field k) empty)
+kind_admitted : (closed : List (List ℕ)) (before : List (List ℕ)) (k : Kind) → IsReadableKind closed k → IsKindFree before → IsAdmitted closed constraint_message before (followed_by (kind_field k) empty)
 unfolding followed_by
-kind_admitted before k (inl e) given = rw e tt
-kind_admitted before k (inr f) given =
-    rw f.message.is (admitted-message constraint_message before (field_name f.name) (parts_message f.message.parts) empty (kind (message_of f.name) (kind_use f.name) f.opened (given.names f.name) given.kinds (parts_admitted (message_of f.name) f.message.parts f.message.takes f.message.fit)) tt)
+kind_admitted closed before k (inl e) given = rw e tt
+kind_admitted closed before k (inr f) given =
+    rw f.message.is (admitted-message closed constraint_message before (field_name f.name) (parts_message f.message.parts) empty (kind (message_of f.name) (kind_use f.name) f.opened (given.names f.name) given.kinds (parts_admitted closed (message_of f.name) f.message.parts f.message.takes f.message.fit)) tt)
 
 empty_back : (w : Written) (t : Tree) → Shows w empty t → first_or Empty (given_kinds w t) ≡ Empty
 empty_back w no_fields s = refl
 empty_back w _ s = absurd s
 
-field_back : (w : Written) (k : Kind) (f : AsField k) (t : Tree) → Shows w (message_field (field_name f.name) (parts_message f.message.parts)) t → first_or Empty (given_kinds w t) ≡ k
+field_back : (w : Written) (k : Kind) (f : AsField w.closed k) (t : Tree) → Shows w (message_field (field_name f.name) (parts_message f.message.parts)) t → first_or Empty (given_kinds w t) ≡ k
 field_back w k f (field token false (message_value first inner no_values) no_fields) s =
     rw (s.0, name_named f.name) (f.message.back w inner (record { takes = f.message.takes; fit = f.message.fit; shows = s.1 }))
 field_back w k f (field token false (message_value first inner no_values) (field t l v more)) s = absurd s.2
 field_back w k f _ s = absurd s
 
-kind_back : (w : Written) (k : Kind) (t : Tree) → IsReadableKind k → Shows w (followed_by (kind_field k) empty) t → first_or Empty (given_kinds w t) ≡ k
+kind_back : (w : Written) (k : Kind) (t : Tree) → IsReadableKind w.closed k → Shows w (followed_by (kind_field k) empty) t → first_or Empty (given_kinds w t) ≡ k
 unfolding followed_by
 kind_back w k t (inl e) s = rw e (empty_back w t (subst (λ x. Shows w (followed_by (kind_field x) empty) t) e s))
 kind_back w k t (inr f) s = field_back w k f t (subst (λ m. Shows w (followed_by m empty) t) f.message.is s)
@@ -141,43 +141,43 @@ behind_name w (b ∷ bytes) m _ s = absurd s
 
 -- constraints
 
-pub record IsReadableConstraint (c : Constraint) : Type 0 where
+pub record IsReadableConstraint (closed : List (List ℕ)) (c : Constraint) : Type 0 where
   pub name : IsReadableText c.name
   pub enforcement : AreFit Int32 c.enforcement
-  pub kind : IsReadableKind c.kind
+  pub kind : IsReadableKind closed c.kind
 
-pub constraint_readable : (w : Written) (t : Tree) → w.closed ≡ closed_names → fields_fault w constraint_message [] t ≡ None → IsReadableConstraint (read_constraint w t)
+pub constraint_readable : (w : Written) (t : Tree) → fields_fault w constraint_message [] t ≡ None → IsReadableConstraint w.closed (read_constraint w t)
 unfolding use_of
-constraint_readable w t c e = record {
+constraint_readable w t e = record {
   name = name_utf8 w constraint_message t refl e;
   enforcement = numbers_fit w constraint_message [] (codes "enforcement_literal") Int32 t refl e;
-  kind = kind_readable w t c e;
+  kind = kind_readable w t e;
 }
 
-pub constraint_plain : (room : ℕ) (c : Constraint) → IsReadableConstraint c → IsPlain (suc (suc room)) (printed_constraint c)
+pub constraint_plain : (closed : List (List ℕ)) (room : ℕ) (c : Constraint) → IsReadableConstraint closed c → IsPlain (suc (suc room)) (printed_constraint c)
 unfolding is_word_start is_word
-constraint_plain room c r =
+constraint_plain closed room c r =
     plain-followed_by (suc (suc room)) (text_field (codes "name") c.name) _ (plain-text_field (suc (suc room)) (codes "name") c.name refl r.name)
     (plain-followed_by (suc (suc room)) (list_field (codes "enforcement_literal") c.enforcement) _ (plain-list_field (suc (suc room)) (codes "enforcement_literal") c.enforcement refl (are_short Int32 c.enforcement r.enforcement))
-    (plain-followed_by (suc (suc room)) (kind_field c.kind) empty (kind_plain room c.kind r.kind) tt))
+    (plain-followed_by (suc (suc room)) (kind_field c.kind) empty (kind_plain closed room c.kind r.kind) tt))
 
 none_kind : IsKindFree []
 unfolding is_given has_kind
 none_kind = record { names = λ name. refl; kinds = refl }
 
-enforcement_admitted : (c : Constraint) → IsReadableConstraint c → (before : List (List ℕ)) → IsKindFree before → IsAdmitted constraint_message before (followed_by (list_field (codes "enforcement_literal") c.enforcement) (followed_by (kind_field c.kind) empty))
+enforcement_admitted : (closed : List (List ℕ)) (c : Constraint) → IsReadableConstraint closed c → (before : List (List ℕ)) → IsKindFree before → IsAdmitted closed constraint_message before (followed_by (list_field (codes "enforcement_literal") c.enforcement) (followed_by (kind_field c.kind) empty))
 unfolding use_of
-enforcement_admitted c r before f =
-    admitted-list constraint_message before (codes "enforcement_literal") c.enforcement Int32 _ refl r.enforcement
-    (kind_admitted before c.kind r.kind f)
-    (kind_admitted (codes "enforcement_literal" ∷ before) c.kind r.kind (kind_kept (codes "enforcement_literal") before enforcement_apart refl f))
+enforcement_admitted closed c r before f =
+    admitted-list closed constraint_message before (codes "enforcement_literal") c.enforcement Int32 _ refl r.enforcement
+    (kind_admitted closed before c.kind r.kind f)
+    (kind_admitted closed (codes "enforcement_literal" ∷ before) c.kind r.kind (kind_kept (codes "enforcement_literal") before enforcement_apart refl f))
 
-pub constraint_admitted : (c : Constraint) → IsReadableConstraint c → IsAdmitted constraint_message [] (printed_constraint c)
+pub constraint_admitted : (closed : List (List ℕ)) (c : Constraint) → IsReadableConstraint closed c → IsAdmitted closed constraint_message [] (printed_constraint c)
 unfolding use_of is_given
-constraint_admitted c r =
-    admitted-text constraint_message [] (codes "name") c.name _ refl refl
-    (enforcement_admitted c r [] none_kind)
-    (enforcement_admitted c r (codes "name" ∷ []) (kind_kept (codes "name") [] name_apart refl none_kind))
+constraint_admitted closed c r =
+    admitted-text closed constraint_message [] (codes "name") c.name _ refl refl
+    (enforcement_admitted closed c r [] none_kind)
+    (enforcement_admitted closed c r (codes "name" ∷ []) (kind_kept (codes "name") [] name_apart refl none_kind))
 
 kind_no_numbers : (name : List ℕ) (k : Kind) → printed_numbers name (kind_field k) ≡ []
 kind_no_numbers name Empty = refl
@@ -187,10 +187,10 @@ kind_no_texts : (name : List ℕ) (k : Kind) → printed_texts name (kind_field 
 kind_no_texts name Empty = refl
 kind_no_texts name _ = refl
 
-pub constraint_back : (w : Written) (c : Constraint) (t : Tree) → IsReadableConstraint c → Shows w (printed_constraint c) t → read_constraint w t ≡ c
+pub constraint_back : (w : Written) (c : Constraint) (t : Tree) → IsReadableConstraint w.closed c → Shows w (printed_constraint c) t → read_constraint w t ≡ c
 unfolding use_of
 constraint_back w c t r s =
-    let a = constraint_admitted c r in
+    let a = constraint_admitted w.closed c r in
     let name : readings.texts w (codes "name") t ≡ text_list c.name = texts-shown w constraint_message [] (codes "name") (printed_constraint c) t refl a s ∙ simp (printed, kind_no_texts) in
     let enforcement : readings.numbers w (codes "enforcement_literal") t ≡ c.enforcement = numbers-shown w constraint_message [] (codes "enforcement_literal") Int32 (printed_constraint c) t refl a s ∙ simp (printed, kind_no_numbers) in
     let named = behind_name w c.name _ t s in

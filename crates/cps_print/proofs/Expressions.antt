@@ -26,26 +26,26 @@ expression_plain room e r =
     (plain-followed_by room (list_field (codes "coeffs") e.coeffs) _ (plain-list_field room (codes "coeffs") e.coeffs refl (are_short Int64 e.coeffs r.coeffs))
     (plain-followed_by room (number_field (codes "offset") e.offset) empty (plain-number_field room (codes "offset") e.offset refl (fit_short Int64 e.offset r.offset)) tt))
 
-expression_offset : (e : LinearExpr) → IsReadableExpression e → (before : List (List ℕ)) → is_given before (codes "offset") ≡ false → IsAdmitted expression_message before (followed_by (number_field (codes "offset") e.offset) empty)
+expression_offset : (closed : List (List ℕ)) (e : LinearExpr) → IsReadableExpression e → (before : List (List ℕ)) → is_given before (codes "offset") ≡ false → IsAdmitted closed expression_message before (followed_by (number_field (codes "offset") e.offset) empty)
 unfolding use_of
-expression_offset e r before f = admitted-number expression_message before (codes "offset") e.offset Int64 empty refl f r.offset tt tt
+expression_offset closed e r before f = admitted-number closed expression_message before (codes "offset") e.offset Int64 empty refl f r.offset tt tt
 
-expression_coeffs : (e : LinearExpr) → IsReadableExpression e → (before : List (List ℕ)) → is_given before (codes "offset") ≡ false → IsAdmitted expression_message before (followed_by (list_field (codes "coeffs") e.coeffs) (followed_by (number_field (codes "offset") e.offset) empty))
+expression_coeffs : (closed : List (List ℕ)) (e : LinearExpr) → IsReadableExpression e → (before : List (List ℕ)) → is_given before (codes "offset") ≡ false → IsAdmitted closed expression_message before (followed_by (list_field (codes "coeffs") e.coeffs) (followed_by (number_field (codes "offset") e.offset) empty))
 unfolding use_of
-expression_coeffs e r before f =
-    admitted-list expression_message before (codes "coeffs") e.coeffs Int64 _ refl r.coeffs
-    (expression_offset e r before f)
-    (expression_offset e r (codes "coeffs" ∷ before) (given-other before (codes "coeffs") (codes "offset") refl f))
+expression_coeffs closed e r before f =
+    admitted-list closed expression_message before (codes "coeffs") e.coeffs Int64 _ refl r.coeffs
+    (expression_offset closed e r before f)
+    (expression_offset closed e r (codes "coeffs" ∷ before) (given-other before (codes "coeffs") (codes "offset") refl f))
 
-pub expression_admitted : (e : LinearExpr) → IsReadableExpression e → IsAdmitted expression_message [] (printed_expression e)
+pub expression_admitted : (closed : List (List ℕ)) (e : LinearExpr) → IsReadableExpression e → IsAdmitted closed expression_message [] (printed_expression e)
 unfolding use_of is_given
-expression_admitted e r =
-    admitted-list expression_message [] (codes "vars") e.vars Int32 _ refl r.vars (expression_coeffs e r [] refl) (expression_coeffs e r (codes "vars" ∷ []) refl)
+expression_admitted closed e r =
+    admitted-list closed expression_message [] (codes "vars") e.vars Int32 _ refl r.vars (expression_coeffs closed e r [] refl) (expression_coeffs closed e r (codes "vars" ∷ []) refl)
 
 pub expression_back : (w : Written) (e : LinearExpr) (t : Tree) → IsReadableExpression e → Shows w (printed_expression e) t → read_expression w t ≡ e
 unfolding use_of
 expression_back w e t r s =
-    let a = expression_admitted e r in
+    let a = expression_admitted w.closed e r in
     let vars : readings.numbers w (codes "vars") t ≡ e.vars = numbers-shown w expression_message [] (codes "vars") Int32 (printed_expression e) t refl a s ∙ simp printed in
     let coeffs : readings.numbers w (codes "coeffs") t ≡ e.coeffs = numbers-shown w expression_message [] (codes "coeffs") Int64 (printed_expression e) t refl a s ∙ simp printed in
     let offset : readings.numbers w (codes "offset") t ≡ number_list e.offset = numbers-shown w expression_message [] (codes "offset") Int64 (printed_expression e) t refl a s ∙ simp printed in

@@ -86,24 +86,24 @@ plain-repeated_field room name printed (x ∷ xs) e p = (e, p.0, plain-repeated_
 
 -- admitted in front of others, behind fields of these names
 
-pub admitted-list : (m : tables.Message) (before : List (List ℕ)) (name : List ℕ) (ns : List ℤ) (type : Number) (others : Message) → use_of m name ≡ Some (tables.repeated (tables.number type)) → AreFit type ns → IsAdmitted m before others → IsAdmitted m (name ∷ before) others → IsAdmitted m before (followed_by (list_field name ns) others)
+pub admitted-list : (closed : List (List ℕ)) (m : tables.Message) (before : List (List ℕ)) (name : List ℕ) (ns : List ℤ) (type : Number) (others : Message) → use_of m name ≡ Some (tables.repeated (tables.number type)) → AreFit type ns → IsAdmitted closed m before others → IsAdmitted closed m (name ∷ before) others → IsAdmitted closed m before (followed_by (list_field name ns) others)
 unfolding followed_by list_field
-admitted-list m before name [] type others takes fit none some = none
-admitted-list m before name (n ∷ ns) type others takes fit none some =
+admitted-list closed m before name [] type others takes fit none some = none
+admitted-list closed m before name (n ∷ ns) type others takes fit none some =
     (record { type = type; content = ap content_of takes; clear = rw takes refl; listed = rw takes refl; fit = fit }, some)
 
-pub admitted-number : (m : tables.Message) (before : List (List ℕ)) (name : List ℕ) (z : ℤ) (type : Number) (others : Message) → use_of m name ≡ Some (tables.single (tables.number type)) → is_given before name ≡ false → fits type z ≡ true → IsAdmitted m before others → IsAdmitted m (name ∷ before) others → IsAdmitted m before (followed_by (number_field name z) others)
+pub admitted-number : (closed : List (List ℕ)) (m : tables.Message) (before : List (List ℕ)) (name : List ℕ) (z : ℤ) (type : Number) (others : Message) → use_of m name ≡ Some (tables.single (tables.number type)) → is_given before name ≡ false → fits type z ≡ true → IsAdmitted closed m before others → IsAdmitted closed m (name ∷ before) others → IsAdmitted closed m before (followed_by (number_field name z) others)
 unfolding followed_by number_field
-admitted-number m before name (pos zero) type others takes first fit none some = none
-admitted-number m before name (pos (suc n)) type others takes first fit none some =
+admitted-number closed m before name (pos zero) type others takes first fit none some = none
+admitted-number closed m before name (pos (suc n)) type others takes first fit none some =
     (record { type = type; content = ap content_of takes; clear = rw (takes, first) refl; fit = fit }, some)
-admitted-number m before name (negsuc n) type others takes first fit none some =
+admitted-number closed m before name (negsuc n) type others takes first fit none some =
     (record { type = type; content = ap content_of takes; clear = rw (takes, first) refl; fit = fit }, some)
 
-pub admitted-text : (m : tables.Message) (before : List (List ℕ)) (name bytes : List ℕ) (others : Message) → use_of m name ≡ Some (tables.single tables.text) → is_given before name ≡ false → IsAdmitted m before others → IsAdmitted m (name ∷ before) others → IsAdmitted m before (followed_by (text_field name bytes) others)
+pub admitted-text : (closed : List (List ℕ)) (m : tables.Message) (before : List (List ℕ)) (name bytes : List ℕ) (others : Message) → use_of m name ≡ Some (tables.single tables.text) → is_given before name ≡ false → IsAdmitted closed m before others → IsAdmitted closed m (name ∷ before) others → IsAdmitted closed m before (followed_by (text_field name bytes) others)
 unfolding followed_by text_field
-admitted-text m before name [] others takes first none some = none
-admitted-text m before name (b ∷ bytes) others takes first none some =
+admitted-text closed m before name [] others takes first none some = none
+admitted-text closed m before name (b ∷ bytes) others takes first none some =
     (record { content = ap content_of takes; clear = rw (takes, first) refl }, some)
 
 -- the name of a member, or nothing
@@ -111,21 +111,21 @@ abbrev pub IsMember : Enum → List ℕ → Type 0
 IsMember enum [] = Unit {0}
 IsMember enum (b ∷ bytes) = (k : ℕ) × (member_named enum false (b ∷ bytes) ≡ Ok k)
 
-pub admitted-word : (m : tables.Message) (before : List (List ℕ)) (name w : List ℕ) (enum : Enum) (others : Message) → use_of m name ≡ Some (tables.single (tables.member enum)) → is_given before name ≡ false → IsMember enum w → IsAdmitted m before others → IsAdmitted m (name ∷ before) others → IsAdmitted m before (followed_by (word_field name w) others)
+pub admitted-word : (closed : List (List ℕ)) (m : tables.Message) (before : List (List ℕ)) (name w : List ℕ) (enum : Enum) (others : Message) → use_of m name ≡ Some (tables.single (tables.member enum)) → is_given before name ≡ false → IsMember enum w → IsAdmitted closed m before others → IsAdmitted closed m (name ∷ before) others → IsAdmitted closed m before (followed_by (word_field name w) others)
 unfolding followed_by word_field
-admitted-word m before name [] enum others takes first named none some = none
-admitted-word m before name (b ∷ bytes) enum others takes first named none some =
+admitted-word closed m before name [] enum others takes first named none some = none
+admitted-word closed m before name (b ∷ bytes) enum others takes first named none some =
     (record { value = tables.member enum; content = ap content_of takes; clear = rw (takes, first) refl; named = named }, some)
 
-pub admitted-message : (m : tables.Message) (before : List (List ℕ)) (name : List ℕ) (fields others : Message) → TakesMessage m before name (λ k. IsAdmitted k [] fields) → IsAdmitted m (name ∷ before) others → IsAdmitted m before (followed_by (message_field name fields) others)
+pub admitted-message : (closed : List (List ℕ)) (m : tables.Message) (before : List (List ℕ)) (name : List ℕ) (fields others : Message) → TakesMessage closed m before name (λ k. IsAdmitted closed k [] fields) → IsAdmitted closed m (name ∷ before) others → IsAdmitted closed m before (followed_by (message_field name fields) others)
 unfolding followed_by
-admitted-message m before name fields others takes some = (takes, some)
+admitted-message closed m before name fields others takes some = (takes, some)
 
-pub admitted-repeated : {X : Type 0} (m : tables.Message) (name : List ℕ) (printed : X → Message) (k : tables.Message) (others : Message) (Free : List (List ℕ) → Type 0) → ((before : List (List ℕ)) (fields : Message) → Free before → IsAdmitted k [] fields → TakesMessage m before name (λ j. IsAdmitted j [] fields)) → ((before : List (List ℕ)) → Free before → Free (name ∷ before)) → ((before : List (List ℕ)) → Free before → IsAdmitted m before others) → (xs : List X) → Each (λ x. IsAdmitted k [] (printed x)) xs → (before : List (List ℕ)) → Free before → IsAdmitted m before (followed_by (repeated_field name printed xs) others)
+pub admitted-repeated : (closed : List (List ℕ)) {X : Type 0} (m : tables.Message) (name : List ℕ) (printed : X → Message) (k : tables.Message) (others : Message) (Free : List (List ℕ) → Type 0) → ((before : List (List ℕ)) (fields : Message) → Free before → IsAdmitted closed k [] fields → TakesMessage closed m before name (λ j. IsAdmitted closed j [] fields)) → ((before : List (List ℕ)) → Free before → Free (name ∷ before)) → ((before : List (List ℕ)) → Free before → IsAdmitted closed m before others) → (xs : List X) → Each (λ x. IsAdmitted closed k [] (printed x)) xs → (before : List (List ℕ)) → Free before → IsAdmitted closed m before (followed_by (repeated_field name printed xs) others)
 unfolding followed_by repeated_field
-admitted-repeated m name printed k others Free takes kept rest [] a before free = rest before free
-admitted-repeated m name printed k others Free takes kept rest (x ∷ xs) a before free =
-    (takes before (printed x) free a.0, admitted-repeated m name printed k others Free takes kept rest xs a.1 (name ∷ before) (kept before free))
+admitted-repeated closed m name printed k others Free takes kept rest [] a before free = rest before free
+admitted-repeated closed m name printed k others Free takes kept rest (x ∷ xs) a before free =
+    (takes before (printed x) free a.0, admitted-repeated closed m name printed k others Free takes kept rest xs a.1 (name ∷ before) (kept before free))
 
 pub given-other : (before : List (List ℕ)) (other name : List ℕ) → bytes_eq name other ≡ false → is_given before name ≡ false → is_given (other ∷ before) name ≡ false
 unfolding is_given

@@ -15,14 +15,13 @@ use Rattle.cps_schema.specs.Kinds.{field_name, message_of, kind_named}
 use Rattle.cps_schema.specs.Faults.{refused_at, name_fault, has_kind, fields_fault, values_fault}
 use Rattle.cps_schema.specs.Readings.{first_or, value_messages, read_kind, kinds_of, given_kinds}
 use Rattle.cps_schema.proofs.GivenKinds.{named_text, kind_use}
-use Rattle.cps_print.proofs.Shown.{closed_names}
 use Rattle.cps_print.proofs.Readable.{Each, each_append, each_map, or_none, refused_none, values_sound}
 use Rattle.cps_print.proofs.KindMessages.{AsMessage, IsReadBack, literals_back, arithmetic_back, linear_back, all_diff_back, element_back, circuit_back, table_back, interval_back, no_overlap_back, cumulative_back, automaton_back, inverse_back, reservoir_back, no_overlap_2d_back}
 
 -- a kind as a field that is not closed
-pub record AsField (k : Kind) : Type 0 where
+pub record AsField (closed : List (List ℕ)) (k : Kind) : Type 0 where
   pub name : KindName
-  pub opened : is_given closed_names (field_name name) ≡ false
+  pub opened : is_given closed (field_name name) ≡ false
   pub message : AsMessage (field_name name) (message_of name) (λ w t. read_kind w name t) k
 
 kind_back : (name : KindName) → IsReadBack (field_name name) (message_of name) (λ w t. read_kind w name t)
@@ -56,35 +55,35 @@ not_closed closed before text k e = by (is_given closed text) (if is_given befor
   by true other h = cc
   by false other h = refl
 
-kinds_of_read : (w : Written) (before : List (List ℕ)) (text : List ℕ) (values : Values) → w.closed ≡ closed_names → name_fault w.closed constraint_message before text (use_of constraint_message text) ≡ None → values_fault w (content_of (use_of constraint_message text)) values ≡ None → (name : Option KindName) → kind_named text ≡ name → Each AsField (kinds_of w name (value_messages values))
-kinds_of_read w before text values c clear inner None named = tt
-kinds_of_read w before text values c clear inner (Some name) named =
+kinds_of_read : (w : Written) (before : List (List ℕ)) (text : List ℕ) (values : Values) → name_fault w.closed constraint_message before text (use_of constraint_message text) ≡ None → values_fault w (content_of (use_of constraint_message text)) values ≡ None → (name : Option KindName) → kind_named text ≡ name → Each (AsField w.closed) (kinds_of w name (value_messages values))
+kinds_of_read w before text values clear inner None named = tt
+kinds_of_read w before text values clear inner (Some name) named =
     let is = named_text text name named in
     let takes : use_of constraint_message text ≡ Some (tables.one_kind (message_of name)) = ap (λ n. use_of constraint_message n) is ∙ kind_use name in
     let free : is_given w.closed text ≡ false = not_closed w.closed before text (message_of name) (sym (ap (λ u. name_fault w.closed constraint_message before text u) takes) ∙ clear) in
-    let opened : is_given closed_names (field_name name) ≡ false = subst (λ n. is_given closed_names n ≡ false) is (subst (λ closed. is_given closed text ≡ false) c free) in
+    let opened : is_given w.closed (field_name name) ≡ false = subst (λ n. is_given w.closed n ≡ false) is free in
     let clean : values_fault w (Some (tables.message (message_of name))) values ≡ None = sym (ap (λ u. values_fault w (content_of u) values) takes) ∙ inner in
-    each_map (λ t. fields_fault w (message_of name) [] t ≡ None) AsField (read_kind w name) (λ t e. record { name = name; opened = opened; message = kind_back name w t e })
+    each_map (λ t. fields_fault w (message_of name) [] t ≡ None) (AsField w.closed) (read_kind w name) (λ t e. record { name = name; opened = opened; message = kind_back name w t e })
     (value_messages values) (values_sound w (message_of name) values clean)
 
-kinds_read : (w : Written) (before : List (List ℕ)) (t : Tree) → w.closed ≡ closed_names → fields_fault w constraint_message before t ≡ None → Each AsField (given_kinds w t)
-kinds_read w before no_fields c e = tt
-kinds_read w before (field token list values rest) c e =
+kinds_read : (w : Written) (before : List (List ℕ)) (t : Tree) → fields_fault w constraint_message before t ≡ None → Each (AsField w.closed) (given_kinds w t)
+kinds_read w before no_fields e = tt
+kinds_read w before (field token list values rest) e =
     let name = token_text w token in
     let parts = or_none _ _ e in
     let inner = or_none (values_fault w (content_of (use_of constraint_message name)) values) _ parts.1 in
     let own = or_none (refused_at token (name_fault w.closed constraint_message before name (use_of constraint_message name))) _ parts.0 in
     let clear = refused_none token _ own.0 in
-    each_append AsField (kinds_of w (kind_named name) (value_messages values)) (given_kinds w rest)
-    (kinds_of_read w before name values c clear inner.0 (kind_named name) refl) (kinds_read w (name ∷ before) rest c inner.1)
+    each_append (AsField w.closed) (kinds_of w (kind_named name) (value_messages values)) (given_kinds w rest)
+    (kinds_of_read w before name values clear inner.0 (kind_named name) refl) (kinds_read w (name ∷ before) rest inner.1)
 
-first_kind : (ks : List Kind) → Each AsField ks → (first_or Empty ks ≡ Empty) ⊎ AsField (first_or Empty ks)
-first_kind [] e = inl refl
-first_kind (k ∷ ks) e = inr e.0
+first_kind : (closed : List (List ℕ)) (ks : List Kind) → Each (AsField closed) ks → (first_or Empty ks ≡ Empty) ⊎ AsField closed (first_or Empty ks)
+first_kind closed [] e = inl refl
+first_kind closed (k ∷ ks) e = inr e.0
 
 -- a kind that was read is none, or a field
-abbrev pub IsReadableKind : Kind → Type 0
-IsReadableKind k = (k ≡ Empty) ⊎ AsField k
+abbrev pub IsReadableKind : List (List ℕ) → Kind → Type 0
+IsReadableKind closed k = (k ≡ Empty) ⊎ AsField closed k
 
-pub kind_readable : (w : Written) (t : Tree) → w.closed ≡ closed_names → fields_fault w constraint_message [] t ≡ None → IsReadableKind (first_or Empty (given_kinds w t))
-kind_readable w t c e = first_kind (given_kinds w t) (kinds_read w [] t c e)
+pub kind_readable : (w : Written) (t : Tree) → fields_fault w constraint_message [] t ≡ None → IsReadableKind w.closed (first_or Empty (given_kinds w t))
+kind_readable w t e = first_kind w.closed (given_kinds w t) (kinds_read w [] t e)

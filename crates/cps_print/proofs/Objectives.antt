@@ -60,38 +60,38 @@ free_vars before f = record { offset = given-other before (codes "vars") (codes 
 free_coeffs : (before : List (List ℕ)) → IsFree before → IsFree (codes "coeffs" ∷ before)
 free_coeffs before f = record { offset = given-other before (codes "coeffs") (codes "offset") refl f.offset; scaling = given-other before (codes "coeffs") (codes "scaling_factor") refl f.scaling }
 
-domain_admitted : (o : Objective) → IsReadableObjective o → (before : List (List ℕ)) → IsAdmitted objective_message before (followed_by (list_field (codes "domain") o.domain) empty)
+domain_admitted : (closed : List (List ℕ)) (o : Objective) → IsReadableObjective o → (before : List (List ℕ)) → IsAdmitted closed objective_message before (followed_by (list_field (codes "domain") o.domain) empty)
 unfolding use_of
-domain_admitted o r before = admitted-list objective_message before (codes "domain") o.domain Int64 empty refl r.domain tt tt
+domain_admitted closed o r before = admitted-list closed objective_message before (codes "domain") o.domain Int64 empty refl r.domain tt tt
 
-scaling_admitted : (o : Objective) → IsReadableObjective o → (before : List (List ℕ)) → is_given before (codes "scaling_factor") ≡ false → IsAdmitted objective_message before (followed_by (scaling_field o.scaling) (followed_by (list_field (codes "domain") o.domain) empty))
+scaling_admitted : (closed : List (List ℕ)) (o : Objective) → IsReadableObjective o → (before : List (List ℕ)) → is_given before (codes "scaling_factor") ≡ false → IsAdmitted closed objective_message before (followed_by (scaling_field o.scaling) (followed_by (list_field (codes "domain") o.domain) empty))
 unfolding use_of
-scaling_admitted o r before f =
+scaling_admitted closed o r before f =
     rw (scaling_field-is o.scaling)
-    (admitted-number objective_message before (codes "scaling_factor") (scaling_shown o.scaling) Exact _ refl f (shown_fit o.scaling r.scaling) (domain_admitted o r before) (domain_admitted o r (codes "scaling_factor" ∷ before)))
+    (admitted-number closed objective_message before (codes "scaling_factor") (scaling_shown o.scaling) Exact _ refl f (shown_fit o.scaling r.scaling) (domain_admitted closed o r before) (domain_admitted closed o r (codes "scaling_factor" ∷ before)))
 
-offset_admitted : (o : Objective) → IsReadableObjective o → (before : List (List ℕ)) → IsFree before → IsAdmitted objective_message before (followed_by (number_field (codes "offset") o.offset) (followed_by (scaling_field o.scaling) (followed_by (list_field (codes "domain") o.domain) empty)))
+offset_admitted : (closed : List (List ℕ)) (o : Objective) → IsReadableObjective o → (before : List (List ℕ)) → IsFree before → IsAdmitted closed objective_message before (followed_by (number_field (codes "offset") o.offset) (followed_by (scaling_field o.scaling) (followed_by (list_field (codes "domain") o.domain) empty)))
 unfolding use_of
-offset_admitted o r before f =
-    admitted-number objective_message before (codes "offset") o.offset Exact _ refl f.offset r.offset
-    (scaling_admitted o r before f.scaling)
-    (scaling_admitted o r (codes "offset" ∷ before) (given-other before (codes "offset") (codes "scaling_factor") refl f.scaling))
+offset_admitted closed o r before f =
+    admitted-number closed objective_message before (codes "offset") o.offset Exact _ refl f.offset r.offset
+    (scaling_admitted closed o r before f.scaling)
+    (scaling_admitted closed o r (codes "offset" ∷ before) (given-other before (codes "offset") (codes "scaling_factor") refl f.scaling))
 
-coeffs_admitted : (o : Objective) → IsReadableObjective o → (before : List (List ℕ)) → IsFree before → IsAdmitted objective_message before (followed_by (list_field (codes "coeffs") o.coeffs) (followed_by (number_field (codes "offset") o.offset) (followed_by (scaling_field o.scaling) (followed_by (list_field (codes "domain") o.domain) empty))))
+coeffs_admitted : (closed : List (List ℕ)) (o : Objective) → IsReadableObjective o → (before : List (List ℕ)) → IsFree before → IsAdmitted closed objective_message before (followed_by (list_field (codes "coeffs") o.coeffs) (followed_by (number_field (codes "offset") o.offset) (followed_by (scaling_field o.scaling) (followed_by (list_field (codes "domain") o.domain) empty))))
 unfolding use_of
-coeffs_admitted o r before f =
-    admitted-list objective_message before (codes "coeffs") o.coeffs Int64 _ refl r.coeffs
-    (offset_admitted o r before f) (offset_admitted o r (codes "coeffs" ∷ before) (free_coeffs before f))
+coeffs_admitted closed o r before f =
+    admitted-list closed objective_message before (codes "coeffs") o.coeffs Int64 _ refl r.coeffs
+    (offset_admitted closed o r before f) (offset_admitted closed o r (codes "coeffs" ∷ before) (free_coeffs before f))
 
 none_given : IsFree []
 unfolding is_given
 none_given = record { offset = refl; scaling = refl }
 
-pub objective_admitted : (o : Objective) → IsReadableObjective o → IsAdmitted objective_message [] (printed_objective o)
+pub objective_admitted : (closed : List (List ℕ)) (o : Objective) → IsReadableObjective o → IsAdmitted closed objective_message [] (printed_objective o)
 unfolding use_of
-objective_admitted o r =
-    admitted-list objective_message [] (codes "vars") o.vars Int32 _ refl r.vars
-    (coeffs_admitted o r [] none_given) (coeffs_admitted o r (codes "vars" ∷ []) (free_vars [] none_given))
+objective_admitted closed o r =
+    admitted-list closed objective_message [] (codes "vars") o.vars Int32 _ refl r.vars
+    (coeffs_admitted closed o r [] none_given) (coeffs_admitted closed o r (codes "vars" ∷ []) (free_vars [] none_given))
 
 pub first_number : (z : ℤ) → first_or (pos 0) (number_list z) ≡ z
 first_number (pos zero) = refl
@@ -107,7 +107,7 @@ scaling_back (negsuc n) h = refl
 pub objective_back : (w : Written) (o : Objective) (t : Tree) → IsReadableObjective o → Shows w (printed_objective o) t → read_objective w t ≡ o
 unfolding use_of
 objective_back w o t r s =
-    let a = objective_admitted o r in
+    let a = objective_admitted w.closed o r in
     let vars : readings.numbers w (codes "vars") t ≡ o.vars = numbers-shown w objective_message [] (codes "vars") Int32 (printed_objective o) t refl a s ∙ simp (scaling_field-is, printed) in
     let coeffs : readings.numbers w (codes "coeffs") t ≡ o.coeffs = numbers-shown w objective_message [] (codes "coeffs") Int64 (printed_objective o) t refl a s ∙ simp (scaling_field-is, printed) in
     let offset : readings.numbers w (codes "offset") t ≡ number_list o.offset = numbers-shown w objective_message [] (codes "offset") Exact (printed_objective o) t refl a s ∙ simp (scaling_field-is, printed) in

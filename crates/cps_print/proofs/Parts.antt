@@ -147,63 +147,63 @@ among_again m before seen x w = record {
       ∙ both_false (is_other_form form (use_of m x)) (has_other_form m form before) (or_false (is_other_form form (use_of m x)) (has_other_form m form seen) (sym (next_form m form seen x) ∙ e)).0 (w.other form e);
 }
 
-admitted-flag : (m : tables.Message) (before : List (List ℕ)) (name : List ℕ) (b : Bool) (others : Message) → use_of m name ≡ Some (tables.single tables.truth) → is_given before name ≡ false → IsAdmitted m before others → IsAdmitted m (name ∷ before) others → IsAdmitted m before (followed_by (word_field name (flag_name b)) others)
+admitted-flag : (closed : List (List ℕ)) (m : tables.Message) (before : List (List ℕ)) (name : List ℕ) (b : Bool) (others : Message) → use_of m name ≡ Some (tables.single tables.truth) → is_given before name ≡ false → IsAdmitted closed m before others → IsAdmitted closed m (name ∷ before) others → IsAdmitted closed m before (followed_by (word_field name (flag_name b)) others)
 unfolding word_field followed_by
-admitted-flag m before name true others takes first left written =
+admitted-flag closed m before name true others takes first left written =
     (record { value = tables.truth; content = ap content_of takes; clear = rw (takes, first) refl; named = (true, refl) }, written)
-admitted-flag m before name false others takes first left written = left
+admitted-flag closed m before name false others takes first left written = left
 
-admitted-expression_field : (m : tables.Message) (before : List (List ℕ)) (name : List ℕ) (e : LinearExpr) (others : Message) → TakesMessage m before name (λ k. IsAdmitted k [] (printed_expression e)) → IsAdmitted m before others → IsAdmitted m (name ∷ before) others → IsAdmitted m before (followed_by (expression_field name e) others)
+admitted-expression_field : (closed : List (List ℕ)) (m : tables.Message) (before : List (List ℕ)) (name : List ℕ) (e : LinearExpr) (others : Message) → TakesMessage closed m before name (λ k. IsAdmitted closed k [] (printed_expression e)) → IsAdmitted closed m before others → IsAdmitted closed m (name ∷ before) others → IsAdmitted closed m before (followed_by (expression_field name e) others)
 unfolding expression_field followed_by
-admitted-expression_field m before name e others takes left written = by (is_empty_expression e) where
-  by : (left_out : Bool) → IsAdmitted m before (followed_by (if left_out then empty else message_field name (printed_expression e)) others)
+admitted-expression_field closed m before name e others takes left written = by (is_empty_expression e) where
+  by : (left_out : Bool) → IsAdmitted closed m before (followed_by (if left_out then empty else message_field name (printed_expression e)) others)
   by true = left
   by false = (takes, written)
 
 formed_apart : (m : tables.Message) (seen : List (List ℕ)) (name : List ℕ) → use_of m name ≡ Some (tables.formed Newer (tables.message expression_message)) → has_other_form m Newer seen ≡ false → has_other_form m Newer (name ∷ seen) ≡ false
 formed_apart m seen name takes apart = next_form m Newer seen name ∙ rw (takes, apart) refl
 
-expressions_admitted : (m : tables.Message) (seen before : List (List ℕ)) (name : List ℕ) (es : List LinearExpr) (others : Message) → IsAmong m before seen → TakesSome m seen name → Each IsReadableExpression es → ((b : List (List ℕ)) → IsAmong m b (name ∷ seen) → IsAdmitted m b others) → IsAdmitted m before (followed_by (expressions_field name es) others)
-expressions_admitted m seen before name es others w takes f rest = by takes where
-  inner : Each (λ e. IsAdmitted expression_message [] (printed_expression e)) es
-  inner = each_of IsReadableExpression (λ e. IsAdmitted expression_message [] (printed_expression e)) expression_admitted es f
+expressions_admitted : (closed : List (List ℕ)) (m : tables.Message) (seen before : List (List ℕ)) (name : List ℕ) (es : List LinearExpr) (others : Message) → IsAmong m before seen → TakesSome m seen name → Each IsReadableExpression es → ((b : List (List ℕ)) → IsAmong m b (name ∷ seen) → IsAdmitted closed m b others) → IsAdmitted closed m before (followed_by (expressions_field name es) others)
+expressions_admitted closed m seen before name es others w takes f rest = by takes where
+  inner : Each (λ e. IsAdmitted closed expression_message [] (printed_expression e)) es
+  inner = each_of IsReadableExpression (λ e. IsAdmitted closed expression_message [] (printed_expression e)) (expression_admitted closed) es f
 
-  by : TakesSome m seen name → IsAdmitted m before (followed_by (expressions_field name es) others)
+  by : TakesSome m seen name → IsAdmitted closed m before (followed_by (expressions_field name es) others)
   by (some t) =
-      admitted-repeated m name printed_expression expression_message others (λ b. IsAmong m b (name ∷ seen))
+      admitted-repeated closed m name printed_expression expression_message others (λ b. IsAmong m b (name ∷ seen))
       (λ b fields v a. each expression_message t a) (λ b v. among_again m b seen name v) rest es inner before (among_one m before seen name w)
   by (some_formed t apart) =
-      admitted-repeated m name printed_expression expression_message others (λ b. IsAmong m b (name ∷ seen))
+      admitted-repeated closed m name printed_expression expression_message others (λ b. IsAmong m b (name ∷ seen))
       (λ b fields v a. formed expression_message Newer t (v.other Newer (formed_apart m seen name t apart)) a)
       (λ b v. among_again m b seen name v) rest es inner before (among_one m before seen name w)
 
-one_taken : (m : tables.Message) (seen before : List (List ℕ)) (name : List ℕ) (e : LinearExpr) → IsAmong m before seen → TakesOne m seen name → IsReadableExpression e → TakesMessage m before name (λ k. IsAdmitted k [] (printed_expression e))
-one_taken m seen before name e w (once takes first) f = alone expression_message takes (w.given name first) (expression_admitted e f)
-one_taken m seen before name e w (once_formed takes first apart) f =
-    alone_formed expression_message Newer takes (w.given name first) (w.other Newer apart) (expression_admitted e f)
+one_taken : (closed : List (List ℕ)) (m : tables.Message) (seen before : List (List ℕ)) (name : List ℕ) (e : LinearExpr) → IsAmong m before seen → TakesOne m seen name → IsReadableExpression e → TakesMessage closed m before name (λ k. IsAdmitted closed k [] (printed_expression e))
+one_taken closed m seen before name e w (once takes first) f = alone expression_message takes (w.given name first) (expression_admitted closed e f)
+one_taken closed m seen before name e w (once_formed takes first apart) f =
+    alone_formed expression_message Newer takes (w.given name first) (w.other Newer apart) (expression_admitted closed e f)
 
-part_admitted : (m : tables.Message) (seen before : List (List ℕ)) (p : Part) (others : Message) → IsAmong m before seen → TakesPart m seen p → IsFit p → ((b : List (List ℕ)) → IsAmong m b (name_of p ∷ seen) → IsAdmitted m b others) → IsAdmitted m before (followed_by (part_field p) others)
-part_admitted m seen before (list type name ns) others w t f rest =
+part_admitted : (closed : List (List ℕ)) (m : tables.Message) (seen before : List (List ℕ)) (p : Part) (others : Message) → IsAmong m before seen → TakesPart m seen p → IsFit p → ((b : List (List ℕ)) → IsAmong m b (name_of p ∷ seen) → IsAdmitted closed m b others) → IsAdmitted closed m before (followed_by (part_field p) others)
+part_admitted closed m seen before (list type name ns) others w t f rest =
     let one = among_one m before seen name w in
-    admitted-list m before name ns type others t f (rest before one) (rest (name ∷ before) (among_again m before seen name one))
-part_admitted m seen before (number type name z) others w t f rest =
+    admitted-list closed m before name ns type others t f (rest before one) (rest (name ∷ before) (among_again m before seen name one))
+part_admitted closed m seen before (number type name z) others w t f rest =
     let one = among_one m before seen name w in
-    admitted-number m before name z type others t.0 (w.given name t.1) f (rest before one) (rest (name ∷ before) (among_again m before seen name one))
-part_admitted m seen before (flag name b) others w t f rest =
+    admitted-number closed m before name z type others t.0 (w.given name t.1) f (rest before one) (rest (name ∷ before) (among_again m before seen name one))
+part_admitted closed m seen before (flag name b) others w t f rest =
     let one = among_one m before seen name w in
-    admitted-flag m before name b others t.0 (w.given name t.1) (rest before one) (rest (name ∷ before) (among_again m before seen name one))
-part_admitted m seen before (expression name e) others w t f rest =
+    admitted-flag closed m before name b others t.0 (w.given name t.1) (rest before one) (rest (name ∷ before) (among_again m before seen name one))
+part_admitted closed m seen before (expression name e) others w t f rest =
     let one = among_one m before seen name w in
-    admitted-expression_field m before name e others (one_taken m seen before name e w t f) (rest before one) (rest (name ∷ before) (among_again m before seen name one))
-part_admitted m seen before (several name es) others w t f rest = expressions_admitted m seen before name es others w t f rest
+    admitted-expression_field closed m before name e others (one_taken closed m seen before name e w t f) (rest before one) (rest (name ∷ before) (among_again m before seen name one))
+part_admitted closed m seen before (several name es) others w t f rest = expressions_admitted closed m seen before name es others w t f rest
 
-parts_behind : (m : tables.Message) (seen before : List (List ℕ)) (ps : List Part) → IsAmong m before seen → Takes m seen ps → Each IsFit ps → IsAdmitted m before (parts_message ps)
-parts_behind m seen before [] w t f = tt
-parts_behind m seen before (p ∷ ps) w t f =
-    part_admitted m seen before p (parts_message ps) w t.0 f.0 (λ b v. parts_behind m (name_of p ∷ seen) b ps v t.1 f.1)
+parts_behind : (closed : List (List ℕ)) (m : tables.Message) (seen before : List (List ℕ)) (ps : List Part) → IsAmong m before seen → Takes m seen ps → Each IsFit ps → IsAdmitted closed m before (parts_message ps)
+parts_behind closed m seen before [] w t f = tt
+parts_behind closed m seen before (p ∷ ps) w t f =
+    part_admitted closed m seen before p (parts_message ps) w t.0 f.0 (λ b v. parts_behind closed m (name_of p ∷ seen) b ps v t.1 f.1)
 
-pub parts_admitted : (m : tables.Message) (ps : List Part) → Takes m [] ps → Each IsFit ps → IsAdmitted m [] (parts_message ps)
-parts_admitted m ps t f = parts_behind m [] [] ps (among_none m) t f
+pub parts_admitted : (closed : List (List ℕ)) (m : tables.Message) (ps : List Part) → Takes m [] ps → Each IsFit ps → IsAdmitted closed m [] (parts_message ps)
+parts_admitted closed m ps t f = parts_behind closed m [] [] ps (among_none m) t f
 
 -- what is read of them
 
@@ -370,7 +370,7 @@ pub record ShowsParts (w : Written) (m : tables.Message) (ps : List Part) (t : T
 
 pub numbers_back : (w : Written) (m : tables.Message) (ps : List Part) (t : Tree) → ShowsParts w m ps t → (name : List ℕ) (type : Number) → content_of (use_of m name) ≡ Some (tables.number type) → readings.numbers w name t ≡ part_numbers name ps
 numbers_back w m ps t s name type takes =
-    numbers-shown w m [] name type (parts_message ps) t takes (parts_admitted m ps s.takes s.fit) s.shows ∙ printed_numbers-parts name ps
+    numbers-shown w m [] name type (parts_message ps) t takes (parts_admitted w.closed m ps s.takes s.fit) s.shows ∙ printed_numbers-parts name ps
 
 pub expressions_back : (w : Written) (m : tables.Message) (ps : List Part) (t : Tree) → ShowsParts w m ps t → (name : List ℕ) → map (read_expression w) (messages w name t) ≡ part_expressions name ps
 expressions_back w m ps t s name =
@@ -378,7 +378,7 @@ expressions_back w m ps t s name =
 
 pub truths_back : (w : Written) (m : tables.Message) (ps : List Part) (t : Tree) → ShowsParts w m ps t → (name : List ℕ) → content_of (use_of m name) ≡ Some tables.truth → readings.truths w name t ≡ part_truths name ps
 truths_back w m ps t s name takes =
-    truths-shown w m [] name (parts_message ps) t takes (parts_admitted m ps s.takes s.fit) s.shows ∙ printed_truths-parts name ps
+    truths-shown w m [] name (parts_message ps) t takes (parts_admitted w.closed m ps s.takes s.fit) s.shows ∙ printed_truths-parts name ps
 
 pub gives_nothing : (w : Written) (m : tables.Message) (ps : List Part) (t : Tree) → ShowsParts w m ps t → (name : List ℕ) → has_part name ps ≡ false → readings.gives w name t ≡ false
 gives_nothing w m ps t s name e = gives-shown w name (parts_message ps) t s.shows ∙ not_printed name ps e

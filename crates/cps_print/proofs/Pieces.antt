@@ -10,7 +10,7 @@ use Rattle.cps_lex.specs.Scan.{scan}
 use Rattle.cps_lex.proofs.Standing.{scan_finds}
 use Rattle.cps_textproto.specs.declared.symbol.Symbol.{Symbol}
 use Rattle.cps_textproto.specs.Symbols.{symbol_of_kind, symbols}
-use Rattle.cps_schema.specs.Written.{Written, token_text, token_kind, written}
+use Rattle.cps_schema.specs.Written.{Written, token_text, token_kind, written_with}
 
 pub data Piece : Type 0 where
   blank : ℕ → Piece
@@ -181,5 +181,5 @@ written_from w k at (lexeme kind text ∷ ps) e r =
     let next = items_behind w.tokens k token (tokens_at (at + length text) ps) e in
     (text_at w k at kind text (spelled ps) here r.is, kind_at w k token here, written_from w (suc k) (at + length text) ps next (behind w.bytes at text (spelled ps) r))
 
-pub written_are : (ps : List Piece) → AreWritten (written (spelled ps) (tokens_at 0 ps)) 0 ps
-written_are ps = written_from (written (spelled ps) (tokens_at 0 ps)) 0 0 ps refl (whole (spelled ps))
+pub written_are : (closed : List (List ℕ)) (ps : List Piece) → AreWritten (written_with closed (spelled ps) (tokens_at 0 ps)) 0 ps
+written_are closed ps = written_from (written_with closed (spelled ps) (tokens_at 0 ps)) 0 0 ps refl (whole (spelled ps))

@@ -6,10 +6,11 @@ use Rattle.std.specs.Option.{option_or, unwrap_or}
 use Rattle.std.proofs.lemmas.Slice.Eq.{bytes_eq-Decides}
 use Rattle.std.proofs.lemmas.Str.{is_utf8-from_IsUtf8, IsUtf8-nil}
 use Rattle.std.proofs.lemmas.List.Folds.{list_all-append}
-use Rattle.std.proofs.Common.{◌≡◌, ◌≢◌, ℕ, zero, suc, Bool, true, false, ◌&&◌, ℤ, pos, negsuc, List, [], ◌∷◌, ◌++◌, Option, Some, None, is_some, refl, sym, ap, ◌∙◌}
+use Rattle.std.proofs.Common.{◌≡◌, ◌≢◌, ℕ, zero, suc, Bool, true, false, ◌&&◌, ◌⊎◌, inl, inr, ℤ, pos, negsuc, List, [], ◌∷◌, ◌++◌, Option, Some, None, is_some, refl, sym, subst, ap, ◌∙◌}
 use Rattle.cps_lex.specs.declared.types.TokenKind.{TokenKind}
 use Rattle.cps_textproto.specs.Trees.{Tree, no_fields, field, Values, no_values, scalar_value, message_value}
 use Rattle.cps_model.specs.declared.fault.FaultName.{FaultName}
+use Rattle.cps_model.specs.declared.fault.FaultName.TheVariants.{Unsupported}
 use Rattle.cps_model.specs.declared.model.Variable.{Variable}
 use Rattle.cps_model.specs.declared.model.Objective.{Objective}
 use Rattle.cps_model.specs.declared.model.LinearExpr.{LinearExpr}
@@ -20,9 +21,9 @@ use Rattle.cps_schema.specs.declared.number.Number.{Number}
 use Rattle.cps_schema.specs.declared.number.Number.TheVariants.{Int64, Int32, Exact}
 use Rattle.cps_schema.specs.Numbers.{fits, misfit, token_fault, kind_fault, number_fault}
 use Rattle.cps_schema.specs.Tables as tables
-use Rattle.cps_schema.specs.Tables.{use_of, content_of, model_message, variable_message, constraint_message, literals_message, linear_message, objective_message, strategy_message, expression_message, hint_message}
+use Rattle.cps_schema.specs.Tables.{use_of, content_of, is_given, model_message, variable_message, constraint_message, literals_message, linear_message, objective_message, strategy_message, expression_message, hint_message}
 use Rattle.cps_schema.specs.Texts.{scalar_tokens, is_string, joined, text_at}
-use Rattle.cps_schema.specs.Faults.{refused_at, text_fault, fields_fault, values_fault}
+use Rattle.cps_schema.specs.Faults.{refused_at, name_fault, text_fault, fields_fault, values_fault}
 use Rattle.cps_schema.specs.Readings as readings
 use Rattle.cps_schema.specs.Readings.{first_or, first_of, value_numbers, value_texts, value_messages, messages, read_name, read_variable, read_literals, read_linear, read_kind, kinds_of, given_kinds, read_constraint, scaling_of, read_objective, read_expression, reference_expression, read_strategy, read_hint, read_model}
 use Rattle.cps_print.proofs.Digits.{and_true}
@@ -128,6 +129,28 @@ numbers_fit w m before name type (field token list values rest) takes e =
         let clean : values_fault w (Some (tables.number type)) values ≡ None = sym (ap (λ c. values_fault w c values) content) ∙ e in
         list_all-append (fits type) (value_numbers w values) others ∙ both_true _ _ (values_fit w type values clean) rest
     here w m name type token values others takes e rest false same = rest
+
+-- there are none, or the field is not closed
+pub none_or_open : (w : Written) (m : tables.Message) (before : List (List ℕ)) (name : List ℕ) (type : Number) (t : Tree) → use_of m name ≡ Some (tables.closable (tables.number type)) → fields_fault w m before t ≡ None → (readings.numbers w name t ≡ []) ⊎ (is_given w.closed name ≡ false)
+none_or_open w m before name type no_fields takes e = inl refl
+none_or_open w m before name type (field token list values rest) takes e =
+    let parts = or_none _ _ e in
+    let inner = or_none (values_fault w (content_of (use_of m (token_text w token))) values) _ parts.1 in
+    let own = or_none (refused_at token (name_fault w.closed m before (token_text w token) (use_of m (token_text w token)))) _ parts.0 in
+    here w m before name type token values (readings.numbers w name rest) takes (refused_none token _ own.0)
+    (none_or_open w m (token_text w token ∷ before) name type rest takes inner.1) (bytes_eq (token_text w token) name) refl
+  where
+    opened : (closed : Bool) → (if closed then Some Unsupported else None) ≡ None → closed ≡ false
+    opened true e = cc
+    opened false e = refl
+
+    here : (w : Written) (m : tables.Message) (before : List (List ℕ)) (name : List ℕ) (type : Number) (token : ℕ) (values : Values) (others : List ℤ) → use_of m name ≡ Some (tables.closable (tables.number type)) → name_fault w.closed m before (token_text w token) (use_of m (token_text w token)) ≡ None → (others ≡ []) ⊎ (is_given w.closed name ≡ false) → (same : Bool) → bytes_eq (token_text w token) name ≡ same → ((if same then value_numbers w values else []) ++ others ≡ []) ⊎ (is_given w.closed name ≡ false)
+    here w m before name type token values others takes e rest true same =
+        let is = same_name (token_text w token) name same in
+        let clear : name_fault w.closed m before name (use_of m name) ≡ None = subst (λ n. name_fault w.closed m before n (use_of m n) ≡ None) is e in
+        let own : name_fault w.closed m before name (Some (tables.closable (tables.number type))) ≡ None = subst (λ u. name_fault w.closed m before name u ≡ None) takes clear in
+        inr (opened (is_given w.closed name) own)
+    here w m before name type token values others takes e rest false same = rest
 
 -- and the messages of a name have no fault
 pub messages_sound : (w : Written) (m : tables.Message) (before : List (List ℕ)) (name : List ℕ) (k : tables.Message) (t : Tree) → content_of (use_of m name) ≡ Some (tables.message k) → fields_fault w m before t ≡ None → Each (λ t. fields_fault w k [] t ≡ None) (messages w name t)

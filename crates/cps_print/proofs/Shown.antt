@@ -25,7 +25,6 @@ use Rattle.cps_schema.specs.declared.member.Enum.{Enum}
 use Rattle.cps_schema.specs.declared.number.Number.{Number}
 use Rattle.cps_schema.specs.Tables as tables
 use Rattle.cps_schema.specs.Tables.{Content, Use, use_of, content_of, is_given}
-use Rattle.cps_schema.specs.declared.closed.TheConstants.{CLOSED}
 use Rattle.cps_schema.specs.Faults.{refused_at, has_kind, has_other_form, name_fault, list_fault, is_alone, fields_fault, values_fault}
 use Rattle.cps_schema.specs.Readings as readings
 use Rattle.cps_schema.specs.Readings.{ok_or_zero, value_numbers, value_messages, messages}
@@ -273,13 +272,9 @@ messages-shown w name _ _ s = absurd s
 
 -- the tables admit what is printed
 
--- the names of the program's table
-abbrev pub closed_names : List (List ℕ)
-closed_names = map (λ name. name.now) CLOSED
-
 -- a field of this name may stand behind fields of those names
-abbrev pub IsClear : tables.Message → List (List ℕ) → List ℕ → Type 0
-IsClear m before name = name_fault closed_names m before name (use_of m name) ≡ None
+abbrev pub IsClear : List (List ℕ) → tables.Message → List (List ℕ) → List ℕ → Type 0
+IsClear closed m before name = name_fault closed m before name (use_of m name) ≡ None
 
 -- a field of this use may have a list
 abbrev pub is_listed : Option Use → Bool
@@ -292,16 +287,16 @@ is_listed (Some (tables.formed_single form content)) = false
 is_listed (Some (tables.one_kind k)) = false
 is_listed (Some tables.unread) = false
 
-pub record TakesNumber (m : tables.Message) (before : List (List ℕ)) (name : List ℕ) (n : ℤ) : Type 0 where
+pub record TakesNumber (closed : List (List ℕ)) (m : tables.Message) (before : List (List ℕ)) (name : List ℕ) (n : ℤ) : Type 0 where
   pub type : Number
   pub content : content_of (use_of m name) ≡ Some (tables.number type)
-  pub clear : IsClear m before name
+  pub clear : IsClear closed m before name
   pub fit : fits type n ≡ true
 
-pub record TakesNumbers (m : tables.Message) (before : List (List ℕ)) (name : List ℕ) (ns : List ℤ) : Type 0 where
+pub record TakesNumbers (closed : List (List ℕ)) (m : tables.Message) (before : List (List ℕ)) (name : List ℕ) (ns : List ℤ) : Type 0 where
   pub type : Number
   pub content : content_of (use_of m name) ≡ Some (tables.number type)
-  pub clear : IsClear m before name
+  pub clear : IsClear closed m before name
   pub listed : is_listed (use_of m name) ≡ true
   pub fit : list_all (fits type) ns ≡ true
 
@@ -313,47 +308,47 @@ IsWordOf tables.text w = ⊥
 IsWordOf (tables.member enum) w = (k : ℕ) × (member_named enum false w ≡ Ok k)
 IsWordOf (tables.message m) w = ⊥
 
-pub record TakesWord (m : tables.Message) (before : List (List ℕ)) (name w : List ℕ) : Type 0 where
+pub record TakesWord (closed : List (List ℕ)) (m : tables.Message) (before : List (List ℕ)) (name w : List ℕ) : Type 0 where
   pub value : Content
   pub content : content_of (use_of m name) ≡ Some value
-  pub clear : IsClear m before name
+  pub clear : IsClear closed m before name
   pub named : IsWordOf value w
 
-pub record TakesText (m : tables.Message) (before : List (List ℕ)) (name : List ℕ) : Type 0 where
+pub record TakesText (closed : List (List ℕ)) (m : tables.Message) (before : List (List ℕ)) (name : List ℕ) : Type 0 where
   pub content : content_of (use_of m name) ≡ Some tables.text
-  pub clear : IsClear m before name
+  pub clear : IsClear closed m before name
 
-pub record TakesMessage (m : tables.Message) (before : List (List ℕ)) (name : List ℕ) (Admits : tables.Message → Type 0) : Type 0 where
+pub record TakesMessage (closed : List (List ℕ)) (m : tables.Message) (before : List (List ℕ)) (name : List ℕ) (Admits : tables.Message → Type 0) : Type 0 where
   pub inner : tables.Message
   pub content : content_of (use_of m name) ≡ Some (tables.message inner)
-  pub clear : IsClear m before name
+  pub clear : IsClear closed m before name
   pub admits : Admits inner
 
-abbrev pub IsAdmitted : tables.Message → List (List ℕ) → Message → Type 0
-IsAdmitted m before empty = Unit {0}
-IsAdmitted m before (number name n more) = TakesNumber m before name n × IsAdmitted m (name ∷ before) more
-IsAdmitted m before (numbers name n ns more) = TakesNumbers m before name (n ∷ ns) × IsAdmitted m (name ∷ before) more
-IsAdmitted m before (word name w more) = TakesWord m before name w × IsAdmitted m (name ∷ before) more
-IsAdmitted m before (quoted name bytes more) = TakesText m before name × IsAdmitted m (name ∷ before) more
-IsAdmitted m before (message name inner more) =
-    TakesMessage m before name (λ k. IsAdmitted k [] inner) × IsAdmitted m (name ∷ before) more
+abbrev pub IsAdmitted : List (List ℕ) → tables.Message → List (List ℕ) → Message → Type 0
+IsAdmitted closed m before empty = Unit {0}
+IsAdmitted closed m before (number name n more) = TakesNumber closed m before name n × IsAdmitted closed m (name ∷ before) more
+IsAdmitted closed m before (numbers name n ns more) = TakesNumbers closed m before name (n ∷ ns) × IsAdmitted closed m (name ∷ before) more
+IsAdmitted closed m before (word name w more) = TakesWord closed m before name w × IsAdmitted closed m (name ∷ before) more
+IsAdmitted closed m before (quoted name bytes more) = TakesText closed m before name × IsAdmitted closed m (name ∷ before) more
+IsAdmitted closed m before (message name inner more) =
+    TakesMessage closed m before name (λ k. IsAdmitted closed k [] inner) × IsAdmitted closed m (name ∷ before) more
 
 -- a message where a name takes one, of each use
 
-pub each : {m : tables.Message} {before : List (List ℕ)} {name : List ℕ} {Admits : tables.Message → Type 0} (k : tables.Message) → use_of m name ≡ Some (tables.repeated (tables.message k)) → Admits k → TakesMessage m before name Admits
+pub each : {closed : List (List ℕ)} {m : tables.Message} {before : List (List ℕ)} {name : List ℕ} {Admits : tables.Message → Type 0} (k : tables.Message) → use_of m name ≡ Some (tables.repeated (tables.message k)) → Admits k → TakesMessage closed m before name Admits
 each k takes admits = record { inner = k; content = ap content_of takes; clear = rw takes refl; admits = admits }
 
-pub formed : {m : tables.Message} {before : List (List ℕ)} {name : List ℕ} {Admits : tables.Message → Type 0} (k : tables.Message) (form : Form) → use_of m name ≡ Some (tables.formed form (tables.message k)) → has_other_form m form before ≡ false → Admits k → TakesMessage m before name Admits
+pub formed : {closed : List (List ℕ)} {m : tables.Message} {before : List (List ℕ)} {name : List ℕ} {Admits : tables.Message → Type 0} (k : tables.Message) (form : Form) → use_of m name ≡ Some (tables.formed form (tables.message k)) → has_other_form m form before ≡ false → Admits k → TakesMessage closed m before name Admits
 formed k form takes apart admits = record { inner = k; content = ap content_of takes; clear = rw (takes, apart) refl; admits = admits }
 
-pub alone : {m : tables.Message} {before : List (List ℕ)} {name : List ℕ} {Admits : tables.Message → Type 0} (k : tables.Message) → use_of m name ≡ Some (tables.single (tables.message k)) → is_given before name ≡ false → Admits k → TakesMessage m before name Admits
+pub alone : {closed : List (List ℕ)} {m : tables.Message} {before : List (List ℕ)} {name : List ℕ} {Admits : tables.Message → Type 0} (k : tables.Message) → use_of m name ≡ Some (tables.single (tables.message k)) → is_given before name ≡ false → Admits k → TakesMessage closed m before name Admits
 alone k takes once admits = record { inner = k; content = ap content_of takes; clear = rw (takes, once) refl; admits = admits }
 
-pub alone_formed : {m : tables.Message} {before : List (List ℕ)} {name : List ℕ} {Admits : tables.Message → Type 0} (k : tables.Message) (form : Form) → use_of m name ≡ Some (tables.formed_single form (tables.message k)) → is_given before name ≡ false → has_other_form m form before ≡ false → Admits k → TakesMessage m before name Admits
+pub alone_formed : {closed : List (List ℕ)} {m : tables.Message} {before : List (List ℕ)} {name : List ℕ} {Admits : tables.Message → Type 0} (k : tables.Message) (form : Form) → use_of m name ≡ Some (tables.formed_single form (tables.message k)) → is_given before name ≡ false → has_other_form m form before ≡ false → Admits k → TakesMessage closed m before name Admits
 alone_formed k form takes once apart admits =
     record { inner = k; content = ap content_of takes; clear = rw (takes, once, apart) refl; admits = admits }
 
-pub kind : {m : tables.Message} {before : List (List ℕ)} {name : List ℕ} {Admits : tables.Message → Type 0} (k : tables.Message) → use_of m name ≡ Some (tables.one_kind k) → is_given closed_names name ≡ false → is_given before name ≡ false → has_kind m before ≡ false → Admits k → TakesMessage m before name Admits
+pub kind : {closed : List (List ℕ)} {m : tables.Message} {before : List (List ℕ)} {name : List ℕ} {Admits : tables.Message → Type 0} (k : tables.Message) → use_of m name ≡ Some (tables.one_kind k) → is_given closed name ≡ false → is_given before name ≡ false → has_kind m before ≡ false → Admits k → TakesMessage closed m before name Admits
 kind k takes open_name once only admits =
     record { inner = k; content = ap content_of takes; clear = rw (takes, open_name, once, only) refl; admits = admits }
 
@@ -405,36 +400,35 @@ word_admitted w (tables.member enum) x first end s i = rw (s.member enum, i.1) r
 word_admitted w (tables.message m) x first end s i = absurd i
 
 -- a field without a fault of its own leaves those of the fields behind it
-field_passed : (w : Written) (m : tables.Message) (before : List (List ℕ)) (name : List ℕ) (token : ℕ) (list : Bool) (values : Values) (rest : Tree) → w.closed ≡ closed_names → token_text w token ≡ name → IsClear m before name → list_fault w (use_of m name) token (is_alone list values) ≡ None → values_fault w (content_of (use_of m name)) values ≡ None → fields_fault w m (name ∷ before) rest ≡ None → fields_fault w m before (field token list values rest) ≡ None
-field_passed w m before name token list values rest closed text clear lists inner others =
-    let own : name_fault w.closed m before name (use_of m name) ≡ None = ap (λ c. name_fault c m before name (use_of m name)) closed ∙ clear in
-    let here : option_or (refused_at token (name_fault w.closed m before name (use_of m name))) (list_fault w (use_of m name) token (is_alone list values)) ≡ None = rw own lists in
+field_passed : (w : Written) (m : tables.Message) (before : List (List ℕ)) (name : List ℕ) (token : ℕ) (list : Bool) (values : Values) (rest : Tree) → token_text w token ≡ name → IsClear w.closed m before name → list_fault w (use_of m name) token (is_alone list values) ≡ None → values_fault w (content_of (use_of m name)) values ≡ None → fields_fault w m (name ∷ before) rest ≡ None → fields_fault w m before (field token list values rest) ≡ None
+field_passed w m before name token list values rest text clear lists inner others =
+    let here : option_or (refused_at token (name_fault w.closed m before name (use_of m name))) (list_fault w (use_of m name) token (is_alone list values)) ≡ None = rw clear lists in
     let whole : option_or (option_or (refused_at token (name_fault w.closed m before name (use_of m name))) (list_fault w (use_of m name) token (is_alone list values))) (option_or (values_fault w (content_of (use_of m name)) values) (fields_fault w m (name ∷ before) rest)) ≡ None = rw (here, inner, others) refl in
     rw text whole
 
-pub no_fault : (w : Written) (m : tables.Message) (before : List (List ℕ)) (p : Message) (t : Tree) → w.closed ≡ closed_names → Shows w p t → IsAdmitted m before p → fields_fault w m before t ≡ None
-no_fault w m before empty no_fields c s a = refl
-no_fault w m before (number name n more) (field token false (scalar_value first end no_values) rest) c s a =
+pub no_fault : (w : Written) (m : tables.Message) (before : List (List ℕ)) (p : Message) (t : Tree) → Shows w p t → IsAdmitted w.closed m before p → fields_fault w m before t ≡ None
+no_fault w m before empty no_fields s a = refl
+no_fault w m before (number name n more) (field token false (scalar_value first end no_values) rest) s a =
     let here : values_fault w (content_of (use_of m name)) (scalar_value first end no_values) ≡ None = rw (a.0.content, number_admitted w a.0.type n first s.1.0 a.0.fit) refl in
-    field_passed w m before name token false (scalar_value first end no_values) rest c s.0 a.0.clear (one_clear w _ token) here (no_fault w m (name ∷ before) more rest c s.2 a.1)
-no_fault w m before (number name n more) (field token false no_values rest) c s a = absurd s.1
-no_fault w m before (number name n more) (field token false (scalar_value first end (scalar_value f e others)) rest) c s a = absurd s.1.1
-no_fault w m before (number name n more) (field token false (scalar_value first end (message_value f tree others)) rest) c s a = absurd s.1.1
-no_fault w m before (number name n more) (field token false (message_value first tree others) rest) c s a = absurd s.1
-no_fault w m before (numbers name n ns more) (field token true values rest) c s a =
+    field_passed w m before name token false (scalar_value first end no_values) rest s.0 a.0.clear (one_clear w _ token) here (no_fault w m (name ∷ before) more rest s.2 a.1)
+no_fault w m before (number name n more) (field token false no_values rest) s a = absurd s.1
+no_fault w m before (number name n more) (field token false (scalar_value first end (scalar_value f e others)) rest) s a = absurd s.1.1
+no_fault w m before (number name n more) (field token false (scalar_value first end (message_value f tree others)) rest) s a = absurd s.1.1
+no_fault w m before (number name n more) (field token false (message_value first tree others) rest) s a = absurd s.1
+no_fault w m before (numbers name n ns more) (field token true values rest) s a =
     let here : values_fault w (content_of (use_of m name)) values ≡ None = rw a.0.content (numbers_admitted w a.0.type (n ∷ ns) values s.1 a.0.fit) in
-    field_passed w m before name token true values rest c s.0 a.0.clear (list_clear w _ token (is_alone true values) a.0.listed) here (no_fault w m (name ∷ before) more rest c s.2 a.1)
-no_fault w m before (word name x more) (field token false (scalar_value first end no_values) rest) c s a =
+    field_passed w m before name token true values rest s.0 a.0.clear (list_clear w _ token (is_alone true values) a.0.listed) here (no_fault w m (name ∷ before) more rest s.2 a.1)
+no_fault w m before (word name x more) (field token false (scalar_value first end no_values) rest) s a =
     let here : values_fault w (content_of (use_of m name)) (scalar_value first end no_values) ≡ None = rw a.0.content (word_admitted w a.0.value x first end s.1 a.0.named) in
-    field_passed w m before name token false (scalar_value first end no_values) rest c s.0 a.0.clear (one_clear w _ token) here (no_fault w m (name ∷ before) more rest c s.2 a.1)
-no_fault w m before (quoted name bytes more) (field token false (scalar_value first end no_values) rest) c s a =
+    field_passed w m before name token false (scalar_value first end no_values) rest s.0 a.0.clear (one_clear w _ token) here (no_fault w m (name ∷ before) more rest s.2 a.1)
+no_fault w m before (quoted name bytes more) (field token false (scalar_value first end no_values) rest) s a =
     let here : values_fault w (content_of (use_of m name)) (scalar_value first end no_values) ≡ None = rw (a.0.content, s.1) refl in
-    field_passed w m before name token false (scalar_value first end no_values) rest c s.0 a.0.clear (one_clear w _ token) here (no_fault w m (name ∷ before) more rest c s.2 a.1)
-no_fault w m before (message name inner more) (field token false (message_value first tree no_values) rest) c s a =
-    let fields = no_fault w a.0.inner [] inner tree c s.1 a.0.admits in
+    field_passed w m before name token false (scalar_value first end no_values) rest s.0 a.0.clear (one_clear w _ token) here (no_fault w m (name ∷ before) more rest s.2 a.1)
+no_fault w m before (message name inner more) (field token false (message_value first tree no_values) rest) s a =
+    let fields = no_fault w a.0.inner [] inner tree s.1 a.0.admits in
     let here : values_fault w (content_of (use_of m name)) (message_value first tree no_values) ≡ None = rw (a.0.content, fields) refl in
-    field_passed w m before name token false (message_value first tree no_values) rest c s.0 a.0.clear (one_clear w _ token) here (no_fault w m (name ∷ before) more rest c s.2 a.1)
-no_fault w m before _ _ c s a = absurd s
+    field_passed w m before name token false (message_value first tree no_values) rest s.0 a.0.clear (one_clear w _ token) here (no_fault w m (name ∷ before) more rest s.2 a.1)
+no_fault w m before _ _ s a = absurd s
 
 -- Where the tables admit a message, what is read under a name is what was printed there: no other field has the name.
 
@@ -476,7 +470,7 @@ number_no_member type enum = λ e. cc
 member_no_text : (enum : Enum) → tables.member enum ≢ tables.text
 member_no_text enum = λ e. cc
 
-pub numbers-shown : (w : Written) (m : tables.Message) (before : List (List ℕ)) (name : List ℕ) (type : Number) (p : Message) (t : Tree) → content_of (use_of m name) ≡ Some (tables.number type) → IsAdmitted m before p → Shows w p t → readings.numbers w name t ≡ printed_numbers name p
+pub numbers-shown : (w : Written) (m : tables.Message) (before : List (List ℕ)) (name : List ℕ) (type : Number) (p : Message) (t : Tree) → content_of (use_of m name) ≡ Some (tables.number type) → IsAdmitted w.closed m before p → Shows w p t → readings.numbers w name t ≡ printed_numbers name p
 numbers-shown w m before name type empty no_fields takes a s = refl
 numbers-shown w m before name type (number other n more) (field token false values rest) takes a s =
     rw (s.0, value_numbers-shown w (n ∷ []) values s.1, numbers-shown w m (other ∷ before) name type more rest takes a.1 s.2) refl
@@ -492,7 +486,7 @@ numbers-shown w m before name type (message other inner more) (field token false
     rw (same_choice {X = List ℤ} (bytes_eq (token_text w token) name) []) (numbers-shown w m (other ∷ before) name type more rest takes a.1 s.2)
 numbers-shown w m before name type _ _ takes a s = absurd s
 
-pub texts-shown : (w : Written) (m : tables.Message) (before : List (List ℕ)) (name : List ℕ) (p : Message) (t : Tree) → content_of (use_of m name) ≡ Some tables.text → IsAdmitted m before p → Shows w p t → readings.texts w name t ≡ printed_texts name p
+pub texts-shown : (w : Written) (m : tables.Message) (before : List (List ℕ)) (name : List ℕ) (p : Message) (t : Tree) → content_of (use_of m name) ≡ Some tables.text → IsAdmitted w.closed m before p → Shows w p t → readings.texts w name t ≡ printed_texts name p
 texts-shown w m before name empty no_fields takes a s = refl
 texts-shown w m before name (number other n more) (field token false values rest) takes a s =
     let apart = content_clash m other name _ _ a.0.content takes (number_no_text a.0.type) in
@@ -509,7 +503,7 @@ texts-shown w m before name (message other inner more) (field token false (messa
     rw (same_choice {X = List (List ℕ)} (bytes_eq (token_text w token) name) []) (texts-shown w m (other ∷ before) name more rest takes a.1 s.2)
 texts-shown w m before name _ _ takes a s = absurd s
 
-pub members-shown : (w : Written) (m : tables.Message) (before : List (List ℕ)) (enum : Enum) (name : List ℕ) (p : Message) (t : Tree) → content_of (use_of m name) ≡ Some (tables.member enum) → IsAdmitted m before p → Shows w p t → readings.members w enum name t ≡ printed_members enum name p
+pub members-shown : (w : Written) (m : tables.Message) (before : List (List ℕ)) (enum : Enum) (name : List ℕ) (p : Message) (t : Tree) → content_of (use_of m name) ≡ Some (tables.member enum) → IsAdmitted w.closed m before p → Shows w p t → readings.members w enum name t ≡ printed_members enum name p
 members-shown w m before enum name empty no_fields takes a s = refl
 members-shown w m before enum name (number other n more) (field token false values rest) takes a s =
     let apart = content_clash m other name _ _ a.0.content takes (number_no_member a.0.type enum) in
@@ -526,7 +520,7 @@ members-shown w m before enum name (message other inner more) (field token false
     rw (same_choice {X = List ℕ} (bytes_eq (token_text w token) name) []) (members-shown w m (other ∷ before) enum name more rest takes a.1 s.2)
 members-shown w m before enum name _ _ takes a s = absurd s
 
-pub truths-shown : (w : Written) (m : tables.Message) (before : List (List ℕ)) (name : List ℕ) (p : Message) (t : Tree) → content_of (use_of m name) ≡ Some tables.truth → IsAdmitted m before p → Shows w p t → readings.truths w name t ≡ printed_truths name p
+pub truths-shown : (w : Written) (m : tables.Message) (before : List (List ℕ)) (name : List ℕ) (p : Message) (t : Tree) → content_of (use_of m name) ≡ Some tables.truth → IsAdmitted w.closed m before p → Shows w p t → readings.truths w name t ≡ printed_truths name p
 truths-shown w m before name empty no_fields takes a s = refl
 truths-shown w m before name (number other n more) (field token false values rest) takes a s =
     let apart = content_clash m other name _ _ a.0.content takes (number_no_truth a.0.type) in

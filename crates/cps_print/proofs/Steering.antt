@@ -106,29 +106,29 @@ none_strategy : IsStrategyFree []
 unfolding is_given has_other_form
 none_strategy = record { older = refl; choose = refl; select = refl }
 
-select_admitted : (c : Select) (before : List (List ℕ)) → is_given before (codes "domain_reduction_strategy") ≡ false → IsAdmitted strategy_message before (followed_by (word_field (codes "domain_reduction_strategy") (select_name c)) empty)
+select_admitted : (closed : List (List ℕ)) (c : Select) (before : List (List ℕ)) → is_given before (codes "domain_reduction_strategy") ≡ false → IsAdmitted closed strategy_message before (followed_by (word_field (codes "domain_reduction_strategy") (select_name c)) empty)
 unfolding use_of
-select_admitted c before f =
-    admitted-word strategy_message before (codes "domain_reduction_strategy") (select_name c) DomainReduction empty refl f (select_member c) tt tt
+select_admitted closed c before f =
+    admitted-word closed strategy_message before (codes "domain_reduction_strategy") (select_name c) DomainReduction empty refl f (select_member c) tt tt
 
-choose_admitted : (s : Strategy) (before : List (List ℕ)) → IsStrategyFree before → IsAdmitted strategy_message before (followed_by (word_field (codes "variable_selection_strategy") (choose_name s.choose)) (followed_by (word_field (codes "domain_reduction_strategy") (select_name s.select)) empty))
+choose_admitted : (closed : List (List ℕ)) (s : Strategy) (before : List (List ℕ)) → IsStrategyFree before → IsAdmitted closed strategy_message before (followed_by (word_field (codes "variable_selection_strategy") (choose_name s.choose)) (followed_by (word_field (codes "domain_reduction_strategy") (select_name s.select)) empty))
 unfolding use_of
-choose_admitted s before f =
-    admitted-word strategy_message before (codes "variable_selection_strategy") (choose_name s.choose) VariableSelection _ refl f.choose (choose_member s.choose)
-    (select_admitted s.select before f.select)
-    (select_admitted s.select (codes "variable_selection_strategy" ∷ before) (given-other before (codes "variable_selection_strategy") (codes "domain_reduction_strategy") refl f.select))
+choose_admitted closed s before f =
+    admitted-word closed strategy_message before (codes "variable_selection_strategy") (choose_name s.choose) VariableSelection _ refl f.choose (choose_member s.choose)
+    (select_admitted closed s.select before f.select)
+    (select_admitted closed s.select (codes "variable_selection_strategy" ∷ before) (given-other before (codes "variable_selection_strategy") (codes "domain_reduction_strategy") refl f.select))
 
-pub strategy_admitted : (s : Strategy) → IsReadableStrategy s → IsAdmitted strategy_message [] (printed_strategy s)
+pub strategy_admitted : (closed : List (List ℕ)) (s : Strategy) → IsReadableStrategy s → IsAdmitted closed strategy_message [] (printed_strategy s)
 unfolding use_of
-strategy_admitted s r =
-    admitted-repeated strategy_message (codes "exprs") printed_expression expression_message _ IsStrategyFree
-    (λ before fields f a. formed expression_message Newer refl f.older a) strategy_kept (choose_admitted s)
-    s.exprs (each_of IsReadableExpression (λ e. IsAdmitted expression_message [] (printed_expression e)) expression_admitted s.exprs r) [] none_strategy
+strategy_admitted closed s r =
+    admitted-repeated closed strategy_message (codes "exprs") printed_expression expression_message _ IsStrategyFree
+    (λ before fields f a. formed expression_message Newer refl f.older a) strategy_kept (choose_admitted closed s)
+    s.exprs (each_of IsReadableExpression (λ e. IsAdmitted closed expression_message [] (printed_expression e)) (expression_admitted closed) s.exprs r) [] none_strategy
 
 pub strategy_back : (w : Written) (s : Strategy) (t : Tree) → IsReadableStrategy s → Shows w (printed_strategy s) t → read_strategy w t ≡ s
 unfolding use_of
 strategy_back w s t r shows =
-    let a = strategy_admitted s r in
+    let a = strategy_admitted w.closed s r in
     let are : printed_messages (codes "exprs") (printed_strategy s) ≡ map printed_expression s.exprs = simp printed in
     let exprs = messages_back w IsReadableExpression printed_expression (read_expression w) (expression_back w) (codes "exprs") (printed_strategy s) t s.exprs are r shows in
     let older : readings.numbers w (codes "variables") t ≡ [] = numbers-shown w strategy_message [] (codes "variables") Int32 (printed_strategy s) t refl a shows ∙ simp printed in
@@ -144,16 +144,16 @@ hint_plain room h r =
     plain-followed_by room (list_field (codes "vars") h.vars) _ (plain-list_field room (codes "vars") h.vars refl (are_short Int32 h.vars r.vars))
     (plain-followed_by room (list_field (codes "values") h.values) empty (plain-list_field room (codes "values") h.values refl (are_short Int64 h.values r.values)) tt)
 
-pub hint_admitted : (h : Hint) → IsReadableHint h → IsAdmitted hint_message [] (printed_hint h)
+pub hint_admitted : (closed : List (List ℕ)) (h : Hint) → IsReadableHint h → IsAdmitted closed hint_message [] (printed_hint h)
 unfolding use_of
-hint_admitted h r =
-    let values = λ (before : List (List ℕ)). admitted-list hint_message before (codes "values") h.values Int64 empty refl r.values tt tt in
-    admitted-list hint_message [] (codes "vars") h.vars Int32 _ refl r.vars (values []) (values (codes "vars" ∷ []))
+hint_admitted closed h r =
+    let values = λ (before : List (List ℕ)). admitted-list closed hint_message before (codes "values") h.values Int64 empty refl r.values tt tt in
+    admitted-list closed hint_message [] (codes "vars") h.vars Int32 _ refl r.vars (values []) (values (codes "vars" ∷ []))
 
 pub hint_back : (w : Written) (h : Hint) (t : Tree) → IsReadableHint h → Shows w (printed_hint h) t → read_hint w t ≡ h
 unfolding use_of
 hint_back w h t r s =
-    let a = hint_admitted h r in
+    let a = hint_admitted w.closed h r in
     let vars : readings.numbers w (codes "vars") t ≡ h.vars = numbers-shown w hint_message [] (codes "vars") Int32 (printed_hint h) t refl a s ∙ simp printed in
     let values : readings.numbers w (codes "values") t ≡ h.values = numbers-shown w hint_message [] (codes "values") Int64 (printed_hint h) t refl a s ∙ simp printed in
     rw (vars, values) refl

@@ -6,13 +6,18 @@ use Rattle.cps_textproto.specs.Symbols.{symbols}
 use Rattle.cps_textproto.specs.Trees.{Tree}
 use Rattle.cps_textproto.specs.Reading.{HasTree}
 use Rattle.cps_model.specs.declared.model.CpModel.{CpModel}
-use Rattle.cps_schema.specs.Written.{written}
+use Rattle.cps_schema.specs.Written.{written_with}
+use Rattle.cps_schema.specs.Open.{closed_names}
 use Rattle.cps_schema.specs.Readings.{ReadsAs}
 
--- the bytes have tokens, these are a document, and its fields give this model
-pub record IsReadAs (bytes : List ℕ) (m : CpModel) : Type 0 where
+-- the bytes have tokens, these are a document, and its fields give this model, where those of these names are closed
+pub record IsReadWith (closed : List (List ℕ)) (bytes : List ℕ) (m : CpModel) : Type 0 where
   pub tokens : List Token
   pub tree : Tree
   pub cut : AreTokens bytes tokens
   pub parsed : HasTree (symbols bytes tokens) tree
-  pub read : ReadsAs (written bytes tokens) tree m
+  pub read : ReadsAs (written_with closed bytes tokens) tree m
+
+-- the same with the program's table of closed fields
+abbrev pub IsReadAs : List ℕ → CpModel → Type 0
+IsReadAs bytes m = IsReadWith closed_names bytes m

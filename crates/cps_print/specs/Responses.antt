@@ -37,6 +37,16 @@ shown_lower Feasible lower = lower
 shown_lower Infeasible lower = Infinite
 shown_lower Unknown lower = lower
 
+-- the core that is written: that of an infeasible response
+abbrev pub shown_core : Status → List ℤ → List ℤ
+shown_core Optimal core = []
+shown_core Feasible core = []
+shown_core Infeasible core = core
+shown_core Unknown core = []
+
+abbrev pub core_line : ℤ → List ℕ
+core_line reference = line_of (codes "sufficient_assumptions_for_infeasibility") (signed_decimal reference)
+
 abbrev pub solution_line : ℤ → List ℕ
 solution_line value = line_of (codes "solution") (signed_decimal value)
 
@@ -60,8 +70,9 @@ objective_lines (Some o) solution lower = value_lines o solution ++ bound_lines 
 -- all but the status
 abbrev pub answer_lines : CpModel → Response → List ℕ
 answer_lines m r =
-    solution_lines (shown_solution r.status r.solution)
-    ++ objective_lines m.objective (shown_solution r.status r.solution) (shown_lower r.status r.lower)
+    flat_map core_line (shown_core r.status r.core)
+    ++ (solution_lines (shown_solution r.status r.solution)
+    ++ objective_lines m.objective (shown_solution r.status r.solution) (shown_lower r.status r.lower))
 
 abbrev pub response_text : CpModel → Response → List ℕ
 response_text m r = line_of (codes "status") (status_name r.status) ++ answer_lines m r

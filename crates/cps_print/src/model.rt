@@ -4,7 +4,7 @@ ghost use Rattle.std.specs.List.{flat_map};
 ghost use Rattle.cps_print.specs.Layout.{text_of};
 ghost use Rattle.cps_print.specs.Fields.{list_field, message_field, repeated_field};
 ghost use Rattle.cps_print.specs.Models.{printed_variable, printed_constraint, scaling_field, printed_objective, objective_field, choose_name, select_name, printed_strategy, printed_hint, hint_field, model_text};
-ghost use Rattle.cps_print.specs.ReadBack.{IsReadAs};
+ghost use Rattle.cps_print.specs.ReadBack.{IsReadWith};
 
 use crate::expression::put_expressions;
 use crate::kind::put_kind;
@@ -184,8 +184,9 @@ fn put_hint_field(text: &mut String, hint: &Option<Hint>) -> Result<(), AllocErr
 pub fn model_text(alloc: Global, model: &CpModel) -> Result<String, AllocError>
     ensures text { IfOk result (λ text. string_bytes text ≡ model_text model.now) }
 
-    // Where a document is read as the model, its canonical text is read as the model again.
-    ensures back { (bytes : List ℕ) → IsReadAs bytes model.now → IfOk result (λ text. IsReadAs (string_bytes text) model.now) }
+    // Where a document is read as the model, its canonical text is read as the model again, whatever fields are closed.
+    ensures back { (closed : List (List ℕ)) (bytes : List ℕ) → IsReadWith closed bytes model.now
+        → IfOk result (λ text. IsReadWith closed (string_bytes text) model.now) }
 {
     let mut text = String::new(alloc);
     put_text_field(&mut text, 0, "name", model.name.as_str())?;

@@ -7,7 +7,7 @@ ghost use Rattle.cps_print.specs.Responses.{status_name, line_of, solution_line,
 
 use crate::layout::put_number;
 use crate::objective::{shown_value, sum_of};
-use cps_model::{Bound, CpModel, Ints, Objective, Status};
+use cps_model::{Bound, CpModel, Ints, Objective, Refs, Status};
 use itoa::Integer;
 use std::alloc::{AllocError, Global};
 
@@ -18,6 +18,8 @@ pub struct Response {
     pub solution: Option<Ints>,
     /// A bound on the objective's sum from below.
     pub lower: Bound,
+    /// Assumptions that no free assignment makes all true, where the model is infeasible because of them.
+    pub core: Refs,
 }
 
 /// The word for a status.
@@ -48,6 +50,17 @@ fn put_values(text: &mut String, values: &[i64]) -> Result<(), AllocError>
 {
     for value in values {
         put_line(text, "solution", *value)?;
+    }
+    Ok(())
+}
+
+/// Appends a line for each reference.
+fn put_references(text: &mut String, field: &str, references: &[i32]) -> Result<(), AllocError>
+    ensures { OnOk result (string_bytes text.new ≡ string_bytes text.old
+        ++ flat_map (λ reference. line_of field.now (signed_decimal reference)) references.now) }
+{
+    for reference in references {
+        put_line(text, field, *reference)?;
     }
     Ok(())
 }
@@ -141,13 +154,17 @@ fn put_answer(text: &mut String, model: &CpModel, response: &Response) -> Result
             &response.solution,
             response.lower,
         ),
-        Status::Infeasible => Ok(()),
+        Status::Infeasible => put_references(
+            text,
+            "sufficient_assumptions_for_infeasibility",
+            response.core.as_slice(),
+        ),
         Status::Unknown => put_bound(text, &model.objective, response.lower),
     }
 }
 
 /// The text of a response to a model. An optimal and a feasible response have a solution, at which the model's objective
-/// can be summed up, and every response but an infeasible one has a lower bound.
+/// can be summed up, and every response but an infeasible one has a lower bound. An infeasible one has its core.
 pub fn response_text(
     alloc: Global,
     model: &CpModel,

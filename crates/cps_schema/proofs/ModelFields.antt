@@ -17,5 +17,5 @@ first_hint (Some x) = refl
 
 pub no_model_field : (text : List ℕ) → bytes_eq text (codes "name") ≡ false → bytes_eq text (codes "variables") ≡ false →
     bytes_eq text (codes "constraints") ≡ false → bytes_eq text (codes "objective") ≡ false → bytes_eq text (codes "search_strategy") ≡ false →
-    bytes_eq text (codes "solution_hint") ≡ false → use_in (table_of model_message) text ≡ None
-no_model_field text a b c d e f = rw (a, b, c, d, e, f) refl
+    bytes_eq text (codes "solution_hint") ≡ false → bytes_eq text (codes "assumptions") ≡ false → use_in (table_of model_message) text ≡ None
+no_model_field text a b c d e f g = rw (a, b, c, d, e, f, g) refl

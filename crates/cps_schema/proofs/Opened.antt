@@ -12,15 +12,16 @@ use Rattle.cps_model.specs.declared.model.CpModel.{CpModel}
 use Rattle.cps_model.specs.declared.constraint.Constraint.{Constraint}
 use Rattle.cps_model.specs.declared.constraint.Kind.{Kind}
 use Rattle.cps_model.specs.declared.constraint.Kind.TheVariants.{Empty}
+use Rattle.cps_schema.specs.declared.number.Number.TheVariants.{Int32}
 use Rattle.cps_schema.specs.declared.error.SchemaError.{SchemaError}
 use Rattle.cps_schema.specs.declared.kind.KindName.{KindName}
 use Rattle.cps_schema.specs.declared.kind.KindName.TheVariants.{BoolOr, BoolAnd, AtMostOne, ExactlyOne, BoolXor, IntDiv, IntMod, IntProd, LinMax, Linear, AllDiff, Element, Circuit, Table, Interval, NoOverlap, Cumulative, Automaton, Inverse, Reservoir, NoOverlap2d}
 use Rattle.cps_schema.specs.Written.{Written, token_text}
-use Rattle.cps_schema.specs.Tables.{Message, model_message, constraint_message, message, one_kind, use_of, content_of, is_given}
+use Rattle.cps_schema.specs.Tables.{Message, model_message, number, closable, constraint_message, message, one_kind, use_of, content_of, is_given}
 use Rattle.cps_schema.specs.Kinds.{kind_named, field_name, message_of}
 use Rattle.cps_schema.specs.Faults.{refused_at, name_fault, field_fault, list_fault, is_alone, values_fault, fields_fault}
-use Rattle.cps_schema.specs.Readings.{first_or, value_messages, messages, is_older_element, read_older_element, read_newer_element, read_kind, kinds_of, given_kinds, read_constraint, read_model, ReadsAs}
-use Rattle.cps_schema.specs.Open.{is_open_name, is_open, OpenKinds}
+use Rattle.cps_schema.specs.Readings.{first_or, numbers, value_messages, messages, is_older_element, read_older_element, read_newer_element, read_kind, kinds_of, given_kinds, read_constraint, read_model, ReadsAs}
+use Rattle.cps_schema.specs.Open.{is_open_name, is_open, OpenKinds, OpenAssumptions}
 use Rattle.cps_schema.proofs.GivenKinds.{named_text, kind_use}
 
 abbrev pub IsOpen : List (List ℕ) → Kind → Type 0
@@ -158,3 +159,54 @@ pub answer_open : (w : Written) (tree : Tree) (r : Result CpModel SchemaError) �
     IfOk r (λ model. model ≡ read_model w tree) → IfOk r (λ model. OpenKinds w.closed model)
 answer_open w tree (Ok model) accepted reading = model_open w tree model (record { accepted = accepted; reading = reading })
 answer_open w tree (Err e) accepted reading = accepted
+
+-- no assumption is read where they are closed
+
+closed_name : (closed : List (List ℕ)) (name : List ℕ) → is_open_name closed name ≡ false → is_given closed name ≡ true
+unfolding is_given
+closed_name closed name e = by_test (list_any (bytes_eq name) closed) refl where
+  by_test : (b : Bool) → list_any (bytes_eq name) closed ≡ b → b ≡ true
+  by_test true t = refl
+  by_test false t =
+      let open_one : is_open_name closed name ≡ true = rw t refl in
+      cc
+
+refused_name : (b : Bool) → b ≡ true → (if b then Some Unsupported else None) ≡ None → ⊥
+refused_name true e r = cc
+refused_name false e r = cc
+
+assumptions_use : use_of model_message (codes "assumptions") ≡ Some (closable (number Int32))
+unfolding use_of
+assumptions_use = refl
+
+no_assumptions : (w : Written) (before : List (List ℕ)) (t : Tree) → is_given w.closed (codes "assumptions") ≡ true →
+    fields_fault w model_message before t ≡ None → numbers w (codes "assumptions") t ≡ []
+no_assumptions w before no_fields closed e = refl
+no_assumptions w before (field token list values rest) closed e =
+    let text = token_text w token in
+    let parts = or_none (field_fault w model_message before token list values) _ e in
+    let inner = or_none (values_fault w (content_of (use_of model_message text)) values) _ parts.1 in
+    let named = or_none (refused_at token (name_fault w.closed model_message before text (use_of model_message text))) _ parts.0 in
+    let fault = refused_none token (name_fault w.closed model_message before text (use_of model_message text)) named.0 in
+    by_name (bytes_eq text (codes "assumptions")) refl fault (no_assumptions w (text ∷ before) rest closed inner.1)
+  where
+    by_name : (same : Bool) → bytes_eq (token_text w token) (codes "assumptions") ≡ same →
+        name_fault w.closed model_message before (token_text w token) (use_of model_message (token_text w token)) ≡ None →
+        numbers w (codes "assumptions") rest ≡ [] → numbers w (codes "assumptions") (field token list values rest) ≡ []
+    by_name true t fault more =
+        let name : token_text w token ≡ codes "assumptions" = (bytes_eq-Decides (token_text w token) (codes "assumptions")).0 t in
+        let at : name_fault w.closed model_message before (codes "assumptions") (use_of model_message (codes "assumptions")) ≡ None =
+        sym (ap (λ n. name_fault w.closed model_message before n (use_of model_message n)) name) ∙ fault in
+        let clean : name_fault w.closed model_message before (codes "assumptions") (Some (closable (number Int32))) ≡ None =
+        sym (ap (λ u. name_fault w.closed model_message before (codes "assumptions") u) assumptions_use) ∙ at in
+        absurd (refused_name (is_given w.closed (codes "assumptions")) closed clean)
+    by_name false t fault more = rw t more
+
+pub model_assumed : (w : Written) (tree : Tree) (model : CpModel) → ReadsAs w tree model → OpenAssumptions w.closed model
+model_assumed w tree model read = λ closed.
+    rw read.reading (no_assumptions w [] tree (closed_name w.closed (codes "assumptions") closed) read.accepted)
+
+pub answer_assumed : (w : Written) (tree : Tree) (r : Result CpModel SchemaError) → IfOk r (λ model. fields_fault w model_message [] tree ≡ None) →
+    IfOk r (λ model. model ≡ read_model w tree) → IfOk r (λ model. OpenAssumptions w.closed model)
+answer_assumed w tree (Ok model) accepted reading = model_assumed w tree model (record { accepted = accepted; reading = reading })
+answer_assumed w tree (Err e) accepted reading = accepted

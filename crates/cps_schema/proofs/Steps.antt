@@ -10,11 +10,11 @@ use Rattle.cps_model.specs.declared.fault.FaultName.TheVariants.{UnknownField, U
 use Rattle.cps_schema.specs.declared.error.SchemaError.{SchemaError}
 use Rattle.cps_schema.specs.declared.error.SchemaError.TheVariants.{Fault, OutOfMemory}
 use Rattle.cps_schema.specs.Written.{Written, token_text}
-use Rattle.cps_schema.specs.Tables.{Message, Content, message, Use, single, repeated, one_kind, table_of, use_in, use_of, unread_names, is_given}
+use Rattle.cps_schema.specs.Tables.{Message, Content, message, Use, single, repeated, closable, one_kind, table_of, use_in, use_of, unread_names, is_given}
 use Rattle.cps_schema.specs.Faults.{has_kind, is_alone, alone_fault, values_fault, fields_fault}
 use Rattle.cps_schema.specs.Sources.{single_fault}
 use Rattle.cps_schema.specs.Answers.{Refuses}
-use Rattle.cps_schema.specs.Steps.{Passes, Stops, KindStops, field_then}
+use Rattle.cps_schema.specs.Steps.{Passes, Stops, KindStops, ClosablePasses, ClosableStops, field_then}
 
 -- a test of a name that came out true
 pub same_text : (a b : List ℕ) (r : Bool) → r ≡ pointwise nat_eq a b → r ≡ true → a ≡ b
@@ -119,6 +119,35 @@ pub second_kind : (w : Written) (m : Message) (before : List (List ℕ)) (f : Fi
     use_of m (token_text w f.name) ≡ Some (one_kind k) → is_given w.closed (token_text w f.name) ≡ false → is_given before (token_text w f.name) ≡ false → has_kind m before ≡ true →
     Stops w m before f (Fault TwoKinds f.name)
 second_kind w m before f k takes unclosed first second rest = rw (takes, unclosed, first, second) refl
+
+-- a field that the table leaves open
+pub open_passes : (w : Written) (f : Field) (content : Content) (r : Result (Unit {0}) SchemaError) → is_given w.closed (token_text w f.name) ≡ false →
+    OnOk r (values_fault w (Some content) (values_of f.items) ≡ None) → OnOk r (ClosablePasses w f content)
+open_passes w f content (Ok x) unclosed clean = λ m before takes rest. rw (takes, unclosed, clean) refl
+open_passes w f content (Err e) unclosed clean = clean
+
+pub open_stops : (w : Written) (f : Field) (content : Content) (r : Result (Unit {0}) SchemaError) → is_given w.closed (token_text w f.name) ≡ false →
+    IfErr r (Refuses (values_fault w (Some content) (values_of f.items))) → IfErr r (ClosableStops w f content)
+open_stops w f content (Ok x) unclosed refused = refused
+open_stops w f content (Err (Fault name token)) unclosed refused = λ m before takes rest. rw (takes, unclosed, refused) refl
+open_stops w f content (Err OutOfMemory) unclosed refused = λ m before takes rest. tt
+
+-- and one that it closes
+pub closable_stops : (w : Written) (f : Field) (content : Content) → is_given w.closed (token_text w f.name) ≡ true →
+    ClosableStops w f content (Fault Unsupported f.name)
+closable_stops w f content closed = λ m before takes rest. rw (takes, closed) refl
+
+-- with the facts that a message keeps about its fields
+pub closable_passes : (w : Written) (m : Message) (f : Field) (content : Content) (r : Result (Unit {0}) SchemaError) →
+    use_of m (token_text w f.name) ≡ Some (closable content) → OnOk r (ClosablePasses w f content) → OnOk r ((before : List (List ℕ)) → Passes w m before f)
+closable_passes w m f content (Ok x) takes passes = λ before. passes m before takes
+closable_passes w m f content (Err e) takes passes = passes
+
+pub closable_refused : (w : Written) (m : Message) (f : Field) (content : Content) (r : Result (Unit {0}) SchemaError) →
+    use_of m (token_text w f.name) ≡ Some (closable content) → IfErr r (ClosableStops w f content) →
+    IfErr r (λ e. (before : List (List ℕ)) → Stops w m before f e)
+closable_refused w m f content (Ok x) takes stops = stops
+closable_refused w m f content (Err e) takes stops = λ before. stops m before takes
 
 -- a kind that the table closes
 pub closed_stops : (w : Written) (m : Message) (before : List (List ℕ)) (f : Field) (k : Message) →

@@ -1,5 +1,5 @@
 -- Which kinds a model that was read can have.
-use Rattle.std.specs.Prelude.{ℕ, Bool, true, false, not, List, All, IsTrue, codes, map}
+use Rattle.std.specs.Prelude.{◌≡◌, ℕ, [], Bool, true, false, not, List, All, IsTrue, codes, map}
 use Rattle.std.specs.List.{list_any}
 use Rattle.std.specs.Str.{bytes_eq}
 use Rattle.cps_model.specs.declared.model.CpModel.{CpModel}
@@ -40,6 +40,10 @@ is_open closed (Automaton start finals tails heads labels exprs) = is_open_name 
 is_open closed (Inverse direct inverse) = is_open_name closed (codes "inverse")
 is_open closed (Reservoir min max times changes active) = is_open_name closed (codes "reservoir")
 is_open closed (NoOverlap2d x y) = is_open_name closed (codes "no_overlap_2d")
+
+-- the model has no assumptions where they are closed
+abbrev pub OpenAssumptions : List (List ℕ) → CpModel → Type 0
+OpenAssumptions closed model = is_open_name closed (codes "assumptions") ≡ false → model.assumptions ≡ []
 
 -- the kind of each constraint is open
 abbrev pub OpenKinds : List (List ℕ) → CpModel → Type 0

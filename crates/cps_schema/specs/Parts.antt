@@ -147,7 +147,7 @@ model_from w parts rest = record {
   objective = first_of (option_to_list parts.objective ++ map (read_objective w) (messages w (codes "objective") rest));
   strategies = parts.strategies.items ++ map (read_strategy w) (messages w (codes "search_strategy") rest);
   hint = first_of (option_to_list parts.hint ++ map (read_hint w) (messages w (codes "solution_hint") rest));
-  assumptions = [];
+  assumptions = parts.assumptions.items ++ numbers w (codes "assumptions") rest;
 }
 
 abbrev pub model_slots : ModelParts → List (List ℕ × Bool)

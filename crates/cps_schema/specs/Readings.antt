@@ -300,7 +300,7 @@ read_model w tree = record {
   objective = first_of (map (read_objective w) (messages w (codes "objective") tree));
   strategies = map (read_strategy w) (messages w (codes "search_strategy") tree);
   hint = first_of (map (read_hint w) (messages w (codes "solution_hint") tree));
-  assumptions = [];
+  assumptions = numbers w (codes "assumptions") tree;
 }
 
 -- no field is refused, and this is the model that the fields give

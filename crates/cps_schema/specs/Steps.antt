@@ -5,7 +5,7 @@ use Rattle.cps_textproto.specs.Trees.{Tree, field, values_of}
 use Rattle.cps_schema.specs.declared.error.SchemaError.{SchemaError}
 use Rattle.cps_schema.specs.Written.{Written, token_text}
 use Rattle.cps_schema.specs.declared.form.Form.{Form}
-use Rattle.cps_schema.specs.Tables.{Message, Content, single, formed, one_kind, use_of, is_given}
+use Rattle.cps_schema.specs.Tables.{Message, Content, single, closable, formed, one_kind, use_of, is_given}
 use Rattle.cps_schema.specs.Faults.{has_kind, has_other_form, fields_fault}
 use Rattle.cps_schema.specs.Answers.{Refuses}
 
@@ -44,6 +44,15 @@ abbrev pub KindStops : Written → Field → Message → Bool → Bool → Schem
 KindStops w f k same given error = (m : Message) (before : List (List ℕ)) →
     use_of m (token_text w f.name) ≡ Some (one_kind k) →
     is_given before (token_text w f.name) ≡ same → has_kind m before ≡ given → Stops w m before f error
+
+-- the same of a field that a table can close
+abbrev pub ClosablePasses : Written → Field → Content → Type 0
+ClosablePasses w f content = (m : Message) (before : List (List ℕ)) →
+    use_of m (token_text w f.name) ≡ Some (closable content) → Passes w m before f
+
+abbrev pub ClosableStops : Written → Field → Content → SchemaError → Type 0
+ClosableStops w f content error = (m : Message) (before : List (List ℕ)) →
+    use_of m (token_text w f.name) ≡ Some (closable content) → Stops w m before f error
 
 -- the same of a field of a form, where one of the names is that of a field of the other form, as told
 abbrev pub FormedPasses : Written → Field → Form → Content → Bool → Type 0

@@ -70,6 +70,7 @@ table_of model_message =
     ∷ (codes "objective", single (message objective_message))
     ∷ (codes "search_strategy", repeated (message strategy_message))
     ∷ (codes "solution_hint", single (message hint_message))
+    ∷ (codes "assumptions", closable (number Int32))
     ∷ []
 table_of variable_message =
     (codes "name", single text)
@@ -197,8 +198,7 @@ table_of hint_message =
 -- the fields that are known, and not read
 abbrev pub unread_names : Message → List (List ℕ)
 unread_names model_message =
-    codes "assumptions"
-    ∷ codes "floating_point_objective"
+    codes "floating_point_objective"
     ∷ codes "symmetry"
     ∷ []
 unread_names variable_message = []

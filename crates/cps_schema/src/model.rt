@@ -4,28 +4,32 @@ ghost use Rattle.cps_textproto.specs.Trees.{Tree, no_fields, tree_of, values_of}
 ghost use Rattle.cps_model.specs.declared.model.CpModel.{CpModel};
 ghost use Rattle.cps_schema.specs.Written.{Written, written, written_with, token_text};
 ghost use Rattle.cps_schema.specs.Sources.{written_of, names_of};
-ghost use Rattle.cps_schema.specs.Tables.{model_message, variable_message, constraint_message, objective_message, hint_message, message};
+ghost use Rattle.cps_schema.specs.Tables.{model_message, variable_message, constraint_message, objective_message, hint_message, message, number};
 ghost use Rattle.cps_schema.specs.Faults.{values_fault, fields_fault};
-ghost use Rattle.cps_schema.specs.Readings.{ReadsAs, value_messages, read_variable, read_constraint, read_objective, read_hint, read_model};
+ghost use Rattle.cps_schema.specs.Readings.{ReadsAs, value_numbers, value_messages, read_variable, read_constraint, read_objective, read_hint, read_model};
 ghost use Rattle.cps_schema.specs.Answers.{Refuses, IsRefusal, Gives};
-ghost use Rattle.cps_schema.specs.Steps.{field_then, Passes, Stops, SinglePasses, SingleStops};
+ghost use Rattle.cps_schema.specs.Steps.{field_then, Passes, Stops, SinglePasses, SingleStops, ClosablePasses, ClosableStops};
 ghost use Rattle.cps_schema.specs.Slots.{AreGiven};
 ghost use Rattle.cps_schema.specs.Parts.{model_from, model_slots};
-ghost use Rattle.cps_schema.specs.Open.{closed_names, OpenKinds};
+ghost use Rattle.cps_schema.specs.Open.{closed_names, OpenKinds, OpenAssumptions};
 
 use super::closed::CLOSED;
 use super::error::SchemaError;
+use super::lists::add_refs;
 use super::message::{add_messages, set_once};
-use super::names::not_read;
+use super::names::{is_given, not_read};
+use super::number::Number;
 use super::single::fields_of;
 use super::source::{Source, token_text};
 use super::text::{name_or_empty, set_name};
 use cps_lex::Token;
-use cps_model::{Constraint, CpModel, Hint, Listed, Objective, Strategy, Text, Variable};
+use cps_model::{
+    Constraint, CpModel, FaultName, Hint, Listed, Objective, Strategy, Text, Variable,
+};
 use cps_textproto::{Field, Node};
 use std::alloc::Global;
 
-const UNREAD: [&[u8]; 3] = [b"assumptions", b"floating_point_objective", b"symmetry"];
+const UNREAD: [&[u8]; 2] = [b"floating_point_objective", b"symmetry"];
 
 /// What was read so far of a model.
 #[derive(Drop)]
@@ -36,6 +40,24 @@ pub struct ModelParts {
     pub objective: Option<Objective>,
     pub strategies: Vec<Strategy>,
     pub hint: Option<Hint>,
+    pub assumptions: Vec<i32>,
+}
+
+/// Adds the assumptions of a field, unless the field is closed.
+fn add_assumptions(source: &Source, list: &mut Vec<i32>, field: &Field) -> Result<(), SchemaError>
+    ensures passes { OnOk result (ClosablePasses (written_of source.now) field.now (number Number.Int32)) }
+    ensures added { OnOk result (list.new.items
+        ≡ list.old.items ++ value_numbers (written_of source.now) (values_of field.now.items)) }
+    ensures err { IfErr result (ClosableStops (written_of source.now) field.now (number Number.Int32)) }
+{
+    let token = field.name as usize;
+    if is_given(source.closed, token_text(source, token)) {
+        return Err(SchemaError::Fault {
+            name: FaultName::Unsupported,
+            token,
+        });
+    }
+    add_refs(source, list, field)
 }
 
 /// Reads a field of a model.
@@ -67,6 +89,8 @@ fn add_field(
         add_messages(alloc, source, &mut parts.strategies, field)
     } else if name == b"solution_hint".as_slice() {
         set_once(alloc, source, &mut parts.hint, field)
+    } else if name == b"assumptions".as_slice() {
+        add_assumptions(source, &mut parts.assumptions, field)
     } else {
         Err(not_read(source, &UNREAD, field.name))
     }
@@ -84,6 +108,7 @@ fn model_of_parts(alloc: Global, parts: ModelParts) -> CpModel
         objective,
         strategies,
         hint,
+        assumptions,
     } = parts;
     CpModel {
         name: name_or_empty(alloc, name),
@@ -92,7 +117,7 @@ fn model_of_parts(alloc: Global, parts: ModelParts) -> CpModel
         objective,
         strategies: Listed::from_vec(strategies),
         hint,
-        assumptions: Listed::new(alloc),
+        assumptions: Listed::from_vec(assumptions),
     }
 }
 
@@ -109,6 +134,7 @@ fn read_model(alloc: Global, source: &Source, node: &Node) -> Result<CpModel, Sc
         objective: None,
         strategies: Vec::new(alloc),
         hint: None,
+        assumptions: Vec::new(alloc),
     };
     for field in fields_of(node) {
         add_field(alloc, source, &mut parts, field)?;
@@ -126,6 +152,7 @@ pub fn model_with(
 ) -> Result<CpModel, SchemaError>
     ensures ok { IfOk result (λ model. ReadsAs (written_with (names_of closed.now) bytes.now tokens.now) (tree_of node.now) model) }
     ensures kinds { IfOk result (λ model. OpenKinds (names_of closed.now) model) }
+    ensures assumptions { IfOk result (λ model. OpenAssumptions (names_of closed.now) model) }
     ensures err { IfErr result (IsRefusal (written_with (names_of closed.now) bytes.now tokens.now) (tree_of node.now)) }
 
     // A document that has a model is read as it, unless memory runs out.
@@ -148,6 +175,7 @@ pub fn model_of(
 ) -> Result<CpModel, SchemaError>
     ensures ok { IfOk result (λ model. ReadsAs (written bytes.now tokens.now) (tree_of node.now) model) }
     ensures kinds { IfOk result (λ model. OpenKinds closed_names model) }
+    ensures assumptions { IfOk result (λ model. OpenAssumptions closed_names model) }
     ensures err { IfErr result (IsRefusal (written bytes.now tokens.now) (tree_of node.now)) }
 
     // A document that has a model is read as it, unless memory runs out.

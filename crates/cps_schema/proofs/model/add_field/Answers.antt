@@ -3,12 +3,13 @@ use Rattle.std.proofs.Common.{◌≡◌, ◌++◌, List, ℕ, map, codes, true, 
 use Rattle.std.proofs.lemmas.List.{map-append}
 use Rattle.std.proofs.lemmas.Result.{on_ok_weaker}
 use Rattle.cps_textproto.specs.Trees.{values_of}
+use Rattle.cps_schema.specs.declared.number.Number.TheVariants.{Int32}
 use Rattle.cps_schema.specs.Sources.{written_of}
 use Rattle.cps_schema.specs.Written.{token_text}
-use Rattle.cps_schema.specs.Tables.{model_message, variable_message, constraint_message, objective_message, strategy_message, hint_message, text, message}
-use Rattle.cps_schema.specs.Readings.{value_texts, value_messages, read_variable, read_constraint, read_objective, read_strategy, read_hint}
+use Rattle.cps_schema.specs.Tables.{model_message, variable_message, constraint_message, objective_message, strategy_message, hint_message, text, message, number}
+use Rattle.cps_schema.specs.Readings.{value_numbers, value_texts, value_messages, read_variable, read_constraint, read_objective, read_strategy, read_hint}
 use Rattle.cps_schema.specs.Parts.{model_slots}
-use Rattle.cps_schema.proofs.Steps.{same_name, other_text, table_use, repeated_passes, repeated_stops, not_read_stops, if_passes, if_stops}
+use Rattle.cps_schema.proofs.Steps.{same_name, other_text, table_use, repeated_passes, repeated_stops, not_read_stops, if_passes, if_stops, closable_passes, closable_refused}
 use Rattle.cps_schema.specs.Slots.{AreGiven}
 use Rattle.cps_schema.proofs.Slots.{given_after, slot_passes, slot_stops}
 use Rattle.cps_schema.proofs.ModelFields.{no_model_field}
@@ -188,8 +189,35 @@ returns-then-eq-6-clause-err c =
     slot_stops w model_message f (message hint_message) c.set_once-then-eq-6.result (λ (before : List (List ℕ)). AreGiven (model_slots c.args.parts.now) before)
     (is_some c.args.parts.now.hint) (table_use _ _ _ _ name refl) c.set_once-then-eq-6.ensures.err (λ before given. rw name given.1.1.0)
 
-pub returns-else-eq-6-clause-err : goal.returns-else-eq-6-clause-err
-returns-else-eq-6-clause-err c = λ before given.
+pub returns-then-eq-7-clause-passes : goal.returns-then-eq-7-clause-passes
+returns-then-eq-7-clause-passes c =
+    let w = written_of c.args.source.now in
+    let f = c.args.field.now in
+    let name : token_text w f.name ≡ codes "assumptions" = same_name _ _ _ _ c.eq-else-eq-6.result c.eq-else-eq-6.ensures c.if-eq-7.true c.token_text-name.ensures c.as_slice-else-eq-6.ensures in
+    if_passes w model_message f (λ (before : List (List ℕ)). AreGiven (model_slots c.args.parts.now) before) (λ (before : List (List ℕ)). AreGiven (model_slots c.args.parts.now) before) c.add_assumptions.result
+    (closable_passes w model_message f (number Int32) c.add_assumptions.result (table_use _ _ _ _ name refl) c.add_assumptions.ensures.passes)
+    (λ before given. given_after (token_text w f.name) (codes "assumptions") (model_slots c.args.parts.now) before name given)
+
+pub returns-then-eq-7-clause-read : goal.returns-then-eq-7-clause-read
+returns-then-eq-7-clause-read c =
+    let w = written_of c.args.source.now in
+    let f = c.args.field.now in
+    let name : token_text w f.name ≡ codes "assumptions" = same_name _ _ _ _ c.eq-else-eq-6.result c.eq-else-eq-6.ensures c.if-eq-7.true c.token_text-name.ensures c.as_slice-else-eq-6.ensures in
+    on_ok_weaker c.add_assumptions.result
+    (λ (added : c.add_assumptions.new.list.items ≡ c.args.parts.now.assumptions.items ++ value_numbers w (values_of f.items)) rest.
+    simp (name, added, append_assoc))
+    c.add_assumptions.ensures.added
+
+pub returns-then-eq-7-clause-err : goal.returns-then-eq-7-clause-err
+returns-then-eq-7-clause-err c =
+    let w = written_of c.args.source.now in
+    let f = c.args.field.now in
+    let name : token_text w f.name ≡ codes "assumptions" = same_name _ _ _ _ c.eq-else-eq-6.result c.eq-else-eq-6.ensures c.if-eq-7.true c.token_text-name.ensures c.as_slice-else-eq-6.ensures in
+    if_stops w model_message f (λ (before : List (List ℕ)). AreGiven (model_slots c.args.parts.now) before) c.add_assumptions.result
+    (closable_refused w model_message f (number Int32) c.add_assumptions.result (table_use _ _ _ _ name refl) c.add_assumptions.ensures.err)
+
+pub returns-else-eq-7-clause-err : goal.returns-else-eq-7-clause-err
+returns-else-eq-7-clause-err c = λ before given.
     let w = written_of c.args.source.now in
     let f = c.args.field.now in
     let text = token_text w f.name in
@@ -200,5 +228,6 @@ returns-else-eq-6-clause-err c = λ before given.
     (other_text name.result.now c.as_slice-else-eq-2.result.now text (codes "constraints") c.eq-else-eq-2.result c.eq-else-eq-2.ensures c.if-eq-3.false name.ensures c.as_slice-else-eq-2.ensures)
     (other_text name.result.now c.as_slice-else-eq-3.result.now text (codes "objective") c.eq-else-eq-3.result c.eq-else-eq-3.ensures c.if-eq-4.false name.ensures c.as_slice-else-eq-3.ensures)
     (other_text name.result.now c.as_slice-else-eq-4.result.now text (codes "search_strategy") c.eq-else-eq-4.result c.eq-else-eq-4.ensures c.if-eq-5.false name.ensures c.as_slice-else-eq-4.ensures)
-    (other_text name.result.now c.as_slice-else-eq-5.result.now text (codes "solution_hint") c.eq-else-eq-5.result c.eq-else-eq-5.ensures c.if-eq-6.false name.ensures c.as_slice-else-eq-5.ensures) in
+    (other_text name.result.now c.as_slice-else-eq-5.result.now text (codes "solution_hint") c.eq-else-eq-5.result c.eq-else-eq-5.ensures c.if-eq-6.false name.ensures c.as_slice-else-eq-5.ensures)
+    (other_text name.result.now c.as_slice-else-eq-6.result.now text (codes "assumptions") c.eq-else-eq-6.result c.eq-else-eq-6.ensures c.if-eq-7.false name.ensures c.as_slice-else-eq-6.ensures) in
     rw c.not_read.ensures (not_read_stops w model_message f other before)

@@ -10,7 +10,7 @@ use Rattle.cps_schema.proofs.model.read_model.Goals as goal
 
 pub loop-field-init : goal.loop-field-init
 unfolding is_given has_kind has_other_form
-loop-field-init c = (([], refl, (refl, (refl, (refl, tt)))), rw (c.new.ensures.items, c.new-2.ensures.items, c.new-3.ensures.items) refl)
+loop-field-init c = (([], refl, (refl, (refl, (refl, tt)))), rw (c.new.ensures.items, c.new-2.ensures.items, c.new-3.ensures.items, c.new-4.ensures.items) refl)
 
 pub returns-in_err-add_field-clause-err : goal.returns-in_err-add_field-clause-err
 returns-in_err-add_field-clause-err c =
