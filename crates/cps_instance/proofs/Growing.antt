@@ -152,7 +152,11 @@ body_fits-longer ds es (LinMax target exprs) l h = tt
 body_fits-longer ds es (Element index target exprs) l h = tt
 body_fits-longer ds es (Table exprs values negated) l h = tt
 body_fits-longer ds es (AllDiff exprs) l h = tt
-body_fits-longer ds es (Circuit tails heads literals) l h = are_literals-longer ds es literals l h
+body_fits-longer ds es (Circuit tails heads literals) l h = record {
+  headed = h.headed;
+  named = h.named;
+  literals_fit = are_literals-longer ds es literals l h.literals_fit;
+}
 body_fits-longer ds es (Interval start end size) l h = tt
 body_fits-longer ds es (NoOverlap spans) l h = spans_fit-longer ds es spans l h
 body_fits-longer ds es (Cumulative capacity spans demands) l h =
@@ -162,11 +166,18 @@ body_fits-longer ds es (Cumulative capacity spans demands) l h =
       demands_fit = demands_fit-longer ds es demands (All-append_right (λ (s : ℕ). s < length ds) (span_subjects spans) demands parts) h.demands_fit;
     }
 body_fits-longer ds es (Inverse direct inverse) l h = h
-body_fits-longer ds es (Automaton start finals tails heads labels exprs) l h = tt
+body_fits-longer ds es (Automaton start finals tails heads labels exprs) l h = h
 body_fits-longer ds es (Reservoir min max times changes active) l h =
-    are_literals-longer ds es active
-    (All-append_right (λ (s : ℕ). s < length ds) changes (atom_subjects active) (All-append_right (λ (s : ℕ). s < length ds) times (changes ++ atom_subjects active) l)) h
+    let parts = All-append_right (λ (s : ℕ). s < length ds) times (changes ++ atom_subjects active) l in
+    record {
+      paired = h.paired;
+      tied = h.tied;
+      low = h.low;
+      high = h.high;
+      active_fit = are_literals-longer ds es active (All-append_right (λ (s : ℕ). s < length ds) changes (atom_subjects active) parts) h.active_fit;
+    }
 body_fits-longer ds es (NoOverlap2d x y) l h = record {
+  paired = h.paired;
   x_fit = spans_fit-longer ds es x (All-append_left (λ (s : ℕ). s < length ds) (span_subjects x) (span_subjects y) l) h.x_fit;
   y_fit = spans_fit-longer ds es y (All-append_right (λ (s : ℕ). s < length ds) (span_subjects x) (span_subjects y) l) h.y_fit;
 }

@@ -1,5 +1,5 @@
 -- What a propagator may count on: a task whose subjects have domains in which none of its sums leaves its type.
-use Rattle.std.specs.Prelude.{◌≡◌, ℕ, ◌<◌, ◌^◌, ℤ, pos, ◌≤ℤ◌, IsTrue, true, List, length, All}
+use Rattle.std.specs.Prelude.{◌≡◌, ◌⊎◌, ℕ, ◌<◌, ◌^◌, ℤ, pos, ◌≤ℤ◌, IsTrue, true, List, length, All}
 use Rattle.cps_model.specs.Within.{is_well_shaped}
 use Rattle.cps_domain.specs.Window.{is_among}
 use Rattle.cps_literal.specs.declared.atom.Atom.{Atom}
@@ -32,8 +32,9 @@ pub record AreSmallWithin (domains : Domains) (terms : List Term) (bounds : List
 abbrev pub IsFittingSpan : Domains → Span → Type 0
 IsFittingSpan domains s = All (IsLiteral domains) s.presence
 
--- the spans of two directions
+-- the spans of two directions, one of each for a box
 pub record AreFittingSpans (domains : Domains) (x y : List Span) : Type 0 where
+  pub paired : length x ≡ length y
   pub x_fit : All (IsFittingSpan domains) x
   pub y_fit : All (IsFittingSpan domains) y
 
@@ -45,6 +46,25 @@ IsNeverNegative domains i = (x : ℤ) → is_among (domain_at domains i) x ≡ t
 pub record AreFittingDemands (domains : Domains) (spans : List Span) (demands : List ℕ) : Type 0 where
   pub spans_fit : All (IsFittingSpan domains) spans
   pub demands_fit : All (IsNeverNegative domains) demands
+
+-- arcs, each with a tail, a head, and an atom that stands for a literal
+pub record AreFittingArcs (domains : Domains) (tails heads : List ℤ) (literals : List Atom) : Type 0 where
+  pub headed : length tails ≡ length heads
+  pub named : length tails ≡ length literals
+  pub literals_fit : All (IsLiteral domains) literals
+
+-- transitions, each with a tail, a head and a label
+pub record AreFittingSteps (tails heads labels : List ℤ) : Type 0 where
+  pub headed : length tails ≡ length heads
+  pub labelled : length tails ≡ length labels
+
+-- levels between which 0 lies, and events, each with a time, a change, and an atom that stands for a literal where any has one
+pub record AreFittingLevels (domains : Domains) (min max : ℤ) (times changes : List ℕ) (active : List Atom) : Type 0 where
+  pub paired : length times ≡ length changes
+  pub tied : (length active ≡ 0) ⊎ (length active ≡ length times)
+  pub low : min ≤ℤ pos 0
+  pub high : pos 0 ≤ℤ max
+  pub active_fit : All (IsLiteral domains) active
 
 abbrev pub IsFittingBody : Domains → Body → Type 0
 IsFittingBody domains Empty = Unit {0}
@@ -61,13 +81,13 @@ IsFittingBody domains (LinMax target exprs) = Unit {0}
 IsFittingBody domains (Element index target exprs) = Unit {0}
 IsFittingBody domains (Table exprs values negated) = Unit {0}
 IsFittingBody domains (AllDiff exprs) = Unit {0}
-IsFittingBody domains (Circuit tails heads literals) = All (IsLiteral domains) literals
+IsFittingBody domains (Circuit tails heads literals) = AreFittingArcs domains tails heads literals
 IsFittingBody domains (Interval start end size) = Unit {0}
 IsFittingBody domains (NoOverlap spans) = All (IsFittingSpan domains) spans
 IsFittingBody domains (Cumulative capacity spans demands) = AreFittingDemands domains spans demands
 IsFittingBody domains (Inverse direct inverse) = length direct ≡ length inverse
-IsFittingBody domains (Automaton start finals tails heads labels exprs) = Unit {0}
-IsFittingBody domains (Reservoir min max times changes active) = All (IsLiteral domains) active
+IsFittingBody domains (Automaton start finals tails heads labels exprs) = AreFittingSteps tails heads labels
+IsFittingBody domains (Reservoir min max times changes active) = AreFittingLevels domains min max times changes active
 IsFittingBody domains (NoOverlap2d x y) = AreFittingSpans domains x y
 IsFittingBody domains (Sum subject terms offset) = IsSumOf domains subject (record { terms = terms; offset = offset })
 IsFittingBody domains (ObjectiveList terms bounds) = AreSmallWithin domains terms bounds

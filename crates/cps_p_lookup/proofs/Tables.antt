@@ -18,6 +18,7 @@ use Rattle.cps_instance.specs.Tasks.{HoldsBody}
 use Rattle.cps_instance.specs.Parts.{values_at}
 use Rattle.cps_trail.specs.Trail.{Trail, Domains, IsAdmitted, admits}
 use Rattle.cps_propagate.specs.Now.{IsOpenTo, IsFixedNow, AreOpen}
+use Rattle.cps_propagate.specs.Strength.{HasOpenRow, IsExcludedBody}
 use Rattle.cps_rule.specs.Rules.{IsFittingRule, IsGiven, IsImpossible, IsAtRest, AllTrueAt, AreFacts}
 use Rattle.cps_p_lookup.specs.Facts.{Grows, Denied, Gives}
 use Rattle.cps_p_lookup.specs.Tabling.{IsOpenRow, IsDeadRow, IsLive, AreLive, ClosesRow, IsSingle, IsOff, IsBanned, IsMissed, IsSure}
@@ -130,6 +131,30 @@ none_live s es values (r ∷ rows) p f live none = absurd (omega (arith, none))
 row_long : (w : ℕ) (values : List ℤ) (r : ℕ) → (r + 1) * w ≤ length values → length (row_at w values r) ≡ w
 row_long w values r l = let e : (r + 1) * w ≡ r * w + w = omega arith in simp (length-take, length-drop) (omega arith)
 
+-- a live row may be had
+live_open : (s : Trail) (es : List ℕ) (values : List ℤ) (r : ℕ) (rows : List ℕ) → AreLive s es values (r ∷ rows) → HasOpenRow s es values
+live_open s es values r rows live =
+    let is : IsLive s es values r = All-get_or (IsLive s es values) (r ∷ rows) 0 0 (omega arith) live.each in
+    record { row = r; within = is.within; possible = is.open_row.at }
+
+pub live_seen : (s : Trail) (es : List ℕ) (values : List ℤ) (rows : List ℕ) → AreLive s es values rows → length rows ≢ 0 → IsExcludedBody (Table es values false) s → ⊥
+live_seen s es values [] live some = absurd (some refl)
+live_seen s es values (r ∷ rows) live some = λ excluded. excluded (live_open s es values r rows live)
+
+-- without columns each table has every row
+no_column : (s : Trail) (values : List ℤ) → HasOpenRow s [] values
+no_column s values = record { row = 0; within = omega arith; possible = λ k l. absurd (omega arith) }
+
+pub no_column_rest : (s : Trail) (es : List ℕ) (values : List ℤ) (negated : Bool) → es ≡ [] → IsAtRest (Table es values negated) s
+no_column_rest s [] values true e = record { decided = λ fixed xs left. tt; strong = tt }
+no_column_rest s [] values false e = record { decided = λ fixed xs left. tt; strong = no_column s values }
+no_column_rest s (i ∷ es) values negated e = cc
+
+pub no_column_seen : (s : Trail) (es : List ℕ) (values : List ℤ) (negated : Bool) → es ≡ [] → IsExcludedBody (Table es values negated) s → ⊥
+no_column_seen s [] values true e = λ excluded. excluded
+no_column_seen s [] values false e = λ excluded. excluded (no_column s values)
+no_column_seen s (i ∷ es) values negated e = cc
+
 -- a live row is that of all values where they are fixed
 pub live_rest : (s : Trail) (es : List ℕ) (values : List ℤ) (rows : List ℕ) → AreLive s es values rows → length rows ≢ 0 → IsAtRest (Table es values false) s
 live_rest s es values [] live some = absurd (some refl)
@@ -139,7 +164,7 @@ live_rest s es values (r ∷ rows) live some = record {
       let row = row_at (length es) values r in
       table_in xs es values r is.within (same_row xs es row (row_long (length es) values r is.within) (λ k l.
       All-get_or (IsFixedNow s) es k 0 l fixed (value_at xs (get_or es k 0)) (get_or row k (pos 0)) (All-get_or (λ i. IsOpenTo s i (value_at xs i)) es k 0 l left) (is.open_row.at k l)));
-  strong = tt;
+  strong = live_open s es values r rows live;
 }
 
 -- negated: a row whose columns are all single, and one of whose columns is not
