@@ -1,8 +1,7 @@
 -- The values of each list of an inverse differ, so what the all-different of a list gives, the inverse gives.
-use Rattle.std.specs.Prelude.{All, Result, Ok, Err}
+use Rattle.std.specs.Prelude.{Result, Ok, Err}
 use Rattle.std.specs.declared.alloc.AllocError.{AllocError}
 use Rattle.std.proofs.Common.{◌≡◌, Bool, true, ℕ, ◌<◌, ℤ, pos, negsuc, ◌≤ℤ◌, ◌<ℤ◌, List, ◌++◌, length, get_or, sym, ◌∙◌, ap, subst, arith}
-use Rattle.std.specs.List.{AllPairs}
 use Rattle.std.proofs.lemmas.Int.{ints}
 use Rattle.std.proofs.lemmas.List.{get_or_default, length-map}
 use Rattle.std.proofs.lemmas.List.Elements.{All-append}
@@ -16,7 +15,7 @@ use Rattle.cps_instance.specs.Parts.{values_at}
 use Rattle.cps_instance.specs.Terms.{Domains, AreIntervals, domain_at}
 use Rattle.cps_instance.proofs.Agreeing.{All-append_left, All-append_right}
 use Rattle.cps_trail.specs.Trail.{Trail, IsTrueNow}
-use Rattle.cps_propagate.specs.Strength.{HasRoom, IsStrongBody}
+use Rattle.cps_propagate.specs.Strength.{IsStrongBody}
 use Rattle.cps_rule.specs.declared.rule.Look.{Look}
 use Rattle.cps_rule.specs.declared.rule.Look.TheVariants.{Possible, Impossible}
 use Rattle.cps_rule.specs.declared.rule.Narrowing.{Narrowing}

@@ -1,13 +1,13 @@
 -- Values between labels that are none of them.
 use Rattle.std.specs.Prelude.{Contains, unsigned_abs}
-use Rattle.std.proofs.Common.{◌≡◌, ◌⊎◌, inl, inr, ℕ, ◌+◌, ◌-◌, ◌<◌, ◌≤◌, ℤ, pos, ◌+ℤ◌, ◌-ℤ◌, ◌≤ℤ◌, ◌<ℤ◌, true, List, length, get_or, refl, sym, ◌∙◌, ap, subst, arith}
+use Rattle.std.proofs.Common.{◌≡◌, ◌⊎◌, inl, inr, ℕ, ◌+◌, ◌-◌, ◌<◌, ◌≤◌, ℤ, pos, ◌+ℤ◌, ◌-ℤ◌, ◌≤ℤ◌, ◌<ℤ◌, true, List, length, get_or, sym, ◌∙◌, ap, subst, arith}
 use Rattle.std.specs.List.{list_any}
 use Rattle.std.specs.Int.{int_max}
 use Rattle.std.proofs.lemmas.Int.{ints, int_max_is}
 use Rattle.std.proofs.lemmas.List.{get_or_default}
 use Rattle.std.proofs.lemmas.List.Folds.{Any-from_list_any}
 use Rattle.cps_domain.specs.Window.{Window, contains, intervals, within}
-use Rattle.cps_domain.proofs.Tests.{true_le, within_low, within_high}
+use Rattle.cps_domain.proofs.Tests.{within_low, within_high}
 use Rattle.cps_trail.specs.Trail.{Trail, admits}
 use Rattle.cps_propagate.specs.Now.{IsOpenTo}
 use Rattle.cps_p_sequence.specs.Networks.{IsRising}

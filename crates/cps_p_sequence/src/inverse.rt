@@ -1,8 +1,8 @@
 //! The rule of two lists that are each other's inverse.
 //!
-//! Value by value: a position may have a number exactly where that number's position in the other list may have its own.
-//! So both lists mirror each other. Beside that the values of each list differ, and the intervals that they fill are left
-//! to them (`Sides`); that says more than the mirror where more positions than one share more numbers than one.
+//! Value by value: a position may have a number exactly where that number's position in the other list may have its
+//! own. So both lists mirror each other. Beside that the values of each list differ, and the intervals that they fill
+//! are left to them (`Sides`); that says more than the mirror where several positions share several numbers.
 ghost use Rattle.std.specs.Prelude.{◌≡◌, ◌<◌, ℤ, pos, ◌≤ℤ◌, ◌<ℤ◌, true, List, length, Contains, All, OnOk, IfOk, IsTrue};
 ghost use Rattle.cps_literal.specs.Truth.{meets};
 ghost use Rattle.cps_instance.specs.declared.task.Body.{Body as BodyOf};
@@ -20,8 +20,8 @@ use cps_trail::{Before, Store};
 use std::alloc::{AllocError, Global};
 use std::marker::Model;
 
-/// The rule of a body `Inverse`. Contracts see the body. A hint is the ends of an interval that is full or crowded in one
-/// of the lists, or of none.
+/// The rule of a body `Inverse`. Contracts see the body. A hint is the ends of an interval that is full or crowded in
+/// one of the lists, or of none.
 #[derive(Drop)]
 pub struct Inverse {
     direct: Vec<u32>,
@@ -303,8 +303,8 @@ impl Inverse {
         Ok(propagator)
     }
 
-    /// Puts the fact of the other list that gives an atom in the place of what a list holds, or none where the number of
-    /// places gives it. Answers false where neither does.
+    /// Puts the fact of the other list that gives an atom in the place of what a list holds, or none where the number
+    /// of places gives it. Answers false where neither does.
     fn explain_mirrored(
         &self,
         past: &Before,

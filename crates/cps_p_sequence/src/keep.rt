@@ -238,4 +238,3 @@ pub(crate) fn keep_labels(
     keep_off_others(store, subject, alphabet, labels, found)?;
     Ok(())
 }
-

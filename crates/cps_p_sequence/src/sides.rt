@@ -1,7 +1,8 @@
 //! The two lists of an inverse as lists of positions whose values differ.
 //!
 //! That follows from an inverse: two positions with one value would both be the number at that place of the other
-//! list. So each side has an all-different of its own, found and certified as any, and what it gives, the inverse gives.
+//! list. So each side has an all-different of its own, found and certified as any, and what it gives the inverse
+//! gives.
 ghost use Rattle.std.specs.Prelude.{◌≡◌, Ok, true, false, OnOk, IfOk, IsTrue};
 ghost use Rattle.cps_instance.specs.declared.task.Body.{Body as BodyOf};
 ghost use Rattle.cps_trail.specs.Trail.{Trail};
@@ -70,11 +71,7 @@ fn add_apart(
 
 impl Sides {
     /// The sides of an inverse of two lists.
-    pub(crate) fn new(
-        alloc: Global,
-        direct: &[u32],
-        inverse: &[u32],
-    ) -> Result<Self, AllocError>
+    pub(crate) fn new(alloc: Global, direct: &[u32], inverse: &[u32]) -> Result<Self, AllocError>
         ensures { IfOk result (λ sides. AreSides direct.now inverse.now sides.direct sides.inverse) }
     {
         Ok(Sides {
@@ -84,7 +81,8 @@ impl Sides {
         })
     }
 
-    /// Puts what keeps the values of each list apart in the place of what a list holds, and answers whether they can be.
+    /// Puts what keeps the values of each list apart in the place of what a list holds, and answers whether they can
+    /// be.
     pub(crate) fn look(
         &mut self,
         store: &Store,

@@ -44,7 +44,16 @@ fn positions_and_places_say_the_same(rt: HostRuntime) -> Result<(), Fail> {
     let rows = [
         // there are four places
         Row {
-            ends: &[(-1, 5), (0, 9), (0, 3), (0, 3), (0, 3), (0, 4), (-4, 3), (-1, 3)],
+            ends: &[
+                (-1, 5),
+                (0, 9),
+                (0, 3),
+                (0, 3),
+                (0, 3),
+                (0, 4),
+                (-4, 3),
+                (-1, 3),
+            ],
             left: &[
                 (0, 0, 3),
                 (1, 0, 3),
@@ -58,7 +67,16 @@ fn positions_and_places_say_the_same(rt: HostRuntime) -> Result<(), Fail> {
         },
         // the first is at place 0, and so no other is there, and it is at no other
         Row {
-            ends: &[(0, 0), (0, 3), (0, 3), (0, 3), (0, 3), (0, 3), (0, 3), (0, 3)],
+            ends: &[
+                (0, 0),
+                (0, 3),
+                (0, 3),
+                (0, 3),
+                (0, 3),
+                (0, 3),
+                (0, 3),
+                (0, 3),
+            ],
             left: &[
                 (0, 0, 0),
                 (1, 1, 3),
@@ -83,7 +101,16 @@ fn places_that_positions_fill_are_left_to_them(rt: HostRuntime) -> Result<(), Fa
     let rows = [
         // two have places 0 and 1 to themselves, and so the others 2 and 3; the mirror alone leaves these 0 to 3
         Row {
-            ends: &[(0, 1), (0, 1), (0, 3), (0, 3), (0, 3), (0, 3), (0, 3), (0, 3)],
+            ends: &[
+                (0, 1),
+                (0, 1),
+                (0, 3),
+                (0, 3),
+                (0, 3),
+                (0, 3),
+                (0, 3),
+                (0, 3),
+            ],
             left: &[
                 (0, 0, 1),
                 (1, 0, 1),
@@ -97,12 +124,30 @@ fn places_that_positions_fill_are_left_to_them(rt: HostRuntime) -> Result<(), Fa
         },
         // three do not fit into two places, which the mirror alone does not see
         Row {
-            ends: &[(0, 1), (0, 1), (0, 1), (0, 3), (0, 3), (0, 3), (0, 3), (0, 3)],
+            ends: &[
+                (0, 1),
+                (0, 1),
+                (0, 1),
+                (0, 3),
+                (0, 3),
+                (0, 3),
+                (0, 3),
+                (0, 3),
+            ],
             left: &[],
         },
         // nor do three places share two positions
         Row {
-            ends: &[(0, 3), (0, 3), (0, 3), (0, 3), (2, 3), (2, 3), (2, 3), (0, 3)],
+            ends: &[
+                (0, 3),
+                (0, 3),
+                (0, 3),
+                (0, 3),
+                (2, 3),
+                (2, 3),
+                (2, 3),
+                (0, 3),
+            ],
             left: &[],
         },
     ];
@@ -113,20 +158,25 @@ fn places_that_positions_fill_are_left_to_them(rt: HostRuntime) -> Result<(), Fa
     Ok(())
 }
 
-/// The propagator of subjects 0 to 2, which are to be 1 2 1, 1 3 1 or 7 7 7: from 10 label 1 leads to 20, 2 or 3 to 30, and 1 to the final
-/// 40; label 7 leads by 50 and 60. From 20 label 9 leads to 70, and from there nothing leads on.
+/// The propagator of subjects 0 to 2, which are to be 1 2 1, 1 3 1 or 7 7 7: from 10 label 1 leads to 20, 2 or 3 to 30,
+/// and 1 to the final 40; label 7 leads by 50 and 60. From 20 label 9 leads to 70, and from there nothing leads on.
 fn automaton(alloc: Global) -> Result<Enforced<Automaton>, AllocError>
     ensures { IfOk result (λ propagator. IsPlain propagator) }
 {
+    let tails = Listed::from_vec(Vec::from_slice(alloc, &[10, 20, 20, 30, 10, 50, 60, 20])?);
+    let heads = Listed::from_vec(Vec::from_slice(alloc, &[20, 30, 30, 40, 50, 60, 40, 70])?);
+    let labels = Listed::from_vec(Vec::from_slice(alloc, &[1, 2, 3, 1, 7, 7, 7, 9])?);
+    let finals = Listed::from_vec(Vec::from_slice(alloc, &[40])?);
+    let exprs = Listed::from_vec(Vec::from_slice(alloc, &[0, 1, 2])?);
     let task = Task {
         enforcement: Listed::new(alloc),
         body: Body::Automaton {
             start: 10,
-            finals: Listed::from_vec(Vec::from_slice(alloc, &[40])?),
-            tails: Listed::from_vec(Vec::from_slice(alloc, &[10, 20, 20, 30, 10, 50, 60, 20])?),
-            heads: Listed::from_vec(Vec::from_slice(alloc, &[20, 30, 30, 40, 50, 60, 40, 70])?),
-            labels: Listed::from_vec(Vec::from_slice(alloc, &[1, 2, 3, 1, 7, 7, 7, 9])?),
-            exprs: Listed::from_vec(Vec::from_slice(alloc, &[0, 1, 2])?),
+            finals,
+            tails,
+            heads,
+            labels,
+            exprs,
         },
     };
     let propagator = Automaton::of(alloc, &task)?;
@@ -144,7 +194,14 @@ fn labels_of_runs_stay_alone(rt: HostRuntime) -> Result<(), Fail> {
         // 2 and 3 are labels, but of no run there; 4, 5 and 6 are none at all
         Row {
             ends: &[(0, 9), (0, 9), (0, 9)],
-            left: &[(0, 1, 1), (0, 7, 7), (1, 2, 3), (1, 7, 7), (2, 1, 1), (2, 7, 7)],
+            left: &[
+                (0, 1, 1),
+                (0, 7, 7),
+                (1, 2, 3),
+                (1, 7, 7),
+                (2, 1, 1),
+                (2, 7, 7),
+            ],
         },
         // without a last 7 there is no first one
         Row {

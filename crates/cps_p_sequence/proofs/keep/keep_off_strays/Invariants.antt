@@ -1,8 +1,4 @@
-use Rattle.std.proofs.Common.{◌≡◌, ℕ, ◌<◌, ◌-◌, ℤ, pos, ◌≤ℤ◌, ◌<ℤ◌, true, length, get_or}
-use Rattle.std.specs.Prelude.{Contains}
-use Rattle.cps_domain.specs.Window.{within}
 use Rattle.cps_instance.specs.declared.task.Body.{Body}
-use Rattle.cps_propagate.specs.Now.{IsOpenTo}
 use Rattle.cps_p_sequence.specs.Runs.{HasLabels, AllGiven, AllTrue}
 use Rattle.cps_p_sequence.proofs.Keeping.{AreWhole}
 use Rattle.cps_p_sequence.proofs.keep.keep_off_strays.Given as goal

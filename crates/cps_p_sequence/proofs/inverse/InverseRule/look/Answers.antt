@@ -1,4 +1,4 @@
-use Rattle.std.proofs.Common.{◌<◌, ◌^◌, ℤ, List, length, sym, subst, rules, w64}
+use Rattle.std.proofs.Common.{◌<◌, ◌^◌, ℤ, length, sym, subst, rules, w64}
 use Rattle.std.specs.List.{All}
 use Rattle.std.proofs.lemmas.Int.{to_z_pos}
 use Rattle.cps_p_sequence.specs.Inverses.{HasPlace, IsWithinPlaces}
