@@ -18,14 +18,14 @@ use std::marker::Model;
 
 /// The rule of a body `AllDiff`. Contracts see the body. A hint is the ends of a full or of a crowded interval.
 #[derive(Drop)]
-pub struct AllDifferentRule {
+pub struct AllDifferent {
     subjects: Vec<u32>,
     ends: Vec<Interval>,
     finder: Finder,
     settled: Settled,
 }
 
-impl Model for AllDifferentRule {
+impl Model for AllDifferent {
     ghost use Rattle.cps_instance.specs.declared.task.Body.{Body};
     ghost use Rattle.cps_instance.specs.declared.task.Body.TheVariants.{AllDiff};
 
@@ -52,38 +52,45 @@ fn hall_of(hint: Hint) -> Option<Interval>
     if are_ends(&hall) { Some(hall) } else { None }
 }
 
-impl AllDifferentRule {
+impl AllDifferent {
+    ghost use Rattle.cps_instance.specs.declared.task.Body.TheVariants.{AllDiff};
     ghost use Rattle.cps_p_alldiff.specs.Bars.{is_all_diff};
 
-    /// The rule of a body that is `AllDiff`.
-    pub fn new(alloc: Global, body: &Body) -> Result<Self, AllocError>
-        requires { IsTrue (is_all_diff body.now) }
-        ensures { IfOk result (λ rule. rule ≡ body.now) }
+    /// The rule that these subjects have different values.
+    pub fn over(alloc: Global, subjects: &[u32]) -> Result<Self, AllocError>
+        ensures { IfOk result (λ rule. rule ≡ AllDiff subjects.now) }
     {
-        let subjects = match body {
-            Body::AllDiff(subjects) => Vec::from_slice(alloc, subjects.as_slice())?,
-            _ => unreachable!(),
-        };
-        Ok(AllDifferentRule {
-            subjects,
+        Ok(AllDifferent {
+            subjects: Vec::from_slice(alloc, subjects)?,
             ends: Vec::new(alloc),
             finder: Finder::new(alloc),
             settled: Settled::new(alloc),
         })
     }
 
+    /// The rule of a body that is `AllDiff`.
+    pub fn new(alloc: Global, body: &Body) -> Result<Self, AllocError>
+        requires { IsTrue (is_all_diff body.now) }
+        ensures { IfOk result (λ rule. rule ≡ body.now) }
+    {
+        match body {
+            Body::AllDiff(subjects) => AllDifferent::over(alloc, subjects.as_slice()),
+            _ => unreachable!(),
+        }
+    }
+
     /// The propagator of a task whose body is `AllDiff`.
-    pub fn of(alloc: Global, task: &Task) -> Result<Enforced<AllDifferentRule>, AllocError>
+    pub fn of(alloc: Global, task: &Task) -> Result<Enforced<AllDifferent>, AllocError>
         requires { IsTrue (is_all_diff task.now.body) }
         ensures { IfOk result (λ propagator. propagator ≡ task.now) }
     {
-        let rule = AllDifferentRule::new(alloc, &task.body)?;
+        let rule = AllDifferent::new(alloc, &task.body)?;
         let propagator = Enforced::new(alloc, task.enforcement.as_slice(), rule)?;
         Ok(propagator)
     }
 }
 
-impl Rule for AllDifferentRule {
+impl Rule for AllDifferent {
     ghost body = { λ r. r };
 
     fn look(&mut self, store: &Store, found: &mut Vec<Narrowing>) -> Result<Look, AllocError> {

@@ -24,4 +24,4 @@ mod interval;
 mod judge;
 mod settled;
 
-pub use all_different::AllDifferentRule;
+pub use all_different::AllDifferent;

@@ -33,4 +33,4 @@ mod rule;
 mod shown;
 mod tour;
 
-pub use rule::CircuitRule;
+pub use rule::Circuit;

@@ -1,7 +1,7 @@
 //! The rule of circuits: degrees, chains and reachability, and the body itself where all is known.
 
 ghost use Rattle.std.specs.Prelude.{◌≡◌, ◌<◌, ◌++◌, Ok, OnOk, IfOk, All, IfSome, true, map, length, Option};
-ghost use Rattle.cps_instance.specs.declared.task.Body.TheVariants.{Circuit};
+ghost use Rattle.cps_instance.specs.declared.task.Body.TheVariants.{Circuit as CircuitOf};
 ghost use Rattle.cps_instance.specs.Tasks.{atom_subjects};
 ghost use Rattle.cps_p_circuit.specs.Graphs.{number};
 
@@ -24,7 +24,7 @@ use std::alloc::{AllocError, Global};
 
 /// The rule of a circuit.
 #[derive(Drop)]
-pub struct CircuitRule {
+pub struct Circuit {
     alloc: Global,
     graph: Graph,
     links: Links,
@@ -33,10 +33,10 @@ pub struct CircuitRule {
     finder: Finder,
 }
 
-impl CircuitRule {
+impl Circuit {
     ghost use Rattle.std.specs.Prelude.{◌≡◌, ◌<◌, Ok, OnOk, IfOk, IsTrue, All, IfSome, true, None, length};
     ghost use Rattle.cps_instance.specs.Tasks.{atom_subjects};
-    ghost use Rattle.cps_instance.specs.declared.task.Body.TheVariants.{Circuit};
+    ghost use Rattle.cps_instance.specs.declared.task.Body.TheVariants.{Circuit as CircuitOf};
     ghost use Rattle.cps_rule.specs.Rules.{IsExplained, IsRefuted, IsGiven, IsImpossible};
     ghost use Rattle.cps_p_circuit.specs.Clashes.{IsClashOf};
     ghost use Rattle.cps_p_circuit.specs.Showing.{IsShown, body_of, is_circuit_body};
@@ -48,11 +48,11 @@ impl CircuitRule {
         heads: &[i32],
         literals: &[Atom],
     ) -> Result<Self, AllocError>
-        ensures { IfOk result (λ r. body_of r.graph r.literals.items ≡ Circuit tails.now heads.now literals.now) }
+        ensures { IfOk result (λ r. body_of r.graph r.literals.items ≡ CircuitOf tails.now heads.now literals.now) }
     {
         let graph = graph_of(alloc, tails, heads)?;
         let links = Links::of(alloc, &graph)?;
-        Ok(CircuitRule {
+        Ok(Circuit {
             alloc,
             graph,
             links,
@@ -72,7 +72,7 @@ impl CircuitRule {
                 tails,
                 heads,
                 literals,
-            } => CircuitRule::new(
+            } => Circuit::new(
                 alloc,
                 tails.as_slice(),
                 heads.as_slice(),
@@ -83,11 +83,11 @@ impl CircuitRule {
     }
 
     /// The propagator of a task whose body is `Circuit`.
-    pub fn of(alloc: Global, task: &Task) -> Result<Enforced<CircuitRule>, AllocError>
+    pub fn of(alloc: Global, task: &Task) -> Result<Enforced<Circuit>, AllocError>
         requires { IsTrue (is_circuit_body task.now.body) }
         ensures { IfOk result (λ propagator. propagator ≡ task.now) }
     {
-        let rule = CircuitRule::of_body(alloc, &task.body)?;
+        let rule = Circuit::of_body(alloc, &task.body)?;
         let propagator = Enforced::new(alloc, task.enforcement.as_slice(), rule)?;
         Ok(propagator)
     }
@@ -259,7 +259,7 @@ impl CircuitRule {
     }
 }
 
-impl Rule for CircuitRule {
+impl Rule for Circuit {
     ghost use Rattle.std.specs.Prelude.{map};
     ghost use Rattle.cps_instance.specs.declared.task.Body.{Body};
     ghost use Rattle.cps_p_circuit.specs.Showing.{body_of};

@@ -18,7 +18,7 @@ use Rattle.cps_rule.specs.declared.rule.Narrowing.{Narrowing}
 use Rattle.cps_rule.specs.Rules.{IsGiven}
 use Rattle.cps_p_sequence.specs.declared.states.Step.{Step}
 use Rattle.cps_p_sequence.specs.Networks.{IsMarked, IsRising}
-use Rattle.cps_p_sequence.specs.Runs.{CanEnd, AreEnding, AreReached, AreRows, AreTails, AreHeads, AreLabels, IsAlive, HasLabels, HasLabelsOf, AreClosed, IsFollowed, AllGiven, AllTrue, AreFound, IsFrom, IsUpTo, IsDead, IsNarrowed, IsLooked}
+use Rattle.cps_p_sequence.specs.Runs.{CanEnd, AreEnding, AreReached, AreRows, AreTails, AreHeads, AreLabels, IsAlive, HasLabels, HasLabelsOf, AreClosed, IsFollowed, AllGiven, AllTrue, AreFound, IsFrom, IsUpTo, IsNarrowAt, IsDead, IsNarrowed, IsLooked}
 use Rattle.cps_p_sequence.proofs.Finding.{unequal, off_true}
 use Rattle.cps_p_sequence.proofs.Numbering.{unmarked, marked_here, marked_still, marked_before}
 
@@ -236,8 +236,9 @@ module _ (s : Trail) (steps : List Step) (last : List Bool) where
 
     pub found_more : (alphabet : List ℤ) → HasLabelsOf steps alphabet → (old new : List Narrowing)
         → ((b : Body) → HasLabels b s i labels → AllGiven b s old → AllGiven b s new) → (AllTrue s new → AllTrue s old) → (AllTrue s new → ((v : ℤ) → Contains labels v → IsOpenTo s i v) → (v : ℤ) → IsEndNow s i v → Contains labels v) → (AllTrue s new → AreClosed s i alphabet labels)
+        → (AllTrue s new → ((v : ℤ) → Contains labels v → IsOpenTo s i v) → IsNarrowAt s i → (x : ℤ) → IsOpenTo s i x → Contains labels x)
         → AreFound s steps first last is n old → AreFound s steps first last is (n + 1) new
-    found_more alphabet covers old new given kept ends closed p = record {
+    found_more alphabet covers old new given kept ends closed whole p = record {
       given = λ b f. given b (has_labels b f) (p.given b f);
       ends = λ all. record {
         at = λ k v m o h. elim (last_or k n m) [
@@ -248,6 +249,13 @@ module _ (s : Trail) (steps : List Step) (last : List Bool) where
           | inl q ↦ (p.ends (kept all)).labels k t q o c open'
           | inr q ↦ subst (λ (j : ℕ). IsAlive s steps first last is j t.label) (sym q)
               (labels_alive t.label (closed all t.label (All-contains (λ x. Contains alphabet x.label) steps t covers c) (subst (λ (j : ℕ). IsOpenTo s j t.label) (ap (λ (j : ℕ). get_or is j 0) q ∙ sym is-i) open')))
+        ];
+        values = λ k v m o narrow open'. elim (last_or k n m) [
+          | inl q ↦ (p.ends (kept all)).values k v q o narrow open'
+          | inr q ↦
+              let here : get_or is k 0 ≡ i = ap (λ (j : ℕ). get_or is j 0) q ∙ sym is-i in
+              subst (λ (j : ℕ). IsAlive s steps first last is j v) (sym q)
+              (labels_alive v (whole all labels_open (subst (λ (j : ℕ). IsNarrowAt s j) here narrow) v (subst (λ (j : ℕ). IsOpenTo s j v) here open')))
         ];
       };
     }
@@ -261,7 +269,7 @@ module _ (s : Trail) (steps : List Step) (last : List Bool) where
   pub found_begun : (first : ℕ) (is : List ℕ) (found : List Narrowing) → found ≡ [] → AreFound s steps first last is 0 found
   found_begun first is found e = record {
     given = λ b f. subst (λ (ns : List Narrowing). AllGiven b s ns) (sym e) (All-nil (λ (n : Narrowing). IsGiven b s n.target));
-    ends = λ all. record { at = λ k v m o h. absurd (omega arith); labels = λ k t m o c open'. absurd (omega arith) };
+    ends = λ all. record { at = λ k v m o h. absurd (omega arith); labels = λ k t m o c open'. absurd (omega arith); values = λ k v m o narrow open'. absurd (omega arith) };
   }
 
   pub dead_from : (first : ℕ) (is : List ℕ) (ends : List Bool) (found : List Narrowing) → found ≡ [] → get_or ends first false ≡ false → AreEnding s steps last is ends → IsDead s steps first last is found
@@ -389,6 +397,10 @@ pub listed_ends : (s : Trail) (i : ℕ) (labels labels' : List ℤ) (new : List 
     → AllTrue s new → ((v : ℤ) → Contains labels v → IsOpenTo s i v) → (v : ℤ) → IsEndNow s i v → Contains labels v
 listed_ends s i labels labels' new e ends all opens v h =
     subst (λ (vs : List ℤ). Contains vs v) e (ends all (λ x c. opens x (subst (λ (vs : List ℤ). Contains vs x) e c)) v h)
+
+pub whole_at : (s : Trail) (i : ℕ) (labels labels' : List ℤ) (new : List Narrowing) → labels' ≡ labels → (AllTrue s new → ((v : ℤ) → Contains labels' v → IsOpenTo s i v) → IsNarrowAt s i → (x : ℤ) → IsOpenTo s i x → Contains labels' x)
+    → AllTrue s new → ((v : ℤ) → Contains labels v → IsOpenTo s i v) → IsNarrowAt s i → (x : ℤ) → IsOpenTo s i x → Contains labels x
+whole_at s i labels labels' new e whole = subst (λ (vs : List ℤ). AllTrue s new → ((v : ℤ) → Contains vs v → IsOpenTo s i v) → IsNarrowAt s i → (x : ℤ) → IsOpenTo s i x → Contains vs x) e whole
 
 pub empty_is : (labels : List ℤ) → length labels ≡ 0 → labels ≡ []
 empty_is [] e = refl

@@ -1,10 +1,12 @@
 pub mod Inverting
 pub mod Finding
+pub mod Apart
 pub mod Tasks
 pub mod Sorting
 pub mod Numbering
 pub mod Running
 pub mod Layering
+pub mod Keeping
 pub mod Seeing
 pub mod Growing
 pub mod Cutting

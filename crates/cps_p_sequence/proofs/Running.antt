@@ -15,7 +15,7 @@ use Rattle.cps_propagate.specs.Strength.{IsRunNow, HasRuns}
 use Rattle.cps_rule.specs.Rules.{IsAtRest}
 use Rattle.cps_p_sequence.specs.declared.states.Step.{Step}
 use Rattle.cps_p_sequence.specs.Networks.{IsNetwork, IsStepWithin, state_at}
-use Rattle.cps_p_sequence.specs.Runs.{CanEnd, CanReach, IsAlive, IsFollowed, AreEndsAlive}
+use Rattle.cps_p_sequence.specs.Runs.{CanEnd, CanReach, IsAlive, IsFollowed, AreEndsAlive, HasRunsOfAll}
 
 -- where each subject is fixed, what a run may have is what they have
 fixed_labels : (s : Trail) (is : List ℕ) (xs labels : List ℤ) → All (IsFixedNow s) is → AreOpen s xs is → AllZip (IsOpenTo s) is labels → labels ≡ values_at xs is
@@ -157,3 +157,6 @@ module _ (start : ℤ) (finals tails heads labels : List ℤ) (states : List ℤ
 
   pub body_possible : CanEnd s steps last is first → ((values : List ℤ) → IsRunNow s (transitions tails heads labels) finals start is values → ⊥) → ⊥
   body_possible h none = let r = whole_run (transitions tails heads labels) finals start states first last steps net s is h in none r.0 r.1
+
+  pub body_runs : AreEndsAlive s steps first last is (length is) → HasRunsOfAll (Automaton start finals tails heads labels is) s
+  body_runs alive k v l narrow o = run_through (transitions tails heads labels) finals start states first last steps net s is k v l (alive.values k v l l narrow o)

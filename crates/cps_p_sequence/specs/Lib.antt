@@ -1,4 +1,5 @@
 pub mod Inverses
+pub mod Sides
 pub mod Networks
 pub mod Runs
 pub mod Facts

@@ -1,11 +1,13 @@
 -- Where the runs of an automaton may go, position by position.
-use Rattle.std.specs.Prelude.{◌≡◌, ℕ, zero, suc, ◌+◌, ◌<◌, ℤ, ◌≤ℤ◌, Bool, true, false, List, [], ◌∷◌, ◌++◌, length, slice_index_or, drop, All, Contains}
+use Rattle.std.specs.Prelude.{◌≡◌, ℕ, zero, suc, ◌+◌, ◌<◌, ℤ, pos, ◌+ℤ◌, ◌≤ℤ◌, ◌<ℤ◌, Bool, true, false, List, [], ◌∷◌, ◌++◌, length, slice_index_or, drop, All, Contains}
 use Rattle.cps_literal.specs.Truth.{value_at}
+use Rattle.cps_model.specs.Sequences.{transitions}
 use Rattle.cps_instance.specs.declared.task.Body.{Body}
+use Rattle.cps_instance.specs.declared.task.Body.TheVariants.{Automaton}
 use Rattle.cps_instance.specs.Tasks.{HoldsBody}
 use Rattle.cps_trail.specs.Trail.{Trail, IsAdmitted, IsTrueNow}
 use Rattle.cps_propagate.specs.Now.{IsOpenTo}
-use Rattle.cps_propagate.specs.Strength.{IsEndNow}
+use Rattle.cps_propagate.specs.Strength.{IsEndNow, IsRunNow}
 use Rattle.cps_rule.specs.declared.rule.Narrowing.{Narrowing}
 use Rattle.cps_rule.specs.Rules.{IsGiven}
 use Rattle.cps_p_sequence.specs.declared.states.Step.{Step}
@@ -72,6 +74,10 @@ pub record IsFollowed (b : Body) (s : Trail) (steps : List Step) (first : ℕ) (
   pub whole : (xs : List ℤ) → IsAdmitted s.first s.entries xs → HoldsBody b xs → CanEnd s steps last is first
   pub at : (k : ℕ) → k < length is → (xs : List ℤ) → IsAdmitted s.first s.entries xs → HoldsBody b xs → IsAlive s steps first last is k (value_at xs (slice_index_or is k 0))
 
+-- the values that a subject may have now are among fewer than 4,096 numbers, one next to the other
+pub record IsNarrowAt (s : Trail) (i : ℕ) : Type 0 where
+  pub at : (x y : ℤ) → IsOpenTo s i x → IsOpenTo s i y → y <ℤ (x +ℤ pos 4096)
+
 -- each of these atoms is given by the body, and is true now
 abbrev pub AllGiven : Body → Trail → List Narrowing → Type 0
 AllGiven b s found = All (λ n. IsGiven b s n.target) found
@@ -79,10 +85,11 @@ AllGiven b s found = All (λ n. IsGiven b s n.target) found
 abbrev pub AllTrue : Trail → List Narrowing → Type 0
 AllTrue s found = All (λ n. IsTrueNow s n.target) found
 
--- at each of the first n positions the least and the greatest value are labels of a run, and so is each value that is the label of a step
+-- at each of the first n positions the least and the greatest value are labels of a run, and so is each value that is the label of a step and, where they are among few numbers, each value
 pub record AreEndsAlive (s : Trail) (steps : List Step) (first : ℕ) (last : List Bool) (is : List ℕ) (n : ℕ) : Type 0 where
   pub at : (k : ℕ) (v : ℤ) → k < n → k < length is → IsEndNow s (slice_index_or is k 0) v → IsAlive s steps first last is k v
   pub labels : (k : ℕ) (t : Step) → k < n → k < length is → Contains steps t → IsOpenTo s (slice_index_or is k 0) t.label → IsAlive s steps first last is k t.label
+  pub values : (k : ℕ) (v : ℤ) → k < n → k < length is → IsNarrowAt s (slice_index_or is k 0) → IsOpenTo s (slice_index_or is k 0) v → IsAlive s steps first last is k v
 
 -- what is found at the first n positions
 pub record AreFound (s : Trail) (steps : List Step) (first : ℕ) (last : List Bool) (is : List ℕ) (n : ℕ) (found : List Narrowing) : Type 0 where
@@ -118,3 +125,9 @@ IsNarrowed s steps first last is found false = IsDead s steps first last is foun
 abbrev pub IsLooked : Trail → List Step → ℕ → List Bool → List ℕ → List Narrowing → Bool → Type 0
 IsLooked s steps first last is found true = CanEnd s steps last is first × AreFound s steps first last is (length is) found
 IsLooked s steps first last is found false = IsDead s steps first last is found
+
+-- each value of a position whose values are among few numbers is the label there of a run
+abbrev pub HasRunsOfAll : Body → Trail → Type 0
+HasRunsOfAll (Automaton start finals tails heads labels exprs) s = (k : ℕ) (v : ℤ) → k < length exprs → IsNarrowAt s (slice_index_or exprs k 0) → IsOpenTo s (slice_index_or exprs k 0) v
+    → (values : List ℤ) × IsRunNow s (transitions tails heads labels) finals start exprs values × (slice_index_or values k (pos 0) ≡ v)
+HasRunsOfAll _ s = Unit {0}

@@ -16,7 +16,7 @@ use std::marker::Model;
 
 /// The rule of a body `Automaton`. Contracts see the body. A hint says nothing.
 #[derive(Drop)]
-pub struct AutomatonRule {
+pub struct Automaton {
     alloc: Global,
     start: i64,
     finals: Vec<i64>,
@@ -37,23 +37,23 @@ pub struct AutomatonRule {
     room: Room,
 }
 
-impl Model for AutomatonRule {
+impl Model for Automaton {
     ghost use Rattle.cps_model.specs.Sequences.{transitions};
     ghost use Rattle.cps_instance.specs.declared.task.Body.{Body};
-    ghost use Rattle.cps_instance.specs.declared.task.Body.TheVariants.{Automaton};
+    ghost use Rattle.cps_instance.specs.declared.task.Body.TheVariants.{Automaton as AutomatonOf};
     ghost use Rattle.cps_p_sequence.specs.Networks.{IsNetwork};
     ghost use Rattle.cps_p_sequence.specs.Runs.{HasLabelsOf};
 
     ghost Value = { Body };
 
-    ghost view = { λ r. Automaton r.start r.finals.items r.tails.items r.heads.items r.labels.items r.exprs.items };
+    ghost view = { λ r. AutomatonOf r.start r.finals.items r.tails.items r.heads.items r.labels.items r.exprs.items };
 
     ghost invariant = { λ r. IsNetwork
         (transitions r.tails.items r.heads.items r.labels.items) r.finals.items r.start r.states.items
         r.first r.last.items r.steps.items × HasLabelsOf r.steps.items r.alphabet.items };
 }
 
-impl AutomatonRule {
+impl Automaton {
     ghost use Rattle.cps_instance.specs.declared.task.Body.TheVariants.{Automaton as AutomatonOf};
     ghost use Rattle.cps_p_sequence.specs.Networks.{is_automaton};
 
@@ -84,7 +84,7 @@ impl AutomatonRule {
         sort_by_label(&mut numbered);
         let mut alphabet = Vec::from_slice(alloc, steps.2)?;
         make_distinct(&mut alphabet);
-        Ok(AutomatonRule {
+        Ok(Automaton {
             alloc,
             start,
             finals: own_finals,
@@ -116,27 +116,42 @@ impl AutomatonRule {
                 exprs,
             } => {
                 let steps = (tails.as_slice(), heads.as_slice(), labels.as_slice());
-                AutomatonRule::over(alloc, *start, finals.as_slice(), steps, exprs.as_slice())
+                Automaton::over(alloc, *start, finals.as_slice(), steps, exprs.as_slice())
             }
             _ => unreachable!(),
         }
     }
 
     /// The propagator of a task whose body is `Automaton`.
-    pub fn of(alloc: Global, task: &Task) -> Result<Enforced<AutomatonRule>, AllocError>
+    pub fn of(alloc: Global, task: &Task) -> Result<Enforced<Automaton>, AllocError>
         requires { IsTrue (is_automaton task.now.body) }
         ensures { IfOk result (λ propagator. propagator ≡ task.now) }
     {
-        let rule = AutomatonRule::new(alloc, &task.body)?;
+        let rule = Automaton::new(alloc, &task.body)?;
         let propagator = Enforced::new(alloc, task.enforcement.as_slice(), rule)?;
         Ok(propagator)
     }
 }
 
-impl Rule for AutomatonRule {
+impl Rule for Automaton {
+    ghost use Rattle.std.specs.Prelude.{◌≡◌, Ok, OnOk, IfOk, All};
+    ghost use Rattle.cps_trail.specs.Trail.{IsTrueNow};
+    ghost use Rattle.cps_rule.specs.Rules.{IsFittingRule, IsGiven, IsSeen, IsAtRest};
+    ghost use Rattle.cps_p_sequence.specs.Runs.{HasRunsOfAll};
+
     ghost body = { λ r. r };
 
-    fn look(&mut self, store: &Store, found: &mut Vec<Narrowing>) -> Result<Look, AllocError> {
+    fn look(&mut self, store: &Store, found: &mut Vec<Narrowing>) -> Result<Look, AllocError>
+        requires fits { IsFittingRule store.now.first self.old }
+        ensures keeps { self.new ≡ self.old }
+        ensures given { OnOk result (All (λ n. IsGiven self.old store.now n.target) found.new.items) }
+        ensures seen { IfOk result (IsSeen self.old store.now) }
+        ensures rest { result ≡ Ok Look.Possible → All (λ n. IsTrueNow store.now n.target) found.new.items →
+            IsAtRest self.old store.now }
+        // beyond what is asked of the kind at rest
+        ensures runs { result ≡ Ok Look.Possible → All (λ n. IsTrueNow store.now n.target) found.new.items →
+            HasRunsOfAll self.old store.now }
+    {
         let last = self.last.as_slice();
         let steps = self.steps.as_slice();
         let alphabet = self.alphabet.as_slice();

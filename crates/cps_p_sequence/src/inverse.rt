@@ -1,4 +1,8 @@
 //! The rule of two lists that are each other's inverse.
+//!
+//! Value by value: a position may have a number exactly where that number's position in the other list may have its
+//! own. So both lists mirror each other. Beside that the values of each list differ, and the intervals that they fill
+//! are left to them (`Sides`); that says more than the mirror where several positions share several numbers.
 ghost use Rattle.std.specs.Prelude.{◌≡◌, ◌<◌, ℤ, pos, ◌≤ℤ◌, ◌<ℤ◌, true, List, length, Contains, All, OnOk, IfOk, IsTrue};
 ghost use Rattle.cps_literal.specs.Truth.{meets};
 ghost use Rattle.cps_instance.specs.declared.task.Body.{Body as BodyOf};
@@ -7,6 +11,7 @@ ghost use Rattle.cps_propagate.specs.Now.{IsOpenTo};
 ghost use Rattle.cps_rule.specs.Rules.{IsExplained};
 ghost use Rattle.cps_p_sequence.specs.Inverses.{AreGiven, AreTrue, HasPlace, IsMatched, ArePaired, AllPaired, IsWithinPlaces, AreMirroredAt, AreMirrored};
 
+use crate::sides::{Sides, is_possible};
 use cps_enforce::Enforced;
 use cps_instance::{Body, Task};
 use cps_literal::{Atom, Op, Truth};
@@ -15,20 +20,25 @@ use cps_trail::{Before, Store};
 use std::alloc::{AllocError, Global};
 use std::marker::Model;
 
-/// The rule of a body `Inverse`. Contracts see the body. A hint says nothing.
+/// The rule of a body `Inverse`. Contracts see the body. A hint is the ends of an interval that is full or crowded in
+/// one of the lists, or of none.
 #[derive(Drop)]
-pub struct InverseRule {
+pub struct Inverse {
     direct: Vec<u32>,
     inverse: Vec<u32>,
+    sides: Sides,
 }
 
-impl Model for InverseRule {
+impl Model for Inverse {
     ghost use Rattle.cps_instance.specs.declared.task.Body.{Body};
-    ghost use Rattle.cps_instance.specs.declared.task.Body.TheVariants.{Inverse};
+    ghost use Rattle.cps_instance.specs.declared.task.Body.TheVariants.{Inverse as InverseOf};
+    ghost use Rattle.cps_p_sequence.specs.Sides.{AreSides};
 
     ghost Value = { Body };
 
-    ghost view = { λ r. Inverse r.direct.items r.inverse.items };
+    ghost view = { λ r. InverseOf r.direct.items r.inverse.items };
+
+    ghost invariant = { λ r. AreSides r.direct.items r.inverse.items r.sides.direct r.sides.inverse };
 }
 
 /// A position of one of the lists, by its subject and its number there.
@@ -38,13 +48,13 @@ struct Position {
     number: i64,
 }
 
-/// An atom that is given, with a hint that says nothing.
+/// An atom that is given, with the hint of no interval.
 fn given(target: Atom) -> Narrowing
     ensures { result.target ≡ target }
 {
     Narrowing {
         target,
-        hint: Hint { a: 0, b: 0 },
+        hint: Hint { a: 0, b: -1 },
     }
 }
 
@@ -263,7 +273,9 @@ fn explain_from(
     Ok(false)
 }
 
-impl InverseRule {
+impl Inverse {
+    ghost use Rattle.std.specs.Prelude.{◌≡◌, Ok, true, IfOk, IsTrue};
+    ghost use Rattle.cps_rule.specs.Rules.{IsFittingRule, IsExplained};
     ghost use Rattle.cps_p_sequence.specs.Inverses.{is_inverse};
 
     /// The rule of a body that is `Inverse`.
@@ -272,46 +284,36 @@ impl InverseRule {
         ensures { IfOk result (λ rule. rule ≡ body.now) }
     {
         match body {
-            Body::Inverse { direct, inverse } => Ok(InverseRule {
+            Body::Inverse { direct, inverse } => Ok(Inverse {
                 direct: Vec::from_slice(alloc, direct.as_slice())?,
                 inverse: Vec::from_slice(alloc, inverse.as_slice())?,
+                sides: Sides::new(alloc, direct.as_slice(), inverse.as_slice())?,
             }),
             _ => unreachable!(),
         }
     }
 
     /// The propagator of a task whose body is `Inverse`.
-    pub fn of(alloc: Global, task: &Task) -> Result<Enforced<InverseRule>, AllocError>
+    pub fn of(alloc: Global, task: &Task) -> Result<Enforced<Inverse>, AllocError>
         requires { IsTrue (is_inverse task.now.body) }
         ensures { IfOk result (λ propagator. propagator ≡ task.now) }
     {
-        let rule = InverseRule::new(alloc, &task.body)?;
+        let rule = Inverse::new(alloc, &task.body)?;
         let propagator = Enforced::new(alloc, task.enforcement.as_slice(), rule)?;
         Ok(propagator)
     }
-}
 
-impl Rule for InverseRule {
-    ghost body = { λ r. r };
-
-    fn look(&mut self, store: &Store, found: &mut Vec<Narrowing>) -> Result<Look, AllocError> {
-        found.clear();
-        let direct = self.direct.as_slice();
-        let inverse = self.inverse.as_slice();
-        let count = direct.len() as i64;
-        keep_within(store, direct, count, found)?;
-        keep_within(store, inverse, count, found)?;
-        mirror(store, direct, inverse, found)?;
-        Ok(Look::Possible)
-    }
-
-    fn explain(
+    /// Puts the fact of the other list that gives an atom in the place of what a list holds, or none where the number
+    /// of places gives it. Answers false where neither does.
+    fn explain_mirrored(
         &self,
         past: &Before,
         target: Atom,
-        _hint: Hint,
         facts: &mut Vec<Atom>,
-    ) -> Result<bool, AllocError> {
+    ) -> Result<bool, AllocError>
+        requires fits { IsFittingRule past.now.first self.now }
+        ensures { result ≡ Ok true → IsExplained self.now past.now target facts.new.items }
+    {
         let direct = self.direct.as_slice();
         let inverse = self.inverse.as_slice();
         facts.clear();
@@ -334,15 +336,57 @@ impl Rule for InverseRule {
             }
         }
     }
+}
 
-    fn refute(
+impl Rule for Inverse {
+    ghost use Rattle.std.specs.Prelude.{◌≡◌, Ok, OnOk, IfOk, All};
+    ghost use Rattle.cps_trail.specs.Trail.{IsTrueNow};
+    ghost use Rattle.cps_rule.specs.Rules.{IsFittingRule, IsGiven, IsSeen, IsAtRest};
+    ghost use Rattle.cps_p_sequence.specs.Sides.{HasRoomOnEachSide};
+
+    ghost body = { λ r. r };
+
+    fn look(&mut self, store: &Store, found: &mut Vec<Narrowing>) -> Result<Look, AllocError>
+        requires fits { IsFittingRule store.now.first self.old }
+        ensures keeps { self.new ≡ self.old }
+        ensures given { OnOk result (All (λ n. IsGiven self.old store.now n.target) found.new.items) }
+        ensures seen { IfOk result (IsSeen self.old store.now) }
+        ensures rest { result ≡ Ok Look.Possible → All (λ n. IsTrueNow store.now n.target) found.new.items →
+            IsAtRest self.old store.now }
+        // beyond what is asked of the kind at rest
+        ensures room { result ≡ Ok Look.Possible → All (λ n. IsTrueNow store.now n.target) found.new.items →
+            HasRoomOnEachSide self.old store.now }
+    {
+        let judged = self.sides.look(store, found)?;
+        if !is_possible(&judged) {
+            return Ok(judged);
+        }
+        let direct = self.direct.as_slice();
+        let inverse = self.inverse.as_slice();
+        let count = direct.len() as i64;
+        keep_within(store, direct, count, found)?;
+        keep_within(store, inverse, count, found)?;
+        mirror(store, direct, inverse, found)?;
+        Ok(Look::Possible)
+    }
+
+    fn explain(
         &self,
-        _past: &Before,
-        _hint: Hint,
-        _facts: &mut Vec<Atom>,
+        past: &Before,
+        target: Atom,
+        hint: Hint,
+        facts: &mut Vec<Atom>,
     ) -> Result<bool, AllocError> {
-        let _ = &self.direct;
-        Ok(false)
+        if self.explain_mirrored(past, target, facts)? {
+            return Ok(true);
+        }
+        let known = self.sides.explain(past, target, hint, facts)?;
+        Ok(known)
+    }
+
+    fn refute(&self, past: &Before, hint: Hint, facts: &mut Vec<Atom>) -> Result<bool, AllocError> {
+        let is_refuted = self.sides.refute(past, hint, facts)?;
+        Ok(is_refuted)
     }
 
     fn push_subjects(&self, subjects: &mut Vec<u32>) -> Result<(), AllocError> {

@@ -3,16 +3,13 @@
 //! state of the one row and one of the other, where its label is open; only labels of such steps stay. This is the
 //! layered graph of G. Pesant, "A regular language membership constraint for finite sequences of variables" (CP
 //! 2004), with rows of marks in place of lists of arcs.
-ghost use Rattle.std.specs.Prelude.{◌≡◌, ◌↔◌, ◌-◌, ◌<◌, ◌≤◌, ℕ, ℤ, ◌≤ℤ◌, false, length, drop, slice_index_or, Contains, All, OnOk, IfOk, IsTrue};
-ghost use Rattle.cps_instance.specs.declared.task.Body.{Body as BodyOf};
-ghost use Rattle.cps_propagate.specs.Now.{IsOpenTo};
-ghost use Rattle.cps_propagate.specs.Strength.{IsEndNow};
+ghost use Rattle.std.specs.Prelude.{◌≡◌, ◌↔◌, ◌-◌, ◌<◌, ◌≤◌, ℕ, false, length, drop, slice_index_or, Contains, All, OnOk, IfOk, IsTrue};
 ghost use Rattle.cps_p_sequence.specs.Networks.{IsRising, IsStepWithin, IsMarked};
-ghost use Rattle.cps_p_sequence.specs.Runs.{AreTails, AreHeads, AreLabels, AreEnding, AreReached, AreRows, HasLabels, HasLabelsOf, AreClosed, IsFrom, IsUpTo, AllGiven, AllTrue, IsNarrowed, IsLooked};
+ghost use Rattle.cps_p_sequence.specs.Runs.{AreTails, AreHeads, AreLabels, AreEnding, AreReached, AreRows, HasLabelsOf, IsNarrowed, IsLooked};
 
-use crate::states::{Step, blank, is_listed, make_distinct};
-use cps_literal::{Atom, Op};
-use cps_rule::{Hint, Narrowing};
+use crate::keep::{is_open, keep_labels};
+use crate::states::{Step, blank, make_distinct};
+use cps_rule::Narrowing;
 use cps_trail::Store;
 use std::alloc::{AllocError, Global};
 use std::mem::swap;
@@ -60,14 +57,6 @@ impl Room {
 pub(crate) struct Position<'a> {
     pub(crate) subject: u32,
     pub(crate) steps: &'a [Step],
-}
-
-/// Whether a subject may have a value.
-fn is_open(store: &Store, subject: u32, value: i64) -> bool
-    requires { subject < length store.now.first }
-    ensures { IsTrue result ↔ IsOpenTo store.now subject value }
-{
-    store.domain(subject).contains(value)
 }
 
 /// The states from which an open step leads to a marked one.
@@ -153,143 +142,16 @@ fn put_labels(
         if !heads[step.head] {
             continue;
         }
-        if !is_open(store, position.subject, step.label) {
+        // steps with one label stand side by side, and it is asked about once
+        if is_last_label(labels, step.label) {
             continue;
         }
-        if is_last_label(labels, step.label) {
+        if !is_open(store, position.subject, step.label) {
             continue;
         }
         labels.push(step.label)?;
     }
     make_distinct(labels);
-    Ok(())
-}
-
-/// An atom that is given, with a hint that says nothing.
-fn given(subject: u32, op: Op, value: i64) -> Narrowing
-    ensures subject { result.target.subject ≡ subject }
-    ensures op { result.target.op ≡ op }
-    ensures value { result.target.value ≡ value }
-{
-    Narrowing {
-        target: Atom { subject, op, value },
-        hint: Hint { a: 0, b: 0 },
-    }
-}
-
-/// Adds what keeps a subject's values from a number on.
-fn keep_from(
-    store: &Store,
-    subject: u32,
-    least: i64,
-    found: &mut Vec<Narrowing>,
-) -> Result<(), AllocError>
-    requires { subject < length store.now.first }
-    ensures given { OnOk result ((b : BodyOf) → IsFrom b store.now subject least →
-        AllGiven b store.now found.old.items → AllGiven b store.now found.new.items) }
-    ensures kept { OnOk result (AllTrue store.now found.new.items → AllTrue store.now found.old.items) }
-    ensures from { OnOk result (AllTrue store.now found.new.items → (x : ℤ) →
-        IsOpenTo store.now subject x → least ≤ℤ x) }
-{
-    if least <= store.domain(subject).min() {
-        return Ok(());
-    }
-    found.push(given(subject, Op::Ge, least))?;
-    Ok(())
-}
-
-/// Adds what keeps a subject's values up to a number.
-fn keep_up_to(
-    store: &Store,
-    subject: u32,
-    greatest: i64,
-    found: &mut Vec<Narrowing>,
-) -> Result<(), AllocError>
-    requires { subject < length store.now.first }
-    ensures given { OnOk result ((b : BodyOf) → IsUpTo b store.now subject greatest →
-        AllGiven b store.now found.old.items → AllGiven b store.now found.new.items) }
-    ensures kept { OnOk result (AllTrue store.now found.new.items → AllTrue store.now found.old.items) }
-    ensures up_to { OnOk result (AllTrue store.now found.new.items → (x : ℤ) →
-        IsOpenTo store.now subject x → x ≤ℤ greatest) }
-{
-    if store.domain(subject).max() <= greatest {
-        return Ok(());
-    }
-    found.push(given(subject, Op::Le, greatest))?;
-    Ok(())
-}
-
-/// Adds what keeps a subject's values between the first and the last of its labels.
-fn keep_ends(
-    store: &Store,
-    subject: u32,
-    labels: &[i64],
-    found: &mut Vec<Narrowing>,
-) -> Result<(), AllocError>
-    requires subject { subject < length store.now.first }
-    requires some { 0 < length labels.now }
-    requires rising { IsRising labels.now }
-    ensures given { OnOk result ((b : BodyOf) → HasLabels b store.now subject labels.now →
-        AllGiven b store.now found.old.items → AllGiven b store.now found.new.items) }
-    ensures kept { OnOk result (AllTrue store.now found.new.items → AllTrue store.now found.old.items) }
-    ensures ends { OnOk result (AllTrue store.now found.new.items → ((v : ℤ) → Contains labels.now v →
-        IsOpenTo store.now subject v) → (v : ℤ) → IsEndNow store.now subject v → Contains labels.now v) }
-{
-    keep_from(store, subject, labels[0], found)?;
-    keep_up_to(store, subject, labels[labels.len() - 1], found)?;
-    Ok(())
-}
-
-/// Adds what keeps a subject off the labels of an alphabet that are none of its own.
-fn keep_off_others(
-    store: &Store,
-    subject: u32,
-    alphabet: &[i64],
-    labels: &[i64],
-    found: &mut Vec<Narrowing>,
-) -> Result<(), AllocError>
-    requires subject { subject < length store.now.first }
-    requires rising { IsRising labels.now }
-    ensures given { OnOk result ((b : BodyOf) → HasLabels b store.now subject labels.now →
-        AllGiven b store.now found.old.items → AllGiven b store.now found.new.items) }
-    ensures kept { OnOk result (AllTrue store.now found.new.items → AllTrue store.now found.old.items) }
-    ensures closed { OnOk result (AllTrue store.now found.new.items →
-        AreClosed store.now subject alphabet.now labels.now) }
-{
-    for label in alphabet {
-        if is_listed(labels, *label) {
-            continue;
-        }
-        if !is_open(store, subject, *label) {
-            continue;
-        }
-        found.push(given(subject, Op::Ne, *label))?;
-    }
-    Ok(())
-}
-
-/// Adds what keeps a subject between the first and the last of its labels, and off those of an alphabet that are none
-/// of its own.
-fn keep_labels(
-    store: &Store,
-    subject: u32,
-    alphabet: &[i64],
-    labels: &[i64],
-    found: &mut Vec<Narrowing>,
-) -> Result<(), AllocError>
-    requires subject { subject < length store.now.first }
-    requires some { 0 < length labels.now }
-    requires rising { IsRising labels.now }
-    ensures given { OnOk result ((b : BodyOf) → HasLabels b store.now subject labels.now →
-        AllGiven b store.now found.old.items → AllGiven b store.now found.new.items) }
-    ensures kept { OnOk result (AllTrue store.now found.new.items → AllTrue store.now found.old.items) }
-    ensures ends { OnOk result (AllTrue store.now found.new.items → ((v : ℤ) → Contains labels.now v →
-        IsOpenTo store.now subject v) → (v : ℤ) → IsEndNow store.now subject v → Contains labels.now v) }
-    ensures closed { OnOk result (AllTrue store.now found.new.items →
-        AreClosed store.now subject alphabet.now labels.now) }
-{
-    keep_ends(store, subject, labels, found)?;
-    keep_off_others(store, subject, alphabet, labels, found)?;
     Ok(())
 }
 

@@ -11,4 +11,6 @@ mod lists;
 #[cfg(test)]
 mod runs;
 #[cfg(test)]
+mod sequences;
+#[cfg(test)]
 mod stores;

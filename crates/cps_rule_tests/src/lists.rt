@@ -8,7 +8,7 @@ use crate::stores::Ends;
 use cps_enforce::Enforced;
 use cps_instance::{Body, Task};
 use cps_model::Listed;
-use cps_p_alldiff::AllDifferentRule;
+use cps_p_alldiff::AllDifferent;
 use std::alloc::{AllocError, Global};
 use std::test::Fail;
 
@@ -20,7 +20,7 @@ struct Row<'a> {
 }
 
 /// The propagator of three subjects that all differ.
-fn all_different(alloc: Global) -> Result<Enforced<AllDifferentRule>, AllocError>
+fn all_different(alloc: Global) -> Result<Enforced<AllDifferent>, AllocError>
     ensures { IfOk result (λ propagator. IsPlain propagator) }
 {
     let exprs = Listed::from_vec(Vec::from_slice(alloc, &[0, 1, 2])?);
@@ -28,7 +28,7 @@ fn all_different(alloc: Global) -> Result<Enforced<AllDifferentRule>, AllocError
         enforcement: Listed::new(alloc),
         body: Body::AllDiff(exprs),
     };
-    let propagator = AllDifferentRule::of(alloc, &task)?;
+    let propagator = AllDifferent::of(alloc, &task)?;
     Ok(propagator)
 }
 

@@ -1,7 +1,7 @@
 use Rattle.std.proofs.Common.{◌≡◌, ◌+◌, ◌-◌, ℕ, List, Bool, length, take, drop, get_or, refl, sym, ◌∙◌, ap, subst, arith, rules, vec_len}
 use Rattle.cps_p_sequence.specs.Networks.{IsStepWithin}
 use Rattle.cps_p_sequence.specs.Runs.{AreRows}
-use Rattle.cps_p_sequence.proofs.Layering.{top_of, reached_begun, reached_more, found_begun, found_more, dead_by, labels_at, heads_at, given_at, listed_ends, empty_is}
+use Rattle.cps_p_sequence.proofs.Layering.{top_of, reached_begun, reached_more, found_begun, found_more, dead_by, labels_at, heads_at, given_at, listed_ends, whole_at, empty_is}
 use Rattle.cps_p_sequence.proofs.layers.narrow.Goals as goal
 
 pub loop-subject-init : goal.loop-subject-init
@@ -90,6 +90,7 @@ loop-subject-preserved c =
           c.in_ok-keep_labels.ensures.kept
           (listed_ends s i c.put_labels.new.labels.items c.as_slice-kept.result.now c.keep_labels.new.found.items c.as_slice-kept.ensures.value c.in_ok-keep_labels.ensures.ends)
           (rw c.as_slice-kept.ensures.value at c.in_ok-keep_labels.ensures.closed)
+          (whole_at s i c.put_labels.new.labels.items c.as_slice-kept.result.now c.keep_labels.new.found.items c.as_slice-kept.ensures.value c.in_ok-keep_labels.ensures.whole)
           c.loop-subject.invariant.found;
     }
 
@@ -97,4 +98,4 @@ pub returns : goal.returns
 returns c =
     let f = c.loop-subject.invariant.found in
     let past = c.loop-subject-test.false in
-    record { given = f.given; ends = λ all. record { at = λ k v l m h. (f.ends all).at k v (omega arith) m h; labels = λ k t l m h o. (f.ends all).labels k t (omega arith) m h o } }
+    record { given = f.given; ends = λ all. record { at = λ k v l m h. (f.ends all).at k v (omega arith) m h; labels = λ k t l m h o. (f.ends all).labels k t (omega arith) m h o; values = λ k v l m narrow o. (f.ends all).values k v (omega arith) m narrow o } }

@@ -1,7 +1,0 @@
-use Rattle.std.specs.Prelude.{All}
-use Rattle.cps_rule.specs.Rules.{IsGiven}
-use Rattle.cps_p_circuit.specs.Showing.{body_by}
-use Rattle.cps_p_circuit.proofs.rule.CircuitRule.gather.Given as goal
-
-abbrev pub invariant-loop-k : goal.invariant-loop-k
-invariant-loop-k l = All (λ n. IsGiven (body_by l.self.graph.nodes.items l.self.graph.from.items l.self.graph.to.items l.self.literals.items) l.store n.target) l.found.items

@@ -1,0 +1,17 @@
+use Rattle.std.proofs.Common.{Ok, ap}
+use Rattle.cps_p_circuit.specs.Showing.{AreTaken}
+use Rattle.cps_p_circuit.proofs.Arcs.{not_both}
+use Rattle.cps_p_circuit.proofs.Showing.{rest_round, not_round}
+use Rattle.cps_p_circuit.proofs.rule.CircuitRule.look.Goals as goal
+
+pub returns-then-branch-3-clause-rest : goal.returns-then-branch-3-clause-rest
+returns-then-branch-3-clause-rest c = λ ok all.
+    (let g = c.args.self.now.graph in
+    let taken : AreTaken c.args.store.now c.args.self.now.literals.items c.as_slice-then-branch-2.result.now = rw c.as_slice-then-branch-2.ensures.value (rw c.as_slice-2.ensures.value at (c.in_ok-read_taken.ensures.yes (ap Ok c.if-branch-2.true))) in
+    rest_round c.args.store.now g.nodes.items g.from.items g.to.items c.args.self.now.literals.items c.as_slice-then-branch-2.result.now taken (c.in_ok-is_round.ensures.0 c.if-branch-3.true))
+
+pub returns-then-branch-2-clause-seen : goal.returns-then-branch-2-clause-seen
+returns-then-branch-2-clause-seen c =
+    let g = c.args.self.now.graph in
+    let taken : AreTaken c.args.store.now c.args.self.now.literals.items c.as_slice-then-branch-2.result.now = rw c.as_slice-then-branch-2.ensures.value (rw c.as_slice-2.ensures.value at (c.in_ok-read_taken.ensures.yes (ap Ok c.if-branch-2.true))) in
+    not_round c.args.store.now g.nodes.items g.from.items g.to.items c.args.self.now.literals.items c.as_slice-then-branch-2.result.now c.requires.fits.subjects taken (λ round. not_both _ (c.in_ok-is_round.ensures.1 round) c.if-branch-3.false)

@@ -1,5 +1,0 @@
-use Rattle.cps_p_circuit.proofs.Showing.{explained}
-use Rattle.cps_p_circuit.proofs.rule.CircuitRule.reason.Goals as goal
-
-pub returns : goal.returns
-returns c = λ ok. explained _ c.args.past.now c.args.target c.negate-denied.result _ c.negate-denied.ensures.subject c.negate-denied.ensures.negated (c.show.ensures ok)
