@@ -1,5 +1,6 @@
 //! The port of one worker over the two shared tables.
 ghost use Rattle.std.specs.Prelude.{◌≡◌};
+ghost use Rattle.cps_board.specs.Rows as board_rows;
 ghost use Rattle.cps_board.specs.Seats as boards;
 ghost use Rattle.cps_bounds.specs.Seats as words;
 
@@ -37,6 +38,8 @@ impl<'a> TablePort<'a> {
         ensures other_tables { (result.board.now ≡ self.old.board.now) × (result.bounds.now ≡ self.old.bounds.now) }
         ensures part { words.part_of self.new.bounds_seat ≡ words.part_of self.old.bounds_seat }
         ensures other_part { words.part_of result.bounds_seat ≡ newly (words.part_of self.old.bounds_seat) }
+        ensures seat { boards.part_of self.new.board_seat ≡ boards.part_of self.old.board_seat }
+        ensures other_seat { boards.part_of result.board_seat ≡ board_rows.newly (boards.part_of self.old.board_seat) }
         ensures board_splits { boards.splits_of self.new.board_seat ≡ boards.splits_of self.old.board_seat - boards.splits_of self.old.board_seat / 2 }
         ensures splits { words.splits_of self.new.bounds_seat ≡ words.splits_of self.old.bounds_seat - words.splits_of self.old.bounds_seat / 2 }
         ensures other_splits { words.splits_of result.bounds_seat ≡ words.splits_of self.old.bounds_seat / 2 }
@@ -54,6 +57,8 @@ impl<'a> TablePort<'a> {
         requires { (other.board.now ≡ self.old.board.now) × (other.bounds.now ≡ self.old.bounds.now) }
         ensures tables { (self.new.board.now ≡ self.old.board.now) × (self.new.bounds.now ≡ self.old.bounds.now) }
         ensures part { words.part_of self.new.bounds_seat ≡ both_parts (words.part_of self.old.bounds_seat) (words.part_of other.entry.bounds_seat) }
+        ensures seat { boards.part_of self.new.board_seat
+            ≡ board_rows.both_parts (boards.part_of self.old.board_seat) (boards.part_of other.entry.board_seat) }
         ensures splits { words.splits_of self.new.bounds_seat ≡ min (words.splits_of self.old.bounds_seat + words.splits_of other.entry.bounds_seat) all_splits }
     {
         let TablePort {
