@@ -1,4 +1,5 @@
-"""Random models through protobuf's printers and `cpsolve print`, and back: each must be the same model."""
+"""Random models through protobuf's printers and `cpsolve print`, and back: each must be the same model. With a field that is
+closed, each must be refused at that field's name."""
 import random
 import subprocess
 import sys
@@ -75,6 +76,8 @@ DRAWN = {
     },
     "no_overlap_2d": {"x_intervals": references, "y_intervals": references},
 }
+# The fields of a model that no worker serves: a model with one is refused. One that is opened is drawn like the others.
+CLOSED = ["assumptions"]
 LITERALS = ["bool_or", "bool_and", "bool_xor", "at_most_one", "exactly_one"]
 
 
@@ -126,7 +129,17 @@ def model(rng):
         made.solution_hint.SetInParent()
         made.solution_hint.vars.extend(references(rng))
         made.solution_hint.values.extend(wholes(rng))
+    if "assumptions" not in CLOSED:
+        made.assumptions.extend(references(rng))
     return made
+
+
+def closed_model(rng, made, name):
+    """The model with a field that is closed, which holds a list of references."""
+    more = pb.CpModelProto()
+    more.CopyFrom(made)
+    getattr(more, name).extend(references(rng) + [rng.randint(-3, 2)])
+    return more
 
 
 def meant(made):
@@ -167,6 +180,13 @@ def check(program, protoc, made, text, what):
     assert (code, again) == (0, ours), (what, ours, again)
 
 
+def check_refused(program, text, name, what):
+    """No word of a drawn model is the name of a closed field, so the field stands where its name first does."""
+    fault = b"status: MODEL_INVALID\n# field fault Unsupported at byte %d\n" % text.index(name.encode())
+    assert run([program, "print"], text) == (1, fault), (what, text)
+    assert run([program, "validate"], text) == (1, fault), (what, text)
+
+
 def main():
     here, count = sys.argv[1], int(sys.argv[2])
     program = here + "/cpsolve"
@@ -178,7 +198,10 @@ def main():
         code, text = run(protoc + ["--decode=operations_research.sat.CpModelProto"], made.SerializeToString())
         assert code == 0, seed
         check(program, protoc, made, text, ("protoc", seed))
+        for name in CLOSED:
+            check_refused(program, printed(rng, closed_model(rng, made, name)).encode(), name, (name, seed))
     print(count, "models, each as python's and as protoc's printer writes it: the same model both ways")
+    print(count * len(CLOSED), "models with a closed field: refused at its name")
 
 
 main()
