@@ -1,5 +1,5 @@
 -- What a base is after it dropped learnt clauses.
-use Rattle.std.proofs.Common.{ℕ, suc, ◌+◌, ◌-◌, ◌≤◌, ◌<◌, ◌≡◌, ◌≢◌, ◌⊎◌, Bool, true, false, Option, Some, None, List, [], ◌∷◌, ◌++◌, length, take, get_or, map, refl, sym, ◌∙◌, ap, subst, inl, inr, arith}
+use Rattle.std.proofs.Common.{ℕ, suc, ◌-◌, ◌≤◌, ◌<◌, ◌≡◌, ◌≢◌, ◌⊎◌, Bool, true, false, Option, None, List, [], ◌∷◌, ◌++◌, length, take, get_or, map, refl, sym, ◌∙◌, ap, subst, inl, inr, arith}
 use Rattle.std.specs.Prelude.{AllPairs}
 use Rattle.std.specs.List.{All, Contains}
 use Rattle.std.proofs.lemmas.List.{append_assoc, append-nil, get_or_default, get_or-set_other, get_or-take, length-take-le, take_all}
@@ -16,7 +16,7 @@ use Rattle.cps_clauses.specs.Journals.{count_standing, standing_in, drops, IsHon
 use Rattle.cps_clauses.specs.Quiet.{IsQuiet, IsQuietAfter}
 use Rattle.cps_clauses.specs.Watches.{clause_of, slot_of, IsWatching, HasRoom, list_at}
 use Rattle.cps_clauses.specs.Bases.{Base, IsSoundBase, IsStored, in_force_of, number_at}
-use Rattle.cps_clauses.specs.Forgets.{MayGo, GoesFirst, AreInTurn, Forgets, IsNamed, without, learnt_clause, learnt_in_force}
+use Rattle.cps_clauses.specs.Forgets.{MayGo, GoesFirst, AreInTurn, Forgets, HasForgotten, IsNamed, without, learnt_clause, learnt_in_force}
 use Rattle.cps_clauses.proofs.Honesty.{IsHonest-push, standing_in-push}
 use Rattle.cps_clauses.proofs.Dropping.{all_held, at_held, blanked_dropped, blanked_kept, length-blanked, length-marked, marked_below, marked_keeps, marked_only}
 use Rattle.cps_clauses.proofs.Numbering.{unset, standing_in-drops, count_unset, numbered_in_force, numbered_dropped, number_of_some, emptied_is}
@@ -66,6 +66,12 @@ forgets_first b s keep order h =
     none_left : (k : ℕ) (xs : List ℕ) → k ≡ 0 → take k xs ≡ []
     none_left k xs e = ap (λ (n : ℕ). take n xs) e
 
+    inside : (i : ℕ) → i < learnt_in_force b - keep → i < length order → i < length (take (learnt_in_force b - keep) order)
+    inside i l m = elim (le_or (learnt_in_force b - keep) (length order)) [
+      | inl few ↦ (let e = length-take-le (learnt_in_force b - keep) order few in omega (arith, e, l))
+      | inr all ↦ (let e = ap (λ (ys : List ℕ). length ys) (take_all (learnt_in_force b - keep) order (omega (arith, all))) in omega (arith, e, m))
+    ]
+
     before : (n m : ℕ) → Contains (take (learnt_in_force b - keep) order) n → Contains order m → (Contains (take (learnt_in_force b - keep) order) m → ⊥) → GoesFirst b.clauses b.learnt n m
     before n m has other none =
         let short = take_length (learnt_in_force b - keep) order in
@@ -77,12 +83,6 @@ forgets_first b s keep order h =
               (subst (λ (y : ℕ). GoesFirst b.clauses b.learnt (get_or order has.0 n) y) (get_or_default order other.0 n m other.1 ∙ other.2) (h.in_turn has.0 other.0 n (let l = has.1 in omega (arith, l, short, after)) other.1))
           | inr early ↦ absurd (none (other.0, inside other.0 early other.1, get_or-take (learnt_in_force b - keep) order other.0 m early ∙ other.2))
         ]
-
-    inside : (i : ℕ) → i < learnt_in_force b - keep → i < length order → i < length (take (learnt_in_force b - keep) order)
-    inside i l m = elim (le_or (learnt_in_force b - keep) (length order)) [
-      | inl few ↦ (let e = length-take-le (learnt_in_force b - keep) order few in omega (arith, e, l))
-      | inr all ↦ (let e = ap (λ (ys : List ℕ). length ys) (take_all (learnt_in_force b - keep) order (omega (arith, all))) in omega (arith, e, m))
-    ]
 
 -- what holds of each clause, and of one without atoms, holds of what is left
 pub all_blanked : (P : List Atom → Type 0) (cs : List (List Atom)) (ds : List Bool) → P [] → All P cs → All P (blanked cs ds)
@@ -144,6 +144,15 @@ stored_dropped b s keep which lists lists' attached standing h forgets watching 
         let is : count_standing (standing_in (b.journal ++ drops which)) ≡ count_standing (unset (standing_in b.journal) which) = ap (λ (st : List (Option (List Atom))). count_standing st) (standing_in-drops b.journal which) in
         omega (arith, less, is, h.count)
 
+-- what is left, by its fields
+left_is : (b : Base) (s : Trail) (keep : ℕ) (which : List ℕ) (cs : List (List Atom)) (ds : List Bool) (j : List JournalItem) → IsSoundBase b → Forgets b s keep which → ds ≡ marked b.dropped (map (number_at b.learnt) which) → cs ≡ blanked b.clauses ds → j ≡ b.journal ++ drops which
+    → record b { clauses = cs; dropped = ds; journal = j } ≡ without b which
+left_is b s keep which cs ds j sound forgets marks left drops_too =
+    let emptied_too = emptied_is b.clauses b.dropped b.learnt b.journal which sound.sizes sound.blank sound.numbered (places_of b s keep which forgets) in
+    ap (λ (x : List (List Atom)). record b { clauses = x; dropped = ds; journal = j }) (left ∙ ap (λ (x : List Bool). blanked b.clauses x) marks ∙ sym emptied_too)
+    ∙ ap (λ (x : List Bool). record b { clauses = emptied b.clauses (map (number_at b.learnt) which); dropped = x; journal = j }) marks
+    ∙ ap (λ (x : List JournalItem). record b { clauses = emptied b.clauses (map (number_at b.learnt) which); dropped = marked b.dropped (map (number_at b.learnt) which); journal = x }) drops_too
+
 -- what is in force without them was in force, with the same atoms
 pub held_before : (b : Base) (which : List ℕ) (i : ℕ) → IsSoundBase b → All (λ n. n < length b.learnt) which → IsHeld (without b which).clauses (without b which).dropped i → IsHeld b.clauses b.dropped i × (clause_of (without b which).clauses i ≡ clause_of b.clauses i)
 held_before b which i sound places held =
@@ -199,3 +208,21 @@ which_few b s keep which lists attached standing stored h = elim h.no_more [
   | inl few ↦ (let e = stored.count in omega (arith, few, e))
   | inr none ↦ (let e = ap (λ (ns : List ℕ). length ns) none in omega (arith, e))
 ]
+
+-- a base is what it forgot
+pub forgotten : (b : Base) (s : Trail) (keep count : ℕ) (which : List ℕ) (cs : List (List Atom)) (ds : List Bool) (j : List JournalItem) (c : Base) → IsSoundBase b → Forgets b s keep which → ds ≡ marked b.dropped (map (number_at b.learnt) which) → cs ≡ blanked b.clauses ds
+    → j ≡ b.journal ++ drops which → c ≡ record b { clauses = cs; dropped = ds; journal = j } → count ≡ length which → HasForgotten b c s keep count
+forgotten b s keep count which cs ds j c sound forgets marks left drops_too is counted = record {
+  which = which;
+  forgets = forgets;
+  is = is ∙ left_is b s keep which cs ds j sound forgets marks left drops_too;
+  count_is = counted;
+}
+
+-- and its fields belong together
+pub stored_forgotten : (b : Base) (s : Trail) (keep : ℕ) (which : List ℕ) (cs : List (List Atom)) (ds : List Bool) (j : List JournalItem) (lists lists' : List (List Watcher)) (attached standing : ℕ) → IsStored b lists attached standing → Forgets b s keep which
+    → ds ≡ marked b.dropped (map (number_at b.learnt) which) → cs ≡ blanked b.clauses ds → j ≡ b.journal ++ drops which → IsWatching (blanked b.clauses ds) b.watched.watches attached (list_at lists') → length lists' ≡ length lists
+    → IsStored (record b { clauses = cs; dropped = ds; journal = j }) lists' attached (standing - length which)
+stored_forgotten b s keep which cs ds j lists lists' attached standing stored forgets marks left drops_too watching room =
+    subst (λ (x : Base). IsStored x lists' attached (standing - length which)) (sym (left_is b s keep which cs ds j stored.sound forgets marks left drops_too))
+    (stored_dropped b s keep which lists lists' attached standing stored forgets (subst (λ (x : List Bool). IsWatching (blanked b.clauses x) b.watched.watches attached (list_at lists')) marks watching) room)

@@ -1,6 +1,6 @@
 -- What is in force, seen by number: the clauses that were dropped have no atoms.
-use Rattle.std.proofs.Common.{ℕ, ◌+◌, ◌≤◌, ◌<◌, ◌≡◌, ◌⊎◌, Bool, true, false, List, [], ◌∷◌, length, get_or, refl, sym, true≢false, ◌∙◌, ap, subst, inl, inr, arith}
-use Rattle.std.specs.List.{All, Contains}
+use Rattle.std.proofs.Common.{ℕ, ◌≤◌, ◌<◌, ◌≡◌, ◌⊎◌, Bool, true, false, List, [], length, refl, sym, ◌∙◌, ap, subst, inl, inr, arith}
+use Rattle.std.specs.List.{All}
 use Rattle.std.proofs.lemmas.List.{get_or_default}
 use Rattle.cps_literal.specs.declared.atom.Atom.{Atom}
 use Rattle.cps_trail.specs.Trail.{Domains, Entry, Trail, IsFalseNow, IsSound, up_to}
@@ -10,7 +10,7 @@ use Rattle.cps_clauses.specs.InForce.{is_dropped, in_force, IsHeld}
 use Rattle.cps_clauses.specs.Conflicts.{IsConflictInForce}
 use Rattle.cps_clauses.specs.Quiet.{IsQuiet, IsQuietAfter, Fits}
 use Rattle.cps_clauses.specs.Watches.{clause_of, watch_of, IsGuarded, IsPair}
-use Rattle.cps_clauses.specs.Bases.{Base, IsInStep, in_force_of}
+use Rattle.cps_clauses.specs.Bases.{Base, IsInStep}
 use Rattle.cps_clauses.specs.Settles.{AreGuarded, AreQuiet}
 use Rattle.cps_clauses.proofs.Guarding.{quiet_by_guard}
 use Rattle.cps_clauses.proofs.Dropping.{at_held, all_held, held_in}

@@ -2,14 +2,14 @@
 use Rattle.std.proofs.Common.{ℕ, zero, suc, ◌+◌, ◌≤◌, ◌<◌, ◌≡◌, ◌≢◌, ◌⊎◌, Bool, true, false, Option, Some, None, List, [], ◌∷◌, ◌++◌, length, get_or, set, map, refl, sym, true≢false, ◌∙◌, ap, subst, inl, inr, arith, length-append}
 use Rattle.std.specs.Prelude.{AllPairs}
 use Rattle.std.specs.List.{All, Contains}
-use Rattle.std.proofs.lemmas.List.{get_or_default, get_or_append_left, get_or_push, get_or_past, get_or-set_same, get_or-set_other, length-set}
-use Rattle.std.proofs.lemmas.List.Elements.{All-head, All-tail, All-push, All-weaker, All-map}
+use Rattle.std.proofs.lemmas.List.{get_or_append_left, get_or_push, get_or_past, get_or-set_same, get_or-set_other, length-set}
+use Rattle.std.proofs.lemmas.List.Elements.{All-push, All-weaker, All-map}
 use Rattle.std.proofs.lemmas.List.Quantifiers.{all_pairs_push}
 use Rattle.cps_model.specs.declared.bound.Bound.{Bound}
 use Rattle.cps_literal.specs.declared.atom.Atom.{Atom}
 use Rattle.cps_clauses.specs.declared.journal.JournalItem.{JournalItem}
 use Rattle.cps_clauses.specs.declared.journal.JournalItem.TheVariants.{Learnt}
-use Rattle.cps_clauses.specs.InForce.{is_dropped, in_force, IsHeld, blanked, marked, emptied}
+use Rattle.cps_clauses.specs.InForce.{is_dropped, in_force, blanked, marked, emptied}
 use Rattle.cps_clauses.specs.Journals.{after_item, standing_after, standing_in, count_standing, drops, IsStanding, AreInForce}
 use Rattle.cps_clauses.specs.Watches.{clause_of}
 use Rattle.cps_clauses.specs.Bases.{number_at, AreNumbered}
@@ -101,8 +101,8 @@ count_unset standing (n ∷ ns) stand apart =
     let here = stand n (zero, omega arith, refl) in
     let one = count_set standing n here.0 here.1 in
     let rest = count_unset (set standing n None) ns
-        (λ m has. (let more = stand m (suc has.0, (let l = has.1 in omega (arith, l)), has.2) in (more.0, get_or-set_other standing n m None None (λ e. first_apart n ns apart m has (sym e)) ∙ more.1)))
-        (λ i j d l m. apart (suc i) (suc j) d (omega (arith, l)) (omega (arith, m))) in
+    (λ m has. (let more = stand m (suc has.0, (let l = has.1 in omega (arith, l)), has.2) in (more.0, get_or-set_other standing n m None None (λ e. first_apart n ns apart m has (sym e)) ∙ more.1)))
+    (λ i j d l m. apart (suc i) (suc j) d (omega (arith, l)) (omega (arith, m))) in
     omega (arith, one, rest)
   where
     first_apart : (n : ℕ) (ns : List ℕ) → AllPairs (λ n m. n ≢ m) (n ∷ ns) → (m : ℕ) → Contains ns m → n ≢ m
@@ -169,12 +169,14 @@ numbered_learnt cs ds learnt journal c below sizes h =
                 let old = number_before n (omega (arith, before, h.count)) in
                 let b = h.within n 0 (omega (arith, before, h.count)) in (
                   ap (λ (i : ℕ). is_dropped (ds ++ false ∷ []) i) old ∙ get_or_append_left ds (false ∷ []) false (number_at learnt n) (omega (arith, b, sizes)) ∙ at.0,
-                  ap (λ (i : ℕ). clause_of (cs ++ c ∷ []) i) old ∙ get_or_append_left cs (c ∷ []) [] (number_at learnt n) b ∙ at.1
+                  ap (λ (i : ℕ). clause_of (cs ++ c ∷ []) i) old ∙ get_or_append_left cs (c ∷ []) [] (number_at learnt n) b ∙ at.1,
                 )
             | inr last ↦
-                let new = number_last n (omega (arith, last, h.count)) in
-                (ap (λ (i : ℕ). is_dropped (ds ++ false ∷ []) i) new ∙ get_or_push ds false false (length cs) (omega (arith, sizes)), ap (λ (i : ℕ). clause_of (cs ++ c ∷ []) i) new ∙ get_or_push cs c [] (length cs) refl
-                    ∙ some_same c k (sym (get_or_push (standing_in journal) (Some c) None n (sym last)) ∙ stands'))
+                let new = number_last n (omega (arith, last, h.count)) in (
+                  ap (λ (i : ℕ). is_dropped (ds ++ false ∷ []) i) new ∙ get_or_push ds false false (length cs) (omega (arith, sizes)),
+                  ap (λ (i : ℕ). clause_of (cs ++ c ∷ []) i) new ∙ get_or_push cs c [] (length cs) refl
+                      ∙ some_same c k (sym (get_or_push (standing_in journal) (Some c) None n (sym last)) ∙ stands'),
+                )
           ];
       fallen = λ n l keeps.
           subst (λ (s : Standing). IsStanding s n (clause_of (cs ++ c ∷ []) (number_at (learnt ++ length cs ∷ []) n))) (sym is) (elim (seam (length learnt) n (omega (arith, l, long))) [

@@ -1,5 +1,5 @@
 -- The watchers of clauses that were dropped leave their lists.
-use Rattle.std.proofs.Common.{ℕ, ◌+◌, ◌-◌, ◌≤◌, ◌<◌, ◌≡◌, ◌≢◌, ◌⊎◌, Bool, true, false, List, [], ◌∷◌, length, get_or, set, refl, sym, true≢false, ◌∙◌, ap, subst, inl, inr, arith}
+use Rattle.std.proofs.Common.{ℕ, ◌+◌, ◌-◌, ◌≤◌, ◌<◌, ◌≡◌, ◌⊎◌, Bool, true, false, List, [], length, get_or, set, refl, sym, true≢false, ◌∙◌, ap, subst, inl, inr, arith}
 use Rattle.std.specs.List.{All, Contains}
 use Rattle.std.proofs.lemmas.List.{get_or_default, get_or_past, get_or-take, get_or-set_other, length-set}
 use Rattle.std.proofs.lemmas.List.Elements.{All-contains, All-contains_itself}
@@ -8,7 +8,7 @@ use Rattle.cps_clauses.specs.declared.watch.Watch.{Watch}
 use Rattle.cps_clauses.specs.declared.watch.Watcher.{Watcher}
 use Rattle.cps_clauses.specs.InForce.{is_dropped, blanked}
 use Rattle.cps_clauses.specs.Moves.{IsReleased}
-use Rattle.cps_clauses.specs.Watches.{no_watcher, clause_of, watch_of, slot_of, IsPair, IsWatched, IsWatcher, IsWatching, Stands, list_at, removed}
+use Rattle.cps_clauses.specs.Watches.{no_watcher, clause_of, watch_of, slot_of, IsPair, IsWatcher, IsWatching, Stands, list_at, removed}
 use Rattle.cps_clauses.proofs.Dropping.{length-blanked, blanked_dropped, blanked_kept, blanked_some}
 use Rattle.cps_clauses.proofs.Lists.{All-removed, length-removed, list_set_other, list_set_same, stands_removed}
 

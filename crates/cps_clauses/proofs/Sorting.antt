@@ -1,8 +1,8 @@
 -- What a sort by rank and place ensures.
-use Rattle.std.specs.Prelude.{Contains, IsPermutation, AllPairs}
+use Rattle.std.specs.Prelude.{IsPermutation, AllPairs}
 use Rattle.std.specs.List.Sorted.{IsSortedBy}
 use Rattle.std.specs.Ordering.{nat_cmp, is_lt, ordering_then}
-use Rattle.std.proofs.Common.{◌≡◌, ◌≢◌, ◌⊎◌, inl, inr, ℕ, zero, suc, ◌+◌, ◌-◌, ◌<◌, ◌≤◌, Bool, true, false, List, length, get_or, refl, sym, ◌∙◌, ap, subst, arith, Less, Equal}
+use Rattle.std.proofs.Common.{◌≡◌, ◌≢◌, ◌⊎◌, inl, inr, ℕ, zero, suc, ◌+◌, ◌-◌, ◌<◌, ◌≤◌, true, false, List, length, get_or, refl, sym, ◌∙◌, subst, arith, Less, Equal}
 use Rattle.std.specs.Cmp.{nat_cmp_is}
 use Rattle.std.proofs.lemmas.List.{get_or_default}
 use Rattle.cps_model.proofs.Permuted.{AllPairs-permuted}
@@ -38,7 +38,6 @@ not_after a b c d e f (inl l) (inl m) = inl (omega (arith, l, m))
 not_after a b c d e f (inl l) (inr m) = (let k = m.0 in inl (omega (arith, l, k)))
 not_after a b c d e f (inr l) (inl m) = (let k = l.0 in inl (omega (arith, k, m)))
 not_after a b c d e f (inr l) (inr m) = (let k = l.1 in let j = m.1 in inr (l.0 ∙ m.0, omega (arith, k, j)))
-
 
 far : (cs : List Candidate) (i n : ℕ) → Sorted cs → i + n < length cs → NotAfter (get_or cs i no_candidate).rank (get_or cs i no_candidate).place (get_or cs (i + n) no_candidate).rank (get_or cs (i + n) no_candidate).place
 far cs i zero h l = subst (λ (k : ℕ). NotAfter (get_or cs i no_candidate).rank (get_or cs i no_candidate).place (get_or cs k no_candidate).rank (get_or cs k no_candidate).place) (plus_zero i) (inr (refl, omega arith))

@@ -1,7 +1,6 @@
 -- The candidates that may go: found one after another, and in the order in which they go.
-use Rattle.std.proofs.Common.{ℕ, ◌+◌, ◌≤◌, ◌<◌, ◌≡◌, ◌≢◌, ◌⊎◌, Bool, List, [], ◌∷◌, ◌++◌, length, get_or, map, refl, sym, ◌∙◌, ap, subst, inl, inr, arith}
-use Rattle.std.specs.Prelude.{AllPairs}
-use Rattle.std.specs.List.{All, Contains}
+use Rattle.std.proofs.Common.{ℕ, ◌+◌, ◌≤◌, ◌<◌, ◌≡◌, ◌⊎◌, Bool, List, [], ◌∷◌, ◌++◌, length, get_or, map, sym, ◌∙◌, ap, subst, inl, inr, arith}
+use Rattle.std.specs.List.{Contains}
 use Rattle.std.proofs.lemmas.List.{get_or_default, get_or-map, length-map, map-append}
 use Rattle.std.proofs.lemmas.List.Elements.{All-map, All-push, All-weaker, Contains-append_left, Contains-push}
 use Rattle.std.proofs.lemmas.List.Quantifiers.{all_pairs_push}
@@ -9,7 +8,7 @@ use Rattle.std.proofs.lemmas.List.Sorted.{All-permutation, Contains-permutation}
 use Rattle.cps_literal.specs.declared.atom.Atom.{Atom}
 use Rattle.cps_trail.specs.Trail.{Trail}
 use Rattle.cps_clauses.specs.declared.forget.Candidate.{Candidate}
-use Rattle.cps_clauses.specs.Forgets.{MayGo, GoesFirst, AreInTurn, learnt_clause}
+use Rattle.cps_clauses.specs.Forgets.{MayGo, GoesFirst, AreInTurn}
 use Rattle.cps_clauses.specs.Candidates.{IsCandidate, AreCandidates, AreSortedCandidates, ComesFirst}
 use Rattle.cps_clauses.proofs.Naming.{AreCandidatesTo}
 

@@ -10,7 +10,8 @@ use crate::clauses::Clauses;
 pub(crate) fn empty_from(clauses: &Clauses, dropped: &[bool], from: usize) -> Option<usize>
     requires { length dropped.now ≡ length clauses.now }
     ensures some { IfSome result (λ i. IsHeld clauses.now dropped.now i × (clause_of clauses.now i ≡ [])) }
-    ensures none { IsNone result → (i : ℕ) → from ≤ i → IsHeld clauses.now dropped.now i → 1 ≤ length (clause_of clauses.now i) }
+    ensures none { IsNone result → (i : ℕ) → from ≤ i → IsHeld clauses.now dropped.now i
+        → 1 ≤ length (clause_of clauses.now i) }
 {
     for number in from..clauses.len() {
         if !dropped[number] && clauses.clause(number).is_empty() {

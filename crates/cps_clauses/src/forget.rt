@@ -1,7 +1,7 @@
 //! Which learnt clauses are dropped, and in which order.
 //!
-//! A clause that a note of the store names is the reason of an entry, and stays until the entry goes. Of the others the longest go first:
-//! the longer a clause is, the more has to be decided before it says anything.
+//! A clause that a note of the store names is the reason of an entry, and stays until the entry goes. Of the others the
+//! longest go first: the longer a clause is, the more has to be decided before it says anything.
 
 ghost use Rattle.std.specs.Prelude.{ℕ, ◌↔◌, ◌≡◌, ◌<◌, true, false, map, length, slice_index_or, slice_set, AllPairs, IfOk};
 ghost use Rattle.std.specs.List.{All};
@@ -35,7 +35,8 @@ fn mark(marks: &mut Vec<bool>, number: usize)
 /// Which of the first `count` clauses a note of the store names.
 fn named_clauses(alloc: Global, store: &Store, count: usize) -> Result<Vec<bool>, AllocError>
     ensures size { IfOk result (λ named. length named.items ≡ count) }
-    ensures named { IfOk result (λ named. (i : ℕ) → i < count → (slice_index_or named.items i false ≡ true) ↔ IsNamed store.now i) }
+    ensures named { IfOk result (λ named. (i : ℕ) → i < count → (slice_index_or named.items i false ≡ true)
+        ↔ IsNamed store.now i) }
 {
     let mut named = vec![in alloc; false; count]?;
     for view in store.entries() {

@@ -1,4 +1,4 @@
-use Rattle.std.proofs.Common.{ℕ, ◌≡◌, ◌<◌, Bool, List, true, length, get_or, map, set, take, refl, sym, ◌∙◌, ap, arith}
+use Rattle.std.proofs.Common.{ℕ, Bool, List, true, get_or, map, set, sym, ◌∙◌, ap}
 use Rattle.std.proofs.lemmas.List.{take_all}
 use Rattle.cps_clauses.specs.InForce.{marked}
 use Rattle.cps_clauses.specs.Bases.{number_at}

@@ -1,4 +1,4 @@
-use Rattle.std.proofs.Common.{◌≡◌, List, length, sym, ◌∙◌, ap, subst}
+use Rattle.std.proofs.Common.{◌≡◌, length, ◌∙◌, ap, subst}
 use Rattle.cps_clauses.specs.Bases.{Base, in_force_of}
 use Rattle.cps_clauses.proofs.Dropping.{in_force_pushed}
 use Rattle.cps_clauses.proofs.base.ClauseBase.add.Goals as goal

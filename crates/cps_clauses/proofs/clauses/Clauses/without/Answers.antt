@@ -1,8 +1,7 @@
-use Rattle.std.proofs.Common.{ℕ, ◌+◌, ◌≡◌, ◌<◌, ◌++◌, ◌∷◌, [], List, Bool, true, false, length, take, get_or, sym, ◌∙◌, ap, subst, arith}
+use Rattle.std.proofs.Common.{◌≡◌, ◌<◌, ◌++◌, ◌∷◌, [], List, true, false, length, take, sym, ◌∙◌, ap, arith}
 use Rattle.std.proofs.lemmas.List.{take_all}
 use Rattle.cps_literal.specs.declared.atom.Atom.{Atom}
 use Rattle.cps_clauses.specs.InForce.{is_dropped, blanked}
-use Rattle.cps_clauses.specs.Watches.{clause_of}
 use Rattle.cps_clauses.proofs.Dropping.{blanked_dropped, blanked_kept, length-blanked, take_next}
 use Rattle.cps_clauses.proofs.clauses.Clauses.without.Goals as goal
 
