@@ -40,7 +40,7 @@ fn last_drop(base: &ClauseBase) -> Option<u32> {
     }
 }
 
-fn left(base: &ClauseBase, count: u32) -> Left {
+fn looked_at(base: &ClauseBase, count: u32) -> Left {
     Left {
         count,
         last: last_drop(base),
@@ -54,7 +54,7 @@ fn left_of_three(alloc: Global, keep: u32) -> Result<Left, AllocError> {
     let mut base = ClauseBase::new(alloc);
     learn_three(alloc, &mut base)?;
     let count = base.forget(&store, keep)?;
-    Ok(left(&base, count))
+    Ok(looked_at(&base, count))
 }
 
 #[derive(Clone, Copy)]
@@ -111,7 +111,7 @@ fn left_of_named(alloc: Global) -> Result<Left, AllocError> {
     settle_more(alloc, &mut base, &mut store, &[zero(1)])?;
     learn(alloc, &mut base, &[one(1), one(2)])?;
     let count = base.forget(&store, 0)?;
-    Ok(left(&base, count))
+    Ok(looked_at(&base, count))
 }
 
 #[test]

@@ -23,7 +23,7 @@ DropsWhenDueFrom learnt stood stand (Drop i ∷ items) = IsDropDue learnt stood 
 abbrev pub DropsWhenDue : List JournalItem → Type 0
 DropsWhenDue journal = DropsWhenDueFrom 0 0 0 journal
 
--- how many learnt clauses stand after these items, and how many stood when the last was learnt
+-- how many learnt clauses stand after these items, and how many stood when the last was learnt, as `DropsWhenDueFrom` counts them
 abbrev pub stand_after : ℕ → List JournalItem → ℕ
 stand_after stand [] = stand
 stand_after stand (Learnt clause below ∷ items) = stand_after (stand + 1) items
