@@ -87,7 +87,7 @@ none_or_some : (c : List Atom) → None ≡ Some c → ⊥
 none_or_some c e = cc e
 
 -- one that stood is one less
-count_set : (standing : Standing) (n : ℕ) (c : List Atom) → IsStanding standing n c → count_standing (set standing n None) + 1 ≡ count_standing standing
+pub count_set : (standing : Standing) (n : ℕ) (c : List Atom) → IsStanding standing n c → count_standing (set standing n None) + 1 ≡ count_standing standing
 count_set [] n c h = absurd (none_or_some c h)
 count_set (None ∷ rest) zero c h = absurd (none_or_some c h)
 count_set (Some x ∷ rest) zero c h = refl

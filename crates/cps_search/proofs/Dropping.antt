@@ -30,7 +30,10 @@ drops_only learnt stood stand (n ∷ ns) some interval room = (
 
 drops_after : (learnt stood stand : ℕ) (items : List JournalItem) (ns : List ℕ) → DropsWhenDueFrom learnt stood stand items → 0 < learnt + learnt_count items → (learnt + learnt_count items) % 2000 ≡ 0
     → stood_after stood stand items / 2 + length ns ≤ stand_after stand items → DropsWhenDueFrom learnt stood stand (items ++ drops ns)
-drops_after learnt stood stand [] ns h some interval room = drops_only learnt stood stand ns (omega (arith, some)) interval room
+drops_after learnt stood stand [] ns h some interval room = drops_only learnt stood stand ns (omega (arith, some)) (subst (λ (n : ℕ). n % 2000 ≡ 0) (plus_zero learnt) interval) room
+  where
+    plus_zero : (n : ℕ) → n + 0 ≡ n
+    plus_zero n = omega arith
 drops_after learnt stood stand (Learnt c z ∷ items) ns h some interval room =
     drops_after (learnt + 1) (stand + 1) (stand + 1) items ns h (omega (arith, some)) (subst (λ (n : ℕ). n % 2000 ≡ 0) (shift learnt (learnt_count items)) interval) room
   where
@@ -64,17 +67,17 @@ learnt_count-standing standing (Drop i ∷ items) = learnt_count-standing (set s
 
 -- an entry that a clause gave is given by the same clause, where the clauses that notes name have kept their atoms
 pub given_left : (tasks : List Task) (clauses left : List (List Atom)) (s : Trail) → length left ≡ length clauses → ((i : ℕ) → IsNamed s i → clause_of left i ≡ clause_of clauses i) → AreGiven (ByAll tasks clauses) s → AreGiven (ByAll tasks left) s
-given_left tasks clauses left s long same h k l = record { given = λ d. go (get_or s.entries k d).reason (λ i e. same i (record { entry = k; within = l; names = record { is = λ x. reason_at d x ∙ e } })) ((h k l).given d) }
+given_left tasks clauses left s long same h k l = record { given = λ d. go s.first (take k s.entries) (get_or s.entries k d).atom (get_or s.entries k d).reason (λ i e. same i (record { entry = k; within = l; names = record { is = λ x. reason_at d x ∙ e } })) ((h k l).given d) }
   where
     -- the reason at a place does not depend on what a read past the end gives
     reason_at : (d x : Entry) → (get_or s.entries k x).reason ≡ (get_or s.entries k d).reason
     reason_at d x = ap (λ (e : Entry). e.reason) (get_or_default s.entries k x d l)
 
-    go : {first : Domains} {before : List Entry} {t : Atom} (r : Reason) → ((i : ℕ) → r ≡ Later (notes.InForce i) → clause_of left i ≡ clause_of clauses i) → OrDecided (ByAll tasks clauses) first before t r → OrDecided (ByAll tasks left) first before t r
-    go Decision same g = tt
-    go (Because c) same g = absurd g
-    go (Later (notes.Task n a b)) same g = g
-    go {first} {before} {t} (Later (notes.InForce n)) same g = record { within = omega (arith, g.within, long); explains = subst (λ (c : List Atom). Explains first before c t) (sym (same n refl)) g.explains }
+    go : (first : Domains) (before : List Entry) (t : Atom) (r : Reason) → ((i : ℕ) → r ≡ Later (notes.InForce i) → clause_of left i ≡ clause_of clauses i) → OrDecided (ByAll tasks clauses) first before t r → OrDecided (ByAll tasks left) first before t r
+    go first before t Decision same g = tt
+    go first before t (Because c) same g = absurd g
+    go first before t (Later (notes.Task n a b)) same g = g
+    go first before t (Later (notes.InForce n)) same g = record { within = omega (arith, g.within, long); explains = subst (λ (c : List Atom). Explains first before c t) (sym (same n refl)) g.explains }
 
 -- a clause that is learnt comes after all that was dropped
 none_since_from : (stood stand : ℕ) (items : List JournalItem) (c : List Atom) (z : Bound) → stood_after stood stand (items ++ Learnt c z ∷ []) ≡ stand_after stand (items ++ Learnt c z ∷ [])
@@ -90,4 +93,7 @@ pub drops_due : (holds : List Atom → Bound → Type 0) (journal : List Journal
     → count_standing (standing_in journal) / 2 + length ns ≤ count_standing (standing_in journal) → DropsWhenDue (journal ++ drops ns)
 drops_due holds journal ns honest due none some interval room =
     let stand : stand_after 0 journal ≡ count_standing (standing_in journal) = stand_counted holds [] journal honest in
-    drops_after 0 0 0 journal ns due (omega (arith, some)) interval (subst (λ (n : ℕ). n / 2 + length ns ≤ stand_after 0 journal) (sym (none ∙ stand)) (omega (arith, stand, room)))
+    drops_after 0 0 0 journal ns due (omega (arith, some)) (subst (λ (n : ℕ). n % 2000 ≡ 0) (zero_plus (learnt_count journal)) interval) (subst (λ (n : ℕ). n / 2 + length ns ≤ stand_after 0 journal) (sym (none ∙ stand)) (omega (arith, stand, room)))
+  where
+    zero_plus : (n : ℕ) → n ≡ 0 + n
+    zero_plus n = omega arith
