@@ -12,7 +12,7 @@ use Rattle.cps_trail.specs.Notes.{AllFit, HasNote, IsGivenAt, ByClauses}
 use Rattle.cps_trail.proofs.Giving.{IsGivenAt-added, IsGivenAt-kept, IsGivenAt-weaker}
 use Rattle.cps_clauses.specs.declared.origin.Origin.{Origin}
 use Rattle.cps_clauses.specs.Quiet.{Fits, IsQuiet}
-use Rattle.cps_clauses.specs.Bases.{Base, IsInStep, with_clause}
+use Rattle.cps_clauses.specs.Bases.{Base, IsInStep, in_force_of, with_clause}
 use Rattle.cps_clauses.proofs.Fitting.{Fits-more, Fits-none}
 use Rattle.cps_clauses.proofs.Noting.{ByClauses-more}
 use Rattle.cps_clauses.proofs.Quieting.{IsQuiet-none, IsQuiet-decide}
@@ -62,12 +62,13 @@ fit_added : (clauses added : List (List Atom)) (s : Trail) → AllFit (IsGivenAt
 fit_added clauses added s given k l has = IsGivenAt-weaker (ByClauses clauses) (ByClauses (clauses ++ added)) (ByClauses-more clauses added) s k (given k l has)
 
 -- no clause, and no entry
-pub IsAtRest-none : (b : Base) (s : Trail) → b ≡ record { clauses = []; journal = []; refused = false; watched = record { watches = []; settled = 0; visits = 0 } } → s.entries ≡ [] → IsAtRest b s
+pub IsAtRest-none : (b : Base) (s : Trail) → b ≡ record { clauses = []; dropped = []; learnt = []; journal = []; refused = false; watched = record { watches = []; settled = 0; visits = 0 } } → s.entries ≡ [] → IsAtRest b s
 IsAtRest-none b s new none =
     let clauses = ap (λ (x : Base). x.clauses) new in
     record {
       fits = Fits-none s.first b clauses;
-      quiet = subst (λ (cs : List (List Atom)). IsQuiet cs s (s.level + 1)) (sym clauses) (record { at = λ level less. All-nil _ });
+      sizes = ap (λ (x : Base). length x.dropped) new ∙ sym (ap (λ (x : Base). length x.clauses) new);
+      quiet = subst (λ (cs : List (List Atom)). IsQuiet cs s (s.level + 1)) (sym (ap (λ (x : Base). in_force_of x) new)) (record { at = λ level less. All-nil _ });
       in_step = IsInStep-none b s.first s.entries clauses (ap (λ (x : Base). x.watched.watches) new) (ap (λ (x : Base). x.watched.settled) new);
       given = λ k l has. absurd (omega (arith, l, ap (λ (es : List Entry). length es) none));
     }
@@ -76,6 +77,7 @@ IsAtRest-none b s new none =
 pub IsReady-rest : (b : Base) (s : Trail) (from : ℕ) → from ≡ length s.entries → s.level ≡ 0 → IsAtRest b s → IsReady b s from
 IsReady-rest b s from all bottom rest = record {
   fits = rest.fits;
+  sizes = rest.sizes;
   quiet = IsQuiet-none _ _ _ bottom;
   within = omega (arith, all);
   in_step = subst (λ (es : List Entry). IsInStep b s.first es) (sym (take_all from s.entries (omega (arith, all)))) rest.in_step;
@@ -87,9 +89,10 @@ pub IsReady-added : (b new : Base) (s : Trail) (clause : List Atom) (below : Bou
 IsReady-added b new s clause below origin from e bottom here ready =
     subst (λ (x : Base). IsReady x s from) (sym e) (record {
       fits = Fits-more s.first b (with_clause b clause below origin) clause below origin refl ready.fits here;
+      sizes = omega (arith, ready.sizes, length-append b.dropped (false ∷ []), length-append b.clauses (clause ∷ []));
       quiet = IsQuiet-none _ _ _ bottom;
       within = ready.within;
-      in_step = IsInStep-added b s.first (take from s.entries) clause below origin ready.in_step;
+      in_step = IsInStep-added b s.first (take from s.entries) clause below origin ready.sizes ready.in_step;
       given = fit_added b.clauses (clause ∷ []) s ready.given;
     })
 
@@ -101,7 +104,8 @@ IsReady-decided b s t atom from e all rest =
     let entries : t.entries ≡ s.entries ++ entry ∷ [] = ap (λ (x : Trail). x.entries) e in
     record {
       fits = subst (λ (f : Domains). All (Fits f) b.clauses) (sym first) rest.fits;
-      quiet = IsQuiet-decide b.clauses s t entry refl e rest.quiet;
+      sizes = rest.sizes;
+      quiet = IsQuiet-decide (in_force_of b) s t entry refl e rest.quiet;
       within = omega (arith, all, ap (λ (es : List Entry). length es) entries, length-append s.entries (entry ∷ []));
       in_step = subst (λ (n : ℕ). IsInStep b t.first (take n t.entries)) (sym all)
           (subst (λ (f : Domains). IsInStep b f (take (length s.entries) t.entries)) (sym first)
@@ -110,12 +114,13 @@ IsReady-decided b s t atom from e all rest =
     }
 
 -- settling brings to rest
-pub IsAtRest-settled : (b new : Base) (s t : Trail) (from : ℕ) → IsReady b s from → new ≡ record b { watched = new.watched } → Infers (ByClauses b.clauses) s t → IsQuiet b.clauses t (t.level + 1) → IsInStep new t.first t.entries → IsAtRest new t
+pub IsAtRest-settled : (b new : Base) (s t : Trail) (from : ℕ) → IsReady b s from → new ≡ record b { watched = new.watched } → Infers (ByClauses b.clauses) s t → IsQuiet (in_force_of b) t (t.level + 1) → IsInStep new t.first t.entries → IsAtRest new t
 IsAtRest-settled b new s t from ready keeps infers quiet step =
     let clauses : b.clauses ≡ new.clauses = sym (ap (λ (x : Base). x.clauses) keeps) in
     record {
       fits = subst (λ (cs : List (List Atom)). All (Fits t.first) cs) clauses (subst (λ (f : Domains). All (Fits f) b.clauses) (sym infers.first) ready.fits);
-      quiet = subst (λ (cs : List (List Atom)). IsQuiet cs t (t.level + 1)) clauses quiet;
+      sizes = ap (λ (x : Base). length x.dropped) keeps ∙ ready.sizes ∙ ap (λ (cs : List (List Atom)). length cs) clauses;
+      quiet = subst (λ (cs : List (List Atom)). IsQuiet cs t (t.level + 1)) (sym (ap (λ (x : Base). in_force_of x) keeps)) quiet;
       in_step = step;
       given = subst (λ (cs : List (List Atom)). AllFit (IsGivenAt (ByClauses cs)) t) clauses (fit_inferred b.clauses s t infers ready.given);
     }

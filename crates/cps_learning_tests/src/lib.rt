@@ -9,6 +9,8 @@ mod bases;
 #[cfg(test)]
 mod conflicts;
 #[cfg(test)]
+mod forgetting;
+#[cfg(test)]
 mod minimised;
 #[cfg(test)]
 mod resting;

@@ -33,7 +33,7 @@ pub(crate) fn add(
     requires { store.now.level ≡ 0 }
     ensures { OnOk result ((from : ℕ) → IsReady base.old store.now from → IsReady base.new store.now from) }
 {
-    if base.in_force(u32::MAX) {
+    if base.len() >= u32::MAX as usize {
         return Err(AllocError);
     }
     let clause = normal_clause(alloc, atoms)?;

@@ -23,6 +23,21 @@ DropsWhenDueFrom learnt stood stand (Drop i ∷ items) = IsDropDue learnt stood 
 abbrev pub DropsWhenDue : List JournalItem → Type 0
 DropsWhenDue journal = DropsWhenDueFrom 0 0 0 journal
 
+-- how many learnt clauses stand after these items, and how many stood when the last was learnt, as `DropsWhenDueFrom` counts them
+abbrev pub stand_after : ℕ → List JournalItem → ℕ
+stand_after stand [] = stand
+stand_after stand (Learnt clause below ∷ items) = stand_after (stand + 1) items
+stand_after stand (Drop i ∷ items) = stand_after (stand - 1) items
+
+abbrev pub stood_after : ℕ → ℕ → List JournalItem → ℕ
+stood_after stood stand [] = stood
+stood_after stood stand (Learnt clause below ∷ items) = stood_after (stand + 1) (stand + 1) items
+stood_after stood stand (Drop i ∷ items) = stood_after stood (stand - 1) items
+
+-- nothing was dropped since the last clause was learnt
+abbrev pub DroppedNoneSince : List JournalItem → Type 0
+DroppedNoneSince journal = stood_after 0 0 journal ≡ stand_after 0 journal
+
 -- no clause was dropped
 abbrev pub DropsNothing : List JournalItem → Type 0
 DropsNothing [] = ⊤

@@ -24,15 +24,25 @@ ghost use Rattle.cps_search.specs.Ends.{IsHonestEnding, RunsInTurns, RunsTo, end
 use cps_branch::Brancher;
 use cps_instance::Instance;
 
-/// What changes a store leaves clauses quiet at the levels that remain. What adds entries at the present level does so below it, whatever
-/// their reasons; and a clause more does so where the present level is at most the clause's `level_for`.
+/// What changes a store leaves clauses quiet at the levels that remain. What adds entries at the present level does so
+/// below it, whatever their reasons; and a clause more does so where the present level is at most the clause's
+/// `level_for`.
 pub fn quiet_clauses_stay()
-    ensures decision { (clauses : List (List Atom)) (s : Trail) (t : Atom) (below : ℕ) → below ≤ s.level + 1 → IsQuiet clauses s below → IsQuiet clauses (decided s t) below }
-    ensures inference { (tasks : List Task) (clauses : List (List Atom)) (s t : Trail) → Infers (ByAll tasks clauses) s t → IsQuiet clauses s s.level → IsQuiet clauses t t.level }
-    ensures imply { (clauses : List (List Atom)) (s t : Trail) (added : List Entry) → t ≡ record s { entries = s.entries ++ added } → All (λ e. e.level ≡ s.level) added → IsQuiet clauses s s.level → IsQuiet clauses t t.level }
-    ensures add { (clauses : List (List Atom)) (s : Trail) (clause : List Atom) (level : ℕ) → IsLevelFor s clause level → s.level ≤ level → IsQuiet clauses s s.level → IsQuiet (clauses ++ clause ∷ []) s s.level }
-    ensures backjump { (clauses : List (List Atom)) (s t : Trail) (level below : ℕ) → GoesBack s t level → below ≤ level + 1 → IsQuiet clauses s below → IsQuiet clauses t below }
-    ensures subject { (clauses : List (List Atom)) (s t : Trail) (domain : List (ℤ × ℤ)) (below : ℕ) → All (Fits s.first) clauses → t ≡ record s { first = s.first ++ domain ∷ [] } → IsQuiet clauses s below → IsQuiet clauses t below }
+    ensures decision { (clauses : List (List Atom)) (s : Trail) (t : Atom) (below : ℕ) → below ≤ s.level + 1
+        → IsQuiet clauses s below → IsQuiet clauses (decided s t) below }
+    ensures inference { (tasks : List Task) (clauses : List (List Atom)) (s t : Trail)
+        → Infers (ByAll tasks clauses) s t → IsQuiet clauses s s.level → IsQuiet clauses t t.level }
+    ensures imply { (clauses : List (List Atom)) (s t : Trail) (added : List Entry)
+        → t ≡ record s { entries = s.entries ++ added } → All (λ e. e.level ≡ s.level) added
+        → IsQuiet clauses s s.level → IsQuiet clauses t t.level }
+    ensures add { (clauses : List (List Atom)) (s : Trail) (clause : List Atom) (level : ℕ)
+        → IsLevelFor s clause level → s.level ≤ level → IsQuiet clauses s s.level
+        → IsQuiet (clauses ++ clause ∷ []) s s.level }
+    ensures backjump { (clauses : List (List Atom)) (s t : Trail) (level below : ℕ) → GoesBack s t level
+        → below ≤ level + 1 → IsQuiet clauses s below → IsQuiet clauses t below }
+    ensures subject { (clauses : List (List Atom)) (s t : Trail) (domain : List (ℤ × ℤ)) (below : ℕ)
+        → All (Fits s.first) clauses → t ≡ record s { first = s.first ++ domain ∷ [] } → IsQuiet clauses s below
+        → IsQuiet clauses t below }
 {}
 
 /// Over an instance without subjects there is nothing to learn: no clause has an atom.
@@ -40,10 +50,11 @@ pub fn nothing_to_learn_without_subjects()
     ensures { (p : Problem) (journal : List JournalItem) → p.domains ≡ [] → IsHonestJournal p journal → journal ≡ [] }
 {}
 
-/// There is a number that the length of no journal over an instance goes beyond, if it is honest and nothing was dropped. So a budget of
-/// more conflicts is spent only if clauses were dropped.
+/// There is a number that the length of no journal over an instance goes beyond, if it is honest and nothing was
+/// dropped. So a budget of more conflicts is spent only if clauses were dropped.
 pub fn honest_journals_are_bounded(instance: &Instance)
-    ensures { (most : ℕ) × ((journal : List JournalItem) → DropsNothing journal → IsHonestJournal instance.now journal → length journal ≤ most) }
+    ensures { (most : ℕ) × ((journal : List JournalItem) → DropsNothing journal → IsHonestJournal instance.now journal
+        → length journal ≤ most) }
 {
     // Only here is it known what holds of each instance.
     let _ = instance.domains();
@@ -51,15 +62,22 @@ pub fn honest_journals_are_bounded(instance: &Instance)
 
 /// In an honest journal nothing was dropped before 2,000 clauses were learnt.
 pub fn nothing_is_dropped_early()
-    ensures { (p : Problem) (earlier later : List JournalItem) (i : ℕ) → IsHonestJournal p (earlier ++ Drop i ∷ later) → 2000 ≤ learnt_count earlier }
+    ensures { (p : Problem) (earlier later : List JournalItem) (i : ℕ) → IsHonestJournal p (earlier ++ Drop i ∷ later)
+        → 2000 ≤ learnt_count earlier }
 {}
 
 /// A worker whose actor had offered and raised nothing before it began is honest when it has ended.
 pub fn ended_workers_are_honest()
-    ensures { (p : Problem) (gap budget : ℕ) (t : Search) (before after : Part) (kind : WorkerKind) (guidance : Option Guidance) (end : End) → RunsTo (fresh p gap (Some budget)) t before after end → IsSoundSearch t → before.bounds.offered ≡ Infinite → before.bounds.raised ≡ None → IsHonestEnding p.model gap budget after.bounds (ending kind guidance end t) }
+    ensures { (p : Problem) (gap budget : ℕ) (t : Search) (before after : Part) (kind : WorkerKind)
+        (guidance : Option Guidance) (end : End) → RunsTo (fresh p gap (Some budget)) t before after end
+        → IsSoundSearch t → before.bounds.offered ≡ Infinite → before.bounds.raised ≡ None
+        → IsHonestEnding p.model gap budget after.bounds (ending kind guidance end t) }
 {}
 
-/// Turns of a worker one after another, of which the last ended it, come to what a run comes to, whoever else stepped between them.
+/// Turns of a worker one after another, of which the last ended it, come to what a run comes to, whoever else stepped
+/// between them.
 pub fn turns_come_to_a_run<B: Brancher>()
-    ensures { (rows : ℕ) (s t : Search × B) (p q : Part) (end : End) → (h : RunsInTurns B.chooses B.hears B.stays rows s t p q end) → IsSoundSearch h.before.0 → RunsTo s.0 t.0 p q end }
+    ensures { (rows : ℕ) (s t : Search × B) (p q : Part) (end : End)
+        → (h : RunsInTurns B.chooses B.hears B.stays rows s t p q end) → IsSoundSearch h.before.0
+        → RunsTo s.0 t.0 p q end }
 {}

@@ -1,0 +1,126 @@
+//! Learnt clauses that are dropped.
+
+use crate::resting::settle_more;
+use crate::small::{bits, one, zero};
+use cps_clauses::{ClauseBase, JournalItem, Origin};
+use cps_literal::{Atom, normal_clause};
+use cps_model::Bound;
+use std::alloc::{AllocError, Global};
+use std::test::Fail;
+
+/// Adds a learnt clause, which is not settled.
+fn learn(alloc: Global, base: &mut ClauseBase, atoms: &[Atom]) -> Result<(), AllocError> {
+    if base.len() >= u32::MAX as usize {
+        return Err(AllocError);
+    }
+    let clause = normal_clause(alloc, atoms)?;
+    base.add(clause, Bound::Infinite, Origin::Learnt)
+}
+
+/// Learns three clauses, of 3, 2 and 5 atoms.
+fn learn_three(alloc: Global, base: &mut ClauseBase) -> Result<(), AllocError> {
+    learn(alloc, base, &[one(0), one(1), one(2)])?;
+    learn(alloc, base, &[one(0), one(1)])?;
+    learn(alloc, base, &[one(0), one(1), one(2), one(3), one(4)])
+}
+
+/// What is looked at once a base forgot: how many learnt clauses it dropped, which one last, and which of the first three stand.
+#[derive(Clone, Copy, PartialEq, Eq)]
+struct Left {
+    count: u32,
+    last: Option<u32>,
+    stand: [bool; 3],
+}
+
+/// The learnt clause that the last line of the journal drops.
+fn last_drop(base: &ClauseBase) -> Option<u32> {
+    match base.journal().as_slice().last() {
+        Some(JournalItem::Drop(place)) => Some(*place),
+        _ => None,
+    }
+}
+
+fn looked_at(base: &ClauseBase, count: u32) -> Left {
+    Left {
+        count,
+        last: last_drop(base),
+        stand: [base.in_force(0), base.in_force(1), base.in_force(2)],
+    }
+}
+
+/// What is left of three learnt clauses where no note names one.
+fn left_of_three(alloc: Global, keep: u32) -> Result<Left, AllocError> {
+    let store = bits(alloc)?;
+    let mut base = ClauseBase::new(alloc);
+    learn_three(alloc, &mut base)?;
+    let count = base.forget(&store, keep)?;
+    Ok(looked_at(&base, count))
+}
+
+#[derive(Clone, Copy)]
+struct Row<'a> {
+    name: &'a str,
+    keep: u32,
+    left: Left,
+}
+
+#[test]
+fn the_longest_goes_first(rt: HostRuntime) -> Result<(), Fail> {
+    let rows = [
+        Row {
+            name: "none goes where as many stand as are to be kept",
+            keep: 3,
+            left: Left {
+                count: 0,
+                last: None,
+                stand: [true, true, true],
+            },
+        },
+        Row {
+            name: "the one of five atoms goes",
+            keep: 2,
+            left: Left {
+                count: 1,
+                last: Some(2),
+                stand: [true, true, false],
+            },
+        },
+        Row {
+            name: "then the one of three",
+            keep: 1,
+            left: Left {
+                count: 2,
+                last: Some(0),
+                stand: [false, true, false],
+            },
+        },
+    ];
+    for row in rows {
+        let left = left_of_three(rt.alloc(), row.keep)?;
+        assert!(rt; left == row.left, "{}", row.name);
+    }
+    Ok(())
+}
+
+/// What is left where the longest clause made an atom true, and a short one that did nothing was learnt last.
+fn left_of_named(alloc: Global) -> Result<Left, AllocError> {
+    let mut store = bits(alloc)?;
+    let mut base = ClauseBase::new(alloc);
+    settle_more(alloc, &mut base, &mut store, &[one(0), one(1), one(2)])?;
+    settle_more(alloc, &mut base, &mut store, &[zero(0)])?;
+    settle_more(alloc, &mut base, &mut store, &[zero(1)])?;
+    learn(alloc, &mut base, &[one(1), one(2)])?;
+    let count = base.forget(&store, 0)?;
+    Ok(looked_at(&base, count))
+}
+
+#[test]
+fn a_clause_that_a_note_names_stays(rt: HostRuntime) -> Result<(), Fail> {
+    let named = Left {
+        count: 1,
+        last: Some(3),
+        stand: [true, true, true],
+    };
+    assert!(rt; left_of_named(rt.alloc())? == named);
+    Ok(())
+}
