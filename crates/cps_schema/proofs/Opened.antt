@@ -4,7 +4,7 @@ use Rattle.std.specs.List.{list_any}
 use Rattle.std.specs.Str.{bytes_eq}
 use Rattle.std.proofs.lemmas.Slice.Eq.{bytes_eq-Decides}
 use Rattle.std.proofs.lemmas.List.Elements.{All-nil, All-cons, All-append, All-map}
-use Rattle.std.proofs.Common.{◌≡◌, ℕ, Bool, true, false, not, if◌then◌else◌, List, [], ◌∷◌, ◌++◌, All, IsTrue, length, get_or, map, Option, Some, None, Result, Ok, Err, IfOk, codes, refl, sym, ap, ◌∙◌, arith}
+use Rattle.std.proofs.Common.{◌≡◌, ℕ, Bool, true, false, if◌then◌else◌, List, [], ◌∷◌, ◌++◌, All, IsTrue, get_or, map, Option, Some, None, Result, Ok, Err, IfOk, codes, refl, sym, ap, ◌∙◌, arith}
 use Rattle.cps_textproto.specs.Trees.{Tree, no_fields, field, Values, no_values, scalar_value, message_value}
 use Rattle.cps_model.specs.declared.fault.FaultName.{FaultName}
 use Rattle.cps_model.specs.declared.fault.FaultName.TheVariants.{Unsupported}
@@ -19,7 +19,7 @@ use Rattle.cps_schema.specs.declared.kind.KindName.TheVariants.{BoolOr, BoolAnd,
 use Rattle.cps_schema.specs.Written.{Written, token_text}
 use Rattle.cps_schema.specs.Tables.{Message, model_message, number, closable, constraint_message, message, one_kind, use_of, content_of, is_given}
 use Rattle.cps_schema.specs.Kinds.{kind_named, field_name, message_of}
-use Rattle.cps_schema.specs.Faults.{refused_at, name_fault, field_fault, list_fault, is_alone, values_fault, fields_fault}
+use Rattle.cps_schema.specs.Faults.{refused_at, name_fault, field_fault, values_fault, fields_fault}
 use Rattle.cps_schema.specs.Readings.{first_or, numbers, value_messages, messages, is_older_element, read_older_element, read_newer_element, read_kind, kinds_of, given_kinds, read_constraint, read_model, ReadsAs}
 use Rattle.cps_schema.specs.Open.{is_open_name, is_open, OpenKinds, OpenAssumptions}
 use Rattle.cps_schema.proofs.GivenKinds.{named_text, kind_use}

@@ -1,4 +1,4 @@
-use Rattle.std.proofs.Common.{◌≡◌, true, false, sym, ◌∙◌}
+use Rattle.std.proofs.Common.{◌≡◌, true, false, sym}
 use Rattle.cps_schema.specs.declared.number.Number.TheVariants.{Int32}
 use Rattle.cps_schema.specs.Sources.{written_of}
 use Rattle.cps_schema.specs.Written.{token_text}
