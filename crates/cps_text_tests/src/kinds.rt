@@ -1,41 +1,41 @@
-//! Documents with each kind of constraint, read as models where no field is closed, and refused where all are.
+//! Documents with each kind of constraint and with assumptions, read as models where no field is closed, and refused for
+//! another cause even then.
 use crate::reading::{model_of_all, refusal_of_all};
-use cps_model::{Kind, LinearExpr, Listed};
+use cps_model::{CpModel, Kind, LinearExpr, Listed};
 use std::alloc::Global;
+use std::fmt::Write;
 use std::process::Abort;
 use std::test::Fail;
 
-/// An expression: its references, its coefficients and its offset.
-fn expression(alloc: Global, e: &LinearExpr) -> Result<String, Fail> {
-    let vars = e.vars.as_slice();
-    let coeffs = e.coeffs.as_slice();
-    let offset = e.offset;
-    Ok(format!(in alloc; "{vars:?}{coeffs:?}{offset}")?)
+/// Appends an expression: its references, its coefficients and its offset.
+fn put_expression(text: &mut String, e: &LinearExpr) -> Result<(), Fail> {
+    let (vars, coeffs, offset) = (e.vars.as_slice(), e.coeffs.as_slice(), e.offset);
+    write!(text, "{vars:?}{coeffs:?}{offset}")?;
+    Ok(())
 }
 
-fn expressions(alloc: Global, list: &Listed<LinearExpr>) -> Result<String, Fail> {
-    let mut shown = String::new(alloc);
+/// Appends expressions, each with a semicolon behind it.
+fn put_expressions(text: &mut String, list: &Listed<LinearExpr>) -> Result<(), Fail> {
     for e in list.as_slice() {
-        let text = expression(alloc, e)?;
-        shown.push_str(text.as_str())?;
-        shown.push_str(";")?;
+        put_expression(text, e)?;
+        text.push_str(";")?;
     }
-    Ok(shown)
+    Ok(())
 }
 
-/// A kind of a target and expressions.
-fn argument(
-    alloc: Global,
+/// Appends what a kind of a target and expressions holds.
+fn put_argument(
+    text: &mut String,
     target: &LinearExpr,
     exprs: &Listed<LinearExpr>,
-) -> Result<String, Fail> {
-    let target = expression(alloc, target)?;
-    let exprs = expressions(alloc, exprs)?;
-    Ok(format!(in alloc; "{target} of {exprs}")?)
+) -> Result<(), Fail> {
+    put_expression(text, target)?;
+    text.push_str(" of ")?;
+    put_expressions(text, exprs)
 }
 
-/// What a kind of lists and numbers holds.
-fn listed(alloc: Global, kind: &Kind) -> Result<String, Fail> {
+/// Appends what a kind of lists and numbers holds.
+fn put_lists(text: &mut String, kind: &Kind) -> Result<(), Fail> {
     match kind {
         Kind::Circuit {
             tails,
@@ -43,42 +43,44 @@ fn listed(alloc: Global, kind: &Kind) -> Result<String, Fail> {
             literals,
         } => {
             let (a, b, c) = (tails.as_slice(), heads.as_slice(), literals.as_slice());
-            Ok(format!(in alloc; "{a:?}{b:?}{c:?}")?)
+            write!(text, "{a:?}{b:?}{c:?}")?;
         }
         Kind::NoOverlap(intervals) => {
             let a = intervals.as_slice();
-            Ok(format!(in alloc; "{a:?}")?)
+            write!(text, "{a:?}")?;
         }
         Kind::Inverse { direct, inverse } => {
             let (a, b) = (direct.as_slice(), inverse.as_slice());
-            Ok(format!(in alloc; "{a:?}{b:?}")?)
+            write!(text, "{a:?}{b:?}")?;
         }
         Kind::NoOverlap2d { x, y } => {
             let (a, b) = (x.as_slice(), y.as_slice());
-            Ok(format!(in alloc; "{a:?}{b:?}")?)
+            write!(text, "{a:?}{b:?}")?;
         }
-        _ => Err(Fail::from("another kind")),
+        _ => return Err(Fail::from("another kind")),
     }
+    Ok(())
 }
 
-/// What a kind of times holds.
-fn timed(alloc: Global, kind: &Kind) -> Result<String, Fail> {
+/// Appends what a kind of times holds.
+fn put_times(text: &mut String, kind: &Kind) -> Result<(), Fail> {
     match kind {
         Kind::Interval { start, end, size } => {
-            let start = expression(alloc, start)?;
-            let end = expression(alloc, end)?;
-            let size = expression(alloc, size)?;
-            Ok(format!(in alloc; "{start} {end} {size}")?)
+            put_expression(text, start)?;
+            text.push_str(" ")?;
+            put_expression(text, end)?;
+            text.push_str(" ")?;
+            put_expression(text, size)
         }
         Kind::Cumulative {
             capacity,
             intervals,
             demands,
         } => {
-            let capacity = expression(alloc, capacity)?;
+            put_expression(text, capacity)?;
             let intervals = intervals.as_slice();
-            let demands = expressions(alloc, demands)?;
-            Ok(format!(in alloc; "{capacity} {intervals:?} {demands}")?)
+            write!(text, " {intervals:?} ")?;
+            put_expressions(text, demands)
         }
         Kind::Reservoir {
             min,
@@ -87,40 +89,39 @@ fn timed(alloc: Global, kind: &Kind) -> Result<String, Fail> {
             changes,
             active,
         } => {
-            let times = expressions(alloc, times)?;
-            let changes = expressions(alloc, changes)?;
+            write!(text, "{min} {max} ")?;
+            put_expressions(text, times)?;
+            text.push_str(" ")?;
+            put_expressions(text, changes)?;
             let active = active.as_slice();
-            Ok(format!(in alloc; "{min} {max} {times} {changes} {active:?}")?)
+            write!(text, " {active:?}")?;
+            Ok(())
         }
-        _ => listed(alloc, kind),
+        _ => put_lists(text, kind),
     }
 }
 
-/// What a kind holds.
-fn shown(alloc: Global, kind: &Kind) -> Result<String, Fail> {
+/// Appends what a kind of values and their numbers holds.
+fn put_lookups(text: &mut String, kind: &Kind) -> Result<(), Fail> {
     match kind {
-        Kind::IntDiv { target, exprs } => argument(alloc, target, exprs),
-        Kind::IntMod { target, exprs } => argument(alloc, target, exprs),
-        Kind::IntProd { target, exprs } => argument(alloc, target, exprs),
-        Kind::LinMax { target, exprs } => argument(alloc, target, exprs),
-        Kind::AllDiff(exprs) => expressions(alloc, exprs),
         Kind::Element {
             index,
             target,
             exprs,
         } => {
-            let index = expression(alloc, index)?;
-            let rest = argument(alloc, target, exprs)?;
-            Ok(format!(in alloc; "{index} {rest}")?)
+            put_expression(text, index)?;
+            text.push_str(" ")?;
+            put_argument(text, target, exprs)
         }
         Kind::Table {
             exprs,
             values,
             negated,
         } => {
-            let exprs = expressions(alloc, exprs)?;
+            put_expressions(text, exprs)?;
             let values = values.as_slice();
-            Ok(format!(in alloc; "{exprs} {values:?} {negated}")?)
+            write!(text, " {values:?} {negated}")?;
+            Ok(())
         }
         Kind::Automaton {
             start,
@@ -130,12 +131,24 @@ fn shown(alloc: Global, kind: &Kind) -> Result<String, Fail> {
             labels,
             exprs,
         } => {
-            let exprs = expressions(alloc, exprs)?;
             let (a, b) = (finals.as_slice(), tails.as_slice());
             let (c, d) = (heads.as_slice(), labels.as_slice());
-            Ok(format!(in alloc; "{start} {a:?}{b:?}{c:?}{d:?} {exprs}")?)
+            write!(text, "{start} {a:?}{b:?}{c:?}{d:?} ")?;
+            put_expressions(text, exprs)
         }
-        _ => timed(alloc, kind),
+        _ => put_times(text, kind),
+    }
+}
+
+/// Appends what a kind holds.
+fn put_kind(text: &mut String, kind: &Kind) -> Result<(), Fail> {
+    match kind {
+        Kind::IntDiv { target, exprs } => put_argument(text, target, exprs),
+        Kind::IntMod { target, exprs } => put_argument(text, target, exprs),
+        Kind::IntProd { target, exprs } => put_argument(text, target, exprs),
+        Kind::LinMax { target, exprs } => put_argument(text, target, exprs),
+        Kind::AllDiff(exprs) => put_expressions(text, exprs),
+        _ => put_lookups(text, kind),
     }
 }
 
@@ -173,16 +186,29 @@ const TIMES: &str = "\
 [0, 1][2, 3]: no_overlap_2d { x_intervals: [0, 1] y_intervals: 2 y_intervals: 3 }
 ";
 
+/// The model of one constraint that a field of a kind gives.
+fn model_of_kind(rt: &impl Abort, alloc: Global, field: &str) -> Result<CpModel, Fail> {
+    let text = format!(in alloc; "constraints {{ {field} }}")?;
+    model_of_all(rt, alloc, text.as_str())
+}
+
+/// What the kind that a field gives holds.
+fn held(rt: &impl Abort, alloc: Global, field: &str) -> Result<String, Fail> {
+    let model = model_of_kind(rt, alloc, field)?;
+    let mut text = String::new(alloc);
+    for constraint in model.constraints.as_slice() {
+        put_kind(&mut text, &constraint.kind)?;
+    }
+    Ok(text)
+}
+
 /// Each line is what a kind holds, and the field that gives it.
 #[test]
 fn reads_kinds(rt: HostRuntime) -> Result<(), Fail> {
     for lines in [ARITHMETIC, LISTS, TIMES] {
         for line in lines.lines() {
             let (wanted, field) = line.split_once(": ").ok_or("no field")?;
-            let text = format!(in rt.alloc(); "constraints {{ {field} }}")?;
-            let model = model_of_all(&rt, rt.alloc(), text.as_str())?;
-            let constraint = model.constraints.as_slice().first().ok_or("no constraint")?;
-            let held = shown(rt.alloc(), &constraint.kind)?;
+            let held = held(&rt, rt.alloc(), field)?;
             assert_eq!(rt; held.as_str(), wanted, "{field}");
         }
     }
@@ -219,6 +245,11 @@ OutOfRange at 42: constraints { automaton { starting_state: 9223372036854775808 
 UnknownField at 25: constraints { interval { presence: 0 } }
 Unsupported at 14: constraints { routes { } }
 Unsupported at 14: constraints { dummy_constraint { } }
+WrongKind at 12: assumptions { }
+WrongKind at 13: assumptions: { }
+WrongKind at 17: assumptions: [0, 1.0]
+OutOfRange at 13: assumptions: 2147483648
+Unsupported at 0: symmetry { }
 ";
 
 /// Each line is a fault with its byte, and a text that is refused so where no field is closed.

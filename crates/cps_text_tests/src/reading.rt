@@ -1,6 +1,6 @@
 //! The way from a text to its model.
 use cps_lex::{Token, tokens};
-use cps_model::{CpModel, Listed};
+use cps_model::CpModel;
 use cps_schema::{FaultName, SchemaError, model_of, model_with};
 use cps_textproto::document;
 use cps_validate::{ValidModel, validate};
@@ -83,25 +83,7 @@ pub fn refusal_of_all(
     fault_of(meaning_of_all(rt, alloc, bytes, &tokens)?, &tokens)
 }
 
-/// The model that a text is read as, with these assumptions.
-pub fn model_assuming(
-    rt: &impl Abort,
-    alloc: Global,
-    text: &str,
-    assumptions: &[i32],
-) -> Result<CpModel, Fail> {
-    let assumptions = Listed::from_vec(assumptions.to_vec(alloc)?);
-    let mut model = model(rt, alloc, text)?;
-    model.assumptions = assumptions;
-    Ok(model)
-}
-
-/// The valid model that a text is read as, with these assumptions.
-pub fn valid_model(
-    rt: &impl Abort,
-    alloc: Global,
-    text: &str,
-    assumptions: &[i32],
-) -> Result<ValidModel, Fail> {
-    Ok(validate(alloc, model_assuming(rt, alloc, text, assumptions)?)?)
+/// The valid model that a text is read as where no field is closed.
+pub fn valid_model(rt: &impl Abort, alloc: Global, text: &str) -> Result<ValidModel, Fail> {
+    Ok(validate(alloc, model_of_all(rt, alloc, text)?)?)
 }

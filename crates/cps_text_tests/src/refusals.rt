@@ -31,6 +31,9 @@ Repeated at 26: constraints { bool_or { } bool_or: 0 }
 TwoKinds at 26: constraints { bool_or { } linear: 0 }
 TwoKinds at 30: constraints { at_most_one { } exactly_one { } }
 Unsupported at 0: assumptions: 0
+Unsupported at 29: variables { domain: [0, 1] } assumptions: [0, -1]
+Unsupported at 0: assumptions { }
+Unsupported at 9: name: \"\" assumptions: [ ]
 Repeated at 10: name: \"a\" name: \"b\"
 Repeated at 18: solution_hint { } solution_hint { }
 MixedForms at 28: search_strategy { exprs { } variables: 0 }

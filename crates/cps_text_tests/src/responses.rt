@@ -50,12 +50,13 @@ fn minimised(
 
 /// A response with a solution.
 fn solved(alloc: Global, status: Status, values: &[i64], lower: i64) -> Result<Response, AllocError>
-    ensures { IfOk result (λ r. r ≡ record { status = status; solution = Some values.now; lower = Bound.At lower }) }
+    ensures { IfOk result (λ r. r ≡ record { status = status; solution = Some values.now; lower = Bound.At lower; core = [] }) }
 {
     Ok(Response {
         status,
         solution: Some(ints(alloc, values)?),
         lower: Bound::At(lower),
+        core: Listed::new(alloc),
     })
 }
 
@@ -113,13 +114,14 @@ fn feasible(rt: HostRuntime) -> Result<(), Fail> {
 }
 
 #[test]
-fn unsolved(rt: HostRuntime) -> Result<(), Fail> {
+fn unknown(rt: HostRuntime) -> Result<(), Fail> {
     let alloc = rt.alloc();
     let model = minimised(alloc, &[0], &[1], 0, 1)?;
     let unknown = Response {
         status: Status::Unknown,
         solution: None,
         lower: Bound::At(-5),
+        core: Listed::new(alloc),
     };
     assert_response(
         &rt,
@@ -127,13 +129,7 @@ fn unsolved(rt: HostRuntime) -> Result<(), Fail> {
         &model,
         &unknown,
         "status: UNKNOWN\nbest_objective_bound: -5\n",
-    )?;
-    let infeasible = Response {
-        status: Status::Infeasible,
-        solution: None,
-        lower: Bound::Infinite,
-    };
-    assert_response(&rt, alloc, &model, &infeasible, "status: INFEASIBLE\n")
+    )
 }
 
 #[test]
@@ -144,6 +140,7 @@ fn lowest_bound(rt: HostRuntime) -> Result<(), Fail> {
         status: Status::Unknown,
         solution: None,
         lower: Bound::At(i64::MIN),
+        core: Listed::new(alloc),
     };
     assert_response(
         &rt,
@@ -152,6 +149,39 @@ fn lowest_bound(rt: HostRuntime) -> Result<(), Fail> {
         &unknown,
         "status: UNKNOWN\nbest_objective_bound: 9223372036854775908\n",
     )
+}
+
+/// Asserts what is written of a model that is infeasible because of these assumptions.
+fn assert_infeasible(
+    rt: &impl Abort,
+    alloc: Global,
+    core: &[i32],
+    wanted: &str,
+) -> Result<(), Fail> {
+    let infeasible = Response {
+        status: Status::Infeasible,
+        solution: None,
+        lower: Bound::Infinite,
+        core: refs(alloc, core)?,
+    };
+    let model = minimised(alloc, &[0], &[1], 0, 1)?;
+    assert_response(rt, alloc, &model, &infeasible, wanted)
+}
+
+#[test]
+fn infeasible(rt: HostRuntime) -> Result<(), Fail> {
+    let rows: [(&[i32], &str); 2] = [
+        (&[], "status: INFEASIBLE\n"),
+        (
+            &[0, -1],
+            "status: INFEASIBLE\nsufficient_assumptions_for_infeasibility: 0\n\
+             sufficient_assumptions_for_infeasibility: -1\n",
+        ),
+    ];
+    for (core, wanted) in rows {
+        assert_infeasible(&rt, rt.alloc(), core, wanted)?;
+    }
+    Ok(())
 }
 
 /// Asserts that this is the second line for a fault.

@@ -1,5 +1,5 @@
 //! Models against the rules of a valid model.
-use crate::reading::model_assuming;
+use crate::reading::model_of_all;
 use cps_model::Place;
 use cps_validate::{ValidateError, validate};
 use std::alloc::Global;
@@ -7,60 +7,49 @@ use std::process::Abort;
 use std::test::Fail;
 
 /// The rule that a model breaks first, with its place; `None` if it is valid.
-fn broken(
-    rt: &impl Abort,
-    alloc: Global,
-    text: &str,
-    assumptions: &[i32],
-) -> Result<Option<(u8, Place)>, Fail> {
-    match validate(alloc, model_assuming(rt, alloc, text, assumptions)?) {
+fn broken(rt: &impl Abort, alloc: Global, text: &str) -> Result<Option<(u8, Place)>, Fail> {
+    match validate(alloc, model_of_all(rt, alloc, text)?) {
         Ok(_) => Ok(None),
         Err(ValidateError::Invalid { rule, place }) => Ok(Some((rule, place))),
         Err(error) => Err(Fail::from(error)),
     }
 }
 
-/// One variable and one clause, with an assumption.
+/// One variable, one clause and assumptions.
 #[test]
 fn variables_and_literals(rt: HostRuntime) -> Result<(), Fail> {
-    let rows: [(&str, i32, Option<(u8, Place)>); 6] = [
+    let rows: [(&str, Option<(u8, Place)>); 7] = [
         (
-            "variables { domain: [0, -1] } constraints { bool_or { literals: 0 } }",
-            0,
+            "variables { domain: [0, -1] } constraints { bool_or { literals: 0 } } assumptions: 0",
             Some((1, Place::Variable(0))),
         ),
         (
-            "variables { domain: [0, 4611686018427387904] } constraints { bool_or { literals: 0 } }",
-            0,
+            "variables { domain: [0, 4611686018427387904] } constraints { bool_or { literals: 0 } } assumptions: 0",
             Some((2, Place::Variable(0))),
         ),
         (
-            "variables { domain: [0, 1] } constraints { bool_or { literals: 5 } }",
-            0,
+            "variables { domain: [0, 1] } constraints { bool_or { literals: 5 } } assumptions: 0",
             Some((3, Place::Constraint(0))),
         ),
         (
-            "variables { domain: [0, 2] } constraints { bool_or { literals: 0 } }",
-            0,
+            "variables { domain: [0, 2] } constraints { bool_or { literals: 0 } } assumptions: 0",
             Some((4, Place::Constraint(0))),
         ),
         (
-            "variables { domain: [0, 1] } constraints { bool_or { literals: 0 } }",
-            9,
+            "variables { domain: [0, 1] } constraints { bool_or { literals: 0 } } assumptions: 9",
             Some((3, Place::Assumption(0))),
         ),
         (
-            "variables { domain: [0, 1] } constraints { bool_or { literals: 0 } }",
-            -1,
+            "variables { domain: [0, 1] } variables { domain: [0, 2] } assumptions: [0, -2]",
+            Some((4, Place::Assumption(1))),
+        ),
+        (
+            "variables { domain: [0, 1] } constraints { bool_or { literals: 0 } } assumptions: -1",
             None,
         ),
     ];
-    for (text, assumption, wanted) in rows {
-        assert_eq!(rt;
-            broken(&rt, rt.alloc(), text, &[assumption])?,
-            wanted,
-            "{text}"
-        );
+    for (text, wanted) in rows {
+        assert_eq!(rt; broken(&rt, rt.alloc(), text)?, wanted, "{text}");
     }
     Ok(())
 }
@@ -83,7 +72,7 @@ fn sums(rt: HostRuntime) -> Result<(), Fail> {
             "{WIDE} constraints {{ linear {{ vars: [0, 1] {fields} }} }}"
         )?;
         let wanted = rule.map(|rule| (rule, Place::Constraint(0)));
-        assert_eq!(rt; broken(&rt, alloc, text.as_str(), &[])?, wanted, "{fields}");
+        assert_eq!(rt; broken(&rt, alloc, text.as_str())?, wanted, "{fields}");
     }
     Ok(())
 }

@@ -51,7 +51,7 @@ fn assert_holds(
     holds: bool,
 ) -> Result<(), Fail> {
     let text = format!(in alloc; "{BITS} constraints {{ {constraint} }}")?;
-    let model = valid_model(rt, alloc, text.as_str(), &[])?;
+    let model = valid_model(rt, alloc, text.as_str())?;
     let place = if holds {
         None
     } else {
@@ -110,11 +110,11 @@ fn sums_hold(rt: HostRuntime) -> Result<(), Fail> {
 
 /// The second variable is assumed false, and the first enforces what never holds.
 const PARTS: &str = "variables { domain: [0, 1] } variables { domain: [0, 1] } \
-    constraints { enforcement_literal: 0 bool_or { } }";
+    constraints { enforcement_literal: 0 bool_or { } } assumptions: -2";
 
 #[test]
 fn parts_fail_in_order(rt: HostRuntime) -> Result<(), Fail> {
-    let model = valid_model(&rt, rt.alloc(), PARTS, &[-2])?;
+    let model = valid_model(&rt, rt.alloc(), PARTS)?;
     let rows: [([i64; 2], Option<Place>); 4] = [
         ([0, 0], None),
         ([1, 2], Some(Place::Variable(1))),
@@ -130,7 +130,7 @@ const SCORED: &str = "variables { domain: [0, 10] } variables { domain: [0, 10] 
 
 #[test]
 fn objectives_fail_behind_constraints(rt: HostRuntime) -> Result<(), Fail> {
-    let model = valid_model(&rt, rt.alloc(), SCORED, &[])?;
+    let model = valid_model(&rt, rt.alloc(), SCORED)?;
     let rows: [([i64; 2], Option<Place>); 2] = [([4, 0], None), ([4, 1], Some(Place::Objective))];
     assert_places(&rt, rt.alloc(), &model, &rows)
 }
@@ -154,7 +154,7 @@ fn assert_objective(
 
 #[test]
 fn objectives_have_values(rt: HostRuntime) -> Result<(), Fail> {
-    let model = valid_model(&rt, rt.alloc(), SCORED, &[])?;
+    let model = valid_model(&rt, rt.alloc(), SCORED)?;
     assert_objective(&rt, rt.alloc(), &model, &[4, 0], [-50, -12])
 }
 

@@ -17,10 +17,10 @@ use Rattle.cps_print.specs.declared.fault.Fault.{Fault}
 use Rattle.cps_print.specs.declared.fault.Fault.TheVariants.{Text, Field, Rule}
 use Rattle.cps_print.specs.ReadBack.{IsReadAs}
 use Rattle.cps_print.specs.Responses.{IsShowable}
-use Rattle.cps_schema.proofs.Opened.{model_open}
+use Rattle.cps_schema.proofs.Opened.{model_open, model_assumed}
 use Rattle.cps_kinds.specs.Kinds.{AreAllPropagated}
 use Rattle.cps_search.specs.Searches.{HasNoAssumptions}
-use Rattle.cpsolve.proofs.Limits.{showable, none_assumed}
+use Rattle.cpsolve.proofs.Limits.{showable}
 use Rattle.cpsolve.proofs.Opening.{open_propagated}
 use Rattle.cpsolve.specs.declared.input.Unread.{Unread}
 use Rattle.cpsolve.specs.declared.input.Unread.TheVariants as unread
@@ -89,7 +89,7 @@ meant_showable bytes m meant = showable (written bytes meant.this.tokens) meant.
 
 -- and has no assumptions
 pub meant_assumptions : (bytes : List ℕ) (m : CpModel) → IsMeant bytes m → HasNoAssumptions m
-meant_assumptions bytes m meant = none_assumed (written bytes meant.this.tokens) meant.this.tree m meant.this.read
+meant_assumptions bytes m meant = model_assumed (written bytes meant.this.tokens) meant.this.tree m meant.this.read refl
 
 -- and only kinds that have a propagator
 pub meant_propagated : (bytes : List ℕ) (m : CpModel) → IsMeant bytes m → AreAllPropagated m

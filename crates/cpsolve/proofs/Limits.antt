@@ -43,7 +43,3 @@ pub showable : (w : Written) (tree : Tree) (m : CpModel) → ReadsAs w tree m �
 showable w tree m r =
     readable_showable m.objective
     (subst (λ (n : CpModel). Each IsReadableObjective (option_to_list n.objective)) (sym r.reading) (objective_of w tree r.accepted))
-
--- no assumptions are read
-pub none_assumed : (w : Written) (tree : Tree) (m : CpModel) → ReadsAs w tree m → m.assumptions ≡ []
-none_assumed w tree m r = subst (λ (n : CpModel). n.assumptions ≡ []) (sym r.reading) refl

@@ -16,7 +16,7 @@ ghost use Rattle.cpsolve.specs.Answers.{usage_text, valid_text, IsText, IsFaultT
 use crate::generation::{demo_answer, gen_answer};
 use crate::input::{Unread, read_model, valid_model_of};
 use cps_command::Command;
-use cps_model::{CpModel, Text};
+use cps_model::{CpModel, Listed, Text};
 use cps_options::Options;
 use cps_outer::Gate;
 use cps_portfolio::{Outcome, solve, solve_interleaved};
@@ -119,6 +119,7 @@ fn solve_answer<R: Threads + Wait + Sync, G: Gate + Sync>(
         status,
         solution,
         lower,
+        core: Listed::new(alloc),
     };
     let text = response_text(alloc, model.model(), &response)?;
     let Response { solution, .. } = response;
