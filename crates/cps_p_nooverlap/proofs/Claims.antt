@@ -1,6 +1,6 @@
 -- What was cited of spans in a window gives.
 use Rattle.std.specs.List.{sum}
-use Rattle.std.proofs.Common.{◌≡◌, ◌<◌, ◌≤ℤ◌, ◌+ℤ◌, ℕ, ℤ, pos, true, List, [], length, get_or, sym, ◌∙◌, subst, arith}
+use Rattle.std.proofs.Common.{◌≡◌, ◌<◌, ◌≤ℤ◌, ◌<ℤ◌, ◌+ℤ◌, ℕ, ℤ, pos, Bool, true, false, List, [], length, get_or, refl, sym, ◌∙◌, ap, subst, arith}
 use Rattle.std.proofs.lemmas.Int.{ints}
 use Rattle.std.proofs.lemmas.List.{get_or_default}
 use Rattle.std.proofs.lemmas.List.Elements.{All-nil}
@@ -13,68 +13,96 @@ use Rattle.cps_instance.specs.Parts.{span_runs}
 use Rattle.cps_trail.specs.Trail.{Trail, IsAdmitted}
 use Rattle.cps_rule.specs.Rules.{IsFact, AreFacts, AllTrueAt, IsGiven, IsImpossible}
 use Rattle.cps_p_nooverlap.specs.declared.crowd.Crowd.{Crowd}
+use Rattle.cps_p_nooverlap.specs.declared.crowd.Ends.TheVariants.{Both, Start, End}
 use Rattle.cps_p_nooverlap.specs.Citing.{Cites}
-use Rattle.cps_p_nooverlap.specs.Spans.{start_at, end_at, is_present, IsSpan, AreSpans, Says}
-use Rattle.cps_p_nooverlap.specs.Crowds.{AreRuns, IsCrowd, StartsFrom, EndsUpTo, IsReasoned}
+use Rattle.cps_p_nooverlap.specs.Spans.{is_present, IsSpan, AreSpans, Says}
+use Rattle.cps_p_nooverlap.specs.Crowds.{near_at, far_at, LastsAt, AreRuns, IsAside, IsCrowd, StartsFrom, StartsBeforeUnless, IsAboutOne, IsReasoned}
 use Rattle.cps_p_nooverlap.proofs.Citing.{says_within}
-use Rattle.cps_p_nooverlap.proofs.Crowding.{comes_after, comes_before}
+use Rattle.cps_p_nooverlap.proofs.Crowding.{comes_after_all, comes_after_one, comes_after}
 
-module _ (s : Trail) (a b d f : List Atom) (ps : List Span) (whole part : List ℕ) (c : Crowd) (m : ℕ) (q : Span) (i : IsCrowd (length ps) whole part c m) (is : q ≡ get_or ps c.place q)
-    (lasts : (xs : List ℤ) → (start_at xs q +ℤ pos c.weight) ≤ℤ end_at xs q) where
-  place_is : (e : Span) → q ≡ get_or ps c.place e
-  place_is e = is ∙ get_or_default ps c.place q e i.place
+-- a span, which is read at a place of a list
+module _ (ps : List Span) (p : ℕ) (l : p < length ps) (q : Span) (is : q ≡ get_or ps p q) where
+  place_is : (e : Span) → q ≡ get_or ps p e
+  place_is e = is ∙ get_or_default ps p q e l
 
-  present_at : (xs : List ℤ) → is_present xs q ≡ true → (e : Span) → is_present xs (get_or ps c.place e) ≡ true
-  present_at xs h e = subst (λ (u : Span). is_present xs u ≡ true) (place_is e) h
+  everywhere : (xs : List ℤ) (d : Span) → is_present xs (get_or ps p d) ≡ true → (e : Span) → is_present xs (get_or ps p e) ≡ true
+  everywhere xs d h e = subst (λ (u : Span). is_present xs u ≡ true) (get_or_default ps p d e l) h
 
-  lasts_at : (xs : List ℤ) (e : Span) → (start_at xs (get_or ps c.place e) +ℤ pos c.weight) ≤ℤ end_at xs (get_or ps c.place e)
-  lasts_at xs e = subst (λ (u : Span). (start_at xs u +ℤ pos c.weight) ≤ℤ end_at xs u) (place_is e) (lasts xs)
+  module _ (s : Trail) (r : Bool) (a b d : List Atom) (ws : List ℕ) (m : ℕ) (i : IsAside (length ps) ws p m) where
+    much : 0 < sum ws
+    much = let k = i.count.is in let o = i.count.some in omega arith
 
-  much : 0 < sum part
-  much = let k = i.late.is in let l = i.late.some in omega arith
+    pub cites_precedences : (from to edge time : ℤ) → to <ℤ edge → time ≤ℤ (from +ℤ pos m) → Cites s a b (λ xs. edge ≤ℤ far_at r xs q) → Cites s b d (λ xs. AreRuns Start r xs ps ws from to) → Cites s a d (λ xs. StartsFrom r xs ps p time)
+    cites_precedences from to edge time late reached x y = record {
+      facts = λ h. y.facts (x.facts h);
+      kept = λ xs h. x.kept xs (y.kept xs h);
+      gives = λ xs h e o t.
+          let k = x.gives xs (y.kept xs h) in
+          comes_after_all r xs ps p l (everywhere xs e t) o ws from to time e i.count.each i.aside (y.gives xs h)
+          (λ f. subst (λ (u : Span). to <ℤ far_at r xs u) (place_is f) (omega (arith, ints))) much (let n = i.count.is in omega (arith, ints));
+    }
 
-  pub cites_after : c.time ≤ℤ (c.edge +ℤ pos m) → Cites s a b (λ xs. (is_present xs q ≡ true) × (c.window.from ≤ℤ start_at xs q)) → Cites s b d (λ xs. AreRuns xs ps whole c.window.from c.window.to) → Cites s d f (λ xs. AreRuns xs ps part c.edge c.window.to)
-      → Cites s a f (λ xs. StartsFrom xs ps c.place c.time)
-  cites_after reached x y z = record {
+    pub cites_not_first : (to edge time : ℤ) → to <ℤ (edge +ℤ pos m) → Cites s a b (λ xs. edge ≤ℤ far_at r xs q) → Cites s b d (λ xs. AreRuns End r xs ps ws time to) → Cites s a d (λ xs. StartsFrom r xs ps p time)
+    cites_not_first to edge time full x y = record {
+      facts = λ h. y.facts (x.facts h);
+      kept = λ xs h. x.kept xs (y.kept xs h);
+      gives = λ xs h e o t.
+          let k = x.gives xs (y.kept xs h) in
+          comes_after_one r xs ps p l (everywhere xs e t) o ws edge to time e i.count.each i.aside (y.gives xs h)
+          (λ f. subst (λ (u : Span). edge ≤ℤ far_at r xs u) (place_is f) k) much (let n = i.count.is in omega (arith, ints));
+    }
+
+module _ (ps : List Span) (whole part : List ℕ) (c : Crowd) (m : ℕ) (q : Span) (i : IsCrowd (length ps) whole part c m) (is : q ≡ get_or ps c.place q) (s : Trail) (r : Bool) (a b d f : List Atom) where
+  pub cites_edge : c.time ≤ℤ (c.edge +ℤ pos m) → Cites s a b (λ xs. LastsAt xs q c.weight × (c.from ≤ℤ near_at r xs q)) → Cites s b d (λ xs. AreRuns Both r xs ps whole c.from c.to) → Cites s d f (λ xs. AreRuns Both r xs ps part c.edge c.to)
+      → Cites s a f (λ xs. StartsFrom r xs ps c.place c.time)
+  cites_edge reached x y z = record {
     facts = λ h. z.facts (y.facts (x.facts h));
     kept = λ xs h. x.kept xs (y.kept xs (z.kept xs h));
-    gives = λ xs h e o.
+    gives = λ xs h e o t.
         let k = x.gives xs (y.kept xs (z.kept xs h)) in
-        comes_after xs ps whole part c.place c.weight c.window.from c.window.to i.every i.place i.aside i.aside_too i.takes i.full (y.gives xs (z.kept xs h)) (present_at xs k.0) (lasts_at xs) o
-        c.edge c.time i.late.each (λ g. subst (λ (u : Span). c.window.from ≤ℤ start_at xs u) (place_is g) k.1) (z.gives xs h) much (let n = i.late.is in omega (arith, ints)) e;
+        comes_after r xs ps c.place i.place (everywhere ps c.place i.place q is xs e t) o whole c.weight c.from c.to i.every i.aside i.takes i.full (y.gives xs (z.kept xs h))
+        (λ g. subst (λ (u : Span). LastsAt xs u c.weight) (place_is ps c.place i.place q is g) k.0)
+        (λ g. subst (λ (u : Span). c.from ≤ℤ near_at r xs u) (place_is ps c.place i.place q is g) k.1)
+        part c.edge c.time e i.late.each i.aside_too (z.gives xs h) (let n = i.late.is in let j = i.late.some in omega arith) (let n = i.late.is in omega (arith, ints));
   }
 
-  pub cites_before : c.edge ≤ℤ (c.time +ℤ pos m) → Cites s a b (λ xs. (is_present xs q ≡ true) × (end_at xs q ≤ℤ c.window.to)) → Cites s b d (λ xs. AreRuns xs ps whole c.window.from c.window.to) → Cites s d f (λ xs. AreRuns xs ps part c.window.from c.edge)
-      → Cites s a f (λ xs. EndsUpTo xs ps c.place c.time)
-  cites_before reached x y z = record {
-    facts = λ h. z.facts (y.facts (x.facts h));
-    kept = λ xs h. x.kept xs (y.kept xs (z.kept xs h));
-    gives = λ xs h e o.
-        let k = x.gives xs (y.kept xs (z.kept xs h)) in
-        comes_before xs ps whole part c.place c.weight c.window.from c.window.to i.every i.place i.aside i.aside_too i.takes i.full (y.gives xs (z.kept xs h)) (present_at xs k.0) (lasts_at xs) o
-        c.edge c.time i.late.each (λ g. subst (λ (u : Span). end_at xs u ≤ℤ c.window.to) (place_is g) k.1) (z.gives xs h) much (let n = i.late.is in omega (arith, ints)) e;
-  }
-
--- a span's own atom, of what holds of it
-pub reasoned_after : (s : Trail) (ps : List Span) (old us : List Atom) (k : ℕ) (time : ℤ) (q : Span) (u : Atom) → AreSpans s.first ps → k < length ps → q ≡ get_or ps k q → old ≡ [] → Cites s old us (λ xs. StartsFrom xs ps k time) → Says q u (λ xs. time ≤ℤ start_at xs q) → IsReasoned s ps us u
-reasoned_after s ps old us k time q u are l is none c says = record {
-  subject = says_within s.first q u (λ xs. time ≤ℤ start_at xs q) (subst (λ (p : Span). IsSpan s.first p) (sym is) (are k q l)) says;
+-- a present span's own atom, of what holds of it
+pub reasoned_bound : (s : Trail) (ps : List Span) (old mid us : List Atom) (k : ℕ) (r : Bool) (time : ℤ) (q : Span) (u : Atom) → AreSpans s.first ps → k < length ps → q ≡ get_or ps k q → old ≡ [] → Cites s old mid (λ xs. StartsFrom r xs ps k time)
+    → Cites s mid us (λ xs. is_present xs q ≡ true) → Says q u (λ xs. time ≤ℤ near_at r xs q) → IsReasoned s ps us u
+reasoned_bound s ps old mid us k r time q u are l is none c present says = record {
+  subject = says_within s.first q u (λ xs. time ≤ℤ near_at r xs q) (subst (λ (p : Span). IsSpan s.first p) (sym is) (are k q l)) says;
   cites = subst (λ (vs : List Atom). Cites s vs us (λ xs. IsNoOverlap (span_runs xs ps) → atom_holds xs u ≡ true)) none (record {
-    facts = c.facts;
-    kept = c.kept;
-    gives = λ xs h o. says.said xs (subst (λ (p : Span). time ≤ℤ start_at xs p) (sym is) (c.gives xs h q o));
+    facts = λ h. present.facts (c.facts h);
+    kept = λ xs h. c.kept xs (present.kept xs h);
+    gives = λ xs h o. says.said xs (subst (λ (p : Span). time ≤ℤ near_at r xs p) (sym is) (c.gives xs (present.kept xs h) q o (subst (λ (p : Span). is_present xs p ≡ true) is (present.gives xs h))));
   });
 }
 
-pub reasoned_before : (s : Trail) (ps : List Span) (old us : List Atom) (k : ℕ) (time : ℤ) (q : Span) (u : Atom) → AreSpans s.first ps → k < length ps → q ≡ get_or ps k q → old ≡ [] → Cites s old us (λ xs. EndsUpTo xs ps k time) → Says q u (λ xs. end_at xs q ≤ℤ time) → IsReasoned s ps us u
-reasoned_before s ps old us k time q u are l is none c says = record {
-  subject = says_within s.first q u (λ xs. end_at xs q ≤ℤ time) (subst (λ (p : Span). IsSpan s.first p) (sym is) (are k q l)) says;
+-- an atom about the subject of one that is read in a list
+pub about_one : (us : List Atom) (k : ℕ) (v u : Atom) → k < length us → v ≡ get_or us k v → u.subject ≡ v.subject → IsAboutOne us u
+about_one us k v u l is e = record { place = k; inside = l; about = λ d. e ∙ ap (λ (w : Atom). w.subject) (is ∙ get_or_default us k v d l) }
+
+holds_or : (t : Bool) → (t ≡ false → ⊥) → t ≡ true
+holds_or true h = refl
+holds_or false h = absurd (h refl)
+
+-- one of the presence atoms of a span that would start too late
+pub reasoned_absence : (s : Trail) (ps : List Span) (old mid us : List Atom) (k : ℕ) (r : Bool) (time : ℤ) (q : Span) (u : Atom) → AreSpans s.first ps → k < length ps → q ≡ get_or ps k q → old ≡ [] → Cites s old mid (λ xs. StartsFrom r xs ps k time)
+    → Cites s mid us (λ xs. StartsBeforeUnless r xs q time u) → IsAboutOne q.presence u → IsReasoned s ps us u
+reasoned_absence s ps old mid us k r time q u are l is none c early about = record {
+  subject = (let h = (subst (λ (p : Span). IsSpan s.first p) (sym is) (are k q l)).presence in let j = h about.place u about.inside in let e = about.about u in omega (arith, e));
   cites = subst (λ (vs : List Atom). Cites s vs us (λ xs. IsNoOverlap (span_runs xs ps) → atom_holds xs u ≡ true)) none (record {
-    facts = c.facts;
-    kept = c.kept;
-    gives = λ xs h o. says.said xs (subst (λ (p : Span). end_at xs p ≤ℤ time) (sym is) (c.gives xs h q o));
+    facts = λ h. early.facts (c.facts h);
+    kept = λ xs h. c.kept xs (early.kept xs h);
+    gives = λ xs h o. holds_or (atom_holds xs u) (λ f. late xs h o (early.gives xs h f));
   });
 }
+  where
+    late : (xs : List ℤ) → AllTrueAt xs us → IsNoOverlap (span_runs xs ps) → (is_present xs q ≡ true) × (near_at r xs q <ℤ time) → ⊥
+    late xs h o e =
+        let from = subst (λ (p : Span). time ≤ℤ near_at r xs p) (sym is) (c.gives xs (early.kept xs h) q o (subst (λ (p : Span). is_present xs p ≡ true) is e.0)) in
+        let to = e.1 in
+        absurd (omega (arith, ints))
 
 facts_hold : (s : Trail) (us : List Atom) (xs : List ℤ) → AreFacts s us → IsAdmitted s.first s.entries xs → AllTrueAt xs us
 facts_hold s us xs h o = λ k d l. (h k d l).true_now (value_at xs (get_or us k d).subject) (o (get_or us k d).subject (h k d l).subject)

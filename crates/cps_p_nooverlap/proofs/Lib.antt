@@ -5,6 +5,7 @@ pub mod Pairing
 pub mod Resting
 pub mod Citing
 pub mod Packing_laws
+pub mod Turning
 pub mod Crowding
 pub mod Claims
 pub mod Disjoint

@@ -174,7 +174,7 @@ fn cite_unless_denied(
 }
 
 /// Adds each of these atoms but those that a target denies, where they were true. So where it is false all of them hold.
-fn cite_others(
+pub(crate) fn cite_others(
     past: &Before,
     atoms: &[Atom],
     target: Atom,

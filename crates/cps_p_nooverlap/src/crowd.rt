@@ -1,27 +1,59 @@
-//! Spans that are counted in a window of time, and a span for which they leave no room there.
+//! Spans that are counted in a window of time, and a span that they push.
+//!
+//! Time may be reversed: then a span starts at the negative of its end, and ends at the negative of its start. So each rule is written
+//! once, for spans that push another to a later start.
 ghost use Rattle.std.specs.Prelude.{◌≡◌, ◌+◌, ◌<ℤ◌, ◌≤ℤ◌, ◌+ℤ◌, pos, IfSome, IsTrue};
 ghost use Rattle.std.specs.List.{sum};
-ghost use Rattle.cps_p_nooverlap.specs.Crowds.{IsCount, IsCrowd};
+ghost use Rattle.cps_p_nooverlap.specs.Crowds.{IsCount, IsAside, IsCrowd};
+
+/// Which ends of a span lie in a window.
+#[derive(Clone, Copy)]
+pub(crate) enum Ends {
+    /// It starts there and ends there.
+    Both,
+    Start,
+    End,
+}
 
 /// A window of time.
 #[derive(Clone, Copy)]
 pub(crate) struct Window {
+    pub(crate) ends: Ends,
+    pub(crate) is_reversed: bool,
     pub(crate) from: i64,
     pub(crate) to: i64,
 }
 
-/// A span that cannot lie in a window beside those that are counted there, so it comes after them, or before them.
+/// By which rule spans push another.
+#[derive(Clone, Copy)]
+pub(crate) enum Argument {
+    /// They start before it can end, so each of them comes before it.
+    Precedences,
+    /// They end too early to come after it all, so one of them comes before it.
+    NotFirst,
+    /// They leave it no room in their window, so it comes after them.
+    EdgeFinding,
+}
+
+/// A span that others push to a later start.
 #[derive(Clone, Copy)]
 pub(crate) struct Crowd {
+    pub(crate) argument: Argument,
+    pub(crate) is_reversed: bool,
     /// The span's place.
     pub(crate) place: usize,
     /// How long it is.
     pub(crate) weight: u64,
-    pub(crate) window: Window,
-    /// From when on those start that are a part of them, or where they come after the span, up to when they end.
+    /// The window of the others. By precedences they start in it, by edge finding they start and end in it, and else they
+    /// end in it.
+    pub(crate) from: i64,
+    pub(crate) to: i64,
+    /// By edge finding, from when on those start that are a part of them, and else when the span ends at the earliest.
     pub(crate) edge: i64,
-    /// When the span starts at the earliest, or where it comes before them, ends at the latest.
+    /// When the span starts at the earliest.
     pub(crate) time: i64,
+    /// The place of the one atom of the span's presence that is open, where it is not surely present. It is absent then.
+    pub(crate) open: Option<usize>,
 }
 
 /// How long each span is that is counted in a window, and in a part of it; 0 for one that is not. Their memory is
@@ -54,30 +86,32 @@ pub(crate) fn count_of(weights: &[u64], spans: usize) -> Option<u64>
     None
 }
 
-/// Whether two lengths are more in all than a window has.
-pub(crate) fn is_overfull(window: Window, counted: u64, more: u64) -> bool
-    ensures { IsTrue result → window.to <ℤ (window.from +ℤ pos (counted + more)) }
+/// The same, where the span of a place is not counted.
+pub(crate) fn count_beside(weights: &[u64], place: usize, spans: usize) -> Option<u64>
+    ensures { IfSome result (λ all. IsAside spans weights.now place all) }
 {
-    let taken = window.from as i128 + counted as i128 + more as i128;
-    let end = window.to as i128;
+    let all = count_of(weights, spans)?;
+    if place < weights.len() && weights[place] == 0 {
+        return Some(all);
+    }
+    None
+}
+
+/// Whether two lengths are more in all than there is from one time to another.
+pub(crate) fn is_overfull(from: i64, to: i64, counted: u64, more: u64) -> bool
+    ensures { IsTrue result → to <ℤ (from +ℤ pos (counted + more)) }
+{
+    let taken = from as i128 + counted as i128 + more as i128;
+    let end = to as i128;
     end < taken
 }
 
-/// Whether a span that comes after the part of a crowd starts when it is said to, or later.
-pub(crate) fn is_reached(crowd: Crowd, counted: u64) -> bool
-    ensures { IsTrue result → crowd.time ≤ℤ (crowd.edge +ℤ pos counted) }
+/// Whether so much that is done from one time on lasts until another or longer.
+pub(crate) fn is_reached(from: i64, counted: u64, time: i64) -> bool
+    ensures { IsTrue result → time ≤ℤ (from +ℤ pos counted) }
 {
-    let reached = crowd.edge as i128 + counted as i128;
-    let wanted = crowd.time as i128;
-    wanted <= reached
-}
-
-/// Whether a span that comes before the part of a crowd ends when it is said to, or sooner.
-pub(crate) fn is_left(crowd: Crowd, counted: u64) -> bool
-    ensures { IsTrue result → crowd.edge ≤ℤ (crowd.time +ℤ pos counted) }
-{
-    let reached = crowd.time as i128 + counted as i128;
-    let wanted = crowd.edge as i128;
+    let reached = from as i128 + counted as i128;
+    let wanted = time as i128;
     wanted <= reached
 }
 
@@ -95,7 +129,7 @@ pub(crate) fn part_of(marks: &Marks, crowd: Crowd, spans: usize) -> Option<u64>
     if whole[crowd.place] != 0 || part[crowd.place] != 0 {
         return None;
     }
-    if is_overfull(crowd.window, all, crowd.weight) {
+    if is_overfull(crowd.from, crowd.to, all, crowd.weight) {
         return Some(late);
     }
     None

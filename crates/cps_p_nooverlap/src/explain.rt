@@ -82,7 +82,7 @@ pub(crate) fn cite_end_from(
 }
 
 /// When a span ended at the earliest.
-fn least_end(past: &Before, span: &Span) -> i128
+pub(crate) fn least_end(past: &Before, span: &Span) -> i128
     requires { IsSpan past.now.first span.now }
 {
     match span.length {
@@ -248,7 +248,7 @@ fn explain_end(
 }
 
 /// The place of the atom of which a target is the negation; the number of atoms where there is none.
-fn denied_place(atoms: &[Atom], target: Atom) -> usize
+pub(crate) fn denied_place(atoms: &[Atom], target: Atom) -> usize
     requires { All IsSmallAtom atoms.now }
     ensures { result < length atoms.now → (d : AtomOf) (xs : List ℤ) → atom_holds xs target ≡ not (atom_holds xs (slice_index_or atoms.now result d)) }
 {

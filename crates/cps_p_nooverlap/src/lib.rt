@@ -3,21 +3,23 @@
 //!
 //! `Interval` passes bounds on in every direction. `NoOverlap` looks at each two spans: where one cannot come
 //! before the other it comes after it, which bounds the one's start and the other's end; where neither can come
-//! first, one of them is absent, or the body cannot hold. Where no two give anything new, it looks at the surely
-//! present spans of a fixed length together: more of them than a window of time has room for cannot be, and one for
-//! which the others leave no room in their window comes after them, or with time reversed before them. `Boxes` looks
-//! at each two rectangles: where they surely overlap in one direction, they are ordered in the other as spans are. Where
-//! all is fixed, each says whether its body holds.
+//! first, one of them is absent, or the body cannot hold. Where no two give anything new, it looks at sets of the surely
+//! present spans: more of them than a window of time has room for cannot be; and another span comes after all of them that it
+//! cannot come before one by one, after one of them where they have no room after it, and after all of a window where they leave
+//! it no room there. So it starts later, and with time reversed ends earlier. One that may be absent is asked the same, and is
+//! absent where it would start later than it can. `Boxes` looks at each two rectangles: where they surely overlap in one
+//! direction, they are ordered in the other as spans are. Where all is fixed, each says whether its body holds.
 //!
 //! A reason names bounds and presence literals, each tested against the past before it is used; of the two bounds
-//! that keep one span from coming before another, one is loosened as far as the other lets it. What sets of spans
-//! give is found by a fast search of which nothing is proved but that it is safe and ends, and then counted again.
+//! that keep one span from coming before another, one is loosened as far as the other lets it, and the windows of a set are
+//! as wide as it crowds them. What sets of spans give is found by a fast search of which nothing is proved but that it is safe
+//! and ends, and then counted again.
 //!
-//! These are the disjunctive precedences of two tasks and edge finding, in its quadratic form, with its check of
-//! overloads, as in Baptiste, Le Pape and Nuijten, "Constraint-Based Scheduling" (2001), chapter 2. Vilím,
-//! "Filtering Algorithms for the Unary Resource Constraint" (2008), finds the same in n log n, by trees, and has
-//! two rules more that are not here: detectable precedences over sets, and not-first with not-last. Spans whose
-//! length varies and spans that may be absent are not looked at in sets.
+//! Sources: the disjunctive precedences of two tasks are in Baptiste, Le Pape and Nuijten, "Constraint-Based Scheduling" (2001),
+//! chapter 2; the check of overloads, detectable precedences, not-first with not-last, and edge finding, each in n log n by trees,
+//! in Vilím, "Filtering Algorithms for the Unary Resource Constraint" (2008). A span whose length varies is counted by its
+//! least end less its greatest start, since a task says nothing of sizes. Not done: pushes of one look are not fed into the next
+//! rule, since the next look sees them; and a span that may be absent pushes no other, as long as it may.
 #![tactic(auto)]
 
 mod box_pairs;
@@ -32,8 +34,12 @@ mod interval;
 mod jobs;
 mod no_overlap;
 mod pairs;
+mod proposals;
 mod seen;
 mod sets;
+mod sides;
+mod survey;
+mod theta;
 mod windows;
 
 pub use boxes::Boxes;

@@ -1,5 +1,8 @@
-//! What sets of spans give: windows that hold too much, and spans that a crowd pushes out of its window.
-ghost use Rattle.std.specs.Prelude.{[], ◌≡◌, true, length, OnOk, IfOk, IfSome};
+//! What sets of spans give: windows that hold too much, and spans that others push.
+//!
+//! The rules are tried from the cheapest on, each in both directions of time, and the next only where those before it give nothing.
+//! The hint of a push names the span, the rule and the direction, and by edge finding the end of the window that the span is pushed past.
+ghost use Rattle.std.specs.Prelude.{[], ◌≡◌, true, length, OnOk, IfOk, IfSome, All};
 ghost use Rattle.std.specs.List.{AllZip};
 ghost use Rattle.cps_instance.specs.declared.task.Body.{Body as BodyOf};
 ghost use Rattle.cps_instance.specs.Parts.{span_runs};
@@ -7,22 +10,34 @@ ghost use Rattle.cps_literal.specs.Truth.{atom_holds};
 ghost use Rattle.cps_model.specs.Scheduling.{IsNoOverlap};
 ghost use Rattle.cps_rule.specs.Rules.{IsImpossible};
 ghost use Rattle.cps_p_nooverlap.specs.Citing.{Cites, GivesMore};
-ghost use Rattle.cps_p_nooverlap.specs.Crowds.{IsReasoned};
-ghost use Rattle.cps_p_nooverlap.specs.Spans.{AreSpans, AreAllowed, IsPair, IsSeen};
+ghost use Rattle.cps_p_nooverlap.specs.Crowds.{IsReasoned, IsAboutOne, StartsBeforeUnless};
+ghost use Rattle.cps_p_nooverlap.specs.Spans.{AreSpans, AreAllowed, IsPair, IsSeen, IsSmallAtom, IsSpan};
 
-use crate::crowd::{Crowd, Marks, Window};
-use crate::explain::{explain_pair, pair_of, refute_pair, same_atom};
-use crate::jobs::{
-    Job, arrange, crowd_at, crowd_for, list_jobs, loosened, mark_crowd, mirror, survey,
-};
+use crate::box_reasons::cite_others;
+use crate::crowd::{Argument, Crowd, Ends, Marks, Window};
+use crate::explain::{cite_all, denied_place, explain_pair, pair_of, refute_pair, same_atom};
+use crate::jobs::{Job, Push, arrange, list_jobs, mirror};
 use crate::pairs::{Pair, meet_all, propose};
+use crate::proposals::{crowd_of, loosened, mark_crowd, overfull_from};
 use crate::seen::Seen;
-use crate::windows::{cite_after, cite_before, from_window, refute_window, up_to_window};
+use crate::sides::{cite_high, low_atom};
+use crate::survey::Bench;
+use crate::windows::{cite_push, refute_window};
 use cps_instance::Span;
 use cps_literal::{Atom, Op};
 use cps_rule::{Hint, Narrowing};
 use cps_trail::{Before, Store};
 use std::alloc::{AllocError, Global};
+
+/// The rules, from the cheapest on.
+const ARGUMENTS: [Argument; 3] = [
+    Argument::Precedences,
+    Argument::NotFirst,
+    Argument::EdgeFinding,
+];
+
+/// How many pushes there are of a span: by each rule in both directions.
+const PUSHES: i64 = 6;
 
 /// Room for the work on sets. Its memory is kept for the next look.
 #[derive(Drop)]
@@ -30,46 +45,108 @@ pub(crate) struct Desk {
     jobs: Vec<Job>,
     /// Whether time is reversed in the jobs.
     is_reversed: bool,
+    bench: Bench,
     marks: Marks,
     facts: Vec<Atom>,
 }
 
-/// An atom to be explained, the place of the span that it speaks of, and the end of a window that it is pushed past.
+/// An atom to be explained, the span that it speaks of, and the push that gives it.
 #[derive(Clone, Copy)]
 struct Question {
     place: usize,
-    bound: i64,
+    push: Push,
+    is_reversed: bool,
     target: Atom,
 }
 
-/// The place that the hint of a crowd names, if it is one.
-fn place_of(hint: Hint) -> Option<usize> {
+/// The number of a rule.
+fn number_of(argument: Argument) -> i64 {
+    match argument {
+        Argument::Precedences => 0,
+        Argument::NotFirst => 1,
+        Argument::EdgeFinding => 2,
+    }
+}
+
+/// The rule of a number.
+fn argument_of(number: i64) -> Argument {
+    match number {
+        0 => Argument::Precedences,
+        1 => Argument::NotFirst,
+        _ => Argument::EdgeFinding,
+    }
+}
+
+/// The push of a crowd as a hint.
+fn hint_of(crowd: Crowd) -> Hint {
+    let place = i64::try_from(crowd.place).unwrap_or(-1);
+    let direction = if crowd.is_reversed { 1 } else { 0 };
+    let number = number_of(crowd.argument)
+        .wrapping_mul(2)
+        .wrapping_add(direction);
+    Hint {
+        a: place
+            .wrapping_mul(PUSHES)
+            .wrapping_add(number)
+            .wrapping_add(1)
+            .wrapping_neg(),
+        b: crowd.to,
+    }
+}
+
+/// The question of what gave a target, where a hint names a push.
+fn question_of(wanted: Narrowing) -> Option<Question>
+    ensures { IfSome result (λ question. question.target ≡ wanted.target) }
+{
+    let hint = wanted.hint;
     if hint.a >= 0 {
         return None;
     }
-    usize::try_from(hint.a.wrapping_add(1).wrapping_neg()).ok()
+    let number = hint.a.wrapping_add(1).wrapping_neg();
+    let place = usize::try_from(number / PUSHES).ok()?;
+    let rest = number % PUSHES;
+    Some(Question {
+        place,
+        push: Push {
+            argument: argument_of(rest / 2),
+            time: wanted.target.value,
+            to: hint.b,
+        },
+        is_reversed: rest % 2 == 1,
+        target: wanted.target,
+    })
 }
 
 /// The window as a hint.
-fn window_hint(window: Window) -> Hint {
+fn window_hint(crowd: Crowd) -> Hint {
     Hint {
-        a: window.from,
-        b: window.to,
+        a: crowd.from,
+        b: crowd.to,
     }
 }
 
-/// The crowd with time reversed.
-fn reversed(crowd: Crowd) -> Crowd {
+/// A window that holds too much, which no span of so many is pushed out of.
+fn overload_of(from: i64, to: i64, spans: usize) -> Crowd {
     Crowd {
-        place: crowd.place,
-        weight: crowd.weight,
-        window: Window {
-            from: crowd.window.to.wrapping_neg(),
-            to: crowd.window.from.wrapping_neg(),
-        },
-        edge: crowd.edge.wrapping_neg(),
-        time: crowd.time.wrapping_neg(),
+        argument: Argument::EdgeFinding,
+        is_reversed: false,
+        place: spans,
+        weight: 0,
+        from,
+        to,
+        edge: i64::MAX,
+        time: from,
+        open: None,
     }
+}
+
+/// When a span starts at the earliest where a bound of it is true, by the direction of time.
+fn time_of(question: &Question, span: &Span) -> i64 {
+    let value = question.target.value;
+    if question.is_reversed {
+        return value.wrapping_add(span.length.unwrap_or(0)).wrapping_neg();
+    }
+    value
 }
 
 impl Desk {
@@ -78,6 +155,7 @@ impl Desk {
         Desk {
             jobs: Vec::new(alloc),
             is_reversed: false,
+            bench: Bench::new(alloc),
             marks: Marks {
                 whole: Vec::new(alloc),
                 part: Vec::new(alloc),
@@ -99,93 +177,105 @@ impl Desk {
     /// Reverses time.
     fn reverse(&mut self) {
         mirror(&mut self.jobs);
-        self.is_reversed = true;
+        self.is_reversed = !self.is_reversed;
     }
 
-    /// Reverses time, and looks for pushes.
-    fn turn_round(&mut self) {
-        self.reverse();
-        // what overfills a window does so in either direction, and is found before
-        let _window = survey(self.jobs.as_mut_slice());
+    /// Looks for pushes by a rule.
+    fn survey(&mut self, argument: Argument) -> Result<(), AllocError> {
+        self.bench.survey(self.jobs.as_mut_slice(), argument)
     }
 
     /// Marks the jobs of a window among so many spans that are needed to overfill it, and answers the longest window that
     /// they overfill.
-    fn mark_window(&mut self, window: Window, spans: usize) -> Result<Window, AllocError> {
-        let crowd = Crowd {
-            place: spans,
-            weight: 0,
-            window,
-            edge: i64::MAX,
-            time: window.from,
-        };
+    fn mark_window(&mut self, crowd: Crowd, spans: usize) -> Result<Crowd, AllocError> {
         mark_crowd(self.jobs.as_slice(), &crowd, spans, &mut self.marks)?;
-        let loose = loosened(self.jobs.as_slice(), &crowd, &mut self.marks);
-        Ok(loose.window)
+        Ok(loosened(self.jobs.as_slice(), &crowd, &mut self.marks))
     }
 
-    /// Looks for pushes, and for a window that jobs overfill.
-    fn find_window(&mut self) -> Option<Window> {
-        survey(self.jobs.as_mut_slice())
-    }
-
-    /// The crowd, in the direction that time really has.
-    fn in_time(&self, crowd: Crowd) -> Crowd {
-        if self.is_reversed {
-            reversed(crowd)
-        } else {
-            crowd
+    /// A window that jobs overfill, if one is found.
+    fn find_window(&mut self, spans: usize) -> Result<Option<Crowd>, AllocError> {
+        match self.bench.find_overload(self.jobs.as_mut_slice())? {
+            Some(to) => match overfull_from(self.jobs.as_slice(), to) {
+                Some(from) => Ok(Some(overload_of(from, to, spans))),
+                None => Ok(None),
+            },
+            None => Ok(None),
         }
     }
 
-    /// The crowd that pushes the job at an index of the list furthest among so many spans, if there is one. Its jobs are
-    /// marked.
-    fn next_crowd(&mut self, index: usize, spans: usize) -> Result<Option<Crowd>, AllocError> {
-        match crowd_at(self.jobs.as_slice(), index) {
+    /// The crowd that gives a push, if there is one. Its jobs are marked.
+    fn crowd_for(
+        &mut self,
+        job: Job,
+        push: Push,
+        spans: usize,
+    ) -> Result<Option<Crowd>, AllocError> {
+        let jobs = self.jobs.as_slice();
+        match crowd_of(jobs, &mut self.bench, &job, push, self.is_reversed)? {
             Some(crowd) => {
                 mark_crowd(self.jobs.as_slice(), &crowd, spans, &mut self.marks)?;
-                Ok(Some(self.in_time(crowd)))
+                Ok(Some(crowd))
             }
             None => Ok(None),
         }
     }
 
-    /// The crowd that pushes the span that a target speaks of just as far as the target says, if there is one, in few
-    /// words. Its jobs are marked.
+    /// The crowd that pushes the job at an index of the list among so many spans, if there is one. Its jobs are marked.
+    fn next_crowd(&mut self, index: usize, spans: usize) -> Result<Option<Crowd>, AllocError> {
+        match self.jobs.get(index) {
+            Some(job) => {
+                let job = *job;
+                match job.wanted() {
+                    Some(push) => self.crowd_for(job, push, spans),
+                    None => Ok(None),
+                }
+            }
+            None => Ok(None),
+        }
+    }
+
+    /// The job of a place, if there is one.
+    fn job_of(&self, place: usize) -> Option<Job> {
+        for job in self.jobs.as_slice() {
+            if job.place == place {
+                return Some(*job);
+            }
+        }
+        None
+    }
+
+    /// The crowd that gives what a question asks for, if there is one, in few words. Its jobs are marked.
     fn ask_crowd(
         &mut self,
         question: Question,
         span: &Span,
         spans: usize,
-    ) -> Result<Option<Crowd>, AllocError> {
-        let mut time = question.target.value;
-        let mut to = question.bound;
-        if matches!(question.target.op, Op::Le) {
+    ) -> Result<Option<Crowd>, AllocError>
+        requires { All IsSmallAtom span.now.presence }
+    {
+        if question.is_reversed {
             self.reverse();
-            time = time.wrapping_add(span.length.unwrap_or(0)).wrapping_neg();
-            to = to.wrapping_neg();
         }
-        match crowd_for(self.jobs.as_slice(), question.place, time, to) {
-            Some(crowd) => {
-                mark_crowd(self.jobs.as_slice(), &crowd, spans, &mut self.marks)?;
-                let loose = loosened(self.jobs.as_slice(), &crowd, &mut self.marks);
-                Ok(Some(self.in_time(loose)))
+        match self.job_of(question.place) {
+            Some(found) => {
+                let mut job = found;
+                let mut push = question.push;
+                push.time = time_of(&question, span);
+                let denied = denied_place(span.presence.as_slice(), question.target);
+                if denied < span.presence.as_slice().len() {
+                    job.open = Some(denied);
+                    push.time = job.high.wrapping_add(1);
+                }
+                match self.crowd_for(job, push, spans)? {
+                    Some(crowd) => Ok(Some(loosened(
+                        self.jobs.as_slice(),
+                        &crowd,
+                        &mut self.marks,
+                    ))),
+                    None => Ok(None),
+                }
             }
             None => Ok(None),
-        }
-    }
-
-    /// The crowd as a hint: its place, and the end of its window that the span is pushed past.
-    fn hint_of(&self, crowd: Crowd) -> Hint {
-        let place = i64::try_from(crowd.place).unwrap_or(-1);
-        let bound = if self.is_reversed {
-            crowd.window.from
-        } else {
-            crowd.window.to
-        };
-        Hint {
-            a: place.wrapping_add(1).wrapping_neg(),
-            b: bound,
         }
     }
 }
@@ -195,18 +285,18 @@ fn refute_anew(
     past: &Before,
     spans: &[Span],
     weights: &[u64],
-    window: Window,
+    crowd: Crowd,
     facts: &mut Vec<Atom>,
 ) -> Result<bool, AllocError>
     requires { AreSpans past.now.first spans.now }
     ensures { result ≡ Ok true → Cites past.now [] facts.new.items (λ xs. IsNoOverlap (span_runs xs spans.now) → ⊥) }
 {
     facts.clear();
-    refute_window(past, spans, weights, window, facts)
+    refute_window(past, spans, weights, crowd, facts)
 }
 
-/// Puts why a span comes after a crowd in the place of what a list holds, and answers when it starts.
-fn give_after(
+/// Puts why a surely present span starts at a time or later in the place of what a list holds, and answers that it does.
+fn give_bound(
     past: &Before,
     spans: &[Span],
     marks: &Marks,
@@ -220,47 +310,97 @@ fn give_after(
     if crowd.place >= spans.len() {
         return Ok(None);
     }
-    if !cite_after(past, spans, marks, crowd, facts)? {
+    let span = &spans[crowd.place];
+    if !cite_push(past, spans, marks, crowd, facts)? {
+        return Ok(None);
+    }
+    if !cite_all(past, span.presence.as_slice(), facts)? {
         return Ok(None);
     }
     let time = Window {
+        ends: Ends::Start,
+        is_reversed: crowd.is_reversed,
         from: crowd.time,
         to: crowd.time,
     };
-    let target = from_window(&spans[crowd.place], time);
-    Ok(Some(target))
-}
-
-/// Puts why a span comes before a crowd in the place of what a list holds, and answers when it ends.
-fn give_before(
-    past: &Before,
-    spans: &[Span],
-    marks: &Marks,
-    crowd: Crowd,
-    facts: &mut Vec<Atom>,
-) -> Result<Option<Atom>, AllocError>
-    requires { AreSpans past.now.first spans.now }
-    ensures { IfOk result (λ answer. IfSome answer (λ u. IsReasoned past.now spans.now facts.new.items u)) }
-{
-    facts.clear();
-    if crowd.place >= spans.len() {
-        return Ok(None);
-    }
-    if !cite_before(past, spans, marks, crowd, facts)? {
-        return Ok(None);
-    }
-    let time = Window {
-        from: crowd.time,
-        to: crowd.time,
-    };
-    match up_to_window(&spans[crowd.place], time) {
+    match low_atom(span, time) {
         Some(target) => Ok(Some(target)),
         None => Ok(None),
     }
 }
 
-/// Puts why a crowd pushes a span in the place of what the desk's list of facts holds, and answers when the span starts
-/// or ends.
+/// That the atom of a span's presence is false which a crowd says is open.
+fn denied_atom(span: &Span, crowd: Crowd) -> Option<Atom>
+    requires { All IsSmallAtom span.now.presence }
+    ensures { IfSome result (IsAboutOne span.now.presence) }
+{
+    let atoms = span.presence.as_slice();
+    let open = crowd.open?;
+    if open < atoms.len() {
+        return Some(atoms[open].negate());
+    }
+    None
+}
+
+/// Adds that a span is present and starts before it is pushed to, if an atom is false.
+fn cite_absence(
+    past: &Before,
+    span: &Span,
+    crowd: Crowd,
+    target: Atom,
+    facts: &mut Vec<Atom>,
+) -> Result<bool, AllocError>
+    requires { IsSpan past.now.first span.now }
+    ensures { result ≡ Ok true → Cites past.now facts.old.items facts.new.items (λ xs. StartsBeforeUnless crowd.is_reversed xs span.now crowd.time target) }
+{
+    let sooner = crowd.time.saturating_sub(1);
+    if crowd.time <= sooner {
+        return Ok(false);
+    }
+    if !cite_others(past, span.presence.as_slice(), target, facts)? {
+        return Ok(false);
+    }
+    let time = Window {
+        ends: Ends::Start,
+        is_reversed: crowd.is_reversed,
+        from: sooner,
+        to: sooner,
+    };
+    cite_high(past, span, time, facts)
+}
+
+/// Puts why a span cannot be present that would start too late in the place of what a list holds, and answers that one of its
+/// atoms is false.
+fn give_absence(
+    past: &Before,
+    spans: &[Span],
+    marks: &Marks,
+    crowd: Crowd,
+    facts: &mut Vec<Atom>,
+) -> Result<Option<Atom>, AllocError>
+    requires { AreSpans past.now.first spans.now }
+    ensures { IfOk result (λ answer. IfSome answer (λ u. IsReasoned past.now spans.now facts.new.items u)) }
+{
+    facts.clear();
+    if crowd.place >= spans.len() {
+        return Ok(None);
+    }
+    let span = &spans[crowd.place];
+    match denied_atom(span, crowd) {
+        Some(target) => {
+            if !cite_push(past, spans, marks, crowd, facts)? {
+                return Ok(None);
+            }
+            if !cite_absence(past, span, crowd, target, facts)? {
+                return Ok(None);
+            }
+            Ok(Some(target))
+        }
+        None => Ok(None),
+    }
+}
+
+/// Puts why a crowd pushes a span in the place of what the desk's list of facts holds, and answers what follows.
 fn give(
     past: &Before,
     spans: &[Span],
@@ -270,13 +410,13 @@ fn give(
     requires { AreSpans past.now.first spans.now }
     ensures { IfOk result (λ answer. IfSome answer (λ u. IsReasoned past.now spans.now desk.new.facts.items u)) }
 {
-    if desk.is_reversed {
-        return give_before(past, spans, &desk.marks, crowd, &mut desk.facts);
+    if crowd.open.is_some() {
+        return give_absence(past, spans, &desk.marks, crowd, &mut desk.facts);
     }
-    give_after(past, spans, &desk.marks, crowd, &mut desk.facts)
+    give_bound(past, spans, &desk.marks, crowd, &mut desk.facts)
 }
 
-/// Adds what the crowd gives that pushes the job at an index of the desk's list furthest, if there is one.
+/// Adds what the crowd gives that pushes the job at an index of the desk's list, if there is one.
 fn push_next(
     past: &Before,
     spans: &[Span],
@@ -290,23 +430,25 @@ fn push_next(
     match desk.next_crowd(index, spans.len())? {
         Some(crowd) => {
             let target = give(past, spans, desk, crowd)?;
-            propose(target, desk.hint_of(crowd), found)?;
+            propose(target, hint_of(crowd), found)?;
             Ok(())
         }
         None => Ok(()),
     }
 }
 
-/// Adds what crowds give of each job of the desk's list.
+/// Adds what crowds give of each job of the desk's list by a rule.
 fn push_all(
     past: &Before,
     spans: &[Span],
     desk: &mut Desk,
+    argument: Argument,
     found: &mut Vec<Narrowing>,
 ) -> Result<(), AllocError>
     requires { AreSpans past.now.first spans.now }
     ensures { OnOk result (GivesMore (BodyOf.NoOverlap spans.now) past.now found.old.items found.new.items) }
 {
+    desk.survey(argument)?;
     let jobs = desk.jobs.len();
     for index in 0..jobs {
         push_next(past, spans, desk, index, found)?;
@@ -314,12 +456,30 @@ fn push_all(
     Ok(())
 }
 
+/// Adds what crowds give by a rule, in both directions of time.
+fn push_both(
+    past: &Before,
+    spans: &[Span],
+    desk: &mut Desk,
+    argument: Argument,
+    found: &mut Vec<Narrowing>,
+) -> Result<(), AllocError>
+    requires { AreSpans past.now.first spans.now }
+    ensures { OnOk result (GivesMore (BodyOf.NoOverlap spans.now) past.now found.old.items found.new.items) }
+{
+    push_all(past, spans, desk, argument, found)?;
+    desk.reverse();
+    push_all(past, spans, desk, argument, found)?;
+    desk.reverse();
+    Ok(())
+}
+
 /// A window that holds too much, if one is found.
-fn overload(past: &Before, spans: &[Span], desk: &mut Desk) -> Result<Option<Window>, AllocError>
+fn overload(past: &Before, spans: &[Span], desk: &mut Desk) -> Result<Option<Crowd>, AllocError>
     requires { AreSpans past.now.first spans.now }
     ensures { IfOk result (λ answer. IfSome answer (λ window. IsImpossible (BodyOf.NoOverlap spans.now) past.now)) }
 {
-    match desk.find_window() {
+    match desk.find_window(spans.len())? {
         Some(window) => {
             let loose = desk.mark_window(window, spans.len())?;
             let weights = desk.marks.whole.as_slice();
@@ -330,6 +490,26 @@ fn overload(past: &Before, spans: &[Span], desk: &mut Desk) -> Result<Option<Win
         }
         None => Ok(None),
     }
+}
+
+/// Adds what crowds give of each job by the first rule that gives something.
+fn push_first(
+    past: &Before,
+    spans: &[Span],
+    desk: &mut Desk,
+    found: &mut Vec<Narrowing>,
+) -> Result<(), AllocError>
+    requires { AreSpans past.now.first spans.now }
+    ensures { OnOk result (GivesMore (BodyOf.NoOverlap spans.now) past.now found.old.items found.new.items) }
+{
+    let known = found.len();
+    for argument in ARGUMENTS {
+        if found.len() != known {
+            return Ok(());
+        }
+        push_both(past, spans, desk, argument, found)?;
+    }
+    Ok(())
 }
 
 /// Adds what crowds give of each job, or finds a window that leaves no way.
@@ -347,9 +527,7 @@ fn meet_sets(
     if let Some(window) = overload(past, spans, desk)? {
         return Ok(Some(window_hint(window)));
     }
-    push_all(past, spans, desk, found)?;
-    desk.turn_round();
-    push_all(past, spans, desk, found)?;
+    push_first(past, spans, desk, found)?;
     Ok(None)
 }
 
@@ -383,13 +561,14 @@ fn refute_set(
     past: &Before,
     spans: &[Span],
     desk: &mut Desk,
-    window: Window,
+    hint: Hint,
     facts: &mut Vec<Atom>,
 ) -> Result<bool, AllocError>
     requires { AreSpans past.now.first spans.now }
     ensures { result ≡ Ok true → Cites past.now [] facts.new.items (λ xs. IsNoOverlap (span_runs xs spans.now) → ⊥) }
 {
     desk.begin(past, spans)?;
+    let window = overload_of(hint.a, hint.b, spans.len());
     let loose = desk.mark_window(window, spans.len())?;
     refute_anew(past, spans, desk.marks.whole.as_slice(), loose, facts)
 }
@@ -455,14 +634,9 @@ pub(crate) fn explain_both(
     if let Some(pair) = pair_of(wanted.hint, spans.len()) {
         return explain_pair(past, spans, pair, wanted.target, facts);
     }
-    match place_of(wanted.hint) {
-        Some(place) => {
+    match question_of(wanted) {
+        Some(question) => {
             let mut desk = Desk::new(alloc);
-            let question = Question {
-                place,
-                bound: wanted.hint.b,
-                target: wanted.target,
-            };
             explain_set(past, spans, &mut desk, question, facts)
         }
         None => Ok(false),
@@ -500,10 +674,6 @@ pub(crate) fn refute_both(
             return Ok(true);
         }
     }
-    let window = Window {
-        from: hint.a,
-        to: hint.b,
-    };
     let mut desk = Desk::new(alloc);
-    refute_set(past, spans, &mut desk, window, facts)
+    refute_set(past, spans, &mut desk, hint, facts)
 }

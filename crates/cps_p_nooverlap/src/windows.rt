@@ -1,85 +1,35 @@
-//! Why spans that are counted in a window of time leave no room for another.
+//! Why spans that are counted in a window of time push another.
 //!
-//! Spans that do not overlap and lie in a window are no longer in all than the window is. So too many of them
-//! cannot be; and where one more would be too many, and starts in the window or later, it ends after the window.
-//! Then each of the others comes before it, since it would lie between the window's start and theirs, and it starts
-//! no sooner than those end that start from some time on. The same holds the other way round.
-ghost use Rattle.std.specs.Prelude.{◌≡◌, ◌<◌, ◌≤ℤ◌, ◌+ℤ◌, pos, ℤ, List, true, length, IsTrue, IfSome};
+//! Spans that do not overlap and lie in a window are no longer in all than the window is. So too many of them cannot be. Three
+//! rules push a span to a later start, and with time reversed to an earlier end.
+//!
+//! Precedences: each of the others starts before the span can end, so each comes before it, and it starts no sooner than all of
+//! them can be done. Not-first: the span ends so late that the others would not have room after it, so one of them comes before it,
+//! and it starts no sooner than the first of them can end. Edge finding: the others leave it no room in their window, so it ends
+//! after the window, each of them comes before it, and it starts no sooner than those can be done that start from some time on.
+//!
+//! A span whose length varies is counted by its least end less its greatest start. A task says when spans start and end, and nothing
+//! of their sizes, so this is the least length that follows from it.
+ghost use Rattle.std.specs.Prelude.{◌≡◌, ◌<◌, ◌≤ℤ◌, ℤ, List, true, length, IsTrue};
 ghost use Rattle.cps_model.specs.Scheduling.{IsNoOverlap};
 ghost use Rattle.cps_instance.specs.Parts.{span_runs};
 ghost use Rattle.cps_p_nooverlap.specs.Citing.{Cites};
-ghost use Rattle.cps_p_nooverlap.specs.Crowds.{IsRun, AreRuns, StartsFrom, EndsUpTo};
-ghost use Rattle.cps_p_nooverlap.specs.Spans.{start_at, end_at, is_present, Says, IsSpan, AreSpans};
+ghost use Rattle.cps_p_nooverlap.specs.Crowds.{low_at, far_at, IsRun, AreRuns, LastsAt, StartsFrom};
+ghost use Rattle.cps_p_nooverlap.specs.Spans.{IsSpan, AreSpans};
 
-use crate::crowd::{Crowd, Marks, Window, count_of, is_left, is_overfull, is_reached, part_of};
-use crate::explain::cite_all;
-use crate::facts::cite;
+use crate::crowd::{
+    Argument, Crowd, Ends, Marks, Window, count_beside, count_of, is_overfull, is_reached, part_of,
+};
+use crate::explain::{cite_all, cite_end_from, cite_start_up_to, least_end};
+use crate::sides::{cite_high, cite_low};
 use cps_instance::Span;
-use cps_literal::{Atom, Op};
+use cps_literal::Atom;
 use cps_trail::Before;
 use std::alloc::AllocError;
 
-/// That a span starts in a window or later.
-pub(crate) fn from_window(span: &Span, window: Window) -> Atom
-    ensures { Says span.now result (λ xs. window.from ≤ℤ start_at xs span.now) }
-{
-    Atom {
-        subject: span.start,
-        op: Op::Ge,
-        value: window.from,
-    }
-}
-
-/// That a span of a fixed length ends in a window or sooner.
-pub(crate) fn up_to_window(span: &Span, window: Window) -> Option<Atom>
-    ensures { IfSome result (λ u. Says span.now u (λ xs. end_at xs span.now ≤ℤ window.to)) }
-{
-    match span.length {
-        Some(far) => {
-            let value = window.to.checked_sub(far)?;
-            Some(Atom {
-                subject: span.start,
-                op: Op::Le,
-                value,
-            })
-        }
-        None => None,
-    }
-}
-
-/// Adds that a span starts in a window or later.
-fn cite_start_from(
-    past: &Before,
-    span: &Span,
-    window: Window,
-    facts: &mut Vec<Atom>,
-) -> Result<bool, AllocError>
-    requires { IsSpan past.now.first span.now }
-    ensures { result ≡ Ok true → Cites past.now facts.old.items facts.new.items (λ xs. window.from ≤ℤ start_at xs span.now) }
-{
-    let atom = from_window(span, window);
-    cite(past, atom, facts)
-}
-
-/// Adds that a span ends in a window or sooner.
-fn cite_end_up_to(
-    past: &Before,
-    span: &Span,
-    window: Window,
-    facts: &mut Vec<Atom>,
-) -> Result<bool, AllocError>
-    requires { IsSpan past.now.first span.now }
-    ensures { result ≡ Ok true → Cites past.now facts.old.items facts.new.items (λ xs. end_at xs span.now ≤ℤ window.to) }
-{
-    match up_to_window(span, window) {
-        Some(atom) => cite(past, atom, facts),
-        None => Ok(false),
-    }
-}
-
-/// Whether a span surely takes so long.
+/// Whether a span has a fixed length of so much or more.
 fn lasts(span: &Span, weight: u64) -> bool
-    ensures { IsTrue result → (xs : List ℤ) → (start_at xs span.now +ℤ pos weight) ≤ℤ end_at xs span.now }
+    ensures { IsTrue result → (xs : List ℤ) → LastsAt xs span.now weight }
 {
     if let Some(far) = span.length {
         let needed = weight as i128;
@@ -91,6 +41,31 @@ fn lasts(span: &Span, weight: u64) -> bool
     false
 }
 
+/// Adds why a span takes so long.
+fn cite_length(
+    past: &Before,
+    span: &Span,
+    weight: u64,
+    facts: &mut Vec<Atom>,
+) -> Result<bool, AllocError>
+    requires { IsSpan past.now.first span.now }
+    ensures { result ≡ Ok true → Cites past.now facts.old.items facts.new.items (λ xs. LastsAt xs span.now weight) }
+{
+    if lasts(span, weight) {
+        return Ok(true);
+    }
+    let end = least_end(past, span);
+    match end.checked_sub(weight as i128) {
+        Some(start) => {
+            if !cite_end_from(past, span, end, facts)? {
+                return Ok(false);
+            }
+            cite_start_up_to(past, span, start, facts)
+        }
+        None => Ok(false),
+    }
+}
+
 /// Adds that a span is present, takes so long and lies in a window.
 fn cite_run(
     past: &Before,
@@ -100,18 +75,18 @@ fn cite_run(
     facts: &mut Vec<Atom>,
 ) -> Result<bool, AllocError>
     requires { IsSpan past.now.first span.now }
-    ensures { result ≡ Ok true → Cites past.now facts.old.items facts.new.items (λ xs. IsRun xs span.now weight window.from window.to) }
+    ensures { result ≡ Ok true → Cites past.now facts.old.items facts.new.items (λ xs. IsRun window.ends window.is_reversed xs span.now weight window.from window.to) }
 {
-    if !lasts(span, weight) {
-        return Ok(false);
-    }
     if !cite_all(past, span.presence.as_slice(), facts)? {
         return Ok(false);
     }
-    if !cite_start_from(past, span, window, facts)? {
+    if !cite_length(past, span, weight, facts)? {
         return Ok(false);
     }
-    cite_end_up_to(past, span, window, facts)
+    if !cite_low(past, span, window, facts)? {
+        return Ok(false);
+    }
+    cite_high(past, span, window, facts)
 }
 
 /// Adds the same of a span that is counted, and nothing of another.
@@ -123,7 +98,7 @@ fn cite_counted(
     facts: &mut Vec<Atom>,
 ) -> Result<bool, AllocError>
     requires { IsSpan past.now.first span.now }
-    ensures { result ≡ Ok true → Cites past.now facts.old.items facts.new.items (λ xs. 0 < weight → IsRun xs span.now weight window.from window.to) }
+    ensures { result ≡ Ok true → Cites past.now facts.old.items facts.new.items (λ xs. 0 < weight → IsRun window.ends window.is_reversed xs span.now weight window.from window.to) }
 {
     if weight == 0 {
         return Ok(true);
@@ -141,7 +116,7 @@ fn cite_runs(
 ) -> Result<bool, AllocError>
     requires spans { AreSpans past.now.first spans.now }
     requires each { length weights.now ≡ length spans.now }
-    ensures { result ≡ Ok true → Cites past.now facts.old.items facts.new.items (λ xs. AreRuns xs spans.now weights.now window.from window.to) }
+    ensures { result ≡ Ok true → Cites past.now facts.old.items facts.new.items (λ xs. AreRuns window.ends window.is_reversed xs spans.now weights.now window.from window.to) }
 {
     for place in 0..spans.len() {
         if !cite_counted(past, &spans[place], weights[place], window, facts)? {
@@ -151,12 +126,12 @@ fn cite_runs(
     Ok(true)
 }
 
-/// Adds why a window holds more than it has room for.
+/// Adds why more spans start and end between two times than there is room for.
 pub(crate) fn refute_window(
     past: &Before,
     spans: &[Span],
     weights: &[u64],
-    window: Window,
+    crowd: Crowd,
     facts: &mut Vec<Atom>,
 ) -> Result<bool, AllocError>
     requires spans { AreSpans past.now.first spans.now }
@@ -164,49 +139,42 @@ pub(crate) fn refute_window(
 {
     match count_of(weights, spans.len()) {
         Some(counted) => {
-            if !is_overfull(window, counted, 0) {
+            if !is_overfull(crowd.from, crowd.to, counted, 0) {
                 return Ok(false);
             }
+            let window = Window {
+                ends: Ends::Both,
+                is_reversed: crowd.is_reversed,
+                from: crowd.from,
+                to: crowd.to,
+            };
             cite_runs(past, spans, weights, window, facts)
         }
         None => Ok(false),
     }
 }
 
-/// Adds that a span is present, and starts in a window or later.
-fn cite_early(
+/// Adds that a span ends at the edge of a crowd or later.
+fn cite_late(
     past: &Before,
     span: &Span,
-    window: Window,
+    crowd: Crowd,
     facts: &mut Vec<Atom>,
 ) -> Result<bool, AllocError>
     requires { IsSpan past.now.first span.now }
-    ensures { result ≡ Ok true → Cites past.now facts.old.items facts.new.items (λ xs. (is_present xs span.now ≡ true) × (window.from ≤ℤ start_at xs span.now)) }
+    ensures { result ≡ Ok true → Cites past.now facts.old.items facts.new.items (λ xs. crowd.edge ≤ℤ far_at crowd.is_reversed xs span.now) }
 {
-    if !cite_all(past, span.presence.as_slice(), facts)? {
-        return Ok(false);
-    }
-    cite_start_from(past, span, window, facts)
+    let late = Window {
+        ends: Ends::End,
+        is_reversed: crowd.is_reversed,
+        from: crowd.edge,
+        to: crowd.edge,
+    };
+    cite_low(past, span, late, facts)
 }
 
-/// Adds that a span is present, and ends in a window or sooner.
-fn cite_soon(
-    past: &Before,
-    span: &Span,
-    window: Window,
-    facts: &mut Vec<Atom>,
-) -> Result<bool, AllocError>
-    requires { IsSpan past.now.first span.now }
-    ensures { result ≡ Ok true → Cites past.now facts.old.items facts.new.items (λ xs. (is_present xs span.now ≡ true) × (end_at xs span.now ≤ℤ window.to)) }
-{
-    if !cite_all(past, span.presence.as_slice(), facts)? {
-        return Ok(false);
-    }
-    cite_end_up_to(past, span, window, facts)
-}
-
-/// Adds why a span comes after those that are a part of a crowd, and starts at a time or later.
-pub(crate) fn cite_after(
+/// Adds why a span comes after others that start before it can end.
+fn cite_precedences(
     past: &Before,
     spans: &[Span],
     marks: &Marks,
@@ -214,26 +182,114 @@ pub(crate) fn cite_after(
     facts: &mut Vec<Atom>,
 ) -> Result<bool, AllocError>
     requires spans { AreSpans past.now.first spans.now }
-    ensures { result ≡ Ok true → Cites past.now facts.old.items facts.new.items (λ xs. StartsFrom xs spans.now crowd.place crowd.time) }
+    ensures { result ≡ Ok true → Cites past.now facts.old.items facts.new.items (λ xs. StartsFrom crowd.is_reversed xs spans.now crowd.place crowd.time) }
+{
+    let whole = marks.whole.as_slice();
+    match count_beside(whole, crowd.place, spans.len()) {
+        Some(counted) => {
+            if !is_reached(crowd.from, counted, crowd.time) {
+                return Ok(false);
+            }
+            if crowd.edge <= crowd.to {
+                return Ok(false);
+            }
+            if !cite_late(past, &spans[crowd.place], crowd, facts)? {
+                return Ok(false);
+            }
+            let window = Window {
+                ends: Ends::Start,
+                is_reversed: crowd.is_reversed,
+                from: crowd.from,
+                to: crowd.to,
+            };
+            cite_runs(past, spans, whole, window, facts)
+        }
+        None => Ok(false),
+    }
+}
+
+/// Adds why a span comes after one of others, for which there is no room after it.
+fn cite_not_first(
+    past: &Before,
+    spans: &[Span],
+    marks: &Marks,
+    crowd: Crowd,
+    facts: &mut Vec<Atom>,
+) -> Result<bool, AllocError>
+    requires spans { AreSpans past.now.first spans.now }
+    ensures { result ≡ Ok true → Cites past.now facts.old.items facts.new.items (λ xs. StartsFrom crowd.is_reversed xs spans.now crowd.place crowd.time) }
+{
+    let whole = marks.whole.as_slice();
+    match count_beside(whole, crowd.place, spans.len()) {
+        Some(counted) => {
+            if !is_overfull(crowd.edge, crowd.to, counted, 0) {
+                return Ok(false);
+            }
+            if !cite_late(past, &spans[crowd.place], crowd, facts)? {
+                return Ok(false);
+            }
+            let window = Window {
+                ends: Ends::End,
+                is_reversed: crowd.is_reversed,
+                from: crowd.time,
+                to: crowd.to,
+            };
+            cite_runs(past, spans, whole, window, facts)
+        }
+        None => Ok(false),
+    }
+}
+
+/// Adds that a span takes so long, and starts at a time or later.
+fn cite_early(
+    past: &Before,
+    span: &Span,
+    weight: u64,
+    window: Window,
+    facts: &mut Vec<Atom>,
+) -> Result<bool, AllocError>
+    requires { IsSpan past.now.first span.now }
+    ensures { result ≡ Ok true → Cites past.now facts.old.items facts.new.items (λ xs. LastsAt xs span.now weight × (window.from ≤ℤ low_at window.ends window.is_reversed xs span.now)) }
+{
+    if !cite_length(past, span, weight, facts)? {
+        return Ok(false);
+    }
+    cite_low(past, span, window, facts)
+}
+
+/// Adds why a span comes after those that are a part of a crowd.
+fn cite_edge(
+    past: &Before,
+    spans: &[Span],
+    marks: &Marks,
+    crowd: Crowd,
+    facts: &mut Vec<Atom>,
+) -> Result<bool, AllocError>
+    requires spans { AreSpans past.now.first spans.now }
+    ensures { result ≡ Ok true → Cites past.now facts.old.items facts.new.items (λ xs. StartsFrom crowd.is_reversed xs spans.now crowd.place crowd.time) }
 {
     match part_of(marks, crowd, spans.len()) {
-        Some(part) => {
-            let span = &spans[crowd.place];
-            if !lasts(span, crowd.weight) {
+        Some(counted) => {
+            if !is_reached(crowd.edge, counted, crowd.time) {
                 return Ok(false);
             }
-            if !is_reached(crowd, part) {
+            let window = Window {
+                ends: Ends::Both,
+                is_reversed: crowd.is_reversed,
+                from: crowd.from,
+                to: crowd.to,
+            };
+            if !cite_early(past, &spans[crowd.place], crowd.weight, window, facts)? {
                 return Ok(false);
             }
-            if !cite_early(past, span, crowd.window, facts)? {
-                return Ok(false);
-            }
-            if !cite_runs(past, spans, marks.whole.as_slice(), crowd.window, facts)? {
+            if !cite_runs(past, spans, marks.whole.as_slice(), window, facts)? {
                 return Ok(false);
             }
             let late = Window {
+                ends: Ends::Both,
+                is_reversed: crowd.is_reversed,
                 from: crowd.edge,
-                to: crowd.window.to,
+                to: crowd.to,
             };
             cite_runs(past, spans, marks.part.as_slice(), late, facts)
         }
@@ -241,8 +297,8 @@ pub(crate) fn cite_after(
     }
 }
 
-/// Adds why a span comes before those that are a part of a crowd, and ends at a time or earlier.
-pub(crate) fn cite_before(
+/// Adds why a span that is present starts at a time or later.
+pub(crate) fn cite_push(
     past: &Before,
     spans: &[Span],
     marks: &Marks,
@@ -250,29 +306,11 @@ pub(crate) fn cite_before(
     facts: &mut Vec<Atom>,
 ) -> Result<bool, AllocError>
     requires spans { AreSpans past.now.first spans.now }
-    ensures { result ≡ Ok true → Cites past.now facts.old.items facts.new.items (λ xs. EndsUpTo xs spans.now crowd.place crowd.time) }
+    ensures { result ≡ Ok true → Cites past.now facts.old.items facts.new.items (λ xs. StartsFrom crowd.is_reversed xs spans.now crowd.place crowd.time) }
 {
-    match part_of(marks, crowd, spans.len()) {
-        Some(part) => {
-            let span = &spans[crowd.place];
-            if !lasts(span, crowd.weight) {
-                return Ok(false);
-            }
-            if !is_left(crowd, part) {
-                return Ok(false);
-            }
-            if !cite_soon(past, span, crowd.window, facts)? {
-                return Ok(false);
-            }
-            if !cite_runs(past, spans, marks.whole.as_slice(), crowd.window, facts)? {
-                return Ok(false);
-            }
-            let soon = Window {
-                from: crowd.window.from,
-                to: crowd.edge,
-            };
-            cite_runs(past, spans, marks.part.as_slice(), soon, facts)
-        }
-        None => Ok(false),
+    match crowd.argument {
+        Argument::Precedences => cite_precedences(past, spans, marks, crowd, facts),
+        Argument::NotFirst => cite_not_first(past, spans, marks, crowd, facts),
+        Argument::EdgeFinding => cite_edge(past, spans, marks, crowd, facts),
     }
 }

@@ -8,4 +8,5 @@ returns-then-weight-eq0 c e = cites_none c.args.past.now c.args.facts.now.items 
 
 pub returns : goal.returns
 returns c e =
-    cites_as c.args.past.now c.args.facts.now.items c.cite_run.new.facts.items (λ xs. IsRun xs c.args.span.now c.args.weight c.args.window.from c.args.window.to) (λ xs. 0 < c.args.weight → IsRun xs c.args.span.now c.args.weight c.args.window.from c.args.window.to) (λ xs h l. h) (c.cite_run.ensures e)
+    let w = c.args.window in
+    cites_as c.args.past.now c.args.facts.now.items c.cite_run.new.facts.items (λ xs. IsRun w.ends w.is_reversed xs c.args.span.now c.args.weight w.from w.to) (λ xs. 0 < c.args.weight → IsRun w.ends w.is_reversed xs c.args.span.now c.args.weight w.from w.to) (λ xs h l. h) (c.cite_run.ensures e)

@@ -19,11 +19,11 @@ loop-place-preserved c =
     let q = c.index-spans-place.result in
     let w = c.args.window in
     let l : c.loop-place.place < length c.args.spans.now = search rules in
-    cites_as s a d (λ xs. AreRunsUpTo n xs ps ws w.from w.to × (0 < get_or ws n 0 → IsRun xs q (get_or ws n 0) w.from w.to)) (λ xs. AreRunsUpTo (n + 1) xs ps ws w.from w.to)
-    (λ xs h. runs_more n xs ps ws w.from w.to q l c.index-spans-place.is h.0 h.1)
-    (cites_then s a b d (λ xs. AreRunsUpTo n xs ps ws w.from w.to) (λ xs. 0 < get_or ws n 0 → IsRun xs q (get_or ws n 0) w.from w.to) c.loop-place.invariant (search rules))
+    cites_as s a d (λ xs. AreRunsUpTo n w.ends w.is_reversed xs ps ws w.from w.to × (0 < get_or ws n 0 → IsRun w.ends w.is_reversed xs q (get_or ws n 0) w.from w.to)) (λ xs. AreRunsUpTo (n + 1) w.ends w.is_reversed xs ps ws w.from w.to)
+    (λ xs h. runs_more n w.ends w.is_reversed xs ps ws w.from w.to q l c.index-spans-place.is h.0 h.1)
+    (cites_then s a b d (λ xs. AreRunsUpTo n w.ends w.is_reversed xs ps ws w.from w.to) (λ xs. 0 < get_or ws n 0 → IsRun w.ends w.is_reversed xs q (get_or ws n 0) w.from w.to) c.loop-place.invariant (search rules))
 
 pub returns : goal.returns
 returns c e =
-    cites_as c.args.past.now c.args.facts.now.items c.loop-place.facts.items (λ xs. AreRunsUpTo c.loop-place.place xs c.args.spans.now c.args.weights.now c.args.window.from c.args.window.to) _
-    (λ xs h. runs_all c.loop-place.place xs c.args.spans.now c.args.weights.now c.args.window.from c.args.window.to c.loop-place-test.false h) c.loop-place.invariant
+    cites_as c.args.past.now c.args.facts.now.items c.loop-place.facts.items (λ xs. AreRunsUpTo c.loop-place.place c.args.window.ends c.args.window.is_reversed xs c.args.spans.now c.args.weights.now c.args.window.from c.args.window.to) _
+    (λ xs h. runs_all c.loop-place.place c.args.window.ends c.args.window.is_reversed xs c.args.spans.now c.args.weights.now c.args.window.from c.args.window.to c.loop-place-test.false h) c.loop-place.invariant

@@ -3,4 +3,4 @@ use Rattle.cps_p_nooverlap.specs.Crowds.{AreRunsUpTo}
 use Rattle.cps_p_nooverlap.proofs.windows.cite_runs.Given as goal
 
 abbrev pub invariant-loop-place : goal.invariant-loop-place
-invariant-loop-place l = Cites l.past l.fn.facts.items l.facts.items (λ xs. AreRunsUpTo l.place xs l.spans l.weights l.window.from l.window.to)
+invariant-loop-place l = Cites l.past l.fn.facts.items l.facts.items (λ xs. AreRunsUpTo l.place l.window.ends l.window.is_reversed xs l.spans l.weights l.window.from l.window.to)

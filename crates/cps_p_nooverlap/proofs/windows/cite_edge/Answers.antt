@@ -1,0 +1,23 @@
+use Rattle.std.proofs.Common.{Ok, ◌≡◌, ◌≤ℤ◌, ◌+ℤ◌, pos, true, List, ℕ, rules, subst, FitsSigned, arith}
+use Rattle.std.proofs.lemmas.Int.{ints, to_z-of_z}
+use mir.Syntax.{w64}
+use Rattle.cps_p_nooverlap.specs.declared.crowd.Ends.TheVariants.{Both}
+use Rattle.cps_p_nooverlap.specs.Citing.{Cites}
+use Rattle.cps_p_nooverlap.specs.Crowds.{AreRuns}
+use Rattle.cps_p_nooverlap.proofs.Claims.{cites_edge}
+use Rattle.cps_p_nooverlap.proofs.windows.cite_edge.Goals as goal
+
+pub returns-else-not-branch-2 : goal.returns-else-not-branch-2
+returns-else-not-branch-2 c e =
+    let w = c.args.crowd in
+    let f : FitsSigned w64 c.args.crowd.from = search rules in
+    let g : FitsSigned w64 c.args.crowd.to = search rules in
+    let most = c.is_reached.ensures c.if-not-is_reached.false in
+    let reached : c.args.crowd.time ≤ℤ (c.args.crowd.edge +ℤ pos c.in-Some.counted) = omega (arith, ints) in
+    let one : c.cite_early.result ≡ Ok true = search rules in
+    let two : c.cite_runs.result ≡ Ok true = search rules in
+    let runs = rw (to_z-of_z w64 c.args.crowd.to g) at (rw (to_z-of_z w64 c.args.crowd.from f) at (c.cite_runs.ensures two)) in
+    cites_edge c.args.spans.now c.args.marks.now.whole.items c.args.marks.now.part.items c.args.crowd c.in-Some.counted c.index-spans-crowd.result c.in-Some.ensures c.index-spans-crowd.is c.args.past.now c.args.crowd.is_reversed
+    c.args.facts.now.items c.cite_early.new.facts.items c.cite_runs.new.facts.items c.cite_runs-in-Some.new.facts.items reached (rw (to_z-of_z w64 c.args.crowd.from f) at (c.cite_early.ensures one))
+    (subst (λ (ws : List ℕ). Cites c.args.past.now c.cite_early.new.facts.items c.cite_runs.new.facts.items (λ xs. AreRuns Both c.args.crowd.is_reversed xs c.args.spans.now ws c.args.crowd.from c.args.crowd.to)) c.as_slice.ensures.value runs)
+    (search rules)
