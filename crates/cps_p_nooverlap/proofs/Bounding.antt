@@ -13,6 +13,7 @@ use Rattle.cps_literal.specs.Truth.{value_at, atom_holds, meets}
 use Rattle.cps_instance.specs.declared.task.Body.{Body}
 use Rattle.cps_trail.specs.Trail.{Trail, IsTrueNow, IsInside, IsAdmitted}
 use Rattle.cps_rule.specs.declared.rule.Narrowing.{Narrowing}
+use Rattle.cps_propagate.specs.Strength.{MayBeInterval}
 use Rattle.cps_rule.specs.Rules.{IsFact, IsGiven, IsImpossible, IsAtRest}
 use Rattle.cps_p_nooverlap.specs.declared.interval.Places.{Places}
 use Rattle.cps_p_nooverlap.specs.declared.interval.Hulls.{Hulls}
@@ -84,6 +85,13 @@ most_holds xs t i e f h = subst (λ (o : Op). meets o t.value (value_at xs t.sub
 pub gives_three : (body : Body) (s : Trail) (a b d e : List Narrowing) → a ≡ [] → GivesMore body s a b → GivesMore body s b d → GivesMore body s d e → All (λ n. IsGiven body s n.target) e
 gives_three body s a b d e none f g h = h (g (f (subst (λ (ns : List Narrowing). All (λ n. IsGiven body s n.target) ns) (sym none) (All-nil (λ (n : Narrowing). IsGiven body s n.target)))))
 
+pub may_be : (s : Trail) (p : Places) (h : Hulls) → IsMeasured s p h → IsPossible h → MayBeInterval s p.start p.end p.size
+may_be s p h m o = record {
+  long = (h.size.high, m.size.high, o.some);
+  early = (h.start.low, h.end.high, h.size.low, m.start.low, m.end.high, m.size.low, o.not_before);
+  late = (h.start.high, h.end.low, h.size.high, m.start.high, m.end.low, m.size.high, o.not_after);
+}
+
 pub at_rest : (s : Trail) (p : Places) (h : Hulls) → IsMeasured s p h → IsPossible h → IsAtRest (body_of p) s
 at_rest s p h m o = record {
   decided = λ fixed xs opened.
@@ -97,5 +105,5 @@ at_rest s p h m o = record {
       let early = o.not_before in
       let late = o.not_after in
       (omega (arith, ints), omega (arith, ints));
-  strong = tt;
+  strong = may_be s p h m o;
 }

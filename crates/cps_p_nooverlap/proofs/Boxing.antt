@@ -23,8 +23,10 @@ use Rattle.cps_p_nooverlap.specs.declared.box_pairs.Direction.{Direction}
 use Rattle.cps_p_nooverlap.specs.Hulls.{Proposes}
 use Rattle.cps_p_nooverlap.specs.Spans.{start_at, end_at, is_present, IsBefore, AreSpans, IsSeen, Says, IsPair, IsSmallAtom, ClashesAt, no_seen}
 use Rattle.cps_p_nooverlap.specs.Boxes.{IsDirection, AreBoxes, ArePresent, AreDisjoint, KeepsApart, AddsGiven, LeavesNone, BoxComesBefore, IsBoxAbsent, IsLate, Overlap, MayBeApart, IsSureBox, AreBoxesAllowed, AllowsBoxes, AreAllAllowed, MakesPresent, MakesBoxPresent, IsCount, pair_of_places}
+use Rattle.cps_propagate.specs.Strength.{MayBeOrdered, IsPresentBox, HasSeparateBoxes}
 use Rattle.cps_p_nooverlap.proofs.Timing.{zip_at, zip_length}
 use Rattle.cps_p_nooverlap.proofs.Pairing.{all_hold, less_or, swapped_pair, start_most, end_least, surely, gives_proposed}
+use Rattle.cps_p_nooverlap.proofs.Ordering.{may_be_ordered, turned_order, sure_at}
 use Rattle.cps_p_nooverlap.proofs.Citing.{denies, says_within, literals_small}
 use Rattle.cps_p_nooverlap.proofs.Resting.{are_spans, start_fixed, end_fixed, sure}
 use Rattle.cps_p_nooverlap.proofs.Disjoint.{Either, AllDisjoint, disjoint_of, no_overlap_2d}
@@ -269,8 +271,28 @@ module _ (s : Trail) (v w : Direction) (is : IsDirection s v) (has : IsDirection
           | inr h ↦ inr (apart_fixed s w.spans w.seen.items has.seen fixed_across xs opened_across i j d oi o h)
         ]
 
+  sure_of : (k : ℕ) (d : Span) → IsPresentBox s v.spans w.spans k d → IsSureBox v.seen.items w.seen.items k
+  sure_of k d h = record { along = sure_at s v.spans v.seen.items is.seen k d h.along; across = sure_at s w.spans w.seen.items has.seen k d h.across }
+
+  separate_at : (i j : ℕ) (d : Span) → i < j → IsPresentBox s v.spans w.spans i d → IsPresentBox s v.spans w.spans j d → MayBeOrdered s (get_or v.spans i d) (get_or v.spans j d) ⊎ MayBeOrdered s (get_or w.spans i d) (get_or w.spans j d)
+  separate_at i j d l a b = elim (allowed j (n.all j b.along.within b.across.within) i l (sure_of j d b) (sure_of i d a)) [
+    | inl h ↦ inl (turned_order s (get_or v.spans j d) (get_or v.spans i d) (may_be_ordered s v.spans v.seen.items is.seen j i d b.along.within a.along.within h))
+    | inr h ↦ inr (turned_order s (get_or w.spans j d) (get_or w.spans i d) (may_be_ordered s w.spans w.seen.items has.seen j i d b.across.within a.across.within h))
+  ]
+
+  pub separate : HasSeparateBoxes s v.spans w.spans
+  separate = record {
+    apart = λ i j d differ a b. elim (less_or i j differ) [
+      | inl l ↦ separate_at i j d l a b
+      | inr l ↦ elim (separate_at j i d l b a) [
+        | inl h ↦ inl (turned_order s (get_or v.spans j d) (get_or v.spans i d) h)
+        | inr h ↦ inr (turned_order s (get_or w.spans j d) (get_or w.spans i d) h)
+      ]
+    ];
+  }
+
   pub boxes_at_rest : IsAtRest (NoOverlap2d v.spans w.spans) s
-  boxes_at_rest = record { decided = λ fixed xs opened. no_overlap_2d xs v.spans w.spans (all_disjoint fixed xs opened); strong = tt }
+  boxes_at_rest = record { decided = λ fixed xs opened. no_overlap_2d xs v.spans w.spans (all_disjoint fixed xs opened); strong = separate }
 
 -- what fits are two lists of spans
 pub are_along : (first : Domains) (ps qs : List Span) → IsFittingRule first (NoOverlap2d ps qs) → AreSpans first ps

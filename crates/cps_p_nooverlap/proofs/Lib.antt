@@ -2,6 +2,7 @@ pub mod Bounding
 pub mod Apart
 pub mod Timing
 pub mod Pairing
+pub mod Ordering
 pub mod Resting
 pub mod Citing
 pub mod Packing_laws

@@ -20,6 +20,7 @@ use Rattle.cps_p_nooverlap.specs.declared.seen.Seen.{Seen}
 use Rattle.cps_p_nooverlap.specs.Spans.{start_at, end_at, is_present, IsBefore, AreSpans, IsSeen, AreAllowed, no_seen}
 use Rattle.cps_p_nooverlap.proofs.Apart.{no_overlap}
 use Rattle.cps_p_nooverlap.proofs.Timing.{zip_at}
+use Rattle.cps_p_nooverlap.proofs.Ordering.{has_orders}
 
 pub of_span : (P : ℕ → Type 0) (ps : List Span) (k : ℕ) (d : Span) → k < length ps → All P (span_subjects ps) → All P (subjects_of_span (get_or ps k d))
 of_span P [] k d l h = absurd (omega arith)
@@ -78,7 +79,7 @@ module _ (s : Trail) (ps : List Span) (vs : List Seen) (seen : AllZip (IsSeen s)
       elim (allowed i j l m (sure j d m f) (sure i d li e)) [ inl q ↦ inr (omega (arith, ints)) | inr q ↦ inl (omega (arith, ints)) ]
 
 pub at_rest : (s : Trail) (ps : List Span) (vs : List Seen) → AllZip (IsSeen s) ps vs → AreAllowed vs (length ps) → IsAtRest (NoOverlap ps) s
-at_rest s ps vs seen allowed = record { decided = λ fixed xs opened. no_overlap xs ps (apart_fixed s ps vs seen fixed xs opened allowed); strong = tt }
+at_rest s ps vs seen allowed = record { decided = λ fixed xs opened. no_overlap xs ps (apart_fixed s ps vs seen fixed xs opened allowed); strong = has_orders s ps vs seen allowed }
 
 -- what fits is a list of spans
 pub are_spans : (first : Domains) (ps : List Span) → IsFittingRule first (NoOverlap ps) → AreSpans first ps

@@ -1,5 +1,5 @@
 -- Between which times a span starts and ends.
-use Rattle.std.proofs.Common.{◌≡◌, ◌+ℤ◌, ◌-ℤ◌, ◌≤ℤ◌, inl, inr, ℤ, ℕ, zero, suc, ◌<◌, length, get_or, refl, Option, Some, None, List, [], ◌∷◌, ◌++◌, ap, arith}
+use Rattle.std.proofs.Common.{◌≡◌, ◌+ℤ◌, ◌-ℤ◌, ◌≤ℤ◌, inl, inr, ℤ, ℕ, zero, suc, ◌<◌, length, get_or, refl, Option, Some, None, List, [], ◌∷◌, ◌++◌, ap, sym, subst, arith}
 use Rattle.std.specs.Prelude.{IfSome}
 use Rattle.std.specs.List.{AllZip}
 use Rattle.std.proofs.lemmas.Int.{ints}
@@ -9,6 +9,8 @@ use Rattle.cps_literal.specs.declared.atom.Atom.{Atom}
 use Rattle.cps_literal.specs.declared.atom.Op.TheVariants.{Ge, Le}
 use Rattle.cps_literal.specs.Truth.{value_at}
 use Rattle.cps_trail.specs.Trail.{Trail}
+use Rattle.cps_propagate.specs.Now.{IsOpenTo}
+use Rattle.cps_propagate.specs.Strength.{MayEndAt}
 use Rattle.cps_p_nooverlap.specs.declared.hull.Hull.{Hull}
 use Rattle.cps_p_nooverlap.specs.declared.seen.Times.{Times}
 use Rattle.cps_p_nooverlap.specs.Hulls.{IsHullNow}
@@ -22,6 +24,8 @@ times_some s p far h v e m a b c d = record {
   end_high = λ x y o q. (let k = m.greatest x o in let i = ap (λ (l : Option ℤ). end_of l x y) e in omega (arith, ints));
   start_fixed = λ f x o. (let k = f h.high x m.high o in omega (arith, ints));
   end_fixed = λ f g x y o q. (let k = f h.low x m.low o in let i = ap (λ (l : Option ℤ). end_of l x y) e in omega (arith, ints));
+  start_last = subst (λ (x : ℤ). IsOpenTo s p.start x) (sym b) m.high;
+  end_first = subst (λ (l : Option ℤ). MayEndAt s p.start p.end l v.end_low) (sym e) (h.low, m.low, c);
 }
 
 pub times_none : (s : Trail) (p : Span) (h u : Hull) (v : Times) → p.length ≡ None → IsHullNow s p.start h → IsHullNow s p.end u → v.start_low ≡ h.low → v.start_high ≡ h.high → v.end_low ≡ u.low → v.end_high ≡ u.high → AreTimes s p v
@@ -32,6 +36,8 @@ times_none s p h u v e m n a b c d = record {
   end_high = λ x y o q. (let k = n.greatest y q in let i = ap (λ (l : Option ℤ). end_of l x y) e in omega (arith, ints));
   start_fixed = λ f x o. (let k = f h.high x m.high o in omega (arith, ints));
   end_fixed = λ f g x y o q. (let k = g u.low y n.low q in let i = ap (λ (l : Option ℤ). end_of l x y) e in omega (arith, ints));
+  start_last = subst (λ (x : ℤ). IsOpenTo s p.start x) (sym b) m.high;
+  end_first = subst (λ (l : Option ℤ). MayEndAt s p.start p.end l v.end_low) (sym e) (subst (λ (y : ℤ). IsOpenTo s p.end y) (sym c) n.low);
 }
 
 pub zip_push : {A B : Type 0} (R : A → B → Type 0) (xs : List A) (ys : List B) (x : A) (y : B) → AllZip R xs ys → R x y → AllZip R (xs ++ x ∷ []) (ys ++ y ∷ [])

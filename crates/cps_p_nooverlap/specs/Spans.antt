@@ -10,6 +10,7 @@ use Rattle.cps_instance.specs.Terms.{Domains}
 use Rattle.cps_instance.specs.Fitting.{IsLiteral}
 use Rattle.cps_trail.specs.Trail.{Trail, IsTrueNow, IsAdmitted}
 use Rattle.cps_propagate.specs.Now.{IsOpenTo, IsFixedNow}
+use Rattle.cps_propagate.specs.Strength.{MayEndAt}
 use Rattle.cps_p_nooverlap.specs.declared.seen.Times.{Times}
 use Rattle.cps_p_nooverlap.specs.declared.seen.Presence.{Presence}
 use Rattle.cps_p_nooverlap.specs.declared.seen.Seen.{Seen}
@@ -51,6 +52,8 @@ pub record AreTimes (s : Trail) (p : Span) (v : Times) : Type 0 where
   pub end_high : (x y : ℤ) → IsOpenTo s p.start x → IsOpenTo s p.end y → end_of p.length x y ≤ℤ v.end_high
   pub start_fixed : IsFixedNow s p.start → (x : ℤ) → IsOpenTo s p.start x → v.start_high ≤ℤ x
   pub end_fixed : IsFixedNow s p.start → IsFixedNow s p.end → (x y : ℤ) → IsOpenTo s p.start x → IsOpenTo s p.end y → end_of p.length x y ≤ℤ v.end_low
+  pub start_last : IsOpenTo s p.start v.start_high
+  pub end_first : MayEndAt s p.start p.end p.length v.end_low
 
 -- whether a span is surely present, and which of its atoms alone may be false, where there is one
 pub record IsPresence (s : Trail) (us : List Atom) (v : Presence) : Type 0 where

@@ -2,10 +2,11 @@ use Rattle.std.proofs.Common.{◌≡◌, Ok, None, Option, List, length, subst, 
 use Rattle.std.specs.Prelude.{IfSome}
 use Rattle.cps_instance.specs.declared.task.Span.{Span}
 use Rattle.cps_instance.specs.declared.task.Body.TheVariants.{NoOverlap2d}
+use Rattle.cps_propagate.specs.Strength.{HasSeparateBoxes}
 use Rattle.cps_rule.specs.Rules.{IsAtRest}
 use Rattle.cps_p_nooverlap.specs.declared.pairs.Pair.{Pair}
 use Rattle.cps_p_nooverlap.specs.Boxes.{LeavesNone, IsCount}
-use Rattle.cps_p_nooverlap.proofs.Boxing.{kept_of, given_of, boxes_at_rest, are_along, are_across}
+use Rattle.cps_p_nooverlap.proofs.Boxing.{kept_of, given_of, separate, boxes_at_rest, are_along, are_across}
 use Rattle.cps_p_nooverlap.proofs.boxes.BoxesRule.look.Goals as goal
 
 pub look-requires : goal.look-requires
@@ -37,3 +38,13 @@ returns-in-None-clause-rest c e all =
     subst (λ (ts : List Span). IsAtRest (NoOverlap2d ts c.args.self.now.y.spans) c.args.store.now) c.look.ensures.spans
     (subst (λ (ts : List Span). IsAtRest (NoOverlap2d c.look.new.self.spans ts) c.args.store.now) c.look-2.ensures.spans
     (boxes_at_rest s c.look.new.self c.look-2.new.self c.in_ok-look.ensures.seen c.in_ok-look-2.ensures.seen c.count_of-count.result count (c.meet_all.ensures.allowed none)))
+
+pub returns-in-None-clause-seen : goal.returns-in-None-clause-seen
+returns-in-None-clause-seen c = λ excluded.
+    let s = c.args.store.now in
+    let none : c.meet_all.result ≡ Ok None = search rules in
+    let count = subst (λ (ts : List Span). IsCount (length ts) (length c.look-2.new.self.spans) c.count_of-count.result) c.as_slice.ensures
+    (subst (λ (ts : List Span). IsCount (length c.as_slice.result.now) (length ts) c.count_of-count.result) c.as_slice-2.ensures c.count_of-count.ensures) in
+    excluded (subst (λ (ts : List Span). HasSeparateBoxes s ts c.args.self.now.y.spans) c.look.ensures.spans
+    (subst (λ (ts : List Span). HasSeparateBoxes s c.look.new.self.spans ts) c.look-2.ensures.spans
+    (separate s c.look.new.self c.look-2.new.self c.in_ok-look.ensures.seen c.in_ok-look-2.ensures.seen c.count_of-count.result count (c.meet_all.ensures.allowed none))))

@@ -3,6 +3,7 @@ use Rattle.std.specs.List.{AllZip}
 use Rattle.cps_instance.specs.declared.task.Span.{Span}
 use Rattle.cps_p_nooverlap.specs.declared.seen.Seen.{Seen}
 use Rattle.cps_p_nooverlap.specs.Spans.{AreSpans, IsSeen, AreAllowed}
+use Rattle.cps_p_nooverlap.proofs.Ordering.{has_orders}
 use Rattle.cps_p_nooverlap.proofs.Resting.{are_spans, at_rest}
 use Rattle.cps_p_nooverlap.proofs.no_overlap.NoOverlapRule.look.Goals as goal
 
@@ -21,3 +22,13 @@ returns-in-None-clause-rest c e all =
     let seen = subst (λ (qs : List Span). AllZip (IsSeen s) qs c.see.new.seen.items) c.as_slice.ensures c.in_ok-see.ensures in
     at_rest s ps c.see.new.seen.items seen
     (subst (λ (vs : List Seen). AreAllowed vs (length ps)) c.as_slice-seen.ensures.value (subst (λ (qs : List Span). AreAllowed c.as_slice-seen.result.now (length qs)) c.as_slice-spans.ensures allowed))
+
+pub returns-in-None-clause-seen : goal.returns-in-None-clause-seen
+returns-in-None-clause-seen c = λ excluded.
+    let s = c.args.store.now in
+    let ps = c.args.self.now.spans in
+    let none : c.meet_both.result ≡ Ok None = search rules in
+    let allowed = c.meet_both.ensures.allowed none in
+    let seen = subst (λ (qs : List Span). AllZip (IsSeen s) qs c.see.new.seen.items) c.as_slice.ensures c.in_ok-see.ensures in
+    excluded (has_orders s ps c.see.new.seen.items seen
+    (subst (λ (vs : List Seen). AreAllowed vs (length ps)) c.as_slice-seen.ensures.value (subst (λ (qs : List Span). AreAllowed c.as_slice-seen.result.now (length qs)) c.as_slice-spans.ensures allowed)))
