@@ -51,9 +51,11 @@ fn teaches(alloc: Global, store: &Store, row: Row) -> Result<bool, AllocError> {
     }
     let mut analyser = Analyser::new(alloc);
     let learnt = analyser.analyse(store, row.conflict, &Nobody)?;
-    Ok(learnt.clause.as_slice() == row.clause
-        && learnt.back_level == row.back_level
-        && learnt.assert == row.assert)
+    Ok(
+        learnt.clause.as_slice() == row.clause
+            && learnt.back_level == row.back_level
+            && learnt.assert == row.assert,
+    )
 }
 
 fn check(alloc: Global, row: Row) -> Result<bool, AllocError> {
