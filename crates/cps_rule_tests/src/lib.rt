@@ -7,10 +7,16 @@
 #[cfg(test)]
 mod arithmetic;
 #[cfg(test)]
+mod boxes;
+#[cfg(test)]
 mod lists;
 #[cfg(test)]
 mod runs;
 #[cfg(test)]
+mod schedules;
+#[cfg(test)]
 mod sequences;
+#[cfg(test)]
+mod spans;
 #[cfg(test)]
 mod stores;
