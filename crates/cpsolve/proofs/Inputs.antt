@@ -1,6 +1,6 @@
 -- A fault of the input, and that it is no valid model then.
 use Rattle.std.specs.Prelude.{Some, length}
-use Rattle.std.proofs.Common.{◌≡◌, ℕ, ◌≤◌, List, sym, subst}
+use Rattle.std.proofs.Common.{◌≡◌, ℕ, ◌≤◌, List, refl, sym, subst}
 use Rattle.cps_lex.specs.declared.types.Token.{Token}
 use Rattle.cps_textproto.specs.Symbols.{symbols}
 use Rattle.cps_textproto.specs.Grammar.{IsRefusedAt}
