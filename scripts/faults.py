@@ -62,9 +62,11 @@ static void tell(void) {
 }
 
 void _exit(int status) {
-    void (*next)(int) __attribute__((noreturn)) = (void (*)(int))dlsym(RTLD_NEXT, "_exit");
+    void (*next)(int) = (void (*)(int))dlsym(RTLD_NEXT, "_exit");
     tell();
     next(status);
+    for (;;) {
+    }
 }
 
 __attribute__((destructor)) static void end(void) { tell(); }
