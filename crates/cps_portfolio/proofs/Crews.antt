@@ -1,5 +1,5 @@
 -- Seats that are split among workers and joined again.
-use Rattle.std.specs.Prelude.{Option, Some, None, All, int_lt, if◌then◌else◌, Bool, true, false, ℤ, slice_index_or}
+use Rattle.std.specs.Prelude.{Option, Some, None, All, int_lt, ◌==◌, if◌then◌else◌, Bool, true, false, ℤ, slice_index_or}
 use Rattle.std.specs.Int.{int_min}
 use Rattle.std.proofs.Common.{◌≡◌, ℕ, zero, suc, ◌+◌, ◌-◌, ◌/◌, ◌^◌, ◌<◌, ◌≤◌, List, [], ◌∷◌, ◌++◌, length, get_or, arith, refl, sym, ap, ap₂, subst, ◌∙◌, length-append, ◌⊎◌, inl, inr, take, drop}
 use Rattle.std.proofs.Math.Nat.{two-pow-succ}
@@ -23,10 +23,11 @@ use Rattle.cps_port.proofs.Bounding.{BoundLe-trans, lesser-first, lesser-second,
 use Rattle.cps_search.specs.declared.end.End.{End}
 use Rattle.cps_search.specs.declared.end.Said.TheVariants.{Over}
 use Rattle.cps_search.specs.declared.end.WorkerKind.{WorkerKind}
+use Rattle.cps_search.specs.declared.end.WorkerKind.TheVariants as kinds
 use Rattle.cps_branch.specs.declared.guidance.Guidance.{Guidance}
 use Rattle.cps_search.specs.Guided.{IsGuidedBy, RunsBy}
 use Rattle.cps_search.specs.Searches.{Search}
-use Rattle.cps_search.specs.Ends.{Ending, IsOver, IsHonestEnding, RunsTo, ending}
+use Rattle.cps_search.specs.Ends.{Ending, IsComplete, IsOver, IsHonestEnding, RunsTo, ending}
 use Rattle.cps_search.specs.Following.{best_bound}
 use Rattle.cps_search.proofs.Bounds.{greater-second, same_bound}
 use Rattle.cps_search.proofs.Ending.{honest_ending}
@@ -179,6 +180,10 @@ none_gathered m gap conflicts first k offered raised = record {
   each = All-nil (EndedSeen m gap conflicts k);
 }
 
+-- workers of the kinds by number are complete
+pub complete_kind : (number : ℕ) → IsComplete (worker_kind number)
+complete_kind number = elim (number == 0) as (λ (b : Bool). IsComplete (if b then kinds.Fixed else kinds.Activity)) [ true ↦ tt | false ↦ tt ]
+
 pub over_is : (s : Search) (end : End) → s.said ≡ Over end → IsOver s.said
 over_is s end e = subst IsOver (sym e) tt
 
@@ -200,6 +205,7 @@ one_gathered m gap conflicts first count k j q s kind guidance e ends h kind_is 
       each = All-cons (EndedSeen m gap conflicts j) e ends (record {
         part = q;
         ended = honest;
+        complete = subst (λ (x : Ending). IsComplete x.kind) (sym all) (complete_kind first);
         sums = ap (λ (x : Ending). x.defs) all ∙ done.sums;
         goes = subst (GoesByModel m gap conflicts) (sym all) done.goes;
         above = subst (λ (b : Bound). BoundLe b q.saw_upper) (sym upper) (lesser-second k.saw_upper q.saw_upper);
@@ -208,6 +214,7 @@ one_gathered m gap conflicts first count k j q s kind guidance e ends h kind_is 
           (All-weaker (EndedSeen m gap conflicts k) (EndedSeen m gap conflicts j) (λ x y. record {
             part = y.part;
             ended = y.ended;
+            complete = y.complete;
             sums = y.sums;
             goes = y.goes;
             above = subst (λ (b : Bound). BoundLe b y.part.saw_upper) (sym upper) (BoundLe-trans (lesser k.saw_upper q.saw_upper) k.saw_upper y.part.saw_upper (lesser-first k.saw_upper q.saw_upper) y.above);
@@ -227,15 +234,15 @@ is_ready m gap conflicts board bounds number c model h =
     }
 
 -- a worker that knew nothing at first has ended, by a guidance that is what the model says
-pub done_from : (m : CpModel) (gap conflicts : ℕ) (kind : WorkerKind) (guidance : Guidance) (rows : ℕ) (s t : Search) (p q : Part) → Begins m gap conflicts s → IsGuidedBy kind s.problem (Some guidance) → p.bounds.offered ≡ Infinite → p.bounds.raised ≡ None
+pub done_from : (m : CpModel) (gap conflicts : ℕ) (kind : WorkerKind) (guidance : Guidance) (rows : ℕ) (s t : Search) (p q : Part) → Begins m gap conflicts s → IsComplete kind → IsGuidedBy kind s.problem (Some guidance) → p.bounds.offered ≡ Infinite → p.bounds.raised ≡ None
     → HasEnded guidance rows s t p q → IsDone m gap conflicts kind guidance q.bounds t
-done_from m gap conflicts kind guidance rows s t p q begins guide offered raised h =
+done_from m gap conflicts kind guidance rows s t p q begins complete guide offered raised h =
     let runs = subst (λ (x : Search). RunsTo x t p q h.end) begins.is h.runs in
     record {
       end = h.end;
       over = h.runs.said;
       honest = subst (λ (x : CpModel). IsHonestEnding x gap conflicts q.bounds (ending kind (Some guidance) h.end t)) begins.first.model
-          (honest_ending begins.problem gap conflicts t p q kind (Some guidance) h.end runs h.sound offered raised);
+          (honest_ending begins.problem gap conflicts t p q kind (Some guidance) h.end complete runs h.sound offered raised);
       sums = ap (λ (x : Problem). x.defs) runs.setting.problem ∙ begins.first.sums;
       goes = record {
         problem = begins.problem;
@@ -260,7 +267,7 @@ is_back m gap conflicts board bounds number a b h w = record {
   board_is = w.seats.board ∙ h.board_is;
   bounds_is = w.seats.bounds ∙ h.bounds_is;
   done = λ fine. subst (λ (g : Guidance). IsDone m gap conflicts (worker_kind number) g (words_part b) (search_of b.worker)) (sym w.guidance)
-      (done_from m gap conflicts (worker_kind number) (guidance_of a.worker) (boards.rows_of a.port.board.now) (search_of a.worker) (search_of b.worker) (part_at a) (part_at b) h.begins
+      (done_from m gap conflicts (worker_kind number) (guidance_of a.worker) (boards.rows_of a.port.board.now) (search_of a.worker) (search_of b.worker) (part_at a) (part_at b) h.begins (complete_kind number)
       (subst (λ (k : WorkerKind). IsGuidedBy k (search_of a.worker).problem (Some (guidance_of a.worker))) h.kind h.guide) h.offered h.raised (w.ended fine));
 }
 
@@ -286,6 +293,7 @@ came_to m gap conflicts workers k upper lower ends h u l floor above below = rec
   each = All-weaker (EndedSeen m gap conflicts k) (EndedWithin m gap conflicts upper lower) (λ e y. record {
     part = y.part;
     ended = y.ended;
+    complete = y.complete;
     sums = y.sums;
     goes = y.goes;
     above = BoundLe-trans upper k.saw_upper y.part.saw_upper above y.above;

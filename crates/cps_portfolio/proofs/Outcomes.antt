@@ -18,7 +18,7 @@ use Rattle.cps_clauses.specs.declared.journal.JournalItem.TheVariants.{Learnt, D
 use Rattle.cps_search.specs.declared.end.End.{End}
 use Rattle.cps_search.specs.declared.end.End.TheVariants as ends
 use Rattle.cps_search.specs.Searches.{IsItemAbove}
-use Rattle.cps_search.specs.Ends.{Ending, IsHonestEnding, IsWhy}
+use Rattle.cps_search.specs.Ends.{Ending, IsComplete, IsHonestEnding, IsWhy}
 use Rattle.cps_search.specs.Following.{best_bound}
 use Rattle.cps_search.proofs.Bounds.{greater-second}
 use Rattle.cps_options.specs.declared.options.Options.{Options}
@@ -99,7 +99,7 @@ spent_apart m gap conflicts upper lower e h raised apart = go e.end refl w.why
       honest = why.2;
       above = All-push (IsItemAbove upper) e.journal (Learnt clause below) (All-weaker (IsItemAbove w.z) (IsItemAbove upper) (λ i k. raise_above upper w.z i up k) e.journal w.above) (BoundLe-trans upper w.z below up why.1);
     }
-    go ends.RoundsDone is why = absurd why
+    go ends.RoundsDone is why = absurd (subst IsComplete why.0 h.complete)
 
 -- ---- the outcome
 

@@ -29,7 +29,7 @@ use Rattle.cps_search.specs.Searches.{Search}
 use Rattle.cps_search.specs.Moves.{fresh}
 use Rattle.cps_search.specs.Guided.{IsGuidedBy}
 use Rattle.cps_branch.specs.Guidances.{ChoosesBy}
-use Rattle.cps_search.specs.Ends.{Ending, EndsAs, IsHonestEnding, IsOver, Lowers, TakesTurns, none_yet, one_more, end_of, ending}
+use Rattle.cps_search.specs.Ends.{Ending, EndsAs, IsComplete, IsHonestEnding, IsOver, Lowers, TakesTurns, none_yet, one_more, end_of, ending}
 use Rattle.cps_search.specs.Following.{best_bound}
 use Rattle.cps_search.proofs.Weighing.{left_of, lowered}
 use Rattle.cps_search.proofs.Working.{HasRun, run_begins, run_goes_on, run_ends}
@@ -39,7 +39,7 @@ use Rattle.cps_portfolio.specs.Outcomes.{CameTo, EndedWithin, GoesByModel, best_
 use Rattle.cps_portfolio.specs.Crews.{IsDone}
 use Rattle.cps_portfolio.specs.Turning.{AtWork, IsTurning, AreTurning, IsFresh, AreFresh, one_at_work, count_at_work, end_said, ended_of, place_at_work, drawn_place, TakesTurnAt, TakesDrawnTurns}
 use Rattle.cps_portfolio.specs.Turning.{one_more as one_drawn}
-use Rattle.cps_portfolio.proofs.Crews.{done_from, lesser_best, over_is}
+use Rattle.cps_portfolio.proofs.Crews.{complete_kind, done_from, lesser_best, over_is}
 
 none_of : (o : Option End) → is_some o ≡ false → o ≡ None
 none_of None e = refl
@@ -140,7 +140,7 @@ turns_on m gap conflicts rows c d i w v h still kind same turn =
         running = still_runs rows g (search_of w.worker) (search_of v.worker) (part_at c i) (part_at d i) v.over turn on;
       });
       done = λ stopped. subst (λ (x : Guidance). IsDone m gap conflicts (worker_kind i) x (part_at d i).bounds (search_of v.worker)) (sym same)
-          (done_from m gap conflicts (worker_kind i) g rows s (search_of v.worker) newcomer (part_at d i) (record { problem = a.problem; first = a.first; is = refl }) a.guide refl refl
+          (done_from m gap conflicts (worker_kind i) g rows s (search_of v.worker) newcomer (part_at d i) (record { problem = a.problem; first = a.first; is = refl }) (complete_kind i) a.guide refl refl
           (turned_last rows g s (search_of w.worker) (search_of v.worker) newcomer (part_at c i) (part_at d i) v.over a.turns turn stopped));
     }
 
@@ -323,6 +323,7 @@ module _ (m : CpModel) (gap conflicts : ℕ) (upper lower : Bound) where
         each = All-cons (EndedWithin m gap conflicts upper lower) (ended_of w) (map ended_of ws) (record {
           part = p;
           ended = honest;
+          complete = subst (λ (x : Ending). IsComplete x.kind) (sym is) (complete_kind first);
           sums = k.done.sums;
           goes = subst (GoesByModel m gap conflicts) (sym is) k.done.goes;
           above = k.above;

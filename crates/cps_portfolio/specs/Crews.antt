@@ -18,7 +18,7 @@ use Rattle.cps_search.specs.declared.end.WorkerKind.{WorkerKind}
 use Rattle.cps_branch.specs.declared.guidance.Guidance.{Guidance}
 use Rattle.cps_search.specs.Guided.{IsGuidedBy}
 use Rattle.cps_search.specs.Searches.{Search}
-use Rattle.cps_search.specs.Ends.{Ending, IsOver, IsHonestEnding, ending}
+use Rattle.cps_search.specs.Ends.{Ending, IsComplete, IsOver, IsHonestEnding, ending}
 use Rattle.cps_search.specs.Following.{best_bound}
 use Rattle.cps_portfolio.specs.declared.seats.Seated.{Seated}
 use Rattle.cps_portfolio.specs.Ports.{part_of, SeatsStay}
@@ -79,10 +79,11 @@ pub record IsBack (m : CpModel) (gap conflicts : ℕ) (board : Board) (bounds : 
 pub record AreBack (m : CpModel) (gap conflicts : ℕ) (board : Board) (bounds : Bounds) (crew : List Seated) : Type 0 where
   pub each : (i : ℕ) (d : Seated) → i < length crew → IsBack m gap conflicts board bounds i (slice_index_or crew i d)
 
--- a worker ended honestly, and saw nothing better than what a seat knows
+-- a worker of a complete kind ended honestly, and saw nothing better than what a seat knows
 pub record EndedSeen (m : CpModel) (gap conflicts : ℕ) (k : BoundsPart) (e : Ending) : Type 0 where
   pub part : BoundsPart
   pub ended : IsHonestEnding m gap conflicts part e
+  pub complete : IsComplete e.kind
   pub sums : e.defs ≡ model_sums m
   pub goes : GoesByModel m gap conflicts e
   pub above : BoundLe k.saw_upper part.saw_upper

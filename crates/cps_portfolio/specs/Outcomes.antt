@@ -17,7 +17,7 @@ use Rattle.cps_clauses.specs.declared.journal.JournalItem.TheVariants.{Learnt}
 use Rattle.cps_search.specs.declared.end.WorkerKind.{WorkerKind}
 use Rattle.cps_search.specs.declared.end.End.TheVariants.{Spent}
 use Rattle.cps_search.specs.Searches.{IsHonestJournal, IsItemAbove, learnt_count}
-use Rattle.cps_search.specs.Ends.{Ending, IsHonestEnding}
+use Rattle.cps_search.specs.Ends.{Ending, IsComplete, IsHonestEnding}
 use Rattle.cps_search.specs.Following.{best_bound}
 use Rattle.cps_search.specs.Guided.{IsEndOfRun, IsGuidedBy}
 use Rattle.cps_options.specs.declared.options.Options.{Options}
@@ -88,10 +88,11 @@ pub record IsGoodOutcome (m : CpModel) (options : Options) (o : Outcome) : Type 
   -- where the bounds have not met, each worker spent its budget
   pub spent : is_closed o.lower o.upper options.gap ≡ false → All (SpentItsBudget m options.conflicts o.upper) o.ends
 
--- A worker ended honestly, and saw nothing better than these two bounds.
+-- A worker of a complete kind ended honestly, and saw nothing better than these two bounds.
 pub record EndedWithin (m : CpModel) (gap conflicts : ℕ) (upper lower : Bound) (e : Ending) : Type 0 where
   pub part : BoundsPart
   pub ended : IsHonestEnding m gap conflicts part e
+  pub complete : IsComplete e.kind
   pub sums : e.defs ≡ model_sums m
   pub goes : GoesByModel m gap conflicts e
   pub above : BoundLe upper part.saw_upper

@@ -1,6 +1,6 @@
 -- The store of a search in which a conflict was found.
 use Rattle.std.specs.List.{All, Any}
-use Rattle.std.proofs.Common.{◌<◌, ◌≡◌, List, [], length, inl, inr, refl, sym, subst}
+use Rattle.std.proofs.Common.{◌<◌, List, [], length, inl, inr, refl, sym, subst}
 use Rattle.cps_literal.specs.declared.atom.Atom.{Atom}
 use Rattle.cps_instance.specs.declared.task.Task.{Task}
 use Rattle.cps_instance.specs.Tasks.{HoldAll}

@@ -1,23 +1,19 @@
 -- What a search is after it dropped learnt clauses, where that was due.
-use Rattle.std.proofs.Common.{ℕ, suc, ◌+◌, ◌-◌, ◌/◌, ◌%◌, ◌≤◌, ◌<◌, ◌≡◌, ◌≢◌, ◌⊎◌, Option, Some, None, List, [], ◌∷◌, ◌++◌, length, take, get_or, set, map, refl, sym, ◌∙◌, ap, subst, inl, inr, arith, length-append}
-use Rattle.std.specs.List.{All}
+use Rattle.std.proofs.Common.{ℕ, ◌+◌, ◌-◌, ◌/◌, ◌%◌, ◌≤◌, ◌<◌, ◌≡◌, Option, Some, None, List, [], ◌∷◌, ◌++◌, length, take, get_or, set, refl, sym, ◌∙◌, ap, subst, arith, length-append}
 use Rattle.std.proofs.lemmas.List.{get_or_default, length-set}
-use Rattle.std.proofs.lemmas.List.Elements.{All-append}
 use Rattle.cps_model.specs.declared.bound.Bound.{Bound}
 use Rattle.cps_literal.specs.declared.atom.Atom.{Atom}
 use Rattle.cps_instance.specs.declared.task.Task.{Task}
 use Rattle.cps_trail.specs.declared.note.Note.TheVariants as notes
 use Rattle.cps_trail.specs.Trail.{Trail, Entry, Domains, Reason, Decision, Because, Later, Explains}
-use Rattle.cps_trail.specs.Notes.{IsGivenAt, IsInForce, NamesClause}
 use Rattle.cps_clauses.specs.declared.journal.JournalItem.{JournalItem}
 use Rattle.cps_clauses.specs.declared.journal.JournalItem.TheVariants.{Learnt, Drop}
-use Rattle.cps_clauses.specs.Journals.{IsHonest, IsHonestItem, AreHonest, IsStanding, after_item, count_standing, drops, standing_after, standing_in}
+use Rattle.cps_clauses.specs.Journals.{IsHonest, AreHonest, count_standing, drops, standing_after, standing_in}
 use Rattle.cps_clauses.specs.Watches.{clause_of}
-use Rattle.cps_clauses.specs.Bases.{Base}
-use Rattle.cps_clauses.specs.Forgets.{Forgets, IsNamed, learnt_in_force, without}
+use Rattle.cps_clauses.specs.Forgets.{IsNamed}
 use Rattle.cps_clauses.proofs.Numbering.{count_push, count_set}
-use Rattle.cps_search.specs.Forgetting.{IsDropDue, DropsWhenDueFrom, DropsWhenDue, DroppedNoneSince, stand_after, stood_after}
-use Rattle.cps_search.specs.Searches.{IsItemAbove, learnt_count}
+use Rattle.cps_search.specs.Forgetting.{DropsWhenDueFrom, DropsWhenDue, DroppedNoneSince, stand_after, stood_after}
+use Rattle.cps_search.specs.Searches.{learnt_count}
 use Rattle.cps_search.specs.Giving.{ByAll, OrDecided, AreGiven}
 
 -- drops that are due, at the end of a journal

@@ -23,6 +23,7 @@ caused_by P Q w s t rows p q turns.Exhausted h = h
 caused_by P Q w s t rows p q turns.SawClosed h = h
 caused_by P Q w s t rows p q (turns.Spent clause below) h = h
 caused_by P Q w s t rows p q turns.RoundsDone h = h
+caused_by P Q w s t rows p q (turns.Reformed base) h = h
 
 takes_by : (P Q : Trail → Option Atom → Type 0) → ((s : Trail) (choice : Option Atom) → P s choice → Q s choice) → (s t : Search) (rows : ℕ) (p q : Part) (turn : Turn) → TakesTurn P s t rows p q turn → TakesTurn Q s t rows p q turn
 takes_by P Q w s t rows p q turn h = record { setting = h.setting; store = h.store; cause = caused_by P Q w s t rows p q turn h.cause; moves = h.moves; ends = h.ends; lowers = h.lowers }
@@ -43,6 +44,7 @@ brancher_by turns.Exhausted heard heard' chose chose' same same' f g h k = h k
 brancher_by turns.SawClosed heard heard' chose chose' same same' f g h k = h k
 brancher_by (turns.Spent clause below) heard heard' chose chose' same same' f g h k = h k
 brancher_by turns.RoundsDone heard heard' chose chose' same same' f g h k = h k
+brancher_by (turns.Reformed base) heard heard' chose chose' same same' f g h k = h k
 
 module _ {B : Type 0} (guidance : B → Guidance) (chooses : B → Trail → Option Atom → Type 0) (hears : B → List Atom → Bool → B → Type 0) (stays : B → B → Type 0)
     (goes_by : (b : B) (s : Trail) (choice : Option Atom) → chooses b s choice → ChoosesBy (guidance b) s choice)

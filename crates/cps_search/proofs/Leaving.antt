@@ -1,13 +1,12 @@
 -- A search after it dropped learnt clauses, where that was due.
-use Rattle.std.proofs.Common.{ℕ, ◌+◌, ◌/◌, ◌%◌, ◌≤◌, ◌<◌, ◌≡◌, ◌≢◌, ◌⊎◌, Option, List, [], ◌∷◌, ◌++◌, length, map, refl, sym, ◌∙◌, ap, subst, inl, inr, arith}
+use Rattle.std.proofs.Common.{ℕ, ◌+◌, ◌/◌, ◌%◌, ◌≤◌, ◌<◌, ◌≡◌, ◌≢◌, ◌⊎◌, Option, List, [], ◌∷◌, length, map, refl, sym, ◌∙◌, ap, subst, inl, inr, arith}
 use Rattle.std.specs.List.{All}
 use Rattle.std.proofs.lemmas.List.Elements.{All-append, All-cons}
 use Rattle.cps_model.specs.declared.bound.Bound.{Bound}
 use Rattle.cps_literal.specs.declared.atom.Atom.{Atom}
 use Rattle.cps_instance.specs.declared.task.Task.{Task}
 use Rattle.cps_trail.specs.Trail.{Trail}
-use Rattle.cps_clauses.specs.declared.journal.JournalItem.{JournalItem}
-use Rattle.cps_clauses.specs.InForce.{blanked, marked, emptied}
+use Rattle.cps_clauses.specs.InForce.{marked}
 use Rattle.cps_clauses.specs.Journals.{count_standing, drops, standing_in}
 use Rattle.cps_clauses.specs.Quiet.{Fits, IsQuiet}
 use Rattle.cps_clauses.specs.Bases.{Base, IsSoundBase, in_force_of, number_at}

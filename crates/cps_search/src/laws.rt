@@ -19,7 +19,7 @@ ghost use Rattle.cps_search.specs.Giving.{ByAll};
 ghost use Rattle.cps_search.specs.Lessons.{GoesBack};
 ghost use Rattle.cps_search.specs.Moves.{decided, fresh};
 ghost use Rattle.cps_search.specs.Searches.{Search, IsHonestJournal, IsSoundSearch, learnt_count};
-ghost use Rattle.cps_search.specs.Ends.{IsHonestEnding, RunsInTurns, RunsTo, ending};
+ghost use Rattle.cps_search.specs.Ends.{IsComplete, IsHonestEnding, RunsInTurns, RunsTo, ending};
 
 use cps_branch::Brancher;
 use cps_instance::Instance;
@@ -66,10 +66,11 @@ pub fn nothing_is_dropped_early()
         → 2000 ≤ learnt_count earlier }
 {}
 
-/// A worker whose actor had offered and raised nothing before it began is honest when it has ended.
+/// A worker of a complete kind whose actor had offered and raised nothing before it began is honest when it has ended.
 pub fn ended_workers_are_honest()
     ensures { (p : Problem) (gap budget : ℕ) (t : Search) (before after : Part) (kind : WorkerKind)
-        (guidance : Option Guidance) (end : End) → RunsTo (fresh p gap (Some budget)) t before after end
+        (guidance : Option Guidance) (end : End) → IsComplete kind
+        → RunsTo (fresh p gap (Some budget)) t before after end
         → IsSoundSearch t → before.bounds.offered ≡ Infinite → before.bounds.raised ≡ None
         → IsHonestEnding p.model gap budget after.bounds (ending kind guidance end t) }
 {}

@@ -73,6 +73,7 @@ enum Kind {
     SawClosed,
     Spent,
     RoundsDone,
+    Reformed,
 }
 
 /// What a turn was, and whether the worker has ended.
@@ -88,6 +89,7 @@ fn kind_of(turn: &Turn) -> (Kind, bool)
         Turn::SawClosed => (Kind::SawClosed, true),
         Turn::Spent(_, _) => (Kind::Spent, true),
         Turn::RoundsDone => (Kind::RoundsDone, true),
+        Turn::Reformed(_) => (Kind::Reformed, false),
     }
 }
 

@@ -1,7 +1,6 @@
 use Rattle.std.proofs.lemmas.Slice.Eq.{slice_eq-Decides}
 use Rattle.std.proofs.Common.{◌∙◌, sym}
 use Rattle.cps_literal.proofs.Ordering.{eq_Decides}
-use Rattle.cps_search.specs.Shelves.{StandsIn}
 use Rattle.cps_search.proofs.own_rows.stands_at.Goals as goal
 
 pub returns-then-in_force : goal.returns-then-in_force
