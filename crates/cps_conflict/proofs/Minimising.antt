@@ -13,7 +13,7 @@ use Rattle.cps_conflict.specs.declared.resolvent.Fallen.{Fallen}
 use Rattle.cps_conflict.specs.declared.minimiser.Node.{Node}
 use Rattle.cps_conflict.specs.declared.minimiser.Minimiser.{Minimiser}
 use Rattle.cps_conflict.specs.Drafts.{IsBacked, IsDraft, IsImpliedFrom, IsRedundant, Draft}
-use Rattle.cps_conflict.specs.Nodes.{IsLedTo, IsOpenAt, IsNodeAt, AreNodesAt, AreNodes, Carries, Passes, Grows, IsTraced, Traces, TraceSoFar}
+use Rattle.cps_conflict.specs.Nodes.{IsBack, IsOpenAt, IsNodeAt, AreNodesAt, AreNodes, Carries, Passes, Grows, IsTraced, Traces, TraceSoFar}
 use Rattle.cps_conflict.proofs.Bottom.{false_at_bottom}
 use Rattle.cps_conflict.proofs.Uniting.{none}
 use Rattle.cps_conflict.proofs.Drafting.{not_together}
@@ -25,8 +25,8 @@ none_node = record { place = 0; denied = none; next = 0; end = 0; latest = 0; fa
 nat_order : (m n : ℕ) → (m < n) ⊎ (n ≤ m)
 nat_order m n = grind arith
 
-pub IsLedTo-later : (a : List ℤ) (earlier : List Fallen) (t : Atom) (m n : ℕ) → m ≤ n → IsLedTo a earlier t m → IsLedTo a earlier t n
-IsLedTo-later a earlier t m n l h = record {
+pub IsBack-later : (a : List ℤ) (earlier : List Fallen) (t : Atom) (m n : ℕ) → m ≤ n → IsBack a earlier t m → IsBack a earlier t n
+IsBack-later a earlier t m n l h = record {
   some = elim (h.some) [
     | inl x ↦ inl x
     | inr w ↦ inr (w.0, w.1, w.2, w.3, record { holds = w.4.holds; by = omega (arith, l, w.4.by) })
@@ -52,7 +52,7 @@ Grows-push old new f g = record {
 }
 
 -- what a node whose atoms were all passed says of an atom that its entry refutes
-pub led_back : (earlier : List Fallen) (a : List ℤ) (m : Minimiser) (n : Node) (u : Atom) → Contains m.nodes.items n → n.failed ≡ false → n.end ≤ n.next → Implies u n.denied → AreNodesAt earlier a m → atom_holds a u ≡ true → IsLedTo a earlier m.assert n.latest
+pub led_back : (earlier : List Fallen) (a : List ℤ) (m : Minimiser) (n : Node) (u : Atom) → Contains m.nodes.items n → n.failed ≡ false → n.end ≤ n.next → Implies u n.denied → AreNodesAt earlier a m → atom_holds a u ≡ true → IsBack a earlier m.assert n.latest
 led_back earlier a m n u has fine done i nodes on = elim (All-contains (IsNodeAt a earlier m.assert m.pending.items) m.nodes.items n nodes has fine (holds_too u n.denied a i on)) [
   | inl o ↦ absurd (omega (arith, o.from, o.below, done))
   | inr h ↦ h
@@ -67,15 +67,15 @@ Passes-none m n l = record {
 }
 
 pub Passes-more : (m : Minimiser) (n : Node) (k latest other latest' : ℕ) (f : Fallen) → k < n.end → ((d : Fallen) → get_or m.pending.items k d ≡ f)
-    → ((earlier : List Fallen) (a : List ℤ) → AreNodesAt earlier a m → atom_holds a f.atom ≡ true → IsLedTo a earlier m.assert other) → latest ≤ latest' → other ≤ latest' → Passes m n (k, latest) → Passes m n (k + 1, latest')
+    → ((earlier : List Fallen) (a : List ℤ) → AreNodesAt earlier a m → atom_holds a f.atom ≡ true → IsBack a earlier m.assert other) → latest ≤ latest' → other ≤ latest' → Passes m n (k, latest) → Passes m n (k + 1, latest')
 Passes-more m n k latest other latest' f l is leads one two h = record {
   within = omega (arith, l);
   later = omega (arith, one, h.later);
   at = λ earlier a nodes o. elim (nat_order o.place k) [
-    | inl less ↦ IsLedTo-later a earlier m.assert latest latest' one (h.at earlier a nodes (record { place = o.place; from = o.from; below = less; within = o.within; holds = o.holds }))
+    | inl less ↦ IsBack-later a earlier m.assert latest latest' one (h.at earlier a nodes (record { place = o.place; from = o.from; below = less; within = o.within; holds = o.holds }))
     | inr more ↦ (
         let here : o.place ≡ k = omega (arith, more, o.below) in
-        IsLedTo-later a earlier m.assert other latest' two (leads earlier a nodes (ap (λ (g : Fallen). atom_holds a g.atom) (sym (is f) ∙ ap (λ j. get_or m.pending.items j f) (sym here)) ∙ o.holds f)))
+        IsBack-later a earlier m.assert other latest' two (leads earlier a nodes (ap (λ (g : Fallen). atom_holds a g.atom) (sym (is f) ∙ ap (λ j. get_or m.pending.items j f) (sym here)) ∙ o.holds f)))
   ];
 }
 
@@ -95,7 +95,7 @@ pub node_passed : (m : Minimiser) (n n' : Node) → Contains m.nodes.items n →
     → (earlier : List Fallen) (a : List ℤ) → AreNodesAt earlier a m → IsNodeAt a earlier m.assert m.pending.items n'
 node_passed m n n' has passes failed denied end earlier a nodes fine on =
     elim (All-contains (IsNodeAt a earlier m.assert m.pending.items) m.nodes.items n nodes has (sym failed ∙ fine) (ap (atom_holds a) (sym denied) ∙ on)) [
-      | inr h ↦ inr (IsLedTo-later a earlier m.assert n.latest n'.latest passes.later h)
+      | inr h ↦ inr (IsBack-later a earlier m.assert n.latest n'.latest passes.later h)
       | inl o ↦ elim (nat_order o.place n'.next) [
         | inl less ↦ inr (passes.at earlier a nodes (record { place = o.place; from = o.from; below = less; within = o.within; holds = o.holds }))
         | inr more ↦ inl (record { place = o.place; from = more; below = omega (arith, o.below, end); within = o.within; holds = o.holds })
@@ -148,7 +148,7 @@ AreNodes-added C s earlier m new n assert opens nodes made h = record {
 -- a reason whose atoms were traced
 pub node_made : (C : List ℤ → Type 0) (s : Trail) (earlier : List Fallen) (m : Minimiser) (entry denied : Atom) (reason : List Atom) (new : List Fallen) (latest : ℕ) → ((a : List ℤ) → C a → IsBacked s a → clause_holds reason a ≡ true)
     → denied.subject ≡ entry.subject → ((x : ℤ) → meets denied.op denied.value x ≡ not (meets entry.op entry.value x)) → Traces s earlier m entry new latest reason
-    → (a : List ℤ) → C a → IsBacked s a → atom_holds a denied ≡ true → IsOpenAt a new (length m.pending.items) (length new) ⊎ IsLedTo a earlier m.assert latest
+    → (a : List ℤ) → C a → IsBacked s a → atom_holds a denied ≡ true → IsOpenAt a new (length m.pending.items) (length new) ⊎ IsBack a earlier m.assert latest
 node_made C s earlier m entry denied reason new latest given same negated traces a c b on =
     let why = Any-from_list_any (atom_holds a) reason (given a c b) in
     elim (All-contains (IsTraced s earlier m entry new latest) reason why.1 traces.each (why.0, why.2, why.3)) [
@@ -162,7 +162,7 @@ IsTraced-more s earlier m entry new new' latest latest' g l u h = elim h [
   | inl q ↦ inl q
   | inr leads ↦ inr (λ a b on. elim (leads a b on) [
     | inl o ↦ inl (IsOpenAt-grows a new new' (length m.pending.items) (length new) (length new') g (g.longer) o)
-    | inr x ↦ inr (IsLedTo-later a earlier m.assert latest latest' l x)
+    | inr x ↦ inr (IsBack-later a earlier m.assert latest latest' l x)
   ])
 ]
 
@@ -181,21 +181,21 @@ Traces-more s earlier m entry new new' latest latest' reason i d l g one here h 
 }
 
 -- why an atom leads back: it implies that of the present level,
-pub led_assert : (s : Trail) (earlier : List Fallen) (t u : Atom) → Implies u t → (a : List ℤ) → IsBacked s a → atom_holds a u ≡ true → IsLedTo a earlier t 0
+pub led_assert : (s : Trail) (earlier : List Fallen) (t u : Atom) → Implies u t → (a : List ℤ) → IsBacked s a → atom_holds a u ≡ true → IsBack a earlier t 0
 led_assert s earlier t u i a b on = record { some = inl (holds_too u t a i on) }
 
 -- or one of an earlier level,
-pub led_earlier : (s : Trail) (earlier : List Fallen) (t u : Atom) (from : ℕ) → Any (IsImpliedFrom u from) earlier → (a : List ℤ) → IsBacked s a → atom_holds a u ≡ true → IsLedTo a earlier t from
+pub led_earlier : (s : Trail) (earlier : List Fallen) (t u : Atom) (from : ℕ) → Any (IsImpliedFrom u from) earlier → (a : List ℤ) → IsBacked s a → atom_holds a u ≡ true → IsBack a earlier t from
 led_earlier s earlier t u from h a b on = record { some = inr (h.0, h.1, h.2, h.3, record { holds = holds_too u h.1.atom a h.4.implied on; by = omega (arith, h.4.at) }) }
 
 -- or is false at level 0
-pub led_bottom : (s : Trail) (d : Draft) (t u : Atom) (from : ℕ) → IsDraft s d → u.subject < length s.first → IsFalseFrom s u from → from ≤ d.base → (a : List ℤ) → IsBacked s a → atom_holds a u ≡ true → IsLedTo a d.earlier t 0
+pub led_bottom : (s : Trail) (d : Draft) (t u : Atom) (from : ℕ) → IsDraft s d → u.subject < length s.first → IsFalseFrom s u from → from ≤ d.base → (a : List ℤ) → IsBacked s a → atom_holds a u ≡ true → IsBack a d.earlier t 0
 led_bottom s d t u from draft inside f low a b on = absurd (false_at_bottom s d.base draft.sound draft.base a b u from inside low f.after on)
 
 -- such an atom is traced,
-pub traced_back : (s : Trail) (earlier : List Fallen) (m : Minimiser) (entry : Atom) (new : List Fallen) (t : Atom) (from latest : ℕ) (u : Atom) → t ≡ m.assert → from ≤ latest → ((a : List ℤ) → IsBacked s a → atom_holds a u ≡ true → IsLedTo a earlier t from)
+pub traced_back : (s : Trail) (earlier : List Fallen) (m : Minimiser) (entry : Atom) (new : List Fallen) (t : Atom) (from latest : ℕ) (u : Atom) → t ≡ m.assert → from ≤ latest → ((a : List ℤ) → IsBacked s a → atom_holds a u ≡ true → IsBack a earlier t from)
     → IsTraced s earlier m entry new latest u
-traced_back s earlier m entry new t from latest u same l leads = inr (λ a b on. inr (subst (λ x. IsLedTo a earlier x latest) same (IsLedTo-later a earlier t from latest l (leads a b on))))
+traced_back s earlier m entry new t from latest u same l leads = inr (λ a b on. inr (subst (λ x. IsBack a earlier x latest) same (IsBack-later a earlier t from latest l (leads a b on))))
 
 -- and one that is to be looked at
 pub traced_open : (s : Trail) (earlier : List Fallen) (m : Minimiser) (entry : Atom) (old : List Fallen) (latest : ℕ) (f : Fallen) → length m.pending.items ≤ length old → IsTraced s earlier m entry (old ++ f ∷ []) latest f.atom
@@ -236,12 +236,12 @@ pub node_traced : (C : List ℤ → Type 0) (s : Trail) (earlier : List Fallen) 
     → n.denied.subject ≡ entry.subject → ((x : ℤ) → meets n.denied.op n.denied.value x ≡ not (meets entry.op entry.value x)) → Traces s earlier m entry new n.latest reason → (a : List ℤ) → C a → IsBacked s a → IsNodeAt a earlier t new n
 node_traced C s earlier m entry t n reason new assert next end given same negated traces a c b fine on = elim (node_made C s earlier m entry n.denied reason new n.latest given same negated traces a c b on) [
   | inl o ↦ inl (record { place = o.place; from = omega (arith, o.from, next); below = omega (arith, o.below, end); within = o.within; holds = o.holds })
-  | inr h ↦ inr (subst (λ (x : Atom). IsLedTo a earlier x n.latest) (sym assert) h)
+  | inr h ↦ inr (subst (λ (x : Atom). IsBack a earlier x n.latest) (sym assert) h)
 ]
 
 -- an atom that leads back to ones that fell before it is redundant
 pub IsRedundant-led : (C : List ℤ → Type 0) (s : Trail) (earlier : List Fallen) (m : Minimiser) (f : Fallen) (latest : ℕ) → AreNodes C s earlier m
-    → ((others : List Fallen) (a : List ℤ) → AreNodesAt others a m → atom_holds a f.atom ≡ true → IsLedTo a others m.assert latest) → latest < f.from → IsRedundant C s earlier m.assert f
+    → ((others : List Fallen) (a : List ℤ) → AreNodesAt others a m → atom_holds a f.atom ≡ true → IsBack a others m.assert latest) → latest < f.from → IsRedundant C s earlier m.assert f
 IsRedundant-led C s earlier m f latest nodes leads l = record {
   at = λ a c b on. elim ((leads earlier a (nodes.at a c b) on).some) [
     | inl x ↦ inl x

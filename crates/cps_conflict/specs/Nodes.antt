@@ -17,7 +17,7 @@ pub record IsTrueBy (a : List ℤ) (latest : ℕ) (f : Fallen) : Type 0 where
   pub by : f.from ≤ latest
 
 -- at a list of values the one atom is true, or one of the others is that were false after so many entries
-pub record IsLedTo (a : List ℤ) (earlier : List Fallen) (t : Atom) (latest : ℕ) : Type 0 where
+pub record IsBack (a : List ℤ) (earlier : List Fallen) (t : Atom) (latest : ℕ) : Type 0 where
   pub some : (atom_holds a t ≡ true) ⊎ Any (IsTrueBy a latest) earlier
 
 -- or one is from a place to another of those that are still to look at
@@ -30,7 +30,7 @@ pub record IsOpenAt (a : List ℤ) (pending : List Fallen) (next end : ℕ) : Ty
 
 -- where an entry's atom is not true at a list of values, that is so
 abbrev pub IsNodeAt : List ℤ → List Fallen → Atom → List Fallen → Node → Type 0
-IsNodeAt a earlier t pending n = n.failed ≡ false → atom_holds a n.denied ≡ true → IsOpenAt a pending n.next n.end ⊎ IsLedTo a earlier t n.latest
+IsNodeAt a earlier t pending n = n.failed ≡ false → atom_holds a n.denied ≡ true → IsOpenAt a pending n.next n.end ⊎ IsBack a earlier t n.latest
 
 abbrev pub AreNodesAt : List Fallen → List ℤ → Minimiser → Type 0
 AreNodesAt earlier a m = All (IsNodeAt a earlier m.assert m.pending.items) m.nodes.items
@@ -48,7 +48,7 @@ pub record Carries (old new : Minimiser) : Type 0 where
 pub record Passes (m : Minimiser) (n : Node) (to : ℕ × ℕ) : Type 0 where
   pub within : to.0 ≤ n.end
   pub later : n.latest ≤ to.1
-  pub at : (earlier : List Fallen) (a : List ℤ) → AreNodesAt earlier a m → IsOpenAt a m.pending.items n.next to.0 → IsLedTo a earlier m.assert to.1
+  pub at : (earlier : List Fallen) (a : List ℤ) → AreNodesAt earlier a m → IsOpenAt a m.pending.items n.next to.0 → IsBack a earlier m.assert to.1
 
 -- a list has more at its end
 pub record Grows (old new : List Fallen) : Type 0 where
@@ -57,13 +57,13 @@ pub record Grows (old new : List Fallen) : Type 0 where
 
 -- where an atom is true that leads back, it leads to such atoms
 abbrev pub IsLook : Trail → List Fallen → Atom → Atom → Look → Type 0
-IsLook s earlier t u (Back latest) = (a : List ℤ) → IsBacked s a → atom_holds a u ≡ true → IsLedTo a earlier t latest
+IsLook s earlier t u (Back latest) = (a : List ℤ) → IsBacked s a → atom_holds a u ≡ true → IsBack a earlier t latest
 IsLook s earlier t u (On from) = Unit {0}
 IsLook s earlier t u Away = Unit {0}
 
 -- an atom is the entry's, or where it is true it leads to one of those that were added or back
 abbrev pub IsTraced : Trail → List Fallen → Minimiser → Atom → List Fallen → ℕ → Atom → Type 0
-IsTraced s earlier m entry new latest u = (u ≡ entry) ⊎ ((a : List ℤ) → IsBacked s a → atom_holds a u ≡ true → IsOpenAt a new (length m.pending.items) (length new) ⊎ IsLedTo a earlier m.assert latest)
+IsTraced s earlier m entry new latest u = (u ≡ entry) ⊎ ((a : List ℤ) → IsBacked s a → atom_holds a u ≡ true → IsOpenAt a new (length m.pending.items) (length new) ⊎ IsBack a earlier m.assert latest)
 
 pub record Traces (s : Trail) (earlier : List Fallen) (m : Minimiser) (entry : Atom) (new : List Fallen) (latest : ℕ) (reason : List Atom) : Type 0 where
   pub each : All (IsTraced s earlier m entry new latest) reason

@@ -3,16 +3,17 @@
 //! An atom goes where the reason of the entry that refutes it has, beside the entry's atom, only atoms that are false at
 //! level 0, that imply another atom of the clause, or that go so in their turn. That is the recursive minimisation of
 //! Sörensson and Biere, "Minimizing Learned Clauses" (2009), section 2, over an explicit stack, with marks that are kept
-//! over the atoms of one clause, after Van Gelder, "Improved Conflict-Clause Minimization Leads to Improved Propositional
-//! Proof Traces" (2009): each reason is asked for once, and what failed is not looked at again. As in MiniSat, an entry of a
-//! level at which no atom of the clause fell is taken to lead elsewhere. The search may give up where it likes: it only
-//! proposes, and what is proved is what each mark says.
+//! over the atoms of one clause, after Van Gelder, "Improved Conflict-Clause Minimization Leads to Improved
+//! Propositional Proof Traces" (2009): each reason is asked for once, and what failed is not looked at again. As in
+//! MiniSat, an entry of a level at which no atom of the clause fell is taken to lead elsewhere. The search may give up
+//! where it likes: it only proposes, and what is proved is what each mark says.
 //!
 //! An atom may imply one of the clause that fell later than it. So a mark says after how many entries all those were false
-//! that its entry leads to, and an atom goes only for ones that fell before it: no two go for each other. An atom that falls
-//! with an entry whose atom alone does not refute it stays.
+//! that its entry leads to, and an atom goes only for ones that fell before it: no two go for each other. An atom that
+//! falls with an entry whose atom alone does not refute it stays.
 
-ghost use Rattle.std.specs.Prelude.{ℕ, ℤ, List, ◌≡◌, ◌≢◌, ◌≤◌, ◌<◌, ◌++◌, ◌∷◌, [], length, OnOk, IfOk, IfSome, IsTrue, Ok, true};
+ghost use Rattle.std.specs.Prelude.{ℕ, ℤ, List, ◌≡◌, ◌≢◌, ◌≤◌, ◌<◌, ◌++◌, ◌∷◌, [], length};
+ghost use Rattle.std.specs.Prelude.{OnOk, IfOk, IfSome, IsTrue, Ok, true};
 ghost use Rattle.std.specs.List.{All, Contains};
 ghost use Rattle.cps_trail.specs.Notes.{AllFit};
 ghost use Rattle.cps_trail.specs.Trail.{IsFalseNow};
@@ -30,8 +31,8 @@ const STEPS: usize = 1 << 16;
 /// Levels are told apart by their remainder by this many.
 const BITS: usize = 64;
 
-/// The mark of an entry of an earlier level whose reason was asked for: where its atom is not true, one of the atoms is that
-/// are still to look at, or one of the clause.
+/// The mark of an entry of an earlier level whose reason was asked for: where its atom is not true, one of the atoms is
+/// that are still to look at, or one of the clause.
 #[derive(Clone, Copy)]
 pub(crate) struct Node {
     /// The number of the entry.
@@ -67,8 +68,8 @@ pub(crate) struct Minimiser {
     nodes: Vec<Node>,
     /// The atoms of their reasons that are still to look at, one node's after another's.
     pending: Vec<Fallen>,
-    /// For each entry the number of its node, if it has one. What an earlier clause left here is known by the node's other
-    /// entry.
+    /// For each entry the number of its node, if it has one. What an earlier clause left here is known by the node's
+    /// other entry.
     node_of: Vec<usize>,
     /// The nodes from the atom that is asked for to the one that is looked at.
     path: Vec<usize>,
@@ -97,7 +98,7 @@ fn level_before(store: &Store, count: usize) -> u64 {
 impl Minimiser {
     ghost use Rattle.cps_literal.specs.Truth.{atom_holds};
     ghost use Rattle.cps_conflict.specs.Drafts.{IsDraft, IsRedundant, Collects};
-    ghost use Rattle.cps_conflict.specs.Nodes.{AreNodes, AreNodesAt, Carries, Passes, Traces, Grows, IsLedTo, IsLook};
+    ghost use Rattle.cps_conflict.specs.Nodes.{AreNodes, AreNodesAt, Carries, Passes, Traces, Grows, IsBack, IsLook};
     ghost use Rattle.cps_conflict.specs.declared.resolvent.Fallen.{Fallen as FallenOf};
 
     /// A search with no room yet.
@@ -150,9 +151,11 @@ impl Minimiser {
         }
     }
 
-    /// If an atom was found to lead back to the clause: after how many entries all its atoms were false to which it leads.
+    /// If an atom was found to lead back to the clause: after how many entries all its atoms were false to which it
+    /// leads.
     fn led_to(&self, fallen: Fallen) -> Option<usize>
-        ensures { IfSome result (λ latest. (earlier : List FallenOf) (a : List ℤ) → AreNodesAt earlier a self.now → atom_holds a fallen.atom ≡ true → IsLedTo a earlier self.now.assert latest) }
+        ensures { IfSome result (λ latest. (earlier : List FallenOf) (a : List ℤ) → AreNodesAt earlier a self.now
+            → atom_holds a fallen.atom ≡ true → IsBack a earlier self.now.assert latest) }
     {
         if fallen.from == 0 {
             return None;
@@ -260,8 +263,8 @@ impl Minimiser {
         Look::On(from)
     }
 
-    /// Adds the atoms of the reason that are to be looked at, and answers after how many entries all atoms of the clause
-    /// were false to which the others lead; `None` where one leads elsewhere.
+    /// Adds the atoms of the reason that are to be looked at, and answers after how many entries all atoms of the
+    /// clause were false to which the others lead; `None` where one leads elsewhere.
     fn trace(
         &mut self,
         resolvent: &Resolvent,
@@ -274,7 +277,8 @@ impl Minimiser {
         ensures assert { OnOk result (self.new.assert ≡ self.old.assert) }
         ensures nodes { OnOk result (self.new.nodes ≡ self.old.nodes) }
         ensures grows { OnOk result (Grows self.old.pending.items self.new.pending.items) }
-        ensures traces { IfOk result (λ traced. IfSome traced (λ latest. Traces store.now resolvent.now.earlier self.old entry self.new.pending.items latest self.old.reason.items)) }
+        ensures traces { IfOk result (λ traced. IfSome traced (λ latest. Traces store.now resolvent.now.earlier
+            self.old entry self.new.pending.items latest self.old.reason.items)) }
     {
         let mut latest = 0;
         for index in 0..self.reason.len() {
@@ -312,8 +316,8 @@ impl Minimiser {
         Ok(())
     }
 
-    /// Asks for the reason of the entry with which an atom fell, and takes it to the end of the path. Answers false where
-    /// that does not lead back, or was asked for already.
+    /// Asks for the reason of the entry with which an atom fell, and takes it to the end of the path. Answers false
+    /// where that does not lead back, or was asked for already.
     fn enter<E: Explain>(
         &mut self,
         resolvent: &Resolvent,
@@ -364,8 +368,8 @@ impl Minimiser {
         Ok(true)
     }
 
-    /// One step from the end of the path: on to an atom's entry, or back from one whose atoms were all passed. Answers false
-    /// where there is none.
+    /// One step from the end of the path: on to an atom's entry, or back from one whose atoms were all passed. Answers
+    /// false where there is none.
     fn step<E: Explain>(
         &mut self,
         resolvent: &Resolvent,
@@ -415,8 +419,8 @@ impl Minimiser {
         Ok(())
     }
 
-    /// Whether an atom that fell at an earlier level is true only where another one is that fell before it, or that of the
-    /// present level.
+    /// Whether an atom that fell at an earlier level is true only where another one is that fell before it, or that of
+    /// the present level.
     fn is_redundant<E: Explain>(
         &mut self,
         resolvent: &Resolvent,
@@ -429,7 +433,8 @@ impl Minimiser {
         requires nodes { AreNodes (E.holds explain.now) store.now resolvent.now.earlier self.old }
         ensures nodes { OnOk result (AreNodes (E.holds explain.now) store.now resolvent.now.earlier self.new) }
         ensures assert { OnOk result (self.new.assert ≡ self.old.assert) }
-        ensures redundant { result ≡ Ok true → IsRedundant (E.holds explain.now) store.now resolvent.now.earlier self.old.assert fallen }
+        ensures redundant { result ≡ Ok true
+            → IsRedundant (E.holds explain.now) store.now resolvent.now.earlier self.old.assert fallen }
     {
         self.walk(resolvent, store, explain, fallen)?;
         match self.led_to(fallen) {
@@ -438,8 +443,8 @@ impl Minimiser {
         }
     }
 
-    /// Writes down the atoms that fell at earlier levels, but those that imply that of the present level and those that are
-    /// redundant, and after how many entries they all were false.
+    /// Writes down the atoms that fell at earlier levels, but those that imply that of the present level and those that
+    /// are redundant, and after how many entries they all were false.
     pub(crate) fn collect<E: Explain>(
         &mut self,
         resolvent: &Resolvent,
@@ -450,7 +455,8 @@ impl Minimiser {
         requires draft { IsDraft store.now resolvent.now }
         requires fits { AllFit (E.fits explain.now) store.now }
         requires nodes { self.old.nodes.items ≡ [] }
-        ensures { IfOk result (Collects (E.holds explain.now) store.now resolvent.now.start resolvent.now.earlier self.old.assert resolvent.now.earlier atoms.new.items) }
+        ensures { IfOk result (Collects (E.holds explain.now) store.now resolvent.now.start resolvent.now.earlier
+            self.old.assert resolvent.now.earlier atoms.new.items) }
     {
         atoms.clear();
         let mut latest = 0;
