@@ -1,4 +1,5 @@
--- What a search knows beside its turns: a sum more, the decisions behind an atom that is false, and what is false at level 0.
+-- What a search knows beside its turns: a sum more, the decisions behind an atom that is false, and what is false at
+-- level 0.
 use Rattle.std.specs.Prelude.{◌≡◌, ◌<◌, ℕ, ℤ, true, false, None, List, [], ◌∷◌, ◌++◌, length}
 use Rattle.std.specs.List.{All}
 use Rattle.cps_model.specs.Solutions.{objective_value, IsFree}
@@ -14,7 +15,8 @@ use Rattle.cps_search.specs.declared.end.Said.TheVariants.{Nothing}
 use Rattle.cps_search.specs.Giving.{IsReasonOfOne}
 use Rattle.cps_search.specs.Searches.{Search}
 
--- a search over another problem, of which the domains are the store's first ones, with one more task; the tasks were never at rest there
+-- a search over another problem, of which the domains are the store's first ones, with one more task; the tasks were
+-- never at rest there
 abbrev pub grown : Search → Problem → Task → Search
 grown s p task = record s {
   problem = p;
@@ -29,9 +31,9 @@ pub record GrewBy (s t : Search) (sum : DefinedSum) (subject : ℕ) : Type 0 whe
   pub defines : Defines s.problem t.problem sum subject
   pub is : t ≡ grown s t.problem (sum_task subject sum)
 
--- The decisions behind an atom that is false in a search's store: reasons lead to each of them, each of which one task or one clause in
--- force gives by itself; and at each free assignment below z at which
--- all of them are true, the atom is false.
+-- The decisions behind an atom that is false in a search's store: reasons lead to each of them, each of which one task
+-- or one clause in force gives by itself; and at each free assignment below z at which all of them are true, the atom
+-- is false.
 pub record AreBehindIn (s : Search) (t : Atom) (decisions : List Atom) : Type 0 where
   pub each : All (IsDecisionBehind (IsFetched (IsReasonOfOne s.tasks s.base.clauses s.trail) s.trail) s.trail t) decisions
   pub enough : (a : List ℤ) → IsFree s.problem.model a → IsBelow (objective_value s.problem.model a) s.z → All (λ u. atom_holds (extended s.problem.defs a) u ≡ true) decisions → atom_holds (extended s.problem.defs a) t ≡ false
