@@ -33,19 +33,23 @@ struct Left {
 }
 
 /// The learnt clause that the last line of the journal drops.
-fn last_drop(base: &ClauseBase) -> Option<u32> {
-    match base.journal().as_slice().last() {
-        Some(JournalItem::Drop(place)) => Some(*place),
-        _ => None,
+fn last_drop(alloc: Global, base: &ClauseBase) -> Result<Option<u32>, AllocError> {
+    let journal = base.journal();
+    if journal.len() == 0 {
+        return Ok(None);
+    }
+    match journal.item(alloc, journal.len() - 1)? {
+        JournalItem::Drop(place) => Ok(Some(place)),
+        JournalItem::Learnt(_, _) => Ok(None),
     }
 }
 
-fn looked_at(base: &ClauseBase, count: u32) -> Left {
-    Left {
+fn looked_at(alloc: Global, base: &ClauseBase, count: u32) -> Result<Left, AllocError> {
+    Ok(Left {
         count,
-        last: last_drop(base),
+        last: last_drop(alloc, base)?,
         stand: [base.in_force(0), base.in_force(1), base.in_force(2)],
-    }
+    })
 }
 
 /// What is left of three learnt clauses where no note names one.
@@ -54,7 +58,7 @@ fn left_of_three(alloc: Global, keep: u32) -> Result<Left, AllocError> {
     let mut base = ClauseBase::new(alloc);
     learn_three(alloc, &mut base)?;
     let count = base.forget(&store, keep)?;
-    Ok(looked_at(&base, count))
+    looked_at(alloc, &base, count)
 }
 
 #[derive(Clone, Copy)]
@@ -111,7 +115,7 @@ fn left_of_named(alloc: Global) -> Result<Left, AllocError> {
     settle_more(alloc, &mut base, &mut store, &[zero(1)])?;
     learn(alloc, &mut base, &[one(1), one(2)])?;
     let count = base.forget(&store, 0)?;
-    Ok(looked_at(&base, count))
+    looked_at(alloc, &base, count)
 }
 
 #[test]

@@ -11,6 +11,8 @@ mod conflicts;
 #[cfg(test)]
 mod forgetting;
 #[cfg(test)]
+mod journals;
+#[cfg(test)]
 mod minimised;
 #[cfg(test)]
 mod resting;

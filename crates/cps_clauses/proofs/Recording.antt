@@ -1,0 +1,65 @@
+-- What the lines of a journal say, as atoms and lines are added.
+use Rattle.std.proofs.Common.{ℕ, ◌+◌, ◌-◌, ◌≤◌, ◌<◌, ◌≡◌, List, [], ◌∷◌, ◌++◌, length, map, refl, sym, ◌∙◌, ap, subst, arith, length-append}
+use Rattle.std.specs.List.{All}
+use Rattle.std.proofs.lemmas.List.{map-append}
+use Rattle.std.proofs.lemmas.List.Elements.{All-head, All-tail, All-push, All-nil, All-cons, All-append}
+use Rattle.cps_model.specs.declared.bound.Bound.{Bound}
+use Rattle.cps_literal.specs.declared.atom.Atom.{Atom}
+use Rattle.cps_trail.proofs.Noting.{slice_grown}
+use Rattle.cps_clauses.specs.declared.journal.JournalItem.{JournalItem}
+use Rattle.cps_clauses.specs.declared.journal.JournalItem.TheVariants as items
+use Rattle.cps_clauses.specs.declared.journal.Line.{Line}
+use Rattle.cps_clauses.specs.declared.journal.Line.TheVariants as lines
+use Rattle.cps_clauses.specs.declared.span.Span.{Span}
+use Rattle.cps_clauses.specs.Journals.{drops}
+use Rattle.cps_clauses.specs.Lines.{item_of, drop_lines, IsLine}
+use Rattle.cps_clauses.specs.Spans.{clause_at, IsSpan, IsAppended}
+
+-- each of the lines lies within so many atoms
+abbrev pub AreLines : ℕ → List Line → Type 0
+AreLines len ls = All (IsLine len) ls
+
+pub line_wider : (m n : ℕ) → m ≤ n → (l : Line) → IsLine m l → IsLine n l
+line_wider m n le (lines.Learnt span below) h = record { ordered = h.ordered; within = omega (arith, h.within, le) }
+line_wider m n le (lines.Drop i) h = tt
+
+pub lines_wider : (m n : ℕ) → m ≤ n → (ls : List Line) → AreLines m ls → AreLines n ls
+lines_wider m n le ls h = λ k d l. line_wider m n le _ (h k d l)
+
+item_grown : (atoms more : List Atom) (l : Line) → IsLine (length atoms) l → item_of (atoms ++ more) l ≡ item_of atoms l
+item_grown atoms more (lines.Learnt span below) h = ap (λ (c : List Atom). items.Learnt c below) (slice_grown atoms more span.from span.to h.within)
+item_grown atoms more (lines.Drop i) h = refl
+
+items_grown : (atoms more : List Atom) (ls : List Line) → AreLines (length atoms) ls → map (item_of (atoms ++ more)) ls ≡ map (item_of atoms) ls
+items_grown atoms more [] h = refl
+items_grown atoms more (l ∷ ls) h =
+    ap (λ (e : JournalItem). e ∷ map (item_of (atoms ++ more)) ls) (item_grown atoms more l (All-head (IsLine (length atoms)) l ls h))
+    ∙ ap (λ (es : List JournalItem). item_of atoms l ∷ es) (items_grown atoms more ls (All-tail (IsLine (length atoms)) l ls h))
+
+-- one more clause was learnt
+pub items_learnt : (old new clause : List Atom) (ls : List Line) (span : Span) (below : Bound) → IsAppended old new clause span → AreLines (length old) ls → map (item_of new) (ls ++ lines.Learnt span below ∷ []) ≡ map (item_of old) ls ++ items.Learnt clause below ∷ []
+items_learnt old new clause ls span below h within =
+    map-append (item_of new) ls (lines.Learnt span below ∷ [])
+    ∙ ap (λ (c : List Atom). map (item_of new) ls ++ items.Learnt c below ∷ []) h.is
+    ∙ ap (λ (ts : List Atom). map (item_of ts) ls ++ items.Learnt clause below ∷ []) h.grows
+    ∙ ap (λ (es : List JournalItem). es ++ items.Learnt clause below ∷ []) (items_grown old clause ls within)
+
+pub lines_learnt : (old new clause : List Atom) (ls : List Line) (span : Span) (below : Bound) → IsAppended old new clause span → AreLines (length old) ls → AreLines (length new) (ls ++ lines.Learnt span below ∷ [])
+lines_learnt old new clause ls span below h within =
+    let grows = ap (λ (ts : List Atom). length ts) h.grows in
+    All-push (IsLine (length new)) ls (lines.Learnt span below) (lines_wider (length old) (length new) (omega (arith, grows, length-append old clause)) ls within) h.fits
+
+-- learnt clauses were dropped
+drop_items : (atoms : List Atom) (which : List ℕ) → map (item_of atoms) (drop_lines which) ≡ drops which
+drop_items atoms [] = refl
+drop_items atoms (n ∷ ns) = ap (λ (es : List JournalItem). items.Drop n ∷ es) (drop_items atoms ns)
+
+pub items_dropped : (atoms : List Atom) (ls : List Line) (which : List ℕ) → map (item_of atoms) (ls ++ drop_lines which) ≡ map (item_of atoms) ls ++ drops which
+items_dropped atoms ls which = map-append (item_of atoms) ls (drop_lines which) ∙ ap (λ (es : List JournalItem). map (item_of atoms) ls ++ es) (drop_items atoms which)
+
+drops_within : (len : ℕ) (which : List ℕ) → AreLines len (drop_lines which)
+drops_within len [] = All-nil (IsLine len)
+drops_within len (n ∷ ns) = All-cons (IsLine len) (lines.Drop n) (drop_lines ns) tt (drops_within len ns)
+
+pub lines_dropped : (len : ℕ) (ls : List Line) (which : List ℕ) → AreLines len ls → AreLines len (ls ++ drop_lines which)
+lines_dropped len ls which h = All-append (IsLine len) ls (drop_lines which) h (drops_within len which)

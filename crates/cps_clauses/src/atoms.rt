@@ -1,0 +1,128 @@
+//! Atoms in a list, each held as a number of four bytes.
+
+ghost use Rattle.std.specs.Prelude.{◌≡◌, ◌≤◌, ◌<◌, [], ◌∷◌, ◌++◌, length, take, slice_index_or, IfOk, OnOk, OnErr};
+ghost use Rattle.cps_clauses.specs.Spans.{clause_at, IsSpan, IsAppended};
+ghost use Rattle.cps_clauses.specs.Watches.{no_atom};
+
+use crate::span::Span;
+use cps_literal::{Atom, Clause, LiteralTable};
+use std::alloc::{AllocError, Global};
+use std::marker::Model;
+use std::mem::size_of;
+
+const NUMBER_BYTES: usize = size_of::<u32>();
+
+/// Atoms, each as its number in a table.
+#[derive(Drop)]
+pub(crate) struct AtomList {
+    numbers: Vec<u32>,
+    literals: LiteralTable,
+}
+
+impl Model for AtomList {
+    ghost use Rattle.std.specs.Prelude.{List, map, length, ◌<◌};
+    ghost use Rattle.std.specs.List.{All};
+    ghost use Rattle.cps_literal.specs.declared.atom.Atom.{Atom};
+
+    ghost Value = { List Atom };
+
+    ghost use Rattle.cps_clauses.specs.Spans.{atom_in};
+
+    ghost view = { λ a. map (atom_in a.literals) a.numbers.items };
+
+    ghost invariant = { λ a. All (λ n. n < length a.literals) a.numbers.items };
+}
+
+impl AtomList {
+    /// No atom.
+    pub(crate) fn new(alloc: Global) -> Self
+        ensures { result ≡ [] }
+    {
+        AtomList {
+            numbers: Vec::new(alloc),
+            literals: LiteralTable::new(alloc),
+        }
+    }
+
+    /// How many atoms there are.
+    fn len(&self) -> usize
+        ensures { result ≡ length self.now }
+    {
+        self.numbers.len()
+    }
+
+    /// The atom at a place.
+    pub(crate) fn atom(&self, place: usize) -> Atom
+        requires { place < length self.now }
+        ensures { result ≡ slice_index_or self.now place no_atom }
+    {
+        self.literals.atom(self.numbers[place] as usize)
+    }
+
+    /// Adds an atom at the end.
+    fn push(&mut self, atom: Atom) -> Result<(), AllocError>
+        ensures ok { OnOk result (self.new ≡ self.old ++ atom ∷ []) }
+        ensures err { OnErr result (self.new ≡ self.old) }
+    {
+        self.numbers.reserve(1)?;
+        let number = self.literals.number(atom)?;
+        let Ok(short) = u32::try_from(number) else {
+            return Err(AllocError);
+        };
+        self.numbers.push_reserved(short);
+        Ok(())
+    }
+
+    /// Adds atoms at the end, in order; the first of them where memory is refused.
+    fn extend(&mut self, atoms: &[Atom]) -> Result<(), AllocError>
+        ensures ok { OnOk result (self.new ≡ self.old ++ atoms.now) }
+        ensures front { take (length self.old) self.new ≡ self.old }
+    {
+        for atom in atoms {
+            self.push(*atom)?;
+        }
+        Ok(())
+    }
+
+    /// How many bytes the numbers take.
+    pub(crate) fn room(&self) -> usize {
+        self.numbers.capacity().saturating_mul(NUMBER_BYTES)
+    }
+
+    /// Keeps the first atoms alone.
+    fn truncate(&mut self, len: usize)
+        ensures { self.new ≡ take len self.old }
+    {
+        self.numbers.truncate(len);
+    }
+
+    /// Adds the atoms of a clause at the end, and answers where they stand.
+    pub(crate) fn append(&mut self, clause: &[Atom]) -> Result<Span, AllocError>
+        ensures ok { IfOk result (IsAppended self.old self.new clause.now) }
+        ensures err { OnErr result (self.new ≡ self.old) }
+    {
+        let from = self.len();
+        match self.extend(clause) {
+            Ok(()) => Ok(Span {
+                from,
+                to: self.len(),
+            }),
+            Err(error) => {
+                self.truncate(from);
+                Err(error)
+            }
+        }
+    }
+
+    /// The clause at a span, made anew.
+    pub(crate) fn clause(&self, alloc: Global, span: Span) -> Result<Clause, AllocError>
+        requires { IsSpan (length self.now) span }
+        ensures { IfOk result (λ clause. clause ≡ clause_at self.now span) }
+    {
+        let mut clause = Clause::new(alloc);
+        for place in span.from..span.to {
+            clause.push(self.atom(place))?;
+        }
+        Ok(clause)
+    }
+}
