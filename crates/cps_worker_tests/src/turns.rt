@@ -16,7 +16,7 @@ use std::alloc::{AllocError, Global};
 use std::test::Fail;
 
 /// A worker that takes variables in order, and learns from so many conflicts.
-fn ordered_worker_of<'a>(
+pub fn ordered_worker_of<'a>(
     alloc: Global,
     model: &'a ValidModel,
     conflicts: u64,
@@ -33,7 +33,7 @@ fn ordered_worker_of<'a>(
 }
 
 /// A worker that takes variables by activity, and learns from so many conflicts.
-fn active_worker_of<'a>(
+pub fn active_worker_of<'a>(
     alloc: Global,
     model: &'a ValidModel,
     conflicts: u64,
@@ -50,7 +50,7 @@ fn active_worker_of<'a>(
 }
 
 /// What a turn was, and whether the worker has ended.
-fn name_of(turn: &Turn) -> (&'static str, bool)
+pub fn name_of(turn: &Turn) -> (&'static str, bool)
     ensures { result.1 ≡ false → end_of turn.now ≡ None }
 {
     match turn {

@@ -1,6 +1,6 @@
 //! Runs against a source and a sink that fail, and on texts that are cut off, too deep, too long or at the limits of their numbers.
 use crate::inputs::{COMMANDS, PRODUCTION, PRODUCTION_TEXT, Solving};
-use crate::running::{Given, run, unhindered};
+use crate::running::{Given, Seen, run, unhindered};
 use std::alloc::{AllocError, Global};
 use std::sync::Wait;
 use std::test::Fail;
@@ -230,34 +230,32 @@ fn numbers_are_the_greatest(rt: HostRuntime) -> Result<(), Fail> {
     Ok(())
 }
 
-/// How many spaces come, whether the first read fails, and what is answered. The length is judged before the command works on the
-/// input, so one command stands for all.
-const SPACES: [(usize, bool, u8, &str); 3] = [
-    (67_108_864, false, 0, "status: OPTIMAL\n"),
-    (
-        67_108_865,
-        false,
-        1,
-        "status: MODEL_INVALID\n# input longer than 67108864 bytes\n",
-    ),
-    (67_108_865, true, 3, ""),
-];
+/// What is answered to so many spaces. The length is judged before the command works on the input, so one command stands for all.
+fn run_on_spaces<R: Threads + Wait + Sync>(
+    rt: &R,
+    alloc: Global,
+    count: usize,
+) -> Result<Seen, AllocError> {
+    let spaces = vec![in alloc; b' '; count]?;
+    let long = Given {
+        input: &spaces,
+        pieces: &[],
+        ..unhindered(&["solve"], "")
+    };
+    run(rt, alloc, &long)
+}
 
 #[test]
-fn inputs_are_long(rt: HostRuntime) -> Result<(), Fail> {
-    for (count, fails, exit, text) in SPACES {
-        let spaces = vec![in rt.alloc(); b' '; count]?;
-        let failing_reads: &[usize] = if fails { &[0] } else { &[] };
-        let long = Given {
-            input: &spaces,
-            pieces: &[],
-            failing_reads,
-            ..unhindered(&["solve"], "")
-        };
-        assert!(rt;
-            run(&rt, rt.alloc(), &long)?.is(exit, exit == 0, text),
-            "{exit}"
-        );
-    }
+fn an_input_is_as_long_as_it_may_be(rt: HostRuntime) -> Result<(), Fail> {
+    let seen = run_on_spaces(&rt, rt.alloc(), 67_108_864)?;
+    assert!(rt; seen.is(0, true, "status: OPTIMAL\n"));
+    Ok(())
+}
+
+#[test]
+fn an_input_is_too_long(rt: HostRuntime) -> Result<(), Fail> {
+    let seen = run_on_spaces(&rt, rt.alloc(), 67_108_865)?;
+    let text = "status: MODEL_INVALID\n# input longer than 67108864 bytes\n";
+    assert!(rt; seen.is(1, false, text));
     Ok(())
 }
