@@ -35,8 +35,8 @@ fn take_turn<B: Brancher + Drop, Q: Port>(
         return Ok(true);
     }
     let turn = worker.turn(port)?;
-    let (_, has_ended) = name_of(&turn);
-    Ok(has_ended)
+    let named = name_of(&turn);
+    Ok(named.1)
 }
 
 /// Lets two workers take turns, each at a port of its own, until both are over, or for a hundred turns. Whether both are over.

@@ -35,7 +35,7 @@ impl Seen {
 }
 
 /// A run with a source that gives a few bytes at first and a sink that takes a few at once, and neither fails.
-pub fn given<'a>(words: &'a [&'a str], input: &'a str) -> Given<'a> {
+pub fn unhindered<'a>(words: &'a [&'a str], input: &'a str) -> Given<'a> {
     Given {
         words,
         input: input.as_bytes(),

@@ -8,7 +8,7 @@ use Rattle.cps_worker_tests.proofs.tables.take_turn.Goals as goal
 
 pub returns-clause-running : goal.returns-clause-running
 returns-clause-running g c =
-    λ e. subst (λ (o : Option End). EndsAs o c.turn.new.self.0) (c.name_of.ensures e) c.in_ok-turn.ensures.turn.ends
+    λ e. subst (λ (o : Option End). EndsAs o c.turn.new.self.0) (c.name_of-named.ensures e) c.in_ok-turn.ensures.turn.ends
 
 pub returns-clause-model : goal.returns-clause-model
 returns-clause-model g c =
