@@ -18,7 +18,7 @@ fn broken(rt: &impl Abort, alloc: Global, text: &str) -> Result<Option<(u8, Plac
 /// One variable, one clause and assumptions.
 #[test]
 fn variables_and_literals(rt: HostRuntime) -> Result<(), Fail> {
-    let rows: [(&str, Option<(u8, Place)>); 7] = [
+    let rows: [(&str, Option<(u8, Place)>); 11] = [
         (
             "variables { domain: [0, -1] } constraints { bool_or { literals: 0 } } assumptions: 0",
             Some((1, Place::Variable(0))),
@@ -46,6 +46,22 @@ fn variables_and_literals(rt: HostRuntime) -> Result<(), Fail> {
         (
             "variables { domain: [0, 1] } constraints { bool_or { literals: 0 } } assumptions: -1",
             None,
+        ),
+        (
+            "variables { domain: [0, 1] } variables { domain: [0, 2] } assumptions: 0",
+            None,
+        ),
+        (
+            "variables { domain: [0, 1] } variables { domain: [0, 2] } assumptions: -1",
+            None,
+        ),
+        (
+            "variables { domain: [0, 1] } variables { domain: [0, 2] } assumptions: 1",
+            Some((4, Place::Assumption(0))),
+        ),
+        (
+            "variables { domain: [0, 1] } variables { domain: [0, 2] } assumptions: 2",
+            Some((3, Place::Assumption(0))),
         ),
     ];
     for (text, wanted) in rows {

@@ -12,15 +12,19 @@ mod answer;
 mod generation;
 #[cfg(test)]
 mod generation_tests;
+#[cfg(test)]
+mod hostile_tests;
 mod input;
+#[cfg(test)]
+mod inputs;
 #[cfg(test)]
 mod portfolio_tests;
 mod ran;
+#[cfg(test)]
+mod running;
 mod solve;
 #[cfg(test)]
 mod tests;
-#[cfg(test)]
-mod worker_tests;
 
 use crate::solve::solve_main;
 use cps_outer::{OpenGate, StdSink, StdSource};

@@ -1,12 +1,9 @@
 //! Several workers on one model: in threads, side by side, and in turns that a seed draws.
-use crate::solve::solve_main;
-use crate::tests::{THREE_IN_THREE, source_of, words_of};
-use cps_outer::{Gate, MemorySink, OpenGate};
-use std::alloc::{AllocError, Global};
-use std::sync::Wait;
+use crate::inputs::THREE_IN_THREE;
+use crate::running::{Seen, run, run_at, unhindered};
+use cps_outer::Gate;
 use std::sync::atomic::{AtomicBool, Ordering};
 use std::test::Fail;
-use std::thread::Threads;
 
 /// How often worker 0 looks for worker 1.
 const MOST_LOOKS: u32 = 100_000_000;
@@ -38,66 +35,47 @@ impl Gate for MeetingGate {
     }
 }
 
-/// The text that the program writes for words and a gate, where three variables of three values are to differ; none where its exit
-/// status is another than 0.
-fn text_of<R: Threads + Wait + Sync, G: Gate + Sync>(
-    rt: &R,
-    alloc: Global,
-    words: &[&str],
-    gate: &G,
-) -> Result<Option<Vec<u8>>, AllocError> {
-    let words = words_of(alloc, words)?;
-    let mut source = source_of(alloc, THREE_IN_THREE, &[], &[])?;
-    let mut sink = MemorySink::new(alloc, 10, Vec::new(alloc));
-    let ran = solve_main(rt, alloc, &words, &mut source, &mut sink, gate);
-    if ran.exit != 0 {
-        return Ok(None);
-    }
-    Ok(Some(Vec::from_slice(alloc, sink.bytes())?))
-}
-
-/// Whether a text says that some order of 0, 1 and 2 is best.
-fn is_best_order(text: &[u8]) -> bool {
-    text.starts_with(b"status: OPTIMAL\nsolution: ")
-        && text.ends_with(b"objective_value: 3\nbest_objective_bound: 3\n")
+/// Whether a run ended well, and its text says that some order of 0, 1 and 2 is best.
+fn is_best_order(seen: &Seen) -> bool {
+    seen.exit == 0
+        && seen.text.starts_with(b"status: OPTIMAL\nsolution: ")
+        && seen
+            .text
+            .ends_with(b"objective_value: 3\nbest_objective_bound: 3\n")
 }
 
 #[test]
 fn workers_find_a_best_order(rt: HostRuntime) -> Result<(), Fail> {
-    let alloc = rt.alloc();
     let words: [&[&str]; 3] = [
-        &["cpsolve", "solve"],
-        &["cpsolve", "solve", "--workers", "16"],
-        &["cpsolve", "solve", "--workers", "16", "--interleave"],
+        &["solve"],
+        &["solve", "--workers", "16"],
+        &["solve", "--workers", "16", "--interleave"],
     ];
     for words in words {
-        let text = text_of(&rt, alloc, words, &OpenGate)?.ok_or("no text")?;
-        assert!(rt; is_best_order(&text));
+        let seen = run(&rt, rt.alloc(), &unhindered(words, THREE_IN_THREE))?;
+        assert!(rt; is_best_order(&seen));
     }
     Ok(())
 }
 
 #[test]
 fn turns_that_a_seed_draws_are_the_same_at_each_run(rt: HostRuntime) -> Result<(), Fail> {
-    let alloc = rt.alloc();
-    let words = ["cpsolve", "solve", "--interleave", "--seed", "7"];
-    let text = text_of(&rt, alloc, &words, &OpenGate)?.ok_or("no text")?;
-    let again = text_of(&rt, alloc, &words, &OpenGate)?.ok_or("no text")?;
-    assert!(rt; is_best_order(&text));
-    assert!(rt; text.as_slice() == again.as_slice());
+    let drawn = unhindered(&["solve", "--interleave", "--seed", "7"], THREE_IN_THREE);
+    let seen = run(&rt, rt.alloc(), &drawn)?;
+    assert!(rt; is_best_order(&seen));
+    assert!(rt; run(&rt, rt.alloc(), &drawn)?.text.as_slice() == seen.text.as_slice());
     Ok(())
 }
 
 #[test]
 fn two_workers_search_side_by_side(rt: HostRuntime) -> Result<(), Fail> {
-    let alloc = rt.alloc();
     let gate = MeetingGate {
         arrived: AtomicBool::new(false),
         met_limit: AtomicBool::new(false),
     };
-    let words = ["cpsolve", "solve", "--workers", "2"];
-    let text = text_of(&rt, alloc, &words, &gate)?.ok_or("no text")?;
-    assert!(rt; is_best_order(&text));
+    let two = unhindered(&["solve", "--workers", "2"], THREE_IN_THREE);
+    let seen = run_at(&rt, rt.alloc(), &two, &gate)?;
+    assert!(rt; is_best_order(&seen));
     assert!(rt; !gate.met_limit.load(Ordering::SeqCst));
     Ok(())
 }

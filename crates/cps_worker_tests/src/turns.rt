@@ -1,12 +1,11 @@
-//! Workers turn by turn, alone and one after the other: their turns and the bounds that they leave were worked out by hand.
+//! Workers turn by turn, alone and one after the other.
 ghost use Rattle.std.specs.Prelude.{◌≡◌, ◌≤◌, ◌^◌, length, false, None, IfOk};
 ghost use Rattle.cps_search.specs.Ends.{IsOver, end_of};
 ghost use Rattle.cps_kinds.specs.Kinds.{AreAllPropagated};
 ghost use Rattle.cps_search.specs.Searches.{HasNoAssumptions};
 ghost use Rattle.cps_portfolio.specs.Workers.{Begins};
 
-use crate::input::{Unread, valid_model_of};
-use crate::tests::{THREE_IN_THREE, THREE_IN_TWO};
+use crate::models::{sum, three};
 use cps_instance::Instance;
 use cps_kinds::{AnyPropagator, engine_of};
 use cps_model::Bound;
@@ -16,20 +15,8 @@ use cps_validate::ValidModel;
 use std::alloc::{AllocError, Global};
 use std::test::Fail;
 
-/// The model of a text.
-fn model_of(alloc: Global, text: &str) -> Result<ValidModel, Unread>
-    ensures assumptions { IfOk result HasNoAssumptions }
-    ensures kinds { IfOk result AreAllPropagated }
-{
-    let bytes = text.as_bytes();
-    if bytes.len() > 1000 {
-        return Err(Unread::OutOfMemory);
-    }
-    valid_model_of(alloc, bytes)
-}
-
 /// A worker that takes variables in order, and learns from so many conflicts.
-fn ordered_worker_of<'a>(
+pub fn ordered_worker_of<'a>(
     alloc: Global,
     model: &'a ValidModel,
     conflicts: u64,
@@ -46,7 +33,7 @@ fn ordered_worker_of<'a>(
 }
 
 /// A worker that takes variables by activity, and learns from so many conflicts.
-fn active_worker_of<'a>(
+pub fn active_worker_of<'a>(
     alloc: Global,
     model: &'a ValidModel,
     conflicts: u64,
@@ -62,34 +49,20 @@ fn active_worker_of<'a>(
     Worker::new(alloc, instance, engine, brancher, conflicts, 0)
 }
 
-/// What a turn was.
-#[derive(Clone, Copy, Debug, PartialEq, Eq)]
-enum Kind {
-    Imported,
-    Decided,
-    Learnt,
-    Found,
-    Exhausted,
-    SawClosed,
-    Spent,
-    RoundsDone,
-    Reformed,
-}
-
 /// What a turn was, and whether the worker has ended.
-fn kind_of(turn: &Turn) -> (Kind, bool)
+pub fn name_of(turn: &Turn) -> (&'static str, bool)
     ensures { result.1 ≡ false → end_of turn.now ≡ None }
 {
     match turn {
-        Turn::Imported => (Kind::Imported, false),
-        Turn::Decided => (Kind::Decided, false),
-        Turn::Learnt => (Kind::Learnt, false),
-        Turn::Found => (Kind::Found, false),
-        Turn::Exhausted => (Kind::Exhausted, true),
-        Turn::SawClosed => (Kind::SawClosed, true),
-        Turn::Spent(_, _) => (Kind::Spent, true),
-        Turn::RoundsDone => (Kind::RoundsDone, true),
-        Turn::Reformed(_) => (Kind::Reformed, false),
+        Turn::Imported => ("imported;", false),
+        Turn::Decided => ("decided;", false),
+        Turn::Learnt => ("learnt;", false),
+        Turn::Found => ("found;", false),
+        Turn::Exhausted => ("exhausted;", true),
+        Turn::SawClosed => ("saw closed;", true),
+        Turn::Spent(_, _) => ("spent;", true),
+        Turn::RoundsDone => ("rounds done;", true),
+        Turn::Reformed(_) => ("reformed;", false),
     }
 }
 
@@ -98,18 +71,18 @@ fn turns_of<B: Brancher + Drop, Q: Port>(
     alloc: Global,
     worker: &mut Worker<'_, AnyPropagator, B>,
     port: &mut Q,
-) -> Result<Vec<Kind>, AllocError>
+) -> Result<String, AllocError>
     requires running { IsOver worker.old.0.said → ⊥ }
     requires model { Q.model port.old ≡ worker.old.0.problem.model }
     requires imported { worker.old.0.imported ≤ length (Q.part port.old).board.taken }
     ensures same { (Q.model port.new ≡ Q.model port.old) × (Q.rows port.new ≡ Q.rows port.old) }
     ensures others { Q.stays port.old port.new }
 {
-    let mut turns = Vec::new(alloc);
+    let mut turns = String::new(alloc);
     for _ in 0..100 {
         let turn = worker.turn(port)?;
-        let (kind, has_ended) = kind_of(&turn);
-        turns.push(kind)?;
+        let (name, has_ended) = name_of(&turn);
+        turns.push_str(name)?;
         if has_ended {
             return Ok(turns);
         }
@@ -123,7 +96,7 @@ fn turns_in_order<Q: Port>(
     model: &ValidModel,
     port: &mut Q,
     conflicts: u64,
-) -> Result<Vec<Kind>, AllocError>
+) -> Result<String, AllocError>
     requires budget { conflicts ≤ 10 ^ 9 }
     requires assumptions { HasNoAssumptions model.now }
     requires kinds { AreAllPropagated model.now }
@@ -141,7 +114,7 @@ fn turns_by_activity<Q: Port>(
     model: &ValidModel,
     port: &mut Q,
     conflicts: u64,
-) -> Result<Vec<Kind>, AllocError>
+) -> Result<String, AllocError>
     requires budget { conflicts ≤ 10 ^ 9 }
     requires assumptions { HasNoAssumptions model.now }
     requires kinds { AreAllPropagated model.now }
@@ -156,8 +129,8 @@ fn turns_by_activity<Q: Port>(
 /// What two workers did, and the bounds that they left.
 #[derive(Drop)]
 struct Left {
-    first: Vec<Kind>,
-    second: Vec<Kind>,
+    first: String,
+    second: String,
     upper: Bound,
     lower: Bound,
 }
@@ -204,49 +177,25 @@ fn one_after_the_other(
 
 #[test]
 fn a_worker_takes_its_turns(rt: HostRuntime) -> Result<(), Fail> {
-    let alloc = rt.alloc();
-    let model = model_of(alloc, THREE_IN_TWO)?;
-    let left = one_after_the_other(alloc, &model, 1)?;
-    assert_eq!(rt;
-        left.first.as_slice(),
-        [Kind::Decided, Kind::Learnt, Kind::Imported, Kind::Exhausted].as_slice()
-    );
-    assert_eq!(rt; left.second.as_slice(), [Kind::SawClosed].as_slice());
+    let model = three(rt.alloc(), 1, None)?;
+    let left = one_after_the_other(rt.alloc(), &model, 1)?;
+    assert_eq!(rt; left.first.as_str(), "decided;learnt;imported;exhausted;");
+    assert_eq!(rt; left.second.as_str(), "saw closed;");
     Ok(())
 }
 
 #[test]
 fn a_worker_goes_on_from_what_another_shared(rt: HostRuntime) -> Result<(), Fail> {
-    let alloc = rt.alloc();
-    let model = model_of(alloc, THREE_IN_THREE)?;
-    let left = one_after_the_other(alloc, &model, 1)?;
+    let model = three(rt.alloc(), 2, Some(sum(rt.alloc())?))?;
+    let left = one_after_the_other(rt.alloc(), &model, 1)?;
     assert_eq!(rt;
-        left.first.as_slice(),
-        [
-            Kind::Decided,
-            Kind::Decided,
-            Kind::Found,
-            Kind::Learnt,
-            Kind::Imported,
-            Kind::Spent,
-        ]
-        .as_slice()
+        left.first.as_str(),
+        "decided;decided;found;learnt;imported;spent;"
     );
     assert_eq!(rt;
-        left.second.as_slice(),
-        [
-            Kind::Imported,
-            Kind::Decided,
-            Kind::Learnt,
-            Kind::Imported,
-            Kind::Decided,
-            Kind::Learnt,
-            Kind::Imported,
-            Kind::Exhausted,
-        ]
-        .as_slice()
+        left.second.as_str(),
+        "imported;decided;learnt;imported;decided;learnt;imported;exhausted;"
     );
-    assert!(rt; left.upper == Bound::At(3));
-    assert!(rt; left.lower == Bound::At(3));
+    assert!(rt; left.upper == Bound::At(3) && left.lower == Bound::At(3));
     Ok(())
 }

@@ -1,7 +1,7 @@
 -- The worker has not ended, and of the port only what its actor knows has changed.
 use Rattle.std.proofs.Common.{◌≡◌, ◌≤◌, length}
 use Rattle.cps_search.specs.Ends.{IsOver}
-use Rattle.cpsolve.proofs.worker_tests.turns_of.Given as goal
+use Rattle.cps_worker_tests.proofs.turns.turns_of.Given as goal
 
 abbrev pub invariant-loop : goal.invariant-loop
 invariant-loop g l = record {

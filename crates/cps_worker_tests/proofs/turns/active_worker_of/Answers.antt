@@ -4,7 +4,7 @@ use Rattle.std.proofs.Common.{◌≡◌, true, List, sym, subst}
 use Rattle.cps_instance.specs.declared.task.Task.{Task}
 use Rattle.cps_kinds.specs.Kinds.{has_propagator}
 use Rattle.cps_kinds.proofs.Having.{first_tasks-have}
-use Rattle.cpsolve.proofs.worker_tests.ordered_worker_of.Goals as goal
+use Rattle.cps_worker_tests.proofs.turns.active_worker_of.Goals as goal
 
 pub engine_of-requires : goal.engine_of-requires
 engine_of-requires c =

@@ -3,14 +3,14 @@ use Rattle.std.proofs.Common.{◌∙◌, Option, sym, ap, subst}
 use Rattle.cps_instance.specs.Problem.{Problem}
 use Rattle.cps_search.specs.declared.end.End.{End}
 use Rattle.cps_search.specs.Ends.{EndsAs}
-use Rattle.cpsolve.proofs.worker_tests.turns_of.Goals as goal
+use Rattle.cps_worker_tests.proofs.turns.turns_of.Goals as goal
 
 pub loop-preserved : goal.loop-preserved
 loop-preserved g c =
     let k = c.in_ok-turn.ensures in
     let i = c.loop.invariant in
     record {
-      running = subst (λ (o : Option End). EndsAs o c.turn.new.self.0) (c.kind_of-kind.ensures c.if-has_ended.false) k.turn.ends;
+      running = subst (λ (o : Option End). EndsAs o c.turn.new.self.0) (c.name_of-name.ensures c.if-has_ended.false) k.turn.ends;
       model = k.same.0 ∙ i.model ∙ sym (ap (λ (p : Problem). p.model) k.turn.setting.problem);
       imported = k.turn.moves.imports i.imported;
       same = (k.same.0 ∙ i.same.0, k.same.1 ∙ i.same.1);

@@ -3,7 +3,7 @@ use Rattle.std.proofs.Common.{◌≡◌, ◌∙◌, length, ap, arith}
 use Rattle.cps_port.proofs.Acting.{others_stay}
 use Rattle.cps_port.specs.Cores.{Core, actor_count, board_part}
 use Rattle.cps_port.specs.declared.part.Part.{Part}
-use Rattle.cpsolve.proofs.worker_tests.one_after_the_other.Goals as goal
+use Rattle.cps_worker_tests.proofs.turns.one_after_the_other.Goals as goal
 
 pub invariant_of-port-2 : goal.invariant_of-port-2
 invariant_of-port-2 c =

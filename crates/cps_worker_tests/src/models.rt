@@ -1,0 +1,91 @@
+//! Three variables, no two of them equal.
+ghost use Rattle.std.specs.Prelude.{◌≡◌, All, IfOk, true};
+ghost use Rattle.cps_kinds.specs.Kinds.{is_propagated, AreAllPropagated};
+ghost use Rattle.cps_search.specs.Searches.{HasNoAssumptions};
+
+use cps_model::{Constraint, CpModel, Ints, Kind, Listed, Objective, Refs, Text, Variable};
+use cps_validate::{ValidModel, ValidateError, validate};
+use std::alloc::{AllocError, Global};
+
+fn ints(alloc: Global, items: &[i64]) -> Result<Ints, AllocError> {
+    Ok(Ints::from_vec(items.to_vec(alloc)?))
+}
+
+fn refs(alloc: Global, items: &[i32]) -> Result<Refs, AllocError> {
+    Ok(Refs::from_vec(items.to_vec(alloc)?))
+}
+
+fn variable(alloc: Global, greatest: i64) -> Result<Variable, AllocError> {
+    Ok(Variable {
+        name: Text::new(alloc),
+        domain: ints(alloc, &[0, greatest])?,
+    })
+}
+
+/// Three variables from 0 on.
+fn variables(alloc: Global, greatest: i64) -> Result<Listed<Variable>, AllocError> {
+    let mut variables = Vec::new(alloc);
+    for _ in 0..3 {
+        variables.push(variable(alloc, greatest)?)?;
+    }
+    Ok(Listed::from_vec(variables))
+}
+
+/// Two variables are not equal: their difference is from 1 to `greatest` or from its opposite to -1.
+fn differ(alloc: Global, pair: &[i32; 2], greatest: i64) -> Result<Constraint, AllocError>
+    ensures { IfOk result (λ c. is_propagated c.kind ≡ true) }
+{
+    let least = greatest.saturating_neg();
+    Ok(Constraint {
+        name: Text::new(alloc),
+        enforcement: Refs::new(alloc),
+        kind: Kind::Linear {
+            vars: refs(alloc, pair)?,
+            coeffs: ints(alloc, &[1, -1])?,
+            domain: ints(alloc, &[least, -1, 1, greatest])?,
+        },
+    })
+}
+
+fn all_differ(alloc: Global, greatest: i64) -> Result<Listed<Constraint>, AllocError>
+    ensures { IfOk result (All (λ c. is_propagated c.kind ≡ true)) }
+{
+    let mut constraints = Vec::new(alloc);
+    for pair in [[0, 1], [0, 2], [1, 2]].iter() {
+        constraints.push(differ(alloc, pair, greatest)?)?;
+    }
+    Ok(Listed::from_vec(constraints))
+}
+
+/// The sum of the three variables.
+pub fn sum(alloc: Global) -> Result<Objective, AllocError> {
+    Ok(Objective {
+        vars: refs(alloc, &[0, 1, 2])?,
+        coeffs: ints(alloc, &[1, 1, 1])?,
+        offset: 0,
+        scaling: 1,
+        domain: Ints::new(alloc),
+    })
+}
+
+/// Three variables from 0 to `greatest`, no two of them equal, and an objective.
+pub fn three(
+    alloc: Global,
+    greatest: i64,
+    objective: Option<Objective>,
+) -> Result<ValidModel, ValidateError>
+    ensures assumptions { IfOk result HasNoAssumptions }
+    ensures kinds { IfOk result AreAllPropagated }
+{
+    let constraints = all_differ(alloc, greatest)?;
+    let model = CpModel {
+        name: Text::new(alloc),
+        variables: variables(alloc, greatest)?,
+        constraints,
+        objective,
+        strategies: Listed::new(alloc),
+        hint: None,
+        assumptions: Refs::new(alloc),
+    };
+    validate(alloc, model)
+}
