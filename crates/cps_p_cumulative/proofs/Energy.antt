@@ -1,11 +1,12 @@
 -- What spans demand in a window of times, summed over them.
 use Rattle.std.specs.Prelude.{int_le, int_lt, Option, Some, None}
 use Rattle.std.specs.List.{list_all}
-use Rattle.std.proofs.Common.{ℕ, zero, suc, inl, inr, drop, length, ◌+◌, ◌<◌, ◌≤◌, ℤ, pos, negsuc, ◌^◌, FitsSigned, w64, ◌+ℤ◌, ◌-ℤ◌, ◌*ℤ◌, ◌≤ℤ◌, ◌<ℤ◌, ◌≡◌, ◌⊎◌, Bool, true, false, ◌&&◌, List, [], ◌∷◌, unsigned_abs, refl, sym, ◌∙◌, ap, subst, arith}
-use Rattle.std.proofs.lemmas.Int.{ints, fits_signed_mul}
+use Rattle.std.proofs.Common.{ℕ, zero, suc, inl, inr, drop, length, ◌+◌, ◌*◌, ◌<◌, ◌≤◌, ℤ, pos, negsuc, ◌^◌, FitsSigned, w64, ◌+ℤ◌, ◌-ℤ◌, ◌*ℤ◌, ◌≤ℤ◌, ◌<ℤ◌, ◌≡◌, ◌⊎◌, Bool, true, false, ◌&&◌, List, [], ◌∷◌, unsigned_abs, refl, sym, ◌∙◌, ap, subst, arith}
+use Rattle.std.proofs.lemmas.Int.{ints, fits_signed_mul, fits_signed_from_abs}
 use mir.Syntax.{w128}
 use Rattle.std.proofs.Math.IntN.{zero-*ℤ, *ℤ-zero}
-use Rattle.cps_domain.proofs.Products.{next_times, times_grows}
+use Rattle.cps_model.proofs.Sums.{unsigned_abs-add}
+use Rattle.cps_domain.proofs.Products.{next_times, times_grows, size_times}
 use Rattle.cps_literal.specs.Truth.{value_at, atom_holds}
 use Rattle.cps_instance.specs.declared.task.Span.{Span}
 use Rattle.cps_instance.specs.Parts.{span_end}
@@ -25,13 +26,30 @@ more_times v k =
 pub times-some : (a b : ℤ) → pos 0 ≤ℤ a → pos 0 ≤ℤ b → pos 0 ≤ℤ (a *ℤ b)
 times-some a b p q = let e = *ℤ-zero a in let f = times_grows a (pos 0) b p q in omega (arith, ints)
 
-number_size : (n : ℤ) → FitsSigned w64 n → unsigned_abs n ≤ 2 ^ 63
+-- how large a number of 64 bits is
+pub number_size : (n : ℤ) → FitsSigned w64 n → unsigned_abs n ≤ 2 ^ 63
 number_size (pos n) f = let g = f.sfits in omega (arith, ints)
 number_size (negsuc n) f = let g = f.sfits in omega (arith, ints)
+
+pub fits-wide : (n : ℤ) → FitsSigned w64 n → FitsSigned w128 n
+fits-wide n f = fits_signed_from_abs w128 n (let s = number_size n f in omega arith)
 
 -- two numbers of 64 bits give one of 128
 pub energy-fits : (a b : ℤ) → FitsSigned w64 a → FitsSigned w64 b → FitsSigned w128 (a *ℤ b)
 energy-fits a b f g = fits_signed_mul w128 a b (2 ^ 63) (2 ^ 63) (number_size a f) (number_size b g) (omega arith)
+
+pub energy-next-fits : (a b : ℤ) → FitsSigned w64 a → FitsSigned w64 b → FitsSigned w128 ((a *ℤ b) +ℤ pos 1)
+energy-next-fits a b f g = fits_signed_from_abs w128 ((a *ℤ b) +ℤ pos 1) (
+  let p = size_times a b (2 ^ 63) (2 ^ 63) (number_size a f) (number_size b g) in
+  let q = unsigned_abs-add (a *ℤ b) (pos 1) in
+  omega arith)
+
+pub sum-fits : (a b : ℤ) → FitsSigned w64 a → FitsSigned w64 b → FitsSigned w128 (a +ℤ b)
+sum-fits a b f g = fits_signed_from_abs w128 (a +ℤ b) (
+  let p = number_size a f in
+  let q = number_size b g in
+  let r = unsigned_abs-add a b in
+  omega arith)
 
 -- one span more
 pub energies-cons : (xs : List ℤ) (t : ℤ) (n : ℕ) (p : Span) (d : ℕ) (ps : List Span) (ds : List ℕ) → energies xs t n (p ∷ ps) (d ∷ ds) ≡ energy_of xs t n p d +ℤ energies xs t n ps ds
@@ -83,28 +101,32 @@ module _ (xs : List ℤ) (p : Span) (d : ℕ) (v : ℤ) (here : list_all (atom_h
   runs_now : (t : ℤ) → value_at xs p.start ≤ℤ t → t <ℤ span_end xs p.start p.end p.length → v ≤ℤ demand_of xs t p d
   runs_now t a b = let e = demand-runs xs t p d (running xs t p here a b) in omega (arith, ints)
 
+  abbrev Uses : ℤ → ℕ → ℕ → Type 0
+  Uses t n k = Lies t n k → (pos k *ℤ v) ≤ℤ energy_of xs t n p d
+
+  -- it runs now or later
+  least_more : (n k : ℕ) (t : ℤ) → Lies t (suc n) (suc k) → Uses (t +ℤ pos 1) n k → Uses (t +ℤ pos 1) n (suc k) → (value_at xs p.start ≤ℤ t) ⊎ (t <ℤ value_at xs p.start) → (pos (suc k) *ℤ v) ≤ℤ energy_of xs t (suc n) p d
+  least_more n k t h once more (inl started) =
+      let left = h.left in
+      let right = h.right in
+      let long = h.long in
+      let within = h.within in
+      let now = runs_now t started (omega (arith, ints)) in
+      let rest = once (record { within = omega arith; left = omega (arith, ints); right = omega (arith, ints); long = omega (arith, ints) }) in
+      let e = more_times v k in
+      omega (arith, ints)
+  least_more n k t h once more (inr later) =
+      let left = h.left in
+      let right = h.right in
+      let long = h.long in
+      let now = demand-some xs t p d (omega (arith, ints)) in
+      let rest = more (record { within = omega (arith, ints); left = omega (arith, ints); right = omega (arith, ints); long = omega (arith, ints) }) in
+      omega (arith, ints)
+
   pub energy-least : (n k : ℕ) (t : ℤ) → Lies t n k → (pos k *ℤ v) ≤ℤ energy_of xs t n p d
   energy-least n zero t h = let e = zero-*ℤ v in let f = energy-some xs t n p d (omega (arith, ints)) in omega (arith, ints)
   energy-least zero (suc k) t h = absurd (let a = h.within in omega arith)
-  energy-least (suc n) (suc k) t h = by (le_or_lt (value_at xs p.start) t)
-    where
-      by : (value_at xs p.start ≤ℤ t) ⊎ (t <ℤ value_at xs p.start) → (pos (suc k) *ℤ v) ≤ℤ energy_of xs t (suc n) p d
-      by (inl started) =
-          let left = h.left in
-          let right = h.right in
-          let long = h.long in
-          let within = h.within in
-          let now = runs_now t started (omega (arith, ints)) in
-          let rest = energy-least n k (t +ℤ pos 1) (record { within = omega arith; left = omega (arith, ints); right = omega (arith, ints); long = omega (arith, ints) }) in
-          let e = more_times v k in
-          omega (arith, ints)
-      by (inr later) =
-          let left = h.left in
-          let right = h.right in
-          let long = h.long in
-          let now = demand-some xs t p d (omega (arith, ints)) in
-          let rest = energy-least n (suc k) (t +ℤ pos 1) (record { within = omega (arith, ints); left = omega (arith, ints); right = omega (arith, ints); long = omega (arith, ints) }) in
-          omega (arith, ints)
+  energy-least (suc n) (suc k) t h = least_more n k t h (λ l. energy-least n k (t +ℤ pos 1) l) (λ l. energy-least n (suc k) (t +ℤ pos 1) l) (le_or_lt (value_at xs p.start) t)
 
 -- where a span is so long, whether its length is known or its end alone
 long_of : (xs : List ℤ) (start end : ℕ) (far : Option ℤ) (stay : Stay) → IsLong far stay → value_at xs start ≤ℤ stay.latest → stay.after <ℤ span_end xs start end far → (value_at xs start +ℤ stay.ticks) ≤ℤ span_end xs start end far

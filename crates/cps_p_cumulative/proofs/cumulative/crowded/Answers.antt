@@ -1,7 +1,8 @@
 use Rattle.std.proofs.Common.{◌≡◌, true}
 use Rattle.std.specs.Prelude.{Ok}
 use Rattle.cps_p_cumulative.specs.Running.{body_of}
-use Rattle.cps_p_cumulative.proofs.Relied.{refuted-impossible, ok_true}
+use Rattle.cps_p_cumulative.proofs.Levelled.{ok_true}
+use Rattle.cps_p_cumulative.proofs.Relied.{refuted-impossible}
 use Rattle.cps_p_cumulative.proofs.cumulative.crowded.Goals as goal
 
 pub returns-then-branch : goal.returns-then-branch
