@@ -29,6 +29,7 @@ use Rattle.cps_p_cumulative.specs.Levels.{toward, is_active, has_acted, share_of
 use Rattle.cps_p_cumulative.specs.Relying.{Relies}
 use Rattle.cps_p_cumulative.proofs.Moves.{moves_all, total-last, toward-none, passed, never_passed}
 use Rattle.cps_p_cumulative.proofs.Rising.{zero_limit, has_levels}
+use Rattle.cps_p_cumulative.proofs.Energy.{number_size}
 use Rattle.cps_p_cumulative.proofs.Relied.{Relies-none, Relies-then, Relies-so}
 
 -- the subjects of an event
@@ -198,10 +199,6 @@ share_open_none s t side m v yes' no' l low = record {
   may = share_may_rest s t side m no'.may;
   near = omega arith;
 }
-
-number_size : (n : ℤ) → FitsSigned w64 n → unsigned_abs n ≤ 2 ^ 63
-number_size (pos n) f = let g = f.sfits in omega (arith, ints)
-number_size (negsuc n) f = let g = f.sfits in omega (arith, ints)
 
 -- the least that a change counts, by the ends of what it may be
 pub least-over : (s : Trail) (side : Side) (i : ℕ) (low v : ℤ) → side ≡ Over → v ≡ toward side low → IsOpenTo s i low → ((x : ℤ) → IsOpenTo s i x → low ≤ℤ x) → FitsSigned w64 low → IsLeastToward s side i v

@@ -1,5 +1,6 @@
 pub mod Running
 pub mod Resting
+pub mod Energy
 pub mod Relied
 pub mod Profiled
 pub mod Summing

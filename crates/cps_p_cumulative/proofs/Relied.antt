@@ -1,5 +1,5 @@
 -- How facts come to give what is relied on.
-use Rattle.std.proofs.Common.{ℕ, zero, suc, inl, inr, min, ◌+◌, ◌<◌, ◌≤◌, ℤ, pos, ◌+ℤ◌, ◌-ℤ◌, ◌≤ℤ◌, ◌<ℤ◌, ◌≡◌, Bool, true, false, not, ◌&&◌, List, [], ◌∷◌, ◌++◌, length, take, drop, get_or, refl, sym, ◌∙◌, ap, subst, arith}
+use Rattle.std.proofs.Common.{ℕ, zero, suc, inl, inr, min, ◌+◌, ◌<◌, ◌≤◌, ℤ, pos, ◌+ℤ◌, ◌-ℤ◌, ◌*ℤ◌, ◌≤ℤ◌, ◌<ℤ◌, ◌≡◌, unsigned_abs, Bool, true, false, not, ◌&&◌, List, [], ◌∷◌, ◌++◌, length, take, drop, get_or, refl, sym, ◌∙◌, ap, subst, arith}
 use Rattle.std.specs.Prelude.{Option, Some, None, IfSome, ◌⊎◌}
 use Rattle.std.specs.List.{list_all, All}
 use Rattle.std.proofs.lemmas.Int.{ints}
@@ -7,6 +7,7 @@ use Rattle.std.proofs.lemmas.List.{drop_more}
 use Rattle.std.proofs.lemmas.List.Elements.{All-nil, All-push, All-head, All-more}
 use Rattle.cps_domain.specs.Window.{is_among}
 use Rattle.cps_domain.proofs.Tests.{first_of_both, true_le, le_true}
+use Rattle.cps_domain.proofs.Products.{times_grows}
 use Rattle.cps_literal.specs.declared.atom.Atom.{Atom}
 use Rattle.cps_literal.specs.declared.atom.Op.TheVariants.{Le, Ge}
 use Rattle.cps_literal.specs.Truth.{meets, value_at, atom_holds, Implies}
@@ -16,12 +17,13 @@ use Rattle.cps_instance.specs.Parts.{span_end}
 use Rattle.cps_instance.specs.Tasks.{HoldsBody}
 use Rattle.cps_instance.proofs.Agreeing.{All-append_left, All-append_right}
 use Rattle.cps_trail.specs.Trail.{Trail, Domains, IsTrueNow, IsTrueAfter, IsWithin, IsAdmitted, IsInside, first_of, admits, leaves}
-use Rattle.cps_rule.specs.Rules.{IsFact, AreFacts, IsGiven, IsExplained, IsRefuted}
+use Rattle.cps_rule.specs.Rules.{IsFact, AreFacts, IsGiven, IsImpossible, IsExplained, IsRefuted}
 use Rattle.cps_p_cumulative.specs.declared.resource.Resource.{Resource}
-use Rattle.cps_p_cumulative.specs.Running.{is_running, demands_at, body_of}
-use Rattle.cps_p_cumulative.specs.Relying.{Relies, IsTaken, IsCharged, IsBound, IsLater}
-use Rattle.cps_p_cumulative.proofs.Running.{demands-cons, running, all_hold, demand-runs, demand-some}
-use Rattle.cps_p_cumulative.proofs.Profiled.{demands-past}
+use Rattle.cps_p_cumulative.specs.declared.charge.Claim.{Claim}
+use Rattle.cps_p_cumulative.specs.Running.{energies, body_of}
+use Rattle.cps_p_cumulative.specs.Relying.{Relies, IsTaken, IsCharged, IsBound, IsLater, IsClaim, IsBetween}
+use Rattle.cps_p_cumulative.proofs.Running.{all_hold}
+use Rattle.cps_p_cumulative.proofs.Energy.{energies-cons, energies-past, energies-within, energy-some, energy-stay}
 
 -- what is so anyhow
 pub Relies-none : (s : Trail) (a : Atom) (P : List ℤ → Type 0) (us : List Atom) → AreFacts s us → ((xs : List ℤ) → IsWithin s.first xs → atom_holds xs a ≡ true → P xs) → Relies s a P us us
@@ -68,19 +70,20 @@ Relies-more s a atoms k d old mid new l p q = Relies-then s a (λ xs. All (λ u.
     (λ xs w here this. All-more (λ u. atom_holds xs u ≡ true) atoms k d l here this)
 
 -- nothing charged
-pub charged-none : (t : ℤ) (ps : List Span) (ds : List ℕ) (need : ℤ) (xs : List ℤ) → IsCharged t ps ds need 0 need xs
-charged-none t ps ds need xs = record { demanded = omega (arith, ints) }
+pub charged-none : (t w : ℤ) (ps : List Span) (ds : List ℕ) (need : ℤ) (xs : List ℤ) → IsCharged t w ps ds need 0 need xs
+charged-none t w ps ds need xs = record { used = omega (arith, ints) }
 
 -- one span more
-pub charged-more : (t : ℤ) (ps : List Span) (ds : List ℕ) (need : ℤ) (k : ℕ) (p : Span) (d : ℕ) (left after : ℤ) (xs : List ℤ) → k < length ps → k < length ds
-    → IsCharged t ps ds need k left xs → IsTaken t (get_or ps k p) (get_or ds k d) left after xs → IsCharged t ps ds need (k + 1) after xs
-charged-more t ps ds need k p d left after xs l m h this =
-    let e : demands_at xs t (drop k ps) (drop k ds) ≡ demands_at xs t (get_or ps k p ∷ drop (k + 1) ps) (get_or ds k d ∷ drop (k + 1) ds) =
-    ap (λ (qs : List Span). demands_at xs t qs (drop k ds)) (drop_more ps k p l) ∙ ap (λ (es : List ℕ). demands_at xs t (get_or ps k p ∷ drop (k + 1) ps) es) (drop_more ds k d m) in
-    let f = demands-cons xs t (get_or ps k p) (get_or ds k d) (drop (k + 1) ps) (drop (k + 1) ds) in
-    let g = h.demanded in
-    let i = this.demanded in
-    record { demanded = omega (arith, ints) }
+pub charged-more : (t w : ℤ) (ps : List Span) (ds : List ℕ) (need : ℤ) (k : ℕ) (p : Span) (d : ℕ) (left after : ℤ) (xs : List ℤ) → k < length ps → k < length ds
+    → IsCharged t w ps ds need k left xs → IsTaken t w (get_or ps k p) (get_or ds k d) left after xs → IsCharged t w ps ds need (k + 1) after xs
+charged-more t w ps ds need k p d left after xs l m h this =
+    let n = unsigned_abs w in
+    let e : energies xs t n (drop k ps) (drop k ds) ≡ energies xs t n (get_or ps k p ∷ drop (k + 1) ps) (get_or ds k d ∷ drop (k + 1) ds) =
+    ap (λ (qs : List Span). energies xs t n qs (drop k ds)) (drop_more ps k p l) ∙ ap (λ (es : List ℕ). energies xs t n (get_or ps k p ∷ drop (k + 1) ps) es) (drop_more ds k d m) in
+    let f = energies-cons xs t n (get_or ps k p) (get_or ds k d) (drop (k + 1) ps) (drop (k + 1) ds) in
+    let g = h.used in
+    let i = this.used in
+    record { used = omega (arith, ints) }
 
 -- where the assumed atom denies one, that one is given
 pub explained : (s : Trail) (b : Body) (a u : Atom) (facts : List Atom) → a.subject ≡ u.subject → ((x : ℤ) → meets a.op a.value x ≡ not (meets u.op u.value x))
@@ -111,6 +114,16 @@ given s b u facts inside h = record {
   subject = inside;
   at = λ xs admitted holds. h.gives xs (within_of s xs admitted) (λ k d l. (h.facts k d l).true_now (value_at xs (get_or facts k d).subject) (admitted (get_or facts k d).subject (h.facts k d l).subject)) holds;
 }
+
+-- what facts exclude is impossible
+pub refuted-impossible : (s : Trail) (b : Body) (facts : List Atom) → IsRefuted b s facts → IsImpossible b s
+refuted-impossible s b facts h = record {
+  at = λ xs admitted holds. h.excludes xs (within_of s xs admitted) (λ k d l. (h.facts k d l).true_now (value_at xs (get_or facts k d).subject) (admitted (get_or facts k d).subject (h.facts k d l).subject)) holds;
+}
+
+-- the first fact of a list that was empty
+pub one_fact : (old pushed : List Atom) (u : Atom) → old ≡ [] → pushed ≡ old ++ u ∷ [] → pushed ≡ u ∷ []
+one_fact old pushed u e f = f ∙ ap (λ (us : List Atom). us ++ u ∷ []) e
 
 -- an atom that is a span's later end
 pub later-some : (first : Domains) (t far : ℤ) (p : Span) (u : Atom) → p.length ≡ Some far → p.start < length first → IsBound p.start ((t +ℤ pos 1) -ℤ far) u → IsLater first t p u
@@ -145,43 +158,52 @@ pub later-none-of : (first : Domains) (t : ℤ) (p : Span) (r : Option Atom) (v 
 later-none-of first t p None v e l h same = h
 later-none-of first t p (Some u) v e l h same = later-none first t p u e l (subst (λ (x : ℤ). IsBound p.end x u) same h)
 
--- that a span is present, starts by a time and ends later
-pub run-relied : (s : Trail) (a : Atom) (t : ℤ) (p : Span) (atoms : List Atom) (u last : Atom) (old one two new : List Atom) → atoms ≡ p.presence → u ≡ record { subject = p.start; op = Le; value = t } → IsLater s.first t p last
-    → Relies s a (λ xs. All (λ v. atom_holds xs v ≡ true) atoms) old one → Relies s a (λ xs. atom_holds xs u ≡ true) one two → Relies s a (λ xs. atom_holds xs last ≡ true) two new → Relies s a (λ xs. is_running xs t p ≡ true) old new
-run-relied s a t p atoms u last old one two new is starts later h i j =
-    Relies-then s a (λ xs. All (λ v. atom_holds xs v ≡ true) atoms × (atom_holds xs u ≡ true)) (λ xs. atom_holds xs last ≡ true) (λ xs. is_running xs t p ≡ true) old two new
+-- that a span is present, starts by one time and ends after another
+pub run-relied : (s : Trail) (a : Atom) (latest after : ℤ) (p : Span) (atoms : List Atom) (u last : Atom) (old one two new : List Atom) → atoms ≡ p.presence → u ≡ record { subject = p.start; op = Le; value = latest } → IsLater s.first after p last
+    → Relies s a (λ xs. All (λ v. atom_holds xs v ≡ true) atoms) old one → Relies s a (λ xs. atom_holds xs u ≡ true) one two → Relies s a (λ xs. atom_holds xs last ≡ true) two new → Relies s a (IsBetween latest after p) old new
+run-relied s a latest after p atoms u last old one two new is starts later h i j =
+    Relies-then s a (λ xs. All (λ v. atom_holds xs v ≡ true) atoms × (atom_holds xs u ≡ true)) (λ xs. atom_holds xs last ≡ true) (IsBetween latest after p) old two new
     (Relies-then s a (λ xs. All (λ v. atom_holds xs v ≡ true) atoms) (λ xs. atom_holds xs u ≡ true) (λ xs. All (λ v. atom_holds xs v ≡ true) atoms × (atom_holds xs u ≡ true)) old one two h i (λ xs w b c. (b, c)))
     j
-    (λ xs w b c. running xs t p
-    (subst (λ (us : List Atom). list_all (atom_holds xs) us ≡ true) is (all_hold xs atoms b.0))
-    (true_le (value_at xs p.start) t (subst (λ (v : Atom). atom_holds xs v ≡ true) starts b.1))
-    (later.after xs c))
+    (λ xs w b c. record {
+      present = subst (λ (us : List Atom). list_all (atom_holds xs) us ≡ true) is (all_hold xs atoms b.0);
+      started = true_le (value_at xs p.start) latest (subst (λ (v : Atom). atom_holds xs v ≡ true) starts b.1);
+      later = later.after xs c;
+    })
 
 -- a span that is passed over, and one that counts
-pub charge-skip : (s : Trail) (a : Atom) (t : ℤ) (p : Span) (d : ℕ) (left after : ℤ) (u : Atom) (old new : List Atom) → left ≡ after → u ≡ record { subject = d; op = Ge; value = pos 0 } → Relies s a (λ xs. atom_holds xs u ≡ true) old new
-    → Relies s a (IsTaken t p d left after) old new
-charge-skip s a t p d left after u old new same is h = Relies-so s a (λ xs. atom_holds xs u ≡ true) (IsTaken t p d left after) old new h
-    (λ xs w b. (let e = demand-some xs t p d (true_le (pos 0) (value_at xs d) (subst (λ (v : Atom). atom_holds xs v ≡ true) is b)) in record { demanded = omega (arith, ints) }))
+pub charge-skip : (s : Trail) (a : Atom) (t w : ℤ) (p : Span) (d : ℕ) (left after : ℤ) (u : Atom) (old new : List Atom) → left ≡ after → u ≡ record { subject = d; op = Ge; value = pos 0 } → Relies s a (λ xs. atom_holds xs u ≡ true) old new
+    → Relies s a (IsTaken t w p d left after) old new
+charge-skip s a t w p d left after u old new same is h = Relies-so s a (λ xs. atom_holds xs u ≡ true) (IsTaken t w p d left after) old new h
+    (λ xs b c. (let e = energy-some xs t (unsigned_abs w) p d (true_le (pos 0) (value_at xs d) (subst (λ (v : Atom). atom_holds xs v ≡ true) is c)) in record { used = omega (arith, ints) }))
 
-pub charge-run : (s : Trail) (a : Atom) (t : ℤ) (p : Span) (d : ℕ) (left after counted : ℤ) (u : Atom) (old mid new : List Atom) → after ≡ left -ℤ counted → u ≡ record { subject = d; op = Ge; value = counted }
-    → Relies s a (λ xs. is_running xs t p ≡ true) old mid → Relies s a (λ xs. atom_holds xs u ≡ true) mid new → Relies s a (IsTaken t p d left after) old new
-charge-run s a t p d left after counted u old mid new same is h i = Relies-then s a (λ xs. is_running xs t p ≡ true) (λ xs. atom_holds xs u ≡ true) (IsTaken t p d left after) old mid new h i
-    (λ xs w b c. (let e = demand-runs xs t p d b in let f = true_le counted (value_at xs d) (subst (λ (v : Atom). atom_holds xs v ≡ true) is c) in record { demanded = omega (arith, ints) }))
+pub charge-run : (s : Trail) (a : Atom) (t w : ℤ) (p : Span) (d : ℕ) (left after : ℤ) (claim : Claim) (u : Atom) (old mid new : List Atom) → IsClaim t w p.length claim → (left -ℤ after) ≤ℤ (claim.stay.ticks *ℤ claim.demand) → u ≡ record { subject = d; op = Ge; value = claim.demand }
+    → Relies s a (IsBetween claim.stay.latest claim.stay.after p) old mid → Relies s a (λ xs. atom_holds xs u ≡ true) mid new → Relies s a (IsTaken t w p d left after) old new
+charge-run s a t w p d left after claim u old mid new of taken is h i = Relies-then s a (IsBetween claim.stay.latest claim.stay.after p) (λ xs. atom_holds xs u ≡ true) (IsTaken t w p d left after) old mid new h i
+    (λ xs x b c. (let e = energy-stay xs t w p d claim.demand claim.stay of.stay b of.some (true_le claim.demand (value_at xs d) (subst (λ (v : Atom). atom_holds xs v ≡ true) is c)) in record { used = omega (arith, ints) }))
 
 -- a loop over the spans
-pub charge-none : (s : Trail) (a : Atom) (t : ℤ) (ps : List Span) (ds : List ℕ) (need : ℤ) (us : List Atom) → AreFacts s us → Relies s a (IsCharged t ps ds need 0 need) us us
-charge-none s a t ps ds need us f = Relies-none s a (IsCharged t ps ds need 0 need) us f (λ xs w b. charged-none t ps ds need xs)
+pub charge-none : (s : Trail) (a : Atom) (t w : ℤ) (ps : List Span) (ds : List ℕ) (need : ℤ) (us : List Atom) → AreFacts s us → Relies s a (IsCharged t w ps ds need 0 need) us us
+charge-none s a t w ps ds need us f = Relies-none s a (IsCharged t w ps ds need 0 need) us f (λ xs b c. charged-none t w ps ds need xs)
 
-pub charge-more : (s : Trail) (a : Atom) (t : ℤ) (ps : List Span) (ds : List ℕ) (need : ℤ) (k : ℕ) (p : Span) (d : ℕ) (left after : ℤ) (old mid new : List Atom) → k < length ps → k < length ds
-    → Relies s a (IsCharged t ps ds need k left) old mid → Relies s a (IsTaken t (get_or ps k p) (get_or ds k d) left after) mid new → Relies s a (IsCharged t ps ds need (k + 1) after) old new
-charge-more s a t ps ds need k p d left after old mid new l m h i =
-    Relies-then s a (IsCharged t ps ds need k left) (IsTaken t (get_or ps k p) (get_or ds k d) left after) (IsCharged t ps ds need (k + 1) after) old mid new h i (λ xs w b c. charged-more t ps ds need k p d left after xs l m b c)
+pub charge-more : (s : Trail) (a : Atom) (t w : ℤ) (ps : List Span) (ds : List ℕ) (need : ℤ) (k : ℕ) (p : Span) (d : ℕ) (left after : ℤ) (old mid new : List Atom) → k < length ps → k < length ds
+    → Relies s a (IsCharged t w ps ds need k left) old mid → Relies s a (IsTaken t w (get_or ps k p) (get_or ds k d) left after) mid new → Relies s a (IsCharged t w ps ds need (k + 1) after) old new
+charge-more s a t w ps ds need k p d left after old mid new l m h i =
+    Relies-then s a (IsCharged t w ps ds need k left) (IsTaken t w (get_or ps k p) (get_or ds k d) left after) (IsCharged t w ps ds need (k + 1) after) old mid new h i (λ xs x b c. charged-more t w ps ds need k p d left after xs l m b c)
 
 -- what passes the greatest capacity
-pub over-capacity : (s : Trail) (a : Atom) (t : ℤ) (r : Resource) (most need : ℤ) (u : Atom) (old mid new : List Atom) → need ≡ most +ℤ pos 1 → u ≡ record { subject = r.capacity; op = Le; value = most }
-    → Relies s a (λ xs. atom_holds xs u ≡ true) old mid → Relies s a (λ xs. need ≤ℤ demands_at xs t r.spans r.demands) mid new → Relies s a (λ xs. HoldsBody (body_of r) xs → ⊥) old new
-over-capacity s a t r most need u old mid new same is h i = Relies-then s a (λ xs. atom_holds xs u ≡ true) (λ xs. need ≤ℤ demands_at xs t r.spans r.demands) (λ xs. HoldsBody (body_of r) xs → ⊥) old mid new h i
-    (λ xs w b c holds. (let e = true_le (value_at xs r.capacity) most (subst (λ (v : Atom). atom_holds xs v ≡ true) is b) in let f = holds.enough t in absurd (omega (arith, ints))))
+pub over-capacity : (s : Trail) (a : Atom) (t w : ℤ) (r : Resource) (most need : ℤ) (u : Atom) (old mid new : List Atom) → pos 0 ≤ℤ w → need ≡ (w *ℤ most) +ℤ pos 1 → u ≡ record { subject = r.capacity; op = Le; value = most }
+    → Relies s a (λ xs. atom_holds xs u ≡ true) old mid → Relies s a (λ xs. need ≤ℤ energies xs t (unsigned_abs w) r.spans r.demands) mid new → Relies s a (λ xs. HoldsBody (body_of r) xs → ⊥) old new
+over-capacity s a t w r most need u old mid new some same is h i = Relies-then s a (λ xs. atom_holds xs u ≡ true) (λ xs. need ≤ℤ energies xs t (unsigned_abs w) r.spans r.demands) (λ xs. HoldsBody (body_of r) xs → ⊥) old mid new h i
+    (λ xs x b c holds. (
+    let cap = value_at xs r.capacity in
+    let wide : pos (unsigned_abs w) ≡ w = omega (arith, ints) in
+    let e = true_le cap most (subst (λ (v : Atom). atom_holds xs v ≡ true) is b) in
+    let f = energies-within xs cap t (unsigned_abs w) r.spans r.demands holds.enough in
+    let g = times_grows w cap most some e in
+    let j = ap (λ (z : ℤ). z *ℤ cap) wide in
+    absurd (omega (arith, ints))
+    ))
 
 pub no-capacity : (s : Trail) (a : Atom) (r : Resource) (most : ℤ) (u : Atom) (old new : List Atom) → most <ℤ pos 0 → u ≡ record { subject = r.capacity; op = Le; value = most }
     → Relies s a (λ xs. atom_holds xs u ≡ true) old new → Relies s a (λ xs. HoldsBody (body_of r) xs → ⊥) old new
@@ -189,19 +211,19 @@ no-capacity s a r most u old new below is h = Relies-so s a (λ xs. atom_holds x
     (λ xs w b holds. (let e = true_le (value_at xs r.capacity) most (subst (λ (v : Atom). atom_holds xs v ≡ true) is b) in let f = holds.some_room in absurd (omega (arith, ints))))
 
 -- the same, by what the code reads
-pub charge-step : (s : Trail) (a : Atom) (t : ℤ) (ps rs : List Span) (ds es : List ℕ) (need known : ℤ) (k : ℕ) (p : Span) (d : ℕ) (left had after got : ℤ) (old mid new : List Atom) → k < length rs → k < length es → rs ≡ ps → es ≡ ds → p ≡ get_or rs k p → d ≡ get_or es k 0
-    → Relies s a (IsCharged t ps ds need k left) old mid → Relies s a (IsTaken t p d had after) mid new → had ≡ left → known ≡ need → got ≡ after → Relies s a (IsCharged t ps ds known (k + 1) got) old new
-charge-step s a t ps rs ds es need known k p d left had after got old mid new l m same alike is-p is-d h i e f g =
+pub charge-step : (s : Trail) (a : Atom) (t w : ℤ) (ps rs : List Span) (ds es : List ℕ) (need known : ℤ) (k : ℕ) (p : Span) (d : ℕ) (left had after got : ℤ) (old mid new : List Atom) → k < length rs → k < length es → rs ≡ ps → es ≡ ds → p ≡ get_or rs k p → d ≡ get_or es k 0
+    → Relies s a (IsCharged t w ps ds need k left) old mid → Relies s a (IsTaken t w p d had after) mid new → had ≡ left → known ≡ need → got ≡ after → Relies s a (IsCharged t w ps ds known (k + 1) got) old new
+charge-step s a t w ps rs ds es need known k p d left had after got old mid new l m same alike is-p is-d h i e f g =
     let q : get_or ps k p ≡ p = ap (λ (qs : List Span). get_or qs k p) (sym same) ∙ sym is-p in
     let r : get_or ds k 0 ≡ d = ap (λ (qs : List ℕ). get_or qs k 0) (sym alike) ∙ sym is-d in
     let l' : k < length ps = subst (λ (qs : List Span). k < length qs) same l in
     let m' : k < length ds = subst (λ (qs : List ℕ). k < length qs) alike m in
-    let j : Relies s a (IsTaken t (get_or ps k p) (get_or ds k 0) left after) mid new =
-    subst (λ (x : ℤ). Relies s a (IsTaken t (get_or ps k p) (get_or ds k 0) x after) mid new) e
-    (subst (λ (n : ℕ). Relies s a (IsTaken t (get_or ps k p) n had after) mid new) (sym r)
-    (subst (λ (u : Span). Relies s a (IsTaken t u d had after) mid new) (sym q) i)) in
-    let b = charge-more s a t ps ds need k p 0 left after old mid new l' m' h j in
-    subst (λ (x : ℤ). Relies s a (IsCharged t ps ds x (k + 1) got) old new) (sym f) (subst (λ (x : ℤ). Relies s a (IsCharged t ps ds need (k + 1) x) old new) (sym g) b)
+    let j : Relies s a (IsTaken t w (get_or ps k p) (get_or ds k 0) left after) mid new =
+    subst (λ (x : ℤ). Relies s a (IsTaken t w (get_or ps k p) (get_or ds k 0) x after) mid new) e
+    (subst (λ (n : ℕ). Relies s a (IsTaken t w (get_or ps k p) n had after) mid new) (sym r)
+    (subst (λ (u : Span). Relies s a (IsTaken t w u d had after) mid new) (sym q) i)) in
+    let b = charge-more s a t w ps ds need k p 0 left after old mid new l' m' h j in
+    subst (λ (x : ℤ). Relies s a (IsCharged t w ps ds x (k + 1) got) old new) (sym f) (subst (λ (x : ℤ). Relies s a (IsCharged t w ps ds need (k + 1) x) old new) (sym g) b)
 
 le_or : (a b : ℕ) → (a ≤ b) ⊎ (b ≤ a)
 le_or zero b = inl (omega arith)
@@ -211,9 +233,9 @@ le_or (suc a) (suc b) = elim (le_or a b) [ inl h ↦ inl (omega arith) | inr h �
 pub min_past : (a b k m : ℕ) → m ≡ min a b → m ≤ k → (a ≤ k) ⊎ (b ≤ k)
 min_past a b k m e l = elim (le_or a b) [ inl h ↦ inl (omega arith) | inr h ↦ inr (omega arith) ]
 
-pub charge-done : (s : Trail) (a : Atom) (t : ℤ) (ps : List Span) (ds : List ℕ) (need known : ℤ) (k : ℕ) (left : ℤ) (old new : List Atom) → (length ps ≤ k) ⊎ (length ds ≤ k) → Relies s a (IsCharged t ps ds need k left) old new → left ≤ℤ pos 0 → known ≡ need
-    → Relies s a (λ xs. known ≤ℤ demands_at xs t ps ds) old new
-charge-done s a t ps ds need known k left old new past h none same = Relies-so s a (IsCharged t ps ds need k left) (λ xs. known ≤ℤ demands_at xs t ps ds) old new h (λ xs w b. (let e = demands-past xs t ps ds k past in let f = b.demanded in omega (arith, ints)))
+pub charge-done : (s : Trail) (a : Atom) (t w : ℤ) (ps : List Span) (ds : List ℕ) (need known : ℤ) (k : ℕ) (left : ℤ) (old new : List Atom) → (length ps ≤ k) ⊎ (length ds ≤ k) → Relies s a (IsCharged t w ps ds need k left) old new → left ≤ℤ pos 0 → known ≡ need
+    → Relies s a (λ xs. known ≤ℤ energies xs t (unsigned_abs w) ps ds) old new
+charge-done s a t w ps ds need known k left old new past h none same = Relies-so s a (IsCharged t w ps ds need k left) (λ xs. known ≤ℤ energies xs t (unsigned_abs w) ps ds) old new h (λ xs x b. (let e = energies-past xs t (unsigned_abs w) ps ds k past in let f = b.used in omega (arith, ints)))
 
 -- the greatest capacity is a fact
 pub fact-capacity : (s : Trail) (i : ℕ) (most : ℤ) (u : Atom) (us : List Atom) → us ≡ u ∷ [] → u ≡ record { subject = i; op = Le; value = most } → i < length s.first → IsInside most → ((x : ℤ) → admits s.first s.entries i x ≡ true → x ≤ℤ most) → AreFacts s us

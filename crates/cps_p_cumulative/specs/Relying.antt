@@ -1,13 +1,16 @@
 -- What facts of a store give beside an atom that is assumed.
-use Rattle.std.specs.Prelude.{◌≡◌, ℕ, ◌<◌, ℤ, ◌+ℤ◌, ◌-ℤ◌, ◌≤ℤ◌, ◌<ℤ◌, true, List, length, drop}
+use Rattle.std.specs.Prelude.{◌≡◌, ℕ, ◌<◌, ℤ, pos, ◌+ℤ◌, ◌-ℤ◌, ◌≤ℤ◌, ◌<ℤ◌, unsigned_abs, true, Option, Some, None, List, length, drop}
+use Rattle.std.specs.List.{list_all}
 use Rattle.cps_literal.specs.declared.atom.Atom.{Atom}
 use Rattle.cps_literal.specs.declared.atom.Op.TheVariants.{Ge}
-use Rattle.cps_literal.specs.Truth.{atom_holds}
+use Rattle.cps_literal.specs.Truth.{value_at, atom_holds}
 use Rattle.cps_instance.specs.declared.task.Span.{Span}
 use Rattle.cps_instance.specs.Parts.{span_end}
 use Rattle.cps_trail.specs.Trail.{Trail, Domains, IsWithin, IsInside}
 use Rattle.cps_rule.specs.Rules.{AreFacts, AllTrueAt}
-use Rattle.cps_p_cumulative.specs.Running.{demand_of, demands_at}
+use Rattle.cps_p_cumulative.specs.declared.charge.Claim.{Claim}
+use Rattle.cps_p_cumulative.specs.declared.charge.Stay.{Stay}
+use Rattle.cps_p_cumulative.specs.Running.{energy_of, energies}
 
 -- A list of facts grew by what gives a thing where the assumed atom is true too.
 pub record Relies (s : Trail) (assumed : Atom) (P : List ℤ → Type 0) (old new : List Atom) : Type 0 where
@@ -26,10 +29,34 @@ pub record IsLater (first : Domains) (t : ℤ) (p : Span) (u : Atom) : Type 0 wh
   pub inside : IsInside u.value
   pub after : (xs : List ℤ) → atom_holds xs u ≡ true → t <ℤ span_end xs p.start p.end p.length
 
--- a span demands at a time what was taken from what is left, or more
-pub record IsTaken (t : ℤ) (p : Span) (d : ℕ) (left after : ℤ) (xs : List ℤ) : Type 0 where
-  pub demanded : (left -ℤ after) ≤ℤ demand_of xs t p d
+-- a span's length is so many times, or where it has none, it is so many from the one time up to after the other
+abbrev pub IsLong : Option ℤ → Stay → Type 0
+IsLong None stay = (stay.latest +ℤ stay.ticks) ≤ℤ (stay.after +ℤ pos 1)
+IsLong (Some far) stay = stay.ticks ≤ℤ far
 
--- what was taken of a need, and what the spans from a place on demand at a time, is no more than all demand
-pub record IsCharged (t : ℤ) (ps : List Span) (ds : List ℕ) (need : ℤ) (k : ℕ) (left : ℤ) (xs : List ℤ) : Type 0 where
-  pub demanded : ((need -ℤ left) +ℤ demands_at xs t (drop k ps) (drop k ds)) ≤ℤ demands_at xs t ps ds
+-- A span of a length, or of none that is known, runs at so many of the times from t on, w of them, where it starts by one time and ends after another.
+pub record IsStay (t w : ℤ) (far : Option ℤ) (stay : Stay) : Type 0 where
+  pub some : pos 0 ≤ℤ stay.ticks
+  pub within : stay.ticks ≤ℤ w
+  pub left : (t +ℤ stay.ticks) ≤ℤ (stay.after +ℤ pos 1)
+  pub right : (stay.latest +ℤ stay.ticks) ≤ℤ (t +ℤ w)
+  pub long : IsLong far stay
+
+-- and it is claimed to use something at each of them
+pub record IsClaim (t w : ℤ) (far : Option ℤ) (claim : Claim) : Type 0 where
+  pub stay : IsStay t w far claim.stay
+  pub some : pos 0 ≤ℤ claim.demand
+
+-- a span is present, starts by one time and ends after another
+pub record IsBetween (latest after : ℤ) (p : Span) (xs : List ℤ) : Type 0 where
+  pub present : list_all (atom_holds xs) p.presence ≡ true
+  pub started : value_at xs p.start ≤ℤ latest
+  pub later : after <ℤ span_end xs p.start p.end p.length
+
+-- a span uses of the times what was taken from what is left, or more
+pub record IsTaken (t w : ℤ) (p : Span) (d : ℕ) (left after : ℤ) (xs : List ℤ) : Type 0 where
+  pub used : (left -ℤ after) ≤ℤ energy_of xs t (unsigned_abs w) p d
+
+-- what was taken of a need, and what the spans from a place on use of the times, is no more than all use
+pub record IsCharged (t w : ℤ) (ps : List Span) (ds : List ℕ) (need : ℤ) (k : ℕ) (left : ℤ) (xs : List ℤ) : Type 0 where
+  pub used : ((need -ℤ left) +ℤ energies xs t (unsigned_abs w) (drop k ps) (drop k ds)) ≤ℤ energies xs t (unsigned_abs w) ps ds

@@ -1,5 +1,5 @@
 -- What spans demand at a time and a list of values.
-use Rattle.std.specs.Prelude.{ℕ, ◌<◌, ℤ, pos, ◌≤ℤ◌, Bool, ◌&&◌, int_le, int_lt, if◌then◌else◌, List, length, All}
+use Rattle.std.specs.Prelude.{ℕ, zero, suc, ◌<◌, ℤ, pos, ◌+ℤ◌, ◌≤ℤ◌, Bool, ◌&&◌, int_le, int_lt, if◌then◌else◌, List, length, All}
 use Rattle.std.specs.List.{list_all}
 use Rattle.cps_model.specs.Scheduling.{load_at}
 use Rattle.cps_literal.specs.Truth.{value_at, atom_holds}
@@ -22,6 +22,15 @@ demand_of xs t p d = if is_running xs t p then value_at xs d else pos 0
 -- what all demand at a time
 abbrev pub demands_at : List ℤ → ℤ → List Span → List ℕ → ℤ
 demands_at xs t ps ds = load_at t (span_uses xs ps ds)
+
+-- what a span uses of so many times from one on, and what all use
+abbrev pub energy_of : List ℤ → ℤ → ℕ → Span → ℕ → ℤ
+energy_of xs t zero p d = pos 0
+energy_of xs t (suc n) p d = demand_of xs t p d +ℤ energy_of xs (t +ℤ pos 1) n p d
+
+abbrev pub energies : List ℤ → ℤ → ℕ → List Span → List ℕ → ℤ
+energies xs t zero ps ds = pos 0
+energies xs t (suc n) ps ds = demands_at xs t ps ds +ℤ energies xs (t +ℤ pos 1) n ps ds
 
 -- no demand is negative
 abbrev pub AreSome : List ℤ → List ℕ → Type 0

@@ -1,17 +1,20 @@
-//! Why a time is overloaded.
+//! Why a window of times is overloaded.
 //!
-//! One search for facts serves conflicts and narrowings alike: it sums what spans demand at a time until that passes the greatest capacity, by facts
-//! that were true and one atom that is assumed. For a narrowing the assumed atom is the denial of what was narrowed, so that a span that
-//! would run at the time if it were not pushed counts like any other, and the atoms of its that the denial gives are no facts.
-ghost use Rattle.std.specs.Prelude.{◌≡◌, ◌<◌, ◌≤◌, ◌^◌, ◌+ℤ◌, ◌-ℤ◌, ◌≤ℤ◌, ℤ, pos, true, IsTrue, All, length, OnOk, IfOk, IfSome, Ok, Some};
+//! What spans demand, summed over the times of a window, is at most the capacity times its width. One search for facts serves conflicts and
+//! narrowings alike: it sums what spans surely use of the window until that passes the greatest capacity, by facts that were true and one atom that
+//! is assumed. For a narrowing the assumed atom is the denial of what was narrowed, so that a span that would run there if it were not pushed
+//! counts like any other, and the atoms of its that the denial gives are no facts. A span counts for no more times than are needed, so its
+//! bounds are as loose as may be. In the time table the window is one time; a span then counts where it surely runs.
+ghost use Rattle.std.specs.Prelude.{◌≡◌, ◌<◌, ◌*ℤ◌, ◌-ℤ◌, ◌≤ℤ◌, ℤ, pos, unsigned_abs, true, IsTrue, All, length, IfSome, Ok, Some};
 ghost use Rattle.cps_literal.specs.Truth.{atom_holds, value_at};
 ghost use Rattle.cps_trail.specs.Trail.{IsInside};
 ghost use Rattle.cps_instance.specs.Tasks.{HoldsBody};
 ghost use Rattle.cps_rule.specs.Rules.{AreFacts};
-ghost use Rattle.cps_p_cumulative.specs.Running.{IsSpanOf, IsResourceOf, body_of, is_running, demand_of, demands_at};
-ghost use Rattle.cps_p_cumulative.specs.Relying.{Relies, IsBound, IsLater, IsTaken};
+ghost use Rattle.cps_p_cumulative.specs.Running.{IsSpanOf, IsResourceOf, body_of, energies};
+ghost use Rattle.cps_p_cumulative.specs.Relying.{Relies, IsBound, IsLater, IsStay, IsClaim, IsBetween, IsTaken};
 
 use crate::resource::Resource;
+use crate::segments::time_of;
 use cps_instance::Span;
 use cps_literal::{Atom, Op, Truth};
 use cps_trail::Before;
@@ -20,11 +23,27 @@ use std::alloc::AllocError;
 /// The greatest magnitude of a value that a subject may have.
 const MOST: i64 = (1 << 62) - 1;
 
-/// A time, and an atom that is assumed.
+/// The times from one on, so many, and an atom that is assumed.
 #[derive(Clone, Copy)]
 pub(crate) struct Case {
     pub(crate) time: i64,
+    pub(crate) width: i64,
     pub(crate) assumed: Atom,
+}
+
+/// At how many of the times a span runs, as it starts by one time and ends after another.
+#[derive(Clone, Copy)]
+pub(crate) struct Stay {
+    ticks: i64,
+    latest: i64,
+    after: i64,
+}
+
+/// What a span uses of the times: so much at each time of a stay.
+#[derive(Clone, Copy)]
+pub(crate) struct Claim {
+    demand: i64,
+    stay: Stay,
 }
 
 /// Whether a number is one that a subject may have.
@@ -123,24 +142,25 @@ fn later(_past: &Before, time: i64, span: &Span) -> Option<Atom>
     }
 }
 
-/// Sees that a span is present and runs at the time.
+/// Sees that a span is present, starts by one time and ends after another.
 fn rely_run(
     past: &Before,
     case: Case,
     span: &Span,
+    stay: Stay,
     facts: &mut Vec<Atom>,
 ) -> Result<bool, AllocError>
     requires span { IsSpanOf past.now.first span.now }
     requires facts { AreFacts past.now facts.old.items }
-    ensures { result ≡ Ok true → Relies past.now case.assumed (λ xs. is_running xs case.time span.now ≡ true) facts.old.items facts.new.items }
+    ensures { result ≡ Ok true → Relies past.now case.assumed (IsBetween stay.latest stay.after span.now) facts.old.items facts.new.items }
 {
-    let Some(last) = later(past, case.time, span) else {
+    let Some(last) = later(past, stay.after, span) else {
         return Ok(false);
     };
     if !rely_all(past, case, span.presence.as_slice(), facts)? {
         return Ok(false);
     }
-    if !rely(past, case, at_most(span.start, case.time), facts)? {
+    if !rely(past, case, at_most(span.start, stay.latest), facts)? {
         return Ok(false);
     }
     rely(past, case, last, facts)
@@ -159,21 +179,10 @@ pub(crate) fn is_known(past: &Before, case: Case, atom: Atom) -> bool
     }
 }
 
-/// Whether a span seems to be present and to run at the time.
-fn seems_running(past: &Before, case: Case, span: &Span) -> bool
+/// Whether a span seems to be present.
+fn seems_present(past: &Before, case: Case, span: &Span) -> bool
     requires { IsSpanOf past.now.first span.now }
 {
-    if !is_known(past, case, at_most(span.start, case.time)) {
-        return false;
-    }
-    match later(past, case.time, span) {
-        Some(last) => {
-            if !is_known(past, case, last) {
-                return false;
-            }
-        }
-        None => return false,
-    }
     for atom in span.presence.as_slice() {
         if !is_known(past, case, *atom) {
             return false;
@@ -182,12 +191,12 @@ fn seems_running(past: &Before, case: Case, span: &Span) -> bool
     true
 }
 
-/// What a demand seems to be at least.
-fn least_demand(past: &Before, case: Case, demand: u32) -> i64
-    requires { demand < length past.now.first }
+/// What a subject seems to be at least.
+fn least(past: &Before, case: Case, subject: u32) -> i64
+    requires { subject < length past.now.first }
 {
-    let least = past.ends(demand).0;
-    if case.assumed.subject != demand {
+    let least = past.ends(subject).0;
+    if case.assumed.subject != subject {
         return least;
     }
     match case.assumed.op {
@@ -196,50 +205,161 @@ fn least_demand(past: &Before, case: Case, demand: u32) -> i64
     }
 }
 
-/// Lets one span take from what is left of the load that is to be shown, where it runs at the time. None where it may demand less than 0.
+/// What a subject seems to be at most.
+fn greatest(past: &Before, case: Case, subject: u32) -> i64
+    requires { subject < length past.now.first }
+{
+    let greatest = past.ends(subject).1;
+    if case.assumed.subject != subject {
+        return greatest;
+    }
+    match case.assumed.op {
+        Op::Le | Op::Eq => greatest.min(case.assumed.value),
+        _ => greatest,
+    }
+}
+
+/// The least number that times a size reaches what is left; 0 where none does.
+fn enough(left: i128, size: i64) -> i64 {
+    let size = i128::from(size);
+    match left.wrapping_add(size).wrapping_sub(1).checked_div(size) {
+        Some(whole) => time_of(whole),
+        None => 0,
+    }
+}
+
+/// At how many times of the window a span seems to run, no more than are needed.
+fn stay_of(past: &Before, case: Case, span: &Span, needed: i64) -> Stay
+    requires { IsSpanOf past.now.first span.now }
+{
+    let start = i128::from(case.time);
+    let stop = start.wrapping_add(i128::from(case.width));
+    let latest = i128::from(greatest(past, case, span.start));
+    let needed = i128::from(needed);
+    let (ticks, latest, end) = match span.length {
+        Some(length) => {
+            let length = i128::from(length);
+            let end = i128::from(least(past, case, span.start)).wrapping_add(length);
+            let inside = end.wrapping_sub(start).min(stop.wrapping_sub(latest));
+            let ticks = inside.min(length).min(i128::from(case.width)).min(needed);
+            (ticks, stop.wrapping_sub(ticks), start.wrapping_add(ticks))
+        }
+        None => {
+            let from = start.max(latest);
+            let to = stop.min(i128::from(least(past, case, span.end)));
+            let ticks = to.wrapping_sub(from).min(needed);
+            (ticks, from, from.wrapping_add(ticks))
+        }
+    };
+    Stay {
+        ticks: time_of(ticks),
+        latest: time_of(latest),
+        after: time_of(end.wrapping_sub(1)),
+    }
+}
+
+/// Whether a span runs for so many times of the window where it starts by one time and ends after another.
+fn is_stay(case: Case, span: &Span, stay: Stay) -> bool
+    ensures { IsTrue result → IsStay case.time case.width span.now.length stay }
+{
+    let ticks = i128::from(stay.ticks);
+    let start = i128::from(case.time);
+    let end = i128::from(stay.after) + 1;
+    if stay.ticks < 0 || case.width < stay.ticks || end < start + ticks {
+        return false;
+    }
+    let latest = i128::from(stay.latest);
+    if start + i128::from(case.width) < latest + ticks {
+        return false;
+    }
+    match span.length {
+        Some(length) => stay.ticks <= length,
+        None => latest + ticks <= end,
+    }
+}
+
+/// What a span seems to use of the window, as far as it is needed.
+fn claim_of(past: &Before, case: Case, span: &Span, demand: u32, left: i128) -> Option<Claim>
+    requires span { IsSpanOf past.now.first span.now }
+    requires demand { demand < length past.now.first }
+    ensures { IfSome result (IsClaim case.time case.width span.now.length) }
+{
+    let size = least(past, case, demand);
+    if left <= 0 || size <= 0 || !seems_present(past, case, span) {
+        return None;
+    }
+    let stay = stay_of(past, case, span, enough(left, size));
+    if stay.ticks <= 0 || !is_stay(case, span, stay) {
+        return None;
+    }
+    let demand = size.min(enough(left, stay.ticks));
+    if demand < 0 {
+        return None;
+    }
+    Some(Claim { demand, stay })
+}
+
+/// What is used by so much at each of so many times.
+fn energy(demand: i64, ticks: i64) -> i128
+    ensures { result ≡ ticks *ℤ demand }
+{
+    i128::from(ticks) * i128::from(demand)
+}
+
+/// What is left where so much is taken, or all.
+fn rest_of(left: i128, taken: i128) -> i128
+    requires left { pos 0 ≤ℤ left }
+    requires taken { pos 0 ≤ℤ taken }
+    ensures low { pos 0 ≤ℤ result }
+    ensures high { result ≤ℤ left }
+    ensures taken { (left -ℤ result) ≤ℤ taken }
+{
+    if left <= taken { 0 } else { left - taken }
+}
+
+/// Lets one span take from what is left of the energy that is to be shown. None where it may demand less than 0.
 fn charge_one(
     past: &Before,
     case: Case,
     span: &Span,
     demand: u32,
-    left: i64,
+    left: i128,
     facts: &mut Vec<Atom>,
-) -> Result<Option<i64>, AllocError>
+) -> Result<Option<i128>, AllocError>
     requires span { IsSpanOf past.now.first span.now }
     requires demand { demand < length past.now.first }
     requires left { pos 0 ≤ℤ left }
     requires facts { AreFacts past.now facts.old.items }
     ensures falls { (after : ℤ) → result ≡ Ok (Some after) → (pos 0 ≤ℤ after) × (after ≤ℤ left) }
-    ensures charged { (after : ℤ) → result ≡ Ok (Some after) → Relies past.now case.assumed (IsTaken case.time span.now demand left after) facts.old.items facts.new.items }
+    ensures charged { (after : ℤ) → result ≡ Ok (Some after) → Relies past.now case.assumed (IsTaken case.time case.width span.now demand left after) facts.old.items facts.new.items }
 {
-    let counted = least_demand(past, case, demand).min(left);
-    if counted <= 0 || !seems_running(past, case, span) {
+    let Some(claim) = claim_of(past, case, span, demand, left) else {
         if rely(past, case, at_least(demand, 0), facts)? {
             return Ok(Some(left));
         }
         return Ok(None);
-    }
-    if !rely_run(past, case, span, facts)? {
+    };
+    if !rely_run(past, case, span, claim.stay, facts)? {
         return Ok(None);
     }
-    if !rely(past, case, at_least(demand, counted), facts)? {
+    if !rely(past, case, at_least(demand, claim.demand), facts)? {
         return Ok(None);
     }
-    Ok(Some(left - counted))
+    Ok(Some(rest_of(left, energy(claim.demand, claim.stay.ticks))))
 }
 
-/// Sees that the spans demand so much at the time.
+/// Sees that the spans use so much of the window.
 fn charge_all(
     past: &Before,
     case: Case,
     resource: &Resource,
-    need: i64,
+    need: i128,
     facts: &mut Vec<Atom>,
 ) -> Result<bool, AllocError>
     requires resource { IsResourceOf past.now.first resource.now }
     requires need { pos 0 ≤ℤ need }
     requires facts { AreFacts past.now facts.old.items }
-    ensures { result ≡ Ok true → Relies past.now case.assumed (λ xs. need ≤ℤ demands_at xs case.time resource.now.spans resource.now.demands) facts.old.items facts.new.items }
+    ensures { result ≡ Ok true → Relies past.now case.assumed (λ xs. need ≤ℤ energies xs case.time (unsigned_abs case.width) resource.now.spans resource.now.demands) facts.old.items facts.new.items }
 {
     let spans = resource.spans.as_slice();
     let demands = resource.demands.as_slice();
@@ -257,21 +377,7 @@ fn charge_all(
     Ok(true)
 }
 
-/// What the capacity seems to be at most.
-fn greatest_capacity(past: &Before, case: Case, capacity: u32) -> i64
-    requires { capacity < length past.now.first }
-{
-    let greatest = past.ends(capacity).1;
-    if case.assumed.subject != capacity {
-        return greatest;
-    }
-    match case.assumed.op {
-        Op::Le | Op::Eq => greatest.min(case.assumed.value),
-        _ => greatest,
-    }
-}
-
-/// Adds facts beside which, with the assumed atom, the time is overloaded. Answers false where it finds none.
+/// Adds facts beside which, with the assumed atom, the window is overloaded. Answers false where it finds none.
 pub(crate) fn charge(
     past: &Before,
     case: Case,
@@ -282,15 +388,15 @@ pub(crate) fn charge(
     requires facts { AreFacts past.now facts.old.items }
     ensures { result ≡ Ok true → Relies past.now case.assumed (λ xs. HoldsBody (body_of resource.now) xs → ⊥) facts.old.items facts.new.items }
 {
-    let most = greatest_capacity(past, case, resource.capacity);
+    let most = greatest(past, case, resource.capacity);
     if !rely(past, case, at_most(resource.capacity, most), facts)? {
         return Ok(false);
     }
     if most < 0 {
         return Ok(true);
     }
-    if most == i64::MAX {
+    if case.width < 0 {
         return Ok(false);
     }
-    charge_all(past, case, resource, most + 1, facts)
+    charge_all(past, case, resource, energy(most, case.width) + 1, facts)
 }

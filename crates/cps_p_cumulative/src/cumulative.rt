@@ -1,5 +1,5 @@
 //! The rule of a resource.
-ghost use Rattle.std.specs.Prelude.{◌≡◌, All, IfOk, OnOk, Ok};
+ghost use Rattle.std.specs.Prelude.{◌≡◌, true, All, IfOk, IfSome, OnOk, Ok};
 ghost use Rattle.cps_instance.specs.Fitting.{IsNeverNegative};
 ghost use Rattle.cps_propagate.specs.Strength.{HasCapacity, IsExcludedBody};
 ghost use Rattle.cps_rule.specs.Rules.{IsFittingRule, IsGiven, IsImpossible, IsSeen, IsExplained, IsRefuted};
@@ -11,6 +11,7 @@ use crate::measure::measure;
 use crate::part::Part;
 use crate::propose::{Scratch, propose};
 use crate::resource::{Resource, push_spans_subjects, resource_of};
+use crate::windows::Energies;
 use cps_enforce::Enforced;
 use cps_instance::{Body, Task};
 use cps_literal::Atom;
@@ -23,6 +24,8 @@ use std::alloc::{AllocError, Global};
 struct Room {
     parts: Vec<Part>,
     orders: Orders,
+    energies: Energies,
+    facts: Vec<Atom>,
     scratch: Scratch,
 }
 
@@ -33,7 +36,46 @@ pub struct Cumulative {
     room: Room,
 }
 
-/// Looks at a resource, and says that it cannot hold where a time is overloaded.
+/// Makes the facts those by which a window is overloaded, the greatest capacity first. Answers false where it finds none.
+fn refute_window(
+    past: &Before,
+    resource: &Resource,
+    hint: Hint,
+    facts: &mut Vec<Atom>,
+) -> Result<bool, AllocError>
+    requires { IsResourceOf past.now.first resource.now }
+    ensures { result ≡ Ok true → IsRefuted (body_of resource.now) past.now facts.new.items }
+{
+    facts.clear();
+    let most = past.ends(resource.capacity).1;
+    if !is_inside(most) {
+        return Ok(false);
+    }
+    let case = Case {
+        time: hint.a,
+        width: hint.b,
+        assumed: at_most(resource.capacity, most),
+    };
+    facts.push(case.assumed)?;
+    charge(past, case, resource, facts)
+}
+
+/// A window that is overloaded although no time in it is.
+fn crowded(past: &Before, resource: &Resource, room: &mut Room) -> Result<Option<Hint>, AllocError>
+    requires { IsResourceOf past.now.first resource.now }
+    ensures { IfOk result (λ found. IfSome found (λ hint. IsImpossible (body_of resource.now) past.now)) }
+{
+    let most = past.ends(resource.capacity).1;
+    let Some(hint) = room.energies.used_up(past, resource, most)? else {
+        return Ok(None);
+    };
+    if refute_window(past, resource, hint, &mut room.facts)? {
+        return Ok(Some(hint));
+    }
+    Ok(None)
+}
+
+/// Looks at a resource, and says that it cannot hold where a time is overloaded, or a window of times.
 fn look_at(
     past: &Before,
     resource: &Resource,
@@ -49,7 +91,7 @@ fn look_at(
     found.clear();
     let most = past.ends(resource.capacity).1;
     if most < 0 {
-        return Ok(Look::Impossible(Hint { a: 0, b: 0 }));
+        return Ok(Look::Impossible(Hint { a: 0, b: 1 }));
     }
     measure(
         past,
@@ -58,14 +100,15 @@ fn look_at(
         &mut room.parts,
     )?;
     let found_time = overload(room.parts.as_slice(), most as u64, &mut room.orders)?;
-    match found_time {
-        Some(time) => Ok(Look::Impossible(Hint { a: time, b: 0 })),
-        None => {
-            room.scratch.segments.fill(room.parts.as_slice())?;
-            propose(past, resource, &mut room.scratch, found)?;
-            Ok(Look::Possible)
-        }
+    if let Some(time) = found_time {
+        return Ok(Look::Impossible(Hint { a: time, b: 1 }));
     }
+    if let Some(hint) = crowded(past, resource, room)? {
+        return Ok(Look::Impossible(hint));
+    }
+    room.scratch.segments.fill(room.parts.as_slice())?;
+    propose(past, resource, &mut room.scratch, found)?;
+    Ok(Look::Possible)
 }
 
 impl Cumulative {
@@ -89,6 +132,8 @@ impl Cumulative {
             room: Room {
                 parts: Vec::new(alloc),
                 orders: Orders::new(alloc),
+                energies: Energies::new(alloc),
+                facts: Vec::new(alloc),
                 scratch: Scratch::new(alloc),
             },
         };
@@ -116,23 +161,14 @@ impl Rule for Cumulative {
         }
         let case = Case {
             time: hint.a,
+            width: hint.b,
             assumed: target.negate(),
         };
         charge(past, case, &self.resource, facts)
     }
 
     fn refute(&self, past: &Before, hint: Hint, facts: &mut Vec<Atom>) -> Result<bool, AllocError> {
-        facts.clear();
-        let most = past.ends(self.resource.capacity).1;
-        if !is_inside(most) {
-            return Ok(false);
-        }
-        let case = Case {
-            time: hint.a,
-            assumed: at_most(self.resource.capacity, most),
-        };
-        facts.push(case.assumed)?;
-        charge(past, case, &self.resource, facts)
+        refute_window(past, &self.resource, hint, facts)
     }
 
     fn push_subjects(&self, subjects: &mut Vec<u32>) -> Result<(), AllocError> {

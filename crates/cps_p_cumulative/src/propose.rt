@@ -39,7 +39,7 @@ fn narrowing(target: Atom, time: i64) -> Narrowing
 {
     Narrowing {
         target,
-        hint: Hint { a: time, b: 0 },
+        hint: Hint { a: time, b: 1 },
     }
 }
 
@@ -62,6 +62,7 @@ fn offer(
     }
     let case = Case {
         time: narrowing.hint.a,
+        width: narrowing.hint.b,
         assumed: narrowing.target.negate(),
     };
     if charge(past, case, resource, facts)? {

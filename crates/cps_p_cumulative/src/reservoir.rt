@@ -42,6 +42,7 @@ fn offer(
     }
     let case = Case {
         time: narrowing.hint.a,
+        width: 1,
         assumed: narrowing.target.negate(),
     };
     if charge_level(past, case, point_of(narrowing.hint), tank, facts)? {
@@ -200,6 +201,7 @@ impl Rule for Reservoir {
         }
         let case = Case {
             time: hint.a,
+            width: 1,
             assumed: target.negate(),
         };
         charge_level(past, case, point_of(hint), &self.tank, facts)
@@ -218,6 +220,7 @@ impl Rule for Reservoir {
         }
         let case = Case {
             time: hint.a,
+            width: 1,
             assumed: at_most(subject, late),
         };
         facts.push(case.assumed)?;

@@ -184,3 +184,11 @@ pub fn ends_by(outcome: Option<Outcome>, reason: &[Atom]) -> bool {
         None => false,
     }
 }
+
+/// Whether a run met this conflict.
+pub fn refuses(outcome: Option<Outcome>, conflict: &[Atom]) -> bool {
+    match outcome {
+        Some(found) => !found.is_settled && found.clause.as_slice() == conflict,
+        None => false,
+    }
+}

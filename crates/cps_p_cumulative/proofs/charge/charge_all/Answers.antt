@@ -27,7 +27,7 @@ loop-k-preserved c =
     record {
       low = (let a = falls.0 in search (rules, ints));
       high = (let a = falls.1 in let b = c.loop-k.invariant.high in search (rules, ints));
-      charged = charge-step c.args.past.now c.args.case.assumed c.args.case.time c.args.resource.now.spans c.as_slice-spans.result.now c.args.resource.now.demands c.as_slice-demands.result.now _ _ c.loop-k.k c.index-spans-k.result _ _ _ after _ c.args.facts.now.items c.loop-k.facts.items c.charge_one.new.facts.items
+      charged = charge-step c.args.past.now c.args.case.assumed c.args.case.time c.args.case.width c.args.resource.now.spans c.as_slice-spans.result.now c.args.resource.now.demands c.as_slice-demands.result.now _ _ c.loop-k.k c.index-spans-k.result _ _ _ after _ c.args.facts.now.items c.loop-k.facts.items c.charge_one.new.facts.items
           l m c.as_slice-spans.ensures c.as_slice-demands.ensures c.index-spans-k.is refl c.loop-k.invariant.charged (c.charge_one.ensures.charged after ok) (search (rules, ints)) (search (rules, ints)) (search (rules, ints));
     }
 
@@ -37,4 +37,4 @@ returns c = λ ok.
     let a = min_past (length c.as_slice-spans.result.now) (length c.as_slice-demands.result.now) c.loop-k.k c.min-count.result c.min-count.ensures past in
     let b = rw c.as_slice-spans.ensures at a in
     let d = rw c.as_slice-demands.ensures at b in
-    charge-done c.args.past.now c.args.case.assumed c.args.case.time c.args.resource.now.spans c.args.resource.now.demands _ c.args.need c.loop-k.k _ c.args.facts.now.items c.loop-k.facts.items d c.loop-k.invariant.charged (search (rules, ints)) (search (rules, ints))
+    charge-done c.args.past.now c.args.case.assumed c.args.case.time c.args.case.width c.args.resource.now.spans c.args.resource.now.demands _ c.args.need c.loop-k.k _ c.args.facts.now.items c.loop-k.facts.items d c.loop-k.invariant.charged (search (rules, ints)) (search (rules, ints))

@@ -7,5 +7,5 @@ abbrev pub invariant-loop-k : goal.invariant-loop-k
 invariant-loop-k l = record {
   low : pos 0 ≤ℤ l.left;
   high : l.left ≤ℤ l.need;
-  charged : Relies l.past l.case.assumed (IsCharged l.case.time l.resource.spans l.resource.demands l.need l.k l.left) l.fn.facts.items l.facts.items;
+  charged : Relies l.past l.case.assumed (IsCharged l.case.time l.case.width l.resource.spans l.resource.demands l.need l.k l.left) l.fn.facts.items l.facts.items;
 }

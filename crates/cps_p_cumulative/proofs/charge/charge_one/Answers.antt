@@ -1,30 +1,51 @@
-use Rattle.std.proofs.Common.{◌≡◌, true, ℤ, ◌-ℤ◌, ◌∙◌, ap, Bool, sym, rules, FitsSigned, w64}
+use Rattle.std.proofs.Common.{◌≡◌, true, pos, ℤ, ◌-ℤ◌, ◌*ℤ◌, ◌≤ℤ◌, sym, subst, Bool, ap, ◌∙◌, rules, FitsSigned, w64}
 use Rattle.std.specs.Prelude.{Ok, Some, Option, Result}
 use Rattle.std.specs.declared.alloc.AllocError.{AllocError}
 use Rattle.std.proofs.lemmas.Int.{ints, to_z-of_z}
+use mir.Syntax.{w128}
+use Rattle.cps_p_cumulative.proofs.Energy.{times-some}
+use Rattle.cps_p_cumulative.proofs.Levelled.{ok_true}
 use Rattle.cps_p_cumulative.proofs.Relied.{charge-skip, charge-run}
 use Rattle.cps_p_cumulative.proofs.charge.charge_one.Goals as goal
 
-ok_true : (r : Result Bool AllocError) (b : Bool) → r ≡ Ok b → b ≡ true → r ≡ Ok true
-ok_true r b e f = e ∙ ap (λ v. Ok v) f
+some_of : (v after : ℤ) → ◌≡◌ {A = Result (Option ℤ) AllocError} (Ok (Some v)) (Ok (Some after)) → v ≡ after
+some_of v after ok = cc
 
-some_of : (left counted v after : ℤ) → ◌≡◌ {A = Result (Option ℤ) AllocError} (Ok (Some v)) (Ok (Some after)) → v ≡ left -ℤ counted → after ≡ left -ℤ counted
-some_of left counted v after ok e = let same : v ≡ after = cc in sym same ∙ e
+-- the claim is of something, at some times
+pub rest_of-requires-clause-taken : goal.rest_of-requires-clause-taken
+rest_of-requires-clause-taken c =
+    let claim = c.in-Some.claim in
+    let of = c.in-Some.ensures in
+    let f : FitsSigned w64 claim.stay.ticks = search rules in
+    let g : FitsSigned w64 claim.demand = search rules in
+    let h : FitsSigned w128 c.energy.result = search rules in
+    let e = simp to_z-of_z at c.energy.ensures in
+    let some = times-some claim.stay.ticks claim.demand of.stay.some of.some in
+    simp to_z-of_z (subst (λ (z : ℤ). pos 0 ≤ℤ z) (sym e) some)
 
 pub returns-then-branch-clause-charged : goal.returns-then-branch-clause-charged
 returns-then-branch-clause-charged c = λ after ok.
-    let f : FitsSigned w64 c.args.left = search rules in
-    let e = rw (to_z-of_z w64 c.args.left f) at ok in
-    let same : c.args.left ≡ after = cc in
+    let f : FitsSigned w128 c.args.left = search rules in
+    let e = rw (to_z-of_z w128 c.args.left f) at ok in
+    let same : c.args.left ≡ after = some_of c.args.left after e in
     let one : c.rely.result ≡ Ok true = cc in
-    charge-skip c.args.past.now c.args.case.assumed c.args.case.time c.args.span.now c.args.demand c.args.left after c.at_least.result c.args.facts.now.items c.rely.new.facts.items same c.at_least.ensures (c.rely.ensures one)
+    charge-skip c.args.past.now c.args.case.assumed c.args.case.time c.args.case.width c.args.span.now c.args.demand c.args.left after c.at_least.result c.args.facts.now.items c.rely.new.facts.items same c.at_least.ensures (c.rely.ensures one)
 
 pub returns-clause-charged : goal.returns-clause-charged
 returns-clause-charged c = λ after ok.
-    let f : FitsSigned w64 c.args.left = search rules in
-    let g : FitsSigned w64 c.min-counted.result = search rules in
+    let claim = c.in-Some.claim in
+    let f : FitsSigned w64 claim.stay.ticks = search rules in
+    let g : FitsSigned w64 claim.demand = search rules in
+    let h : FitsSigned w128 c.energy.result = search rules in
+    let k : FitsSigned w128 c.args.left = search rules in
+    let e = simp to_z-of_z at c.energy.ensures in
     let one : c.rely_run.result ≡ Ok true = ok_true c.rely_run.result c.in_ok-rely_run.field-0 c.in_ok-rely_run.was c.if-not-branch.false in
     let two : c.rely-2.result ≡ Ok true = ok_true c.rely-2.result c.in_ok-rely-2.field-0 c.in_ok-rely-2.was c.if-not-branch-2.false in
-    let is = rw (to_z-of_z w64 c.min-counted.result g) at c.at_least-2.ensures in
-    charge-run c.args.past.now c.args.case.assumed c.args.case.time c.args.span.now c.args.demand c.args.left after c.min-counted.result c.at_least-2.result c.args.facts.now.items c.rely_run.new.facts.items c.rely-2.new.facts.items
-    (some_of c.args.left c.min-counted.result _ after ok (search (rules, ints))) is (c.rely_run.ensures one) (c.rely-2.ensures two)
+    let is = rw (to_z-of_z w64 claim.demand g) at c.at_least-2.ensures in
+    let taken = simp to_z-of_z at c.rest_of.ensures.taken in
+    let l : FitsSigned w128 c.rest_of.result = search rules in
+    let ok' = rw (to_z-of_z w128 c.rest_of.result l) at ok in
+    let got : c.rest_of.result ≡ after = some_of c.rest_of.result after ok' in
+    let taken' : (c.args.left -ℤ after) ≤ℤ (claim.stay.ticks *ℤ claim.demand) = subst (λ (z : ℤ). (c.args.left -ℤ z) ≤ℤ (claim.stay.ticks *ℤ claim.demand)) got (subst (λ (z : ℤ). (c.args.left -ℤ c.rest_of.result) ≤ℤ z) e taken) in
+    charge-run c.args.past.now c.args.case.assumed c.args.case.time c.args.case.width c.args.span.now c.args.demand c.args.left after claim c.at_least-2.result c.args.facts.now.items c.rely_run.new.facts.items c.rely-2.new.facts.items
+    c.in-Some.ensures taken' is (c.rely_run.ensures one) (c.rely-2.ensures two)

@@ -17,8 +17,9 @@ pub returns : goal.returns
 returns c = λ ok.
     let one : c.rely_all.result ≡ Ok true = cc in
     let two : c.rely.result ≡ Ok true = cc in
-    let f : FitsSigned w64 c.args.case.time = search rules in
-    let starts = rw (to_z-of_z w64 c.args.case.time f) at c.at_most.ensures in
-    let later = rw (to_z-of_z w64 c.args.case.time f) at c.in-Some.ensures in
-    run-relied c.args.past.now c.args.case.assumed c.args.case.time c.args.span.now c.as_slice.result.now c.at_most.result c.in-Some.last c.args.facts.now.items c.rely_all.new.facts.items c.rely.new.facts.items c.rely-2.new.facts.items
+    let f : FitsSigned w64 c.args.stay.latest = search rules in
+    let g : FitsSigned w64 c.args.stay.after = search rules in
+    let starts = rw (to_z-of_z w64 c.args.stay.latest f) at c.at_most.ensures in
+    let later = rw (to_z-of_z w64 c.args.stay.after g) at c.in-Some.ensures in
+    run-relied c.args.past.now c.args.case.assumed c.args.stay.latest c.args.stay.after c.args.span.now c.as_slice.result.now c.at_most.result c.in-Some.last c.args.facts.now.items c.rely_all.new.facts.items c.rely.new.facts.items c.rely-2.new.facts.items
     c.as_slice.ensures starts later (c.rely_all.ensures one) (c.rely.ensures two) (c.rely-2.ensures ok)

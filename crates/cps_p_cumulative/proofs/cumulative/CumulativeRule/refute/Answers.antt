@@ -1,31 +1,5 @@
-use Rattle.std.proofs.Common.{◌≡◌, ◌∙◌, ◌++◌, ◌∷◌, [], ap, subst, List, rules, FitsSigned, w64}
-use Rattle.std.proofs.lemmas.Int.{to_z-of_z}
-use Rattle.cps_literal.specs.declared.atom.Atom.{Atom}
-use Rattle.cps_instance.specs.Tasks.{HoldsBody}
-use Rattle.cps_p_cumulative.specs.Running.{body_of}
-use Rattle.cps_p_cumulative.specs.Relying.{Relies}
 use Rattle.cps_p_cumulative.proofs.Running.{resource-inside}
-use Rattle.cps_p_cumulative.proofs.Relied.{refuted, fact-capacity}
 use Rattle.cps_p_cumulative.proofs.cumulative.CumulativeRule.refute.Goals as goal
 
-pub charge-requires-clause-resource : goal.charge-requires-clause-resource
-charge-requires-clause-resource c = resource-inside c.args.past.now.first c.args.self.now.resource c.requires.fits
-
-one : (old pushed : List Atom) (u : Atom) → old ≡ [] → pushed ≡ old ++ u ∷ [] → pushed ≡ u ∷ []
-one old pushed u e f = f ∙ ap (λ (us : List Atom). us ++ u ∷ []) e
-
-pub charge-requires-clause-facts : goal.charge-requires-clause-facts
-charge-requires-clause-facts c =
-    let most = c.ends-most.result.1 in
-    let f : FitsSigned w64 most = search rules in
-    let is = rw (to_z-of_z w64 most f) at c.at_most.ensures in
-    let inside = rw (to_z-of_z w64 most f) at (c.is_inside.ensures c.if-not-is_inside.false) in
-    let r = resource-inside c.args.past.now.first c.args.self.now.resource c.requires.fits in
-    fact-capacity c.args.past.now c.args.self.now.resource.capacity most c.at_most.result c.push.new.self.items (one c.clear.new.self.items c.push.new.self.items c.at_most.result c.clear.ensures.items c.in_ok-push.ensures.items) is r.capacity inside c.ends-most.ensures.greatest
-
-pub returns : goal.returns
-returns c = λ ok.
-    let s = c.args.past.now in
-    let r = c.args.self.now.resource in
-    refuted s (body_of r) c.at_most.result c.charge.new.facts.items
-    (subst (λ (us : List Atom). Relies s c.at_most.result (λ xs. HoldsBody (body_of r) xs → ⊥) us c.charge.new.facts.items) (one c.clear.new.self.items c.push.new.self.items c.at_most.result c.clear.ensures.items c.in_ok-push.ensures.items) (c.charge.ensures ok))
+pub refute_window-requires : goal.refute_window-requires
+refute_window-requires c = resource-inside c.args.past.now.first c.args.self.now.resource c.requires.fits
