@@ -32,7 +32,9 @@ fn never_negative(store: &Store, subject: u32) -> Result<u32, AllocError>
     if store.len() <= subject as usize {
         return Err(AllocError);
     }
-    if store.domain(subject).min() < 0 {
+    let domain = store.domain(subject);
+    let low = domain.min();
+    if low < 0 {
         return Err(AllocError);
     }
     Ok(subject)
