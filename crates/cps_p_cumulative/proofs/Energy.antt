@@ -1,7 +1,7 @@
 -- What spans demand in a window of times, summed over them.
-use Rattle.std.specs.Prelude.{int_le, int_lt, Option, Some, None}
+use Rattle.std.specs.Prelude.{Option, Some, None}
 use Rattle.std.specs.List.{list_all}
-use Rattle.std.proofs.Common.{ℕ, zero, suc, inl, inr, drop, length, ◌+◌, ◌*◌, ◌<◌, ◌≤◌, ℤ, pos, negsuc, ◌^◌, FitsSigned, w64, ◌+ℤ◌, ◌-ℤ◌, ◌*ℤ◌, ◌≤ℤ◌, ◌<ℤ◌, ◌≡◌, ◌⊎◌, Bool, true, false, ◌&&◌, List, [], ◌∷◌, unsigned_abs, refl, sym, ◌∙◌, ap, subst, arith}
+use Rattle.std.proofs.Common.{ℕ, zero, suc, inl, inr, drop, length, ◌≤◌, ℤ, pos, negsuc, ◌^◌, FitsSigned, w64, ◌+ℤ◌, ◌*ℤ◌, ◌≤ℤ◌, ◌<ℤ◌, ◌≡◌, ◌⊎◌, true, List, ◌∷◌, unsigned_abs, refl, sym, ◌∙◌, ap, subst, arith}
 use Rattle.std.proofs.lemmas.Int.{ints, fits_signed_mul, fits_signed_from_abs}
 use mir.Syntax.{w128}
 use Rattle.std.proofs.Math.IntN.{zero-*ℤ, *ℤ-zero}
@@ -11,7 +11,7 @@ use Rattle.cps_literal.specs.Truth.{value_at, atom_holds}
 use Rattle.cps_instance.specs.declared.task.Span.{Span}
 use Rattle.cps_instance.specs.Parts.{span_end}
 use Rattle.cps_p_cumulative.specs.declared.charge.Stay.{Stay}
-use Rattle.cps_p_cumulative.specs.Running.{is_running, demand_of, demands_at, energy_of, energies}
+use Rattle.cps_p_cumulative.specs.Running.{demand_of, demands_at, energy_of, energies}
 use Rattle.cps_p_cumulative.specs.Relying.{IsLong, IsStay, IsBetween}
 use Rattle.cps_p_cumulative.proofs.Moves.{le_or_lt}
 use Rattle.cps_p_cumulative.proofs.Running.{demands-cons, running, demand-runs, demand-some}
@@ -40,16 +40,16 @@ energy-fits a b f g = fits_signed_mul w128 a b (2 ^ 63) (2 ^ 63) (number_size a 
 
 pub energy-next-fits : (a b : ℤ) → FitsSigned w64 a → FitsSigned w64 b → FitsSigned w128 ((a *ℤ b) +ℤ pos 1)
 energy-next-fits a b f g = fits_signed_from_abs w128 ((a *ℤ b) +ℤ pos 1) (
-  let p = size_times a b (2 ^ 63) (2 ^ 63) (number_size a f) (number_size b g) in
-  let q = unsigned_abs-add (a *ℤ b) (pos 1) in
-  omega arith)
+    let p = size_times a b (2 ^ 63) (2 ^ 63) (number_size a f) (number_size b g) in
+    let q = unsigned_abs-add (a *ℤ b) (pos 1) in
+    omega arith)
 
 pub sum-fits : (a b : ℤ) → FitsSigned w64 a → FitsSigned w64 b → FitsSigned w128 (a +ℤ b)
 sum-fits a b f g = fits_signed_from_abs w128 (a +ℤ b) (
-  let p = number_size a f in
-  let q = number_size b g in
-  let r = unsigned_abs-add a b in
-  omega arith)
+    let p = number_size a f in
+    let q = number_size b g in
+    let r = unsigned_abs-add a b in
+    omega arith)
 
 -- one span more
 pub energies-cons : (xs : List ℤ) (t : ℤ) (n : ℕ) (p : Span) (d : ℕ) (ps : List Span) (ds : List ℕ) → energies xs t n (p ∷ ps) (d ∷ ds) ≡ energy_of xs t n p d +ℤ energies xs t n ps ds

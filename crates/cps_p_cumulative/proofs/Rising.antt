@@ -11,7 +11,7 @@ use Rattle.cps_p_cumulative.specs.declared.tank.Tank.{Tank}
 use Rattle.cps_p_cumulative.specs.declared.tank.Move.{Move}
 use Rattle.cps_p_cumulative.specs.declared.tank.Side.{Side}
 use Rattle.cps_p_cumulative.specs.declared.tank.Side.TheVariants.{Over, Under}
-use Rattle.cps_p_cumulative.specs.Levels.{toward, free_moves, tied_moves, all_moves, moves_of, limit, IsShareToward, MayAddUp, StaysFrom, AllowsZero, HasRoomAt, HasRoomAfter}
+use Rattle.cps_p_cumulative.specs.Levels.{toward, free_moves, tied_moves, all_moves, moves_of, limit, MayAddUp, StaysFrom, AllowsZero, HasRoomAt, HasRoomAfter}
 use Rattle.cps_p_cumulative.proofs.Moves.{toward-none, le_or_lt}
 
 pub zero_limit : (k : Tank) (side : Side) → AllowsZero k → pos 0 ≤ℤ limit k side

@@ -1,10 +1,11 @@
 //! Why a window of times is overloaded.
 //!
-//! What spans demand, summed over the times of a window, is at most the capacity times its width. One search for facts serves conflicts and
-//! narrowings alike: it sums what spans surely use of the window until that passes the greatest capacity, by facts that were true and one atom that
-//! is assumed. For a narrowing the assumed atom is the denial of what was narrowed, so that a span that would run there if it were not pushed
-//! counts like any other, and the atoms of its that the denial gives are no facts. A span counts for no more times than are needed, so its
-//! bounds are as loose as may be. In the time table the window is one time; a span then counts where it surely runs.
+//! What spans demand, summed over the times of a window, is at most the capacity times its width. One search for facts
+//! serves conflicts and narrowings alike: it sums what spans surely use of the window until that passes the greatest
+//! capacity, by facts that were true and one atom that is assumed. For a narrowing the assumed atom is the denial of
+//! what was narrowed, so that a span that would run there if it were not pushed counts like any other, and the atoms of
+//! its that the denial gives are no facts. A span counts for no more times than are needed, so its bounds are as loose
+//! as may be. In the time table the window is one time; a span then counts where it surely runs.
 ghost use Rattle.std.specs.Prelude.{◌≡◌, ◌<◌, ◌*ℤ◌, ◌-ℤ◌, ◌≤ℤ◌, ℤ, pos, unsigned_abs, true, IsTrue, All, length, IfSome, Ok, Some};
 ghost use Rattle.cps_literal.specs.Truth.{atom_holds, value_at};
 ghost use Rattle.cps_trail.specs.Trail.{IsInside};

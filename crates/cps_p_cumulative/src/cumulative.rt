@@ -36,7 +36,8 @@ pub struct Cumulative {
     room: Room,
 }
 
-/// Makes the facts those by which a window is overloaded, the greatest capacity first. Answers false where it finds none.
+/// Makes the facts those by which a window is overloaded, the greatest capacity first. Answers false where it finds
+/// none.
 fn refute_window(
     past: &Before,
     resource: &Resource,

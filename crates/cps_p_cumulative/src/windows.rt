@@ -1,14 +1,15 @@
 //! Windows of times that spans seem to use up.
 //!
-//! A span that lies in a window wherever it may be uses its least demand there for its whole length. Spans are let into a tree in the order of their
-//! greatest ends, at leaves in the order of their least starts. A node keeps the energy of the spans below it that were let in, and their envelope:
-//! the most that the capacity up to the least start of one of them and the energy from that one on come to. Where the envelope of all passes the
-//! capacity up to the greatest end of the span that came last, the window from that one's least start to this end is used up. A look so
-//! costs n log n.
+//! A span that lies in a window wherever it may be uses its least demand there for its whole length. Spans are let into
+//! a tree in the order of their greatest ends, at leaves in the order of their least starts. A node keeps the energy of
+//! the spans below it that were let in, and their envelope: the most that the capacity up to the least start of one of
+//! them and the energy from that one on come to. Where the envelope of all passes the capacity up to the greatest end
+//! of the span that came last, the window from that one's least start to this end is used up. A look so costs n log n.
 //!
-//! The tree is that of Vilim, "Timetable edge finding filtering algorithm for discrete cumulative resources" (2011) and "Max energy
-//! filtering algorithm for discrete cumulative resources" (2009), section on overload checking. Its pushes of ends are not made: a proposal is
-//! certified over all spans, which one look can pay for a conflict and not for each span and window.
+//! The tree is that of Vilim, "Timetable edge finding filtering algorithm for discrete cumulative resources" (2011) and
+//! "Max energy filtering algorithm for discrete cumulative resources" (2009), section on overload checking. Its pushes
+//! of ends are not made: a proposal is certified over all spans, which one look can pay for a conflict and not for each
+//! span and window.
 //!
 //! Nothing is claimed here: what is found is certified before it is used.
 ghost use Rattle.std.specs.Prelude.{◌<◌, length, All};
@@ -46,8 +47,8 @@ const EMPTY: Node = Node {
 /// More levels than a tree has.
 const LEVELS: usize = 64;
 
-/// Room for the jobs in the order of their least starts, the places of these in the order of their greatest ends, and the tree. The root stands at
-/// 1, and below the node at i stand those at 2 i and 2 i + 1.
+/// Room for the jobs in the order of their least starts, the places of these in the order of their greatest ends, and
+/// the tree. The root stands at 1, and below the node at i stand those at 2 i and 2 i + 1.
 #[derive(Drop)]
 pub(crate) struct Energies {
     jobs: Vec<Job>,

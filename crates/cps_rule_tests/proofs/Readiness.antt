@@ -7,7 +7,7 @@ use Rattle.cps_literal.specs.declared.atom.Atom.{Atom}
 use Rattle.cps_instance.specs.declared.task.Task.{Task}
 use Rattle.cps_instance.specs.Tasks.{subjects_of}
 use Rattle.cps_instance.specs.Terms.{Domains, AreIntervals, domain_at}
-use Rattle.cps_instance.specs.Fitting.{IsLiteral, IsFitting, IsFittingBody}
+use Rattle.cps_instance.specs.Fitting.{IsLiteral, IsNeverNegative, IsFitting, IsFittingBody}
 use Rattle.cps_domain.specs.Window.{is_among}
 use Rattle.cps_domain.proofs.Tests.{both}
 use Rattle.cps_trail.specs.Trail.{Trail, Entry, admits}
@@ -42,3 +42,7 @@ literal_by s u low high none one l h least greatest = record {
   least = λ x a. (let k = least x (admits_first s u.subject x none a) in omega (arith, ints));
   greatest = λ x a. (let k = greatest x (admits_first s u.subject x none a) in omega (arith, ints));
 }
+
+-- a subject of a fresh store has no value below 0 where its least value is none
+pub never_negative_by : (s : Trail) (i : ℕ) (low : ℤ) → s.entries ≡ [] → pos 0 ≤ℤ low → ((x : ℤ) → admits s.first s.entries i x ≡ true → low ≤ℤ x) → IsNeverNegative s.first i
+never_negative_by s i low none l least = λ x a. (let k = least x (admits_first s i x none a) in omega (arith, ints))

@@ -32,7 +32,9 @@ fn never_negative(store: &Store, subject: u32) -> Result<u32, AllocError>
     if store.len() <= subject as usize {
         return Err(AllocError);
     }
-    if store.domain(subject).min() < 0 {
+    let domain = store.domain(subject);
+    let low = domain.min();
+    if low < 0 {
         return Err(AllocError);
     }
     Ok(subject)
@@ -207,7 +209,8 @@ fn spans_are_pushed_past_times_without_room(rt: HostRuntime) -> Result<(), Fail>
     Ok(())
 }
 
-// A span of 3 that starts from 0 to 3 need not run at any one time: its latest start is its earliest end. It lies within the 6 units up to 6.
+// A span of 3 that starts from 0 to 3 need not run at any one time: its latest start is its earliest end. It lies
+// within the 6 units up to 6.
 #[test]
 fn spans_that_may_run_anywhere_use_up_a_window(rt: HostRuntime) -> Result<(), Fail> {
     let shapes = [
@@ -315,7 +318,8 @@ fn spans_that_may_run_anywhere_use_up_a_window(rt: HostRuntime) -> Result<(), Fa
     Ok(())
 }
 
-// 13 would be too many, and each of four that start by 3 uses 3 of them. It is enough that the last one uses 1: it ends after 0 anyhow, and starts by 5.
+// 13 would be too many, and each of four that start by 3 uses 3 of them. It is enough that the last one uses 1: it ends
+// after 0 anyhow, and starts by 5.
 #[test]
 fn conflicts_ask_no_more_than_is_needed(rt: HostRuntime) -> Result<(), Fail> {
     let shapes = [

@@ -1,7 +1,7 @@
-use Rattle.std.proofs.Common.{◌≡◌, true, pos, ℤ, ◌-ℤ◌, ◌*ℤ◌, ◌≤ℤ◌, sym, subst, Bool, ap, ◌∙◌, rules, FitsSigned, w64}
+use Rattle.std.proofs.Common.{◌≡◌, true, pos, ℤ, ◌-ℤ◌, ◌*ℤ◌, ◌≤ℤ◌, sym, subst, rules, FitsSigned, w64}
 use Rattle.std.specs.Prelude.{Ok, Some, Option, Result}
 use Rattle.std.specs.declared.alloc.AllocError.{AllocError}
-use Rattle.std.proofs.lemmas.Int.{ints, to_z-of_z}
+use Rattle.std.proofs.lemmas.Int.{to_z-of_z}
 use mir.Syntax.{w128}
 use Rattle.cps_p_cumulative.proofs.Energy.{times-some}
 use Rattle.cps_p_cumulative.proofs.Levelled.{ok_true}

@@ -1,5 +1,3 @@
-use Rattle.std.proofs.Common.{◌≡◌, true}
-use Rattle.std.specs.Prelude.{Ok}
 use Rattle.cps_p_cumulative.specs.Running.{body_of}
 use Rattle.cps_p_cumulative.proofs.Levelled.{ok_true}
 use Rattle.cps_p_cumulative.proofs.Relied.{refuted-impossible}
