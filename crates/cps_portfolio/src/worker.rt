@@ -66,11 +66,7 @@ fn is_last(turn: &Turn) -> bool
     ensures { result ≡ is_some (end_of turn.now) }
 {
     match turn {
-        Turn::Imported
-        | Turn::Decided
-        | Turn::Learnt
-        | Turn::Found
-        | Turn::Reformed(_) => false,
+        Turn::Imported | Turn::Decided | Turn::Learnt | Turn::Found | Turn::Reformed(_) => false,
         Turn::Exhausted | Turn::SawClosed | Turn::Spent(_, _) | Turn::RoundsDone => true,
     }
 }
