@@ -307,7 +307,7 @@ pub struct Reading {
 }
 
 /// What is answered to inputs that are not solved.
-pub const READINGS: [Reading; 25] = [
+pub const READINGS: [Reading; 35] = [
     Reading {
         command: "validate",
         input: "",
@@ -461,6 +461,67 @@ pub const READINGS: [Reading; 25] = [
         input: "search_strategy { variables: 0 exprs { } }",
         exit: 1,
         text: "status: MODEL_INVALID\n# field fault MixedForms at byte 31\n",
+    },
+    Reading {
+        command: "validate",
+        input: "variables { domain: [0, 4611686018427387904] }",
+        exit: 1,
+        text: "status: MODEL_INVALID\n# invalid V2 at variable 0\n",
+    },
+    Reading {
+        command: "validate",
+        input: "constraints { linear { domain: [1, 0] } }",
+        exit: 1,
+        text: "status: MODEL_INVALID\n# invalid V7 at constraint 0\n",
+    },
+    Reading {
+        command: "validate",
+        input: "constraints { int_mod { exprs { offset: 4 } exprs { } } }",
+        exit: 1,
+        text: "status: MODEL_INVALID\n# invalid V9 at constraint 0\n",
+    },
+    Reading {
+        command: "validate",
+        input: "variables { domain: [2147483648, 2147483648] } \
+            constraints { int_prod { exprs { vars: 0 coeffs: 1 } exprs { vars: 0 coeffs: 1 } } }",
+        exit: 1,
+        text: "status: MODEL_INVALID\n# invalid V10 at constraint 0\n",
+    },
+    Reading {
+        command: "validate",
+        input: "constraints { interval { } } constraints { cumulative { intervals: 0 demands { offset: -1 } } }",
+        exit: 1,
+        text: "status: MODEL_INVALID\n# invalid V11 at constraint 1\n",
+    },
+    Reading {
+        command: "validate",
+        input: "constraints { no_overlap { intervals: 0 } }",
+        exit: 1,
+        text: "status: MODEL_INVALID\n# invalid V12 at constraint 0\n",
+    },
+    Reading {
+        command: "validate",
+        input: "constraints { lin_max { } }",
+        exit: 1,
+        text: "status: MODEL_INVALID\n# invalid V13 at constraint 0\n",
+    },
+    Reading {
+        command: "validate",
+        input: "objective { vars: 7 coeffs: 1 }",
+        exit: 1,
+        text: "status: MODEL_INVALID\n# invalid V3 at objective\n",
+    },
+    Reading {
+        command: "validate",
+        input: "variables { domain: [0, 1] } objective { vars: 0 }",
+        exit: 1,
+        text: "status: MODEL_INVALID\n# invalid V5 at objective\n",
+    },
+    Reading {
+        command: "validate",
+        input: "objective { domain: [1, 0] }",
+        exit: 1,
+        text: "status: MODEL_INVALID\n# invalid V16 at objective\n",
     },
 ];
 
