@@ -12,8 +12,8 @@ pub record RulesOut (s t : Atom) : Type 0 where
   pub subject : s.subject ≡ t.subject
   pub never : (x : ℤ) → meets s.op s.value x ≡ true → meets t.op t.value x ≡ false
 
--- An entry is one by which an atom became false, with the first `count` entries: one about the atom's subject. Where the
--- last of these entries rules the atom out by itself, it is that one alone.
+-- An entry is one by which an atom became false, with the first `count` entries: one about the atom's subject. Where
+-- the last of these entries rules the atom out by itself, it is that one alone.
 pub record IsBehind (s : Trail) (t : Atom) (k : ℕ) : Type 0 where
   pub count : ℕ
   pub falls : IsFalseFrom s t count
@@ -39,7 +39,8 @@ IsFetched makes s k clause = ((d : Entry) → (slice_index_or s.entries k d).rea
 -- entry to which they lead.
 pub data IsLedTo (reasons : Reasons) (s : Trail) (t : Atom) : ℕ → Type 0 where
   at_once : (k : ℕ) → IsBehind s t k → IsLedTo reasons s t k
-  by_reason : (j k : ℕ) (reason : List Atom) (u : Atom) → IsLedTo reasons s t j → reasons j reason → Contains reason u → ((d : Entry) → u ≢ (slice_index_or s.entries j d).atom) → IsBehind s u k → IsLedTo reasons s t k
+  by_reason : (j k : ℕ) (reason : List Atom) (u : Atom) → IsLedTo reasons s t j → reasons j reason
+      → Contains reason u → ((d : Entry) → u ≢ (slice_index_or s.entries j d).atom) → IsBehind s u k → IsLedTo reasons s t k
 
 -- an atom that was decided, by an entry to which reasons lead
 pub record IsDecisionBehind (reasons : Reasons) (s : Trail) (t u : Atom) : Type 0 where
@@ -49,11 +50,12 @@ pub record IsDecisionBehind (reasons : Reasons) (s : Trail) (t u : Atom) : Type 
   pub decided : (d : Entry) → (slice_index_or s.entries place d).reason ≡ Decision
   pub is : (d : Entry) → (slice_index_or s.entries place d).atom ≡ u
 
--- The decisions behind an atom that is false: reasons lead to each of them; and wherever the constraint holds and all of
--- them are true, the atom is false.
+-- The decisions behind an atom that is false: reasons lead to each of them; and wherever the constraint holds and all
+-- of them are true, the atom is false.
 pub record AreBehind (reasons : Reasons) (constraint : List ℤ → Type 0) (s : Trail) (t : Atom) (decisions : List Atom) : Type 0 where
   pub each : All (IsDecisionBehind reasons s t) decisions
-  pub enough : (a : List ℤ) → constraint a → IsBacked s a → All (λ u. atom_holds a u ≡ true) decisions → atom_holds a t ≡ false
+  pub enough : (a : List ℤ) → constraint a → IsBacked s a → All (λ u. atom_holds a u ≡ true) decisions
+      → atom_holds a t ≡ false
 
 -- the entries that are marked, in order; those past the marks are not
 abbrev pub chosen : List Bool → List Entry → List Entry
@@ -94,21 +96,26 @@ pub record MarksUnless (s : Trail) (t implied : Atom) (old new : List Bool) : Ty
 pub record MarksReason (s : Trail) (reason : List Atom) (implied : Atom) (old new : List Bool) : Type 0 where
   pub same_length : length new ≡ length old
   pub more : (k : ℕ) → is_marked old k ≡ true → is_marked new k ≡ true
-  pub only : (k : ℕ) → is_marked new k ≡ true → (is_marked old k ≡ true) ⊎ ((u : Atom) × Contains reason u × (u ≢ implied) × IsBehind s u k)
+  pub only : (k : ℕ) → is_marked new k ≡ true
+      → (is_marked old k ≡ true) ⊎ ((u : Atom) × Contains reason u × (u ≢ implied) × IsBehind s u k)
   pub falls : All (λ u. u ≢ implied → IsMarkedFalse s u new) reason
 
--- how far a walk along a subject's entries has come, from the first `count` of a store: those from `found` on are marked
+-- how far a walk along a subject's entries has come, from the first `count` of a store: those from `found` on are
+-- marked
 pub record MarkedSoFar (s : Trail) (subject count found : ℕ) (old new : List Bool) : Type 0 where
   pub within : found ≤ count
   pub here : IsOn s.entries subject found
   pub same_length : length new ≡ length old
   pub more : (k : ℕ) → is_marked old k ≡ true → is_marked new k ≡ true
-  pub only : (k : ℕ) → is_marked new k ≡ true → (is_marked old k ≡ true) ⊎ ((k < count) × ((d : Entry) → (slice_index_or s.entries k d).atom.subject ≡ subject))
-  pub marked : (k : ℕ) (d : Entry) → found ≤ k → k < count → (slice_index_or s.entries k d).atom.subject ≡ subject → is_marked new k ≡ true
+  pub only : (k : ℕ) → is_marked new k ≡ true
+      → (is_marked old k ≡ true) ⊎ ((k < count) × ((d : Entry) → (slice_index_or s.entries k d).atom.subject ≡ subject))
+  pub marked : (k : ℕ) (d : Entry) → found ≤ k → k < count → (slice_index_or s.entries k d).atom.subject ≡ subject
+      → is_marked new k ≡ true
 
 -- an entry is a decision, or a clause that is given explains it after others
 abbrev pub IsLed : (List Atom → Type 0) → Domains → List Entry → Entry → Type 0
-IsLed given first before e = (e.reason ≡ Decision) ⊎ ((clause : List Atom) × Explains first before clause e.atom × given clause)
+IsLed given first before e =
+    (e.reason ≡ Decision) ⊎ ((clause : List Atom) × Explains first before clause e.atom × given clause)
 
 -- a clause is true where the constraint holds and the entries' reasons do
 abbrev pub HoldsBacked : (List ℤ → Type 0) → Trail → List Atom → Type 0
@@ -116,7 +123,8 @@ HoldsBacked constraint s clause = (a : List ℤ) → constraint a → IsBacked s
 
 -- each marked entry from a place on is led to by the marked ones before it
 pub record AreClosedFrom (constraint : List ℤ → Type 0) (s : Trail) (marks : List Bool) (place : ℕ) : Type 0 where
-  pub at : (k : ℕ) (d : Entry) → place ≤ k → k < length s.entries → is_marked marks k ≡ true → IsLed (HoldsBacked constraint s) s.first (chosen (take k marks) s.entries) (slice_index_or s.entries k d)
+  pub at : (k : ℕ) (d : Entry) → place ≤ k → k < length s.entries → is_marked marks k ≡ true
+      → IsLed (HoldsBacked constraint s) s.first (chosen (take k marks) s.entries) (slice_index_or s.entries k d)
 
 -- How far the walk has come: the entries from a place on are closed under reasons, reasons lead to each marked one, and
 -- the marked ones make the atom false.
@@ -129,7 +137,8 @@ pub record FollowedSoFar (reasons : Reasons) (constraint : List ℤ → Type 0) 
 
 -- a walk from one place to an earlier one keeps that for each atom
 abbrev pub GoesBack : Reasons → (List ℤ → Type 0) → Trail → ℕ → ℕ → List Bool → List Bool → Type 0
-GoesBack reasons constraint s from to old new = (t : Atom) → FollowedSoFar reasons constraint s t from old → FollowedSoFar reasons constraint s t to new
+GoesBack reasons constraint s from to old new =
+    (t : Atom) → FollowedSoFar reasons constraint s t from old → FollowedSoFar reasons constraint s t to new
 
 -- an atom is that of a decision among the first so many entries, which is marked
 pub record IsPicked (s : Trail) (marks : List Bool) (count : ℕ) (t : Atom) : Type 0 where
@@ -141,5 +150,6 @@ pub record IsPicked (s : Trail) (marks : List Bool) (count : ℕ) (t : Atom) : T
 
 -- the decisions among the marked ones of the first so many entries
 pub record ArePicked (s : Trail) (marks : List Bool) (count : ℕ) (decisions : List Atom) : Type 0 where
-  pub all : (k : ℕ) (d : Entry) → k < count → is_marked marks k ≡ true → (slice_index_or s.entries k d).reason ≡ Decision → Contains decisions (slice_index_or s.entries k d).atom
+  pub all : (k : ℕ) (d : Entry) → k < count → is_marked marks k ≡ true
+      → (slice_index_or s.entries k d).reason ≡ Decision → Contains decisions (slice_index_or s.entries k d).atom
   pub only : All (IsPicked s marks count) decisions

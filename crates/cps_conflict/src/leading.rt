@@ -2,14 +2,14 @@
 //!
 //! The walk is that of the analysis of a final conflict by Eén and Sörensson, "Temporal Induction by Incremental SAT
 //! Solving" (2003), section 3: backwards along the trail, from each entry that was reached to those behind the other
-//! atoms of its reason. There is one mark for each entry, and the trail is gone through once from its end: a reason leads
-//! to earlier entries alone, so each is asked for once at most, and no stack is needed. (The search for redundant atoms
-//! keeps a stack instead: it stops where an atom leads elsewhere, and asks for few reasons.)
+//! atoms of its reason. There is one mark for each entry, and the trail is gone through once from its end: a reason
+//! leads to earlier entries alone, so each is asked for once at most, and no stack is needed. (The search for
+//! redundant atoms keeps a stack instead: it stops where an atom leads elsewhere, and asks for few reasons.)
 //!
 //! As a domain may have gaps, an atom may fall with an entry that alone does not refute it. Then all earlier entries
 //! about its subject count as behind it, though some may not be needed: to look for a least set of them, or of
-//! decisions, would take more than one walk. That decisions are answered once each, in the order in which they were made,
-//! is tested, and no contract says it.
+//! decisions, would take more than one walk. That decisions are answered once each, in the order in which they were
+//! made, is tested, and no contract says it.
 
 ghost use Rattle.std.specs.Prelude.{ℕ, ◌≡◌, ◌≢◌, ◌↔◌, ◌+◌, ◌≤◌, ◌<◌, length, true, false, IfOk, OnOk, IsTrue};
 ghost use Rattle.std.specs.List.{All};
@@ -118,8 +118,8 @@ fn follow_one<E: Explain>(
     requires within { place < length store.now.entries }
     requires fits { AllFit (E.fits explain.now) store.now }
     requires marks { length marks.old ≡ length store.now.entries }
-    ensures followed { OnOk result (GoesBack (IsFetched (E.makes explain.now store.now) store.now) (E.holds explain.now) store.now
-        (place + 1) place marks.old marks.new) }
+    ensures followed { OnOk result (GoesBack (IsFetched (E.makes explain.now store.now) store.now)
+        (E.holds explain.now) store.now (place + 1) place marks.old marks.new) }
     ensures same_length { OnOk result (length marks.new ≡ length marks.old) }
 {
     if !marks[place] {
@@ -142,8 +142,8 @@ fn follow<E: Explain>(
 ) -> Result<(), AllocError>
     requires fits { AllFit (E.fits explain.now) store.now }
     requires marks { length marks.old ≡ length store.now.entries }
-    ensures followed { OnOk result (GoesBack (IsFetched (E.makes explain.now store.now) store.now) (E.holds explain.now) store.now
-        (length store.now.entries) 0 marks.old marks.new) }
+    ensures followed { OnOk result (GoesBack (IsFetched (E.makes explain.now store.now) store.now)
+        (E.holds explain.now) store.now (length store.now.entries) 0 marks.old marks.new) }
     ensures same_length { OnOk result (length marks.new ≡ length marks.old) }
 {
     let mut reason = Vec::new(alloc);
@@ -193,8 +193,8 @@ fn mark_led_to<E: Explain>(
     requires fits { AllFit (E.fits explain.now) store.now }
     requires marks { length marks.old ≡ length store.now.entries }
     requires none { (k : ℕ) → is_marked marks.old k ≡ false }
-    ensures { OnOk result (FollowedSoFar (IsFetched (E.makes explain.now store.now) store.now) (E.holds explain.now) store.now
-        atom 0 marks.new) }
+    ensures { OnOk result (FollowedSoFar (IsFetched (E.makes explain.now store.now) store.now)
+        (E.holds explain.now) store.now atom 0 marks.new) }
 {
     mark_behind(store, atom, marks);
     follow(alloc, store, explain, marks)
@@ -210,8 +210,8 @@ pub fn decisions_behind<E: Explain>(
     requires subject { atom.subject < length store.now.first }
     requires false_now { IsFalseNow store.now atom }
     requires fits { AllFit (E.fits explain.now) store.now }
-    ensures { IfOk result (λ decisions. AreBehind (IsFetched (E.makes explain.now store.now) store.now) (E.holds explain.now) store.now
-        atom decisions.items) }
+    ensures { IfOk result (λ decisions. AreBehind (IsFetched (E.makes explain.now store.now) store.now)
+        (E.holds explain.now) store.now atom decisions.items) }
 {
     let mut marks = vec![in alloc; false; store.entries().len()]?;
     mark_led_to(alloc, store, atom, explain, &mut marks)?;

@@ -1,16 +1,16 @@
 //! Which atoms of a clause its others imply through reasons.
 //!
-//! An atom goes where the reason of the entry that refutes it has, beside the entry's atom, only atoms that are false at
-//! level 0, that imply another atom of the clause, or that go so in their turn. That is the recursive minimisation of
-//! Sörensson and Biere, "Minimizing Learned Clauses" (2009), section 2, over an explicit stack, with marks that are kept
-//! over the atoms of one clause, after Van Gelder, "Improved Conflict-Clause Minimization Leads to Improved
+//! An atom goes where the reason of the entry that refutes it has, beside the entry's atom, only atoms that are false
+//! at level 0, that imply another atom of the clause, or that go so in their turn. That is the recursive minimisation
+//! of Sörensson and Biere, "Minimizing Learned Clauses" (2009), section 2, over an explicit stack, with marks that are
+//! kept over the atoms of one clause, after Van Gelder, "Improved Conflict-Clause Minimization Leads to Improved
 //! Propositional Proof Traces" (2009): each reason is asked for once, and what failed is not looked at again. As in
 //! MiniSat, an entry of a level at which no atom of the clause fell is taken to lead elsewhere. The search may give up
 //! where it likes: it only proposes, and what is proved is what each mark says.
 //!
-//! An atom may imply one of the clause that fell later than it. So a mark says after how many entries all those were false
-//! that its entry leads to, and an atom goes only for ones that fell before it: no two go for each other. An atom that
-//! falls with an entry whose atom alone does not refute it stays.
+//! An atom may imply one of the clause that fell later than it. So a mark says after how many entries all those were
+//! false that its entry leads to, and an atom goes only for ones that fell before it: no two go for each other. An
+//! atom that falls with an entry whose atom alone does not refute it stays.
 
 ghost use Rattle.std.specs.Prelude.{ℕ, ℤ, List, ◌≡◌, ◌≢◌, ◌≤◌, ◌<◌, ◌++◌, ◌∷◌, [], length};
 ghost use Rattle.std.specs.Prelude.{OnOk, IfOk, IfSome, IsTrue, Ok, true};

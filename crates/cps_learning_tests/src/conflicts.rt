@@ -40,7 +40,7 @@ fn equal(subject: u32, value: i64) -> Atom {
     }
 }
 
-fn other_than(subject: u32, value: i64) -> Atom {
+pub(crate) fn other_than(subject: u32, value: i64) -> Atom {
     Atom {
         subject,
         op: Op::Ne,

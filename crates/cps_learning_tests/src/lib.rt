@@ -7,6 +7,8 @@
 #[cfg(test)]
 mod bases;
 #[cfg(test)]
+mod behind;
+#[cfg(test)]
 mod conflicts;
 #[cfg(test)]
 mod forgetting;

@@ -12,13 +12,13 @@ use std::alloc::{AllocError, Global};
 use std::test::Fail;
 
 /// A subject with the values 1, 3 and 5, after five with the values 0 and 1.
-const ODD: u32 = 5;
+pub(crate) const ODD: u32 = 5;
 
 /// A subject with the values from 0 to 10.
-const WIDE: u32 = 6;
+pub(crate) const WIDE: u32 = 6;
 
 /// The subjects.
-fn subjects(alloc: Global) -> Result<Store, AllocError> {
+pub(crate) fn subjects(alloc: Global) -> Result<Store, AllocError> {
     let mut domains = Vec::new(alloc);
     domains.push(Domain::of_bounds(alloc, &[0, 1])?)?;
     domains.push(Domain::of_bounds(alloc, &[0, 1])?)?;
