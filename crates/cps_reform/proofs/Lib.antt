@@ -1,0 +1,11 @@
+pub mod Excesses
+pub mod Rooms
+pub mod Loops
+pub mod Marking
+pub mod Marked
+pub mod Objectives
+pub mod Floors
+pub mod Steps
+pub mod Pasts
+pub mod Growing
+pub mod Firsts
