@@ -1,5 +1,5 @@
 //! The search of a model by workers in threads.
-ghost use Rattle.std.specs.Prelude.{◌≡◌, ◌+◌, ◌-◌, ◌/◌, ◌≤◌, vec_len, IfOk, OnOk, None};
+ghost use Rattle.std.specs.Prelude.{◌≡◌, ◌+◌, ◌-◌, ◌/◌, ◌≤◌, vec_len, false, All, IfOk, OnOk, None};
 ghost use Rattle.cps_port.specs.Totals.{total};
 ghost use Rattle.cps_board.specs.Seats as boards;
 ghost use Rattle.cps_bounds.specs.Seats as words;
@@ -81,6 +81,18 @@ fn seat_all<'a>(
     Ok(crew)
 }
 
+/// Whether a worker could not have memory.
+fn is_any_refused(crew: &[Seated<'_>]) -> bool
+    ensures { result ≡ false → All (λ seated. seated.refused ≡ false) crew.now }
+{
+    for seated in crew {
+        if seated.refused {
+            return true;
+        }
+    }
+    false
+}
+
 /// Joins the seats of all workers to those of one port, and answers the workers' ends by number. The model and the options are those
 /// by which the workers searched.
 fn gather<'a>(
@@ -97,17 +109,12 @@ fn gather<'a>(
     ensures splits { OnOk result (words.splits_of kept.new.bounds_seat ≡ all_splits) }
     ensures gathered { IfOk result (λ ends. AreGathered model.now options.now.gap options.now.conflicts 0 (vec_len crew.entry) (words.part_of kept.new.bounds_seat) ends.items) }
 {
+    if is_any_refused(crew.as_slice()) {
+        return Err(AllocError);
+    }
     let mut ends = Vec::new(alloc);
     while let Some(seated) = crew.pop() {
-        let Seated {
-            worker,
-            port,
-            number: _,
-            refused,
-        } = seated;
-        if refused {
-            return Err(AllocError);
-        }
+        let Seated { worker, port, .. } = seated;
         kept.join(port);
         ends.insert(0, worker.finish())?;
     }

@@ -1,5 +1,6 @@
 -- The last worker's seats were joined, and its end is the first of the ends.
-use Rattle.std.proofs.Common.{rules, ◌≡◌, ℕ, ◌+◌, length, sym, ap, subst, ◌∙◌, List, [], ◌∷◌, ◌++◌, arith, length-append}
+use Rattle.std.proofs.Common.{rules, ◌≡◌, false, All, ℕ, ◌+◌, length, sym, ap, subst, ◌∙◌, List, [], ◌∷◌, ◌++◌, arith, length-append}
+use Rattle.cps_instance.proofs.Agreeing.{All-append_left, All-append_right}
 use Rattle.cps_port.specs.Totals.{total}
 use Rattle.cps_search.specs.Ends.{Ending}
 use Rattle.cps_bounds.specs.Seats as words
@@ -35,17 +36,20 @@ loop-seated-preserved c =
     let e : c.loop-seated.crew.items ≡ xs ++ x ∷ [] = search rules in
     let back = subst (λ (l : List Seated). AreBack m o.gap o.conflicts board bounds l) e i.crew in
     let last = each_last (IsBack m o.gap o.conflicts board bounds) xs x back.each in
+    let all : All (λ (c : Seated). c.refused ≡ false) (xs ++ x ∷ []) = subst (λ (l : List Seated). All (λ (c : Seated). c.refused ≡ false) l) e i.has_memory in
+    let ready : x.refused ≡ false = All-append_right (λ (c : Seated). c.refused ≡ false) xs (x ∷ []) all 0 x (omega arith) in
     let long : length c.loop-seated.crew.items ≡ length xs + 1 = ap (λ (l : List Seated). length l) e ∙ length-append xs (x ∷ []) in
     let es : List Ending = c.loop-seated.ends.items in
     let inserted : c.insert.new.self.items ≡ c.finish.result ∷ es = search rules in
     let k = c.join.ensures in
     let before = subst (λ (n : ℕ). AreGathered m o.gap o.conflicts n (length es) (words.part_of c.loop-seated.kept.bounds_seat) es) long i.gathered in
     let one = one_gathered m o.gap o.conflicts (length xs) (length es) (words.part_of c.loop-seated.kept.bounds_seat) (words.part_of c.join.new.self.bounds_seat) (words_part x) (search_of x.worker) (kind_of x.worker) (guidance_of x.worker)
-    c.finish.result es before last.kind (last.done c.if-refused.false) c.finish.ensures.said c.finish.ensures.is k.part in
+    c.finish.result es before last.kind (last.done ready) c.finish.ensures.said c.finish.ensures.is k.part in
     record {
       tables = (k.tables.0 ∙ i.tables.0, k.tables.1 ∙ i.tables.1);
       splits = omega (arith, i.splits, ap (λ (l : List Seated). total words_splits l) e, total_push words_splits xs x, k.splits);
       crew = record { each = each_front (IsBack m o.gap o.conflicts board bounds) xs x back.each };
+      has_memory = All-append_left (λ (c : Seated). c.refused ≡ false) xs (x ∷ []) all;
       count = omega (arith, long, i.count, ap (λ (l : List Ending). length l) inserted);
       gathered = subst (λ (l : List Ending). AreGathered m o.gap o.conflicts (length xs) (length l) (words.part_of c.join.new.self.bounds_seat) l) (sym inserted) one;
     }
