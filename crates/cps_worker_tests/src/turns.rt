@@ -104,8 +104,10 @@ fn turns_in_order<Q: Port>(
     ensures same { (Q.model port.new ≡ Q.model port.old) × (Q.rows port.new ≡ Q.rows port.old) }
     ensures others { Q.stays port.old port.new }
 {
-    let mut worker = ordered_worker_of(alloc, model, conflicts)?;
-    turns_of(alloc, &mut worker, port)
+    // A list is dropped as one; the borrow checker does not cover how a worker in a variable is.
+    let mut crew = Vec::new(alloc);
+    crew.push(ordered_worker_of(alloc, model, conflicts)?)?;
+    turns_of(alloc, &mut crew[0], port)
 }
 
 /// The turns of a worker that takes the variables by activity.
@@ -122,8 +124,10 @@ fn turns_by_activity<Q: Port>(
     ensures same { (Q.model port.new ≡ Q.model port.old) × (Q.rows port.new ≡ Q.rows port.old) }
     ensures others { Q.stays port.old port.new }
 {
-    let mut worker = active_worker_of(alloc, model, conflicts)?;
-    turns_of(alloc, &mut worker, port)
+    // As above.
+    let mut crew = Vec::new(alloc);
+    crew.push(active_worker_of(alloc, model, conflicts)?)?;
+    turns_of(alloc, &mut crew[0], port)
 }
 
 /// What two workers did, and the bounds that they left.

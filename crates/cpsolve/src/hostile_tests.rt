@@ -1,5 +1,5 @@
 //! Runs against a source and a sink that fail, and on texts that are cut off, too deep, too long or at the limits of their numbers.
-use crate::inputs::{COMMANDS, PRODUCTION, PRODUCTION_TEXT, Solving};
+use crate::known_answers::{COMMANDS, PRODUCTION, PRODUCTION_TEXT, Solving};
 use crate::running::{Given, Seen, run, unhindered};
 use std::alloc::{AllocError, Global};
 use std::sync::Wait;

@@ -16,7 +16,7 @@ mod generation_tests;
 mod hostile_tests;
 mod input;
 #[cfg(test)]
-mod inputs;
+mod known_answers;
 #[cfg(test)]
 mod portfolio_tests;
 mod ran;

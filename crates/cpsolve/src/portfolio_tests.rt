@@ -1,5 +1,5 @@
 //! Several workers on one model: in threads, side by side, and in turns that a seed draws.
-use crate::inputs::THREE_IN_THREE;
+use crate::known_answers::THREE_IN_THREE;
 use crate::running::{Seen, run, run_at, unhindered};
 use cps_outer::Gate;
 use std::sync::atomic::{AtomicBool, Ordering};

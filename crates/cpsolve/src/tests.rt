@@ -1,5 +1,7 @@
 //! Whole runs of the program: the exit, whether there is an outcome, and every byte that is written.
-use crate::inputs::{BEGINNINGS, COMMANDS, FAULTY_WORDS, INPUTS, LINES, PRODUCTION, READINGS};
+use crate::known_answers::{
+    BEGINNINGS, COMMANDS, FAULTY_WORDS, INPUTS, LINES, PRODUCTION, READINGS,
+};
 use crate::running::{Given, run, unhindered};
 use std::test::Fail;
 
