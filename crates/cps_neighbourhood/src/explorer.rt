@@ -114,7 +114,7 @@ impl<'a, P: Propagator> Explorer<'a, P> {
         ensures exploring { OnOk result (IsExploring self.new) }
     {
         self.frame.decide(atom)?;
-        self.round.held += 1;
+        self.round.held = self.frame.store().level();
         Ok(())
     }
 
