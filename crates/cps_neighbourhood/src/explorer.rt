@@ -205,7 +205,10 @@ impl<'a, P: Propagator> Explorer<'a, P> {
         ensures kept { self.new.kept ≡ min self.old.kept (length self.new.frame.trail.entries) }
         ensures sound { self.old.frame.refused ≡ false → IsSoundSearch self.old.frame → IsSoundSearch self.new.frame }
     {
-        let _ = hear_last(&mut self.brancher, self.frame.clauses().journal().as_slice());
+        let _ = hear_last(
+            &mut self.brancher,
+            self.frame.clauses().journal().as_slice(),
+        );
         self.end_or_go_on();
         self.kept = still_kept(self.frame.store(), self.kept);
     }

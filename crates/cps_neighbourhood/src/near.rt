@@ -159,10 +159,7 @@ impl<'a, P: Propagator> NearWorker<'a, P> {
         ensures said { self.entry.search.said ≡ Said.Over result.end }
         ensures is { result ≡ ending WorkerKind.Near None result.end self.entry.search }
     {
-        let NearWorker {
-            explorer,
-            ..
-        } = self;
+        let NearWorker { explorer, .. } = self;
         let Explorer { frame, .. } = explorer;
         frame.finish_as_said(WorkerKind::Near, None)
     }

@@ -130,11 +130,7 @@ impl Progress {
     }
 
     /// The first round over an aim's variables: it frees as many as it is to, drawn by a generator, and is to decide the others' values.
-    pub fn begin(
-        alloc: Global,
-        aim: &Aim,
-        draws: &mut Lcg64Xsh32,
-    ) -> Result<Self, AllocError>
+    pub fn begin(alloc: Global, aim: &Aim, draws: &mut Lcg64Xsh32) -> Result<Self, AllocError>
         requires { length aim.now.values.items ≤ 2 ^ 31 }
         ensures is { IfOk result (λ r. round_of r ≡ first_round (length aim.now.values.items) (solution_of aim.now) draws.old) }
         ensures draws { OnOk result (draws.new ≡ after_words (length aim.now.values.items) draws.old) }
