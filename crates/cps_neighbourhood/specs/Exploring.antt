@@ -5,7 +5,7 @@ use Rattle.cps_branch.specs.Scope.{IsScopeOf}
 use Rattle.cps_branch.specs.SetAside.{AreFixedAside}
 use Rattle.cps_search.specs.Lessons.{GoesBack}
 use Rattle.cps_search.specs.Moves.{moved}
-use Rattle.cps_search.specs.Ends.{round_conflicts, round_count}
+use Rattle.cps_search.specs.Ends.{IsOver, round_conflicts, round_count}
 use Rattle.cps_search.specs.Searches.{IsSoundSearch}
 use Rattle.cps_neighbourhood.specs.declared.explorer.Explorer.{Explorer}
 use Rattle.cps_neighbourhood.specs.Nears.{Near, learnt_in}
@@ -27,7 +27,7 @@ near_of {P} x = record {
 abbrev pub near_as : Bool → Near → Near
 near_as refused s = record s { search = record s.search { refused = refused } }
 
--- what an explorer keeps between two turns
+-- What an explorer keeps between two turns. Of the turn that ends it nothing is kept of the round.
 pub record IsExploring {P : Type 0} (x : Explorer P) : Type 0 where
   pub sound : IsSoundSearch x.frame
   pub running : x.frame.refused ≡ false
@@ -42,7 +42,7 @@ pub record IsExploring {P : Type 0} (x : Explorer P) : Type 0 where
   pub rounds : x.rounds ≤ round_count x.conflicts
   pub tally : x.frame.tally ≤ round_conflicts * x.rounds + learnt_in (round_if x.in_round x.round)
   pub between : x.in_round ≡ false → x.frame.trail.level ≡ 0
-  pub under_way : x.in_round ≡ true → IsUnderWay x.round x.frame.trail
+  pub under_way : (IsOver x.frame.said → ⊥) → x.in_round ≡ true → IsUnderWay x.round x.frame.trail
 
 -- what a learnt clause does to rounds: the round ends, and the search goes back to level 0; or it goes on
 pub record RoundEnds {P : Type 0} (x y : Explorer P) : Type 0 where

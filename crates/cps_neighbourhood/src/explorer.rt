@@ -4,11 +4,12 @@ ghost use Rattle.std.specs.Prelude.{◌≡◌, ◌↔◌, ℕ, ◌+◌, ◌<◌,
 ghost use Rattle.cps_model.specs.declared.bound.Bound.{Bound as BoundOf};
 ghost use Rattle.cps_literal.specs.declared.atom.Atom.{Atom as AtomOf};
 ghost use Rattle.cps_clauses.specs.declared.journal.JournalItem.{JournalItem as JournalItemOf};
+ghost use Rattle.cps_trail.specs.Trail.{Trail};
 ghost use Rattle.cps_instance.specs.Problem.{variable_count};
 ghost use Rattle.cps_branch.specs.Fixed.{AreFixed};
-ghost use Rattle.cps_branch.specs.Scope.{IsScopeOf};
+ghost use Rattle.cps_branch.specs.SetAside.{AreFixedAside};
 ghost use Rattle.cps_search.specs.Searches.{HasNoAssumptions, IsSettled, IsSoundSearch};
-ghost use Rattle.cps_search.specs.Ends.{Decides, round_count, round_conflicts};
+ghost use Rattle.cps_search.specs.Ends.{Decides, IsOver, round_count, round_conflicts};
 ghost use Rattle.cps_search.specs.Moves.{decided, moved};
 ghost use Rattle.cps_neighbourhood.specs.Rounds.{ChoosesInRound, IsFirstOpen, NoneOpen};
 ghost use Rattle.cps_neighbourhood.specs.Nears.{BeginsNear, DecidesInRound, HeardClause, TakesNearTurn, draws_now, round_now};
@@ -67,7 +68,7 @@ impl<'a, P: Propagator> Explorer<'a, P> {
         requires tasks { engine.tasks ≡ instance.tasks }
         requires assumptions { HasNoAssumptions instance.model }
         requires conflicts { conflicts ≤ 10 ^ 9 }
-        ensures begins { IfOk result (λ x. BeginsNear instance.entry gap conflicts draws.entry (near_of x)) }
+        ensures begins { IfOk result (λ x. BeginsNear instance.entry gap conflicts draws (near_of x)) }
         ensures exploring { IfOk result (λ x. IsExploring x) }
     {
         let brancher = ActivityBrancher::of(alloc, &instance)?;
@@ -203,6 +204,9 @@ impl<'a, P: Propagator> Explorer<'a, P> {
         ensures goes_on { (EndsAt self.old.round self.old.frame.trail.level → ⊥) → RoundGoesOn self.old self.new }
         ensures rest { KeepsRest self.old self.new }
         ensures kept { self.new.kept ≡ min self.old.kept (length self.new.frame.trail.entries) }
+        ensures size { length self.new.brancher.activities ≡ length self.old.brancher.activities }
+        ensures saw { (s : Trail) (k : ℕ) → AreFixedAside (length self.old.brancher.activities) self.old.brancher.aside s k
+            → AreFixedAside (length self.new.brancher.activities) self.new.brancher.aside s k }
         ensures sound { self.old.frame.refused ≡ false → IsSoundSearch self.old.frame → IsSoundSearch self.new.frame }
     {
         let _ = hear_last(
@@ -220,6 +224,8 @@ impl<'a, P: Propagator> Explorer<'a, P> {
         ensures place { self.new.round.place ≡ 0 }
         ensures rest { near_of self.new ≡ near_of self.old }
         ensures decisions { self.new.round.decisions.items ≡ self.old.round.decisions.items }
+        ensures learnt { self.new.round.learnt ≡ self.old.round.learnt }
+        ensures same { (self.new.aim ≡ self.old.aim) × (self.new.in_round ≡ self.old.in_round) }
     {
         self.kept = still_kept(self.frame.store(), self.kept);
         self.round.held = self.round.held.min(self.frame.store().level());
@@ -229,6 +235,7 @@ impl<'a, P: Propagator> Explorer<'a, P> {
     /// Takes a turn. Where all rounds are done, it is the last, in which only the two bounds are looked at.
     pub fn turn<Q: Port>(&mut self, port: &mut Q) -> Result<Turn, AllocError>
         requires exploring { IsExploring self.old }
+        requires running { IsOver self.old.frame.said → ⊥ }
         requires model { Q.model port.old ≡ self.old.frame.problem.model }
         requires imported { self.old.frame.imported ≤ length (Q.part port.old).board.taken }
         ensures same { (Q.model port.new ≡ Q.model port.old) × (Q.rows port.new ≡ Q.rows port.old) }
