@@ -3,7 +3,8 @@ use Rattle.std.specs.Prelude.{All}
 use Rattle.std.proofs.Common.{ℕ, ◌+◌, ◌*◌, ◌^◌, ◌≤◌, ◌<◌, ◌≡◌, ◌∙◌, ◌⊎◌, inl, inr, Bool, true, false, cond, min, Option, Some, None, List, [], ◌∷◌, ◌++◌, length, refl, sym, ap, subst, arith}
 use Rattle.cps_model.specs.declared.bound.Bound.{Bound}
 use Rattle.cps_literal.specs.declared.atom.Atom.{Atom}
-use Rattle.cps_trail.specs.Trail.{Trail}
+use Rattle.cps_trail.specs.Trail.{Entry, Trail, up_to}
+use Rattle.cps_trail.proofs.Marks.{up_to-up_to}
 use Rattle.cps_port.specs.declared.part.Part.{Part}
 use Rattle.cps_clauses.specs.declared.journal.JournalItem.{JournalItem}
 use Rattle.cps_clauses.specs.declared.journal.JournalItem.TheVariants as items
@@ -14,13 +15,14 @@ use Rattle.cps_search.specs.declared.end.Said.{Said}
 use Rattle.cps_search.specs.declared.end.Said.TheVariants.{Nothing}
 use Rattle.cps_search.specs.declared.turn.Turn.{Turn}
 use Rattle.cps_search.specs.declared.turn.Turn.TheVariants as turns
+use Rattle.cps_search.specs.Lessons.{GoesBack}
 use Rattle.cps_search.specs.Searches.{IsSoundSearch, Search}
 use Rattle.cps_search.specs.Shelves.{HasLearnt, Shelf}
-use Rattle.cps_search.specs.Turns.{BackAsLearnt, GoesOnAndBack, LearntOne, Steps}
+use Rattle.cps_search.specs.Turns.{BackAsLearnt, BackToBottom, GoesOnAndBack, LearntOne, Steps}
 use Rattle.cps_search.specs.Ends.{IsOver, Stands, round_conflicts, round_count}
 use Rattle.cps_search.proofs.Moving.{turn_moves}
 use Rattle.cps_search.proofs.Turning.{setting_trans}
-use Rattle.cps_search.proofs.Working.{learnt_stands, same_back, setting_stands, stands_back, stands_imported, to_bottom}
+use Rattle.cps_search.proofs.Working.{learnt_stands, same_back, setting_stands, stands_back, stands_imported}
 use Rattle.cps_neighbourhood.specs.declared.aim.Aim.{Aim}
 use Rattle.cps_neighbourhood.specs.declared.explorer.Explorer.{Explorer}
 use Rattle.cps_neighbourhood.specs.declared.round.Progress.{Progress}
@@ -37,6 +39,13 @@ not_over said e = subst (λ (x : Said). IsOver x → ⊥) (sym e) (λ h. h)
 clash : {t : Bool} → t ≡ false → t ≡ true → ⊥
 clash e f = absurd (cc)
 
+-- what was kept after a conflict was that of the end of a level, and at the end of a round is that of level 0
+to_bottom : (s m t : Search) → BackAsLearnt s m → GoesBack m.trail t.trail 0 → BackToBottom s t
+to_bottom s m t learnt back = record {
+  level = ap (λ (x : Trail). x.level) back.is;
+  entries = ap (λ (x : Trail). x.entries) back.is ∙ ap (λ (es : List Entry). up_to 0 es) learnt.entries ∙ up_to-up_to 0 m.trail.level s.trail.entries (omega arith);
+}
+
 ends_or_not : (r : Progress) (back : ℕ) → EndsAt r back ⊎ (EndsAt r back → ⊥)
 ends_or_not r back = by_cases (last (r.learnt + 1)) (below back r.held)
   where
@@ -47,9 +56,9 @@ ends_or_not r back = by_cases (last (r.learnt + 1)) (below back r.held)
     below a b = grind arith
 
     by_cases : (r.learnt + 1 ≡ round_conflicts) ⊎ (r.learnt + 1 ≡ round_conflicts → ⊥) → (back < r.held) ⊎ (back < r.held → ⊥) → EndsAt r back ⊎ (EndsAt r back → ⊥)
-    by_cases (inl yes) m = inl (inl yes)
-    by_cases (inr no) (inl yes) = inl (inr yes)
-    by_cases (inr no) (inr not) = inr (λ h. elim h [ inl e ↦ no e | inr l ↦ not l ])
+    by_cases (inl ending) m = inl (inl ending)
+    by_cases (inr going) (inl ending) = inl (inr ending)
+    by_cases (inr going) (inr not) = inr (λ h. elim h [ inl e ↦ going e | inr l ↦ not l ])
 
 -- a conflict above level 0 is one of a round
 pub was_in : {P : Type 0} (x : Explorer P) → IsExploring x → 0 < x.frame.trail.level → x.in_round ≡ true
@@ -78,7 +87,7 @@ module _ {P : Type 0} (x y : Explorer P) (f : Search) (rows : ℕ) (p q : Part) 
   way = h.under_way running on
 
   stands : Stands f y.frame
-  stands = elim (ends_or_not x.round f.trail.level) [ inl yes ↦ (let e = ends yes in inr (e.back, e.is)) | inr no ↦ inl (goes_on no).frame ]
+  stands = elim (ends_or_not x.round f.trail.level) [ inl ending ↦ (let e = ends ending in inr (e.back, e.is)) | inr going ↦ inl (goes_on going).frame ]
 
   base : y.frame.base ≡ f.base
   base = elim stands [ inl same ↦ ap (λ (s : Search). s.base) same | inr back ↦ ap (λ (s : Search). s.base) back.1 ]
@@ -102,16 +111,16 @@ module _ {P : Type 0} (x y : Explorer P) (f : Search) (rows : ℕ) (p q : Part) 
   in_before = round_in x.in_round x.round on
 
   below_last : (EndsAt x.round f.trail.level → ⊥) → x.round.learnt + 1 < round_conflicts
-  below_last no = less x.round.learnt way.few (λ e. no (inl e))
+  below_last going = less x.round.learnt way.few (λ e. going (inl e))
     where
       less : (n : ℕ) → n < round_conflicts → (n + 1 ≡ round_conflicts → ⊥) → n + 1 < round_conflicts
       less n l not = grind arith
 
   ended : EndsAt x.round f.trail.level → EndedRound (near_of x) (near_of y)
-  ended yes = (let e = ends yes in record { rounds = e.rounds; round = round_out y.in_round y.round e.round; back = to_bottom x.frame f y.frame learnt e.back })
+  ended ending = (let e = ends ending in record { rounds = e.rounds; round = round_out y.in_round y.round e.round; back = to_bottom x.frame f y.frame learnt e.back })
 
   went_on : (EndsAt x.round f.trail.level → ⊥) → WentOnInRound (near_of x) (near_of y) (round_of x.round)
-  went_on no = (let g = goes_on no in record { rounds = g.rounds; one_more = round_on g; back = subst (λ (s : Search). BackAsLearnt x.frame s) (sym g.frame) learnt })
+  went_on going = (let g = goes_on going in record { rounds = g.rounds; one_more = round_on g; back = subst (λ (s : Search). BackAsLearnt x.frame s) (sym g.frame) learnt })
 
   in_round : ((earlier : List JournalItem) (clause : List Atom) (below : Bound) → f.base.journal ≡ earlier ++ items.Learnt clause below ∷ [] → HeardClause clause x.brancher y.brancher) → LearntInRound (near_of x) (near_of y) rows p q
   in_round heard = record {
@@ -130,11 +139,11 @@ module _ {P : Type 0} (x y : Explorer P) (f : Search) (rows : ℕ) (p q : Part) 
 
   lowers : NearLowers (near_of x) (near_of y) rows p.board q.board
   lowers = elim (ends_or_not x.round f.trail.level) [
-    | inl yes ↦ fewer_rounds left (ends yes).rounds
-    | inr no ↦
-        let g = goes_on no in
+    | inl ending ↦ fewer_rounds left (ends ending).rounds
+    | inr going ↦
+        let g = goes_on going in
         let now : learnt_in (round_if y.in_round y.round) ≡ x.round.learnt + 1 = ap (λ (o : Option Round). learnt_in o) (round_on g) in
-        fewer_conflicts g.rounds (now ∙ ap (λ (o : Option Round). learnt_in o + 1) (sym in_before)) (let l = below_last no in omega (arith, now, l))
+        fewer_conflicts g.rounds (now ∙ ap (λ (o : Option Round). learnt_in o + 1) (sym in_before)) (let l = below_last going in omega (arith, now, l))
   ]
 
   pub turn_learnt : IsSoundSearch x.frame → ((earlier : List JournalItem) (clause : List Atom) (below : Bound) → f.base.journal ≡ earlier ++ items.Learnt clause below ∷ [] → HeardClause clause x.brancher y.brancher) → TakesNearTurn (near_of x) (near_of y) rows p q turns.Learnt
@@ -159,27 +168,27 @@ module _ {P : Type 0} (x y : Explorer P) (f : Search) (rows : ℕ) (p q : Part) 
 
   tally_within : y.frame.tally ≤ round_conflicts * y.rounds + learnt_in (round_if y.in_round y.round)
   tally_within = elim (ends_or_not x.round f.trail.level) [
-    | inl yes ↦
-        let e = ends yes in
+    | inl ending ↦
+        let e = ends ending in
         omega (arith, tally_on, h.tally, learnt_before, way.few, e.rounds)
-    | inr no ↦
-        let g = goes_on no in
+    | inr going ↦
+        let g = goes_on going in
         omega (arith, tally_on, h.tally, learnt_before, g.rounds, ap (λ (o : Option Round). learnt_in o) (round_on g))
   ]
 
   rounds_within : y.rounds ≤ round_count x.conflicts
-  rounds_within = elim (ends_or_not x.round f.trail.level) [ inl yes ↦ (let e = ends yes in omega (arith, e.rounds, left)) | inr no ↦ (let g = goes_on no in omega (arith, g.rounds, left)) ]
+  rounds_within = elim (ends_or_not x.round f.trail.level) [ inl ending ↦ (let e = ends ending in omega (arith, e.rounds, left)) | inr going ↦ (let g = goes_on going in omega (arith, g.rounds, left)) ]
 
   bottom : y.in_round ≡ false → y.frame.trail.level ≡ 0
-  bottom off = elim (ends_or_not x.round f.trail.level) [ inl yes ↦ (let e = ends yes in ap (λ (t : Trail). t.level) e.back.is) | inr no ↦ (let g = goes_on no in absurd (clash off (g.in_round ∙ on))) ]
+  bottom off = elim (ends_or_not x.round f.trail.level) [ inl ending ↦ (let e = ends ending in ap (λ (t : Trail). t.level) e.back.is) | inr going ↦ (let g = goes_on going in absurd (clash off (g.in_round ∙ on))) ]
 
   way_on : y.in_round ≡ true → IsUnderWay y.round y.frame.trail
   way_on again = elim (ends_or_not x.round f.trail.level) [
-    | inl yes ↦ (let e = ends yes in absurd (clash e.round again))
-    | inr no ↦
-        let g = goes_on no in
-        let least : f.trail.level < x.round.held → ⊥ = λ l. no (inr l) in
-        let l = below_last no in
+    | inl ending ↦ (let e = ends ending in absurd (clash e.round again))
+    | inr going ↦
+        let g = goes_on going in
+        let least : f.trail.level < x.round.held → ⊥ = λ l. going (inr l) in
+        let l = below_last going in
         subst (λ (s : Search). IsUnderWay y.round s.trail) (sym g.frame)
         (way_back x.round y.round x.frame.trail f.trail f.trail.level steps.store.first learnt.entries refl steps.store.level g.decisions (g.held ∙ least_is x.round.held f.trail.level least) g.place (omega (arith, g.learnt, l)) way)
   ]

@@ -36,7 +36,7 @@ use Rattle.cps_search.specs.Ends.{DecidedOne, Decides, IsOver, Lowers, Stands, e
 use Rattle.cps_search.proofs.Bounds.{below_less, less_than}
 use Rattle.cps_search.proofs.Moving.{saw_open, turn_moves}
 use Rattle.cps_search.proofs.Turning.{setting_of, setting_trans, stays_there}
-use Rattle.cps_search.proofs.Working.{decided_one, imported_few, learnt_stands, same_back, setting_stands, stands_back, to_bottom}
+use Rattle.cps_search.proofs.Working.{decided_one, imported_few, learnt_stands, same_back, setting_stands, stands_back}
 use Rattle.cps_neighbourhood.specs.declared.explorer.Explorer.{Explorer}
 use Rattle.cps_neighbourhood.specs.declared.round.Progress.{Progress}
 use Rattle.cps_neighbourhood.specs.Exploring.{IsExploring, KeepsRest, RoundEnds, RoundGoesOn, near_of}
@@ -211,10 +211,10 @@ same_way r u s t is decisions learnt held place h =
 other_way : (s t : Search) (rows : ℕ) (p q : Part) (turn : Turn) (r u : Progress) → (turn ≡ turns.Learnt → ⊥) → Caused s t rows p q (Some turn) → (IsOver t.said → ⊥) → u.decisions.items ≡ r.decisions.items → u.learnt ≡ r.learnt → u.held ≡ min r.held t.trail.level → u.place ≡ 0
     → IsUnderWay r s.trail → IsUnderWay u t.trail
 other_way s t rows p q turns.Imported r u not k running decisions learnt held place h = elim k.used [
-  | inl use ↦
-      let b = use.0.back in
-      let at : t.trail.level ≡ use.0.level = ap (λ (x : Trail). x.level) b.is in
-      way_back r u s.trail t.trail use.0.level (ap (λ (x : Trail). x.first) b.is) (ap (λ (x : Trail). x.entries) b.is) at b.within decisions (held ∙ ap (λ (n : ℕ). min r.held n) at) place (omega (arith, learnt, h.few)) h
+  | inl given ↦
+      let b = given.0.back in
+      let at : t.trail.level ≡ given.0.level = ap (λ (x : Trail). x.level) b.is in
+      way_back r u s.trail t.trail given.0.level (ap (λ (x : Trail). x.first) b.is) (ap (λ (x : Trail). x.entries) b.is) at b.within decisions (held ∙ ap (λ (n : ℕ). min r.held n) at) place (omega (arith, learnt, h.few)) h
   | inr pass ↦ same_way r u s.trail t.trail pass.0.store decisions learnt held place h
 ]
 other_way s t rows p q turns.Found r u not k running decisions learnt held place h =
