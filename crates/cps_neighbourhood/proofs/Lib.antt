@@ -4,3 +4,6 @@ pub mod Keeping
 pub mod Exploring
 pub mod Taking
 pub mod Learning
+pub mod Counting
+pub mod Lasting
+pub mod Viewing

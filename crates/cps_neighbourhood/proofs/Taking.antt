@@ -110,7 +110,7 @@ lowers_decided chooses s t rows p q moves h =
 taken_more : (m : CpModel) (rows : ℕ) (p q : BoardPart) (e : BoardEntry) → TookEntry m rows p q e → length q.taken ≡ length p.taken + 1
 taken_more m rows p q e h = ap (λ (b : BoardPart). length b.taken) h.takes ∙ length-append p.taken (e ∷ [])
 
-learnt_now : (n : ℕ) (aim : Option (List ℤ)) (draws : Lcg) (o : Option Round) → (round_or_first n aim draws o).learnt ≡ learnt_in o
+pub learnt_now : (n : ℕ) (aim : Option (List ℤ)) (draws : Lcg) (o : Option Round) → (round_or_first n aim draws o).learnt ≡ learnt_in o
 learnt_now n aim draws None = refl
 learnt_now n aim draws (Some round) = refl
 

@@ -252,14 +252,16 @@ impl<'a, P: Propagator> Explorer<'a, P> {
                 self.decide()?;
                 Ok(Turn::Decided)
             }
-            Some(Turn::Learnt) => {
-                self.hear();
-                Ok(Turn::Learnt)
-            }
-            Some(turn) => {
-                self.look_back();
-                Ok(turn)
-            }
+            Some(turn) => match turn {
+                Turn::Learnt => {
+                    self.hear();
+                    Ok(Turn::Learnt)
+                }
+                other => {
+                    self.look_back();
+                    Ok(other)
+                }
+            },
         }
     }
 }

@@ -13,8 +13,10 @@
 mod aim;
 mod draws;
 mod explorer;
+mod laws;
 mod near;
 mod round;
 
 pub use draws::choose_free;
+pub use laws::{ended_near_workers_are_honest, near_turns_come_to_a_run};
 pub use near::NearWorker;

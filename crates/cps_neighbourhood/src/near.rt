@@ -79,6 +79,7 @@ impl<'a, P: Propagator> NearWorker<'a, P> {
         ensures turn { IfOk result (λ turn. TakesNearTurn self.old self.new
             (Q.rows port.old) (Q.part port.old) (Q.part port.new) turn) }
         ensures sound { OnOk result (IsSoundSearch self.old.search × IsSoundSearch self.new.search) }
+        ensures budget { OnOk result (self.old.search.budget ≡ None) }
         ensures refused { OnErr result (IsTrue self.new.search.refused) }
         ensures stays { IsTrue self.old.search.refused → IsErr result }
     {

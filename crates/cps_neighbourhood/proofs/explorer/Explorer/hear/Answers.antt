@@ -1,8 +1,6 @@
 use Rattle.std.proofs.Common.{length, sym, subst}
 use Rattle.cps_branch.specs.Activities.{ByActivity}
 use Rattle.cps_branch.specs.SetAside.{AreFixedAside}
-use Rattle.cps_neighbourhood.proofs.Taking.{turn_other}
-use Rattle.cps_neighbourhood.proofs.Learning.{turn_learnt}
 use Rattle.cps_neighbourhood.proofs.explorer.Explorer.hear.Goals as goal
 
 pub returns-clause-saw : goal.returns-clause-saw
