@@ -39,9 +39,9 @@ rank_most (At (pos n)) h = omega (arith, h, ints)
 rank_most (At (negsuc n)) h = omega (arith, h, ints)
 rank_most Infinite h = omega arith
 
-all_fit : (tally r rows taken top open : ℕ) → r < 2 ^ 63 + 1 → open < top → (((0 - tally) * (2 ^ 63 + 1) + r) * (rows + 1) + (rows - taken)) * top + open < (2 ^ 63 + 1) * (rows + 1) * top
-all_fit tally r rows taken top open l m =
-    digit_fits (((0 - tally) * (2 ^ 63 + 1) + r) * (rows + 1) + (rows - taken)) open ((2 ^ 63 + 1) * (rows + 1)) top
+all_fit : (tally r rows taken top values : ℕ) → r < 2 ^ 63 + 1 → values < top → (((0 - tally) * (2 ^ 63 + 1) + r) * (rows + 1) + (rows - taken)) * top + values < (2 ^ 63 + 1) * (rows + 1) * top
+all_fit tally r rows taken top values l m =
+    digit_fits (((0 - tally) * (2 ^ 63 + 1) + r) * (rows + 1) + (rows - taken)) values ((2 ^ 63 + 1) * (rows + 1)) top
     (digit_fits ((0 - tally) * (2 ^ 63 + 1) + r) (rows - taken) (2 ^ 63 + 1) (rows + 1) (omega (arith, l)) (omega arith)) m
 
 -- what is left of a search without a budget is less than this
