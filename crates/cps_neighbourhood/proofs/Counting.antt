@@ -1,24 +1,21 @@
 -- How many clauses a neighbourhood worker learns, by the rounds that it did, and what its turns come to.
-use Rattle.std.proofs.Common.{ℕ, ◌+◌, ◌*◌, ◌≤◌, ◌<◌, ℤ, ◌≡◌, ◌∙◌, ◌⊎◌, inl, inr, Option, Some, None, List, refl, sym, ap, subst, arith}
+use Rattle.std.proofs.Common.{ℕ, ◌+◌, ◌*◌, ◌≤◌, ◌<◌, ◌≡◌, ◌∙◌, ◌⊎◌, inl, inr, Option, Some, None, refl, sym, ap, subst, arith}
 use Rattle.rand_pcg.specs.Lcg.{Lcg}
-use Rattle.cps_model.specs.declared.bound.Bound.{Bound}
 use Rattle.cps_model.specs.declared.bound.Bound.TheVariants.{Infinite}
 use Rattle.cps_instance.specs.Problem.{Problem}
 use Rattle.cps_port.specs.declared.part.BoundsPart.{BoundsPart}
 use Rattle.cps_port.specs.declared.part.Part.{Part}
 use Rattle.cps_search.specs.declared.end.End.{End}
 use Rattle.cps_search.specs.declared.end.End.TheVariants as ends
-use Rattle.cps_search.specs.declared.end.Said.TheVariants.{Over}
 use Rattle.cps_search.specs.declared.end.WorkerKind.TheVariants as kinds
 use Rattle.cps_search.specs.declared.turn.Turn.{Turn}
 use Rattle.cps_search.specs.declared.turn.Turn.TheVariants as turns
 use Rattle.cps_search.specs.Following.{MovesWith}
-use Rattle.cps_search.specs.Moves.{fresh}
 use Rattle.cps_search.specs.Searches.{IsSoundSearch, Search}
 use Rattle.cps_search.specs.Turns.{SameRaised}
 use Rattle.cps_search.specs.Ends.{EndsAs, EndsRaised, IsHonestEnding, IsWhy, LastSawMet, end_of, ending, round_conflicts, round_count}
 use Rattle.cps_search.proofs.Ending.{honest_by}
-use Rattle.cps_search.proofs.Moving.{ends_by, moves_more, moves_same}
+use Rattle.cps_search.proofs.Moving.{ends_by, moves_more}
 use Rattle.cps_search.proofs.Turning.{setting_trans}
 use Rattle.cps_search.proofs.Working.{HasRun, run_begins}
 use Rattle.cps_neighbourhood.specs.Nears.{BeginsNear, Near, NearCaused, NearEndsBy, NearRunsInTurns, NearRunsTo, TakesNearTurn, TakesNearTurns, aimed, learnt_in, none_yet, one_more}

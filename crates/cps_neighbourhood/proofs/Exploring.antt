@@ -1,19 +1,17 @@
 -- How a worker keeps what it keeps between two turns, where it decides.
-use Rattle.std.specs.Prelude.{All, IfSome}
-use Rattle.std.proofs.Common.{ℕ, ◌+◌, ◌*◌, ◌^◌, ◌≤◌, ◌<◌, ℤ, ◌≡◌, ◌∙◌, ◌⊎◌, inl, inr, Bool, true, false, cond, min, Option, Some, None, List, [], ◌∷◌, ◌++◌, length, get_or, refl, sym, ap, subst, arith, length-append}
+use Rattle.std.specs.Prelude.{All}
+use Rattle.std.proofs.Common.{ℕ, ◌+◌, ◌*◌, ◌≤◌, ◌<◌, ℤ, ◌≡◌, ◌∙◌, inr, Bool, true, false, cond, Option, Some, None, List, [], ◌∷◌, length, refl, sym, ap, subst, arith, length-append}
 use Rattle.std.proofs.lemmas.List.Elements.{All-cons, All-nil}
-use Rattle.rand_pcg.specs.Lcg.{Lcg}
 use Rattle.cps_literal.specs.declared.atom.Atom.{Atom}
 use Rattle.cps_instance.specs.Problem.{Problem, variable_count}
 use Rattle.cps_trail.specs.Trail.{Domains, Trail, Entry, Decision}
 use Rattle.cps_branch.specs.Agreeing.{aside_kept_on}
-use Rattle.cps_branch.specs.Choice.{IsUndecided}
 use Rattle.cps_branch.specs.Hints.{ChoosesHinted}
-use Rattle.cps_branch.specs.Scope.{IsScopeOf, Scope}
+use Rattle.cps_branch.specs.Scope.{IsScopeOf}
 use Rattle.cps_branch.specs.SetAside.{AreFixedAside}
 use Rattle.cps_search.specs.Searches.{IsSoundSearch, Search}
 use Rattle.cps_search.specs.declared.end.Said.{Said}
-use Rattle.cps_search.specs.declared.end.Said.TheVariants.{Due}
+use Rattle.cps_search.specs.declared.end.Said.TheVariants.{Due, Nothing}
 use Rattle.cps_search.specs.Moves.{decided, moved}
 use Rattle.cps_search.specs.Turns.{SameSetting}
 use Rattle.cps_search.specs.Ends.{Decides, IsOver, round_conflicts, round_count}
@@ -23,8 +21,8 @@ use Rattle.cps_neighbourhood.specs.declared.aim.Aim.{Aim}
 use Rattle.cps_neighbourhood.specs.declared.explorer.Explorer.{Explorer}
 use Rattle.cps_neighbourhood.specs.declared.round.Progress.{Progress}
 use Rattle.cps_neighbourhood.specs.Exploring.{IsExploring, near_of}
-use Rattle.cps_neighbourhood.specs.Nears.{DecidesInRound, Near, draws_now, draws_or_after, learnt_in, round_now, round_or_first}
-use Rattle.cps_neighbourhood.specs.Rounds.{IsFirstOpen, NoneOpen, Round, first_round, fixed_from, has_value, is_on, to_decide}
+use Rattle.cps_neighbourhood.specs.Nears.{DecidesInRound, draws_now, draws_or_after, learnt_in, round_now, round_or_first}
+use Rattle.cps_neighbourhood.specs.Rounds.{IsFirstOpen, NoneOpen, Round, fixed_from, has_value, is_on, to_decide}
 use Rattle.cps_neighbourhood.specs.Standing.{IsUnderWay, round_if, round_of, solution_of}
 use Rattle.cps_neighbourhood.proofs.Keeping.{way_begins, way_chosen, way_decided}
 
@@ -35,12 +33,6 @@ round_in b r e = ap (λ (c : Bool). round_if c r) e
 
 pub round_out : (b : Bool) (r : Progress) → b ≡ false → round_if b r ≡ None
 round_out b r e = ap (λ (c : Bool). round_if c r) e
-
-pub round_same : (r u : Progress) → u.decisions.items ≡ r.decisions.items → u.learnt ≡ r.learnt → round_of u ≡ round_of r
-round_same r u decisions learnt = cc
-
-pub round_if_same : (b : Bool) (r u : Progress) → u.decisions.items ≡ r.decisions.items → u.learnt ≡ r.learnt → round_if b u ≡ round_if b r
-round_if_same b r u decisions learnt = ap (λ (o : Round). cond b (Some o) None) (round_same r u decisions learnt)
 
 pub round_now_in : {P : Type 0} (x : Explorer P) → x.in_round ≡ true → round_now (near_of x) ≡ round_of x.round
 round_now_in x e = ap (λ (b : Bool). round_or_first (variable_count x.frame.problem) (solution_of x.aim) x.draws (round_if b x.round)) e
@@ -53,6 +45,10 @@ draws_now_in x e = ap (λ (b : Bool). draws_or_after (variable_count x.frame.pro
 -- where a decision is due, the worker has not ended
 pub due_runs : (said : Said) → said ≡ Due → IsOver said → ⊥
 due_runs said e = subst (λ (x : Said). IsOver x → ⊥) (sym e) (λ h. h)
+
+-- nor where nothing was said
+pub not_over : (said : Said) → said ≡ Nothing → IsOver said → ⊥
+not_over said e = subst (λ (x : Said). IsOver x → ⊥) (sym e) (λ h. h)
 
 pub explores_on : {P : Type 0} (x y : Explorer P) → IsExploring x → IsSoundSearch y.frame → SameSetting x.frame y.frame → y.frame.imported ≤ 4096 → length y.brancher.activities ≡ length x.brancher.activities
     → y.conflicts ≡ x.conflicts → y.aim ≡ x.aim → y.kept ≤ length y.frame.trail.entries → AreFixedAside (length y.brancher.activities) y.brancher.aside y.frame.trail y.kept → y.rounds ≤ round_count x.conflicts
@@ -153,39 +149,6 @@ chosen_in x y on none d stays in_round round draws rounds conflicts aim =
         aim = ap (λ (a : Aim). solution_of a) aim;
       };
     }
-
--- a decision in a round that was entered is one of the worker before it
-pub entered_open : (s e t : Near) (a : Atom) → e ≡ record s { round = Some (round_now s); draws = draws_now s } → IsUndecided s.search.trail a → IsFirstOpen (round_now s).decisions s.search.trail a → t ≡ record e { search = moved e.search (decided e.search.trail a) e.search.rested } → DecidesInRound s t
-entered_open s e t a entered undecided first is =
-    let whole : t ≡ record s { search = moved s.search (decided s.search.trail a) s.search.rested; round = Some (round_now s); draws = draws_now s } = is ∙ ap (λ (n : Near). record n { search = moved n.search (decided n.search.trail a) n.search.rested }) entered in
-    record {
-      one = record { atom = a; undecided = undecided; chosen = inl first; is = ap (λ (n : Near). n.search) whole };
-      rest = record {
-        round = ap (λ (n : Near). n.round) whole;
-        draws = ap (λ (n : Near). n.draws) whole;
-        rounds = ap (λ (n : Near). n.rounds) whole;
-        activities = ap (λ (n : Near). n.brancher.activities) whole;
-        pace = ap (λ (n : Near). n.brancher.pace) whole;
-        hints = ap (λ (n : Near). n.brancher.hints) whole;
-        conflicts = ap (λ (n : Near). n.conflicts) whole;
-        aim = ap (λ (n : Near). n.aim) whole;
-      };
-    }
-
-pub entered_chosen : (s e t : Near) → e ≡ record s { round = Some (round_now s); draws = draws_now s } → DecidesInRound e t → DecidesInRound s t
-entered_chosen s e t entered = subst (λ (n : Near). DecidesInRound n t → DecidesInRound s t) (sym entered) (λ h. record {
-  one = h.one;
-  rest = record {
-    round = h.rest.round;
-    draws = h.rest.draws;
-    rounds = h.rest.rounds;
-    activities = h.rest.activities;
-    pace = h.rest.pace;
-    hints = h.rest.hints;
-    conflicts = h.rest.conflicts;
-    aim = h.rest.aim;
-  };
-})
 
 -- ---- a round that begins
 

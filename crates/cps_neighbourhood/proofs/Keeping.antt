@@ -1,7 +1,7 @@
 -- How progress in a round goes on agreeing with a store.
 use Rattle.std.specs.Prelude.{All, Contains, nat_le}
 use Rattle.std.specs.List.{Any, filter}
-use Rattle.std.proofs.Common.{ℕ, zero, suc, ◌+◌, ◌≤◌, ◌<◌, ℤ, ◌≡◌, ◌∙◌, ◌⊎◌, inl, inr, Bool, true, false, cond, min, List, [], ◌∷◌, ◌++◌, length, get_or, take, drop, refl, sym, ap, subst, arith, length-append}
+use Rattle.std.proofs.Common.{ℕ, zero, suc, ◌+◌, ◌≤◌, ◌<◌, ℤ, ◌≡◌, ◌∙◌, ◌⊎◌, inl, inr, Bool, true, false, cond, min, List, [], ◌∷◌, ◌++◌, length, get_or, drop, refl, sym, ap, subst, arith, length-append}
 use Rattle.std.proofs.lemmas.Bool.{leb-true, le-leb}
 use Rattle.std.proofs.lemmas.List.{get_or_append_left, take-append-drop}
 use Rattle.std.proofs.Math.Seq.{get_or-append_seam}
@@ -13,7 +13,7 @@ use Rattle.cps_trail.proofs.Marks.{up_to-all, up_to-append_above, up_to-up_to}
 use Rattle.cps_branch.specs.Choice.{IsUndecided}
 use Rattle.cps_search.specs.Ends.{round_conflicts}
 use Rattle.cps_neighbourhood.specs.declared.round.Progress.{Progress}
-use Rattle.cps_neighbourhood.specs.Rounds.{EndsRound, IsOfRound, IsRefuted, NoneOpen}
+use Rattle.cps_neighbourhood.specs.Rounds.{EndsRound, IsOfRound, NoneOpen}
 use Rattle.cps_neighbourhood.specs.Standing.{EndsAt, IsUnderWay, at_end_of, round_of}
 
 -- what a store leaves undecided an earlier one did that left at least its values

@@ -1,6 +1,6 @@
 -- A neighbourhood worker's turns do not go on for ever: a number for what is left, which each turn but the last makes less.
 use Rattle.std.specs.Prelude.{negsuc}
-use Rattle.std.proofs.Common.{ℕ, ◌+◌, ◌-◌, ◌*◌, ◌^◌, ◌≤◌, ◌<◌, ℤ, pos, ◌≡◌, ◌∙◌, Option, Some, None, [], length, sym, ap, subst, arith}
+use Rattle.std.proofs.Common.{ℕ, ◌+◌, ◌-◌, ◌*◌, ◌^◌, ◌≤◌, ◌<◌, pos, ◌≡◌, ◌∙◌, Option, None, [], length, sym, ap, subst, arith}
 use Rattle.std.proofs.lemmas.Int.{ints}
 use Rattle.std.proofs.Math.Nat.{mul-le-mul_right}
 use Rattle.cps_model.specs.declared.bound.Bound.{Bound}

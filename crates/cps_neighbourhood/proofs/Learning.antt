@@ -1,6 +1,5 @@
 -- What a turn does in which a clause is learnt: the round ends, or goes on.
-use Rattle.std.specs.Prelude.{All}
-use Rattle.std.proofs.Common.{ℕ, ◌+◌, ◌*◌, ◌^◌, ◌≤◌, ◌<◌, ◌≡◌, ◌∙◌, ◌⊎◌, inl, inr, Bool, true, false, cond, min, Option, Some, None, List, [], ◌∷◌, ◌++◌, length, refl, sym, ap, subst, arith}
+use Rattle.std.proofs.Common.{ℕ, ◌+◌, ◌*◌, ◌≤◌, ◌<◌, ◌≡◌, ◌∙◌, ◌⊎◌, inl, inr, Bool, true, false, min, Option, Some, List, [], ◌∷◌, ◌++◌, length, refl, sym, ap, subst, arith}
 use Rattle.cps_model.specs.declared.bound.Bound.{Bound}
 use Rattle.cps_literal.specs.declared.atom.Atom.{Atom}
 use Rattle.cps_trail.specs.Trail.{Entry, Trail, up_to}
@@ -8,17 +7,13 @@ use Rattle.cps_trail.proofs.Marks.{up_to-up_to}
 use Rattle.cps_port.specs.declared.part.Part.{Part}
 use Rattle.cps_clauses.specs.declared.journal.JournalItem.{JournalItem}
 use Rattle.cps_clauses.specs.declared.journal.JournalItem.TheVariants as items
-use Rattle.cps_branch.specs.Activities.{ByActivity}
 use Rattle.cps_branch.specs.Agreeing.{aside_kept_on}
 use Rattle.cps_branch.specs.SetAside.{AreFixedAside}
-use Rattle.cps_search.specs.declared.end.Said.{Said}
-use Rattle.cps_search.specs.declared.end.Said.TheVariants.{Nothing}
-use Rattle.cps_search.specs.declared.turn.Turn.{Turn}
 use Rattle.cps_search.specs.declared.turn.Turn.TheVariants as turns
 use Rattle.cps_search.specs.Lessons.{GoesBack}
 use Rattle.cps_search.specs.Searches.{IsSoundSearch, Search}
 use Rattle.cps_search.specs.Shelves.{HasLearnt, Shelf}
-use Rattle.cps_search.specs.Turns.{BackAsLearnt, BackToBottom, GoesOnAndBack, LearntOne, Steps}
+use Rattle.cps_search.specs.Turns.{BackAsLearnt, BackToBottom, LearntOne, Steps}
 use Rattle.cps_search.specs.Ends.{IsOver, Stands, round_conflicts, round_count}
 use Rattle.cps_search.proofs.Moving.{turn_moves}
 use Rattle.cps_search.proofs.Turning.{setting_trans}
@@ -28,13 +23,10 @@ use Rattle.cps_neighbourhood.specs.declared.explorer.Explorer.{Explorer}
 use Rattle.cps_neighbourhood.specs.declared.round.Progress.{Progress}
 use Rattle.cps_neighbourhood.specs.Exploring.{IsExploring, KeepsRest, RoundEnds, RoundGoesOn, near_of}
 use Rattle.cps_neighbourhood.specs.Nears.{EndedRound, HeardClause, LearntInRound, NearLowers, TakesNearTurn, WentOnInRound, fewer_conflicts, fewer_rounds, learnt_in}
-use Rattle.cps_neighbourhood.specs.Rounds.{EndsRound, Round}
+use Rattle.cps_neighbourhood.specs.Rounds.{Round}
 use Rattle.cps_neighbourhood.specs.Standing.{EndsAt, IsUnderWay, round_if, round_of, solution_of}
-use Rattle.cps_neighbourhood.proofs.Exploring.{explores_on, round_in, round_out}
+use Rattle.cps_neighbourhood.proofs.Exploring.{explores_on, not_over, round_in, round_out}
 use Rattle.cps_neighbourhood.proofs.Keeping.{ends_by_level, level_by_ends, way_back}
-
-not_over : (said : Said) → said ≡ Nothing → IsOver said → ⊥
-not_over said e = subst (λ (x : Said). IsOver x → ⊥) (sym e) (λ h. h)
 
 clash : {t : Bool} → t ≡ false → t ≡ true → ⊥
 clash e f = absurd (cc)
@@ -73,7 +65,7 @@ few_learnt x f rows p q h running one = (h.under_way running (was_in x h (omega 
 
 -- What was heard: the worker x before the turn, its search f after the steps, and the worker y after the turn.
 module _ {P : Type 0} (x y : Explorer P) (f : Search) (rows : ℕ) (p q : Part) (h : IsExploring x) (running : IsOver x.frame.said → ⊥) (left : x.rounds < round_count x.conflicts) (steps : Steps x.frame f rows p q (Some turns.Learnt))
-  (ends : EndsAt x.round f.trail.level → RoundEnds (record x { frame = f }) y) (goes_on : (EndsAt x.round f.trail.level → ⊥) → RoundGoesOn (record x { frame = f }) y) (rest : KeepsRest (record x { frame = f }) y) where
+    (ends : EndsAt x.round f.trail.level → RoundEnds (record x { frame = f }) y) (goes_on : (EndsAt x.round f.trail.level → ⊥) → RoundGoesOn (record x { frame = f }) y) (rest : KeepsRest (record x { frame = f }) y) where
   one : LearntOne x.frame f rows p q
   one = steps.cause.0
 

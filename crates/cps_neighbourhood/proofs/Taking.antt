@@ -1,6 +1,5 @@
 -- What a turn of a worker does, by its cause.
-use Rattle.std.specs.Prelude.{All, IsSome}
-use Rattle.std.proofs.Common.{ℕ, ◌+◌, ◌*◌, ◌^◌, ◌≤◌, ◌<◌, ℤ, ◌≡◌, ◌∙◌, ◌⊎◌, inl, inr, Bool, true, false, cond, min, Option, Some, None, List, [], ◌∷◌, ◌++◌, length, refl, sym, ap, subst, arith, length-append}
+use Rattle.std.proofs.Common.{ℕ, ◌+◌, ◌*◌, ◌≤◌, ◌<◌, ℤ, ◌≡◌, ◌∙◌, inl, inr, min, Option, Some, None, List, [], ◌∷◌, ◌++◌, length, refl, sym, ap, subst, arith, length-append}
 use Rattle.std.proofs.lemmas.List.Elements.{All-weaker}
 use Rattle.rand_pcg.specs.Lcg.{Lcg}
 use Rattle.cps_model.specs.declared.bound.Bound.{Bound}
@@ -9,88 +8,36 @@ use Rattle.cps_model.specs.declared.model.CpModel.{CpModel}
 use Rattle.cps_model.specs.Solutions.{objective_value}
 use Rattle.cps_literal.specs.declared.atom.Atom.{Atom}
 use Rattle.cps_instance.specs.Problem.{Problem, variable_count}
-use Rattle.cps_trail.specs.Trail.{Domains, Trail, Entry, Decision, open_values, up_to}
+use Rattle.cps_trail.specs.Trail.{Trail, Entry, Decision, open_values}
 use Rattle.cps_trail.proofs.Room.{open_values-push}
 use Rattle.cps_port.specs.declared.entry.Entry.{Entry as BoardEntry}
 use Rattle.cps_port.specs.declared.part.BoardPart.{BoardPart}
 use Rattle.cps_port.specs.declared.part.Part.{Part}
 use Rattle.cps_port.specs.Says.{TookEntry}
-use Rattle.cps_clauses.specs.declared.journal.JournalItem.{JournalItem}
-use Rattle.cps_clauses.specs.declared.journal.JournalItem.TheVariants as items
 use Rattle.cps_branch.specs.Activities.{ByActivity}
 use Rattle.cps_branch.specs.Agreeing.{aside_kept_on}
 use Rattle.cps_branch.specs.SetAside.{AreFixedAside}
-use Rattle.cps_search.specs.declared.end.End.TheVariants as ends
 use Rattle.cps_search.specs.declared.end.Said.{Said}
-use Rattle.cps_search.specs.declared.end.Said.TheVariants.{Nothing, Due, Over}
+use Rattle.cps_search.specs.declared.end.Said.TheVariants.{Over}
 use Rattle.cps_search.specs.declared.turn.Turn.{Turn}
 use Rattle.cps_search.specs.declared.turn.Turn.TheVariants as turns
 use Rattle.cps_search.specs.Following.{MovesWith}
-use Rattle.cps_search.specs.Lessons.{GoesBack}
 use Rattle.cps_search.specs.Moves.{decided, moved}
-use Rattle.cps_search.specs.Rounds.{EndsRounds, EndsRoundsBy}
 use Rattle.cps_search.specs.Searches.{IsSoundSearch, Search}
-use Rattle.cps_search.specs.Shelves.{HasLearnt, Shelf}
-use Rattle.cps_search.specs.Turns.{BackAsLearnt, Caused, GoesOnAndBack, IsInferredAt, IsLess, IsOnward, LearntOne, SameSetting, Steps, TookNothing}
-use Rattle.cps_search.specs.Ends.{DecidedOne, Decides, IsOver, Lowers, Stands, end_of, fewer_rows, fewer_values, lesser_z, round_conflicts, round_count}
+use Rattle.cps_search.specs.Turns.{Caused, IsInferredAt, IsLess, IsOnward, Steps, TookNothing}
+use Rattle.cps_search.specs.Ends.{DecidedOne, Decides, IsOver, Lowers, fewer_rows, fewer_values, lesser_z, round_conflicts, round_count}
 use Rattle.cps_search.proofs.Bounds.{below_less, less_than}
 use Rattle.cps_search.proofs.Moving.{saw_open, turn_moves}
-use Rattle.cps_search.proofs.Turning.{setting_of, setting_trans, stays_there}
-use Rattle.cps_search.proofs.Working.{decided_one, imported_few, learnt_stands, same_back, setting_stands, stands_back}
+use Rattle.cps_search.proofs.Turning.{setting_of, setting_trans}
+use Rattle.cps_search.proofs.Working.{decided_one, imported_few, same_back}
 use Rattle.cps_neighbourhood.specs.declared.explorer.Explorer.{Explorer}
 use Rattle.cps_neighbourhood.specs.declared.round.Progress.{Progress}
-use Rattle.cps_neighbourhood.specs.Exploring.{IsExploring, KeepsRest, RoundEnds, RoundGoesOn, near_of}
-use Rattle.cps_neighbourhood.specs.Nears.{DecidesInRound, HeardClause, Near, SameRounds, TakesNearTurn, draws_or_after, fewer_conflicts, fewer_rounds, in_search, learnt_in, round_now, round_or_first}
-use Rattle.cps_neighbourhood.specs.Rounds.{ChoosesInRound, EndsRound, Round}
-use Rattle.cps_neighbourhood.specs.Standing.{EndsAt, IsUnderWay, round_if, round_of}
-use Rattle.cps_neighbourhood.proofs.Exploring.{due_runs, explores_on, learnt_same, round_in, round_out}
-use Rattle.cps_neighbourhood.proofs.Keeping.{ends_by_level, level_by_ends, way_back, way_onward, way_placed}
-
-not_over : (said : Said) → said ≡ Nothing → IsOver said → ⊥
-not_over said e = subst (λ (x : Said). IsOver x → ⊥) (sym e) (λ h. h)
-
-clash : {t : Bool} → t ≡ false → t ≡ true → ⊥
-clash e f = absurd (cc)
-
--- ---- all rounds are done
-
-pub turn_over : (s t : Near) (rows : ℕ) (p q : Part) (turn : Turn) → s.rounds ≡ round_count s.conflicts → EndsRounds s.search t.search p q turn → SameRounds s t → t.conflicts ≡ s.conflicts → t.aim ≡ s.aim → TakesNearTurn s t rows p q turn
-turn_over s t rows p q turns.SawClosed done h same conflicts aim =
-    record { setting = h.setting; conflicts = conflicts; aim = aim; store = λ _. stays_there s.search.trail t.search.trail h.store; cause = (h.cause, same); moves = h.moves; ends = ap (λ (x : Search). x.said) h.cause.same; lowers = λ e. absurd (cc e) }
-turn_over s t rows p q turns.RoundsDone done h same conflicts aim =
-    record { setting = h.setting; conflicts = conflicts; aim = aim; store = λ _. stays_there s.search.trail t.search.trail h.store; cause = (done, h.cause, same); moves = h.moves; ends = ap (λ (x : Search). x.said) h.cause.is; lowers = λ e. absurd (cc e) }
-turn_over s t rows p q turns.Imported done h same conflicts aim = absurd h.cause
-turn_over s t rows p q turns.Decided done h same conflicts aim = absurd h.cause
-turn_over s t rows p q turns.Learnt done h same conflicts aim = absurd h.cause
-turn_over s t rows p q turns.Found done h same conflicts aim = absurd h.cause
-turn_over s t rows p q turns.Exhausted done h same conflicts aim = absurd h.cause
-turn_over s t rows p q (turns.Spent clause below) done h same conflicts aim = absurd h.cause
-turn_over s t rows p q (turns.Reformed base) done h same conflicts aim = absurd h.cause
-
-over_same : (s t : Search) (p q : Part) (turn : Turn) → EndsRoundsBy s t p q turn → (t.imported ≡ s.imported) × (t.tally ≡ s.tally)
-over_same s t p q turns.SawClosed h = (ap (λ (x : Search). x.imported) h.same, ap (λ (x : Search). x.tally) h.same)
-over_same s t p q turns.RoundsDone h = (ap (λ (x : Search). x.imported) h.is, ap (λ (x : Search). x.tally) h.is)
-over_same s t p q turns.Imported h = absurd h
-over_same s t p q turns.Decided h = absurd h
-over_same s t p q turns.Learnt h = absurd h
-over_same s t p q turns.Found h = absurd h
-over_same s t p q turns.Exhausted h = absurd h
-over_same s t p q (turns.Spent clause below) h = absurd h
-over_same s t p q (turns.Reformed base) h = absurd h
-
-pub explores_over : {P : Type 0} (x y : Explorer P) (p q : Part) (turn : Turn) → IsExploring x → (IsOver x.frame.said → ⊥) → IsSoundSearch y.frame → EndsRounds x.frame y.frame p q turn → y.brancher ≡ x.brancher → y.kept ≡ x.kept → y.conflicts ≡ x.conflicts → y.aim ≡ x.aim → y.rounds ≡ x.rounds
-    → y.in_round ≡ x.in_round → y.round ≡ x.round → IsExploring y
-explores_over x y p q turn h running sound ended brancher kept conflicts aim rounds in_round round =
-    let same = over_same x.frame y.frame p q turn ended.cause in
-    explores_on x y h sound ended.setting (omega (arith, same.0, h.imported)) (ap (λ (b : ByActivity). length b.activities) brancher) conflicts aim
-    (omega (arith, kept, h.within, ap (λ (t : Trail). length t.entries) ended.store))
-    (subst (λ (b : ByActivity). AreFixedAside (length b.activities) b.aside y.frame.trail y.kept) (sym brancher)
-    (subst (λ (k : ℕ). AreFixedAside (length x.brancher.activities) x.brancher.aside y.frame.trail k) (sym kept)
-    (subst (λ (t : Trail). AreFixedAside (length x.brancher.activities) x.brancher.aside t x.kept) (sym ended.store) h.agreed)))
-    (omega (arith, rounds, h.rounds))
-    (omega (arith, same.1, h.tally, ap (λ (n : ℕ). round_conflicts * n) rounds, learnt_same x.in_round y.in_round x.round y.round in_round (ap (λ (r : Progress). r.learnt) round)))
-    (λ off. ap (λ (t : Trail). t.level) ended.store ∙ h.between (sym in_round ∙ off))
-    (λ _ on. subst (λ (t : Trail). IsUnderWay y.round t) (sym ended.store) (subst (λ (r : Progress). IsUnderWay r x.frame.trail) (sym round) (h.under_way running (sym in_round ∙ on))))
+use Rattle.cps_neighbourhood.specs.Exploring.{IsExploring}
+use Rattle.cps_neighbourhood.specs.Nears.{DecidesInRound, Near, SameRounds, TakesNearTurn, draws_or_after, in_search, learnt_in, round_now, round_or_first}
+use Rattle.cps_neighbourhood.specs.Rounds.{ChoosesInRound, Round}
+use Rattle.cps_neighbourhood.specs.Standing.{IsUnderWay}
+use Rattle.cps_neighbourhood.proofs.Exploring.{explores_on, learnt_same, not_over}
+use Rattle.cps_neighbourhood.proofs.Keeping.{way_back, way_onward, way_placed}
 
 -- ---- decisions
 
@@ -128,16 +75,22 @@ turn_decided s t f rows p q left sound steps h =
       conflicts = h.rest.conflicts;
       aim = h.rest.aim;
       store = λ not. absurd (not refl);
-      cause = (left, record { one = one; rest = record {
-        round = round;
-        draws = h.rest.draws ∙ ap (λ (x : Problem). draws_or_after (variable_count x) s.draws s.round) steps.setting.problem;
-        rounds = h.rest.rounds;
-        activities = h.rest.activities;
-        pace = h.rest.pace;
-        hints = h.rest.hints;
-        conflicts = h.rest.conflicts;
-        aim = h.rest.aim;
-      } });
+      cause = (
+        left,
+        record {
+          one = one;
+          rest = record {
+            round = round;
+            draws = h.rest.draws ∙ ap (λ (x : Problem). draws_or_after (variable_count x) s.draws s.round) steps.setting.problem;
+            rounds = h.rest.rounds;
+            activities = h.rest.activities;
+            pace = h.rest.pace;
+            hints = h.rest.hints;
+            conflicts = h.rest.conflicts;
+            aim = h.rest.aim;
+          };
+        },
+      );
       moves = moves;
       ends = not_over t.search.said (ap (λ (x : Search). x.said) h.one.is);
       lowers = λ _. in_search h.rest.rounds (ap (λ (o : Option Round). learnt_in o) round ∙ learnt_now (variable_count s.search.problem) s.aim s.draws s.round) (lowers_decided (ChoosesInRound (round_now s).decisions s.brancher) s.search t.search rows p q moves one);
@@ -167,14 +120,30 @@ explores_due x y rows p q h running sound steps brancher kept conflicts aim roun
 pub turn_other : (s t : Near) (rows : ℕ) (p q : Part) (turn : Turn) → s.rounds < round_count s.conflicts → IsSoundSearch s.search → s.search.budget ≡ None → Steps s.search t.search rows p q (Some turn) → (turn ≡ turns.Learnt → ⊥) → SameRounds s t → t.conflicts ≡ s.conflicts → t.aim ≡ s.aim
     → TakesNearTurn s t rows p q turn
 turn_other s t rows p q turns.Imported left sound budget h not same conflicts aim =
-    record { setting = h.setting; conflicts = conflicts; aim = aim; store = λ _. h.store; cause = (left, h.cause, same); moves = h.moves; ends = not_over t.search.said h.cause.said;
-      lowers = λ _. in_search same.rounds (ap (λ (o : Option Round). learnt_in o) same.round) (fewer_rows h.cause.tally h.moves.falls h.cause.takes.left (taken_more s.search.problem.model rows p.board q.board h.cause.entry h.cause.takes)) }
+    record {
+      setting = h.setting;
+      conflicts = conflicts;
+      aim = aim;
+      store = λ _. h.store;
+      cause = (left, h.cause, same);
+      moves = h.moves;
+      ends = not_over t.search.said h.cause.said;
+      lowers = λ _. in_search same.rounds (ap (λ (o : Option Round). learnt_in o) same.round) (fewer_rows h.cause.tally h.moves.falls h.cause.takes.left (taken_more s.search.problem.model rows p.board q.board h.cause.entry h.cause.takes));
+    }
 turn_other s t rows p q turns.Found left sound budget h not same conflicts aim =
     let v = objective_value s.search.problem.model h.cause.solution in
     let k = h.cause in
-    record { setting = h.setting; conflicts = conflicts; aim = aim; store = λ _. h.store; cause = (left, k, same); moves = h.moves; ends = not_over t.search.said k.said;
+    record {
+      setting = h.setting;
+      conflicts = conflicts;
+      aim = aim;
+      store = λ _. h.store;
+      cause = (left, k, same);
+      moves = h.moves;
+      ends = not_over t.search.said k.said;
       lowers = λ _. in_search same.rounds (ap (λ (o : Option Round). learnt_in o) same.round)
-          (lesser_z k.learnt.tally (subst (λ (b : Bound). IsLess b s.search.z) (sym k.z) (less_than (At v) k.before s.search.z (below_less v k.before k.below) (saw_open s.search p.bounds k.midway.bounds k.before k.begins.bounds).falls))) }
+          (lesser_z k.learnt.tally (subst (λ (b : Bound). IsLess b s.search.z) (sym k.z) (less_than (At v) k.before s.search.z (below_less v k.before k.below) (saw_open s.search p.bounds k.midway.bounds k.before k.begins.bounds).falls)));
+    }
 turn_other s t rows p q turns.Exhausted left sound budget h not same conflicts aim =
     record { setting = h.setting; conflicts = conflicts; aim = aim; store = λ _. h.store; cause = (left, h.cause, same); moves = h.moves; ends = h.cause.said; lowers = λ e. absurd (cc e) }
 turn_other s t rows p q turns.SawClosed left sound budget h not same conflicts aim =

@@ -1,9 +1,8 @@
 -- A worker whose memory was not refused is seen as it is, also where it was handed another solution.
-use Rattle.std.proofs.Common.{◌≡◌, ◌∙◌, ℤ, Bool, true, false, cond, Option, Some, None, List, length, ap, sym, arith}
+use Rattle.std.proofs.Common.{◌≡◌, ◌∙◌, ℤ, Bool, true, false, cond, Some, None, List, length, ap, sym, arith}
 use Rattle.cps_neighbourhood.specs.declared.aim.Aim.{Aim}
 use Rattle.cps_neighbourhood.specs.declared.explorer.Explorer.{Explorer}
 use Rattle.cps_neighbourhood.specs.Exploring.{IsExploring, near_as, near_of}
-use Rattle.cps_neighbourhood.specs.Nears.{Near}
 use Rattle.cps_neighbourhood.specs.Standing.{solution_of}
 
 pub as_running : {P : Type 0} (x : Explorer P) → IsExploring x → near_as false (near_of x) ≡ near_of x

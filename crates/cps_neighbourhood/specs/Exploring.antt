@@ -1,5 +1,5 @@
 -- What a worker without its end keeps between two turns, and what a learnt clause does to it.
-use Rattle.std.specs.Prelude.{◌≡◌, ℕ, ◌+◌, ◌*◌, ◌^◌, ◌≤◌, Bool, true, false, None, length}
+use Rattle.std.specs.Prelude.{◌≡◌, ◌+◌, ◌*◌, ◌^◌, ◌≤◌, Bool, true, false, None, length}
 use Rattle.cps_instance.specs.Problem.{variable_count}
 use Rattle.cps_branch.specs.Scope.{IsScopeOf}
 use Rattle.cps_branch.specs.SetAside.{AreFixedAside}

@@ -1,5 +1,5 @@
 -- What a neighbourhood worker knows, and what it does in a turn and in a run.
-use Rattle.std.specs.Prelude.{◌≡◌, ℕ, ◌+◌, ◌<◌, ℤ, Bool, Option, Some, None, List, length}
+use Rattle.std.specs.Prelude.{◌≡◌, ℕ, ◌+◌, ◌<◌, ℤ, Bool, Option, Some, None, List}
 use Rattle.rand_pcg.specs.Lcg.{Lcg}
 use Rattle.cps_model.specs.Solutions.{IsSolution}
 use Rattle.cps_literal.specs.declared.atom.Atom.{Atom}

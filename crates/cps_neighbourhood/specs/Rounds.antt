@@ -9,7 +9,7 @@ use Rattle.cps_branch.specs.Activities.{ByActivity}
 use Rattle.cps_branch.specs.Choice.{IsUndecided}
 use Rattle.cps_branch.specs.Hints.{ChoosesHinted}
 use Rattle.cps_search.specs.Ends.{round_conflicts}
-use Rattle.cps_neighbourhood.specs.Drawing.{after_words, sample}
+use Rattle.cps_neighbourhood.specs.Drawing.{sample}
 
 -- how many of n variables a round frees
 abbrev pub free_count : ℕ → ℕ

@@ -2,7 +2,7 @@
 use Rattle.std.specs.Prelude.{◌≡◌, ◌⊎◌, ℕ, ◌+◌, ◌<◌, ◌≤◌, ℤ, if◌then◌else◌, Bool, Option, Some, None, List, length, slice_index_or, All}
 use Rattle.std.specs.List.{Any}
 use Rattle.cps_literal.specs.declared.atom.Atom.{Atom}
-use Rattle.cps_trail.specs.Trail.{Trail, Entry, up_to}
+use Rattle.cps_trail.specs.Trail.{Trail, up_to}
 use Rattle.cps_branch.specs.Choice.{IsUndecided}
 use Rattle.cps_search.specs.Ends.{round_conflicts}
 use Rattle.cps_neighbourhood.specs.declared.aim.Aim.{Aim}

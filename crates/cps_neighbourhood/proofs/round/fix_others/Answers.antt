@@ -1,5 +1,5 @@
 use Rattle.std.specs.Prelude.{IsTrue}
-use Rattle.std.proofs.Common.{ℕ, ℤ, pos, ◌+◌, ◌≤◌, ◌<◌, ◌≡◌, ◌∙◌, false, [], ◌∷◌, ◌++◌, length, get_or, drop, refl, sym, ap, subst, arith}
+use Rattle.std.proofs.Common.{ℕ, pos, ◌+◌, ◌≤◌, ◌<◌, ◌≡◌, ◌∙◌, false, [], ◌∷◌, ◌++◌, length, get_or, drop, refl, sym, ap, subst, arith}
 use Rattle.cps_literal.specs.declared.atom.Atom.{Atom}
 use Rattle.cps_neighbourhood.specs.Rounds.{fixed_from}
 use Rattle.cps_neighbourhood.proofs.Freeing.{after_next, after_other, before_next, step_fixed, step_free}

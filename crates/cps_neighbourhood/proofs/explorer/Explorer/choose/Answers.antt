@@ -1,4 +1,4 @@
-use Rattle.std.proofs.Common.{◌+◌, ◌≡◌, ◌∙◌, length, refl, ap, subst, arith}
+use Rattle.std.proofs.Common.{◌≡◌, length, refl, ap, subst, arith}
 use Rattle.cps_trail.specs.Trail.{Trail, IsSound}
 use Rattle.cps_branch.specs.Scope.{Scope}
 use Rattle.cps_neighbourhood.proofs.Exploring.{chosen_decided, chosen_in}

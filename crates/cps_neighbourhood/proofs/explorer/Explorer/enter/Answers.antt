@@ -1,4 +1,4 @@
-use Rattle.std.proofs.Common.{◌≡◌, false, length, refl, ap, subst, arith}
+use Rattle.std.proofs.Common.{length, refl, subst}
 use Rattle.cps_trail.specs.Trail.{Trail, IsSound}
 use Rattle.cps_neighbourhood.specs.Rounds.{freed}
 use Rattle.cps_neighbourhood.proofs.Exploring.{begun}

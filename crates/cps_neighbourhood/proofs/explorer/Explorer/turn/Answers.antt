@@ -1,11 +1,10 @@
-use Rattle.std.proofs.Common.{◌<◌, ◌≡◌, ◌∙◌, Option, Some, None, min, refl, sym, ap, subst, arith}
-use Rattle.cps_branch.specs.Activities.{ByActivity}
+use Rattle.std.proofs.Common.{◌<◌, ◌≡◌, ◌∙◌, Option, Some, min, refl, sym, ap, subst, arith}
 use Rattle.cps_search.specs.declared.turn.Turn.{Turn}
 use Rattle.cps_search.specs.declared.turn.Turn.TheVariants.{Learnt}
 use Rattle.cps_search.specs.Ends.{round_count}
 use Rattle.cps_search.specs.Searches.{IsSoundSearch, Search}
 use Rattle.cps_search.specs.Turns.{Steps}
-use Rattle.cps_neighbourhood.specs.Nears.{Near, TakesNearTurn}
+use Rattle.cps_neighbourhood.specs.Nears.{Near}
 use Rattle.cps_neighbourhood.specs.Exploring.{near_of}
 use Rattle.cps_neighbourhood.proofs.Learning.{explores_learnt, turn_learnt}
 use Rattle.cps_neighbourhood.proofs.Taking.{explores_due, explores_other, turn_decided, turn_other}
