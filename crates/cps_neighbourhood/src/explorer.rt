@@ -91,7 +91,10 @@ impl<'a, P: Propagator> Explorer<'a, P> {
     /// Begins a round if none is under way: it takes up the aim.
     fn enter(&mut self) -> Result<(), AllocError>
         requires exploring { IsExploring self.old }
-        ensures near { OnOk result (near_of self.new ≡ record (near_of self.old) { round = Some (round_now (near_of self.old)); draws = draws_now (near_of self.old) }) }
+        ensures near { OnOk result (near_of self.new ≡ record (near_of self.old) {
+          round = Some (round_now (near_of self.old));
+          draws = draws_now (near_of self.old);
+        }) }
         ensures in_round { OnOk result (IsTrue self.new.in_round) }
         ensures exploring { OnOk result (IsExploring self.new) }
     {
@@ -111,7 +114,9 @@ impl<'a, P: Propagator> Explorer<'a, P> {
         requires due { self.old.frame.said ≡ Said.Due }
         requires open { IsFirstOpen self.old.round.decisions.items self.old.frame.trail atom }
         requires held { self.old.round.held ≡ self.old.frame.trail.level }
-        ensures near { OnOk result (near_of self.new ≡ record (near_of self.old) { search = moved self.old.frame (decided self.old.frame.trail atom) self.old.frame.rested }) }
+        ensures near { OnOk result (near_of self.new ≡ record (near_of self.old) {
+          search = moved self.old.frame (decided self.old.frame.trail atom) self.old.frame.rested;
+        }) }
         ensures exploring { OnOk result (IsExploring self.new) }
     {
         self.frame.decide(atom)?;
@@ -205,7 +210,8 @@ impl<'a, P: Propagator> Explorer<'a, P> {
         ensures rest { KeepsRest self.old self.new }
         ensures kept { self.new.kept ≡ min self.old.kept (length self.new.frame.trail.entries) }
         ensures size { length self.new.brancher.activities ≡ length self.old.brancher.activities }
-        ensures saw { (s : Trail) (k : ℕ) → AreFixedAside (length self.old.brancher.activities) self.old.brancher.aside s k
+        ensures saw { (s : Trail) (k : ℕ)
+            → AreFixedAside (length self.old.brancher.activities) self.old.brancher.aside s k
             → AreFixedAside (length self.new.brancher.activities) self.new.brancher.aside s k }
         ensures sound { self.old.frame.refused ≡ false → IsSoundSearch self.old.frame → IsSoundSearch self.new.frame }
     {

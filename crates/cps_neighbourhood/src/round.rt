@@ -99,8 +99,10 @@ fn first_open(store: &Store, decisions: &[Atom], from: usize) -> usize
     requires { All (λ t. t.subject < length store.now.first) decisions.now }
     ensures after { from ≤ length decisions.now → from ≤ result }
     ensures within { result ≤ length decisions.now }
-    ensures passed { (j : ℕ) (d : AtomOf) → from ≤ j → j < result → IsUndecided store.now (slice_index_or decisions.now j d) → ⊥ }
-    ensures here { (d : AtomOf) → result < length decisions.now → IsUndecided store.now (slice_index_or decisions.now result d) }
+    ensures passed { (j : ℕ) (d : AtomOf) → from ≤ j → j < result
+        → IsUndecided store.now (slice_index_or decisions.now j d) → ⊥ }
+    ensures here { (d : AtomOf) → result < length decisions.now
+        → IsUndecided store.now (slice_index_or decisions.now result d) }
 {
     for (place, atom) in decisions.iter().enumerate() {
         if from <= place && is_open(store, *atom) {
@@ -129,10 +131,12 @@ impl Progress {
         }
     }
 
-    /// The first round over an aim's variables: it frees as many as it is to, drawn by a generator, and is to decide the others' values.
+    /// The first round over an aim's variables: it frees as many as it is to, drawn by a generator, and is to decide the
+    /// others' values.
     pub fn begin(alloc: Global, aim: &Aim, draws: &mut Lcg64Xsh32) -> Result<Self, AllocError>
         requires { length aim.now.values.items ≤ 2 ^ 31 }
-        ensures is { IfOk result (λ r. round_of r ≡ first_round (length aim.now.values.items) (solution_of aim.now) draws.old) }
+        ensures is { IfOk result (λ r. round_of r
+            ≡ first_round (length aim.now.values.items) (solution_of aim.now) draws.old) }
         ensures draws { OnOk result (draws.new ≡ after_words (length aim.now.values.items) draws.old) }
         ensures held { IfOk result (λ r. r.held ≡ 0) }
         ensures place { IfOk result (λ r. r.place ≡ 0) }
@@ -155,7 +159,8 @@ impl Progress {
         ensures learnt { self.new.learnt ≡ self.old.learnt }
         ensures held { self.new.held ≡ self.old.held }
         ensures none { IsNone result → NoneOpen self.old.decisions.items store.now }
-        ensures some { IfSome result (λ t. IsFirstOpen self.old.decisions.items store.now t × (self.old.held ≡ store.now.level)) }
+        ensures some { IfSome result (λ t. IsFirstOpen self.old.decisions.items store.now t
+            × (self.old.held ≡ store.now.level)) }
         ensures under_way { IsUnderWay self.new store.now }
         ensures sound { IsSound store.now }
     {
