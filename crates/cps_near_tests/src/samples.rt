@@ -6,6 +6,7 @@ use std::alloc::{AllocError, Global};
 
 /// A seed and a stream, below which number and how many are drawn, the first and the second sample, and the word after
 /// them.
+#[derive(Clone, Copy)]
 struct Row {
     seed: u64,
     stream: u64,
