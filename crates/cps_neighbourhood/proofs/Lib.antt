@@ -1,0 +1,9 @@
+pub mod Sampling
+pub mod Freeing
+pub mod Keeping
+pub mod Exploring
+pub mod Taking
+pub mod Learning
+pub mod Counting
+pub mod Lasting
+pub mod Viewing

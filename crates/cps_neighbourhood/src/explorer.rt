@@ -1,0 +1,273 @@
+//! What a neighbourhood worker does in a turn, with no thought of memory that was refused.
+
+ghost use Rattle.std.specs.Prelude.{◌≡◌, ◌↔◌, ℕ, ◌+◌, ◌<◌, ◌≤◌, ◌^◌, min, length, true, false, IfOk, OnOk, IsTrue, List, [], ◌∷◌, ◌++◌, None, Some};
+ghost use Rattle.cps_model.specs.declared.bound.Bound.{Bound as BoundOf};
+ghost use Rattle.cps_literal.specs.declared.atom.Atom.{Atom as AtomOf};
+ghost use Rattle.cps_clauses.specs.declared.journal.JournalItem.{JournalItem as JournalItemOf};
+ghost use Rattle.cps_trail.specs.Trail.{Trail};
+ghost use Rattle.cps_instance.specs.Problem.{variable_count};
+ghost use Rattle.cps_branch.specs.Fixed.{AreFixed};
+ghost use Rattle.cps_branch.specs.SetAside.{AreFixedAside};
+ghost use Rattle.cps_search.specs.Searches.{HasNoAssumptions, IsSettled, IsSoundSearch};
+ghost use Rattle.cps_search.specs.Ends.{Decides, IsOver, round_count, round_conflicts};
+ghost use Rattle.cps_search.specs.Moves.{decided, moved};
+ghost use Rattle.cps_neighbourhood.specs.Rounds.{ChoosesInRound, IsFirstOpen, NoneOpen};
+ghost use Rattle.cps_neighbourhood.specs.Nears.{BeginsNear, DecidesInRound, HeardClause, TakesNearTurn, draws_now, round_now};
+ghost use Rattle.cps_neighbourhood.specs.Standing.{EndsAt, round_of};
+ghost use Rattle.cps_neighbourhood.specs.Exploring.{IsExploring, KeepsRest, RoundEnds, RoundGoesOn, near_of};
+
+use crate::aim::Aim;
+use crate::draws::draws_of;
+use crate::round::{LENGTH, Progress};
+use cps_branch::ActivityBrancher;
+use cps_clauses::JournalItem;
+use cps_instance::Instance;
+use cps_literal::Atom;
+use cps_port::Port;
+use cps_propagate::{Engine, Propagator};
+use cps_search::{Frame, Said, Turn, decide_next, hear_last, still_kept};
+use rand_pcg::Lcg64Xsh32;
+use std::alloc::{AllocError, Global};
+
+/// How many rounds a worker does that goes by so many conflicts.
+fn round_count(conflicts: u64) -> u64
+    ensures { result ≡ round_count conflicts }
+{
+    1 + conflicts / LENGTH
+}
+
+/// A neighbourhood worker while it has memory.
+#[derive(Drop)]
+pub(crate) struct Explorer<'a, P: Propagator> {
+    alloc: Global,
+    pub frame: Frame<'a, P>,
+    pub brancher: ActivityBrancher,
+    /// How many of the store's first entries are those that the brancher saw last.
+    pub kept: usize,
+    /// For how many conflicts it does its rounds.
+    pub conflicts: u64,
+    pub draws: Lcg64Xsh32,
+    pub aim: Aim,
+    /// How many rounds ended.
+    pub rounds: u64,
+    /// The round that is under way, if one is.
+    pub round: Progress,
+    pub in_round: bool,
+}
+
+impl<'a, P: Propagator> Explorer<'a, P> {
+    /// A worker that knows nothing yet, on one of the streams of a seed.
+    pub fn new(
+        alloc: Global,
+        instance: Instance<'a>,
+        engine: Engine<P>,
+        conflicts: u64,
+        draws: Lcg64Xsh32,
+        gap: u64,
+    ) -> Result<Self, AllocError>
+        requires tasks { engine.tasks ≡ instance.tasks }
+        requires assumptions { HasNoAssumptions instance.model }
+        requires conflicts { conflicts ≤ 10 ^ 9 }
+        ensures begins { IfOk result (λ x. BeginsNear instance.entry gap conflicts draws (near_of x)) }
+        ensures exploring { IfOk result (λ x. IsExploring x) }
+    {
+        let brancher = ActivityBrancher::of(alloc, &instance)?;
+        let aim = Aim::new(alloc, instance.variable_count())?;
+        let frame = Frame::new(alloc, instance, engine, None, gap)?;
+        Ok(Explorer {
+            alloc,
+            frame,
+            brancher,
+            kept: 0,
+            conflicts,
+            draws,
+            aim,
+            rounds: 0,
+            round: Progress::none(alloc),
+            in_round: false,
+        })
+    }
+
+    /// Begins a round if none is under way: it takes up the aim.
+    fn enter(&mut self) -> Result<(), AllocError>
+        requires exploring { IsExploring self.old }
+        ensures near { OnOk result (near_of self.new ≡ record (near_of self.old) {
+          round = Some (round_now (near_of self.old));
+          draws = draws_now (near_of self.old);
+        }) }
+        ensures in_round { OnOk result (IsTrue self.new.in_round) }
+        ensures exploring { OnOk result (IsExploring self.new) }
+    {
+        // Only here is it known what holds of each store.
+        let _ = self.frame.store().entries();
+        if !self.in_round {
+            self.round = Progress::begin(self.alloc, &self.aim, &mut self.draws)?;
+            self.in_round = true;
+        }
+        Ok(())
+    }
+
+    /// Decides what the round has open, where a decision is due.
+    fn decide_open(&mut self, atom: Atom) -> Result<(), AllocError>
+        requires exploring { IsExploring self.old }
+        requires in_round { IsTrue self.old.in_round }
+        requires due { self.old.frame.said ≡ Said.Due }
+        requires open { IsFirstOpen self.old.round.decisions.items self.old.frame.trail atom }
+        requires held { self.old.round.held ≡ self.old.frame.trail.level }
+        ensures near { OnOk result (near_of self.new ≡ record (near_of self.old) {
+          search = moved self.old.frame (decided self.old.frame.trail atom) self.old.frame.rested;
+        }) }
+        ensures exploring { OnOk result (IsExploring self.new) }
+    {
+        self.frame.decide(atom)?;
+        self.round.held = self.frame.store().level();
+        Ok(())
+    }
+
+    /// Decides what the brancher chooses, where the round has nothing open.
+    fn choose(&mut self) -> Result<(), AllocError>
+        requires exploring { IsExploring self.old }
+        requires in_round { IsTrue self.old.in_round }
+        requires settled { IsSettled self.old.frame }
+        requires due { self.old.frame.said ≡ Said.Due }
+        requires left_open { AreFixed self.old.frame.trail (variable_count self.old.frame.problem) → ⊥ }
+        requires none { NoneOpen self.old.round.decisions.items self.old.frame.trail }
+        ensures decides { OnOk result (DecidesInRound (near_of self.old) (near_of self.new)) }
+        ensures exploring { OnOk result (IsExploring self.new) }
+    {
+        let seen = self.frame.store().entries().len();
+        decide_next(&mut self.frame, &mut self.brancher, self.kept)?;
+        self.kept = seen;
+        Ok(())
+    }
+
+    /// Decides in the round under way, or in one that begins.
+    fn decide(&mut self) -> Result<(), AllocError>
+        requires exploring { IsExploring self.old }
+        requires settled { IsSettled self.old.frame }
+        requires due { self.old.frame.said ≡ Said.Due }
+        requires left_open { AreFixed self.old.frame.trail (variable_count self.old.frame.problem) → ⊥ }
+        ensures decides { OnOk result (DecidesInRound (near_of self.old) (near_of self.new)) }
+        ensures exploring { OnOk result (IsExploring self.new) }
+    {
+        self.enter()?;
+        match self.round.next_open(self.frame.store()) {
+            Some(atom) => self.decide_open(atom),
+            None => self.choose(),
+        }
+    }
+
+    /// Ends the round: goes back to level 0.
+    fn end_round(&mut self)
+        requires few { self.old.rounds < 2 ^ 32 }
+        ensures ends { RoundEnds self.old self.new }
+        ensures rest { KeepsRest self.old self.new }
+        ensures brancher { (self.new.brancher ≡ self.old.brancher) × (self.new.kept ≡ self.old.kept) }
+        ensures sound { self.old.frame.refused ≡ false → IsSoundSearch self.new.frame }
+    {
+        self.frame.restart();
+        self.rounds += 1;
+        self.in_round = false;
+    }
+
+    /// Goes on in the round after one more clause was learnt.
+    fn go_on(&mut self)
+        requires few { self.old.round.learnt < round_conflicts }
+        ensures goes_on { RoundGoesOn self.old self.new }
+        ensures rest { KeepsRest self.old self.new }
+        ensures brancher { (self.new.brancher ≡ self.old.brancher) × (self.new.kept ≡ self.old.kept) }
+    {
+        self.round.learnt += 1;
+        self.round.place = 0;
+    }
+
+    /// Ends the round with the clause that was learnt last, or goes on.
+    fn end_or_go_on(&mut self)
+        requires few { self.old.rounds < 2 ^ 32 }
+        requires learnt { self.old.round.learnt < round_conflicts }
+        ensures ends { EndsAt self.old.round self.old.frame.trail.level → RoundEnds self.old self.new }
+        ensures goes_on { (EndsAt self.old.round self.old.frame.trail.level → ⊥) → RoundGoesOn self.old self.new }
+        ensures rest { KeepsRest self.old self.new }
+        ensures brancher { (self.new.brancher ≡ self.old.brancher) × (self.new.kept ≡ self.old.kept) }
+        ensures sound { self.old.frame.refused ≡ false → IsSoundSearch self.old.frame → IsSoundSearch self.new.frame }
+    {
+        if self.round.is_ended_at(self.frame.store().level()) {
+            self.end_round();
+        } else {
+            self.go_on();
+        }
+    }
+
+    /// After a clause was learnt: the brancher hears it, and the round ends or goes on.
+    fn hear(&mut self)
+        requires few { self.old.rounds < 2 ^ 32 }
+        requires learnt { self.old.round.learnt < round_conflicts }
+        ensures heard { (earlier : List JournalItemOf) (clause : List AtomOf) (below : BoundOf)
+            → self.old.frame.base.journal ≡ earlier ++ JournalItem.Learnt clause below ∷ []
+            → HeardClause clause self.old.brancher self.new.brancher }
+        ensures ends { EndsAt self.old.round self.old.frame.trail.level → RoundEnds self.old self.new }
+        ensures goes_on { (EndsAt self.old.round self.old.frame.trail.level → ⊥) → RoundGoesOn self.old self.new }
+        ensures rest { KeepsRest self.old self.new }
+        ensures kept { self.new.kept ≡ min self.old.kept (length self.new.frame.trail.entries) }
+        ensures size { length self.new.brancher.activities ≡ length self.old.brancher.activities }
+        ensures saw { (s : Trail) (k : ℕ)
+            → AreFixedAside (length self.old.brancher.activities) self.old.brancher.aside s k
+            → AreFixedAside (length self.new.brancher.activities) self.new.brancher.aside s k }
+        ensures sound { self.old.frame.refused ≡ false → IsSoundSearch self.old.frame → IsSoundSearch self.new.frame }
+    {
+        let _ = hear_last(
+            &mut self.brancher,
+            self.frame.clauses().journal().as_slice(),
+        );
+        self.end_or_go_on();
+        self.kept = still_kept(self.frame.store(), self.kept);
+    }
+
+    /// After a turn that neither decided nor learnt: the store may have lost its last entries.
+    fn look_back(&mut self)
+        ensures kept { self.new.kept ≡ min self.old.kept (length self.new.frame.trail.entries) }
+        ensures held { self.new.round.held ≡ min self.old.round.held self.old.frame.trail.level }
+        ensures place { self.new.round.place ≡ 0 }
+        ensures rest { near_of self.new ≡ near_of self.old }
+        ensures decisions { self.new.round.decisions.items ≡ self.old.round.decisions.items }
+        ensures learnt { self.new.round.learnt ≡ self.old.round.learnt }
+        ensures same { (self.new.aim ≡ self.old.aim) × (self.new.in_round ≡ self.old.in_round) }
+    {
+        self.kept = still_kept(self.frame.store(), self.kept);
+        self.round.held = self.round.held.min(self.frame.store().level());
+        self.round.place = 0;
+    }
+
+    /// Takes a turn. Where all rounds are done, it is the last, in which only the two bounds are looked at.
+    pub fn turn<Q: Port>(&mut self, port: &mut Q) -> Result<Turn, AllocError>
+        requires exploring { IsExploring self.old }
+        requires running { IsOver self.old.frame.said → ⊥ }
+        requires model { Q.model port.old ≡ self.old.frame.problem.model }
+        requires imported { self.old.frame.imported ≤ length (Q.part port.old).board.taken }
+        ensures same { (Q.model port.new ≡ Q.model port.old) × (Q.rows port.new ≡ Q.rows port.old) }
+        ensures others { Q.stays port.old port.new }
+        ensures turn { IfOk result (λ turn. TakesNearTurn (near_of self.old) (near_of self.new)
+            (Q.rows port.old) (Q.part port.old) (Q.part port.new) turn) }
+        ensures exploring { OnOk result (IsExploring self.new) }
+    {
+        if self.rounds == round_count(self.conflicts) {
+            return Ok(self.frame.end_rounds(port));
+        }
+        match self.frame.steps(port)? {
+            None => {
+                self.decide()?;
+                Ok(Turn::Decided)
+            }
+            Some(turn) => match turn {
+                Turn::Learnt => {
+                    self.hear();
+                    Ok(Turn::Learnt)
+                }
+                other => {
+                    self.look_back();
+                    Ok(other)
+                }
+            },
+        }
+    }
+}

@@ -1,0 +1,188 @@
+//! Rounds: what each is to decide, and how far it is.
+
+ghost use Rattle.std.specs.Prelude.{◌≡◌, ◌↔◌, ◌⊎◌, ℕ, ◌+◌, ◌≤◌, ◌<◌, ◌^◌, All, IfOk, IfSome, OnOk, IsNone, IsTrue, length, pos, slice_index_or};
+ghost use Rattle.cps_literal.specs.declared.atom.Atom.{Atom as AtomOf};
+ghost use Rattle.cps_trail.specs.Trail.{IsSound};
+ghost use Rattle.cps_branch.specs.Choice.{IsUndecided};
+ghost use Rattle.cps_search.specs.Ends.{round_conflicts};
+ghost use Rattle.cps_neighbourhood.specs.Drawing.{after_words, IsRising};
+ghost use Rattle.cps_neighbourhood.specs.Rounds.{first_round, fixed_from, free_count, freed, has_value, is_on, to_decide, IsFirstOpen, NoneOpen};
+ghost use Rattle.cps_neighbourhood.specs.Standing.{round_of, solution_of, EndsAt, IsUnderWay};
+
+use crate::aim::Aim;
+use crate::draws::choose_free;
+use cps_literal::{Atom, Op, Truth};
+use cps_trail::Store;
+use rand_pcg::Lcg64Xsh32;
+use std::alloc::{AllocError, Global};
+
+/// After how many conflicts a round ends that was not refuted.
+pub(crate) const LENGTH: u64 = 100;
+
+/// A round, and how far it is.
+#[derive(Drop)]
+pub(crate) struct Progress {
+    /// What it is to decide, in order.
+    pub decisions: Vec<Atom>,
+    /// How many clauses were learnt in it.
+    pub learnt: u64,
+    /// The level of its last decision on the trail: the first so many levels began with its decisions.
+    pub held: usize,
+    /// None of its decisions before this place is open.
+    pub place: usize,
+}
+
+/// How many of `n` variables a round frees.
+fn free_count(n: u32) -> u32
+    ensures is { result ≡ free_count n }
+    ensures most { result ≤ n }
+{
+    n.min(1 + n / 5)
+}
+
+/// The atom that a variable has its value of a list.
+fn has_value(values: &[i64], variable: usize) -> Atom
+    requires within { variable < length values.now }
+    requires few { length values.now ≤ 2 ^ 31 }
+    ensures { result ≡ has_value variable (slice_index_or values.now variable (pos 0)) }
+{
+    Atom {
+        subject: variable as u32,
+        op: Op::Eq,
+        value: values[variable],
+    }
+}
+
+/// Whether a variable is free, where those of the free ones are less than it that are before a place, and no others.
+fn is_free(free: &[u32], place: usize, variable: usize) -> bool
+    requires rising { IsRising free.now }
+    requires before { (k : ℕ) → k < place → k < length free.now → slice_index_or free.now k 0 < variable }
+    requires after { (k : ℕ) → place ≤ k → k < length free.now → variable ≤ slice_index_or free.now k 0 }
+    ensures is { result ≡ is_on free.now variable }
+    ensures here { IsTrue result ↔ ((place < length free.now) × (slice_index_or free.now place 0 ≡ variable)) }
+{
+    place < free.len() && free[place] as usize == variable
+}
+
+/// That the variables which are not free have these values.
+fn fix_others(alloc: Global, values: &[i64], free: &[u32]) -> Result<Vec<Atom>, AllocError>
+    requires few { length values.now ≤ 2 ^ 31 }
+    requires rising { IsRising free.now }
+    ensures { IfOk result (λ decisions. decisions.items ≡ fixed_from 0 values.now free.now) }
+{
+    let mut decisions = Vec::new(alloc);
+    let mut place = 0;
+    for variable in 0..values.len() {
+        if is_free(free, place, variable) {
+            place += 1;
+        } else {
+            decisions.push(has_value(values, variable))?;
+        }
+    }
+    Ok(decisions)
+}
+
+/// What a round is to decide that frees these variables.
+fn to_decide(alloc: Global, aim: &Aim, free: &[u32]) -> Result<Vec<Atom>, AllocError>
+    requires few { length aim.now.values.items ≤ 2 ^ 31 }
+    requires rising { IsRising free.now }
+    ensures { IfOk result (λ decisions. decisions.items ≡ to_decide (solution_of aim.now) free.now) }
+{
+    match aim.solution() {
+        Some(values) => fix_others(alloc, values, free),
+        None => Ok(Vec::new(alloc)),
+    }
+}
+
+/// The first of a round's decisions from a place on that a store leaves undecided; their count if there is none.
+fn first_open(store: &Store, decisions: &[Atom], from: usize) -> usize
+    requires { All (λ t. t.subject < length store.now.first) decisions.now }
+    ensures after { from ≤ length decisions.now → from ≤ result }
+    ensures within { result ≤ length decisions.now }
+    ensures passed { (j : ℕ) (d : AtomOf) → from ≤ j → j < result
+        → IsUndecided store.now (slice_index_or decisions.now j d) → ⊥ }
+    ensures here { (d : AtomOf) → result < length decisions.now
+        → IsUndecided store.now (slice_index_or decisions.now result d) }
+{
+    for (place, atom) in decisions.iter().enumerate() {
+        if from <= place && is_open(store, *atom) {
+            return place;
+        }
+    }
+    decisions.len()
+}
+
+/// Whether a store leaves an atom undecided.
+fn is_open(store: &Store, atom: Atom) -> bool
+    requires { atom.subject < length store.now.first }
+    ensures { IsTrue result ↔ IsUndecided store.now atom }
+{
+    matches!(store.truth(atom), Truth::Undecided)
+}
+
+impl Progress {
+    /// No round yet.
+    pub fn none(alloc: Global) -> Self {
+        Progress {
+            decisions: Vec::new(alloc),
+            learnt: 0,
+            held: 0,
+            place: 0,
+        }
+    }
+
+    /// The first round over an aim's variables: it frees as many as it is to, drawn by a generator, and is to decide the
+    /// others' values.
+    pub fn begin(alloc: Global, aim: &Aim, draws: &mut Lcg64Xsh32) -> Result<Self, AllocError>
+        requires { length aim.now.values.items ≤ 2 ^ 31 }
+        ensures is { IfOk result (λ r. round_of r
+            ≡ first_round (length aim.now.values.items) (solution_of aim.now) draws.old) }
+        ensures draws { OnOk result (draws.new ≡ after_words (length aim.now.values.items) draws.old) }
+        ensures held { IfOk result (λ r. r.held ≡ 0) }
+        ensures place { IfOk result (λ r. r.place ≡ 0) }
+    {
+        let count = aim.values.len() as u32;
+        let free = choose_free(alloc, count, free_count(count), draws)?;
+        let decisions = to_decide(alloc, aim, free.as_slice())?;
+        Ok(Progress {
+            decisions,
+            learnt: 0,
+            held: 0,
+            place: 0,
+        })
+    }
+
+    /// The first decision of the round that a store leaves undecided.
+    pub fn next_open(&mut self, store: &Store) -> Option<Atom>
+        requires { IsUnderWay self.old store.now }
+        ensures decisions { self.new.decisions.items ≡ self.old.decisions.items }
+        ensures learnt { self.new.learnt ≡ self.old.learnt }
+        ensures held { self.new.held ≡ self.old.held }
+        ensures none { IsNone result → NoneOpen self.old.decisions.items store.now }
+        ensures some { IfSome result (λ t. IsFirstOpen self.old.decisions.items store.now t
+            × (self.old.held ≡ store.now.level)) }
+        ensures under_way { IsUnderWay self.new store.now }
+        ensures sound { IsSound store.now }
+    {
+        // Only here is it known what holds of each store.
+        let _ = store.entries();
+        if self.held < store.level() {
+            self.place = self.decisions.len();
+            return None;
+        }
+        self.place = first_open(store, self.decisions.as_slice(), self.place);
+        if self.place < self.decisions.len() {
+            Some(self.decisions[self.place])
+        } else {
+            None
+        }
+    }
+
+    /// Whether a learnt clause ends the round that sends the search back to a level.
+    pub fn is_ended_at(&self, back: usize) -> bool
+        requires { self.now.learnt < round_conflicts }
+        ensures { IsTrue result ↔ EndsAt self.now back }
+    {
+        self.learnt + 1 == LENGTH || back < self.held
+    }
+}
