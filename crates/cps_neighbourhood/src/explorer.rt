@@ -215,10 +215,7 @@ impl<'a, P: Propagator> Explorer<'a, P> {
             → AreFixedAside (length self.new.brancher.activities) self.new.brancher.aside s k }
         ensures sound { self.old.frame.refused ≡ false → IsSoundSearch self.old.frame → IsSoundSearch self.new.frame }
     {
-        let _ = hear_last(
-            &mut self.brancher,
-            self.frame.clauses().journal().as_slice(),
-        );
+        let _ = hear_last(&mut self.brancher, self.frame.clauses());
         self.end_or_go_on();
         self.kept = still_kept(self.frame.store(), self.kept);
     }
