@@ -1,0 +1,12 @@
+pub mod Results
+pub mod Reforming
+pub mod Opposites
+pub mod CoreLaw
+pub mod Assumptions
+pub mod Keeping
+pub mod Wholes
+pub mod CoreTurning
+pub mod CoreWorking
+pub mod Lifting
+pub mod Failing
+pub mod Hearing

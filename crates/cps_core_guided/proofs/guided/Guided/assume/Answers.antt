@@ -1,0 +1,45 @@
+use Rattle.std.proofs.Common.{◌≡◌, ◌∙◌, ◌≤◌, ap, arith, inl, List, refl, subst, sym}
+use Rattle.cps_literal.specs.declared.atom.Atom.{Atom}
+use Rattle.cps_trail.specs.Trail.{Trail}
+use Rattle.cps_branch.specs.Choice.{IsUndecided}
+use Rattle.cps_branch.specs.Scope.{AreSameUpTo}
+use Rattle.cps_search.specs.Moves.{moved, decided}
+use Rattle.cps_search.specs.Searches.{Search}
+use Rattle.cps_search.proofs.Working.{decided_onward}
+use Rattle.cps_reform.specs.declared.held.Held.{Held}
+use Rattle.cps_reform.specs.Forms.{term_at}
+use Rattle.cps_reform.specs.Marks.{assumed}
+use Rattle.cps_core_guided.specs.CoreTurns.{an_assumption}
+use Rattle.cps_core_guided.specs.Guiding.{core_of}
+use Rattle.cps_core_guided.proofs.CoreWorking.{works-decided}
+use Rattle.cps_core_guided.proofs.guided.Guided.assume.Goals as goal
+
+pub returns-clause-goes_on : goal.returns-clause-goes_on
+returns-clause-goes_on g c = λ part.
+    let s = core_of c.args.self.now in
+    let a = c.assumption-atom.result in
+    let is : a ≡ assumed (term_at s.form.terms c.args.place) = c.assumption-atom.ensures ∙ ap (λ (ts : List Held). assumed (term_at ts c.args.place)) c.terms.ensures in
+    record {
+      atom = a;
+      undecided = subst (λ (t : Atom). IsUndecided s.search.trail t) (sym is) c.requires.open_now.left_open;
+      chosen = an_assumption c.requires.few c.requires.none_fails c.args.place c.requires.open_now is;
+      is = ap (λ (x : Search). record s { search = x }) c.in_ok-decide.ensures.decides;
+      part = refl;
+    }
+
+pub returns-clause-works : goal.returns-clause-works
+returns-clause-works g c =
+    let s = core_of c.args.self.now in
+    let t = c.decide.new.self in
+    let a = c.assumption-atom.result in
+    let b = c.args.self.now.brancher in
+    let kept = c.args.self.now.kept in
+    let w = c.requires.works in
+    let is : a ≡ assumed (term_at s.form.terms c.args.place) = c.assumption-atom.ensures ∙ ap (λ (ts : List Held). assumed (term_at ts c.args.place)) c.terms.ensures in
+    let moves : t ≡ moved s.search (decided s.search.trail a) s.search.rested = c.in_ok-decide.ensures.decides in
+    let scope = g.B.Brancher.scope b in
+    let agrees = g.B.Brancher.agrees b in
+    works-decided s t a scope scope (agrees s.search.trail) (agrees t.trail) kept kept w c.in_ok-decide.ensures.sound moves
+    (λ few. inl (record { place = c.args.place; within = c.requires.open_now.within; weighs = c.requires.open_now.weighs; is = is })) refl w.within
+    (g.met.B.Brancher.kept_on b s.search.trail t.trail kept kept (omega arith)
+    (subst (λ (x : Trail). AreSameUpTo scope.subjects kept s.search.trail x) (sym (ap (λ (x : Search). x.trail) moves)) (decided_onward scope.subjects kept s.search.trail a w.within)) w.agreed)

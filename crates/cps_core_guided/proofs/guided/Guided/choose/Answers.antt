@@ -1,0 +1,38 @@
+use Rattle.std.proofs.Common.{◌≡◌, ◌∙◌, ◌≤◌, ap, arith, inr, length, refl, subst, sym}
+use Rattle.cps_trail.specs.Trail.{Trail}
+use Rattle.cps_branch.specs.Scope.{AreSameUpTo}
+use Rattle.cps_search.specs.Moves.{moved, decided}
+use Rattle.cps_search.specs.Searches.{Search}
+use Rattle.cps_search.proofs.Working.{decided_onward}
+use Rattle.cps_core_guided.specs.CoreTurns.{a_choice}
+use Rattle.cps_core_guided.specs.Guiding.{core_of}
+use Rattle.cps_core_guided.proofs.CoreWorking.{works-decided}
+use Rattle.cps_core_guided.proofs.guided.Guided.choose.Goals as goal
+
+pub returns-clause-goes_on : goal.returns-clause-goes_on
+returns-clause-goes_on g c = λ part.
+    let s = core_of c.args.self.now in
+    let d = c.in_ok-decide_next.ensures.decided in
+    record {
+      atom = d.atom;
+      undecided = d.undecided;
+      chosen = a_choice c.requires.assumed d.chosen;
+      is = ap (λ (x : Search). record s { search = x }) d.is;
+      part = refl;
+    }
+
+pub returns-clause-works : goal.returns-clause-works
+returns-clause-works g c =
+    let s = core_of c.args.self.now in
+    let t = c.decide_next.new.frame in
+    let b = c.decide_next.new.brancher in
+    let d = c.in_ok-decide_next.ensures.decided in
+    let seen : length c.entries-seen.result.now ≡ length s.search.trail.entries = omega (arith, c.entries-seen.ensures.views.same_length, ap (λ (x : Trail). length x.entries) c.store.ensures) in
+    let n = length c.entries-seen.result.now in
+    let was = c.args.self.now.brancher in
+    let subjects = (g.B.Brancher.scope b).subjects in
+    works-decided s t d.atom (g.B.Brancher.scope was) (g.B.Brancher.scope b) (g.B.Brancher.agrees was s.search.trail) (g.B.Brancher.agrees b t.trail) c.args.self.now.kept n c.requires.works c.in_ok-decide_next.ensures.sound d.is
+    (λ few. inr (c.requires.assumed few)) c.in_ok-decide_next.ensures.scope (omega (arith, seen))
+    (g.met.B.Brancher.kept_on b s.search.trail t.trail n (length s.search.trail.entries) (omega (arith, seen))
+    (subst (λ (x : Trail). AreSameUpTo subjects n s.search.trail x) (sym (ap (λ (x : Search). x.trail) d.is)) (decided_onward subjects n s.search.trail d.atom (omega (arith, seen))))
+    c.in_ok-decide_next.ensures.saw)

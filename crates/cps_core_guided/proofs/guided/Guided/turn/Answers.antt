@@ -1,0 +1,115 @@
+use Rattle.std.proofs.Common.{◌≡◌, ◌∙◌, ◌≤◌, ◌<◌, ◌+◌, List, Option, Some, None, ap, arith, false, inr, length, min, refl, subst, sym, take, length-append}
+use Rattle.cps_trail.specs.Trail.{Entry, Trail}
+use Rattle.cps_search.specs.declared.turn.Turn.{Turn}
+use Rattle.cps_search.specs.declared.turn.Turn.TheVariants as turns
+use Rattle.cps_search.specs.Ends.{BrancherTurn, HeardOne, TakesTurn}
+use Rattle.cps_search.specs.Searches.{Search}
+use Rattle.cps_search.specs.Turns.{Steps}
+use Rattle.cps_search.proofs.Results.{if_ok_weaker}
+use Rattle.cps_search.proofs.Working.{brancher_heard, imported_few, same_back, same_onward, stands_imported, turn_heard}
+use Rattle.cps_core_guided.specs.CoreTurns.{DecidedBy, GoesOn, IsCoreWorking, TakesCoreTurn}
+use Rattle.cps_core_guided.specs.Guiding.{core_of}
+use Rattle.cps_core_guided.specs.Reforming.{CoreSearch}
+use Rattle.cps_core_guided.proofs.CoreTurning.{frame-not-decided, not-ended, turn-frame, turn-on}
+use Rattle.cps_core_guided.proofs.CoreWorking.{works-frame}
+use Rattle.cps_core_guided.proofs.Hearing.{heard-brancher}
+use Rattle.cps_core_guided.proofs.guided.Guided.turn.Goals as goal
+
+pub go_on-requires-clause-works : goal.go_on-requires-clause-works
+go_on-requires-clause-works g c =
+    let s = core_of c.args.self.now in
+    let m = c.steps.new.self in
+    let b = c.args.self.now.brancher in
+    let kept = c.args.self.now.kept in
+    let w = c.requires.works in
+    let p = g.Q.Port.part c.args.port.now in
+    let o = g.Q.Port.part c.steps.new.port in
+    let steps = subst (λ (x : Option Turn). Steps s.search m (g.Q.Port.rows c.args.port.now) p o x) c.in-None.is c.in_ok-turn.ensures.steps in
+    let on = steps.cause.onward in
+    let scope = g.B.Brancher.scope b in
+    let agrees = g.B.Brancher.agrees b in
+    let size : length m.trail.entries ≡ length s.search.trail.entries + length on.added = ap (λ (es : List Entry). length es) on.entries ∙ length-append s.search.trail.entries on.added in
+    let within = w.within in
+    let few = w.few in
+    let imported = steps.cause.imported in
+    works-frame s m scope scope (agrees s.search.trail) (agrees m.trail) kept kept w c.in_ok-turn.ensures.sound.1 steps.setting steps.moves.falls steps.store refl (omega (arith, few, imported)) (omega (arith, within, size))
+    (g.met.B.Brancher.kept_on b s.search.trail m.trail kept kept (omega arith) (same_onward scope.subjects kept s.search.trail m.trail within on) w.agreed)
+
+pub returns-in-Some-clause-turn : goal.returns-in-Some-clause-turn
+returns-in-Some-clause-turn g c =
+    let s = core_of c.args.self.now in
+    let m = c.steps.new.self in
+    let t = c.hear_turn.new.frame in
+    let turn = c.in-Some.turn in
+    let rows = g.Q.Port.rows c.args.port.now in
+    let p = g.Q.Port.part c.args.port.now in
+    let q = g.Q.Port.part c.steps.new.port in
+    let chooses = g.B.Brancher.chooses c.args.self.now.brancher in
+    let steps = subst (λ (x : Option Turn). Steps s.search m rows p q x) c.in-Some.is c.in_ok-turn.ensures.steps in
+    turn-frame chooses s (record s { search = t }) rows p q turn (not-ended s c.requires.running) refl (frame-not-decided s.search m rows p q turn steps.cause)
+    (turn_heard chooses s.search m t rows p q turn c.requires.works.has_budget c.in_ok-turn.ensures.sound.0 steps c.hear_turn.ensures.frame (λ not. (c.hear_turn.ensures.others not).0))
+
+pub returns-in-Some-clause-brancher : goal.returns-in-Some-clause-brancher
+returns-in-Some-clause-brancher g c =
+    let s = c.args.self.now.frame in
+    let m = c.steps.new.self in
+    let t = c.hear_turn.new.frame in
+    let b = c.args.self.now.brancher in
+    let heard = c.hear_turn.new.brancher in
+    let rows = g.Q.Port.rows c.args.port.now in
+    let p = g.Q.Port.part c.args.port.now in
+    let q = g.Q.Port.part c.steps.new.port in
+    let steps = subst (λ (x : Option Turn). Steps s m rows p q x) c.in-Some.is c.in_ok-turn.ensures.steps in
+    brancher_heard (λ clause restart. g.B.Brancher.hears b clause restart heard) s m t rows p q c.in-Some.turn (DecidedBy (g.B.Brancher.stays b heard) (heard ≡ b)) (heard ≡ b) steps c.hear_turn.ensures.frame c.hear_turn.ensures.heard (λ not. (c.hear_turn.ensures.others not).1)
+
+pub returns-in-Some-clause-works : goal.returns-in-Some-clause-works
+returns-in-Some-clause-works g c =
+    let s = core_of c.args.self.now in
+    let m = c.steps.new.self in
+    let t = c.hear_turn.new.frame in
+    let turn = c.in-Some.turn in
+    let rows = g.Q.Port.rows c.args.port.now in
+    let p = g.Q.Port.part c.args.port.now in
+    let q = g.Q.Port.part c.steps.new.port in
+    let b = c.args.self.now.brancher in
+    let new = c.hear_turn.new.brancher in
+    let kept = c.args.self.now.kept in
+    let w = c.requires.works in
+    let steps = subst (λ (x : Option Turn). Steps s.search m rows p q x) c.in-Some.is c.in_ok-turn.ensures.steps in
+    let taken = turn_heard (g.B.Brancher.chooses b) s.search m t rows p q turn w.has_budget c.in_ok-turn.ensures.sound.0 steps c.hear_turn.ensures.frame (λ not. (c.hear_turn.ensures.others not).0) in
+    let store = taken.store (frame-not-decided s.search m rows p q turn steps.cause) in
+    let few = imported_few s.search m rows p q (Some turn) w.few c.requires.imported (g.met.Q.Port.few c.args.port.now) steps.cause in
+    let still = c.still_kept-self.result in
+    let left : still ≡ min kept (length t.trail.entries) = c.still_kept-self.ensures ∙ ap (λ (x : Trail). min kept (length x.entries)) c.store.ensures in
+    let within = w.within in
+    let scope = g.B.Brancher.scope b in
+    works-frame s t scope (g.B.Brancher.scope new) (g.B.Brancher.agrees b s.search.trail) (g.B.Brancher.agrees new t.trail) kept still w (c.hear_turn.ensures.sound c.in_ok-turn.ensures.sound.1) taken.setting taken.moves.falls store c.hear_turn.ensures.scope
+    (omega (arith, few, stands_imported m t c.hear_turn.ensures.frame)) (omega (arith, left))
+    (c.hear_turn.ensures.saw t.trail still (g.met.B.Brancher.kept_on b s.search.trail t.trail still kept (omega (arith, left)) (same_back scope.subjects still s.search.trail t.trail (omega (arith, left, within)) (omega (arith, left)) store) w.agreed))
+
+pub returns-in-None-clause-others : goal.returns-in-None-clause-others
+returns-in-None-clause-others g c = g.met.Q.Port.moved_on c.args.port.now c.steps.new.port c.go_on.new.port c.in_ok-turn.ensures.others c.go_on.ensures.others
+
+pub returns-in-None-clause-turn : goal.returns-in-None-clause-turn
+returns-in-None-clause-turn g c =
+    let s = core_of c.args.self.now in
+    let m = c.steps.new.self in
+    let t = core_of c.go_on.new.self in
+    let rows = g.Q.Port.rows c.args.port.now in
+    let p = g.Q.Port.part c.args.port.now in
+    let o = g.Q.Port.part c.steps.new.port in
+    let q = g.Q.Port.part c.go_on.new.port in
+    let chooses = g.B.Brancher.chooses c.args.self.now.brancher in
+    let steps = subst (λ (x : Option Turn). Steps s.search m rows p o x) c.in-None.is c.in_ok-turn.ensures.steps in
+    if_ok_weaker c.go_on.result (GoesOn chooses (record s { search = m }) t o q) (TakesCoreTurn chooses s t rows p q)
+    (λ turn on. turn-on chooses s (record s { search = m }) t rows p o q turn (not-ended s c.requires.running) c.requires.works.has_budget c.in_ok-turn.ensures.sound.0 steps refl on) c.go_on.ensures.goes_on
+
+pub returns-in-None-clause-brancher : goal.returns-in-None-clause-brancher
+returns-in-None-clause-brancher g c =
+    let s = c.args.self.now.frame in
+    let t = c.go_on.new.self.frame in
+    let b = c.args.self.now.brancher in
+    let new = c.go_on.new.self.brancher in
+    let chose = DecidedBy (g.B.Brancher.stays b new) (new ≡ b) in
+    let heard = HeardOne (λ clause restart. g.B.Brancher.hears b clause restart new) s t in
+    if_ok_weaker c.go_on.result (λ turn. BrancherTurn turn ⊥ chose (new ≡ b)) (λ turn. BrancherTurn turn heard chose (new ≡ b)) (λ turn h. heard-brancher turn heard chose (new ≡ b) h) c.go_on.ensures.brancher

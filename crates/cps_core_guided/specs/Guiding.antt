@@ -1,0 +1,86 @@
+-- How a turn of a core-guided worker goes from step to step.
+use Rattle.std.specs.Prelude.{◌≡◌, ℕ, ◌+◌, ◌<◌, ◌≤◌, ℤ, ◌<ℤ◌, Bool, true, false, List, length}
+use Rattle.cps_literal.specs.declared.atom.Atom.{Atom}
+use Rattle.cps_branch.specs.Fixed.{AreFixed}
+use Rattle.cps_branch.specs.Scope.{Scope}
+use Rattle.cps_instance.specs.Problem.{variable_count}
+use Rattle.cps_trail.specs.Trail.{Trail}
+use Rattle.cps_search.specs.declared.end.Said.TheVariants.{Due, Nothing}
+use Rattle.cps_search.specs.Searches.{Search, IsSettled, NoneBelow}
+use Rattle.cps_search.specs.Turns.{SameBest, SameImported, SameLearnt, SameRaised}
+use Rattle.cps_core_guided.specs.declared.guided.Guided.{Guided}
+use Rattle.cps_reform.specs.Forms.{Form, term_at}
+use Rattle.cps_search.specs.Growing.{GrewBy}
+use Rattle.cps_reform.specs.Cores.{core_sum, least_weight, split}
+use Rattle.cps_reform.specs.Floors.{OfEachBelow}
+use Rattle.cps_literal.specs.Truth.{atom_holds}
+use Rattle.std.specs.List.{All}
+use Rattle.cps_reform.specs.Marks.{assumed}
+use Rattle.cps_core_guided.specs.Assuming.{IsAssumption}
+use Rattle.cps_reform.specs.Floors.{IsPast}
+use Rattle.cps_core_guided.specs.Reforming.{CoreSearch, IsSoundCore, ReformsTo, most_sums}
+use Rattle.cps_core_guided.specs.CoreTurns.{IsCoreWorking, SameCoreSetting}
+
+-- the core-guided search that a worker stands for, while no memory was refused
+abbrev pub core_of : {P B : Type 0} → Guided P B → CoreSearch
+core_of {P} {B} g = record { search = g.frame; form = g.reform; sums = g.sums; greatest = g.greatest; raised = g.raised; ended = g.ended }
+
+-- a decision is due, and not all variables are fixed
+pub record IsDue (s : Search) : Type 0 where
+  pub said : s.said ≡ Due
+  pub settled : IsSettled s
+  pub left_open : AreFixed s.trail (variable_count s.problem) → ⊥
+
+-- A term failed, and the search went back to level 0: wherever decisions that are assumptions of terms are true below z, the term's assumption
+-- is false.
+pub record HasFailed (s : CoreSearch) (place : ℕ) (decisions : List Atom) : Type 0 where
+  pub few : s.sums < most_sums
+  pub within : place < length s.form.terms
+  pub weighs : 1 ≤ (term_at s.form.terms place).weight
+  pub bottom : s.search.trail.level ≡ 0
+  pub said : s.search.said ≡ Nothing
+  pub assumptions : All (IsAssumption s.form.terms) decisions
+  pub false_there : OfEachBelow s.search.problem s.search.z (λ xs. All (λ u. atom_holds xs u ≡ true) decisions → atom_holds xs (assumed (term_at s.form.terms place)) ≡ false)
+
+-- A reform was tried at level 0. Where it went through, the form is the one that it comes to, which is not past what a solution below z can
+-- have; else it would be past that, and no solution is below z.
+pub record Tried (s t : CoreSearch) (place : ℕ) (decisions : List Atom) (done : Bool) : Type 0 where
+  pub form : Form
+  pub more : ℕ
+  pub reforms : ReformsTo s.search.trail s.search.problem s.form place decisions t.search.problem form more
+  pub sums : t.sums ≡ s.sums + more
+  pub is : done ≡ true → t.form ≡ form
+  pub rises : done ≡ true → s.form.base <ℤ form.base
+  pub not_past : done ≡ true → IsPast t.search.z t.greatest t.search.problem.domains form → ⊥
+  pub past : done ≡ false → IsPast t.search.z t.greatest t.search.problem.domains form
+  pub none_below : done ≡ false → NoneBelow s.search.problem.model s.search.z
+  pub setting : SameCoreSetting s t
+  pub entries : t.search.trail.entries ≡ s.search.trail.entries
+  pub level : t.search.trail.level ≡ 0
+  pub z : t.search.z ≡ s.search.z
+  pub learnt : SameLearnt s.search t.search
+  pub imported : SameImported s.search t.search
+  pub best : SameBest s.search t.search
+  pub search_raised : SameRaised s.search t.search
+  pub raised : t.raised ≡ s.raised
+  pub ended : t.ended ≡ s.ended
+  pub said : t.search.said ≡ Nothing
+
+-- A core of several terms was split by its sum, which was defined. Where that went through, the form is the split one; else it stays, and no
+-- solution is below z.
+pub record Splits (s t : CoreSearch) (done : Bool) : Type 0 where
+  pub subject : ℕ
+  pub grew : GrewBy s.search t.search (core_sum s.form.terms) subject
+  pub sums : t.sums ≡ s.sums + 1
+  pub is : done ≡ true → t.form ≡ split s.form (least_weight s.form.terms) subject
+  pub stays : done ≡ false → t.form ≡ s.form
+  pub not_past : done ≡ true → IsPast t.search.z t.greatest t.search.problem.domains t.form → ⊥
+  pub past : done ≡ false → IsPast t.search.z t.greatest t.search.problem.domains (split s.form (least_weight s.form.terms) subject)
+  pub none_below : done ≡ false → NoneBelow s.search.problem.model s.search.z
+  pub raised : t.raised ≡ s.raised
+  pub greatest : t.greatest ≡ s.greatest
+  pub ended : t.ended ≡ s.ended
+
+-- the same with another word on whether memory was refused
+abbrev pub with_refused : CoreSearch → Bool → CoreSearch
+with_refused s refused = record s { search = record s.search { refused = refused } }

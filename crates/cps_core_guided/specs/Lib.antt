@@ -1,0 +1,5 @@
+pub mod Beginning
+pub mod Assuming
+pub mod Reforming
+pub mod CoreTurns
+pub mod Guiding

@@ -1,0 +1,70 @@
+//! What is seen of a core-guided worker that has ended.
+
+ghost use Rattle.std.specs.Prelude.{◌≡◌, Some, IfSome, IsNone};
+
+use cps_clauses::Journal;
+use cps_model::Bound;
+use cps_port::raised_to;
+use cps_search::{End, Ended};
+use std::marker::Model;
+
+/// A core-guided worker that has ended. It comes from a worker's `finish` alone. It is seen as what has ended is, and
+/// what the worker itself
+/// raised counts too.
+#[derive(Drop)]
+pub struct CoreEnded {
+    pub(crate) ended: Ended,
+    /// The greatest bound to which the worker itself raised the lower one.
+    pub(crate) raised: Option<Bound>,
+}
+
+impl Model for CoreEnded {
+    ghost use Rattle.cps_search.specs.Ends.{Ending};
+
+    ghost Value = { Ending };
+
+    ghost use Rattle.cps_port.specs.Order.{greater_of};
+
+    ghost view = { λ e. record e.ended { raised = greater_of e.ended.raised e.raised } };
+}
+
+impl CoreEnded {
+    /// How many clauses it learnt.
+    pub fn tally(&self) -> u64
+        ensures { result ≡ self.now.tally }
+    {
+        self.ended.tally()
+    }
+
+    /// What it learnt.
+    pub fn journal(&self) -> &Journal
+        ensures { result.now ≡ self.now.journal }
+    {
+        self.ended.journal()
+    }
+
+    /// The best solution that it found.
+    pub fn best(&self) -> Option<&[i64]>
+        ensures none { IsNone result → IsNone self.now.best }
+        ensures some { IfSome result (λ values. self.now.best ≡ Some values.now) }
+    {
+        self.ended.best()
+    }
+
+    /// Why it ended.
+    pub fn end(&self) -> &End
+        ensures { result.now ≡ self.now.end }
+    {
+        self.ended.end()
+    }
+
+    /// The greatest bound to which it raised the lower one; `None` if it raised nothing.
+    pub fn raised(&self) -> Option<Bound>
+        ensures { result ≡ self.now.raised }
+    {
+        match self.raised {
+            Some(own) => raised_to(self.ended.raised(), own),
+            None => self.ended.raised(),
+        }
+    }
+}

@@ -1,0 +1,67 @@
+//! The first form of the objective.
+
+ghost use Rattle.std.specs.Prelude.{◌≡◌, ◌+◌, ◌<◌, ◌≤◌, ◌^◌, ℤ, ◌*ℤ◌, ◌≤ℤ◌, pos, unsigned_abs, List, map, All, length, IfOk, OnOk, OnErr, IsTrue};
+ghost use Rattle.cps_domain.specs.Window.{intervals};
+ghost use Rattle.cps_literal.specs.Truth.{value_at};
+ghost use Rattle.cps_instance.specs.Problem.{IsAssignment, variable_count};
+ghost use Rattle.cps_instance.specs.Sums.{extended};
+ghost use Rattle.cps_instance.specs.Terms.{greatest_of_terms, terms_reach};
+ghost use Rattle.cps_search.specs.Searches.{IsSoundSearch};
+ghost use Rattle.cps_reform.specs.Beginning.{Holds, IsFirstForm};
+ghost use Rattle.cps_core_guided.specs.Beginning.{OnlyGrew};
+
+use cps_instance::Term;
+use cps_propagate::Defining;
+use cps_reform::Reform;
+use cps_search::Frame;
+use std::alloc::{AllocError, Global};
+
+/// A subject whose value is that of a term's subject, or the opposite where the coefficient is negative: a sum that is
+/// defined for it.
+fn held_subject<P: Defining>(frame: &mut Frame<'_, P>, term: Term) -> Result<u32, AllocError>
+    requires bottom { frame.old.trail.level ≡ 0 }
+    requires subject { term.subject < variable_count frame.old.problem }
+    requires room { length frame.old.problem.domains < 2 ^ 31 }
+    ensures holds { IfOk result (Holds frame.new.problem term) }
+    ensures grew { OnOk result (OnlyGrew frame.old frame.new 1) }
+    ensures sound { OnOk result (IsSoundSearch frame.old → IsSoundSearch frame.new) }
+    ensures refused { OnErr result (IsTrue frame.new.refused) }
+{
+    if term.coeff >= 0 {
+        return Ok(term.subject);
+    }
+    frame.grow(
+        &[Term {
+            coeff: -1,
+            subject: term.subject,
+        }],
+        0,
+    )
+}
+
+/// The objective's first form: each of its terms is held at its least value.
+pub(crate) fn first_form<P: Defining>(
+    alloc: Global,
+    frame: &mut Frame<'_, P>,
+    terms: &[Term],
+) -> Result<Reform, AllocError>
+    requires sound { IsSoundSearch frame.old }
+    requires bottom { frame.old.trail.level ≡ 0 }
+    requires subjects { All (λ t. t.subject < variable_count frame.old.problem) terms.now }
+    requires small { terms_reach frame.old.problem.domains terms.now < 2 ^ 62 }
+    requires room { length frame.old.problem.domains + length terms.now ≤ 2 ^ 31 }
+    ensures first { IfOk result (IsFirstForm frame.new.problem terms.now) }
+    ensures grew { OnOk result (OnlyGrew frame.old frame.new (length terms.now)) }
+    ensures sound { OnOk result (IsSoundSearch frame.new) }
+{
+    let mut reform = Reform::new(0, Vec::new(alloc));
+    for term in terms {
+        let subject = held_subject(frame, *term)?;
+        reform.hold(
+            frame.instance().domains(),
+            term.coeff.unsigned_abs(),
+            subject,
+        )?;
+    }
+    Ok(reform)
+}

@@ -1,0 +1,345 @@
+//! The turn of a core-guided worker, on a search with all that it needs.
+
+ghost use Rattle.std.specs.Prelude.{◌≡◌, ◌<◌, ◌≤◌, ◌^◌, ◌+◌, ℤ, ◌≤ℤ◌, length, true, false, OnOk, OnErr, IfOk, IsTrue};
+ghost use Rattle.cps_literal.specs.Truth.{value_at};
+ghost use Rattle.cps_trail.specs.Trail.{IsFalseNow};
+ghost use Rattle.cps_port.specs.declared.part.Part.{Part};
+ghost use Rattle.cps_port.specs.Order.{IsSmallBound, raised_to};
+ghost use Rattle.cps_port.specs.Incumbents.{IsLowerBound};
+ghost use Rattle.cps_search.specs.Stepping.{Raises};
+ghost use Rattle.cps_search.specs.Ends.{BrancherTurn, HeardOne, IsOver};
+ghost use Rattle.cps_search.specs.Growing.{IsFalseBelow};
+ghost use Rattle.cps_search.specs.Searches.{NoneBelow};
+ghost use Rattle.cps_reform.specs.Forms.{lifted, term_at};
+ghost use Rattle.cps_reform.specs.Cores.{core_terms, WeighAtLeast, IsSomeAbove};
+ghost use Rattle.cps_reform.specs.Floors.{OfEachBelow};
+ghost use Rattle.cps_reform.specs.Marks.{assumed};
+ghost use Rattle.cps_core_guided.specs.Assuming.{AreAssumed, IsFailed, IsFirstOpen, NoneFails};
+ghost use Rattle.cps_reform.specs.Floors.{IsPast};
+ghost use Rattle.cps_core_guided.specs.Reforming.{IsSoundCore, most_sums, whole};
+ghost use Rattle.cps_core_guided.specs.CoreTurns.{DecidedBy, GoesOn, IsCoreWorking, RaisesTo, TakesCoreTurn};
+ghost use Rattle.cps_core_guided.specs.Guiding.{core_of, HasFailed, IsDue, Splits, Tried};
+
+use crate::assume::{first_failed, first_open};
+use crate::grow::grow_core;
+use cps_branch::Brancher;
+use cps_instance::Term;
+use cps_literal::{Atom, Truth};
+use cps_model::Bound;
+use cps_port::{Port, raised_to};
+use cps_propagate::Defining;
+use cps_reform::{Reform, assumption};
+use cps_search::{Frame, Turn, decide_next, hear_turn, still_kept};
+use std::alloc::{AllocError, Global};
+
+/// After this many sums of cores nothing is assumed any more.
+const MOST_SUMS: u32 = 1 << 24;
+
+/// A core-guided worker, with no thought of memory that was refused.
+#[derive(Drop)]
+pub(crate) struct Guided<'a, P: Defining, B: Brancher + Drop> {
+    pub alloc: Global,
+    pub frame: Frame<'a, P>,
+    pub brancher: B,
+    pub reform: Reform,
+    /// How many sums were defined for cores.
+    pub sums: u32,
+    /// The greatest objective by the domains.
+    pub greatest: i64,
+    /// The greatest bound to which the worker itself raised the lower one.
+    pub raised: Option<Bound>,
+    /// Whether it ended in place of a reform.
+    pub ended: bool,
+    /// How many of the store's first entries are those that the brancher saw last.
+    pub kept: usize,
+}
+
+impl<'a, P: Defining, B: Brancher + Drop> Guided<'a, P, B> {
+    /// Takes a turn.
+    pub fn turn<Q: Port>(&mut self, port: &mut Q) -> Result<Turn, AllocError>
+        requires works { IsCoreWorking (core_of self.old) (B.scope self.old.brancher) (B.agrees self.old.brancher
+            self.old.frame.trail) self.old.kept }
+        requires running { IsOver (whole (core_of self.old)).said → ⊥ }
+        requires model { Q.model port.old ≡ self.old.frame.problem.model }
+        requires imported { self.old.frame.imported ≤ length (Q.part port.old).board.taken }
+        ensures same { (Q.model port.new ≡ Q.model port.old) × (Q.rows port.new ≡ Q.rows port.old) }
+        ensures others { Q.stays port.old port.new }
+        ensures turn { IfOk result (λ turn. TakesCoreTurn (B.chooses self.old.brancher) (core_of self.old) (core_of
+            self.new) (Q.rows port.old) (Q.part port.old) (Q.part port.new) turn) }
+        ensures brancher { IfOk result (λ turn. BrancherTurn turn (HeardOne (λ clause restart. B.hears self.old.brancher
+            clause restart self.new.brancher) self.old.frame self.new.frame) (DecidedBy (B.stays self.old.brancher
+            self.new.brancher) (self.new.brancher ≡ self.old.brancher)) (self.new.brancher ≡ self.old.brancher)) }
+        ensures guidance { B.guidance self.new.brancher ≡ B.guidance self.old.brancher }
+        ensures works { OnOk result (IsCoreWorking (core_of self.new) (B.scope self.new.brancher) (B.agrees
+            self.new.brancher self.new.frame.trail) self.new.kept) }
+    {
+        match self.frame.steps(port)? {
+            Some(turn) => {
+                hear_turn(&mut self.frame, &mut self.brancher, &turn);
+                self.kept = still_kept(self.frame.store(), self.kept);
+                Ok(turn)
+            }
+            None => self.go_on(port),
+        }
+    }
+
+    /// Goes on where a decision is due: reforms where an assumption is false, decides one that is undecided, or what
+    /// the brancher
+    /// chooses.
+    fn go_on<Q: Port>(&mut self, port: &mut Q) -> Result<Turn, AllocError>
+        requires works { IsCoreWorking (core_of self.old) (B.scope self.old.brancher) (B.agrees self.old.brancher
+            self.old.frame.trail) self.old.kept }
+        requires due { IsDue self.old.frame }
+        requires running { self.old.ended ≡ false }
+        requires model { Q.model port.old ≡ self.old.frame.problem.model }
+        ensures same { (Q.model port.new ≡ Q.model port.old) × (Q.rows port.new ≡ Q.rows port.old) }
+        ensures others { Q.stays port.old port.new }
+        ensures goes_on { IfOk result (GoesOn (B.chooses self.old.brancher) (core_of self.old) (core_of self.new)
+            (Q.part port.old) (Q.part port.new)) }
+        ensures brancher { IfOk result (λ turn. BrancherTurn turn ⊥ (DecidedBy (B.stays self.old.brancher
+            self.new.brancher) (self.new.brancher ≡ self.old.brancher)) (self.new.brancher ≡ self.old.brancher)) }
+        ensures guidance { B.guidance self.new.brancher ≡ B.guidance self.old.brancher }
+        ensures works { OnOk result (IsCoreWorking (core_of self.new) (B.scope self.new.brancher) (B.agrees
+            self.new.brancher self.new.frame.trail) self.new.kept) }
+    {
+        if self.sums >= MOST_SUMS {
+            return self.choose();
+        }
+        if let Some(place) = first_failed(self.frame.store(), self.reform.terms()) {
+            return self.reform_at(port, place);
+        }
+        match first_open(self.frame.store(), self.reform.terms()) {
+            Some(place) => self.assume(place),
+            None => self.choose(),
+        }
+    }
+
+    /// Decides the assumption of a term.
+    fn assume(&mut self, place: usize) -> Result<Turn, AllocError>
+        requires works { IsCoreWorking (core_of self.old) (B.scope self.old.brancher) (B.agrees self.old.brancher
+            self.old.frame.trail) self.old.kept }
+        requires due { IsDue self.old.frame }
+        requires few { self.old.sums < most_sums }
+        requires none_fails { NoneFails self.old.frame.trail self.old.reform.terms }
+        requires open_now { IsFirstOpen self.old.frame.trail self.old.reform.terms place }
+        ensures goes_on { IfOk result (λ turn. (part : Part) → GoesOn (B.chooses self.old.brancher) (core_of self.old)
+            (core_of self.new) part part turn) }
+        ensures decided { IfOk result (λ turn. turn ≡ Turn.Decided) }
+        ensures brancher { self.new.brancher ≡ self.old.brancher }
+        ensures works { OnOk result (IsCoreWorking (core_of self.new) (B.scope self.new.brancher) (B.agrees
+            self.new.brancher self.new.frame.trail) self.new.kept) }
+    {
+        let atom = assumption(&self.reform.terms()[place]);
+        self.frame.decide(atom)?;
+        Ok(Turn::Decided)
+    }
+
+    /// Decides what the brancher chooses.
+    fn choose(&mut self) -> Result<Turn, AllocError>
+        requires works { IsCoreWorking (core_of self.old) (B.scope self.old.brancher) (B.agrees self.old.brancher
+            self.old.frame.trail) self.old.kept }
+        requires due { IsDue self.old.frame }
+        requires assumed { self.old.sums < most_sums → AreAssumed self.old.frame.trail.first
+            self.old.frame.trail.entries self.old.reform.terms }
+        ensures goes_on { IfOk result (λ turn. (part : Part) → GoesOn (B.chooses self.old.brancher) (core_of self.old)
+            (core_of self.new) part part turn) }
+        ensures decided { IfOk result (λ turn. turn ≡ Turn.Decided) }
+        ensures brancher { B.stays self.old.brancher self.new.brancher }
+        ensures guidance { B.guidance self.new.brancher ≡ B.guidance self.old.brancher }
+        ensures works { OnOk result (IsCoreWorking (core_of self.new) (B.scope self.new.brancher) (B.agrees
+            self.new.brancher self.new.frame.trail) self.new.kept) }
+    {
+        let seen = self.frame.store().entries().len();
+        decide_next(&mut self.frame, &mut self.brancher, self.kept)?;
+        self.kept = seen;
+        Ok(Turn::Decided)
+    }
+
+    /// Reforms the objective for a failed term, or ends where no solution below z can have the new form.
+    fn reform_at<Q: Port>(&mut self, port: &mut Q, place: usize) -> Result<Turn, AllocError>
+        requires works { IsCoreWorking (core_of self.old) (B.scope self.old.brancher) (B.agrees self.old.brancher
+            self.old.frame.trail) self.old.kept }
+        requires due { IsDue self.old.frame }
+        requires running { self.old.ended ≡ false }
+        requires few { self.old.sums < most_sums }
+        requires failed { IsFailed self.old.frame.trail self.old.reform.terms place }
+        requires model { Q.model port.old ≡ self.old.frame.problem.model }
+        ensures same { (Q.model port.new ≡ Q.model port.old) × (Q.rows port.new ≡ Q.rows port.old) }
+        ensures others { Q.stays port.old port.new }
+        ensures goes_on { IfOk result (GoesOn (B.chooses self.old.brancher) (core_of self.old) (core_of self.new)
+            (Q.part port.old) (Q.part port.new)) }
+        ensures brancher { self.new.brancher ≡ self.old.brancher }
+        ensures works { OnOk result (IsCoreWorking (core_of self.new) (B.scope self.new.brancher) (B.agrees
+            self.new.brancher self.new.frame.trail) self.new.kept) }
+    {
+        let atom = assumption(&self.reform.terms()[place]);
+        // Only here is it known what holds of each store.
+        let _ = self.frame.store().entries();
+        let decisions = self.frame.decisions_behind(atom)?;
+        self.frame.restart();
+        let _ = self.frame.store().entries();
+        self.kept = still_kept(self.frame.store(), self.kept);
+        let is_reformed = self.reform_by(place, atom, decisions.as_slice())?;
+        Ok(self.conclude(port, is_reformed))
+    }
+
+    /// Reforms the objective by the decisions behind the assumption of a failed term, at level 0. Answers false where
+    /// no solution below
+    /// z can have the new form.
+    fn reform_by(
+        &mut self,
+        place: usize,
+        atom: Atom,
+        decisions: &[Atom],
+    ) -> Result<bool, AllocError>
+        requires works { IsCoreWorking (core_of self.old) (B.scope self.old.brancher) (B.agrees self.old.brancher
+            self.old.frame.trail) self.old.kept }
+        requires bottom { IsFalseBelow self.old.frame }
+        requires failed { HasFailed (core_of self.old) place decisions.now }
+        requires atom { atom ≡ assumed (term_at self.old.reform.terms place) }
+        ensures tried { IfOk result (Tried (core_of self.old) (core_of self.new) place decisions.now) }
+        ensures brancher { self.new.brancher ≡ self.old.brancher }
+        ensures works { OnOk result (IsCoreWorking (core_of self.new) (B.scope self.new.brancher) (B.agrees
+            self.new.brancher self.new.frame.trail) self.new.kept) }
+    {
+        match self.frame.store().truth(atom) {
+            Truth::No => {
+                let least = self.frame.store().domain(atom.subject).min();
+                Ok(self.lift(place, least))
+            }
+            Truth::Yes | Truth::Undecided => self.lift_core(place, atom, decisions),
+        }
+    }
+
+    /// Marks the core, and splits it or lifts its only term.
+    fn lift_core(
+        &mut self,
+        place: usize,
+        atom: Atom,
+        decisions: &[Atom],
+    ) -> Result<bool, AllocError>
+        requires works { IsCoreWorking (core_of self.old) (B.scope self.old.brancher) (B.agrees self.old.brancher
+            self.old.frame.trail) self.old.kept }
+        requires not_false { IsFalseNow self.old.frame.trail atom → ⊥ }
+        requires failed { HasFailed (core_of self.old) place decisions.now }
+        requires atom { atom ≡ assumed (term_at self.old.reform.terms place) }
+        ensures tried { IfOk result (Tried (core_of self.old) (core_of self.new) place decisions.now) }
+        ensures brancher { self.new.brancher ≡ self.old.brancher }
+        ensures works { OnOk result (IsCoreWorking (core_of self.new) (B.scope self.new.brancher) (B.agrees
+            self.new.brancher self.new.frame.trail) self.new.kept) }
+    {
+        // Only here is it known what holds of each store.
+        let _ = self.frame.store().entries();
+        self.reform.mark_core(place, decisions);
+        let core = self.reform.core_terms(self.alloc)?;
+        if core.len() == 1 {
+            return Ok(self.lift(place, atom.value + 1));
+        }
+        self.split(core.as_slice())
+    }
+
+    /// Raises the bound of a term that no solution below z is below. Answers false, and changes nothing, where no
+    /// solution below z can
+    /// have the new form.
+    fn lift(&mut self, place: usize, bound: i64) -> bool
+        requires sound { IsSoundCore (core_of self.old) }
+        requires bottom { self.old.frame.trail.level ≡ 0 }
+        requires place { place < length self.old.reform.terms }
+        requires rises { (term_at self.old.reform.terms place).bound ≤ℤ bound }
+        requires risen { OfEachBelow self.old.frame.problem self.old.frame.z (λ xs. bound ≤ℤ value_at xs (term_at
+            self.old.reform.terms place).subject) }
+        ensures lifts { result ≡ true → core_of self.new ≡ record (core_of self.old) {
+          form = lifted self.old.reform
+              place bound;
+        } }
+        ensures stays { result ≡ false → core_of self.new ≡ core_of self.old }
+        ensures not_past { result ≡ true → IsPast self.old.frame.z self.old.greatest self.old.frame.problem.domains
+            self.new.reform → ⊥ }
+        ensures past { result ≡ false → IsPast self.old.frame.z self.old.greatest self.old.frame.problem.domains (lifted
+            self.old.reform place bound) }
+        ensures none { result ≡ false → NoneBelow self.old.frame.problem.model self.old.frame.z }
+        ensures sound { IsSoundCore (core_of self.new) }
+        ensures kept { (self.new.brancher ≡ self.old.brancher) × (self.new.kept ≡ self.old.kept) }
+    {
+        // Only here is it known what holds of each store.
+        let _ = self.frame.store().entries();
+        self.reform.lift_below(
+            self.frame.instance(),
+            place,
+            bound,
+            self.frame.z(),
+            self.greatest,
+        )
+    }
+
+    /// Splits a core of several terms, of which each solution below z is above a bound. Answers false where no solution
+    /// below z can have
+    /// the new form.
+    fn split(&mut self, core: &[Term]) -> Result<bool, AllocError>
+        requires works { IsCoreWorking (core_of self.old) (B.scope self.old.brancher) (B.agrees self.old.brancher
+            self.old.frame.trail) self.old.kept }
+        requires bottom { self.old.frame.trail.level ≡ 0 }
+        requires few { self.old.sums < most_sums }
+        requires core { core.now ≡ core_terms self.old.reform.terms }
+        requires weights { WeighAtLeast 1 self.old.reform.terms }
+        requires above { OfEachBelow self.old.frame.problem self.old.frame.z (λ xs. IsSomeAbove xs
+            self.old.reform.terms) }
+        ensures splits { IfOk result (Splits (core_of self.old) (core_of self.new)) }
+        ensures brancher { self.new.brancher ≡ self.old.brancher }
+        ensures works { OnOk result (IsCoreWorking (core_of self.new) (B.scope self.new.brancher) (B.agrees
+            self.new.brancher self.new.frame.trail) self.new.kept) }
+    {
+        let subject = grow_core(&mut self.frame, &self.reform, core)?;
+        // Only here is it known what holds of each store.
+        let _ = self.frame.store().entries();
+        self.sums += 1;
+        self.reform.split_below(
+            self.frame.instance(),
+            subject,
+            self.frame.z(),
+            self.greatest,
+        )
+    }
+
+    /// Raises the lower bound: to the new base, or to z where the worker is exhausted.
+    fn conclude<Q: Port>(&mut self, port: &mut Q, is_reformed: bool) -> Turn
+        requires sound { IsSoundCore (core_of self.old) }
+        requires model { Q.model port.old ≡ self.old.frame.problem.model }
+        requires base { is_reformed ≡ true → IsLowerBound self.old.frame.problem.model (Bound.At self.old.reform.base) }
+        requires none { is_reformed ≡ false → NoneBelow self.old.frame.problem.model self.old.frame.z }
+        ensures same { (Q.model port.new ≡ Q.model port.old) × (Q.rows port.new ≡ Q.rows port.old) }
+        ensures others { Q.stays port.old port.new }
+        ensures reformed { is_reformed ≡ true → (result ≡ Turn.Reformed self.old.reform.base) × RaisesTo (Bound.At
+            self.old.reform.base) (core_of self.old) (core_of self.new) (Q.part port.old) (Q.part port.new) ×
+            (self.new.ended ≡ self.old.ended) }
+        ensures exhausted { is_reformed ≡ false → (result ≡ Turn.Exhausted) × RaisesTo self.old.frame.z (core_of
+            self.old) (core_of self.new) (Q.part port.old) (Q.part port.new) × (self.new.ended ≡ true) }
+        ensures rest { self.new ≡ record self.old { raised = self.new.raised; ended = self.new.ended } }
+        ensures sound { IsSoundCore (core_of self.new) }
+    {
+        if is_reformed {
+            let base = self.reform.base();
+            self.raise(port, Bound::At(base));
+            return Turn::Reformed(base);
+        }
+        let z = self.frame.z();
+        self.raise(port, z);
+        self.ended = true;
+        Turn::Exhausted
+    }
+
+    /// Raises the lower bound.
+    fn raise<Q: Port>(&mut self, port: &mut Q, bound: Bound)
+        requires model { Q.model port.old ≡ self.old.frame.problem.model }
+        requires bound { IsLowerBound self.old.frame.problem.model bound }
+        requires small { IsSmallBound bound }
+        ensures same { (Q.model port.new ≡ Q.model port.old) × (Q.rows port.new ≡ Q.rows port.old) }
+        ensures others { Q.stays port.old port.new }
+        ensures board { (Q.part port.new).board ≡ (Q.part port.old).board }
+        ensures bounds { Raises bound (Q.part port.old).bounds (Q.part port.new).bounds }
+        ensures is { self.new ≡ record self.old { raised = raised_to self.old.raised bound } }
+    {
+        port.raise(bound);
+        self.raised = raised_to(self.raised, bound);
+    }
+}

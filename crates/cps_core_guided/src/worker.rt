@@ -1,0 +1,183 @@
+//! A worker that raises the lower bound core by core.
+
+ghost use Rattle.std.specs.Prelude.{◌≡◌, ◌≤◌, ◌<◌, ◌^◌, length, None, OnOk, OnErr, IfOk, IfSome, IsErr, IsNone, IsTrue, Some};
+ghost use Rattle.cps_branch.specs.Guidances.{AreHintsOf};
+ghost use Rattle.cps_search.specs.Searches.{HasNoAssumptions};
+ghost use Rattle.cps_search.specs.Ends.{BrancherTurn, HeardOne, IsOver};
+ghost use Rattle.cps_core_guided.specs.Reforming.{IsSoundCore, whole};
+ghost use Rattle.cps_core_guided.specs.CoreTurns.{BeginsCore, DecidedBy, RunsCoreTo, RunsInCoreTurns, TakesCoreTurn, core_ending};
+
+use crate::ended::CoreEnded;
+use crate::first::first_form;
+use crate::guided::Guided;
+use cps_branch::{ActivityBrancher, Brancher};
+use cps_clauses::Journal;
+use cps_instance::Instance;
+use cps_port::Port;
+use cps_propagate::{Defining, Engine};
+use cps_reform::{greatest_sum, objective_terms};
+use cps_search::{End, Frame, Said, Turn, WorkerKind, end_of};
+use std::alloc::{AllocError, Global};
+use std::marker::Model;
+
+/// A search with the objective's form, and a brancher that chooses what is decided where all is assumed. Contracts see
+/// it as the pair of
+/// both. Once a call ran out of memory, each call that may allocate answers so too.
+#[derive(Drop)]
+pub struct CoreWorker<'a, P: Defining, B: Brancher + Drop> {
+    guided: Guided<'a, P, B>,
+    /// Whether memory was refused.
+    refused: bool,
+}
+
+impl<'a, P: Defining, B: Brancher + Drop> Model for CoreWorker<'a, P, B> {
+    ghost use Rattle.cps_core_guided.specs.Reforming.{CoreSearch};
+
+    ghost Value = { CoreSearch × B };
+
+    ghost use Rattle.std.specs.Prelude.{◌≡◌, false};
+    ghost use Rattle.cps_core_guided.specs.CoreTurns.{IsCoreWorking};
+    ghost use Rattle.cps_core_guided.specs.Guiding.{core_of, with_refused};
+
+    ghost view = { λ w. (with_refused (core_of w.guided) w.refused, w.guided.brancher) };
+
+    ghost invariant = { λ w. w.refused ≡ false → (w.guided.frame.refused ≡ false) × IsCoreWorking (core_of w.guided) (B.scope w.guided.brancher) (B.agrees w.guided.brancher w.guided.frame.trail) w.guided.kept };
+}
+
+impl<'a, P: Defining> CoreWorker<'a, P, ActivityBrancher> {
+    /// A worker that knows nothing yet. It learns from at most `budget` conflicts, at most 10^9, and ends where the two
+    /// bounds meet within
+    /// the gap. The engine has the instance's tasks, in order, and the instance has fewer than 2^30 subjects.
+    pub fn new(
+        alloc: Global,
+        instance: Instance<'a>,
+        engine: Engine<P>,
+        budget: u64,
+        gap: u64,
+    ) -> Result<Self, AllocError>
+        requires tasks { engine.tasks ≡ instance.tasks }
+        requires assumptions { HasNoAssumptions instance.model }
+        requires budget { budget ≤ 10 ^ 9 }
+        requires few { length instance.domains < 2 ^ 30 }
+        ensures begins { IfOk result (λ w. BeginsCore instance.entry gap budget w.0) }
+        ensures hints { IfOk result (λ w. AreHintsOf w.0.search.problem w.1.hints) }
+    {
+        let brancher = ActivityBrancher::of(alloc, &instance)?;
+        let terms = objective_terms(alloc, &instance)?;
+        let greatest = greatest_sum(instance.domains(), terms.as_slice());
+        let mut frame = Frame::new(alloc, instance, engine, Some(budget), gap)?;
+        let reform = first_form(alloc, &mut frame, terms.as_slice())?;
+        Ok(CoreWorker {
+            guided: Guided {
+                alloc,
+                frame,
+                brancher,
+                reform,
+                sums: 0,
+                greatest,
+                raised: None,
+                ended: false,
+                kept: 0,
+            },
+            refused: false,
+        })
+    }
+}
+
+impl<'a, P: Defining, B: Brancher + Drop> CoreWorker<'a, P, B> {
+    /// Takes a turn: the first that applies of these. The two bounds met; an entry of the board is taken; a conflict
+    /// ends all, or spends
+    /// the budget, or is learnt from; a solution is found; an assumption is false, and the objective is reformed, or no
+    /// solution is left;
+    /// an assumption, or else what the brancher chooses, is decided.
+    pub fn turn<Q: Port>(&mut self, port: &mut Q) -> Result<Turn, AllocError>
+        requires running { IsOver (whole self.old.0).said → ⊥ }
+        requires model { Q.model port.old ≡ self.old.0.search.problem.model }
+        requires imported { self.old.0.search.imported ≤ length (Q.part port.old).board.taken }
+        ensures same { (Q.model port.new ≡ Q.model port.old) × (Q.rows port.new ≡ Q.rows port.old) }
+        ensures others { Q.stays port.old port.new }
+        ensures turn { IfOk result (λ turn. TakesCoreTurn (B.chooses self.old.1) self.old.0 self.new.0 (Q.rows port.old)
+            (Q.part port.old) (Q.part port.new) turn) }
+        ensures brancher { IfOk result (λ turn. BrancherTurn turn (HeardOne (λ clause restart. B.hears self.old.1 clause
+            restart self.new.1) self.old.0.search self.new.0.search) (DecidedBy (B.stays self.old.1 self.new.1)
+            (self.new.1 ≡ self.old.1)) (self.new.1 ≡ self.old.1)) }
+        ensures guidance { B.guidance self.new.1 ≡ B.guidance self.old.1 }
+        ensures sound { OnOk result (IsSoundCore self.old.0 × IsSoundCore self.new.0) }
+        ensures refused { OnErr result (IsTrue self.new.0.search.refused) }
+        ensures stays { IsTrue self.old.0.search.refused → IsErr result }
+    {
+        if self.refused {
+            return Err(AllocError);
+        }
+        self.refused = true;
+        let turn = self.guided.turn(port)?;
+        self.refused = false;
+        Ok(turn)
+    }
+
+    /// Takes turns up to the end.
+    pub fn run<Q: Port>(&mut self, port: &mut Q) -> Result<End, AllocError>
+        requires running { IsOver (whole self.old.0).said → ⊥ }
+        requires model { Q.model port.old ≡ self.old.0.search.problem.model }
+        requires imported { self.old.0.search.imported ≤ length (Q.part port.old).board.taken }
+        ensures same { (Q.model port.new ≡ Q.model port.old) × (Q.rows port.new ≡ Q.rows port.old) }
+        ensures others { Q.stays port.old port.new }
+        ensures runs { IfOk result (λ end. RunsCoreTo self.old.0 self.new.0 (Q.part port.old) (Q.part port.new) end) }
+        ensures turns { IfOk result (λ end. RunsInCoreTurns B.chooses B.hears B.stays (Q.rows port.old) self.old
+            self.new (Q.part port.old) (Q.part port.new) end) }
+        ensures guidance { B.guidance self.new.1 ≡ B.guidance self.old.1 }
+        ensures sound { OnOk result (IsSoundCore self.new.0) }
+        ensures refused { OnErr result (IsTrue self.new.0.search.refused) }
+        ensures stays { IsTrue self.old.0.search.refused → IsErr result }
+    {
+        'turns: loop {
+            let turn = self.turn(port)?;
+            if let Some(end) = end_of(turn) {
+                return Ok(end);
+            }
+        }
+    }
+
+    /// How many clauses were learnt.
+    pub fn tally(&self) -> u64
+        ensures { result ≡ self.now.0.search.tally }
+    {
+        self.guided.frame.tally()
+    }
+
+    /// What was learnt.
+    pub fn journal(&self) -> &Journal
+        ensures { result.now ≡ self.now.0.search.base.journal }
+    {
+        self.guided.frame.clauses().journal()
+    }
+
+    /// The best solution that was found.
+    pub fn best(&self) -> Option<&[i64]>
+        ensures none { IsNone result → IsNone self.now.0.search.best }
+        ensures some { IfSome result (λ values. self.now.0.search.best ≡ Some values.now) }
+    {
+        self.guided.frame.best()
+    }
+
+    /// What is seen of the worker after it ended.
+    pub fn finish(self) -> CoreEnded
+        requires { IsOver (whole self.0).said }
+        ensures said { (whole self.entry.0).said ≡ Said.Over result.end }
+        ensures is { result ≡ core_ending result.end self.entry.0 }
+    {
+        let CoreWorker { guided, .. } = self;
+        let Guided {
+            frame,
+            raised,
+            ended,
+            ..
+        } = guided;
+        let ended = if ended {
+            frame.finish(WorkerKind::CoreGuided, End::Exhausted)
+        } else {
+            frame.finish_as_said(WorkerKind::CoreGuided, None)
+        };
+        CoreEnded { ended, raised }
+    }
+}
