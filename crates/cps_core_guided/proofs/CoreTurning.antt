@@ -51,16 +51,16 @@ setting-frame s t is h = record { model = ap (λ (p : Problem). p.model) h.probl
 pub frame-not-decided : (s t : Search) (rows : ℕ) (p q : Part) (turn : Turn) → Caused s t rows p q (Some turn) → turn ≡ turns.Decided → ⊥
 frame-not-decided s t rows p q turn h e = subst (λ (x : Turn). Caused s t rows p q (Some x)) e h
 
-core-caused : (chooses : Trail → Option Atom → Type 0) (s t : CoreSearch) (rows : ℕ) (p q : Part) (turn : Turn) → t ≡ record s { search = t.search } → (turn ≡ turns.Decided → ⊥) → TurnCaused chooses s.search t.search rows p q turn → CoreCaused chooses s t rows p q turn
-core-caused chooses s t rows p q turns.Imported is not h = record { caused = h; same = is }
-core-caused chooses s t rows p q turns.Decided is not h = absurd (not refl)
-core-caused chooses s t rows p q turns.Learnt is not h = record { caused = h; same = is }
-core-caused chooses s t rows p q turns.Found is not h = record { caused = h; same = is }
-core-caused chooses s t rows p q turns.Exhausted is not h = inl (record { caused = h; same = is })
-core-caused chooses s t rows p q turns.SawClosed is not h = record { caused = h; same = is }
-core-caused chooses s t rows p q (turns.Spent clause below) is not h = record { caused = h; same = is }
-core-caused chooses s t rows p q turns.RoundsDone is not h = absurd h
-core-caused chooses s t rows p q (turns.Reformed base) is not h = absurd h
+core-caused : (chooses : Trail → Option Atom → Type 0) (s t : CoreSearch) (rows : ℕ) (p q : Part) (turn : Turn) → t ≡ record s { search = t.search } → SameSetting s.search t.search → (turn ≡ turns.Decided → ⊥) → TurnCaused chooses s.search t.search rows p q turn → CoreCaused chooses s t rows p q turn
+core-caused chooses s t rows p q turns.Imported is setting not h = record { caused = h; setting = setting; same = is }
+core-caused chooses s t rows p q turns.Decided is setting not h = absurd (not refl)
+core-caused chooses s t rows p q turns.Learnt is setting not h = record { caused = h; setting = setting; same = is }
+core-caused chooses s t rows p q turns.Found is setting not h = record { caused = h; setting = setting; same = is }
+core-caused chooses s t rows p q turns.Exhausted is setting not h = inl (record { caused = h; setting = setting; same = is })
+core-caused chooses s t rows p q turns.SawClosed is setting not h = record { caused = h; setting = setting; same = is }
+core-caused chooses s t rows p q (turns.Spent clause below) is setting not h = record { caused = h; setting = setting; same = is }
+core-caused chooses s t rows p q turns.RoundsDone is setting not h = absurd h
+core-caused chooses s t rows p q (turns.Reformed base) is setting not h = absurd h
 
 ends-core : (end : Option End) (t : CoreSearch) → t.ended ≡ false → EndsAs end t.search → EndsAs end (whole t)
 ends-core None t off h = subst (λ (x : Said). IsOver x → ⊥) (sym (said-search t off)) h
@@ -78,7 +78,7 @@ pub turn-frame : (chooses : Trail → Option Atom → Type 0) (s t : CoreSearch)
 turn-frame chooses s t rows p q turn off is not h = record {
   setting = setting-frame s t is h.setting;
   store = λ own. h.store not;
-  cause = core-caused chooses s t rows p q turn is not h.cause;
+  cause = core-caused chooses s t rows p q turn is h.setting not h.cause;
   moves = moves-whole s t p q h.moves (ap (λ (x : CoreSearch). x.raised) is);
   ends = ends-core (end_of turn) t (ap (λ (x : CoreSearch). x.ended) is ∙ off) h.ends;
   lowers = λ going. lowers-core s t rows p.board q.board (ap (λ (x : CoreSearch). x.form) is) (h.lowers going);
@@ -98,7 +98,7 @@ turn-decides chooses s m t rows p o q off has sound steps ms d =
     record {
       setting = setting-frame s t is h.setting;
       store = λ own. absurd (own (inl refl));
-      cause = record { midway = m; part = o; due = steps.cause; same = ms; on = d };
+      cause = record { midway = m; part = o; due = steps.cause; setting = steps.setting; same = ms; on = d };
       moves = subst (λ (r : Part). MovesWith (whole s) (whole t) p r) (sym d.part) (moves-whole s t p o h.moves (ap (λ (c : CoreSearch). c.raised) is));
       ends = ends-core None t (ap (λ (c : CoreSearch). c.ended) is ∙ off) h.ends;
       lowers = λ going. subst (λ (r : Part). LowersCore s t rows p.board r.board) (sym d.part) (lowers-core s t rows p.board o.board (ap (λ (c : CoreSearch). c.form) is) (h.lowers refl));
@@ -124,7 +124,7 @@ turn-reforms chooses s m t rows p o q base steps ms h =
     record {
       setting = failed-setting s m t rows p o t.form h.more steps ms f;
       store = λ own. absurd (own (inr (inr (base, refl))));
-      cause = record { midway = m; part = o; due = steps.cause; same = ms; on = h };
+      cause = record { midway = m; part = o; due = steps.cause; setting = steps.setting; same = ms; on = h };
       moves = moves_more (whole s) (whole m) (whole t) p o q (moves-whole s m p o steps.moves (ap (λ (c : CoreSearch). c.raised) ms)) moves;
       ends = subst (λ (x : Said). IsOver x → ⊥) (sym (said-search t h.ended ∙ f.said)) (λ x. x);
       lowers = λ going.
@@ -142,7 +142,7 @@ turn-exhausts chooses s m t rows p o q steps ms h =
     record {
       setting = failed-setting s m t rows p o h.form h.more steps ms f;
       store = λ own. absurd (own (inr (inl refl)));
-      cause = inr (record { midway = m; part = o; due = steps.cause; same = ms; on = h });
+      cause = inr (record { midway = m; part = o; due = steps.cause; setting = steps.setting; same = ms; on = h });
       moves = moves_more (whole s) (whole m) (whole t) p o q (moves-whole s m p o steps.moves (ap (λ (c : CoreSearch). c.raised) ms)) moves;
       ends = ap (λ (b : Bool). if b then Over ends.Exhausted else t.search.said) h.ended;
       lowers = λ on. absurd (going ends.Exhausted on);

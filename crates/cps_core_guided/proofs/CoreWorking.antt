@@ -30,7 +30,7 @@ core-room s scope agrees kept h =
     let working : IsWorking s.search scope agrees kept = record { sound = h.sound.search; of_problem = h.of_problem; budget = h.budget; has_budget = h.has_budget; few = h.few; within = h.within; agreed = h.agreed } in
     room s.search scope agrees kept working
 
-scope-grown : (p q : Problem) (scope : Scope) → q.model ≡ p.model → length p.domains ≤ length q.domains → IsScopeOf p scope → IsScopeOf q scope
+pub scope-grown : (p q : Problem) (scope : Scope) → q.model ≡ p.model → length p.domains ≤ length q.domains → IsScopeOf p scope → IsScopeOf q scope
 scope-grown p q scope model longer h =
     let within = h.subjects_within in
     record { variables_are = h.variables_are ∙ sym (ap (λ (m : CpModel). length m.variables) model); subjects_within = omega (arith, longer, within) }

@@ -10,3 +10,10 @@ pub mod CoreWorking
 pub mod Lifting
 pub mod Failing
 pub mod Hearing
+pub mod Starting
+pub mod Values
+pub mod CoreLasting
+pub mod CoreRunning
+pub mod CoreEnding
+pub mod Viewing
+pub mod CoreBeginning

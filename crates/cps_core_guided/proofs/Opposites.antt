@@ -13,10 +13,7 @@ use Rattle.cps_instance.proofs.Extending.{agree-append, length-extended}
 use Rattle.cps_reform.specs.Beginning.{Holds}
 use Rattle.cps_reform.proofs.Floors.{defined-values}
 use Rattle.cps_reform.proofs.Growing.{counts, last_sum}
-
--- the sum that is the opposite of a subject
-abbrev pub opposite : ℕ → DefinedSum
-opposite subject = record { terms = record { coeff = negsuc 0; subject = subject } ∷ []; offset = pos 0 }
+use Rattle.cps_core_guided.specs.Beginning.{opposite}
 
 turned : (c v w : ℤ) → c <ℤ pos 0 → w ≡ ((negsuc 0 *ℤ v) +ℤ pos 0) +ℤ pos 0 → pos (unsigned_abs c) *ℤ w ≡ c *ℤ v
 turned (pos n) v w h e = absurd (omega (arith, ints, h))

@@ -1,7 +1,17 @@
 -- How a core-guided search begins.
-use Rattle.std.specs.Prelude.{◌≡◌, ℕ, ◌+◌, ◌≤◌, length}
+use Rattle.std.specs.Prelude.{◌≡◌, ◌⊎◌, ℕ, ◌+◌, ◌≤◌, pos, negsuc, [], ◌∷◌, length}
+use Rattle.cps_instance.specs.Sums.{DefinedSum}
+use Rattle.cps_search.specs.Growing.{GrewBy}
 use Rattle.cps_search.specs.Moves.{fresh}
 use Rattle.cps_search.specs.Searches.{Search}
+
+-- the sum that is the opposite of a subject
+abbrev pub opposite : ℕ → DefinedSum
+opposite subject = record { terms = record { coeff = negsuc 0; subject = subject } ∷ []; offset = pos 0 }
+
+-- a search stands, or has the opposite of a subject as one more
+abbrev pub MayHaveOpposite : ℕ → Search → Search → ℕ → Type 0
+MayHaveOpposite of s t subject = (t ≡ s) ⊎ GrewBy s t (opposite of) subject
 
 -- a search that knows nothing yet gained at most so many sums
 pub record OnlyGrew (s t : Search) (most : ℕ) : Type 0 where

@@ -25,7 +25,7 @@ use Rattle.cps_search.specs.Growing.{AreBehindIn}
 use Rattle.cps_search.specs.Lessons.{GoesBack}
 use Rattle.cps_search.specs.Moves.{fresh, moved, decided}
 use Rattle.cps_search.specs.Searches.{Search, NoneBelow}
-use Rattle.cps_search.specs.Turns.{DecisionDue, ExhaustedAll, FoundOne, GoesOnAndBack, IsLess, LearntOne, SameBest, SameImported, SameLearnt, SameRaised, SawMet, SpentAll, TookOne}
+use Rattle.cps_search.specs.Turns.{DecisionDue, ExhaustedAll, FoundOne, GoesOnAndBack, IsLess, LearntOne, SameBest, SameImported, SameLearnt, SameRaised, SameSetting, SawMet, SpentAll, TookOne}
 use Rattle.cps_reform.specs.Forms.{Form, term_at}
 use Rattle.cps_reform.specs.Beginning.{IsFirstForm}
 use Rattle.cps_reform.specs.Marks.{assumed}
@@ -118,17 +118,19 @@ GoesOn chooses m t p q turns.SawClosed = ⊥
 GoesOn chooses m t p q (turns.Spent clause below) = ⊥
 GoesOn chooses m t p q turns.RoundsDone = ⊥
 
--- a turn came to where a decision is due, and went on from there
+-- a turn came to where a decision is due, over the same problem, and went on from there
 pub record FromDue (s : CoreSearch) (rows : ℕ) (p : Part) (goes_on : CoreSearch → Part → Type 0) : Type 0 where
   pub midway : CoreSearch
   pub part : Part
   pub due : DecisionDue s.search midway.search rows p part
+  pub setting : SameSetting s.search midway.search
   pub same : midway ≡ record s { search = midway.search }
   pub on : goes_on midway part
 
--- a turn of the frame alone
+-- a turn of the frame alone, over the same problem
 pub record ByFrame (s t : CoreSearch) (cause : Type 0) : Type 0 where
   pub caused : cause
+  pub setting : SameSetting s.search t.search
   pub same : t ≡ record s { search = t.search }
 
 -- the cause of a turn of a core-guided worker whose brancher chooses so

@@ -1,14 +1,11 @@
 //! The first form of the objective.
 
-ghost use Rattle.std.specs.Prelude.{◌≡◌, ◌+◌, ◌<◌, ◌≤◌, ◌^◌, ℤ, ◌*ℤ◌, ◌≤ℤ◌, pos, unsigned_abs, List, map, All, length, IfOk, OnOk, OnErr, IsTrue};
-ghost use Rattle.cps_domain.specs.Window.{intervals};
-ghost use Rattle.cps_literal.specs.Truth.{value_at};
-ghost use Rattle.cps_instance.specs.Problem.{IsAssignment, variable_count};
-ghost use Rattle.cps_instance.specs.Sums.{extended};
-ghost use Rattle.cps_instance.specs.Terms.{greatest_of_terms, terms_reach};
+ghost use Rattle.std.specs.Prelude.{◌≡◌, ◌+◌, ◌<◌, ◌≤◌, ◌^◌, unsigned_abs, All, length, IfOk, OnOk, OnErr, IsTrue};
+ghost use Rattle.cps_instance.specs.Problem.{variable_count};
+ghost use Rattle.cps_instance.specs.Terms.{terms_reach};
 ghost use Rattle.cps_search.specs.Searches.{IsSoundSearch};
 ghost use Rattle.cps_reform.specs.Beginning.{Holds, IsFirstForm};
-ghost use Rattle.cps_core_guided.specs.Beginning.{OnlyGrew};
+ghost use Rattle.cps_core_guided.specs.Beginning.{MayHaveOpposite, OnlyGrew};
 
 use cps_instance::Term;
 use cps_propagate::Defining;
@@ -19,24 +16,23 @@ use std::alloc::{AllocError, Global};
 /// A subject whose value is that of a term's subject, or the opposite where the coefficient is negative: a sum that is
 /// defined for it.
 fn held_subject<P: Defining>(frame: &mut Frame<'_, P>, term: Term) -> Result<u32, AllocError>
+    requires sound { IsSoundSearch frame.old }
     requires bottom { frame.old.trail.level ≡ 0 }
     requires subject { term.subject < variable_count frame.old.problem }
     requires room { length frame.old.problem.domains < 2 ^ 31 }
     ensures holds { IfOk result (Holds frame.new.problem term) }
-    ensures grew { OnOk result (OnlyGrew frame.old frame.new 1) }
-    ensures sound { OnOk result (IsSoundSearch frame.old → IsSoundSearch frame.new) }
+    ensures grew { IfOk result (MayHaveOpposite term.subject frame.old frame.new) }
+    ensures sound { OnOk result (IsSoundSearch frame.new) }
     ensures refused { OnErr result (IsTrue frame.new.refused) }
 {
     if term.coeff >= 0 {
         return Ok(term.subject);
     }
-    frame.grow(
-        &[Term {
-            coeff: -1,
-            subject: term.subject,
-        }],
-        0,
-    )
+    let opposite = Term {
+        coeff: -1,
+        subject: term.subject,
+    };
+    frame.grow(&[opposite], 0)
 }
 
 /// The objective's first form: each of its terms is held at its least value.
@@ -51,6 +47,7 @@ pub(crate) fn first_form<P: Defining>(
     requires small { terms_reach frame.old.problem.domains terms.now < 2 ^ 62 }
     requires room { length frame.old.problem.domains + length terms.now ≤ 2 ^ 31 }
     ensures first { IfOk result (IsFirstForm frame.new.problem terms.now) }
+    ensures base { IfOk result (λ form. unsigned_abs form.base < 2 ^ 62) }
     ensures grew { OnOk result (OnlyGrew frame.old frame.new (length terms.now)) }
     ensures sound { OnOk result (IsSoundSearch frame.new) }
 {

@@ -25,7 +25,9 @@ mod ended;
 mod first;
 mod grow;
 mod guided;
+mod laws;
 mod worker;
 
 pub use ended::CoreEnded;
+pub use laws::{core_turns_come_to_a_run, ended_core_workers_are_honest};
 pub use worker::CoreWorker;

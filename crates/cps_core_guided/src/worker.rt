@@ -64,9 +64,9 @@ impl<'a, P: Defining> CoreWorker<'a, P, ActivityBrancher> {
     {
         let brancher = ActivityBrancher::of(alloc, &instance)?;
         let terms = objective_terms(alloc, &instance)?;
-        let greatest = greatest_sum(instance.domains(), terms.as_slice());
         let mut frame = Frame::new(alloc, instance, engine, Some(budget), gap)?;
         let reform = first_form(alloc, &mut frame, terms.as_slice())?;
+        let greatest = greatest_sum(frame.instance().domains(), terms.as_slice());
         Ok(CoreWorker {
             guided: Guided {
                 alloc,

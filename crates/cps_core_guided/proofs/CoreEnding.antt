@@ -1,0 +1,118 @@
+-- What a core-guided worker's run says of it once it has ended.
+use Rattle.std.specs.Prelude.{IfSome, if◌then◌else◌}
+use Rattle.std.proofs.Common.{ℕ, ◌≤◌, ℤ, ◌≡◌, ◌∙◌, ◌⊎◌, inl, inr, Bool, true, false, Option, Some, None, List, length, refl, sym, ap, subst, arith}
+use Rattle.cps_model.specs.declared.bound.Bound.{Bound}
+use Rattle.cps_model.specs.declared.bound.Bound.TheVariants.{Infinite}
+use Rattle.cps_model.specs.declared.model.CpModel.{CpModel}
+use Rattle.cps_literal.specs.declared.atom.Atom.{Atom}
+use Rattle.cps_instance.specs.Problem.{Problem}
+use Rattle.cps_trail.specs.Trail.{Trail}
+use Rattle.cps_trail.proofs.Falls.{bool_cases}
+use Rattle.cps_port.specs.declared.part.BoundsPart.{BoundsPart}
+use Rattle.cps_port.specs.declared.part.Part.{Part}
+use Rattle.cps_port.specs.Incumbents.{IsLowerBound}
+use Rattle.cps_port.specs.Order.{BoundLe, greater_of, lesser}
+use Rattle.cps_port.proofs.Bounding.{BoundLe-refl, greater_is}
+use Rattle.cps_search.specs.declared.end.End.{End}
+use Rattle.cps_search.specs.declared.end.End.TheVariants as ends
+use Rattle.cps_search.specs.declared.end.Said.{Said}
+use Rattle.cps_search.specs.declared.end.Said.TheVariants.{Due, Nothing, Over}
+use Rattle.cps_search.specs.declared.end.WorkerKind.TheVariants.{CoreGuided}
+use Rattle.cps_search.specs.Ends.{EndsBy, IsHonestEnding, IsWhy, LastSawMet, ending}
+use Rattle.cps_search.specs.Following.{MovesWith, best_bound}
+use Rattle.cps_search.specs.Moves.{fresh}
+use Rattle.cps_search.specs.Searches.{IsFound, IsSoundSearch, SaidSo, Search}
+use Rattle.cps_search.proofs.Ending.{honest_by}
+use Rattle.cps_core_guided.specs.CoreTurns.{BeginsCore, RunsCoreTo, RunsInCoreTurns, core_ending}
+use Rattle.cps_core_guided.specs.Reforming.{CoreSearch, IsSoundCore, said_of, whole}
+use Rattle.cps_core_guided.proofs.CoreRunning.{core-turns-run}
+use Rattle.cps_core_guided.proofs.CoreTurning.{said-search}
+
+-- ---- the search as it is seen is sound
+found-whole : (s : CoreSearch) (best : Option (List ℤ)) → IfSome best (IsFound s.search) → IfSome best (IsFound (whole s))
+found-whole s None h = tt
+found-whole s (Some a) h = record { solution = h.solution; reached = h.reached }
+
+raised-whole : (m : CpModel) (a r : Option Bound) → IfSome a (IsLowerBound m) → IfSome r (IsLowerBound m) → IfSome (greater_of a r) (IsLowerBound m)
+raised-whole m a None h k = h
+raised-whole m None (Some r) h k = k
+raised-whole m (Some a) (Some r) h k = greater_is (IsLowerBound m) a r h k
+
+said-whole : (s : CoreSearch) (x : Said) → SaidSo s.search x → SaidSo (whole s) x
+said-whole s Nothing h = tt
+said-whole s Due h = record { tasks = h.tasks; clauses = h.clauses; rested = h.rested }
+said-whole s (Over ends.Exhausted) h = h
+said-whole s (Over ends.SawClosed) h = tt
+said-whole s (Over (ends.Spent clause below)) h = h
+said-whole s (Over ends.RoundsDone) h = tt
+
+said-so : (s : CoreSearch) → IsSoundCore s → SaidSo (whole s) (said_of s)
+said-so s h = elim (bool_cases s.ended) [
+  | inl on ↦ subst (λ (x : Said). SaidSo (whole s) x) (sym (ap (λ (b : Bool). if b then Over ends.Exhausted else s.search.said) on)) (h.ended on)
+  | inr off ↦ subst (λ (x : Said). SaidSo (whole s) x) (sym (said-search s off)) (said-whole s s.search.said h.search.said)
+]
+
+pub sound-whole : (s : CoreSearch) → IsSoundCore s → IsSoundSearch (whole s)
+sound-whole s h =
+    let k = h.search in
+    record {
+      instance = k.instance;
+      no_assumptions = k.no_assumptions;
+      incumbent = k.incumbent;
+      domains = k.domains;
+      tasks = k.tasks;
+      given = k.given;
+      clauses = k.clauses;
+      subjects = k.subjects;
+      base = k.base;
+      quiet = k.quiet;
+      rested = k.rested;
+      journal = k.journal;
+      none_since = k.none_since;
+      above = k.above;
+      counted = k.counted;
+      within_budget = k.within_budget;
+      count = k.count;
+      best = found-whole s s.search.best k.best;
+      raised = raised-whole s.search.problem.model s.search.raised s.raised k.raised h.raised;
+      said = said-so s h;
+    }
+
+-- ---- it is honest
+-- a search that began alike, over the same model, moved alike
+moves-begun : (a b t : Search) (p q : Part) → b.z ≡ a.z → b.problem.model ≡ a.problem.model → b.best ≡ a.best → b.raised ≡ a.raised → b.imported ≡ a.imported → MovesWith a t p q → MovesWith b t p q
+moves-begun a b t p q z model best raised imported h = record {
+  falls = subst (λ (x : Bound). BoundLe t.z x) (sym z) h.falls;
+  follows = λ above. h.follows (subst (λ (x : Bound). BoundLe p.bounds.saw_upper x) z above);
+  offers = λ before was. h.offers before (was ∙ ap (λ (m : CpModel). lesser before (best_bound m b.best)) model ∙ ap (λ (o : Option (List ℤ)). lesser before (best_bound a.problem.model o)) best);
+  raises = λ before was. h.raises before (was ∙ ap (λ (o : Option Bound). greater_of before o) raised);
+  imports = λ few. h.imports (omega (arith, few, imported));
+}
+
+some-is : (a b : ℕ) → Some a ≡ Some b → a ≡ b
+some-is a b e = cc
+
+within-some : (budget : Option ℕ) (b tally : ℕ) → budget ≡ Some b → IfSome budget (λ n. tally ≤ n) → tally ≤ b
+within-some budget b tally e h = subst (λ (o : Option ℕ). IfSome o (λ n. tally ≤ n)) e h
+
+why-of : (t : Search) (gap budget : ℕ) (q : BoundsPart) (end last : End) → t.gap ≡ gap → t.budget ≡ Some budget → EndsBy t q end → IsWhy t.problem gap budget t.z q (ending CoreGuided None last t) end
+why-of t gap budget q ends.Exhausted last e b h = (h.raise, h.raised, h.at_least)
+why-of t gap budget q ends.SawClosed last e b h = subst (λ (n : ℕ). LastSawMet n q) e h
+why-of t gap budget q (ends.Spent clause below) last e b h = (some-is t.tally budget (sym h.budget ∙ b), subst (λ (z : Bound). BoundLe t.z z) (sym h.below_is) (BoundLe-refl t.z), h.honest, tt)
+why-of t gap budget q ends.RoundsDone last e b h = absurd h
+
+pub core-honest : {B : Type 0} (chooses : B → Trail → Option Atom → Type 0) (hears : B → List Atom → Bool → B → Type 0) (stays : B → B → Type 0) (p : Problem) (gap budget rows : ℕ) (s t : CoreSearch × B) (part q : Part) (end : End)
+    → BeginsCore p gap budget s.0 → (h : RunsInCoreTurns chooses hears stays rows s t part q end) → IsSoundCore h.before.0 → IsSoundCore t.0 → part.bounds.offered ≡ Infinite → part.bounds.raised ≡ None
+    → IsHonestEnding p.model gap budget q.bounds (core_ending end t.0)
+core-honest chooses hears stays p gap budget rows s t part q end begins h before sound offered raised =
+    let runs : RunsCoreTo s.0 t.0 part q end = core-turns-run chooses hears stays rows s t part q end h before in
+    let g = t.0.search.problem in
+    let new = fresh g gap (Some budget) in
+    let was = begins.search in
+    let capped : t.0.search.budget ≡ Some budget = runs.setting.budget ∙ ap (λ (x : Search). x.budget) was in
+    let moves : MovesWith new (whole t.0) part q =
+        moves-begun (whole s.0) new (whole t.0) part q (sym (ap (λ (x : Search). x.z) was)) runs.setting.model (sym (ap (λ (x : Search). x.best) was))
+        (sym (ap (λ (o : Option Bound). greater_of s.0.search.raised o) begins.raised ∙ ap (λ (x : Search). x.raised) was)) (sym (ap (λ (x : Search). x.imported) was)) runs.moves in
+    subst (λ (m : CpModel). IsHonestEnding m gap budget q.bounds (core_ending end t.0)) (runs.setting.model ∙ begins.problem)
+    (honest_by g gap budget (Some budget) (whole t.0) part q CoreGuided None end refl moves (sound-whole t.0 sound) offered raised (within-some t.0.search.budget budget t.0.search.tally capped sound.search.within_budget)
+    (why-of (whole t.0) gap budget q.bounds end end (runs.setting.gap ∙ ap (λ (x : Search). x.gap) was) capped runs.why))

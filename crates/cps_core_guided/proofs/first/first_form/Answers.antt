@@ -1,0 +1,74 @@
+use Rattle.std.proofs.Common.{rules, ◌≡◌, ◌∙◌, ◌<◌, ◌*◌, ◌+◌, ◌^◌, ℕ, ℤ, pos, ◌+ℤ◌, ◌*ℤ◌, List, ap, get_or, map, refl, subst, sym, unsigned_abs, w64, FitsSigned}
+use Rattle.std.proofs.lemmas.Int.{to_z-of_z}
+use Rattle.std.proofs.lemmas.List.{get_or_default}
+use Rattle.cps_domain.specs.Window.{intervals}
+use Rattle.cps_literal.specs.Truth.{value_at}
+use Rattle.cps_instance.specs.declared.term.Term.{Term}
+use Rattle.cps_instance.specs.Problem.{Problem}
+use Rattle.cps_instance.specs.Terms.{Domains, domain_at, magnitude}
+use Rattle.cps_reform.specs.Forms.{form_value, held_reach, with_held}
+use Rattle.cps_core_guided.proofs.Starting.{form-more, form-stays, next-base, next-ordered, next-room, next-roomy, next-within}
+use Rattle.cps_core_guided.proofs.first.first_form.Goals as goal
+
+abbrev none : Term
+none = record { coeff = pos 0; subject = 0 }
+
+pub hold-requires-clause-roomy : goal.hold-requires-clause-roomy
+hold-requires-clause-roomy g c =
+    let u = c.held_subject.new.frame in
+    let ts = c.args.terms.now in
+    let k = c.loop-term.term-index in
+    let same : map intervals c.domains.result.now ≡ u.problem.domains = c.domains.ensures.list ∙ ap (λ (p : Problem). p.domains) c.instance.ensures in
+    next-roomy u.problem (map intervals c.domains.result.now) _ c.loop-term.reform same
+    (form-stays (get_or ts k none).subject c.args.frame.now c.loop-term.frame u ts k c.loop-term.reform c.in_ok-subject.subject c.requires.subjects c.loop-term.invariant c.in_ok-subject.ensures.grew)
+
+pub hold-requires-clause-ordered : goal.hold-requires-clause-ordered
+hold-requires-clause-ordered g c =
+    let u = c.held_subject.new.frame in
+    let same : map intervals c.domains.result.now ≡ u.problem.domains = c.domains.ensures.list ∙ ap (λ (p : Problem). p.domains) c.instance.ensures in
+    next-ordered u.problem (map intervals c.domains.result.now) c.in_ok-subject.subject (get_or c.args.terms.now c.loop-term.term-index none) same c.in_ok-subject.ensures.sound.instance c.in_ok-subject.ensures.holds
+
+pub hold-requires-clause-within : goal.hold-requires-clause-within
+hold-requires-clause-within g c =
+    let u = c.held_subject.new.frame in
+    let same : map intervals c.domains.result.now ≡ u.problem.domains = c.domains.ensures.list ∙ ap (λ (p : Problem). p.domains) c.instance.ensures in
+    next-within u.problem (map intervals c.domains.result.now) c.in_ok-subject.subject (get_or c.args.terms.now c.loop-term.term-index none) same c.in_ok-subject.ensures.sound.instance c.in_ok-subject.ensures.holds
+
+pub hold-requires-clause-small : goal.hold-requires-clause-small
+hold-requires-clause-small g c =
+    let u = c.held_subject.new.frame in
+    let ts = c.args.terms.now in
+    let k = c.loop-term.term-index in
+    let v = get_or ts k none in
+    let ds = map intervals c.domains.result.now in
+    let same : ds ≡ u.problem.domains = c.domains.ensures.list ∙ ap (λ (p : Problem). p.domains) c.instance.ensures in
+    let fits : FitsSigned w64 v.coeff = search rules in
+    let size : c.unsigned_abs.result ≡ unsigned_abs v.coeff = simp to_z-of_z at c.unsigned_abs.ensures.value in
+    subst (λ (n : ℕ). held_reach ds c.loop-term.reform.terms + n * magnitude (domain_at ds c.in_ok-subject.subject) < 2 ^ 62) (sym size)
+    (next-room v.subject c.args.frame.now c.loop-term.frame u ds ts k c.loop-term.reform v c.in_ok-subject.subject c.requires.subjects c.loop-term.invariant c.in_ok-subject.ensures.grew same c.loop-term-test.true (get_or_default ts k none v c.loop-term-test.true) c.in_ok-subject.ensures.holds)
+
+pub hold-requires-clause-base : goal.hold-requires-clause-base
+hold-requires-clause-base g c =
+    let u = c.held_subject.new.frame in
+    let ts = c.args.terms.now in
+    let k = c.loop-term.term-index in
+    let same : map intervals c.domains.result.now ≡ u.problem.domains = c.domains.ensures.list ∙ ap (λ (p : Problem). p.domains) c.instance.ensures in
+    next-base u.problem (map intervals c.domains.result.now) _ c.loop-term.reform same
+    (form-stays (get_or ts k none).subject c.args.frame.now c.loop-term.frame u ts k c.loop-term.reform c.in_ok-subject.subject c.requires.subjects c.loop-term.invariant c.in_ok-subject.ensures.grew)
+
+pub loop-term-preserved : goal.loop-term-preserved
+loop-term-preserved g c =
+    let u = c.held_subject.new.frame in
+    let ts = c.args.terms.now in
+    let k = c.loop-term.term-index in
+    let v = get_or ts k none in
+    let f = c.loop-term.reform in
+    let h = c.hold.new.self in
+    let j = c.in_ok-subject.subject in
+    let ds = map intervals c.domains.result.now in
+    let same : ds ≡ u.problem.domains = c.domains.ensures.list ∙ ap (λ (p : Problem). p.domains) c.instance.ensures in
+    let fits : FitsSigned w64 v.coeff = search rules in
+    let size : c.unsigned_abs.result ≡ unsigned_abs v.coeff = simp to_z-of_z at c.unsigned_abs.ensures.value in
+    form-more v.subject c.args.frame.now c.loop-term.frame u ds ts k f h v j c.requires.subjects c.loop-term.invariant c.in_ok-subject.ensures.grew c.in_ok-subject.ensures.sound same c.loop-term-test.true (get_or_default ts k none v c.loop-term-test.true) c.in_ok-subject.ensures.holds
+    (subst (λ (n : ℕ). h ≡ with_held ds f n j) size c.in_ok-hold.ensures.holds) c.in_ok-hold.ensures.roomy c.in_ok-hold.ensures.base
+    (subst (λ (n : ℕ). (xs : List ℤ) → form_value xs h ≡ form_value xs f +ℤ pos n *ℤ value_at xs j) size c.in_ok-hold.ensures.worth)
