@@ -57,6 +57,7 @@ impl ActivityBrancher {
     pub fn of(alloc: Global, instance: &Instance) -> Result<Self, AllocError>
         ensures scope { IfOk result (λ b. IsScopeOf instance.now (record { variables = length b.activities; subjects = length b.activities })) }
         ensures hints { IfOk result (λ b. (i : ℕ) → i < length b.activities → slice_index_or b.hints i None ≡ hint_for instance.now.model.hint i) }
+        ensures places { IfOk result (λ b. length b.hints ≡ length b.activities) }
         ensures idle { IfOk result (λ b. (i : ℕ) → slice_index b.activities i ≡ 0) }
         ensures fresh { IfOk result (λ b. b.pace ≡ record { restarts = 0; conflicts = 0 }) }
     {
@@ -89,6 +90,7 @@ impl ActivityBrancher {
         requires kept { AreFixedAside (length self.old.activities) self.old.aside store.now kept }
         ensures choice { MatchOption result (AreFixed store.now (length self.old.activities)) (λ variable. IsMostActive self.old.activities store.now variable) }
         ensures stays { (self.new.activities ≡ self.old.activities) × (self.new.pace ≡ self.old.pace) × (self.new.hints ≡ self.old.hints) }
+        ensures places { length self.old.activities ≡ length self.old.hints }
         ensures saw { AreFixedAside (length self.old.activities) self.new.aside store.now (length store.now.entries) }
     {
         self.ranking.put_back(kept);
@@ -97,7 +99,7 @@ impl ActivityBrancher {
 }
 
 impl Brancher for ActivityBrancher {
-    ghost use Rattle.std.specs.Prelude.{length};
+    ghost use Rattle.std.specs.Prelude.{◌≡◌, length};
     ghost use Rattle.cps_branch.specs.Hints.{ChoosesHinted};
     ghost use Rattle.cps_branch.specs.Activities.{AreRaised};
     ghost use Rattle.cps_branch.specs.Luby.{CountsConflict};
@@ -110,13 +112,13 @@ impl Brancher for ActivityBrancher {
 
     ghost guidance = { λ b. Hinted b.hints };
 
-    ghost chooses = { λ b s atom. ChoosesHinted b.activities b.hints s atom };
+    ghost chooses = { λ b s atom. (length b.activities ≡ length b.hints) × ChoosesHinted b.activities b.hints s atom };
 
     ghost hears = { λ b clause restart c. AreRaised clause b.activities c.activities × CountsConflict b.pace c.pace restart × (c.hints ≡ b.hints) };
 
     ghost stays = { λ b c. (c.activities ≡ b.activities) × (c.pace ≡ b.pace) × (c.hints ≡ b.hints) };
 
-    ghost goes_by = { λ b s choice chosen. (b.activities, chosen) };
+    ghost goes_by = { λ b s choice chosen. (b.activities, chosen.0, chosen.1) };
 
     ghost stays_guided = { λ b c stays. hinted_same b.hints c.hints stays.2 };
 

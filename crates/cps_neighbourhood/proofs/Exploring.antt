@@ -103,6 +103,10 @@ open_decided x y a h due on first held is sound brancher kept conflicts aim roun
     clash : {t : Bool} → t ≡ false → t ≡ true → ⊥
     clash e f = absurd (cc)
 
+-- a choice of the brancher is one by its activities and its hints
+pub chosen_hinted : {P : Type 0} (x : Explorer P) (t : Search) → Decides (λ s choice. (length x.brancher.activities ≡ length x.brancher.hints) × ChoosesHinted x.brancher.activities x.brancher.hints s choice) x.frame t → Decides (ChoosesHinted x.brancher.activities x.brancher.hints) x.frame t
+chosen_hinted x t d = record { atom = d.atom; undecided = d.undecided; chosen = d.chosen.1; is = d.is }
+
 -- the brancher made the next decision of the round
 pub chosen_decided : {P : Type 0} (x y : Explorer P) → IsExploring x → x.frame.said ≡ Due → x.in_round ≡ true → NoneOpen x.round.decisions.items x.frame.trail → Decides (ChoosesHinted x.brancher.activities x.brancher.hints) x.frame y.frame → IsSoundSearch y.frame
     → length y.brancher.activities ≡ length x.brancher.activities → y.kept ≡ length x.frame.trail.entries → AreFixedAside (length y.brancher.activities) y.brancher.aside x.frame.trail (length x.frame.trail.entries) → All (λ f. f.level ≤ x.frame.trail.level) x.frame.trail.entries

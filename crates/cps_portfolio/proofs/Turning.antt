@@ -236,9 +236,10 @@ some_at_work (suc n) h = omega arith
 -- one turn more, of the worker that was drawn
 pub drawn_more : (rows : ℕ) (c : Core) (crew : List Turning) (begun : Lcg) (d e : Core) (later : List Turning) (next : Turning) (words after : Lcg) (word count place : ℕ) (any : Turning)
     → TakesDrawnTurns rows c crew begun d later words → (word, after) ≡ pcg32 words → count ≡ count_at_work later → (count ≡ 0 → ⊥) → place ≡ place_at_work later (word % count) → place < length later
+    → kind_of next.worker ≡ kind_of (get_or later place any).worker → guidance_of next.worker ≡ guidance_of (get_or later place any).worker
     → HasTurned (guidance_of (get_or later place any).worker) rows (search_of (get_or later place any).worker) (search_of next.worker) (part_at d place) (part_at e place) next.over → ActsAlone place place d e
     → TakesDrawnTurns rows c crew begun e (set later place next) after
-drawn_more rows c crew begun d e later next words after word count place any before step counted some is within turn alone =
+drawn_more rows c crew begun d e later next words after word count place any before step counted some is within kind guidance turn alone =
     let word_is : word ≡ (pcg32 words).0 = ap (λ (x : ℕ × Lcg). x.0) step in
     let after_is : after ≡ (pcg32 words).1 = ap (λ (x : ℕ × Lcg). x.1) step in
     let here : place ≡ drawn_place later words = is ∙ ap₂ (λ (x n : ℕ). place_at_work later (x % n)) word_is counted in
@@ -246,6 +247,8 @@ drawn_more rows c crew begun d e later next words after word count place any bef
     let took : TakesTurnAt place rows d e later next = record {
       some_left = subst (λ (n : ℕ). 0 < n) counted (some_at_work count some);
       alone = alone;
+      kind = subst (λ (x : Turning). kind_of next.worker ≡ kind_of x.worker) read kind;
+      guidance = subst (λ (x : Turning). guidance_of next.worker ≡ guidance_of x.worker) read guidance;
       turned = subst (λ (x : Turning). HasTurned (guidance_of x.worker) rows (search_of x.worker) (search_of next.worker) (part_at d place) (part_at e place) next.over) read turn;
     } in
     let more = one_drawn d e later next words before (subst (λ (k : ℕ). TakesTurnAt k rows d e later next) here took) in

@@ -86,10 +86,12 @@ drawn_place crew words = place_at_work crew ((pcg32 words).0 % count_at_work cre
 abbrev pub words_of_seed : ℕ → Lcg
 words_of_seed seed = started 64 multiplier_64 seed (increment_of 64 0)
 
--- the worker at this place took a turn, alone at the state, and is `next` after it
+-- the worker at this place took a turn, alone at the state, and is `next` after it, of the same kind and with the same guidance
 pub record TakesTurnAt (place rows : ℕ) (c d : Core) (crew : List Turning) (next : Turning) : Type 0 where
   pub some_left : 0 < count_at_work crew
   pub alone : ActsAlone place place c d
+  pub kind : kind_of next.worker ≡ kind_of (slice_index_or crew place next).worker
+  pub guidance : guidance_of next.worker ≡ guidance_of (slice_index_or crew place next).worker
   pub turned : HasTurned (guidance_of (slice_index_or crew place next).worker) rows (search_of (slice_index_or crew place next).worker) (search_of next.worker) (part_at c place) (part_at d place) next.over
 
 -- turns one after another, each of the worker that was drawn

@@ -62,6 +62,8 @@ module _ {B : Type 0} (guidance : B → Guidance) (chooses : B → Trail → Opt
 
   pub turn_by : (s t : Search × B) (p q : Part) (turn : Turn) → OneTurn chooses hears stays rows s t p q turn → OneTurn ChoosesBy Heard Stays rows (seen s) (seen t) p q turn
   turn_by s t p q turn h = record {
+    before = h.before;
+    after = h.after;
     search = takes_by (chooses s.1) (ChoosesBy (guidance s.1)) (goes_by s.1) s.0 t.0 rows p q turn h.search;
     brancher = brancher_by turn _ _ _ _ _ _
         (heard_by (λ clause restart. hears s.1 clause restart t.1) (λ clause restart. guidance t.1 ≡ guidance s.1) (λ clause restart. hears_guided s.1 t.1 clause restart) s.0 t.0)

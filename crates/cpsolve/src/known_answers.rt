@@ -154,10 +154,11 @@ pub const INPUTS: [Solving; 47] = [
         text: "status: OPTIMAL\nsolution: 1\n",
     },
     Solving {
-        input: "variables { domain: [-9, 9] } constraints { lin_max { target { vars: [0] coeffs: [1] } exprs { \
-         offset: -3 } exprs { offset: -5 } } }",
+        input: "variables { domain: [0, 9] } variables { domain: [-9, 9] } constraints { int_prod { target { vars: [0] \
+         coeffs: [1] } } } constraints { lin_max { target { vars: [1] coeffs: [1] } exprs { offset: -3 } exprs { \
+         offset: -5 } } }",
         exit: 0,
-        text: "status: OPTIMAL\nsolution: -3\n",
+        text: "status: OPTIMAL\nsolution: 1\nsolution: -3\n",
     },
     Solving {
         input: "variables { domain: [1, 1] } variables { domain: [0, 9] } variables { domain: [4, 4] } variables { \
@@ -242,7 +243,7 @@ pub const INPUTS: [Solving; 47] = [
         text: "status: MODEL_INVALID\n# invalid V5 at constraint 0\n",
     },
     Solving {
-        input: "variables { domain: [-9, 9] } constraints { int_mod { target { vars: [0] coeffs: [1] } exprs { \
+        input: "variables { domain: [-10, 10] } constraints { int_mod { target { vars: [0] coeffs: [1] } exprs { \
          offset: -7 } exprs { offset: 3 } } }",
         exit: 0,
         text: "status: OPTIMAL\nsolution: -1\n",
@@ -250,13 +251,14 @@ pub const INPUTS: [Solving; 47] = [
     Solving {
         input: "variables { domain: [0, 9] } variables { domain: [0, 9] } variables { domain: [0, 9] } constraints { \
          automaton { final_states: 1 transition_tail: [0, 1] transition_head: [1, 0] transition_label: [5, 6] \
-         vars: [0, 1, 2] } }",
+         exprs { vars: [0] coeffs: [1] } exprs { vars: [1] coeffs: [1] } exprs { vars: [2] coeffs: [1] } } }",
         exit: 0,
         text: "status: OPTIMAL\nsolution: 5\nsolution: 6\nsolution: 5\n",
     },
     Solving {
-        input: "variables { domain: [0, 9] } variables { domain: [0, 9] } constraints { automaton { final_states: 1 \
-         transition_tail: [0, 1] transition_head: [1, 0] transition_label: [5, 6] vars: [0, 1] } }",
+        input: "variables { domain: [0, 9] } variables { domain: [0, 9] } variables { domain: [0, 9] } constraints { \
+         automaton { final_states: 1 transition_tail: [0, 1] transition_head: [1, 0] transition_label: [5, 6] \
+         exprs { vars: [0] coeffs: [1] } exprs { vars: [1] coeffs: [1] } } }",
         exit: 0,
         text: "status: INFEASIBLE\n",
     },

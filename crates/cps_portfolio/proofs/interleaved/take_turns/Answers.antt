@@ -91,5 +91,5 @@ turns-preserved c =
       idle = λ j. dite (ℕ_discrete j k) (λ e. subst (λ (n : ℕ). (board_part next.board n).drawn ≡ None) (sym e) t.idle) (λ n. ap (λ (p : Part). p.board.drawn) (others j n) ∙ i.idle j);
       crew = all_turn_on c.args.port.now.core.now.model o.gap o.conflicts _ core next crew k w v i.crew c.place_of-place.ensures.within is still t.kind t.guidance turn others;
       drawn = drawn_more _ c.args.port.now.core.now c.args.crew.now _ core next crew v c.turns.words c.next_word-word.new.self c.next_word-word.result c.count_at_work-count.result k d i.drawn
-          c.next_word-word.ensures c.count_at_work-count.ensures.count c.if-count-eq0.false c.place_of-place.ensures.place c.place_of-place.ensures.within turn t.alone;
+          c.next_word-word.ensures c.count_at_work-count.ensures.count c.if-count-eq0.false c.place_of-place.ensures.place c.place_of-place.ensures.within t.kind t.guidance turn t.alone;
     }

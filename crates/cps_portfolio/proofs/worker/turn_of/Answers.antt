@@ -16,7 +16,7 @@ returns-clause-turn g c =
     let rows = g.Q.Port.rows c.args.port.now in
     let before = g.B.Brancher.guidance s.1 in
     let takes = turn_by g.B.Brancher.guidance g.B.Brancher.chooses g.B.Brancher.hears g.B.Brancher.stays g.met.B.Brancher.goes_by g.met.B.Brancher.stays_guided g.met.B.Brancher.hears_guided
-    rows s t p q c.in_ok-turn.turn (record { search = k.turn; brancher = k.brancher }) in
+    rows s t p q c.in_ok-turn.turn (record { before = k.sound.0; after = k.sound.1; search = k.turn; brancher = k.brancher }) in
     record {
       before = k.sound.0;
       after = k.sound.1;
