@@ -1,24 +1,22 @@
 -- A core-guided worker that begins.
 use Rattle.std.specs.Prelude.{All, IfSome, IsSome, unsigned_abs}
-use Rattle.std.proofs.Common.{◌≡◌, ◌∙◌, ℕ, ◌+◌, ◌<◌, ◌≤◌, ◌^◌, ℤ, Option, Some, None, List, [], ◌∷◌, length, false, refl, sym, ap, subst, arith}
+use Rattle.std.proofs.Common.{◌≡◌, ◌∙◌, ℕ, ◌<◌, ◌≤◌, ◌^◌, ℤ, Some, None, List, [], ◌∷◌, length, false, refl, sym, ap, subst, arith}
 use Rattle.std.proofs.lemmas.List.Elements.{All-nil, All-cons, All-head, All-tail}
 use Rattle.cps_model.specs.declared.model.CpModel.{CpModel}
 use Rattle.cps_instance.specs.declared.term.Term.{Term}
 use Rattle.cps_instance.specs.Posting.{objective_terms}
-use Rattle.cps_instance.specs.Problem.{IsInstance, Problem, variable_count}
+use Rattle.cps_instance.specs.Problem.{IsInstance, Problem}
 use Rattle.cps_instance.specs.Terms.{greatest_of_terms, term_subjects}
-use Rattle.cps_trail.specs.Trail.{Entry}
 use Rattle.cps_branch.specs.Scope.{IsScopeOf, Scope}
 use Rattle.cps_search.specs.Moves.{fresh}
 use Rattle.cps_search.specs.Searches.{IsSoundSearch, Search}
 use Rattle.cps_reform.specs.Beginning.{IsFirstForm}
-use Rattle.cps_reform.specs.Floors.{IsReform}
 use Rattle.cps_reform.specs.Forms.{Form}
 use Rattle.cps_reform.proofs.Firsts.{first-reform}
 use Rattle.cps_reform.proofs.Objectives.{HasTerms, has-terms}
 use Rattle.cps_core_guided.specs.Beginning.{OnlyGrew}
 use Rattle.cps_core_guided.specs.CoreTurns.{BeginsCore, IsCoreWorking}
-use Rattle.cps_core_guided.specs.Reforming.{CoreSearch, IsSoundCore, greatest_objective}
+use Rattle.cps_core_guided.specs.Reforming.{CoreSearch, IsSoundCore}
 use Rattle.cps_core_guided.proofs.CoreWorking.{scope-grown}
 
 -- ---- the terms of the objective

@@ -1,6 +1,6 @@
 -- What a core-guided worker's run says of it once it has ended.
 use Rattle.std.specs.Prelude.{IfSome, if◌then◌else◌}
-use Rattle.std.proofs.Common.{ℕ, ◌≤◌, ℤ, ◌≡◌, ◌∙◌, ◌⊎◌, inl, inr, Bool, true, false, Option, Some, None, List, length, refl, sym, ap, subst, arith}
+use Rattle.std.proofs.Common.{ℕ, ◌≤◌, ℤ, ◌≡◌, ◌∙◌, inl, inr, Bool, Option, Some, None, List, refl, sym, ap, subst, arith}
 use Rattle.cps_model.specs.declared.bound.Bound.{Bound}
 use Rattle.cps_model.specs.declared.bound.Bound.TheVariants.{Infinite}
 use Rattle.cps_model.specs.declared.model.CpModel.{CpModel}
@@ -111,8 +111,8 @@ core-honest chooses hears stays p gap budget rows s t part q end begins h before
     let was = begins.search in
     let capped : t.0.search.budget ≡ Some budget = runs.setting.budget ∙ ap (λ (x : Search). x.budget) was in
     let moves : MovesWith new (whole t.0) part q =
-        moves-begun (whole s.0) new (whole t.0) part q (sym (ap (λ (x : Search). x.z) was)) runs.setting.model (sym (ap (λ (x : Search). x.best) was))
-        (sym (ap (λ (o : Option Bound). greater_of s.0.search.raised o) begins.raised ∙ ap (λ (x : Search). x.raised) was)) (sym (ap (λ (x : Search). x.imported) was)) runs.moves in
+    moves-begun (whole s.0) new (whole t.0) part q (sym (ap (λ (x : Search). x.z) was)) runs.setting.model (sym (ap (λ (x : Search). x.best) was))
+    (sym (ap (λ (o : Option Bound). greater_of s.0.search.raised o) begins.raised ∙ ap (λ (x : Search). x.raised) was)) (sym (ap (λ (x : Search). x.imported) was)) runs.moves in
     subst (λ (m : CpModel). IsHonestEnding m gap budget q.bounds (core_ending end t.0)) (runs.setting.model ∙ begins.problem)
     (honest_by g gap budget (Some budget) (whole t.0) part q CoreGuided None end refl moves (sound-whole t.0 sound) offered raised (within-some t.0.search.budget budget t.0.search.tally capped sound.search.within_budget)
     (why-of (whole t.0) gap budget q.bounds end end (runs.setting.gap ∙ ap (λ (x : Search). x.gap) was) capped runs.why))

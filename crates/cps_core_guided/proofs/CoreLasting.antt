@@ -1,6 +1,6 @@
 -- A core-guided worker's turns do not go on for ever: a number for what is left, which each turn but the last makes less.
 use Rattle.std.specs.Prelude.{unsigned_abs}
-use Rattle.std.proofs.Common.{ℕ, ◌+◌, ◌-◌, ◌*◌, ◌^◌, ◌≤◌, ◌<◌, ◌≡◌, ◌∙◌, ◌⊎◌, inl, inr, Option, Some, None, length, sym, ap, subst, arith, ℤ, pos, ◌+ℤ◌, ◌-ℤ◌, ◌≤ℤ◌, ◌<ℤ◌}
+use Rattle.std.proofs.Common.{ℕ, ◌+◌, ◌-◌, ◌*◌, ◌^◌, ◌≤◌, ◌<◌, ◌≡◌, ◌∙◌, ◌⊎◌, inl, inr, Option, Some, None, length, ap, arith, ℤ, pos, ◌+ℤ◌, ◌-ℤ◌, ◌≤ℤ◌, ◌<ℤ◌}
 use Rattle.std.proofs.lemmas.Int.{ints}
 use Rattle.std.proofs.Math.Nat.{mul-le-mul_right}
 use Rattle.cps_model.specs.declared.bound.Bound.{Bound}
@@ -9,7 +9,7 @@ use Rattle.cps_instance.specs.Terms.{Domains}
 use Rattle.cps_trail.specs.Trail.{open_values}
 use Rattle.cps_port.specs.declared.part.BoardPart.{BoardPart}
 use Rattle.cps_port.specs.Order.{BoundLe, IsSmallBound}
-use Rattle.cps_search.specs.Searches.{IsSoundSearch, Search}
+use Rattle.cps_search.specs.Searches.{Search}
 use Rattle.cps_search.specs.Turns.{IsLess}
 use Rattle.cps_core_guided.specs.CoreTurns.{LowersCore, SameCoreSetting, fewer_conflicts, fewer_rows, fewer_values, higher_base, lesser_z}
 use Rattle.cps_core_guided.specs.Reforming.{CoreSearch, IsSoundCore}

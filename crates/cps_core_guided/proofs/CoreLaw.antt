@@ -1,16 +1,14 @@
 -- Why the terms of a core cannot all stay at their bounds in a solution below z.
 use Rattle.std.specs.Prelude.{All, int_le, if◌then◌else◌}
 use Rattle.std.specs.List.{Contains}
-use Rattle.std.proofs.Common.{◌≡◌, ◌≢◌, ◌⊎◌, inl, inr, ℕ, zero, suc, ◌+◌, ◌<◌, ◌≤◌, Bool, true, false, true≢false, List, [], ◌∷◌, length, take, get_or, refl, sym, ◌∙◌, ap, subst, arith, ℤ, pos, ◌+ℤ◌, ◌<ℤ◌, ◌≤ℤ◌}
+use Rattle.std.proofs.Common.{◌≡◌, ◌⊎◌, inl, inr, ℕ, zero, suc, ◌<◌, ◌≤◌, Bool, true, false, true≢false, List, [], ◌∷◌, length, get_or, refl, sym, ◌∙◌, ap, subst, arith, ℤ, pos, ◌+ℤ◌, ◌<ℤ◌, ◌≤ℤ◌}
 use Rattle.std.proofs.lemmas.Int.{ints}
 use Rattle.std.proofs.lemmas.List.{get_or_default}
 use Rattle.std.proofs.lemmas.List.Elements.{All-weaker, Contains-get_or}
-use Rattle.cps_model.specs.Solutions.{objective_value, IsSolution}
 use Rattle.cps_literal.specs.declared.atom.Atom.{Atom}
 use Rattle.cps_literal.specs.Truth.{atom_holds, value_at}
 use Rattle.cps_instance.specs.Sums.{extended}
 use Rattle.cps_instance.specs.declared.term.Term.{Term}
-use Rattle.cps_port.specs.Order.{IsBelow}
 use Rattle.cps_trail.specs.Trail.{Trail, Entry, IsSound}
 use Rattle.cps_trail.proofs.Falls.{bool_cases, not_both}
 use Rattle.cps_trail.proofs.Times.{IsTrueAfter-all}

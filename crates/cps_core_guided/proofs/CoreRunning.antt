@@ -1,5 +1,5 @@
 -- What the turns of a core-guided worker come to.
-use Rattle.std.proofs.Common.{ℕ, ◌≡◌, ◌∙◌, ◌⊎◌, inl, inr, Bool, List, Option, Some, None, refl, sym, ap, subst}
+use Rattle.std.proofs.Common.{ℕ, ◌≡◌, ◌∙◌, inl, inr, Bool, List, Option, Some, None, refl, sym, ap, subst}
 use Rattle.cps_model.specs.declared.bound.Bound.{Bound}
 use Rattle.cps_model.specs.declared.model.CpModel.{CpModel}
 use Rattle.cps_literal.specs.declared.atom.Atom.{Atom}
@@ -11,12 +11,12 @@ use Rattle.cps_search.specs.declared.end.End.{End}
 use Rattle.cps_search.specs.declared.end.End.TheVariants as ends
 use Rattle.cps_search.specs.declared.turn.Turn.{Turn}
 use Rattle.cps_search.specs.declared.turn.Turn.TheVariants as turns
-use Rattle.cps_search.specs.Ends.{BrancherTurn, EndsAs, EndsBy, HeardOne, LastSawMet, RaisedToZ, SpentWhole, end_of}
+use Rattle.cps_search.specs.Ends.{BrancherTurn, EndsAs, EndsBy, HeardOne, RaisedToZ, SpentWhole, end_of}
 use Rattle.cps_search.specs.Following.{MovesWith}
-use Rattle.cps_search.specs.Searches.{NoneBelow, Search}
+use Rattle.cps_search.specs.Searches.{NoneBelow}
 use Rattle.cps_search.proofs.Bounds.{greater-second}
 use Rattle.cps_search.proofs.Moving.{ends_by, moves_more, moves_same}
-use Rattle.cps_core_guided.specs.CoreTurns.{ByFrame, CoreCaused, DecidedBy, ExhaustsFrom, FromDue, OneCoreTurn, RunsCoreTo, RunsInCoreTurns, SameCoreSetting, TakesCoreTurn, TakesCoreTurns, no_turn, one_turn_more}
+use Rattle.cps_core_guided.specs.CoreTurns.{CoreCaused, DecidedBy, OneCoreTurn, RunsCoreTo, RunsInCoreTurns, SameCoreSetting, TakesCoreTurn, TakesCoreTurns, no_turn, one_turn_more}
 use Rattle.cps_core_guided.specs.Reforming.{CoreSearch, IsSoundCore, whole}
 use Rattle.cps_core_guided.proofs.CoreTurning.{setting-core}
 
@@ -94,9 +94,14 @@ core-ends chooses s t u rows p m q turn end sound h k e = record {
 }
 
 -- a turn on a board that has as many rows as at first
-pub one-core-turn : {B : Type 0} (chooses : B → Trail → Option Atom → Type 0) (hears : B → List Atom → Bool → B → Type 0) (stays : B → B → Type 0) (rows now : ℕ) (s t : CoreSearch × B) (p q : Part) (turn : Turn) → now ≡ rows → TakesCoreTurn (chooses s.1) s.0 t.0 now p q turn
+pub one-core-turn : {B : Type 0} (chooses : B → Trail → Option Atom → Type 0) (hears : B → List Atom → Bool → B → Type 0) (stays : B → B → Type 0) (rows now : ℕ) (s t : CoreSearch × B) (p q : Part) (turn : Turn) → now ≡ rows → IsSoundCore s.0 × IsSoundCore t.0 → TakesCoreTurn (chooses s.1) s.0 t.0 now p q turn
     → BrancherTurn turn (HeardOne (λ clause restart. hears s.1 clause restart t.1) s.0.search t.0.search) (DecidedBy (stays s.1 t.1) (t.1 ≡ s.1)) (t.1 ≡ s.1) → OneCoreTurn chooses hears stays rows s t p q turn
-one-core-turn chooses hears stays rows now s t p q turn same h brancher = record { search = subst (λ (n : ℕ). TakesCoreTurn (chooses s.1) s.0 t.0 n p q turn) same h; brancher = brancher }
+one-core-turn chooses hears stays rows now s t p q turn same sound h brancher = record {
+  before = sound.0;
+  after = sound.1;
+  search = subst (λ (n : ℕ). TakesCoreTurn (chooses s.1) s.0 t.0 n p q turn) same h;
+  brancher = brancher;
+}
 
 has-core-run : {B : Type 0} (chooses : B → Trail → Option Atom → Type 0) (hears : B → List Atom → Bool → B → Type 0) (stays : B → B → Type 0) (rows : ℕ) (s : CoreSearch × B) (p : Part) (t : CoreSearch × B) (q : Part)
     → TakesCoreTurns chooses hears stays rows s p t q → HasCoreRun s.0 t.0 p q

@@ -1,6 +1,6 @@
 -- What a turn of a core-guided worker does follows from its cause.
 use Rattle.std.specs.Prelude.{IsSome, if◌then◌else◌}
-use Rattle.std.proofs.Common.{◌≡◌, ◌⊎◌, inl, inr, ℕ, ◌+◌, ◌<◌, ◌≤◌, Bool, true, false, Option, Some, None, List, length, refl, sym, ◌∙◌, ap, subst, arith, ℤ, ◌<ℤ◌, ◌≤ℤ◌}
+use Rattle.std.proofs.Common.{◌≡◌, ◌⊎◌, inl, inr, ℕ, Bool, false, Option, Some, None, refl, sym, ◌∙◌, ap, subst, arith, ℤ, ◌<ℤ◌, ◌≤ℤ◌}
 use Rattle.std.proofs.lemmas.Int.{ints}
 use Rattle.cps_model.specs.declared.bound.Bound.{Bound}
 use Rattle.cps_model.specs.declared.bound.Bound.TheVariants.{At}
@@ -14,7 +14,7 @@ use Rattle.cps_port.specs.Order.{BoundLe}
 use Rattle.cps_search.specs.declared.end.End.{End}
 use Rattle.cps_search.specs.declared.end.End.TheVariants as ends
 use Rattle.cps_search.specs.declared.end.Said.{Said}
-use Rattle.cps_search.specs.declared.end.Said.TheVariants.{Nothing, Over}
+use Rattle.cps_search.specs.declared.end.Said.TheVariants.{Over}
 use Rattle.cps_search.specs.declared.turn.Turn.{Turn}
 use Rattle.cps_search.specs.declared.turn.Turn.TheVariants as turns
 use Rattle.cps_search.specs.Ends.{Decides, EndsAs, IsOver, Lowers, TakesTurn, TurnCaused, end_of, fewer_conflicts, lesser_z, fewer_rows, fewer_values}
@@ -25,9 +25,9 @@ use Rattle.cps_search.specs.Turns.{Caused, SameSetting, Steps}
 use Rattle.cps_search.proofs.Moving.{moves_more}
 use Rattle.cps_search.proofs.Working.{turn_decided}
 use Rattle.cps_reform.specs.Forms.{Form}
-use Rattle.cps_reform.specs.Floors.{IsPast, past_greatest}
+use Rattle.cps_reform.specs.Floors.{past_greatest}
 use Rattle.cps_core_guided.specs.Reforming.{CoreSearch, said_of, whole}
-use Rattle.cps_core_guided.specs.CoreTurns.{ByFrame, CoreCaused, DecidesFrom, ExhaustsFrom, FailsFrom, FromDue, GoesOn, IsOwn, LowersCore, ReformsFrom, SameCoreSetting, TakesCoreTurn}
+use Rattle.cps_core_guided.specs.CoreTurns.{CoreCaused, DecidesFrom, ExhaustsFrom, FailsFrom, GoesOn, LowersCore, ReformsFrom, SameCoreSetting, TakesCoreTurn}
 use Rattle.cps_core_guided.specs.CoreTurns.{fewer_conflicts as fewer_core_conflicts, lesser_z as lesser_core_z, higher_base, fewer_rows as fewer_core_rows, fewer_values as fewer_core_values}
 use Rattle.cps_core_guided.proofs.Wholes.{moves-raised, moves-whole}
 

@@ -1,10 +1,9 @@
 -- What a core-guided worker keeps over its turns.
-use Rattle.std.specs.Prelude.{unsigned_abs, IfSome, IsSome, min}
+use Rattle.std.specs.Prelude.{unsigned_abs, IfSome, IsSome}
 use Rattle.std.proofs.Common.{◌⊎◌, refl, length-append, ◌+◌, ◌≡◌, ℕ, ℤ, ◌<◌, ◌≤◌, ◌^◌, Option, List, [], ◌∷◌, ◌++◌, length, take, sym, ◌∙◌, ap, subst, arith}
 use Rattle.cps_model.specs.declared.model.CpModel.{CpModel}
-use Rattle.cps_model.specs.declared.model.Variable.{Variable}
 use Rattle.cps_instance.proofs.Growing.{same-append}
-use Rattle.cps_instance.specs.Problem.{Problem, variable_count}
+use Rattle.cps_instance.specs.Problem.{Problem}
 use Rattle.cps_instance.specs.Sums.{DefinedSum}
 use Rattle.cps_instance.specs.Terms.{Domains}
 use Rattle.cps_literal.specs.declared.atom.Atom.{Atom}

@@ -1,6 +1,5 @@
 -- What is known where a term fails: the search went back to level 0, and a reform was tried.
-use Rattle.std.specs.Prelude.{All}
-use Rattle.std.proofs.Common.{◌≡◌, ℕ, ◌<◌, ◌≤◌, Bool, true, false, Option, List, length, refl, sym, ◌∙◌, ap, subst, arith, ℤ, ◌<ℤ◌}
+use Rattle.std.proofs.Common.{◌≡◌, ℕ, ◌<◌, Bool, true, false, Option, List, length, refl, sym, ◌∙◌, ap, subst, ◌<ℤ◌}
 use Rattle.cps_model.specs.declared.bound.Bound.{Bound}
 use Rattle.cps_model.specs.declared.bound.Bound.TheVariants.{At}
 use Rattle.cps_model.specs.declared.model.CpModel.{CpModel}
@@ -11,11 +10,11 @@ use Rattle.cps_port.specs.declared.part.Part.{Part}
 use Rattle.cps_port.specs.Incumbents.{IsLowerBound}
 use Rattle.cps_port.specs.Order.{raised_to}
 use Rattle.cps_port.proofs.Bounding.{BoundLe-refl}
-use Rattle.cps_search.specs.Growing.{AreBehindIn, IsFalseBelow}
+use Rattle.cps_search.specs.Growing.{AreBehindIn}
 use Rattle.cps_search.specs.Lessons.{GoesBack}
 use Rattle.cps_search.specs.Moves.{moved}
 use Rattle.cps_search.specs.Resting.{Rest}
-use Rattle.cps_search.specs.Searches.{IsSoundSearch, NoneBelow, Search}
+use Rattle.cps_search.specs.Searches.{IsSoundSearch, NoneBelow}
 use Rattle.cps_reform.specs.Forms.{Form, no_term, term_at}
 use Rattle.cps_reform.specs.Floors.{IsPast}
 use Rattle.cps_reform.specs.Marks.{assumed}

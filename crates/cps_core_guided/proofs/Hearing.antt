@@ -1,5 +1,5 @@
 -- What a core-guided turn does to the brancher.
-use Rattle.std.proofs.Common.{◌≡◌, ◌⊎◌, inr, Option, refl, subst, sym}
+use Rattle.std.proofs.Common.{◌≡◌, Option, subst, sym}
 use Rattle.cps_literal.specs.declared.atom.Atom.{Atom}
 use Rattle.cps_trail.specs.Trail.{Trail}
 use Rattle.cps_port.specs.declared.part.Part.{Part}

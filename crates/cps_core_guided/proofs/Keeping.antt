@@ -1,24 +1,22 @@
 -- What keeps a core-guided search sound: a step of its frame, a decision, a new form at level 0, a sum more, a raise.
-use Rattle.std.specs.Prelude.{unsigned_abs, IfSome, All}
-use Rattle.std.proofs.Common.{◌≡◌, ◌⊎◌, ℕ, ◌+◌, ◌<◌, ◌≤◌, ◌^◌, ℤ, true, Option, Some, None, List, [], ◌∷◌, ◌++◌, length, refl, sym, ◌∙◌, ap, subst, arith, length-append}
+use Rattle.std.specs.Prelude.{unsigned_abs, IfSome}
+use Rattle.std.proofs.Common.{◌≡◌, ◌⊎◌, ℕ, ◌+◌, ◌<◌, ◌≤◌, ◌^◌, true, Option, Some, None, [], ◌∷◌, length, sym, ◌∙◌, ap, subst, arith, length-append}
 use Rattle.cps_model.specs.declared.bound.Bound.{Bound}
 use Rattle.cps_model.specs.declared.model.CpModel.{CpModel}
-use Rattle.cps_model.specs.Solutions.{objective_value, IsSolution}
+use Rattle.cps_model.specs.Solutions.{objective_value}
 use Rattle.cps_literal.specs.declared.atom.Atom.{Atom}
 use Rattle.cps_instance.specs.Posting.{objective_terms}
 use Rattle.cps_instance.specs.Problem.{Problem, Defines, IsInstance}
 use Rattle.cps_instance.specs.Sums.{DefinedSum}
 use Rattle.cps_instance.specs.Terms.{Domains, greatest_of_terms}
-use Rattle.cps_trail.specs.Trail.{Trail, IsSound}
-use Rattle.cps_port.specs.declared.part.Part.{Part}
+use Rattle.cps_trail.specs.Trail.{IsSound}
 use Rattle.cps_port.specs.Order.{BoundLe, raised_to}
 use Rattle.cps_port.specs.Incumbents.{IsLowerBound}
 use Rattle.cps_port.proofs.Bounding.{BoundLe-refl, greater_is}
-use Rattle.cps_search.specs.declared.turn.Turn.{Turn}
 use Rattle.cps_search.specs.Growing.{GrewBy}
 use Rattle.cps_search.specs.Moves.{moved, decided}
 use Rattle.cps_search.specs.Searches.{Search, IsSoundSearch, NoneBelow}
-use Rattle.cps_search.specs.Turns.{GoesOnAndBack, Steps}
+use Rattle.cps_search.specs.Turns.{GoesOnAndBack}
 use Rattle.cps_search.proofs.Holding.{below_less}
 use Rattle.cps_reform.specs.Forms.{Form}
 use Rattle.cps_reform.specs.Floors.{IsReform}

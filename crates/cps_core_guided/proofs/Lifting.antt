@@ -1,11 +1,9 @@
 -- How a reform goes from step to step: the core is marked, and its only term is lifted, or it is split by its sum.
 use Rattle.std.specs.Prelude.{unsigned_abs}
-use Rattle.std.proofs.Common.{◌≡◌, inl, inr, ℕ, ◌+◌, ◌<◌, ◌≤◌, ◌^◌, Bool, true, false, List, length, refl, sym, ◌∙◌, ap, subst, arith, ℤ, pos, ◌+ℤ◌, ◌<ℤ◌, ◌≤ℤ◌, to_z, of_z, w64}
+use Rattle.std.proofs.Common.{◌≡◌, inl, inr, ℕ, ◌<◌, ◌≤◌, ◌^◌, Bool, true, false, List, length, sym, ◌∙◌, ap, subst, arith, ℤ, pos, ◌+ℤ◌, ◌<ℤ◌, to_z, of_z, w64}
 use Rattle.std.proofs.lemmas.Int.{ints}
-use Rattle.cps_model.specs.declared.bound.Bound.{Bound}
 use Rattle.cps_literal.specs.declared.atom.Atom.{Atom}
-use Rattle.cps_instance.specs.Problem.{Problem}
-use Rattle.cps_trail.specs.Trail.{Trail, Entry, IsFalseNow, IsSound}
+use Rattle.cps_trail.specs.Trail.{IsFalseNow, IsSound}
 use Rattle.cps_trail.proofs.Falls.{bool_cases}
 use Rattle.cps_branch.specs.Scope.{Scope}
 use Rattle.cps_search.specs.Searches.{NoneBelow, Search}

@@ -1,14 +1,14 @@
 -- A sum that is the opposite of a variable holds a term with a negative coefficient.
 use Rattle.std.specs.Prelude.{max, unsigned_abs}
 use Rattle.std.specs.Int.{int_min, int_max}
-use Rattle.std.proofs.Common.{◌≡◌, ℕ, suc, ◌+◌, ◌<◌, List, [], ◌∷◌, ◌++◌, length, refl, sym, ◌∙◌, ap, subst, arith, ℤ, pos, negsuc, ◌+ℤ◌, ◌*ℤ◌, ◌<ℤ◌}
+use Rattle.std.proofs.Common.{◌≡◌, ℕ, ◌<◌, List, [], ◌∷◌, ◌++◌, sym, ◌∙◌, ap, subst, arith, ℤ, pos, negsuc, ◌+ℤ◌, ◌*ℤ◌, ◌<ℤ◌}
 use Rattle.std.proofs.lemmas.Int.{ints}
 use Rattle.cps_model.specs.declared.model.CpModel.{CpModel}
 use Rattle.cps_literal.specs.Truth.{value_at}
 use Rattle.cps_instance.specs.declared.term.Term.{Term}
 use Rattle.cps_instance.specs.Problem.{Problem, Defines, IsAssignment, IsInstance, variable_count}
 use Rattle.cps_instance.specs.Sums.{AreSumsFrom, DefinedSum, extended, sum_value}
-use Rattle.cps_instance.specs.Terms.{Domains, Intervals, domain_at, greatest_of, least_of, magnitude}
+use Rattle.cps_instance.specs.Terms.{Intervals, domain_at, greatest_of, least_of, magnitude}
 use Rattle.cps_instance.proofs.Extending.{agree-append, length-extended}
 use Rattle.cps_reform.specs.Beginning.{Holds}
 use Rattle.cps_reform.proofs.Floors.{defined-values}
@@ -37,7 +37,7 @@ opposite-holds p q t subject d i l under =
           let was : IsAssignment p.model a = subst (λ (m : CpModel). IsAssignment m a) d.model is in
           let n = length-extended p.defs a in
           let stays : value_at (extended p.defs a) t.subject ≡ value_at (extended q.defs a) t.subject =
-              agree-append (extended p.defs a) (sum_value (extended p.defs a) s ∷ []) t.subject (omega (arith, l, n, was)) ∙ ap (λ (xs : List ℤ). value_at xs t.subject) (sym (defined-values p q s subject a d)) in
+          agree-append (extended p.defs a) (sum_value (extended p.defs a) s ∷ []) t.subject (omega (arith, l, n, was)) ∙ ap (λ (xs : List ℤ). value_at xs t.subject) (sym (defined-values p q s subject a d)) in
           turned t.coeff (value_at (extended p.defs a) t.subject) (value_at (extended q.defs a) subject) under (d.value a was) ∙ ap (λ (v : ℤ). t.coeff *ℤ v) stays;
       reach = ap (λ (ps : Intervals). magnitude ps) last.domain ∙ same_size (least_of (domain_at q.domains t.subject)) (greatest_of (domain_at q.domains t.subject));
     }

@@ -1,25 +1,22 @@
 -- What a reform needs of a sound core-guided search, and what it gives.
-use Rattle.std.specs.Prelude.{unsigned_abs, All, int_le}
-use Rattle.std.proofs.Common.{◌≡◌, ◌⊎◌, inl, inr, ℕ, ◌+◌, ◌*◌, ◌<◌, ◌≤◌, ◌^◌, Bool, true, false, List, [], ◌∷◌, length, refl, sym, ◌∙◌, ap, subst, arith, ℤ, pos, negsuc, to_z, of_z, w64, ◌+ℤ◌, ◌-ℤ◌, ◌*ℤ◌, ◌<ℤ◌, ◌≤ℤ◌}
+use Rattle.std.specs.Prelude.{unsigned_abs, int_le}
+use Rattle.std.proofs.Common.{◌≡◌, ◌⊎◌, inl, inr, ℕ, ◌<◌, ◌≤◌, ◌^◌, Bool, true, false, List, length, sym, ◌∙◌, subst, arith, ℤ, pos, negsuc, to_z, of_z, w64, ◌-ℤ◌, ◌*ℤ◌, ◌<ℤ◌, ◌≤ℤ◌}
 use Rattle.std.proofs.lemmas.Int.{ints}
 use Rattle.cps_model.specs.declared.bound.Bound.{Bound}
 use Rattle.cps_model.specs.declared.bound.Bound.TheVariants.{At, Infinite}
-use Rattle.cps_model.specs.Solutions.{IsSolution}
 use Rattle.cps_literal.specs.declared.atom.Atom.{Atom}
 use Rattle.cps_literal.specs.declared.atom.Op.TheVariants.{Le}
-use Rattle.cps_literal.specs.Truth.{atom_holds, value_at}
+use Rattle.cps_literal.specs.Truth.{value_at}
 use Rattle.cps_instance.specs.Problem.{Problem}
 use Rattle.cps_instance.specs.Sums.{extended}
-use Rattle.cps_instance.specs.Terms.{Domains}
 use Rattle.cps_trail.specs.Trail.{Trail, IsFalseNow, admits}
-use Rattle.cps_trail.proofs.Falls.{bool_cases}
 use Rattle.cps_port.specs.Order.{BoundLe, IsBelow, IsSmallBound}
 use Rattle.cps_port.specs.Incumbents.{IsLowerBound}
 use Rattle.cps_search.specs.Searches.{IsSoundSearch, Search}
 use Rattle.cps_search.specs.Growing.{IsFalseBelow}
 use Rattle.cps_search.proofs.Teaching.{small_of}
 use Rattle.cps_reform.specs.declared.held.Held.{Held}
-use Rattle.cps_reform.specs.Forms.{Form, IsRoomy, lifted, no_term, term_at}
+use Rattle.cps_reform.specs.Forms.{Form, lifted, term_at}
 use Rattle.cps_reform.specs.Floors.{IsGreatest, IsPast, IsReform, OfEachBelow, past_z}
 use Rattle.cps_reform.specs.Marks.{IsMarked, assumed}
 use Rattle.cps_reform.proofs.Marked.{above-marked, roomy-marked, worth-marked}

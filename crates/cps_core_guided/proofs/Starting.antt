@@ -1,6 +1,6 @@
 -- How the first form is made, term by term, where a sum is defined for each negative coefficient.
 use Rattle.std.specs.Prelude.{All, unsigned_abs}
-use Rattle.std.proofs.Common.{◌≡◌, ◌⊎◌, inl, inr, ℕ, ◌+◌, ◌*◌, ◌<◌, ◌≤◌, ◌^◌, List, [], ◌∷◌, ◌++◌, length, take, drop, get_or, refl, sym, ◌∙◌, ap, subst, arith, ℤ, pos, negsuc, ◌+ℤ◌, ◌*ℤ◌, ◌≤ℤ◌, zero, suc, length-append, take-append-drop, Option}
+use Rattle.std.proofs.Common.{◌≡◌, inl, inr, ℕ, ◌+◌, ◌*◌, ◌<◌, ◌≤◌, ◌^◌, List, [], ◌∷◌, ◌++◌, length, take, drop, get_or, refl, sym, ◌∙◌, ap, subst, arith, ℤ, pos, negsuc, ◌+ℤ◌, ◌*ℤ◌, ◌≤ℤ◌, zero, suc, length-append, take-append-drop, Option}
 use Rattle.std.proofs.lemmas.Int.{ints}
 use Rattle.std.proofs.lemmas.List.{take_all, take_more}
 use Rattle.std.proofs.lemmas.List.Elements.{All-nil, All-cons, All-head, All-tail, All-get_or}
@@ -8,15 +8,15 @@ use Rattle.cps_model.specs.declared.model.CpModel.{CpModel}
 use Rattle.cps_literal.specs.Truth.{value_at}
 use Rattle.cps_instance.specs.declared.task.Task.{Task}
 use Rattle.cps_instance.specs.declared.term.Term.{Term}
-use Rattle.cps_instance.specs.Problem.{Problem, Defines, IsInstance, sum_task, variable_count}
+use Rattle.cps_instance.specs.Problem.{Problem, IsInstance, sum_task, variable_count}
 use Rattle.cps_instance.specs.Sums.{extended}
 use Rattle.cps_instance.specs.Terms.{AreIntervals, Domains, Intervals, domain_at, greatest_of, least_of, magnitude, terms_reach}
 use Rattle.cps_instance.proofs.Growing.{same-append}
 use Rattle.cps_instance.proofs.Intervals.{greatest_among, least_of-least, magnitude_small}
-use Rattle.cps_search.specs.Growing.{GrewBy, grown}
+use Rattle.cps_search.specs.Growing.{grown}
 use Rattle.cps_search.specs.Moves.{fresh}
 use Rattle.cps_search.specs.Searches.{IsSoundSearch, Search}
-use Rattle.cps_reform.specs.Beginning.{Holds, IsFirstForm}
+use Rattle.cps_reform.specs.Beginning.{Holds}
 use Rattle.cps_reform.specs.Forms.{Form, IsRoomy, form_value, held_reach, with_held}
 use Rattle.cps_reform.proofs.Firsts.{FirstSoFar, first-more, first-none, first-room, first-stays}
 use Rattle.cps_core_guided.specs.Beginning.{MayHaveOpposite, OnlyGrew, opposite}
@@ -63,17 +63,17 @@ may-grow of s t subject h = elim h [
     is_fresh = λ f. same ∙ f ∙ ap (λ (x : Search). fresh x.problem s.gap s.budget) (sym same);
   }
   | inr grew ↦
-    let d = grew.defines in
-    let size : length t.problem.domains ≡ length s.problem.domains + 1 = ap (λ (ds : Domains). length ds) d.domains ∙ one-longer s.problem.domains d.added in
-    record {
-      model = d.model;
-      steering = d.steering;
-      longer = omega (arith, size);
-      few = omega (arith, size);
-      is_fresh = λ f.
-          grew.is ∙ ap (λ (x : Search). grown x t.problem (sum_task subject (opposite of))) f
-          ∙ ap (λ (ts : List Task). record (fresh t.problem s.gap s.budget) { tasks = ts }) (sym d.tasks);
-    }
+      let d = grew.defines in
+      let size : length t.problem.domains ≡ length s.problem.domains + 1 = ap (λ (ds : Domains). length ds) d.domains ∙ one-longer s.problem.domains d.added in
+      record {
+        model = d.model;
+        steering = d.steering;
+        longer = omega (arith, size);
+        few = omega (arith, size);
+        is_fresh = λ f.
+            grew.is ∙ ap (λ (x : Search). grown x t.problem (sum_task subject (opposite of))) f
+            ∙ ap (λ (ts : List Task). record (fresh t.problem s.gap s.budget) { tasks = ts }) (sym d.tasks);
+      }
 ]
 
 pub grew-none : (s : Search) → OnlyGrew s s 0
@@ -155,10 +155,10 @@ small-stays of s t u terms k f subject all h grew =
     elim grew [
       | inl same ↦ subst (λ (x : Search). terms_reach x.problem.domains terms < 2 ^ 62) (sym same) small
       | inr more ↦
-        let d = more.defines in
-        let all' : All (λ v. v.subject < length t.problem.domains) terms = λ i e l. inside t.problem (get_or terms i e).subject h.sound.instance (here i e l) in
-        let same = ap (λ (ds : Domains). terms_reach ds terms) d.domains ∙ reach-longer t.problem.domains (d.added ∷ []) terms all' in
-        omega (arith, same, small)
+          let d = more.defines in
+          let all' : All (λ v. v.subject < length t.problem.domains) terms = λ i e l. inside t.problem (get_or terms i e).subject h.sound.instance (here i e l) in
+          let same = ap (λ (ds : Domains). terms_reach ds terms) d.domains ∙ reach-longer t.problem.domains (d.added ∷ []) terms all' in
+          omega (arith, same, small)
     ]
 
 -- the terms, as those so far, the next one and the rest
@@ -198,10 +198,10 @@ form-more of s t u ds terms k f g v subject all h grew sound same l is holds mad
     let n = unsigned_abs v.coeff in
     let made' : g ≡ with_held p.domains f n subject = made ∙ ap (λ (es : Domains). with_held es f n subject) same in
     let more : FirstSoFar p (take k terms ++ v ∷ []) (with_held p.domains f n subject) =
-        first-more p (take k terms) v subject f (form-stays of s t u terms k f subject all h grew) holds
-        (subst (λ (x : Form). IsRoomy p.domains x) made' (subst (λ (es : Domains). IsRoomy es g) same roomy))
-        (subst (λ (x : Form). unsigned_abs x.base ≤ held_reach p.domains x.terms) made' (subst (λ (es : Domains). unsigned_abs g.base ≤ held_reach es g.terms) same base))
-        (subst (λ (x : Form). (xs : List ℤ) → form_value xs x ≡ form_value xs f +ℤ pos n *ℤ value_at xs subject) made' worth) in
+    first-more p (take k terms) v subject f (form-stays of s t u terms k f subject all h grew) holds
+    (subst (λ (x : Form). IsRoomy p.domains x) made' (subst (λ (es : Domains). IsRoomy es g) same roomy))
+    (subst (λ (x : Form). unsigned_abs x.base ≤ held_reach p.domains x.terms) made' (subst (λ (es : Domains). unsigned_abs g.base ≤ held_reach es g.terms) same base))
+    (subst (λ (x : Form). (xs : List ℤ) → form_value xs x ≡ form_value xs f +ℤ pos n *ℤ value_at xs subject) made' worth) in
     record {
       sound = sound;
       bottom = still-bottom of t u subject grew ∙ h.bottom;

@@ -1,7 +1,7 @@
 -- What a core-guided worker assumes: that the subject of each term that weighs something stays at its bound.
 use Rattle.std.specs.Prelude.{◌≡◌, ◌⊎◌, ℕ, ◌<◌, ◌≤◌, List, length, take, slice_index_or, All}
 use Rattle.cps_literal.specs.declared.atom.Atom.{Atom}
-use Rattle.cps_trail.specs.Trail.{Domains, Entry, Trail, Decision, IsTrueAfter, IsFalseAfter, IsTrueNow, IsFalseNow}
+use Rattle.cps_trail.specs.Trail.{Domains, Entry, Trail, Decision, IsTrueAfter, IsFalseNow}
 use Rattle.cps_branch.specs.Choice.{IsUndecided}
 use Rattle.cps_reform.specs.declared.held.Held.{Held}
 use Rattle.cps_reform.specs.Forms.{term_at}

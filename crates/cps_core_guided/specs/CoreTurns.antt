@@ -1,5 +1,5 @@
 -- What a core-guided worker does in a turn and in a run, and what is seen of one that has ended.
-use Rattle.std.specs.Prelude.{◌≡◌, ◌≢◌, ◌⊎◌, ℕ, ◌+◌, ◌<◌, ◌≤◌, ◌^◌, ℤ, ◌≤ℤ◌, ◌<ℤ◌, unsigned_abs, Bool, true, false, Option, Some, None, IfSome, IsSome, List, length}
+use Rattle.std.specs.Prelude.{◌≡◌, ◌⊎◌, ℕ, ◌+◌, ◌<◌, ◌≤◌, ◌^◌, ℤ, ◌≤ℤ◌, ◌<ℤ◌, Bool, true, false, Option, Some, None, IfSome, IsSome, List, length}
 use Rattle.cps_model.specs.declared.bound.Bound.{Bound}
 use Rattle.cps_model.specs.declared.bound.Bound.TheVariants.{At}
 use Rattle.cps_literal.specs.declared.atom.Atom.{Atom}
@@ -9,22 +9,20 @@ use Rattle.cps_trail.specs.Trail.{Trail, open_values}
 use Rattle.cps_branch.specs.Choice.{IsUndecided}
 use Rattle.cps_branch.specs.Scope.{Scope, IsScopeOf}
 use Rattle.cps_port.specs.declared.part.BoardPart.{BoardPart}
-use Rattle.cps_port.specs.declared.part.BoundsPart.{BoundsPart}
 use Rattle.cps_port.specs.declared.part.Part.{Part}
 use Rattle.cps_port.specs.Order.{BoundLe, raised_to}
 use Rattle.cps_port.specs.Parts.{after_raise}
 use Rattle.cps_search.specs.declared.end.End.{End}
-use Rattle.cps_search.specs.declared.end.End.TheVariants as ends
 use Rattle.cps_search.specs.declared.end.Said.TheVariants.{Nothing, Over}
 use Rattle.cps_search.specs.declared.end.WorkerKind.TheVariants.{CoreGuided}
 use Rattle.cps_search.specs.declared.turn.Turn.{Turn}
 use Rattle.cps_search.specs.declared.turn.Turn.TheVariants as turns
-use Rattle.cps_search.specs.Ends.{BrancherTurn, EndsAs, EndsBy, Ending, HeardOne, IsOver, end_of, ending}
+use Rattle.cps_search.specs.Ends.{BrancherTurn, EndsAs, EndsBy, Ending, HeardOne, end_of, ending}
 use Rattle.cps_search.specs.Following.{MovesWith}
 use Rattle.cps_search.specs.Growing.{AreBehindIn}
 use Rattle.cps_search.specs.Lessons.{GoesBack}
 use Rattle.cps_search.specs.Moves.{fresh, moved, decided}
-use Rattle.cps_search.specs.Searches.{Search, NoneBelow}
+use Rattle.cps_search.specs.Searches.{NoneBelow}
 use Rattle.cps_search.specs.Turns.{DecisionDue, ExhaustedAll, FoundOne, GoesOnAndBack, IsLess, LearntOne, SameBest, SameImported, SameLearnt, SameRaised, SameSetting, SawMet, SpentAll, TookOne}
 use Rattle.cps_reform.specs.Forms.{Form, term_at}
 use Rattle.cps_reform.specs.Beginning.{IsFirstForm}
@@ -172,8 +170,10 @@ pub record TakesCoreTurn (chooses : Trail → Option Atom → Type 0) (s t : Cor
 abbrev pub DecidedBy : Type 0 → Type 0 → Type 0
 DecidedBy chose same = chose ⊎ same
 
--- one turn of a core-guided worker whose brancher has these rules, and what it does to the brancher
+-- one turn of a core-guided worker whose search is sound before and after it and whose brancher has these rules, and what it does to the brancher
 pub record OneCoreTurn {B : Type 0} (chooses : B → Trail → Option Atom → Type 0) (hears : B → List Atom → Bool → B → Type 0) (stays : B → B → Type 0) (rows : ℕ) (s t : CoreSearch × B) (p q : Part) (turn : Turn) : Type 0 where
+  pub before : IsSoundCore s.0
+  pub after : IsSoundCore t.0
   pub search : TakesCoreTurn (chooses s.1) s.0 t.0 rows p q turn
   pub brancher : BrancherTurn turn (HeardOne (λ clause restart. hears s.1 clause restart t.1) s.0.search t.0.search) (DecidedBy (stays s.1 t.1) (t.1 ≡ s.1)) (t.1 ≡ s.1)
 

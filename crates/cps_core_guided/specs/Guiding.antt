@@ -1,10 +1,8 @@
 -- How a turn of a core-guided worker goes from step to step.
-use Rattle.std.specs.Prelude.{◌≡◌, ℕ, ◌+◌, ◌<◌, ◌≤◌, ℤ, ◌<ℤ◌, Bool, true, false, List, length}
+use Rattle.std.specs.Prelude.{◌≡◌, ℕ, ◌+◌, ◌<◌, ◌≤◌, ◌<ℤ◌, Bool, true, false, List, length}
 use Rattle.cps_literal.specs.declared.atom.Atom.{Atom}
 use Rattle.cps_branch.specs.Fixed.{AreFixed}
-use Rattle.cps_branch.specs.Scope.{Scope}
 use Rattle.cps_instance.specs.Problem.{variable_count}
-use Rattle.cps_trail.specs.Trail.{Trail}
 use Rattle.cps_search.specs.declared.end.Said.TheVariants.{Due, Nothing}
 use Rattle.cps_search.specs.Searches.{Search, IsSettled, NoneBelow}
 use Rattle.cps_search.specs.Turns.{SameBest, SameImported, SameLearnt, SameRaised}
@@ -18,8 +16,8 @@ use Rattle.std.specs.List.{All}
 use Rattle.cps_reform.specs.Marks.{assumed}
 use Rattle.cps_core_guided.specs.Assuming.{IsAssumption}
 use Rattle.cps_reform.specs.Floors.{IsPast}
-use Rattle.cps_core_guided.specs.Reforming.{CoreSearch, IsSoundCore, ReformsTo, most_sums}
-use Rattle.cps_core_guided.specs.CoreTurns.{IsCoreWorking, SameCoreSetting}
+use Rattle.cps_core_guided.specs.Reforming.{CoreSearch, ReformsTo, most_sums}
+use Rattle.cps_core_guided.specs.CoreTurns.{SameCoreSetting}
 
 -- the core-guided search that a worker stands for, while no memory was refused
 abbrev pub core_of : {P B : Type 0} → Guided P B → CoreSearch

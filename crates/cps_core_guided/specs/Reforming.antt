@@ -1,10 +1,10 @@
 -- How a core-guided worker reforms its objective, and what it keeps.
-use Rattle.std.specs.Prelude.{◌≡◌, ◌⊎◌, ℕ, ◌+◌, ◌≤◌, ◌<◌, ◌^◌, ℤ, pos, ◌+ℤ◌, ◌≤ℤ◌, ◌<ℤ◌, unsigned_abs, if◌then◌else◌, Bool, true, false, Option, IfSome, List, length}
+use Rattle.std.specs.Prelude.{◌≡◌, ℕ, ◌+◌, ◌≤◌, ◌<◌, ◌^◌, ℤ, pos, ◌+ℤ◌, ◌≤ℤ◌, unsigned_abs, if◌then◌else◌, Bool, true, Option, IfSome, List, length}
 use Rattle.cps_model.specs.declared.bound.Bound.{Bound}
 use Rattle.cps_literal.specs.declared.atom.Atom.{Atom}
 use Rattle.cps_instance.specs.Problem.{Problem, Defines}
 use Rattle.cps_instance.specs.Posting.{objective_terms}
-use Rattle.cps_instance.specs.Terms.{Domains, domain_at, greatest_of, greatest_of_terms}
+use Rattle.cps_instance.specs.Terms.{greatest_of_terms}
 use Rattle.cps_trail.specs.Trail.{Trail, IsFalseNow, admits}
 use Rattle.cps_port.specs.Order.{greater_of}
 use Rattle.cps_port.specs.Incumbents.{IsLowerBound}

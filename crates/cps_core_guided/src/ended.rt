@@ -9,8 +9,7 @@ use cps_search::{End, Ended};
 use std::marker::Model;
 
 /// A core-guided worker that has ended. It comes from a worker's `finish` alone. It is seen as what has ended is, and
-/// what the worker itself
-/// raised counts too.
+/// what the worker itself raised counts too.
 #[derive(Drop)]
 pub struct CoreEnded {
     pub(crate) ended: Ended,

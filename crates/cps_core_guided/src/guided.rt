@@ -84,8 +84,7 @@ impl<'a, P: Defining, B: Brancher + Drop> Guided<'a, P, B> {
     }
 
     /// Goes on where a decision is due: reforms where an assumption is false, decides one that is undecided, or what
-    /// the brancher
-    /// chooses.
+    /// the brancher chooses.
     fn go_on<Q: Port>(&mut self, port: &mut Q) -> Result<Turn, AllocError>
         requires works { IsCoreWorking (core_of self.old) (B.scope self.old.brancher) (B.agrees self.old.brancher
             self.old.frame.trail) self.old.kept }
@@ -184,8 +183,7 @@ impl<'a, P: Defining, B: Brancher + Drop> Guided<'a, P, B> {
     }
 
     /// Reforms the objective by the decisions behind the assumption of a failed term, at level 0. Answers false where
-    /// no solution below
-    /// z can have the new form.
+    /// no solution below z can have the new form.
     fn reform_by(
         &mut self,
         place: usize,
@@ -239,8 +237,7 @@ impl<'a, P: Defining, B: Brancher + Drop> Guided<'a, P, B> {
     }
 
     /// Raises the bound of a term that no solution below z is below. Answers false, and changes nothing, where no
-    /// solution below z can
-    /// have the new form.
+    /// solution below z can have the new form.
     fn lift(&mut self, place: usize, bound: i64) -> bool
         requires sound { IsSoundCore (core_of self.old) }
         requires bottom { self.old.frame.trail.level ≡ 0 }
@@ -273,8 +270,7 @@ impl<'a, P: Defining, B: Brancher + Drop> Guided<'a, P, B> {
     }
 
     /// Splits a core of several terms, of which each solution below z is above a bound. Answers false where no solution
-    /// below z can have
-    /// the new form.
+    /// below z can have the new form.
     fn split(&mut self, core: &[Term]) -> Result<bool, AllocError>
         requires works { IsCoreWorking (core_of self.old) (B.scope self.old.brancher) (B.agrees self.old.brancher
             self.old.frame.trail) self.old.kept }

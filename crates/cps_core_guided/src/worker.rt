@@ -21,8 +21,7 @@ use std::alloc::{AllocError, Global};
 use std::marker::Model;
 
 /// A search with the objective's form, and a brancher that chooses what is decided where all is assumed. Contracts see
-/// it as the pair of
-/// both. Once a call ran out of memory, each call that may allocate answers so too.
+/// it as the pair of both. Once a call ran out of memory, each call that may allocate answers so too.
 #[derive(Drop)]
 pub struct CoreWorker<'a, P: Defining, B: Brancher + Drop> {
     guided: Guided<'a, P, B>,
@@ -46,8 +45,8 @@ impl<'a, P: Defining, B: Brancher + Drop> Model for CoreWorker<'a, P, B> {
 
 impl<'a, P: Defining> CoreWorker<'a, P, ActivityBrancher> {
     /// A worker that knows nothing yet. It learns from at most `budget` conflicts, at most 10^9, and ends where the two
-    /// bounds meet within
-    /// the gap. The engine has the instance's tasks, in order, and the instance has fewer than 2^30 subjects.
+    /// bounds meet within the gap. The engine has the instance's tasks, in order, and the instance has fewer than 2^30
+    /// subjects.
     pub fn new(
         alloc: Global,
         instance: Instance<'a>,
@@ -86,10 +85,8 @@ impl<'a, P: Defining> CoreWorker<'a, P, ActivityBrancher> {
 
 impl<'a, P: Defining, B: Brancher + Drop> CoreWorker<'a, P, B> {
     /// Takes a turn: the first that applies of these. The two bounds met; an entry of the board is taken; a conflict
-    /// ends all, or spends
-    /// the budget, or is learnt from; a solution is found; an assumption is false, and the objective is reformed, or no
-    /// solution is left;
-    /// an assumption, or else what the brancher chooses, is decided.
+    /// ends all, or spends the budget, or is learnt from; a solution is found; an assumption is false, and the
+    /// objective is reformed, or no solution is left; an assumption, or else what the brancher chooses, is decided.
     pub fn turn<Q: Port>(&mut self, port: &mut Q) -> Result<Turn, AllocError>
         requires running { IsOver (whole self.old.0).said → ⊥ }
         requires model { Q.model port.old ≡ self.old.0.search.problem.model }

@@ -1,4 +1,4 @@
-use Rattle.std.proofs.Common.{◌≡◌, ◌<◌, ◌≤◌, inl, inr, true, false, true≢false, sym, ◌∙◌, arith, get_or}
+use Rattle.std.proofs.Common.{inl, inr, true≢false, sym, ◌∙◌, arith, get_or}
 use Rattle.cps_literal.specs.declared.atom.Atom.{Atom}
 use Rattle.cps_literal.specs.Truth.{meets}
 use Rattle.cps_trail.specs.Trail.{Trail, IsTrueNow}

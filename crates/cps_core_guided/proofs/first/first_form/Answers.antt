@@ -1,11 +1,11 @@
-use Rattle.std.proofs.Common.{rules, ◌≡◌, ◌∙◌, ◌<◌, ◌*◌, ◌+◌, ◌^◌, ℕ, ℤ, pos, ◌+ℤ◌, ◌*ℤ◌, List, ap, get_or, map, refl, subst, sym, unsigned_abs, w64, FitsSigned}
+use Rattle.std.proofs.Common.{rules, ◌≡◌, ◌∙◌, ◌<◌, ◌*◌, ◌+◌, ◌^◌, ℕ, ℤ, pos, ◌+ℤ◌, ◌*ℤ◌, List, ap, get_or, map, subst, sym, unsigned_abs, w64, FitsSigned}
 use Rattle.std.proofs.lemmas.Int.{to_z-of_z}
 use Rattle.std.proofs.lemmas.List.{get_or_default}
 use Rattle.cps_domain.specs.Window.{intervals}
 use Rattle.cps_literal.specs.Truth.{value_at}
 use Rattle.cps_instance.specs.declared.term.Term.{Term}
 use Rattle.cps_instance.specs.Problem.{Problem}
-use Rattle.cps_instance.specs.Terms.{Domains, domain_at, magnitude}
+use Rattle.cps_instance.specs.Terms.{domain_at, magnitude}
 use Rattle.cps_reform.specs.Forms.{form_value, held_reach, with_held}
 use Rattle.cps_core_guided.proofs.Starting.{form-more, form-stays, next-base, next-ordered, next-room, next-roomy, next-within}
 use Rattle.cps_core_guided.proofs.first.first_form.Goals as goal

@@ -1,12 +1,10 @@
-use Rattle.std.specs.Prelude.{IfOk, OnOk}
-use Rattle.std.proofs.Common.{◌≡◌, ℕ, List, subst, ◌∙◌, pos, sym, ap}
+use Rattle.std.proofs.Common.{◌≡◌, ℕ, List, subst, pos}
 use Rattle.cps_model.specs.declared.bound.Bound.{Bound}
 use Rattle.cps_instance.specs.declared.term.Term.{Term}
 use Rattle.cps_instance.specs.Problem.{Problem, Defines}
-use Rattle.cps_instance.specs.Sums.{DefinedSum}
 use Rattle.cps_search.specs.Growing.{GrewBy}
 use Rattle.cps_search.specs.Searches.{IsSoundSearch}
-use Rattle.cps_reform.specs.Cores.{core_sum, core_terms, IsSomeAbove}
+use Rattle.cps_reform.specs.Cores.{core_terms, IsSomeAbove}
 use Rattle.cps_reform.specs.Floors.{IsCoreSum, IsReform, OfEachBelow}
 use Rattle.cps_reform.proofs.Growing.{core-subjects, core-reach, grown-reform, grown-core, grown-sum}
 use Rattle.cps_core_guided.proofs.Results.{if_ok_both}

@@ -1,4 +1,4 @@
-use Rattle.std.proofs.Common.{◌≡◌, ◌∙◌, ◌≤◌, ap, arith, inl, List, refl, subst, sym}
+use Rattle.std.proofs.Common.{◌≡◌, ◌∙◌, ap, arith, inl, List, refl, subst, sym}
 use Rattle.cps_literal.specs.declared.atom.Atom.{Atom}
 use Rattle.cps_trail.specs.Trail.{Trail}
 use Rattle.cps_branch.specs.Choice.{IsUndecided}

@@ -1,7 +1,6 @@
-use Rattle.std.proofs.Common.{◌≡◌, ◌∙◌, ◌≤◌, ap, arith, inr, length, refl, subst, sym}
+use Rattle.std.proofs.Common.{◌≡◌, ap, arith, inr, length, refl, subst, sym}
 use Rattle.cps_trail.specs.Trail.{Trail}
 use Rattle.cps_branch.specs.Scope.{AreSameUpTo}
-use Rattle.cps_search.specs.Moves.{moved, decided}
 use Rattle.cps_search.specs.Searches.{Search}
 use Rattle.cps_search.proofs.Working.{decided_onward}
 use Rattle.cps_core_guided.specs.CoreTurns.{a_choice}

@@ -1,4 +1,4 @@
-use Rattle.std.proofs.Common.{◌≡◌, sym, subst, true}
+use Rattle.std.proofs.Common.{sym, subst, true}
 use Rattle.cps_model.specs.declared.bound.Bound.{Bound}
 use Rattle.cps_port.specs.Order.{IsSmallBound, raised_to}
 use Rattle.cps_port.specs.Incumbents.{IsLowerBound}

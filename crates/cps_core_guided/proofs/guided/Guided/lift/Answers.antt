@@ -1,4 +1,4 @@
-use Rattle.std.proofs.Common.{◌≡◌, ◌<◌, ◌^◌, ℤ, sym, subst, to_z, of_z, w64, unsigned_abs, true, false}
+use Rattle.std.proofs.Common.{◌<◌, ◌^◌, ℤ, sym, subst, to_z, of_z, w64, unsigned_abs}
 use mir.Facts.{to_z-of_z}
 use Rattle.cps_model.specs.declared.bound.Bound.{Bound}
 use Rattle.cps_instance.specs.Problem.{Problem}

@@ -1,4 +1,4 @@
-use Rattle.std.proofs.Common.{◌≡◌, ◌≢◌, ◌∙◌, ◌<◌, ◌≤◌, ◌^◌, ℕ, ℤ, ◌+ℤ◌, ◌≤ℤ◌, pos, List, ap, arith, length, of_z, refl, subst, sym, to_z, unsigned_abs, w64, FitsSigned}
+use Rattle.std.proofs.Common.{◌≡◌, ◌∙◌, ◌<◌, ◌≤◌, ◌^◌, ℕ, ℤ, ◌+ℤ◌, ◌≤ℤ◌, pos, List, ap, arith, length, of_z, refl, subst, sym, to_z, unsigned_abs, w64, FitsSigned}
 use Rattle.std.proofs.lemmas.Int.{ints}
 use Rattle.cps_literal.specs.declared.atom.Atom.{Atom}
 use Rattle.cps_literal.specs.Truth.{value_at}
@@ -9,7 +9,6 @@ use Rattle.cps_reform.specs.declared.held.Held.{Held}
 use Rattle.cps_reform.specs.Cores.{core_terms}
 use Rattle.cps_reform.specs.Floors.{OfEachBelow}
 use Rattle.cps_reform.specs.Forms.{Form, lifted, term_at}
-use Rattle.cps_reform.specs.Marks.{assumed}
 use Rattle.cps_reform.proofs.Rooms.{bound-small}
 use Rattle.cps_core_guided.specs.Guiding.{Splits, Tried, core_of}
 use Rattle.cps_core_guided.specs.Reforming.{CoreSearch, ReformsTo, alone}

@@ -1,5 +1,5 @@
 use Rattle.std.specs.Prelude.{IsTrue}
-use Rattle.std.proofs.Common.{◌≡◌, ◌∙◌, ◌≤◌, ◌<◌, ℕ, Bool, true, false, true≢false, ap, arith, inl, inr, length, List, min, refl, subst, sym}
+use Rattle.std.proofs.Common.{◌≡◌, ◌∙◌, Bool, true, false, true≢false, ap, arith, inl, inr, length, List, min, refl, subst, sym}
 use Rattle.cps_model.specs.declared.bound.Bound.TheVariants.{At}
 use Rattle.cps_literal.specs.declared.atom.Atom.{Atom}
 use Rattle.cps_trail.specs.Trail.{IsSound, Trail}
@@ -80,7 +80,7 @@ reform_by-requires-clause-failed g c =
     let level : r.trail.level ≡ 0 = ap (λ (x : Trail). x.level) c.restart.ensures.back.is in
     let atom : c.assumption-atom.result ≡ assumed (term_at s.form.terms i) = c.assumption-atom.ensures ∙ ap (λ (ts : List Held). assumed (term_at ts i)) c.terms.ensures in
     let behind : AreBehindIn s.search (assumed (term_at s.form.terms i)) decisions =
-        subst (λ (us : List Atom). AreBehindIn s.search (assumed (term_at s.form.terms i)) us) (sym c.as_slice.ensures.value) (subst (λ (a : Atom). AreBehindIn s.search a c.in_ok-decisions.decisions.items) atom c.in_ok-decisions.ensures.behind) in
+    subst (λ (us : List Atom). AreBehindIn s.search (assumed (term_at s.form.terms i)) us) (sym c.as_slice.ensures.value) (subst (λ (a : Atom). AreBehindIn s.search a c.in_ok-decisions.decisions.items) atom c.in_ok-decisions.ensures.behind) in
     let first : IsSound s.search.trail = subst (λ (x : Trail). IsSound x) c.store.ensures c.entries.ensures.sound in
     subst (λ (x : Search). HasFailed (record s { search = x }) i decisions) (sym is) (has-failed s r.trail r.rested i decisions w.sound first c.requires.few c.requires.failed level behind)
 
@@ -111,7 +111,7 @@ returns-clause-goes_on g c =
     let back : GoesBack s.search.trail r.trail 0 = subst (λ (x : Search). GoesBack x.trail r.trail 0) kept_same c.restart.ensures.back in
     let atom : c.assumption-atom.result ≡ assumed (term_at s.form.terms i) = c.assumption-atom.ensures ∙ ap (λ (ts : List Held). assumed (term_at ts i)) c.terms.ensures in
     let behind : AreBehindIn s.search (assumed (term_at s.form.terms i)) decisions =
-        subst (λ (us : List Atom). AreBehindIn s.search (assumed (term_at s.form.terms i)) us) (sym c.as_slice.ensures.value) (subst (λ (a : Atom). AreBehindIn s.search a c.in_ok-decisions.decisions.items) atom c.in_ok-decisions.ensures.behind) in
+    subst (λ (us : List Atom). AreBehindIn s.search (assumed (term_at s.form.terms i)) us) (sym c.as_slice.ensures.value) (subst (λ (a : Atom). AreBehindIn s.search a c.in_ok-decisions.decisions.items) atom c.in_ok-decisions.ensures.behind) in
     let v = core_of c.reform_by.new.self in
     let done = c.in_ok-is_reformed.is_reformed in
     let h : Tried (record s { search = moved s.search r.trail r.rested }) v i decisions done = subst (λ (x : Search). Tried (record s { search = x }) v i decisions done) is c.in_ok-is_reformed.ensures.tried in

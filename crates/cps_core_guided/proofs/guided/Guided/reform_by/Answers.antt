@@ -1,13 +1,12 @@
-use Rattle.std.proofs.Common.{rules, ◌≡◌, ◌∙◌, ◌<◌, ◌≤◌, ℕ, ℤ, ◌<ℤ◌, ◌≤ℤ◌, Bool, ap, arith, length, of_z, refl, subst, sym, to_z, true, w64, FitsSigned}
+use Rattle.std.proofs.Common.{rules, ◌≡◌, ◌<◌, ℕ, ℤ, ◌≤ℤ◌, ap, arith, length, of_z, refl, subst, sym, to_z, w64, FitsSigned}
 use Rattle.std.proofs.lemmas.Int.{ints, to_z-of_z}
 use Rattle.cps_domain.specs.Window.{contains}
 use Rattle.cps_literal.specs.declared.atom.Atom.{Atom}
 use Rattle.cps_literal.specs.Truth.{value_at}
 use Rattle.cps_instance.specs.Terms.{Domains}
-use Rattle.cps_trail.specs.Trail.{IsFalseNow, Trail, admits}
+use Rattle.cps_trail.specs.Trail.{IsFalseNow, Trail}
 use Rattle.cps_reform.specs.Floors.{OfEachBelow}
 use Rattle.cps_reform.specs.Forms.{lifted, no_term, term_at}
-use Rattle.cps_reform.specs.Marks.{assumed}
 use Rattle.cps_core_guided.specs.Guiding.{core_of}
 use Rattle.cps_core_guided.specs.Reforming.{CoreSearch, IsLeastNow, at_bottom}
 use Rattle.cps_core_guided.proofs.Lifting.{lift-same, tried-lifted, works-form}

@@ -1,5 +1,5 @@
-use Rattle.std.specs.Prelude.{Ok, Result}
-use Rattle.std.proofs.Common.{◌≡◌, ◌∙◌, ◌<◌, ◌≤◌, ◌^◌, ◌+◌, ℕ, ℤ, Bool, ap, arith, of_z, refl, subst, sym, to_z, unsigned_abs, w64}
+use Rattle.std.specs.Prelude.{Ok}
+use Rattle.std.proofs.Common.{◌≡◌, ◌∙◌, ◌<◌, ◌^◌, ◌+◌, ℤ, Bool, ap, arith, of_z, refl, subst, sym, to_z, unsigned_abs, w64}
 use Rattle.cps_model.specs.declared.bound.Bound.{Bound}
 use Rattle.cps_model.specs.declared.model.CpModel.{CpModel}
 use Rattle.cps_instance.specs.Problem.{Problem}
@@ -83,6 +83,6 @@ returns-clause-works g c =
     let scope = g.B.Brancher.scope b in
     let agrees = g.B.Brancher.agrees b in
     let works : IsCoreWorking (record s { search = t; form = f; sums = s.sums + 1 }) scope (agrees t.trail) kept =
-        works-grown s t f (core_sum s.form.terms) c.in_ok-subject.subject scope agrees kept c.requires.works c.requires.few c.in_ok-subject.ensures.sound grew reform c.split_below.ensures.base
-        (subst (λ (x : Trail). IsSound x) c.store.ensures c.entries.ensures.sound) level (λ same was. g.met.B.Brancher.kept_on b s.search.trail t.trail kept kept (omega arith) same was) in
+    works-grown s t f (core_sum s.form.terms) c.in_ok-subject.subject scope agrees kept c.requires.works c.requires.few c.in_ok-subject.ensures.sound grew reform c.split_below.ensures.base
+    (subst (λ (x : Trail). IsSound x) c.store.ensures c.entries.ensures.sound) level (λ same was. g.met.B.Brancher.kept_on b s.search.trail t.trail kept kept (omega arith) same was) in
     ok_if c.split_below.result (IsCoreWorking (record s { search = t; form = f; sums = s.sums + 1 }) scope (agrees t.trail) kept) works

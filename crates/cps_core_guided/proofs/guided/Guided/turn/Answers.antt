@@ -1,15 +1,12 @@
-use Rattle.std.proofs.Common.{◌≡◌, ◌∙◌, ◌≤◌, ◌<◌, ◌+◌, List, Option, Some, None, ap, arith, false, inr, length, min, refl, subst, sym, take, length-append}
+use Rattle.std.proofs.Common.{◌≡◌, ◌∙◌, ◌+◌, List, Option, Some, ap, arith, length, min, refl, subst, length-append}
 use Rattle.cps_trail.specs.Trail.{Entry, Trail}
 use Rattle.cps_search.specs.declared.turn.Turn.{Turn}
-use Rattle.cps_search.specs.declared.turn.Turn.TheVariants as turns
-use Rattle.cps_search.specs.Ends.{BrancherTurn, HeardOne, TakesTurn}
-use Rattle.cps_search.specs.Searches.{Search}
+use Rattle.cps_search.specs.Ends.{BrancherTurn, HeardOne}
 use Rattle.cps_search.specs.Turns.{Steps}
 use Rattle.cps_search.proofs.Results.{if_ok_weaker}
 use Rattle.cps_search.proofs.Working.{brancher_heard, imported_few, same_back, same_onward, stands_imported, turn_heard}
-use Rattle.cps_core_guided.specs.CoreTurns.{DecidedBy, GoesOn, IsCoreWorking, TakesCoreTurn}
+use Rattle.cps_core_guided.specs.CoreTurns.{DecidedBy, GoesOn, TakesCoreTurn}
 use Rattle.cps_core_guided.specs.Guiding.{core_of}
-use Rattle.cps_core_guided.specs.Reforming.{CoreSearch}
 use Rattle.cps_core_guided.proofs.CoreTurning.{frame-not-decided, not-ended, turn-frame, turn-on}
 use Rattle.cps_core_guided.proofs.CoreWorking.{works-frame}
 use Rattle.cps_core_guided.proofs.Hearing.{heard-brancher}

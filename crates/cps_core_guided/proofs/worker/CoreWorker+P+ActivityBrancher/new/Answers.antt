@@ -1,4 +1,4 @@
-use Rattle.std.proofs.Common.{◌≡◌, ◌∙◌, ◌<◌, ◌≤◌, ◌+◌, ◌^◌, ℕ, ℤ, Bool, List, ap, arith, false, length, map, of_z, subst, sym, to_z, unsigned_abs, w64}
+use Rattle.std.proofs.Common.{◌≡◌, ◌∙◌, ◌<◌, ◌^◌, Bool, List, ap, arith, length, map, of_z, subst, sym, to_z, w64}
 use Rattle.cps_domain.specs.Window.{intervals}
 use Rattle.cps_model.specs.declared.model.CpModel.{CpModel}
 use Rattle.cps_instance.specs.declared.term.Term.{Term}
@@ -51,7 +51,7 @@ greatest_sum-greatest-requires-clause-subjects g c =
     let ts = c.as_slice-2.result.now in
     let k = c.in_ok-reform.ensures in
     let here : ts ≡ objective_terms t.problem.model.objective =
-        c.as_slice-2.ensures.value ∙ c.in_ok-terms.ensures ∙ ap (λ (x : Search). objective_terms x.problem.model.objective) (sym c.in_ok-frame.ensures.is) ∙ ap (λ (m : CpModel). objective_terms m.objective) (sym k.grew.model) in
+    c.as_slice-2.ensures.value ∙ c.in_ok-terms.ensures ∙ ap (λ (x : Search). objective_terms x.problem.model.objective) (sym c.in_ok-frame.ensures.is) ∙ ap (λ (m : CpModel). objective_terms m.objective) (sym k.grew.model) in
     let count = k.sound.instance.domains.count in
     let size : length c.domains.result.now ≡ length t.problem.domains = c.domains.ensures.count ∙ ap (λ (p : Problem). length p.domains) c.instance-2.ensures in
     term-subjects (variable_count t.problem) (length c.domains.result.now) ts (omega (arith, count, size)) (terms-of t.problem ts k.sound.instance here).subjects
@@ -62,7 +62,7 @@ greatest_sum-greatest-requires-clause-small g c =
     let ts = c.as_slice-2.result.now in
     let k = c.in_ok-reform.ensures in
     let here : ts ≡ objective_terms t.problem.model.objective =
-        c.as_slice-2.ensures.value ∙ c.in_ok-terms.ensures ∙ ap (λ (x : Search). objective_terms x.problem.model.objective) (sym c.in_ok-frame.ensures.is) ∙ ap (λ (m : CpModel). objective_terms m.objective) (sym k.grew.model) in
+    c.as_slice-2.ensures.value ∙ c.in_ok-terms.ensures ∙ ap (λ (x : Search). objective_terms x.problem.model.objective) (sym c.in_ok-frame.ensures.is) ∙ ap (λ (m : CpModel). objective_terms m.objective) (sym k.grew.model) in
     let same : map intervals c.domains.result.now ≡ t.problem.domains = c.domains.ensures.list ∙ ap (λ (p : Problem). p.domains) c.instance-2.ensures in
     subst (λ (ds : Domains). terms_reach ds ts < 2 ^ 62) (sym same) (terms-of t.problem ts k.sound.instance here).small
 
@@ -79,7 +79,7 @@ returns-clause-begins g c =
     let first : IsFirstForm t.problem ts f = subst (λ (us : List Term). IsFirstForm t.problem us f) c.as_slice.ensures.value k.first in
     let same : map intervals c.domains.result.now ≡ t.problem.domains = c.domains.ensures.list ∙ ap (λ (q : Problem). q.domains) c.instance-2.ensures in
     let most : to_z w64 (of_z w64 r) ≡ greatest_of_terms t.problem.domains ts =
-        read_back r c.greatest_sum-greatest.ensures.small ∙ c.greatest_sum-greatest.ensures.is ∙ ap (λ (ds : Domains). greatest_of_terms ds c.as_slice-2.result.now) same ∙ ap (λ (us : List Term). greatest_of_terms t.problem.domains us) c.as_slice-2.ensures.value in
+    read_back r c.greatest_sum-greatest.ensures.small ∙ c.greatest_sum-greatest.ensures.is ∙ ap (λ (ds : Domains). greatest_of_terms ds c.as_slice-2.result.now) same ∙ ap (λ (us : List Term). greatest_of_terms t.problem.domains us) c.as_slice-2.ensures.value in
     let v = to_z w64 (of_z w64 r) in
     let fresh = new-fresh p c.args.gap c.args.budget s t ts f v c.in_ok-frame.ensures.is grew k.sound first k.base c.in_ok-terms.ensures most c.requires.few in
     let is = ap (λ (b : Bool). with_refused (beginning t f v) b) (ap (λ (x : Search). x.refused) fresh) in
@@ -87,12 +87,15 @@ returns-clause-begins g c =
     (new-begins p c.args.gap c.args.budget s t ts f v c.in_ok-frame.ensures.is grew k.sound first k.base c.in_ok-terms.ensures most c.requires.few)
 
 pub returns-clause-hints : goal.returns-clause-hints
-returns-clause-hints g c = λ i l.
+returns-clause-hints g c =
     let t = c.first_form.new.frame in
     let model : t.problem.model ≡ c.args.instance.model = c.in_ok-reform.ensures.grew.model ∙ ap (λ (x : Search). x.problem.model) c.in_ok-frame.ensures.is in
     let size = ap (λ (m : CpModel). length m.variables) model in
     let count = c.in_ok-brancher.ensures.scope.variables_are in
-    c.in_ok-brancher.ensures.hints i (omega (arith, l, size, count)) ∙ ap (λ (m : CpModel). hint_for m.hint i) (sym model)
+    record {
+      count = c.in_ok-brancher.ensures.places ∙ count ∙ sym size;
+      values = λ i l. c.in_ok-brancher.ensures.hints i (omega (arith, l, size, count)) ∙ ap (λ (m : CpModel). hint_for m.hint i) (sym model);
+    }
 
 pub invariant_of-result : goal.invariant_of-result
 invariant_of-result g c = λ running.
@@ -108,9 +111,10 @@ invariant_of-result g c = λ running.
     let first : IsFirstForm t.problem ts f = subst (λ (us : List Term). IsFirstForm t.problem us f) c.as_slice.ensures.value k.first in
     let same : map intervals c.domains.result.now ≡ t.problem.domains = c.domains.ensures.list ∙ ap (λ (q : Problem). q.domains) c.instance-2.ensures in
     let most : to_z w64 (of_z w64 r) ≡ greatest_of_terms t.problem.domains ts =
-        read_back r c.greatest_sum-greatest.ensures.small ∙ c.greatest_sum-greatest.ensures.is ∙ ap (λ (ds : Domains). greatest_of_terms ds c.as_slice-2.result.now) same ∙ ap (λ (us : List Term). greatest_of_terms t.problem.domains us) c.as_slice-2.ensures.value in
+    read_back r c.greatest_sum-greatest.ensures.small ∙ c.greatest_sum-greatest.ensures.is ∙ ap (λ (ds : Domains). greatest_of_terms ds c.as_slice-2.result.now) same ∙ ap (λ (us : List Term). greatest_of_terms t.problem.domains us) c.as_slice-2.ensures.value in
     let v = to_z w64 (of_z w64 r) in
-    let fresh = new-fresh p c.args.gap c.args.budget s t ts f v c.in_ok-frame.ensures.is grew k.sound first k.base c.in_ok-terms.ensures most c.requires.few in
-    (ap (λ (x : Search). x.refused) fresh,
-    new-works p c.args.gap c.args.budget s t ts f v c.in_ok-frame.ensures.is grew k.sound first k.base c.in_ok-terms.ensures most c.requires.few (record { variables = length b.activities; subjects = length b.activities })
-    (λ n. AreFixedAside (length b.activities) b.aside t.trail n) c.in_ok-brancher.ensures.scope c.requires.budget (aside_none_kept (length b.activities) b.aside t.trail))
+    let fresh = new-fresh p c.args.gap c.args.budget s t ts f v c.in_ok-frame.ensures.is grew k.sound first k.base c.in_ok-terms.ensures most c.requires.few in (
+      ap (λ (x : Search). x.refused) fresh,
+      new-works p c.args.gap c.args.budget s t ts f v c.in_ok-frame.ensures.is grew k.sound first k.base c.in_ok-terms.ensures most c.requires.few (record { variables = length b.activities; subjects = length b.activities })
+          (λ n. AreFixedAside (length b.activities) b.aside t.trail n) c.in_ok-brancher.ensures.scope c.requires.budget (aside_none_kept (length b.activities) b.aside t.trail),
+    )

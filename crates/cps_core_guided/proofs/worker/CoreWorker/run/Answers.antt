@@ -21,7 +21,7 @@ returns-in-Some-clause-turns g c =
       part = g.Q.Port.part c.turns.port;
       turns = i.turns;
       turn = c.in_ok-turn.turn;
-      last = one-core-turn g.B.Brancher.chooses g.B.Brancher.hears g.B.Brancher.stays _ _ c.turns.self c.turn.new.self _ _ c.in_ok-turn.turn i.rows k.turn k.brancher;
+      last = one-core-turn g.B.Brancher.chooses g.B.Brancher.hears g.B.Brancher.stays _ _ c.turns.self c.turn.new.self _ _ c.in_ok-turn.turn i.rows k.sound k.turn k.brancher;
       ended = sym c.end_of.ensures ∙ c.in-Some.is;
     }
 
@@ -54,7 +54,7 @@ turns-preserved g c =
       running = subst (λ (o : Option End). EndsAs o (whole c.turn.new.self.0)) (sym c.end_of.ensures ∙ c.in_default.is) k.turn.ends;
       run = core-goes-on _ c.args.self.now.0 c.turns.self.0 c.turn.new.self.0 _ _ _ _ c.in_ok-turn.turn i.run k.turn;
       turns = one_turn_more c.turns.self c.turn.new.self (g.Q.Port.part c.turns.port) (g.Q.Port.part c.turn.new.port) c.in_ok-turn.turn i.turns (sym c.end_of.ensures ∙ c.in_default.is)
-          (one-core-turn g.B.Brancher.chooses g.B.Brancher.hears g.B.Brancher.stays _ _ c.turns.self c.turn.new.self _ _ c.in_ok-turn.turn i.rows k.turn k.brancher);
+          (one-core-turn g.B.Brancher.chooses g.B.Brancher.hears g.B.Brancher.stays _ _ c.turns.self c.turn.new.self _ _ c.in_ok-turn.turn i.rows k.sound k.turn k.brancher);
       model = k.same.0 ∙ i.model;
       guidance = k.guidance ∙ i.guidance;
       rows = k.same.1 ∙ i.rows;
