@@ -1,7 +1,5 @@
 -- Which clauses are in force, and what dropping some leaves.
 use Rattle.std.proofs.Common.{ℕ, zero, suc, ◌+◌, ◌≤◌, ◌<◌, ◌≡◌, ◌≢◌, ◌⊎◌, Bool, true, false, List, [], ◌∷◌, ◌++◌, length, take, get_or, set, map, refl, sym, true≢false, ◌∙◌, ap, subst, inl, inr, arith}
-use Rattle.std.specs.Prelude.{◌==◌}
-use Rattle.std.proofs.lemmas.Bool.{eqb-true}
 use Rattle.std.specs.List.{All, Contains}
 use Rattle.std.proofs.lemmas.List.{get_or_default, get_or-set_same, get_or-set_other, length-set, map-append, take_more}
 use Rattle.std.proofs.lemmas.List.Elements.{All-cons, All-head, All-tail, All-contains_itself}
@@ -157,14 +155,6 @@ marked_below ds is j h = go (is_dropped ds j) refl
     go : (b : Bool) → is_dropped ds j ≡ b → is_dropped ds j ≡ false
     go true e = absurd (true≢false (sym (marked_keeps ds is j e) ∙ h))
     go false e = e
-
--- a length that was compared with none
-pub nat_none : (n : ℕ) (b : Bool) → b ≡ (n == 0) → b ≡ true → n ≡ 0
-nat_none n b e h = eqb-true n 0 (sym e ∙ h)
-
-pub nat_some : (n : ℕ) (b : Bool) → b ≡ (n == 0) → b ≡ false → 1 ≤ n
-nat_some zero b e h = absurd (true≢false (sym e ∙ h))
-nat_some (suc n) b e h = omega arith
 
 -- one more of the first ones
 pub take_next : (cs : List (List Atom)) (n : ℕ) → n < length cs → take (n + 1) cs ≡ take n cs ++ clause_of cs n ∷ []

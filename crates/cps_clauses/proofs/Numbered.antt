@@ -1,11 +1,10 @@
 -- Atoms by their numbers in a table that grows.
-use Rattle.std.proofs.Common.{ℕ, ◌+◌, ◌≤◌, ◌<◌, ◌≡◌, ◌⊎◌, List, [], ◌∷◌, ◌++◌, Some, None, length, map, get_or, refl, sym, ◌∙◌, ap, subst, inl, inr, arith, length-append}
+use Rattle.std.proofs.Common.{ℕ, ◌-◌, ◌≤◌, ◌<◌, ◌≡◌, List, [], ◌∷◌, ◌++◌, Some, None, length, map, take, drop, refl, sym, ◌∙◌, ap, inl, inr, arith, length-append}
 use Rattle.std.specs.Prelude.{slice_get, slice_range}
 use Rattle.std.specs.List.{All}
-use Rattle.std.proofs.lemmas.List.{map-append, get_or_append_left}
+use Rattle.std.proofs.lemmas.List.{map-append, get_or_append_left, take-map, drop-map}
 use Rattle.std.proofs.lemmas.List.Elements.{All-head, All-tail, All-push, All-weaker}
 use Rattle.std.proofs.lemmas.Option.{get_or_from_slice_get, slice_get_cases}
-use Rattle.cps_domain.proofs.Slices.{slice_range-at, slice_range-none}
 use Rattle.cps_literal.specs.declared.atom.Atom.{Atom}
 use Rattle.cps_literal.specs.Table.{Numbers}
 use Rattle.cps_clauses.specs.Spans.{atom_in}
@@ -57,8 +56,6 @@ atoms_pushed old new atom n ns h all =
     ∙ ap (λ (t : Atom). map (atom_in new) ns ++ t ∷ []) (get_or_from_slice_get new n atom no_atom h.stands)
     ∙ ap (λ (ts : List Atom). ts ++ atom ∷ []) (atoms_kept old new atom n ns h all)
 
--- a part of a list of atoms, and the next one
-pub part_next : (atoms : List Atom) (from k : ℕ) → from ≤ k → k < length atoms → slice_range atoms from (k + 1) ≡ slice_range atoms from k ++ get_or atoms k no_atom ∷ []
-part_next atoms from k le l =
-    slice_range-at atoms from k (k + 1) no_atom le (omega arith) (omega (arith, l))
-    ∙ ap (λ (ts : List Atom). slice_range atoms from k ++ get_or atoms k no_atom ∷ ts) (slice_range-none atoms (k + 1) (k + 1) (omega arith))
+-- the atoms of a part of the numbers are that part of the atoms
+pub part_atoms : (table : List Atom) (from to : ℕ) (ns : List ℕ) → map (atom_in table) (slice_range ns from to) ≡ slice_range (map (atom_in table) ns) from to
+part_atoms table from to ns = sym (ap (λ (ts : List Atom). take (to - from) ts) (drop-map (atom_in table) from ns) ∙ take-map (atom_in table) (to - from) (drop from ns))

@@ -277,13 +277,3 @@ module _ (cs : List (List Atom)) (ds : List Bool) (learnt : List ℕ) (journal :
             subst (λ (s : Standing). IsStanding s n (clause_of (blanked cs (marked ds (map (number_at learnt) which))) (number_at learnt n))) (sym is)
             (unset_other (standing_in journal) which n none ∙ h.fallen n l old ∙ ap (λ (k : List Atom). Some k) (sym (blanked_kept cs (marked ds (map (number_at learnt) which)) (number_at learnt n) keeps)));
       }
-
--- what was learnt last stands under the last number
-pub last_stands : (clauses : List (List Atom)) (dropped : List Bool) (learnt : List ℕ) (journal earlier : List JournalItem) (clause : List Atom) (below : Bound) → AreNumbered clauses dropped learnt journal → journal ≡ earlier ++ Learnt clause below ∷ []
-    → (length learnt ≡ length (standing_in earlier) + 1) × (clause_of clauses (number_at learnt (length (standing_in earlier))) ≡ clause)
-last_stands clauses dropped learnt journal earlier clause below h is =
-    let stand : standing_in journal ≡ standing_in earlier ++ Some clause ∷ [] = ap (λ (es : List JournalItem). standing_in es) is ∙ standing_in-push earlier (Learnt clause below) in
-    let many = ap (λ (s : Standing). length s) stand in (
-      omega (arith, h.count, many, length-append (standing_in earlier) (Some clause ∷ [])),
-      (h.standing (length (standing_in earlier)) clause (ap (λ (s : Standing). get_or s (length (standing_in earlier)) None) stand ∙ get_or_push (standing_in earlier) (Some clause) None (length (standing_in earlier)) refl)).1,
-    )

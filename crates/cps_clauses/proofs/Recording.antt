@@ -1,7 +1,7 @@
 -- What the lines of a journal say, as atoms and lines are added.
-use Rattle.std.proofs.Common.{ℕ, ◌+◌, ◌-◌, ◌≤◌, ◌<◌, ◌≡◌, List, [], ◌∷◌, ◌++◌, length, map, refl, sym, ◌∙◌, ap, subst, arith, length-append}
+use Rattle.std.proofs.Common.{ℕ, ◌≤◌, ◌≡◌, List, [], ◌∷◌, ◌++◌, length, get_or, map, refl, sym, ◌∙◌, ap, subst, arith, length-append}
 use Rattle.std.specs.List.{All}
-use Rattle.std.proofs.lemmas.List.{map-append}
+use Rattle.std.proofs.lemmas.List.{append_assoc, append-nil, get_or_push, map-append}
 use Rattle.std.proofs.lemmas.List.Elements.{All-head, All-tail, All-push, All-nil, All-cons, All-append}
 use Rattle.cps_model.specs.declared.bound.Bound.{Bound}
 use Rattle.cps_literal.specs.declared.atom.Atom.{Atom}
@@ -12,8 +12,8 @@ use Rattle.cps_clauses.specs.declared.journal.Line.{Line}
 use Rattle.cps_clauses.specs.declared.journal.Line.TheVariants as lines
 use Rattle.cps_clauses.specs.declared.span.Span.{Span}
 use Rattle.cps_clauses.specs.Journals.{drops}
-use Rattle.cps_clauses.specs.Lines.{item_of, drop_lines, IsLine}
-use Rattle.cps_clauses.specs.Spans.{clause_at, IsSpan, IsAppended}
+use Rattle.cps_clauses.specs.Lines.{item_of, drop_lines, IsKept, IsLatest, IsLine}
+use Rattle.cps_clauses.specs.Spans.{IsAppended}
 
 -- each of the lines lies within so many atoms
 abbrev pub AreLines : ℕ → List Line → Type 0
@@ -44,7 +44,7 @@ items_learnt old new clause ls span below h within =
     ∙ ap (λ (ts : List Atom). map (item_of ts) ls ++ items.Learnt clause below ∷ []) h.grows
     ∙ ap (λ (es : List JournalItem). es ++ items.Learnt clause below ∷ []) (items_grown old clause ls within)
 
-pub lines_learnt : (old new clause : List Atom) (ls : List Line) (span : Span) (below : Bound) → IsAppended old new clause span → AreLines (length old) ls → AreLines (length new) (ls ++ lines.Learnt span below ∷ [])
+lines_learnt : (old new clause : List Atom) (ls : List Line) (span : Span) (below : Bound) → IsAppended old new clause span → AreLines (length old) ls → AreLines (length new) (ls ++ lines.Learnt span below ∷ [])
 lines_learnt old new clause ls span below h within =
     let grows = ap (λ (ts : List Atom). length ts) h.grows in
     All-push (IsLine (length new)) ls (lines.Learnt span below) (lines_wider (length old) (length new) (omega (arith, grows, length-append old clause)) ls within) h.fits
@@ -61,5 +61,42 @@ drops_within : (len : ℕ) (which : List ℕ) → AreLines len (drop_lines which
 drops_within len [] = All-nil (IsLine len)
 drops_within len (n ∷ ns) = All-cons (IsLine len) (lines.Drop n) (drop_lines ns) tt (drops_within len ns)
 
-pub lines_dropped : (len : ℕ) (ls : List Line) (which : List ℕ) → AreLines len ls → AreLines len (ls ++ drop_lines which)
+lines_dropped : (len : ℕ) (ls : List Line) (which : List ℕ) → AreLines len ls → AreLines len (ls ++ drop_lines which)
 lines_dropped len ls which h = All-append (IsLine len) ls (drop_lines which) h (drops_within len which)
+
+-- two lists that are the same have the same last item
+last_item : (xs ys : List JournalItem) (e f : JournalItem) → xs ++ e ∷ [] ≡ ys ++ f ∷ [] → e ≡ f
+last_item xs ys e f is =
+    let many = ap (λ (es : List JournalItem). length es) is in
+    let same : length ys ≡ length xs = omega (arith, many, length-append xs (e ∷ []), length-append ys (f ∷ [])) in
+    sym (get_or_push xs e e (length xs) refl) ∙ ap (λ (es : List JournalItem). get_or es (length xs) e) is ∙ get_or_push ys f e (length xs) same
+
+abbrev clause_in : JournalItem → List Atom
+clause_in (items.Learnt clause below) = clause
+clause_in (items.Drop i) = []
+
+-- what was learnt last, after one more clause, and after drops
+IsLatest-learnt : (journal : List JournalItem) (clause : List Atom) (below : Bound) → IsLatest (journal ++ items.Learnt clause below ∷ []) clause
+IsLatest-learnt journal clause below = λ earlier c b is. ap clause_in (last_item journal earlier (items.Learnt clause below) (items.Learnt c b) is)
+
+no_drop : (n : ℕ) (clause : List Atom) (below : Bound) → items.Drop n ≡ items.Learnt clause below → ⊥
+no_drop n clause below e = cc e
+
+IsLatest-drops : (journal : List JournalItem) (which : List ℕ) (latest : List Atom) → IsLatest journal latest → IsLatest (journal ++ drops which) latest
+IsLatest-drops journal [] latest h = subst (λ (es : List JournalItem). IsLatest es latest) (sym (append-nil journal)) h
+IsLatest-drops journal (n ∷ ns) latest h =
+    subst (λ (es : List JournalItem). IsLatest es latest) (append_assoc journal (items.Drop n ∷ []) (drops ns))
+    (IsLatest-drops (journal ++ items.Drop n ∷ []) ns latest (λ earlier c b is. absurd (no_drop n c b (last_item journal earlier (items.Drop n) (items.Learnt c b) is))))
+
+-- what is kept, after one more clause, and after drops
+pub IsKept-learnt : (old new clause latest : List Atom) (ls : List Line) (span : Span) (below : Bound) → IsAppended old new clause span → IsKept old ls latest → IsKept new (ls ++ lines.Learnt span below ∷ []) clause
+IsKept-learnt old new clause latest ls span below h kept = record {
+  within = lines_learnt old new clause ls span below h kept.within;
+  last = subst (λ (es : List JournalItem). IsLatest es clause) (sym (items_learnt old new clause ls span below h kept.within)) (IsLatest-learnt (map (item_of old) ls) clause below);
+}
+
+pub IsKept-dropped : (atoms latest : List Atom) (ls : List Line) (which : List ℕ) → IsKept atoms ls latest → IsKept atoms (ls ++ drop_lines which) latest
+IsKept-dropped atoms latest ls which kept = record {
+  within = lines_dropped (length atoms) ls which kept.within;
+  last = subst (λ (es : List JournalItem). IsLatest es latest) (sym (items_dropped atoms ls which)) (IsLatest-drops (map (item_of atoms) ls) which latest kept.last);
+}

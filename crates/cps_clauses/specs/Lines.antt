@@ -1,5 +1,7 @@
 -- How a journal keeps its items.
-use Rattle.std.specs.Prelude.{ℕ, List, map, ⊤}
+use Rattle.std.specs.Prelude.{ℕ, ◌≡◌, List, [], ◌∷◌, ◌++◌, length, map, ⊤}
+use Rattle.std.specs.List.{All}
+use Rattle.cps_model.specs.declared.bound.Bound.{Bound}
 use Rattle.cps_literal.specs.declared.atom.Atom.{Atom}
 use Rattle.cps_clauses.specs.declared.journal.JournalItem.{JournalItem}
 use Rattle.cps_clauses.specs.declared.journal.JournalItem.TheVariants as items
@@ -20,3 +22,12 @@ IsLine len (lines.Drop i) = ⊤
 -- the lines that say of these learnt clauses that they were dropped, in order
 abbrev pub drop_lines : List ℕ → List Line
 drop_lines which = map lines.Drop which
+
+-- the clause that was learnt last, where the last item of a journal is one that was learnt
+abbrev pub IsLatest : List JournalItem → List Atom → Type 0
+IsLatest journal latest = (earlier : List JournalItem) (clause : List Atom) (below : Bound) → journal ≡ earlier ++ items.Learnt clause below ∷ [] → latest ≡ clause
+
+-- the lines of a journal lie within its atoms, and what was learnt last is kept beside them
+pub record IsKept (atoms : List Atom) (ls : List Line) (latest : List Atom) : Type 0 where
+  pub within : All (IsLine (length atoms)) ls
+  pub last : IsLatest (map (item_of atoms) ls) latest

@@ -1,11 +1,11 @@
 //! Atoms in a list, each held as a number of four bytes.
 
-ghost use Rattle.std.specs.Prelude.{◌≡◌, ◌≤◌, ◌<◌, [], ◌∷◌, ◌++◌, length, take, slice_index_or, IfOk, OnOk, OnErr};
+ghost use Rattle.std.specs.Prelude.{◌≡◌, [], ◌∷◌, ◌++◌, length, take, IfOk, OnOk, OnErr};
 ghost use Rattle.cps_clauses.specs.Spans.{clause_at, IsSpan, IsAppended};
-ghost use Rattle.cps_clauses.specs.Watches.{no_atom};
 
+use crate::literals::Literals;
 use crate::span::Span;
-use cps_literal::{Atom, Clause, LiteralTable};
+use cps_literal::{Atom, LiteralTable};
 use std::alloc::{AllocError, Global};
 use std::marker::Model;
 use std::mem::size_of;
@@ -49,14 +49,6 @@ impl AtomList {
         ensures { result ≡ length self.now }
     {
         self.numbers.len()
-    }
-
-    /// The atom at a place.
-    pub(crate) fn atom(&self, place: usize) -> Atom
-        requires { place < length self.now }
-        ensures { result ≡ slice_index_or self.now place no_atom }
-    {
-        self.literals.atom(self.numbers[place] as usize)
     }
 
     /// Adds an atom at the end.
@@ -114,15 +106,11 @@ impl AtomList {
         }
     }
 
-    /// The clause at a span, made anew.
-    pub(crate) fn clause(&self, alloc: Global, span: Span) -> Result<Clause, AllocError>
+    /// The clause at a span, in place.
+    pub(crate) fn literals(&self, span: Span) -> Literals<'_>
         requires { IsSpan (length self.now) span }
-        ensures { IfOk result (λ clause. clause ≡ clause_at self.now span) }
+        ensures { result ≡ clause_at self.now span }
     {
-        let mut clause = Clause::new(alloc);
-        for place in span.from..span.to {
-            clause.push(self.atom(place))?;
-        }
-        Ok(clause)
+        Literals::new(&self.numbers[span.from..span.to], &self.literals)
     }
 }

@@ -14,7 +14,7 @@ pub(crate) fn empty_from(clauses: &Clauses, dropped: &[bool], from: usize) -> Op
         → 1 ≤ length (clause_of clauses.now i) }
 {
     for number in from..clauses.len() {
-        if !dropped[number] && clauses.clause(number).is_empty() {
+        if !dropped[number] && clauses.clause(number).len() == 0 {
             return Some(number);
         }
     }

@@ -1,6 +1,6 @@
 //! Learnt clauses that are dropped.
 
-use crate::resting::settle_more;
+use crate::resting::{has_clause, settle_more};
 use crate::small::{bits, one, zero};
 use cps_clauses::{ClauseBase, JournalItem, Origin};
 use cps_literal::{Atom, normal_clause};
@@ -126,5 +126,26 @@ fn a_clause_that_a_note_names_stays(rt: HostRuntime) -> Result<(), Fail> {
         stand: [true, true, true],
     };
     assert!(rt; left_of_named(rt.alloc())? == named);
+    Ok(())
+}
+
+/// Whether a clause that stays has its atoms after the two longer ones are dropped, one that was dropped has none, and
+/// one that is learnt then has its own.
+fn told_after_drops(alloc: Global) -> Result<[bool; 3], AllocError> {
+    let store = bits(alloc)?;
+    let mut base = ClauseBase::new(alloc);
+    learn_three(alloc, &mut base)?;
+    base.forget(&store, 1)?;
+    learn(alloc, &mut base, &[one(1), zero(3)])?;
+    Ok([
+        has_clause(&base, 1, &[one(0), one(1)]),
+        has_clause(&base, 2, &[]),
+        has_clause(&base, 3, &[one(1), zero(3)]),
+    ])
+}
+
+#[test]
+fn a_clause_that_stays_keeps_its_atoms(rt: HostRuntime) -> Result<(), Fail> {
+    assert!(rt; told_after_drops(rt.alloc())? == [true, true, true]);
     Ok(())
 }

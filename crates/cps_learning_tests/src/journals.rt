@@ -1,5 +1,6 @@
 //! What a journal says, read item by item.
 
+use crate::resting::has_clause;
 use crate::small::{one, zero};
 use cps_clauses::{ClauseBase, Journal, JournalItem, Origin};
 use cps_literal::{Atom, normal_clause};
@@ -38,11 +39,16 @@ fn says(
     }
 }
 
-/// What is read of two clauses that share an atom, the second of which has two atoms that the first has not.
+/// Learns two clauses that share an atom, the second of which has two atoms that the first has not.
+fn learn_two(alloc: Global, base: &mut ClauseBase) -> Result<(), AllocError> {
+    learn(alloc, base, &[one(0), one(1)], Bound::Infinite)?;
+    learn(alloc, base, &[zero(0), one(1), zero(2)], Bound::At(5))
+}
+
+/// What is read of them in the journal.
 fn two_read(alloc: Global) -> Result<[bool; 4], AllocError> {
     let mut base = ClauseBase::new(alloc);
-    learn(alloc, &mut base, &[one(0), one(1)], Bound::Infinite)?;
-    learn(alloc, &mut base, &[zero(0), one(1), zero(2)], Bound::At(5))?;
+    learn_two(alloc, &mut base)?;
     let journal = base.journal();
     Ok([
         says(alloc, journal, 0, &[one(0), one(1)], Bound::Infinite)?,
@@ -56,5 +62,24 @@ fn two_read(alloc: Global) -> Result<[bool; 4], AllocError> {
 #[test]
 fn clauses_that_share_an_atom_are_read_as_they_were_learnt(rt: HostRuntime) -> Result<(), Fail> {
     assert!(rt; two_read(rt.alloc())? == [true, true, true, true]);
+    Ok(())
+}
+
+/// Whether each of them is told by its atoms, and by none in another order, by fewer and by others.
+fn two_told(alloc: Global) -> Result<[bool; 5], AllocError> {
+    let mut base = ClauseBase::new(alloc);
+    learn_two(alloc, &mut base)?;
+    Ok([
+        has_clause(&base, 0, &[one(0), one(1)]),
+        has_clause(&base, 1, &[zero(0), one(1), zero(2)]),
+        has_clause(&base, 1, &[one(1), zero(0), zero(2)]),
+        has_clause(&base, 1, &[zero(0), one(1)]),
+        has_clause(&base, 1, &[one(0), one(1), zero(2)]),
+    ])
+}
+
+#[test]
+fn a_clause_is_told_by_its_atoms(rt: HostRuntime) -> Result<(), Fail> {
+    assert!(rt; two_told(rt.alloc())? == [true, true, false, false, false]);
     Ok(())
 }

@@ -22,6 +22,11 @@ fn fits(store: &Store, atoms: &[Atom]) -> bool
     true
 }
 
+/// Whether a base has a clause with this number and these atoms.
+pub(crate) fn has_clause(base: &ClauseBase, number: u32, atoms: &[Atom]) -> bool {
+    (number as usize) < base.len() && base.is_clause(number, atoms)
+}
+
 /// Adds a clause at level 0; an error where one of its subjects does not exist.
 pub(crate) fn add(
     alloc: Global,

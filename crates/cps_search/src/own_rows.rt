@@ -67,5 +67,5 @@ impl OwnRows {
 fn stands_at(base: &ClauseBase, number: u32, atoms: &[Atom]) -> bool
     ensures { IsTrue result → StandsIn (shelf_of base.now) atoms.now }
 {
-    base.in_force(number) && base.clause(number) == atoms
+    base.in_force(number) && base.is_clause(number, atoms)
 }

@@ -19,8 +19,8 @@ pub loop-place-preserved : goal.loop-place-preserved
 loop-place-preserved c =
     let b : c.loop-place.place < length (blanked c.args.self.now c.args.dropped.now) = omega (arith, c.loop-place-test.true, c.len-place-end.ensures, length-blanked c.args.self.now c.args.dropped.now) in
     let keeps : is_dropped c.args.dropped.now c.loop-place.place ≡ false = c.if-dropped-place.false in
-    c.in_ok-push-2.ensures.ok ∙ ap (λ (cs : List (List Atom)). cs ++ (c.clause.result.now ∷ [])) c.loop-place.invariant
-    ∙ ap (λ (k : List Atom). take c.loop-place.place (blanked c.args.self.now c.args.dropped.now) ++ (k ∷ [])) (c.clause.ensures ∙ sym (blanked_kept c.args.self.now c.args.dropped.now c.loop-place.place keeps))
+    c.in_ok-push-2.ensures.ok ∙ ap (λ (cs : List (List Atom)). cs ++ (c.as_slice.result.now ∷ [])) c.loop-place.invariant
+    ∙ ap (λ (k : List Atom). take c.loop-place.place (blanked c.args.self.now c.args.dropped.now) ++ (k ∷ [])) (c.as_slice.ensures ∙ c.in_ok-clause.ensures ∙ c.clause.ensures ∙ sym (blanked_kept c.args.self.now c.args.dropped.now c.loop-place.place keeps))
     ∙ sym (take_next (blanked c.args.self.now c.args.dropped.now) c.loop-place.place b)
 
 pub returns : goal.returns
