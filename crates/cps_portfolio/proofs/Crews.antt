@@ -9,34 +9,29 @@ use Rattle.cps_model.specs.declared.model.CpModel.{CpModel}
 use Rattle.cps_model.specs.declared.bound.Bound.{Bound}
 use Rattle.cps_model.specs.declared.bound.Bound.TheVariants.{At, Infinite}
 use Rattle.cps_model.specs.Solutions.{objective_value}
-use Rattle.cps_instance.specs.Problem.{Problem}
 use Rattle.cps_bounds.specs.declared.seats.Bounds.{Bounds}
 use Rattle.cps_board.specs.declared.seats.Board.{Board}
 use Rattle.cps_bounds.specs.Seats as words
 use Rattle.cps_board.specs.Seats as boards
 use Rattle.cps_bounds.specs.Rule.{both_parts}
 use Rattle.cps_port.specs.declared.part.BoundsPart.{BoundsPart}
-use Rattle.cps_port.specs.declared.part.Part.{Part}
 use Rattle.cps_port.specs.Order.{BoundLe, IsNoLower, lesser, greater, greater_of, raised_above}
 use Rattle.cps_port.specs.Totals.{total}
 use Rattle.cps_port.proofs.Bounding.{BoundLe-trans, lesser-first, lesser-second, greater-first, greater-exchange}
 use Rattle.cps_search.specs.declared.end.End.{End}
 use Rattle.cps_search.specs.declared.end.Said.TheVariants.{Over}
 use Rattle.cps_search.specs.declared.end.WorkerKind.{WorkerKind}
-use Rattle.cps_search.specs.declared.end.WorkerKind.TheVariants as kinds
-use Rattle.cps_branch.specs.declared.guidance.Guidance.{Guidance}
-use Rattle.cps_search.specs.Guided.{IsGuidedBy, RunsBy}
 use Rattle.cps_search.specs.Searches.{Search}
-use Rattle.cps_search.specs.Ends.{Ending, IsComplete, IsOver, IsHonestEnding, RunsTo, ending}
+use Rattle.cps_search.specs.Ends.{Ending, IsOver, IsHonestEnding}
 use Rattle.cps_search.specs.Following.{best_bound}
 use Rattle.cps_search.proofs.Bounds.{greater-second, same_bound}
-use Rattle.cps_search.proofs.Ending.{honest_ending}
 use Rattle.cps_portfolio.specs.declared.seats.Seated.{Seated}
-use Rattle.cps_portfolio.specs.Workers.{search_of, guidance_of, worker_kind, Begins, HasEnded}
+use Rattle.cps_portfolio.specs.Workers.{AnySearch, search_in, kind_in, ending_in, known_of, search_of, worker_kind}
 use Rattle.cps_model.specs.Start.{objective_start}
 use Rattle.cps_port.specs.Incumbents.{IsLowerBound}
 use Rattle.cps_portfolio.specs.Outcomes.{CameTo, EndedWithin, GoesByModel, better, best_of}
 use Rattle.cps_portfolio.specs.Crews.{part_at, words_part, words_splits, IsReady, Worked, IsSeated, IsCrew, IsDone, IsBack, AreBack, EndedSeen, AreGathered}
+use Rattle.cps_portfolio.proofs.Going.{has_begun, done_from}
 
 -- ---- lists that grow and shrink at their end
 
@@ -180,32 +175,27 @@ none_gathered m gap conflicts first k offered raised = record {
   each = All-nil (EndedSeen m gap conflicts k);
 }
 
--- workers of the kinds by number are complete
-pub complete_kind : (number : ℕ) → IsComplete (worker_kind number)
-complete_kind number = elim (number == 0) as (λ (b : Bool). IsComplete (if b then kinds.Fixed else kinds.Activity)) [ true ↦ tt | false ↦ tt ]
-
 pub over_is : (s : Search) (end : End) → s.said ≡ Over end → IsOver s.said
 over_is s end e = subst IsOver (sym e) tt
 
-pub one_gathered : (m : CpModel) (gap conflicts first count : ℕ) (k j q : BoundsPart) (s : Search) (kind : WorkerKind) (guidance : Guidance) (e : Ending) (ends : List Ending) → AreGathered m gap conflicts (first + 1) count k ends → kind ≡ worker_kind first
-    → IsDone m gap conflicts (worker_kind first) guidance q s → s.said ≡ Over e.end → e ≡ ending kind (Some guidance) e.end s → j ≡ both_parts k q → AreGathered m gap conflicts first (suc count) j (e ∷ ends)
-one_gathered m gap conflicts first count k j q s kind guidance e ends h kind_is done said is joined =
+pub one_gathered : (m : CpModel) (gap conflicts first count : ℕ) (k j q : BoundsPart) (s : AnySearch) (e : Ending) (ends : List Ending) → AreGathered m gap conflicts (first + 1) count k ends → kind_in s ≡ worker_kind first
+    → IsDone m gap conflicts q s → (search_in s).said ≡ Over e.end → e ≡ ending_in s e.end → j ≡ both_parts k q → AreGathered m gap conflicts first (suc count) j (e ∷ ends)
+one_gathered m gap conflicts first count k j q s e ends h kind_is done said is joined =
     let both : Over e.end ≡ Over done.end = sym said ∙ done.over in
     let same : e.end ≡ done.end = cc in
-    let all : e ≡ ending (worker_kind first) (Some guidance) done.end s = is ∙ ap₂ (λ (x : WorkerKind) (y : End). ending x (Some guidance) y s) kind_is same in
+    let all : e ≡ ending_in s done.end = is ∙ ap (ending_in s) same in
     let honest : IsHonestEnding m gap conflicts q e = subst (IsHonestEnding m gap conflicts q) (sym all) done.honest in
     let offered : j.offered ≡ lesser k.offered q.offered = ap (λ (x : BoundsPart). x.offered) joined in
     let raised : j.raised ≡ greater_of k.raised q.raised = ap (λ (x : BoundsPart). x.raised) joined in
     let upper : j.saw_upper ≡ lesser k.saw_upper q.saw_upper = ap (λ (x : BoundsPart). x.saw_upper) joined in
     let lower : j.saw_lower ≡ greater_of k.saw_lower q.saw_lower = ap (λ (x : BoundsPart). x.saw_lower) joined in
     record {
-      kinds = ap₂ (λ (x : WorkerKind) (xs : List WorkerKind). x ∷ xs) (ap (λ (x : Ending). x.kind) all) h.kinds;
+      kinds = ap₂ (λ (x : WorkerKind) (xs : List WorkerKind). x ∷ xs) (ap (λ (x : Ending). x.kind) all ∙ kind_is) h.kinds;
       offered = offered ∙ ap₂ lesser h.offered honest.offered ∙ best_lesser m e.best (best_of m ends);
       raised = λ start. ap (λ (o : Option Bound). raised_above o start) raised ∙ raised_both k.raised q.raised start ∙ ap₂ raised_above honest.raised (h.raised start);
       each = All-cons (EndedSeen m gap conflicts j) e ends (record {
         part = q;
         ended = honest;
-        complete = subst (λ (x : Ending). IsComplete x.kind) (sym all) (complete_kind first);
         sums = ap (λ (x : Ending). x.defs) all ∙ done.sums;
         goes = subst (GoesByModel m gap conflicts) (sym all) done.goes;
         above = subst (λ (b : Bound). BoundLe b q.saw_upper) (sym upper) (lesser-second k.saw_upper q.saw_upper);
@@ -214,7 +204,6 @@ one_gathered m gap conflicts first count k j q s kind guidance e ends h kind_is 
           (All-weaker (EndedSeen m gap conflicts k) (EndedSeen m gap conflicts j) (λ x y. record {
             part = y.part;
             ended = y.ended;
-            complete = y.complete;
             sums = y.sums;
             goes = y.goes;
             above = subst (λ (b : Bound). BoundLe b y.part.saw_upper) (sym upper) (BoundLe-trans (lesser k.saw_upper q.saw_upper) k.saw_upper y.part.saw_upper (lesser-first k.saw_upper q.saw_upper) y.above);
@@ -224,41 +213,16 @@ one_gathered m gap conflicts first count k j q s kind guidance e ends h kind_is 
 
 -- ---- a worker that was seated and then searched is back
 
-pub is_ready : (m : CpModel) (gap conflicts : ℕ) (board : Board) (bounds : Bounds) (number : ℕ) (c : Seated) → words.model_of bounds ≡ m → IsSeated m gap conflicts board bounds number c → IsReady c
+pub is_ready : (m : CpModel) (gap conflicts : ℕ) (board : Board) (bounds : Bounds) (number : ℕ) (c : Seated) → words.model_of bounds ≡ m → IsSeated m gap conflicts board bounds number c → IsReady m c
 is_ready m gap conflicts board bounds number c model h =
-    let is = h.begins.is in
+    let b = has_begun m gap conflicts (known_of c.worker) h.begins in
+    let of_model : (search_of c.worker).problem.model ≡ m = ap (λ (x : Search). x.problem.model) b.is ∙ b.first.model in
     record {
-      running = λ over. subst (λ (x : Search). IsOver x.said) is over;
-      model = ap words.model_of h.bounds_is ∙ model ∙ sym (ap (λ (x : Search). x.problem.model) is ∙ h.begins.first.model);
-      imported = omega (arith, ap (λ (x : Search). x.imported) is);
-    }
-
--- a worker that knew nothing at first has ended, by a guidance that is what the model says
-pub done_from : (m : CpModel) (gap conflicts : ℕ) (kind : WorkerKind) (guidance : Guidance) (rows : ℕ) (s t : Search) (p q : Part) → Begins m gap conflicts s → IsComplete kind → IsGuidedBy kind s.problem (Some guidance) → p.bounds.offered ≡ Infinite → p.bounds.raised ≡ None
-    → HasEnded guidance rows s t p q → IsDone m gap conflicts kind guidance q.bounds t
-done_from m gap conflicts kind guidance rows s t p q begins complete guide offered raised h =
-    let runs = subst (λ (x : Search). RunsTo x t p q h.end) begins.is h.runs in
-    record {
-      end = h.end;
-      over = h.runs.said;
-      honest = subst (λ (x : CpModel). IsHonestEnding x gap conflicts q.bounds (ending kind (Some guidance) h.end t)) begins.first.model
-          (honest_ending begins.problem gap conflicts t p q kind (Some guidance) h.end complete runs h.sound offered raised);
-      sums = ap (λ (x : Problem). x.defs) runs.setting.problem ∙ begins.first.sums;
-      goes = record {
-        problem = begins.problem;
-        instance = begins.first.sound;
-        model = begins.first.model;
-        sums = sym (ap (λ (x : Problem). x.defs) runs.setting.problem);
-        guide = subst (λ (x : Search). IsGuidedBy kind x.problem (Some guidance)) begins.is guide;
-        decisions = record {
-          rows = rows;
-          done = t;
-          before = p;
-          after = q;
-          runs = subst (λ (x : Search). RunsBy guidance rows x t p q h.end) begins.is h.guided;
-          seen = refl;
-        };
-      };
+      of_model = of_model;
+      running = λ over. subst (λ (x : Search). IsOver x.said) b.is over;
+      memory = ap (λ (x : Search). x.refused) b.is;
+      model = ap words.model_of h.bounds_is ∙ model ∙ sym of_model;
+      imported = omega (arith, ap (λ (x : Search). x.imported) b.is);
     }
 
 pub is_back : (m : CpModel) (gap conflicts : ℕ) (board : Board) (bounds : Bounds) (number : ℕ) (a b : Seated) → IsSeated m gap conflicts board bounds number a → Worked a b → IsBack m gap conflicts board bounds number b
@@ -266,12 +230,10 @@ is_back m gap conflicts board bounds number a b h w = record {
   kind = w.kind ∙ h.kind;
   board_is = w.seats.board ∙ h.board_is;
   bounds_is = w.seats.bounds ∙ h.bounds_is;
-  done = λ fine. subst (λ (g : Guidance). IsDone m gap conflicts (worker_kind number) g (words_part b) (search_of b.worker)) (sym w.guidance)
-      (done_from m gap conflicts (worker_kind number) (guidance_of a.worker) (boards.rows_of a.port.board.now) (search_of a.worker) (search_of b.worker) (part_at a) (part_at b) h.begins (complete_kind number)
-      (subst (λ (k : WorkerKind). IsGuidedBy k (search_of a.worker).problem (Some (guidance_of a.worker))) h.kind h.guide) h.offered h.raised (w.ended fine));
+  done = λ fine. done_from m gap conflicts (boards.rows_of a.port.board.now) (known_of a.worker) (known_of b.worker) (part_at a) (part_at b) h.begins h.offered h.raised (w.ended fine);
 }
 
-pub all_ready : (m : CpModel) (gap conflicts : ℕ) (board : Board) (bounds : Bounds) (crew : List Seated) → words.model_of bounds ≡ m → IsCrew m gap conflicts board bounds crew → All IsReady crew
+pub all_ready : (m : CpModel) (gap conflicts : ℕ) (board : Board) (bounds : Bounds) (crew : List Seated) → words.model_of bounds ≡ m → IsCrew m gap conflicts board bounds crew → All (IsReady m) crew
 all_ready m gap conflicts board bounds crew model h i d l = is_ready m gap conflicts board bounds i _ model (h.each i d l)
 
 pub all_back : (m : CpModel) (gap conflicts : ℕ) (board : Board) (bounds : Bounds) (crew after : List Seated) → length after ≡ length crew → IsCrew m gap conflicts board bounds crew
@@ -293,7 +255,6 @@ came_to m gap conflicts workers k upper lower ends h u l floor above below = rec
   each = All-weaker (EndedSeen m gap conflicts k) (EndedWithin m gap conflicts upper lower) (λ e y. record {
     part = y.part;
     ended = y.ended;
-    complete = y.complete;
     sums = y.sums;
     goes = y.goes;
     above = BoundLe-trans upper k.saw_upper y.part.saw_upper above y.above;

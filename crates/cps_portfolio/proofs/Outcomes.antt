@@ -17,13 +17,15 @@ use Rattle.cps_clauses.specs.declared.journal.JournalItem.{JournalItem}
 use Rattle.cps_clauses.specs.declared.journal.JournalItem.TheVariants.{Learnt, Drop}
 use Rattle.cps_search.specs.declared.end.End.{End}
 use Rattle.cps_search.specs.declared.end.End.TheVariants as ends
+use Rattle.cps_search.specs.declared.end.WorkerKind.{WorkerKind}
+use Rattle.cps_search.specs.declared.end.WorkerKind.TheVariants as kinds
 use Rattle.cps_search.specs.Searches.{IsItemAbove}
 use Rattle.cps_search.specs.Ends.{Ending, IsComplete, IsHonestEnding, IsWhy}
 use Rattle.cps_search.specs.Following.{best_bound}
 use Rattle.cps_search.proofs.Bounds.{greater-second}
 use Rattle.cps_options.specs.declared.options.Options.{Options}
 use Rattle.cps_portfolio.specs.declared.outcome.Outcome.{Outcome}
-use Rattle.cps_portfolio.specs.Outcomes.{IsGoodOutcome, GoesByModel, SpentItsBudget, EndedWithin, CameTo, better, best_of, greatest_raised}
+use Rattle.cps_portfolio.specs.Outcomes.{IsGoodOutcome, GoesByModel, DidItsPart, DidItsPartAs, SpentItsBudget, EndedWithin, CameTo, better, best_of, greatest_raised}
 
 -- ---- bounds that meet
 
@@ -64,13 +66,20 @@ raised_in start (e ∷ es) =
     All-cons (RaisedBelow (raised_above e.raised rest)) e es (λ r is. raised_first e.raised rest r is)
     (All-weaker (RaisedBelow rest) (RaisedBelow (raised_above e.raised rest)) (λ x h r is. BoundLe-trans r rest (raised_above e.raised rest) (h r is) (raised_second e.raised rest)) es (raised_in start es))
 
--- ---- a worker that left the bounds apart spent its budget
+-- ---- a worker that left the bounds apart spent its budget, or did its rounds
 
 raise_above : (upper z : Bound) (i : JournalItem) → BoundLe upper z → IsItemAbove z i → IsItemAbove upper i
 raise_above upper z (Learnt clause below) le h = BoundLe-trans upper z below le h
 raise_above upper z (Drop i) le h = tt
 
-spent_apart : (m : CpModel) (gap conflicts : ℕ) (upper lower : Bound) (e : Ending) → EndedWithin m gap conflicts upper lower e → RaisedBelow lower e → is_closed lower upper gap ≡ false → SpentItsBudget m conflicts upper e
+-- what spent its budget and is of a complete kind did its part
+part_of_complete : (kind : WorkerKind) (m : CpModel) (conflicts : ℕ) (upper : Bound) (e : Ending) → IsComplete kind → SpentItsBudget m conflicts upper e → DidItsPartAs kind m conflicts upper e
+part_of_complete kinds.Fixed m conflicts upper e complete h = h
+part_of_complete kinds.Activity m conflicts upper e complete h = h
+part_of_complete kinds.CoreGuided m conflicts upper e complete h = h
+part_of_complete kinds.Near m conflicts upper e complete h = absurd complete
+
+spent_apart : (m : CpModel) (gap conflicts : ℕ) (upper lower : Bound) (e : Ending) → EndedWithin m gap conflicts upper lower e → RaisedBelow lower e → is_closed lower upper gap ≡ false → DidItsPart m conflicts upper e
 spent_apart m gap conflicts upper lower e h raised apart = go e.end refl w.why
   where
     w : IsHonestEnding m gap conflicts h.part e
@@ -79,14 +88,17 @@ spent_apart m gap conflicts upper lower e h raised apart = go e.end refl w.why
     up : BoundLe upper w.z
     up = BoundLe-trans upper h.part.saw_upper w.z h.above w.least
 
-    go : (end : End) → e.end ≡ end → IsWhy w.problem gap conflicts w.z h.part e end → SpentItsBudget m conflicts upper e
+    above : All (IsItemAbove upper) e.journal
+    above = All-weaker (IsItemAbove w.z) (IsItemAbove upper) (λ i k. raise_above upper w.z i up k) e.journal w.above
+
+    go : (end : End) → e.end ≡ end → IsWhy w.problem gap conflicts w.z h.part e end → DidItsPart m conflicts upper e
     go ends.Exhausted is why =
         absurd (let met = meet lower upper gap (BoundLe-trans upper why.0 lower (BoundLe-trans upper w.z why.0 up why.2) (raised why.0 why.1)) in cc)
     go ends.SawClosed is why =
         let low : BoundLe why.lower lower = subst (λ (o : Option Bound). IsNoLower o lower) why.saw_lower h.below in
         let high : BoundLe upper why.upper = subst (λ (b : Bound). BoundLe upper b) why.saw_upper h.above in
         absurd (let met = better_meet why.lower why.upper lower upper gap low high why.closed in cc)
-    go (ends.Spent clause below) is why = record {
+    go (ends.Spent clause below) is why = part_of_complete e.kind m conflicts upper e why.3 (record {
       tally = why.0;
       learnt = sym w.counted ∙ why.0;
       clause = clause;
@@ -97,9 +109,18 @@ spent_apart m gap conflicts upper lower e h raised apart = go e.end refl w.why
       model = w.model;
       sums = w.defs;
       honest = why.2;
-      above = All-push (IsItemAbove upper) e.journal (Learnt clause below) (All-weaker (IsItemAbove w.z) (IsItemAbove upper) (λ i k. raise_above upper w.z i up k) e.journal w.above) (BoundLe-trans upper w.z below up why.1);
-    }
-    go ends.RoundsDone is why = absurd (subst IsComplete why.0 h.complete)
+      above = All-push (IsItemAbove upper) e.journal (Learnt clause below) above (BoundLe-trans upper w.z below up why.1);
+    })
+    go ends.RoundsDone is why = subst (λ (kind : WorkerKind). DidItsPartAs kind m conflicts upper e) (sym why.0) (record {
+      end = is;
+      learnt = (let most = why.1 in omega (arith, most, w.counted));
+      problem = w.problem;
+      instance = w.instance;
+      model = w.model;
+      sums = w.defs;
+      honest = w.journal;
+      above = above;
+    })
 
 -- ---- the outcome
 

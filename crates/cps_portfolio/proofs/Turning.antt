@@ -11,7 +11,6 @@ use Rattle.cps_model.specs.declared.bound.Bound.{Bound}
 use Rattle.cps_model.specs.declared.bound.Bound.TheVariants.{At}
 use Rattle.cps_model.specs.Start.{objective_start}
 use Rattle.cps_instance.specs.Problem.{Problem}
-use Rattle.cps_trail.specs.Trail.{open_values}
 use Rattle.cps_port.specs.declared.entry.Entry.{Entry}
 use Rattle.cps_port.specs.Cores.{Core, part_at, actor_count, first_core}
 use Rattle.cps_port.specs.Parts.{newcomer, no_rows, no_bounds}
@@ -22,61 +21,19 @@ use Rattle.cps_port.specs.Others.{ActsAlone}
 use Rattle.cps_port.specs.Order.{BoundLe, IsNoLower, lesser, raised_above}
 use Rattle.cps_port.specs.Incumbents.{IsLowerBound}
 use Rattle.cps_port.specs.Sound.{IsSoundCore, least_offer, greatest_raise}
-use Rattle.cps_search.specs.declared.end.End.{End}
 use Rattle.cps_search.specs.declared.end.WorkerKind.{WorkerKind}
-use Rattle.cps_branch.specs.declared.guidance.Guidance.{Guidance}
+use Rattle.cps_search.specs.declared.end.Said.{Said}
 use Rattle.cps_search.specs.Searches.{Search}
-use Rattle.cps_search.specs.Moves.{fresh}
-use Rattle.cps_search.specs.Guided.{IsGuidedBy}
-use Rattle.cps_branch.specs.Guidances.{ChoosesBy}
-use Rattle.cps_search.specs.Ends.{Ending, EndsAs, IsComplete, IsHonestEnding, IsOver, Lowers, TakesTurns, none_yet, one_more, end_of, ending}
+use Rattle.cps_search.specs.Ends.{Ending, IsHonestEnding, IsOver}
 use Rattle.cps_search.specs.Following.{best_bound}
-use Rattle.cps_search.proofs.Weighing.{left_of, lowered}
-use Rattle.cps_search.proofs.Working.{HasRun, run_begins, run_goes_on, run_ends}
 use Rattle.cps_portfolio.specs.declared.interleaved.Turning.{Turning}
-use Rattle.cps_portfolio.specs.Workers.{search_of, kind_of, guidance_of, worker_kind, TakesTurnsBy, HasEnded, HasTurned}
+use Rattle.cps_portfolio.specs.Workers.{AnySearch, search_in, ending_in, known_of, search_of, kind_of, worker_kind, HasTurned, TakesTurnsAs}
 use Rattle.cps_portfolio.specs.Outcomes.{CameTo, EndedWithin, GoesByModel, best_of, greatest_raised}
 use Rattle.cps_portfolio.specs.Crews.{IsDone}
 use Rattle.cps_portfolio.specs.Turning.{AtWork, IsTurning, AreTurning, IsFresh, AreFresh, one_at_work, count_at_work, end_said, ended_of, place_at_work, drawn_place, TakesTurnAt, TakesDrawnTurns}
 use Rattle.cps_portfolio.specs.Turning.{one_more as one_drawn}
-use Rattle.cps_portfolio.proofs.Crews.{complete_kind, done_from, lesser_best, over_is}
-
-none_of : (o : Option End) → is_some o ≡ false → o ≡ None
-none_of None e = refl
-none_of (Some x) e = absurd cc
-
-some_of : (o : Option End) → is_some o ≡ true → (end : End) × (o ≡ Some end)
-some_of None e = absurd cc
-some_of (Some x) e = (x, refl)
-
--- ---- what turns one after another came to
-
-module _ (rows : ℕ) where
-  -- what was done by any turns that did not end the worker
-  pub has_run : (s : Search × Guidance) (p : Part) (t : Search × Guidance) (q : Part) → TakesTurns ChoosesBy (λ before clause restart after. after ≡ before) (λ before after. after ≡ before) rows s p t q → HasRun s.0 t.0 p q
-  has_run s p t q none_yet = run_begins s.0 p
-  has_run s p t q (one_more m u n r turn before goes_on last) = run_goes_on (ChoosesBy m.1) s.0 m.0 u.0 rows p n r turn goes_on (has_run s p m n before) last.search
-
-  -- one turn more that did not end the worker
-  pub turned_on : (g : Guidance) (first s t : Search) (start p q : Part) (over : Bool) → TakesTurnsBy g rows first s start p → HasTurned g rows s t p q over → over ≡ false → TakesTurnsBy g rows first t start q
-  turned_on g first s t start p q over before h on = one_more (s, g) (t, g) p q h.turn before (none_of (end_of h.turn) (sym h.last ∙ on)) h.takes
-
-  pub still_runs : (g : Guidance) (s t : Search) (p q : Part) (over : Bool) → HasTurned g rows s t p q over → over ≡ false → IsOver t.said → ⊥
-  still_runs g s t p q over h on = subst (λ (o : Option End). EndsAs o t) (none_of (end_of h.turn) (sym h.last ∙ on)) h.takes.search.ends
-
-  pub lowers_by : (g : Guidance) (s t : Search) (p q : Part) (over : Bool) → HasTurned g rows s t p q over → over ≡ false → Lowers s t rows p.board q.board
-  lowers_by g s t p q over h on = h.takes.search.lowers (none_of (end_of h.turn) (sym h.last ∙ on))
-
-  -- and one that ended it
-  pub turned_last : (g : Guidance) (first s t : Search) (start p q : Part) (over : Bool) → TakesTurnsBy g rows first s start p → HasTurned g rows s t p q over → over ≡ true → HasEnded g rows first t start q
-  turned_last g first s t start p q over before h stopped =
-      let e = some_of (end_of h.turn) (sym h.last ∙ stopped) in
-      record {
-        end = e.0;
-        runs = run_ends (ChoosesBy g) first s t rows start p q h.turn e.0 h.before (has_run (first, g) start (s, g) p before) h.takes.search e.1;
-        guided = record { before = (s, g); part = p; turns = before; turn = h.turn; last = h.takes; ended = e.1 };
-        sound = h.after;
-      }
+use Rattle.cps_portfolio.proofs.Going.{has_begun, has_kept, none_taken, turned_on, still_runs, left_in, lighter_in, done_from}
+use Rattle.cps_portfolio.proofs.Crews.{lesser_best, over_is}
 
 -- ---- one of a list changes
 
@@ -111,48 +68,51 @@ module _ {A : Type 0} where
 -- ---- a worker's turn among others
 
 pub at_work : (m : CpModel) (gap conflicts rows : ℕ) (c : Core) (crew : List Turning) (i : ℕ) (d : Turning) → AreTurning m gap conflicts rows c crew → i < length crew → (get_or crew i d).over ≡ false
-    → AtWork m gap conflicts rows (worker_kind i) (guidance_of (get_or crew i d).worker) (search_of (get_or crew i d).worker) (part_at c i)
+    → AtWork m gap conflicts rows (known_of (get_or crew i d).worker) (part_at c i)
 at_work m gap conflicts rows c crew i d h l still = (h.each i d l).at_work still
 
-pub work_model : (m : CpModel) (gap conflicts rows : ℕ) (kind : WorkerKind) (g : Guidance) (s : Search) (q : Part) → AtWork m gap conflicts rows kind g s q → s.problem.model ≡ m
-work_model m gap conflicts rows kind g s q h =
-    let run = has_run rows (fresh h.problem gap (Some conflicts), g) newcomer (s, g) q h.turns in
-    ap (λ (p : Problem). p.model) run.setting.problem ∙ h.first.model
+pub work_model : (m : CpModel) (gap conflicts rows : ℕ) (s : AnySearch) (q : Part) → AtWork m gap conflicts rows s q → (search_in s).problem.model ≡ m
+work_model m gap conflicts rows s q h =
+    let b = has_begun m gap conflicts h.first h.begins in
+    let kept = has_kept rows h.first s newcomer q h.turns in
+    ap (λ (p : Problem). p.model) kept.setting.problem ∙ ap (λ (x : Search). x.problem.model) b.is ∙ b.first.model
 
-pub work_imported : (m : CpModel) (gap conflicts rows : ℕ) (kind : WorkerKind) (g : Guidance) (s : Search) (q : Part) → AtWork m gap conflicts rows kind g s q → s.imported ≤ length q.board.taken
-work_imported m gap conflicts rows kind g s q h =
-    let run = has_run rows (fresh h.problem gap (Some conflicts), g) newcomer (s, g) q h.turns in
-    run.moves.imports (omega arith)
+pub work_memory : (m : CpModel) (gap conflicts rows : ℕ) (s : AnySearch) (q : Part) → AtWork m gap conflicts rows s q → (search_in s).refused ≡ false
+work_memory m gap conflicts rows s q h =
+    let b = has_begun m gap conflicts h.first h.begins in
+    let kept = has_kept rows h.first s newcomer q h.turns in
+    kept.setting.refused ∙ ap (λ (x : Search). x.refused) b.is
 
-turns_on : (m : CpModel) (gap conflicts rows : ℕ) (c d : Core) (i : ℕ) (w v : Turning) → IsTurning m gap conflicts rows c i w → w.over ≡ false → kind_of v.worker ≡ kind_of w.worker → guidance_of v.worker ≡ guidance_of w.worker
-    → HasTurned (guidance_of w.worker) rows (search_of w.worker) (search_of v.worker) (part_at c i) (part_at d i) v.over → IsTurning m gap conflicts rows d i v
-turns_on m gap conflicts rows c d i w v h still kind same turn =
+pub work_imported : (m : CpModel) (gap conflicts rows : ℕ) (s : AnySearch) (q : Part) → AtWork m gap conflicts rows s q → (search_in s).imported ≤ length q.board.taken
+work_imported m gap conflicts rows s q h =
+    let b = has_begun m gap conflicts h.first h.begins in
+    let kept = has_kept rows h.first s newcomer q h.turns in
+    kept.moves.imports (let none : (search_in h.first).imported ≡ 0 = ap (λ (x : Search). x.imported) b.is in omega (arith, none))
+
+turns_on : (m : CpModel) (gap conflicts rows : ℕ) (c d : Core) (i : ℕ) (w v : Turning) → IsTurning m gap conflicts rows c i w → w.over ≡ false → kind_of v.worker ≡ kind_of w.worker
+    → HasTurned rows (known_of w.worker) (known_of v.worker) (part_at c i) (part_at d i) v.over → IsTurning m gap conflicts rows d i v
+turns_on m gap conflicts rows c d i w v h still kind turn =
     let a = h.at_work still in
-    let g = guidance_of w.worker in
-    let s = fresh a.problem gap (Some conflicts) in
+    let s = known_of w.worker in
+    let t = known_of v.worker in
     record {
       kind = kind ∙ h.kind;
-      at_work = λ on. subst (λ (x : Guidance). AtWork m gap conflicts rows (worker_kind i) x (search_of v.worker) (part_at d i)) (sym same) (record {
-        problem = a.problem;
-        first = a.first;
-        guide = a.guide;
-        turns = turned_on rows g s (search_of w.worker) (search_of v.worker) newcomer (part_at c i) (part_at d i) v.over a.turns turn on;
-        running = still_runs rows g (search_of w.worker) (search_of v.worker) (part_at c i) (part_at d i) v.over turn on;
-      });
-      done = λ stopped. subst (λ (x : Guidance). IsDone m gap conflicts (worker_kind i) x (part_at d i).bounds (search_of v.worker)) (sym same)
-          (done_from m gap conflicts (worker_kind i) g rows s (search_of v.worker) newcomer (part_at d i) (record { problem = a.problem; first = a.first; is = refl }) (complete_kind i) a.guide refl refl
-          (turned_last rows g s (search_of w.worker) (search_of v.worker) newcomer (part_at c i) (part_at d i) v.over a.turns turn stopped));
+      at_work = λ on.
+          let goes_on = subst (HasTurned rows s t (part_at c i) (part_at d i)) on turn in
+          record { first = a.first; begins = a.begins; turns = turned_on rows a.first s t newcomer (part_at c i) (part_at d i) a.turns goes_on; running = still_runs rows s t (part_at c i) (part_at d i) goes_on };
+      done = λ stopped.
+          let last = subst (HasTurned rows s t (part_at c i) (part_at d i)) stopped turn in
+          done_from m gap conflicts rows a.first t newcomer (part_at d i) a.begins refl refl (record { before = s; part = part_at c i; turns = a.turns; last = last });
     }
 
 pub all_turn_on : (m : CpModel) (gap conflicts rows : ℕ) (c d : Core) (crew : List Turning) (k : ℕ) (w v : Turning) → AreTurning m gap conflicts rows c crew → k < length crew → get_or crew k w ≡ w → w.over ≡ false → kind_of v.worker ≡ kind_of w.worker
-    → guidance_of v.worker ≡ guidance_of w.worker → HasTurned (guidance_of w.worker) rows (search_of w.worker) (search_of v.worker) (part_at c k) (part_at d k) v.over → ((i : ℕ) → i ≢ k → part_at d i ≡ part_at c i)
-    → AreTurning m gap conflicts rows d (set crew k v)
-all_turn_on m gap conflicts rows c d crew k w v h l is still kind same turn others =
+    → HasTurned rows (known_of w.worker) (known_of v.worker) (part_at c k) (part_at d k) v.over → ((i : ℕ) → i ≢ k → part_at d i ≡ part_at c i) → AreTurning m gap conflicts rows d (set crew k v)
+all_turn_on m gap conflicts rows c d crew k w v h l is still kind turn others =
     let here = subst (λ (x : Turning). IsTurning m gap conflicts rows c k x) is (h.each k w l) in
-    let every = each_set (IsTurning m gap conflicts rows c) (IsTurning m gap conflicts rows d) crew k v h.each (turns_on m gap conflicts rows c d k w v here still kind same turn) (λ i n y t. record {
+    let every = each_set (IsTurning m gap conflicts rows c) (IsTurning m gap conflicts rows d) crew k v h.each (turns_on m gap conflicts rows c d k w v here still kind turn) (λ i n y t. record {
       kind = t.kind;
-      at_work = λ on. subst (AtWork m gap conflicts rows (worker_kind i) (guidance_of y.worker) (search_of y.worker)) (sym (others i n)) (t.at_work on);
-      done = λ stopped. subst (λ (q : Part). IsDone m gap conflicts (worker_kind i) (guidance_of y.worker) q.bounds (search_of y.worker)) (sym (others i n)) (t.done stopped);
+      at_work = λ on. subst (AtWork m gap conflicts rows (known_of y.worker)) (sym (others i n)) (t.at_work on);
+      done = λ stopped. subst (λ (q : Part). IsDone m gap conflicts q.bounds (known_of y.worker)) (sym (others i n)) (t.done stopped);
     }) in
     record { each = λ i b m. every i b (omega (arith, m, length-set crew k v)) }
 
@@ -160,22 +120,16 @@ all_turn_on m gap conflicts rows c d crew k w v h l is still kind same turn othe
 
 -- what a worker has left to do
 abbrev pub weigh : ℕ → Core → ℕ → Turning → ℕ
-weigh rows c i w = if w.over then 0 else 1 + left_of (open_values (search_of w.worker).problem.domains [] + 1) (search_of w.worker) rows (part_at c i).board
+weigh rows c i w = if w.over then 0 else 1 + left_in (known_of w.worker) rows (part_at c i).board
 
-lighter : (rows : ℕ) (c d : Core) (k : ℕ) (w v : Turning) → w.over ≡ false → HasTurned (guidance_of w.worker) rows (search_of w.worker) (search_of v.worker) (part_at c k) (part_at d k) v.over → weigh rows d k v < weigh rows c k w
+lighter : (rows : ℕ) (c d : Core) (k : ℕ) (w v : Turning) → w.over ≡ false → HasTurned rows (known_of w.worker) (known_of v.worker) (part_at c k) (part_at d k) v.over → weigh rows d k v < weigh rows c k w
 lighter rows c d k w v still turn = go v.over refl
   where
-    s : Search
-    s = search_of w.worker
-
-    t : Search
-    t = search_of v.worker
-
     left : ℕ
-    left = left_of (open_values s.problem.domains [] + 1) s rows (part_at c k).board
+    left = left_in (known_of w.worker) rows (part_at c k).board
 
     right : ℕ
-    right = left_of (open_values t.problem.domains [] + 1) t rows (part_at d k).board
+    right = left_in (known_of v.worker) rows (part_at d k).board
 
     was : weigh rows c k w ≡ 1 + left
     was = ap (λ (b : Bool). if b then zero else 1 + left) still
@@ -183,16 +137,15 @@ lighter rows c d k w v still turn = go v.over refl
     go : (b : Bool) → v.over ≡ b → weigh rows d k v < weigh rows c k w
     go true is = let q : weigh rows d k v ≡ 0 = ap (λ (b : Bool). if b then zero else 1 + right) is in omega (arith, was, q)
     go false is =
-        let less = lowered s t rows (part_at c k).board (part_at d k).board turn.before turn.after turn.takes.search.setting (lowers_by rows (guidance_of w.worker) s t (part_at c k) (part_at d k) v.over turn is) in
-        let same : right ≡ left_of (open_values s.problem.domains [] + 1) t rows (part_at d k).board = ap (λ (p : Problem). left_of (open_values p.domains [] + 1) t rows (part_at d k).board) turn.takes.search.setting.problem in
+        let less : right < left = lighter_in rows (known_of w.worker) (known_of v.worker) (part_at c k) (part_at d k) (subst (HasTurned rows (known_of w.worker) (known_of v.worker) (part_at c k) (part_at d k)) is turn) in
         let q : weigh rows d k v ≡ 1 + right = ap (λ (b : Bool). if b then zero else 1 + right) is in
-        omega (arith, was, less, same, q)
+        omega (arith, was, less, q)
 
-pub all_lighter : (rows : ℕ) (c d : Core) (crew : List Turning) (k : ℕ) (w v : Turning) → k < length crew → get_or crew k w ≡ w → w.over ≡ false → HasTurned (guidance_of w.worker) rows (search_of w.worker) (search_of v.worker) (part_at c k) (part_at d k) v.over
+pub all_lighter : (rows : ℕ) (c d : Core) (crew : List Turning) (k : ℕ) (w v : Turning) → k < length crew → get_or crew k w ≡ w → w.over ≡ false → HasTurned rows (known_of w.worker) (known_of v.worker) (part_at c k) (part_at d k) v.over
     → ((i : ℕ) → i ≢ k → part_at d i ≡ part_at c i) → total_by (weigh rows d) (set crew k v) < total_by (weigh rows c) crew
 all_lighter rows c d crew k w v l is still turn others =
     less_by (weigh rows c) (weigh rows d) crew k v w l (subst (λ (x : Turning). weigh rows d k v < weigh rows c k x) (sym is) (lighter rows c d k w v still turn))
-    (λ i n y. ap (λ (q : Part). if y.over then zero else 1 + left_of (open_values (search_of y.worker).problem.domains [] + 1) (search_of y.worker) rows q.board) (others i n))
+    (λ i n y. ap (λ (q : Part). if y.over then zero else 1 + left_in (known_of y.worker) rows q.board) (others i n))
 
 -- ---- how many are at work
 
@@ -236,10 +189,9 @@ some_at_work (suc n) h = omega arith
 -- one turn more, of the worker that was drawn
 pub drawn_more : (rows : ℕ) (c : Core) (crew : List Turning) (begun : Lcg) (d e : Core) (later : List Turning) (next : Turning) (words after : Lcg) (word count place : ℕ) (any : Turning)
     → TakesDrawnTurns rows c crew begun d later words → (word, after) ≡ pcg32 words → count ≡ count_at_work later → (count ≡ 0 → ⊥) → place ≡ place_at_work later (word % count) → place < length later
-    → kind_of next.worker ≡ kind_of (get_or later place any).worker → guidance_of next.worker ≡ guidance_of (get_or later place any).worker
-    → HasTurned (guidance_of (get_or later place any).worker) rows (search_of (get_or later place any).worker) (search_of next.worker) (part_at d place) (part_at e place) next.over → ActsAlone place place d e
+    → HasTurned rows (known_of (get_or later place any).worker) (known_of next.worker) (part_at d place) (part_at e place) next.over → ActsAlone place place d e
     → TakesDrawnTurns rows c crew begun e (set later place next) after
-drawn_more rows c crew begun d e later next words after word count place any before step counted some is within kind guidance turn alone =
+drawn_more rows c crew begun d e later next words after word count place any before step counted some is within turn alone =
     let word_is : word ≡ (pcg32 words).0 = ap (λ (x : ℕ × Lcg). x.0) step in
     let after_is : after ≡ (pcg32 words).1 = ap (λ (x : ℕ × Lcg). x.1) step in
     let here : place ≡ drawn_place later words = is ∙ ap₂ (λ (x n : ℕ). place_at_work later (x % n)) word_is counted in
@@ -247,9 +199,7 @@ drawn_more rows c crew begun d e later next words after word count place any bef
     let took : TakesTurnAt place rows d e later next = record {
       some_left = subst (λ (n : ℕ). 0 < n) counted (some_at_work count some);
       alone = alone;
-      kind = subst (λ (x : Turning). kind_of next.worker ≡ kind_of x.worker) read kind;
-      guidance = subst (λ (x : Turning). guidance_of next.worker ≡ guidance_of x.worker) read guidance;
-      turned = subst (λ (x : Turning). HasTurned (guidance_of x.worker) rows (search_of x.worker) (search_of next.worker) (part_at d place) (part_at e place) next.over) read turn;
+      turned = subst (λ (x : Turning). HasTurned rows (known_of x.worker) (known_of next.worker) (part_at d place) (part_at e place) next.over) read turn;
     } in
     let more = one_drawn d e later next words before (subst (λ (k : ℕ). TakesTurnAt k rows d e later next) here took) in
     subst (λ (k : ℕ). TakesDrawnTurns rows c crew begun e (set later k next) after) (sym here) (subst (λ (g : Lcg). TakesDrawnTurns rows c crew begun e (set later (drawn_place later words) next) g) (sym after_is) more)
@@ -268,23 +218,20 @@ fresh_part m actors rows i = ap₂ (λ (b : BoardPart) (q : BoundsPart). let p :
 pub first_rows : (m : CpModel) (actors rows : ℕ) → length (first_core m actors rows).board.rows ≡ rows
 first_rows m actors rows = length-replicate {A = Option Entry} rows None
 
-pub all_fresh : (m : CpModel) (gap conflicts board actors rows : ℕ) (c : Core) (crew : List Turning) → c ≡ first_core m actors rows → AreFresh m gap conflicts crew → AreTurning m gap conflicts board c crew
-all_fresh m gap conflicts board actors rows c crew is h = record { each = λ i d l. one i (get_or crew i d) (h.each i d l) }
+pub all_fresh : (m : CpModel) (gap conflicts seed board actors rows : ℕ) (c : Core) (crew : List Turning) → c ≡ first_core m actors rows → AreFresh m gap conflicts seed crew → AreTurning m gap conflicts board c crew
+all_fresh m gap conflicts seed board actors rows c crew is h = record { each = λ i d l. one i (get_or crew i d) (h.each i d l) }
   where
-    one : (i : ℕ) (w : Turning) → IsFresh m gap conflicts i w → IsTurning m gap conflicts board c i w
+    one : (i : ℕ) (w : Turning) → IsFresh m gap conflicts seed i w → IsTurning m gap conflicts board c i w
     one i w k =
-        let b = k.begins in
-        let g = guidance_of w.worker in
-        let s = fresh b.problem gap (Some conflicts) in
+        let s = known_of w.worker in
+        let b = has_begun m gap conflicts s k.begins in
         let part : part_at c i ≡ newcomer = ap (λ (x : Core). part_at x i) is ∙ fresh_part m actors rows i in
-        let kind = subst (λ (x : WorkerKind). IsGuidedBy x (search_of w.worker).problem (Some g)) k.kind k.guide in
         record {
           kind = k.kind;
           at_work = λ still. record {
-            problem = b.problem;
-            first = b.first;
-            guide = subst (λ (x : Search). IsGuidedBy (worker_kind i) x.problem (Some g)) b.is kind;
-            turns = subst (λ (q : Part). TakesTurnsBy g board s (search_of w.worker) newcomer q) (sym part) (subst (λ (x : Search). TakesTurnsBy g board s x newcomer newcomer) (sym b.is) none_yet);
+            first = s;
+            begins = k.begins;
+            turns = subst (TakesTurnsAs board s s newcomer) (sym part) (none_taken board s newcomer);
             running = λ over. subst (λ (x : Search). IsOver x.said) b.is over;
           };
           done = λ stopped. absurd (let q : false ≡ true = sym k.not_over ∙ stopped in cc);
@@ -294,7 +241,7 @@ all_fresh m gap conflicts board actors rows c crew is h = record { each = λ i d
 
 record IsConcluded (m : CpModel) (gap conflicts : ℕ) (upper lower : Bound) (number : ℕ) (q : BoundsPart) (w : Turning) : Type 0 where
   kind : kind_of w.worker ≡ worker_kind number
-  done : IsDone m gap conflicts (worker_kind number) (guidance_of w.worker) q (search_of w.worker)
+  done : IsDone m gap conflicts q (known_of w.worker)
   above : BoundLe upper q.saw_upper
   below : IsNoLower q.saw_lower lower
 
@@ -314,10 +261,8 @@ module _ (m : CpModel) (gap conflicts : ℕ) (upper lower : Bound) where
       let k : IsConcluded m gap conflicts upper lower first p w = subst (λ (j : ℕ). IsConcluded m gap conflicts upper lower j p w) (let q : first + 0 ≡ first = omega arith in q) (h 0 w (omega arith)) in
       let rest = concluded (first + 1) ws ps (omega (arith, len))
       (λ i d l. subst (λ (j : ℕ). IsConcluded m gap conflicts upper lower j (get_or ps i no_bounds) (get_or ws i d)) (let q : first + suc i ≡ first + 1 + i = omega arith in q) (h (suc i) d (omega (arith, l)))) in
-      let s = search_of w.worker in
-      let end : end_said s.said ≡ k.done.end = ap end_said k.done.over in
-      let g = guidance_of w.worker in
-      let is : ended_of w ≡ ending (worker_kind first) (Some g) k.done.end s = ap₂ (λ (x : WorkerKind) (y : End). ending x (Some g) y s) k.kind end in
+      let s = known_of w.worker in
+      let is : ended_of w ≡ ending_in s k.done.end = ap (λ (y : Said). ending_in s (end_said y)) k.done.over in
       let honest : IsHonestEnding m gap conflicts p (ended_of w) = subst (IsHonestEnding m gap conflicts p) (sym is) k.done.honest in
       record {
         kinds = ap₂ (λ (x : WorkerKind) (xs : List WorkerKind). x ∷ xs) k.kind rest.kinds;
@@ -326,7 +271,6 @@ module _ (m : CpModel) (gap conflicts : ℕ) (upper lower : Bound) where
         each = All-cons (EndedWithin m gap conflicts upper lower) (ended_of w) (map ended_of ws) (record {
           part = p;
           ended = honest;
-          complete = subst (λ (x : Ending). IsComplete x.kind) (sym is) (complete_kind first);
           sums = k.done.sums;
           goes = subst (GoesByModel m gap conflicts) (sym is) k.done.goes;
           above = k.above;

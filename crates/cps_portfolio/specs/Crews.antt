@@ -1,5 +1,5 @@
 -- Workers at their ports, before they search and after it, and what their ports knew together.
-use Rattle.std.specs.Prelude.{◌≡◌, ℕ, ◌<◌, ◌≤◌, false, length, List, All, slice_index_or, map, Some, None}
+use Rattle.std.specs.Prelude.{◌≡◌, ℕ, ◌<◌, ◌≤◌, false, length, List, All, slice_index_or, map, None}
 use Rattle.std.specs.List.{range_with_len}
 use Rattle.cps_model.specs.declared.bound.Bound.{Bound}
 use Rattle.cps_model.specs.declared.bound.Bound.TheVariants.{Infinite}
@@ -14,15 +14,11 @@ use Rattle.cps_port.specs.declared.part.Part.{Part}
 use Rattle.cps_port.specs.Order.{BoundLe, IsNoLower, raised_above}
 use Rattle.cps_search.specs.declared.end.End.{End}
 use Rattle.cps_search.specs.declared.end.Said.TheVariants.{Over}
-use Rattle.cps_search.specs.declared.end.WorkerKind.{WorkerKind}
-use Rattle.cps_branch.specs.declared.guidance.Guidance.{Guidance}
-use Rattle.cps_search.specs.Guided.{IsGuidedBy}
-use Rattle.cps_search.specs.Searches.{Search}
-use Rattle.cps_search.specs.Ends.{Ending, IsComplete, IsOver, IsHonestEnding, ending}
+use Rattle.cps_search.specs.Ends.{Ending, IsOver, IsHonestEnding}
 use Rattle.cps_search.specs.Following.{best_bound}
 use Rattle.cps_portfolio.specs.declared.seats.Seated.{Seated}
 use Rattle.cps_portfolio.specs.Ports.{part_of, SeatsStay}
-use Rattle.cps_portfolio.specs.Workers.{search_of, kind_of, guidance_of, worker_kind, Begins, HasEnded}
+use Rattle.cps_portfolio.specs.Workers.{AnySearch, search_in, ending_in, known_of, search_of, kind_of, worker_kind, BeginsAs, HasEnded}
 use Rattle.cps_portfolio.specs.Outcomes.{GoesByModel, best_of, greatest_raised}
 
 abbrev pub part_at : Seated → Part
@@ -34,9 +30,11 @@ words_part c = words.part_of c.port.bounds_seat
 abbrev pub words_splits : Seated → ℕ
 words_splits c = words.splits_of c.port.bounds_seat
 
--- a worker that may begin
-pub record IsReady (c : Seated) : Type 0 where
+-- a worker of a model that may begin
+pub record IsReady (m : CpModel) (c : Seated) : Type 0 where
+  pub of_model : (search_of c.worker).problem.model ≡ m
   pub running : IsOver (search_of c.worker).said → ⊥
+  pub memory : (search_of c.worker).refused ≡ false
   pub model : words.model_of c.port.bounds.now ≡ (search_of c.worker).problem.model
   pub imported : (search_of c.worker).imported ≤ length (boards.part_of c.port.board_seat).taken
 
@@ -44,14 +42,12 @@ pub record IsReady (c : Seated) : Type 0 where
 pub record Worked (a b : Seated) : Type 0 where
   pub seats : SeatsStay a.port.board.now b.port.board.now a.port.bounds.now b.port.bounds.now a.port.board_seat b.port.board_seat a.port.bounds_seat b.port.bounds_seat
   pub kind : kind_of b.worker ≡ kind_of a.worker
-  pub guidance : guidance_of b.worker ≡ guidance_of a.worker
-  pub ended : b.refused ≡ false → HasEnded (guidance_of a.worker) (boards.rows_of a.port.board.now) (search_of a.worker) (search_of b.worker) (part_at a) (part_at b)
+  pub ended : b.refused ≡ false → HasEnded (boards.rows_of a.port.board.now) (known_of a.worker) (known_of b.worker) (part_at a) (part_at b)
 
 -- the worker of this number, which knows nothing yet, with seats of the two tables that have offered and raised nothing
 pub record IsSeated (m : CpModel) (gap conflicts : ℕ) (board : Board) (bounds : Bounds) (number : ℕ) (c : Seated) : Type 0 where
-  pub begins : Begins m gap conflicts (search_of c.worker)
+  pub begins : BeginsAs m gap conflicts (known_of c.worker)
   pub kind : kind_of c.worker ≡ worker_kind number
-  pub guide : IsGuidedBy (kind_of c.worker) (search_of c.worker).problem (Some (guidance_of c.worker))
   pub board_is : c.port.board.now ≡ board
   pub bounds_is : c.port.bounds.now ≡ bounds
   pub offered : (words_part c).offered ≡ Infinite
@@ -61,29 +57,28 @@ pub record IsSeated (m : CpModel) (gap conflicts : ℕ) (board : Board) (bounds 
 pub record IsCrew (m : CpModel) (gap conflicts : ℕ) (board : Board) (bounds : Bounds) (crew : List Seated) : Type 0 where
   pub each : (i : ℕ) (d : Seated) → i < length crew → IsSeated m gap conflicts board bounds i (slice_index_or crew i d)
 
--- a worker that ended honestly, by its guidance
-pub record IsDone (m : CpModel) (gap conflicts : ℕ) (kind : WorkerKind) (guidance : Guidance) (q : BoundsPart) (s : Search) : Type 0 where
+-- a worker that ended honestly, by its guidance or its rounds
+pub record IsDone (m : CpModel) (gap conflicts : ℕ) (q : BoundsPart) (s : AnySearch) : Type 0 where
   pub end : End
-  pub over : s.said ≡ Over end
-  pub honest : IsHonestEnding m gap conflicts q (ending kind (Some guidance) end s)
-  pub sums : s.problem.defs ≡ model_sums m
-  pub goes : GoesByModel m gap conflicts (ending kind (Some guidance) end s)
+  pub over : (search_in s).said ≡ Over end
+  pub honest : IsHonestEnding m gap conflicts q (ending_in s end)
+  pub sums : (search_in s).problem.defs ≡ model_sums m
+  pub goes : GoesByModel m gap conflicts (ending_in s end)
 
 -- the worker of this number has ended honestly, or could not have memory
 pub record IsBack (m : CpModel) (gap conflicts : ℕ) (board : Board) (bounds : Bounds) (number : ℕ) (c : Seated) : Type 0 where
   pub kind : kind_of c.worker ≡ worker_kind number
   pub board_is : c.port.board.now ≡ board
   pub bounds_is : c.port.bounds.now ≡ bounds
-  pub done : c.refused ≡ false → IsDone m gap conflicts (worker_kind number) (guidance_of c.worker) (words_part c) (search_of c.worker)
+  pub done : c.refused ≡ false → IsDone m gap conflicts (words_part c) (known_of c.worker)
 
 pub record AreBack (m : CpModel) (gap conflicts : ℕ) (board : Board) (bounds : Bounds) (crew : List Seated) : Type 0 where
   pub each : (i : ℕ) (d : Seated) → i < length crew → IsBack m gap conflicts board bounds i (slice_index_or crew i d)
 
--- a worker of a complete kind ended honestly, and saw nothing better than what a seat knows
+-- a worker ended honestly, and saw nothing better than what a seat knows
 pub record EndedSeen (m : CpModel) (gap conflicts : ℕ) (k : BoundsPart) (e : Ending) : Type 0 where
   pub part : BoundsPart
   pub ended : IsHonestEnding m gap conflicts part e
-  pub complete : IsComplete e.kind
   pub sums : e.defs ≡ model_sums m
   pub goes : GoesByModel m gap conflicts e
   pub above : BoundLe k.saw_upper part.saw_upper

@@ -1,6 +1,7 @@
 -- What the outcome of a search says of its model.
-use Rattle.std.specs.Prelude.{◌≡◌, ℕ, false, if◌then◌else◌, ℤ, int_lt, Option, Some, None, IfSome, List, [], ◌∷◌, ◌++◌, map, All}
+use Rattle.std.specs.Prelude.{◌≡◌, ◌≤◌, ℕ, false, if◌then◌else◌, ℤ, int_lt, Option, Some, None, IfSome, List, [], ◌∷◌, ◌++◌, map, All}
 use Rattle.std.specs.List.{range_with_len}
+use Rattle.rand_pcg.specs.Lcg.{Lcg}
 use Rattle.cps_model.specs.declared.model.CpModel.{CpModel}
 use Rattle.cps_model.specs.declared.bound.Bound.{Bound}
 use Rattle.cps_model.specs.declared.bound.Bound.TheVariants.{At}
@@ -11,15 +12,18 @@ use Rattle.cps_literal.specs.declared.atom.Atom.{Atom}
 use Rattle.cps_instance.specs.Problem.{Problem, IsInstance}
 use Rattle.cps_instance.specs.Strategies.{model_sums}
 use Rattle.cps_port.specs.declared.part.BoundsPart.{BoundsPart}
+use Rattle.cps_port.specs.declared.part.Part.{Part}
 use Rattle.cps_port.specs.Order.{BoundLe, IsNoLower, raised_above}
 use Rattle.cps_port.specs.Incumbents.{IsLowerBound}
 use Rattle.cps_clauses.specs.declared.journal.JournalItem.TheVariants.{Learnt}
 use Rattle.cps_search.specs.declared.end.WorkerKind.{WorkerKind}
-use Rattle.cps_search.specs.declared.end.End.TheVariants.{Spent}
+use Rattle.cps_search.specs.declared.end.WorkerKind.TheVariants as kinds
+use Rattle.cps_search.specs.declared.end.End.TheVariants.{Spent, RoundsDone}
 use Rattle.cps_search.specs.Searches.{IsHonestJournal, IsItemAbove, learnt_count}
-use Rattle.cps_search.specs.Ends.{Ending, IsComplete, IsHonestEnding}
+use Rattle.cps_search.specs.Ends.{Ending, IsHonestEnding, ending, round_count}
 use Rattle.cps_search.specs.Following.{best_bound}
 use Rattle.cps_search.specs.Guided.{IsEndOfRun, IsGuidedBy}
+use Rattle.cps_neighbourhood.specs.Nears.{Near, BeginsNear, NearRunsInTurns}
 use Rattle.cps_options.specs.declared.options.Options.{Options}
 use Rattle.cps_portfolio.specs.declared.outcome.Outcome.{Outcome}
 use Rattle.cps_portfolio.specs.Workers.{worker_kind}
@@ -60,8 +64,44 @@ pub record SpentItsBudget (m : CpModel) (conflicts : ℕ) (upper : Bound) (e : E
   pub honest : IsHonestJournal problem (e.journal ++ Learnt clause below ∷ [])
   pub above : All (IsItemAbove upper) (e.journal ++ Learnt clause below ∷ [])
 
--- The decisions of a worker that ended went by what the model says, over an instance with the worker's sums: what is seen of the worker is
--- what a run comes to that begins with nothing known, and each decision of which goes by this guidance.
+-- A neighbourhood worker did its rounds, and ended for no other reason. It learnt from one conflict at least in each; its journal is honest, and
+-- no clause of it is about what is better than the least objective that was found.
+pub record DidItsRounds (m : CpModel) (conflicts : ℕ) (upper : Bound) (e : Ending) : Type 0 where
+  pub end : e.end ≡ RoundsDone
+  pub learnt : round_count conflicts ≤ learnt_count e.journal
+  -- an instance of the model with the worker's sums, over whose subjects the clauses are
+  pub problem : Problem
+  pub instance : IsInstance problem
+  pub model : problem.model ≡ m
+  pub sums : problem.defs ≡ e.defs
+  pub honest : IsHonestJournal problem e.journal
+  pub above : All (IsItemAbove upper) e.journal
+
+-- what a worker of each kind has done where the bounds have not met: a complete one spent its budget
+abbrev pub DidItsPartAs : WorkerKind → CpModel → ℕ → Bound → Ending → Type 0
+DidItsPartAs kinds.Fixed m conflicts upper e = SpentItsBudget m conflicts upper e
+DidItsPartAs kinds.Activity m conflicts upper e = SpentItsBudget m conflicts upper e
+DidItsPartAs kinds.CoreGuided m conflicts upper e = SpentItsBudget m conflicts upper e
+DidItsPartAs kinds.Near m conflicts upper e = DidItsRounds m conflicts upper e
+
+abbrev pub DidItsPart : CpModel → ℕ → Bound → Ending → Type 0
+DidItsPart m conflicts upper e = DidItsPartAs e.kind m conflicts upper e
+
+-- What is seen of a neighbourhood worker that ended is what turns in rounds come to, which began with nothing known.
+pub record IsEndOfRounds (p : Problem) (gap conflicts : ℕ) (e : Ending) : Type 0 where
+  pub rows : ℕ
+  pub draws : Lcg
+  pub first : Near
+  pub begins : BeginsNear p gap conflicts draws first
+  pub done : Near
+  pub before : Part
+  pub after : Part
+  pub runs : NearRunsInTurns rows first done before after e.end
+  pub seen : e ≡ ending kinds.Near None e.end done.search
+
+-- The decisions of a worker that ended went by what the model says, over an instance with the worker's sums: what is seen of a worker of a
+-- complete kind is what a run comes to that begins with nothing known, and each decision of which goes by its guidance; and what is seen of a
+-- neighbourhood worker is what its rounds come to.
 pub record GoesByModel (m : CpModel) (gap conflicts : ℕ) (e : Ending) : Type 0 where
   pub problem : Problem
   pub instance : IsInstance problem
@@ -69,12 +109,14 @@ pub record GoesByModel (m : CpModel) (gap conflicts : ℕ) (e : Ending) : Type 0
   pub sums : problem.defs ≡ e.defs
   pub guide : IsGuidedBy e.kind problem e.guidance
   pub decisions : IfSome e.guidance (λ guidance. IsEndOfRun problem gap conflicts guidance e)
+  pub rounds : e.kind ≡ kinds.Near → IsEndOfRounds problem gap conflicts e
 
 pub record IsGoodOutcome (m : CpModel) (options : Options) (o : Outcome) : Type 0 where
   -- each worker ended, and is of the kind that its number says, with the sums that the model's strategies write and no others
   pub workers : map (λ e. e.kind) o.ends ≡ kinds_of options.workers
   pub sums : All (λ e. e.defs ≡ model_sums m) o.ends
-  -- a fixed worker decides by the model's strategies and then takes the variables, an activity worker by the model's hint
+  -- a fixed worker decides by the model's strategies and then takes the variables, an activity worker by the model's hint, and a neighbourhood
+  -- worker in rounds
   pub branchers : All (GoesByModel m options.gap options.conflicts) o.ends
   -- the status is that of the two bounds
   pub status : o.status ≡ status_of o.upper o.lower options.gap
@@ -85,14 +127,13 @@ pub record IsGoodOutcome (m : CpModel) (options : Options) (o : Outcome) : Type 
   -- the lower bound is the greatest of the least objective by the domains and of what the workers raised it to, and no solution is below
   pub lower : o.lower ≡ greatest_raised (At (objective_start m)) o.ends
   pub floor : (a : List ℤ) → IsSolution m a → IsAtMost o.lower (objective_value m a)
-  -- where the bounds have not met, each worker spent its budget
-  pub spent : is_closed o.lower o.upper options.gap ≡ false → All (SpentItsBudget m options.conflicts o.upper) o.ends
+  -- where the bounds have not met, each worker of a complete kind spent its budget, and each neighbourhood worker did its rounds
+  pub spent : is_closed o.lower o.upper options.gap ≡ false → All (DidItsPart m options.conflicts o.upper) o.ends
 
--- A worker of a complete kind ended honestly, and saw nothing better than these two bounds.
+-- A worker ended honestly, and saw nothing better than these two bounds.
 pub record EndedWithin (m : CpModel) (gap conflicts : ℕ) (upper lower : Bound) (e : Ending) : Type 0 where
   pub part : BoundsPart
   pub ended : IsHonestEnding m gap conflicts part e
-  pub complete : IsComplete e.kind
   pub sums : e.defs ≡ model_sums m
   pub goes : GoesByModel m gap conflicts e
   pub above : BoundLe upper part.saw_upper

@@ -1,9 +1,8 @@
 -- Workers that take turns over one state, and which of them takes the next turn.
-use Rattle.std.specs.Prelude.{◌≡◌, ℕ, zero, suc, ◌+◌, ◌<◌, ◌%◌, true, false, if◌then◌else◌, List, [], ◌∷◌, map, length, Some, slice_index_or, slice_set}
+use Rattle.std.specs.Prelude.{◌≡◌, ℕ, zero, suc, ◌+◌, ◌<◌, ◌%◌, true, false, if◌then◌else◌, List, [], ◌∷◌, map, length, slice_index_or, slice_set}
 use Rattle.rand_pcg.specs.Lcg.{Lcg, started, increment_of}
 use Rattle.rand_pcg.specs.Pcg.{multiplier_64, pcg32}
 use Rattle.cps_model.specs.declared.model.CpModel.{CpModel}
-use Rattle.cps_instance.specs.Problem.{Problem}
 use Rattle.cps_options.specs.declared.options.Options.{Options}
 use Rattle.cps_port.specs.declared.part.Part.{Part}
 use Rattle.cps_port.specs.Parts.{newcomer}
@@ -14,31 +13,25 @@ use Rattle.cps_search.specs.declared.end.End.{End}
 use Rattle.cps_search.specs.declared.end.End.TheVariants as ends
 use Rattle.cps_search.specs.declared.end.Said.{Said}
 use Rattle.cps_search.specs.declared.end.Said.TheVariants.{Nothing, Due, Over}
-use Rattle.cps_search.specs.declared.end.WorkerKind.{WorkerKind}
-use Rattle.cps_branch.specs.declared.guidance.Guidance.{Guidance}
-use Rattle.cps_search.specs.Guided.{IsGuidedBy}
-use Rattle.cps_search.specs.Searches.{Search}
-use Rattle.cps_search.specs.Moves.{fresh}
-use Rattle.cps_search.specs.Ends.{Ending, IsOver, ending}
+use Rattle.cps_search.specs.Ends.{Ending, IsOver}
 use Rattle.cps_portfolio.specs.declared.interleaved.Turning.{Turning}
-use Rattle.cps_portfolio.specs.Workers.{search_of, kind_of, guidance_of, worker_kind, IsFirstInstance, Begins, TakesTurnsBy, HasTurned}
+use Rattle.cps_portfolio.specs.Workers.{AnySearch, search_in, ending_in, known_of, search_of, kind_of, worker_kind, BeginsAs, DrawsBy, TakesTurnsAs, HasTurned}
 use Rattle.cps_portfolio.specs.Crews.{IsDone}
 
 -- ---- workers that have turns left
 
--- a worker that may take a turn: it took its turns so far on a board of so many rows, by its guidance
-pub record AtWork (m : CpModel) (gap conflicts rows : ℕ) (kind : WorkerKind) (guidance : Guidance) (s : Search) (q : Part) : Type 0 where
-  pub problem : Problem
-  pub first : IsFirstInstance m problem
-  pub guide : IsGuidedBy kind problem (Some guidance)
-  pub turns : TakesTurnsBy guidance rows (fresh problem gap (Some conflicts)) s newcomer q
-  pub running : IsOver s.said → ⊥
+-- a worker that may take a turn: it took its turns so far on a board of so many rows
+pub record AtWork (m : CpModel) (gap conflicts rows : ℕ) (s : AnySearch) (q : Part) : Type 0 where
+  pub first : AnySearch
+  pub begins : BeginsAs m gap conflicts first
+  pub turns : TakesTurnsAs rows first s newcomer q
+  pub running : IsOver (search_in s).said → ⊥
 
 -- the worker of this number is at work, or has ended honestly
 pub record IsTurning (m : CpModel) (gap conflicts rows : ℕ) (c : Core) (number : ℕ) (w : Turning) : Type 0 where
   pub kind : kind_of w.worker ≡ worker_kind number
-  pub at_work : w.over ≡ false → AtWork m gap conflicts rows (worker_kind number) (guidance_of w.worker) (search_of w.worker) (part_at c number)
-  pub done : w.over ≡ true → IsDone m gap conflicts (worker_kind number) (guidance_of w.worker) (part_at c number).bounds (search_of w.worker)
+  pub at_work : w.over ≡ false → AtWork m gap conflicts rows (known_of w.worker) (part_at c number)
+  pub done : w.over ≡ true → IsDone m gap conflicts (part_at c number).bounds (known_of w.worker)
 
 pub record AreTurning (m : CpModel) (gap conflicts rows : ℕ) (c : Core) (crew : List Turning) : Type 0 where
   pub each : (i : ℕ) (d : Turning) → i < length crew → IsTurning m gap conflicts rows c i (slice_index_or crew i d)
@@ -50,15 +43,15 @@ one_at_work w = if w.over then 0 else 1
 abbrev pub count_at_work : List Turning → ℕ
 count_at_work crew = total one_at_work crew
 
--- the worker of this number, which knows nothing yet
-pub record IsFresh (m : CpModel) (gap conflicts number : ℕ) (w : Turning) : Type 0 where
-  pub begins : Begins m gap conflicts (search_of w.worker)
+-- the worker of this number, which knows nothing yet; where it draws, it does so by the seed and its number
+pub record IsFresh (m : CpModel) (gap conflicts seed number : ℕ) (w : Turning) : Type 0 where
+  pub begins : BeginsAs m gap conflicts (known_of w.worker)
   pub kind : kind_of w.worker ≡ worker_kind number
-  pub guide : IsGuidedBy (kind_of w.worker) (search_of w.worker).problem (Some (guidance_of w.worker))
+  pub draws : DrawsBy seed number (known_of w.worker)
   pub not_over : w.over ≡ false
 
-pub record AreFresh (m : CpModel) (gap conflicts : ℕ) (crew : List Turning) : Type 0 where
-  pub each : (i : ℕ) (d : Turning) → i < length crew → IsFresh m gap conflicts i (slice_index_or crew i d)
+pub record AreFresh (m : CpModel) (gap conflicts seed : ℕ) (crew : List Turning) : Type 0 where
+  pub each : (i : ℕ) (d : Turning) → i < length crew → IsFresh m gap conflicts seed i (slice_index_or crew i d)
 
 -- ---- what is seen of workers that have ended
 
@@ -68,7 +61,7 @@ end_said Due = ends.RoundsDone
 end_said (Over end) = end
 
 abbrev pub ended_of : Turning → Ending
-ended_of w = ending (kind_of w.worker) (Some (guidance_of w.worker)) (end_said (search_of w.worker).said) (search_of w.worker)
+ended_of w = ending_in (known_of w.worker) (end_said (search_of w.worker).said)
 
 -- ---- the drawn schedule
 
@@ -90,9 +83,7 @@ words_of_seed seed = started 64 multiplier_64 seed (increment_of 64 0)
 pub record TakesTurnAt (place rows : ℕ) (c d : Core) (crew : List Turning) (next : Turning) : Type 0 where
   pub some_left : 0 < count_at_work crew
   pub alone : ActsAlone place place c d
-  pub kind : kind_of next.worker ≡ kind_of (slice_index_or crew place next).worker
-  pub guidance : guidance_of next.worker ≡ guidance_of (slice_index_or crew place next).worker
-  pub turned : HasTurned (guidance_of (slice_index_or crew place next).worker) rows (search_of (slice_index_or crew place next).worker) (search_of next.worker) (part_at c place) (part_at d place) next.over
+  pub turned : HasTurned rows (known_of (slice_index_or crew place next).worker) (known_of next.worker) (part_at c place) (part_at d place) next.over
 
 -- turns one after another, each of the worker that was drawn
 pub data TakesDrawnTurns (rows : ℕ) (c : Core) (crew : List Turning) (words : Lcg) : Core → List Turning → Lcg → Type 0 where
@@ -104,7 +95,7 @@ pub data TakesDrawnTurns (rows : ℕ) (c : Core) (crew : List Turning) (words : 
 pub record IsDrawnRun (m : CpModel) (options : Options) (rows : ℕ) (es : List Ending) : Type 0 where
   pub crew : List Turning
   pub count : length crew ≡ options.workers
-  pub begins : AreFresh m options.gap options.conflicts crew
+  pub begins : AreFresh m options.gap options.conflicts options.seed crew
   pub core : Core
   pub last : List Turning
   pub words : Lcg

@@ -1,6 +1,8 @@
--- Workers of several kinds, seen as searches that go by a guidance.
-use Rattle.std.specs.Prelude.{◌≡◌, ℕ, ◌==◌, if◌then◌else◌, Bool, Some, is_some}
+-- Workers of several kinds, seen as searches: one that goes by a guidance, or one that searches near solutions in rounds.
+use Rattle.std.specs.Prelude.{◌≡◌, ◌⊎◌, ⊤, ℕ, ◌+◌, ◌%◌, ◌==◌, if◌then◌else◌, ℤ, Bool, true, Option, Some, None, List, is_some}
+use Rattle.rand_pcg.specs.Lcg.{Lcg}
 use Rattle.cps_model.specs.declared.model.CpModel.{CpModel}
+use Rattle.cps_model.specs.Solutions.{IsSolution}
 use Rattle.cps_instance.specs.Problem.{Problem, IsInstance}
 use Rattle.cps_instance.specs.Strategies.{model_sums}
 use Rattle.cps_port.specs.declared.part.Part.{Part}
@@ -12,28 +14,52 @@ use Rattle.cps_branch.specs.declared.guidance.Guidance.TheVariants.{Steered, Hin
 use Rattle.cps_search.specs.declared.turn.Turn.{Turn}
 use Rattle.cps_search.specs.Searches.{Search, IsSoundSearch}
 use Rattle.cps_search.specs.Moves.{fresh}
-use Rattle.cps_search.specs.Guided.{RunsBy}
+use Rattle.cps_search.specs.Guided.{IsGuidedBy}
 use Rattle.cps_branch.specs.Guidances.{ChoosesBy}
-use Rattle.cps_search.specs.Ends.{OneTurn, RunsTo, TakesTurns, end_of}
+use Rattle.cps_search.specs.Ends.{Ending, IsComplete, OneTurn, TakesTurns, end_of, ending}
+use Rattle.cps_neighbourhood.specs.Drawing.{draws_of}
+use Rattle.cps_neighbourhood.specs.Nears.{Near, BeginsNear, TakesNearTurn, TakesNearTurns}
 use Rattle.cps_portfolio.specs.declared.worker.AnyWorker.{AnyWorker}
-use Rattle.cps_portfolio.specs.declared.worker.AnyWorker.TheVariants.{Fixed, Activity}
+use Rattle.cps_portfolio.specs.declared.worker.AnyWorker.TheVariants.{Fixed, Activity, Near as NearSolutions}
+
+-- what is known of a worker: a search of a complete kind that goes by a guidance, or one that goes in rounds
+pub data AnySearch : Type 0 where
+  by_guidance : WorkerKind → Guidance → Search → AnySearch
+  in_rounds : Near → AnySearch
+
+abbrev pub search_in : AnySearch → Search
+search_in (by_guidance kind guidance s) = s
+search_in (in_rounds n) = n.search
+
+abbrev pub kind_in : AnySearch → WorkerKind
+kind_in (by_guidance kind guidance s) = kind
+kind_in (in_rounds n) = kinds.Near
+
+abbrev pub guidance_in : AnySearch → Option Guidance
+guidance_in (by_guidance kind guidance s) = Some guidance
+guidance_in (in_rounds n) = None
+
+-- what is seen of it when it has ended so
+abbrev pub ending_in : AnySearch → End → Ending
+ending_in s end = ending (kind_in s) (guidance_in s) end (search_in s)
+
+-- a worker of each kind; the brancher's plan or hints are what a complete one goes by
+abbrev pub known_of : AnyWorker → AnySearch
+known_of (Fixed w) = by_guidance kinds.Fixed (Steered w.1.plan) w.0
+known_of (Activity w) = by_guidance kinds.Activity (Hinted w.1.hints) w.0
+known_of (NearSolutions w) = in_rounds w.worker
 
 abbrev pub search_of : AnyWorker → Search
-search_of (Fixed w) = w.0
-search_of (Activity w) = w.0
+search_of w = search_in (known_of w)
 
 abbrev pub kind_of : AnyWorker → WorkerKind
-kind_of (Fixed w) = kinds.Fixed
-kind_of (Activity w) = kinds.Activity
+kind_of w = kind_in (known_of w)
 
--- what a worker's brancher goes by
-abbrev pub guidance_of : AnyWorker → Guidance
-guidance_of (Fixed w) = Steered w.1.plan
-guidance_of (Activity w) = Hinted w.1.hints
-
--- the kind of a worker by its number
+-- The kind of a worker by its number: after the first, every third one searches near solutions.
 abbrev pub worker_kind : ℕ → WorkerKind
-worker_kind number = if number == 0 then kinds.Fixed else kinds.Activity
+worker_kind number = if number == 0 then kinds.Fixed else (if number % 3 == 0 then kinds.Near else kinds.Activity)
+
+-- ---- workers that begin
 
 -- an instance of the model, with the sums of its strategies alone
 pub record IsFirstInstance (m : CpModel) (p : Problem) : Type 0 where
@@ -47,6 +73,30 @@ pub record Begins (m : CpModel) (gap conflicts : ℕ) (s : Search) : Type 0 wher
   pub first : IsFirstInstance m problem
   pub is : s ≡ fresh problem gap (Some conflicts)
 
+-- one of a complete kind, whose guidance is what the model says
+pub record BeginsGuided (m : CpModel) (gap conflicts : ℕ) (kind : WorkerKind) (guidance : Guidance) (s : Search) : Type 0 where
+  pub begins : Begins m gap conflicts s
+  pub complete : IsComplete kind
+  pub guide : IsGuidedBy kind s.problem (Some guidance)
+
+-- one that goes in rounds, for so many conflicts
+pub record BeginsRounds (m : CpModel) (gap conflicts : ℕ) (n : Near) : Type 0 where
+  pub problem : Problem
+  pub first : IsFirstInstance m problem
+  pub draws : Lcg
+  pub is : BeginsNear problem gap conflicts draws n
+
+abbrev pub BeginsAs : CpModel → ℕ → ℕ → AnySearch → Type 0
+BeginsAs m gap conflicts (by_guidance kind guidance s) = BeginsGuided m gap conflicts kind guidance s
+BeginsAs m gap conflicts (in_rounds n) = BeginsRounds m gap conflicts n
+
+-- one that goes in rounds draws by a generator of its own
+abbrev pub DrawsBy : ℕ → ℕ → AnySearch → Type 0
+DrawsBy seed number (by_guidance kind guidance s) = ⊤
+DrawsBy seed number (in_rounds n) = n.draws ≡ draws_of seed (16 + number)
+
+-- ---- turns
+
 -- one turn, in which the decision goes by a guidance
 abbrev pub TurnsBy : Guidance → ℕ → Search → Search → Part → Part → Turn → Type 0
 TurnsBy guidance rows s t p q turn = OneTurn ChoosesBy (λ before clause restart after. after ≡ before) (λ before after. after ≡ before) rows (s, guidance) (t, guidance) p q turn
@@ -55,17 +105,46 @@ TurnsBy guidance rows s t p q turn = OneTurn ChoosesBy (λ before clause restart
 abbrev pub TakesTurnsBy : Guidance → ℕ → Search → Search → Part → Part → Type 0
 TakesTurnsBy guidance rows s t p q = TakesTurns ChoosesBy (λ before clause restart after. after ≡ before) (λ before after. after ≡ before) rows (s, guidance) p (t, guidance) q
 
--- a worker took its turns up to its end
-pub record HasEnded (guidance : Guidance) (rows : ℕ) (s t : Search) (p q : Part) : Type 0 where
-  pub end : End
-  pub runs : RunsTo s t p q end
-  pub guided : RunsBy guidance rows s t p q end
-  pub sound : IsSoundSearch t
+-- it is aimed at a solution of its model, or aims where it did
+abbrev pub IsAimed : Near → Near → Type 0
+IsAimed n aimed = (aimed ≡ n) ⊎ ((solution : List ℤ) × IsSolution n.search.problem.model solution × (aimed ≡ record n { aim = Some solution }))
 
--- a worker took one turn, which was its last or not
-pub record HasTurned (guidance : Guidance) (rows : ℕ) (s t : Search) (p q : Part) (over : Bool) : Type 0 where
+-- one turn of a worker that goes by a guidance, which was its last or not
+pub record TurnedBy (guidance : Guidance) (rows : ℕ) (s t : Search) (p q : Part) (over : Bool) : Type 0 where
   pub before : IsSoundSearch s
   pub after : IsSoundSearch t
   pub turn : Turn
   pub takes : TurnsBy guidance rows s t p q turn
   pub last : over ≡ is_some (end_of turn)
+
+-- one turn of a worker that goes in rounds, which was handed a solution before it or was not
+pub record TurnedNear (rows : ℕ) (m n : Near) (p q : Part) (over : Bool) : Type 0 where
+  pub before : IsSoundSearch m.search
+  pub after : IsSoundSearch n.search
+  pub aimed : Near
+  pub aims : IsAimed m aimed
+  pub turn : Turn
+  pub takes : TakesNearTurn aimed n rows p q turn
+  pub no_budget : m.search.budget ≡ None
+  pub last : over ≡ is_some (end_of turn)
+
+-- a worker took one turn, which was its last or not
+abbrev pub HasTurned : ℕ → AnySearch → AnySearch → Part → Part → Bool → Type 0
+HasTurned rows (by_guidance kind guidance s) (by_guidance same_kind same t) p q over = (same_kind ≡ kind) × (same ≡ guidance) × TurnedBy guidance rows s t p q over
+HasTurned rows (by_guidance kind guidance s) (in_rounds n) p q over = ⊥
+HasTurned rows (in_rounds m) (by_guidance kind guidance t) p q over = ⊥
+HasTurned rows (in_rounds m) (in_rounds n) p q over = TurnedNear rows m n p q over
+
+-- turns one after another, none of which ended the worker
+abbrev pub TakesTurnsAs : ℕ → AnySearch → AnySearch → Part → Part → Type 0
+TakesTurnsAs rows (by_guidance kind guidance s) (by_guidance same_kind same t) p q = (same_kind ≡ kind) × (same ≡ guidance) × TakesTurnsBy guidance rows s t p q
+TakesTurnsAs rows (by_guidance kind guidance s) (in_rounds n) p q = ⊥
+TakesTurnsAs rows (in_rounds m) (by_guidance kind guidance t) p q = ⊥
+TakesTurnsAs rows (in_rounds m) (in_rounds n) p q = TakesNearTurns rows m p n q
+
+-- such turns, and one more that ended it
+pub record HasEnded (rows : ℕ) (s t : AnySearch) (p q : Part) : Type 0 where
+  pub before : AnySearch
+  pub part : Part
+  pub turns : TakesTurnsAs rows s before p part
+  pub last : HasTurned rows before t part q true

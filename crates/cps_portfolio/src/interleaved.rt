@@ -8,7 +8,7 @@ ghost use Rattle.cps_port.specs.Sound.{IsSoundCore};
 ghost use Rattle.cps_kinds.specs.Kinds.{AreAllPropagated};
 ghost use Rattle.cps_search.specs.Searches.{HasNoAssumptions};
 ghost use Rattle.cps_search.specs.Ends.{IsOver};
-ghost use Rattle.cps_portfolio.specs.Workers.{search_of, kind_of, guidance_of, HasTurned};
+ghost use Rattle.cps_portfolio.specs.Workers.{known_of, search_of, kind_of, HasTurned};
 ghost use Rattle.cps_portfolio.specs.Outcomes.{IsGoodOutcome};
 ghost use Rattle.cps_portfolio.specs.Turning.{AreTurning, AreFresh, count_at_work, ended_of, place_at_work, words_of_seed, TakesDrawnTurns, IsDrawnRun};
 ghost use Rattle.cps_portfolio.specs.declared.interleaved.Turning.{Turning as TurningOf};
@@ -18,6 +18,7 @@ use crate::outcome::{Outcome, Reached};
 use crate::worker::AnyWorker;
 use cps_model::Bound;
 use cps_options::Options;
+use cps_pool::PlainPool;
 use cps_port::{CoreState, Event, PlainPort, Seen};
 use cps_search::Ended;
 use cps_validate::ValidModel;
@@ -47,11 +48,11 @@ fn crew_of<'a>(
     requires assumptions { HasNoAssumptions model.now }
     requires kinds { AreAllPropagated model.now }
     ensures count { IfOk result (λ crew. vec_len crew ≡ options.now.workers) }
-    ensures each { IfOk result (λ crew. AreFresh model.entry.now options.now.gap options.now.conflicts crew.items) }
+    ensures each { IfOk result (λ crew. AreFresh model.entry.now options.now.gap options.now.conflicts options.now.seed crew.items) }
 {
     let mut crew = Vec::new(alloc);
     for number in 0..options.workers {
-        let worker = AnyWorker::of(alloc, model, number, options.conflicts, options.gap)?;
+        let worker = AnyWorker::of(alloc, model, options, number)?;
         crew.push(Turning {
             worker,
             over: false,
@@ -96,32 +97,38 @@ fn place_of(crew: &[Turning<'_>], rank: usize) -> usize
 fn take_turn(
     port: &mut PlainPort<'_, '_>,
     worker: &mut AnyWorker<'_>,
+    pool: &mut PlainPool<'_>,
     actor: u32,
 ) -> Result<bool, AllocError>
     requires actor { actor < actor_count port.old.core.now }
     requires idle { (board_part port.old.core.now.board actor).drawn ≡ None }
+    requires memory { (search_of worker.old).refused ≡ false }
     requires running { IsOver (search_of worker.old).said → ⊥ }
     requires model { port.old.core.now.model ≡ (search_of worker.old).problem.model }
+    requires pool { pool.old.model ≡ (search_of worker.old).problem.model }
     requires imported { (search_of worker.old).imported ≤ length (part_at port.old.core.now actor).board.taken }
     ensures same { (port.new.core.now.model ≡ port.old.core.now.model) × (length port.new.core.now.board.rows ≡ length port.old.core.now.board.rows) }
     ensures idle { (board_part port.new.core.now.board actor).drawn ≡ None }
     ensures alone { ActsAlone actor actor port.old.core.now port.new.core.now }
+    ensures pool { pool.new.model ≡ pool.old.model }
     ensures kind { kind_of worker.new ≡ kind_of worker.old }
-    ensures guidance { guidance_of worker.new ≡ guidance_of worker.old }
-    ensures turn { IfOk result (HasTurned (guidance_of worker.old) (length port.old.core.now.board.rows) (search_of worker.old) (search_of worker.new) (part_at port.old.core.now actor) (part_at port.new.core.now actor)) }
+    ensures turn { IfOk result (HasTurned (length port.old.core.now.board.rows) (known_of worker.old) (known_of worker.new) (part_at port.old.core.now actor) (part_at port.new.core.now actor)) }
 {
     port.actor = actor;
-    worker.turn(port)
+    worker.turn(port, pool)
 }
 
-/// Lets the workers take turns until all have ended. Each turn's worker is drawn among those that have not ended.
+/// Lets the workers take turns until all have ended. Each turn's worker is drawn among those that have not ended. What they find goes into
+/// the pool.
 fn take_turns(
     port: &mut PlainPort<'_, '_>,
     crew: &mut [Turning<'_>],
+    pool: &mut PlainPool<'_>,
     options: &Options,
 ) -> Result<(), AllocError>
     requires count { (actor_count port.old.core.now ≡ length crew.old) × (length crew.old ≤ 16) }
     requires idle { (i : ℕ) → (board_part port.old.core.now.board i).drawn ≡ None }
+    requires pool { pool.old.model ≡ port.old.core.now.model }
     requires crew { AreTurning port.old.core.now.model options.now.gap options.now.conflicts (length port.old.core.now.board.rows) port.old.core.now crew.old }
     ensures same { OnOk result (port.new.core.now.model ≡ port.old.core.now.model) }
     ensures count { OnOk result (actor_count port.new.core.now ≡ actor_count port.old.core.now) }
@@ -140,7 +147,7 @@ fn take_turns(
         let word: u32 = words.next_word();
         let place = place_of(crew, word as usize % count);
         let turning = &mut crew[place];
-        turning.over = take_turn(port, &mut turning.worker, place as u32)?;
+        turning.over = take_turn(port, &mut turning.worker, pool, place as u32)?;
     }
 }
 
@@ -181,8 +188,8 @@ fn finish_all(alloc: Global, mut crew: Vec<Turning<'_>>) -> Result<Vec<Ended>, A
     Ok(ends)
 }
 
-/// Solves a model: so many workers take turns until the bounds meet or each has spent its budget. Each turn's worker is drawn among those
-/// that have not ended, in rising order, by a word of `Lcg64Xsh32::new(seed, 0)` modulo their number. So the same options give the same
+/// Solves a model: so many workers take turns until the bounds meet or each has spent its budget or done its rounds. Each turn's worker is
+/// drawn among those that have not ended, in rising order, by a word of `Lcg64Xsh32::new(seed, 0)` modulo their number. So the same options give the same
 /// outcome.
 pub fn solve_interleaved(
     alloc: Global,
@@ -201,7 +208,8 @@ pub fn solve_interleaved(
         core: &mut core,
         actor: 0,
     };
-    let turns = take_turns(&mut port, crew.as_mut_slice(), options);
+    let mut pool = PlainPool::new(alloc, model);
+    let turns = take_turns(&mut port, crew.as_mut_slice(), &mut pool, options);
     let PlainPort {
         core: shared,
         actor: _actor,

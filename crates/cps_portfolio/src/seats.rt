@@ -6,6 +6,8 @@ ghost use Rattle.cps_portfolio.specs.declared.seats.Seated.{Seated as SeatedOf};
 use crate::table_port::TablePort;
 use crate::worker::AnyWorker;
 use cps_outer::Gate;
+use cps_pool::{PoolHandle, SharedPool};
+use std::sync::Wait;
 use std::thread;
 use std::thread::Threads;
 
@@ -23,20 +25,35 @@ pub struct Seated<'a> {
 }
 
 /// Lets a worker pass the gate, and then search to its end.
-fn work<G: Gate>(gate: &G, seated: &mut Seated<'_>)
-    requires { IsReady seated.old }
+fn work<R: Wait, G: Gate>(rt: &R, pool: &SharedPool<'_>, gate: &G, seated: &mut Seated<'_>)
+    requires { IsReady pool.now.model.now seated.old }
     ensures { Worked seated.old seated.new }
 {
     gate.arrive(seated.number);
-    seated.refused = seated.worker.run(&mut seated.port).is_err();
+    let mut found = PoolHandle { rt, pool };
+    seated.refused = seated.worker.run(&mut seated.port, &mut found).is_err();
+    let PoolHandle {
+        rt: _rt,
+        pool: _pool,
+    } = found;
 }
 
-/// Lets all workers search to their ends, each in a thread of its own where one can be made.
-pub fn work_all<R: Threads + Sync, G: Gate + Sync>(rt: &R, crew: &mut [Seated<'_>], gate: &G)
+/// Lets all workers search to their ends, each in a thread of its own where one can be made. What they find goes into the pool.
+pub fn work_all<R: Threads + Wait + Sync, G: Gate + Sync>(
+    rt: &R,
+    crew: &mut [Seated<'_>],
+    pool: &SharedPool<'_>,
+    gate: &G,
+)
     requires some { 0 < length crew.old }
-    requires ready { All IsReady crew.old }
+    requires ready { All (IsReady pool.now.model.now) crew.old }
     ensures len { length crew.new ≡ length crew.old }
     ensures each { (i : ℕ) (d : SeatedOf) → i < length crew.old → Worked (slice_index_or crew.old i d) (slice_index_or crew.new i d) }
 {
-    thread::for_each_mut(rt, crew, crew.len(), &|_, seated| work(gate, seated));
+    thread::for_each_mut(
+        rt,
+        crew,
+        crew.len(),
+        &|_, seated| { work(rt, pool, gate, seated) },
+    );
 }

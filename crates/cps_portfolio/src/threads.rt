@@ -20,6 +20,7 @@ use cps_bounds::Bounds;
 use cps_model::Bound;
 use cps_options::Options;
 use cps_outer::Gate;
+use cps_pool::SharedPool;
 use cps_search::Ended;
 use cps_validate::ValidModel;
 use std::alloc::{AllocError, Global};
@@ -48,7 +49,7 @@ fn seat_one<'a>(
     ensures given { IfOk result (λ c. words_splits c ≡ words.splits_of kept.old.bounds_seat / 2) }
     ensures seated { IfOk result (IsSeated model.entry.now options.now.gap options.now.conflicts kept.old.board.now kept.old.bounds.now number) }
 {
-    let worker = AnyWorker::of(alloc, model, number, options.conflicts, options.gap)?;
+    let worker = AnyWorker::of(alloc, model, options, number)?;
     Ok(Seated {
         worker,
         port: kept.split(),
@@ -121,8 +122,8 @@ fn gather<'a>(
     Ok(ends)
 }
 
-/// Solves a model: so many workers search in threads until the bounds meet or each has spent its budget. Each comes by the gate before
-/// it begins. Where a worker could not have memory there is no outcome.
+/// Solves a model: so many workers search in threads until the bounds meet or each has spent its budget or done its rounds. Each comes by
+/// the gate before it begins. Where a worker could not have memory there is no outcome.
 pub fn solve<R: Threads + Wait + Sync, G: Gate + Sync>(
     rt: &R,
     alloc: Global,
@@ -137,6 +138,7 @@ pub fn solve<R: Threads + Wait + Sync, G: Gate + Sync>(
 {
     let (bounds, bounds_seat) = Bounds::new(alloc, model)?;
     let (board, board_seat) = Board::new(alloc, model, ROWS)?;
+    let pool = SharedPool::new(alloc, model)?;
     let mut kept = TablePort {
         board: &board,
         board_seat,
@@ -144,7 +146,7 @@ pub fn solve<R: Threads + Wait + Sync, G: Gate + Sync>(
         bounds_seat,
     };
     let mut crew = seat_all(alloc, model, options, &mut kept)?;
-    work_all(rt, crew.as_mut_slice(), gate);
+    work_all(rt, crew.as_mut_slice(), &pool, gate);
     let ends = gather(alloc, model, options, &mut kept, crew)?;
     let TablePort {
         board: _,

@@ -1,14 +1,19 @@
 //! A worker of any kind.
-ghost use Rattle.std.specs.Prelude.{◌≡◌, ◌≤◌, ◌^◌, length, OnOk, IfOk, Some, is_some};
-ghost use Rattle.cps_search.specs.Guided.{IsGuidedBy};
+ghost use Rattle.std.specs.Prelude.{◌≡◌, ◌+◌, ◌≤◌, ◌^◌, length, false, OnOk, IfOk, IfSome, Some, is_some};
+ghost use Rattle.cps_model.specs.Solutions.{IsSolution};
 ghost use Rattle.cps_branch.specs.Guidances.{AreHintsOf, IsPlanOf};
 ghost use Rattle.cps_kinds.specs.Kinds.{AreAllPropagated};
-ghost use Rattle.cps_search.specs.Searches.{HasNoAssumptions};
-ghost use Rattle.cps_search.specs.Ends.{IsOver, ending, end_of};
-ghost use Rattle.cps_portfolio.specs.Workers.{search_of, kind_of, guidance_of, worker_kind, Begins, HasEnded, HasTurned};
+ghost use Rattle.cps_options.specs.Ranges.{AreInRange};
+ghost use Rattle.cps_search.specs.Searches.{HasNoAssumptions, IsSoundSearch};
+ghost use Rattle.cps_search.specs.Ends.{IsOver, end_of};
+ghost use Rattle.cps_neighbourhood.specs.Drawing.{draws_of};
+ghost use Rattle.cps_portfolio.specs.Workers.{known_of, search_of, kind_of, worker_kind, ending_in, Begins, BeginsAs, BeginsRounds, DrawsBy, HasEnded, HasTurned, IsAimed, TurnedBy, TurnedNear};
 
 use cps_instance::Instance;
 use cps_kinds::{AnyPropagator, engine_of};
+use cps_neighbourhood::NearWorker;
+use cps_options::Options;
+use cps_pool::Pool;
 use cps_port::Port;
 use cps_search::{
     ActivityBrancher, Brancher, Ended, FixedBrancher, Said, Turn, Worker, WorkerKind,
@@ -23,6 +28,17 @@ pub enum AnyWorker<'a> {
     Fixed(Worker<'a, AnyPropagator, FixedBrancher>),
     /// Takes the variables of recent conflicts first, at the values of the model's hint.
     Activity(Worker<'a, AnyPropagator, ActivityBrancher>),
+    /// Searches near solutions that workers found.
+    Near(NearSeeker<'a>),
+}
+
+/// A neighbourhood worker, and how far it has looked into the pool.
+#[derive(Drop)]
+pub struct NearSeeker<'a> {
+    /// The worker.
+    pub worker: NearWorker<'a, AnyPropagator>,
+    /// How many solutions there were when it was handed one.
+    pub handed: usize,
 }
 
 fn fixed_worker<'a>(
@@ -61,6 +77,30 @@ fn activity_worker<'a>(
     Worker::new(alloc, instance, engine, brancher, conflicts, gap)
 }
 
+fn near_worker<'a>(
+    alloc: Global,
+    model: &'a ValidModel,
+    options: &Options,
+    number: u32,
+) -> Result<NearSeeker<'a>, AllocError>
+    requires range { AreInRange options.now }
+    requires assumptions { HasNoAssumptions model.now }
+    requires kinds { AreAllPropagated model.now }
+    ensures begins { IfOk result (λ near. BeginsRounds model.entry.now options.now.gap options.now.conflicts near.worker) }
+    ensures draws { IfOk result (λ near. near.worker.draws ≡ draws_of options.now.seed (16 + number)) }
+{
+    let Options {
+        conflicts,
+        seed,
+        gap,
+        ..
+    } = *options;
+    let instance = Instance::of(alloc, model)?;
+    let engine = engine_of(alloc, &instance)?;
+    let worker = NearWorker::new(alloc, instance, engine, conflicts, seed, number, gap)?;
+    Ok(NearSeeker { worker, handed: 0 })
+}
+
 /// Whether a turn ends its worker.
 fn is_last(turn: &Turn) -> bool
     ensures { result ≡ is_some (end_of turn.now) }
@@ -71,38 +111,72 @@ fn is_last(turn: &Turn) -> bool
     }
 }
 
+/// Puts a solution that a turn found into the pool, and answers whether the turn was the last.
+fn note_turn<F: Pool>(pool: &mut F, turn: &Turn, best: Option<&[i64]>) -> Result<bool, AllocError>
+    requires { IfSome best (λ solution. IsSolution (F.model pool.old) solution.now) }
+    ensures pool { F.model pool.new ≡ F.model pool.old }
+    ensures last { IfOk result (λ over. over ≡ is_some (end_of turn.now)) }
+{
+    if let (Turn::Found, Some(solution)) = (turn, best) {
+        pool.push(solution)?;
+    }
+    Ok(is_last(turn))
+}
+
 /// Lets a worker take a turn, and answers whether it was the last.
-fn turn_of<B: Brancher + Drop, Q: Port>(
+fn turn_of<B: Brancher + Drop, Q: Port, F: Pool>(
     worker: &mut Worker<'_, AnyPropagator, B>,
     port: &mut Q,
+    pool: &mut F,
 ) -> Result<bool, AllocError>
     requires running { IsOver worker.old.0.said → ⊥ }
     requires model { Q.model port.old ≡ worker.old.0.problem.model }
+    requires pool { F.model pool.old ≡ worker.old.0.problem.model }
     requires imported { worker.old.0.imported ≤ length (Q.part port.old).board.taken }
     ensures same { (Q.model port.new ≡ Q.model port.old) × (Q.rows port.new ≡ Q.rows port.old) }
     ensures others { Q.stays port.old port.new }
+    ensures pool { F.model pool.new ≡ F.model pool.old }
     ensures guidance { B.guidance worker.new.1 ≡ B.guidance worker.old.1 }
-    ensures turn { IfOk result (HasTurned (B.guidance worker.old.1) (Q.rows port.old) worker.old.0 worker.new.0 (Q.part port.old) (Q.part port.new)) }
+    ensures turn { IfOk result (TurnedBy (B.guidance worker.old.1) (Q.rows port.old) worker.old.0 worker.new.0 (Q.part port.old) (Q.part port.new)) }
 {
     let turn = worker.turn(port)?;
-    Ok(is_last(&turn))
+    note_turn(pool, &turn, worker.best())
 }
 
-/// Lets a worker take turns up to its end.
-fn run_of<B: Brancher + Drop, Q: Port>(
-    worker: &mut Worker<'_, AnyPropagator, B>,
+/// Hands a neighbourhood worker the last solution of the pool, if it was not handed it before.
+fn aim<F: Pool>(near: &mut NearSeeker<'_>, pool: &F)
+    requires memory { near.old.worker.search.refused ≡ false }
+    requires pool { F.model pool.now ≡ near.old.worker.search.problem.model }
+    ensures { IsAimed near.old.worker near.new.worker }
+{
+    let count = pool.count();
+    if count > near.handed {
+        if let Some(solution) = pool.get(count - 1) {
+            near.worker.aim(solution);
+            near.handed = count;
+        }
+    }
+}
+
+/// Aims a neighbourhood worker, lets it take a turn, and answers whether it was the last.
+fn near_turn_of<Q: Port, F: Pool>(
+    near: &mut NearSeeker<'_>,
     port: &mut Q,
-) -> Result<(), AllocError>
-    requires running { IsOver worker.old.0.said → ⊥ }
-    requires model { Q.model port.old ≡ worker.old.0.problem.model }
-    requires imported { worker.old.0.imported ≤ length (Q.part port.old).board.taken }
+    pool: &mut F,
+) -> Result<bool, AllocError>
+    requires memory { near.old.worker.search.refused ≡ false }
+    requires running { IsOver near.old.worker.search.said → ⊥ }
+    requires model { Q.model port.old ≡ near.old.worker.search.problem.model }
+    requires pool { F.model pool.old ≡ near.old.worker.search.problem.model }
+    requires imported { near.old.worker.search.imported ≤ length (Q.part port.old).board.taken }
     ensures same { (Q.model port.new ≡ Q.model port.old) × (Q.rows port.new ≡ Q.rows port.old) }
     ensures others { Q.stays port.old port.new }
-    ensures guidance { B.guidance worker.new.1 ≡ B.guidance worker.old.1 }
-    ensures runs { OnOk result (HasEnded (B.guidance worker.old.1) (Q.rows port.old) worker.old.0 worker.new.0 (Q.part port.old) (Q.part port.new)) }
+    ensures pool { F.model pool.new ≡ F.model pool.old }
+    ensures turn { IfOk result (TurnedNear (Q.rows port.old) near.old.worker near.new.worker (Q.part port.old) (Q.part port.new)) }
 {
-    worker.run(port)?;
-    Ok(())
+    aim(near, pool);
+    let turn = near.worker.turn(port)?;
+    note_turn(pool, &turn, near.worker.best())
 }
 
 impl<'a> AnyWorker<'a> {
@@ -110,55 +184,64 @@ impl<'a> AnyWorker<'a> {
     pub fn of(
         alloc: Global,
         model: &'a ValidModel,
+        options: &Options,
         number: u32,
-        conflicts: u64,
-        gap: u64,
     ) -> Result<AnyWorker<'a>, AllocError>
-        requires budget { conflicts ≤ 10 ^ 9 }
+        requires range { AreInRange options.now }
         requires assumptions { HasNoAssumptions model.now }
         requires kinds { AreAllPropagated model.now }
-        ensures begins { IfOk result (λ worker. Begins model.entry.now gap conflicts (search_of worker)) }
+        ensures begins { IfOk result (λ worker. BeginsAs model.entry.now options.now.gap options.now.conflicts (known_of worker)) }
         ensures kind { IfOk result (λ worker. kind_of worker ≡ worker_kind number) }
-        ensures guide { IfOk result (λ worker. IsGuidedBy (kind_of worker) (search_of worker).problem (Some (guidance_of worker))) }
+        ensures draws { IfOk result (λ worker. DrawsBy options.now.seed number (known_of worker)) }
     {
+        let Options { conflicts, gap, .. } = *options;
         if number == 0 {
             Ok(AnyWorker::Fixed(fixed_worker(alloc, model, conflicts, gap)?))
+        } else if number % 3 == 0 {
+            Ok(AnyWorker::Near(near_worker(alloc, model, options, number)?))
         } else {
             Ok(AnyWorker::Activity(activity_worker(alloc, model, conflicts, gap)?))
         }
     }
 
     /// Takes turns up to the end.
-    pub fn run<Q: Port>(&mut self, port: &mut Q) -> Result<(), AllocError>
+    pub fn run<Q: Port, F: Pool>(&mut self, port: &mut Q, pool: &mut F) -> Result<(), AllocError>
+        requires memory { (search_of self.old).refused ≡ false }
         requires running { IsOver (search_of self.old).said → ⊥ }
         requires model { Q.model port.old ≡ (search_of self.old).problem.model }
+        requires pool { F.model pool.old ≡ (search_of self.old).problem.model }
         requires imported { (search_of self.old).imported ≤ length (Q.part port.old).board.taken }
         ensures same { (Q.model port.new ≡ Q.model port.old) × (Q.rows port.new ≡ Q.rows port.old) }
         ensures others { Q.stays port.old port.new }
         ensures kind { kind_of self.new ≡ kind_of self.old }
-        ensures guidance { guidance_of self.new ≡ guidance_of self.old }
-        ensures runs { OnOk result (HasEnded (guidance_of self.old) (Q.rows port.old) (search_of self.old) (search_of self.new) (Q.part port.old) (Q.part port.new)) }
+        ensures runs { OnOk result (HasEnded (Q.rows port.old) (known_of self.old) (known_of self.new) (Q.part port.old) (Q.part port.new)) }
     {
-        match self {
-            AnyWorker::Fixed(worker) => run_of(worker, port),
-            AnyWorker::Activity(worker) => run_of(worker, port),
+        'turns: loop {
+            let over = self.turn(port, pool)?;
+            if over {
+                return Ok(());
+            }
         }
     }
 
-    /// Takes a turn, and answers whether it was the last.
-    pub fn turn<Q: Port>(&mut self, port: &mut Q) -> Result<bool, AllocError>
+    /// Takes a turn, and answers whether it was the last. What is found goes into the pool, and a neighbourhood worker is handed the pool's
+    /// last solution before its turn.
+    pub fn turn<Q: Port, F: Pool>(&mut self, port: &mut Q, pool: &mut F) -> Result<bool, AllocError>
+        requires memory { (search_of self.old).refused ≡ false }
         requires running { IsOver (search_of self.old).said → ⊥ }
         requires model { Q.model port.old ≡ (search_of self.old).problem.model }
+        requires pool { F.model pool.old ≡ (search_of self.old).problem.model }
         requires imported { (search_of self.old).imported ≤ length (Q.part port.old).board.taken }
         ensures same { (Q.model port.new ≡ Q.model port.old) × (Q.rows port.new ≡ Q.rows port.old) }
         ensures others { Q.stays port.old port.new }
+        ensures pool { F.model pool.new ≡ F.model pool.old }
         ensures kind { kind_of self.new ≡ kind_of self.old }
-        ensures guidance { guidance_of self.new ≡ guidance_of self.old }
-        ensures turn { IfOk result (HasTurned (guidance_of self.old) (Q.rows port.old) (search_of self.old) (search_of self.new) (Q.part port.old) (Q.part port.new)) }
+        ensures turn { IfOk result (HasTurned (Q.rows port.old) (known_of self.old) (known_of self.new) (Q.part port.old) (Q.part port.new)) }
     {
         match self {
-            AnyWorker::Fixed(worker) => turn_of(worker, port),
-            AnyWorker::Activity(worker) => turn_of(worker, port),
+            AnyWorker::Fixed(worker) => turn_of(worker, port, pool),
+            AnyWorker::Activity(worker) => turn_of(worker, port, pool),
+            AnyWorker::Near(near) => near_turn_of(near, port, pool),
         }
     }
 
@@ -166,11 +249,15 @@ impl<'a> AnyWorker<'a> {
     pub fn finish(self) -> Ended
         requires { IsOver (search_of self).said }
         ensures said { (search_of self.entry).said ≡ Said.Over result.end }
-        ensures is { result ≡ ending (kind_of self.entry) (Some (guidance_of self.entry)) result.end (search_of self.entry) }
+        ensures is { result ≡ ending_in (known_of self.entry) result.end }
     {
         match self {
             AnyWorker::Fixed(worker) => worker.finish(WorkerKind::Fixed),
             AnyWorker::Activity(worker) => worker.finish(WorkerKind::Activity),
+            AnyWorker::Near(near) => {
+                let NearSeeker { worker, .. } = near;
+                worker.finish()
+            }
         }
     }
 }

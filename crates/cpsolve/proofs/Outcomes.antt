@@ -18,7 +18,7 @@ use Rattle.cps_print.specs.Demonstrations.{IsReadySolution}
 use Rattle.cps_print.specs.Responses.{IsBounded, IsFinite, IsSummable, IsSolved}
 use Rattle.cps_options.specs.declared.options.Options.{Options}
 use Rattle.cps_portfolio.specs.declared.outcome.Outcome.{Outcome}
-use Rattle.cps_portfolio.specs.Outcomes.{IsGoodOutcome, SpentItsBudget, better, best_of}
+use Rattle.cps_portfolio.specs.Outcomes.{IsGoodOutcome, DidItsPart, better, best_of}
 use Rattle.cpsolve.specs.Outcomes.{KeepsPromise}
 
 -- ---- the best of what the workers found is a solution
@@ -57,13 +57,13 @@ closed_none m gap (At l) closed below = cc
 record Promises (m : CpModel) (gap : ℕ) (options : Options) (status : Status) (solution : Option (List ℤ)) (lower : Bound) (ends : List Ending) : Type 0 where
   optimal : status ≡ Optimal → (a : List ℤ) × (solution ≡ Some a) × IsBest m gap a × IsAtMost lower (objective_value m a) × (is_closed lower (At (objective_value m a)) gap ≡ true)
   infeasible : status ≡ Infeasible → HasNoSolution m
-  feasible : status ≡ Feasible → (a : List ℤ) × (solution ≡ Some a) × IsSolution m a × IsAtMost lower (objective_value m a) × All (SpentItsBudget m options.conflicts (At (objective_value m a))) ends
-  unknown : status ≡ Unknown → (solution ≡ None) × All (SpentItsBudget m options.conflicts Infinite) ends
+  feasible : status ≡ Feasible → (a : List ℤ) × (solution ≡ Some a) × IsSolution m a × IsAtMost lower (objective_value m a) × All (DidItsPart m options.conflicts (At (objective_value m a))) ends
+  unknown : status ≡ Unknown → (solution ≡ None) × All (DidItsPart m options.conflicts Infinite) ends
 
 promises : (m : CpModel) (gap : ℕ) (options : Options) (status : Status) (solution : Option (List ℤ)) (lower : Bound) (ends : List Ending) (closed : Bool)
     → is_closed lower (best_bound m solution) gap ≡ closed → status ≡ status_of (best_bound m solution) lower gap → IfSome solution (IsSolution m)
     → ((b : List ℤ) → IsSolution m b → IsAtMost lower (objective_value m b))
-    → (is_closed lower (best_bound m solution) gap ≡ false → All (SpentItsBudget m options.conflicts (best_bound m solution)) ends) → Promises m gap options status solution lower ends
+    → (is_closed lower (best_bound m solution) gap ≡ false → All (DidItsPart m options.conflicts (best_bound m solution)) ends) → Promises m gap options status solution lower ends
 promises m gap options status None lower ends true met same solution below spent =
     let is : status_of Infinite lower gap ≡ Infeasible = rw met refl in
     record {
@@ -102,7 +102,7 @@ promised m options o good =
     let solution = subst (λ (s : Option (List ℤ)). IfSome s (IsSolution m)) (sym good.solution) (best_is m o.ends good.found) in
     promises m options.gap options o.status o.solution o.lower o.ends (is_closed o.lower (best_bound m o.solution) options.gap) refl
     (good.status ∙ ap (λ (u : Bound). status_of u o.lower options.gap) good.upper) solution good.floor
-    (subst (λ (u : Bound). is_closed o.lower u options.gap ≡ false → All (SpentItsBudget m options.conflicts u) o.ends) good.upper good.spent)
+    (subst (λ (u : Bound). is_closed o.lower u options.gap ≡ false → All (DidItsPart m options.conflicts u) o.ends) good.upper good.spent)
 
 -- a good outcome keeps the promise of its status
 pub promise_kept : (m : CpModel) (options : Options) (o : Outcome) → IsGoodOutcome m options o → KeepsPromise m options o
@@ -111,8 +111,8 @@ promise_kept m options o good =
     record {
       optimal = λ e. let found = p.optimal e in (found.0, record { this = found.1; best = found.2; below = found.3; near = found.4 });
       infeasible = p.infeasible;
-      feasible = λ e. let found = p.feasible e in (found.0, record { this = found.1; solution = found.2; below = found.3; spent = found.4 });
-      unknown = λ e. let none = p.unknown e in record { nothing = none.0; spent = none.1 };
+      feasible = λ e. let found = p.feasible e in (found.0, record { this = found.1; solution = found.2; below = found.3; parts = found.4 });
+      unknown = λ e. let none = p.unknown e in record { nothing = none.0; parts = none.1 };
     }
 
 -- ---- the objective of what was found can be summed up

@@ -7,7 +7,7 @@ use Rattle.cps_model.specs.Solutions.{objective_value, IsSolution, IsBest, HasNo
 use Rattle.cps_model.specs.Statuses.{is_closed, IsAtMost}
 use Rattle.cps_options.specs.declared.options.Options.{Options}
 use Rattle.cps_portfolio.specs.declared.outcome.Outcome.{Outcome}
-use Rattle.cps_portfolio.specs.Outcomes.{SpentItsBudget}
+use Rattle.cps_portfolio.specs.Outcomes.{DidItsPart}
 
 -- a solution that none beats by more than the gap, with a lower bound that is at most its objective and within the gap of it
 pub record IsOptimal (m : CpModel) (gap : ℕ) (o : Outcome) (a : List ℤ) : Type 0 where
@@ -16,17 +16,17 @@ pub record IsOptimal (m : CpModel) (gap : ℕ) (o : Outcome) (a : List ℤ) : Ty
   pub below : IsAtMost o.lower (objective_value m a)
   pub near : is_closed o.lower (At (objective_value m a)) gap ≡ true
 
--- a solution, which no worker beat though each spent its budget of conflicts
+-- a solution, which no worker beat though each spent its budget of conflicts or did its rounds
 pub record IsFeasible (m : CpModel) (options : Options) (o : Outcome) (a : List ℤ) : Type 0 where
   pub this : o.solution ≡ Some a
   pub solution : IsSolution m a
   pub below : IsAtMost o.lower (objective_value m a)
-  pub spent : All (SpentItsBudget m options.conflicts (At (objective_value m a))) o.ends
+  pub parts : All (DidItsPart m options.conflicts (At (objective_value m a))) o.ends
 
--- no worker found a solution, though each spent its budget of conflicts
+-- no worker found a solution, though each spent its budget of conflicts or did its rounds
 pub record IsUnknown (m : CpModel) (options : Options) (o : Outcome) : Type 0 where
   pub nothing : o.solution ≡ None
-  pub spent : All (SpentItsBudget m options.conflicts Infinite) o.ends
+  pub parts : All (DidItsPart m options.conflicts Infinite) o.ends
 
 -- what each status promises
 pub record KeepsPromise (m : CpModel) (options : Options) (o : Outcome) : Type 0 where

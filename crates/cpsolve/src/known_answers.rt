@@ -571,7 +571,7 @@ pub struct Line {
 }
 
 /// Inputs that are solved with options.
-pub const LINES: [Line; 8] = [
+pub const LINES: [Line; 10] = [
     Line {
         words: &["solve", "--workers", "1", "--conflicts", "0"],
         input: THREE_IN_TWO,
@@ -579,6 +579,31 @@ pub const LINES: [Line; 8] = [
     },
     Line {
         words: &["solve", "--workers", "1", "--conflicts", "1"],
+        input: THREE_IN_TWO,
+        text: "status: INFEASIBLE\n",
+    },
+    Line {
+        words: &[
+            "solve",
+            "--workers",
+            "3",
+            "--conflicts",
+            "0",
+            "--interleave",
+        ],
+        input: THREE_IN_TWO,
+        text: "status: UNKNOWN\n",
+    },
+    // The fourth worker searches near solutions, and so does a round of up to 100 conflicts: it needs two.
+    Line {
+        words: &[
+            "solve",
+            "--workers",
+            "4",
+            "--conflicts",
+            "0",
+            "--interleave",
+        ],
         input: THREE_IN_TWO,
         text: "status: INFEASIBLE\n",
     },

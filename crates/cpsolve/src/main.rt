@@ -3,8 +3,8 @@
 //!
 //! `solve_main` is the whole program over any source of bytes and any sink, and its contract says what the program does:
 //! OPTIMAL comes only with a solution that none beats by more than the gap that the words give, INFEASIBLE only where there is
-//! none, FEASIBLE and UNKNOWN only where each worker spent its budget of conflicts on clauses that said something new; `valid`
-//! comes only for a valid model, and a canonical text is read as the model again; and every other answer comes only where its
+//! none, FEASIBLE and UNKNOWN only where each worker spent its budget of conflicts, or did its rounds near solutions, on clauses
+//! that said something new; `valid` comes only for a valid model, and a canonical text is read as the model again; and every other answer comes only where its
 //! cause is there. `main` hands it the words, standard input and standard output.
 #![tactic(auto)]
 

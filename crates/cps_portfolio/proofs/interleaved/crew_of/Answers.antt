@@ -15,9 +15,9 @@ loop-number-preserved c =
     let xs : List Turning = c.loop-number.crew.items in
     let e : c.push.new.self.items ≡ xs ++ x ∷ [] = search rules in
     let len : length xs ≡ c.loop-number.number = search rules in
-    let one : IsFresh m o.gap o.conflicts c.loop-number.number x = record { begins = k.begins; kind = k.kind; guide = k.guide; not_over = refl } in
-    let all = each_push (IsFresh m o.gap o.conflicts) xs x i.each.each (subst (λ (j : ℕ). IsFresh m o.gap o.conflicts j x) (sym len) one) in
+    let one : IsFresh m o.gap o.conflicts o.seed c.loop-number.number x = record { begins = k.begins; kind = k.kind; draws = k.draws; not_over = refl } in
+    let all = each_push (IsFresh m o.gap o.conflicts o.seed) xs x i.each.each (subst (λ (j : ℕ). IsFresh m o.gap o.conflicts o.seed j x) (sym len) one) in
     record {
       count = search rules;
-      each = subst (λ (l : List Turning). AreFresh m o.gap o.conflicts l) (sym e) (record { each = all });
+      each = subst (λ (l : List Turning). AreFresh m o.gap o.conflicts o.seed l) (sym e) (record { each = all });
     }

@@ -21,9 +21,9 @@ take_turns-turns-requires-clause-crew c =
     let core = c.in_ok-core.core in
     let first = c.in_ok-core.ensures.first in
     let model : core.model ≡ m = ap (λ (x : Core). x.model) first in
-    let crew = subst (λ (l : List Turning). AreFresh m o.gap o.conflicts l) (sym c.as_mut_slice.ensures.value) c.in_ok-crew.ensures.each in
+    let crew = subst (λ (l : List Turning). AreFresh m o.gap o.conflicts o.seed l) (sym c.as_mut_slice.ensures.value) c.in_ok-crew.ensures.each in
     subst (λ (x : CpModel). AreTurning x o.gap o.conflicts (length core.board.rows) core c.as_mut_slice.result.now) (sym model)
-    (all_fresh m o.gap o.conflicts (length core.board.rows) o.workers 4096 core c.as_mut_slice.result.now first crew)
+    (all_fresh m o.gap o.conflicts o.seed (length core.board.rows) o.workers 4096 core c.as_mut_slice.result.now first crew)
 
 pub finish_all-requires : goal.finish_all-requires
 finish_all-requires c =

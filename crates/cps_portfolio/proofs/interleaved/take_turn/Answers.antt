@@ -1,7 +1,7 @@
 -- The port's actor is the one that it was before the turn.
 use Rattle.std.proofs.Common.{◌≡◌, ℕ, None, IfOk, refl, subst, length}
 use Rattle.cps_port.specs.Cores.{board_part, part_at}
-use Rattle.cps_portfolio.specs.Workers.{guidance_of, search_of, HasTurned}
+use Rattle.cps_portfolio.specs.Workers.{known_of, HasTurned}
 use Rattle.cps_portfolio.proofs.interleaved.take_turn.Goals as goal
 
 pub returns-clause-idle : goal.returns-clause-idle
@@ -13,4 +13,4 @@ returns-clause-alone c = let k = c.turn.ensures.others in record { same = refl; 
 pub returns-clause-turn : goal.returns-clause-turn
 returns-clause-turn c =
     let k = c.turn.ensures.others in
-    subst (λ (n : ℕ). IfOk c.turn.result (HasTurned (guidance_of c.args.worker.now) (length c.args.port.now.core.now.board.rows) (search_of c.args.worker.now) (search_of c.turn.new.self) (part_at c.args.port.now.core.now c.args.actor) (part_at c.turn.new.port.core.now n))) k.same c.turn.ensures.turn
+    subst (λ (n : ℕ). IfOk c.turn.result (HasTurned (length c.args.port.now.core.now.board.rows) (known_of c.args.worker.now) (known_of c.turn.new.self) (part_at c.args.port.now.core.now c.args.actor) (part_at c.turn.new.port.core.now n))) k.same c.turn.ensures.turn

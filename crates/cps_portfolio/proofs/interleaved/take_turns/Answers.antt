@@ -7,9 +7,9 @@ use Rattle.cps_port.proofs.Acting.{others_stay}
 use Rattle.cps_port.specs.declared.part.Part.{Part}
 use Rattle.cps_port.specs.Cores.{part_at, board_part}
 use Rattle.cps_portfolio.specs.declared.interleaved.Turning.{Turning}
-use Rattle.cps_portfolio.specs.Workers.{guidance_of, search_of, HasTurned}
+use Rattle.cps_portfolio.specs.Workers.{known_of, HasTurned}
 use Rattle.cps_portfolio.specs.Turning.{TakesDrawnTurns, none_yet, words_of_seed}
-use Rattle.cps_portfolio.proofs.Turning.{all_turn_on, all_lighter, at_work, drawn_more, work_imported, work_model}
+use Rattle.cps_portfolio.proofs.Turning.{all_turn_on, all_lighter, at_work, drawn_more, work_imported, work_memory, work_model}
 use Rattle.cps_portfolio.proofs.interleaved.take_turns.Goals as goal
 
 pub turns-init : goal.turns-init
@@ -23,9 +23,34 @@ turns-init c =
       model = refl;
       rows = refl;
       idle = c.requires.idle;
+      pool = c.requires.pool;
       crew = c.requires.crew;
       drawn = subst (λ (w : Lcg). TakesDrawnTurns rows core crew seed core crew w) (sym c.new-words.ensures) none_yet;
     }
+
+pub take_turn-requires-clause-memory : goal.take_turn-requires-clause-memory
+take_turn-requires-clause-memory c =
+    let core = c.turns.port.core.now in
+    let crew : List Turning = c.turns.crew in
+    let k = c.place_of-place.result in
+    let d : Turning = c.index-crew-place.result in
+    let i = c.turns.invariant in
+    let o = c.args.options.now in
+    let m = c.args.port.now.core.now.model in
+    let work = at_work m o.gap o.conflicts _ core crew k d i.crew c.place_of-place.ensures.within (c.place_of-place.ensures.at_work d) in
+    work_memory m o.gap o.conflicts _ _ _ work
+
+pub take_turn-requires-clause-running : goal.take_turn-requires-clause-running
+take_turn-requires-clause-running c =
+    let core = c.turns.port.core.now in
+    let crew : List Turning = c.turns.crew in
+    let k = c.place_of-place.result in
+    let d : Turning = c.index-crew-place.result in
+    let i = c.turns.invariant in
+    let o = c.args.options.now in
+    let m = c.args.port.now.core.now.model in
+    let work = at_work m o.gap o.conflicts _ core crew k d i.crew c.place_of-place.ensures.within (c.place_of-place.ensures.at_work d) in
+    work.running
 
 pub take_turn-requires-clause-model : goal.take_turn-requires-clause-model
 take_turn-requires-clause-model c =
@@ -37,7 +62,19 @@ take_turn-requires-clause-model c =
     let o = c.args.options.now in
     let m = c.args.port.now.core.now.model in
     let work = at_work m o.gap o.conflicts _ core crew k d i.crew c.place_of-place.ensures.within (c.place_of-place.ensures.at_work d) in
-    i.model ∙ sym (work_model m o.gap o.conflicts _ _ _ _ _ work)
+    i.model ∙ sym (work_model m o.gap o.conflicts _ _ _ work)
+
+pub take_turn-requires-clause-pool : goal.take_turn-requires-clause-pool
+take_turn-requires-clause-pool c =
+    let core = c.turns.port.core.now in
+    let crew : List Turning = c.turns.crew in
+    let k = c.place_of-place.result in
+    let d : Turning = c.index-crew-place.result in
+    let i = c.turns.invariant in
+    let o = c.args.options.now in
+    let m = c.args.port.now.core.now.model in
+    let work = at_work m o.gap o.conflicts _ core crew k d i.crew c.place_of-place.ensures.within (c.place_of-place.ensures.at_work d) in
+    i.pool ∙ sym (work_model m o.gap o.conflicts _ _ _ work)
 
 pub take_turn-requires-clause-imported : goal.take_turn-requires-clause-imported
 take_turn-requires-clause-imported c =
@@ -49,7 +86,7 @@ take_turn-requires-clause-imported c =
     let o = c.args.options.now in
     let m = c.args.port.now.core.now.model in
     let work = at_work m o.gap o.conflicts _ core crew k d i.crew c.place_of-place.ensures.within (c.place_of-place.ensures.at_work d) in
-    work_imported m o.gap o.conflicts _ _ _ _ _ work
+    work_imported m o.gap o.conflicts _ _ _ work
 
 pub turns-smaller : goal.turns-smaller
 turns-smaller c =
@@ -63,7 +100,7 @@ turns-smaller c =
     let at : get_or crew k d ≡ d = search rules in
     let is : get_or crew k w ≡ w = ap (λ (x : Turning). get_or crew k x) at in
     let still : w.over ≡ false = c.place_of-place.ensures.at_work d in
-    let turn = subst (λ (n : ℕ). HasTurned (guidance_of w.worker) n (search_of w.worker) (search_of v.worker) (part_at core k) (part_at next k) v.over) c.turns.invariant.rows c.in_ok-turning.ensures.turn in
+    let turn = subst (λ (n : ℕ). HasTurned n (known_of w.worker) (known_of v.worker) (part_at core k) (part_at next k) v.over) c.turns.invariant.rows c.in_ok-turning.ensures.turn in
     let others = (others_stay _ _ _ _ c.take_turn.ensures.alone).parts in
     all_lighter (length c.args.port.now.core.now.board.rows) core next crew k w v c.place_of-place.ensures.within is still turn others
 
@@ -79,7 +116,7 @@ turns-preserved c =
     let at : get_or crew k d ≡ d = search rules in
     let is : get_or crew k w ≡ w = ap (λ (x : Turning). get_or crew k x) at in
     let still : w.over ≡ false = c.place_of-place.ensures.at_work d in
-    let turn = subst (λ (n : ℕ). HasTurned (guidance_of w.worker) n (search_of w.worker) (search_of v.worker) (part_at core k) (part_at next k) v.over) c.turns.invariant.rows c.in_ok-turning.ensures.turn in
+    let turn = subst (λ (n : ℕ). HasTurned n (known_of w.worker) (known_of v.worker) (part_at core k) (part_at next k) v.over) c.turns.invariant.rows c.in_ok-turning.ensures.turn in
     let others = (others_stay _ _ _ _ c.take_turn.ensures.alone).parts in
     let i = c.turns.invariant in
     let o = c.args.options.now in
@@ -89,7 +126,8 @@ turns-preserved c =
       model = t.same.0 ∙ i.model;
       rows = t.same.1 ∙ i.rows;
       idle = λ j. dite (ℕ_discrete j k) (λ e. subst (λ (n : ℕ). (board_part next.board n).drawn ≡ None) (sym e) t.idle) (λ n. ap (λ (p : Part). p.board.drawn) (others j n) ∙ i.idle j);
-      crew = all_turn_on c.args.port.now.core.now.model o.gap o.conflicts _ core next crew k w v i.crew c.place_of-place.ensures.within is still t.kind t.guidance turn others;
+      pool = t.pool ∙ i.pool;
+      crew = all_turn_on c.args.port.now.core.now.model o.gap o.conflicts _ core next crew k w v i.crew c.place_of-place.ensures.within is still t.kind turn others;
       drawn = drawn_more _ c.args.port.now.core.now c.args.crew.now _ core next crew v c.turns.words c.next_word-word.new.self c.next_word-word.result c.count_at_work-count.result k d i.drawn
-          c.next_word-word.ensures c.count_at_work-count.ensures.count c.if-count-eq0.false c.place_of-place.ensures.place c.place_of-place.ensures.within t.kind t.guidance turn t.alone;
+          c.next_word-word.ensures c.count_at_work-count.ensures.count c.if-count-eq0.false c.place_of-place.ensures.place c.place_of-place.ensures.within turn t.alone;
     }

@@ -11,6 +11,7 @@ invariant-turns l = record {
   model : l.port.core.now.model ≡ l.initial.port.core.now.model;
   rows : length l.port.core.now.board.rows ≡ length l.initial.port.core.now.board.rows;
   idle : (i : ℕ) → (board_part l.port.core.now.board i).drawn ≡ None;
+  pool : l.pool.model ≡ l.initial.port.core.now.model;
   crew : AreTurning l.initial.port.core.now.model l.options.gap l.options.conflicts (length l.initial.port.core.now.board.rows) l.port.core.now l.crew;
   drawn : TakesDrawnTurns (length l.initial.port.core.now.board.rows) l.initial.port.core.now l.initial.crew (words_of_seed l.options.seed) l.port.core.now l.crew l.words;
 }

@@ -1,9 +1,12 @@
--- The turn goes by the brancher's guidance, which it leaves.
-use Rattle.std.proofs.Common.{◌≡◌, subst}
-use Rattle.cps_search.specs.Ends.{OneTurn}
+-- The turn goes by the brancher's guidance, which it leaves; what is found is a solution of the pool's model.
+use Rattle.std.proofs.Common.{◌≡◌, ◌∙◌, sym, subst}
+use Rattle.std.specs.Prelude.{is_some}
+use Rattle.std.proofs.lemmas.Result.{IfOk-weaker}
+use Rattle.cps_search.specs.Ends.{OneTurn, end_of}
 use Rattle.cps_branch.specs.Guidances.{ChoosesBy}
 use Rattle.cps_branch.specs.declared.guidance.Guidance.{Guidance}
 use Rattle.cps_search.proofs.Guiding.{turn_by}
+use Rattle.cps_portfolio.specs.Workers.{TurnedBy}
 use Rattle.cps_portfolio.proofs.worker.turn_of.Goals as goal
 
 pub returns-clause-turn : goal.returns-clause-turn
@@ -17,10 +20,10 @@ returns-clause-turn g c =
     let before = g.B.Brancher.guidance s.1 in
     let takes = turn_by g.B.Brancher.guidance g.B.Brancher.chooses g.B.Brancher.hears g.B.Brancher.stays g.met.B.Brancher.goes_by g.met.B.Brancher.stays_guided g.met.B.Brancher.hears_guided
     rows s t p q c.in_ok-turn.turn (record { before = k.sound.0; after = k.sound.1; search = k.turn; brancher = k.brancher }) in
-    record {
+    IfOk-weaker c.note_turn.result (λ over. over ≡ is_some (end_of c.in_ok-turn.turn)) (TurnedBy before rows s.0 t.0 p q) (λ over last. record {
       before = k.sound.0;
       after = k.sound.1;
       turn = c.in_ok-turn.turn;
       takes = subst (λ (x : Guidance). OneTurn ChoosesBy (λ h clause restart after. after ≡ h) (λ h after. after ≡ h) rows (s.0, before) (t.0, x) p q c.in_ok-turn.turn) k.guidance takes;
-      last = c.is_last.ensures;
-    }
+      last = last;
+    }) c.note_turn.ensures.last

@@ -1,0 +1,215 @@
+-- What turns of a worker of any kind come to, and why they come to an end.
+use Rattle.std.specs.Prelude.{Option, Some, None, is_some, Bool, true, false}
+use Rattle.std.proofs.Common.{◌≡◌, refl, sym, ap, subst, ◌∙◌, ℕ, ◌+◌, ◌<◌, ◌⊎◌, inl, inr, []}
+use Rattle.cps_model.specs.declared.model.CpModel.{CpModel}
+use Rattle.cps_model.specs.declared.bound.Bound.TheVariants.{Infinite}
+use Rattle.cps_instance.specs.Problem.{Problem}
+use Rattle.cps_trail.specs.Trail.{open_values}
+use Rattle.cps_port.specs.declared.part.BoardPart.{BoardPart}
+use Rattle.cps_port.specs.declared.part.Part.{Part}
+use Rattle.cps_branch.specs.declared.guidance.Guidance.{Guidance}
+use Rattle.cps_branch.specs.Guidances.{ChoosesBy}
+use Rattle.cps_search.specs.declared.end.End.{End}
+use Rattle.cps_search.specs.declared.end.WorkerKind.{WorkerKind}
+use Rattle.cps_search.specs.declared.end.WorkerKind.TheVariants as kinds
+use Rattle.cps_search.specs.declared.turn.Turn.{Turn}
+use Rattle.cps_search.specs.Searches.{Search, IsSoundSearch}
+use Rattle.cps_search.specs.Moves.{fresh}
+use Rattle.cps_search.specs.Turns.{SameSetting}
+use Rattle.cps_search.specs.Following.{MovesWith}
+use Rattle.cps_search.specs.Guided.{IsGuidedBy, RunsBy}
+use Rattle.cps_search.specs.Ends.{EndsAs, IsComplete, IsHonestEnding, IsOver, RunsTo, TakesTurns, none_yet, one_more, end_of, ending}
+use Rattle.cps_search.proofs.Ending.{honest_ending}
+use Rattle.cps_search.proofs.Weighing.{left_of, lowered}
+use Rattle.cps_search.proofs.Working.{HasRun, run_begins, run_goes_on, run_ends}
+use Rattle.cps_neighbourhood.specs.Nears.{Near, NearRunsInTurns, TakesNearTurn, TakesNearTurns, aimed}
+use Rattle.cps_neighbourhood.specs.Nears.{none_yet as near_none_yet, one_more as near_one_more}
+use Rattle.cps_neighbourhood.proofs.Counting.{HasNearRun, near_begins, near_goes_on, near_honest, near_turns_run}
+use Rattle.cps_neighbourhood.proofs.Lasting.{near_left, near_lowered}
+use Rattle.cps_portfolio.specs.Workers.{AnySearch, by_guidance, in_rounds, search_in, kind_in, IsFirstInstance, BeginsGuided, BeginsRounds, BeginsAs, IsAimed, TakesTurnsBy, TurnedBy, TurnedNear, HasTurned, TakesTurnsAs, HasEnded}
+use Rattle.cps_portfolio.specs.Crews.{IsDone}
+
+pub none_of : (o : Option End) → false ≡ is_some o → o ≡ None
+none_of None e = refl
+none_of (Some x) e = absurd cc
+
+pub some_of : (o : Option End) → true ≡ is_some o → (end : End) × (o ≡ Some end)
+some_of None e = absurd cc
+some_of (Some x) e = (x, refl)
+
+-- ---- a worker that begins
+
+pub record HasBegun (m : CpModel) (gap : ℕ) (s : Search) : Type 0 where
+  pub budget : Option ℕ
+  pub problem : Problem
+  pub first : IsFirstInstance m problem
+  pub is : s ≡ fresh problem gap budget
+
+pub has_begun : (m : CpModel) (gap conflicts : ℕ) (s : AnySearch) → BeginsAs m gap conflicts s → HasBegun m gap (search_in s)
+has_begun m gap conflicts (by_guidance kind guidance s) h = record { budget = Some conflicts; problem = h.begins.problem; first = h.begins.first; is = h.begins.is }
+has_begun m gap conflicts (in_rounds n) h = record { budget = None; problem = h.problem; first = h.first; is = h.is.search }
+
+-- ---- a worker that is handed a solution
+
+pub aimed_search : (m n : Near) → IsAimed m n → n.search ≡ m.search
+aimed_search m n (inl e) = ap (λ (x : Near). x.search) e
+aimed_search m n (inr x) = ap (λ (x : Near). x.search) x.2
+
+aimed_turns : (rows : ℕ) (s : Near) (p : Part) (t n : Near) (q : Part) → TakesNearTurns rows s p t q → IsAimed t n → TakesNearTurns rows s p n q
+aimed_turns rows s p t n q turns (inl e) = subst (λ (x : Near). TakesNearTurns rows s p x q) (sym e) turns
+aimed_turns rows s p t n q turns (inr x) = subst (λ (x : Near). TakesNearTurns rows s p x q) (sym x.2) (aimed t q x.0 turns x.1)
+
+-- ---- what was done by any turns that did not end the worker
+
+has_run : (rows : ℕ) (s : Search × Guidance) (p : Part) (t : Search × Guidance) (q : Part) → TakesTurns ChoosesBy (λ before clause restart after. after ≡ before) (λ before after. after ≡ before) rows s p t q → HasRun s.0 t.0 p q
+has_run rows s p t q none_yet = run_begins s.0 p
+has_run rows s p t q (one_more m u n r turn before goes_on last) = run_goes_on (ChoosesBy m.1) s.0 m.0 u.0 rows p n r turn goes_on (has_run rows s p m n before) last.search
+
+near_run : (rows : ℕ) (s : Near) (p : Part) (t : Near) (q : Part) → TakesNearTurns rows s p t q → HasNearRun s t p q
+near_run rows s p t q near_none_yet = near_begins s p
+near_run rows s p t q (near_one_more m u n r turn before going last) = near_goes_on s m u rows p n r turn going (near_run rows s p m n before) last
+near_run rows s p t q (aimed u r solution before is) = (let k = near_run rows s p u r before in record { run = k.run; conflicts = k.conflicts })
+
+pub record HasKept (s t : Search) (p q : Part) : Type 0 where
+  pub setting : SameSetting s t
+  pub moves : MovesWith s t p q
+
+pub has_kept : (rows : ℕ) (s t : AnySearch) (p q : Part) → TakesTurnsAs rows s t p q → HasKept (search_in s) (search_in t) p q
+has_kept rows (by_guidance kind g s) (by_guidance same h t) p q turns = (let run = has_run rows (s, g) p (t, g) q turns.2 in record { setting = run.setting; moves = run.moves })
+has_kept rows (by_guidance kind g s) (in_rounds n) p q turns = absurd turns
+has_kept rows (in_rounds m) (by_guidance kind g t) p q turns = absurd turns
+has_kept rows (in_rounds m) (in_rounds n) p q turns = (let run = near_run rows m p n q turns in record { setting = run.run.setting; moves = run.run.moves })
+
+-- no turn yet
+pub none_taken : (rows : ℕ) (s : AnySearch) (p : Part) → TakesTurnsAs rows s s p p
+none_taken rows (by_guidance kind g s) p = (refl, refl, none_yet)
+none_taken rows (in_rounds n) p = near_none_yet
+
+-- one turn more that did not end the worker
+pub turned_on : (rows : ℕ) (first s t : AnySearch) (start p q : Part) → TakesTurnsAs rows first s start p → HasTurned rows s t p q false → TakesTurnsAs rows first t start q
+turned_on rows (by_guidance k g f) (by_guidance l h s) (by_guidance o i t) start p q turns turn =
+    let last = subst (λ (x : Guidance). TurnedBy x rows s t p q false) turns.1 turn.2 in
+    (turn.0 ∙ turns.0, turn.1 ∙ turns.1, one_more (s, g) (t, g) p q last.turn turns.2 (none_of (end_of last.turn) last.last) last.takes)
+turned_on rows (by_guidance k g f) (by_guidance l h s) (in_rounds n) start p q turns turn = absurd turn
+turned_on rows (by_guidance k g f) (in_rounds m) t start p q turns turn = absurd turns
+turned_on rows (in_rounds f) (by_guidance l h s) t start p q turns turn = absurd turns
+turned_on rows (in_rounds f) (in_rounds m) (by_guidance o i t) start p q turns turn = absurd turn
+turned_on rows (in_rounds f) (in_rounds m) (in_rounds n) start p q turns turn =
+    near_one_more turn.aimed n p q turn.turn (aimed_turns rows f start m turn.aimed p turns turn.aims) (none_of (end_of turn.turn) turn.last) turn.takes
+
+pub still_runs : (rows : ℕ) (s t : AnySearch) (p q : Part) → HasTurned rows s t p q false → IsOver (search_in t).said → ⊥
+still_runs rows (by_guidance k g s) (by_guidance l h t) p q turn = (let last = turn.2 in subst (λ (o : Option End). EndsAs o t) (none_of (end_of last.turn) last.last) last.takes.search.ends)
+still_runs rows (by_guidance k g s) (in_rounds n) p q turn = absurd turn
+still_runs rows (in_rounds m) (by_guidance l h t) p q turn = absurd turn
+still_runs rows (in_rounds m) (in_rounds n) p q turn = subst (λ (o : Option End). EndsAs o n.search) (none_of (end_of turn.turn) turn.last) turn.takes.ends
+
+-- ---- why turns come to an end
+
+-- what a worker has left to do
+abbrev pub left_in : AnySearch → ℕ → BoardPart → ℕ
+left_in (by_guidance kind g s) rows b = left_of (open_values s.problem.domains [] + 1) s rows b
+left_in (in_rounds n) rows b = near_left (open_values n.search.problem.domains [] + 1) n rows b
+
+guided_lighter : (rows : ℕ) (g : Guidance) (s t : Search) (p q : Part) → TurnedBy g rows s t p q false → left_of (open_values t.problem.domains [] + 1) t rows q.board < left_of (open_values s.problem.domains [] + 1) s rows p.board
+guided_lighter rows g s t p q turn =
+    let setting = turn.takes.search.setting in
+    let less = lowered s t rows p.board q.board turn.before turn.after setting (turn.takes.search.lowers (none_of (end_of turn.turn) turn.last)) in
+    subst (λ (x : Problem). left_of (open_values x.domains [] + 1) t rows q.board < left_of (open_values s.problem.domains [] + 1) s rows p.board) (sym setting.problem) less
+
+near_lighter_by : (rows : ℕ) (m n : Near) (p q : Part) (turn : Turn) → IsSoundSearch m.search → IsSoundSearch n.search → m.search.budget ≡ None → end_of turn ≡ None → TakesNearTurn m n rows p q turn
+    → near_left (open_values n.search.problem.domains [] + 1) n rows q.board < near_left (open_values m.search.problem.domains [] + 1) m rows p.board
+near_lighter_by rows m n p q turn before after budget going takes =
+    let less = near_lowered m n rows p.board q.board before after takes.setting takes.conflicts budget (takes.lowers going) in
+    subst (λ (x : Problem). near_left (open_values x.domains [] + 1) n rows q.board < near_left (open_values m.search.problem.domains [] + 1) m rows p.board) (sym takes.setting.problem) less
+
+near_lighter : (rows : ℕ) (m n : Near) (p q : Part) → TurnedNear rows m n p q false → near_left (open_values n.search.problem.domains [] + 1) n rows q.board < near_left (open_values m.search.problem.domains [] + 1) m rows p.board
+near_lighter rows m n p q turn = go turn.aimed turn.aims turn.takes
+  where
+    going : end_of turn.turn ≡ None
+    going = none_of (end_of turn.turn) turn.last
+
+    -- what it aims at is no part of what is left
+    go : (a : Near) → IsAimed m a → TakesNearTurn a n rows p q turn.turn → near_left (open_values n.search.problem.domains [] + 1) n rows q.board < near_left (open_values m.search.problem.domains [] + 1) m rows p.board
+    go a (inl e) takes = near_lighter_by rows m n p q turn.turn turn.before turn.after turn.no_budget going (subst (λ (x : Near). TakesNearTurn x n rows p q turn.turn) e takes)
+    go a (inr x) takes = near_lighter_by rows (record m { aim = Some x.0 }) n p q turn.turn turn.before turn.after turn.no_budget going (subst (λ (y : Near). TakesNearTurn y n rows p q turn.turn) x.2 takes)
+
+pub lighter_in : (rows : ℕ) (s t : AnySearch) (p q : Part) → HasTurned rows s t p q false → left_in t rows q.board < left_in s rows p.board
+lighter_in rows (by_guidance k g s) (by_guidance l h t) p q turn = guided_lighter rows g s t p q turn.2
+lighter_in rows (by_guidance k g s) (in_rounds n) p q turn = absurd turn
+lighter_in rows (in_rounds m) (by_guidance l h t) p q turn = absurd turn
+lighter_in rows (in_rounds m) (in_rounds n) p q turn = near_lighter rows m n p q turn
+
+-- ---- a worker that knew nothing at first has ended
+
+-- a complete one, by a guidance that is what the model says
+guided_done : (m : CpModel) (gap conflicts rows : ℕ) (kind : WorkerKind) (g : Guidance) (s u t : Search) (p n q : Part) → BeginsGuided m gap conflicts kind g s → TakesTurnsBy g rows s u p n → TurnedBy g rows u t n q true
+    → p.bounds.offered ≡ Infinite → p.bounds.raised ≡ None → IsDone m gap conflicts q.bounds (by_guidance kind g t)
+guided_done m gap conflicts rows kind g s u t p n q begins turns last offered raised =
+    let e = some_of (end_of last.turn) last.last in
+    let b = begins.begins in
+    let ends = run_ends (ChoosesBy g) s u t rows p n q last.turn e.0 last.before (has_run rows (s, g) p (u, g) n turns) last.takes.search e.1 in
+    let runs = subst (λ (x : Search). RunsTo x t p q e.0) b.is ends in
+    let guided : RunsBy g rows s t p q e.0 = record { before = (u, g); part = n; turns = turns; turn = last.turn; last = last.takes; ended = e.1 } in
+    record {
+      end = e.0;
+      over = ends.said;
+      honest = subst (λ (x : CpModel). IsHonestEnding x gap conflicts q.bounds (ending kind (Some g) e.0 t)) b.first.model
+          (honest_ending b.problem gap conflicts t p q kind (Some g) e.0 begins.complete runs last.after offered raised);
+      sums = ap (λ (x : Problem). x.defs) runs.setting.problem ∙ b.first.sums;
+      goes = record {
+        problem = b.problem;
+        instance = b.first.sound;
+        model = b.first.model;
+        sums = sym (ap (λ (x : Problem). x.defs) runs.setting.problem);
+        guide = subst (λ (x : Search). IsGuidedBy kind x.problem (Some g)) b.is begins.guide;
+        decisions = record {
+          rows = rows;
+          done = t;
+          before = p;
+          after = q;
+          runs = subst (λ (x : Search). RunsBy g rows x t p q e.0) b.is guided;
+          seen = refl;
+        };
+        rounds = λ is. absurd (subst IsComplete is begins.complete);
+      };
+    }
+
+-- one that went in rounds
+near_done : (m : CpModel) (gap conflicts rows : ℕ) (s u t : Near) (p n q : Part) → BeginsRounds m gap conflicts s → TakesNearTurns rows s p u n → TurnedNear rows u t n q true
+    → p.bounds.offered ≡ Infinite → p.bounds.raised ≡ None → IsDone m gap conflicts q.bounds (in_rounds t)
+near_done m gap conflicts rows s u t p n q begins turns last offered raised =
+    let e = some_of (end_of last.turn) last.last in
+    let runs : NearRunsInTurns rows s t p q e.0 = record { before = last.aimed; part = n; turns = aimed_turns rows s p u last.aimed n turns last.aims; turn = last.turn; last = last.takes; ended = e.1 } in
+    let sound = subst IsSoundSearch (sym (aimed_search u last.aimed last.aims)) last.before in
+    let run = near_turns_run rows s t p q e.0 runs sound in
+    let problem : t.search.problem ≡ begins.problem = run.setting.problem ∙ ap (λ (x : Search). x.problem) begins.is.search in
+    record {
+      end = e.0;
+      over = run.said;
+      honest = subst (λ (x : CpModel). IsHonestEnding x gap conflicts q.bounds (ending kinds.Near None e.0 t.search)) begins.first.model
+          (near_honest begins.problem gap conflicts rows begins.draws s t p q e.0 begins.is runs sound last.after offered raised);
+      sums = ap (λ (x : Problem). x.defs) problem ∙ begins.first.sums;
+      goes = record {
+        problem = begins.problem;
+        instance = begins.first.sound;
+        model = begins.first.model;
+        sums = sym (ap (λ (x : Problem). x.defs) problem);
+        guide = tt;
+        decisions = tt;
+        rounds = λ is. record { rows = rows; draws = begins.draws; first = s; begins = begins.is; done = t; before = p; after = q; runs = runs; seen = refl };
+      };
+    }
+
+done_by : (m : CpModel) (gap conflicts rows : ℕ) (s u t : AnySearch) (p n q : Part) → BeginsAs m gap conflicts s → TakesTurnsAs rows s u p n → HasTurned rows u t n q true → p.bounds.offered ≡ Infinite → p.bounds.raised ≡ None
+    → IsDone m gap conflicts q.bounds t
+done_by m gap conflicts rows (by_guidance k g s) (by_guidance l h u) (by_guidance o i t) p n q begins turns last offered raised =
+    let done = guided_done m gap conflicts rows k g s u t p n q begins turns.2 (subst (λ (x : Guidance). TurnedBy x rows u t n q true) turns.1 last.2) offered raised in
+    subst (λ (x : WorkerKind). IsDone m gap conflicts q.bounds (by_guidance x i t)) (sym (last.0 ∙ turns.0)) (subst (λ (x : Guidance). IsDone m gap conflicts q.bounds (by_guidance k x t)) (sym (last.1 ∙ turns.1)) done)
+done_by m gap conflicts rows (by_guidance k g s) (by_guidance l h u) (in_rounds t) p n q begins turns last offered raised = absurd last
+done_by m gap conflicts rows (by_guidance k g s) (in_rounds u) t p n q begins turns last offered raised = absurd turns
+done_by m gap conflicts rows (in_rounds s) (by_guidance l h u) t p n q begins turns last offered raised = absurd turns
+done_by m gap conflicts rows (in_rounds s) (in_rounds u) (by_guidance o i t) p n q begins turns last offered raised = absurd last
+done_by m gap conflicts rows (in_rounds s) (in_rounds u) (in_rounds t) p n q begins turns last offered raised = near_done m gap conflicts rows s u t p n q begins turns last offered raised
+
+pub done_from : (m : CpModel) (gap conflicts rows : ℕ) (s t : AnySearch) (p q : Part) → BeginsAs m gap conflicts s → p.bounds.offered ≡ Infinite → p.bounds.raised ≡ None → HasEnded rows s t p q → IsDone m gap conflicts q.bounds t
+done_from m gap conflicts rows s t p q begins offered raised h = done_by m gap conflicts rows s h.before t p h.part q begins h.turns h.last offered raised

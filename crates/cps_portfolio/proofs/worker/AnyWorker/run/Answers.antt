@@ -1,0 +1,81 @@
+-- One turn more, of a worker that has not ended, and that it leaves less to do.
+use Rattle.std.proofs.Common.{◌≡◌, ◌<◌, ◌∙◌, ℕ, refl, sym, ap, subst, false, true, Bool}
+use Rattle.cps_instance.specs.Problem.{Problem}
+use Rattle.cps_search.specs.Searches.{Search}
+use Rattle.cps_portfolio.specs.Workers.{known_of, search_of, HasTurned}
+use Rattle.cps_portfolio.proofs.Going.{has_kept, left_in, lighter_in, none_taken, still_runs, turned_on}
+use Rattle.cps_portfolio.proofs.worker.AnyWorker.run.Goals as goal
+
+pub turns-init : goal.turns-init
+turns-init g c = record {
+  running = c.requires.running;
+  turns = none_taken (g.Q.Port.rows c.args.port.now) (known_of c.args.self.now) (g.Q.Port.part c.args.port.now);
+  kind = refl;
+  model = refl;
+  rows = refl;
+  stays = g.met.Q.Port.unmoved c.args.port.now;
+  pool = refl;
+}
+
+pub turn-requires-clause-memory : goal.turn-requires-clause-memory
+turn-requires-clause-memory g c =
+    let kept = has_kept (g.Q.Port.rows c.args.port.now) (known_of c.args.self.now) (known_of c.turns.self) (g.Q.Port.part c.args.port.now) (g.Q.Port.part c.turns.port) c.turns.invariant.turns in
+    kept.setting.refused ∙ c.requires.memory
+
+pub turn-requires-clause-model : goal.turn-requires-clause-model
+turn-requires-clause-model g c =
+    let kept = has_kept (g.Q.Port.rows c.args.port.now) (known_of c.args.self.now) (known_of c.turns.self) (g.Q.Port.part c.args.port.now) (g.Q.Port.part c.turns.port) c.turns.invariant.turns in
+    c.turns.invariant.model ∙ c.requires.model ∙ sym (ap (λ (p : Problem). p.model) kept.setting.problem)
+
+pub turn-requires-clause-pool : goal.turn-requires-clause-pool
+turn-requires-clause-pool g c =
+    let kept = has_kept (g.Q.Port.rows c.args.port.now) (known_of c.args.self.now) (known_of c.turns.self) (g.Q.Port.part c.args.port.now) (g.Q.Port.part c.turns.port) c.turns.invariant.turns in
+    c.turns.invariant.pool ∙ c.requires.pool ∙ sym (ap (λ (p : Problem). p.model) kept.setting.problem)
+
+pub turn-requires-clause-imported : goal.turn-requires-clause-imported
+turn-requires-clause-imported g c =
+    let kept = has_kept (g.Q.Port.rows c.args.port.now) (known_of c.args.self.now) (known_of c.turns.self) (g.Q.Port.part c.args.port.now) (g.Q.Port.part c.turns.port) c.turns.invariant.turns in
+    kept.moves.imports c.requires.imported
+
+pub turns-preserved : goal.turns-preserved
+turns-preserved g c =
+    let i = c.turns.invariant in
+    let k = c.in_ok-over.ensures in
+    let s = known_of c.turns.self in
+    let t = known_of c.turn.new.self in
+    let p = g.Q.Port.part c.turns.port in
+    let q = g.Q.Port.part c.turn.new.port in
+    let rows = g.Q.Port.rows c.args.port.now in
+    let turn = subst (λ (n : ℕ). HasTurned n s t p q false) i.rows (subst (HasTurned (g.Q.Port.rows c.turns.port) s t p q) c.if-over.false k.turn) in
+    record {
+      running = still_runs rows s t p q turn;
+      turns = turned_on rows (known_of c.args.self.now) s t (g.Q.Port.part c.args.port.now) p q i.turns turn;
+      kind = k.kind ∙ i.kind;
+      model = k.same.0 ∙ i.model;
+      rows = k.same.1 ∙ i.rows;
+      stays = g.met.Q.Port.moved_on c.args.port.now c.turns.port c.turn.new.port i.stays k.others;
+      pool = k.pool ∙ i.pool;
+    }
+
+pub turns-smaller : goal.turns-smaller
+turns-smaller g c =
+    let s = known_of c.turns.self in
+    let t = known_of c.turn.new.self in
+    let p = g.Q.Port.part c.turns.port in
+    let q = g.Q.Port.part c.turn.new.port in
+    let turn = subst (λ (n : ℕ). HasTurned n s t p q false) c.turns.invariant.rows (subst (HasTurned (g.Q.Port.rows c.turns.port) s t p q) c.if-over.false c.in_ok-over.ensures.turn) in
+    lighter_in (g.Q.Port.rows c.args.port.now) s t p q turn
+
+pub returns-clause-runs : goal.returns-clause-runs
+returns-clause-runs g c =
+    let i = c.turns.invariant in
+    let s = known_of c.turns.self in
+    let t = known_of c.turn.new.self in
+    let p = g.Q.Port.part c.turns.port in
+    let q = g.Q.Port.part c.turn.new.port in
+    record {
+      before = s;
+      part = p;
+      turns = i.turns;
+      last = subst (λ (n : ℕ). HasTurned n s t p q true) i.rows (subst (HasTurned (g.Q.Port.rows c.turns.port) s t p q) c.if-over.true c.in_ok-over.ensures.turn);
+    }
