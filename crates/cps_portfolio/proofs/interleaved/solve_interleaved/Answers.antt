@@ -3,6 +3,7 @@ use Rattle.std.proofs.Common.{rules, ◌≡◌, ℕ, length, map, sym, ap, subst
 use Rattle.std.proofs.lemmas.Result.{IfOk-weaker}
 use Rattle.cps_model.specs.declared.model.CpModel.{CpModel}
 use Rattle.cps_model.specs.declared.bound.Bound.{Bound}
+use Rattle.cps_pool.specs.Pools.{Found}
 use Rattle.cps_port.specs.Cores.{Core, actor_count, first_core}
 use Rattle.cps_search.specs.Ends.{Ending, IsOver}
 use Rattle.cps_portfolio.specs.declared.interleaved.Turning.{Turning}
@@ -24,6 +25,9 @@ take_turns-turns-requires-clause-crew c =
     let crew = subst (λ (l : List Turning). AreFresh m o.gap o.conflicts o.seed l) (sym c.as_mut_slice.ensures.value) c.in_ok-crew.ensures.each in
     subst (λ (x : CpModel). AreTurning x o.gap o.conflicts (length core.board.rows) core c.as_mut_slice.result.now) (sym model)
     (all_fresh m o.gap o.conflicts o.seed (length core.board.rows) o.workers 4096 core c.as_mut_slice.result.now first crew)
+
+pub take_turns-turns-requires-clause-pool : goal.take_turns-turns-requires-clause-pool
+take_turns-turns-requires-clause-pool c = ap (λ (x : Found). x.model) c.new-pool.ensures ∙ sym (ap (λ (x : Core). x.model) c.in_ok-core.ensures.first)
 
 pub finish_all-requires : goal.finish_all-requires
 finish_all-requires c =

@@ -1,5 +1,5 @@
 -- All workers are back, and the words are what their seats know together.
-use Rattle.std.proofs.Common.{rules, ◌≡◌, ℕ, ◌+◌, length, sym, ap, subst, ◌∙◌, List}
+use Rattle.std.proofs.Common.{rules, ◌≡◌, ℕ, ◌+◌, length, sym, ap, subst, ◌∙◌, List, All}
 use Rattle.cps_board.specs.declared.seats.Board.{Board}
 use Rattle.cps_bounds.specs.declared.seats.Bounds.{Bounds}
 use Rattle.cps_model.specs.declared.bound.Bound.TheVariants.{At}
@@ -10,9 +10,17 @@ use Rattle.cps_port.specs.Order.{raised_above}
 use Rattle.cps_port.specs.Totals.{total}
 use Rattle.cps_bounds.specs.Seats as words
 use Rattle.cps_portfolio.specs.declared.seats.Seated.{Seated}
-use Rattle.cps_portfolio.specs.Crews.{words_splits, IsCrew, AreBack, AreGathered}
-use Rattle.cps_portfolio.proofs.Crews.{written, all_back, splits_back, came_to}
+use Rattle.cps_portfolio.specs.Crews.{words_splits, IsCrew, IsReady, AreBack, AreGathered}
+use Rattle.cps_portfolio.proofs.Crews.{written, all_ready, all_back, splits_back, came_to}
 use Rattle.cps_portfolio.proofs.threads.solve.Goals as goal
+
+pub work_all-requires-clause-ready : goal.work_all-requires-clause-ready
+work_all-requires-clause-ready g c =
+    let m = c.args.model.now in
+    let o = c.args.options.now in
+    let ready = all_ready m o.gap o.conflicts c.in_ok-board.board c.in_ok-bounds.bounds c.in_ok-crew.crew.items c.in_ok-bounds.ensures.model c.in_ok-crew.ensures.crew in
+    let here = subst (λ (l : List Seated). All (IsReady m) l) (sym c.as_mut_slice.ensures.value) ready in
+    subst (λ (x : CpModel). All (IsReady x) c.as_mut_slice.result.now) (sym c.in_ok-pool.ensures) here
 
 pub gather-requires-clause-splits : goal.gather-requires-clause-splits
 gather-requires-clause-splits g c =

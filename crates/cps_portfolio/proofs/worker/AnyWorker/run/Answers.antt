@@ -66,8 +66,8 @@ turns-smaller g c =
     let turn = subst (λ (n : ℕ). HasTurned n s t p q false) c.turns.invariant.rows (subst (HasTurned (g.Q.Port.rows c.turns.port) s t p q) c.if-over.false c.in_ok-over.ensures.turn) in
     lighter_in (g.Q.Port.rows c.args.port.now) s t p q turn
 
-pub returns-clause-runs : goal.returns-clause-runs
-returns-clause-runs g c =
+pub returns-then-over-clause-runs : goal.returns-then-over-clause-runs
+returns-then-over-clause-runs g c =
     let i = c.turns.invariant in
     let s = known_of c.turns.self in
     let t = known_of c.turn.new.self in
