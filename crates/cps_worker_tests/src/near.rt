@@ -1,8 +1,8 @@
 //! A worker that searches near solutions, alone.
-ghost use Rattle.std.specs.Prelude.{◌≤◌, ◌^◌, IfOk};
+ghost use Rattle.std.specs.Prelude.{◌≡◌, ◌≤◌, ◌^◌, IfOk};
 ghost use Rattle.cps_kinds.specs.Kinds.{AreAllPropagated};
+ghost use Rattle.cps_search.specs.Ends.{IsOver};
 ghost use Rattle.cps_search.specs.Searches.{HasNoAssumptions};
-ghost use Rattle.cps_portfolio.specs.Workers.{BeginsRounds};
 
 use crate::models::{sum, three};
 use cps_instance::Instance;
@@ -23,19 +23,44 @@ fn near_worker_of<'a>(
     requires conflicts { conflicts ≤ 10 ^ 9 }
     requires assumptions { HasNoAssumptions model.now }
     requires kinds { AreAllPropagated model.now }
-    ensures { IfOk result (BeginsRounds model.entry.now 0 conflicts) }
+    ensures model { IfOk result (λ worker. worker.search.problem.model ≡ model.entry.now) }
+    ensures running { IfOk result (λ worker. IsOver worker.search.said → ⊥) }
+    ensures imported { IfOk result (λ worker. worker.search.imported ≡ 0) }
 {
     let instance = Instance::of(alloc, model)?;
     let engine = engine_of(alloc, &instance)?;
     NearWorker::new(alloc, instance, engine, conflicts, 1, 3, 0)
 }
 
-/// How many rounds such a worker does up to its end, and the bounds that it leaves.
-fn rounds_and_bounds(
+/// How many rounds such a worker does up to its end, over a port of its model.
+fn rounds_over<Q: Port>(
     alloc: Global,
     model: &ValidModel,
+    port: &mut Q,
     conflicts: u64,
-) -> Result<(u64, Bound, Bound), AllocError>
+) -> Result<u64, AllocError>
+    requires conflicts { conflicts ≤ 10 ^ 9 }
+    requires assumptions { HasNoAssumptions model.now }
+    requires kinds { AreAllPropagated model.now }
+    requires model { Q.model port.old ≡ model.now }
+{
+    // A list is dropped as one; the borrow checker does not cover how a worker in a variable is.
+    let mut crew = Vec::new(alloc);
+    crew.push(near_worker_of(alloc, model, conflicts)?)?;
+    crew[0].run(port)?;
+    Ok(crew[0].rounds())
+}
+
+/// What a worker left: how many rounds it did, and the two bounds.
+#[derive(Drop)]
+struct Explored {
+    rounds: u64,
+    upper: Bound,
+    lower: Bound,
+}
+
+/// Such a worker alone over a state.
+fn alone(alloc: Global, model: &ValidModel, conflicts: u64) -> Result<Explored, AllocError>
     requires conflicts { conflicts ≤ 10 ^ 9 }
     requires assumptions { HasNoAssumptions model.now }
     requires kinds { AreAllPropagated model.now }
@@ -45,20 +70,25 @@ fn rounds_and_bounds(
         core: &mut core,
         actor: 0,
     };
-    // A list is dropped as one; the borrow checker does not cover how a worker in a variable is.
-    let mut crew = Vec::new(alloc);
-    crew.push(near_worker_of(alloc, model, conflicts)?)?;
-    crew[0].run(&mut port)?;
-    let rounds = crew[0].rounds();
+    let rounds = rounds_over(alloc, model, &mut port, conflicts);
     let upper = port.upper();
     let lower = port.lower();
-    Ok((rounds, upper, lower))
+    let PlainPort {
+        core: _core,
+        actor: _actor,
+    } = port;
+    Ok(Explored {
+        rounds: rounds?,
+        upper,
+        lower,
+    })
 }
 
 #[test]
 fn a_worker_does_its_rounds_at_most(rt: HostRuntime) -> Result<(), Fail> {
     let model = three(rt.alloc(), 2, Some(sum(rt.alloc())?))?;
-    let (rounds, upper, lower) = rounds_and_bounds(rt.alloc(), &model, 250)?;
-    assert!(rt; rounds <= 3 && upper == Bound::At(3) && lower == Bound::At(3));
+    let left = alone(rt.alloc(), &model, 250)?;
+    assert!(rt; left.rounds <= 3);
+    assert!(rt; left.upper == Bound::At(3) && left.lower == Bound::At(3));
     Ok(())
 }
