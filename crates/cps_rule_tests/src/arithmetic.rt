@@ -1,4 +1,4 @@
-//! Quotients, and what division leaves.
+//! Quotients, what division leaves, products and greatest values.
 
 ghost use Rattle.std.specs.Prelude.{IfOk, IsTrue};
 ghost use Rattle.cps_instance.specs.Terms.{Domains};
@@ -6,7 +6,7 @@ ghost use Rattle.cps_instance.specs.Fitting.{IsFittingBody};
 ghost use Rattle.cps_p_arith.specs.Demands.{is_arithmetic};
 ghost use Rattle.cps_rule_tests.specs.Ready.{IsPlain};
 
-use crate::runs::{Left, Outcome, ends_by, leaves, trial};
+use crate::runs::{Left, Outcome, ends_by, leaves, refuses, trial};
 use crate::stores::{Ends, at_least, at_most};
 use cps_enforce::Enforced;
 use cps_instance::{Body, Task};
@@ -21,6 +21,8 @@ use std::test::Fail;
 enum Kind {
     Quotient,
     Remainder,
+    Product,
+    Greatest,
 }
 
 fn body(alloc: Global, kind: Kind) -> Result<Body, AllocError>
@@ -31,6 +33,8 @@ fn body(alloc: Global, kind: Kind) -> Result<Body, AllocError>
     match kind {
         Kind::Quotient => Ok(Body::IntDiv { target: 0, exprs }),
         Kind::Remainder => Ok(Body::IntMod { target: 0, exprs }),
+        Kind::Product => Ok(Body::IntProd { target: 0, exprs }),
+        Kind::Greatest => Ok(Body::LinMax { target: 0, exprs }),
     }
 }
 
@@ -218,13 +222,109 @@ fn what_is_left_is_less_than_the_divisor(rt: HostRuntime) -> Result<(), Fail> {
     Ok(())
 }
 
-// 17 / 5 is 3, and so is each number's quotient up to 19.
+/// A kind, ends and decisions, and the reason of what is narrowed last, or the conflict. Bounds that each first value meets are in neither.
+#[derive(Clone, Copy)]
+struct Told<'a> {
+    kind: Kind,
+    ends: [Ends; 3],
+    decided: &'a [Atom],
+    clause: &'a [Atom],
+}
+
+fn is_narrowed_by(alloc: Global, row: Told) -> Result<bool, AllocError> {
+    let found = computed(alloc, row.kind, &row.ends, row.decided)?;
+    Ok(ends_by(found, row.clause))
+}
+
+fn is_refused_by(alloc: Global, row: Told) -> Result<bool, AllocError> {
+    let found = computed(alloc, row.kind, &row.ends, row.decided)?;
+    Ok(refuses(found, row.clause))
+}
+
 #[test]
 fn reasons_ask_no_more_than_is_needed(rt: HostRuntime) -> Result<(), Fail> {
-    let alloc = rt.alloc();
-    let ends = [(0, 100), (0, 100), (5, 5)];
-    let found = computed(alloc, Kind::Quotient, &ends, &[at_most(1, 17)])?;
-    let is_weak = ends_by(found, &[at_least(1, 20), at_most(0, 3)]);
-    assert!(rt; is_weak);
+    let rows = [
+        // 17 / 5 is 3, and so is each number's quotient up to 19
+        Told {
+            kind: Kind::Quotient,
+            ends: [(0, 100), (0, 100), (5, 5)],
+            decided: &[at_most(1, 17)],
+            clause: &[at_least(1, 20), at_most(0, 3)],
+        },
+        // less than 5 is left by divisors up to 5, whatever is divided
+        Told {
+            kind: Kind::Remainder,
+            ends: [(0, 50), (0, 100), (1, 8)],
+            decided: &[at_most(1, 90), at_most(2, 5)],
+            clause: &[at_least(2, 6), at_most(0, 4)],
+        },
+        Told {
+            kind: Kind::Product,
+            ends: [(0, 100), (0, 100), (0, 100)],
+            decided: &[at_most(1, 3), at_most(2, 4)],
+            clause: &[at_least(1, 4), at_least(2, 5), at_most(0, 12)],
+        },
+        // what makes a product below 0 with a positive factor is below 0
+        Told {
+            kind: Kind::Product,
+            ends: [(-100, 100), (-100, 100), (1, 10)],
+            decided: &[at_most(0, -1)],
+            clause: &[at_least(0, 0), at_most(1, -1)],
+        },
+        // up to 9 the first member does not matter
+        Told {
+            kind: Kind::Greatest,
+            ends: [(0, 100), (0, 100), (0, 100)],
+            decided: &[at_most(1, 7), at_most(2, 9)],
+            clause: &[at_least(1, 10), at_least(2, 10), at_most(0, 9)],
+        },
+        // the first member falls short of 8 up to 7
+        Told {
+            kind: Kind::Greatest,
+            ends: [(0, 100), (0, 100), (0, 100)],
+            decided: &[at_least(0, 8), at_most(1, 5)],
+            clause: &[at_most(0, 7), at_least(1, 8), at_least(2, 8)],
+        },
+    ];
+    for row in rows {
+        let is_weak = is_narrowed_by(rt.alloc(), row)?;
+        assert!(rt; is_weak);
+    }
+    Ok(())
+}
+
+#[test]
+fn conflicts_ask_no_more_than_is_needed(rt: HostRuntime) -> Result<(), Fail> {
+    let rows = [
+        // 17 / 5 is 3 at most, as up to 19
+        Told {
+            kind: Kind::Quotient,
+            ends: [(0, 100), (0, 100), (5, 5)],
+            decided: &[at_least(0, 4), at_most(1, 17)],
+            clause: &[at_most(0, 3), at_least(1, 20)],
+        },
+        Told {
+            kind: Kind::Remainder,
+            ends: [(0, 50), (0, 100), (1, 8)],
+            decided: &[at_least(0, 5), at_most(1, 90), at_most(2, 5)],
+            clause: &[at_most(0, 4), at_least(2, 6)],
+        },
+        Told {
+            kind: Kind::Product,
+            ends: [(0, 100), (0, 100), (0, 100)],
+            decided: &[at_least(0, 13), at_most(1, 3), at_most(2, 4)],
+            clause: &[at_most(0, 12), at_least(1, 4), at_least(2, 5)],
+        },
+        Told {
+            kind: Kind::Greatest,
+            ends: [(0, 100), (0, 100), (0, 100)],
+            decided: &[at_least(0, 10), at_most(1, 9), at_most(2, 9)],
+            clause: &[at_most(0, 9), at_least(1, 10), at_least(2, 10)],
+        },
+    ];
+    for row in rows {
+        let is_weak = is_refused_by(rt.alloc(), row)?;
+        assert!(rt; is_weak);
+    }
     Ok(())
 }

@@ -11,6 +11,8 @@ mod boxes;
 #[cfg(test)]
 mod lists;
 #[cfg(test)]
+mod lookups;
+#[cfg(test)]
 mod resources;
 #[cfg(test)]
 mod runs;

@@ -34,6 +34,14 @@ pub fn at_most(subject: u32, value: i64) -> Atom {
     }
 }
 
+pub fn other_than(subject: u32, value: i64) -> Atom {
+    Atom {
+        subject,
+        op: Op::Ne,
+        value,
+    }
+}
+
 /// The numbers between two ends; an error where there are none, or one end is far from 0.
 fn interval(alloc: Global, ends: Ends) -> Result<Domain, AllocError>
     ensures { IfOk result (λ domain. AreIntervals (intervals domain)) }
