@@ -124,6 +124,45 @@ fn parts_fail_in_order(rt: HostRuntime) -> Result<(), Fail> {
     assert_places(&rt, rt.alloc(), &model, &rows)
 }
 
+/// The first variable's value is minimised, to 0 alone, and the second is assumed false.
+const WEIGHED: &str = "variables { domain: [0, 1] } variables { domain: [0, 1] } \
+    objective { vars: 0 coeffs: 1 domain: [0, 0] } assumptions: -2";
+
+#[test]
+fn objectives_fail_before_assumptions(rt: HostRuntime) -> Result<(), Fail> {
+    let model = valid_model(&rt, rt.alloc(), WEIGHED)?;
+    let rows: [([i64; 2], Option<Place>); 4] = [
+        ([0, 0], None),
+        ([1, 0], Some(Place::Objective)),
+        ([0, 1], Some(Place::Assumption(0))),
+        ([1, 1], Some(Place::Objective)),
+    ];
+    assert_places(&rt, rt.alloc(), &model, &rows)
+}
+
+/// Three variables 0..2, no two of them equal, with the least sum.
+const ORDERS: &str =
+    "variables { domain: [0, 2] } variables { domain: [0, 2] } variables { domain: [0, 2] } \
+    constraints { linear { vars: [0, 1] coeffs: [1, -1] domain: [-2, -1, 1, 2] } } \
+    constraints { linear { vars: [0, 2] coeffs: [1, -1] domain: [-2, -1, 1, 2] } } \
+    constraints { linear { vars: [1, 2] coeffs: [1, -1] domain: [-2, -1, 1, 2] } } \
+    objective { vars: [0, 1, 2] coeffs: [1, 1, 1] }";
+
+#[test]
+fn first_constraint_that_fails_is_named(rt: HostRuntime) -> Result<(), Fail> {
+    let model = valid_model(&rt, rt.alloc(), ORDERS)?;
+    let rows: [([i64; 3], Option<Place>); 4] = [
+        ([0, 0, 1], Some(Place::Constraint(0))),
+        ([1, 0, 1], Some(Place::Constraint(1))),
+        ([0, 1, 1], Some(Place::Constraint(2))),
+        ([2, 0, 1], None),
+    ];
+    for (values, place) in rows {
+        assert_place(&rt, rt.alloc(), &model, &values, place)?;
+    }
+    Ok(())
+}
+
 /// Of two variables 0..10, -3 times the first and -2 times the second are minimised, to a sum from -12 on.
 const SCORED: &str = "variables { domain: [0, 10] } variables { domain: [0, 10] } \
     objective { vars: [0, 1] coeffs: [-3, -2] domain: [-12, 9223372036854775807] scaling_factor: -1 }";
