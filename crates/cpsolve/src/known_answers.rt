@@ -663,37 +663,49 @@ pub const FAULTY_WORDS: [&[&str]; 15] = [
 /// The commands that read a model.
 pub const COMMANDS: [&str; 3] = ["solve", "validate", "print"];
 
-/// Words of a command, the first three bytes that it writes for a variable of two values, and whether it has an outcome.
+/// Words of a command and its input, the first three bytes that it writes, and whether it has an outcome.
 pub struct Beginning {
     pub words: &'static [&'static str],
+    pub input: &'static str,
     pub held: &'static str,
     pub has_outcome: bool,
 }
 
 /// What is held of texts of which no more is taken.
-pub const BEGINNINGS: [Beginning; 5] = [
+pub const BEGINNINGS: [Beginning; 6] = [
     Beginning {
         words: &["solve"],
+        input: "",
+        held: "sta",
+        has_outcome: true,
+    },
+    Beginning {
+        words: &["solve"],
+        input: "variables { domain: [0, 1] }",
         held: "sta",
         has_outcome: true,
     },
     Beginning {
         words: &["validate"],
+        input: "",
         held: "val",
         has_outcome: false,
     },
     Beginning {
         words: &["print"],
+        input: "variables { domain: [0, 1] }",
         held: "var",
         has_outcome: false,
     },
     Beginning {
         words: &["gen", "tour", "2", "7"],
+        input: "",
         held: "var",
         has_outcome: false,
     },
     Beginning {
         words: &["demo", "tour", "2", "7"],
+        input: "",
         held: "var",
         has_outcome: true,
     },

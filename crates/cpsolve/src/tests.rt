@@ -77,7 +77,7 @@ fn a_second_write_fails(rt: HostRuntime) -> Result<(), Fail> {
         let full = Given {
             at_once: 3,
             failing_writes: &[1],
-            ..unhindered(row.words, "variables { domain: [0, 1] }")
+            ..unhindered(row.words, row.input)
         };
         let seen = run(&rt, rt.alloc(), &full)?;
         assert!(rt; seen.is(4, row.has_outcome, row.held), "at {}", row.held);
