@@ -136,7 +136,12 @@ fn reasons_of_elements_name_each_place(rt: HostRuntime) -> Result<(), Fail> {
         Told {
             ends: [(0, 2), (0, 100), (0, 100), (0, 100), (0, 100)],
             decided: &[at_most(2, 3), at_most(3, 4), at_most(4, 9)],
-            clause: &[at_least(2, 10), at_least(3, 10), at_least(4, 10), at_most(1, 9)],
+            clause: &[
+                at_least(2, 10),
+                at_least(3, 10),
+                at_least(4, 10),
+                at_most(1, 9),
+            ],
         },
         // the first expression is at least 5, and the target below
         Told {
@@ -148,7 +153,12 @@ fn reasons_of_elements_name_each_place(rt: HostRuntime) -> Result<(), Fail> {
         Told {
             ends: [(0, 2), (0, 100), (0, 100), (0, 100), (0, 100)],
             decided: &[at_most(0, 1), at_most(2, 3), at_most(3, 4)],
-            clause: &[at_least(0, 2), at_least(2, 5), at_least(3, 5), at_most(1, 4)],
+            clause: &[
+                at_least(0, 2),
+                at_least(2, 5),
+                at_least(3, 5),
+                at_most(1, 4),
+            ],
         },
     ];
     for row in rows {
