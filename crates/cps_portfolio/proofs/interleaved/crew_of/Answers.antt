@@ -1,5 +1,5 @@
 -- One more worker, which knows nothing yet.
-use Rattle.std.proofs.Common.{rules, ◌≡◌, ℕ, false, length, refl, sym, subst, List, [], ◌∷◌, ◌++◌}
+use Rattle.std.proofs.Common.{arith, ◌≡◌, ℕ, false, length, refl, sym, subst, List, [], ◌∷◌, ◌++◌}
 use Rattle.cps_portfolio.specs.declared.interleaved.Turning.{Turning}
 use Rattle.cps_portfolio.specs.Turning.{IsFresh, AreFresh}
 use Rattle.cps_portfolio.proofs.Crews.{each_push}
@@ -13,11 +13,11 @@ loop-number-preserved c =
     let k = c.in_ok-worker.ensures in
     let x : Turning = record { worker = c.in_ok-worker.worker; over = false } in
     let xs : List Turning = c.loop-number.crew.items in
-    let e : c.push.new.self.items ≡ xs ++ x ∷ [] = search rules in
-    let len : length xs ≡ c.loop-number.number = search rules in
+    let e : c.push.new.self.items ≡ xs ++ x ∷ [] = c.in_ok-push.ensures.items in
+    let len : length xs ≡ c.loop-number.number = omega (arith, i.count, c.loop-number.crew.ok.0) in
     let one : IsFresh m o.gap o.conflicts o.seed c.loop-number.number x = record { begins = k.begins; kind = k.kind; draws = k.draws; not_over = refl } in
     let all = each_push (IsFresh m o.gap o.conflicts o.seed) xs x i.each.each (subst (λ (j : ℕ). IsFresh m o.gap o.conflicts o.seed j x) (sym len) one) in
     record {
-      count = search rules;
+      count = (let more = c.in_ok-push.ensures.len in omega (arith, i.count, more));
       each = subst (λ (l : List Turning). AreFresh m o.gap o.conflicts o.seed l) (sym e) (record { each = all });
     }

@@ -1,5 +1,5 @@
 -- One more worker has its seats.
-use Rattle.std.proofs.Common.{rules, ◌≡◌, ℕ, length, sym, ap, subst, ◌∙◌, List, [], ◌∷◌, ◌++◌, arith, ◌<◌, get_or}
+use Rattle.std.proofs.Common.{◌≡◌, ℕ, length, sym, ap, subst, ◌∙◌, List, [], ◌∷◌, ◌++◌, arith, ◌<◌, get_or}
 use Rattle.cps_port.specs.Totals.{total}
 use Rattle.cps_board.specs.declared.seats.Board.{Board}
 use Rattle.cps_bounds.specs.declared.seats.Bounds.{Bounds}
@@ -29,8 +29,8 @@ loop-number-preserved c =
     let bounds : Bounds = c.args.kept.now.bounds.now in
     let x : Seated = c.in_ok-seat_one.field-0 in
     let xs : List Seated = c.loop-number.crew.items in
-    let e : c.push.new.self.items ≡ xs ++ x ∷ [] = search rules in
-    let len : length xs ≡ n = search rules in
+    let e : c.push.new.self.items ≡ xs ++ x ∷ [] = c.in_ok-push.ensures.items in
+    let len : length xs ≡ n = omega (arith, i.count, c.loop-number.crew.ok.0) in
     let by_board = halves n o.workers (boards.splits_of c.loop-number.kept.board_seat) c.loop-number-test.true c.requires.range.workers i.board_left in
     let by_bounds = halves n o.workers (words.splits_of c.loop-number.kept.bounds_seat) c.loop-number-test.true c.requires.range.workers i.bounds_left in
     let here : IsSeated c.args.model.now o.gap o.conflicts board bounds n x =
@@ -43,6 +43,6 @@ loop-number-preserved c =
       bounds_left = k.splits ∙ by_bounds.1;
       part = k.part ∙ i.part;
       splits = omega (arith, i.splits, k.given, k.splits, ap (λ (l : List Seated). total words_splits l) e, total_push words_splits xs x);
-      count = search rules;
+      count = (let more = c.in_ok-push.ensures.len in omega (arith, i.count, more));
       crew = record { each = subst (λ (l : List Seated). (j : ℕ) (d : Seated) → j < length l → IsSeated c.args.model.now o.gap o.conflicts board bounds j (get_or l j d)) (sym e) all };
     }

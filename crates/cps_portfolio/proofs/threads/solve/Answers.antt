@@ -20,7 +20,7 @@ work_all-requires-clause-ready g c =
     let o = c.args.options.now in
     let ready = all_ready m o.gap o.conflicts c.in_ok-board.board c.in_ok-bounds.bounds c.in_ok-crew.crew.items c.in_ok-bounds.ensures.model c.in_ok-crew.ensures.crew in
     let here = subst (λ (l : List Seated). All (IsReady m) l) (sym c.as_mut_slice.ensures.value) ready in
-    subst (λ (x : CpModel). All (IsReady x) c.as_mut_slice.result.now) (sym c.in_ok-pool.ensures) here
+    λ κs outlive. subst (λ (x : CpModel). All (IsReady x) c.as_mut_slice.result.now) (sym c.in_ok-pool.ensures) here
 
 pub gather-requires-clause-splits : goal.gather-requires-clause-splits
 gather-requires-clause-splits g c =
