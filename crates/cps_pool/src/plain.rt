@@ -7,11 +7,12 @@ use cps_validate::ValidModel;
 use std::alloc::{AllocError, Global};
 use std::marker::Model;
 
-/// A list of solutions of a model. Contracts see both.
+/// A list of solutions of a model. Contracts see both. One that nobody reads stays empty.
 #[derive(Drop)]
 pub struct PlainPool<'a> {
     alloc: Global,
     model: &'a ValidModel,
+    is_read: bool,
     found: Vec<Ints>,
 }
 
@@ -29,13 +30,14 @@ impl<'a> Model for PlainPool<'a> {
 }
 
 impl<'a> PlainPool<'a> {
-    /// A pool without solutions, which takes no memory.
-    pub fn new(alloc: Global, model: &'a ValidModel) -> Self
+    /// A pool without solutions, which takes no memory, and whether a worker reads it.
+    pub fn new(alloc: Global, model: &'a ValidModel, is_read: bool) -> Self
         ensures { result ≡ record { model = model.now; solutions = [] } }
     {
         PlainPool {
             alloc,
             model,
+            is_read,
             found: Vec::new(alloc),
         }
     }
@@ -56,6 +58,9 @@ impl Pool for PlainPool<'_> {
     }
 
     fn push(&mut self, solution: &[i64]) -> Result<(), AllocError> {
+        if !self.is_read {
+            return Ok(());
+        }
         let values = Vec::from_slice(self.alloc, solution)?;
         self.found.push(Ints::from_vec(values))?;
         Ok(())

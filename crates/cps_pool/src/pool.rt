@@ -16,7 +16,7 @@ pub trait Pool {
     fn get(&self, index: usize) -> Option<&[i64]>
         ensures { IfSome result (λ solution. IsSolution (model self.now) solution.now) };
 
-    /// Adds a solution at the end.
+    /// Adds a solution at the end, unless nobody reads the pool.
     fn push(&mut self, solution: &[i64]) -> Result<(), AllocError>
         requires { IsSolution (model self.old) solution.now }
         ensures { model self.new ≡ model self.old };

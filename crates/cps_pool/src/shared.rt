@@ -28,25 +28,27 @@ impl Keeps<Ints> for Solutions {
     ghost holds = { λ names _ solution. IsSolutionOfNamed names solution };
 }
 
-/// Solutions of a model, to which threads push through a shared reference.
+/// Solutions of a model, to which threads push through a shared reference. One that nobody reads stays empty.
 #[derive(Drop)]
 pub struct SharedPool<'a> {
     alloc: Global,
     /// The model.
     pub model: &'a ValidModel,
+    is_read: bool,
     found: boxcar::Vec<Ints, Global, Solutions>,
     ghost named: { found.tag ≡ names_of model.now },
 }
 
 impl<'a> SharedPool<'a> {
-    /// A pool without solutions.
-    pub fn new(alloc: Global, model: &'a ValidModel) -> Result<Self, AllocError>
+    /// A pool without solutions, and whether a worker reads it.
+    pub fn new(alloc: Global, model: &'a ValidModel, is_read: bool) -> Result<Self, AllocError>
         ensures { IfOk result (λ pool. pool.model.now ≡ model.now) }
     {
         let tag = Tag::of::<ValidModel, ByModel>(model);
         Ok(SharedPool {
             alloc,
             model,
+            is_read,
             found: boxcar::Vec::with_rule(alloc, tag)?,
         })
     }
@@ -72,6 +74,9 @@ impl<R: Wait> Pool for PoolHandle<'_, '_, R> {
     }
 
     fn push(&mut self, solution: &[i64]) -> Result<(), AllocError> {
+        if !self.pool.is_read {
+            return Ok(());
+        }
         let values = Vec::from_slice(self.pool.alloc, solution)?;
         match self.pool.found.push(self.rt, Ints::from_vec(values)) {
             Ok(_) => Ok(()),

@@ -15,7 +15,7 @@ ghost use Rattle.cps_portfolio.specs.declared.interleaved.Turning.{Turning as Tu
 
 use crate::conclusion::outcome_of;
 use crate::outcome::{Outcome, Reached};
-use crate::worker::AnyWorker;
+use crate::worker::{AnyWorker, reads_pool};
 use cps_model::Bound;
 use cps_options::Options;
 use cps_pool::PlainPool;
@@ -208,7 +208,7 @@ pub fn solve_interleaved(
         core: &mut core,
         actor: 0,
     };
-    let mut pool = PlainPool::new(alloc, model);
+    let mut pool = PlainPool::new(alloc, model, reads_pool(options.workers));
     let turns = take_turns(&mut port, crew.as_mut_slice(), &mut pool, options);
     let PlainPort {
         core: shared,

@@ -14,7 +14,7 @@ use crate::conclusion::outcome_of;
 use crate::outcome::{Outcome, Reached};
 use crate::seats::{Seated, work_all};
 use crate::table_port::TablePort;
-use crate::worker::AnyWorker;
+use crate::worker::{AnyWorker, reads_pool};
 use cps_board::Board;
 use cps_bounds::Bounds;
 use cps_model::Bound;
@@ -138,7 +138,7 @@ pub fn solve<R: Threads + Wait + Sync, G: Gate + Sync>(
 {
     let (bounds, bounds_seat) = Bounds::new(alloc, model)?;
     let (board, board_seat) = Board::new(alloc, model, ROWS)?;
-    let pool = SharedPool::new(alloc, model)?;
+    let pool = SharedPool::new(alloc, model, reads_pool(options.workers))?;
     let mut kept = TablePort {
         board: &board,
         board_seat,

@@ -179,6 +179,11 @@ fn near_turn_of<Q: Port, F: Pool>(
     note_turn(pool, &turn, near.worker.best())
 }
 
+/// Whether one of so many workers searches near solutions: number 3 is the first.
+pub fn reads_pool(workers: u32) -> bool {
+    workers > 3
+}
+
 impl<'a> AnyWorker<'a> {
     /// The worker of this number, which knows nothing yet.
     pub fn of(
