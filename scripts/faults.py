@@ -12,7 +12,8 @@ import time
 HERE = os.path.dirname(os.path.dirname(os.path.realpath(__file__)))
 
 # What stands between the program and the C library: it counts the growths of memory, the reads and the writes, and lets the
-# one with a number fail. A growth is a call of malloc or realloc.
+# read or the write with a number fail, and from the growth with a number on each: a list that is refused twice its room asks
+# for what it needs. A growth is a call of malloc or realloc.
 SHIM = r"""
 #define _GNU_SOURCE
 #include <dlfcn.h>
@@ -72,7 +73,8 @@ void _exit(int status) {
 __attribute__((destructor)) static void end(void) { tell(); }
 
 static int is_refused(void) {
-    if (atomic_fetch_add(&growths, 1) + 1 != growth_fails) return 0;
+    long number = atomic_fetch_add(&growths, 1) + 1;
+    if (!growth_fails || number < growth_fails) return 0;
     errno = ENOMEM;
     return 1;
 }
@@ -231,7 +233,7 @@ def show(ran):
 
 
 def refuse_memory(runs, most):
-    """Each growth is refused in turn: exit 5 and nothing written."""
+    """Each growth is refused in turn, with those after it: exit 5 and nothing written."""
     for name, text in MODELS.items():
         for what, words in COMMANDS.items():
             _, counts = runs.counted(words, text.encode())
