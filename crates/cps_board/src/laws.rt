@@ -1,4 +1,5 @@
-//! Laws of the board's rule, which holds between any two steps of all threads. Each function is its clause, and does nothing.
+//! Laws of the board's rule, which holds between any two steps of all threads. Each is the contract of a function with
+//! an empty body.
 ghost use Rattle.cps_board.specs.OneList.{TakesOneList, TakesSoundEntries};
 
 /// Of what two seats took, the shorter list is the beginning of the longer one.

@@ -19,14 +19,14 @@ pub struct Board {
     ghost valid: { IsValid table.shared.key },
 }
 
-/// The leave of one thread to step on the board.
+/// The right of one worker to use the board.
 #[derive(Drop)]
 pub struct BoardSeat {
     pub(crate) seat: Seat<(), View>,
     pub(crate) splits: u64,
     /// How many rows it took.
     pub(crate) taken: u32,
-    /// It drew past the last row.
+    /// Whether it drew past the last row.
     pub(crate) full: bool,
     ghost same_splits: { splits ≡ seat.me.0.splits },
     ghost some_part: { 0 < splits },

@@ -1,4 +1,10 @@
-//! The calls.
+//! The calls of a board and its seats.
+//!
+//! Each step on a word is one atomic operation, named by the step that it is in the rule (`Draw`, `Put`, `Publish`,
+//! `Look`, `Read`). A row is drawn by one `fetch_add` of the claim word, so two seats never write the same row; it is
+//! filled while its gate is closed, and opened by one store. So nothing is retried, and a reader that found a gate open
+//! reads words that never change. A seat that drew past the end remembers that, and draws no more: so the claim word
+//! cannot wrap.
 ghost use Rattle.std.specs.Prelude.{◌≡◌, ℕ, ◌+◌, ◌-◌, ◌/◌, ◌<◌, ◌≤◌, length, min, true, if◌then◌else◌, IfOk};
 ghost use Rattle.cps_port.specs.Incumbents.{HoldsBelow, IsIncumbent};
 ghost use Rattle.cps_port.specs.Entries.{IsShareable};
@@ -27,7 +33,7 @@ fn either(first: bool, second: bool) -> bool
 }
 
 impl Board {
-    /// A board of so many closed rows, of a model, and the first seat.
+    /// A board of `rows` closed rows, of a model, and the first seat.
     pub fn new(
         alloc: Global,
         model: &ValidModel,
@@ -38,7 +44,7 @@ impl Board {
         ensures seat { IfOk result (λ t. IsSeatOf t.0 t.1 × (part_of t.1 ≡ no_rows)) }
         ensures splits { IfOk result (λ t. (splits_of t.1 ≡ all_splits) × (draws_of t.1 ≡ 0)) }
     {
-        // Only here is it known that the model keeps every rule.
+        // Reading the model gives the proof its invariant: the model keeps every rule.
         let _ = model.model();
         let words = vec![in alloc; 0u64; ROW_WORDS * rows as usize + 1]?;
         let slots = vec![in alloc; (); rows as usize]?;
@@ -56,7 +62,7 @@ impl Board {
         ))
     }
 
-    /// Puts a clause into a row of its own, and opens the row. `Full` where no row is left, now or at an earlier call.
+    /// Puts a clause into a row of its own, and opens the row. `Full` if no row is left, now or at an earlier call.
     pub fn share(&self, seat: &mut BoardSeat, below: Bound, clause: &[Atom]) -> Share
         requires own { IsSeatOf self.now seat.old }
         requires clause { IsShareable (model_of self.now) clause.now }
@@ -119,7 +125,7 @@ impl Board {
         }
     }
 
-    /// Takes over what another seat has and knows.
+    /// Takes over what another seat has and knows; the other seat is gone.
     pub fn join(&self, seat: &mut BoardSeat, other: BoardSeat)
         requires own { IsSeatOf self.now seat.old }
         requires other { IsSeatOf self.now other }

@@ -17,7 +17,7 @@ pub struct Bounds {
     ghost valid: { IsValid table.shared.key },
 }
 
-/// The leave of one thread to step on the words.
+/// The right of one worker to use the two words.
 #[derive(Drop)]
 pub struct BoundsSeat {
     pub(crate) seat: Seat<(), View>,

@@ -1,4 +1,9 @@
-//! The calls.
+//! The calls of the two bounds and their seats.
+//!
+//! Each call but `new`, `split`, `join` and `close` is one atomic operation on one word, named by the step that it is
+//! in the rule. Since words keep the order of bounds, `fetch_min` and `fetch_max` are the whole of `offer` and `raise`,
+//! and what they found tells the answer; nothing is retried. Only a seat that has all splits back knows that the words
+//! are exactly what was offered and raised.
 ghost use Rattle.std.specs.Prelude.{◌≡◌, ℕ, ◌+◌, ◌-◌, ◌/◌, ◌<◌, ◌≤◌, min, IfOk};
 ghost use Rattle.cps_model.specs.Start.{objective_start};
 ghost use Rattle.cps_port.specs.Order.{BoundLe, IsNoLower, IsSmallBound, raised_above};
@@ -28,7 +33,7 @@ impl Bounds {
         ensures seat { IfOk result (λ t. IsSeatOf t.0 t.1 × (part_of t.1 ≡ no_bounds)) }
         ensures splits { IfOk result (λ t. splits_of t.1 ≡ all_splits) }
     {
-        // Only here is it known that the model keeps every rule.
+        // Reading the model gives the proof its invariant: the model keeps every rule.
         let _ = model.model();
         let words = [u64::MAX, word_of(Bound::At(objective_start(model)))];
         let (table, seat) = Table::of_words(alloc, &words, model)?;
@@ -115,7 +120,7 @@ impl Bounds {
         }
     }
 
-    /// Takes over what another seat has and knows.
+    /// Takes over what another seat has and knows; the other seat is gone.
     pub fn join(&self, seat: &mut BoundsSeat, other: BoundsSeat)
         requires own { IsSeatOf self.now seat.old }
         requires other { IsSeatOf self.now other }

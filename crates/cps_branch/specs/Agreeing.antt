@@ -1,4 +1,4 @@
--- What was seen of one store is so in another with the same first entries.
+-- What was seen of one store is true of another with the same first entries.
 use Rattle.std.proofs.Common.{ℕ, ℤ, ◌≤◌, ◌<◌, ◌≡◌, true, List, take, get_or, sym, ap, ◌∙◌, ◌&&◌, arith}
 use Rattle.std.specs.List.{list_all}
 use Rattle.std.proofs.lemmas.List.{take-take}
@@ -23,7 +23,7 @@ fixed-same n k c i s t same l m f x y a b =
     λ z h. sym (admits-same s.first t.first (take c s.entries) i z (same.domains i l)) ∙ ap (λ es. admits t.first es i z) (sym (take_same k c s.entries t.entries m same.entries)) ∙ h in
     f x y (to x a) (to y b)
 
--- what was seen of one store is so in another with the same first entries
+-- what was seen of one store is true of another with the same first entries
 pub kept_on : (order : List ℕ) (n : ℕ) (counts : List ℕ) (s t : Trail) (k l : ℕ) → k ≤ l → AreSameUpTo n k s t → AreFixedAfter order n counts s l → AreFixedAfter order n counts t k
 kept_on order n counts s t k l kl same agrees pos i j li c lj jn =
     fixed-same n k (get_or counts i 0) (get_or order j 0) s t same jn c (agrees (omega arith) i j li (omega arith) lj jn)

@@ -1,4 +1,4 @@
--- What a brancher is of, and what it may keep from one call to the next.
+-- The variables and subjects that a brancher is over, and what it may keep from one call to the next.
 use Rattle.std.specs.Prelude.{ℕ, ◌≡◌, ◌<◌, ◌≤◌, List, length, take, slice_index}
 use Rattle.cps_trail.specs.Trail.{Trail, first_of}
 use Rattle.cps_instance.specs.Problem.{Problem, variable_count}

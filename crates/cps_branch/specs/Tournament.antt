@@ -2,7 +2,7 @@
 use Rattle.std.specs.Prelude.{ℕ, zero, suc, ◌+◌, ◌*◌, ◌<◌, ◌≤◌, ◌≡◌, ◌⊎◌, Bool, true, false, if◌then◌else◌, List, length, slice_index, slice_index_or}
 use Rattle.cps_branch.specs.declared.tournament.Contender.{Contender}
 
--- nobody, who is out of play
+-- no contender: one that is out of play
 abbrev pub nobody : Contender
 nobody = record { variable = 0; activity = 0; in_play = false }
 
@@ -10,7 +10,8 @@ nobody = record { variable = 0; activity = 0; in_play = false }
 abbrev pub stands_at : List Contender → ℕ → Contender
 stands_at nodes k = slice_index_or nodes k nobody
 
--- One is ahead of another: where the other is in play, so is the one, and is more active, or as active and an earlier variable.
+-- One contender is ahead of another: if the other is in play, so is the one, and it is more active, or as active and an
+-- earlier variable.
 pub record IsAheadOf (one other : Contender) : Type 0 where
   pub plays : other.in_play ≡ true → one.in_play ≡ true
   pub activity : other.in_play ≡ true → other.activity ≤ one.activity

@@ -1,4 +1,8 @@
 //! A brancher that takes the variables of recent learnt clauses first.
+//!
+//! Activities are counts of learnt clauses, as in Chaff, and are halved only when one reaches 2^40: whole numbers make
+//! the choice a function of what was learnt, with no rounding. The ranking (`ranking`) finds the greatest without a
+//! look at each variable. Values do not go by activity: the hint's value is tried first, and without one the least.
 ghost use Rattle.std.specs.Prelude.{ℕ, ◌≡◌, ◌≤◌, ◌^◌, length, IfOk};
 
 use crate::brancher::Brancher;
@@ -14,16 +18,17 @@ use cps_trail::Store;
 use std::alloc::{AllocError, Global};
 use std::marker::Model;
 
-/// Takes the variable of greatest activity, the first of several, at the value of the model's hint first, where it has one and may have
-/// it, and else at its least. A variable's activity is how many learnt clauses spoke of it; all are halved when one reaches 2^40. It
-/// restarts after 100 times the next member of Luby's sequence, in conflicts.
+/// Takes the variable of greatest activity, the first of several, and decides that it has its value of the model's
+/// hint, if there is one and its domain has it, else that it has its least value. A variable's activity is how many
+/// learnt clauses spoke of it; all are halved when one reaches 2^40. It restarts after 100 times the next member of
+/// Luby's sequence, in conflicts.
 ///
-/// A choice looks at the variables alone that were set aside by entries that are gone, and at fixed ones that were not aside yet, each
-/// with a way up the tournament of length log n.
+/// A choice looks only at the variables that were set aside by entries that are gone, and at fixed ones that were not
+/// set aside yet, each at the cost of one way up the tournament, of length log n.
 #[derive(Drop)]
 pub struct ActivityBrancher {
     activities: Vec<u64>,
-    /// Which variables the clause that is heard spoke of so far.
+    /// Which variables the part of a clause that was heard so far speaks of.
     marks: Vec<bool>,
     /// For each variable the value of the hint, if there is one.
     hints: Vec<Option<i64>>,
@@ -66,7 +71,7 @@ impl ActivityBrancher {
         ActivityBrancher::over(alloc, count, &instance.model().model().hint)
     }
 
-    /// A brancher over so many variables, with a hint.
+    /// A brancher over `count` variables, with a hint.
     pub(crate) fn over(alloc: Global, count: usize, hint: &Option<Hint>) -> Result<Self, AllocError>
         requires { count ≤ 2 ^ 31 }
         ensures count { IfOk result (λ b. length b.activities ≡ count) }
@@ -83,8 +88,8 @@ impl ActivityBrancher {
         })
     }
 
-    /// The first variable of greatest activity among those that are not fixed. Those that were set aside when at most the first `kept`
-    /// entries stood are not looked at again.
+    /// The first variable of greatest activity among those that are not fixed. Those that were set aside when at most
+    /// the first `kept` entries stood are not looked at again.
     fn most_active(&mut self, store: &Store, kept: usize) -> Option<u32>
         requires subjects { length self.old.activities ≤ length store.now.first }
         requires kept { AreFixedAside (length self.old.activities) self.old.aside store.now kept }

@@ -30,7 +30,7 @@ pub trait Brancher {
     // what no choice changes
     ghost stays: { Self → Self → Type 0 };
 
-    // what it kept of the stores that it saw is so in this one, as long as it rests on the first entries alone
+    // what it keeps of the stores that it saw is true of this one, as far as it rests on the first entries alone
     ghost agrees: { Self → Trail → ℕ → Type 0 };
 
     /// An undecided atom; `None` if all variables are fixed.
@@ -45,8 +45,8 @@ pub trait Brancher {
         ensures stays { stays self.old self.new }
         ensures saw { agrees self.new store.now (length store.now.entries) };
 
-    /// The same, where the first `kept` entries are those of the store that was handed in last: what these fixed need not
-    /// be looked at again. `kept` may always be 0.
+    /// The same as `choose`, where the first `kept` entries are those of the store that was handed in last: what they
+    /// fixed need not be looked at again. `kept` may always be 0.
     fn choose_from(&mut self, store: &Store, kept: usize) -> Option<Atom>
         requires subjects { (scope self.old).subjects ≤ length store.now.first }
         requires sums { AreFixed store.now (scope self.old).variables → AreFixed store.now (scope self.old).subjects }
@@ -66,7 +66,7 @@ pub trait Brancher {
         ensures guidance { guidance self.new ≡ guidance self.old }
         ensures saw { (s : Trail) (k : ℕ) → agrees self.old s k → agrees self.new s k };
 
-    /// What it goes by, where it is no longer needed.
+    /// Takes out what it goes by, when the brancher is no longer needed.
     fn into_guidance(self) -> Guidance
         ensures { result ≡ guidance self };
 

@@ -1,4 +1,9 @@
 //! A brancher that follows the strategies, and then takes the variables in order.
+//!
+//! The subjects of all strategies and then the variables make one order (`Plan`), and a choice goes on from the first
+//! place that the kept entries do not fix. For each place the brancher notes after how many entries everything up to it
+//! was fixed, so that a backjump needs no word from the search: places that fewer entries than are kept fixed still
+//! are. The notes rise with the places, so they are dropped from the end.
 ghost use Rattle.std.specs.Prelude.{◌≡◌, ◌<◌, ◌≤◌, ◌-◌, length, slice_index, IfOk};
 
 use crate::brancher::Brancher;
@@ -10,14 +15,15 @@ use cps_trail::Store;
 use std::alloc::{AllocError, Global};
 use std::marker::Model;
 
-/// Follows the model's strategies in order, and then takes the variables in order, each at its least value first. It never restarts.
+/// Follows the model's strategies in order, and then takes the variables in order, each at its least value first. It
+/// never restarts.
 ///
-/// A choice does not look again at the places of that order that the kept entries fixed. A strategy that takes the first listed looks at
-/// no subject after the first that is not fixed, and any other at all after it.
+/// A choice does not look again at the places of that order that the kept entries fixed. A strategy that takes its
+/// first open subject stops at it; every other strategy looks at all of its subjects from there on.
 #[derive(Drop)]
 pub struct FixedBrancher {
     plan: Plan,
-    /// For the places of the plan's order up to `known`, after how many entries the subject at each and all before it were fixed.
+    /// For each place of the plan's order before `known`, after how many entries the subjects up to it were fixed.
     fixed_after: Vec<usize>,
     known: usize,
 }
@@ -70,7 +76,7 @@ impl FixedBrancher {
         self.known = still_known(&self.fixed_after, self.known, kept);
     }
 
-    /// Notes that the subjects before `place` are fixed after so many entries.
+    /// Notes that the subjects before `place` are fixed after `count` entries.
     fn note(&mut self, place: usize, count: usize)
         requires low { length self.old.fixed_after ≤ place }
         requires high { place ≤ length (order_in self.old.plan) }
@@ -84,7 +90,7 @@ impl FixedBrancher {
     }
 }
 
-/// How many of the first `known` counts stay, up to the last that is at most `kept`; none where `kept` is 0.
+/// How many of the first `known` counts stay: those up to the last that is at most `kept`; none if `kept` is 0.
 fn still_known(counts: &[usize], known: usize, kept: usize) -> usize
     requires { known ≤ length counts.now }
     ensures fewer { result ≤ known }

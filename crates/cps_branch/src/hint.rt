@@ -15,7 +15,8 @@ use std::alloc::{AllocError, Global};
 /// No value of a domain has this magnitude.
 const LIMIT: u64 = 1 << 62;
 
-/// The value that a reference with a value gives its variable: the opposite where the reference is below 0. `None` if no domain has it.
+/// The value that a reference with a value gives its variable: the opposite if the reference is below 0. `None` if no
+/// domain can have it.
 fn hinted_value(reference: i32, value: i64) -> Option<i64>
     ensures { result ≡ hinted_value reference value }
 {
@@ -39,7 +40,8 @@ fn note_one(hints: &mut [Option<i64>], reference: i32, value: i64)
     }
 }
 
-/// Notes the values that references give their variables, from the last to the first, so that the first that names a variable counts.
+/// Notes the values that references give their variables, from the last to the first, so that the first reference to a
+/// variable counts.
 fn note_all(hints: &mut [Option<i64>], vars: &[i32], values: &[i64])
     requires { (i : ℕ) → i < length hints.old → slice_index_or hints.old i None ≡ None }
     ensures { (i : ℕ) → i < length hints.old → slice_index_or hints.new i None ≡ hinted_in vars.now values.now i }
@@ -51,7 +53,7 @@ fn note_all(hints: &mut [Option<i64>], vars: &[i32], values: &[i64])
     }
 }
 
-/// For each of so many variables the value to try first, if there is one.
+/// For each of `count` variables the value to try first, if there is one.
 pub(crate) fn hints_of(
     alloc: Global,
     hint: &Option<Hint>,

@@ -1,4 +1,8 @@
 //! What a brancher in order goes through: the strategies of an instance, and then its variables.
+//!
+//! A place of the order stands for the whole state of such a brancher, since all subjects before it are fixed. The
+//! order is made once, so that a choice is a walk over one list of numbers. A plan copies the strategies, since the
+//! brancher outlives the borrow of the instance, which the search owns.
 ghost use Rattle.std.specs.Prelude.{ℕ, ◌≡◌, ◌<◌, ◌≤◌, ◌^◌, ◌++◌, Some, length, slice_index, IfOk};
 ghost use Rattle.std.specs.List.{range_with_len};
 ghost use Rattle.cps_branch.specs.Fixed.{IsFixed};
@@ -14,7 +18,7 @@ use cps_trail::Store;
 use std::alloc::{AllocError, Global};
 use std::marker::Model;
 
-/// Strategies and then variables, over the first so many subjects.
+/// Strategies, and then variables, with the order of all places.
 #[derive(Drop)]
 pub struct Plan {
     strategies: Vec<Steering>,
@@ -35,7 +39,7 @@ impl Model for Plan {
     ghost invariant = { λ p. (AreWithin p.subjects p.strategies.items) × (p.variables ≤ p.subjects) × (p.order.items ≡ order_of p.strategies.items p.variables) };
 }
 
-/// A strategy again.
+/// A copy of a strategy.
 fn copy_of(alloc: Global, steering: &Steering) -> Result<Steering, AllocError>
     ensures { IfOk result (λ copy. copy ≡ steering.now) }
 {
@@ -47,7 +51,7 @@ fn copy_of(alloc: Global, steering: &Steering) -> Result<Steering, AllocError>
     })
 }
 
-/// A list of strategies again.
+/// A copy of a list of strategies.
 fn copies_of(alloc: Global, strategies: &[Steering]) -> Result<Vec<Steering>, AllocError>
     ensures { IfOk result (λ copies. copies.items ≡ strategies.now) }
 {
@@ -69,7 +73,7 @@ fn subjects_of(alloc: Global, strategies: &[Steering]) -> Result<Vec<u32>, Alloc
     Ok(order)
 }
 
-/// The subjects that strategies list, and then so many variables.
+/// The subjects that strategies list, and then the first `variables` subjects, which are the variables.
 fn order_over(
     alloc: Global,
     strategies: &[Steering],
@@ -97,7 +101,7 @@ impl Plan {
         Plan::over(alloc, strategies, instance.variable_count(), subjects)
     }
 
-    /// Strategies and so many variables, over the first so many subjects.
+    /// Strategies, and then `variables` variables, over `subjects` subjects in all.
     pub(crate) fn over(
         alloc: Global,
         strategies: Vec<Steering>,
@@ -125,7 +129,7 @@ impl Plan {
         self.order.len()
     }
 
-    /// The first place from `from` on at which a subject stands that is not fixed; its length where there is none.
+    /// The first place from `from` on whose subject is not fixed; the number of places if there is none.
     pub(crate) fn first_open(&self, store: &Store, from: usize) -> usize
         requires from { from ≤ length (order_in self.now) }
         requires subjects { self.now.subjects ≤ length store.now.first }
@@ -138,7 +142,7 @@ impl Plan {
         first_open_place(store, &self.order, from)
     }
 
-    /// What is decided where the first subject that is not fixed stands at a place.
+    /// The decision, if `place` is the first place whose subject is not fixed.
     pub(crate) fn decided(&self, store: &Store, place: usize) -> Atom
         requires subjects { self.now.subjects ≤ length store.now.first }
         requires place { IsOpenPlace store.now (order_in self.now) place }

@@ -1,4 +1,10 @@
-//! The variables by activity, without those that are set aside since they are fixed.
+//! The variables by activity, without those that are set aside because they are fixed.
+//!
+//! The winner of the tournament (`tournament`) is the next choice if it is not fixed. If it is, it is set aside with
+//! the number of entries at that moment, and the next winner is looked at. After a backjump the variables that went
+//! aside later than the kept entries come back into play, from the last to the first. So a variable is looked at once
+//! for each time that it is fixed, not at each choice. A heap, as MiniSat has it, would do the same; a tournament has
+//! fixed places, so a variable is found without a table of positions.
 ghost use Rattle.std.specs.Prelude.{ℕ, ◌≡◌, ◌↔◌, ◌⊎◌, ◌+◌, ◌-◌, ◌*◌, ◌^◌, ◌<◌, ◌≤◌, true, false, length, slice_index, IfOk, IfSome, IsNone, IsTrue, MatchOption, [], ◌∷◌, ◌++◌};
 ghost use Rattle.cps_branch.specs.Activities.{speaks_of};
 ghost use Rattle.cps_branch.specs.Fixed.{AreFixed};
@@ -18,18 +24,18 @@ pub(crate) struct Aside {
     pub after: usize,
 }
 
-/// A tournament of variables by activity. A variable that was fixed when it was the first is aside, out of play, until its entries are
-/// gone.
+/// A tournament of variables by activity. A variable that was fixed when it won is set aside, out of play, until the
+/// entries that fixed it are gone.
 #[derive(Drop)]
 pub(crate) struct Ranking {
     pub nodes: Vec<Contender>,
-    /// The first `out` are those that are aside, in the order in which they went.
+    /// The first `out` are the variables that are set aside, in the order in which they went; the others are filler.
     pub aside: Vec<Aside>,
     pub out: usize,
 }
 
 impl Ranking {
-    /// So many variables, each with activity 0, and none aside.
+    /// `count` variables, each with activity 0, none set aside.
     pub fn over(alloc: Global, count: usize) -> Result<Self, AllocError>
         requires { count ≤ 2 ^ 31 }
         ensures ranking { IfOk result IsRanking }
@@ -140,7 +146,8 @@ impl Ranking {
         }
     }
 
-    /// Gives the variables their activities after a clause was heard, or all were halved.
+    /// Gives the variables their activities anew after a clause was heard: those of the clause, or all if all were
+    /// halved.
     pub fn follow(&mut self, activities: &[u64], clause: &[Atom], halved: bool)
         requires count { length activities.now ≡ size_of self.old }
         requires ranking { IsRanking self.old }
@@ -175,7 +182,7 @@ impl Ranking {
         }
     }
 
-    /// Sets a variable aside that is in play, and is fixed after so many entries.
+    /// Sets aside a variable that is in play and that was found fixed after `after` entries.
     fn set_aside(&mut self, variable: u32, after: usize)
         requires ranking { IsRanking self.old }
         requires leads { Leads (size_of self.old) self.old.nodes.items variable }
@@ -191,7 +198,7 @@ impl Ranking {
         self.out += 1;
     }
 
-    /// Puts the variable back into play that was set aside last.
+    /// Puts the variable that was set aside last back into play.
     fn put_back_last(&mut self)
         requires ranking { IsRanking self.old }
         requires some { 0 < self.old.out }
@@ -205,7 +212,8 @@ impl Ranking {
         self.set_in_play(last.variable, true);
     }
 
-    /// Whether the variable that was set aside last was fixed after at most `kept` entries, and some are kept.
+    /// Whether the variable that was set aside last stays so: entries are kept, and it was fixed after at most `kept`
+    /// of them.
     fn last_stays(&self, kept: usize) -> bool
         requires some { 0 < self.now.out }
         requires within { self.now.out ≤ size_of self.now }
@@ -214,7 +222,7 @@ impl Ranking {
         kept > 0 && self.aside[self.out - 1].after <= kept
     }
 
-    /// Puts the variables back into play that more than the first `kept` entries fixed; all where `kept` is 0.
+    /// Puts back into play the variables that were set aside after more than `kept` entries; all if `kept` is 0.
     pub fn put_back(&mut self, kept: usize)
         requires { IsRanking self.old }
         ensures ranking { IsRanking self.new }
@@ -253,7 +261,7 @@ impl Ranking {
     }
 }
 
-/// Puts so many variables in play, each with activity 0.
+/// Puts `count` variables in play, each with activity 0.
 fn fill(nodes: &mut [Contender], count: usize)
     requires few { count ≤ 2 ^ 31 }
     requires size { length nodes.old ≡ 2 * count }

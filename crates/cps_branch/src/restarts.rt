@@ -22,7 +22,8 @@ pub(crate) fn luby(member: u64) -> u64
     power
 }
 
-/// Counts conflicts, and says when to restart: after 100 times the next member of Luby's sequence.
+/// Counts conflicts, and says when to restart: after 100 times the next member of Luby's sequence. The factor is that
+/// of MiniSat.
 #[derive(Drop)]
 pub(crate) struct Restarts {
     /// How many restarts there were.

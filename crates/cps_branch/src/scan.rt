@@ -14,7 +14,7 @@ pub(crate) fn is_fixed(store: &Store, subject: u32) -> bool
     store.domain(subject).is_fixed()
 }
 
-/// The first subject from `from` on and before `count` that is not fixed; `count` where there is none.
+/// The first subject from `from` up to `count` that is not fixed; `count` if there is none.
 pub(crate) fn first_open(store: &Store, from: usize, count: usize) -> usize
     requires order { from ≤ count }
     requires subjects { count ≤ length store.now.first }
@@ -32,7 +32,7 @@ pub(crate) fn first_open(store: &Store, from: usize, count: usize) -> usize
     count
 }
 
-/// The first place from `from` on at which a subject stands that is not fixed; the end where there is none.
+/// The first place from `from` on whose subject is not fixed; the length of the list if there is none.
 pub(crate) fn first_open_place(store: &Store, order: &[u32], from: usize) -> usize
     requires from { from ≤ length order.now }
     requires subjects { All (λ i. i < length store.now.first) order.now }
@@ -49,7 +49,7 @@ pub(crate) fn first_open_place(store: &Store, order: &[u32], from: usize) -> usi
     order.len()
 }
 
-/// A subject before `count` that is not fixed, looked for from `from` on and then before it; `count` where there is none.
+/// A subject before `count` that is not fixed, looked for from `from` on and then before it; `count` if there is none.
 pub fn any_open(store: &Store, from: usize, count: usize) -> usize
     requires subjects { count ≤ length store.now.first }
     requires few { count ≤ 2 ^ 31 }

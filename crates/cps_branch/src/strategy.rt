@@ -1,4 +1,8 @@
 //! What a strategy takes and decides.
+//!
+//! Each way to choose is a rank of the open subjects (`rank_of`), of which the least is taken and of equal ones the
+//! first listed; so the five ways share one loop. Ranks have 128 bits, since the opposite of a count of values need not
+//! fit into 64. Each way to select is one atom, which is undecided because the subject has more than one value.
 ghost use Rattle.std.specs.Prelude.{pos, negsuc, neg_ℤ, ◌≡◌, ◌<◌, ◌≤◌, ◌-◌, ◌/◌, ◌^◌, ◌+ℤ◌, ◌-ℤ◌, ◌≤ℤ◌, ◌<ℤ◌, All, length, unsigned_abs, MatchOption, IfSome, slice_index, slice_index_or, take};
 ghost use Rattle.cps_domain.specs.Window.{IsRising, IsInterval, intervals, size_of, width as width_of};
 ghost use Rattle.cps_domain.specs.Division.{IsFloor};
@@ -62,7 +66,7 @@ fn opposite_count(count: u64) -> i128
     -i128::from(count)
 }
 
-/// The number by which a strategy compares a subject with others. The least is taken.
+/// The rank by which a strategy compares a subject with others. The least is taken.
 fn rank_of(store: &Store, choose: Choose, subject: u32) -> i128
     requires { subject < length store.now.first }
     ensures { IsRank choose store.now subject result }
@@ -88,7 +92,7 @@ fn with_rank(store: &Store, choose: Choose, subject: u32) -> Ranked
     }
 }
 
-/// The one of lesser rank, the first of two of the same.
+/// The one of lesser rank; the first if both have the same.
 fn better(best: Ranked, next: Ranked) -> Ranked
     ensures { result ≡ better_of best next }
 {
@@ -131,7 +135,7 @@ fn taken(store: &Store, choose: Choose, subjects: &[u32], from: usize) -> Ranked
     }
 }
 
-/// The half of the way from one number up to another.
+/// Half of the way from one number up to another, rounded down.
 fn half_way(low: i64, high: i64) -> u64
     requires order { low ≤ℤ high }
     requires low { negsuc (2 ^ 62 - 2) ≤ℤ low }
@@ -246,8 +250,8 @@ fn decided_by(store: &Store, strategy: &Steering, from: usize) -> Atom
     selected(store, strategy.select, taken.subject)
 }
 
-/// What strategies decide, where of all subjects that they list those before `place` are fixed and that at `place` is not; `None` if
-/// they list no more than `place` subjects.
+/// What strategies decide, if of all subjects that they list those before `place` are fixed and that at `place` is not;
+/// `None` if they list no more than `place` subjects.
 pub(crate) fn decided_at(store: &Store, strategies: &[Steering], place: usize) -> Option<Atom>
     requires within { AreWithin (length store.now.first) strategies.now }
     requires before { All (IsFixed store.now) (take place (listed strategies.now)) }

@@ -11,11 +11,12 @@ ghost use Rattle.cps_branch.specs.Tournament.{AreWon, AreWonBut, IsWinner, IsWon
 pub(crate) struct Contender {
     pub variable: u32,
     pub activity: u64,
-    /// Whether it takes part. One that does not is behind each that does.
+    /// Whether it takes part. One that does not loses against each that does.
     pub in_play: bool,
 }
 
-/// Of two contenders the one that is ahead: one in play, the more active, the earlier variable.
+/// The winner of two contenders: the one in play; of two in play the more active; of equally active ones the earlier
+/// variable.
 fn winner(one: Contender, other: Contender) -> Contender
     ensures { IsWinner one other result }
 {
@@ -42,7 +43,7 @@ fn play(nodes: &mut [Contender], node: usize)
     nodes[node] = winner(nodes[2 * node], nodes[2 * node + 1]);
 }
 
-/// Plays the matches on the way from a node to the top again, after what stands there has changed.
+/// Plays the matches on the way from a node to the top once more, after the contender at the node has changed.
 fn play_up(nodes: &mut [Contender], count: usize, from: usize)
     requires size { length nodes.old ≡ 2 * count }
     requires low { 1 ≤ from }

@@ -65,7 +65,7 @@ impl AtomList {
         Ok(())
     }
 
-    /// Adds atoms at the end, in order; the first of them where memory is refused.
+    /// Adds atoms at the end, in order. Where an allocation fails, only some first ones of them were added.
     fn extend(&mut self, atoms: &[Atom]) -> Result<(), AllocError>
         ensures ok { OnOk result (self.new ≡ self.old ++ atoms.now) }
         ensures front { take (length self.old) self.new ≡ self.old }
@@ -81,7 +81,7 @@ impl AtomList {
         self.numbers.capacity().saturating_mul(NUMBER_BYTES)
     }
 
-    /// Keeps the first atoms alone.
+    /// Keeps only the first atoms.
     fn truncate(&mut self, len: usize)
         ensures { self.new ≡ take len self.old }
     {

@@ -111,7 +111,7 @@ pub(crate) fn in_turn(
     Ok(order)
 }
 
-/// Which clauses are dropped once these learnt ones are too.
+/// Which clauses are dropped, these learnt ones included.
 pub(crate) fn marks_with(
     alloc: Global,
     dropped: &[bool],

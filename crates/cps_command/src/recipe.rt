@@ -29,7 +29,7 @@ fn family_of(matches: &ArgMatches<'_>) -> Option<Family>
     }
 }
 
-/// The model that is named, none where there is no such family or the size is out of its range.
+/// The model that is named; `None` if there is no such family or the size is out of its range.
 pub(crate) fn recipe_of(matches: &ArgMatches<'_>) -> Option<Recipe>
     ensures { MatchOption result ((r : RecipeOf) → IsRecipe (rows_of (found_of matches.now)) r → ⊥) (IsRecipe (rows_of (found_of matches.now))) }
 {

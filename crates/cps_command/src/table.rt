@@ -1,4 +1,8 @@
 //! The table of commands, read by `clap`.
+//!
+//! The table says only how each option's text is read; ranges are tested afterwards on the numbers (`command_of`),
+//! since the statements about `clap` say of an option only which text gives which value. A function makes each line, so
+//! that no function holds more than one builder.
 ghost use Rattle.std.specs.Prelude.{◌≡◌, ◌≢◌, [], false, IfOk, MatchOption};
 ghost use Rattle.clap.specs.Words.{app_of, rule_of, fault_of, subcommand_of, subcommand_rows_of};
 ghost use Rattle.clap.specs.declared.builder.Command.TheViews.{out-Command};
@@ -138,7 +142,7 @@ fn command_table<'a>(alloc: Global) -> Result<Command<'a>, AllocError>
         .subcommand(demonstrate)
 }
 
-/// What the words say by the table, none where they are no line of it.
+/// What the words say by the table; `None` if they are no line of it.
 pub(crate) fn matches_of<'a>(
     alloc: Global,
     words: &'a [String],

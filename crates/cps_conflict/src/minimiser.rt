@@ -25,21 +25,21 @@ use cps_literal::Atom;
 use cps_trail::{Explain, ReasonView, Store};
 use std::alloc::{AllocError, Global};
 
-/// How many steps are taken for one atom at most. CaDiCaL too has a limit, a depth of 1,000.
+/// The most steps that are taken for one atom. (CaDiCaL limits the depth instead, to 1,000.)
 const STEPS: usize = 1 << 16;
 
 /// Levels are told apart by their remainder by this many.
 const BITS: usize = 64;
 
-/// The mark of an entry of an earlier level whose reason was asked for: where its atom is not true, one of the atoms is
-/// that are still to look at, or one of the clause.
+/// The mark of an entry of an earlier level whose reason was asked for. It says: where the entry's atom is not true,
+/// one of the atoms that are still to be looked at is true, or one of the clause.
 #[derive(Clone, Copy)]
 pub(crate) struct Node {
     /// The number of the entry.
     place: usize,
     /// The negation of its atom.
     denied: Atom,
-    /// The first atom that is still to look at.
+    /// The first atom that is still to be looked at.
     next: usize,
     /// Where those of its reason end.
     end: usize,
@@ -52,9 +52,9 @@ pub(crate) struct Node {
 /// What an atom of a reason leads to.
 #[derive(Clone, Copy)]
 pub(crate) enum Look {
-    /// To the clause: to atoms of it that all were false after so many entries.
+    /// To the clause: to atoms of it that were all false after this number of entries.
     Back(usize),
-    /// To the entry that ends so many, whose reason is to be looked at.
+    /// To the last entry among this number of first ones, whose reason is to be looked at.
     On(usize),
     /// Elsewhere.
     Away,
@@ -66,10 +66,10 @@ pub(crate) struct Minimiser {
     /// The clause's atom of the present level.
     assert: Atom,
     nodes: Vec<Node>,
-    /// The atoms of their reasons that are still to look at, one node's after another's.
+    /// The atoms of their reasons that are still to be looked at, one node's after another's.
     pending: Vec<Fallen>,
-    /// For each entry the number of its node, if it has one. What an earlier clause left here is known by the node's
-    /// other entry.
+    /// For each entry the number of its node, if it has one. The list is not cleared for a new clause: a number that an
+    /// earlier clause left names a node of another entry, or none.
     node_of: Vec<usize>,
     /// The nodes from the atom that is asked for to the one that is looked at.
     path: Vec<usize>,
@@ -210,7 +210,7 @@ impl Minimiser {
         None
     }
 
-    /// Gives the nodes of the path up.
+    /// Marks the nodes of the path as leading elsewhere.
     fn fail(&mut self)
         ensures { Carries self.old self.new }
     {
@@ -221,7 +221,7 @@ impl Minimiser {
         }
     }
 
-    /// Whether an atom may lead back, as far as is seen without its reason.
+    /// Whether an atom may lead back, as far as can be told without its reason.
     fn may_lead(&self, store: &Store, fallen: Fallen) -> bool
         ensures { IsTrue result → (0 < fallen.from) × (fallen.from ≤ length store.now.entries) }
     {
@@ -263,8 +263,8 @@ impl Minimiser {
         Look::On(from)
     }
 
-    /// Adds the atoms of the reason that are to be looked at, and answers after how many entries all atoms of the
-    /// clause were false to which the others lead; `None` where one leads elsewhere.
+    /// Adds the atoms of the reason that are still to be looked at, and answers after how many entries all those atoms
+    /// of the clause were false to which the others lead; `None` if one leads elsewhere.
     fn trace(
         &mut self,
         resolvent: &Resolvent,
@@ -393,7 +393,7 @@ impl Minimiser {
         Ok(goes_on)
     }
 
-    /// Looks where an atom leads, from reason to reason. Where that ends early, the path has failed.
+    /// Looks where an atom leads, from reason to reason. If that ends early, the path has failed.
     fn walk<E: Explain>(
         &mut self,
         resolvent: &Resolvent,

@@ -1,4 +1,4 @@
--- What a core-guided worker assumes: that the subject of each term that weighs something stays at its bound.
+-- What a core-guided worker assumes: that the subject of each term with a weight above 0 stays at its bound.
 use Rattle.std.specs.Prelude.{◌≡◌, ◌⊎◌, ℕ, ◌<◌, ◌≤◌, List, length, take, slice_index_or, All}
 use Rattle.cps_literal.specs.declared.atom.Atom.{Atom}
 use Rattle.cps_trail.specs.Trail.{Domains, Entry, Trail, Decision, IsTrueAfter, IsFalseNow}
@@ -7,14 +7,14 @@ use Rattle.cps_reform.specs.declared.held.Held.{Held}
 use Rattle.cps_reform.specs.Forms.{term_at}
 use Rattle.cps_reform.specs.Marks.{assumed}
 
--- an atom is the assumption of a term that weighs something
+-- an atom is the assumption of a term with a weight above 0
 pub record IsAssumption (ts : List Held) (t : Atom) : Type 0 where
   pub place : ℕ
   pub within : place < length ts
   pub weighs : 1 ≤ (term_at ts place).weight
   pub is : t ≡ assumed (term_at ts place)
 
--- each term that weighs something stays at its bound after the entries
+-- each term with a weight above 0 stays at its bound after the entries
 abbrev pub AreAssumed : Domains → List Entry → List Held → Type 0
 AreAssumed first es ts = All (λ t. 1 ≤ t.weight → IsTrueAfter first es (assumed t)) ts
 
@@ -22,7 +22,7 @@ AreAssumed first es ts = All (λ t. 1 ≤ t.weight → IsTrueAfter first es (ass
 pub record AssumesFirst (s : Trail) (ts : List Held) : Type 0 where
   pub each : (k : ℕ) (d : Entry) → k < length s.entries → (slice_index_or s.entries k d).reason ≡ Decision → IsAssumption ts (slice_index_or s.entries k d).atom ⊎ AreAssumed s.first (take k s.entries) ts
 
--- a term that weighs something, and whose assumption is false: the first such one
+-- the first term with a weight above 0 whose assumption is false
 pub record IsFailed (s : Trail) (ts : List Held) (place : ℕ) : Type 0 where
   pub within : place < length ts
   pub weighs : 1 ≤ (term_at ts place).weight
@@ -32,7 +32,7 @@ pub record IsFailed (s : Trail) (ts : List Held) (place : ℕ) : Type 0 where
 abbrev pub NoneFails : Trail → List Held → Type 0
 NoneFails s ts = All (λ t. 1 ≤ t.weight → IsFalseNow s (assumed t) → ⊥) ts
 
--- a term that weighs something, and whose assumption is undecided: the first such one
+-- the first term with a weight above 0 whose assumption is undecided
 pub record IsFirstOpen (s : Trail) (ts : List Held) (place : ℕ) : Type 0 where
   pub within : place < length ts
   pub weighs : 1 ≤ (term_at ts place).weight

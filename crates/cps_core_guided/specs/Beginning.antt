@@ -9,7 +9,7 @@ use Rattle.cps_search.specs.Searches.{Search}
 abbrev pub opposite : ℕ → DefinedSum
 opposite subject = record { terms = record { coeff = negsuc 0; subject = subject } ∷ []; offset = pos 0 }
 
--- a search stands, or has the opposite of a subject as one more
+-- a search stayed as it was, or has the opposite of a subject as one more
 abbrev pub MayHaveOpposite : ℕ → Search → Search → ℕ → Type 0
 MayHaveOpposite of s t subject = (t ≡ s) ⊎ GrewBy s t (opposite of) subject
 

@@ -1,4 +1,4 @@
--- What a core-guided worker does in a turn and in a run, and what is seen of one that has ended.
+-- What a core-guided worker does in a turn and in a run, and one that has ended, as others see it.
 use Rattle.std.specs.Prelude.{◌≡◌, ◌⊎◌, ℕ, ◌+◌, ◌<◌, ◌≤◌, ◌^◌, ℤ, ◌≤ℤ◌, ◌<ℤ◌, Bool, true, false, Option, Some, None, IfSome, IsSome, List, length}
 use Rattle.cps_model.specs.declared.bound.Bound.{Bound}
 use Rattle.cps_model.specs.declared.bound.Bound.TheVariants.{At}
@@ -143,8 +143,9 @@ CoreCaused chooses s t rows p q (turns.Spent clause below) = ByFrame s t (SpentA
 CoreCaused chooses s t rows p q turns.RoundsDone = ⊥
 CoreCaused chooses s t rows p q (turns.Reformed base) = FromDue s rows p (λ m o. ReformsFrom m t o q base)
 
--- Why a worker does not go on for ever. Each turn but the last leaves fewer conflicts to learn from, or a lesser z, or less room for the base
--- under the greatest objective, or fewer rows to take, or fewer open values, the first of these that changes.
+-- Why a worker does not go on for ever: of conflicts to learn from, z, the room of the base under the greatest
+-- objective, rows to take and open values, in this order, the first that a turn changes gets less; and each turn but
+-- the last changes one.
 pub data LowersCore (s t : CoreSearch) (rows : ℕ) (p q : BoardPart) : Type 0 where
   fewer_conflicts : (budget : ℕ) → s.search.budget ≡ Some budget → s.search.tally < budget → t.search.tally ≡ s.search.tally + 1 → LowersCore s t rows p q
   lesser_z : t.search.tally ≡ s.search.tally → IsLess t.search.z s.search.z → LowersCore s t rows p q
@@ -209,7 +210,7 @@ pub record BeginsCore (p : Problem) (gap budget : ℕ) (s : CoreSearch) : Type 0
   pub raised : s.raised ≡ None
   pub ended : s.ended ≡ false
 
--- what is seen of a core-guided worker that ended so
+-- a core-guided worker that ended so, as others see it
 abbrev pub core_ending : End → CoreSearch → Ending
 core_ending end s = ending CoreGuided None end (whole s)
 

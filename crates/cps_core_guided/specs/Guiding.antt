@@ -19,7 +19,7 @@ use Rattle.cps_reform.specs.Floors.{IsPast}
 use Rattle.cps_core_guided.specs.Reforming.{CoreSearch, ReformsTo, most_sums}
 use Rattle.cps_core_guided.specs.CoreTurns.{SameCoreSetting}
 
--- the core-guided search that a worker stands for, while no memory was refused
+-- the core-guided search that a worker stands for, as long as no allocation failed
 abbrev pub core_of : {P B : Type 0} → Guided P B → CoreSearch
 core_of {P} {B} g = record { search = g.frame; form = g.reform; sums = g.sums; greatest = g.greatest; raised = g.raised; ended = g.ended }
 

@@ -1,4 +1,4 @@
-//! What is assumed: that the subject of each term that weighs something stays at its bound.
+//! Assumptions: that the subject of each term with a weight above 0 stays at its bound.
 
 ghost use Rattle.std.specs.Prelude.{◌↔◌, ◌<◌, ◌≤◌, length, All, IfSome, IsNone, IsTrue};
 ghost use Rattle.cps_trail.specs.Trail.{IsFalseNow};
@@ -10,7 +10,7 @@ use cps_literal::Truth;
 use cps_reform::{Held, assumption};
 use cps_trail::Store;
 
-/// Whether a term weighs something, and its assumption is false.
+/// Whether a term has a weight above 0 and its assumption is false.
 fn fails(store: &Store, term: &Held) -> bool
     requires { term.now.subject < length store.now.first }
     ensures { IsTrue result ↔ ((1 ≤ term.now.weight) × IsFalseNow store.now (assumed term.now)) }
@@ -24,7 +24,7 @@ fn fails(store: &Store, term: &Held) -> bool
     }
 }
 
-/// Whether a term weighs something, and its assumption is undecided.
+/// Whether a term has a weight above 0 and its assumption is undecided.
 fn is_open(store: &Store, term: &Held) -> bool
     requires { term.now.subject < length store.now.first }
     ensures { IsTrue result ↔ ((1 ≤ term.now.weight) × IsUndecided store.now (assumed term.now)) }
@@ -38,7 +38,7 @@ fn is_open(store: &Store, term: &Held) -> bool
     }
 }
 
-/// The place of the first term that weighs something and whose assumption is false.
+/// The place of the first term with a weight above 0 whose assumption is false.
 pub(crate) fn first_failed(store: &Store, terms: &[Held]) -> Option<usize>
     requires { All (λ t. t.subject < length store.now.first) terms.now }
     ensures some { IfSome result (IsFailed store.now terms.now) }
@@ -52,7 +52,7 @@ pub(crate) fn first_failed(store: &Store, terms: &[Held]) -> Option<usize>
     None
 }
 
-/// The place of the first term that weighs something and whose assumption is undecided.
+/// The place of the first term with a weight above 0 whose assumption is undecided.
 pub(crate) fn first_open(store: &Store, terms: &[Held]) -> Option<usize>
     requires { All (λ t. t.subject < length store.now.first) terms.now }
     ensures some { IfSome result (IsFirstOpen store.now terms.now) }

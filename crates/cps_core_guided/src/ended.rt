@@ -1,4 +1,4 @@
-//! What is seen of a core-guided worker that has ended.
+//! A core-guided worker that has ended, as others see it.
 
 ghost use Rattle.std.specs.Prelude.{◌≡◌, Some, IfSome, IsNone};
 
@@ -8,8 +8,8 @@ use cps_port::raised_to;
 use cps_search::{End, Ended};
 use std::marker::Model;
 
-/// A core-guided worker that has ended. It comes from a worker's `finish` alone. It is seen as what has ended is, and
-/// what the worker itself raised counts too.
+/// A core-guided worker that has ended. Only a worker's `finish` makes one. Contracts see it as an `Ended` whose
+/// `raised` counts what the worker itself raised too.
 #[derive(Drop)]
 pub struct CoreEnded {
     pub(crate) ended: Ended,

@@ -13,8 +13,8 @@ use cps_reform::Reform;
 use cps_search::Frame;
 use std::alloc::{AllocError, Global};
 
-/// A subject whose value is that of a term's subject, or the opposite where the coefficient is negative: a sum that is
-/// defined for it.
+/// The subject that a term of the form is over: the term's own, or, if its coefficient is negative, a defined sum that
+/// is the opposite of it.
 fn held_subject<P: Defining>(frame: &mut Frame<'_, P>, term: Term) -> Result<u32, AllocError>
     requires sound { IsSoundSearch frame.old }
     requires bottom { frame.old.trail.level ≡ 0 }

@@ -14,7 +14,8 @@ use cps_reform::Reform;
 use cps_search::Frame;
 use std::alloc::AllocError;
 
-/// Defines the sum of a form's core in a search at level 0, and answers its subject. What was known of the form stays.
+/// Defines the sum of a form's core in a search at level 0, and answers its subject. What is known of the form stays
+/// true.
 pub(crate) fn grow_core<P: Defining>(
     frame: &mut Frame<'_, P>,
     reform: &Reform,

@@ -1,4 +1,10 @@
-//! The turn of a core-guided worker, on a search with all that it needs.
+//! The turn of a core-guided worker.
+//!
+//! `Frame::steps` does a turn up to a decision. Where a decision is due, the first term whose assumption is false is
+//! reformed (`reform_at`); without one the first undecided assumption is decided, and without that the brancher
+//! chooses. A reform goes back to level 0: a false assumption there lifts its term alone, and else the decisions behind
+//! it are the core. Cores are not minimised, and the terms are not taken by weight in stages: each would be a strategy
+//! of its own over the same proved steps.
 
 ghost use Rattle.std.specs.Prelude.{◌≡◌, ◌<◌, ◌≤◌, ◌^◌, ◌+◌, ℤ, ◌≤ℤ◌, length, true, false, OnOk, OnErr, IfOk, IsTrue};
 ghost use Rattle.cps_literal.specs.Truth.{value_at};
@@ -32,10 +38,10 @@ use cps_reform::{Reform, assumption};
 use cps_search::{Frame, Turn, decide_next, hear_turn, still_kept};
 use std::alloc::{AllocError, Global};
 
-/// After this many sums of cores nothing is assumed any more.
+/// The most sums that are defined for cores; after them nothing is assumed any more, and the brancher decides alone.
 const MOST_SUMS: u32 = 1 << 24;
 
-/// A core-guided worker, with no thought of memory that was refused.
+/// A core-guided worker as long as every allocation succeeds.
 #[derive(Drop)]
 pub(crate) struct Guided<'a, P: Defining, B: Brancher + Drop> {
     pub alloc: Global,
@@ -48,14 +54,14 @@ pub(crate) struct Guided<'a, P: Defining, B: Brancher + Drop> {
     pub greatest: i64,
     /// The greatest bound to which the worker itself raised the lower one.
     pub raised: Option<Bound>,
-    /// Whether it ended in place of a reform.
+    /// Whether it ended because no solution below z could have the new form.
     pub ended: bool,
     /// How many of the store's first entries are those that the brancher saw last.
     pub kept: usize,
 }
 
 impl<'a, P: Defining, B: Brancher + Drop> Guided<'a, P, B> {
-    /// Takes a turn.
+    /// Takes one turn.
     pub fn turn<Q: Port>(&mut self, port: &mut Q) -> Result<Turn, AllocError>
         requires works { IsCoreWorking (core_of self.old) (B.scope self.old.brancher) (B.agrees self.old.brancher
             self.old.frame.trail) self.old.kept }
@@ -83,8 +89,8 @@ impl<'a, P: Defining, B: Brancher + Drop> Guided<'a, P, B> {
         }
     }
 
-    /// Goes on where a decision is due: reforms where an assumption is false, decides one that is undecided, or what
-    /// the brancher chooses.
+    /// Goes on when a decision is due: reforms if an assumption is false; else decides an undecided assumption, or,
+    /// without one, what the brancher chooses.
     fn go_on<Q: Port>(&mut self, port: &mut Q) -> Result<Turn, AllocError>
         requires works { IsCoreWorking (core_of self.old) (B.scope self.old.brancher) (B.agrees self.old.brancher
             self.old.frame.trail) self.old.kept }
@@ -154,7 +160,7 @@ impl<'a, P: Defining, B: Brancher + Drop> Guided<'a, P, B> {
         Ok(Turn::Decided)
     }
 
-    /// Reforms the objective for a failed term, or ends where no solution below z can have the new form.
+    /// Reforms the objective for a failed term, or ends if no solution below z can have the new form.
     fn reform_at<Q: Port>(&mut self, port: &mut Q, place: usize) -> Result<Turn, AllocError>
         requires works { IsCoreWorking (core_of self.old) (B.scope self.old.brancher) (B.agrees self.old.brancher
             self.old.frame.trail) self.old.kept }
@@ -172,18 +178,19 @@ impl<'a, P: Defining, B: Brancher + Drop> Guided<'a, P, B> {
             self.new.brancher self.new.frame.trail) self.new.kept) }
     {
         let atom = assumption(&self.reform.terms()[place]);
-        // Only here is it known what holds of each store.
+        // Reading the entries gives the proof the store's invariant.
         let _ = self.frame.store().entries();
         let decisions = self.frame.decisions_behind(atom)?;
         self.frame.restart();
+        // Reading the entries gives the proof the store's invariant.
         let _ = self.frame.store().entries();
         self.kept = still_kept(self.frame.store(), self.kept);
         let is_reformed = self.reform_by(place, atom, decisions.as_slice())?;
         Ok(self.conclude(port, is_reformed))
     }
 
-    /// Reforms the objective by the decisions behind the assumption of a failed term, at level 0. Answers false where
-    /// no solution below z can have the new form.
+    /// Reforms the objective by the decisions behind the assumption of a failed term, at level 0. Answers false if no
+    /// solution below z can have the new form.
     fn reform_by(
         &mut self,
         place: usize,
@@ -226,7 +233,7 @@ impl<'a, P: Defining, B: Brancher + Drop> Guided<'a, P, B> {
         ensures works { OnOk result (IsCoreWorking (core_of self.new) (B.scope self.new.brancher) (B.agrees
             self.new.brancher self.new.frame.trail) self.new.kept) }
     {
-        // Only here is it known what holds of each store.
+        // Reading the entries gives the proof the store's invariant.
         let _ = self.frame.store().entries();
         self.reform.mark_core(place, decisions);
         let core = self.reform.core_terms(self.alloc)?;
@@ -236,8 +243,8 @@ impl<'a, P: Defining, B: Brancher + Drop> Guided<'a, P, B> {
         self.split(core.as_slice())
     }
 
-    /// Raises the bound of a term that no solution below z is below. Answers false, and changes nothing, where no
-    /// solution below z can have the new form.
+    /// Raises the bound of a term: no solution below z has its subject below the new bound. Answers false, and changes
+    /// nothing, if no solution below z can have the new form.
     fn lift(&mut self, place: usize, bound: i64) -> bool
         requires sound { IsSoundCore (core_of self.old) }
         requires bottom { self.old.frame.trail.level ≡ 0 }
@@ -258,7 +265,7 @@ impl<'a, P: Defining, B: Brancher + Drop> Guided<'a, P, B> {
         ensures sound { IsSoundCore (core_of self.new) }
         ensures kept { (self.new.brancher ≡ self.old.brancher) × (self.new.kept ≡ self.old.kept) }
     {
-        // Only here is it known what holds of each store.
+        // Reading the entries gives the proof the store's invariant.
         let _ = self.frame.store().entries();
         self.reform.lift_below(
             self.frame.instance(),
@@ -269,8 +276,8 @@ impl<'a, P: Defining, B: Brancher + Drop> Guided<'a, P, B> {
         )
     }
 
-    /// Splits a core of several terms, of which each solution below z is above a bound. Answers false where no solution
-    /// below z can have the new form.
+    /// Splits a core of several terms: each solution below z has one of their subjects above its bound. Answers false
+    /// if no solution below z can have the new form.
     fn split(&mut self, core: &[Term]) -> Result<bool, AllocError>
         requires works { IsCoreWorking (core_of self.old) (B.scope self.old.brancher) (B.agrees self.old.brancher
             self.old.frame.trail) self.old.kept }
@@ -286,7 +293,7 @@ impl<'a, P: Defining, B: Brancher + Drop> Guided<'a, P, B> {
             self.new.brancher self.new.frame.trail) self.new.kept) }
     {
         let subject = grow_core(&mut self.frame, &self.reform, core)?;
-        // Only here is it known what holds of each store.
+        // Reading the entries gives the proof the store's invariant.
         let _ = self.frame.store().entries();
         self.sums += 1;
         self.reform.split_below(

@@ -1,4 +1,8 @@
-//! A worker that raises the lower bound core by core.
+//! `CoreWorker`: a worker that raises the lower bound core by core.
+//!
+//! It is `Guided` with a word on memory, as `Frame` is `Searcher` with one. It makes its first form when it begins, and
+//! defines a sum for each term with a negative coefficient, so that every weight is at least 0. The brancher goes by
+//! activity; it sees the model's variables alone, so the sums that are defined later do not concern it.
 
 ghost use Rattle.std.specs.Prelude.{◌≡◌, ◌≤◌, ◌<◌, ◌^◌, length, None, OnOk, OnErr, IfOk, IfSome, IsErr, IsNone, IsTrue, Some};
 ghost use Rattle.cps_branch.specs.Guidances.{AreHintsOf};
@@ -20,8 +24,8 @@ use cps_search::{End, Frame, Said, Turn, WorkerKind, end_of};
 use std::alloc::{AllocError, Global};
 use std::marker::Model;
 
-/// A search with the objective's form, and a brancher that chooses what is decided where all is assumed. Contracts see
-/// it as the pair of both. Once a call ran out of memory, each call that may allocate answers so too.
+/// A search with the objective's form, and a brancher that chooses once all assumptions are true. Contracts see it as
+/// the pair of both. Once an allocation has failed, every later call that may allocate fails too.
 #[derive(Drop)]
 pub struct CoreWorker<'a, P: Defining, B: Brancher + Drop> {
     guided: Guided<'a, P, B>,
@@ -84,8 +88,8 @@ impl<'a, P: Defining> CoreWorker<'a, P, ActivityBrancher> {
 }
 
 impl<'a, P: Defining, B: Brancher + Drop> CoreWorker<'a, P, B> {
-    /// Takes a turn: the first that applies of these. The two bounds met; an entry of the board is taken; a conflict
-    /// ends all, or spends the budget, or is learnt from; a solution is found; an assumption is false, and the
+    /// Takes one turn: the first of these that applies. The two bounds met; an entry of the board is taken; a conflict
+    /// leaves no solution, spends the budget or is learnt from; a solution is found; an assumption is false, and the
     /// objective is reformed, or no solution is left; an assumption, or else what the brancher chooses, is decided.
     pub fn turn<Q: Port>(&mut self, port: &mut Q) -> Result<Turn, AllocError>
         requires running { IsOver (whole self.old.0).said → ⊥ }
@@ -112,7 +116,7 @@ impl<'a, P: Defining, B: Brancher + Drop> CoreWorker<'a, P, B> {
         Ok(turn)
     }
 
-    /// Takes turns up to the end.
+    /// Takes turns until one ends the worker.
     pub fn run<Q: Port>(&mut self, port: &mut Q) -> Result<End, AllocError>
         requires running { IsOver (whole self.old.0).said → ⊥ }
         requires model { Q.model port.old ≡ self.old.0.search.problem.model }
@@ -157,7 +161,7 @@ impl<'a, P: Defining, B: Brancher + Drop> CoreWorker<'a, P, B> {
         self.guided.frame.best()
     }
 
-    /// What is seen of the worker after it ended.
+    /// The worker as others see it after it ended.
     pub fn finish(self) -> CoreEnded
         requires { IsOver (whole self.0).said }
         ensures said { (whole self.entry.0).said ≡ Said.Over result.end }

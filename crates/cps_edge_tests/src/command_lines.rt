@@ -1,4 +1,7 @@
 //! Words with the commands that they are.
+//!
+//! One table of rows: a list of words, and the command that they are, or none. The rows follow from the table of
+//! commands and the ranges of its options.
 use cps_command::{Command, Family, Recipe, command_of};
 use cps_options::Options;
 use std::alloc::{AllocError, Global};

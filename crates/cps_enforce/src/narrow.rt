@@ -1,4 +1,9 @@
 //! What a task in force does to a store: it makes true what its rule gives, or answers why it cannot.
+//!
+//! The rule looks at the store once, and hands out a list; only then is the store changed. So a rule's proof is about
+//! one store. A narrowing keeps a note, and its reason is made only when it is asked for; a conflict is explained at
+//! once. If the rule finds no explanation, which no proof excludes, the conflict names all that was narrowed of what
+//! the task reads.
 
 ghost use Rattle.std.specs.Prelude.{◌≡◌, All, OnOk, IfOk};
 ghost use Rattle.cps_instance.specs.Tasks.{HoldsTask};
@@ -23,7 +28,7 @@ pub(crate) struct Header<'a> {
     pub(crate) enforcement: &'a [Atom],
 }
 
-/// Room for a conflict in work. Its memory is kept for the next.
+/// Room for a conflict that is being made, which is kept for the next one.
 #[derive(Drop)]
 pub(crate) struct Room {
     alloc: Global,
@@ -43,7 +48,7 @@ impl Room {
         }
     }
 
-    /// The conflict that the reason in work is.
+    /// The conflict whose clause was made in the room.
     fn conflict(&self) -> Result<Step, AllocError>
         ensures { IfOk result (λ step. step ≡ Step.Conflict self.now.reason.items) }
     {
@@ -51,7 +56,7 @@ impl Room {
     }
 }
 
-/// Makes the conflict that names all that was narrowed of what the task reads.
+/// Makes the conflict that names every earlier narrowing of what the task reads.
 fn refuse_by_past<R: Rule>(
     enforcement: &[Atom],
     rule: &R,

@@ -28,7 +28,7 @@ fn deny(past: &Before, facts: &[Atom], reason: &mut Vec<Atom>) -> Result<(), All
     Ok(())
 }
 
-/// Puts the negations of enforcement atoms and of facts in the place of what a list holds.
+/// Fills a list anew with the negations of enforcement atoms and of facts.
 fn deny_both(
     past: &Before,
     enforcement: &[Atom],
@@ -78,7 +78,7 @@ pub(crate) fn give_by(
     Ok(())
 }
 
-/// Puts the negations of enforcement atoms but the one at a place, and of facts, in the place of what a list holds.
+/// Fills a list anew with the negations of facts and of all enforcement atoms but one.
 pub(crate) fn deny_others(
     past: &Before,
     enforcement: &[Atom],
@@ -111,7 +111,7 @@ pub(crate) fn push_all_subjects<R: Rule>(
     Ok(())
 }
 
-/// Puts the negation of each of the first `place` entries about subjects in the place of what a list holds.
+/// Fills a list anew with the negation of each of the first `place` entries about some subjects.
 pub(crate) fn deny_all(
     store: &Store,
     place: usize,

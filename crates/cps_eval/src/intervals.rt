@@ -1,4 +1,8 @@
-//! Kinds over intervals.
+//! Kinds over intervals: an interval by itself, and whether intervals or boxes overlap.
+//!
+//! Intervals are sorted by start and end; if none ends before it starts, each has to be compared with the next alone.
+//! An assignment that breaks an interval's own constraint may give one that ends before it starts; then all pairs are
+//! compared, by the same two comparisons. Boxes are always compared pair by pair.
 ghost use Rattle.std.specs.Prelude.{◌≡◌, ◌<◌, ◌≤◌, ◌+◌, ◌*◌, ◌^◌, ◌↔◌, ◌+ℤ◌, ◌≤ℤ◌, IsTrue, IfOk, option_copied, length, unsigned_abs, filter_map, Option, IsPermutation};
 ghost use Rattle.std.specs.List.{list_all};
 ghost use Rattle.cps_model.specs.Scheduling.{IsInterval, constraint_at, run_of, present_run, run_at, runs, are_apart, IsNoOverlap, area_of, areas, are_disjoint, IsNoOverlap2d};

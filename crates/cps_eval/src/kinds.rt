@@ -1,4 +1,8 @@
 //! Whether what each kind demands holds.
+//!
+//! One match over all kinds, long because each has an arm of its own: it takes the kind's lists apart, computes the
+//! values of its expressions, and asks the function that judges plain numbers (a file for each group of kinds). Domains
+//! were tested before, so no sum leaves its type.
 ghost use Rattle.std.specs.Prelude.{◌≡◌, ◌↔◌, IfOk, IsTrue};
 ghost use Rattle.std.specs.List.{list_all, list_any};
 ghost use Rattle.cps_model.specs.Values.{literal_holds};

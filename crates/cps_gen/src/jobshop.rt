@@ -1,4 +1,7 @@
-//! Job shops.
+//! Job shops: square ones, in which every job has a task on every machine.
+//!
+//! Task j * n + k is the k-th of job j; its number is also that of its start variable, and the last variable is the
+//! makespan. A function adds each group of constraints, in the order in which the text of the generated model has them.
 ghost use Rattle.std.specs.Prelude.{◌≡◌, ◌+◌, ◌-◌, ◌*◌, ◌<◌, ◌≤◌, ◌^◌, ◌++◌, map, filter, pos, IfOk, OnOk};
 ghost use Rattle.cps_model.specs.declared.constraint.Kind.TheVariants as kinds;
 ghost use Rattle.cps_gen.specs.Draws.{draws_of};
@@ -195,7 +198,7 @@ fn constraints_of(alloc: Global, shop: &Shop) -> Result<Listed<Constraint>, Allo
     Ok(Listed::from_vec(constraints))
 }
 
-/// The job shop of so many jobs and machines.
+/// The job shop of `size` jobs and as many machines.
 pub(crate) fn jobshop(alloc: Global, size: u32, seed: u64) -> Result<CpModel, AllocError>
     requires least { 1 ≤ size }
     requires most { size ≤ 16 }

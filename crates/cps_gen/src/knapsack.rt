@@ -24,7 +24,7 @@ struct Items {
     total: u32,
 }
 
-/// Draws so many items, each weight before its value.
+/// Draws `size` items, each weight before its value.
 fn draw_items(alloc: Global, size: u32, seed: u64) -> Result<Items, AllocError>
     requires { size ≤ 10000 }
     ensures weights { IfOk result (λ items. items.weights.items ≡ weights (draws_of seed 1) size) }
@@ -67,7 +67,7 @@ fn capacity(
     Ok(Listed::from_vec(vec![in alloc; in_force(alloc, kind)]?))
 }
 
-/// The knapsack of so many items.
+/// The knapsack of `size` items.
 pub(crate) fn knapsack(alloc: Global, size: u32, seed: u64) -> Result<CpModel, AllocError>
     requires { size ≤ 10000 }
     ensures { IfOk result (λ m. m ≡ knapsack (draws_of seed 1) size) }

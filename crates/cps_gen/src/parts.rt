@@ -7,7 +7,7 @@ use cps_model::{
 };
 use std::alloc::{AllocError, Global};
 
-/// References to the first so many variables.
+/// References to the first `count` variables.
 pub(crate) fn references(alloc: Global, count: u32) -> Result<Refs, AllocError>
     requires { count < 2 ^ 31 }
     ensures { IfOk result (λ refs. refs ≡ references count) }
@@ -19,7 +19,7 @@ pub(crate) fn references(alloc: Global, count: u32) -> Result<Refs, AllocError>
     Ok(Listed::from_vec(refs))
 }
 
-/// So many variables, each with values from 0 to the greatest.
+/// `count` variables, each with the values from 0 to `greatest`.
 pub(crate) fn variables(
     alloc: Global,
     count: u32,
@@ -111,7 +111,7 @@ pub(crate) fn model_of(
     }
 }
 
-/// How many places a grid of so many rows and columns has.
+/// How many places a grid of `size` rows and columns has.
 pub(crate) fn square(size: u32) -> u32
     requires { size ≤ 60 }
     ensures value { result ≡ size * size }

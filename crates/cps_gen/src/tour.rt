@@ -22,7 +22,7 @@ struct Arcs {
     costs: Vec<i64>,
 }
 
-/// The arcs between each two of so many nodes, with drawn costs.
+/// The arcs between each two of `size` nodes, with drawn costs.
 fn arcs_of(alloc: Global, size: u32, seed: u64) -> Result<Arcs, AllocError>
     requires least { 2 ≤ size }
     requires most { size ≤ 60 }
@@ -52,7 +52,7 @@ fn arcs_of(alloc: Global, size: u32, seed: u64) -> Result<Arcs, AllocError>
     })
 }
 
-/// The tour through so many nodes.
+/// The tour through `size` nodes.
 pub(crate) fn tour(alloc: Global, size: u32, seed: u64) -> Result<CpModel, AllocError>
     requires least { 2 ≤ size }
     requires most { size ≤ 60 }

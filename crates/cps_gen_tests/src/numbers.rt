@@ -1,4 +1,8 @@
 //! The numbers in small generated models.
+//!
+//! The draws of each row come from a generator written apart, after the public description of PCG, in the stated order
+//! of draws; they are compared with the numbers in the model. How many variables and constraints there are follows from
+//! the family.
 use cps_gen::{Family, generate};
 use cps_model::{Constraint, CpModel, Kind};
 use std::alloc::{AllocError, Global};

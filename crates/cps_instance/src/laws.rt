@@ -1,4 +1,4 @@
-//! Laws of all instances. Each is the contract of a function that does nothing.
+//! Laws of all instances. Each is the contract of a function with an empty body.
 
 ghost use Rattle.std.specs.Prelude.{ℤ, List};
 ghost use Rattle.cps_instance.specs.Problem.{Problem, IsAssignment, IsInstance, sum_tasks, variable_count};

@@ -1,4 +1,7 @@
-//! Which decisions are behind an atom that is false. The decisions that are wanted were found by hand.
+//! Which decisions are behind an atom that is false.
+//!
+//! The decisions that are wanted were found by hand, along the reasons of each row. That each is answered once, in the
+//! order in which it was made, is seen here alone.
 
 use crate::conflicts::{Nobody, Step, at_least, at_most, lead, other_than};
 use crate::minimised::{ODD, WIDE, subjects};

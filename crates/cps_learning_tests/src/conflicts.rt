@@ -1,4 +1,8 @@
 //! What conflicts teach.
+//!
+//! A row is a list of steps that lead a store to a conflict, and the lesson: how many atoms the clause has, the first
+//! of them, the level to go back to and the atom that is asserted. The lessons are those of the first unique
+//! implication point, found by hand.
 
 ghost use Rattle.std.specs.Prelude.{ℕ, ℤ, ◌≡◌, ◌<◌, length, IsTrue, OnOk};
 ghost use Rattle.std.specs.List.{All};
@@ -67,7 +71,7 @@ fn implied(alloc: Global, store: &mut Store, other: Atom, atom: Atom) -> Result<
     Ok(())
 }
 
-/// Nobody who makes reasons.
+/// Makes no reasons: every entry of these stores keeps its own.
 pub(crate) struct Nobody;
 
 impl Explain for Nobody {

@@ -1,4 +1,7 @@
 //! Learnt clauses that are dropped.
+//!
+//! Which clauses go, and in which order, follows from their lengths and ages; a clause that a note names stays. What is
+//! kept of the others' atoms is looked at too, since a drop copies them.
 
 use crate::resting::{has_clause, settle_more};
 use crate::small::{bits, one, zero};

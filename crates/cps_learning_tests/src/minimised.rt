@@ -1,4 +1,7 @@
-//! Which atoms learnt clauses keep. The clauses that are wanted were found by hand.
+//! Which atoms learnt clauses keep when they are minimised.
+//!
+//! The clauses that are wanted were found by hand, by following reasons. Contracts say only that a minimised clause
+//! follows; that these atoms go, and those stay, is seen here.
 
 ghost use Rattle.std.specs.Prelude.{ℕ, ◌≡◌, ◌<◌, length, IsTrue};
 

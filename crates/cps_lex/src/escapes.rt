@@ -23,7 +23,7 @@ pub enum Place {
     HexMark,
     /// `\x` or `\X` and a hexadecimal digit of this value.
     HexOne(u8),
-    /// `\u` or `\U`, with so many digits still to come, and the value of those that there are.
+    /// `\u` or `\U`, with the number of digits still to come, and the value of those that came.
     Unicode(u8, u32),
     /// The quote that closes the string.
     Closed,

@@ -1,4 +1,4 @@
--- What a worker without its end keeps between two turns, and what a learnt clause does to it.
+-- What a worker that has not ended keeps between two turns, and what a learnt clause does to it.
 use Rattle.std.specs.Prelude.{◌≡◌, ◌+◌, ◌*◌, ◌^◌, ◌≤◌, Bool, true, false, None, length}
 use Rattle.cps_instance.specs.Problem.{variable_count}
 use Rattle.cps_branch.specs.Scope.{IsScopeOf}

@@ -91,7 +91,7 @@ pub record DecidesInRound (s t : Near) : Type 0 where
   pub one : Decides (ChoosesInRound (round_now s).decisions s.brancher) s.search t.search
   pub rest : SameButDecided s t
 
--- a decision was made where one was due
+-- a decision was due, and one was made
 pub record DecidedInRound (s t : Near) (rows : ℕ) (p q : Part) : Type 0 where
   pub one : DecidedOne (ChoosesInRound (round_now s).decisions s.brancher) s.search t.search rows p q
   pub rest : SameButDecided s t
@@ -149,8 +149,8 @@ abbrev pub learnt_in : Option Round → ℕ
 learnt_in None = 0
 learnt_in (Some round) = round.learnt
 
--- Why a worker does not go on for ever. Each turn but the last leaves fewer rounds, or fewer conflicts in the round, or less of the search as it
--- is of other workers: a lesser z, or fewer rows to take, or fewer open values.
+-- Why a worker does not go on for ever: of rounds to do, conflicts left in the round, z, rows to take and open values,
+-- in this order, the first that a turn changes gets less; and each turn but the last changes one.
 pub data NearLowers (s t : Near) (rows : ℕ) (p q : BoardPart) : Type 0 where
   fewer_rounds : s.rounds < round_count s.conflicts → t.rounds ≡ s.rounds + 1 → NearLowers s t rows p q
   fewer_conflicts : t.rounds ≡ s.rounds → learnt_in t.round ≡ learnt_in s.round + 1 → learnt_in t.round < round_conflicts → NearLowers s t rows p q
@@ -161,7 +161,7 @@ pub record TakesNearTurn (s t : Near) (rows : ℕ) (p q : Part) (turn : Turn) : 
   pub setting : SameSetting s.search t.search
   pub conflicts : t.conflicts ≡ s.conflicts
   pub aim : t.aim ≡ s.aim
-  -- a decision alone adds what was not inferred
+  -- only a decision adds an entry that was not inferred
   pub store : (turn ≡ turns.Decided → ⊥) → GoesOnAndBack s.search.trail t.search.trail
   pub cause : NearCaused s t rows p q turn
   pub moves : MovesWith s.search t.search p q

@@ -5,7 +5,7 @@ ghost use Rattle.cps_neighbourhood.specs.Standing.{solution_of};
 
 use std::alloc::{AllocError, Global};
 
-/// A solution to aim at, if there is one, in room that was made before.
+/// A solution to aim at, if there is one. Its room is made once, so that taking another one cannot fail.
 #[derive(Drop)]
 pub(crate) struct Aim {
     pub values: Vec<i64>,
@@ -13,7 +13,7 @@ pub(crate) struct Aim {
 }
 
 impl Aim {
-    /// Room for a solution of so many values.
+    /// Room for a solution of `count` values.
     pub fn new(alloc: Global, count: usize) -> Result<Self, AllocError>
         ensures count { IfOk result (λ aim. length aim.values.items ≡ count) }
         ensures unset { IfOk result (λ aim. aim.is_set ≡ false) }

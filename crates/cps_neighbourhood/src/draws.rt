@@ -1,9 +1,9 @@
 //! Samples of numbers, drawn without replacement.
 //!
 //! Selection sampling: Knuth, "The Art of Computer Programming", volume 2, section 3.4.2, algorithm S. Each number has a
-//! word of the generator, and is taken where the word modulo the count of those that are left is less than how many are
-//! still wanted. So the sample rises, and just as many are taken as are wanted. It was not done by drawing places and
-//! sorting, which needs fewer words but a second pass, and draws again where two places are the same.
+//! word of the generator, and is taken if the word modulo the count of those that are left is less than how many are
+//! still wanted. So the sample rises, and exactly as many are taken as are wanted. Drawing places and sorting them
+//! would need fewer words, but a second pass, and another draw whenever two places are the same.
 
 ghost use Rattle.std.specs.Prelude.{◌≡◌, ◌↔◌, ◌<◌, ◌≤◌, ◌%◌, All, IfOk, OnOk, IsTrue, length};
 ghost use Rattle.cps_neighbourhood.specs.Drawing.{draws_of, after_word, after_words, is_taken, sample, IsRising};
@@ -20,7 +20,7 @@ pub(crate) fn draws_of(seed: u64, stream: u64) -> Lcg64Xsh32
     Lcg64Xsh32::new(seed, stream)
 }
 
-/// Whether the next of `left` numbers is taken, where so many are still wanted.
+/// Whether the next of `left` numbers is taken, if `wanted` are still wanted.
 #[tactic(auto, unfolding(crate::specs::Drawing::next_word, crate::specs::Drawing::after_word))]
 fn is_taken(draws: &mut Lcg64Xsh32, left: u32, wanted: u32) -> bool
     requires { 0 < left }
@@ -31,7 +31,7 @@ fn is_taken(draws: &mut Lcg64Xsh32, left: u32, wanted: u32) -> bool
     word % left < wanted
 }
 
-/// So many different numbers below `n`, drawn with `n` words of the generator, in rising order.
+/// `count` different numbers below `n`, drawn with `n` words of the generator, in rising order.
 pub fn choose_free(
     alloc: Global,
     n: u32,

@@ -1,4 +1,10 @@
-//! What a neighbourhood worker does in a turn, with no thought of memory that was refused.
+//! The turn of a neighbourhood worker, as long as every allocation succeeds.
+//!
+//! `Frame::steps` does a turn up to a decision. When a decision is due, a round is begun if none is under way, and the
+//! round's next open decision comes before the brancher's choice. After a learnt clause the brancher hears it, and the
+//! round ends or goes on in the same turn; the brancher's wish to restart is not followed, since the round would only
+//! be decided once more. After any other turn the store may have gone back, so the round looks for open decisions from
+//! its first one on.
 
 ghost use Rattle.std.specs.Prelude.{◌≡◌, ◌↔◌, ℕ, ◌+◌, ◌<◌, ◌≤◌, ◌^◌, min, length, true, false, IfOk, OnOk, IsTrue, List, [], ◌∷◌, ◌++◌, None, Some};
 ghost use Rattle.cps_model.specs.declared.bound.Bound.{Bound as BoundOf};
@@ -29,7 +35,7 @@ use cps_search::{Frame, Said, Turn, decide_next, hear_last, still_kept};
 use rand_pcg::Lcg64Xsh32;
 use std::alloc::{AllocError, Global};
 
-/// How many rounds a worker does that goes by so many conflicts.
+/// How many rounds a worker does that was given `conflicts`.
 fn round_count(conflicts: u64) -> u64
     ensures { result ≡ round_count conflicts }
 {
@@ -44,7 +50,7 @@ pub(crate) struct Explorer<'a, P: Propagator> {
     pub brancher: ActivityBrancher,
     /// How many of the store's first entries are those that the brancher saw last.
     pub kept: usize,
-    /// For how many conflicts it does its rounds.
+    /// The number of conflicts that it was given, by which the number of its rounds goes.
     pub conflicts: u64,
     pub draws: Lcg64Xsh32,
     pub aim: Aim,
@@ -98,7 +104,7 @@ impl<'a, P: Propagator> Explorer<'a, P> {
         ensures in_round { OnOk result (IsTrue self.new.in_round) }
         ensures exploring { OnOk result (IsExploring self.new) }
     {
-        // Only here is it known what holds of each store.
+        // Reading the entries gives the proof the store's invariant.
         let _ = self.frame.store().entries();
         if !self.in_round {
             self.round = Progress::begin(self.alloc, &self.aim, &mut self.draws)?;
@@ -220,7 +226,7 @@ impl<'a, P: Propagator> Explorer<'a, P> {
         self.kept = still_kept(self.frame.store(), self.kept);
     }
 
-    /// After a turn that neither decided nor learnt: the store may have lost its last entries.
+    /// Looks what is left after a turn that neither decided nor learnt: the store may have lost its last entries.
     fn look_back(&mut self)
         ensures kept { self.new.kept ≡ min self.old.kept (length self.new.frame.trail.entries) }
         ensures held { self.new.round.held ≡ min self.old.round.held self.old.frame.trail.level }
@@ -235,7 +241,7 @@ impl<'a, P: Propagator> Explorer<'a, P> {
         self.round.place = 0;
     }
 
-    /// Takes a turn. Where all rounds are done, it is the last, in which only the two bounds are looked at.
+    /// Takes one turn. If all rounds are done it is the last one, which only looks at the two bounds.
     pub fn turn<Q: Port>(&mut self, port: &mut Q) -> Result<Turn, AllocError>
         requires exploring { IsExploring self.old }
         requires running { IsOver self.old.frame.said → ⊥ }

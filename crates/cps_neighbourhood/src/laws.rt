@@ -1,4 +1,4 @@
-//! Laws of neighbourhood workers. Each is the contract of a function that does nothing.
+//! Laws of neighbourhood workers. Each is the contract of a function with an empty body.
 
 ghost use Rattle.std.specs.Prelude.{◌≡◌, ℕ, None};
 ghost use Rattle.rand_pcg.specs.Lcg.{Lcg};
@@ -11,8 +11,8 @@ ghost use Rattle.cps_search.specs.Searches.{IsSoundSearch};
 ghost use Rattle.cps_search.specs.Ends.{IsHonestEnding, ending};
 ghost use Rattle.cps_neighbourhood.specs.Nears.{BeginsNear, Near, NearRunsInTurns, NearRunsTo};
 
-/// A neighbourhood worker whose actor had offered and raised nothing before it began is honest when it has ended: it
-/// learnt from at most 100 conflicts in each of its rounds, and from one at least.
+/// A neighbourhood worker that has ended is honest, if its actor had offered and raised nothing before it began: in
+/// each of its rounds it learnt from at least one conflict and at most 100.
 pub fn ended_near_workers_are_honest()
     ensures { (p : Problem) (gap conflicts rows : ℕ) (draws : Lcg) (s t : Near) (before after : Part) (end : End)
         → BeginsNear p gap conflicts draws s → (h : NearRunsInTurns rows s t before after end)
@@ -21,8 +21,8 @@ pub fn ended_near_workers_are_honest()
         → IsHonestEnding p.model gap conflicts after.bounds (ending NearKind None end t.search) }
 {}
 
-/// Turns of a neighbourhood worker one after another, of which the last ended it, come to what a run comes to, whoever
-/// else stepped between them, and whatever solutions it was handed.
+/// Turns of a neighbourhood worker one after another, the last of which ended it, come to what `run` comes to, whatever
+/// other actors did between them and whatever solutions it was handed.
 pub fn near_turns_come_to_a_run()
     ensures { (rows : ℕ) (s t : Near) (p q : Part) (end : End) → (h : NearRunsInTurns rows s t p q end)
         → IsSoundSearch h.before.search → NearRunsTo s t p q end }

@@ -1,4 +1,8 @@
-//! A worker that searches near solutions, in rounds.
+//! `NearWorker`: a worker that searches near solutions, in rounds.
+//!
+//! It is `Explorer` with a word on memory, as `Frame` is `Searcher` with one. `aim` may be called between any two turns
+//! and takes no memory; the round that is under way keeps the aim with which it began. Each worker draws from a stream
+//! of its own of the seed, so that two workers of one run free different variables.
 
 ghost use Rattle.std.specs.Prelude.{◌≡◌, ◌+◌, ◌≤◌, ◌^◌, length, false, OnOk, OnErr, IfOk, IfSome, IsErr, IsNone, IsTrue, None, Some};
 ghost use Rattle.cps_model.specs.Solutions.{IsSolution};
@@ -17,9 +21,9 @@ use cps_search::{End, Ended, Said, Turn, WorkerKind, end_of};
 use std::alloc::{AllocError, Global};
 use std::marker::Model;
 
-/// A worker that searches in rounds. A round frees some drawn variables and decides the values of a solution for the
-/// others, and then goes by activity; it ends after 100 conflicts, or where it is refuted. What it learns holds of the
-/// whole model. Once a call ran out of memory, each call that may allocate answers so too.
+/// A worker that searches in rounds. A round frees some drawn variables, decides for the others their values in a
+/// solution, and then goes by activity; it ends after 100 conflicts, or when it is refuted. What it learns holds of the
+/// whole model. Once an allocation has failed, every later call that may allocate fails too.
 #[derive(Drop)]
 pub struct NearWorker<'a, P: Propagator> {
     explorer: Explorer<'a, P>,
@@ -41,9 +45,9 @@ impl<'a, P: Propagator> Model for NearWorker<'a, P> {
 }
 
 impl<'a, P: Propagator> NearWorker<'a, P> {
-    /// A worker that knows nothing yet, and has no solution to aim at. It does one round for every 100 `conflicts`, of
-    /// which there are at most 10^9, and one more; it draws by the words of `Lcg64Xsh32::new(seed, 16 + number)`, and
-    /// ends where the two bounds meet within the gap. The engine has the instance's tasks, in order.
+    /// A worker that knows nothing yet, and has no solution to aim at. It does one round for every 100 `conflicts` (at
+    /// most 10^9), and one more; it draws by the words of `Lcg64Xsh32::new(seed, 16 + number)`, and ends when the two
+    /// bounds meet within the gap. The engine has the instance's tasks, in order.
     pub fn new(
         alloc: Global,
         instance: Instance<'a>,
@@ -67,9 +71,9 @@ impl<'a, P: Propagator> NearWorker<'a, P> {
         })
     }
 
-    /// Takes a turn: the first that applies of these. The two bounds met; all rounds are done; an entry of the board is
-    /// taken; a conflict ends all, or is learnt from, which may end the round; a solution is found; an atom is decided,
-    /// by the round or by activity.
+    /// Takes one turn: the first of these that applies. The two bounds met; all rounds are done; an entry of the board
+    /// is taken; a conflict leaves no solution, or is learnt from, which may end the round; a solution is found; an
+    /// atom is decided, by the round or by activity.
     pub fn turn<Q: Port>(&mut self, port: &mut Q) -> Result<Turn, AllocError>
         requires running { IsOver self.old.search.said → ⊥ }
         requires model { Q.model port.old ≡ self.old.search.problem.model }
@@ -92,7 +96,7 @@ impl<'a, P: Propagator> NearWorker<'a, P> {
         Ok(turn)
     }
 
-    /// Takes turns up to the end.
+    /// Takes turns until one ends the worker.
     pub fn run<Q: Port>(&mut self, port: &mut Q) -> Result<End, AllocError>
         requires running { IsOver self.old.search.said → ⊥ }
         requires model { Q.model port.old ≡ self.old.search.problem.model }
@@ -154,7 +158,7 @@ impl<'a, P: Propagator> NearWorker<'a, P> {
         self.explorer.frame.best()
     }
 
-    /// What is seen of the worker after it ended.
+    /// The worker as others see it after it ended.
     pub fn finish(self) -> Ended
         requires { IsOver self.search.said }
         ensures said { self.entry.search.said ≡ Said.Over result.end }

@@ -1,4 +1,9 @@
-//! Rounds: what each is to decide, and how far it is.
+//! Rounds: what each is to decide, and how far it has come.
+//!
+//! The first levels of the trail are the round's own decisions, as many as `held` says; a clause that sends the search
+//! back below them refutes the neighbourhood. A decision of the round that inference made true already begins no level,
+//! and one that it made false is passed over: the round then searches where the aim cannot be followed. Decisions are
+//! looked for from `place` on, which goes back to 0 whenever entries may have gone.
 
 ghost use Rattle.std.specs.Prelude.{◌≡◌, ◌↔◌, ◌⊎◌, ℕ, ◌+◌, ◌≤◌, ◌<◌, ◌^◌, All, IfOk, IfSome, OnOk, IsNone, IsTrue, length, pos, slice_index_or};
 ghost use Rattle.cps_literal.specs.declared.atom.Atom.{Atom as AtomOf};
@@ -16,17 +21,17 @@ use cps_trail::Store;
 use rand_pcg::Lcg64Xsh32;
 use std::alloc::{AllocError, Global};
 
-/// After how many conflicts a round ends that was not refuted.
+/// After how many conflicts a round ends if it was not refuted before.
 pub(crate) const LENGTH: u64 = 100;
 
-/// A round, and how far it is.
+/// A round, and how far it has come.
 #[derive(Drop)]
 pub(crate) struct Progress {
     /// What it is to decide, in order.
     pub decisions: Vec<Atom>,
     /// How many clauses were learnt in it.
     pub learnt: u64,
-    /// The level of its last decision on the trail: the first so many levels began with its decisions.
+    /// The level of its last decision on the trail: each level up to this one began with a decision of the round.
     pub held: usize,
     /// None of its decisions before this place is open.
     pub place: usize,
@@ -40,7 +45,7 @@ fn free_count(n: u32) -> u32
     n.min(1 + n / 5)
 }
 
-/// The atom that a variable has its value of a list.
+/// The atom that a variable has its value in a list.
 fn has_value(values: &[i64], variable: usize) -> Atom
     requires within { variable < length values.now }
     requires few { length values.now ≤ 2 ^ 31 }
@@ -53,7 +58,8 @@ fn has_value(values: &[i64], variable: usize) -> Atom
     }
 }
 
-/// Whether a variable is free, where those of the free ones are less than it that are before a place, and no others.
+/// Whether a variable is free: whether it stands at `place` in the rising list of free ones, of which exactly those
+/// before `place` are less.
 fn is_free(free: &[u32], place: usize, variable: usize) -> bool
     requires rising { IsRising free.now }
     requires before { (k : ℕ) → k < place → k < length free.now → slice_index_or free.now k 0 < variable }
@@ -64,7 +70,7 @@ fn is_free(free: &[u32], place: usize, variable: usize) -> bool
     place < free.len() && free[place] as usize == variable
 }
 
-/// That the variables which are not free have these values.
+/// The decisions that the variables which are not free have these values.
 fn fix_others(alloc: Global, values: &[i64], free: &[u32]) -> Result<Vec<Atom>, AllocError>
     requires few { length values.now ≤ 2 ^ 31 }
     requires rising { IsRising free.now }
@@ -82,7 +88,7 @@ fn fix_others(alloc: Global, values: &[i64], free: &[u32]) -> Result<Vec<Atom>, 
     Ok(decisions)
 }
 
-/// What a round is to decide that frees these variables.
+/// The decisions of a round that frees these variables: none without an aim.
 fn to_decide(alloc: Global, aim: &Aim, free: &[u32]) -> Result<Vec<Atom>, AllocError>
     requires few { length aim.now.values.items ≤ 2 ^ 31 }
     requires rising { IsRising free.now }
@@ -94,7 +100,8 @@ fn to_decide(alloc: Global, aim: &Aim, free: &[u32]) -> Result<Vec<Atom>, AllocE
     }
 }
 
-/// The first of a round's decisions from a place on that a store leaves undecided; their count if there is none.
+/// The place of the first of a round's decisions, from `from` on, that a store leaves undecided; their count if there
+/// is none.
 fn first_open(store: &Store, decisions: &[Atom], from: usize) -> usize
     requires { All (λ t. t.subject < length store.now.first) decisions.now }
     ensures after { from ≤ length decisions.now → from ≤ result }
@@ -131,8 +138,8 @@ impl Progress {
         }
     }
 
-    /// The first round over an aim's variables: it frees as many as it is to, drawn by a generator, and is to decide the
-    /// others' values.
+    /// A round over an aim's variables that begins: it frees a drawn share of them, and is to decide the others'
+    /// values.
     pub fn begin(alloc: Global, aim: &Aim, draws: &mut Lcg64Xsh32) -> Result<Self, AllocError>
         requires { length aim.now.values.items ≤ 2 ^ 31 }
         ensures is { IfOk result (λ r. round_of r
@@ -164,7 +171,7 @@ impl Progress {
         ensures under_way { IsUnderWay self.new store.now }
         ensures sound { IsSound store.now }
     {
-        // Only here is it known what holds of each store.
+        // Reading the entries gives the proof the store's invariant.
         let _ = store.entries();
         if self.held < store.level() {
             self.place = self.decisions.len();
@@ -178,7 +185,7 @@ impl Progress {
         }
     }
 
-    /// Whether a learnt clause ends the round that sends the search back to a level.
+    /// Whether a learnt clause that sends the search back to level `back` ends the round.
     pub fn is_ended_at(&self, back: usize) -> bool
         requires { self.now.learnt < round_conflicts }
         ensures { IsTrue result ↔ EndsAt self.now back }

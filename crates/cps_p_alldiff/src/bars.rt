@@ -10,8 +10,8 @@ use cps_rule::{Hint, Narrowing};
 use cps_trail::Store;
 use std::alloc::AllocError;
 
-/// What keeps a subject with these ends out of an interval: past it where an end lies in it, off its number where it has one;
-/// nothing where the subject has no such value.
+/// The atom that keeps a subject with these ends out of an interval: past it if an end lies in it, off its number if it
+/// has only one; `None` if the subject has no such value.
 fn bar_of(store: &Store, subject: u32, ends: &Interval, hall: &Interval) -> Option<Atom>
     requires subject { subject < length store.now.first }
     requires range { IsInRange hall.now }

@@ -24,7 +24,7 @@ impl Settled {
         }
     }
 
-    /// Begins a look at so many positions. Where entries were taken back since the last, none counts as settled.
+    /// Begins a look at `positions` positions. If entries were undone since the last look, none counts as settled.
     pub(crate) fn begin(
         &mut self,
         entries: &[EntryView],

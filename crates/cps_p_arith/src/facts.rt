@@ -1,4 +1,8 @@
 //! The facts of an explanation: bounds that were true in the store.
+//!
+//! An explanation is right if the facts' bounds and the denied atom leave no values that meet the demand, which one
+//! test per kind tells (`relation`); here the bounds are looked up, each as an atom that was true, or as the atom that
+//! is supposed. A bound that every value keeps to is no fact.
 ghost use Rattle.std.specs.Prelude.{◌≡◌, ◌<◌, ℤ, List, length, All, true, Ok, IsTrue};
 ghost use Rattle.cps_literal.specs.Truth.{atom_holds};
 ghost use Rattle.cps_instance.specs.Terms.{AreIntervals, domain_at};
@@ -139,8 +143,8 @@ fn support_each(
     Ok(true)
 }
 
-/// Puts facts in the place of what a list holds that keep all values between bounds, where no values between these meet the
-/// demand. What is supposed is no fact. Answers false where that does not succeed.
+/// Fills a list anew with facts that keep all values between bounds between which no values meet the demand. What is
+/// supposed is no fact. Answers false if the bounds admit values that meet it, or one of them was not true.
 pub(crate) fn justify(
     past: &Before,
     demand: &Demand,

@@ -464,7 +464,7 @@ fn explain_noted(
     explain_on(past, form, noted, reason)
 }
 
-/// Puts the reason of an entry in the place of what a list holds, if a rule gives its atom at the places of its note.
+/// Fills a list anew with the reason of an entry, if a rule gives its atom at the places of its note.
 pub fn explain_entry(
     store: &Store,
     entry: usize,

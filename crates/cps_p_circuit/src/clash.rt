@@ -1,5 +1,9 @@
-//! Arcs that cannot be a circuit: signs of some arcs, whether each is taken, that leave none. What a search proposes is
-//! tested here.
+//! Clashes: signs of some arcs (each is taken, or is not) with which no circuit exists.
+//!
+//! Every claim of the finder comes here and is tested before it is used. There are three forms: two taken arcs at one
+//! end of a node, no taken arc there, and a set of nodes that no taken arc leaves although a node inside and one
+//! outside are on the circuit (`cut`). The last serves subtours and reachability alike. What is proved is only that
+//! signs that pass a test leave no circuit, so the finder may be changed without a proof.
 
 ghost use Rattle.std.specs.Prelude.{◌≡◌, ◌≤◌, ◌<◌, min, length, Ok, IfOk, true};
 ghost use Rattle.cps_p_circuit.specs.Clashes.{IsClashOf, IsPair, IsDeserted, IsOnTour, AreChosen, AreLeft, Grows};

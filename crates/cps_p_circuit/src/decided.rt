@@ -21,7 +21,7 @@ fn known(store: &Store, atom: Atom) -> Option<bool>
     ensures { MatchOption result (IsFixedNow store.now atom.subject → ⊥) (λ b. (xs : List ℤ)
         → IsOpenTo store.now atom.subject (value_at xs atom.subject) → atom_holds xs atom ≡ b) }
 {
-    // each subject has a value left
+    // Reading the entries gives the proof the store's invariant: each subject has a value left.
     let _ = store.entries();
     match store.truth(atom) {
         Truth::Yes => Some(true),

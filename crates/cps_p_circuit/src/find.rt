@@ -1,5 +1,10 @@
-//! What degrees, chains and reachability may give. Nothing is proved of it but that it is safe and ends: the rule tests
-//! each candidate.
+//! The finder: what degrees, chains and reachability may give.
+//!
+//! Nothing is proved of it but that it is safe and ends; the rule tests each candidate. One pass over the arcs counts
+//! degrees and notes loops; chains of taken arcs are then followed from their first nodes; two searches from a node
+//! that is surely on the circuit find what it cannot reach and what cannot reach it; a last pass over open arcs
+//! proposes what degrees and chains exclude. Numbers are kept one higher, so that 0 stands for none, and reads past the
+//! end give 0.
 
 ghost use Rattle.std.specs.Prelude.{◌<◌, ◌≤◌, All, length};
 ghost use Rattle.cps_instance.specs.Tasks.{atom_subjects};

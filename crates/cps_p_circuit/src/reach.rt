@@ -1,5 +1,8 @@
-//! The nodes that arcs lead to from a node, or from which they lead there, by a breadth-first search. Nothing is
-//! proved of it but that it is safe and ends: `Graph::cut` tests the nodes.
+//! Reachability: the nodes that arcs lead to from a node, or from which they lead to it, by breadth-first search.
+//!
+//! Nothing is proved of it but that it is safe and ends: `Graph::cut` tests the set of nodes. The arcs at each node are
+//! linked once, in both directions; which arcs are shut is handed in for each search, so that one structure serves the
+//! present domains and the earlier ones of an explanation.
 
 ghost use Rattle.std.specs.Prelude.{◌<◌, All, length};
 ghost use Rattle.cps_instance.specs.Tasks.{atom_subjects};

@@ -1,4 +1,9 @@
-//! The rule of circuits: degrees, chains and reachability, and the body itself where all is known.
+//! The rule of circuits: degrees, chains and reachability, and the body itself once every literal is known.
+//!
+//! A look runs the finder and keeps those candidates whose claims are confirmed; an explanation finds the same claim by
+//! the hint and confirms it on the earlier domains. Both go through `show`: a claim becomes signs that clash (`clash`),
+//! and these become facts that were true. A candidate that is not confirmed is dropped, which costs strength and not
+//! truth. If all literals are known, a walk over the taken arcs decides.
 
 ghost use Rattle.std.specs.Prelude.{◌≡◌, ◌<◌, ◌++◌, Ok, OnOk, IfOk, All, IfSome, true, map, length, Option};
 ghost use Rattle.cps_instance.specs.declared.task.Body.TheVariants.{Circuit as CircuitOf};
@@ -233,7 +238,7 @@ impl Circuit {
         Ok(())
     }
 
-    /// Puts what the candidates give in the place of what a list holds.
+    /// Fills a list anew with what the candidates give.
     fn gather(&self, store: &Store, found: &mut Vec<Narrowing>) -> Result<(), AllocError>
         requires { All (λ i. i < length store.now.first) (atom_subjects self.now.literals.items) }
         ensures { OnOk result (

@@ -300,7 +300,7 @@ fn claim_of(past: &Before, case: Case, span: &Span, demand: u32, left: i128) -> 
     Some(Claim { demand, stay })
 }
 
-/// What is used by so much at each of so many times.
+/// The energy of a demand over a number of times.
 fn energy(demand: i64, ticks: i64) -> i128
     ensures { result ≡ ticks *ℤ demand }
 {

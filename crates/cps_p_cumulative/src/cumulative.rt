@@ -1,4 +1,9 @@
-//! The rule of a resource.
+//! The rule of a resource: that spans share a capacity.
+//!
+//! A look first builds the profile of compulsory parts, and says that the body cannot hold if it passes the capacity at
+//! some time; that it does not where nothing is said is proved of the sweep. Then windows are asked for an overload,
+//! and then bounds are proposed. A hint names the window of times, from which one search for facts makes every reason
+//! again.
 ghost use Rattle.std.specs.Prelude.{◌≡◌, true, All, IfOk, IfSome, OnOk, Ok};
 ghost use Rattle.cps_instance.specs.Fitting.{IsNeverNegative};
 ghost use Rattle.cps_propagate.specs.Strength.{HasCapacity, IsExcludedBody};

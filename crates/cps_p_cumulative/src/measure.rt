@@ -39,7 +39,7 @@ pub(crate) fn least_end(past: &Before, span: &Span) -> i128
     }
 }
 
-/// The compulsory part of a span; one that demands nothing where there is none.
+/// The compulsory part of a span; without one, a part that demands nothing.
 fn part_of(past: &Before, span: &Span, demand: u32) -> Part
     requires span { IsSpanOf past.now.first span.now }
     requires demand { demand < length past.now.first }

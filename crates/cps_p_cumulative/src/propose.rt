@@ -1,4 +1,8 @@
-//! What the compulsory parts of others leave to a span.
+//! Proposals: what the compulsory parts of others leave to a span.
+//!
+//! Each proposal is an atom and a time. It counts only if its denial is seen to overload that time (`offer`), so that
+//! nothing has to be proved of how it was found. Proposed are a later start, an earlier end, a smaller demand, a
+//! greater capacity, and the absence of a span that has no room.
 ghost use Rattle.std.specs.Prelude.{◌≡◌, ◌<◌, All, length, OnOk, IfSome};
 ghost use Rattle.cps_rule.specs.Rules.{IsGiven};
 ghost use Rattle.cps_p_cumulative.specs.Running.{IsSpanOf, IsResourceOf, body_of};
@@ -71,7 +75,7 @@ fn offer(
     Ok(())
 }
 
-/// Adds it where there is one.
+/// Adds a proposal, if there is one.
 fn offer_some(
     past: &Before,
     resource: &Resource,

@@ -1,4 +1,8 @@
-//! The rule of a tank.
+//! The rule of a tank: that the level stays between two limits.
+//!
+//! Levels are looked at only at the greatest time of each event, since the least level rises only there, where an event
+//! becomes sure; proposals look just before its least time too. A proposal is an atom whose denial is seen to make the
+//! level pass a limit, as those of a resource are. The two limits are one rule with a side.
 ghost use Rattle.std.specs.Prelude.{◌≡◌, ◌<◌, All, IfOk, IfSome, OnOk, Ok, length};
 ghost use Rattle.cps_rule.specs.Rules.{IsFittingRule, IsGiven, IsImpossible, IsAtRest, IsSeen, IsExplained, IsRefuted};
 ghost use Rattle.cps_p_cumulative.specs.Levels.{IsTankOf, AllowsZero, moves_of, tank_body};
@@ -51,7 +55,7 @@ fn offer(
     Ok(())
 }
 
-/// Adds it where there is one.
+/// Adds a proposal, if there is one.
 fn offer_some(
     past: &Before,
     tank: &Tank,

@@ -35,7 +35,7 @@ pub(crate) fn push_spans_subjects(spans: &[Span], subjects: &mut Vec<u32>) -> Re
     Ok(())
 }
 
-/// A span again.
+/// A copy of a span.
 fn span_again(alloc: Global, span: &Span) -> Result<Span, AllocError>
     ensures { IfOk result (λ again. again ≡ span.now) }
 {
@@ -48,7 +48,7 @@ fn span_again(alloc: Global, span: &Span) -> Result<Span, AllocError>
     })
 }
 
-/// A list of spans again.
+/// A copy of a list of spans.
 fn spans_again(alloc: Global, spans: &[Span]) -> Result<Listed<Span>, AllocError>
     ensures { IfOk result (λ list. list ≡ spans.now) }
 {

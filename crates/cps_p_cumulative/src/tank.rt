@@ -103,7 +103,7 @@ impl Tank {
         }
     }
 
-    /// The tank again.
+    /// A copy of the tank.
     pub(crate) fn of(
         alloc: Global,
         ends: (i64, i64),

@@ -1,5 +1,8 @@
-//! The facts by which a table gives an atom, or cannot hold: for each row one that rules it out, unless the atom is true in the row; negated,
-//! those that leave all columns of one row but that of the atom the row's values.
+//! The facts by which a table gives an atom, or cannot hold.
+//!
+//! A table needs for each row one fact that rules the row out, unless the atom is true in it. The weakest is taken: a
+//! bound if the value lies past an end, and a fact that is there already may rule out further rows. A negated table
+//! needs the values of one row in all columns but that of the atom.
 
 ghost use Rattle.std.specs.Prelude.{ℕ, ℤ, pos, ◌≡◌, ◌≢◌, ◌<◌, ◌≤◌, ◌+◌, ◌*◌, [], length, All, true, false, Ok, slice_index_or, List, Some, IfSome};
 ghost use Rattle.cps_literal.specs.declared.atom.Atom.{Atom as AtomOf};

@@ -1,5 +1,8 @@
-//! Values that a domain has between the ends of a list of values, and that the list does not have. They are found by a walk of which only
-//! safety is proved, and each is tested against the list.
+//! Values that a domain has between the ends of a list of values, and that the list does not have.
+//!
+//! They are found by a walk of which only safety is proved, and each is tested against the list before it is taken
+//! away. Each value costs an entry of the trail, so a domain that has many more values than the list is left as it is
+//! between its ends.
 
 ghost use Rattle.std.specs.Prelude.{◌≡◌, ◌↔◌, ℤ, true, OnOk, IsTrue, Contains, IsSorted};
 ghost use Rattle.std.specs.Ordering.{int_cmp};
@@ -49,7 +52,7 @@ fn is_listed(numbers: &[i64], number: i64) -> bool
     numbers.binary_search(&number).is_ok()
 }
 
-/// Whether a domain may have gaps beside so many values, and not too many.
+/// Whether a domain may have values beside `values` listed ones, and not too many.
 pub(crate) fn is_worth(domain: &Domain, values: usize) -> bool {
     let size = domain.size();
     size > 2 && size.saturating_sub(MOST) <= values as u64

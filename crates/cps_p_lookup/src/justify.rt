@@ -1,4 +1,8 @@
-//! The facts by which an element gives an atom, or cannot hold: for each place one or two that close it, or with which the atom is true.
+//! The facts by which an element gives an atom, or cannot hold.
+//!
+//! An element says that one of its cases holds: the index is that place, and the expression there has the target's
+//! value. For each case one or two facts close it (the index is elsewhere, or two ends keep expression and target
+//! apart), or make the atom true in it. The index's two bounds come first, since each closes many cases.
 
 ghost use Rattle.std.specs.Prelude.{ℕ, ◌≡◌, ◌<◌, ◌≤◌, ◌^◌, ◌≤ℤ◌, length, Ok, true, false, IfSome, IfOk, IsTrue};
 ghost use Rattle.cps_instance.specs.declared.task.Body.TheVariants.{Element};

@@ -1,4 +1,9 @@
-//! The places of an index that are left, and what they leave.
+//! The places of an index that are left, and what they leave to the target.
+//!
+//! One pass over the places between the index's ends takes the index off those where expression and target cannot meet,
+//! and keeps the hull of the values at the others. Domains are compared by their ends, and by values only where one of
+//! them has a single one: a full comparison would cost more than it finds. If one place is left, expression and target
+//! are made equal.
 
 ghost use Rattle.std.specs.Prelude.{ℕ, ℤ, pos, negsuc, ◌≡◌, ◌<◌, ◌≤◌, ◌≤ℤ◌, ◌^◌, ◌-◌, length, All, IfOk, OnOk, IsTrue, true, false, slice_index_or};
 ghost use Rattle.cps_domain.specs.Window.{contains};
@@ -63,7 +68,7 @@ pub(crate) fn first_place(low: i64) -> usize
     if low < 0 { 0 } else { low as usize }
 }
 
-/// The place before which an index of at most `high` lies, among so many places.
+/// The place before which an index of at most `high` lies, among `places` places.
 pub(crate) fn end_of_places(high: i64, places: usize) -> usize
     ensures inside { result ≤ places }
     ensures covers { (k : ℕ) → k < places → pos k ≤ℤ high → k < result }

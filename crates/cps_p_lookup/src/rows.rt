@@ -1,4 +1,8 @@
-//! The rows of a table that are left, and what they leave.
+//! The rows of a table that are left, and what they leave to each column.
+//!
+//! A look scans all rows and lists those whose values the domains still have; then each column's subject is kept
+//! between the ends of its values there, and off the values inside that no row has. No list of rows is kept between
+//! looks: the plain scan needs nothing undone, and is what the proof is about.
 
 ghost use Rattle.std.specs.Prelude.{ℕ, ℤ, pos, ◌≡◌, ◌<◌, ◌≤◌, ◌+◌, ◌*◌, [], length, All, IfOk, OnOk, IsTrue, true, false, slice_index_or, Contains};
 ghost use Rattle.cps_literal.specs.Truth.{meets};

@@ -97,7 +97,7 @@ fn is_sure(_store: &Store, along: &Direction, across: &Direction, place: usize) 
     one.presence.sure && other.presence.sure
 }
 
-/// Adds what follows where one box comes before another in a direction.
+/// Adds what follows if one box comes before another in a direction.
 fn follow(
     _store: &Store,
     along: &Direction,
@@ -149,7 +149,7 @@ fn order(
     Ok(())
 }
 
-/// The one atom of a span that may be false, where there is one.
+/// The only atom of a span that may be false, if there is exactly one.
 fn last_atom(_store: &Store, direction: &Direction, place: usize) -> Option<Atom>
     requires direction { IsDirection _store.now direction.now }
     requires place { place < length direction.now.spans }
@@ -164,7 +164,7 @@ fn last_atom(_store: &Store, direction: &Direction, place: usize) -> Option<Atom
     None
 }
 
-/// The one atom that two spans have in common of those that may be false, where neither has another.
+/// The only atom of two spans that may be false, if both have it and neither has another.
 fn common_atom(_store: &Store, along: &Direction, across: &Direction, place: usize) -> Option<Atom>
     requires along { IsDirection _store.now along.now }
     requires across { IsDirection _store.now across.now }
@@ -180,7 +180,7 @@ fn common_atom(_store: &Store, along: &Direction, across: &Direction, place: usi
     None
 }
 
-/// The one atom of a box that may be false, where there is one.
+/// The only atom of a box that may be false, if there is exactly one.
 fn last_of_box(_store: &Store, along: &Direction, across: &Direction, place: usize) -> Option<Atom>
     requires along { IsDirection _store.now along.now }
     requires across { IsDirection _store.now across.now }
@@ -197,7 +197,7 @@ fn last_of_box(_store: &Store, along: &Direction, across: &Direction, place: usi
     common_atom(_store, along, across, place)
 }
 
-/// Adds that a box is absent, where one of its atoms alone is open.
+/// Adds that a box is absent, if exactly one of its atoms is open.
 fn exclude(
     _store: &Store,
     x: &Direction,
@@ -251,7 +251,7 @@ fn clash(
     Ok(false)
 }
 
-/// Adds what two boxes give. Answers true where they leave no way.
+/// Adds what two boxes give. Answers true if they leave no way.
 fn meet(
     _store: &Store,
     x: &Direction,

@@ -127,7 +127,7 @@ fn explain_end(
     cite_start_up_to(past, &along[pair.after], time, facts)
 }
 
-/// Puts why two boxes give a bound in a direction in the place of what a list holds.
+/// Fills a list anew with the facts by which two boxes give a bound in a direction.
 fn explain_along(
     past: &Before,
     along: &[Span],
@@ -148,7 +148,7 @@ fn explain_along(
     explain_end(past, along, across, claim, facts)
 }
 
-/// Whether an atom is true where another one is false.
+/// Whether an atom is true wherever another one is false.
 fn is_denied(atom: Atom, target: Atom) -> bool
     requires { IsSmallAtom atom }
     ensures { result ≡ true → (xs : List ℤ) → atom_holds xs target ≡ false → atom_holds xs atom ≡ true }
@@ -156,7 +156,7 @@ fn is_denied(atom: Atom, target: Atom) -> bool
     same_atom(atom.negate(), target)
 }
 
-/// Adds an atom, where it was true and no target denies it.
+/// Adds an atom, if it was true and no target denies it.
 fn cite_unless_denied(
     past: &Before,
     atom: Atom,
@@ -247,7 +247,7 @@ fn explain_absence(
     cite_overlap(past, x, y, pair, facts)
 }
 
-/// Puts why two boxes give a target in the place of what a list holds.
+/// Fills a list anew with the facts by which two boxes give a target.
 pub(crate) fn explain_boxes(
     past: &Before,
     x: &[Span],

@@ -56,15 +56,15 @@ pub(crate) struct Crowd {
     pub(crate) open: Option<usize>,
 }
 
-/// How long each span is that is counted in a window, and in a part of it; 0 for one that is not. Their memory is
-/// kept for the next.
+/// For each span its length if it is counted in a window, and if it is counted in a part of it; else 0. The lists are
+/// kept for the next crowd.
 #[derive(Drop)]
 pub(crate) struct Marks {
     pub(crate) whole: Vec<u64>,
     pub(crate) part: Vec<u64>,
 }
 
-/// All in all, where that is a number that fits.
+/// The sum of weights; `None` if it does not fit into 64 bits.
 pub(crate) fn total(weights: &[u64]) -> Option<u64>
     ensures { IfSome result (λ all. all ≡ sum weights.now) }
 {
@@ -75,7 +75,7 @@ pub(crate) fn total(weights: &[u64]) -> Option<u64>
     Some(all)
 }
 
-/// What these come to, one for each of so many spans, where that is more than nothing.
+/// The sum of weights, if there is one weight for each of `spans` spans and the sum is above 0.
 pub(crate) fn count_of(weights: &[u64], spans: usize) -> Option<u64>
     ensures { IfSome result (λ all. IsCount spans weights.now all) }
 {
@@ -86,7 +86,7 @@ pub(crate) fn count_of(weights: &[u64], spans: usize) -> Option<u64>
     None
 }
 
-/// The same, where the span of a place is not counted.
+/// The same, if the span at a place is not counted.
 pub(crate) fn count_beside(weights: &[u64], place: usize, spans: usize) -> Option<u64>
     ensures { IfSome result (λ all. IsAside spans weights.now place all) }
 {
@@ -106,7 +106,7 @@ pub(crate) fn is_overfull(from: i64, to: i64, counted: u64, more: u64) -> bool
     end < taken
 }
 
-/// Whether so much that is done from one time on lasts until another or longer.
+/// Whether work of this length that begins at one time lasts until another or longer.
 pub(crate) fn is_reached(from: i64, counted: u64, time: i64) -> bool
     ensures { IsTrue result → time ≤ℤ (from +ℤ pos counted) }
 {
@@ -115,7 +115,8 @@ pub(crate) fn is_reached(from: i64, counted: u64, time: i64) -> bool
     wanted <= reached
 }
 
-/// What the part comes to, where the counted spans leave no room for another of so many spans.
+/// The sum of the part's weights, if the counted spans leave no room for the crowd's span, which is another of `spans`
+/// spans.
 pub(crate) fn part_of(marks: &Marks, crowd: Crowd, spans: usize) -> Option<u64>
     ensures { IfSome result (λ all. IsCrowd spans marks.now.whole.items marks.now.part.items crowd all) }
 {

@@ -8,7 +8,7 @@ use cps_literal::{Atom, Op};
 /// The greatest magnitude of a value that an atom may compare with.
 const FARTHEST: i128 = 0x3fff_ffff_ffff_ffff;
 
-/// The number, where an atom may compare with it.
+/// The number, if an atom may compare with it.
 fn inside(value: i128) -> Option<i64>
     ensures { IfSome result (λ v. v ≡ value) }
 {

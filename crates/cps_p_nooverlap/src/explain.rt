@@ -20,7 +20,7 @@ use cps_rule::Hint;
 use cps_trail::Before;
 use std::alloc::AllocError;
 
-/// The two places that a hint names, where they are two of so many.
+/// The two places that a hint names, if they are two different ones below `count`.
 pub(crate) fn pair_of(hint: Hint, count: usize) -> Option<Pair>
     ensures { IfSome result (IsPair count) }
 {
@@ -32,7 +32,7 @@ pub(crate) fn pair_of(hint: Hint, count: usize) -> Option<Pair>
     None
 }
 
-/// Adds each of these atoms, where all were true.
+/// Adds each of these atoms, if all were true.
 pub(crate) fn cite_all(
     past: &Before,
     atoms: &[Atom],
@@ -247,7 +247,7 @@ fn explain_end(
     cite_start_up_to(past, &spans[pair.after], time, facts)
 }
 
-/// The place of the atom of which a target is the negation; the number of atoms where there is none.
+/// The place of the atom that a target negates; the number of atoms if there is none.
 pub(crate) fn denied_place(atoms: &[Atom], target: Atom) -> usize
     requires { All IsSmallAtom atoms.now }
     ensures { result < length atoms.now → (d : AtomOf) (xs : List ℤ) → atom_holds xs target ≡ not (atom_holds xs (slice_index_or atoms.now result d)) }
@@ -289,7 +289,7 @@ fn explain_absence(
     cite_clash(past, spans, pair, facts)
 }
 
-/// Puts why two spans give a target in the place of what a list holds.
+/// Fills a list anew with the facts by which two spans give a target.
 pub(crate) fn explain_pair(
     past: &Before,
     spans: &[Span],

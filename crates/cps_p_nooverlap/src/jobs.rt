@@ -1,5 +1,8 @@
-//! Spans as jobs: what a store leaves to each span that may be present. What is found of jobs is only a proposal: it is
-//! counted again before it is used.
+//! Spans as jobs: what a store leaves to each span that may be present.
+//!
+//! The algorithms on sets see jobs alone: earliest start, latest start, least length, whether the span is surely there.
+//! Time is reversed by mirroring the jobs, so that each algorithm is written once. What is found of jobs is only a
+//! proposal: it is counted once more on the store before it is used.
 ghost use Rattle.std.specs.Prelude.{◌<◌, length, All};
 ghost use Rattle.cps_p_nooverlap.specs.Spans.{IsSpan, AreSpans};
 
@@ -133,7 +136,7 @@ fn standing_of(past: &Before, atoms: &[Atom]) -> Standing
     found
 }
 
-/// The job that a span was, where one presence atom at most was open.
+/// The job that a span was, if at most one presence atom was open.
 fn job_of(past: &Before, span: &Span, place: usize) -> Option<Job>
     requires { IsSpan past.now.first span.now }
 {

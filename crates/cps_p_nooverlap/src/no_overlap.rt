@@ -35,7 +35,7 @@ pub(crate) fn push_spans(spans: &[Span], subjects: &mut Vec<u32>) -> Result<(), 
     Ok(())
 }
 
-/// The same span again.
+/// A copy of a span.
 pub(crate) fn copy_span(alloc: Global, span: &Span) -> Result<Span, AllocError>
     ensures { IfOk result (λ copy. copy ≡ span.now) }
 {

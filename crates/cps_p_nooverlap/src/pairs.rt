@@ -26,7 +26,7 @@ pub(crate) struct Pair {
 }
 
 impl Pair {
-    /// The same the other way round.
+    /// The pair the other way round.
     pub(crate) fn swapped(self) -> Pair
         ensures { result ≡ record { before = self.after; after = self.before } }
     {
@@ -45,7 +45,7 @@ impl Pair {
     }
 }
 
-/// Adds an atom, where there is one.
+/// Adds an atom, if there is one.
 pub(crate) fn propose(
     target: Option<Atom>,
     hint: Hint,
@@ -79,7 +79,7 @@ pub(crate) fn earlier_end(span: &Span, times: &Times, time: i128) -> Option<Atom
     end_up_to(span, time)
 }
 
-/// Adds what follows where one span comes before another.
+/// Adds what follows if one span comes before another.
 fn follow(
     _store: &Store,
     spans: &[Span],
@@ -102,7 +102,7 @@ fn follow(
     Ok(())
 }
 
-/// Adds that a span is absent, where one of its atoms alone is open.
+/// Adds that a span is absent, if exactly one of its atoms is open.
 fn exclude(
     _store: &Store,
     spans: &[Span],
@@ -157,7 +157,7 @@ fn clash(
     Ok(false)
 }
 
-/// Adds what two spans give. Answers true where they leave no way.
+/// Adds what two spans give. Answers true if they leave no way.
 fn meet(
     _store: &Store,
     spans: &[Span],

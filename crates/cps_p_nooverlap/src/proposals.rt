@@ -1,4 +1,8 @@
-//! Which spans push a job, so that it can be counted again: a crowd of few of them, with its windows as wide as it allows.
+//! Which spans push a job: a crowd of few of them, with windows as wide as it allows.
+//!
+//! An algorithm by trees says only that and how far a job is pushed. Here the spans that push it are named, so that the
+//! push can be counted on the store and explained: as few as do it, since each is a fact of the reason, and in windows
+//! that are widened as far as the crowd stays one, since wider windows are weaker facts. Nothing is proved of either.
 
 use crate::crowd::{Argument, Crowd, Marks, total};
 use crate::jobs::{Job, Key, Push};
@@ -122,7 +126,7 @@ pub(crate) fn overfull_from(jobs: &[Job], to: i64) -> Option<i64> {
     None
 }
 
-/// So many zeros.
+/// A weight of 0 for each of `spans` spans.
 fn clear_weights(weights: &mut Vec<u64>, spans: usize) -> Result<(), AllocError> {
     weights.clear();
     for _ in 0..spans {
@@ -163,7 +167,7 @@ fn is_part(job: &Job, crowd: &Crowd) -> bool {
     }
 }
 
-/// Marks the jobs of a crowd among so many spans.
+/// Marks the jobs of a crowd among `spans` spans.
 pub(crate) fn mark_crowd(
     jobs: &[Job],
     crowd: &Crowd,
@@ -225,7 +229,7 @@ fn thin_out(jobs: &[Job], crowd: &Crowd, marks: &mut Marks) -> i64 {
     slack
 }
 
-/// The same crowd in fewer words: without jobs that it does not need, in the longest windows that it crowds.
+/// The same crowd, weaker: without jobs that it does not need, in the longest windows that it crowds.
 pub(crate) fn loosened(jobs: &[Job], crowd: &Crowd, marks: &mut Marks) -> Crowd {
     let slack = thin_out(jobs, crowd, marks);
     let part = length_of(marks.part.as_slice());

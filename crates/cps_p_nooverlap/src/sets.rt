@@ -280,7 +280,7 @@ impl Desk {
     }
 }
 
-/// Puts why a window holds too much in the place of what a list holds.
+/// Fills a list anew with the facts by which a window holds too much.
 fn refute_anew(
     past: &Before,
     spans: &[Span],
@@ -295,7 +295,7 @@ fn refute_anew(
     refute_window(past, spans, weights, crowd, facts)
 }
 
-/// Puts why a surely present span starts at a time or later in the place of what a list holds, and answers that it does.
+/// Fills a list anew with the facts by which a surely present span starts at a time or later, and answers that it does.
 fn give_bound(
     past: &Before,
     spans: &[Span],
@@ -400,7 +400,7 @@ fn give_absence(
     }
 }
 
-/// Puts why a crowd pushes a span in the place of what the desk's list of facts holds, and answers what follows.
+/// Fills the desk's list anew with the facts by which a crowd pushes a span, and answers what follows.
 fn give(
     past: &Before,
     spans: &[Span],
@@ -556,7 +556,7 @@ pub(crate) fn meet_both(
     Ok(hint)
 }
 
-/// Puts why a window leaves no way in the place of what a list holds.
+/// Fills a list anew with the facts by which a window leaves no way.
 fn refute_set(
     past: &Before,
     spans: &[Span],
@@ -573,7 +573,7 @@ fn refute_set(
     refute_anew(past, spans, desk.marks.whole.as_slice(), loose, facts)
 }
 
-/// Puts why a crowd gives a target in the place of what the desk's list of facts holds.
+/// Fills the desk's list anew with the facts by which a crowd gives a target.
 fn explain_at(
     past: &Before,
     spans: &[Span],
@@ -620,7 +620,7 @@ fn explain_set(
     Ok(true)
 }
 
-/// Puts why two spans or a set of them give a target in the place of what a list holds.
+/// Fills a list anew with the facts by which two spans or a set of them give a target.
 pub(crate) fn explain_both(
     alloc: Global,
     past: &Before,
@@ -643,7 +643,7 @@ pub(crate) fn explain_both(
     }
 }
 
-/// Puts why two spans leave no way in the place of what a list holds.
+/// Fills a list anew with the facts by which two spans leave no way.
 fn refute_two(
     past: &Before,
     spans: &[Span],
@@ -658,7 +658,7 @@ fn refute_two(
     refute_pair(past, spans, pair, facts)
 }
 
-/// Puts why two spans or a set of them leave no way in the place of what a list holds.
+/// Fills a list anew with the facts by which two spans or a set of them leave no way.
 pub(crate) fn refute_both(
     alloc: Global,
     past: &Before,

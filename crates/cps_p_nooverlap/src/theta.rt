@@ -128,7 +128,7 @@ impl Tree {
         }
     }
 
-    /// Makes room for so many jobs, of which none is of the set.
+    /// Makes room for `jobs` jobs, none of them in the set.
     pub(crate) fn clear(&mut self, jobs: usize) -> Result<(), AllocError> {
         self.base = jobs.min(MOST_LEAVES).next_power_of_two();
         self.nodes.clear();

@@ -1,4 +1,9 @@
 //! The rule of an automaton.
+//!
+//! States and labels are numbered once, so that a set of states is a row of marks and the transitions of one label
+//! stand side by side. A look goes back over the positions with the states from which a run can end, and then forward
+//! with those that one can have reached; a label that no transition between both uses leaves its position. The layers
+//! are made anew at each look and not kept between looks.
 ghost use Rattle.std.specs.Prelude.{◌≡◌, IfOk, IsTrue};
 
 use crate::cuts::cut;

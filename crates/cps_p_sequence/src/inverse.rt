@@ -100,7 +100,7 @@ fn keep_below(
     Ok(())
 }
 
-/// Adds what keeps the values of subjects among so many places.
+/// Adds what keeps the values of subjects among `count` places.
 fn keep_within(
     store: &Store,
     subjects: &[u32],
@@ -194,7 +194,7 @@ fn mirror(
     Ok(())
 }
 
-/// Whether each number among so many places meets an atom.
+/// Whether each number of `count` places meets an atom.
 fn is_wide(target: Atom, count: i64) -> bool
     requires { pos 0 ≤ℤ count }
     ensures { IsTrue result → (x : ℤ) → pos 0 ≤ℤ x → x <ℤ count → meets target.op target.value x ≡ true }

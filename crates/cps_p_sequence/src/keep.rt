@@ -16,7 +16,7 @@ use cps_rule::{Hint, Narrowing};
 use cps_trail::Store;
 use std::alloc::AllocError;
 
-/// Each value between labels is looked at where they are among so many numbers.
+/// Values between labels are looked at one by one only if the labels lie within this many numbers.
 const MOST: u64 = 4096;
 
 /// Whether a subject may have a value.

@@ -119,7 +119,7 @@ fn is_last_label(labels: &[i64], label: i64) -> bool
     }
 }
 
-/// Puts the labels of the steps that are alive between marked states in the place of what a list holds, rising.
+/// Fills a list anew with the labels of the steps that are alive between marked states, rising.
 fn put_labels(
     store: &Store,
     position: &Position,
@@ -195,7 +195,7 @@ fn is_marked(row: &[bool], state: usize) -> bool
     row[state]
 }
 
-/// Puts marks for so many states, of which one is marked, in the place of what a row holds.
+/// Fills a row anew with marks for `count` states, of which one is set.
 pub(crate) fn mark_first(row: &mut Vec<bool>, first: usize, count: usize) -> Result<(), AllocError>
     requires { first < count }
     ensures size { OnOk result (length row.new.items ≡ count) }

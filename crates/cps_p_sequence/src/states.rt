@@ -1,4 +1,7 @@
 //! An automaton whose states have numbers, so that rows of marks stand for sets of states.
+//!
+//! The states are the ends of the transitions and the start, sorted, and a state's number is its place there. A final
+//! state that is none of these has no number and needs none, since no run comes there.
 ghost use Rattle.std.specs.Prelude.{◌≡◌, ℕ, ◌<◌, ◌++◌, ◌∷◌, [], ℤ, length, map, Contains, All, IfOk, OnOk, IfSome, IsTrue, IsNone, IsPermutation, slice_index_or, false};
 ghost use Rattle.cps_model.specs.Sequences.{transitions};
 ghost use Rattle.cps_p_sequence.specs.Networks.{IsRising, IsNumberOf, IsStepWithin, AreFinals, named};
@@ -133,7 +136,7 @@ pub(crate) fn steps_of(
     Ok(steps)
 }
 
-/// Puts marks for so many states, none of which is marked, in the place of what a row holds.
+/// Fills a row anew with `count` marks, none of them set.
 pub(crate) fn blank(row: &mut Vec<bool>, count: usize) -> Result<(), AllocError>
     ensures size { OnOk result (length row.new.items ≡ count) }
     ensures blank { OnOk result ((q : ℕ) → q < length row.new.items → slice_index_or row.new.items q false ≡ false) }

@@ -56,7 +56,7 @@ impl<'a> SharedPool<'a> {
 
 /// One worker's access to a shared pool. A push may wait for another thread's.
 pub struct PoolHandle<'a, 'm, R: Wait> {
-    /// The leave to wait.
+    /// The right to wait.
     pub rt: &'a R,
     /// The pool.
     pub pool: &'a SharedPool<'m>,

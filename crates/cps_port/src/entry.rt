@@ -1,4 +1,4 @@
-//! Entries of the board, and what a port answers of them.
+//! Entries of the board, and the answers of `share` and `take`.
 ghost use Rattle.std.specs.Prelude.{◌≡◌, ◌≤◌, length};
 
 use cps_literal::{Atom, Op};
@@ -7,23 +7,23 @@ use cps_model::Bound;
 /// The most atoms of a clause that is shared.
 pub const MOST_ATOMS: usize = 16;
 
-// What stands in the places that a clause leaves free.
+// Fills the places of an entry that its clause leaves free.
 pub(crate) const BLANK: Atom = Atom {
     subject: 0,
     op: Op::Le,
     value: 0,
 };
 
-/// A clause on the board: the first `len` atoms. It holds in each assignment that is better than `below`.
+/// A clause on the board: its first `len` atoms. It holds at each assignment whose objective is less than `below`.
 #[derive(Clone, Copy, Debug, PartialEq, Eq)]
 pub struct Entry {
     /// The number of its row.
     pub row: u32,
-    /// The incumbent's objective when the clause was learnt.
+    /// The bound below which the clause was learnt: the incumbent's objective then, or `Infinite`.
     pub below: Bound,
     /// How many atoms it has, at most `MOST_ATOMS`.
     pub len: u32,
-    /// Its atoms, and after them places that are left free.
+    /// Its atoms, then a filler in each free place.
     pub atoms: [Atom; MOST_ATOMS],
 }
 
@@ -32,7 +32,7 @@ pub struct Entry {
 pub enum Share {
     /// The clause stands in the row of this number.
     Row(u32),
-    /// There is no row left.
+    /// No row is left.
     Full,
 }
 
@@ -41,7 +41,7 @@ pub enum Share {
 pub enum Taken {
     /// The entry of the first row that was not taken.
     Entry(Entry),
-    /// That row is not published.
+    /// That row is not published yet.
     NotYet,
     /// Every row was taken.
     End,

@@ -21,7 +21,7 @@ pub enum Event {
     SeeLower,
 }
 
-/// What an actor sees of its event.
+/// What the actor learns from its event.
 #[derive(Clone, Copy, Debug, PartialEq, Eq)]
 pub enum Seen {
     /// The row that was drawn.

@@ -1,4 +1,4 @@
-//! Bounds in order.
+//! The order of bounds, and when two bounds have met.
 ghost use Rattle.std.specs.Prelude.{◌≡◌};
 ghost use Rattle.cps_model.specs.Statuses.{is_closed};
 ghost use Rattle.cps_port.specs.Order.{lesser, greater, raised_to};
@@ -26,7 +26,7 @@ pub fn greater(first: Bound, second: Bound) -> Bound
     }
 }
 
-/// The greatest bound so far, after one more.
+/// The greatest of the bounds so far and one more.
 pub fn raised_to(greatest: Option<Bound>, bound: Bound) -> Option<Bound>
     ensures { result ≡ raised_to greatest bound }
 {
@@ -36,7 +36,7 @@ pub fn raised_to(greatest: Option<Bound>, bound: Bound) -> Option<Bound>
     }
 }
 
-/// Whether the lower bound has come up to the upper one, within the gap.
+/// Whether the lower bound has reached the upper one, within the gap.
 pub fn is_closed(lower: Bound, upper: Bound, gap: u64) -> bool
     ensures { result ≡ is_closed lower upper gap }
 {

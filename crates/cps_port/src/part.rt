@@ -3,7 +3,7 @@ use crate::entry::Entry;
 use cps_model::Bound;
 use std::collections::LinkedList;
 
-/// What an actor knows of the board. Contracts speak of it, and no value of it is made.
+/// What an actor knows of the board. It stands in contracts only: the program never makes a value of it.
 pub struct BoardPart {
     /// The row that it drew and has not published.
     pub drawn: Option<u32>,
@@ -11,7 +11,7 @@ pub struct BoardPart {
     pub mine: LinkedList<Entry>,
     /// The entries that it took, from row 0 on.
     pub taken: LinkedList<Entry>,
-    /// It drew past the last row.
+    /// Whether it drew past the last row.
     pub full: bool,
     /// How often it found the next row closed.
     pub misses: u64,

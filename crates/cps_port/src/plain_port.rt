@@ -8,8 +8,8 @@ use crate::state::CoreState;
 use cps_literal::Atom;
 use cps_model::Bound;
 
-/// An actor's access to the shared state, which no other actor uses meanwhile. The actor has no row drawn. Each call takes the
-/// state through lawful events of this actor.
+/// An actor's access to the shared state; no other actor can use the state while the port exists. The actor has drawn
+/// no row that it has not published. Each call is one or more lawful events of this actor.
 pub struct PlainPort<'a, 'm> {
     /// The state that all actors share.
     pub core: &'a mut CoreState<'m>,

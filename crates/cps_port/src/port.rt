@@ -23,7 +23,7 @@ pub trait Port {
     // what this actor knows
     ghost part: { Self → PartOf };
 
-    // what calls on this port make of all that it is over, in whatever number
+    // what calls on this port, however many, keep of all that lies behind it
     ghost stays: { Self → Self → Type 0 };
 
     /// The upper bound: a solution's objective, or `Infinite`.
@@ -84,7 +84,7 @@ pub trait Port {
         ensures bounds { (part self.new).bounds ≡ (part self.old).bounds }
         ensures said { TakeSays (model self.old) (rows self.old) (part self.old).board (part self.new).board result };
 
-    // the board is not large, and no row is drawn between two calls
+    // the board has at most 4,096 rows, and between two calls no row is drawn and unpublished
     ghost few: { (p : Self) → rows p ≤ 4096 };
 
     ghost none_drawn: { (p : Self) → (part p).board.drawn ≡ None };

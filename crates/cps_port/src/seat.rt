@@ -5,7 +5,7 @@ use cps_model::Bound;
 /// A row of the board.
 #[derive(Clone, Copy)]
 pub struct Row {
-    /// It has an entry.
+    /// Whether it has an entry.
     pub published: bool,
     /// The number of the actor that published it.
     pub owner: u32,
@@ -20,7 +20,7 @@ pub struct Seat {
     pub drawn: Option<u32>,
     /// How many rows it took.
     pub taken: u32,
-    /// It drew past the last row.
+    /// Whether it drew past the last row.
     pub full: bool,
     /// How often it found the next row closed.
     pub misses: u64,

@@ -1,4 +1,9 @@
-//! The state that all actors share, in one value.
+//! The state that all actors share, as one plain value: what `cps_bounds` and `cps_board` keep in lock-free words.
+//!
+//! `step` is the definition made to run: each event changes exactly what `after` says, and answers what `seen` says. A
+//! row holds its entry and the actor that published it; a seat holds counts, from which the specification reads the
+//! entries that the actor took and published (`core_of`), so that no list is kept per actor. Counts of looks stand
+//! still at their type's last value, since a count that wraps would tell of a look that did not take place.
 ghost use Rattle.std.specs.Prelude.{◌≡◌, ◌<◌, ◌≤◌, ◌^◌, ◌↔◌, IfOk, IsTrue, length};
 ghost use Rattle.cps_model.specs.Start.{objective_start};
 ghost use Rattle.cps_port.specs.Cores.{first_core, actor_count, board_part, next_row, row_drawn, after, seen, counted, IsLawful};
@@ -16,12 +21,12 @@ use cps_validate::ValidModel;
 use std::alloc::{AllocError, Global};
 use std::marker::Model;
 
-/// The bounds, the board, and what each actor knows of them. Only `new` takes memory.
+/// The bounds, the board, and what each actor knows of them. Only `new` allocates.
 #[derive(Drop)]
 pub struct CoreState<'a> {
     model: &'a ValidModel,
     rows: Vec<Row>,
-    /// How many rows were drawn, with the draws past the last row.
+    /// How many draws there were, those past the last row included.
     next: u64,
     seats: Vec<Seat>,
     upper: Bound,
@@ -49,8 +54,8 @@ fn counted(count: u64) -> u64
 }
 
 impl<'a> CoreState<'a> {
-    /// The state before the first event, of so many actors and rows. The upper bound begins `Infinite`, and the lower one
-    /// at the least objective that the domains allow.
+    /// The state before the first event, of `actors` actors and `rows` rows. The upper bound begins `Infinite`, and the
+    /// lower one at the least objective that the domains allow.
     pub fn new(
         alloc: Global,
         model: &'a ValidModel,
@@ -62,7 +67,7 @@ impl<'a> CoreState<'a> {
         ensures sound { IfOk result IsSoundCore }
         ensures lasting { IfOk result StaysSound }
     {
-        // Only here is it known that the model keeps every rule.
+        // Reading the model gives the proof its invariant: the model keeps every rule.
         let _ = model.model();
         let start = objective_start(model);
         let rows = vec![in alloc; NO_ROW; rows as usize]?;

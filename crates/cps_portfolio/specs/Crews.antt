@@ -38,7 +38,7 @@ pub record IsReady (m : CpModel) (c : Seated) : Type 0 where
   pub model : words.model_of c.port.bounds.now ≡ (search_of c.worker).problem.model
   pub imported : (search_of c.worker).imported ≤ length (boards.part_of c.port.board_seat).taken
 
--- a worker took its turns up to its end, or could not have memory
+-- a worker took its turns up to its end, or ran out of memory
 pub record Worked (a b : Seated) : Type 0 where
   pub seats : SeatsStay a.port.board.now b.port.board.now a.port.bounds.now b.port.bounds.now a.port.board_seat b.port.board_seat a.port.bounds_seat b.port.bounds_seat
   pub kind : kind_of b.worker ≡ kind_of a.worker
@@ -65,7 +65,7 @@ pub record IsDone (m : CpModel) (gap conflicts : ℕ) (q : BoundsPart) (s : AnyS
   pub sums : (search_in s).problem.defs ≡ model_sums m
   pub goes : GoesByModel m gap conflicts (ending_in s end)
 
--- the worker of this number has ended honestly, or could not have memory
+-- the worker of this number has ended honestly, or ran out of memory
 pub record IsBack (m : CpModel) (gap conflicts : ℕ) (board : Board) (bounds : Bounds) (number : ℕ) (c : Seated) : Type 0 where
   pub kind : kind_of c.worker ≡ worker_kind number
   pub board_is : c.port.board.now ≡ board

@@ -87,7 +87,7 @@ DidItsPartAs kinds.Near m conflicts upper e = DidItsRounds m conflicts upper e
 abbrev pub DidItsPart : CpModel → ℕ → Bound → Ending → Type 0
 DidItsPart m conflicts upper e = DidItsPartAs e.kind m conflicts upper e
 
--- What is seen of a neighbourhood worker that ended is what turns in rounds come to, which began with nothing known.
+-- A neighbourhood worker that ended is seen as turns in rounds leave it, if they began with nothing known.
 pub record IsEndOfRounds (p : Problem) (gap conflicts : ℕ) (e : Ending) : Type 0 where
   pub rows : ℕ
   pub draws : Lcg

@@ -1,4 +1,4 @@
-//! The outcome that workers came to, by the bounds that they left and what each ended with.
+//! The outcome of workers that ended, from the bounds that they left and the end of each.
 ghost use Rattle.std.specs.Prelude.{◌≡◌, All, IfOk, IfSome};
 ghost use Rattle.cps_model.specs.Statuses.{status_of};
 ghost use Rattle.cps_model.specs.Solutions.{IsSolution};
@@ -14,7 +14,7 @@ use cps_search::Ended;
 use cps_validate::ValidModel;
 use std::alloc::{AllocError, Global};
 
-/// The status that the bounds show.
+/// The status that the two final bounds show.
 fn status_of(upper: Bound, lower: Bound, gap: u64) -> Status
     ensures { result ≡ status_of upper lower gap }
 {

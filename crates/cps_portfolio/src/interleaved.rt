@@ -1,4 +1,9 @@
-//! The search of a model by workers that take turns over one state.
+//! The search of a model by workers that take turns over one plain state.
+//!
+//! Each turn's worker is drawn from a generator with a fixed stream of the seed, so that a run can be repeated: a turn
+//! depends on the state alone, and no clock or thread has a part in it. One `PlainPort` serves all workers, and its
+//! actor is set before each turn. Workers keep their places in the list when they end, so that a worker's number stays
+//! its place.
 ghost use Rattle.std.specs.Prelude.{◌≡◌, ℕ, ◌<◌, ◌≤◌, length, vec_len, All, IfOk, OnOk, map, false, None, slice_index_or};
 ghost use Rattle.rand_pcg.specs.Lcg.{Lcg};
 ghost use Rattle.cps_options.specs.Ranges.{AreInRange};
@@ -93,7 +98,7 @@ fn place_of(crew: &[Turning<'_>], rank: usize) -> usize
     unreachable!()
 }
 
-/// Lets an actor's worker take a turn, and answers whether it was the last.
+/// Lets an actor's worker take one turn. Answers whether it was the worker's last.
 fn take_turn(
     port: &mut PlainPort<'_, '_>,
     worker: &mut AnyWorker<'_>,
@@ -118,8 +123,8 @@ fn take_turn(
     worker.turn(port, pool)
 }
 
-/// Lets the workers take turns until all have ended. Each turn's worker is drawn among those that have not ended. What they find goes into
-/// the pool.
+/// Lets the workers take turns until all have ended. Each turn's worker is drawn among those that have not ended. The
+/// solutions that they find go into the pool.
 fn take_turns(
     port: &mut PlainPort<'_, '_>,
     crew: &mut [Turning<'_>],
@@ -188,9 +193,9 @@ fn finish_all(alloc: Global, mut crew: Vec<Turning<'_>>) -> Result<Vec<Ended>, A
     Ok(ends)
 }
 
-/// Solves a model: so many workers take turns until the bounds meet or each has spent its budget or done its rounds. Each turn's worker is
-/// drawn among those that have not ended, in rising order, by a word of `Lcg64Xsh32::new(seed, 0)` modulo their number. So the same options give the same
-/// outcome.
+/// Solves a model: `options.workers` workers take turns until the bounds meet, or each has spent its budget or done its
+/// rounds. Each turn's worker is drawn among those that have not ended, in rising order, by a word of
+/// `Lcg64Xsh32::new(seed, 0)` modulo their number. So the same options give the same outcome.
 pub fn solve_interleaved(
     alloc: Global,
     model: &ValidModel,

@@ -20,7 +20,7 @@ pub struct Seated<'a> {
     pub port: TablePort<'a>,
     /// Its number.
     pub number: u32,
-    /// Whether it could not have memory.
+    /// Whether it ran out of memory.
     pub refused: bool,
 }
 
@@ -38,7 +38,8 @@ fn work<R: Wait, G: Gate>(rt: &R, pool: &SharedPool<'_>, gate: &G, seated: &mut 
     } = found;
 }
 
-/// Lets all workers search to their ends, each in a thread of its own where one can be made. What they find goes into the pool.
+/// Lets all workers search to their ends, each in a thread of its own if one can be made. The solutions that they find
+/// go into the pool.
 pub fn work_all<R: Threads + Wait + Sync, G: Gate + Sync>(
     rt: &R,
     crew: &mut [Seated<'_>],

@@ -1,4 +1,9 @@
 //! The search of a model by workers in threads.
+//!
+//! All seats are split from one pair before the threads begin and joined to it after they ended. Only whoever has every
+//! split back knows that the final bounds are exactly what the workers offered and raised, so the outcome is made from
+//! that pair. A worker that ran out of memory ends the run without an outcome, since nothing is known of how its search
+//! ended.
 ghost use Rattle.std.specs.Prelude.{◌≡◌, ◌+◌, ◌-◌, ◌/◌, ◌≤◌, vec_len, false, All, IfOk, OnOk, None};
 ghost use Rattle.cps_port.specs.Totals.{total};
 ghost use Rattle.cps_board.specs.Seats as boards;
@@ -30,7 +35,7 @@ use std::thread::Threads;
 /// How many rows the board has.
 const ROWS: u32 = 4096;
 
-/// A worker at seats of its own, which are half of what a port had left.
+/// A worker with seats of its own, which take half of the splits that a port has left.
 fn seat_one<'a>(
     alloc: Global,
     model: &'a ValidModel,
@@ -58,7 +63,7 @@ fn seat_one<'a>(
     })
 }
 
-/// All workers, at seats that are split from those of one port.
+/// All workers, with seats that are split from those of one port.
 fn seat_all<'a>(
     alloc: Global,
     model: &'a ValidModel,
@@ -82,7 +87,7 @@ fn seat_all<'a>(
     Ok(crew)
 }
 
-/// Whether a worker could not have memory.
+/// Whether a worker ran out of memory.
 fn is_any_refused(crew: &[Seated<'_>]) -> bool
     ensures { result ≡ false → All (λ seated. seated.refused ≡ false) crew.now }
 {
@@ -94,8 +99,8 @@ fn is_any_refused(crew: &[Seated<'_>]) -> bool
     false
 }
 
-/// Joins the seats of all workers to those of one port, and answers the workers' ends by number. The model and the options are those
-/// by which the workers searched.
+/// Joins the seats of all workers to those of one port, and answers the workers' ends by number. The model and the
+/// options are those of the search.
 fn gather<'a>(
     alloc: Global,
     model: &ValidModel,
@@ -122,8 +127,8 @@ fn gather<'a>(
     Ok(ends)
 }
 
-/// Solves a model: so many workers search in threads until the bounds meet or each has spent its budget or done its rounds. Each comes by
-/// the gate before it begins. Where a worker could not have memory there is no outcome.
+/// Solves a model: `options.workers` workers search in threads until the bounds meet, or each has spent its budget or
+/// done its rounds. Each passes the gate before it begins. If a worker ran out of memory there is no outcome.
 pub fn solve<R: Threads + Wait + Sync, G: Gate + Sync>(
     rt: &R,
     alloc: Global,

@@ -1,4 +1,8 @@
-//! A worker of any kind.
+//! A worker of any kind, so that one list holds them all.
+//!
+//! An enum and not a trait object: there are few kinds, each turn is a match, and the contract of a turn can say of
+//! each kind what it owes. Turns are taken here one by one, in threads too, since a solution goes into the pool after
+//! the turn that found it, and a neighbourhood worker is aimed before its turn.
 ghost use Rattle.std.specs.Prelude.{◌≡◌, ◌+◌, ◌≤◌, ◌^◌, length, false, OnOk, IfOk, IfSome, Some, is_some};
 ghost use Rattle.cps_model.specs.Solutions.{IsSolution};
 ghost use Rattle.cps_branch.specs.Guidances.{AreHintsOf, IsPlanOf};
@@ -32,12 +36,12 @@ pub enum AnyWorker<'a> {
     Near(NearSeeker<'a>),
 }
 
-/// A neighbourhood worker, and how far it has looked into the pool.
+/// A neighbourhood worker, and how much of the pool it has seen.
 #[derive(Drop)]
 pub struct NearSeeker<'a> {
     /// The worker.
     pub worker: NearWorker<'a, AnyPropagator>,
-    /// How many solutions there were when it was handed one.
+    /// How many solutions the pool had when the worker was last handed one.
     pub handed: usize,
 }
 
@@ -111,7 +115,7 @@ fn is_last(turn: &Turn) -> bool
     }
 }
 
-/// Puts a solution that a turn found into the pool, and answers whether the turn was the last.
+/// Puts the solution that a turn found, if it found one, into the pool. Answers whether the turn was the worker's last.
 fn note_turn<F: Pool>(pool: &mut F, turn: &Turn, best: Option<&[i64]>) -> Result<bool, AllocError>
     requires { IfSome best (λ solution. IsSolution (F.model pool.old) solution.now) }
     ensures pool { F.model pool.new ≡ F.model pool.old }
@@ -123,7 +127,7 @@ fn note_turn<F: Pool>(pool: &mut F, turn: &Turn, best: Option<&[i64]>) -> Result
     Ok(is_last(turn))
 }
 
-/// Lets a worker take a turn, and answers whether it was the last.
+/// Lets a worker take one turn. Answers whether it was the worker's last.
 fn turn_of<B: Brancher + Drop, Q: Port, F: Pool>(
     worker: &mut Worker<'_, AnyPropagator, B>,
     port: &mut Q,
@@ -143,7 +147,7 @@ fn turn_of<B: Brancher + Drop, Q: Port, F: Pool>(
     note_turn(pool, &turn, worker.best())
 }
 
-/// Hands a neighbourhood worker the last solution of the pool, if it was not handed it before.
+/// Hands a neighbourhood worker the pool's last solution, unless it was handed that one before.
 fn aim<F: Pool>(near: &mut NearSeeker<'_>, pool: &F)
     requires memory { near.old.worker.search.refused ≡ false }
     requires pool { F.model pool.now ≡ near.old.worker.search.problem.model }
@@ -158,7 +162,7 @@ fn aim<F: Pool>(near: &mut NearSeeker<'_>, pool: &F)
     }
 }
 
-/// Aims a neighbourhood worker, lets it take a turn, and answers whether it was the last.
+/// Aims a neighbourhood worker and lets it take one turn. Answers whether it was the worker's last.
 fn near_turn_of<Q: Port, F: Pool>(
     near: &mut NearSeeker<'_>,
     port: &mut Q,
@@ -209,7 +213,7 @@ impl<'a> AnyWorker<'a> {
         }
     }
 
-    /// Takes turns up to the end.
+    /// Takes turns until one ends the worker.
     pub fn run<Q: Port, F: Pool>(&mut self, port: &mut Q, pool: &mut F) -> Result<(), AllocError>
         requires memory { (search_of self.old).refused ≡ false }
         requires running { IsOver (search_of self.old).said → ⊥ }
@@ -229,8 +233,8 @@ impl<'a> AnyWorker<'a> {
         }
     }
 
-    /// Takes a turn, and answers whether it was the last. What is found goes into the pool, and a neighbourhood worker is handed the pool's
-    /// last solution before its turn.
+    /// Takes one turn. Answers whether it was the worker's last. A solution that is found goes into the pool, and a
+    /// neighbourhood worker is handed the pool's last solution before its turn.
     pub fn turn<Q: Port, F: Pool>(&mut self, port: &mut Q, pool: &mut F) -> Result<bool, AllocError>
         requires memory { (search_of self.old).refused ≡ false }
         requires running { IsOver (search_of self.old).said → ⊥ }
@@ -250,7 +254,7 @@ impl<'a> AnyWorker<'a> {
         }
     }
 
-    /// What is seen of the worker after it ended.
+    /// The worker as others see it after it ended.
     pub fn finish(self) -> Ended
         requires { IsOver (search_of self).said }
         ensures said { (search_of self.entry).said ≡ Said.Over result.end }

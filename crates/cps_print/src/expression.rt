@@ -51,7 +51,7 @@ pub fn put_expressions(
     Ok(())
 }
 
-/// Appends a single expression, nothing where it is empty.
+/// Appends a single expression, unless it is empty.
 #[tactic(auto, using(crate::proofs::Lines::expression_lines))]
 pub fn put_expression_field(
     text: &mut String,

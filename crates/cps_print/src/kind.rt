@@ -1,4 +1,8 @@
 //! The lines of what a constraint demands.
+//!
+//! A function for each message, and one match over the kinds that chooses it. Every function appends to one text, and
+//! leaves out what says nothing, as the layout states it; kinds with one message (`BoolOr` to `BoolXor`, the arithmetic
+//! ones) share a function and differ in the field's name.
 ghost use Rattle.std.specs.Prelude.{◌≡◌, ◌++◌, OnOk, codes, string_bytes};
 ghost use Rattle.cps_print.specs.Layout.{text_of};
 ghost use Rattle.cps_print.specs.Fields.{message_field};
@@ -68,7 +72,7 @@ fn put_element(
     close_message(text, 1)
 }
 
-/// The word for a flag, none for one that is false.
+/// The word for a flag; the empty word for one that is false.
 fn flag_name(flag: bool) -> &'static str
     ensures { result.now ≡ flag_name flag }
 {
@@ -227,7 +231,7 @@ fn put_no_overlap_2d(text: &mut String, x: &[i32], y: &[i32]) -> Result<(), Allo
     close_message(text, 1)
 }
 
-/// Appends what a constraint demands, nothing where that is nothing.
+/// Appends what a constraint demands. A constraint without a kind adds no line.
 pub fn put_kind(text: &mut String, kind: &Kind) -> Result<(), AllocError>
     ensures { OnOk result (string_bytes text.new ≡ string_bytes text.old ++ text_of 1 (kind_field kind.now)) }
 {

@@ -69,7 +69,7 @@ pub fn put_number_field(
     put_value_line(text, level, name, buffer.format(value))
 }
 
-/// Appends the line of a word, none where there is no word.
+/// Appends the line of a word, unless the word is empty.
 #[tactic(auto, using(crate::proofs::Lines::word_lines))]
 pub fn put_word_field(
     text: &mut String,

@@ -1,4 +1,8 @@
 //! The canonical text of a model.
+//!
+//! A function for each message, in the order of the fields of the format. Each appends to one text, so that no part is
+//! copied and the text is written in the end with no memory to take. Values that the format leaves out are left out
+//! here, by the same words by which the specification lays a message out.
 ghost use Rattle.std.specs.Prelude.{◌≡◌, ℕ, List, ◌++◌, IfOk, OnOk, codes, string_bytes};
 ghost use Rattle.std.specs.List.{flat_map};
 ghost use Rattle.cps_print.specs.Layout.{text_of};
@@ -63,7 +67,7 @@ fn put_constraints(text: &mut String, constraints: &[Constraint]) -> Result<(), 
     Ok(())
 }
 
-/// Appends the scaling factor, nothing where it is 1.
+/// Appends the scaling factor, unless it is 1.
 #[tactic(auto, using(crate::proofs::Lines::scaling))]
 fn put_scaling(text: &mut String, scaling: i64) -> Result<(), AllocError>
     ensures { OnOk result (string_bytes text.new ≡ string_bytes text.old ++ text_of 1 (scaling_field scaling)) }
@@ -88,7 +92,7 @@ fn put_objective(text: &mut String, objective: &Objective) -> Result<(), AllocEr
     close_message(text, 0)
 }
 
-/// The word for a choice of variables, none for the one that is meant without a word.
+/// The word for a choice of variables; the empty word for the one that is meant without a word.
 fn choose_name(choose: Choose) -> &'static str
     ensures { result.now ≡ choose_name choose }
 {
@@ -101,7 +105,7 @@ fn choose_name(choose: Choose) -> &'static str
     }
 }
 
-/// The word for a choice of values, none for the one that is meant without a word.
+/// The word for a choice of values; the empty word for the one that is meant without a word.
 fn select_name(select: Select) -> &'static str
     ensures { result.now ≡ select_name select }
 {
@@ -157,7 +161,7 @@ fn put_hint(text: &mut String, hint: &Hint) -> Result<(), AllocError>
     close_message(text, 0)
 }
 
-/// Appends the objective, nothing where there is none.
+/// Appends the objective, if there is one.
 #[tactic(auto, using(crate::proofs::Lines::layout))]
 fn put_objective_field(text: &mut String, objective: &Option<Objective>) -> Result<(), AllocError>
     ensures { OnOk result (string_bytes text.new ≡ string_bytes text.old ++ text_of 0 (objective_field objective.now)) }
@@ -168,7 +172,7 @@ fn put_objective_field(text: &mut String, objective: &Option<Objective>) -> Resu
     }
 }
 
-/// Appends the hint, nothing where there is none.
+/// Appends the hint, if there is one.
 #[tactic(auto, using(crate::proofs::Lines::layout))]
 fn put_hint_field(text: &mut String, hint: &Option<Hint>) -> Result<(), AllocError>
     ensures { OnOk result (string_bytes text.new ≡ string_bytes text.old ++ text_of 0 (hint_field hint.now)) }
@@ -184,7 +188,7 @@ fn put_hint_field(text: &mut String, hint: &Option<Hint>) -> Result<(), AllocErr
 pub fn model_text(alloc: Global, model: &CpModel) -> Result<String, AllocError>
     ensures text { IfOk result (λ text. string_bytes text ≡ model_text model.now) }
 
-    // Where a document is read as the model, its canonical text is read as the model again, whatever fields are closed.
+    // If some document is read as this model, its canonical text is read as this model too, whatever fields are closed.
     ensures back { (closed : List (List ℕ)) (bytes : List ℕ) → IsReadWith closed bytes model.now
         → IfOk result (λ text. IsReadWith closed (string_bytes text) model.now) }
 {

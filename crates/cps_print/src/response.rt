@@ -1,4 +1,8 @@
 //! The text of a response.
+//!
+//! The status comes first, then a solution value by value, then what is said of the objective, and for an infeasible
+//! model the assumptions that are to blame. Values of the objective are shown with offset and scaling factor, in 128
+//! bits, since both are known only to be below 2^53.
 ghost use Rattle.std.specs.Prelude.{◌≡◌, ◌++◌, IsTrue, OnOk, IfOk, codes, string_bytes};
 ghost use Rattle.std.specs.List.{flat_map};
 ghost use Rattle.std.specs.Fmt.{signed_decimal};

@@ -1,11 +1,12 @@
-//! A line of numbers, first come, first served.
+//! A queue of numbers, first in, first out.
 
 ghost use Rattle.std.specs.Prelude.{◌≡◌, ◌++◌, [], ◌∷◌, OnOk, OnErr, IfSome, IsNone};
 
 use std::alloc::{AllocError, Global};
 use std::marker::Model;
 
-/// Numbers in the order in which they came. One that is taken out stays in its place until all are gone, so that none is moved.
+/// Numbers in the order in which they came. A number that is taken out stays in its place until all are gone, so that
+/// the others need not be moved.
 #[derive(Drop)]
 pub(crate) struct Line {
     numbers: Vec<u32>,
@@ -34,7 +35,7 @@ impl Line {
         }
     }
 
-    /// Makes room for so many numbers.
+    /// Makes room for `count` numbers.
     pub(crate) fn reserve(&mut self, count: usize) -> Result<(), AllocError>
         ensures { self.new ≡ self.old }
     {

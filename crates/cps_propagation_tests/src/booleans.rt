@@ -1,4 +1,7 @@
-//! Each kind narrows, meets a conflict, and makes its last enforcement atom false.
+//! The Boolean kinds: each narrows, meets a conflict, and makes its last enforcement atom false.
+//!
+//! A trial makes a propagator over four literals, decides some, runs it, and shows the conflict or the reason of the
+//! last entry. That a reason names no more than the rule used is seen here alone.
 
 ghost use Rattle.std.specs.Prelude.{◌≡◌, [], All, IfOk};
 ghost use Rattle.cps_instance.specs.Fitting.{IsFitting};

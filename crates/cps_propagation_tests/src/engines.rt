@@ -1,4 +1,7 @@
-//! Engines: of propagators that have nothing to narrow, and of a defined sum after a decision.
+//! Engines: one of propagators that have nothing to narrow, and one of a defined sum after a decision.
+//!
+//! The first shows that an engine is generic over propagators, by an idle one that is made here; the second that a run
+//! goes on from the entry at which the last one came to rest.
 
 ghost use Rattle.std.specs.Prelude.{◌≡◌, [], ◌∷◌, true, Ok, All, IfOk};
 ghost use Rattle.cps_instance.specs.Problem.{sum_task};

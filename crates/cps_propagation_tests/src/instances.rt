@@ -1,4 +1,7 @@
 //! The instances of a model that says nothing, of one with a clause and of one with a strategy.
+//!
+//! Looked at are the numbers of subjects and tasks, the ends of the domains, and which expressions of a strategy have a
+//! subject of their own. Helpers own a model and lend it, so that no test holds two large values at a time.
 use crate::stores::at_most;
 use cps_instance::{Body, Instance};
 use cps_model::{

@@ -1,4 +1,7 @@
 //! Sums narrow, meet a conflict and make their last enforcement atom false, with reasons weakened by the slack.
+//!
+//! Each row was worked out by hand from the terms and the admitted sums. How far a reason is weakened, which no
+//! contract says, is seen here.
 
 ghost use Rattle.std.specs.Prelude.{◌≡◌, [], pos, IsTrue, All, IfOk};
 ghost use Rattle.cps_model.specs.Within.{is_well_shaped};
@@ -216,7 +219,7 @@ fn cut(alloc: Global) -> Result<Linear, AllocError>
     Ok(linear)
 }
 
-/// Runs the cut of the first at most 3, lowers it to an end, and runs it again.
+/// Runs the cut that the first subject is at most 3, lowers its end, and runs it once more.
 fn run_twice(
     alloc: Global,
     linear: &mut Linear,

@@ -1,4 +1,8 @@
 //! The task of each kind: over which subjects it is, and which spans it has.
+//!
+//! One model has a constraint of each kind, with expressions that are variables and others that are sums; the subjects
+//! of each task are flattened into a list in the order of the body's fields, and compared with a list that was counted
+//! by hand.
 use cps_instance::{Body, Instance, Span};
 use cps_literal::Atom;
 use cps_model::{Constraint, CpModel, Kind, LinearExpr, Listed, Text, Variable};

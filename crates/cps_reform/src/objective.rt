@@ -72,7 +72,7 @@ fn terms_of_objective(alloc: Global, objective: &Option<Objective>) -> Result<Ve
 pub fn objective_terms(alloc: Global, instance: &Instance<'_>) -> Result<Vec<Term>, AllocError>
     ensures { IfOk result (λ terms. terms.items ≡ objective_terms instance.now.model.objective) }
 {
-    // Only here is it known what holds of each instance.
+    // Reading the domains gives the proof the instance's invariant.
     let _ = instance.domains();
     terms_of_objective(alloc, &instance.model().model().objective)
 }

@@ -1,4 +1,9 @@
 //! The objective as a base and held terms, and the steps that lift its base.
+//!
+//! Each step first computes whether the new form stays within a limit and within its subjects' ends, and changes the
+//! form only if it does; a refusal says that no values within the limit are left. So no sum overflows, and a form never
+//! has a base that no solution can meet. The core is a mark on its terms, and helpers go by one term each (`lesser`,
+//! `with_bound`, `fall`), since the specification folds over the same list.
 
 ghost use Rattle.std.specs.Prelude.{◌≡◌, ◌⊎◌, ◌+◌, ◌*◌, ◌<◌, ◌≤◌, ◌^◌, ◌++◌, min, if◌then◌else◌, slice_set, ℤ, pos, ◌+ℤ◌, ◌-ℤ◌, ◌*ℤ◌, ◌≤ℤ◌, ◌<ℤ◌, unsigned_abs, List, [], ◌∷◌, map, length, true, false, Ok, IfOk, OnOk, OnErr, IfSome, IsNone};
 ghost use Rattle.cps_domain.specs.Window.{intervals};
@@ -55,7 +60,7 @@ fn least_at(domains: &[Domain], subject: u32) -> i64
     domains[subject as usize].min()
 }
 
-/// A weight times a bound. A weight that is not in the bound's type goes with the bound 0.
+/// A weight times a bound. A weight that does not fit into the bound's type has the bound 0.
 fn product(weight: u64, bound: i64) -> i64
     requires { weight * unsigned_abs bound < 2 ^ 62 }
     ensures is { result ≡ pos weight *ℤ bound }
@@ -81,7 +86,7 @@ fn rise(weight: u64, from: i64, to: i64) -> u64
     weight * height
 }
 
-/// How much a base may rise up to a limit.
+/// How much a base may rise before it reaches a limit.
 fn room(base: i64, limit: i64) -> u64
     requires order { base ≤ℤ limit }
     requires base { unsigned_abs base < 2 ^ 62 }
@@ -156,7 +161,7 @@ fn at(terms: &[Held], place: usize) -> Held
     terms[place]
 }
 
-/// Another term for that at a place.
+/// Puts another term at a place.
 fn set(terms: &mut [Held], place: usize, term: Held)
     requires { place < length terms.old }
     ensures { terms.new ≡ slice_set terms.old place term }
@@ -179,7 +184,7 @@ fn fall(term: Held, weight: u64) -> Held
     }
 }
 
-/// Takes a weight off each term of the core, which is then none.
+/// Takes a weight off each term of the core, and unmarks it.
 fn fall_all(terms: &mut [Held], weight: u64)
     requires { WeighAtLeast weight terms.old }
     ensures { terms.new ≡ map (fallen weight) terms.old }
@@ -310,7 +315,7 @@ impl Reform {
         }
     }
 
-    /// By how much the base rises with the bound of one term; nothing where it would pass the limit, or the bound its
+    /// By how much the base rises with the bound of one term; `None` if it would pass the limit, or the bound its
     /// subject's greatest value.
     fn lift_by(&self, domains: &[Domain], place: usize, bound: i64, limit: i64) -> Option<u64>
         requires roomy { IsRoomy (map intervals domains.now) self.now }
@@ -418,8 +423,8 @@ impl Reform {
         }
     }
 
-    /// What the sum of the core takes over; nothing where the base would pass the limit, or the bound the sum's
-    /// greatest value.
+    /// What the sum of the core takes over; `None` if the base would pass the limit, or the bound the sum's greatest
+    /// value.
     fn share(&self, domains: &[Domain], subject: u32, limit: i64) -> Option<Share>
         requires subject { subject < length domains.now }
         requires small { core_size self.now.terms < 2 ^ 62 }

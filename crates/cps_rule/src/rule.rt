@@ -4,7 +4,7 @@ use cps_literal::Atom;
 use cps_trail::{Before, Store};
 use std::alloc::AllocError;
 
-/// Two numbers by which a rule finds again what gave a narrowing. What they say is the rule's own affair.
+/// Two numbers by which a rule finds again what gave a narrowing. Only the rule itself knows what they mean.
 #[derive(Clone, Copy)]
 pub struct Hint {
     pub a: i64,
@@ -18,7 +18,7 @@ pub struct Narrowing {
     pub hint: Hint,
 }
 
-/// What a look at a store comes to.
+/// The answer of a look at a store.
 #[derive(Clone, Copy)]
 pub enum Look {
     /// The body may hold, as far as the rule tells.
@@ -39,8 +39,8 @@ pub trait Rule: Drop {
     /// The body.
     ghost body: { Self → Body };
 
-    /// Puts the atoms that the body gives, by the store's domains, in the place of what a list holds, or says that the body cannot hold. Where
-    /// each atom of the list is true already, the body is at rest.
+    /// Fills a list anew with the atoms that the body gives by the store's domains, or answers that the body cannot
+    /// hold. If each of these atoms is true already, the body is at rest.
     fn look(&mut self, store: &Store, found: &mut Vec<Narrowing>) -> Result<Look, AllocError>
         requires fits { IsFittingRule store.now.first (body self.old) }
         ensures keeps { body self.new ≡ body self.old }
@@ -48,7 +48,7 @@ pub trait Rule: Drop {
         ensures seen { IfOk result (IsSeen (body self.old) store.now) }
         ensures rest { result ≡ Ok Look.Possible → All (λ n. IsTrueNow store.now n.target) found.new.items → IsAtRest (body self.old) store.now };
 
-    /// Puts facts that were true in the place of what a list holds, where the body and they give an atom. Answers false where it finds
+    /// Fills a list anew with facts that were true and with which the body gives an atom. Answers false if it finds
     /// none. The hint is that of the narrowing, and is not trusted.
     fn explain(
         &self,
@@ -60,7 +60,8 @@ pub trait Rule: Drop {
         requires fits { IsFittingRule past.now.first (body self.now) }
         ensures { result ≡ Ok true → IsExplained (body self.now) past.now target facts.new.items };
 
-    /// Puts facts that were true in the place of what a list holds, beside which the body cannot hold. Answers false where it finds none.
+    /// Fills a list anew with facts that were true and beside which the body cannot hold. Answers false if it finds
+    /// none.
     fn refute(&self, past: &Before, hint: Hint, facts: &mut Vec<Atom>) -> Result<bool, AllocError>
         requires fits { IsFittingRule past.now.first (body self.now) }
         ensures { result ≡ Ok true → IsRefuted (body self.now) past.now facts.new.items };

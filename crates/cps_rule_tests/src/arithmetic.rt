@@ -149,7 +149,7 @@ fn numbers_are_divided_towards_zero(rt: HostRuntime) -> Result<(), Fail> {
     Ok(())
 }
 
-/// What a kind leaves of these ends; nothing where it cannot hold.
+/// What a kind leaves of these ends; empty if it cannot hold.
 #[derive(Clone, Copy)]
 struct Row<'a> {
     kind: Kind,

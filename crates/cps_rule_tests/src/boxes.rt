@@ -1,4 +1,7 @@
 //! Boxes that do not overlap.
+//!
+//! The first box is always the same, so a row gives only the second one, the ends of all subjects, and what is left of
+//! them. A row's comment says how the boxes lie.
 
 ghost use Rattle.std.specs.Prelude.{IfOk};
 ghost use Rattle.cps_rule_tests.specs.Ready.{IsFresh, IsReady};
@@ -65,7 +68,7 @@ fn placed(
     run(alloc, &mut propagator, &mut store, decided)
 }
 
-/// A second box, and what is left of these ends of all subjects; nothing where the boxes must overlap.
+/// A second box, and what is left of these ends of all subjects; empty if the boxes must overlap.
 #[derive(Clone, Copy)]
 struct Row<'a> {
     second: Second,

@@ -12,7 +12,7 @@ use cps_p_alldiff::AllDifferent;
 use std::alloc::{AllocError, Global};
 use std::test::Fail;
 
-/// What is left of these ends of all subjects; nothing where the constraint cannot hold.
+/// What is left of these ends of all subjects; empty if the constraint cannot hold.
 #[derive(Clone, Copy)]
 struct Row<'a> {
     ends: &'a [Ends],

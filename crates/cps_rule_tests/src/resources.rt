@@ -1,4 +1,7 @@
 //! Spans that use a resource together.
+//!
+//! The first table is about single times: compulsory parts, and what they leave to others. The second is about windows
+//! that are too full although no time in them is. A row's comment adds up the demands.
 
 ghost use Rattle.std.specs.Prelude.{IfOk, All};
 ghost use Rattle.cps_instance.specs.Fitting.{IsNeverNegative};
@@ -84,7 +87,7 @@ fn scheduled(
     run(alloc, &mut propagator, &mut store, decided)
 }
 
-/// What is shared, and what is left of these ends of all subjects; nothing where there is too little of it.
+/// What is shared, and what is left of these ends of all subjects; empty if there is too little of it.
 #[derive(Clone, Copy)]
 struct Row<'a> {
     shared: Use<'a>,

@@ -1,4 +1,7 @@
 //! A run of one propagator to rest, what it leaves, and the reason of what it did last.
+//!
+//! The helpers of the other files. A propagator is run until it settles and then once more, which must change nothing,
+//! so each row also tests that rest is reached in one run.
 
 ghost use Rattle.std.specs.Prelude.{◌≡◌, ◌<◌, Some, true, IsTrue, All, OnOk, length};
 ghost use Rattle.cps_instance.specs.Tasks.{subjects_of};

@@ -1,4 +1,7 @@
 //! Spans that do not overlap, in pairs and in sets.
+//!
+//! A table for each rule on sets (detectable precedences, not-first and not-last, edge finding), since the contract
+//! asks only for what pairs give. A row's comment says which spans crowd which window.
 
 ghost use Rattle.std.specs.Prelude.{IfOk};
 ghost use Rattle.cps_rule_tests.specs.Ready.{IsFresh, IsReady};
@@ -45,7 +48,7 @@ fn scheduled(
     run(alloc, &mut propagator, &mut store, decided)
 }
 
-/// Spans, and what is left of these ends of all subjects; nothing where they must overlap.
+/// Spans, and what is left of these ends of all subjects; empty if they must overlap.
 #[derive(Clone, Copy)]
 struct Row<'a> {
     shapes: &'a [Shape],

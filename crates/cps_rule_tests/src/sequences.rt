@@ -1,4 +1,7 @@
 //! Two lists that are each other's inverse, and values that are read by an automaton.
+//!
+//! Rows give the ends of all subjects and what is left of them, worked out by hand; the automaton's reasons are
+//! compared too, since a cut may be chosen in several ways and only one is wanted.
 
 ghost use Rattle.std.specs.Prelude.{IfOk};
 ghost use Rattle.cps_rule_tests.specs.Ready.{IsPlain};
@@ -13,7 +16,7 @@ use cps_p_sequence::{Automaton, Inverse};
 use std::alloc::{AllocError, Global};
 use std::test::Fail;
 
-/// What is left of these ends of all subjects; nothing where the constraint cannot hold.
+/// What is left of these ends of all subjects; empty if the constraint cannot hold.
 #[derive(Clone, Copy)]
 struct Row<'a> {
     ends: &'a [Ends],

@@ -71,7 +71,7 @@ fn literal(store: &Store, subject: u32) -> Result<Atom, AllocError>
     })
 }
 
-/// What says that a span is present; nothing where it always is.
+/// The atoms that say that a span is present; empty if it always is.
 fn presence(alloc: Global, store: &Store, shape: Shape) -> Result<Vec<Atom>, AllocError>
     requires { IsFresh store.now }
     ensures { IfOk result (λ atoms. All (IsLiteral store.now.first) atoms.items) }

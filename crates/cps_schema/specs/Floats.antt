@@ -16,7 +16,7 @@ abbrev pub past_point : List ℕ → List ℕ
 past_point [] = []
 past_point (b ∷ bs) = if b == 46 then bs else b ∷ bs
 
--- what follows the mark of an exponent, and nothing where there is none
+-- what follows the mark of an exponent; empty if there is none
 abbrev pub past_mark : List ℕ → List ℕ
 past_mark [] = []
 past_mark (b ∷ bs) = if b == 101 || b == 69 then bs else []

@@ -16,7 +16,7 @@ pub record Written : Type 0 where
   pub tokens : List Token
   pub closed : List (List ℕ)
 
--- the text of a token, and nothing where there is no token of this number
+-- the text of a token; empty if there is no token of this number
 unfoldable pub token_text : Written → ℕ → List ℕ
 token_text w k = option_map_or (text_of w.bytes) (slice_get w.tokens k) []
 

@@ -13,7 +13,7 @@ ghost use Rattle.cps_schema.specs.Floats.{leading_digits, past_digits, past_poin
 use super::digits::{decimal_value, digits_after};
 use super::source::{behind, front};
 
-/// Behind so many zeros a number that is not 0 has more than 64 bits.
+/// A number that is not 0 has more than 64 bits with this many zeros behind it.
 const MANY_ZEROS: u64 = 20;
 
 #[tactic(auto, unfolding(cps_lex::specs::Bytes::is_digit))]
@@ -61,7 +61,7 @@ fn past_point(text: &[u8]) -> &[u8]
     if *first == b'.' { rest } else { text }
 }
 
-/// What follows the mark of an exponent, and nothing where there is none.
+/// What follows the mark of an exponent; empty if there is none.
 fn past_mark(text: &[u8]) -> &[u8]
     ensures { result.now ≡ past_mark text.now }
 {
@@ -151,7 +151,7 @@ fn are_zeros(digits: &[u8]) -> bool
     true
 }
 
-/// The number with so many zeros behind it, or the greatest of 64 bits where it is greater.
+/// The number with `zeros` zeros behind it, or the greatest of 64 bits if it is greater.
 #[tactic(auto, using(crate::proofs::Floats::zero_more))]
 fn with_zeros(number: u64, zeros: u64) -> u64
     ensures { result ≡ capped (number * 10 ^ zeros) }

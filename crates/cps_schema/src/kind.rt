@@ -1,4 +1,7 @@
-//! The kinds of constraints.
+//! The kinds of constraints: which field of a constraint gives which kind.
+//!
+//! A kind that is read has a name (`KindName`), from which its field's name, its message and its reading follow. So a
+//! further kind adds a line to each match and no path of its own.
 ghost use Rattle.std.specs.Prelude.{◌≡◌, ◌++◌, [], ◌∷◌, false, true, Some, None, map, is_some, OnOk, IfOk, IfErr};
 ghost use Rattle.std.specs.Option.{option_or};
 ghost use Rattle.std.specs.List.{find};

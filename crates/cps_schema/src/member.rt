@@ -1,4 +1,8 @@
-//! The members of enums.
+//! The members of enums, by name or by number.
+//!
+//! The names of each enum stand in a list in the order of their numbers, so both ways of writing a member come to a
+//! number, from which the member is made. One name that the source defines is known and not taken, and is refused as
+//! unsupported; every other unknown name is of the wrong kind.
 ghost use Rattle.std.specs.Prelude.{◌≡◌, ◌++◌, [], ◌∷◌, true, Some, None, is_some, map, OnOk, IfOk, IfErr, option_to_list};
 ghost use Rattle.cps_textproto.specs.Trees.{values_of};
 ghost use Rattle.cps_schema.specs.Sources.{written_of, single_fault, names_of};

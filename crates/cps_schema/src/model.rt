@@ -1,4 +1,8 @@
-//! Models.
+//! The model's own message, and the two public readings of a document.
+//!
+//! `model_with` takes the table of closed fields as an argument, so that what is printed can be proved to read back
+//! whatever is closed; `model_of` uses the table `CLOSED`. The parts that are read so far stand in one struct, from
+//! which the model is made in the end.
 ghost use Rattle.std.specs.Prelude.{◌≡◌, ◌++◌, ℕ, List, [], ◌∷◌, true, Some, None, map, is_some, OnOk, IfOk, IfErr, option_to_list};
 ghost use Rattle.cps_textproto.specs.Trees.{Tree, no_fields, tree_of, values_of};
 ghost use Rattle.cps_model.specs.declared.model.CpModel.{CpModel};

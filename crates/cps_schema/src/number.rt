@@ -1,4 +1,9 @@
 //! The numbers that scalars are worth.
+//!
+//! A token is read as a size of 64 bits, which stops at the greatest, and the sign and the type then decide whether it
+//! fits: so no length of digits overflows. Numbers that are doubles in the source take floats too, as far as these are
+//! whole (`floats`), and no octal or hexadecimal ones. What is wrong with a token is told apart: the wrong kind of
+//! token, a number out of its range, a number that is not whole.
 ghost use Rattle.std.specs.Prelude.{◌≡◌, ◌^◌, ◌≤◌, pos, neg_ℤ, Some, IsTrue, IfOk, IfErr};
 ghost use Rattle.std.specs.Option.{option_map};
 ghost use Rattle.cps_schema.specs.Digits.{capped};

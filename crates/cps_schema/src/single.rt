@@ -1,4 +1,8 @@
 //! The values of fields that take one, and the messages of those that take any number.
+//!
+//! A field holds scalars or messages, in a list or not, and what a table wants of it is asked here in one place: a list
+//! where one value is taken is refused at its bracket, messages where scalars are taken at the first of them, and the
+//! other way round.
 ghost use Rattle.std.specs.Prelude.{◌≡◌, ◌++◌, [], ◌∷◌, true, false, Some, None, is_some, OnOk, IfOk, IfErr, IfSome, IfNone, option_to_list};
 ghost use Rattle.std.specs.Option.{option_or};
 ghost use Rattle.cps_textproto.specs.declared.tree.Items.TheVariants as Items;

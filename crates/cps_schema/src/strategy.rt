@@ -1,4 +1,7 @@
-//! Strategies.
+//! Strategies: expressions in one of two forms, and two enums.
+//!
+//! The older form gives references, which are read as the expressions that they are; a field of the one form after one
+//! of the other is refused. The parts read so far keep both lists and which form came.
 ghost use Rattle.std.specs.Prelude.{◌≡◌, ◌++◌, ℕ, List, [], ◌∷◌, true, false, None, Some, map, OnOk, IfOk, IfErr};
 ghost use Rattle.cps_textproto.specs.Trees.{Tree, no_fields, tree_of, values_of};
 ghost use Rattle.cps_schema.specs.Written.{Written, token_text};

@@ -1,4 +1,8 @@
 //! What gathered fields give, taken one field after another.
+//!
+//! The slots come in the order of the lines, and each function takes the next one as the type that its field has, with
+//! the value that a field which is not given has. So a message of many fields is built by a few calls in the order of
+//! its lines.
 ghost use Rattle.std.specs.Prelude.{◌≡◌, [], ◌∷◌, ◌++◌, map, pos, false, IfSome, IfNone, IfOk};
 ghost use Rattle.cps_schema.specs.Readings.{first_or, no_expression, reference_expression};
 ghost use Rattle.cps_schema.specs.Gathered.{held, left, behind_first, next};

@@ -22,8 +22,9 @@ OffersBest before s p = p.offered ≡ lesser before (best_bound s.problem.model 
 abbrev pub RaisesSame : Option Bound → Search → BoundsPart → Type 0
 RaisesSame before s p = p.raised ≡ greater_of before s.raised
 
--- How a search and its actor's part move together: z never rises, and stays at least the least bound that the actor saw or offered; what
--- was found is offered, and nothing else; what was raised, and nothing else; and no more clauses are imported than entries were taken.
+-- How a search and its actor's part move together: z never rises, and stays at least the least bound that the actor saw
+-- or offered; the actor offers what the search found and nothing else, and raises what it raised and nothing else; and
+-- no more clauses are imported than entries were taken.
 pub record MovesWith (s t : Search) (p q : Part) : Type 0 where
   pub falls : BoundLe t.z s.z
   pub follows : BoundLe p.bounds.saw_upper s.z → BoundLe q.bounds.saw_upper t.z

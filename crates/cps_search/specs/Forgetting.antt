@@ -3,12 +3,12 @@ use Rattle.std.specs.Prelude.{◌≡◌, ℕ, ◌+◌, ◌-◌, ◌/◌, ◌%◌
 use Rattle.cps_clauses.specs.declared.journal.JournalItem.{JournalItem}
 use Rattle.cps_clauses.specs.declared.journal.JournalItem.TheVariants.{Learnt, Drop}
 
--- after each how many learnt clauses some may be dropped
+-- the number of learnt clauses after each of which some may be dropped
 abbrev pub drop_interval : ℕ
 drop_interval = 2000
 
--- A clause may be dropped where so many were learnt, so many stood when the last was, and so many stand now: the first number is a
--- positive multiple of the interval, and at least half of those that stood then stay, rounded down.
+-- A clause may be dropped if `learnt` is a positive multiple of the interval, and after it at least half of the clauses
+-- that stood when the last one was learnt still stand, rounded down.
 pub record IsDropDue (learnt stood stand : ℕ) : Type 0 where
   pub some_learnt : 0 < learnt
   pub interval : learnt % drop_interval ≡ 0

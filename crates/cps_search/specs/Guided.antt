@@ -16,7 +16,7 @@ use Rattle.cps_branch.specs.Guidances.{ChoosesBy, IsPlanOf, AreHintsOf}
 abbrev pub RunsBy : Guidance → ℕ → Search → Search → Part → Part → End → Type 0
 RunsBy guidance rows s t p q end = RunsInTurns ChoosesBy (λ before clause restart after. after ≡ before) (λ before after. after ≡ before) rows (s, guidance) (t, guidance) p q end
 
--- What is seen of a worker that ended is what such a run comes to, which began with nothing known.
+-- A worker that ended is seen as such a run leaves it, if the run began with nothing known.
 pub record IsEndOfRun (p : Problem) (gap budget : ℕ) (guidance : Guidance) (e : Ending) : Type 0 where
   pub rows : ℕ
   pub done : Search

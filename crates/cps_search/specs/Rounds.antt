@@ -1,4 +1,4 @@
--- How a neighbourhood worker ends that did its rounds.
+-- How a neighbourhood worker that did its rounds ends.
 use Rattle.std.specs.Prelude.{◌≡◌}
 use Rattle.cps_port.specs.declared.part.Part.{Part}
 use Rattle.cps_search.specs.declared.end.End.TheVariants as ends

@@ -1,4 +1,4 @@
-//! Laws of all searches. Each is the contract of a function that does nothing.
+//! Laws of all searches. Each is the contract of a function with an empty body.
 
 ghost use Rattle.std.specs.Prelude.{◌≡◌, ℕ, ◌+◌, ◌≤◌, ℤ, List, [], ◌∷◌, ◌++◌, length, All, Option, None};
 ghost use Rattle.cps_model.specs.declared.bound.Bound.TheVariants.{Infinite};
@@ -24,8 +24,8 @@ ghost use Rattle.cps_search.specs.Ends.{IsComplete, IsHonestEnding, RunsInTurns,
 use cps_branch::Brancher;
 use cps_instance::Instance;
 
-/// What changes a store leaves clauses quiet at the levels that remain. What adds entries at the present level does so
-/// below it, whatever their reasons; and a clause more does so where the present level is at most the clause's
+/// Clauses that are quiet stay quiet: at the levels that remain after a backjump; at the levels below the present one
+/// when entries are added there, whatever their reasons; and when a clause is added at a level that is at most its
 /// `level_for`.
 pub fn quiet_clauses_stay()
     ensures decision { (clauses : List (List Atom)) (s : Trail) (t : Atom) (below : ℕ) → below ≤ s.level + 1
@@ -50,13 +50,13 @@ pub fn nothing_to_learn_without_subjects()
     ensures { (p : Problem) (journal : List JournalItem) → p.domains ≡ [] → IsHonestJournal p journal → journal ≡ [] }
 {}
 
-/// There is a number that the length of no journal over an instance goes beyond, if it is honest and nothing was
-/// dropped. So a budget of more conflicts is spent only if clauses were dropped.
+/// Of each instance there is a number such that no honest journal without drops is longer. So a greater budget is spent
+/// only if clauses were dropped.
 pub fn honest_journals_are_bounded(instance: &Instance)
     ensures { (most : ℕ) × ((journal : List JournalItem) → DropsNothing journal → IsHonestJournal instance.now journal
         → length journal ≤ most) }
 {
-    // Only here is it known what holds of each instance.
+    // Reading the domains gives the proof the instance's invariant.
     let _ = instance.domains();
 }
 
@@ -66,7 +66,7 @@ pub fn nothing_is_dropped_early()
         → 2000 ≤ learnt_count earlier }
 {}
 
-/// A worker of a complete kind whose actor had offered and raised nothing before it began is honest when it has ended.
+/// A worker of a complete kind that has ended is honest, if its actor had offered and raised nothing before it began.
 pub fn ended_workers_are_honest()
     ensures { (p : Problem) (gap budget : ℕ) (t : Search) (before after : Part) (kind : WorkerKind)
         (guidance : Option Guidance) (end : End) → IsComplete kind
@@ -75,8 +75,8 @@ pub fn ended_workers_are_honest()
         → IsHonestEnding p.model gap budget after.bounds (ending kind guidance end t) }
 {}
 
-/// Turns of a worker one after another, of which the last ended it, come to what a run comes to, whoever else stepped
-/// between them.
+/// Turns of a worker one after another, the last of which ended it, come to what `run` comes to, whatever other actors
+/// did between them.
 pub fn turns_come_to_a_run<B: Brancher>()
     ensures { (rows : ℕ) (s t : Search × B) (p q : Part) (end : End)
         → (h : RunsInTurns B.chooses B.hears B.stays rows s t p q end) → IsSoundSearch h.before.0

@@ -1,8 +1,8 @@
 //! The rows of the board that a worker filled itself, and has not taken back yet.
 //!
-//! A worker takes each row of the board once, its own too. Rows are taken in the order of their numbers, so the own
-//! ones come back in the order in which they were shared, and it is enough to look at the next of them. Its clause is
-//! in force already: were it added again, it would stand twice, and be watched twice.
+//! A worker takes each row of the board once, its own too. Rows are taken in the order of their numbers, so its own
+//! ones come back in the order in which it shared them, and only the next of them has to be compared. The clause of an
+//! own row is in force already: added once more, it would be stored and watched twice.
 
 ghost use Rattle.std.specs.Prelude.{◌≡◌, ◌≤◌, ◌<◌, length, IsTrue};
 ghost use Rattle.cps_port.specs.Entries.{entry_clause, most_atoms};

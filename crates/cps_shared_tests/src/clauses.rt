@@ -1,4 +1,7 @@
 //! Worked runs on the board.
+//!
+//! With one thread the answers of each call follow from the order of calls; with two threads the rows that each seat
+//! drew may be either, and what is compared holds in both cases.
 ghost use Rattle.std.specs.Prelude.{ℤ, pos};
 ghost use Rattle.cps_port.specs.Incumbents.{IsAttained};
 ghost use Rattle.cps_board.specs.Seats.{model_of, IsSeatOf};

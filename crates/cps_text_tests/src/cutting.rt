@@ -1,4 +1,7 @@
 //! Bytes, cut into tokens, and the bytes that strings denote.
+//!
+//! Tables stand as text, a row on each line, so that many cases cost one function: a text with its tokens, a byte with
+//! a text that is refused there, a string with what it denotes in hexadecimal digits.
 use cps_lex::{LexError, Token, TokenKind, push_text, tokens};
 use std::alloc::Global;
 use std::fmt::Write;

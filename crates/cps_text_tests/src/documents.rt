@@ -1,4 +1,7 @@
 //! Tokens, read as the tree of a document.
+//!
+//! In most rows each byte of a text is taken as one token, whose kind the byte tells, so that a token's number is a
+//! byte's place. A few rows are cut by the lexer first.
 use cps_lex::{Token, TokenKind, tokens};
 use cps_textproto::{TextError, document};
 use std::alloc::Global;

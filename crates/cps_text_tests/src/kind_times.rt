@@ -1,4 +1,7 @@
-//! Assignments of models with intervals, each present where its literal is true: which are solutions.
+//! Assignments of models with intervals, each present if its literal is true: which are solutions.
+//!
+//! A row has intervals, one constraint on them, and for each choice of presence literals whether it is a solution. The
+//! answers follow from the definition of the constraint, interval by interval.
 use crate::kind_values::is_solution;
 use std::alloc::{AllocError, Global};
 use std::fmt::Write;

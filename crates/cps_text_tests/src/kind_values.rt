@@ -1,4 +1,8 @@
-//! Assignments of models of each kind: which are solutions. All variables of a model have one domain.
+//! Assignments of models of each kind: which are solutions.
+//!
+//! A row has constraints as text over variables of one domain, assignments that satisfy them, and others that do not;
+//! so each kind is read, judged and evaluated in one line. The last table has each kind out of force, where it says
+//! nothing.
 use crate::reading::valid_model;
 use cps_eval::satisfies;
 use std::alloc::{AllocError, Global};

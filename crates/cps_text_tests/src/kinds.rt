@@ -1,5 +1,8 @@
-//! Documents with each kind of constraint and with assumptions, read as models where no field is closed, and refused for
-//! another cause even then.
+//! Documents with each kind of constraint and with assumptions, read as models when no field is closed, and those that
+//! are refused even then.
+//!
+//! What was read is shown in a notation of its own, and not by the printer, which would make the same mistakes; a row
+//! has the text and what it is to be.
 use crate::reading::{model_of_all, refusal_of_all};
 use cps_model::{CpModel, Kind, LinearExpr, Listed};
 use std::alloc::Global;

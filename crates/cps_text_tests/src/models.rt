@@ -1,4 +1,7 @@
 //! Documents, read as models: what each field gives.
+//!
+//! A row is a text and the shape of the model that it gives; each shape is one test on the model's fields. Defaults,
+//! older forms and numbers written in several ways have rows of their own.
 use crate::reading::model;
 use cps_model::{Choose, Constraint, CpModel, Kind, Objective, Select, Strategy, Variable};
 use std::alloc::Global;

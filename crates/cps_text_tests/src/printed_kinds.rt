@@ -1,4 +1,7 @@
 //! Constraints of each kind, in an order of fields or a form that is not canonical, and what is written of them.
+//!
+//! The canonical text of each row follows from the printed form: newer fields, in the format's order, and nothing that
+//! says nothing.
 use crate::reading::model_of_all;
 use cps_model::CpModel;
 use cps_print::model_text;

@@ -1,4 +1,7 @@
 //! The texts of responses, and the two lines for an input that is no valid model.
+//!
+//! A test for each status, with objectives that are scaled and moved, up to the bound whose shown value has the most
+//! digits. Lines and their order follow from the printed form of a response.
 ghost use Rattle.std.specs.Prelude.{◌≡◌, [], IfOk};
 ghost use Rattle.cps_print.specs.Responses.{IsShowable, IsSolved, IsBounded};
 

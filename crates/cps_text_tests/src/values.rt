@@ -1,4 +1,7 @@
 //! Assignments of small models: which are solutions, what the others violate first, and what the objective is.
+//!
+//! Rows are worked out by hand from the rules of meaning. That the first violated place is the first in the order of
+//! domains, constraints, objective and assumptions has rows in which several places fail.
 use crate::reading::{model, valid_model};
 use cps_eval::{display_value, first_violated, objective, objective_start, satisfies};
 use cps_model::{CpModel, Place};

@@ -1,4 +1,9 @@
 //! The tree under construction: what each token adds to it.
+//!
+//! The machine has already said that the token can stand there, so nothing is refused here but memory. What a token
+//! does is told from the mode alone (`Action`), apart from doing it. Open messages stand on a list, so nesting takes no
+//! recursion. Finished lists are moved into the tree in exactly the memory that they take, since trees of long texts
+//! fill most of the memory that a run has.
 ghost use Rattle.std.specs.Prelude.{◌≡◌, ◌+◌, ◌<◌, ◌^◌, false, true, OnOk, IfOk, [], ◌∷◌};
 ghost use Rattle.cps_textproto.specs.declared.tree.Field.{Field};
 ghost use Rattle.cps_textproto.specs.Trees.{tree_of, field_list, values_of, span_values, nested_value, nested_values, then_fields, then_values, without_last, field, scalar_value, message_value, no_fields, no_values};

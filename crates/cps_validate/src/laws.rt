@@ -8,6 +8,7 @@ use crate::valid::ValidModel;
 pub fn values_lie_between(model: &ValidModel)
     ensures { IsBetweenLeastAndGreatest model.now }
 {
+    // Reading the model gives the proof its invariant: the model keeps every rule.
     let _ = model.model();
 }
 
@@ -15,6 +16,7 @@ pub fn values_lie_between(model: &ValidModel)
 pub fn divisors_are_not_zero(model: &ValidModel)
     ensures { DividesByNoZero model.now }
 {
+    // Reading the model gives the proof its invariant: the model keeps every rule.
     let _ = model.model();
 }
 
@@ -22,6 +24,7 @@ pub fn divisors_are_not_zero(model: &ValidModel)
 pub fn only_zero_is_refused(model: &ValidModel)
     ensures { RefusesOnlyZero model.now }
 {
+    // Reading the model gives the proof its invariant: the model keeps every rule.
     let _ = model.model();
 }
 
@@ -29,6 +32,7 @@ pub fn only_zero_is_refused(model: &ValidModel)
 pub fn moduli_are_positive(model: &ValidModel)
     ensures { HasPositiveModuli model.now }
 {
+    // Reading the model gives the proof its invariant: the model keeps every rule.
     let _ = model.model();
 }
 
@@ -36,6 +40,7 @@ pub fn moduli_are_positive(model: &ValidModel)
 pub fn products_are_small(model: &ValidModel)
     ensures { HasSmallProducts model.now }
 {
+    // Reading the model gives the proof its invariant: the model keeps every rule.
     let _ = model.model();
 }
 
@@ -43,6 +48,7 @@ pub fn products_are_small(model: &ValidModel)
 pub fn demands_are_not_negative(model: &ValidModel)
     ensures { HasNoNegativeDemand model.now }
 {
+    // Reading the model gives the proof its invariant: the model keeps every rule.
     let _ = model.model();
 }
 
@@ -50,5 +56,6 @@ pub fn demands_are_not_negative(model: &ValidModel)
 pub fn indices_name_intervals(model: &ValidModel)
     ensures { NamesIntervals model.now }
 {
+    // Reading the model gives the proof its invariant: the model keeps every rule.
     let _ = model.model();
 }

@@ -1,4 +1,8 @@
-//! A model that keeps every rule.
+//! A model that keeps every rule, and the one function that makes it.
+//!
+//! The type carries the proof: whoever has a `ValidModel` knows that its model is valid, and nothing is tested twice.
+//! `validate` takes the model by value, since a model that is refused is of no further use. Faults are looked for part
+//! by part in the order in which they are named, and the first one ends the search.
 ghost use Rattle.std.specs.Prelude.{◌≡◌, ◌≤◌, ◌<◌, ◌^◌, IfOk, IfErr, length};
 ghost use Rattle.cps_model.specs.Validity.{most_items, variable_fault, constraint_fault, strategy_fault, assumption_fault, first_faulty, first_invalid, IsValid};
 ghost use Rattle.cps_validate.specs.Refusals.{IsRefusalOf};
@@ -143,7 +147,7 @@ fn first_invalid(alloc: Global, model: &CpModel) -> Result<Option<(u8, Place)>, 
 }
 
 /// Keeps a model that breaks no rule, and refuses every other, with the rule that is broken first. A refused model is
-/// given up. `OutOfMemory` comes where memory runs out.
+/// dropped. `OutOfMemory` comes only if an allocation failed.
 pub fn validate(alloc: Global, model: CpModel) -> Result<ValidModel, ValidateError>
     ensures ok { IfOk result (λ v. (v ≡ model) × IsValid model) }
     ensures err { IfErr result (λ e. IsRefusalOf e model) }

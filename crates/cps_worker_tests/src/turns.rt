@@ -1,4 +1,7 @@
 //! Workers turn by turn, alone and one after the other.
+//!
+//! The names of a worker's turns are listed and compared with those that were worked out by hand, for small models
+//! whose search is determined. The second test shows that a worker goes on from what another one shared.
 ghost use Rattle.std.specs.Prelude.{◌≡◌, ◌≤◌, ◌^◌, length, false, None, IfOk};
 ghost use Rattle.cps_search.specs.Ends.{IsOver, end_of};
 ghost use Rattle.cps_kinds.specs.Kinds.{AreAllPropagated};

@@ -86,7 +86,7 @@ pub record Demonstrates (r : Recipe) (answer : Answer) : Type 0 where
   pub promise : KeepsPromise (model_of r) (demo_options r.seed) found
   pub drawn : IsDrawnRun (model_of r) (demo_options r.seed) 4096 found.ends
 
--- the text for an input that is refused; want of memory has none
+-- the text for an input that is refused; running out of memory has none
 abbrev pub IsFaultText : Unread → Answer → Type 0
 IsFaultText (unread.Fault fault) answer = IsText 1 (fault_text fault) answer
 IsFaultText unread.OutOfMemory answer = ⊥

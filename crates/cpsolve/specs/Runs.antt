@@ -7,7 +7,7 @@ use Rattle.cpsolve.specs.declared.ran.Ran.{Ran}
 use Rattle.cpsolve.specs.Inputs.{most_bytes}
 use Rattle.cpsolve.specs.Answers.{Answers}
 
--- an exit status with which no text is written: a read failed, or memory was wanting
+-- an exit status with which no text is written: a read failed, or memory ran out
 abbrev pub is_silent : ℕ → Bool
 is_silent exit = exit == 3 || exit == 5
 

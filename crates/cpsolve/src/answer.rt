@@ -1,5 +1,8 @@
-//! The answer to a command line and an input, before it is written. Each command that reads has a function that takes its model
-//! from the input and one that answers the model; the faults of an input have one answer for all commands.
+//! The answer to a command line and an input, before it is written.
+//!
+//! Each command that reads has a function that takes its model from the input and one that answers the model; the
+//! faults of an input have one answer for all commands. The text is complete before anything is written, so a run that
+//! runs out of memory writes nothing.
 ghost use Rattle.std.specs.Prelude.{◌≡◌, ◌≤◌, ℕ, List, IfOk, IsTrue, length, string_bytes};
 ghost use Rattle.cps_print.specs.Faults.{fault_text};
 ghost use Rattle.cps_print.specs.Models.{model_text};
@@ -63,7 +66,7 @@ pub fn fault_answer(alloc: Global, fault: &Fault) -> Result<Answer, AllocError>
     Ok(text_answer(1, fault_text(alloc, fault)?))
 }
 
-/// The answer to an input that is not at hand as a model.
+/// The answer to an input that could not be read as a model.
 fn unread_answer(alloc: Global, unread: Unread) -> Result<Answer, AllocError>
     ensures { IfOk result (IsFaultText unread) }
 {
@@ -73,7 +76,7 @@ fn unread_answer(alloc: Global, unread: Unread) -> Result<Answer, AllocError>
     }
 }
 
-/// What workers come to that search a model in threads, or in turns where the options say so.
+/// The outcome of workers that search a model in threads, or in turns if the options say so.
 fn outcome_of<R: Threads + Wait + Sync, G: Gate + Sync>(
     rt: &R,
     alloc: Global,

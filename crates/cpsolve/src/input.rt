@@ -17,10 +17,10 @@ use cps_validate::{ValidModel, ValidateError, validate};
 use std::alloc::Global;
 use thiserror::Error;
 
-/// Why an input is not at hand as a model, or as a valid one.
+/// Why an input could not be read as a model, or as a valid one.
 #[derive(Debug, Drop, Error)]
 pub enum Unread {
-    /// It is none.
+    /// It is no model, or no valid one.
     #[error("the input is no valid model: {0:?}")]
     Fault(Fault),
     #[error("out of memory")]
@@ -84,7 +84,8 @@ fn meaning_of(alloc: Global, bytes: &[u8], tokens: &[Token], node: &Node) -> Res
     }
 }
 
-/// The model that the bytes are the text of. No rule is tested, and their tokens are given up.
+/// The model that the bytes are the text of. No rule is tested. The tokens are dropped, so that solving has their
+/// memory.
 pub fn read_model(alloc: Global, bytes: &[u8]) -> Result<CpModel, Unread>
     requires { length bytes.now ≤ most_bytes }
     ensures ok { IfOk result (IsMeant bytes.now) }

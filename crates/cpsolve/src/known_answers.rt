@@ -1,4 +1,7 @@
 //! Words and inputs of the program, with the answers that were worked out by hand.
+//!
+//! The rows are data alone, with named fields; `tests` and its neighbours run them. Each model is small enough that its
+//! answer can be found on paper, and has one answer whatever the workers do, so that whole texts are compared.
 
 /// Two variables under two sums, of which the greatest weighted sum is wanted.
 pub const PRODUCTION: &str = "variables { domain: [0, 10] } variables { domain: [0, 10] } \

@@ -1,4 +1,4 @@
-//! What a run of the program came to.
+//! The result of a run of the program.
 use cps_portfolio::Outcome;
 
 /// The exit status of a run, and the outcome where it solved a model.

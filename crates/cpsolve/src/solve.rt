@@ -1,4 +1,4 @@
-//! The whole program: words and an input to a text and an exit status.
+//! The whole program: from words and an input to a text and an exit status.
 ghost use Rattle.std.specs.Prelude.{◌≡◌, ◌≢◌, ◌≤◌, IfOk, OnOk, IsErrOf, MatchBool, List, ℕ, None, Err, false};
 ghost use Rattle.std.specs.Io.KnownBytes.{Appends};
 ghost use Rattle.cps_outer.specs.Faults.{Rose};
@@ -91,8 +91,8 @@ fn write_answer<K: Sink>(sink: &mut K, answer: Answer) -> Ran
 /// Runs the program on its words, the program's name first: reads the source to its end where the command reads, does
 /// the work, and writes the whole text after it. A run with threads holds its workers at the gate before they begin.
 ///
-/// The exit status is 0 where the command did its work, 1 where the input is no valid model, 2 where the words are a
-/// usage fault, 3 where a read failed, 4 where a write failed, and 5 for want of memory.
+/// The exit status is 0 if the command did its work, 1 if the input is no valid model, 2 if the words are a usage
+/// fault, 3 if a read failed, 4 if a write failed, and 5 if memory ran out.
 pub fn solve_main<R: Threads + Wait + Sync, S: Source, K: Sink, G: Gate + Sync>(
     rt: &R,
     alloc: Global,
@@ -101,21 +101,21 @@ pub fn solve_main<R: Threads + Wait + Sync, S: Source, K: Sink, G: Gate + Sync>(
     sink: &mut K,
     gate: &G,
 ) -> Ran
-    // 0, 1, 2 and 4: an answer of the words to the bytes that were left, and the sink took its text, of 4 a first part.
-    // 3 and 5: nothing is written.
+    // 0, 1, 2 and 4: there is an answer of the words to the bytes that were left, and the sink took its text; with 4 a
+    // first part of it. 3 and 5: nothing is written.
     ensures answer { MatchBool (is_silent result.exit)
         ((result.outcome ≡ None) × (sink.new ≡ sink.old))
         (GivesOut (texts_of words.now) (S.left source.old) (K.held sink.old) (K.held sink.new) result) }
     ensures exits { result.exit ≤ 5 }
 
-    // Where there is a text, a command that reads has read all, or one byte more than an input may have.
+    // If there is a text, a command that reads has read everything, or one byte more than an input may have.
     ensures read { is_silent result.exit ≡ false → IsReadingLine (texts_of words.now)
         → IsReadThrough (S.left source.old) (S.left source.new) }
 
     // Words that have no command, or one that generates a model, leave the source as it was.
     ensures nothing { ReadsNothing (texts_of words.now) → (source.new ≡ source.old) × (result.exit ≢ 3) }
 
-    // It does not give up by itself, and it keeps no fault to itself.
+    // 3 and 4 come only where a fault was counted, and a counted fault is always answered.
     ensures read_fault { result.exit ≡ 3 → Rose (S.faults source.old) (S.faults source.new) }
     ensures no_read_fault { result.exit ≢ 3 → S.faults source.new ≡ S.faults source.old }
     ensures write_fault { result.exit ≡ 4 → Rose (K.faults sink.old) (K.faults sink.new) }
