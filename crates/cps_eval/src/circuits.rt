@@ -205,7 +205,7 @@ fn are_single(alloc: Global, mut arcs: Vec<Arc>) -> Result<bool, AllocError>
 }
 
 /// Whether selected arcs, whose ends are nodes, leave and enter each node once, and are a single circuit but for loops.
-fn is_circuit(alloc: Global, nodes: &[i64], arcs: &[Arc]) -> Result<bool, AllocError>
+pub fn is_circuit(alloc: Global, nodes: &[i64], arcs: &[Arc]) -> Result<bool, AllocError>
     requires tails { All (λ arc. Contains nodes.now arc.tail) arcs.now }
     requires heads { All (λ arc. Contains nodes.now arc.head) arcs.now }
     ensures { IfOk result (λ answer. IsTrue answer ↔ IsCircuit nodes.now arcs.now) }

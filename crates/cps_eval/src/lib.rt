@@ -26,6 +26,7 @@ mod start;
 mod values;
 mod violation;
 
+pub use circuits::is_circuit;
 pub use objectives::{display_value, objective};
 pub use solution::satisfies;
 pub use start::objective_start;

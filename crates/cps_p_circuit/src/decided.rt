@@ -8,8 +8,8 @@ ghost use Rattle.cps_instance.specs.Tasks.{atom_subjects};
 ghost use Rattle.cps_p_circuit.specs.Graphs.{number, arcs_by, IsRound};
 ghost use Rattle.cps_p_circuit.specs.Showing.{AreTaken, IsOpenStill};
 
-use crate::circuits::is_circuit;
 use crate::graph::Graph;
+use cps_eval::is_circuit;
 use cps_literal::{Atom, Truth};
 use cps_model::Arc;
 use cps_trail::Store;

@@ -21,7 +21,6 @@
 #![tactic(auto)]
 
 mod build;
-mod circuits;
 mod clash;
 mod decided;
 mod find;

@@ -1,6 +1,5 @@
 //! Lists of plain numbers that are sorted.
-ghost use Rattle.std.specs.Prelude.{◌≡◌, ℕ, ◌≢◌, ◌↔◌, ◌<◌, ℤ, pos, IsTrue, Contains, IsSorted, length, slice_index_or};
-ghost use Rattle.std.specs.Ordering.{int_cmp};
+ghost use Rattle.std.specs.Prelude.{◌≡◌, ℕ, ◌<◌, ℤ, pos, Contains, length, slice_index_or};
 ghost use Rattle.cps_p_circuit.specs.Numbers.{IsRising};
 
 /// Sorts numbers, and drops each that equals the one before it.
@@ -11,14 +10,6 @@ pub fn make_distinct(numbers: &mut Vec<i32>)
 {
     numbers.sort_unstable();
     numbers.dedup();
-}
-
-/// Whether a sorted list has a number.
-pub fn is_listed(numbers: &[i64], number: i64) -> bool
-    requires { IsSorted int_cmp numbers.now }
-    ensures { IsTrue result ↔ Contains numbers.now number }
-{
-    numbers.binary_search(&number).is_ok()
 }
 
 /// Where a number stands in a list that has it. The list is sorted, and else searched from its start.
