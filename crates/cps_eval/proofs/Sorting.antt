@@ -8,7 +8,7 @@ use Rattle.std.proofs.lemmas.Bool.{cases_lt}
 use Rattle.std.proofs.lemmas.Cmp.{int_cmp_total}
 use Rattle.std.proofs.lemmas.List.Elements.{All-from_recursion}
 use Rattle.std.proofs.lemmas.List.Sorted.{searchable_from_sorted}
-use Rattle.cps_eval.specs.Numbers.{IsRising}
+use Rattle.cps_model.specs.Rising.{IsRising}
 
 less_is : (x y : ℤ) → int_cmp x y ≡ Less → x <ℤ y
 less_is x y e = grind (arith, ints)

@@ -3,7 +3,6 @@ pub mod Shown
 pub mod Equal
 pub mod Places
 pub mod Levels
-pub mod Numbers
 pub mod Runs
 pub mod Turns
 pub mod Walks

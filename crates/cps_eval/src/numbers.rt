@@ -1,7 +1,7 @@
 //! Lists of plain numbers that are sorted.
 ghost use Rattle.std.specs.Prelude.{◌≡◌, ◌↔◌, ℤ, IsTrue, Contains, IsSorted};
 ghost use Rattle.std.specs.Ordering.{int_cmp};
-ghost use Rattle.cps_eval.specs.Numbers.{IsRising};
+ghost use Rattle.cps_model.specs.Rising.{IsRising};
 
 /// Sorts numbers, and drops each that equals the one before it.
 pub fn make_distinct(numbers: &mut Vec<i64>)

@@ -19,7 +19,8 @@ use Rattle.cps_literal.specs.Truth.{value_at, atom_holds}
 use Rattle.cps_instance.specs.declared.task.Span.{Span}
 use Rattle.cps_instance.specs.Lengths.{length_between}
 use Rattle.cps_instance.specs.Parts.{values_at, span_end, span_run, span_runs, span_uses, span_areas, change_at, all_changes, true_changes, changes_at}
-use Rattle.cps_instance.specs.Posting.{atom_of, reference_expression, expressions_of, span_of, span_of_constraint, span_at}
+use Rattle.cps_instance.specs.Posting.{atom_of, expressions_of, span_of, span_of_constraint, span_at}
+use Rattle.cps_model.specs.Values.{reference_expression}
 use Rattle.cps_instance.proofs.Agreeing.{same_run, more_items, same_use, same_area, more_events, one_event, same_event}
 use Rattle.cps_instance.proofs.Lengths.{length_between-is}
 use Rattle.cps_instance.proofs.LiteralAtoms.{atom_holds-at, list_all-at}

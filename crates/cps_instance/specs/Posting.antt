@@ -25,15 +25,12 @@ use Rattle.cps_instance.specs.Terms.{Intervals, Domains, AreIntervals}
 use Rattle.cps_instance.specs.Writing.{terms_of, expression_sums, subjects_from}
 use Rattle.cps_instance.specs.Lengths.{length_between}
 use Rattle.cps_instance.specs.Sums.{DefinedSum}
+use Rattle.cps_model.specs.Values.{reference_expression}
 
 -- a literal is true where its variable is at least 1, and its opposite where it is at most 0
 abbrev pub atom_of : ℤ → Atom
 atom_of (pos i) = record { subject = i; op = Ge; value = pos 1 }
 atom_of (negsuc i) = record { subject = i; op = Le; value = pos 0 }
-
--- a reference as the expression of that one term
-abbrev pub reference_expression : ℤ → LinearExpr
-reference_expression r = record { vars = r ∷ []; coeffs = pos 1 ∷ []; offset = pos 0 }
 
 -- the expressions of a kind that have subjects of their own
 abbrev pub expressions_of : Kind → List LinearExpr

@@ -5,7 +5,7 @@ use Rattle.std.proofs.lemmas.List.Elements.{All-contains, All-from_get_or, All-a
 use Rattle.std.proofs.lemmas.List.{get_or-map, map_more, take_more, map-append}
 use Rattle.std.proofs.lemmas.Int.{ints}
 use Rattle.std.proofs.lemmas.Bool.{cases_lt, cases_eq}
-use Rattle.cps_p_circuit.specs.Numbers.{IsRising}
+use Rattle.cps_model.specs.Rising.{IsRising}
 use Rattle.std.proofs.Math.ListN.{length-map}
 use Rattle.cps_model.specs.declared.parts.Arc.{Arc}
 use Rattle.cps_literal.specs.declared.atom.Atom.{Atom}

@@ -4,7 +4,7 @@ use Rattle.std.specs.Ordering.{int_cmp, int_eq, eq_by_cmp}
 use Rattle.std.proofs.Common.{◌≡◌, zero, suc, ℤ, pos, ◌<ℤ◌, true, List, [], ◌∷◌, get_or, arith, Less}
 use Rattle.std.proofs.lemmas.Int.{ints}
 use Rattle.std.proofs.lemmas.List.Elements.{All-from_recursion}
-use Rattle.cps_p_circuit.specs.Numbers.{IsRising}
+use Rattle.cps_model.specs.Rising.{IsRising}
 
 less_is : (x y : ℤ) → int_cmp x y ≡ Less → x <ℤ y
 less_is x y e = grind (arith, ints)

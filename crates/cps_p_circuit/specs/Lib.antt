@@ -1,4 +1,3 @@
 pub mod Graphs
 pub mod Clashes
-pub mod Numbers
 pub mod Showing

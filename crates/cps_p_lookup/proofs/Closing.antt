@@ -10,7 +10,8 @@ use Rattle.cps_literal.specs.declared.atom.Op.TheVariants.{Le, Ge, Eq, Ne}
 use Rattle.cps_literal.specs.Truth.{value_at, atom_holds, meets}
 use Rattle.cps_trail.specs.Trail.{Trail}
 use Rattle.cps_rule.specs.Rules.{AllTrueAt}
-use Rattle.cps_p_lookup.specs.Facts.{Adds, AddsBoth, Grows, Denied}
+use Rattle.cps_p_lookup.specs.Facts.{AddsBoth}
+use Rattle.cps_rule.specs.Facts.{Adds, Grows, Denied}
 use Rattle.cps_p_lookup.specs.Elements.{IsChosen, IsClosed, Closes, IsMoved, ArePart}
 use Rattle.cps_p_lookup.proofs.Growing.{adds_grows, adds_holds, grows_same}
 

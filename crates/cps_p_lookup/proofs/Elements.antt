@@ -18,7 +18,7 @@ use Rattle.cps_trail.specs.Trail.{Trail, Domains, IsAdmitted, IsWithin, admits}
 use Rattle.cps_propagate.specs.Now.{IsOpenTo, IsFixedNow, AreOpen}
 use Rattle.cps_rule.specs.Rules.{IsFittingRule, IsGiven, IsImpossible, IsAtRest, AllTrueAt, AreFacts}
 use Rattle.cps_p_lookup.specs.declared.places.Scan.{Scan}
-use Rattle.cps_p_lookup.specs.Facts.{Gives, Denied}
+use Rattle.cps_rule.specs.Facts.{Gives, Denied}
 use Rattle.cps_p_lookup.specs.Elements.{IsFit, IsChosen, IsCovered, IsSeenAt, IsLastOpen, IsScanned, IsClosed, MayMeet}
 
 item_place : (v x : ℤ) (ns : List ℤ) → item_at ns v ≡ Some x → (k : ℕ) × (v ≡ pos k) × (slice_get ns k ≡ Some x)

@@ -13,7 +13,7 @@ use Rattle.cps_instance.specs.declared.task.Body.TheVariants.{Table}
 use Rattle.cps_instance.specs.Parts.{values_at}
 use Rattle.cps_trail.specs.Trail.{Trail}
 use Rattle.cps_rule.specs.Rules.{AllTrueAt, AreFacts}
-use Rattle.cps_p_lookup.specs.Facts.{Adds, Grows, Denied, Gives}
+use Rattle.cps_rule.specs.Facts.{Adds, Grows, Denied, Gives}
 use Rattle.cps_p_lookup.specs.Tabling.{ClosesRow, IsMetAt, IsAgainst, IsBarred, IsOffBy, IsSure, Holds, AreSure}
 use Rattle.cps_p_lookup.proofs.Growing.{adds_grows, adds_holds, grows_same, grows_trans, no_facts}
 use Rattle.cps_p_lookup.proofs.Tables.{row_value, same_row, in_table, not_in, row_before}

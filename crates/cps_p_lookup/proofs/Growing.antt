@@ -8,7 +8,8 @@ use Rattle.cps_instance.specs.declared.task.Body.{Body}
 use Rattle.cps_instance.specs.Tasks.{HoldsBody}
 use Rattle.cps_trail.specs.Trail.{Trail, IsWithin}
 use Rattle.cps_rule.specs.Rules.{IsFact, AreFacts, AllTrueAt, IsExplained, IsRefuted}
-use Rattle.cps_p_lookup.specs.Facts.{Adds, Grows, Denied, Gives, AddsBoth, AddsWhere}
+use Rattle.cps_p_lookup.specs.Facts.{AddsBoth, AddsWhere}
+use Rattle.cps_rule.specs.Facts.{Adds, Grows, Denied, Gives}
 
 pub adds_grows : (s : Trail) (u : Atom) (old new : List Atom) → Adds s u old new → Grows s old new
 adds_grows s u old new h = record {

@@ -18,7 +18,8 @@ use Rattle.cps_propagate.specs.Now.{IsOpenTo}
 use Rattle.cps_rule.specs.declared.rule.Narrowing.{Narrowing}
 use Rattle.cps_rule.specs.Rules.{IsFittingRule, IsGiven, AllTrueAt, AreFacts}
 use Rattle.cps_p_lookup.specs.declared.places.Scan.{Scan}
-use Rattle.cps_p_lookup.specs.Facts.{Grows, AddsWhere, Denied, Gives}
+use Rattle.cps_p_lookup.specs.Facts.{AddsWhere}
+use Rattle.cps_rule.specs.Facts.{Grows, Denied, Gives}
 use Rattle.cps_p_lookup.specs.Elements.{IsFit, IsChosen, IsCovered, IsSeenAt, IsLastOpen, IsVisited, IsScanned, IsClosed, Closes, IsLeft, MayMeet}
 use Rattle.cps_p_lookup.proofs.Growing.{grows_trans}
 use Rattle.cps_p_lookup.proofs.Elements.{chosen, fit_of, given_by, gives_by, ge_holds, le_holds}

@@ -20,7 +20,7 @@ use Rattle.cps_trail.specs.Trail.{Trail, Domains, IsAdmitted, admits}
 use Rattle.cps_propagate.specs.Now.{IsOpenTo, IsFixedNow, AreOpen}
 use Rattle.cps_propagate.specs.Strength.{HasOpenRow, IsExcludedBody}
 use Rattle.cps_rule.specs.Rules.{IsFittingRule, IsGiven, IsImpossible, IsAtRest, AllTrueAt, AreFacts}
-use Rattle.cps_p_lookup.specs.Facts.{Grows, Denied, Gives}
+use Rattle.cps_rule.specs.Facts.{Grows, Denied, Gives}
 use Rattle.cps_p_lookup.specs.Tabling.{IsOpenRow, IsDeadRow, IsLive, AreLive, ClosesRow, IsSingle, IsOff, IsBanned, IsMissed, IsSure}
 
 both_not : (b : Bool) → b ≡ true → b ≡ false → ⊥

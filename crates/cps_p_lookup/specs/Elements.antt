@@ -6,7 +6,7 @@ use Rattle.cps_trail.specs.Trail.{Trail, Domains, IsAdmitted}
 use Rattle.cps_propagate.specs.Now.{IsOpenTo}
 use Rattle.cps_rule.specs.Rules.{AllTrueAt}
 use Rattle.cps_p_lookup.specs.declared.places.Scan.{Scan}
-use Rattle.cps_p_lookup.specs.Facts.{Grows, Denied}
+use Rattle.cps_rule.specs.Facts.{Grows, Denied}
 
 -- the index, the target and the expressions have domains
 pub record IsFit (first : Domains) (i t : ℕ) (es : List ℕ) : Type 0 where

@@ -7,7 +7,7 @@ use Rattle.cps_instance.specs.Parts.{values_at}
 use Rattle.cps_trail.specs.Trail.{Trail, admits}
 use Rattle.cps_propagate.specs.Now.{IsOpenTo, IsFixedNow, AreOpen}
 use Rattle.cps_rule.specs.Rules.{AllTrueAt}
-use Rattle.cps_p_lookup.specs.Facts.{Grows, Denied}
+use Rattle.cps_rule.specs.Facts.{Grows, Denied}
 
 -- each subject may have its value of a row
 pub record IsOpenRow (s : Trail) (es : List ℕ) (row : List ℤ) : Type 0 where

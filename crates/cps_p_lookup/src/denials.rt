@@ -9,7 +9,7 @@ ghost use Rattle.cps_literal.specs.declared.atom.Atom.{Atom as AtomOf};
 ghost use Rattle.cps_literal.specs.Truth.{meets};
 ghost use Rattle.cps_model.specs.Lookups.{row_at};
 ghost use Rattle.cps_instance.specs.declared.task.Body.TheVariants.{Table};
-ghost use Rattle.cps_p_lookup.specs.Facts.{Gives};
+ghost use Rattle.cps_rule.specs.Facts.{Gives};
 ghost use Rattle.cps_p_lookup.specs.Tabling.{ClosesRow, IsMetAt, IsAgainst, IsBarred, IsSure, IsOffBy, Holds, AreSure};
 
 use crate::facts::{atom, is_met, push_fact};

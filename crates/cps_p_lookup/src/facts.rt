@@ -3,7 +3,8 @@
 ghost use Rattle.std.specs.Prelude.{◌≡◌, ◌<◌, length, IsTrue, true, false, Ok};
 ghost use Rattle.cps_literal.specs.Truth.{meets};
 ghost use Rattle.cps_trail.specs.Trail.{IsInside};
-ghost use Rattle.cps_p_lookup.specs.Facts.{Adds, AddsBoth, AddsWhere};
+ghost use Rattle.cps_p_lookup.specs.Facts.{AddsBoth, AddsWhere};
+ghost use Rattle.cps_rule.specs.Facts.{Adds};
 
 use cps_literal::{Atom, Op, Truth};
 use cps_trail::Before;

@@ -6,7 +6,7 @@
 
 ghost use Rattle.std.specs.Prelude.{ℕ, ◌≡◌, ◌<◌, ◌≤◌, ◌^◌, ◌≤ℤ◌, length, Ok, true, false, IfSome, IfOk, IsTrue};
 ghost use Rattle.cps_instance.specs.declared.task.Body.TheVariants.{Element};
-ghost use Rattle.cps_p_lookup.specs.Facts.{Gives};
+ghost use Rattle.cps_rule.specs.Facts.{Gives};
 ghost use Rattle.cps_p_lookup.specs.Elements.{IsFit, Closes, IsMoved, ArePart, IsLeft};
 
 use crate::facts::{LIMIT, atom, is_met, push_both, push_fact, push_where};

@@ -2,7 +2,7 @@
 
 ghost use Rattle.std.specs.Prelude.{◌≡◌, ◌<◌, length, All, OnOk, IfOk, Ok, true, IsTrue};
 ghost use Rattle.cps_rule.specs.Rules.{IsGiven, IsSeen, IsAtRest};
-ghost use Rattle.cps_p_lookup.specs.Facts.{Gives};
+ghost use Rattle.cps_rule.specs.Facts.{Gives};
 ghost use Rattle.cps_instance.specs.declared.task.Body.TheVariants.{Table as TableOf};
 
 use crate::bans::look_outside;

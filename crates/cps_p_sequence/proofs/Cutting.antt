@@ -18,7 +18,8 @@ use Rattle.cps_rule.specs.Rules.{AllTrueAt}
 use Rattle.cps_p_sequence.specs.declared.states.Step.{Step}
 use Rattle.cps_p_sequence.specs.declared.cuts.Limits.{Limits}
 use Rattle.cps_p_sequence.specs.Networks.{IsNetwork, IsMarked, state_at}
-use Rattle.cps_p_sequence.specs.Facts.{Grows, Denied, Gives, IsBounded}
+use Rattle.cps_p_sequence.specs.Facts.{IsBounded}
+use Rattle.cps_rule.specs.Facts.{Grows, Denied, Gives}
 use Rattle.cps_p_sequence.specs.Cuts.{IsOut, IsLimited, Leads, Comes, AreCome, IsCut}
 use Rattle.cps_p_sequence.proofs.Numbering.{marked_here, marked_still, marked_within}
 use Rattle.cps_p_sequence.proofs.Growing.{grows_trans, no_facts}

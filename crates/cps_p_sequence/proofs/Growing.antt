@@ -7,7 +7,7 @@ use Rattle.cps_literal.specs.Truth.{atom_holds}
 use Rattle.cps_instance.specs.declared.task.Body.{Body}
 use Rattle.cps_trail.specs.Trail.{Trail}
 use Rattle.cps_rule.specs.Rules.{IsFact, AreFacts, AllTrueAt, IsExplained, IsRefuted}
-use Rattle.cps_p_sequence.specs.Facts.{Adds, Grows, Gives}
+use Rattle.cps_rule.specs.Facts.{Adds, Grows, Gives}
 
 pub adds_grows : (s : Trail) (u : Atom) (old new : List Atom) → Adds s u old new → Grows s old new
 adds_grows s u old new h = record {

@@ -10,7 +10,7 @@ use Rattle.cps_domain.specs.Window.{Window, contains, intervals, within}
 use Rattle.cps_domain.proofs.Tests.{within_low, within_high}
 use Rattle.cps_trail.specs.Trail.{Trail, admits}
 use Rattle.cps_propagate.specs.Now.{IsOpenTo}
-use Rattle.cps_p_sequence.specs.Networks.{IsRising}
+use Rattle.cps_model.specs.Rising.{IsRising}
 use Rattle.cps_p_sequence.specs.Runs.{IsNarrowAt}
 use Rattle.cps_p_sequence.proofs.Layering.{last_or}
 

@@ -17,7 +17,8 @@ use Rattle.cps_propagate.specs.Strength.{IsEndNow}
 use Rattle.cps_rule.specs.declared.rule.Narrowing.{Narrowing}
 use Rattle.cps_rule.specs.Rules.{IsGiven}
 use Rattle.cps_p_sequence.specs.declared.states.Step.{Step}
-use Rattle.cps_p_sequence.specs.Networks.{IsMarked, IsRising}
+use Rattle.cps_p_sequence.specs.Networks.{IsMarked}
+use Rattle.cps_model.specs.Rising.{IsRising}
 use Rattle.cps_p_sequence.specs.Runs.{CanEnd, AreEnding, AreReached, AreRows, AreTails, AreHeads, AreLabels, IsAlive, HasLabels, HasLabelsOf, AreClosed, IsFollowed, AllGiven, AllTrue, AreFound, IsFrom, IsUpTo, IsNarrowAt, IsDead, IsNarrowed, IsLooked}
 use Rattle.cps_p_sequence.proofs.Finding.{unequal, off_true}
 use Rattle.cps_p_sequence.proofs.Numbering.{unmarked, marked_here, marked_still, marked_before}

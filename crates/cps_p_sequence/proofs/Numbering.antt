@@ -8,7 +8,8 @@ use Rattle.std.proofs.lemmas.List.Sorted.{Contains-permutation, IsPermutation-sy
 use Rattle.cps_model.specs.declared.parts.Transition.{Transition}
 use Rattle.cps_model.specs.Sequences.{transitions}
 use Rattle.cps_p_sequence.specs.declared.states.Step.{Step}
-use Rattle.cps_p_sequence.specs.Networks.{IsRising, IsNumberOf, IsMarked, AreFinals, IsNetwork, IsStepWithin, named, state_at}
+use Rattle.cps_p_sequence.specs.Networks.{IsNumberOf, IsMarked, AreFinals, IsNetwork, IsStepWithin, named, state_at}
+use Rattle.cps_model.specs.Rising.{IsRising}
 use Rattle.cps_p_sequence.specs.Runs.{HasLabelsOf}
 use Rattle.cps_p_sequence.proofs.Sorting.{rising_differ}
 

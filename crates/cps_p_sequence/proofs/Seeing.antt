@@ -13,7 +13,7 @@ use Rattle.cps_p_sequence.specs.Networks.{IsNetwork, IsStepWithin}
 use Rattle.cps_rule.specs.declared.rule.Narrowing.{Narrowing}
 use Rattle.cps_p_sequence.specs.Runs.{CanEnd, IsFollowed, AreEndsAlive, AreFound, IsDead, IsLooked, HasRunsOfAll}
 use Rattle.cps_literal.specs.declared.atom.Atom.{Atom}
-use Rattle.cps_p_sequence.specs.Facts.{Gives}
+use Rattle.cps_rule.specs.Facts.{Gives}
 use Rattle.cps_p_sequence.specs.Cuts.{IsCut}
 use Rattle.cps_p_sequence.proofs.Running.{body_followed, body_rests, body_runs, body_possible}
 use Rattle.cps_p_sequence.proofs.Cutting.{cut_gives}

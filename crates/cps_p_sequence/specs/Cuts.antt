@@ -8,7 +8,8 @@ use Rattle.cps_rule.specs.Rules.{AreFacts, AllTrueAt}
 use Rattle.cps_p_sequence.specs.declared.states.Step.{Step}
 use Rattle.cps_p_sequence.specs.declared.cuts.Limits.{Limits}
 use Rattle.cps_p_sequence.specs.Networks.{IsMarked}
-use Rattle.cps_p_sequence.specs.Facts.{Grows, Denied, IsBounded}
+use Rattle.cps_p_sequence.specs.Facts.{IsBounded}
+use Rattle.cps_rule.specs.Facts.{Grows, Denied}
 
 -- a subject's value cannot be a label, wherever the facts are true and the atom is false
 pub record IsOut (goal : Option Atom) (us : List Atom) (i : ℕ) (label : ℤ) : Type 0 where

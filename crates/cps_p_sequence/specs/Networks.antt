@@ -5,10 +5,6 @@ use Rattle.cps_instance.specs.declared.task.Body.{Body}
 use Rattle.cps_instance.specs.declared.task.Body.TheVariants.{Automaton}
 use Rattle.cps_p_sequence.specs.declared.states.Step.{Step}
 
--- each number is greater than those before it
-abbrev pub IsRising : List ℤ → Type 0
-IsRising ns = (i j : ℕ) → i < j → j < length ns → slice_index_or ns i (pos 0) <ℤ slice_index_or ns j (pos 0)
-
 -- the state of a number
 abbrev pub state_at : List ℤ → ℕ → ℤ
 state_at states q = slice_index_or states q (pos 0)

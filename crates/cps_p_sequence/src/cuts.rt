@@ -11,7 +11,8 @@ ghost use Rattle.cps_literal.specs.Truth.{value_at};
 ghost use Rattle.cps_literal.specs.declared.atom.Op.TheVariants.{Le, Ge};
 ghost use Rattle.cps_rule.specs.Rules.{AllTrueAt};
 ghost use Rattle.cps_p_sequence.specs.Networks.{IsStepWithin, IsMarked};
-ghost use Rattle.cps_p_sequence.specs.Facts.{Grows, Denied, IsBounded};
+ghost use Rattle.cps_p_sequence.specs.Facts.{IsBounded};
+ghost use Rattle.cps_rule.specs.Facts.{Grows, Denied};
 ghost use Rattle.cps_p_sequence.specs.Cuts.{IsOut, IsLimited, Comes, IsCut};
 
 use crate::facts::{LIMIT, atom, is_last, is_met, push_fact};

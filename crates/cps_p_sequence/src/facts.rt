@@ -3,7 +3,7 @@
 ghost use Rattle.std.specs.Prelude.{◌≡◌, ◌<◌, length, IsTrue, true, false, Ok, Contains};
 ghost use Rattle.cps_literal.specs.Truth.{meets};
 ghost use Rattle.cps_trail.specs.Trail.{IsInside};
-ghost use Rattle.cps_p_sequence.specs.Facts.{Adds};
+ghost use Rattle.cps_rule.specs.Facts.{Adds};
 
 use cps_literal::{Atom, Op, Truth};
 use cps_trail::Before;

@@ -7,7 +7,7 @@ ghost use Rattle.std.specs.Prelude.{◌≡◌, ◌↔◌, ◌-◌, ◌<◌, ◌�
 ghost use Rattle.cps_instance.specs.declared.task.Body.{Body as BodyOf};
 ghost use Rattle.cps_propagate.specs.Now.{IsOpenTo};
 ghost use Rattle.cps_propagate.specs.Strength.{IsEndNow};
-ghost use Rattle.cps_p_sequence.specs.Networks.{IsRising};
+ghost use Rattle.cps_model.specs.Rising.{IsRising};
 ghost use Rattle.cps_p_sequence.specs.Runs.{HasLabels, AreClosed, IsFrom, IsUpTo, IsNarrowAt, AllGiven, AllTrue};
 
 use crate::states::is_listed;

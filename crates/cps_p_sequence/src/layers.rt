@@ -4,7 +4,8 @@
 //! layered graph of G. Pesant, "A regular language membership constraint for finite sequences of variables" (CP
 //! 2004), with rows of marks in place of lists of arcs.
 ghost use Rattle.std.specs.Prelude.{◌≡◌, ◌↔◌, ◌-◌, ◌<◌, ◌≤◌, ℕ, false, length, drop, slice_index_or, Contains, All, OnOk, IfOk, IsTrue};
-ghost use Rattle.cps_p_sequence.specs.Networks.{IsRising, IsStepWithin, IsMarked};
+ghost use Rattle.cps_p_sequence.specs.Networks.{IsStepWithin, IsMarked};
+ghost use Rattle.cps_model.specs.Rising.{IsRising};
 ghost use Rattle.cps_p_sequence.specs.Runs.{AreTails, AreHeads, AreLabels, AreEnding, AreReached, AreRows, HasLabelsOf, IsNarrowed, IsLooked};
 
 use crate::keep::{is_open, keep_labels};

@@ -4,7 +4,8 @@
 //! state that is none of these has no number and needs none, since no run comes there.
 ghost use Rattle.std.specs.Prelude.{◌≡◌, ℕ, ◌<◌, ◌++◌, ◌∷◌, [], ℤ, length, map, Contains, All, IfOk, OnOk, IfSome, IsTrue, IsNone, IsPermutation, slice_index_or, false};
 ghost use Rattle.cps_model.specs.Sequences.{transitions};
-ghost use Rattle.cps_p_sequence.specs.Networks.{IsRising, IsNumberOf, IsStepWithin, AreFinals, named};
+ghost use Rattle.cps_p_sequence.specs.Networks.{IsNumberOf, IsStepWithin, AreFinals, named};
+ghost use Rattle.cps_model.specs.Rising.{IsRising};
 
 use cps_model::Transition;
 use std::alloc::{AllocError, Global};

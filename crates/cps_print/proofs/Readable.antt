@@ -25,7 +25,8 @@ use Rattle.cps_schema.specs.Tables.{use_of, content_of, is_given, model_message,
 use Rattle.cps_schema.specs.Texts.{scalar_tokens, is_string, joined, text_at}
 use Rattle.cps_schema.specs.Faults.{refused_at, name_fault, text_fault, fields_fault, values_fault}
 use Rattle.cps_schema.specs.Readings as readings
-use Rattle.cps_schema.specs.Readings.{first_or, first_of, value_numbers, value_texts, value_messages, messages, read_name, read_variable, read_literals, read_linear, read_kind, kinds_of, given_kinds, read_constraint, scaling_of, read_objective, read_expression, reference_expression, read_strategy, read_hint, read_model}
+use Rattle.cps_schema.specs.Readings.{first_or, first_of, value_numbers, value_texts, value_messages, messages, read_name, read_variable, read_literals, read_linear, read_kind, kinds_of, given_kinds, read_constraint, scaling_of, read_objective, read_expression, read_strategy, read_hint, read_model}
+use Rattle.cps_model.specs.Values.{reference_expression}
 use Rattle.cps_print.proofs.Digits.{and_true}
 
 abbrev pub Each : {X : Type 0} → (X → Type 0) → List X → Type 0

@@ -33,7 +33,8 @@ use Rattle.cps_schema.specs.Kinds.{field_name}
 use Rattle.cps_schema.specs.Members.{choose_of, select_of}
 use Rattle.cps_schema.specs.Faults.{has_kind, has_other_form}
 use Rattle.cps_schema.specs.Slots.{AreGiven}
-use Rattle.cps_schema.specs.Readings.{first_or, first_of, numbers, texts, members, messages, given_kinds, scaling_of, read_variable, read_constraint, read_objective, read_expression, reference_expression, read_strategy, read_hint}
+use Rattle.cps_schema.specs.Readings.{first_or, first_of, numbers, texts, members, messages, given_kinds, scaling_of, read_variable, read_constraint, read_objective, read_expression, read_strategy, read_hint}
+use Rattle.cps_model.specs.Values.{reference_expression}
 
 abbrev pub linear_from : Written → LinearParts → Tree → Kind
 linear_from w parts rest =

@@ -1,5 +1,5 @@
 -- Which model a document is read as.
-use Rattle.std.specs.Prelude.{◌≡◌, ℕ, suc, Bool, true, false, ◌||◌, if◌then◌else◌, List, [], ◌∷◌, ◌++◌, map, Option, Some, None, Result, Ok, Err, ℤ, pos, negsuc, zero, codes}
+use Rattle.std.specs.Prelude.{◌≡◌, ℕ, suc, Bool, false, ◌||◌, if◌then◌else◌, List, [], ◌∷◌, ◌++◌, map, Option, Some, None, Result, Ok, Err, ℤ, pos, negsuc, zero, codes}
 use Rattle.std.specs.Option.{unwrap_or}
 use Rattle.std.specs.Str.{bytes_eq}
 use Rattle.cps_textproto.specs.Trees.{Tree, no_fields, field, Values, no_values, scalar_value, message_value}
@@ -26,6 +26,7 @@ use Rattle.cps_schema.specs.Members.{member_at, choose_of, select_of}
 use Rattle.cps_schema.specs.Tables.{model_message}
 use Rattle.cps_schema.specs.Kinds.{kind_named}
 use Rattle.cps_schema.specs.Faults.{fields_fault}
+use Rattle.cps_model.specs.Values.{reference_expression}
 
 -- the first of a list, or another value where it is empty
 abbrev pub first_or : {X : Type 0} → X → List X → X
@@ -123,10 +124,6 @@ read_expression w tree = record {
   coeffs = numbers w (codes "coeffs") tree;
   offset = first_or (pos 0) (numbers w (codes "offset") tree);
 }
-
--- a reference as an expression
-abbrev pub reference_expression : ℤ → LinearExpr
-reference_expression reference = record { vars = reference ∷ []; coeffs = pos 1 ∷ []; offset = pos 0 }
 
 -- the expressions of all fields of a name
 abbrev pub expressions : Written → List ℕ → Tree → List LinearExpr

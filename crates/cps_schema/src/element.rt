@@ -4,7 +4,8 @@ ghost use Rattle.cps_textproto.specs.Trees.{tree_of};
 ghost use Rattle.cps_schema.specs.Sources.{written_of};
 ghost use Rattle.cps_schema.specs.Tables.{element_message};
 ghost use Rattle.cps_schema.specs.Faults.{fields_fault};
-ghost use Rattle.cps_schema.specs.Readings.{first_or, reference_expression, read_element};
+ghost use Rattle.cps_schema.specs.Readings.{first_or, read_element};
+ghost use Rattle.cps_model.specs.Values.{reference_expression};
 ghost use Rattle.cps_schema.specs.Answers.{Refuses};
 
 use super::error::SchemaError;

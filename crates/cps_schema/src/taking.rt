@@ -4,7 +4,8 @@
 //! the value that a field which is not given has. So a message of many fields is built by a few calls in the order of
 //! its lines.
 ghost use Rattle.std.specs.Prelude.{◌≡◌, [], ◌∷◌, ◌++◌, map, pos, false, IfSome, IfNone, IfOk};
-ghost use Rattle.cps_schema.specs.Readings.{first_or, no_expression, reference_expression};
+ghost use Rattle.cps_schema.specs.Readings.{first_or, no_expression};
+ghost use Rattle.cps_model.specs.Values.{reference_expression};
 ghost use Rattle.cps_schema.specs.Gathered.{held, left, behind_first, next};
 
 use super::expression::add_references;

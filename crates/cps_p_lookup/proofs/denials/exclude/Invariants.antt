@@ -2,7 +2,7 @@ use Rattle.std.proofs.Common.{◌≡◌, ℕ, ℤ, ◌<◌, List, length}
 use Rattle.cps_model.specs.Lookups.{row_at}
 use Rattle.cps_instance.specs.Parts.{values_at}
 use Rattle.cps_rule.specs.Rules.{AllTrueAt}
-use Rattle.cps_p_lookup.specs.Facts.{Grows, Denied}
+use Rattle.cps_rule.specs.Facts.{Grows, Denied}
 use Rattle.cps_p_lookup.proofs.denials.exclude.Given as goal
 
 abbrev pub invariant-loop-row : goal.invariant-loop-row

@@ -1,5 +1,5 @@
 use Rattle.std.proofs.Common.{ℕ, ◌<◌, pos, get_or}
-use Rattle.cps_p_lookup.specs.Facts.{Grows}
+use Rattle.cps_rule.specs.Facts.{Grows}
 use Rattle.cps_p_lookup.specs.Tabling.{IsSure}
 use Rattle.cps_p_lookup.proofs.denials.fix_row.Given as goal
 

@@ -1,7 +1,7 @@
 use Rattle.std.proofs.Common.{sym, ◌∙◌, Option, subst}
 use Rattle.std.proofs.lemmas.Int.{to_z-of_z}
 use Rattle.cps_literal.specs.declared.atom.Atom.{Atom}
-use Rattle.cps_p_sequence.specs.Facts.{Denied}
+use Rattle.cps_rule.specs.Facts.{Denied}
 use Rattle.cps_p_sequence.proofs.Cutting.{denied_out}
 use Rattle.cps_p_sequence.proofs.cuts.is_denied.Goals as goal
 

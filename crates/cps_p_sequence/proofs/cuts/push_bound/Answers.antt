@@ -1,7 +1,7 @@
 use Rattle.std.proofs.Common.{◌∙◌, Ok, refl, sym, ap}
 use Rattle.cps_literal.specs.declared.atom.Atom.{Atom}
 use Rattle.cps_literal.specs.Truth.{atom_holds}
-use Rattle.cps_p_sequence.specs.Facts.{Adds}
+use Rattle.cps_rule.specs.Facts.{Adds}
 use Rattle.cps_p_sequence.proofs.Growing.{adds_grows, adds_holds, grows_same}
 use Rattle.cps_p_sequence.proofs.cuts.push_bound.Goals as goal
 

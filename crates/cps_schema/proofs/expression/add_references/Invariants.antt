@@ -1,5 +1,5 @@
 use Rattle.std.specs.Prelude.{◌≡◌, ◌++◌, map, drop}
-use Rattle.cps_schema.specs.Readings.{reference_expression}
+use Rattle.cps_model.specs.Values.{reference_expression}
 use Rattle.cps_schema.proofs.expression.add_references.Given as goal
 
 abbrev pub invariant-loop-reference : goal.invariant-loop-reference

@@ -6,7 +6,8 @@ use Rattle.std.proofs.lemmas.List.{length-map}
 use Rattle.std.proofs.lemmas.Result.{on_ok_weaker}
 use Rattle.std.proofs.lemmas.List.Elements.{All-tail}
 use Rattle.cps_model.specs.declared.model.LinearExpr.{LinearExpr}
-use Rattle.cps_instance.specs.Posting.{reference_expression, expressions_of}
+use Rattle.cps_instance.specs.Posting.{expressions_of}
+use Rattle.cps_model.specs.Values.{reference_expression}
 use Rattle.cps_instance.specs.Strategies.{KeepsRules, Numbers}
 use Rattle.cps_instance.proofs.Agreeing.{All-append_left, All-append_right}
 use Rattle.cps_instance.proofs.Drafting.{numbers_rules, numbers_room, numbers_both}

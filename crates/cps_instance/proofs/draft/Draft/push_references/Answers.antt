@@ -1,6 +1,6 @@
 -- One more reference has its subject.
 use Rattle.std.proofs.Common.{rules, ◌≡◌, ◌<◌, take, map, get_or, pos, length, arith}
-use Rattle.cps_instance.specs.Posting.{reference_expression}
+use Rattle.cps_model.specs.Values.{reference_expression}
 use Rattle.cps_instance.proofs.Drafting.{numbers_none, reference_keeps, reference_room, numbers_reference}
 use Rattle.cps_instance.proofs.draft.Draft.push_references.Goals as goal
 

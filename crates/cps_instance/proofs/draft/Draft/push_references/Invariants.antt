@@ -1,6 +1,6 @@
 -- The subjects so far.
 use Rattle.std.proofs.Common.{take, map}
-use Rattle.cps_instance.specs.Posting.{reference_expression}
+use Rattle.cps_model.specs.Values.{reference_expression}
 use Rattle.cps_instance.specs.Strategies.{Numbers}
 use Rattle.cps_instance.proofs.draft.Draft.push_references.Given as goal
 

@@ -1,4 +1,4 @@
--- Lists of plain numbers.
+-- Lists of whole numbers that rise.
 use Rattle.std.specs.Prelude.{ℕ, ◌<◌, ℤ, pos, ◌<ℤ◌, List, length, slice_index_or}
 
 -- each number is greater than those before it
