@@ -34,31 +34,31 @@ term-subjects n m (t ∷ ts) l h =
 abbrev pub beginning : Search → Form → ℤ → CoreSearch
 beginning t f greatest = record { search = t; form = f; sums = 0; greatest = greatest; raised = None; ended = false }
 
-module _ (p : Problem) (gap budget : ℕ) (s t : Search) (ts : List Term) (f : Form) (greatest : ℤ) (is : s ≡ fresh p gap (Some budget)) (grew : OnlyGrew s t (length ts)) (sound : IsSoundSearch t) (first : IsFirstForm t.problem ts f) (base : unsigned_abs f.base < 2 ^ 62)
-    (terms : ts ≡ objective_terms p.model.objective) (most : greatest ≡ greatest_of_terms t.problem.domains ts) (few : length p.domains < 2 ^ 30) where
+module _ (p : Problem) (gap budget : ℕ) (s t : Search) (ts : List Term) (f : Form) (greatest : ℤ) (is : s ≡ fresh p gap (Some budget)) (grew : OnlyGrew s t (length ts)) (sound : IsSoundSearch t) (first : IsFirstForm t.instance ts f) (base : unsigned_abs f.base < 2 ^ 62)
+    (terms : ts ≡ objective_terms p.model.objective) (most : greatest ≡ greatest_of_terms t.instance.domains ts) (few : length p.domains < 2 ^ 30) where
   from_fresh : OnlyGrew (fresh p gap (Some budget)) t (length ts)
   from_fresh = subst (λ (x : Search). OnlyGrew x t (length ts)) is grew
 
-  pub new-fresh : t ≡ fresh t.problem gap (Some budget)
+  pub new-fresh : t ≡ fresh t.instance gap (Some budget)
   new-fresh = from_fresh.is_fresh refl
 
-  here : ts ≡ objective_terms t.problem.model.objective
+  here : ts ≡ objective_terms t.instance.model.objective
   here = terms ∙ ap (λ (m : CpModel). objective_terms m.objective) (sym from_fresh.model)
 
-  no_entries : length t.trail.entries ≡ 0
-  no_entries = ap (λ (x : Search). length x.trail.entries) new-fresh
+  no_entries : length t.store.entries ≡ 0
+  no_entries = ap (λ (x : Search). length x.store.entries) new-fresh
 
   pub new-sound : IsSoundCore (beginning t f greatest)
   new-sound = record {
     search = sound;
-    form = first-reform t.problem t.z f sound.instance (subst (λ (us : List Term). IsFirstForm t.problem us f) here first);
+    form = first-reform t.instance t.z f sound.instance (subst (λ (us : List Term). IsFirstForm t.instance us f) here first);
     base = base;
-    greatest = most ∙ ap (λ (us : List Term). greatest_of_terms t.problem.domains us) here;
+    greatest = most ∙ ap (λ (us : List Term). greatest_of_terms t.instance.domains us) here;
     assumes = λ none. record { each = λ k d l decided. absurd (omega (arith, l, no_entries)) };
     few = omega arith;
     room =
         let more = from_fresh.few in
-        let terms_few = (terms-of t.problem ts sound.instance here).few in
+        let terms_few = (terms-of t.instance ts sound.instance here).few in
         omega (arith, more, terms_few, few);
     raised = tt;
     ended = λ e. absurd (cc e);
@@ -66,9 +66,9 @@ module _ (p : Problem) (gap budget : ℕ) (s t : Search) (ts : List Term) (f : F
 
   pub new-begins : BeginsCore p gap budget (beginning t f greatest)
   new-begins = record {
-    problem = from_fresh.model;
+    instance = from_fresh.model;
     search = new-fresh;
-    first = subst (λ (us : List Term). IsFirstForm t.problem us f) terms first;
+    first = subst (λ (us : List Term). IsFirstForm t.instance us f) terms first;
     sound = new-sound;
     sums = refl;
     raised = refl;
@@ -78,7 +78,7 @@ module _ (p : Problem) (gap budget : ℕ) (s t : Search) (ts : List Term) (f : F
   pub new-works : (scope : Scope) (agrees : ℕ → Type 0) → IsScopeOf p scope → budget ≤ 10 ^ 9 → agrees 0 → IsCoreWorking (beginning t f greatest) scope agrees 0
   new-works scope agrees of small agreed = record {
     sound = new-sound;
-    of_problem = scope-grown p t.problem scope from_fresh.model from_fresh.longer of;
+    of_problem = scope-grown p t.instance scope from_fresh.model from_fresh.longer of;
     budget = subst (λ (x : Search). IfSome x.budget (λ b. b ≤ 10 ^ 9)) (sym new-fresh) small;
     has_budget = subst (λ (x : Search). IsSome x.budget) (sym new-fresh) refl;
     few = (let none = ap (λ (x : Search). x.imported) new-fresh in omega (arith, none));

@@ -74,17 +74,17 @@ sound-whole s h =
       within_budget = k.within_budget;
       count = k.count;
       best = found-whole s s.search.best k.best;
-      raised = raised-whole s.search.problem.model s.search.raised s.raised k.raised h.raised;
+      raised = raised-whole s.search.instance.model s.search.raised s.raised k.raised h.raised;
       said = said-so s h;
     }
 
 -- ---- it is honest
 -- a search that began alike, over the same model, moved alike
-moves-begun : (a b t : Search) (p q : Part) → b.z ≡ a.z → b.problem.model ≡ a.problem.model → b.best ≡ a.best → b.raised ≡ a.raised → b.imported ≡ a.imported → MovesWith a t p q → MovesWith b t p q
+moves-begun : (a b t : Search) (p q : Part) → b.z ≡ a.z → b.instance.model ≡ a.instance.model → b.best ≡ a.best → b.raised ≡ a.raised → b.imported ≡ a.imported → MovesWith a t p q → MovesWith b t p q
 moves-begun a b t p q z model best raised imported h = record {
   falls = subst (λ (x : Bound). BoundLe t.z x) (sym z) h.falls;
   follows = λ above. h.follows (subst (λ (x : Bound). BoundLe p.bounds.saw_upper x) z above);
-  offers = λ before was. h.offers before (was ∙ ap (λ (m : CpModel). lesser before (best_bound m b.best)) model ∙ ap (λ (o : Option (List ℤ)). lesser before (best_bound a.problem.model o)) best);
+  offers = λ before was. h.offers before (was ∙ ap (λ (m : CpModel). lesser before (best_bound m b.best)) model ∙ ap (λ (o : Option (List ℤ)). lesser before (best_bound a.instance.model o)) best);
   raises = λ before was. h.raises before (was ∙ ap (λ (o : Option Bound). greater_of before o) raised);
   imports = λ few. h.imports (omega (arith, few, imported));
 }
@@ -95,7 +95,7 @@ some-is a b e = cc
 within-some : (budget : Option ℕ) (b tally : ℕ) → budget ≡ Some b → IfSome budget (λ n. tally ≤ n) → tally ≤ b
 within-some budget b tally e h = subst (λ (o : Option ℕ). IfSome o (λ n. tally ≤ n)) e h
 
-why-of : (t : Search) (gap budget : ℕ) (q : BoundsPart) (end last : End) → t.gap ≡ gap → t.budget ≡ Some budget → EndsBy t q end → IsWhy t.problem gap budget t.z q (ending CoreGuided None last t) end
+why-of : (t : Search) (gap budget : ℕ) (q : BoundsPart) (end last : End) → t.gap ≡ gap → t.budget ≡ Some budget → EndsBy t q end → IsWhy t.instance gap budget t.z q (ending CoreGuided None last t) end
 why-of t gap budget q ends.Exhausted last e b h = (h.raise, h.raised, h.at_least)
 why-of t gap budget q ends.SawClosed last e b h = subst (λ (n : ℕ). LastSawMet n q) e h
 why-of t gap budget q (ends.Spent clause below) last e b h = (some-is t.tally budget (sym h.budget ∙ b), subst (λ (z : Bound). BoundLe t.z z) (sym h.below_is) (BoundLe-refl t.z), h.honest, tt)
@@ -106,13 +106,13 @@ pub core-honest : {B : Type 0} (chooses : B → Trail → Option Atom → Type 0
     → IsHonestEnding p.model gap budget q.bounds (core_ending end t.0)
 core-honest chooses hears stays p gap budget rows s t part q end begins h before sound offered raised =
     let runs : RunsCoreTo s.0 t.0 part q end = core-turns-run chooses hears stays rows s t part q end h before in
-    let g = t.0.search.problem in
+    let g = t.0.search.instance in
     let new = fresh g gap (Some budget) in
     let was = begins.search in
     let capped : t.0.search.budget ≡ Some budget = runs.setting.budget ∙ ap (λ (x : Search). x.budget) was in
     let moves : MovesWith new (whole t.0) part q =
     moves-begun (whole s.0) new (whole t.0) part q (sym (ap (λ (x : Search). x.z) was)) runs.setting.model (sym (ap (λ (x : Search). x.best) was))
     (sym (ap (λ (o : Option Bound). greater_of s.0.search.raised o) begins.raised ∙ ap (λ (x : Search). x.raised) was)) (sym (ap (λ (x : Search). x.imported) was)) runs.moves in
-    subst (λ (m : CpModel). IsHonestEnding m gap budget q.bounds (core_ending end t.0)) (runs.setting.model ∙ begins.problem)
+    subst (λ (m : CpModel). IsHonestEnding m gap budget q.bounds (core_ending end t.0)) (runs.setting.model ∙ begins.instance)
     (honest_by g gap budget (Some budget) (whole t.0) part q CoreGuided None end refl moves (sound-whole t.0 sound) offered raised (within-some t.0.search.budget budget t.0.search.tally capped sound.search.within_budget)
     (why-of (whole t.0) gap budget q.bounds end end (runs.setting.gap ∙ ap (λ (x : Search). x.gap) was) capped runs.why))

@@ -83,14 +83,14 @@ steps_left s = (conflicts_left s.search * (2 ^ 63 + 1) + height s.search.z) * (2
 
 -- what is left of a core-guided worker: conflicts to learn from, the bound z, how far the base can rise, rows to take, and open values
 abbrev pub core_left : CoreSearch → ℕ → BoardPart → ℕ
-core_left s rows p = (steps_left s * (rows + 1) + (rows - length p.taken)) * (2 ^ 94 + 1) + open_values s.search.trail.first s.search.trail.entries
+core_left s rows p = (steps_left s * (rows + 1) + (rows - length p.taken)) * (2 ^ 94 + 1) + open_values s.search.store.first s.search.store.entries
 
 module _ (s t : CoreSearch) (rows : ℕ) (p q : BoardPart) (before : IsSoundCore s) (after : IsSoundCore t) (setting : SameCoreSetting s t) where
-  few_open : open_values t.search.trail.first t.search.trail.entries < 2 ^ 94 + 1
+  few_open : open_values t.search.store.first t.search.store.entries < 2 ^ 94 + 1
   few_open =
       let domains = after.search.instance.domains in
-      let most = open-most t.search.problem.domains t.search.trail.entries domains.sound domains.few in
-      let same = ap (λ (ds : Domains). open_values ds t.search.trail.entries) after.search.domains in
+      let most = open-most t.search.instance.domains t.search.store.entries domains.sound domains.few in
+      let same = ap (λ (ds : Domains). open_values ds t.search.store.entries) after.search.domains in
       omega (arith, most, same)
 
   few_rows : rows - length q.taken < rows + 1
@@ -120,7 +120,7 @@ module _ (s t : CoreSearch) (rows : ℕ) (p q : BoardPart) (before : IsSoundCore
   -- where the steps that are left get fewer, all does
   by_steps : steps_left t < steps_left s → core_left t rows q < core_left s rows p
   by_steps less =
-      first_less (steps_left s * (rows + 1) + (rows - length p.taken)) (steps_left t * (rows + 1) + (rows - length q.taken)) (open_values s.search.trail.first s.search.trail.entries) (open_values t.search.trail.first t.search.trail.entries) (2 ^ 94 + 1)
+      first_less (steps_left s * (rows + 1) + (rows - length p.taken)) (steps_left t * (rows + 1) + (rows - length q.taken)) (open_values s.search.store.first s.search.store.entries) (open_values t.search.store.first t.search.store.entries) (2 ^ 94 + 1)
       (first_less (steps_left s) (steps_left t) (rows - length p.taken) (rows - length q.taken) (rows + 1) less few_rows) few_open
 
   by_z : conflicts_left t.search * (2 ^ 63 + 1) + height t.search.z < conflicts_left s.search * (2 ^ 63 + 1) + height s.search.z → core_left t rows q < core_left s rows p
@@ -140,8 +140,8 @@ module _ (s t : CoreSearch) (rows : ℕ) (p q : BoardPart) (before : IsSoundCore
       by_steps (second_less (conflicts_left s.search * (2 ^ 63 + 1) + height s.search.z) (conflicts_left t.search * (2 ^ 63 + 1) + height t.search.z) (rise_left s.form.base) (rise_left t.form.base) (2 ^ 63 + 1) (z_most e falls)
       (rise_less s.form.base t.form.base before.base after.base more))
   core_lowered (fewer_rows e falls same within more) =
-      first_less (steps_left s * (rows + 1) + (rows - length p.taken)) (steps_left t * (rows + 1) + (rows - length q.taken)) (open_values s.search.trail.first s.search.trail.entries) (open_values t.search.trail.first t.search.trail.entries) (2 ^ 94 + 1)
+      first_less (steps_left s * (rows + 1) + (rows - length p.taken)) (steps_left t * (rows + 1) + (rows - length q.taken)) (open_values s.search.store.first s.search.store.entries) (open_values t.search.store.first t.search.store.entries) (2 ^ 94 + 1)
       (second_less (steps_left s) (steps_left t) (rows - length p.taken) (rows - length q.taken) (rows + 1) (steps_most e falls same) (omega (arith, within, more))) few_open
   core_lowered (fewer_values e falls same taken less) =
-      second_less (steps_left s * (rows + 1) + (rows - length p.taken)) (steps_left t * (rows + 1) + (rows - length q.taken)) (open_values s.search.trail.first s.search.trail.entries) (open_values t.search.trail.first t.search.trail.entries) (2 ^ 94 + 1)
+      second_less (steps_left s * (rows + 1) + (rows - length p.taken)) (steps_left t * (rows + 1) + (rows - length q.taken)) (open_values s.search.store.first s.search.store.entries) (open_values t.search.store.first t.search.store.entries) (2 ^ 94 + 1)
       (both_most (steps_left s) (steps_left t) (rows - length p.taken) (rows - length q.taken) (rows + 1) (steps_most e falls same) (omega (arith, taken))) less

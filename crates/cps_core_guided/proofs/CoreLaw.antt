@@ -83,9 +83,9 @@ module _ (s : CoreSearch) (g : Form) (place : ℕ) (decisions : List Atom) (h : 
       ap (atom_holds xs) a.is ∙ core-true xs none a.place a.within ((m.terms.core a.place a.within).1 (record { weighs = a.weighs; led_to = inr there }))
 
   -- the law of a core
-  pub core-some : OfEachBelow s.search.problem s.search.z (λ xs. IsSomeAbove xs g.terms)
+  pub core-some : OfEachBelow s.search.instance s.search.z (λ xs. IsSomeAbove xs g.terms)
   core-some a solution below =
-      let xs = extended s.search.problem.defs a in
+      let xs = extended s.search.instance.defs a in
       elim (some-or-none xs g.terms) [
         | inl some ↦ some
         | inr none ↦ absurd (
@@ -146,9 +146,9 @@ only-above xs (t ∷ ts) (suc i) l core one h =
 
 -- so its bound can rise by 1
 pub risen-alone : (s : CoreSearch) (g : Form) (place : ℕ) (decisions : List Atom) → HasFailed s place decisions → IsMarked s.form g place decisions → length (core_terms g.terms) ≡ 1
-    → OfEachBelow s.search.problem s.search.z (λ xs. ((term_at g.terms place).bound +ℤ pos 1) ≤ℤ value_at xs (term_at g.terms place).subject)
+    → OfEachBelow s.search.instance s.search.z (λ xs. ((term_at g.terms place).bound +ℤ pos 1) ≤ℤ value_at xs (term_at g.terms place).subject)
 risen-alone s g place decisions h m one a solution below =
     let e = m.terms.same_length in
     let w = h.within in
-    let over = only-above (extended s.search.problem.defs a) g.terms place (omega (arith, e, w)) (core-has-failed s g place decisions h m) one (core-some s g place decisions h m a solution below) in
+    let over = only-above (extended s.search.instance.defs a) g.terms place (omega (arith, e, w)) (core-has-failed s g place decisions h m) one (core-some s g place decisions h m a solution below) in
     omega (arith, ints, over)

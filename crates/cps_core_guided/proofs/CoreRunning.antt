@@ -39,7 +39,7 @@ frame-raised t h =
     let most = most-first h.raise t.raised t.search.z h.at_least in
     record { none_below = h.none_below; raise = most.0; raised = ap (λ (o : Option Bound). greater_of o t.raised) h.raised ∙ most.1; at_least = most.2 }
 
-own-raised : (m t : CoreSearch) → NoneBelow t.search.problem.model t.search.z → t.raised ≡ raised_to m.raised t.search.z → RaisedToZ (whole t)
+own-raised : (m t : CoreSearch) → NoneBelow t.search.instance.model t.search.z → t.raised ≡ raised_to m.raised t.search.z → RaisedToZ (whole t)
 own-raised m t none raised =
     let own = raised-most m.raised t.search.z in
     let most = most-second t.search.raised own.0 t.search.z own.2 in

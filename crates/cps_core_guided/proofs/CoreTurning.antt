@@ -45,7 +45,7 @@ pub setting-core : (a b c : CoreSearch) → SameCoreSetting a b → SameCoreSett
 setting-core a b c h k = record { model = k.model ∙ h.model; gap = k.gap ∙ h.gap; budget = k.budget ∙ h.budget; refused = k.refused ∙ h.refused; greatest = k.greatest ∙ h.greatest }
 
 pub setting-frame : (s t : CoreSearch) → t ≡ record s { search = t.search } → SameSetting s.search t.search → SameCoreSetting s t
-setting-frame s t is h = record { model = ap (λ (p : Problem). p.model) h.problem; gap = h.gap; budget = h.budget; refused = h.refused; greatest = ap (λ (x : CoreSearch). x.greatest) is }
+setting-frame s t is h = record { model = ap (λ (p : Problem). p.model) h.instance; gap = h.gap; budget = h.budget; refused = h.refused; greatest = ap (λ (x : CoreSearch). x.greatest) is }
 
 -- a turn of the frame alone is no decision
 pub frame-not-decided : (s t : Search) (rows : ℕ) (p q : Part) (turn : Turn) → Caused s t rows p q (Some turn) → turn ≡ turns.Decided → ⊥
@@ -91,7 +91,7 @@ same-but s m t x ms is = is ∙ ap (λ (c : CoreSearch). record c { search = x }
 turn-decides : (chooses : Trail → Option Atom → Type 0) (s m t : CoreSearch) (rows : ℕ) (p o q : Part) → s.ended ≡ false → IsSome s.search.budget → IsSoundSearch s.search → Steps s.search m.search rows p o None → m ≡ record s { search = m.search }
     → DecidesFrom chooses m t o q → TakesCoreTurn chooses s t rows p q turns.Decided
 turn-decides chooses s m t rows p o q off has sound steps ms d =
-    let x = moved m.search (decided m.search.trail d.atom) m.search.rested in
+    let x = moved m.search (decided m.search.store d.atom) m.search.rested in
     let is = same-but s m t x ms d.is in
     let decides : Decides (λ c a. a ≡ Some d.atom) m.search t.search = record { atom = d.atom; undecided = d.undecided; chosen = refl; is = ap (λ (c : CoreSearch). c.search) d.is } in
     let h = turn_decided (λ c a. a ≡ Some d.atom) s.search m.search t.search rows p o has sound steps decides in

@@ -35,11 +35,11 @@ scope-grown p q scope model longer h =
     record { variables_are = h.variables_are ∙ sym (ap (λ (m : CpModel). length m.variables) model); subjects_within = omega (arith, longer, within) }
 
 -- a worker goes on, over the same problem or over one with more sums
-pub works-core : (s t : CoreSearch) (scope scope' : Scope) (agrees agrees' : ℕ → Type 0) (kept kept' : ℕ) → IsCoreWorking s scope agrees kept → IsSoundCore t → SameCoreSetting s t → length s.search.problem.domains ≤ length t.search.problem.domains → scope' ≡ scope
-    → t.search.imported ≤ 4096 → kept' ≤ length t.search.trail.entries → agrees' kept' → IsCoreWorking t scope' agrees' kept'
+pub works-core : (s t : CoreSearch) (scope scope' : Scope) (agrees agrees' : ℕ → Type 0) (kept kept' : ℕ) → IsCoreWorking s scope agrees kept → IsSoundCore t → SameCoreSetting s t → length s.search.instance.domains ≤ length t.search.instance.domains → scope' ≡ scope
+    → t.search.imported ≤ 4096 → kept' ≤ length t.search.store.entries → agrees' kept' → IsCoreWorking t scope' agrees' kept'
 works-core s t scope scope' agrees agrees' kept kept' h sound setting longer same few within agreed = record {
   sound = sound;
-  of_problem = subst (λ (x : Scope). IsScopeOf t.search.problem x) (sym same) (scope-grown s.search.problem t.search.problem scope setting.model longer h.of_problem);
+  of_problem = subst (λ (x : Scope). IsScopeOf t.search.instance x) (sym same) (scope-grown s.search.instance t.search.instance scope setting.model longer h.of_problem);
   budget = subst (λ (b : Option ℕ). IfSome b (λ budget. budget ≤ 10 ^ 9)) (sym setting.budget) h.budget;
   has_budget = subst (λ (b : Option ℕ). IsSome b) (sym setting.budget) h.has_budget;
   few = few;
@@ -57,42 +57,42 @@ same-grown p scope s t kept added of first more entries = record {
 }
 
 -- a decision that is an assumption, or that is made where all of them are true
-pub works-decided : (s : CoreSearch) (t : Search) (a : Atom) (scope scope' : Scope) (agrees agrees' : ℕ → Type 0) (kept kept' : ℕ) → IsCoreWorking s scope agrees kept → IsSoundSearch t → t ≡ moved s.search (decided s.search.trail a) s.search.rested
-    → (s.sums < most_sums → IsAssumption s.form.terms a ⊎ AreAssumed s.search.trail.first s.search.trail.entries s.form.terms) → scope' ≡ scope → kept' ≤ length s.search.trail.entries → agrees' kept' → IsCoreWorking (record s { search = t }) scope' agrees' kept'
+pub works-decided : (s : CoreSearch) (t : Search) (a : Atom) (scope scope' : Scope) (agrees agrees' : ℕ → Type 0) (kept kept' : ℕ) → IsCoreWorking s scope agrees kept → IsSoundSearch t → t ≡ moved s.search (decided s.search.store a) s.search.rested
+    → (s.sums < most_sums → IsAssumption s.form.terms a ⊎ AreAssumed s.search.store.first s.search.store.entries s.form.terms) → scope' ≡ scope → kept' ≤ length s.search.store.entries → agrees' kept' → IsCoreWorking (record s { search = t }) scope' agrees' kept'
 works-decided s t a scope scope' agrees agrees' kept kept' h sound is new same within agreed =
-    let e : Entry = record { atom = a; level = s.search.trail.level + 1; reason = Decision } in
-    let size : length t.trail.entries ≡ length s.search.trail.entries + 1 = ap (λ (x : Search). length x.trail.entries) is ∙ length-append s.search.trail.entries (e ∷ []) in
+    let e : Entry = record { atom = a; level = s.search.store.level + 1; reason = Decision } in
+    let size : length t.store.entries ≡ length s.search.store.entries + 1 = ap (λ (x : Search). length x.store.entries) is ∙ length-append s.search.store.entries (e ∷ []) in
     let few = h.few in
     let imported : t.imported ≡ s.search.imported = ap (λ (x : Search). x.imported) is in
-    let longer : length t.problem.domains ≡ length s.search.problem.domains = ap (λ (x : Search). length x.problem.domains) is in
+    let longer : length t.instance.domains ≡ length s.search.instance.domains = ap (λ (x : Search). length x.instance.domains) is in
     works-core s (record s { search = t }) scope scope' agrees agrees' kept kept' h (sound-decided s t a h.sound sound is new)
-    (record { model = ap (λ (x : Search). x.problem.model) is; gap = ap (λ (x : Search). x.gap) is; budget = ap (λ (x : Search). x.budget) is; refused = ap (λ (x : Search). x.refused) is; greatest = refl })
+    (record { model = ap (λ (x : Search). x.instance.model) is; gap = ap (λ (x : Search). x.gap) is; budget = ap (λ (x : Search). x.budget) is; refused = ap (λ (x : Search). x.refused) is; greatest = refl })
     (omega (arith, longer)) same (omega (arith, few, imported)) (omega (arith, within, size)) agreed
 
 -- a sum more at level 0, with a form over it
-pub works-grown : (s : CoreSearch) (t : Search) (f : Form) (sum : DefinedSum) (subject : ℕ) (scope : Scope) (agrees : Trail → ℕ → Type 0) (kept : ℕ) → IsCoreWorking s scope (agrees s.search.trail) kept → s.sums < most_sums → IsSoundSearch t → GrewBy s.search t sum subject
-    → IsReform t.problem t.z f → unsigned_abs f.base < 2 ^ 62 → IsSound t.trail → t.trail.level ≡ 0 → (AreSameUpTo scope.subjects kept s.search.trail t.trail → agrees s.search.trail kept → agrees t.trail kept)
-    → IsCoreWorking (record s { search = t; form = f; sums = s.sums + 1 }) scope (agrees t.trail) kept
+pub works-grown : (s : CoreSearch) (t : Search) (f : Form) (sum : DefinedSum) (subject : ℕ) (scope : Scope) (agrees : Trail → ℕ → Type 0) (kept : ℕ) → IsCoreWorking s scope (agrees s.search.store) kept → s.sums < most_sums → IsSoundSearch t → GrewBy s.search t sum subject
+    → IsReform t.instance t.z f → unsigned_abs f.base < 2 ^ 62 → IsSound t.store → t.store.level ≡ 0 → (AreSameUpTo scope.subjects kept s.search.store t.store → agrees s.search.store kept → agrees t.store kept)
+    → IsCoreWorking (record s { search = t; form = f; sums = s.sums + 1 }) scope (agrees t.store) kept
 works-grown s t f sum subject scope agrees kept h few sound grew reform small store bottom on =
     let d = grew.defines in
     let is = grew.is in
-    let longer : length t.problem.domains ≡ length s.search.problem.domains + 1 = ap (λ (ds : Domains). length ds) d.domains ∙ length-append s.search.problem.domains (d.added ∷ []) in
+    let longer : length t.instance.domains ≡ length s.search.instance.domains + 1 = ap (λ (ds : Domains). length ds) d.domains ∙ length-append s.search.instance.domains (d.added ∷ []) in
     let imported : t.imported ≡ s.search.imported = ap (λ (x : Search). x.imported) is in
-    let entries : t.trail.entries ≡ s.search.trail.entries = ap (λ (x : Search). x.trail.entries) is in
+    let entries : t.store.entries ≡ s.search.store.entries = ap (λ (x : Search). x.store.entries) is in
     let size = ap (λ (es : List Entry). length es) entries in
     let within = h.within in
     let most = h.few in
-    works-core s (record s { search = t; form = f; sums = s.sums + 1 }) scope scope (agrees s.search.trail) (agrees t.trail) kept kept h
+    works-core s (record s { search = t; form = f; sums = s.sums + 1 }) scope scope (agrees s.search.store) (agrees t.store) kept kept h
     (sound-grown s t f sum subject h.sound few sound grew reform small store bottom)
     (record { model = d.model; gap = ap (λ (x : Search). x.gap) is; budget = ap (λ (x : Search). x.budget) is; refused = ap (λ (x : Search). x.refused) is; greatest = refl })
     (omega (arith, longer)) refl (omega (arith, most, imported)) (omega (arith, within, size))
-    (on (same-grown s.search.problem scope s.search.trail t.trail kept d.added h.of_problem h.sound.search.domains (ap (λ (x : Search). x.trail.first) is ∙ d.domains) entries) h.agreed)
+    (on (same-grown s.search.instance scope s.search.store t.store kept d.added h.of_problem h.sound.search.domains (ap (λ (x : Search). x.store.first) is ∙ d.domains) entries) h.agreed)
 
 -- a step of the frame, after which the last entries may go
-pub works-frame : (s : CoreSearch) (t : Search) (scope scope' : Scope) (agrees agrees' : ℕ → Type 0) (kept kept' : ℕ) → IsCoreWorking s scope agrees kept → IsSoundSearch t → SameSetting s.search t → BoundLe t.z s.search.z → GoesOnAndBack s.search.trail t.trail → scope' ≡ scope
-    → t.imported ≤ 4096 → kept' ≤ length t.trail.entries → agrees' kept' → IsCoreWorking (record s { search = t }) scope' agrees' kept'
+pub works-frame : (s : CoreSearch) (t : Search) (scope scope' : Scope) (agrees agrees' : ℕ → Type 0) (kept kept' : ℕ) → IsCoreWorking s scope agrees kept → IsSoundSearch t → SameSetting s.search t → BoundLe t.z s.search.z → GoesOnAndBack s.search.store t.store → scope' ≡ scope
+    → t.imported ≤ 4096 → kept' ≤ length t.store.entries → agrees' kept' → IsCoreWorking (record s { search = t }) scope' agrees' kept'
 works-frame s t scope scope' agrees agrees' kept kept' h sound setting falls store same few within agreed =
-    let longer : length t.problem.domains ≡ length s.search.problem.domains = ap (λ (p : Problem). length p.domains) setting.problem in
-    works-core s (record s { search = t }) scope scope' agrees agrees' kept kept' h (sound-stepped s t h.sound sound setting.problem falls store)
-    (record { model = ap (λ (p : Problem). p.model) setting.problem; gap = setting.gap; budget = setting.budget; refused = setting.refused; greatest = refl })
+    let longer : length t.instance.domains ≡ length s.search.instance.domains = ap (λ (p : Problem). length p.domains) setting.instance in
+    works-core s (record s { search = t }) scope scope' agrees agrees' kept kept' h (sound-stepped s t h.sound sound setting.instance falls store)
+    (record { model = ap (λ (p : Problem). p.model) setting.instance; gap = setting.gap; budget = setting.budget; refused = setting.refused; greatest = refl })
     (omega (arith, longer)) same few within agreed

@@ -32,17 +32,17 @@ pub sound-bottom : (s : CoreSearch) (bottom : Trail) (rest : Rest) → IsSoundCo
 sound-bottom s bottom rest h sound store level = sound-search s (moved s.search bottom rest) h sound refl (BoundLe-refl s.search.z) (λ few. assumes-bottom bottom s.form.terms store level)
 
 -- the decisions behind the assumption that failed are assumptions
-pub has-failed : (s : CoreSearch) (bottom : Trail) (rest : Rest) (place : ℕ) (decisions : List Atom) → IsSoundCore s → IsSound s.search.trail → s.sums < most_sums → IsFailed s.search.trail s.form.terms place → bottom.level ≡ 0
+pub has-failed : (s : CoreSearch) (bottom : Trail) (rest : Rest) (place : ℕ) (decisions : List Atom) → IsSoundCore s → IsSound s.search.store → s.sums < most_sums → IsFailed s.search.store s.form.terms place → bottom.level ≡ 0
     → AreBehindIn s.search (assumed (term_at s.form.terms place)) decisions → HasFailed (record s { search = moved s.search bottom rest }) place decisions
 has-failed s bottom rest place decisions h store few failed level behind =
-    let inside : (term_at s.form.terms place).subject < length s.search.trail.first = subst (λ (ds : Domains). (term_at s.form.terms place).subject < length ds) (sym h.search.domains) (h.form.roomy.terms place no_term failed.within).subject in
+    let inside : (term_at s.form.terms place).subject < length s.search.store.first = subst (λ (ds : Domains). (term_at s.form.terms place).subject < length ds) (sym h.search.domains) (h.form.roomy.terms place no_term failed.within).subject in
     record {
       few = few;
       within = failed.within;
       weighs = failed.weighs;
       bottom = level;
       said = refl;
-      assumptions = assumptions-behind _ s.search.trail s.form.terms place (assumed (term_at s.form.terms place)) decisions store (h.assumes few) failed inside behind.each;
+      assumptions = assumptions-behind _ s.search.store s.form.terms place (assumed (term_at s.form.terms place)) decisions store (h.assumes few) failed inside behind.each;
       false_there = λ a solution below decided. behind.enough a solution.free below decided;
     }
 
@@ -51,7 +51,7 @@ raises-from : (m v t : CoreSearch) (p q : Part) (bound : Bound) → v.raised ≡
 raises-from m v t p q bound same r = record { raised = r.raised ∙ ap (λ (o : Option Bound). raised_to o bound) same; seen = r.seen; at_least = r.at_least; told = r.told; board = r.board }
 
 module _ (m v : CoreSearch) (bottom : Trail) (rest : Rest) (place : ℕ) (decisions : List Atom) (done : Bool) (h : Tried (record m { search = moved m.search bottom rest }) v place decisions done) where
-  pub failed-from : (r : Option Bound) (e : Bool) → m.sums < most_sums → IsFailed m.search.trail m.form.terms place → AreBehindIn m.search (assumed (term_at m.form.terms place)) decisions → GoesBack m.search.trail bottom 0 → FailsFrom m (record v { raised = r; ended = e }) h.form h.more
+  pub failed-from : (r : Option Bound) (e : Bool) → m.sums < most_sums → IsFailed m.search.store m.form.terms place → AreBehindIn m.search (assumed (term_at m.form.terms place)) decisions → GoesBack m.search.store bottom 0 → FailsFrom m (record v { raised = r; ended = e }) h.form h.more
   failed-from r e few failed behind back = record {
     few = few;
     place = place;
@@ -74,32 +74,32 @@ module _ (m v : CoreSearch) (bottom : Trail) (rest : Rest) (place : ℕ) (decisi
   }
 
   -- the form that a reform came to has a base that is a lower bound
-  pub tried-bound : IsSoundCore v → done ≡ true → IsLowerBound v.search.problem.model (At v.form.base)
-  tried-bound sound on = base-bound v sound (subst (λ (f : Form). IsPast v.search.z v.greatest v.search.problem.domains f → ⊥) (sym (h.is on)) (h.not_past on))
+  pub tried-bound : IsSoundCore v → done ≡ true → IsLowerBound v.search.instance.model (At v.form.base)
+  tried-bound sound on = base-bound v sound (subst (λ (f : Form). IsPast v.search.z v.greatest v.search.instance.domains f → ⊥) (sym (h.is on)) (h.not_past on))
 
-  pub tried-none : done ≡ false → NoneBelow v.search.problem.model v.search.z
-  tried-none off = subst (λ (b : Bound). NoneBelow v.search.problem.model b) (sym h.z) (subst (λ (k : CpModel). NoneBelow k m.search.z) (sym h.setting.model) (h.none_below off))
+  pub tried-none : done ≡ false → NoneBelow v.search.instance.model v.search.z
+  tried-none off = subst (λ (b : Bound). NoneBelow v.search.instance.model b) (sym h.z) (subst (λ (k : CpModel). NoneBelow k m.search.z) (sym h.setting.model) (h.none_below off))
 
-  pub reforms-from : (r : Option Bound) (e : Bool) (p q : Part) → m.sums < most_sums → IsFailed m.search.trail m.form.terms place → AreBehindIn m.search (assumed (term_at m.form.terms place)) decisions → GoesBack m.search.trail bottom 0
+  pub reforms-from : (r : Option Bound) (e : Bool) (p q : Part) → m.sums < most_sums → IsFailed m.search.store m.form.terms place → AreBehindIn m.search (assumed (term_at m.form.terms place)) decisions → GoesBack m.search.store bottom 0
       → done ≡ true → RaisesTo (At v.form.base) v (record v { raised = r; ended = e }) p q → e ≡ false → ReformsFrom m (record v { raised = r; ended = e }) p q v.form.base
   reforms-from r e p q few failed behind back on raises off = record {
     more = h.more;
     fails = subst (λ (f : Form). FailsFrom m (record v { raised = r; ended = e }) f h.more) (sym (h.is on)) (failed-from r e few failed behind back);
     is = refl;
     rises = subst (λ (f : Form). m.form.base <ℤ f.base) (sym (h.is on)) (h.rises on);
-    not_past = subst (λ (f : Form). IsPast v.search.z v.greatest v.search.problem.domains f → ⊥) (sym (h.is on)) (h.not_past on);
+    not_past = subst (λ (f : Form). IsPast v.search.z v.greatest v.search.instance.domains f → ⊥) (sym (h.is on)) (h.not_past on);
     raises = raises-from m v (record v { raised = r; ended = e }) p q (At v.form.base) h.raised raises;
     ended = off;
   }
 
-  pub exhausts-from : (r : Option Bound) (e : Bool) (p q : Part) → m.sums < most_sums → IsFailed m.search.trail m.form.terms place → AreBehindIn m.search (assumed (term_at m.form.terms place)) decisions → GoesBack m.search.trail bottom 0
+  pub exhausts-from : (r : Option Bound) (e : Bool) (p q : Part) → m.sums < most_sums → IsFailed m.search.store m.form.terms place → AreBehindIn m.search (assumed (term_at m.form.terms place)) decisions → GoesBack m.search.store bottom 0
       → done ≡ false → RaisesTo v.search.z v (record v { raised = r; ended = e }) p q → e ≡ true → ExhaustsFrom m (record v { raised = r; ended = e }) p q
   exhausts-from r e p q few failed behind back off raises on = record {
     form = h.form;
     more = h.more;
     fails = failed-from r e few failed behind back;
     past = h.past off;
-    none_below = subst (λ (b : Bound). NoneBelow m.search.problem.model b) (sym h.z) (h.none_below off);
+    none_below = subst (λ (b : Bound). NoneBelow m.search.instance.model b) (sym h.z) (h.none_below off);
     raises = raises-from m v (record v { raised = r; ended = e }) p q v.search.z h.raised raises;
     ended = on;
   }

@@ -26,38 +26,38 @@ use Rattle.cps_core_guided.specs.Reforming.{CoreSearch, IsSoundCore, greatest_ob
 use Rattle.cps_core_guided.proofs.Assumptions.{assumes-bottom, assumes-decided, assumes-on-and-back, reform-falls}
 
 -- another search over the same problem, below a bound that is no greater
-pub sound-search : (s : CoreSearch) (t : Search) → IsSoundCore s → IsSoundSearch t → t.problem ≡ s.search.problem → BoundLe t.z s.search.z → (s.sums < most_sums → AssumesFirst t.trail s.form.terms) → IsSoundCore (record s { search = t })
+pub sound-search : (s : CoreSearch) (t : Search) → IsSoundCore s → IsSoundSearch t → t.instance ≡ s.search.instance → BoundLe t.z s.search.z → (s.sums < most_sums → AssumesFirst t.store s.form.terms) → IsSoundCore (record s { search = t })
 sound-search s t h sound same falls assumes = record {
   search = sound;
-  form = subst (λ (x : Problem). IsReform x t.z s.form) (sym same) (reform-falls s.search.problem t.z s.search.z s.form falls h.form);
+  form = subst (λ (x : Problem). IsReform x t.z s.form) (sym same) (reform-falls s.search.instance t.z s.search.z s.form falls h.form);
   base = h.base;
   greatest = h.greatest ∙ ap (λ (p : Problem). greatest_objective p) (sym same);
   assumes = assumes;
   few = h.few;
   room = subst (λ (x : Problem). length x.domains + most_sums ≤ 2 ^ 31 + s.sums) (sym same) h.room;
   raised = subst (λ (x : Problem). IfSome s.raised (IsLowerBound x.model)) (sym same) h.raised;
-  ended = λ is. subst (λ (x : Problem). NoneBelow x.model t.z) (sym same) (λ a solution below. h.ended is a solution (below_less (objective_value s.search.problem.model a) t.z s.search.z falls below));
+  ended = λ is. subst (λ (x : Problem). NoneBelow x.model t.z) (sym same) (λ a solution below. h.ended is a solution (below_less (objective_value s.search.instance.model a) t.z s.search.z falls below));
 }
 
 -- the steps of a frame, after which the last entries may go
-pub sound-stepped : (s : CoreSearch) (t : Search) → IsSoundCore s → IsSoundSearch t → t.problem ≡ s.search.problem → BoundLe t.z s.search.z → GoesOnAndBack s.search.trail t.trail → IsSoundCore (record s { search = t })
-sound-stepped s t h sound same falls store = sound-search s t h sound same falls (λ few. assumes-on-and-back s.search.trail t.trail s.form.terms store (h.assumes few))
+pub sound-stepped : (s : CoreSearch) (t : Search) → IsSoundCore s → IsSoundSearch t → t.instance ≡ s.search.instance → BoundLe t.z s.search.z → GoesOnAndBack s.search.store t.store → IsSoundCore (record s { search = t })
+sound-stepped s t h sound same falls store = sound-search s t h sound same falls (λ few. assumes-on-and-back s.search.store t.store s.form.terms store (h.assumes few))
 
 -- a decision that is an assumption, or that is made where all of them are true
-pub sound-decided : (s : CoreSearch) (t : Search) (a : Atom) → IsSoundCore s → IsSoundSearch t → t ≡ moved s.search (decided s.search.trail a) s.search.rested
-    → (s.sums < most_sums → IsAssumption s.form.terms a ⊎ AreAssumed s.search.trail.first s.search.trail.entries s.form.terms) → IsSoundCore (record s { search = t })
+pub sound-decided : (s : CoreSearch) (t : Search) (a : Atom) → IsSoundCore s → IsSoundSearch t → t ≡ moved s.search (decided s.search.store a) s.search.rested
+    → (s.sums < most_sums → IsAssumption s.form.terms a ⊎ AreAssumed s.search.store.first s.search.store.entries s.form.terms) → IsSoundCore (record s { search = t })
 sound-decided s t a h sound is new =
-    sound-search s t h sound (ap (λ (x : Search). x.problem) is) (subst (λ (x : Search). BoundLe x.z s.search.z) (sym is) (BoundLe-refl s.search.z))
-    (λ few. subst (λ (x : Search). AssumesFirst x.trail s.form.terms) (sym is) (assumes-decided s.search.trail a s.form.terms (h.assumes few) (new few)))
+    sound-search s t h sound (ap (λ (x : Search). x.instance) is) (subst (λ (x : Search). BoundLe x.z s.search.z) (sym is) (BoundLe-refl s.search.z))
+    (λ few. subst (λ (x : Search). AssumesFirst x.store s.form.terms) (sym is) (assumes-decided s.search.store a s.form.terms (h.assumes few) (new few)))
 
 -- a new form at level 0
-pub sound-form : (s : CoreSearch) (f : Form) → IsSoundCore s → IsReform s.search.problem s.search.z f → unsigned_abs f.base < 2 ^ 62 → IsSound s.search.trail → s.search.trail.level ≡ 0 → IsSoundCore (record s { form = f })
+pub sound-form : (s : CoreSearch) (f : Form) → IsSoundCore s → IsReform s.search.instance s.search.z f → unsigned_abs f.base < 2 ^ 62 → IsSound s.search.store → s.search.store.level ≡ 0 → IsSoundCore (record s { form = f })
 sound-form s f h reform small sound bottom = record {
   search = h.search;
   form = reform;
   base = small;
   greatest = h.greatest;
-  assumes = λ few. assumes-bottom s.search.trail f.terms sound bottom;
+  assumes = λ few. assumes-bottom s.search.store f.terms sound bottom;
   few = h.few;
   room = h.room;
   raised = h.raised;
@@ -72,23 +72,23 @@ greatest-grown p q sum subject i d =
     ∙ sym (greatest-longer p (d.added ∷ []) i)
 
 -- a sum more at level 0, with a form over it
-pub sound-grown : (s : CoreSearch) (t : Search) (f : Form) (sum : DefinedSum) (subject : ℕ) → IsSoundCore s → s.sums < most_sums → IsSoundSearch t → GrewBy s.search t sum subject → IsReform t.problem t.z f → unsigned_abs f.base < 2 ^ 62 → IsSound t.trail
-    → t.trail.level ≡ 0 → IsSoundCore (record s { search = t; form = f; sums = s.sums + 1 })
+pub sound-grown : (s : CoreSearch) (t : Search) (f : Form) (sum : DefinedSum) (subject : ℕ) → IsSoundCore s → s.sums < most_sums → IsSoundSearch t → GrewBy s.search t sum subject → IsReform t.instance t.z f → unsigned_abs f.base < 2 ^ 62 → IsSound t.store
+    → t.store.level ≡ 0 → IsSoundCore (record s { search = t; form = f; sums = s.sums + 1 })
 sound-grown s t f sum subject h few sound grew reform small store bottom =
     let d = grew.defines in
-    let longer : length t.problem.domains ≡ length s.search.problem.domains + 1 = ap (λ (ds : Domains). length ds) d.domains ∙ length-append s.search.problem.domains (d.added ∷ []) in
+    let longer : length t.instance.domains ≡ length s.search.instance.domains + 1 = ap (λ (ds : Domains). length ds) d.domains ∙ length-append s.search.instance.domains (d.added ∷ []) in
     let room = h.room in
     let z : t.z ≡ s.search.z = ap (λ (x : Search). x.z) grew.is in
     record {
       search = sound;
       form = reform;
       base = small;
-      greatest = h.greatest ∙ sym (greatest-grown s.search.problem t.problem sum subject h.search.instance d);
-      assumes = λ few. assumes-bottom t.trail f.terms store bottom;
+      greatest = h.greatest ∙ sym (greatest-grown s.search.instance t.instance sum subject h.search.instance d);
+      assumes = λ few. assumes-bottom t.store f.terms store bottom;
       few = omega (arith, few);
       room = omega (arith, longer, room);
       raised = subst (λ (m : CpModel). IfSome s.raised (IsLowerBound m)) (sym d.model) h.raised;
-      ended = λ is. subst (λ (b : Bound). NoneBelow t.problem.model b) (sym z) (subst (λ (m : CpModel). NoneBelow m s.search.z) (sym d.model) (h.ended is));
+      ended = λ is. subst (λ (b : Bound). NoneBelow t.instance.model b) (sym z) (subst (λ (m : CpModel). NoneBelow m s.search.z) (sym d.model) (h.ended is));
     }
 
 raised_sound : (m : CpModel) (raised : Option Bound) (b : Bound) → IfSome raised (IsLowerBound m) → IsLowerBound m b → IfSome (raised_to raised b) (IsLowerBound m)
@@ -96,7 +96,7 @@ raised_sound m None b h k = k
 raised_sound m (Some a) b h k = greater_is (IsLowerBound m) a b h k
 
 -- a raise
-pub sound-raised : (s : CoreSearch) (bound : Bound) → IsSoundCore s → IsLowerBound s.search.problem.model bound → IsSoundCore (record s { raised = raised_to s.raised bound })
+pub sound-raised : (s : CoreSearch) (bound : Bound) → IsSoundCore s → IsLowerBound s.search.instance.model bound → IsSoundCore (record s { raised = raised_to s.raised bound })
 sound-raised s bound h lower = record {
   search = h.search;
   form = h.form;
@@ -105,12 +105,12 @@ sound-raised s bound h lower = record {
   assumes = h.assumes;
   few = h.few;
   room = h.room;
-  raised = raised_sound s.search.problem.model s.raised bound h.raised lower;
+  raised = raised_sound s.search.instance.model s.raised bound h.raised lower;
   ended = h.ended;
 }
 
 -- the end in place of a reform
-pub sound-ended : (s : CoreSearch) → IsSoundCore s → NoneBelow s.search.problem.model s.search.z → IsSoundCore (record s { ended = true })
+pub sound-ended : (s : CoreSearch) → IsSoundCore s → NoneBelow s.search.instance.model s.search.z → IsSoundCore (record s { ended = true })
 sound-ended s h none = record {
   search = h.search;
   form = h.form;

@@ -34,21 +34,21 @@ works-form s t scope scope' agrees agrees' kept kept' h sound is same count agre
     let few = h.few in
     let within = h.within in
     let imported : t.search.imported ≡ s.search.imported = ap (λ (c : CoreSearch). c.search.imported) is in
-    let size : length t.search.trail.entries ≡ length s.search.trail.entries = ap (λ (c : CoreSearch). length c.search.trail.entries) is in
-    let longer : length t.search.problem.domains ≡ length s.search.problem.domains = ap (λ (c : CoreSearch). length c.search.problem.domains) is in
+    let size : length t.search.store.entries ≡ length s.search.store.entries = ap (λ (c : CoreSearch). length c.search.store.entries) is in
+    let longer : length t.search.instance.domains ≡ length s.search.instance.domains = ap (λ (c : CoreSearch). length c.search.instance.domains) is in
     works-core s t scope scope' agrees agrees' kept kept' h sound
-    (record { model = ap (λ (c : CoreSearch). c.search.problem.model) is; gap = ap (λ (c : CoreSearch). c.search.gap) is; budget = ap (λ (c : CoreSearch). c.search.budget) is; refused = ap (λ (c : CoreSearch). c.search.refused) is; greatest = ap (λ (c : CoreSearch). c.greatest) is })
+    (record { model = ap (λ (c : CoreSearch). c.search.instance.model) is; gap = ap (λ (c : CoreSearch). c.search.gap) is; budget = ap (λ (c : CoreSearch). c.search.budget) is; refused = ap (λ (c : CoreSearch). c.search.refused) is; greatest = ap (λ (c : CoreSearch). c.greatest) is })
     (omega (arith, longer)) same (omega (arith, few, imported)) (omega (arith, within, size, count)) agreed
 
 -- a sound search whose core was marked
-pub marked-sound : (s : CoreSearch) (g : Form) (place : ℕ) (decisions : List Atom) → IsSoundCore s → s.search.trail.level ≡ 0 → IsSound s.search.trail → IsMarked s.form g place decisions → IsSoundCore (record s { form = g })
+pub marked-sound : (s : CoreSearch) (g : Form) (place : ℕ) (decisions : List Atom) → IsSoundCore s → s.search.store.level ≡ 0 → IsSound s.search.store → IsMarked s.form g place decisions → IsSoundCore (record s { form = g })
 marked-sound s g place decisions h bottom sound m =
-    sound-form s g h (marked-reform s.search.problem s.search.z s.form g place decisions m h.form) (subst (λ (b : ℤ). unsigned_abs b < 2 ^ 62) (sym m.base) h.base) sound bottom
+    sound-form s g h (marked-reform s.search.instance s.search.z s.form g place decisions m h.form) (subst (λ (b : ℤ). unsigned_abs b < 2 ^ 62) (sym m.base) h.base) sound bottom
 
 -- a term was lifted, or no solution is below z
-pub tried-lifted : (s t : CoreSearch) (g : Form) (place : ℕ) (bound : ℤ) (decisions : List Atom) (done : Bool) → HasFailed s place decisions → ReformsTo s.search.trail s.search.problem s.form place decisions s.search.problem (lifted g place bound) 0
+pub tried-lifted : (s t : CoreSearch) (g : Form) (place : ℕ) (bound : ℤ) (decisions : List Atom) (done : Bool) → HasFailed s place decisions → ReformsTo s.search.store s.search.instance s.form place decisions s.search.instance (lifted g place bound) 0
     → s.form.base <ℤ (lifted g place bound).base → (done ≡ true → t ≡ record s { form = lifted g place bound }) → (done ≡ false → t ≡ record s { form = g })
-    → (done ≡ true → IsPast s.search.z s.greatest s.search.problem.domains t.form → ⊥) → (done ≡ false → IsPast s.search.z s.greatest s.search.problem.domains (lifted g place bound)) → (done ≡ false → NoneBelow s.search.problem.model s.search.z)
+    → (done ≡ true → IsPast s.search.z s.greatest s.search.instance.domains t.form → ⊥) → (done ≡ false → IsPast s.search.z s.greatest s.search.instance.domains (lifted g place bound)) → (done ≡ false → NoneBelow s.search.instance.model s.search.z)
     → Tried s t place decisions done
 tried-lifted s t g place bound decisions done h reforms rises yes' no' not_past past none =
     let f = lifted g place bound in
@@ -59,17 +59,17 @@ tried-lifted s t g place bound decisions done h reforms rises yes' no' not_past 
     record {
       form = f;
       more = 0;
-      reforms = subst (λ (x : Search). ReformsTo s.search.trail s.search.problem s.form place decisions x.problem f 0) (sym search) reforms;
+      reforms = subst (λ (x : Search). ReformsTo s.search.store s.search.instance s.form place decisions x.instance f 0) (sym search) reforms;
       sums = (let e = ap (λ (c : CoreSearch). c.sums) same in omega (arith, e));
       is = is;
       rises = λ on. rises;
-      not_past = λ on. subst (λ (x : Search). IsPast x.z t.greatest x.problem.domains f → ⊥) (sym search) (subst (λ (v : ℤ). IsPast s.search.z v s.search.problem.domains f → ⊥) (sym greatest)
-          (subst (λ (x : Form). IsPast s.search.z s.greatest s.search.problem.domains x → ⊥) (is on) (not_past on)));
-      past = λ off. subst (λ (x : Search). IsPast x.z t.greatest x.problem.domains f) (sym search) (subst (λ (v : ℤ). IsPast s.search.z v s.search.problem.domains f) (sym greatest) (past off));
+      not_past = λ on. subst (λ (x : Search). IsPast x.z t.greatest x.instance.domains f → ⊥) (sym search) (subst (λ (v : ℤ). IsPast s.search.z v s.search.instance.domains f → ⊥) (sym greatest)
+          (subst (λ (x : Form). IsPast s.search.z s.greatest s.search.instance.domains x → ⊥) (is on) (not_past on)));
+      past = λ off. subst (λ (x : Search). IsPast x.z t.greatest x.instance.domains f) (sym search) (subst (λ (v : ℤ). IsPast s.search.z v s.search.instance.domains f) (sym greatest) (past off));
       none_below = none;
-      setting = record { model = ap (λ (x : Search). x.problem.model) search; gap = ap (λ (x : Search). x.gap) search; budget = ap (λ (x : Search). x.budget) search; refused = ap (λ (x : Search). x.refused) search; greatest = greatest };
-      entries = ap (λ (x : Search). x.trail.entries) search;
-      level = ap (λ (x : Search). x.trail.level) search ∙ h.bottom;
+      setting = record { model = ap (λ (x : Search). x.instance.model) search; gap = ap (λ (x : Search). x.gap) search; budget = ap (λ (x : Search). x.budget) search; refused = ap (λ (x : Search). x.refused) search; greatest = greatest };
+      entries = ap (λ (x : Search). x.store.entries) search;
+      level = ap (λ (x : Search). x.store.level) search ∙ h.bottom;
       z = ap (λ (x : Search). x.z) search;
       learnt = record { tally = ap (λ (x : Search). x.tally) search; base = ap (λ (x : Search). x.base) search };
       imported = ap (λ (x : Search). x.imported) search;
@@ -81,7 +81,7 @@ tried-lifted s t g place bound decisions done h reforms rises yes' no' not_past 
     }
 
 -- a core of several terms was split, or no solution is below z
-pub tried-split : (s t : CoreSearch) (g : Form) (place : ℕ) (decisions : List Atom) (done : Bool) → HasFailed s place decisions → (IsFalseNow s.search.trail (assumed (term_at s.form.terms place)) → ⊥) → IsMarked s.form g place decisions
+pub tried-split : (s t : CoreSearch) (g : Form) (place : ℕ) (decisions : List Atom) (done : Bool) → HasFailed s place decisions → (IsFalseNow s.search.store (assumed (term_at s.form.terms place)) → ⊥) → IsMarked s.form g place decisions
     → 2 ≤ length (core_terms g.terms) → WeighAtLeast 1 g.terms → Splits (record s { form = g }) t done → Tried s t place decisions done
 tried-split s t g place decisions done h not_false m two weighs sp =
     let is = sp.grew.is in
@@ -90,16 +90,16 @@ tried-split s t g place decisions done h not_false m two weighs sp =
     record {
       form = split g (least_weight g.terms) sp.subject;
       more = 1;
-      reforms = several g t.search.problem sp.subject not_false m two sp.grew.defines;
+      reforms = several g t.search.instance sp.subject not_false m two sp.grew.defines;
       sums = sp.sums;
       is = sp.is;
       rises = λ on. omega (arith, ints, some, base);
-      not_past = λ on. subst (λ (x : Form). IsPast t.search.z t.greatest t.search.problem.domains x → ⊥) (sp.is on) (sp.not_past on);
+      not_past = λ on. subst (λ (x : Form). IsPast t.search.z t.greatest t.search.instance.domains x → ⊥) (sp.is on) (sp.not_past on);
       past = sp.past;
       none_below = sp.none_below;
       setting = record { model = sp.grew.defines.model; gap = ap (λ (x : Search). x.gap) is; budget = ap (λ (x : Search). x.budget) is; refused = ap (λ (x : Search). x.refused) is; greatest = sp.greatest };
-      entries = ap (λ (x : Search). x.trail.entries) is;
-      level = ap (λ (x : Search). x.trail.level) is ∙ h.bottom;
+      entries = ap (λ (x : Search). x.store.entries) is;
+      level = ap (λ (x : Search). x.store.level) is ∙ h.bottom;
       z = ap (λ (x : Search). x.z) is;
       learnt = record { tally = ap (λ (x : Search). x.tally) is; base = ap (λ (x : Search). x.base) is };
       imported = ap (λ (x : Search). x.imported) is;

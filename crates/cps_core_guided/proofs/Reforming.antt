@@ -26,13 +26,13 @@ use Rattle.cps_core_guided.specs.Reforming.{CoreSearch, IsLeastNow, IsSoundCore}
 
 -- ---- of a sound search
 pub z-small : (s : Search) → IsSoundSearch s → IsSmallBound s.z
-z-small s h = small_of s.problem.model s.z h.instance.valid h.incumbent
+z-small s h = small_of s.instance.model s.z h.instance.valid h.incumbent
 
-pub most-greatest : (s : CoreSearch) → IsSoundCore s → IsGreatest s.search.problem.model s.greatest
-most-greatest s h = subst (λ (v : ℤ). IsGreatest s.search.problem.model v) (sym h.greatest) (objective-most s.search.problem h.search.instance)
+pub most-greatest : (s : CoreSearch) → IsSoundCore s → IsGreatest s.search.instance.model s.greatest
+most-greatest s h = subst (λ (v : ℤ). IsGreatest s.search.instance.model v) (sym h.greatest) (objective-most s.search.instance h.search.instance)
 
 pub small-greatest : (s : CoreSearch) → IsSoundCore s → unsigned_abs s.greatest < 2 ^ 62
-small-greatest s h = subst (λ (v : ℤ). unsigned_abs v < 2 ^ 62) (sym h.greatest) (greatest-small s.search.problem h.search.instance)
+small-greatest s h = subst (λ (v : ℤ). unsigned_abs v < 2 ^ 62) (sym h.greatest) (greatest-small s.search.instance h.search.instance)
 
 below_or_at : (v : ℤ) (z : Bound) → IsBelow v z ⊎ BoundLe z (At v)
 below_or_at v Infinite = inl tt
@@ -42,9 +42,9 @@ below_or_at v (At y) = at_or_less v y
     at_or_less v y = grind (arith, ints)
 
 -- a form that is not past what solutions below z have has a base that is a lower bound
-pub base-bound : (s : CoreSearch) → IsSoundCore s → (IsPast s.search.z s.greatest s.search.problem.domains s.form → ⊥) → IsLowerBound s.search.problem.model (At s.form.base)
+pub base-bound : (s : CoreSearch) → IsSoundCore s → (IsPast s.search.z s.greatest s.search.instance.domains s.form → ⊥) → IsLowerBound s.search.instance.model (At s.form.base)
 base-bound s h not_past = elim (below_or_at s.form.base s.search.z) [
-  | inl less ↦ reform-bounds s.search.problem s.search.z s.form h.form less
+  | inl less ↦ reform-bounds s.search.instance s.search.z s.form h.form less
   | inr past ↦ absurd (not_past (past_z past))
 ]
 
@@ -74,10 +74,10 @@ at_least : (v w : ℤ) → int_le w (v -ℤ pos 1) ≡ false → v ≤ℤ w
 at_least v w e = (let h = more w (v -ℤ pos 1) e in omega (arith, ints, h))
 
 -- at level 0 no solution below z is below the least value
-pub risen-least : (s : Search) (subject : ℕ) (v : ℤ) → IsFalseBelow s → subject < length s.trail.first → IsLeastNow s.trail subject v → OfEachBelow s.problem s.z (λ xs. v ≤ℤ value_at xs subject)
+pub risen-least : (s : Search) (subject : ℕ) (v : ℤ) → IsFalseBelow s → subject < length s.store.first → IsLeastNow s.store subject v → OfEachBelow s.instance s.z (λ xs. v ≤ℤ value_at xs subject)
 risen-least s subject v bottom inside h a solution below =
     let atom : Atom = record { subject = subject; op = Le; value = v -ℤ pos 1 } in
-    at_least v (value_at (extended s.problem.defs a) subject) (bottom atom inside (λ x has. less_fails x (v -ℤ pos 1) (below_one v x (h.least x has))) a solution.free below)
+    at_least v (value_at (extended s.instance.defs a) subject) (bottom atom inside (λ x has. less_fails x (v -ℤ pos 1) (below_one v x (h.least x has))) a solution.free below)
 
 -- the base rises by a weight times a rise
 rise_one : (w : ℕ) (d : ℤ) → 1 ≤ w → pos 1 ≤ℤ d → pos 1 ≤ℤ (pos w *ℤ d)

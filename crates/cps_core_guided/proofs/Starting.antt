@@ -56,23 +56,23 @@ one-longer ds d = length-append ds (d ∷ [])
 pub may-grow : (of : ℕ) (s t : Search) (subject : ℕ) → MayHaveOpposite of s t subject → OnlyGrew s t 1
 may-grow of s t subject h = elim h [
   | inl same ↦ record {
-    model = ap (λ (x : Search). x.problem.model) same;
-    steering = ap (λ (x : Search). x.problem.steering) same;
-    longer = (let n = ap (λ (x : Search). length x.problem.domains) same in omega (arith, n));
-    few = (let n = ap (λ (x : Search). length x.problem.domains) same in omega (arith, n));
-    is_fresh = λ f. same ∙ f ∙ ap (λ (x : Search). fresh x.problem s.gap s.budget) (sym same);
+    model = ap (λ (x : Search). x.instance.model) same;
+    steering = ap (λ (x : Search). x.instance.steering) same;
+    longer = (let n = ap (λ (x : Search). length x.instance.domains) same in omega (arith, n));
+    few = (let n = ap (λ (x : Search). length x.instance.domains) same in omega (arith, n));
+    is_fresh = λ f. same ∙ f ∙ ap (λ (x : Search). fresh x.instance s.gap s.budget) (sym same);
   }
   | inr grew ↦
       let d = grew.defines in
-      let size : length t.problem.domains ≡ length s.problem.domains + 1 = ap (λ (ds : Domains). length ds) d.domains ∙ one-longer s.problem.domains d.added in
+      let size : length t.instance.domains ≡ length s.instance.domains + 1 = ap (λ (ds : Domains). length ds) d.domains ∙ one-longer s.instance.domains d.added in
       record {
         model = d.model;
         steering = d.steering;
         longer = omega (arith, size);
         few = omega (arith, size);
         is_fresh = λ f.
-            grew.is ∙ ap (λ (x : Search). grown x t.problem (sum_task subject (opposite of))) f
-            ∙ ap (λ (ts : List Task). record (fresh t.problem s.gap s.budget) { tasks = ts }) (sym d.tasks);
+            grew.is ∙ ap (λ (x : Search). grown x t.instance (sum_task subject (opposite of))) f
+            ∙ ap (λ (ts : List Task). record (fresh t.instance s.gap s.budget) { tasks = ts }) (sym d.tasks);
       }
 ]
 
@@ -89,12 +89,12 @@ grew-more s t u m n h k = record {
       let g = h.is_fresh f in
       let gap : t.gap ≡ s.gap = ap (λ (x : Search). x.gap) g in
       let budget : t.budget ≡ s.budget = ap (λ (x : Search). x.budget) g in
-      k.is_fresh (g ∙ ap (λ (v : ℕ). fresh t.problem v s.budget) (sym gap) ∙ ap (λ (o : Option ℕ). fresh t.problem t.gap o) (sym budget))
-      ∙ ap (λ (v : ℕ). fresh u.problem v t.budget) gap ∙ ap (λ (o : Option ℕ). fresh u.problem s.gap o) budget;
+      k.is_fresh (g ∙ ap (λ (v : ℕ). fresh t.instance v s.budget) (sym gap) ∙ ap (λ (o : Option ℕ). fresh t.instance t.gap o) (sym budget))
+      ∙ ap (λ (v : ℕ). fresh u.instance v t.budget) gap ∙ ap (λ (o : Option ℕ). fresh u.instance s.gap o) budget;
 }
 
-pub still-bottom : (of : ℕ) (s t : Search) (subject : ℕ) → MayHaveOpposite of s t subject → t.trail.level ≡ s.trail.level
-still-bottom of s t subject h = elim h [ inl same ↦ ap (λ (x : Search). x.trail.level) same | inr grew ↦ ap (λ (x : Search). x.trail.level) grew.is ]
+pub still-bottom : (of : ℕ) (s t : Search) (subject : ℕ) → MayHaveOpposite of s t subject → t.store.level ≡ s.store.level
+still-bottom of s t subject h = elim h [ inl same ↦ ap (λ (x : Search). x.store.level) same | inr grew ↦ ap (λ (x : Search). x.store.level) grew.is ]
 
 -- ---- what is kept over the terms
 reach-longer : (ds es : Domains) (ts : List Term) → All (λ t. t.subject < length ds) ts → terms_reach (ds ++ es) ts ≡ terms_reach ds ts
@@ -107,32 +107,32 @@ reach-longer ds es (t ∷ ts) h =
 -- the first form of the first k terms, in a search that began as another and only grew
 pub record FormSoFar (s t : Search) (terms : List Term) (k : ℕ) (f : Form) : Type 0 where
   pub sound : IsSoundSearch t
-  pub bottom : t.trail.level ≡ 0
+  pub bottom : t.store.level ≡ 0
   pub grew : OnlyGrew s t k
-  pub first : FirstSoFar t.problem (take k terms) f
-  pub small : terms_reach t.problem.domains terms < 2 ^ 62
+  pub first : FirstSoFar t.instance (take k terms) f
+  pub small : terms_reach t.instance.domains terms < 2 ^ 62
 
 take_none : (ts : List Term) → take 0 ts ≡ []
 take_none [] = refl
 take_none (t ∷ ts) = refl
 
-pub form-none : (s : Search) (terms : List Term) (f : Form) → IsSoundSearch s → s.trail.level ≡ 0 → terms_reach s.problem.domains terms < 2 ^ 62 → f.base ≡ pos 0 → f.terms ≡ [] → FormSoFar s s terms 0 f
+pub form-none : (s : Search) (terms : List Term) (f : Form) → IsSoundSearch s → s.store.level ≡ 0 → terms_reach s.instance.domains terms < 2 ^ 62 → f.base ≡ pos 0 → f.terms ≡ [] → FormSoFar s s terms 0 f
 form-none s terms f sound bottom small base none =
     let is : f ≡ record { base = pos 0; terms = [] } = ap (λ (b : ℤ). record { base = b; terms = f.terms }) base ∙ ap (λ (hs : List _). record { base = pos 0; terms = hs }) none in
     record {
       sound = sound;
       bottom = bottom;
       grew = grew-none s;
-      first = subst (λ (ts : List Term). FirstSoFar s.problem ts f) (sym (take_none terms)) (subst (λ (g : Form). FirstSoFar s.problem [] g) (sym is) (first-none s.problem));
+      first = subst (λ (ts : List Term). FirstSoFar s.instance ts f) (sym (take_none terms)) (subst (λ (g : Form). FirstSoFar s.instance [] g) (sym is) (first-none s.instance));
       small = small;
     }
 
 -- the variables are those of the first search
-pub same-variables : (s t : Search) (n : ℕ) (terms : List Term) → OnlyGrew s t n → All (λ t. t.subject < variable_count s.problem) terms → All (λ v. v.subject < variable_count t.problem) terms
+pub same-variables : (s t : Search) (n : ℕ) (terms : List Term) → OnlyGrew s t n → All (λ t. t.subject < variable_count s.instance) terms → All (λ v. v.subject < variable_count t.instance) terms
 same-variables s t n terms h all = subst (λ (m : CpModel). All (λ v. v.subject < length m.variables) terms) (sym h.model) all
 
-pub one-variable : (s t : Search) (n : ℕ) (terms : List Term) (k : ℕ) (d : Term) → OnlyGrew s t n → All (λ t. t.subject < variable_count s.problem) terms → k < length terms → (get_or terms k d).subject < variable_count t.problem
-one-variable s t n terms k d h all l = All-get_or (λ (v : Term). v.subject < variable_count t.problem) terms k d l (same-variables s t n terms h all)
+pub one-variable : (s t : Search) (n : ℕ) (terms : List Term) (k : ℕ) (d : Term) → OnlyGrew s t n → All (λ t. t.subject < variable_count s.instance) terms → k < length terms → (get_or terms k d).subject < variable_count t.instance
+one-variable s t n terms k d h all l = All-get_or (λ (v : Term). v.subject < variable_count t.instance) terms k d l (same-variables s t n terms h all)
 
 front-variables : (p : Problem) (terms : List Term) (k : ℕ) → All (λ t. t.subject < variable_count p) terms → All (λ t. t.subject < variable_count p) (take k terms)
 front-variables p [] k all = subst (λ (us : List Term). All (λ t. t.subject < variable_count p) us) (sym (take_all k [] (omega arith))) all
@@ -140,24 +140,24 @@ front-variables p (t ∷ ts) zero all = All-nil (λ (u : Term). u.subject < vari
 front-variables p (t ∷ ts) (suc k) all = All-cons (λ (u : Term). u.subject < variable_count p) t (take k ts) (All-head (λ (u : Term). u.subject < variable_count p) t ts all) (front-variables p ts k (All-tail (λ (u : Term). u.subject < variable_count p) t ts all))
 
 -- the form of the terms so far stands where a sum is defined, and so does what is left of the terms
-pub form-stays : (of : ℕ) (s t u : Search) (terms : List Term) (k : ℕ) (f : Form) (subject : ℕ) → All (λ t. t.subject < variable_count s.problem) terms → FormSoFar s t terms k f → MayHaveOpposite of t u subject → FirstSoFar u.problem (take k terms) f
+pub form-stays : (of : ℕ) (s t u : Search) (terms : List Term) (k : ℕ) (f : Form) (subject : ℕ) → All (λ t. t.subject < variable_count s.instance) terms → FormSoFar s t terms k f → MayHaveOpposite of t u subject → FirstSoFar u.instance (take k terms) f
 form-stays of s t u terms k f subject all h grew =
     let here = same-variables s t k terms h.grew all in
     elim grew [
-      | inl same ↦ subst (λ (x : Search). FirstSoFar x.problem (take k terms) f) (sym same) h.first
-      | inr more ↦ first-stays t.problem u.problem (opposite of) subject more.defines h.sound.instance (take k terms) f (front-variables t.problem terms k here) h.first
+      | inl same ↦ subst (λ (x : Search). FirstSoFar x.instance (take k terms) f) (sym same) h.first
+      | inr more ↦ first-stays t.instance u.instance (opposite of) subject more.defines h.sound.instance (take k terms) f (front-variables t.instance terms k here) h.first
     ]
 
-small-stays : (of : ℕ) (s t u : Search) (terms : List Term) (k : ℕ) (f : Form) (subject : ℕ) → All (λ t. t.subject < variable_count s.problem) terms → FormSoFar s t terms k f → MayHaveOpposite of t u subject → terms_reach u.problem.domains terms < 2 ^ 62
+small-stays : (of : ℕ) (s t u : Search) (terms : List Term) (k : ℕ) (f : Form) (subject : ℕ) → All (λ t. t.subject < variable_count s.instance) terms → FormSoFar s t terms k f → MayHaveOpposite of t u subject → terms_reach u.instance.domains terms < 2 ^ 62
 small-stays of s t u terms k f subject all h grew =
     let here = same-variables s t k terms h.grew all in
     let small = h.small in
     elim grew [
-      | inl same ↦ subst (λ (x : Search). terms_reach x.problem.domains terms < 2 ^ 62) (sym same) small
+      | inl same ↦ subst (λ (x : Search). terms_reach x.instance.domains terms < 2 ^ 62) (sym same) small
       | inr more ↦
           let d = more.defines in
-          let all' : All (λ v. v.subject < length t.problem.domains) terms = λ i e l. inside t.problem (get_or terms i e).subject h.sound.instance (here i e l) in
-          let same = ap (λ (ds : Domains). terms_reach ds terms) d.domains ∙ reach-longer t.problem.domains (d.added ∷ []) terms all' in
+          let all' : All (λ v. v.subject < length t.instance.domains) terms = λ i e l. inside t.instance (get_or terms i e).subject h.sound.instance (here i e l) in
+          let same = ap (λ (ds : Domains). terms_reach ds terms) d.domains ∙ reach-longer t.instance.domains (d.added ∷ []) terms all' in
           omega (arith, same, small)
     ]
 
@@ -182,19 +182,19 @@ next-roomy p ds ts f same h = subst (λ (es : Domains). IsRoomy es f) (sym same)
 pub next-base : (p : Problem) (ds : Domains) (ts : List Term) (f : Form) → ds ≡ p.domains → FirstSoFar p ts f → unsigned_abs f.base ≤ held_reach ds f.terms
 next-base p ds ts f same h = subst (λ (es : Domains). unsigned_abs f.base ≤ held_reach es f.terms) (sym same) h.base
 
-pub next-room : (of : ℕ) (s t u : Search) (ds : Domains) (terms : List Term) (k : ℕ) (f : Form) (v : Term) (subject : ℕ) → All (λ t. t.subject < variable_count s.problem) terms → FormSoFar s t terms k f → MayHaveOpposite of t u subject → ds ≡ u.problem.domains
-    → k < length terms → v ≡ get_or terms k v → Holds u.problem v subject → held_reach ds f.terms + unsigned_abs v.coeff * magnitude (domain_at ds subject) < 2 ^ 62
+pub next-room : (of : ℕ) (s t u : Search) (ds : Domains) (terms : List Term) (k : ℕ) (f : Form) (v : Term) (subject : ℕ) → All (λ t. t.subject < variable_count s.instance) terms → FormSoFar s t terms k f → MayHaveOpposite of t u subject → ds ≡ u.instance.domains
+    → k < length terms → v ≡ get_or terms k v → Holds u.instance v subject → held_reach ds f.terms + unsigned_abs v.coeff * magnitude (domain_at ds subject) < 2 ^ 62
 next-room of s t u ds terms k f v subject all h grew same l is holds =
     subst (λ (es : Domains). held_reach es f.terms + unsigned_abs v.coeff * magnitude (domain_at es subject) < 2 ^ 62) (sym same)
-    (first-room u.problem (take k terms) (drop (k + 1) terms) v subject f (form-stays of s t u terms k f subject all h grew) holds
-    (subst (λ (us : List Term). terms_reach u.problem.domains us < 2 ^ 62) (parts terms k v l is) (small-stays of s t u terms k f subject all h grew)))
+    (first-room u.instance (take k terms) (drop (k + 1) terms) v subject f (form-stays of s t u terms k f subject all h grew) holds
+    (subst (λ (us : List Term). terms_reach u.instance.domains us < 2 ^ 62) (parts terms k v l is) (small-stays of s t u terms k f subject all h grew)))
 
 -- one more term is held
-pub form-more : (of : ℕ) (s t u : Search) (ds : Domains) (terms : List Term) (k : ℕ) (f g : Form) (v : Term) (subject : ℕ) → All (λ t. t.subject < variable_count s.problem) terms → FormSoFar s t terms k f → MayHaveOpposite of t u subject → IsSoundSearch u
-    → ds ≡ u.problem.domains → k < length terms → v ≡ get_or terms k v → Holds u.problem v subject → g ≡ with_held ds f (unsigned_abs v.coeff) subject → IsRoomy ds g → unsigned_abs g.base ≤ held_reach ds g.terms
+pub form-more : (of : ℕ) (s t u : Search) (ds : Domains) (terms : List Term) (k : ℕ) (f g : Form) (v : Term) (subject : ℕ) → All (λ t. t.subject < variable_count s.instance) terms → FormSoFar s t terms k f → MayHaveOpposite of t u subject → IsSoundSearch u
+    → ds ≡ u.instance.domains → k < length terms → v ≡ get_or terms k v → Holds u.instance v subject → g ≡ with_held ds f (unsigned_abs v.coeff) subject → IsRoomy ds g → unsigned_abs g.base ≤ held_reach ds g.terms
     → ((xs : List ℤ) → form_value xs g ≡ form_value xs f +ℤ pos (unsigned_abs v.coeff) *ℤ value_at xs subject) → FormSoFar s u terms (k + 1) g
 form-more of s t u ds terms k f g v subject all h grew sound same l is holds made roomy base worth =
-    let p = u.problem in
+    let p = u.instance in
     let n = unsigned_abs v.coeff in
     let made' : g ≡ with_held p.domains f n subject = made ∙ ap (λ (es : Domains). with_held es f n subject) same in
     let more : FirstSoFar p (take k terms ++ v ∷ []) (with_held p.domains f n subject) =
@@ -211,8 +211,8 @@ form-more of s t u ds terms k f g v subject all h grew sound same l is holds mad
     }
 
 -- ---- all terms are held
-pub all-held : (s t : Search) (terms : List Term) (k : ℕ) (f : Form) → length terms ≤ k → FormSoFar s t terms k f → FirstSoFar t.problem terms f
-all-held s t terms k f l h = subst (λ (us : List Term). FirstSoFar t.problem us f) (take_all k terms l) h.first
+pub all-held : (s t : Search) (terms : List Term) (k : ℕ) (f : Form) → length terms ≤ k → FormSoFar s t terms k f → FirstSoFar t.instance terms f
+all-held s t terms k f l h = subst (λ (us : List Term). FirstSoFar t.instance us f) (take_all k terms l) h.first
 
 pub base-held : (s t : Search) (terms : List Term) (k : ℕ) (f : Form) → length terms ≤ k → FormSoFar s t terms k f → unsigned_abs f.base < 2 ^ 62
 base-held s t terms k f l h =

@@ -45,14 +45,14 @@ moves-whole s t p q h same = record {
 }
 
 -- what the worker itself raises
-pub moves-raised : (m t : CoreSearch) (p q : Part) (bound : Bound) → RaisesTo bound m t p q → t.search.problem.model ≡ m.search.problem.model → t.search.z ≡ m.search.z → SameBest m.search t.search → SameImported m.search t.search
+pub moves-raised : (m t : CoreSearch) (p q : Part) (bound : Bound) → RaisesTo bound m t p q → t.search.instance.model ≡ m.search.instance.model → t.search.z ≡ m.search.z → SameBest m.search t.search → SameImported m.search t.search
     → SameRaised m.search t.search → MovesWith (whole m) (whole t) p q
 moves-raised m t p q bound r model z best imported raised = record {
   falls = subst (λ (b : Bound). BoundLe b m.search.z) (sym z) (BoundLe-refl m.search.z);
   follows = λ above. subst (λ (b : Bound). BoundLe q.bounds.saw_upper b) (sym z) (subst (λ (b : BoundsPart). BoundLe b.saw_upper m.search.z) (sym r.told) above);
   offers = λ before was.
       ap (λ (b : BoundsPart). b.offered) r.told ∙ was
-      ∙ ap (λ (o : Option (List ℤ)). lesser before (best_bound m.search.problem.model o)) (sym best)
+      ∙ ap (λ (o : Option (List ℤ)). lesser before (best_bound m.search.instance.model o)) (sym best)
       ∙ ap (λ (k : CpModel). lesser before (best_bound k t.search.best)) (sym model);
   raises = λ before was.
       ap (λ (b : BoundsPart). b.raised) r.told

@@ -15,8 +15,8 @@ MayHaveOpposite of s t subject = (t ≡ s) ⊎ GrewBy s t (opposite of) subject
 
 -- a search that knows nothing yet gained at most so many sums
 pub record OnlyGrew (s t : Search) (most : ℕ) : Type 0 where
-  pub model : t.problem.model ≡ s.problem.model
-  pub steering : t.problem.steering ≡ s.problem.steering
-  pub longer : length s.problem.domains ≤ length t.problem.domains
-  pub few : length t.problem.domains ≤ length s.problem.domains + most
-  pub is_fresh : s ≡ fresh s.problem s.gap s.budget → t ≡ fresh t.problem s.gap s.budget
+  pub model : t.instance.model ≡ s.instance.model
+  pub steering : t.instance.steering ≡ s.instance.steering
+  pub longer : length s.instance.domains ≤ length t.instance.domains
+  pub few : length t.instance.domains ≤ length s.instance.domains + most
+  pub is_fresh : s ≡ fresh s.instance s.gap s.budget → t ≡ fresh t.instance s.gap s.budget

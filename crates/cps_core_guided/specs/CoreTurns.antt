@@ -33,7 +33,7 @@ use Rattle.cps_core_guided.specs.Reforming.{CoreSearch, IsSoundCore, ReformsTo, 
 
 -- what no turn changes: the problem gains sums alone, in a reform
 pub record SameCoreSetting (s t : CoreSearch) : Type 0 where
-  pub model : t.search.problem.model ≡ s.search.problem.model
+  pub model : t.search.instance.model ≡ s.search.instance.model
   pub gap : t.search.gap ≡ s.search.gap
   pub budget : t.search.budget ≡ s.search.budget
   pub refused : t.search.refused ≡ s.search.refused
@@ -48,9 +48,9 @@ pub data DecidesOf (chooses : Trail → Option Atom → Type 0) (s : CoreSearch)
 -- Where a decision was due, one was made: an assumption, or what the brancher chose.
 pub record DecidesFrom (chooses : Trail → Option Atom → Type 0) (m t : CoreSearch) (p q : Part) : Type 0 where
   pub atom : Atom
-  pub undecided : IsUndecided m.search.trail atom
-  pub chosen : DecidesOf chooses m m.search.trail atom
-  pub is : t ≡ record m { search = moved m.search (decided m.search.trail atom) m.search.rested }
+  pub undecided : IsUndecided m.search.store atom
+  pub chosen : DecidesOf chooses m m.search.store atom
+  pub is : t ≡ record m { search = moved m.search (decided m.search.store atom) m.search.rested }
   pub part : q ≡ p
 
 -- Where a decision was due, the assumption of a term fails: the search went back to level 0, and the objective would be reformed by the
@@ -58,14 +58,14 @@ pub record DecidesFrom (chooses : Trail → Option Atom → Type 0) (m t : CoreS
 pub record FailsFrom (m t : CoreSearch) (form : Form) (more : ℕ) : Type 0 where
   pub few : m.sums < most_sums
   pub place : ℕ
-  pub failed : IsFailed m.search.trail m.form.terms place
+  pub failed : IsFailed m.search.store m.form.terms place
   pub decisions : List Atom
   pub behind : AreBehindIn m.search (assumed (term_at m.form.terms place)) decisions
   pub bottom : Trail
-  pub back : GoesBack m.search.trail bottom 0
-  pub reforms : ReformsTo bottom m.search.problem m.form place decisions t.search.problem form more
-  pub entries : t.search.trail.entries ≡ bottom.entries
-  pub level : t.search.trail.level ≡ 0
+  pub back : GoesBack m.search.store bottom 0
+  pub reforms : ReformsTo bottom m.search.instance m.form place decisions t.search.instance form more
+  pub entries : t.search.store.entries ≡ bottom.entries
+  pub level : t.search.store.level ≡ 0
   pub sums : t.sums ≡ m.sums + more
   pub setting : SameCoreSetting m t
   pub z : t.search.z ≡ m.search.z
@@ -89,7 +89,7 @@ pub record ReformsFrom (m t : CoreSearch) (p q : Part) (base : ℤ) : Type 0 whe
   pub fails : FailsFrom m t t.form more
   pub is : t.form.base ≡ base
   pub rises : m.form.base <ℤ base
-  pub not_past : IsPast t.search.z t.greatest t.search.problem.domains t.form → ⊥
+  pub not_past : IsPast t.search.z t.greatest t.search.instance.domains t.form → ⊥
   pub raises : RaisesTo (At base) m t p q
   pub ended : t.ended ≡ false
 
@@ -99,8 +99,8 @@ pub record ExhaustsFrom (m t : CoreSearch) (p q : Part) : Type 0 where
   pub form : Form
   pub more : ℕ
   pub fails : FailsFrom m t form more
-  pub past : IsPast t.search.z t.greatest t.search.problem.domains form
-  pub none_below : NoneBelow m.search.problem.model t.search.z
+  pub past : IsPast t.search.z t.greatest t.search.instance.domains form
+  pub none_below : NoneBelow m.search.instance.model t.search.z
   pub raises : RaisesTo t.search.z m t p q
   pub ended : t.ended ≡ true
 
@@ -152,7 +152,7 @@ pub data LowersCore (s t : CoreSearch) (rows : ℕ) (p q : BoardPart) : Type 0 w
   higher_base : t.search.tally ≡ s.search.tally → BoundLe t.search.z s.search.z → s.form.base <ℤ t.form.base → t.form.base ≤ℤ t.greatest → LowersCore s t rows p q
   fewer_rows : t.search.tally ≡ s.search.tally → BoundLe t.search.z s.search.z → t.form.base ≡ s.form.base → length p.taken < rows → length q.taken ≡ length p.taken + 1 → LowersCore s t rows p q
   fewer_values : t.search.tally ≡ s.search.tally → BoundLe t.search.z s.search.z → t.form.base ≡ s.form.base → length q.taken ≡ length p.taken
-      → open_values t.search.trail.first t.search.trail.entries < open_values s.search.trail.first s.search.trail.entries → LowersCore s t rows p q
+      → open_values t.search.store.first t.search.store.entries < open_values s.search.store.first s.search.store.entries → LowersCore s t rows p q
 
 -- a turn that may add what was not inferred, or go back to level 0 over a greater problem
 abbrev pub IsOwn : Turn → Type 0
@@ -161,7 +161,7 @@ IsOwn turn = (turn ≡ turns.Decided) ⊎ ((turn ≡ turns.Exhausted) ⊎ ((base
 -- what each turn of a core-guided worker does
 pub record TakesCoreTurn (chooses : Trail → Option Atom → Type 0) (s t : CoreSearch) (rows : ℕ) (p q : Part) (turn : Turn) : Type 0 where
   pub setting : SameCoreSetting s t
-  pub store : (IsOwn turn → ⊥) → GoesOnAndBack s.search.trail t.search.trail
+  pub store : (IsOwn turn → ⊥) → GoesOnAndBack s.search.store t.search.store
   pub cause : CoreCaused chooses s t rows p q turn
   pub moves : MovesWith (whole s) (whole t) p q
   pub ends : EndsAs (end_of turn) (whole t)
@@ -202,9 +202,9 @@ pub record RunsCoreTo (s t : CoreSearch) (p q : Part) (end : End) : Type 0 where
 -- A worker that begins: nothing is known, but that the objective is its first form, over the instance with a sum for the opposite of each
 -- variable that the objective takes off.
 pub record BeginsCore (p : Problem) (gap budget : ℕ) (s : CoreSearch) : Type 0 where
-  pub problem : s.search.problem.model ≡ p.model
-  pub search : s.search ≡ fresh s.search.problem gap (Some budget)
-  pub first : IsFirstForm s.search.problem (objective_terms p.model.objective) s.form
+  pub instance : s.search.instance.model ≡ p.model
+  pub search : s.search ≡ fresh s.search.instance gap (Some budget)
+  pub first : IsFirstForm s.search.instance (objective_terms p.model.objective) s.form
   pub sound : IsSoundCore s
   pub sums : s.sums ≡ 0
   pub raised : s.raised ≡ None
@@ -218,9 +218,9 @@ core_ending end s = ending CoreGuided None end (whole s)
 -- `kept` entries stay.
 pub record IsCoreWorking (s : CoreSearch) (scope : Scope) (agrees : ℕ → Type 0) (kept : ℕ) : Type 0 where
   pub sound : IsSoundCore s
-  pub of_problem : IsScopeOf s.search.problem scope
+  pub of_problem : IsScopeOf s.search.instance scope
   pub budget : IfSome s.search.budget (λ budget. budget ≤ 10 ^ 9)
   pub has_budget : IsSome s.search.budget
   pub few : s.search.imported ≤ 4096
-  pub within : kept ≤ length s.search.trail.entries
+  pub within : kept ≤ length s.search.store.entries
   pub agreed : agrees kept

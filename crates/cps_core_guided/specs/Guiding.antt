@@ -27,7 +27,7 @@ core_of {P} {B} g = record { search = g.frame; form = g.reform; sums = g.sums; g
 pub record IsDue (s : Search) : Type 0 where
   pub said : s.said ≡ Due
   pub settled : IsSettled s
-  pub left_open : AreFixed s.trail (variable_count s.problem) → ⊥
+  pub left_open : AreFixed s.store (variable_count s.instance) → ⊥
 
 -- A term failed, and the search went back to level 0: wherever decisions that are assumptions of terms are true below z, the term's assumption
 -- is false.
@@ -35,26 +35,26 @@ pub record HasFailed (s : CoreSearch) (place : ℕ) (decisions : List Atom) : Ty
   pub few : s.sums < most_sums
   pub within : place < length s.form.terms
   pub weighs : 1 ≤ (term_at s.form.terms place).weight
-  pub bottom : s.search.trail.level ≡ 0
+  pub bottom : s.search.store.level ≡ 0
   pub said : s.search.said ≡ Nothing
   pub assumptions : All (IsAssumption s.form.terms) decisions
-  pub false_there : OfEachBelow s.search.problem s.search.z (λ xs. All (λ u. atom_holds xs u ≡ true) decisions → atom_holds xs (assumed (term_at s.form.terms place)) ≡ false)
+  pub false_there : OfEachBelow s.search.instance s.search.z (λ xs. All (λ u. atom_holds xs u ≡ true) decisions → atom_holds xs (assumed (term_at s.form.terms place)) ≡ false)
 
 -- A reform was tried at level 0. Where it went through, the form is the one that it comes to, which is not past what a solution below z can
 -- have; else it would be past that, and no solution is below z.
 pub record Tried (s t : CoreSearch) (place : ℕ) (decisions : List Atom) (done : Bool) : Type 0 where
   pub form : Form
   pub more : ℕ
-  pub reforms : ReformsTo s.search.trail s.search.problem s.form place decisions t.search.problem form more
+  pub reforms : ReformsTo s.search.store s.search.instance s.form place decisions t.search.instance form more
   pub sums : t.sums ≡ s.sums + more
   pub is : done ≡ true → t.form ≡ form
   pub rises : done ≡ true → s.form.base <ℤ form.base
-  pub not_past : done ≡ true → IsPast t.search.z t.greatest t.search.problem.domains form → ⊥
-  pub past : done ≡ false → IsPast t.search.z t.greatest t.search.problem.domains form
-  pub none_below : done ≡ false → NoneBelow s.search.problem.model s.search.z
+  pub not_past : done ≡ true → IsPast t.search.z t.greatest t.search.instance.domains form → ⊥
+  pub past : done ≡ false → IsPast t.search.z t.greatest t.search.instance.domains form
+  pub none_below : done ≡ false → NoneBelow s.search.instance.model s.search.z
   pub setting : SameCoreSetting s t
-  pub entries : t.search.trail.entries ≡ s.search.trail.entries
-  pub level : t.search.trail.level ≡ 0
+  pub entries : t.search.store.entries ≡ s.search.store.entries
+  pub level : t.search.store.level ≡ 0
   pub z : t.search.z ≡ s.search.z
   pub learnt : SameLearnt s.search t.search
   pub imported : SameImported s.search t.search
@@ -72,9 +72,9 @@ pub record Splits (s t : CoreSearch) (done : Bool) : Type 0 where
   pub sums : t.sums ≡ s.sums + 1
   pub is : done ≡ true → t.form ≡ split s.form (least_weight s.form.terms) subject
   pub stays : done ≡ false → t.form ≡ s.form
-  pub not_past : done ≡ true → IsPast t.search.z t.greatest t.search.problem.domains t.form → ⊥
-  pub past : done ≡ false → IsPast t.search.z t.greatest t.search.problem.domains (split s.form (least_weight s.form.terms) subject)
-  pub none_below : done ≡ false → NoneBelow s.search.problem.model s.search.z
+  pub not_past : done ≡ true → IsPast t.search.z t.greatest t.search.instance.domains t.form → ⊥
+  pub past : done ≡ false → IsPast t.search.z t.greatest t.search.instance.domains (split s.form (least_weight s.form.terms) subject)
+  pub none_below : done ≡ false → NoneBelow s.search.instance.model s.search.z
   pub raised : t.raised ≡ s.raised
   pub greatest : t.greatest ≡ s.greatest
   pub ended : t.ended ≡ s.ended

@@ -64,11 +64,11 @@ whole s = record s.search { raised = greater_of s.search.raised s.raised; said =
 -- room for all sums to come.
 pub record IsSoundCore (s : CoreSearch) : Type 0 where
   pub search : IsSoundSearch s.search
-  pub form : IsReform s.search.problem s.search.z s.form
+  pub form : IsReform s.search.instance s.search.z s.form
   pub base : unsigned_abs s.form.base < 2 ^ 62
-  pub greatest : s.greatest ≡ greatest_objective s.search.problem
-  pub assumes : s.sums < most_sums → AssumesFirst s.search.trail s.form.terms
+  pub greatest : s.greatest ≡ greatest_objective s.search.instance
+  pub assumes : s.sums < most_sums → AssumesFirst s.search.store s.form.terms
   pub few : s.sums ≤ most_sums
-  pub room : length s.search.problem.domains + most_sums ≤ 2 ^ 31 + s.sums
-  pub raised : IfSome s.raised (IsLowerBound s.search.problem.model)
-  pub ended : s.ended ≡ true → NoneBelow s.search.problem.model s.search.z
+  pub room : length s.search.instance.domains + most_sums ≤ 2 ^ 31 + s.sums
+  pub raised : IfSome s.raised (IsLowerBound s.search.instance.model)
+  pub ended : s.ended ≡ true → NoneBelow s.search.instance.model s.search.z

@@ -17,10 +17,10 @@ use std::alloc::{AllocError, Global};
 /// is the opposite of it.
 fn held_subject<P: Defining>(frame: &mut Frame<'_, P>, term: Term) -> Result<u32, AllocError>
     requires sound { IsSoundSearch frame.old }
-    requires bottom { frame.old.trail.level ≡ 0 }
-    requires subject { term.subject < variable_count frame.old.problem }
-    requires room { length frame.old.problem.domains < 2 ^ 31 }
-    ensures holds { IfOk result (Holds frame.new.problem term) }
+    requires bottom { frame.old.store.level ≡ 0 }
+    requires subject { term.subject < variable_count frame.old.instance }
+    requires room { length frame.old.instance.domains < 2 ^ 31 }
+    ensures holds { IfOk result (Holds frame.new.instance term) }
     ensures grew { IfOk result (MayHaveOpposite term.subject frame.old frame.new) }
     ensures sound { OnOk result (IsSoundSearch frame.new) }
     ensures refused { OnErr result (IsTrue frame.new.refused) }
@@ -42,11 +42,11 @@ pub(crate) fn first_form<P: Defining>(
     terms: &[Term],
 ) -> Result<Reform, AllocError>
     requires sound { IsSoundSearch frame.old }
-    requires bottom { frame.old.trail.level ≡ 0 }
-    requires subjects { All (λ t. t.subject < variable_count frame.old.problem) terms.now }
-    requires small { terms_reach frame.old.problem.domains terms.now < 2 ^ 62 }
-    requires room { length frame.old.problem.domains + length terms.now ≤ 2 ^ 31 }
-    ensures first { IfOk result (IsFirstForm frame.new.problem terms.now) }
+    requires bottom { frame.old.store.level ≡ 0 }
+    requires subjects { All (λ t. t.subject < variable_count frame.old.instance) terms.now }
+    requires small { terms_reach frame.old.instance.domains terms.now < 2 ^ 62 }
+    requires room { length frame.old.instance.domains + length terms.now ≤ 2 ^ 31 }
+    ensures first { IfOk result (IsFirstForm frame.new.instance terms.now) }
     ensures base { IfOk result (λ form. unsigned_abs form.base < 2 ^ 62) }
     ensures grew { OnOk result (OnlyGrew frame.old frame.new (length terms.now)) }
     ensures sound { OnOk result (IsSoundSearch frame.new) }

@@ -21,17 +21,17 @@ pub(crate) fn grow_core<P: Defining>(
     reform: &Reform,
     core: &[Term],
 ) -> Result<u32, AllocError>
-    requires bottom { frame.old.trail.level ≡ 0 }
+    requires bottom { frame.old.store.level ≡ 0 }
     requires core { core.now ≡ core_terms reform.now.terms }
-    requires roomy { IsRoomy frame.old.problem.domains reform.now }
+    requires roomy { IsRoomy frame.old.instance.domains reform.now }
     requires weights { WeighAtLeast 1 reform.now.terms }
-    requires room { length frame.old.problem.domains < 2 ^ 31 }
+    requires room { length frame.old.instance.domains < 2 ^ 31 }
     ensures grew { IfOk result (GrewBy frame.old frame.new (core_sum reform.now.terms)) }
-    ensures sum { IfOk result (IsCoreSum frame.new.problem reform.now.terms) }
-    ensures reform { IfOk result (λ _. (z : Bound) → IsReform frame.old.problem z reform.now → IsReform
-        frame.new.problem z reform.now) }
-    ensures core { IfOk result (λ _. (z : Bound) → OfEachBelow frame.old.problem z (λ xs. IsSomeAbove xs
-        reform.now.terms) → OfEachBelow frame.new.problem z (λ xs. IsSomeAbove xs reform.now.terms)) }
+    ensures sum { IfOk result (IsCoreSum frame.new.instance reform.now.terms) }
+    ensures reform { IfOk result (λ _. (z : Bound) → IsReform frame.old.instance z reform.now → IsReform
+        frame.new.instance z reform.now) }
+    ensures core { IfOk result (λ _. (z : Bound) → OfEachBelow frame.old.instance z (λ xs. IsSomeAbove xs
+        reform.now.terms) → OfEachBelow frame.new.instance z (λ xs. IsSomeAbove xs reform.now.terms)) }
     ensures sound { OnOk result (IsSoundSearch frame.new) }
     ensures refused { OnErr result (IsTrue frame.new.refused) }
 {

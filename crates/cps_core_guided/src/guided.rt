@@ -64,9 +64,9 @@ impl<'a, P: Defining, B: Brancher + Drop> Guided<'a, P, B> {
     /// Takes one turn.
     pub fn turn<Q: Port>(&mut self, port: &mut Q) -> Result<Turn, AllocError>
         requires works { IsCoreWorking (core_of self.old) (B.scope self.old.brancher) (B.agrees self.old.brancher
-            self.old.frame.trail) self.old.kept }
+            self.old.frame.store) self.old.kept }
         requires running { IsOver (whole (core_of self.old)).said → ⊥ }
-        requires model { Q.model port.old ≡ self.old.frame.problem.model }
+        requires model { Q.model port.old ≡ self.old.frame.instance.model }
         requires imported { self.old.frame.imported ≤ length (Q.part port.old).board.taken }
         ensures same { (Q.model port.new ≡ Q.model port.old) × (Q.rows port.new ≡ Q.rows port.old) }
         ensures others { Q.stays port.old port.new }
@@ -77,7 +77,7 @@ impl<'a, P: Defining, B: Brancher + Drop> Guided<'a, P, B> {
             self.new.brancher) (self.new.brancher ≡ self.old.brancher)) (self.new.brancher ≡ self.old.brancher)) }
         ensures guidance { B.guidance self.new.brancher ≡ B.guidance self.old.brancher }
         ensures works { OnOk result (IsCoreWorking (core_of self.new) (B.scope self.new.brancher) (B.agrees
-            self.new.brancher self.new.frame.trail) self.new.kept) }
+            self.new.brancher self.new.frame.store) self.new.kept) }
     {
         match self.frame.steps(port)? {
             Some(turn) => {
@@ -93,10 +93,10 @@ impl<'a, P: Defining, B: Brancher + Drop> Guided<'a, P, B> {
     /// without one, what the brancher chooses.
     fn go_on<Q: Port>(&mut self, port: &mut Q) -> Result<Turn, AllocError>
         requires works { IsCoreWorking (core_of self.old) (B.scope self.old.brancher) (B.agrees self.old.brancher
-            self.old.frame.trail) self.old.kept }
+            self.old.frame.store) self.old.kept }
         requires due { IsDue self.old.frame }
         requires running { self.old.ended ≡ false }
-        requires model { Q.model port.old ≡ self.old.frame.problem.model }
+        requires model { Q.model port.old ≡ self.old.frame.instance.model }
         ensures same { (Q.model port.new ≡ Q.model port.old) × (Q.rows port.new ≡ Q.rows port.old) }
         ensures others { Q.stays port.old port.new }
         ensures goes_on { IfOk result (GoesOn (B.chooses self.old.brancher) (core_of self.old) (core_of self.new)
@@ -105,7 +105,7 @@ impl<'a, P: Defining, B: Brancher + Drop> Guided<'a, P, B> {
             self.new.brancher) (self.new.brancher ≡ self.old.brancher)) (self.new.brancher ≡ self.old.brancher)) }
         ensures guidance { B.guidance self.new.brancher ≡ B.guidance self.old.brancher }
         ensures works { OnOk result (IsCoreWorking (core_of self.new) (B.scope self.new.brancher) (B.agrees
-            self.new.brancher self.new.frame.trail) self.new.kept) }
+            self.new.brancher self.new.frame.store) self.new.kept) }
     {
         if self.sums >= MOST_SUMS {
             return self.choose();
@@ -122,17 +122,17 @@ impl<'a, P: Defining, B: Brancher + Drop> Guided<'a, P, B> {
     /// Decides the assumption of a term.
     fn assume(&mut self, place: usize) -> Result<Turn, AllocError>
         requires works { IsCoreWorking (core_of self.old) (B.scope self.old.brancher) (B.agrees self.old.brancher
-            self.old.frame.trail) self.old.kept }
+            self.old.frame.store) self.old.kept }
         requires due { IsDue self.old.frame }
         requires few { self.old.sums < most_sums }
-        requires none_fails { NoneFails self.old.frame.trail self.old.reform.terms }
-        requires open_now { IsFirstOpen self.old.frame.trail self.old.reform.terms place }
+        requires none_fails { NoneFails self.old.frame.store self.old.reform.terms }
+        requires open_now { IsFirstOpen self.old.frame.store self.old.reform.terms place }
         ensures goes_on { IfOk result (λ turn. (part : Part) → GoesOn (B.chooses self.old.brancher) (core_of self.old)
             (core_of self.new) part part turn) }
         ensures decided { IfOk result (λ turn. turn ≡ Turn.Decided) }
         ensures brancher { self.new.brancher ≡ self.old.brancher }
         ensures works { OnOk result (IsCoreWorking (core_of self.new) (B.scope self.new.brancher) (B.agrees
-            self.new.brancher self.new.frame.trail) self.new.kept) }
+            self.new.brancher self.new.frame.store) self.new.kept) }
     {
         let atom = assumption(&self.reform.terms()[place]);
         self.frame.decide(atom)?;
@@ -142,17 +142,17 @@ impl<'a, P: Defining, B: Brancher + Drop> Guided<'a, P, B> {
     /// Decides what the brancher chooses.
     fn choose(&mut self) -> Result<Turn, AllocError>
         requires works { IsCoreWorking (core_of self.old) (B.scope self.old.brancher) (B.agrees self.old.brancher
-            self.old.frame.trail) self.old.kept }
+            self.old.frame.store) self.old.kept }
         requires due { IsDue self.old.frame }
-        requires assumed { self.old.sums < most_sums → AreAssumed self.old.frame.trail.first
-            self.old.frame.trail.entries self.old.reform.terms }
+        requires assumed { self.old.sums < most_sums → AreAssumed self.old.frame.store.first
+            self.old.frame.store.entries self.old.reform.terms }
         ensures goes_on { IfOk result (λ turn. (part : Part) → GoesOn (B.chooses self.old.brancher) (core_of self.old)
             (core_of self.new) part part turn) }
         ensures decided { IfOk result (λ turn. turn ≡ Turn.Decided) }
         ensures brancher { B.stays self.old.brancher self.new.brancher }
         ensures guidance { B.guidance self.new.brancher ≡ B.guidance self.old.brancher }
         ensures works { OnOk result (IsCoreWorking (core_of self.new) (B.scope self.new.brancher) (B.agrees
-            self.new.brancher self.new.frame.trail) self.new.kept) }
+            self.new.brancher self.new.frame.store) self.new.kept) }
     {
         let seen = self.frame.store().entries().len();
         decide_next(&mut self.frame, &mut self.brancher, self.kept)?;
@@ -163,19 +163,19 @@ impl<'a, P: Defining, B: Brancher + Drop> Guided<'a, P, B> {
     /// Reforms the objective for a failed term, or ends if no solution below z can have the new form.
     fn reform_at<Q: Port>(&mut self, port: &mut Q, place: usize) -> Result<Turn, AllocError>
         requires works { IsCoreWorking (core_of self.old) (B.scope self.old.brancher) (B.agrees self.old.brancher
-            self.old.frame.trail) self.old.kept }
+            self.old.frame.store) self.old.kept }
         requires due { IsDue self.old.frame }
         requires running { self.old.ended ≡ false }
         requires few { self.old.sums < most_sums }
-        requires failed { IsFailed self.old.frame.trail self.old.reform.terms place }
-        requires model { Q.model port.old ≡ self.old.frame.problem.model }
+        requires failed { IsFailed self.old.frame.store self.old.reform.terms place }
+        requires model { Q.model port.old ≡ self.old.frame.instance.model }
         ensures same { (Q.model port.new ≡ Q.model port.old) × (Q.rows port.new ≡ Q.rows port.old) }
         ensures others { Q.stays port.old port.new }
         ensures goes_on { IfOk result (GoesOn (B.chooses self.old.brancher) (core_of self.old) (core_of self.new)
             (Q.part port.old) (Q.part port.new)) }
         ensures brancher { self.new.brancher ≡ self.old.brancher }
         ensures works { OnOk result (IsCoreWorking (core_of self.new) (B.scope self.new.brancher) (B.agrees
-            self.new.brancher self.new.frame.trail) self.new.kept) }
+            self.new.brancher self.new.frame.store) self.new.kept) }
     {
         let atom = assumption(&self.reform.terms()[place]);
         // Reading the entries gives the proof the store's invariant.
@@ -198,14 +198,14 @@ impl<'a, P: Defining, B: Brancher + Drop> Guided<'a, P, B> {
         decisions: &[Atom],
     ) -> Result<bool, AllocError>
         requires works { IsCoreWorking (core_of self.old) (B.scope self.old.brancher) (B.agrees self.old.brancher
-            self.old.frame.trail) self.old.kept }
+            self.old.frame.store) self.old.kept }
         requires bottom { IsFalseBelow self.old.frame }
         requires failed { HasFailed (core_of self.old) place decisions.now }
         requires atom { atom ≡ assumed (term_at self.old.reform.terms place) }
         ensures tried { IfOk result (Tried (core_of self.old) (core_of self.new) place decisions.now) }
         ensures brancher { self.new.brancher ≡ self.old.brancher }
         ensures works { OnOk result (IsCoreWorking (core_of self.new) (B.scope self.new.brancher) (B.agrees
-            self.new.brancher self.new.frame.trail) self.new.kept) }
+            self.new.brancher self.new.frame.store) self.new.kept) }
     {
         match self.frame.store().truth(atom) {
             Truth::No => {
@@ -224,14 +224,14 @@ impl<'a, P: Defining, B: Brancher + Drop> Guided<'a, P, B> {
         decisions: &[Atom],
     ) -> Result<bool, AllocError>
         requires works { IsCoreWorking (core_of self.old) (B.scope self.old.brancher) (B.agrees self.old.brancher
-            self.old.frame.trail) self.old.kept }
-        requires not_false { IsFalseNow self.old.frame.trail atom → ⊥ }
+            self.old.frame.store) self.old.kept }
+        requires not_false { IsFalseNow self.old.frame.store atom → ⊥ }
         requires failed { HasFailed (core_of self.old) place decisions.now }
         requires atom { atom ≡ assumed (term_at self.old.reform.terms place) }
         ensures tried { IfOk result (Tried (core_of self.old) (core_of self.new) place decisions.now) }
         ensures brancher { self.new.brancher ≡ self.old.brancher }
         ensures works { OnOk result (IsCoreWorking (core_of self.new) (B.scope self.new.brancher) (B.agrees
-            self.new.brancher self.new.frame.trail) self.new.kept) }
+            self.new.brancher self.new.frame.store) self.new.kept) }
     {
         // Reading the entries gives the proof the store's invariant.
         let _ = self.frame.store().entries();
@@ -247,21 +247,21 @@ impl<'a, P: Defining, B: Brancher + Drop> Guided<'a, P, B> {
     /// nothing, if no solution below z can have the new form.
     fn lift(&mut self, place: usize, bound: i64) -> bool
         requires sound { IsSoundCore (core_of self.old) }
-        requires bottom { self.old.frame.trail.level ≡ 0 }
+        requires bottom { self.old.frame.store.level ≡ 0 }
         requires place { place < length self.old.reform.terms }
         requires rises { (term_at self.old.reform.terms place).bound ≤ℤ bound }
-        requires risen { OfEachBelow self.old.frame.problem self.old.frame.z (λ xs. bound ≤ℤ value_at xs (term_at
+        requires risen { OfEachBelow self.old.frame.instance self.old.frame.z (λ xs. bound ≤ℤ value_at xs (term_at
             self.old.reform.terms place).subject) }
         ensures lifts { result ≡ true → core_of self.new ≡ record (core_of self.old) {
           form = lifted self.old.reform
               place bound;
         } }
         ensures stays { result ≡ false → core_of self.new ≡ core_of self.old }
-        ensures not_past { result ≡ true → IsPast self.old.frame.z self.old.greatest self.old.frame.problem.domains
+        ensures not_past { result ≡ true → IsPast self.old.frame.z self.old.greatest self.old.frame.instance.domains
             self.new.reform → ⊥ }
-        ensures past { result ≡ false → IsPast self.old.frame.z self.old.greatest self.old.frame.problem.domains (lifted
+        ensures past { result ≡ false → IsPast self.old.frame.z self.old.greatest self.old.frame.instance.domains (lifted
             self.old.reform place bound) }
-        ensures none { result ≡ false → NoneBelow self.old.frame.problem.model self.old.frame.z }
+        ensures none { result ≡ false → NoneBelow self.old.frame.instance.model self.old.frame.z }
         ensures sound { IsSoundCore (core_of self.new) }
         ensures kept { (self.new.brancher ≡ self.old.brancher) × (self.new.kept ≡ self.old.kept) }
     {
@@ -280,17 +280,17 @@ impl<'a, P: Defining, B: Brancher + Drop> Guided<'a, P, B> {
     /// if no solution below z can have the new form.
     fn split(&mut self, core: &[Term]) -> Result<bool, AllocError>
         requires works { IsCoreWorking (core_of self.old) (B.scope self.old.brancher) (B.agrees self.old.brancher
-            self.old.frame.trail) self.old.kept }
-        requires bottom { self.old.frame.trail.level ≡ 0 }
+            self.old.frame.store) self.old.kept }
+        requires bottom { self.old.frame.store.level ≡ 0 }
         requires few { self.old.sums < most_sums }
         requires core { core.now ≡ core_terms self.old.reform.terms }
         requires weights { WeighAtLeast 1 self.old.reform.terms }
-        requires above { OfEachBelow self.old.frame.problem self.old.frame.z (λ xs. IsSomeAbove xs
+        requires above { OfEachBelow self.old.frame.instance self.old.frame.z (λ xs. IsSomeAbove xs
             self.old.reform.terms) }
         ensures splits { IfOk result (Splits (core_of self.old) (core_of self.new)) }
         ensures brancher { self.new.brancher ≡ self.old.brancher }
         ensures works { OnOk result (IsCoreWorking (core_of self.new) (B.scope self.new.brancher) (B.agrees
-            self.new.brancher self.new.frame.trail) self.new.kept) }
+            self.new.brancher self.new.frame.store) self.new.kept) }
     {
         let subject = grow_core(&mut self.frame, &self.reform, core)?;
         // Reading the entries gives the proof the store's invariant.
@@ -307,9 +307,9 @@ impl<'a, P: Defining, B: Brancher + Drop> Guided<'a, P, B> {
     /// Raises the lower bound: to the new base, or to z where the worker is exhausted.
     fn conclude<Q: Port>(&mut self, port: &mut Q, is_reformed: bool) -> Turn
         requires sound { IsSoundCore (core_of self.old) }
-        requires model { Q.model port.old ≡ self.old.frame.problem.model }
-        requires base { is_reformed ≡ true → IsLowerBound self.old.frame.problem.model (Bound.At self.old.reform.base) }
-        requires none { is_reformed ≡ false → NoneBelow self.old.frame.problem.model self.old.frame.z }
+        requires model { Q.model port.old ≡ self.old.frame.instance.model }
+        requires base { is_reformed ≡ true → IsLowerBound self.old.frame.instance.model (Bound.At self.old.reform.base) }
+        requires none { is_reformed ≡ false → NoneBelow self.old.frame.instance.model self.old.frame.z }
         ensures same { (Q.model port.new ≡ Q.model port.old) × (Q.rows port.new ≡ Q.rows port.old) }
         ensures others { Q.stays port.old port.new }
         ensures reformed { is_reformed ≡ true → (result ≡ Turn.Reformed self.old.reform.base) × RaisesTo (Bound.At
@@ -333,8 +333,8 @@ impl<'a, P: Defining, B: Brancher + Drop> Guided<'a, P, B> {
 
     /// Raises the lower bound.
     fn raise<Q: Port>(&mut self, port: &mut Q, bound: Bound)
-        requires model { Q.model port.old ≡ self.old.frame.problem.model }
-        requires bound { IsLowerBound self.old.frame.problem.model bound }
+        requires model { Q.model port.old ≡ self.old.frame.instance.model }
+        requires bound { IsLowerBound self.old.frame.instance.model bound }
         requires small { IsSmallBound bound }
         ensures same { (Q.model port.new ≡ Q.model port.old) × (Q.rows port.new ≡ Q.rows port.old) }
         ensures others { Q.stays port.old port.new }

@@ -44,7 +44,7 @@ impl<'a, P: Defining, B: Brancher + Drop> Model for CoreWorker<'a, P, B> {
 
     ghost view = { λ w. (with_refused (core_of w.guided) w.refused, w.guided.brancher) };
 
-    ghost invariant = { λ w. w.refused ≡ false → (w.guided.frame.refused ≡ false) × IsCoreWorking (core_of w.guided) (B.scope w.guided.brancher) (B.agrees w.guided.brancher w.guided.frame.trail) w.guided.kept };
+    ghost invariant = { λ w. w.refused ≡ false → (w.guided.frame.refused ≡ false) × IsCoreWorking (core_of w.guided) (B.scope w.guided.brancher) (B.agrees w.guided.brancher w.guided.frame.store) w.guided.kept };
 }
 
 impl<'a, P: Defining> CoreWorker<'a, P, ActivityBrancher> {
@@ -63,7 +63,7 @@ impl<'a, P: Defining> CoreWorker<'a, P, ActivityBrancher> {
         requires budget { budget ≤ 10 ^ 9 }
         requires few { length instance.domains < 2 ^ 30 }
         ensures begins { IfOk result (λ w. BeginsCore instance.entry gap budget w.0) }
-        ensures hints { IfOk result (λ w. AreHintsOf w.0.search.problem w.1.hints) }
+        ensures hints { IfOk result (λ w. AreHintsOf w.0.search.instance w.1.hints) }
     {
         let brancher = ActivityBrancher::of(alloc, &instance)?;
         let terms = objective_terms(alloc, &instance)?;
@@ -93,7 +93,7 @@ impl<'a, P: Defining, B: Brancher + Drop> CoreWorker<'a, P, B> {
     /// objective is reformed, or no solution is left; an assumption, or else what the brancher chooses, is decided.
     pub fn turn<Q: Port>(&mut self, port: &mut Q) -> Result<Turn, AllocError>
         requires running { IsOver (whole self.old.0).said → ⊥ }
-        requires model { Q.model port.old ≡ self.old.0.search.problem.model }
+        requires model { Q.model port.old ≡ self.old.0.search.instance.model }
         requires imported { self.old.0.search.imported ≤ length (Q.part port.old).board.taken }
         ensures same { (Q.model port.new ≡ Q.model port.old) × (Q.rows port.new ≡ Q.rows port.old) }
         ensures others { Q.stays port.old port.new }
@@ -119,7 +119,7 @@ impl<'a, P: Defining, B: Brancher + Drop> CoreWorker<'a, P, B> {
     /// Takes turns until one ends the worker.
     pub fn run<Q: Port>(&mut self, port: &mut Q) -> Result<End, AllocError>
         requires running { IsOver (whole self.old.0).said → ⊥ }
-        requires model { Q.model port.old ≡ self.old.0.search.problem.model }
+        requires model { Q.model port.old ≡ self.old.0.search.instance.model }
         requires imported { self.old.0.search.imported ≤ length (Q.part port.old).board.taken }
         ensures same { (Q.model port.new ≡ Q.model port.old) × (Q.rows port.new ≡ Q.rows port.old) }
         ensures others { Q.stays port.old port.new }

@@ -58,7 +58,7 @@ counts_on s t rows p q (turns.Spent clause below) h conflicts k = absurd k
 counts_on s t rows p q (turns.Reformed base) h conflicts k = absurd k
 counts_on s t rows p q turns.Learnt h conflicts k =
     let l = k.1 in
-    let P = EndsRound l.round s.search.trail l.back in
+    let P = EndsRound l.round s.search.store l.back in
     let before : learnt_in s.round ≡ l.round.learnt = ap (λ (o : Option Round). learnt_in o) l.under_way in
     let count : t.search.tally ≡ s.search.tally + 1 = l.one.tally in
     let most = ap round_count conflicts in
@@ -162,7 +162,7 @@ near_turns_run rows s t p q end h sound = near_ends s h.before t rows p h.part q
 
 -- ---- a worker that has ended is honest
 
-why_of : (t : Near) (gap conflicts : ℕ) (q : BoundsPart) (end last : End) → t.search.gap ≡ gap → t.conflicts ≡ conflicts → HasCounted t → NearEndsBy t q end → IsWhy t.search.problem gap conflicts t.search.z q (ending kinds.Near None last t.search) end
+why_of : (t : Near) (gap conflicts : ℕ) (q : BoundsPart) (end last : End) → t.search.gap ≡ gap → t.conflicts ≡ conflicts → HasCounted t → NearEndsBy t q end → IsWhy t.search.instance gap conflicts t.search.z q (ending kinds.Near None last t.search) end
 why_of t gap conflicts q ends.Exhausted last e c counted h = (h.raise, h.raised, h.at_least)
 why_of t gap conflicts q ends.SawClosed last e c counted h = subst (λ (n : ℕ). LastSawMet n q) e h
 why_of t gap conflicts q (ends.Spent clause below) last e c counted h = absurd h
@@ -181,7 +181,7 @@ near_honest p gap conflicts rows draws s t part q end begins h before sound offe
     let counted = counts_on h.before t rows h.part q h.turn (counted_turns rows s part h.before h.part h.turns (begins_counted p gap conflicts draws s begins)) h.last.conflicts h.last.cause in
     let same : t.conflicts ≡ conflicts = runs.conflicts ∙ begins.conflicts_are in
     honest_by p gap conflicts None t.search part q kinds.Near None end
-    (runs.setting.problem ∙ ap (λ (x : Search). x.problem) begins.search)
+    (runs.setting.instance ∙ ap (λ (x : Search). x.instance) begins.search)
     (subst (λ (x : Search). MovesWith x t.search part q) begins.search runs.moves) sound offered raised
     (omega (arith, counted.most, counted.whole, ap round_count same))
     (why_of t gap conflicts q.bounds end end (runs.setting.gap ∙ ap (λ (x : Search). x.gap) begins.search) same counted runs.why)

@@ -35,10 +35,10 @@ pub round_out : (b : Bool) (r : Progress) → b ≡ false → round_if b r ≡ N
 round_out b r e = ap (λ (c : Bool). round_if c r) e
 
 pub round_now_in : {P : Type 0} (x : Explorer P) → x.in_round ≡ true → round_now (near_of x) ≡ round_of x.round
-round_now_in x e = ap (λ (b : Bool). round_or_first (variable_count x.frame.problem) (solution_of x.aim) x.draws (round_if b x.round)) e
+round_now_in x e = ap (λ (b : Bool). round_or_first (variable_count x.frame.instance) (solution_of x.aim) x.draws (round_if b x.round)) e
 
 pub draws_now_in : {P : Type 0} (x : Explorer P) → x.in_round ≡ true → draws_now (near_of x) ≡ x.draws
-draws_now_in x e = ap (λ (b : Bool). draws_or_after (variable_count x.frame.problem) x.draws (round_if b x.round)) e
+draws_now_in x e = ap (λ (b : Bool). draws_or_after (variable_count x.frame.instance) x.draws (round_if b x.round)) e
 
 -- ---- what a worker keeps
 
@@ -51,18 +51,18 @@ pub not_over : (said : Said) → said ≡ Nothing → IsOver said → ⊥
 not_over said e = subst (λ (x : Said). IsOver x → ⊥) (sym e) (λ h. h)
 
 pub explores_on : {P : Type 0} (x y : Explorer P) → IsExploring x → IsSoundSearch y.frame → SameSetting x.frame y.frame → y.frame.imported ≤ 4096 → length y.brancher.activities ≡ length x.brancher.activities
-    → y.conflicts ≡ x.conflicts → y.aim ≡ x.aim → y.kept ≤ length y.frame.trail.entries → AreFixedAside (length y.brancher.activities) y.brancher.aside y.frame.trail y.kept → y.rounds ≤ round_count x.conflicts
-    → y.frame.tally ≤ round_conflicts * y.rounds + learnt_in (round_if y.in_round y.round) → (y.in_round ≡ false → y.frame.trail.level ≡ 0) → ((IsOver y.frame.said → ⊥) → y.in_round ≡ true → IsUnderWay y.round y.frame.trail) → IsExploring y
+    → y.conflicts ≡ x.conflicts → y.aim ≡ x.aim → y.kept ≤ length y.frame.store.entries → AreFixedAside (length y.brancher.activities) y.brancher.aside y.frame.store y.kept → y.rounds ≤ round_count x.conflicts
+    → y.frame.tally ≤ round_conflicts * y.rounds + learnt_in (round_if y.in_round y.round) → (y.in_round ≡ false → y.frame.store.level ≡ 0) → ((IsOver y.frame.said → ⊥) → y.in_round ≡ true → IsUnderWay y.round y.frame.store) → IsExploring y
 explores_on x y h sound setting imported size conflicts aim within agreed rounds tally between under_way = record {
   sound = sound;
   running = setting.refused ∙ h.running;
-  scope = subst (λ (n : ℕ). IsScopeOf y.frame.problem (record { variables = n; subjects = n })) (sym size) (subst (λ (p : Problem). IsScopeOf p (record { variables = length x.brancher.activities; subjects = length x.brancher.activities })) (sym setting.problem) h.scope);
+  scope = subst (λ (n : ℕ). IsScopeOf y.frame.instance (record { variables = n; subjects = n })) (sym size) (subst (λ (p : Problem). IsScopeOf p (record { variables = length x.brancher.activities; subjects = length x.brancher.activities })) (sym setting.instance) h.scope);
   budget = setting.budget ∙ h.budget;
   conflicts = omega (arith, conflicts, h.conflicts);
   imported = imported;
   within = within;
   agreed = agreed;
-  variables = ap (λ (a : Aim). length a.values.items) aim ∙ h.variables ∙ ap (λ (p : Problem). variable_count p) (sym setting.problem);
+  variables = ap (λ (a : Aim). length a.values.items) aim ∙ h.variables ∙ ap (λ (p : Problem). variable_count p) (sym setting.instance);
   few_variables = omega (arith, ap (λ (a : Aim). length a.values.items) aim, h.few_variables);
   rounds = omega (arith, rounds, ap (λ (n : ℕ). round_count n) conflicts);
   tally = tally;
@@ -78,26 +78,26 @@ learnt_same false true r u e l = absurd (cc e)
 learnt_same false false r u e l = refl
 
 -- the round made its next decision
-pub open_decided : {P : Type 0} (x y : Explorer P) (a : Atom) → IsExploring x → x.frame.said ≡ Due → x.in_round ≡ true → IsFirstOpen x.round.decisions.items x.frame.trail a → x.round.held ≡ x.frame.trail.level → y.frame ≡ moved x.frame (decided x.frame.trail a) x.frame.rested → IsSoundSearch y.frame
-    → y.brancher ≡ x.brancher → y.kept ≡ x.kept → y.conflicts ≡ x.conflicts → y.aim ≡ x.aim → y.rounds ≡ x.rounds → y.in_round ≡ x.in_round → y.round.decisions.items ≡ x.round.decisions.items → y.round.learnt ≡ x.round.learnt → y.round.held ≡ y.frame.trail.level
+pub open_decided : {P : Type 0} (x y : Explorer P) (a : Atom) → IsExploring x → x.frame.said ≡ Due → x.in_round ≡ true → IsFirstOpen x.round.decisions.items x.frame.store a → x.round.held ≡ x.frame.store.level → y.frame ≡ moved x.frame (decided x.frame.store a) x.frame.rested → IsSoundSearch y.frame
+    → y.brancher ≡ x.brancher → y.kept ≡ x.kept → y.conflicts ≡ x.conflicts → y.aim ≡ x.aim → y.rounds ≡ x.rounds → y.in_round ≡ x.in_round → y.round.decisions.items ≡ x.round.decisions.items → y.round.learnt ≡ x.round.learnt → y.round.held ≡ y.frame.store.level
     → y.round.place ≡ x.round.place → IsExploring y
 open_decided x y a h due on first held is sound brancher kept conflicts aim rounds in_round decisions learnt held_now place =
-    let s = x.frame.trail in
+    let s = x.frame.store in
     let e : Entry = record { atom = a; level = s.level + 1; reason = Decision } in
-    let trail : y.frame.trail ≡ decided s a = ap (λ (z : Search). z.trail) is in
-    let level : y.frame.trail.level ≡ s.level + 1 = ap (λ (t : Trail). t.level) trail in
+    let trail : y.frame.store ≡ decided s a = ap (λ (z : Search). z.store) is in
+    let level : y.frame.store.level ≡ s.level + 1 = ap (λ (t : Trail). t.level) trail in
     let size : length y.brancher.activities ≡ length x.brancher.activities = ap (λ (b : _). length b.activities) brancher in
     explores_on x y h sound (setting_of x.frame (moved x.frame (decided s a) x.frame.rested) y.frame is refl refl refl refl)
     (omega (arith, ap (λ (z : Search). z.imported) is, h.imported)) size conflicts aim
     (omega (arith, kept, h.within, ap (λ (t : Trail). length t.entries) trail, length-append s.entries (e ∷ [])))
-    (subst (λ (b : _). AreFixedAside (length b.activities) b.aside y.frame.trail y.kept) (sym brancher)
-    (subst (λ (k : ℕ). AreFixedAside (length x.brancher.activities) x.brancher.aside y.frame.trail k) (sym kept)
+    (subst (λ (b : _). AreFixedAside (length b.activities) b.aside y.frame.store y.kept) (sym brancher)
+    (subst (λ (k : ℕ). AreFixedAside (length x.brancher.activities) x.brancher.aside y.frame.store k) (sym kept)
     (subst (λ (t : Trail). AreFixedAside (length x.brancher.activities) x.brancher.aside t x.kept) (sym trail)
     (aside_kept_on (length x.brancher.activities) x.brancher.aside s (decided s a) x.kept x.kept (omega arith) (decided_onward (length x.brancher.activities) x.kept s a h.within) h.agreed))))
     (omega (arith, rounds, h.rounds))
     (omega (arith, ap (λ (z : Search). z.tally) is, h.tally, ap (λ (n : ℕ). round_conflicts * n) rounds, learnt_same x.in_round y.in_round x.round y.round in_round learnt))
     (λ off. absurd (clash off (in_round ∙ on)))
-    (λ _ _. way_decided x.round y.round s y.frame.trail e (ap (λ (t : Trail). t.first) trail) (ap (λ (t : Trail). t.entries) trail) level refl (record { decided = refl; one_of = (first.place, first.within, first.is a) }) held decisions
+    (λ _ _. way_decided x.round y.round s y.frame.store e (ap (λ (t : Trail). t.first) trail) (ap (λ (t : Trail). t.entries) trail) level refl (record { decided = refl; one_of = (first.place, first.within, first.is a) }) held decisions
     (omega (arith, held_now, level, held)) place learnt (h.under_way (due_runs x.frame.said due) on))
   where
     clash : {t : Bool} → t ≡ false → t ≡ true → ⊥
@@ -108,30 +108,30 @@ pub chosen_hinted : {P : Type 0} (x : Explorer P) (t : Search) → Decides (λ s
 chosen_hinted x t d = record { atom = d.atom; undecided = d.undecided; chosen = d.chosen.1; is = d.is }
 
 -- the brancher made the next decision of the round
-pub chosen_decided : {P : Type 0} (x y : Explorer P) → IsExploring x → x.frame.said ≡ Due → x.in_round ≡ true → NoneOpen x.round.decisions.items x.frame.trail → Decides (ChoosesHinted x.brancher.activities x.brancher.hints) x.frame y.frame → IsSoundSearch y.frame
-    → length y.brancher.activities ≡ length x.brancher.activities → y.kept ≡ length x.frame.trail.entries → AreFixedAside (length y.brancher.activities) y.brancher.aside x.frame.trail (length x.frame.trail.entries) → All (λ f. f.level ≤ x.frame.trail.level) x.frame.trail.entries
+pub chosen_decided : {P : Type 0} (x y : Explorer P) → IsExploring x → x.frame.said ≡ Due → x.in_round ≡ true → NoneOpen x.round.decisions.items x.frame.store → Decides (ChoosesHinted x.brancher.activities x.brancher.hints) x.frame y.frame → IsSoundSearch y.frame
+    → length y.brancher.activities ≡ length x.brancher.activities → y.kept ≡ length x.frame.store.entries → AreFixedAside (length y.brancher.activities) y.brancher.aside x.frame.store (length x.frame.store.entries) → All (λ f. f.level ≤ x.frame.store.level) x.frame.store.entries
     → y.conflicts ≡ x.conflicts → y.aim ≡ x.aim → y.rounds ≡ x.rounds → y.in_round ≡ x.in_round → y.round ≡ x.round → IsExploring y
 chosen_decided x y h due on none d sound size kept saw levels conflicts aim rounds in_round round =
-    let s = x.frame.trail in
+    let s = x.frame.store in
     let a = d.atom in
     let e : Entry = record { atom = a; level = s.level + 1; reason = Decision } in
-    let trail : y.frame.trail ≡ decided s a = ap (λ (z : Search). z.trail) d.is in
+    let trail : y.frame.store ≡ decided s a = ap (λ (z : Search). z.store) d.is in
     explores_on x y h sound (setting_of x.frame (moved x.frame (decided s a) x.frame.rested) y.frame d.is refl refl refl refl)
     (omega (arith, ap (λ (z : Search). z.imported) d.is, h.imported)) size conflicts aim
     (omega (arith, kept, ap (λ (t : Trail). length t.entries) trail, length-append s.entries (e ∷ [])))
-    (subst (λ (k : ℕ). AreFixedAside (length y.brancher.activities) y.brancher.aside y.frame.trail k) (sym kept)
+    (subst (λ (k : ℕ). AreFixedAside (length y.brancher.activities) y.brancher.aside y.frame.store k) (sym kept)
     (subst (λ (t : Trail). AreFixedAside (length y.brancher.activities) y.brancher.aside t (length s.entries)) (sym trail)
     (aside_kept_on (length y.brancher.activities) y.brancher.aside s (decided s a) (length s.entries) (length s.entries) (omega arith) (decided_onward (length y.brancher.activities) (length s.entries) s a (omega arith)) saw)))
     (omega (arith, rounds, h.rounds))
     (omega (arith, ap (λ (z : Search). z.tally) d.is, h.tally, ap (λ (n : ℕ). round_conflicts * n) rounds, learnt_same x.in_round y.in_round x.round y.round in_round (ap (λ (r : Progress). r.learnt) round)))
     (λ off. absurd (clash off (in_round ∙ on)))
-    (λ _ _. subst (λ (r : Progress). IsUnderWay r y.frame.trail) (sym round)
-    (way_chosen x.round s y.frame.trail e (ap (λ (t : Trail). t.first) trail) (ap (λ (t : Trail). t.entries) trail) (ap (λ (t : Trail). t.level) trail) refl d.undecided none levels (h.under_way (due_runs x.frame.said due) on)))
+    (λ _ _. subst (λ (r : Progress). IsUnderWay r y.frame.store) (sym round)
+    (way_chosen x.round s y.frame.store e (ap (λ (t : Trail). t.first) trail) (ap (λ (t : Trail). t.entries) trail) (ap (λ (t : Trail). t.level) trail) refl d.undecided none levels (h.under_way (due_runs x.frame.said due) on)))
   where
     clash : {t : Bool} → t ≡ false → t ≡ true → ⊥
     clash e f = absurd (cc)
 
-pub chosen_in : {P : Type 0} (x y : Explorer P) → x.in_round ≡ true → NoneOpen x.round.decisions.items x.frame.trail → Decides (ChoosesHinted x.brancher.activities x.brancher.hints) x.frame y.frame
+pub chosen_in : {P : Type 0} (x y : Explorer P) → x.in_round ≡ true → NoneOpen x.round.decisions.items x.frame.store → Decides (ChoosesHinted x.brancher.activities x.brancher.hints) x.frame y.frame
     → (y.brancher.activities ≡ x.brancher.activities) × (y.brancher.pace ≡ x.brancher.pace) × (y.brancher.hints ≡ x.brancher.hints) → y.in_round ≡ x.in_round → y.round ≡ x.round → y.draws ≡ x.draws → y.rounds ≡ x.rounds → y.conflicts ≡ x.conflicts → y.aim ≡ x.aim → DecidesInRound (near_of x) (near_of y)
 chosen_in x y on none d stays in_round round draws rounds conflicts aim =
     let now : round_now (near_of x) ≡ round_of x.round = round_now_in x on in
@@ -139,7 +139,7 @@ chosen_in x y on none d stays in_round round draws rounds conflicts aim =
       one = record {
         atom = d.atom;
         undecided = d.undecided;
-        chosen = inr (subst (λ (r : Round). NoneOpen r.decisions x.frame.trail) (sym now) none, d.chosen);
+        chosen = inr (subst (λ (r : Round). NoneOpen r.decisions x.frame.store) (sym now) none, d.chosen);
         is = d.is;
       };
       rest = record {
@@ -170,23 +170,23 @@ below_aim true values free n l = below_from 0 n values free (omega (arith, l))
 below_aim false values free n l = All-nil (λ (t : Atom). t.subject < n)
 
 -- a round begins where none was under way
-pub begun : {P : Type 0} (x y : Explorer P) (free : List ℕ) → IsExploring x → x.in_round ≡ false → All (λ f. f.level ≤ x.frame.trail.level) x.frame.trail.entries → y.frame ≡ x.frame → y.brancher ≡ x.brancher → y.kept ≡ x.kept → y.conflicts ≡ x.conflicts → y.aim ≡ x.aim → y.rounds ≡ x.rounds
+pub begun : {P : Type 0} (x y : Explorer P) (free : List ℕ) → IsExploring x → x.in_round ≡ false → All (λ f. f.level ≤ x.frame.store.level) x.frame.store.entries → y.frame ≡ x.frame → y.brancher ≡ x.brancher → y.kept ≡ x.kept → y.conflicts ≡ x.conflicts → y.aim ≡ x.aim → y.rounds ≡ x.rounds
     → y.in_round ≡ true → round_of y.round ≡ record { decisions = to_decide (solution_of x.aim) free; learnt = 0 } → y.round.held ≡ 0 → y.round.place ≡ 0 → IsExploring y
 begun x y free h off levels frame brancher kept conflicts aim rounds on round held place =
     let none : y.round.learnt ≡ 0 = ap (λ (r : Round). r.learnt) round in
-    let enough : length x.aim.values.items ≤ length x.frame.trail.first = omega (arith, h.variables, h.scope.variables_are, h.scope.subjects_within, ap (λ (ds : Domains). length ds) h.sound.domains) in
-    let subjects : All (λ u. u.subject < length x.frame.trail.first) y.round.decisions.items = subst (λ (ts : List Atom). All (λ u. u.subject < length x.frame.trail.first) ts) (sym (ap (λ (r : Round). r.decisions) round)) (below_aim x.aim.is_set x.aim.values.items free (length x.frame.trail.first) enough) in
-    let way : IsUnderWay y.round x.frame.trail = way_begins y.round x.frame.trail (omega (arith, none)) subjects held place (h.between off) levels in
+    let enough : length x.aim.values.items ≤ length x.frame.store.first = omega (arith, h.variables, h.scope.variables_are, h.scope.subjects_within, ap (λ (ds : Domains). length ds) h.sound.domains) in
+    let subjects : All (λ u. u.subject < length x.frame.store.first) y.round.decisions.items = subst (λ (ts : List Atom). All (λ u. u.subject < length x.frame.store.first) ts) (sym (ap (λ (r : Round). r.decisions) round)) (below_aim x.aim.is_set x.aim.values.items free (length x.frame.store.first) enough) in
+    let way : IsUnderWay y.round x.frame.store = way_begins y.round x.frame.store (omega (arith, none)) subjects held place (h.between off) levels in
     explores_on x y h (subst (λ (z : Search). IsSoundSearch z) (sym frame) h.sound) (subst (λ (z : Search). SameSetting x.frame z) (sym frame) (setting_same x.frame)) (omega (arith, ap (λ (z : Search). z.imported) frame, h.imported))
     (ap (λ (b : _). length b.activities) brancher) conflicts aim
-    (omega (arith, kept, h.within, ap (λ (z : Search). length z.trail.entries) frame))
-    (subst (λ (z : Search). AreFixedAside (length y.brancher.activities) y.brancher.aside z.trail y.kept) (sym frame)
-    (subst (λ (b : _). AreFixedAside (length b.activities) b.aside x.frame.trail y.kept) (sym brancher)
-    (subst (λ (k : ℕ). AreFixedAside (length x.brancher.activities) x.brancher.aside x.frame.trail k) (sym kept) h.agreed)))
+    (omega (arith, kept, h.within, ap (λ (z : Search). length z.store.entries) frame))
+    (subst (λ (z : Search). AreFixedAside (length y.brancher.activities) y.brancher.aside z.store y.kept) (sym frame)
+    (subst (λ (b : _). AreFixedAside (length b.activities) b.aside x.frame.store y.kept) (sym brancher)
+    (subst (λ (k : ℕ). AreFixedAside (length x.brancher.activities) x.brancher.aside x.frame.store k) (sym kept) h.agreed)))
     (omega (arith, rounds, h.rounds))
     (omega (arith, ap (λ (z : Search). z.tally) frame, h.tally, ap (λ (n : ℕ). round_conflicts * n) rounds, ap (λ (o : Option Round). learnt_in o) (round_out x.in_round x.round off)))
     (λ not. absurd (clash not on))
-    (λ _ _. subst (λ (z : Search). IsUnderWay y.round z.trail) (sym frame) way)
+    (λ _ _. subst (λ (z : Search). IsUnderWay y.round z.store) (sym frame) way)
   where
     clash : {t : Bool} → t ≡ false → t ≡ true → ⊥
     clash e f = absurd (cc)

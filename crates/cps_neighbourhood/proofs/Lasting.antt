@@ -45,10 +45,10 @@ all_fit tally r rows taken top values l m =
     (digit_fits ((0 - tally) * (2 ^ 63 + 1) + r) (rows - taken) (2 ^ 63 + 1) (rows + 1) (omega (arith, l)) (omega arith)) m
 
 -- what is left of a search without a budget is less than this
-left_fits : (top : ℕ) (s : Search) (rows : ℕ) (p : BoardPart) → s.budget ≡ None → rank s.z < 2 ^ 63 + 1 → open_values s.trail.first s.trail.entries < top → left_of top s rows p < (2 ^ 63 + 1) * (rows + 1) * top
+left_fits : (top : ℕ) (s : Search) (rows : ℕ) (p : BoardPart) → s.budget ≡ None → rank s.z < 2 ^ 63 + 1 → open_values s.store.first s.store.entries < top → left_of top s rows p < (2 ^ 63 + 1) * (rows + 1) * top
 left_fits top s rows p budget low below =
     subst (λ (o : Option ℕ). left_of top (record s { budget = o }) rows p < (2 ^ 63 + 1) * (rows + 1) * top) (sym budget)
-    (all_fit s.tally (rank s.z) rows (length p.taken) top (open_values s.trail.first s.trail.entries) low below)
+    (all_fit s.tally (rank s.z) rows (length p.taken) top (open_values s.store.first s.store.entries) low below)
 
 -- what is left of the rounds, and of the conflicts of the one under way
 abbrev pub rounds_left : Near → ℕ
@@ -62,15 +62,15 @@ rounds_fewer : (n r r' l l' : ℕ) → r < n → r' ≡ r + 1 → (n - r') * 101
 rounds_fewer n r r' l l' some e = omega (arith, some, e)
 
 module _ (s t : Near) (rows : ℕ) (p q : BoardPart) (before : IsSoundSearch s.search) (after : IsSoundSearch t.search) (setting : SameSetting s.search t.search) (conflicts : t.conflicts ≡ s.conflicts) (budget : s.search.budget ≡ None) where
-  fits : left_of (open_values s.search.problem.domains [] + 1) t.search rows q < (2 ^ 63 + 1) * (rows + 1) * (open_values s.search.problem.domains [] + 1)
+  fits : left_of (open_values s.search.instance.domains [] + 1) t.search rows q < (2 ^ 63 + 1) * (rows + 1) * (open_values s.search.instance.domains [] + 1)
   fits =
-      left_fits (open_values s.search.problem.domains [] + 1) t.search rows q (setting.budget ∙ budget) (rank_most t.search.z (small_of t.search.problem.model t.search.z after.instance.valid after.incumbent))
-      (omega (arith, open_most t.search.trail.first t.search.trail.entries, ap (λ (ds : Domains). open_values ds []) (after.domains ∙ ap (λ (x : Problem). x.domains) setting.problem)))
+      left_fits (open_values s.search.instance.domains [] + 1) t.search rows q (setting.budget ∙ budget) (rank_most t.search.z (small_of t.search.instance.model t.search.z after.instance.valid after.incumbent))
+      (omega (arith, open_most t.search.store.first t.search.store.entries, ap (λ (ds : Domains). open_values ds []) (after.domains ∙ ap (λ (x : Problem). x.domains) setting.instance)))
 
   count : round_count t.conflicts ≡ round_count s.conflicts
   count = ap round_count conflicts
 
-  pub near_lowered : NearLowers s t rows p q → near_left (open_values s.search.problem.domains [] + 1) t rows q < near_left (open_values s.search.problem.domains [] + 1) s rows p
+  pub near_lowered : NearLowers s t rows p q → near_left (open_values s.search.instance.domains [] + 1) t rows q < near_left (open_values s.search.instance.domains [] + 1) s rows p
   near_lowered (fewer_rounds some e) = first_less _ _ _ _ _ (omega (arith, rounds_fewer (round_count s.conflicts) s.rounds t.rounds (learnt_in s.round) (learnt_in t.round) some e, ap (λ (n : ℕ). n - t.rounds) count)) fits
   near_lowered (fewer_conflicts e more low) = first_less _ _ _ _ _ (omega (arith, e, more, low, ap (λ (n : ℕ). n - t.rounds) count, ap (λ (n : ℕ). round_count s.conflicts - n) e)) fits
   near_lowered (in_search e same less) =

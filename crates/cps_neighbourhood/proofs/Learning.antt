@@ -32,10 +32,10 @@ clash : {t : Bool} → t ≡ false → t ≡ true → ⊥
 clash e f = absurd (cc)
 
 -- what was kept after a conflict was that of the end of a level, and at the end of a round is that of level 0
-to_bottom : (s m t : Search) → BackAsLearnt s m → GoesBack m.trail t.trail 0 → BackToBottom s t
+to_bottom : (s m t : Search) → BackAsLearnt s m → GoesBack m.store t.store 0 → BackToBottom s t
 to_bottom s m t learnt back = record {
   level = ap (λ (x : Trail). x.level) back.is;
-  entries = ap (λ (x : Trail). x.entries) back.is ∙ ap (λ (es : List Entry). up_to 0 es) learnt.entries ∙ up_to-up_to 0 m.trail.level s.trail.entries (omega arith);
+  entries = ap (λ (x : Trail). x.entries) back.is ∙ ap (λ (es : List Entry). up_to 0 es) learnt.entries ∙ up_to-up_to 0 m.store.level s.store.entries (omega arith);
 }
 
 ends_or_not : (r : Progress) (back : ℕ) → EndsAt r back ⊎ (EndsAt r back → ⊥)
@@ -53,7 +53,7 @@ ends_or_not r back = by_cases (last (r.learnt + 1)) (below back r.held)
     by_cases (inr going) (inr not) = inr (λ h. elim h [ inl e ↦ going e | inr l ↦ not l ])
 
 -- a conflict above level 0 is one of a round
-pub was_in : {P : Type 0} (x : Explorer P) → IsExploring x → 0 < x.frame.trail.level → x.in_round ≡ true
+pub was_in : {P : Type 0} (x : Explorer P) → IsExploring x → 0 < x.frame.store.level → x.in_round ≡ true
 was_in x h above = by_test x.in_round refl
   where
     by_test : (t : Bool) → x.in_round ≡ t → x.in_round ≡ true
@@ -65,7 +65,7 @@ few_learnt x f rows p q h running one = (h.under_way running (was_in x h (omega 
 
 -- What was heard: the worker x before the turn, its search f after the steps, and the worker y after the turn.
 module _ {P : Type 0} (x y : Explorer P) (f : Search) (rows : ℕ) (p q : Part) (h : IsExploring x) (running : IsOver x.frame.said → ⊥) (left : x.rounds < round_count x.conflicts) (steps : Steps x.frame f rows p q (Some turns.Learnt))
-    (ends : EndsAt x.round f.trail.level → RoundEnds (record x { frame = f }) y) (goes_on : (EndsAt x.round f.trail.level → ⊥) → RoundGoesOn (record x { frame = f }) y) (rest : KeepsRest (record x { frame = f }) y) where
+    (ends : EndsAt x.round f.store.level → RoundEnds (record x { frame = f }) y) (goes_on : (EndsAt x.round f.store.level → ⊥) → RoundGoesOn (record x { frame = f }) y) (rest : KeepsRest (record x { frame = f }) y) where
   one : LearntOne x.frame f rows p q
   one = steps.cause.0
 
@@ -75,11 +75,11 @@ module _ {P : Type 0} (x y : Explorer P) (f : Search) (rows : ℕ) (p q : Part) 
   on : x.in_round ≡ true
   on = was_in x h (omega (arith, one.back))
 
-  way : IsUnderWay x.round x.frame.trail
+  way : IsUnderWay x.round x.frame.store
   way = h.under_way running on
 
   stands : Stands f y.frame
-  stands = elim (ends_or_not x.round f.trail.level) [ inl ending ↦ (let e = ends ending in inr (e.back, e.is)) | inr going ↦ inl (goes_on going).frame ]
+  stands = elim (ends_or_not x.round f.store.level) [ inl ending ↦ (let e = ends ending in inr (e.back, e.is)) | inr going ↦ inl (goes_on going).frame ]
 
   base : y.frame.base ≡ f.base
   base = elim stands [ inl same ↦ ap (λ (s : Search). s.base) same | inr back ↦ ap (λ (s : Search). s.base) back.1 ]
@@ -102,16 +102,16 @@ module _ {P : Type 0} (x y : Explorer P) (f : Search) (rows : ℕ) (p q : Part) 
   in_before : round_if x.in_round x.round ≡ Some (round_of x.round)
   in_before = round_in x.in_round x.round on
 
-  below_last : (EndsAt x.round f.trail.level → ⊥) → x.round.learnt + 1 < round_conflicts
+  below_last : (EndsAt x.round f.store.level → ⊥) → x.round.learnt + 1 < round_conflicts
   below_last going = less x.round.learnt way.few (λ e. going (inl e))
     where
       less : (n : ℕ) → n < round_conflicts → (n + 1 ≡ round_conflicts → ⊥) → n + 1 < round_conflicts
       less n l not = grind arith
 
-  ended : EndsAt x.round f.trail.level → EndedRound (near_of x) (near_of y)
+  ended : EndsAt x.round f.store.level → EndedRound (near_of x) (near_of y)
   ended ending = (let e = ends ending in record { rounds = e.rounds; round = round_out y.in_round y.round e.round; back = to_bottom x.frame f y.frame learnt e.back })
 
-  went_on : (EndsAt x.round f.trail.level → ⊥) → WentOnInRound (near_of x) (near_of y) (round_of x.round)
+  went_on : (EndsAt x.round f.store.level → ⊥) → WentOnInRound (near_of x) (near_of y) (round_of x.round)
   went_on going = (let g = goes_on going in record { rounds = g.rounds; one_more = round_on g; back = subst (λ (s : Search). BackAsLearnt x.frame s) (sym g.frame) learnt })
 
   in_round : ((earlier : List JournalItem) (clause : List Atom) (below : Bound) → f.base.journal ≡ earlier ++ items.Learnt clause below ∷ [] → HeardClause clause x.brancher y.brancher) → LearntInRound (near_of x) (near_of y) rows p q
@@ -121,16 +121,16 @@ module _ {P : Type 0} (x y : Explorer P) (f : Search) (rows : ℕ) (p q : Part) 
     under_way = in_before;
     clause = learnt.clause;
     learnt = subst (λ (b : Shelf). HasLearnt x.frame.base b learnt.clause y.frame.z) (sym base) (subst (λ (b : Bound). HasLearnt x.frame.base f.base learnt.clause b) (sym z) learnt.learnt);
-    back = f.trail.level;
+    back = f.store.level;
     sent_back = learnt.level;
-    ends = λ k. ended (level_by_ends x.round x.frame.trail f.trail.level way k);
-    goes_on = λ not. went_on (λ k. not (ends_by_level x.round x.frame.trail f.trail.level way k));
+    ends = λ k. ended (level_by_ends x.round x.frame.store f.store.level way k);
+    goes_on = λ not. went_on (λ k. not (ends_by_level x.round x.frame.store f.store.level way k));
     heard = heard learnt.learnt.1.left.journal learnt.clause f.z (ap (λ (b : Shelf). b.journal) learnt.learnt.1.is);
     draws = rest.draws;
   }
 
   lowers : NearLowers (near_of x) (near_of y) rows p.board q.board
-  lowers = elim (ends_or_not x.round f.trail.level) [
+  lowers = elim (ends_or_not x.round f.store.level) [
     | inl ending ↦ fewer_rounds left (ends ending).rounds
     | inr going ↦
         let g = goes_on going in
@@ -145,7 +145,7 @@ module _ {P : Type 0} (x y : Explorer P) (f : Search) (rows : ℕ) (p q : Part) 
         setting = setting;
         conflicts = rest.conflicts;
         aim = ap (λ (a : Aim). solution_of a) rest.aim;
-        store = λ _. stands_back x.frame.trail f y.frame steps.store stands;
+        store = λ _. stands_back x.frame.store f y.frame steps.store stands;
         cause = (left, in_round heard);
         moves = turn_moves (λ s o. ⊥) x.frame y.frame rows p q turns.Learnt sound setting in_all;
         ends = not_over y.frame.said in_all.said;
@@ -159,7 +159,7 @@ module _ {P : Type 0} (x y : Explorer P) (f : Search) (rows : ℕ) (p q : Part) 
   learnt_before = ap (λ (o : Option Round). learnt_in o) in_before
 
   tally_within : y.frame.tally ≤ round_conflicts * y.rounds + learnt_in (round_if y.in_round y.round)
-  tally_within = elim (ends_or_not x.round f.trail.level) [
+  tally_within = elim (ends_or_not x.round f.store.level) [
     | inl ending ↦
         let e = ends ending in
         omega (arith, tally_on, h.tally, learnt_before, way.few, e.rounds)
@@ -169,29 +169,29 @@ module _ {P : Type 0} (x y : Explorer P) (f : Search) (rows : ℕ) (p q : Part) 
   ]
 
   rounds_within : y.rounds ≤ round_count x.conflicts
-  rounds_within = elim (ends_or_not x.round f.trail.level) [ inl ending ↦ (let e = ends ending in omega (arith, e.rounds, left)) | inr going ↦ (let g = goes_on going in omega (arith, g.rounds, left)) ]
+  rounds_within = elim (ends_or_not x.round f.store.level) [ inl ending ↦ (let e = ends ending in omega (arith, e.rounds, left)) | inr going ↦ (let g = goes_on going in omega (arith, g.rounds, left)) ]
 
-  bottom : y.in_round ≡ false → y.frame.trail.level ≡ 0
-  bottom off = elim (ends_or_not x.round f.trail.level) [ inl ending ↦ (let e = ends ending in ap (λ (t : Trail). t.level) e.back.is) | inr going ↦ (let g = goes_on going in absurd (clash off (g.in_round ∙ on))) ]
+  bottom : y.in_round ≡ false → y.frame.store.level ≡ 0
+  bottom off = elim (ends_or_not x.round f.store.level) [ inl ending ↦ (let e = ends ending in ap (λ (t : Trail). t.level) e.back.is) | inr going ↦ (let g = goes_on going in absurd (clash off (g.in_round ∙ on))) ]
 
-  way_on : y.in_round ≡ true → IsUnderWay y.round y.frame.trail
-  way_on again = elim (ends_or_not x.round f.trail.level) [
+  way_on : y.in_round ≡ true → IsUnderWay y.round y.frame.store
+  way_on again = elim (ends_or_not x.round f.store.level) [
     | inl ending ↦ (let e = ends ending in absurd (clash e.round again))
     | inr going ↦
         let g = goes_on going in
-        let least : f.trail.level < x.round.held → ⊥ = λ l. going (inr l) in
+        let least : f.store.level < x.round.held → ⊥ = λ l. going (inr l) in
         let l = below_last going in
-        subst (λ (s : Search). IsUnderWay y.round s.trail) (sym g.frame)
-        (way_back x.round y.round x.frame.trail f.trail f.trail.level steps.store.first learnt.entries refl steps.store.level g.decisions (g.held ∙ least_is x.round.held f.trail.level least) g.place (omega (arith, g.learnt, l)) way)
+        subst (λ (s : Search). IsUnderWay y.round s.store) (sym g.frame)
+        (way_back x.round y.round x.frame.store f.store f.store.level steps.store.first learnt.entries refl steps.store.level g.decisions (g.held ∙ least_is x.round.held f.store.level least) g.place (omega (arith, g.learnt, l)) way)
   ]
     where
       least_is : (a b : ℕ) → (b < a → ⊥) → a ≡ min a b
       least_is a b not = grind arith
 
-  pub explores_learnt : IsSoundSearch y.frame → length y.brancher.activities ≡ length x.brancher.activities → y.kept ≡ min x.kept (length y.frame.trail.entries)
+  pub explores_learnt : IsSoundSearch y.frame → length y.brancher.activities ≡ length x.brancher.activities → y.kept ≡ min x.kept (length y.frame.store.entries)
       → ((s : Trail) (k : ℕ) → AreFixedAside (length x.brancher.activities) x.brancher.aside s k → AreFixedAside (length y.brancher.activities) y.brancher.aside s k) → IsExploring y
   explores_learnt sound size kept saw =
       explores_on x y h sound (setting_trans x.frame f y.frame steps.setting (setting_stands f y.frame stands)) (omega (arith, stands_imported f y.frame stands, one.imported, h.imported)) size rest.conflicts rest.aim (omega (arith, kept))
-      (saw y.frame.trail y.kept (aside_kept_on (length x.brancher.activities) x.brancher.aside x.frame.trail y.frame.trail y.kept x.kept (omega (arith, kept))
-      (same_back (length x.brancher.activities) y.kept x.frame.trail y.frame.trail (omega (arith, kept, h.within)) (omega (arith, kept)) (stands_back x.frame.trail f y.frame steps.store stands)) h.agreed))
+      (saw y.frame.store y.kept (aside_kept_on (length x.brancher.activities) x.brancher.aside x.frame.store y.frame.store y.kept x.kept (omega (arith, kept))
+      (same_back (length x.brancher.activities) y.kept x.frame.store y.frame.store (omega (arith, kept, h.within)) (omega (arith, kept)) (stands_back x.frame.store f y.frame steps.store stands)) h.agreed))
       rounds_within tally_within bottom (λ _. way_on)

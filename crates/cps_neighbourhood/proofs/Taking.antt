@@ -46,11 +46,11 @@ took_nothing rows p q h = elim h [ inl closed ↦ ap (λ (b : BoardPart). b.take
 
 lowers_decided : (chooses : Trail → Option Atom → Type 0) (s t : Search) (rows : ℕ) (p q : Part) → MovesWith s t p q → DecidedOne chooses s t rows p q → Lowers s t rows p.board q.board
 lowers_decided chooses s t rows p q moves h =
-    let m = h.midway.trail in
+    let m = h.midway.store in
     let e : Entry = record { atom = h.atom; level = m.level + 1; reason = Decision } in
-    let trail : t.trail ≡ decided m h.atom = ap (λ (x : Search). x.trail) h.is in
+    let trail : t.store ≡ decided m h.atom = ap (λ (x : Search). x.store) h.is in
     let fewer = open_values-push m.first m.entries e h.undecided.subject h.undecided.not_true in
-    let at : open_values t.trail.first t.trail.entries ≡ open_values m.first (m.entries ++ e ∷ []) = ap (λ (x : Trail). open_values x.first x.entries) trail in
+    let at : open_values t.store.first t.store.entries ≡ open_values m.first (m.entries ++ e ∷ []) = ap (λ (x : Trail). open_values x.first x.entries) trail in
     fewer_values (ap (λ (x : Search). x.tally) h.is ∙ h.due.learnt.tally) moves.falls (ap (λ (es : List BoardEntry). length es) (took_nothing rows p.board q.board h.due.begins.board))
     (omega (arith, at, fewer, h.due.onward.fewer))
 
@@ -64,10 +64,10 @@ learnt_now n aim draws (Some round) = refl
 -- the steps before a decision and the decision
 pub turn_decided : (s t : Near) (f : Search) (rows : ℕ) (p q : Part) → s.rounds < round_count s.conflicts → IsSoundSearch s.search → Steps s.search f rows p q None → DecidesInRound (record s { search = f }) t → TakesNearTurn s t rows p q turns.Decided
 turn_decided s t f rows p q left sound steps h =
-    let same : round_now (record s { search = f }) ≡ round_now s = ap (λ (x : Problem). round_or_first (variable_count x) s.aim s.draws s.round) steps.setting.problem in
+    let same : round_now (record s { search = f }) ≡ round_now s = ap (λ (x : Problem). round_or_first (variable_count x) s.aim s.draws s.round) steps.setting.instance in
     let one : DecidedOne (ChoosesInRound (round_now s).decisions s.brancher) s.search t.search rows p q =
     decided_one (ChoosesInRound (round_now s).decisions s.brancher) s.search f t.search rows p q steps.cause (subst (λ (r : Round). Decides (ChoosesInRound r.decisions s.brancher) f t.search) same h.one) in
-    let setting = setting_trans s.search f t.search steps.setting (setting_of f (moved f (decided f.trail h.one.atom) f.rested) t.search h.one.is refl refl refl refl) in
+    let setting = setting_trans s.search f t.search steps.setting (setting_of f (moved f (decided f.store h.one.atom) f.rested) t.search h.one.is refl refl refl refl) in
     let moves = turn_moves (ChoosesInRound (round_now s).decisions s.brancher) s.search t.search rows p q turns.Decided sound setting one in
     let round : t.round ≡ Some (round_now s) = h.rest.round ∙ ap (λ (r : Round). Some r) same in
     record {
@@ -81,7 +81,7 @@ turn_decided s t f rows p q left sound steps h =
           one = one;
           rest = record {
             round = round;
-            draws = h.rest.draws ∙ ap (λ (x : Problem). draws_or_after (variable_count x) s.draws s.round) steps.setting.problem;
+            draws = h.rest.draws ∙ ap (λ (x : Problem). draws_or_after (variable_count x) s.draws s.round) steps.setting.instance;
             rounds = h.rest.rounds;
             activities = h.rest.activities;
             pace = h.rest.pace;
@@ -93,7 +93,7 @@ turn_decided s t f rows p q left sound steps h =
       );
       moves = moves;
       ends = not_over t.search.said (ap (λ (x : Search). x.said) h.one.is);
-      lowers = λ _. in_search h.rest.rounds (ap (λ (o : Option Round). learnt_in o) round ∙ learnt_now (variable_count s.search.problem) s.aim s.draws s.round) (lowers_decided (ChoosesInRound (round_now s).decisions s.brancher) s.search t.search rows p q moves one);
+      lowers = λ _. in_search h.rest.rounds (ap (λ (o : Option Round). learnt_in o) round ∙ learnt_now (variable_count s.search.instance) s.aim s.draws s.round) (lowers_decided (ChoosesInRound (round_now s).decisions s.brancher) s.search t.search rows p q moves one);
     }
 
 onward_way : (r : Progress) (s t : Trail) → IsOnward s t → IsUnderWay r s → IsUnderWay r t
@@ -104,16 +104,16 @@ pub explores_due : {P : Type 0} (x y : Explorer P) (rows : ℕ) (p q : Part) →
     → y.in_round ≡ x.in_round → y.round ≡ x.round → IsExploring y
 explores_due x y rows p q h running sound steps brancher kept conflicts aim rounds in_round round =
     let d = steps.cause in
-    let more : length y.frame.trail.entries ≡ length x.frame.trail.entries + length d.onward.added = ap (λ (es : List Entry). length es) d.onward.entries ∙ length-append x.frame.trail.entries d.onward.added in
-    let inside : x.kept ≤ length y.frame.trail.entries = omega (arith, h.within, more) in
+    let more : length y.frame.store.entries ≡ length x.frame.store.entries + length d.onward.added = ap (λ (es : List Entry). length es) d.onward.entries ∙ length-append x.frame.store.entries d.onward.added in
+    let inside : x.kept ≤ length y.frame.store.entries = omega (arith, h.within, more) in
     explores_on x y h sound steps.setting (omega (arith, d.imported, h.imported)) (ap (λ (b : ByActivity). length b.activities) brancher) conflicts aim (omega (arith, kept, inside))
-    (subst (λ (b : ByActivity). AreFixedAside (length b.activities) b.aside y.frame.trail y.kept) (sym brancher)
-    (subst (λ (k : ℕ). AreFixedAside (length x.brancher.activities) x.brancher.aside y.frame.trail k) (sym kept)
-    (aside_kept_on (length x.brancher.activities) x.brancher.aside x.frame.trail y.frame.trail x.kept x.kept (omega arith) (same_back (length x.brancher.activities) x.kept x.frame.trail y.frame.trail h.within inside steps.store) h.agreed)))
+    (subst (λ (b : ByActivity). AreFixedAside (length b.activities) b.aside y.frame.store y.kept) (sym brancher)
+    (subst (λ (k : ℕ). AreFixedAside (length x.brancher.activities) x.brancher.aside y.frame.store k) (sym kept)
+    (aside_kept_on (length x.brancher.activities) x.brancher.aside x.frame.store y.frame.store x.kept x.kept (omega arith) (same_back (length x.brancher.activities) x.kept x.frame.store y.frame.store h.within inside steps.store) h.agreed)))
     (omega (arith, rounds, h.rounds))
     (omega (arith, d.learnt.tally, h.tally, ap (λ (n : ℕ). round_conflicts * n) rounds, learnt_same x.in_round y.in_round x.round y.round in_round (ap (λ (r : Progress). r.learnt) round)))
     (λ off. d.onward.level ∙ h.between (sym in_round ∙ off))
-    (λ _ on. subst (λ (r : Progress). IsUnderWay r y.frame.trail) (sym round) (onward_way x.round x.frame.trail y.frame.trail d.onward (h.under_way running (sym in_round ∙ on))))
+    (λ _ on. subst (λ (r : Progress). IsUnderWay r y.frame.store) (sym round) (onward_way x.round x.frame.store y.frame.store d.onward (h.under_way running (sym in_round ∙ on))))
 
 -- ---- other turns
 
@@ -128,10 +128,10 @@ turn_other s t rows p q turns.Imported left sound budget h not same conflicts ai
       cause = (left, h.cause, same);
       moves = h.moves;
       ends = not_over t.search.said h.cause.said;
-      lowers = λ _. in_search same.rounds (ap (λ (o : Option Round). learnt_in o) same.round) (fewer_rows h.cause.tally h.moves.falls h.cause.takes.left (taken_more s.search.problem.model rows p.board q.board h.cause.entry h.cause.takes));
+      lowers = λ _. in_search same.rounds (ap (λ (o : Option Round). learnt_in o) same.round) (fewer_rows h.cause.tally h.moves.falls h.cause.takes.left (taken_more s.search.instance.model rows p.board q.board h.cause.entry h.cause.takes));
     }
 turn_other s t rows p q turns.Found left sound budget h not same conflicts aim =
-    let v = objective_value s.search.problem.model h.cause.solution in
+    let v = objective_value s.search.instance.model h.cause.solution in
     let k = h.cause in
     record {
       setting = h.setting;
@@ -177,17 +177,17 @@ same_way r u s t is decisions learnt held place h =
     subst (λ (x : Trail). IsUnderWay u x) (sym is)
     (way_placed r u s decisions learnt (omega (arith, held, h.within, ap (λ (x : Trail). x.level) is)) (λ j d l m is_open. absurd (omega (arith, l, place))) h)
 
-other_way : (s t : Search) (rows : ℕ) (p q : Part) (turn : Turn) (r u : Progress) → (turn ≡ turns.Learnt → ⊥) → Caused s t rows p q (Some turn) → (IsOver t.said → ⊥) → u.decisions.items ≡ r.decisions.items → u.learnt ≡ r.learnt → u.held ≡ min r.held t.trail.level → u.place ≡ 0
-    → IsUnderWay r s.trail → IsUnderWay u t.trail
+other_way : (s t : Search) (rows : ℕ) (p q : Part) (turn : Turn) (r u : Progress) → (turn ≡ turns.Learnt → ⊥) → Caused s t rows p q (Some turn) → (IsOver t.said → ⊥) → u.decisions.items ≡ r.decisions.items → u.learnt ≡ r.learnt → u.held ≡ min r.held t.store.level → u.place ≡ 0
+    → IsUnderWay r s.store → IsUnderWay u t.store
 other_way s t rows p q turns.Imported r u not k running decisions learnt held place h = elim k.used [
   | inl given ↦
       let b = given.0.back in
-      let at : t.trail.level ≡ given.0.level = ap (λ (x : Trail). x.level) b.is in
-      way_back r u s.trail t.trail given.0.level (ap (λ (x : Trail). x.first) b.is) (ap (λ (x : Trail). x.entries) b.is) at b.within decisions (held ∙ ap (λ (n : ℕ). min r.held n) at) place (omega (arith, learnt, h.few)) h
-  | inr pass ↦ same_way r u s.trail t.trail pass.0.store decisions learnt held place h
+      let at : t.store.level ≡ given.0.level = ap (λ (x : Trail). x.level) b.is in
+      way_back r u s.store t.store given.0.level (ap (λ (x : Trail). x.first) b.is) (ap (λ (x : Trail). x.entries) b.is) at b.within decisions (held ∙ ap (λ (n : ℕ). min r.held n) at) place (omega (arith, learnt, h.few)) h
+  | inr pass ↦ same_way r u s.store t.store pass.0.store decisions learnt held place h
 ]
 other_way s t rows p q turns.Found r u not k running decisions learnt held place h =
-    same_way r u t.trail t.trail refl decisions learnt held place (onward_way r s.trail t.trail k.onward h)
+    same_way r u t.store t.store refl decisions learnt held place (onward_way r s.store t.store k.onward h)
 other_way s t rows p q turns.Exhausted r u not k running decisions learnt held place h = absurd (over_runs t.said _ k.said running)
 other_way s t rows p q turns.SawClosed r u not k running decisions learnt held place h = absurd (over_runs t.said _ (ap (λ (x : Search). x.said) k.same) running)
 other_way s t rows p q turns.Decided r u not k running decisions learnt held place h = absurd k
@@ -197,12 +197,12 @@ other_way s t rows p q turns.RoundsDone r u not k running decisions learnt held 
 other_way s t rows p q (turns.Reformed base) r u not k running decisions learnt held place h = absurd k
 
 pub explores_other : {P : Type 0} (x y : Explorer P) (rows : ℕ) (p q : Part) (turn : Turn) → IsExploring x → (IsOver x.frame.said → ⊥) → IsSoundSearch y.frame → Steps x.frame y.frame rows p q (Some turn) → (turn ≡ turns.Learnt → ⊥) → x.frame.imported ≤ length p.board.taken → rows ≤ 4096
-    → y.brancher ≡ x.brancher → y.kept ≡ min x.kept (length y.frame.trail.entries) → y.conflicts ≡ x.conflicts → y.aim ≡ x.aim → y.rounds ≡ x.rounds → y.in_round ≡ x.in_round → y.round.decisions.items ≡ x.round.decisions.items → y.round.learnt ≡ x.round.learnt
-    → y.round.held ≡ min x.round.held y.frame.trail.level → y.round.place ≡ 0 → IsExploring y
+    → y.brancher ≡ x.brancher → y.kept ≡ min x.kept (length y.frame.store.entries) → y.conflicts ≡ x.conflicts → y.aim ≡ x.aim → y.rounds ≡ x.rounds → y.in_round ≡ x.in_round → y.round.decisions.items ≡ x.round.decisions.items → y.round.learnt ≡ x.round.learnt
+    → y.round.held ≡ min x.round.held y.frame.store.level → y.round.place ≡ 0 → IsExploring y
 explores_other x y rows p q turn h running sound steps not taken small brancher kept conflicts aim rounds in_round decisions learnt held place =
     explores_on x y h sound steps.setting (imported_few x.frame y.frame rows p q (Some turn) h.imported taken small steps.cause) (ap (λ (b : ByActivity). length b.activities) brancher) conflicts aim (omega (arith, kept))
-    (subst (λ (b : ByActivity). AreFixedAside (length b.activities) b.aside y.frame.trail y.kept) (sym brancher)
-    (aside_kept_on (length x.brancher.activities) x.brancher.aside x.frame.trail y.frame.trail y.kept x.kept (omega (arith, kept)) (same_back (length x.brancher.activities) y.kept x.frame.trail y.frame.trail (omega (arith, kept, h.within)) (omega (arith, kept)) steps.store) h.agreed))
+    (subst (λ (b : ByActivity). AreFixedAside (length b.activities) b.aside y.frame.store y.kept) (sym brancher)
+    (aside_kept_on (length x.brancher.activities) x.brancher.aside x.frame.store y.frame.store y.kept x.kept (omega (arith, kept)) (same_back (length x.brancher.activities) y.kept x.frame.store y.frame.store (omega (arith, kept, h.within)) (omega (arith, kept)) steps.store) h.agreed))
     (omega (arith, rounds, h.rounds))
     (omega (arith, other_tally x.frame y.frame rows p q turn not steps.cause, h.tally, ap (λ (n : ℕ). round_conflicts * n) rounds, learnt_same x.in_round y.in_round x.round y.round in_round learnt))
     (λ off. (let none = h.between (sym in_round ∙ off) in omega (arith, steps.store.level, none)))

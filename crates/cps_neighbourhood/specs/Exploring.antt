@@ -31,25 +31,25 @@ near_as refused s = record s { search = record s.search { refused = refused } }
 pub record IsExploring {P : Type 0} (x : Explorer P) : Type 0 where
   pub sound : IsSoundSearch x.frame
   pub running : x.frame.refused ≡ false
-  pub scope : IsScopeOf x.frame.problem (record { variables = length x.brancher.activities; subjects = length x.brancher.activities })
+  pub scope : IsScopeOf x.frame.instance (record { variables = length x.brancher.activities; subjects = length x.brancher.activities })
   pub budget : x.frame.budget ≡ None
   pub conflicts : x.conflicts ≤ 10 ^ 9
   pub imported : x.frame.imported ≤ 4096
-  pub within : x.kept ≤ length x.frame.trail.entries
-  pub agreed : AreFixedAside (length x.brancher.activities) x.brancher.aside x.frame.trail x.kept
-  pub variables : length x.aim.values.items ≡ variable_count x.frame.problem
+  pub within : x.kept ≤ length x.frame.store.entries
+  pub agreed : AreFixedAside (length x.brancher.activities) x.brancher.aside x.frame.store x.kept
+  pub variables : length x.aim.values.items ≡ variable_count x.frame.instance
   pub few_variables : length x.aim.values.items ≤ 2 ^ 31
   pub rounds : x.rounds ≤ round_count x.conflicts
   pub tally : x.frame.tally ≤ round_conflicts * x.rounds + learnt_in (round_if x.in_round x.round)
-  pub between : x.in_round ≡ false → x.frame.trail.level ≡ 0
-  pub under_way : (IsOver x.frame.said → ⊥) → x.in_round ≡ true → IsUnderWay x.round x.frame.trail
+  pub between : x.in_round ≡ false → x.frame.store.level ≡ 0
+  pub under_way : (IsOver x.frame.said → ⊥) → x.in_round ≡ true → IsUnderWay x.round x.frame.store
 
 -- what a learnt clause does to rounds: the round ends, and the search goes back to level 0; or it goes on
 pub record RoundEnds {P : Type 0} (x y : Explorer P) : Type 0 where
   pub rounds : y.rounds ≡ x.rounds + 1
   pub round : y.in_round ≡ false
-  pub back : GoesBack x.frame.trail y.frame.trail 0
-  pub is : y.frame ≡ moved x.frame y.frame.trail y.frame.rested
+  pub back : GoesBack x.frame.store y.frame.store 0
+  pub is : y.frame ≡ moved x.frame y.frame.store y.frame.rested
 
 pub record RoundGoesOn {P : Type 0} (x y : Explorer P) : Type 0 where
   pub rounds : y.rounds ≡ x.rounds

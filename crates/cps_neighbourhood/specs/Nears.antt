@@ -69,10 +69,10 @@ draws_or_after n draws None = after_words n draws
 draws_or_after n draws (Some round) = draws
 
 abbrev pub round_now : Near → Round
-round_now s = round_or_first (variable_count s.search.problem) s.aim s.draws s.round
+round_now s = round_or_first (variable_count s.search.instance) s.aim s.draws s.round
 
 abbrev pub draws_now : Near → Lcg
-draws_now s = draws_or_after (variable_count s.search.problem) s.draws s.round
+draws_now s = draws_or_after (variable_count s.search.instance) s.draws s.round
 
 -- the round goes on or began, and the brancher chose or did not
 pub record SameButDecided (s t : Near) : Type 0 where
@@ -125,9 +125,9 @@ pub record LearntInRound (s t : Near) (rows : ℕ) (p q : Part) : Type 0 where
   pub clause : List Atom
   pub learnt : HasLearnt s.search.base t.search.base clause t.search.z
   pub back : ℕ
-  pub sent_back : IsBackLevel s.search.trail clause back
-  pub ends : EndsRound round s.search.trail back → EndedRound s t
-  pub goes_on : (EndsRound round s.search.trail back → ⊥) → WentOnInRound s t round
+  pub sent_back : IsBackLevel s.search.store clause back
+  pub ends : EndsRound round s.search.store back → EndedRound s t
+  pub goes_on : (EndsRound round s.search.store back → ⊥) → WentOnInRound s t round
   pub heard : HeardClause clause s.brancher t.brancher
   pub draws : t.draws ≡ s.draws
 
@@ -162,7 +162,7 @@ pub record TakesNearTurn (s t : Near) (rows : ℕ) (p q : Part) (turn : Turn) : 
   pub conflicts : t.conflicts ≡ s.conflicts
   pub aim : t.aim ≡ s.aim
   -- only a decision adds an entry that was not inferred
-  pub store : (turn ≡ turns.Decided → ⊥) → GoesOnAndBack s.search.trail t.search.trail
+  pub store : (turn ≡ turns.Decided → ⊥) → GoesOnAndBack s.search.store t.search.store
   pub cause : NearCaused s t rows p q turn
   pub moves : MovesWith s.search t.search p q
   pub ends : EndsAs (end_of turn) t.search
@@ -174,7 +174,7 @@ pub record TakesNearTurn (s t : Near) (rows : ℕ) (p q : Part) (turn : Turn) : 
 pub data TakesNearTurns (rows : ℕ) (s : Near) (p : Part) : Near → Part → Type 0 where
   none_yet : TakesNearTurns rows s p s p
   one_more : (m t : Near) (n q : Part) (turn : Turn) → TakesNearTurns rows s p m n → end_of turn ≡ None → TakesNearTurn m t rows n q turn → TakesNearTurns rows s p t q
-  aimed : (t : Near) (q : Part) (solution : List ℤ) → TakesNearTurns rows s p t q → IsSolution t.search.problem.model solution → TakesNearTurns rows s p (record t { aim = Some solution }) q
+  aimed : (t : Near) (q : Part) (solution : List ℤ) → TakesNearTurns rows s p t q → IsSolution t.search.instance.model solution → TakesNearTurns rows s p (record t { aim = Some solution }) q
 
 -- such turns, of which the last ended the worker so
 pub record NearRunsInTurns (rows : ℕ) (s t : Near) (p q : Part) (end : End) : Type 0 where

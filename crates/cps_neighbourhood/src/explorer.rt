@@ -118,10 +118,10 @@ impl<'a, P: Propagator> Explorer<'a, P> {
         requires exploring { IsExploring self.old }
         requires in_round { IsTrue self.old.in_round }
         requires due { self.old.frame.said ≡ Said.Due }
-        requires open { IsFirstOpen self.old.round.decisions.items self.old.frame.trail atom }
-        requires held { self.old.round.held ≡ self.old.frame.trail.level }
+        requires open { IsFirstOpen self.old.round.decisions.items self.old.frame.store atom }
+        requires held { self.old.round.held ≡ self.old.frame.store.level }
         ensures near { OnOk result (near_of self.new ≡ record (near_of self.old) {
-          search = moved self.old.frame (decided self.old.frame.trail atom) self.old.frame.rested;
+          search = moved self.old.frame (decided self.old.frame.store atom) self.old.frame.rested;
         }) }
         ensures exploring { OnOk result (IsExploring self.new) }
     {
@@ -136,8 +136,8 @@ impl<'a, P: Propagator> Explorer<'a, P> {
         requires in_round { IsTrue self.old.in_round }
         requires settled { IsSettled self.old.frame }
         requires due { self.old.frame.said ≡ Said.Due }
-        requires left_open { AreFixed self.old.frame.trail (variable_count self.old.frame.problem) → ⊥ }
-        requires none { NoneOpen self.old.round.decisions.items self.old.frame.trail }
+        requires left_open { AreFixed self.old.frame.store (variable_count self.old.frame.instance) → ⊥ }
+        requires none { NoneOpen self.old.round.decisions.items self.old.frame.store }
         ensures decides { OnOk result (DecidesInRound (near_of self.old) (near_of self.new)) }
         ensures exploring { OnOk result (IsExploring self.new) }
     {
@@ -152,7 +152,7 @@ impl<'a, P: Propagator> Explorer<'a, P> {
         requires exploring { IsExploring self.old }
         requires settled { IsSettled self.old.frame }
         requires due { self.old.frame.said ≡ Said.Due }
-        requires left_open { AreFixed self.old.frame.trail (variable_count self.old.frame.problem) → ⊥ }
+        requires left_open { AreFixed self.old.frame.store (variable_count self.old.frame.instance) → ⊥ }
         ensures decides { OnOk result (DecidesInRound (near_of self.old) (near_of self.new)) }
         ensures exploring { OnOk result (IsExploring self.new) }
     {
@@ -191,8 +191,8 @@ impl<'a, P: Propagator> Explorer<'a, P> {
     fn end_or_go_on(&mut self)
         requires few { self.old.rounds < 2 ^ 32 }
         requires learnt { self.old.round.learnt < round_conflicts }
-        ensures ends { EndsAt self.old.round self.old.frame.trail.level → RoundEnds self.old self.new }
-        ensures goes_on { (EndsAt self.old.round self.old.frame.trail.level → ⊥) → RoundGoesOn self.old self.new }
+        ensures ends { EndsAt self.old.round self.old.frame.store.level → RoundEnds self.old self.new }
+        ensures goes_on { (EndsAt self.old.round self.old.frame.store.level → ⊥) → RoundGoesOn self.old self.new }
         ensures rest { KeepsRest self.old self.new }
         ensures brancher { (self.new.brancher ≡ self.old.brancher) × (self.new.kept ≡ self.old.kept) }
         ensures sound { self.old.frame.refused ≡ false → IsSoundSearch self.old.frame → IsSoundSearch self.new.frame }
@@ -211,10 +211,10 @@ impl<'a, P: Propagator> Explorer<'a, P> {
         ensures heard { (earlier : List JournalItemOf) (clause : List AtomOf) (below : BoundOf)
             → self.old.frame.base.journal ≡ earlier ++ JournalItem.Learnt clause below ∷ []
             → HeardClause clause self.old.brancher self.new.brancher }
-        ensures ends { EndsAt self.old.round self.old.frame.trail.level → RoundEnds self.old self.new }
-        ensures goes_on { (EndsAt self.old.round self.old.frame.trail.level → ⊥) → RoundGoesOn self.old self.new }
+        ensures ends { EndsAt self.old.round self.old.frame.store.level → RoundEnds self.old self.new }
+        ensures goes_on { (EndsAt self.old.round self.old.frame.store.level → ⊥) → RoundGoesOn self.old self.new }
         ensures rest { KeepsRest self.old self.new }
-        ensures kept { self.new.kept ≡ min self.old.kept (length self.new.frame.trail.entries) }
+        ensures kept { self.new.kept ≡ min self.old.kept (length self.new.frame.store.entries) }
         ensures size { length self.new.brancher.activities ≡ length self.old.brancher.activities }
         ensures saw { (s : Trail) (k : ℕ)
             → AreFixedAside (length self.old.brancher.activities) self.old.brancher.aside s k
@@ -228,8 +228,8 @@ impl<'a, P: Propagator> Explorer<'a, P> {
 
     /// Looks what is left after a turn that neither decided nor learnt: the store may have lost its last entries.
     fn look_back(&mut self)
-        ensures kept { self.new.kept ≡ min self.old.kept (length self.new.frame.trail.entries) }
-        ensures held { self.new.round.held ≡ min self.old.round.held self.old.frame.trail.level }
+        ensures kept { self.new.kept ≡ min self.old.kept (length self.new.frame.store.entries) }
+        ensures held { self.new.round.held ≡ min self.old.round.held self.old.frame.store.level }
         ensures place { self.new.round.place ≡ 0 }
         ensures rest { near_of self.new ≡ near_of self.old }
         ensures decisions { self.new.round.decisions.items ≡ self.old.round.decisions.items }
@@ -245,7 +245,7 @@ impl<'a, P: Propagator> Explorer<'a, P> {
     pub fn turn<Q: Port>(&mut self, port: &mut Q) -> Result<Turn, AllocError>
         requires exploring { IsExploring self.old }
         requires running { IsOver self.old.frame.said → ⊥ }
-        requires model { Q.model port.old ≡ self.old.frame.problem.model }
+        requires model { Q.model port.old ≡ self.old.frame.instance.model }
         requires imported { self.old.frame.imported ≤ length (Q.part port.old).board.taken }
         ensures same { (Q.model port.new ≡ Q.model port.old) × (Q.rows port.new ≡ Q.rows port.old) }
         ensures others { Q.stays port.old port.new }

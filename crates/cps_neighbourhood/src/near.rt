@@ -76,7 +76,7 @@ impl<'a, P: Propagator> NearWorker<'a, P> {
     /// atom is decided, by the round or by activity.
     pub fn turn<Q: Port>(&mut self, port: &mut Q) -> Result<Turn, AllocError>
         requires running { IsOver self.old.search.said → ⊥ }
-        requires model { Q.model port.old ≡ self.old.search.problem.model }
+        requires model { Q.model port.old ≡ self.old.search.instance.model }
         requires imported { self.old.search.imported ≤ length (Q.part port.old).board.taken }
         ensures same { (Q.model port.new ≡ Q.model port.old) × (Q.rows port.new ≡ Q.rows port.old) }
         ensures others { Q.stays port.old port.new }
@@ -99,7 +99,7 @@ impl<'a, P: Propagator> NearWorker<'a, P> {
     /// Takes turns until one ends the worker.
     pub fn run<Q: Port>(&mut self, port: &mut Q) -> Result<End, AllocError>
         requires running { IsOver self.old.search.said → ⊥ }
-        requires model { Q.model port.old ≡ self.old.search.problem.model }
+        requires model { Q.model port.old ≡ self.old.search.instance.model }
         requires imported { self.old.search.imported ≤ length (Q.part port.old).board.taken }
         ensures same { (Q.model port.new ≡ Q.model port.old) × (Q.rows port.new ≡ Q.rows port.old) }
         ensures others { Q.stays port.old port.new }
@@ -120,7 +120,7 @@ impl<'a, P: Propagator> NearWorker<'a, P> {
 
     /// Takes another solution to aim at, from the next round on.
     pub fn aim(&mut self, solution: &[i64])
-        requires { IsSolution self.old.search.problem.model solution.now }
+        requires { IsSolution self.old.search.instance.model solution.now }
         ensures aim { self.old.search.refused ≡ false → self.new ≡ record self.old { aim = Some solution.now } }
         ensures refused { self.new.search.refused ≡ self.old.search.refused }
     {

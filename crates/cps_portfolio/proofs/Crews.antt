@@ -216,7 +216,7 @@ one_gathered m gap conflicts first count k j q s e ends h kind_is done said is j
 pub is_ready : (m : CpModel) (gap conflicts : ℕ) (board : Board) (bounds : Bounds) (number : ℕ) (c : Seated) → words.model_of bounds ≡ m → IsSeated m gap conflicts board bounds number c → IsReady m c
 is_ready m gap conflicts board bounds number c model h =
     let b = has_begun m gap conflicts (known_of c.worker) h.begins in
-    let of_model : (search_of c.worker).problem.model ≡ m = ap (λ (x : Search). x.problem.model) b.is ∙ b.first.model in
+    let of_model : (search_of c.worker).instance.model ≡ m = ap (λ (x : Search). x.instance.model) b.is ∙ b.first.model in
     record {
       of_model = of_model;
       running = λ over. subst (λ (x : Search). IsOver x.said) b.is over;

@@ -41,13 +41,13 @@ some_of (Some x) e = (x, refl)
 
 pub record HasBegun (m : CpModel) (gap : ℕ) (s : Search) : Type 0 where
   pub budget : Option ℕ
-  pub problem : Problem
-  pub first : IsFirstInstance m problem
-  pub is : s ≡ fresh problem gap budget
+  pub instance : Problem
+  pub first : IsFirstInstance m instance
+  pub is : s ≡ fresh instance gap budget
 
 pub has_begun : (m : CpModel) (gap conflicts : ℕ) (s : AnySearch) → BeginsAs m gap conflicts s → HasBegun m gap (search_in s)
-has_begun m gap conflicts (by_guidance kind guidance s) h = record { budget = Some conflicts; problem = h.begins.problem; first = h.begins.first; is = h.begins.is }
-has_begun m gap conflicts (in_rounds n) h = record { budget = None; problem = h.problem; first = h.first; is = h.is.search }
+has_begun m gap conflicts (by_guidance kind guidance s) h = record { budget = Some conflicts; instance = h.begins.instance; first = h.begins.first; is = h.begins.is }
+has_begun m gap conflicts (in_rounds n) h = record { budget = None; instance = h.instance; first = h.first; is = h.is.search }
 
 -- ---- a worker that is handed a solution
 
@@ -107,29 +107,29 @@ still_runs rows (in_rounds m) (in_rounds n) p q turn = subst (λ (o : Option End
 
 -- what a worker has left to do
 abbrev pub left_in : AnySearch → ℕ → BoardPart → ℕ
-left_in (by_guidance kind g s) rows b = left_of (open_values s.problem.domains [] + 1) s rows b
-left_in (in_rounds n) rows b = near_left (open_values n.search.problem.domains [] + 1) n rows b
+left_in (by_guidance kind g s) rows b = left_of (open_values s.instance.domains [] + 1) s rows b
+left_in (in_rounds n) rows b = near_left (open_values n.search.instance.domains [] + 1) n rows b
 
-guided_lighter : (rows : ℕ) (g : Guidance) (s t : Search) (p q : Part) → TurnedBy g rows s t p q false → left_of (open_values t.problem.domains [] + 1) t rows q.board < left_of (open_values s.problem.domains [] + 1) s rows p.board
+guided_lighter : (rows : ℕ) (g : Guidance) (s t : Search) (p q : Part) → TurnedBy g rows s t p q false → left_of (open_values t.instance.domains [] + 1) t rows q.board < left_of (open_values s.instance.domains [] + 1) s rows p.board
 guided_lighter rows g s t p q turn =
     let setting = turn.takes.search.setting in
     let less = lowered s t rows p.board q.board turn.before turn.after setting (turn.takes.search.lowers (none_of (end_of turn.turn) turn.last)) in
-    subst (λ (x : Problem). left_of (open_values x.domains [] + 1) t rows q.board < left_of (open_values s.problem.domains [] + 1) s rows p.board) (sym setting.problem) less
+    subst (λ (x : Problem). left_of (open_values x.domains [] + 1) t rows q.board < left_of (open_values s.instance.domains [] + 1) s rows p.board) (sym setting.instance) less
 
 near_lighter_by : (rows : ℕ) (m n : Near) (p q : Part) (turn : Turn) → IsSoundSearch m.search → IsSoundSearch n.search → m.search.budget ≡ None → end_of turn ≡ None → TakesNearTurn m n rows p q turn
-    → near_left (open_values n.search.problem.domains [] + 1) n rows q.board < near_left (open_values m.search.problem.domains [] + 1) m rows p.board
+    → near_left (open_values n.search.instance.domains [] + 1) n rows q.board < near_left (open_values m.search.instance.domains [] + 1) m rows p.board
 near_lighter_by rows m n p q turn before after budget going takes =
     let less = near_lowered m n rows p.board q.board before after takes.setting takes.conflicts budget (takes.lowers going) in
-    subst (λ (x : Problem). near_left (open_values x.domains [] + 1) n rows q.board < near_left (open_values m.search.problem.domains [] + 1) m rows p.board) (sym takes.setting.problem) less
+    subst (λ (x : Problem). near_left (open_values x.domains [] + 1) n rows q.board < near_left (open_values m.search.instance.domains [] + 1) m rows p.board) (sym takes.setting.instance) less
 
-near_lighter : (rows : ℕ) (m n : Near) (p q : Part) → TurnedNear rows m n p q false → near_left (open_values n.search.problem.domains [] + 1) n rows q.board < near_left (open_values m.search.problem.domains [] + 1) m rows p.board
+near_lighter : (rows : ℕ) (m n : Near) (p q : Part) → TurnedNear rows m n p q false → near_left (open_values n.search.instance.domains [] + 1) n rows q.board < near_left (open_values m.search.instance.domains [] + 1) m rows p.board
 near_lighter rows m n p q turn = go turn.aimed turn.aims turn.takes
   where
     going : end_of turn.turn ≡ None
     going = none_of (end_of turn.turn) turn.last
 
     -- what it aims at is no part of what is left
-    go : (a : Near) → IsAimed m a → TakesNearTurn a n rows p q turn.turn → near_left (open_values n.search.problem.domains [] + 1) n rows q.board < near_left (open_values m.search.problem.domains [] + 1) m rows p.board
+    go : (a : Near) → IsAimed m a → TakesNearTurn a n rows p q turn.turn → near_left (open_values n.search.instance.domains [] + 1) n rows q.board < near_left (open_values m.search.instance.domains [] + 1) m rows p.board
     go a (inl e) takes = near_lighter_by rows m n p q turn.turn turn.before turn.after turn.no_budget going (subst (λ (x : Near). TakesNearTurn x n rows p q turn.turn) e takes)
     go a (inr x) takes = near_lighter_by rows (record m { aim = Some x.0 }) n p q turn.turn turn.before turn.after turn.no_budget going (subst (λ (y : Near). TakesNearTurn y n rows p q turn.turn) x.2 takes)
 
@@ -154,14 +154,14 @@ guided_done m gap conflicts rows kind g s u t p n q begins turns last offered ra
       end = e.0;
       over = ends.said;
       honest = subst (λ (x : CpModel). IsHonestEnding x gap conflicts q.bounds (ending kind (Some g) e.0 t)) b.first.model
-          (honest_ending b.problem gap conflicts t p q kind (Some g) e.0 begins.complete runs last.after offered raised);
-      sums = ap (λ (x : Problem). x.defs) runs.setting.problem ∙ b.first.sums;
+          (honest_ending b.instance gap conflicts t p q kind (Some g) e.0 begins.complete runs last.after offered raised);
+      sums = ap (λ (x : Problem). x.defs) runs.setting.instance ∙ b.first.sums;
       goes = record {
-        problem = b.problem;
-        instance = b.first.sound;
+        instance = b.instance;
+        is_instance = b.first.sound;
         model = b.first.model;
-        sums = sym (ap (λ (x : Problem). x.defs) runs.setting.problem);
-        guide = subst (λ (x : Search). IsGuidedBy kind x.problem (Some g)) b.is begins.guide;
+        sums = sym (ap (λ (x : Problem). x.defs) runs.setting.instance);
+        guide = subst (λ (x : Search). IsGuidedBy kind x.instance (Some g)) b.is begins.guide;
         decisions = record {
           rows = rows;
           done = t;
@@ -182,18 +182,18 @@ near_done m gap conflicts rows s u t p n q begins turns last offered raised =
     let runs : NearRunsInTurns rows s t p q e.0 = record { before = last.aimed; part = n; turns = aimed_turns rows s p u last.aimed n turns last.aims; turn = last.turn; last = last.takes; ended = e.1 } in
     let sound = subst IsSoundSearch (sym (aimed_search u last.aimed last.aims)) last.before in
     let run = near_turns_run rows s t p q e.0 runs sound in
-    let problem : t.search.problem ≡ begins.problem = run.setting.problem ∙ ap (λ (x : Search). x.problem) begins.is.search in
+    let instance : t.search.instance ≡ begins.instance = run.setting.instance ∙ ap (λ (x : Search). x.instance) begins.is.search in
     record {
       end = e.0;
       over = run.said;
       honest = subst (λ (x : CpModel). IsHonestEnding x gap conflicts q.bounds (ending kinds.Near None e.0 t.search)) begins.first.model
-          (near_honest begins.problem gap conflicts rows begins.draws s t p q e.0 begins.is runs sound last.after offered raised);
-      sums = ap (λ (x : Problem). x.defs) problem ∙ begins.first.sums;
+          (near_honest begins.instance gap conflicts rows begins.draws s t p q e.0 begins.is runs sound last.after offered raised);
+      sums = ap (λ (x : Problem). x.defs) instance ∙ begins.first.sums;
       goes = record {
-        problem = begins.problem;
-        instance = begins.first.sound;
+        instance = begins.instance;
+        is_instance = begins.first.sound;
         model = begins.first.model;
-        sums = sym (ap (λ (x : Problem). x.defs) problem);
+        sums = sym (ap (λ (x : Problem). x.defs) instance);
         guide = tt;
         decisions = tt;
         rounds = λ is. record { rows = rows; draws = begins.draws; first = s; begins = begins.is; done = t; before = p; after = q; runs = runs; seen = refl };

@@ -91,7 +91,7 @@ spent_apart m gap conflicts upper lower e h raised apart = go e.end refl w.why
     above : All (IsItemAbove upper) e.journal
     above = All-weaker (IsItemAbove w.z) (IsItemAbove upper) (λ i k. raise_above upper w.z i up k) e.journal w.above
 
-    go : (end : End) → e.end ≡ end → IsWhy w.problem gap conflicts w.z h.part e end → DidItsPart m conflicts upper e
+    go : (end : End) → e.end ≡ end → IsWhy w.instance gap conflicts w.z h.part e end → DidItsPart m conflicts upper e
     go ends.Exhausted is why =
         absurd (let met = meet lower upper gap (BoundLe-trans upper why.0 lower (BoundLe-trans upper w.z why.0 up why.2) (raised why.0 why.1)) in cc)
     go ends.SawClosed is why =
@@ -104,8 +104,8 @@ spent_apart m gap conflicts upper lower e h raised apart = go e.end refl w.why
       clause = clause;
       below = below;
       end = is;
-      problem = w.problem;
       instance = w.instance;
+      is_instance = w.is_instance;
       model = w.model;
       sums = w.defs;
       honest = why.2;
@@ -114,8 +114,8 @@ spent_apart m gap conflicts upper lower e h raised apart = go e.end refl w.why
     go ends.RoundsDone is why = subst (λ (kind : WorkerKind). DidItsPartAs kind m conflicts upper e) (sym why.0) (record {
       end = is;
       learnt = (let most = why.1 in omega (arith, most, w.counted));
-      problem = w.problem;
       instance = w.instance;
+      is_instance = w.is_instance;
       model = w.model;
       sums = w.defs;
       honest = w.journal;

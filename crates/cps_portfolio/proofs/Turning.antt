@@ -71,11 +71,11 @@ pub at_work : (m : CpModel) (gap conflicts rows : ℕ) (c : Core) (crew : List T
     → AtWork m gap conflicts rows (known_of (get_or crew i d).worker) (part_at c i)
 at_work m gap conflicts rows c crew i d h l still = (h.each i d l).at_work still
 
-pub work_model : (m : CpModel) (gap conflicts rows : ℕ) (s : AnySearch) (q : Part) → AtWork m gap conflicts rows s q → (search_in s).problem.model ≡ m
+pub work_model : (m : CpModel) (gap conflicts rows : ℕ) (s : AnySearch) (q : Part) → AtWork m gap conflicts rows s q → (search_in s).instance.model ≡ m
 work_model m gap conflicts rows s q h =
     let b = has_begun m gap conflicts h.first h.begins in
     let kept = has_kept rows h.first s newcomer q h.turns in
-    ap (λ (p : Problem). p.model) kept.setting.problem ∙ ap (λ (x : Search). x.problem.model) b.is ∙ b.first.model
+    ap (λ (p : Problem). p.model) kept.setting.instance ∙ ap (λ (x : Search). x.instance.model) b.is ∙ b.first.model
 
 pub work_memory : (m : CpModel) (gap conflicts rows : ℕ) (s : AnySearch) (q : Part) → AtWork m gap conflicts rows s q → (search_in s).refused ≡ false
 work_memory m gap conflicts rows s q h =

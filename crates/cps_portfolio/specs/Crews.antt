@@ -32,10 +32,10 @@ words_splits c = words.splits_of c.port.bounds_seat
 
 -- a worker of a model that may begin
 pub record IsReady (m : CpModel) (c : Seated) : Type 0 where
-  pub of_model : (search_of c.worker).problem.model ≡ m
+  pub of_model : (search_of c.worker).instance.model ≡ m
   pub running : IsOver (search_of c.worker).said → ⊥
   pub memory : (search_of c.worker).refused ≡ false
-  pub model : words.model_of c.port.bounds.now ≡ (search_of c.worker).problem.model
+  pub model : words.model_of c.port.bounds.now ≡ (search_of c.worker).instance.model
   pub imported : (search_of c.worker).imported ≤ length (boards.part_of c.port.board_seat).taken
 
 -- a worker took its turns up to its end, or ran out of memory
@@ -62,7 +62,7 @@ pub record IsDone (m : CpModel) (gap conflicts : ℕ) (q : BoundsPart) (s : AnyS
   pub end : End
   pub over : (search_in s).said ≡ Over end
   pub honest : IsHonestEnding m gap conflicts q (ending_in s end)
-  pub sums : (search_in s).problem.defs ≡ model_sums m
+  pub sums : (search_in s).instance.defs ≡ model_sums m
   pub goes : GoesByModel m gap conflicts (ending_in s end)
 
 -- the worker of this number has ended honestly, or ran out of memory

@@ -57,11 +57,11 @@ pub record SpentItsBudget (m : CpModel) (conflicts : ℕ) (upper : Bound) (e : E
   pub below : Bound
   pub end : e.end ≡ Spent clause below
   -- an instance of the model with the worker's sums, over whose subjects the clauses are
-  pub problem : Problem
-  pub instance : IsInstance problem
-  pub model : problem.model ≡ m
-  pub sums : problem.defs ≡ e.defs
-  pub honest : IsHonestJournal problem (e.journal ++ Learnt clause below ∷ [])
+  pub instance : Problem
+  pub is_instance : IsInstance instance
+  pub model : instance.model ≡ m
+  pub sums : instance.defs ≡ e.defs
+  pub honest : IsHonestJournal instance (e.journal ++ Learnt clause below ∷ [])
   pub above : All (IsItemAbove upper) (e.journal ++ Learnt clause below ∷ [])
 
 -- A neighbourhood worker did its rounds, and ended for no other reason. It learnt from one conflict at least in each; its journal is honest, and
@@ -70,11 +70,11 @@ pub record DidItsRounds (m : CpModel) (conflicts : ℕ) (upper : Bound) (e : End
   pub end : e.end ≡ RoundsDone
   pub learnt : round_count conflicts ≤ learnt_count e.journal
   -- an instance of the model with the worker's sums, over whose subjects the clauses are
-  pub problem : Problem
-  pub instance : IsInstance problem
-  pub model : problem.model ≡ m
-  pub sums : problem.defs ≡ e.defs
-  pub honest : IsHonestJournal problem e.journal
+  pub instance : Problem
+  pub is_instance : IsInstance instance
+  pub model : instance.model ≡ m
+  pub sums : instance.defs ≡ e.defs
+  pub honest : IsHonestJournal instance e.journal
   pub above : All (IsItemAbove upper) e.journal
 
 -- what a worker of each kind has done where the bounds have not met: a complete one spent its budget
@@ -103,13 +103,13 @@ pub record IsEndOfRounds (p : Problem) (gap conflicts : ℕ) (e : Ending) : Type
 -- complete kind is what a run comes to that begins with nothing known, and each decision of which goes by its guidance; and what is seen of a
 -- neighbourhood worker is what its rounds come to.
 pub record GoesByModel (m : CpModel) (gap conflicts : ℕ) (e : Ending) : Type 0 where
-  pub problem : Problem
-  pub instance : IsInstance problem
-  pub model : problem.model ≡ m
-  pub sums : problem.defs ≡ e.defs
-  pub guide : IsGuidedBy e.kind problem e.guidance
-  pub decisions : IfSome e.guidance (λ guidance. IsEndOfRun problem gap conflicts guidance e)
-  pub rounds : e.kind ≡ kinds.Near → IsEndOfRounds problem gap conflicts e
+  pub instance : Problem
+  pub is_instance : IsInstance instance
+  pub model : instance.model ≡ m
+  pub sums : instance.defs ≡ e.defs
+  pub guide : IsGuidedBy e.kind instance e.guidance
+  pub decisions : IfSome e.guidance (λ guidance. IsEndOfRun instance gap conflicts guidance e)
+  pub rounds : e.kind ≡ kinds.Near → IsEndOfRounds instance gap conflicts e
 
 pub record IsGoodOutcome (m : CpModel) (options : Options) (o : Outcome) : Type 0 where
   -- each worker ended, and is of the kind that its number says, with the sums that the model's strategies write and no others

@@ -69,22 +69,22 @@ pub record IsFirstInstance (m : CpModel) (p : Problem) : Type 0 where
 
 -- a search of the model that begins
 pub record Begins (m : CpModel) (gap conflicts : ℕ) (s : Search) : Type 0 where
-  pub problem : Problem
-  pub first : IsFirstInstance m problem
-  pub is : s ≡ fresh problem gap (Some conflicts)
+  pub instance : Problem
+  pub first : IsFirstInstance m instance
+  pub is : s ≡ fresh instance gap (Some conflicts)
 
 -- one of a complete kind, whose guidance is what the model says
 pub record BeginsGuided (m : CpModel) (gap conflicts : ℕ) (kind : WorkerKind) (guidance : Guidance) (s : Search) : Type 0 where
   pub begins : Begins m gap conflicts s
   pub complete : IsComplete kind
-  pub guide : IsGuidedBy kind s.problem (Some guidance)
+  pub guide : IsGuidedBy kind s.instance (Some guidance)
 
 -- one that goes in rounds, for so many conflicts
 pub record BeginsRounds (m : CpModel) (gap conflicts : ℕ) (n : Near) : Type 0 where
-  pub problem : Problem
-  pub first : IsFirstInstance m problem
+  pub instance : Problem
+  pub first : IsFirstInstance m instance
   pub draws : Lcg
-  pub is : BeginsNear problem gap conflicts draws n
+  pub is : BeginsNear instance gap conflicts draws n
 
 abbrev pub BeginsAs : CpModel → ℕ → ℕ → AnySearch → Type 0
 BeginsAs m gap conflicts (by_guidance kind guidance s) = BeginsGuided m gap conflicts kind guidance s
@@ -107,7 +107,7 @@ TakesTurnsBy guidance rows s t p q = TakesTurns ChoosesBy (λ before clause rest
 
 -- it is aimed at a solution of its model, or aims where it did
 abbrev pub IsAimed : Near → Near → Type 0
-IsAimed n aimed = (aimed ≡ n) ⊎ ((solution : List ℤ) × IsSolution n.search.problem.model solution × (aimed ≡ record n { aim = Some solution }))
+IsAimed n aimed = (aimed ≡ n) ⊎ ((solution : List ℤ) × IsSolution n.search.instance.model solution × (aimed ≡ record n { aim = Some solution }))
 
 -- one turn of a worker that goes by a guidance, which was its last or not
 pub record TurnedBy (guidance : Guidance) (rows : ℕ) (s t : Search) (p q : Part) (over : Bool) : Type 0 where

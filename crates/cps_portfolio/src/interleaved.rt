@@ -109,8 +109,8 @@ fn take_turn(
     requires idle { (board_part port.old.core.now.board actor).drawn ≡ None }
     requires memory { (search_of worker.old).refused ≡ false }
     requires running { IsOver (search_of worker.old).said → ⊥ }
-    requires model { port.old.core.now.model ≡ (search_of worker.old).problem.model }
-    requires pool { pool.old.model ≡ (search_of worker.old).problem.model }
+    requires model { port.old.core.now.model ≡ (search_of worker.old).instance.model }
+    requires pool { pool.old.model ≡ (search_of worker.old).instance.model }
     requires imported { (search_of worker.old).imported ≤ length (part_at port.old.core.now actor).board.taken }
     ensures same { (port.new.core.now.model ≡ port.old.core.now.model) × (length port.new.core.now.board.rows ≡ length port.old.core.now.board.rows) }
     ensures idle { (board_part port.new.core.now.board actor).drawn ≡ None }

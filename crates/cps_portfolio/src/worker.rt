@@ -55,7 +55,7 @@ fn fixed_worker<'a>(
     requires assumptions { HasNoAssumptions model.now }
     requires kinds { AreAllPropagated model.now }
     ensures begins { IfOk result (λ worker. Begins model.entry.now gap conflicts worker.0) }
-    ensures plan { IfOk result (λ worker. IsPlanOf worker.0.problem worker.1.plan) }
+    ensures plan { IfOk result (λ worker. IsPlanOf worker.0.instance worker.1.plan) }
 {
     let instance = Instance::of(alloc, model)?;
     let engine = engine_of(alloc, &instance)?;
@@ -73,7 +73,7 @@ fn activity_worker<'a>(
     requires assumptions { HasNoAssumptions model.now }
     requires kinds { AreAllPropagated model.now }
     ensures begins { IfOk result (λ worker. Begins model.entry.now gap conflicts worker.0) }
-    ensures hints { IfOk result (λ worker. AreHintsOf worker.0.problem worker.1.hints) }
+    ensures hints { IfOk result (λ worker. AreHintsOf worker.0.instance worker.1.hints) }
 {
     let instance = Instance::of(alloc, model)?;
     let engine = engine_of(alloc, &instance)?;
@@ -134,8 +134,8 @@ fn turn_of<B: Brancher + Drop, Q: Port, F: Pool>(
     pool: &mut F,
 ) -> Result<bool, AllocError>
     requires running { IsOver worker.old.0.said → ⊥ }
-    requires model { Q.model port.old ≡ worker.old.0.problem.model }
-    requires pool { F.model pool.old ≡ worker.old.0.problem.model }
+    requires model { Q.model port.old ≡ worker.old.0.instance.model }
+    requires pool { F.model pool.old ≡ worker.old.0.instance.model }
     requires imported { worker.old.0.imported ≤ length (Q.part port.old).board.taken }
     ensures same { (Q.model port.new ≡ Q.model port.old) × (Q.rows port.new ≡ Q.rows port.old) }
     ensures others { Q.stays port.old port.new }
@@ -150,7 +150,7 @@ fn turn_of<B: Brancher + Drop, Q: Port, F: Pool>(
 /// Hands a neighbourhood worker the pool's last solution, unless it was handed that one before.
 fn aim<F: Pool>(near: &mut NearSeeker<'_>, pool: &F)
     requires memory { near.old.worker.search.refused ≡ false }
-    requires pool { F.model pool.now ≡ near.old.worker.search.problem.model }
+    requires pool { F.model pool.now ≡ near.old.worker.search.instance.model }
     ensures { IsAimed near.old.worker near.new.worker }
 {
     let count = pool.count();
@@ -170,8 +170,8 @@ fn near_turn_of<Q: Port, F: Pool>(
 ) -> Result<bool, AllocError>
     requires memory { near.old.worker.search.refused ≡ false }
     requires running { IsOver near.old.worker.search.said → ⊥ }
-    requires model { Q.model port.old ≡ near.old.worker.search.problem.model }
-    requires pool { F.model pool.old ≡ near.old.worker.search.problem.model }
+    requires model { Q.model port.old ≡ near.old.worker.search.instance.model }
+    requires pool { F.model pool.old ≡ near.old.worker.search.instance.model }
     requires imported { near.old.worker.search.imported ≤ length (Q.part port.old).board.taken }
     ensures same { (Q.model port.new ≡ Q.model port.old) × (Q.rows port.new ≡ Q.rows port.old) }
     ensures others { Q.stays port.old port.new }
@@ -217,8 +217,8 @@ impl<'a> AnyWorker<'a> {
     pub fn run<Q: Port, F: Pool>(&mut self, port: &mut Q, pool: &mut F) -> Result<(), AllocError>
         requires memory { (search_of self.old).refused ≡ false }
         requires running { IsOver (search_of self.old).said → ⊥ }
-        requires model { Q.model port.old ≡ (search_of self.old).problem.model }
-        requires pool { F.model pool.old ≡ (search_of self.old).problem.model }
+        requires model { Q.model port.old ≡ (search_of self.old).instance.model }
+        requires pool { F.model pool.old ≡ (search_of self.old).instance.model }
         requires imported { (search_of self.old).imported ≤ length (Q.part port.old).board.taken }
         ensures same { (Q.model port.new ≡ Q.model port.old) × (Q.rows port.new ≡ Q.rows port.old) }
         ensures others { Q.stays port.old port.new }
@@ -238,8 +238,8 @@ impl<'a> AnyWorker<'a> {
     pub fn turn<Q: Port, F: Pool>(&mut self, port: &mut Q, pool: &mut F) -> Result<bool, AllocError>
         requires memory { (search_of self.old).refused ≡ false }
         requires running { IsOver (search_of self.old).said → ⊥ }
-        requires model { Q.model port.old ≡ (search_of self.old).problem.model }
-        requires pool { F.model pool.old ≡ (search_of self.old).problem.model }
+        requires model { Q.model port.old ≡ (search_of self.old).instance.model }
+        requires pool { F.model pool.old ≡ (search_of self.old).instance.model }
         requires imported { (search_of self.old).imported ≤ length (Q.part port.old).board.taken }
         ensures same { (Q.model port.new ≡ Q.model port.old) × (Q.rows port.new ≡ Q.rows port.old) }
         ensures others { Q.stays port.old port.new }

@@ -22,29 +22,29 @@ use Rattle.cps_search.proofs.Holding.{free_within, reasons_below}
 use Rattle.cps_search.proofs.Keeping.{all_below, reasons_of}
 
 -- the reasons of a search hold at each free assignment below z
-module _ (s : Search) (h : IsSoundSearch s) (a : List ℤ) (free : IsFree s.problem.model a) (below : IsBelow (objective_value s.problem.model a) s.z) where
-  backed : IsBacked s.trail (extended s.problem.defs a)
+module _ (s : Search) (h : IsSoundSearch s) (a : List ℤ) (free : IsFree s.instance.model a) (below : IsBelow (objective_value s.instance.model a) s.z) where
+  backed : IsBacked s.store (extended s.instance.defs a)
   backed = record {
-    within = free_within s.problem s.trail.first a h.instance h.domains free;
-    reasons = reasons_below s.problem s.z s.trail.entries a (reasons_of s h) free below;
+    within = free_within s.instance s.store.first a h.instance h.domains free;
+    reasons = reasons_below s.instance s.z s.store.entries a (reasons_of s h) free below;
     notes = λ k d n l e left.
-        ((forced_by_all s.tasks s.base.clauses s.trail k (has_note s.trail k d n l e) (AreGiven-fit (ByAll s.tasks s.base.clauses) s.trail h.given k l (has_note s.trail k d n l e))).at d).at (extended s.problem.defs a) left (all_below s h a free below);
+        ((forced_by_all s.tasks s.base.clauses s.store k (has_note s.store k d n l e) (AreGiven-fit (ByAll s.tasks s.base.clauses) s.store h.given k l (has_note s.store k d n l e))).at d).at (extended s.instance.defs a) left (all_below s h a free below);
   }
 
 -- so the decisions behind an atom are enough there
-pub behind_in : (s : Search) (t : Atom) (decisions : List Atom) → IsSoundSearch s → AreBehind (IsFetched (IsReasonOfOne s.tasks s.base.clauses s.trail) s.trail) (AllHold s.tasks s.base.clauses) s.trail t decisions → AreBehindIn s t decisions
+pub behind_in : (s : Search) (t : Atom) (decisions : List Atom) → IsSoundSearch s → AreBehind (IsFetched (IsReasonOfOne s.tasks s.base.clauses s.store) s.store) (AllHold s.tasks s.base.clauses) s.store t decisions → AreBehindIn s t decisions
 behind_in s t decisions h behind = record {
   each = behind.each;
-  enough = λ a free below on. behind.enough (extended s.problem.defs a) (all_below s h a free below) (backed s h a free below) on;
+  enough = λ a free below on. behind.enough (extended s.instance.defs a) (all_below s h a free below) (backed s h a free below) on;
 }
 
 -- and what is false at level 0 is false there
-pub false_below : (s : Search) → IsSoundSearch s → IsSound s.trail → s.trail.level ≡ 0 → IsFalseBelow s
-false_below s h sound bottom t known off a free below = elim (bool_cases (atom_holds (extended s.problem.defs a) t)) [
+pub false_below : (s : Search) → IsSoundSearch s → IsSound s.store → s.store.level ≡ 0 → IsFalseBelow s
+false_below s h sound bottom t known off a free below = elim (bool_cases (atom_holds (extended s.instance.defs a) t)) [
   | inr out ↦ out
   | inl on ↦ absurd (
-      let n = length s.trail.entries in
-      let every = take_all n s.trail.entries (omega arith) in
-      let ends : EndsAt s.trail 0 n = record { within = omega arith; front = every ∙ sym (ap (λ (l : ℕ). up_to l s.trail.entries) (sym bottom) ∙ up_to-all s.trail.level s.trail.entries sound.levels) } in
-      false_at_bottom s.trail n sound ends (extended s.problem.defs a) (backed s h a free below) t n known (omega arith) (subst (λ (es : List Entry). IsFalseAfter s.trail.first es t) (sym every) off) on)
+      let n = length s.store.entries in
+      let every = take_all n s.store.entries (omega arith) in
+      let ends : EndsAt s.store 0 n = record { within = omega arith; front = every ∙ sym (ap (λ (l : ℕ). up_to l s.store.entries) (sym bottom) ∙ up_to-all s.store.level s.store.entries sound.levels) } in
+      false_at_bottom s.store n sound ends (extended s.instance.defs a) (backed s h a free below) t n known (omega arith) (subst (λ (es : List Entry). IsFalseAfter s.store.first es t) (sym every) off) on)
 ]

@@ -14,10 +14,10 @@ use Rattle.cps_search.specs.Shelves.{in_force_on}
 use Rattle.cps_search.proofs.Teaching.{conflict_over}
 
 -- what one task gives, or one clause in force, holds below the bound
-pub given_over : (s : Search) (c : List Atom) → IsSoundSearch s → IsGivenConflict s.tasks (in_force_on s.base) s.trail c → HoldsOver s.problem s.z c
+pub given_over : (s : Search) (c : List Atom) → IsSoundSearch s → IsGivenConflict s.tasks (in_force_on s.base) s.store c → HoldsOver s.instance s.z c
 given_over s c h given = elim given [
-  | inl k ↦ conflict_over s s.trail c h refl (IsConflict-weaker (HoldAll s.tasks) (AllHold s.tasks s.base.clauses) (λ xs all. all.tasks_hold) s.trail c (conflict_of_all s.tasks s.trail c k))
-  | inr k ↦ subst (λ (x : List Atom). HoldsOver s.problem s.z x) (sym k.is) (h.clauses k.number [] k.within)
+  | inl k ↦ conflict_over s s.store c h refl (IsConflict-weaker (HoldAll s.tasks) (AllHold s.tasks s.base.clauses) (λ xs all. all.tasks_hold) s.store c (conflict_of_all s.tasks s.store c k))
+  | inr k ↦ subst (λ (x : List Atom). HoldsOver s.instance s.z x) (sym k.is) (h.clauses k.number [] k.within)
 ]
 
 -- it is false, and its subjects exist
@@ -27,7 +27,7 @@ given_false tasks clauses s c h = elim h [
   | inr k ↦ (k.false_now, k.subjects)
 ]
 
-pub in_conflict : (s : Search) (conflict : List Atom) → IsSoundSearch s → IsSound s.trail → IsGivenConflict s.tasks (in_force_on s.base) s.trail conflict → Any (NotFalseAtBottom s.trail) conflict → IsInConflict s
+pub in_conflict : (s : Search) (conflict : List Atom) → IsSoundSearch s → IsSound s.store → IsGivenConflict s.tasks (in_force_on s.base) s.store conflict → Any (NotFalseAtBottom s.store) conflict → IsInConflict s
 in_conflict s conflict h sound by_one bottom = record {
   sound = sound;
   given = h.given;

@@ -202,30 +202,30 @@ module _ (p q : Problem) (sum : DefinedSum) (subject : ℕ) (d : Defines p q sum
   honest_new journal h = record { news = AreHonest-weaker (IsWorthy p) (IsWorthy q) worthy_new [] journal h.news; drops = h.drops }
 
 -- a search that gained a sum at level 0 is sound
-module _ (s : Search) (q : Problem) (sum : DefinedSum) (subject : ℕ) (d : Defines s.problem q sum subject) (j : IsInstance q) (h : IsSoundSearch s) (bottom : s.trail.level ≡ 0) where
+module _ (s : Search) (q : Problem) (sum : DefinedSum) (subject : ℕ) (d : Defines s.instance q sum subject) (j : IsInstance q) (h : IsSoundSearch s) (bottom : s.store.level ≡ 0) where
   trail_new : Trail
-  trail_new = record s.trail { first = q.domains }
+  trail_new = record s.store { first = q.domains }
 
-  firsts : q.domains ≡ s.trail.first ++ d.added ∷ []
+  firsts : q.domains ≡ s.store.first ++ d.added ∷ []
   firsts = d.domains ∙ ap (λ (ds : Domains). ds ++ d.added ∷ []) (sym h.domains)
 
   tasks_new : s.tasks ++ sum_task subject sum ∷ [] ≡ map (below_bound s.z) q.tasks
   tasks_new =
       ap (λ (ts : List Task). ts ++ sum_task subject sum ∷ []) h.tasks
-      ∙ sym (tasks-push s.z s.problem.tasks (sum_task subject sum) (sum_stays s.z subject sum))
+      ∙ sym (tasks-push s.z s.instance.tasks (sum_task subject sum) (sum_stays s.z subject sum))
       ∙ ap (λ (ts : List Task). map (below_bound s.z) ts) (sym d.tasks)
 
   fits_all : All (IsFitting q.domains) (s.tasks ++ sum_task subject sum ∷ [])
   fits_all = subst (λ (ts : List Task). All (IsFitting q.domains) ts) (sym tasks_new) (fits_below q s.z j)
 
-  given_all : AreGiven (ByAll (s.tasks ++ sum_task subject sum ∷ []) s.base.clauses) (record s.trail { first = q.domains })
+  given_all : AreGiven (ByAll (s.tasks ++ sum_task subject sum ∷ []) s.base.clauses) (record s.store { first = q.domains })
   given_all k l = record {
     given = λ e.
-        subst (λ (ds : Domains). OrDecided (ByAll (s.tasks ++ sum_task subject sum ∷ []) s.base.clauses) ds (take k s.trail.entries) (get_or s.trail.entries k e).atom (get_or s.trail.entries k e).reason) (sym firsts)
-        (given_new s.trail.first d.added s.tasks (sum_task subject sum) s.base.clauses (subst (λ (ds : Domains). All (IsFitting ds) (s.tasks ++ sum_task subject sum ∷ [])) firsts fits_all) (take k s.trail.entries) (get_or s.trail.entries k e).atom (get_or s.trail.entries k e).reason ((h.given k l).given e));
+        subst (λ (ds : Domains). OrDecided (ByAll (s.tasks ++ sum_task subject sum ∷ []) s.base.clauses) ds (take k s.store.entries) (get_or s.store.entries k e).atom (get_or s.store.entries k e).reason) (sym firsts)
+        (given_new s.store.first d.added s.tasks (sum_task subject sum) s.base.clauses (subst (λ (ds : Domains). All (IsFitting ds) (s.tasks ++ sum_task subject sum ∷ [])) firsts fits_all) (take k s.store.entries) (get_or s.store.entries k e).atom (get_or s.store.entries k e).reason ((h.given k l).given e));
   }
 
-  inside : (c : List Atom) → Fits s.trail.first c → All (λ t. t.subject < length s.problem.domains) c
+  inside : (c : List Atom) → Fits s.store.first c → All (λ t. t.subject < length s.instance.domains) c
   inside c f = subst (λ (ds : Domains). All (λ t. t.subject < length ds) c) h.domains f.subjects
 
   found_new : (best : Option (List ℤ)) → IfSome best (IsFound s) → IfSome best (IsFound (grown s q (sum_task subject sum)))
@@ -243,17 +243,17 @@ module _ (s : Search) (q : Problem) (sum : DefinedSum) (subject : ℕ) (d : Defi
     domains = refl;
     tasks = tasks_new;
     given = given_all;
-    clauses = all_held (HoldsOver q s.z) s.base.clauses s.base.dropped (λ i held. holds_new s.problem q sum subject d h.instance j s.z (clause_of s.base.clauses i) (inside (clause_of s.base.clauses i) (h.subjects i [] held.within)) (at_held (HoldsOver s.problem s.z) s.base.clauses s.base.dropped i h.clauses held));
-    subjects = subst (λ (ds : Domains). All (Fits ds) s.base.clauses) (sym firsts) (All-weaker (Fits s.trail.first) (Fits (s.trail.first ++ d.added ∷ [])) (fits_new s.trail.first d.added) s.base.clauses h.subjects);
+    clauses = all_held (HoldsOver q s.z) s.base.clauses s.base.dropped (λ i held. holds_new s.instance q sum subject d h.instance j s.z (clause_of s.base.clauses i) (inside (clause_of s.base.clauses i) (h.subjects i [] held.within)) (at_held (HoldsOver s.instance s.z) s.base.clauses s.base.dropped i h.clauses held));
+    subjects = subst (λ (ds : Domains). All (Fits ds) s.base.clauses) (sym firsts) (All-weaker (Fits s.store.first) (Fits (s.store.first ++ d.added ∷ [])) (fits_new s.store.first d.added) s.base.clauses h.subjects);
     base = h.base;
-    quiet = IsQuiet-new_subject (in_force_on s.base) s.trail (record s.trail { first = q.domains }) d.added s.trail.level (all_held (Fits s.trail.first) s.base.clauses s.base.dropped (λ i held. h.subjects i [] held.within)) (ap (λ (ds : Domains). record s.trail { first = ds }) firsts) h.quiet;
+    quiet = IsQuiet-new_subject (in_force_on s.base) s.store (record s.store { first = q.domains }) d.added s.store.level (all_held (Fits s.store.first) s.base.clauses s.base.dropped (λ i held. h.subjects i [] held.within)) (ap (λ (ds : Domains). record s.store { first = ds }) firsts) h.quiet;
     rested = record {
       tasks_rest = bottom;
       within = h.rested.within;
-      clauses_rest = subst (λ (ds : Domains). IsBaseInStep (base_with s.base s.rested.watched) ds (take s.rested.clauses s.trail.entries)) (sym firsts)
-          (in_step_new s.trail.first d.added (base_with s.base s.rested.watched) (take s.rested.clauses s.trail.entries) h.subjects h.rested.clauses_rest);
+      clauses_rest = subst (λ (ds : Domains). IsBaseInStep (base_with s.base s.rested.watched) ds (take s.rested.clauses s.store.entries)) (sym firsts)
+          (in_step_new s.store.first d.added (base_with s.base s.rested.watched) (take s.rested.clauses s.store.entries) h.subjects h.rested.clauses_rest);
     };
-    journal = honest_new s.problem q sum subject d h.instance j s.base.journal h.journal;
+    journal = honest_new s.instance q sum subject d h.instance j s.base.journal h.journal;
     none_since = h.none_since;
     above = h.above;
     counted = h.counted;
@@ -264,26 +264,26 @@ module _ (s : Search) (q : Problem) (sum : DefinedSum) (subject : ℕ) (d : Defi
     said = tt;
   }
 
-pub sound_grew : (s t : Search) (sum : DefinedSum) (subject : ℕ) → GrewBy s t sum subject → IsInstance t.problem → IsSoundSearch s → s.trail.level ≡ 0 → IsSoundSearch t
-sound_grew s t sum subject h j sound bottom = subst IsSoundSearch (sym h.is) (sound_grown s t.problem sum subject h.defines j sound bottom)
+pub sound_grew : (s t : Search) (sum : DefinedSum) (subject : ℕ) → GrewBy s t sum subject → IsInstance t.instance → IsSoundSearch s → s.store.level ≡ 0 → IsSoundSearch t
+sound_grew s t sum subject h j sound bottom = subst IsSoundSearch (sym h.is) (sound_grown s t.instance sum subject h.defines j sound bottom)
 
 -- the fields of a search after the sum was defined in its instance, its store and its tasks
-pub grown_is : (s : Search) (q : Problem) (sum : DefinedSum) (subject : ℕ) (domain : Intervals) (trail : Trail) (tasks : List Task) → Defines s.problem q sum subject → IsSoundSearch s → domain ≡ domain_at q.domains subject → trail ≡ record s.trail { first = s.trail.first ++ domain ∷ [] }
-    → tasks ≡ s.tasks ++ sum_task subject sum ∷ [] → record s { problem = q; trail = trail; tasks = tasks; rested = record s.rested { tasks = None }; said = Nothing } ≡ grown s q (sum_task subject sum)
+pub grown_is : (s : Search) (q : Problem) (sum : DefinedSum) (subject : ℕ) (domain : Intervals) (trail : Trail) (tasks : List Task) → Defines s.instance q sum subject → IsSoundSearch s → domain ≡ domain_at q.domains subject → trail ≡ record s.store { first = s.store.first ++ domain ∷ [] }
+    → tasks ≡ s.tasks ++ sum_task subject sum ∷ [] → record s { instance = q; store = trail; tasks = tasks; rested = record s.rested { tasks = None }; said = Nothing } ≡ grown s q (sum_task subject sum)
 grown_is s q sum subject domain trail tasks d h is t e =
-    let there : domain ≡ d.added = is ∙ ap (λ (n : ℕ). first_of q.domains n) d.subject_is ∙ ap (λ (ds : Domains). first_of ds (length s.problem.domains)) d.domains ∙ at_end s.problem.domains d.added in
-    let firsts : s.trail.first ++ domain ∷ [] ≡ q.domains = ap (λ (ds : Domains). ds ++ domain ∷ []) h.domains ∙ ap (λ (ps : Intervals). s.problem.domains ++ ps ∷ []) there ∙ sym d.domains in
-    ap (λ (x : Trail). record s { problem = q; trail = x; tasks = tasks; rested = record s.rested { tasks = None }; said = Nothing }) (t ∙ ap (λ (ds : Domains). record s.trail { first = ds }) firsts)
-    ∙ ap (λ (ts : List Task). record s { problem = q; trail = record s.trail { first = q.domains }; tasks = ts; rested = record s.rested { tasks = None }; said = Nothing }) e
+    let there : domain ≡ d.added = is ∙ ap (λ (n : ℕ). first_of q.domains n) d.subject_is ∙ ap (λ (ds : Domains). first_of ds (length s.instance.domains)) d.domains ∙ at_end s.instance.domains d.added in
+    let firsts : s.store.first ++ domain ∷ [] ≡ q.domains = ap (λ (ds : Domains). ds ++ domain ∷ []) h.domains ∙ ap (λ (ps : Intervals). s.instance.domains ++ ps ∷ []) there ∙ sym d.domains in
+    ap (λ (x : Trail). record s { instance = q; store = x; tasks = tasks; rested = record s.rested { tasks = None }; said = Nothing }) (t ∙ ap (λ (ds : Domains). record s.store { first = ds }) firsts)
+    ∙ ap (λ (ts : List Task). record s { instance = q; store = record s.store { first = q.domains }; tasks = ts; rested = record s.rested { tasks = None }; said = Nothing }) e
   where
     at_end : (ds : Domains) (ps : Intervals) → get_or (ds ++ ps ∷ []) (length ds) [] ≡ ps
     at_end [] ps = refl
     at_end (e ∷ ds) ps = at_end ds ps
 
 -- there is room for one more task
-pub few_and_one : (s : Search) (q : Problem) (sum : DefinedSum) (subject : ℕ) → Defines s.problem q sum subject → IsInstance q → IsSoundSearch s → length s.tasks + 1 < 2 ^ 32
+pub few_and_one : (s : Search) (q : Problem) (sum : DefinedSum) (subject : ℕ) → Defines s.instance q sum subject → IsInstance q → IsSoundSearch s → length s.tasks + 1 < 2 ^ 32
 few_and_one s q sum subject d j h =
     let few = few_tasks q j in
-    let more = ap (λ (ts : List Task). length ts) d.tasks ∙ length-append s.problem.tasks (sum_task subject sum ∷ []) in
-    let same = ap (λ (ts : List Task). length ts) h.tasks ∙ length-map s.problem.tasks (below_bound s.z) in
+    let more = ap (λ (ts : List Task). length ts) d.tasks ∙ length-append s.instance.tasks (sum_task subject sum ∷ []) in
+    let same = ap (λ (ts : List Task). length ts) h.tasks ∙ length-map s.instance.tasks (below_bound s.z) in
     omega (arith, few, more, same)

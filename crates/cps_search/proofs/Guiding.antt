@@ -16,7 +16,7 @@ use Rattle.cps_branch.specs.Guidances.{ChoosesBy}
 -- a choice by one rule is one by another that it implies
 caused_by : (P Q : Trail → Option Atom → Type 0) → ((s : Trail) (choice : Option Atom) → P s choice → Q s choice) → (s t : Search) (rows : ℕ) (p q : Part) (turn : Turn) → TurnCaused P s t rows p q turn → TurnCaused Q s t rows p q turn
 caused_by P Q w s t rows p q turns.Imported h = h
-caused_by P Q w s t rows p q turns.Decided h = record { midway = h.midway; due = h.due; atom = h.atom; undecided = h.undecided; chosen = w h.midway.trail (Some h.atom) h.chosen; is = h.is }
+caused_by P Q w s t rows p q turns.Decided h = record { midway = h.midway; due = h.due; atom = h.atom; undecided = h.undecided; chosen = w h.midway.store (Some h.atom) h.chosen; is = h.is }
 caused_by P Q w s t rows p q turns.Learnt h = h
 caused_by P Q w s t rows p q turns.Found h = h
 caused_by P Q w s t rows p q turns.Exhausted h = h

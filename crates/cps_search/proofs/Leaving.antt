@@ -53,26 +53,26 @@ emptied_long b s keep which sound forgets =
     ap (λ (ks : List (List Atom)). length ks) (emptied_is b.clauses b.dropped b.learnt b.journal which sound.sizes sound.blank sound.numbered (places_of b s keep which forgets))
     ∙ length-blanked b.clauses (marked b.dropped (map (number_at b.learnt) which))
 
-left_half : (s : Search) (due : IsForgettingDue s.base) (left : Shelf) (h : IsSoundSearch s) (half : DropsHalf s.base left s.trail) → IsLeft s (shelf_of (without (bare_base s.base) half.which))
+left_half : (s : Search) (due : IsForgettingDue s.base) (left : Shelf) (h : IsSoundSearch s) (half : DropsHalf s.base left s.store) → IsLeft s (shelf_of (without (bare_base s.base) half.which))
 left_half s due left h half =
     let b = bare_base s.base in
     let keep = learnt_in_force (bare_base s.base) / 2 in
     let which = half.which in
-    let places = places_of (bare_base s.base) s.trail (learnt_in_force (bare_base s.base) / 2) half.which half.forgets in
-    let long = emptied_long (bare_base s.base) s.trail (learnt_in_force (bare_base s.base) / 2) half.which h.base half.forgets in
-    let sound = IsSoundBase-dropped (bare_base s.base) s.trail (learnt_in_force (bare_base s.base) / 2) half.which h.base half.forgets in
+    let places = places_of (bare_base s.base) s.store (learnt_in_force (bare_base s.base) / 2) half.which half.forgets in
+    let long = emptied_long (bare_base s.base) s.store (learnt_in_force (bare_base s.base) / 2) half.which h.base half.forgets in
+    let sound = IsSoundBase-dropped (bare_base s.base) s.store (learnt_in_force (bare_base s.base) / 2) half.which h.base half.forgets in
     let learnt : learnt_count s.base.journal ≡ length s.base.learnt = (let n = learnt_count-standing [] s.base.journal in omega (arith, n, h.base.numbered.count)) in
     record {
-      given = given_left s.tasks s.base.clauses (without (bare_base s.base) half.which).clauses s.trail long (λ i named. named_left (bare_base s.base) s.trail (learnt_in_force (bare_base s.base) / 2) half.which i h.base half.forgets named) h.given;
-      clauses = fewer_in_force (HoldsOver s.problem s.z) (bare_base s.base) half.which h.base places h.clauses;
-      subjects = subst (All (Fits s.trail.first)) (sym (emptied_is s.base.clauses s.base.dropped s.base.learnt s.base.journal half.which h.base.sizes h.base.blank h.base.numbered places))
-          (all_blanked (Fits s.trail.first) s.base.clauses (marked s.base.dropped (map (number_at s.base.learnt) half.which)) (record { subjects = λ k d l. absurd (omega (arith, l)) }) h.subjects);
+      given = given_left s.tasks s.base.clauses (without (bare_base s.base) half.which).clauses s.store long (λ i named. named_left (bare_base s.base) s.store (learnt_in_force (bare_base s.base) / 2) half.which i h.base half.forgets named) h.given;
+      clauses = fewer_in_force (HoldsOver s.instance s.z) (bare_base s.base) half.which h.base places h.clauses;
+      subjects = subst (All (Fits s.store.first)) (sym (emptied_is s.base.clauses s.base.dropped s.base.learnt s.base.journal half.which h.base.sizes h.base.blank h.base.numbered places))
+          (all_blanked (Fits s.store.first) s.base.clauses (marked s.base.dropped (map (number_at s.base.learnt) half.which)) (record { subjects = λ k d l. absurd (omega (arith, l)) }) h.subjects);
       base = record { normal = sound.normal; sizes = sound.sizes; blank = sound.blank; numbered = sound.numbered; in_force = sound.in_force };
-      quiet = quiet_forgotten (bare_base s.base) half.which s.trail s.trail.level h.base places h.quiet;
+      quiet = quiet_forgotten (bare_base s.base) half.which s.store s.store.level h.base places h.quiet;
       journal = record {
-        news = IsHonest-drops (IsWorthy s.problem) s.base.journal half.which h.journal.news (forgotten_stand (bare_base s.base) s.trail (learnt_in_force (bare_base s.base) / 2) half.which h.base half.forgets)
+        news = IsHonest-drops (IsWorthy s.instance) s.base.journal half.which h.journal.news (forgotten_stand (bare_base s.base) s.store (learnt_in_force (bare_base s.base) / 2) half.which h.base half.forgets)
             (in_turn_apart s.base.clauses s.base.learnt half.which half.forgets.in_turn);
-        drops = drops_due (IsWorthy s.problem) s.base.journal half.which h.journal.news h.journal.drops h.none_since (omega (arith, due.some_learnt, learnt)) (subst (λ (n : ℕ). n % 2000 ≡ 0) (sym learnt) due.interval)
+        drops = drops_due (IsWorthy s.instance) s.base.journal half.which h.journal.news h.journal.drops h.none_since (omega (arith, due.some_learnt, learnt)) (subst (λ (n : ℕ). n % 2000 ≡ 0) (sym learnt) due.interval)
             (room (count_standing (standing_in s.base.journal)) half.which half.forgets.no_more);
       };
       above = All-append (IsItemAbove s.z) s.base.journal (drops half.which) h.above (drops_above s.z half.which);
@@ -84,7 +84,7 @@ left_half s due left h half =
     room n ns h = elim h [ inl l ↦ l | inr none ↦ (let e = ap (λ (ms : List ℕ). length ms) none in omega (arith, e)) ]
 
 -- a search is sound, but for the clause that it learnt, once learnt clauses were dropped if that was due
-pub left_of : (s : Search) (left : Shelf) → IsSoundSearch s → ForgetsWhenDue s.base left s.trail → IsLeft s left
+pub left_of : (s : Search) (left : Shelf) → IsSoundSearch s → ForgetsWhenDue s.base left s.store → IsLeft s left
 left_of s left h forgets = elim (due_or s.base) [
   | inl due ↦ (let half = forgets.due due in subst (IsLeft s) (sym half.is) (left_half s due left h half))
   | inr not ↦ subst (IsLeft s) (sym (forgets.not_due not)) (record {

@@ -23,7 +23,7 @@ rounds_met s b t p q answer none looks board same is =
     let whole : t ≡ record s { said = Over ends.SawClosed } = is ∙ ap (λ (x : Search). record x { said = Over ends.SawClosed }) (same none) in
     let met = saw_met s t p q (subst (λ (o : Option Bound). Looks s.gap s.z p.bounds q.bounds o) no looks) board whole in
     let setting = setting_of s (record s { said = Over ends.SawClosed }) t whole refl refl refl refl in
-    record { setting = setting; store = ap (λ (x : Search). x.trail) whole; cause = met; moves = moves_met s t p q setting met }
+    record { setting = setting; store = ap (λ (x : Search). x.store) whole; cause = met; moves = moves_met s t p q setting met }
 
 -- they had not
 pub rounds_over : (s b t : Search) (p q : Part) (answer : Option Bound) → is_some answer ≡ true → Looks s.gap s.z p.bounds q.bounds answer → q.board ≡ p.board → IfSome answer (λ z. b ≡ below s z)
@@ -40,7 +40,7 @@ rounds_over s b t p q answer some looks board same is =
     let setting = setting_of s (record (below s z) { said = Over ends.RoundsDone }) t whole refl refl refl refl in
     record {
       setting = setting;
-      store = ap (λ (x : Search). x.trail) whole;
+      store = ap (λ (x : Search). x.store) whole;
       cause = record {
         bounds = opened;
         board = board;

@@ -16,7 +16,7 @@ best_bound m (Some a) = At (objective_value m a)
 
 -- The actor's least offer is the lesser of what it had offered before the search and the best solution that the search found.
 abbrev pub OffersBest : Bound → Search → BoundsPart → Type 0
-OffersBest before s p = p.offered ≡ lesser before (best_bound s.problem.model s.best)
+OffersBest before s p = p.offered ≡ lesser before (best_bound s.instance.model s.best)
 
 -- The actor's greatest raise is the greater of what it had raised to before the search and what the search raised to.
 abbrev pub RaisesSame : Option Bound → Search → BoundsPart → Type 0

@@ -19,8 +19,8 @@ use Rattle.cps_search.specs.Searches.{Search}
 -- never at rest there
 abbrev pub grown : Search → Problem → Task → Search
 grown s p task = record s {
-  problem = p;
-  trail = record s.trail { first = p.domains };
+  instance = p;
+  store = record s.store { first = p.domains };
   tasks = s.tasks ++ task ∷ [];
   rested = record s.rested { tasks = None };
   said = Nothing;
@@ -28,16 +28,16 @@ grown s p task = record s {
 
 -- A sum was defined in the instance, the store and the tasks of a search, as one subject; nothing else changed.
 pub record GrewBy (s t : Search) (sum : DefinedSum) (subject : ℕ) : Type 0 where
-  pub defines : Defines s.problem t.problem sum subject
-  pub is : t ≡ grown s t.problem (sum_task subject sum)
+  pub defines : Defines s.instance t.instance sum subject
+  pub is : t ≡ grown s t.instance (sum_task subject sum)
 
 -- The decisions behind an atom that is false in a search's store: reasons lead to each of them, each of which one task
 -- or one clause in force gives by itself; and at each free assignment below z at which all of them are true, the atom
 -- is false.
 pub record AreBehindIn (s : Search) (t : Atom) (decisions : List Atom) : Type 0 where
-  pub each : All (IsDecisionBehind (IsFetched (IsReasonOfOne s.tasks s.base.clauses s.trail) s.trail) s.trail t) decisions
-  pub enough : (a : List ℤ) → IsFree s.problem.model a → IsBelow (objective_value s.problem.model a) s.z → All (λ u. atom_holds (extended s.problem.defs a) u ≡ true) decisions → atom_holds (extended s.problem.defs a) t ≡ false
+  pub each : All (IsDecisionBehind (IsFetched (IsReasonOfOne s.tasks s.base.clauses s.store) s.store) s.store t) decisions
+  pub enough : (a : List ℤ) → IsFree s.instance.model a → IsBelow (objective_value s.instance.model a) s.z → All (λ u. atom_holds (extended s.instance.defs a) u ≡ true) decisions → atom_holds (extended s.instance.defs a) t ≡ false
 
 -- each atom that is false in the store of a search is false at each free assignment below z
 abbrev pub IsFalseBelow : Search → Type 0
-IsFalseBelow s = (t : Atom) → t.subject < length s.trail.first → IsFalseNow s.trail t → (a : List ℤ) → IsFree s.problem.model a → IsBelow (objective_value s.problem.model a) s.z → atom_holds (extended s.problem.defs a) t ≡ false
+IsFalseBelow s = (t : Atom) → t.subject < length s.store.first → IsFalseNow s.store t → (a : List ℤ) → IsFree s.instance.model a → IsBelow (objective_value s.instance.model a) s.z → atom_holds (extended s.instance.defs a) t ≡ false

@@ -31,6 +31,6 @@ EndsRoundsBy s t p q (turns.Reformed base) = ⊥
 -- what that turn does
 pub record EndsRounds (s t : Search) (p q : Part) (turn : Turn) : Type 0 where
   pub setting : SameSetting s t
-  pub store : t.trail ≡ s.trail
+  pub store : t.store ≡ s.store
   pub cause : EndsRoundsBy s t p q turn
   pub moves : MovesWith s t p q

@@ -23,7 +23,7 @@ fn near_worker_of<'a>(
     requires conflicts { conflicts ≤ 10 ^ 9 }
     requires assumptions { HasNoAssumptions model.now }
     requires kinds { AreAllPropagated model.now }
-    ensures model { IfOk result (λ worker. worker.search.problem.model ≡ model.entry.now) }
+    ensures model { IfOk result (λ worker. worker.search.instance.model ≡ model.entry.now) }
     ensures running { IfOk result (λ worker. IsOver worker.search.said → ⊥) }
     ensures imported { IfOk result (λ worker. worker.search.imported ≡ 0) }
 {

@@ -76,7 +76,7 @@ fn turns_of<B: Brancher + Drop, Q: Port>(
     port: &mut Q,
 ) -> Result<String, AllocError>
     requires running { IsOver worker.old.0.said → ⊥ }
-    requires model { Q.model port.old ≡ worker.old.0.problem.model }
+    requires model { Q.model port.old ≡ worker.old.0.instance.model }
     requires imported { worker.old.0.imported ≤ length (Q.part port.old).board.taken }
     ensures same { (Q.model port.new ≡ Q.model port.old) × (Q.rows port.new ≡ Q.rows port.old) }
     ensures others { Q.stays port.old port.new }

@@ -18,21 +18,21 @@ hold-requires-clause-roomy g c =
     let u = c.held_subject.new.frame in
     let ts = c.args.terms.now in
     let k = c.loop-term.term-index in
-    let same : map intervals c.domains.result.now ≡ u.problem.domains = c.domains.ensures.list ∙ ap (λ (p : Problem). p.domains) c.instance.ensures in
-    next-roomy u.problem (map intervals c.domains.result.now) _ c.loop-term.reform same
+    let same : map intervals c.domains.result.now ≡ u.instance.domains = c.domains.ensures.list ∙ ap (λ (p : Problem). p.domains) c.instance.ensures in
+    next-roomy u.instance (map intervals c.domains.result.now) _ c.loop-term.reform same
     (form-stays (get_or ts k none).subject c.args.frame.now c.loop-term.frame u ts k c.loop-term.reform c.in_ok-subject.subject c.requires.subjects c.loop-term.invariant c.in_ok-subject.ensures.grew)
 
 pub hold-requires-clause-ordered : goal.hold-requires-clause-ordered
 hold-requires-clause-ordered g c =
     let u = c.held_subject.new.frame in
-    let same : map intervals c.domains.result.now ≡ u.problem.domains = c.domains.ensures.list ∙ ap (λ (p : Problem). p.domains) c.instance.ensures in
-    next-ordered u.problem (map intervals c.domains.result.now) c.in_ok-subject.subject (get_or c.args.terms.now c.loop-term.term-index none) same c.in_ok-subject.ensures.sound.instance c.in_ok-subject.ensures.holds
+    let same : map intervals c.domains.result.now ≡ u.instance.domains = c.domains.ensures.list ∙ ap (λ (p : Problem). p.domains) c.instance.ensures in
+    next-ordered u.instance (map intervals c.domains.result.now) c.in_ok-subject.subject (get_or c.args.terms.now c.loop-term.term-index none) same c.in_ok-subject.ensures.sound.instance c.in_ok-subject.ensures.holds
 
 pub hold-requires-clause-within : goal.hold-requires-clause-within
 hold-requires-clause-within g c =
     let u = c.held_subject.new.frame in
-    let same : map intervals c.domains.result.now ≡ u.problem.domains = c.domains.ensures.list ∙ ap (λ (p : Problem). p.domains) c.instance.ensures in
-    next-within u.problem (map intervals c.domains.result.now) c.in_ok-subject.subject (get_or c.args.terms.now c.loop-term.term-index none) same c.in_ok-subject.ensures.sound.instance c.in_ok-subject.ensures.holds
+    let same : map intervals c.domains.result.now ≡ u.instance.domains = c.domains.ensures.list ∙ ap (λ (p : Problem). p.domains) c.instance.ensures in
+    next-within u.instance (map intervals c.domains.result.now) c.in_ok-subject.subject (get_or c.args.terms.now c.loop-term.term-index none) same c.in_ok-subject.ensures.sound.instance c.in_ok-subject.ensures.holds
 
 pub hold-requires-clause-small : goal.hold-requires-clause-small
 hold-requires-clause-small g c =
@@ -41,7 +41,7 @@ hold-requires-clause-small g c =
     let k = c.loop-term.term-index in
     let v = get_or ts k none in
     let ds = map intervals c.domains.result.now in
-    let same : ds ≡ u.problem.domains = c.domains.ensures.list ∙ ap (λ (p : Problem). p.domains) c.instance.ensures in
+    let same : ds ≡ u.instance.domains = c.domains.ensures.list ∙ ap (λ (p : Problem). p.domains) c.instance.ensures in
     let fits : FitsSigned w64 v.coeff = search rules in
     let size : c.unsigned_abs.result ≡ unsigned_abs v.coeff = simp to_z-of_z at c.unsigned_abs.ensures.value in
     subst (λ (n : ℕ). held_reach ds c.loop-term.reform.terms + n * magnitude (domain_at ds c.in_ok-subject.subject) < 2 ^ 62) (sym size)
@@ -52,8 +52,8 @@ hold-requires-clause-base g c =
     let u = c.held_subject.new.frame in
     let ts = c.args.terms.now in
     let k = c.loop-term.term-index in
-    let same : map intervals c.domains.result.now ≡ u.problem.domains = c.domains.ensures.list ∙ ap (λ (p : Problem). p.domains) c.instance.ensures in
-    next-base u.problem (map intervals c.domains.result.now) _ c.loop-term.reform same
+    let same : map intervals c.domains.result.now ≡ u.instance.domains = c.domains.ensures.list ∙ ap (λ (p : Problem). p.domains) c.instance.ensures in
+    next-base u.instance (map intervals c.domains.result.now) _ c.loop-term.reform same
     (form-stays (get_or ts k none).subject c.args.frame.now c.loop-term.frame u ts k c.loop-term.reform c.in_ok-subject.subject c.requires.subjects c.loop-term.invariant c.in_ok-subject.ensures.grew)
 
 pub loop-term-preserved : goal.loop-term-preserved
@@ -66,7 +66,7 @@ loop-term-preserved g c =
     let h = c.hold.new.self in
     let j = c.in_ok-subject.subject in
     let ds = map intervals c.domains.result.now in
-    let same : ds ≡ u.problem.domains = c.domains.ensures.list ∙ ap (λ (p : Problem). p.domains) c.instance.ensures in
+    let same : ds ≡ u.instance.domains = c.domains.ensures.list ∙ ap (λ (p : Problem). p.domains) c.instance.ensures in
     let fits : FitsSigned w64 v.coeff = search rules in
     let size : c.unsigned_abs.result ≡ unsigned_abs v.coeff = simp to_z-of_z at c.unsigned_abs.ensures.value in
     form-more v.subject c.args.frame.now c.loop-term.frame u ds ts k f h v j c.requires.subjects c.loop-term.invariant c.in_ok-subject.ensures.grew c.in_ok-subject.ensures.sound same c.loop-term-test.true (get_or_default ts k none v c.loop-term-test.true) c.in_ok-subject.ensures.holds

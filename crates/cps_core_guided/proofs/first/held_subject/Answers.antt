@@ -10,7 +10,7 @@ use Rattle.cps_core_guided.proofs.Starting.{opposite-reach}
 use Rattle.cps_core_guided.proofs.first.held_subject.Goals as goal
 
 pub grow-requires-clause-small : goal.grow-requires-clause-small
-grow-requires-clause-small g c = opposite-reach c.args.frame.now.problem c.args.term.subject c.requires.sound.instance c.requires.subject
+grow-requires-clause-small g c = opposite-reach c.args.frame.now.instance c.args.term.subject c.requires.sound.instance c.requires.subject
 
 pub returns-clause-holds : goal.returns-clause-holds
 returns-clause-holds g c =
@@ -18,6 +18,6 @@ returns-clause-holds g c =
     let t = c.grow.new.self in
     let v = c.args.term in
     let under : v.coeff <ℤ pos 0 = omega (arith, ints, c.if-term-ge0.false) in
-    if_ok_both c.grow.result (λ subject. GrewBy s t (opposite v.subject) subject) (IsSoundSearch t) (Holds t.problem v)
-    (λ subject grew sound. opposite-holds s.problem t.problem v subject grew.defines sound.instance c.requires.subject under)
+    if_ok_both c.grow.result (λ subject. GrewBy s t (opposite v.subject) subject) (IsSoundSearch t) (Holds t.instance v)
+    (λ subject grew sound. opposite-holds s.instance t.instance v subject grew.defines sound.instance c.requires.subject under)
     c.grow.ensures.grew c.grow.ensures.sound

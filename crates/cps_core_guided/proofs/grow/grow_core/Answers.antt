@@ -15,18 +15,18 @@ of_core : (terms : List Term) (core : List Term) (p q : Problem) (subject : ℕ)
 of_core terms core p q subject same d = subst (λ (us : List Term). Defines p q (record { terms = us; offset = pos 0 }) subject) same d
 
 pub grow-requires-clause-subjects : goal.grow-requires-clause-subjects
-grow-requires-clause-subjects g c = rw c.requires.core (core-subjects c.args.frame.now.problem.domains c.args.reform.now.terms c.requires.roomy.terms)
+grow-requires-clause-subjects g c = rw c.requires.core (core-subjects c.args.frame.now.instance.domains c.args.reform.now.terms c.requires.roomy.terms)
 
 pub grow-requires-clause-small : goal.grow-requires-clause-small
-grow-requires-clause-small g c = rw c.requires.core (core-reach c.args.frame.now.problem.domains c.args.reform.now c.requires.roomy c.requires.weights)
+grow-requires-clause-small g c = rw c.requires.core (core-reach c.args.frame.now.instance.domains c.args.reform.now c.requires.roomy c.requires.weights)
 
 pub returns-clause-sum : goal.returns-clause-sum
 returns-clause-sum g c =
     let s = c.args.frame.now in
     let t = c.grow.new.self in
     let f = c.args.reform.now in
-    if_ok_both c.grow.result (λ subject. GrewBy s t (record { terms = c.args.core.now; offset = pos 0 }) subject) (IsSoundSearch t) (λ subject. IsCoreSum t.problem f.terms subject)
-    (λ subject grew sound. grown-sum s.problem t.problem f subject (of_core c.args.core.now (core_terms f.terms) s.problem t.problem subject c.requires.core grew.defines) sound.instance c.requires.roomy)
+    if_ok_both c.grow.result (λ subject. GrewBy s t (record { terms = c.args.core.now; offset = pos 0 }) subject) (IsSoundSearch t) (λ subject. IsCoreSum t.instance f.terms subject)
+    (λ subject grew sound. grown-sum s.instance t.instance f subject (of_core c.args.core.now (core_terms f.terms) s.instance t.instance subject c.requires.core grew.defines) sound.instance c.requires.roomy)
     c.grow.ensures.grew c.grow.ensures.sound
 
 pub returns-clause-reform : goal.returns-clause-reform
@@ -34,8 +34,8 @@ returns-clause-reform g c =
     let s = c.args.frame.now in
     let t = c.grow.new.self in
     let f = c.args.reform.now in
-    if_ok_both c.grow.result (λ subject. GrewBy s t (record { terms = c.args.core.now; offset = pos 0 }) subject) (IsSoundSearch t) (λ subject. (z : Bound) → IsReform s.problem z f → IsReform t.problem z f)
-    (λ subject grew sound. grown-reform s.problem t.problem f subject (of_core c.args.core.now (core_terms f.terms) s.problem t.problem subject c.requires.core grew.defines) sound.instance)
+    if_ok_both c.grow.result (λ subject. GrewBy s t (record { terms = c.args.core.now; offset = pos 0 }) subject) (IsSoundSearch t) (λ subject. (z : Bound) → IsReform s.instance z f → IsReform t.instance z f)
+    (λ subject grew sound. grown-reform s.instance t.instance f subject (of_core c.args.core.now (core_terms f.terms) s.instance t.instance subject c.requires.core grew.defines) sound.instance)
     c.grow.ensures.grew c.grow.ensures.sound
 
 pub returns-clause-core : goal.returns-clause-core
@@ -44,6 +44,6 @@ returns-clause-core g c =
     let t = c.grow.new.self in
     let f = c.args.reform.now in
     if_ok_both c.grow.result (λ subject. GrewBy s t (record { terms = c.args.core.now; offset = pos 0 }) subject) (IsSoundSearch t)
-    (λ subject. (z : Bound) → OfEachBelow s.problem z (λ xs. IsSomeAbove xs f.terms) → OfEachBelow t.problem z (λ xs. IsSomeAbove xs f.terms))
-    (λ subject grew sound. grown-core s.problem t.problem f subject (of_core c.args.core.now (core_terms f.terms) s.problem t.problem subject c.requires.core grew.defines) sound.instance c.requires.roomy)
+    (λ subject. (z : Bound) → OfEachBelow s.instance z (λ xs. IsSomeAbove xs f.terms) → OfEachBelow t.instance z (λ xs. IsSomeAbove xs f.terms))
+    (λ subject grew sound. grown-core s.instance t.instance f subject (of_core c.args.core.now (core_terms f.terms) s.instance t.instance subject c.requires.core grew.defines) sound.instance c.requires.roomy)
     c.grow.ensures.grew c.grow.ensures.sound

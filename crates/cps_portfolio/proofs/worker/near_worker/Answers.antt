@@ -15,7 +15,7 @@ pub returns-clause-begins : goal.returns-clause-begins
 returns-clause-begins c =
     let i = c.in_ok-instance.ensures in
     record {
-      problem = c.in_ok-instance.instance;
+      instance = c.in_ok-instance.instance;
       first = record { sound = i.sound; model = i.model; sums = i.sums };
       draws = draws_of c.args.options.now.seed (16 + c.args.number);
       is = c.in_ok-worker.ensures.begins;

@@ -17,8 +17,8 @@ engine_of-requires c =
 
 pub returns-clause-model : goal.returns-clause-model
 returns-clause-model c =
-    IfOk-weaker c.new.result (λ (w : Near). BeginsNear c.in_ok-instance.instance 0 c.args.conflicts (draws_of 1 (16 + 3)) w) (λ (w : Near). w.search.problem.model ≡ c.args.model.now)
-    (λ w b. ap (λ (x : Search). x.problem.model) b.search ∙ c.in_ok-instance.ensures.model) c.new.ensures.begins
+    IfOk-weaker c.new.result (λ (w : Near). BeginsNear c.in_ok-instance.instance 0 c.args.conflicts (draws_of 1 (16 + 3)) w) (λ (w : Near). w.search.instance.model ≡ c.args.model.now)
+    (λ w b. ap (λ (x : Search). x.instance.model) b.search ∙ c.in_ok-instance.ensures.model) c.new.ensures.begins
 
 pub returns-clause-running : goal.returns-clause-running
 returns-clause-running c =

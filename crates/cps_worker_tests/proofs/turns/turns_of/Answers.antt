@@ -11,7 +11,7 @@ loop-preserved g c =
     let i = c.loop.invariant in
     record {
       running = subst (λ (o : Option End). EndsAs o c.turn.new.self.0) (c.name_of-has_ended.ensures c.if-has_ended.false) k.turn.ends;
-      model = k.same.0 ∙ i.model ∙ sym (ap (λ (p : Problem). p.model) k.turn.setting.problem);
+      model = k.same.0 ∙ i.model ∙ sym (ap (λ (p : Problem). p.model) k.turn.setting.instance);
       imported = k.turn.moves.imports i.imported;
       same = (k.same.0 ∙ i.same.0, k.same.1 ∙ i.same.1);
       stays = g.met.Q.Port.moved_on c.args.port.now c.loop.port c.turn.new.port i.stays k.others;

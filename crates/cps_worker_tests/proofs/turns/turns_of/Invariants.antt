@@ -6,7 +6,7 @@ use Rattle.cps_worker_tests.proofs.turns.turns_of.Given as goal
 abbrev pub invariant-loop : goal.invariant-loop
 invariant-loop g l = record {
   running : IsOver l.worker.0.said → ⊥;
-  model : g.Q.Port.model l.port ≡ l.worker.0.problem.model;
+  model : g.Q.Port.model l.port ≡ l.worker.0.instance.model;
   imported : l.worker.0.imported ≤ length (g.Q.Port.part l.port).board.taken;
   same : (g.Q.Port.model l.port ≡ g.Q.Port.model l.fn.port) × (g.Q.Port.rows l.port ≡ g.Q.Port.rows l.fn.port);
   stays : g.Q.Port.stays l.fn.port l.port;

@@ -21,7 +21,7 @@ returns-clause-goes_on g c = λ part.
     let is : a ≡ assumed (term_at s.form.terms c.args.place) = c.assumption-atom.ensures ∙ ap (λ (ts : List Held). assumed (term_at ts c.args.place)) c.terms.ensures in
     record {
       atom = a;
-      undecided = subst (λ (t : Atom). IsUndecided s.search.trail t) (sym is) c.requires.open_now.left_open;
+      undecided = subst (λ (t : Atom). IsUndecided s.search.store t) (sym is) c.requires.open_now.left_open;
       chosen = an_assumption c.requires.few c.requires.none_fails c.args.place c.requires.open_now is;
       is = ap (λ (x : Search). record s { search = x }) c.in_ok-decide.ensures.decides;
       part = refl;
@@ -36,10 +36,10 @@ returns-clause-works g c =
     let kept = c.args.self.now.kept in
     let w = c.requires.works in
     let is : a ≡ assumed (term_at s.form.terms c.args.place) = c.assumption-atom.ensures ∙ ap (λ (ts : List Held). assumed (term_at ts c.args.place)) c.terms.ensures in
-    let moves : t ≡ moved s.search (decided s.search.trail a) s.search.rested = c.in_ok-decide.ensures.decides in
+    let moves : t ≡ moved s.search (decided s.search.store a) s.search.rested = c.in_ok-decide.ensures.decides in
     let scope = g.B.Brancher.scope b in
     let agrees = g.B.Brancher.agrees b in
-    works-decided s t a scope scope (agrees s.search.trail) (agrees t.trail) kept kept w c.in_ok-decide.ensures.sound moves
+    works-decided s t a scope scope (agrees s.search.store) (agrees t.store) kept kept w c.in_ok-decide.ensures.sound moves
     (λ few. inl (record { place = c.args.place; within = c.requires.open_now.within; weighs = c.requires.open_now.weighs; is = is })) refl w.within
-    (g.met.B.Brancher.kept_on b s.search.trail t.trail kept kept (omega arith)
-    (subst (λ (x : Trail). AreSameUpTo scope.subjects kept s.search.trail x) (sym (ap (λ (x : Search). x.trail) moves)) (decided_onward scope.subjects kept s.search.trail a w.within)) w.agreed)
+    (g.met.B.Brancher.kept_on b s.search.store t.store kept kept (omega arith)
+    (subst (λ (x : Trail). AreSameUpTo scope.subjects kept s.search.store x) (sym (ap (λ (x : Search). x.store) moves)) (decided_onward scope.subjects kept s.search.store a w.within)) w.agreed)

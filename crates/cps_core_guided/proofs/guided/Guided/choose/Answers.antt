@@ -26,12 +26,12 @@ returns-clause-works g c =
     let t = c.decide_next.new.frame in
     let b = c.decide_next.new.brancher in
     let d = c.in_ok-decide_next.ensures.decided in
-    let seen : length c.entries-seen.result.now ≡ length s.search.trail.entries = omega (arith, c.entries-seen.ensures.views.same_length, ap (λ (x : Trail). length x.entries) c.store.ensures) in
+    let seen : length c.entries-seen.result.now ≡ length s.search.store.entries = omega (arith, c.entries-seen.ensures.views.same_length, ap (λ (x : Trail). length x.entries) c.store.ensures) in
     let n = length c.entries-seen.result.now in
     let was = c.args.self.now.brancher in
     let subjects = (g.B.Brancher.scope b).subjects in
-    works-decided s t d.atom (g.B.Brancher.scope was) (g.B.Brancher.scope b) (g.B.Brancher.agrees was s.search.trail) (g.B.Brancher.agrees b t.trail) c.args.self.now.kept n c.requires.works c.in_ok-decide_next.ensures.sound d.is
+    works-decided s t d.atom (g.B.Brancher.scope was) (g.B.Brancher.scope b) (g.B.Brancher.agrees was s.search.store) (g.B.Brancher.agrees b t.store) c.args.self.now.kept n c.requires.works c.in_ok-decide_next.ensures.sound d.is
     (λ few. inr (c.requires.assumed few)) c.in_ok-decide_next.ensures.scope (omega (arith, seen))
-    (g.met.B.Brancher.kept_on b s.search.trail t.trail n (length s.search.trail.entries) (omega (arith, seen))
-    (subst (λ (x : Trail). AreSameUpTo subjects n s.search.trail x) (sym (ap (λ (x : Search). x.trail) d.is)) (decided_onward subjects n s.search.trail d.atom (omega (arith, seen))))
+    (g.met.B.Brancher.kept_on b s.search.store t.store n (length s.search.store.entries) (omega (arith, seen))
+    (subst (λ (x : Trail). AreSameUpTo subjects n s.search.store x) (sym (ap (λ (x : Search). x.store) d.is)) (decided_onward subjects n s.search.store d.atom (omega (arith, seen))))
     c.in_ok-decide_next.ensures.saw)

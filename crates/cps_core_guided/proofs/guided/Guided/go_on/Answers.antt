@@ -12,7 +12,7 @@ use Rattle.cps_core_guided.proofs.guided.Guided.go_on.Goals as goal
 
 pub choose-requires-in-None-clause-assumed : goal.choose-requires-in-None-clause-assumed
 choose-requires-in-None-clause-assumed g c = λ few.
-    let s = c.args.self.now.frame.trail in
+    let s = c.args.self.now.frame.store in
     let terms = c.args.self.now.reform.terms in
     let x = c.store-2.result.now in
     let ts = c.terms-2.result.now in

@@ -18,7 +18,7 @@ pub lift_below-requires-clause-greatest : goal.lift_below-requires-clause-greate
 lift_below-requires-clause-greatest g c =
     let s = core_of c.args.self.now in
     subst (λ (p : Problem). IsGreatest p.model (to_z w64 (of_z w64 s.greatest))) (sym c.instance.ensures)
-    (subst (λ (v : ℤ). IsGreatest s.search.problem.model v) (sym (read_back s.greatest (small-greatest s c.requires.sound))) (most-greatest s c.requires.sound))
+    (subst (λ (v : ℤ). IsGreatest s.search.instance.model v) (sym (read_back s.greatest (small-greatest s c.requires.sound))) (most-greatest s c.requires.sound))
 
 pub lift_below-requires-clause-small : goal.lift_below-requires-clause-small
 lift_below-requires-clause-small g c =
@@ -45,5 +45,5 @@ pub returns-clause-sound : goal.returns-clause-sound
 returns-clause-sound g c =
     let s = core_of c.args.self.now in
     let f : Form = c.lift_below.new.self in
-    let reform : IsReform s.search.problem s.search.z f = subst (λ (p : Problem). IsReform p s.search.z f) c.instance.ensures (subst (λ (z : Bound). IsReform c.instance.result.now z f) c.z.ensures c.lift_below.ensures.reform) in
+    let reform : IsReform s.search.instance s.search.z f = subst (λ (p : Problem). IsReform p s.search.z f) c.instance.ensures (subst (λ (z : Bound). IsReform c.instance.result.now z f) c.z.ensures c.lift_below.ensures.reform) in
     sound-form s f c.requires.sound reform c.lift_below.ensures.base (subst (λ (x : Trail). IsSound x) c.store.ensures c.entries.ensures.sound) c.requires.bottom

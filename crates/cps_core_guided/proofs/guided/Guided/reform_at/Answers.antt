@@ -35,23 +35,23 @@ reform_by-requires-clause-works g c =
     let i = c.args.place in
     let decisions = c.as_slice.result.now in
     let kept_same : c.decisions_behind.new.self ≡ s.search = c.in_ok-decisions.ensures.same in
-    let is : r ≡ moved s.search r.trail r.rested = c.restart.ensures.is ∙ ap (λ (x : Search). moved x r.trail r.rested) kept_same in
-    let back : GoesBack s.search.trail r.trail 0 = subst (λ (x : Search). GoesBack x.trail r.trail 0) kept_same c.restart.ensures.back in
+    let is : r ≡ moved s.search r.store r.rested = c.restart.ensures.is ∙ ap (λ (x : Search). moved x r.store r.rested) kept_same in
+    let back : GoesBack s.search.store r.store 0 = subst (λ (x : Search). GoesBack x.store r.store 0) kept_same c.restart.ensures.back in
     let running : c.decisions_behind.new.self.refused ≡ false = ap (λ (x : Search). x.refused) kept_same ∙ not_refused s.search.refused c.in_ok-decisions.ensures.stays in
-    let store : IsSound r.trail = subst (λ (x : Trail). IsSound x) c.store-2.ensures c.entries-2.ensures.sound in
-    let level : r.trail.level ≡ 0 = ap (λ (x : Trail). x.level) c.restart.ensures.back.is in
+    let store : IsSound r.store = subst (λ (x : Trail). IsSound x) c.store-2.ensures c.entries-2.ensures.sound in
+    let level : r.store.level ≡ 0 = ap (λ (x : Trail). x.level) c.restart.ensures.back.is in
     let b = c.args.self.now.brancher in
     let kept = c.args.self.now.kept in
     let k = c.still_kept-self.result in
-    let left : k ≡ min kept (length r.trail.entries) = c.still_kept-self.ensures ∙ ap (λ (x : Trail). min kept (length x.entries)) c.store-3.ensures in
+    let left : k ≡ min kept (length r.store.entries) = c.still_kept-self.ensures ∙ ap (λ (x : Trail). min kept (length x.entries)) c.store-3.ensures in
     let within = w.within in
-    let sound = sound-bottom s r.trail r.rested w.sound (subst (λ (x : Search). IsSoundSearch x) is (c.restart.ensures.sound running)) store level in
+    let sound = sound-bottom s r.store r.rested w.sound (subst (λ (x : Search). IsSoundSearch x) is (c.restart.ensures.sound running)) store level in
     let agrees = g.B.Brancher.agrees b in
     let scope = g.B.Brancher.scope b in
-    subst (λ (x : Search). IsCoreWorking (record s { search = x }) scope (agrees r.trail) k) (sym is)
-    (works-core s (record s { search = moved s.search r.trail r.rested }) scope scope (agrees s.search.trail) (agrees r.trail) kept k w sound (record { model = refl; gap = refl; budget = refl; refused = refl; greatest = refl })
+    subst (λ (x : Search). IsCoreWorking (record s { search = x }) scope (agrees r.store) k) (sym is)
+    (works-core s (record s { search = moved s.search r.store r.rested }) scope scope (agrees s.search.store) (agrees r.store) kept k w sound (record { model = refl; gap = refl; budget = refl; refused = refl; greatest = refl })
     (omega arith) refl w.few (omega (arith, left))
-    (g.met.B.Brancher.kept_on b s.search.trail r.trail k kept (omega (arith, left)) (same_back scope.subjects k s.search.trail r.trail (omega (arith, left, within)) (omega (arith, left)) (back_only s.search.trail r.trail 0 back)) w.agreed))
+    (g.met.B.Brancher.kept_on b s.search.store r.store k kept (omega (arith, left)) (same_back scope.subjects k s.search.store r.store (omega (arith, left, within)) (omega (arith, left)) (back_only s.search.store r.store 0 back)) w.agreed))
 
 pub reform_by-requires-clause-bottom : goal.reform_by-requires-clause-bottom
 reform_by-requires-clause-bottom g c =
@@ -61,8 +61,8 @@ reform_by-requires-clause-bottom g c =
     let i = c.args.place in
     let decisions = c.as_slice.result.now in
     let kept_same : c.decisions_behind.new.self ≡ s.search = c.in_ok-decisions.ensures.same in
-    let is : r ≡ moved s.search r.trail r.rested = c.restart.ensures.is ∙ ap (λ (x : Search). moved x r.trail r.rested) kept_same in
-    let back : GoesBack s.search.trail r.trail 0 = subst (λ (x : Search). GoesBack x.trail r.trail 0) kept_same c.restart.ensures.back in
+    let is : r ≡ moved s.search r.store r.rested = c.restart.ensures.is ∙ ap (λ (x : Search). moved x r.store r.rested) kept_same in
+    let back : GoesBack s.search.store r.store 0 = subst (λ (x : Search). GoesBack x.store r.store 0) kept_same c.restart.ensures.back in
     let running : c.decisions_behind.new.self.refused ≡ false = ap (λ (x : Search). x.refused) kept_same ∙ not_refused s.search.refused c.in_ok-decisions.ensures.stays in
     c.restart.ensures.bottom running
 
@@ -74,15 +74,15 @@ reform_by-requires-clause-failed g c =
     let i = c.args.place in
     let decisions = c.as_slice.result.now in
     let kept_same : c.decisions_behind.new.self ≡ s.search = c.in_ok-decisions.ensures.same in
-    let is : r ≡ moved s.search r.trail r.rested = c.restart.ensures.is ∙ ap (λ (x : Search). moved x r.trail r.rested) kept_same in
-    let back : GoesBack s.search.trail r.trail 0 = subst (λ (x : Search). GoesBack x.trail r.trail 0) kept_same c.restart.ensures.back in
-    let store : IsSound r.trail = subst (λ (x : Trail). IsSound x) c.store-2.ensures c.entries-2.ensures.sound in
-    let level : r.trail.level ≡ 0 = ap (λ (x : Trail). x.level) c.restart.ensures.back.is in
+    let is : r ≡ moved s.search r.store r.rested = c.restart.ensures.is ∙ ap (λ (x : Search). moved x r.store r.rested) kept_same in
+    let back : GoesBack s.search.store r.store 0 = subst (λ (x : Search). GoesBack x.store r.store 0) kept_same c.restart.ensures.back in
+    let store : IsSound r.store = subst (λ (x : Trail). IsSound x) c.store-2.ensures c.entries-2.ensures.sound in
+    let level : r.store.level ≡ 0 = ap (λ (x : Trail). x.level) c.restart.ensures.back.is in
     let atom : c.assumption-atom.result ≡ assumed (term_at s.form.terms i) = c.assumption-atom.ensures ∙ ap (λ (ts : List Held). assumed (term_at ts i)) c.terms.ensures in
     let behind : AreBehindIn s.search (assumed (term_at s.form.terms i)) decisions =
     subst (λ (us : List Atom). AreBehindIn s.search (assumed (term_at s.form.terms i)) us) (sym c.as_slice.ensures.value) (subst (λ (a : Atom). AreBehindIn s.search a c.in_ok-decisions.decisions.items) atom c.in_ok-decisions.ensures.behind) in
-    let first : IsSound s.search.trail = subst (λ (x : Trail). IsSound x) c.store.ensures c.entries.ensures.sound in
-    subst (λ (x : Search). HasFailed (record s { search = x }) i decisions) (sym is) (has-failed s r.trail r.rested i decisions w.sound first c.requires.few c.requires.failed level behind)
+    let first : IsSound s.search.store = subst (λ (x : Trail). IsSound x) c.store.ensures c.entries.ensures.sound in
+    subst (λ (x : Search). HasFailed (record s { search = x }) i decisions) (sym is) (has-failed s r.store r.rested i decisions w.sound first c.requires.few c.requires.failed level behind)
 
 pub conclude-requires-clause-base : goal.conclude-requires-clause-base
 conclude-requires-clause-base g c =
@@ -92,12 +92,12 @@ conclude-requires-clause-base g c =
     let i = c.args.place in
     let decisions = c.as_slice.result.now in
     let kept_same : c.decisions_behind.new.self ≡ s.search = c.in_ok-decisions.ensures.same in
-    let is : r ≡ moved s.search r.trail r.rested = c.restart.ensures.is ∙ ap (λ (x : Search). moved x r.trail r.rested) kept_same in
-    let back : GoesBack s.search.trail r.trail 0 = subst (λ (x : Search). GoesBack x.trail r.trail 0) kept_same c.restart.ensures.back in
+    let is : r ≡ moved s.search r.store r.rested = c.restart.ensures.is ∙ ap (λ (x : Search). moved x r.store r.rested) kept_same in
+    let back : GoesBack s.search.store r.store 0 = subst (λ (x : Search). GoesBack x.store r.store 0) kept_same c.restart.ensures.back in
     let v = core_of c.reform_by.new.self in
     let done = c.in_ok-is_reformed.is_reformed in
-    let h : Tried (record s { search = moved s.search r.trail r.rested }) v i decisions done = subst (λ (x : Search). Tried (record s { search = x }) v i decisions done) is c.in_ok-is_reformed.ensures.tried in
-    tried-bound s v r.trail r.rested i decisions done h c.in_ok-is_reformed.ensures.works.sound
+    let h : Tried (record s { search = moved s.search r.store r.rested }) v i decisions done = subst (λ (x : Search). Tried (record s { search = x }) v i decisions done) is c.in_ok-is_reformed.ensures.tried in
+    tried-bound s v r.store r.rested i decisions done h c.in_ok-is_reformed.ensures.works.sound
 
 pub returns-clause-goes_on : goal.returns-clause-goes_on
 returns-clause-goes_on g c =
@@ -107,14 +107,14 @@ returns-clause-goes_on g c =
     let i = c.args.place in
     let decisions = c.as_slice.result.now in
     let kept_same : c.decisions_behind.new.self ≡ s.search = c.in_ok-decisions.ensures.same in
-    let is : r ≡ moved s.search r.trail r.rested = c.restart.ensures.is ∙ ap (λ (x : Search). moved x r.trail r.rested) kept_same in
-    let back : GoesBack s.search.trail r.trail 0 = subst (λ (x : Search). GoesBack x.trail r.trail 0) kept_same c.restart.ensures.back in
+    let is : r ≡ moved s.search r.store r.rested = c.restart.ensures.is ∙ ap (λ (x : Search). moved x r.store r.rested) kept_same in
+    let back : GoesBack s.search.store r.store 0 = subst (λ (x : Search). GoesBack x.store r.store 0) kept_same c.restart.ensures.back in
     let atom : c.assumption-atom.result ≡ assumed (term_at s.form.terms i) = c.assumption-atom.ensures ∙ ap (λ (ts : List Held). assumed (term_at ts i)) c.terms.ensures in
     let behind : AreBehindIn s.search (assumed (term_at s.form.terms i)) decisions =
     subst (λ (us : List Atom). AreBehindIn s.search (assumed (term_at s.form.terms i)) us) (sym c.as_slice.ensures.value) (subst (λ (a : Atom). AreBehindIn s.search a c.in_ok-decisions.decisions.items) atom c.in_ok-decisions.ensures.behind) in
     let v = core_of c.reform_by.new.self in
     let done = c.in_ok-is_reformed.is_reformed in
-    let h : Tried (record s { search = moved s.search r.trail r.rested }) v i decisions done = subst (λ (x : Search). Tried (record s { search = x }) v i decisions done) is c.in_ok-is_reformed.ensures.tried in
+    let h : Tried (record s { search = moved s.search r.store r.rested }) v i decisions done = subst (λ (x : Search). Tried (record s { search = x }) v i decisions done) is c.in_ok-is_reformed.ensures.tried in
     let t = core_of c.conclude.new.self in
     let p = g.Q.Port.part c.args.port.now in
     let q = g.Q.Port.part c.conclude.new.port in
@@ -125,10 +125,10 @@ returns-clause-goes_on g c =
           let e = c.conclude.ensures.reformed on in
           let raises = subst (λ (x : CoreSearch). RaisesTo (At v.form.base) v x p q) same e.1 in
           subst (λ (turn : Turn). GoesOn chooses s t p q turn) (sym e.0) (subst (λ (x : CoreSearch). ReformsFrom s x p q v.form.base) (sym same)
-          (reforms-from s v r.trail r.rested i decisions done h t.raised t.ended p q c.requires.few c.requires.failed behind back on raises (e.2 ∙ h.ended ∙ c.requires.running)))
+          (reforms-from s v r.store r.rested i decisions done h t.raised t.ended p q c.requires.few c.requires.failed behind back on raises (e.2 ∙ h.ended ∙ c.requires.running)))
       | inr off ↦
           let e = c.conclude.ensures.exhausted off in
           let raises = subst (λ (x : CoreSearch). RaisesTo v.search.z v x p q) same e.1 in
           subst (λ (turn : Turn). GoesOn chooses s t p q turn) (sym e.0) (subst (λ (x : CoreSearch). ExhaustsFrom s x p q) (sym same)
-          (exhausts-from s v r.trail r.rested i decisions done h t.raised t.ended p q c.requires.few c.requires.failed behind back off raises e.2))
+          (exhausts-from s v r.store r.rested i decisions done h t.raised t.ended p q c.requires.few c.requires.failed behind back off raises e.2))
     ]

@@ -23,7 +23,7 @@ split_below-requires-clause-reform g c =
     let s = core_of c.args.self.now in
     let t = c.grow_core.new.frame in
     let z : t.z ≡ s.search.z = ap (λ (x : Search). x.z) c.in_ok-subject.ensures.grew.is in
-    subst (λ (p : Problem). IsReform p c.z.result s.form) (sym c.instance.ensures) (subst (λ (b : Bound). IsReform t.problem b s.form) (sym (c.z.ensures ∙ z)) (c.in_ok-subject.ensures.reform s.search.z c.requires.works.sound.form))
+    subst (λ (p : Problem). IsReform p c.z.result s.form) (sym c.instance.ensures) (subst (λ (b : Bound). IsReform t.instance b s.form) (sym (c.z.ensures ∙ z)) (c.in_ok-subject.ensures.reform s.search.z c.requires.works.sound.form))
 
 pub split_below-requires-clause-z : goal.split_below-requires-clause-z
 split_below-requires-clause-z g c = subst (λ (z : Bound). IsSmallBound z) (sym c.z.ensures) (z-small c.grow_core.new.frame c.in_ok-subject.ensures.sound)
@@ -32,9 +32,9 @@ pub split_below-requires-clause-greatest : goal.split_below-requires-clause-grea
 split_below-requires-clause-greatest g c =
     let s = core_of c.args.self.now in
     let t = c.grow_core.new.frame in
-    let model : c.instance.result.now.model ≡ s.search.problem.model = ap (λ (p : Problem). p.model) c.instance.ensures ∙ c.in_ok-subject.ensures.grew.defines.model in
+    let model : c.instance.result.now.model ≡ s.search.instance.model = ap (λ (p : Problem). p.model) c.instance.ensures ∙ c.in_ok-subject.ensures.grew.defines.model in
     subst (λ (m : CpModel). IsGreatest m (to_z w64 (of_z w64 s.greatest))) (sym model)
-    (subst (λ (v : ℤ). IsGreatest s.search.problem.model v) (sym (read_back s.greatest (small-greatest s c.requires.works.sound))) (most-greatest s c.requires.works.sound))
+    (subst (λ (v : ℤ). IsGreatest s.search.instance.model v) (sym (read_back s.greatest (small-greatest s c.requires.works.sound))) (most-greatest s c.requires.works.sound))
 
 pub split_below-requires-clause-small : goal.split_below-requires-clause-small
 split_below-requires-clause-small g c =
@@ -63,8 +63,8 @@ returns-clause-splits g c =
       past = λ off. subst (λ (p : Problem). IsPast t.z s.greatest p.domains (split s.form (least_weight s.form.terms) n)) c.instance.ensures
           (subst (λ (v : ℤ). IsPast t.z v c.instance.result.now.domains (split s.form (least_weight s.form.terms) n)) back
           (subst (λ (b : Bound). IsPast b (to_z w64 (of_z w64 s.greatest)) c.instance.result.now.domains (split s.form (least_weight s.form.terms) n)) c.z.ensures (c.split_below.ensures.past (e ∙ ap (λ (b : Bool). Ok b) off))));
-      none_below = λ off. subst (λ (m : CpModel). NoneBelow m s.search.z) grew.defines.model (subst (λ (b : Bound). NoneBelow t.problem.model b) z
-          (subst (λ (b : Bound). NoneIsBelow t.problem b) c.z.ensures (subst (λ (p : Problem). NoneIsBelow p c.z.result) c.instance.ensures (c.split_below.ensures.none (e ∙ ap (λ (b : Bool). Ok b) off)))));
+      none_below = λ off. subst (λ (m : CpModel). NoneBelow m s.search.z) grew.defines.model (subst (λ (b : Bound). NoneBelow t.instance.model b) z
+          (subst (λ (b : Bound). NoneIsBelow t.instance b) c.z.ensures (subst (λ (p : Problem). NoneIsBelow p c.z.result) c.instance.ensures (c.split_below.ensures.none (e ∙ ap (λ (b : Bool). Ok b) off)))));
       raised = refl;
       greatest = refl;
       ended = refl;
@@ -78,11 +78,11 @@ returns-clause-works g c =
     let b = c.args.self.now.brancher in
     let kept = c.args.self.now.kept in
     let grew = c.in_ok-subject.ensures.grew in
-    let reform : IsReform t.problem t.z f = subst (λ (p : Problem). IsReform p t.z f) c.instance.ensures (subst (λ (z : Bound). IsReform c.instance.result.now z f) c.z.ensures c.split_below.ensures.reform) in
-    let level : t.trail.level ≡ 0 = ap (λ (x : Search). x.trail.level) grew.is ∙ c.requires.bottom in
+    let reform : IsReform t.instance t.z f = subst (λ (p : Problem). IsReform p t.z f) c.instance.ensures (subst (λ (z : Bound). IsReform c.instance.result.now z f) c.z.ensures c.split_below.ensures.reform) in
+    let level : t.store.level ≡ 0 = ap (λ (x : Search). x.store.level) grew.is ∙ c.requires.bottom in
     let scope = g.B.Brancher.scope b in
     let agrees = g.B.Brancher.agrees b in
-    let works : IsCoreWorking (record s { search = t; form = f; sums = s.sums + 1 }) scope (agrees t.trail) kept =
+    let works : IsCoreWorking (record s { search = t; form = f; sums = s.sums + 1 }) scope (agrees t.store) kept =
     works-grown s t f (core_sum s.form.terms) c.in_ok-subject.subject scope agrees kept c.requires.works c.requires.few c.in_ok-subject.ensures.sound grew reform c.split_below.ensures.base
-    (subst (λ (x : Trail). IsSound x) c.store.ensures c.entries.ensures.sound) level (λ same was. g.met.B.Brancher.kept_on b s.search.trail t.trail kept kept (omega arith) same was) in
-    ok_if c.split_below.result (IsCoreWorking (record s { search = t; form = f; sums = s.sums + 1 }) scope (agrees t.trail) kept) works
+    (subst (λ (x : Trail). IsSound x) c.store.ensures c.entries.ensures.sound) level (λ same was. g.met.B.Brancher.kept_on b s.search.store t.store kept kept (omega arith) same was) in
+    ok_if c.split_below.result (IsCoreWorking (record s { search = t; form = f; sums = s.sums + 1 }) scope (agrees t.store) kept) works

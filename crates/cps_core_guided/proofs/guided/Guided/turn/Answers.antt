@@ -25,12 +25,12 @@ go_on-requires-clause-works g c =
     let on = steps.cause.onward in
     let scope = g.B.Brancher.scope b in
     let agrees = g.B.Brancher.agrees b in
-    let size : length m.trail.entries ≡ length s.search.trail.entries + length on.added = ap (λ (es : List Entry). length es) on.entries ∙ length-append s.search.trail.entries on.added in
+    let size : length m.store.entries ≡ length s.search.store.entries + length on.added = ap (λ (es : List Entry). length es) on.entries ∙ length-append s.search.store.entries on.added in
     let within = w.within in
     let few = w.few in
     let imported = steps.cause.imported in
-    works-frame s m scope scope (agrees s.search.trail) (agrees m.trail) kept kept w c.in_ok-turn.ensures.sound.1 steps.setting steps.moves.falls steps.store refl (omega (arith, few, imported)) (omega (arith, within, size))
-    (g.met.B.Brancher.kept_on b s.search.trail m.trail kept kept (omega arith) (same_onward scope.subjects kept s.search.trail m.trail within on) w.agreed)
+    works-frame s m scope scope (agrees s.search.store) (agrees m.store) kept kept w c.in_ok-turn.ensures.sound.1 steps.setting steps.moves.falls steps.store refl (omega (arith, few, imported)) (omega (arith, within, size))
+    (g.met.B.Brancher.kept_on b s.search.store m.store kept kept (omega arith) (same_onward scope.subjects kept s.search.store m.store within on) w.agreed)
 
 pub returns-in-Some-clause-turn : goal.returns-in-Some-clause-turn
 returns-in-Some-clause-turn g c =
@@ -77,12 +77,12 @@ returns-in-Some-clause-works g c =
     let store = taken.store (frame-not-decided s.search m rows p q turn steps.cause) in
     let few = imported_few s.search m rows p q (Some turn) w.few c.requires.imported (g.met.Q.Port.few c.args.port.now) steps.cause in
     let still = c.still_kept-self.result in
-    let left : still ≡ min kept (length t.trail.entries) = c.still_kept-self.ensures ∙ ap (λ (x : Trail). min kept (length x.entries)) c.store.ensures in
+    let left : still ≡ min kept (length t.store.entries) = c.still_kept-self.ensures ∙ ap (λ (x : Trail). min kept (length x.entries)) c.store.ensures in
     let within = w.within in
     let scope = g.B.Brancher.scope b in
-    works-frame s t scope (g.B.Brancher.scope new) (g.B.Brancher.agrees b s.search.trail) (g.B.Brancher.agrees new t.trail) kept still w (c.hear_turn.ensures.sound c.in_ok-turn.ensures.sound.1) taken.setting taken.moves.falls store c.hear_turn.ensures.scope
+    works-frame s t scope (g.B.Brancher.scope new) (g.B.Brancher.agrees b s.search.store) (g.B.Brancher.agrees new t.store) kept still w (c.hear_turn.ensures.sound c.in_ok-turn.ensures.sound.1) taken.setting taken.moves.falls store c.hear_turn.ensures.scope
     (omega (arith, few, stands_imported m t c.hear_turn.ensures.frame)) (omega (arith, left))
-    (c.hear_turn.ensures.saw t.trail still (g.met.B.Brancher.kept_on b s.search.trail t.trail still kept (omega (arith, left)) (same_back scope.subjects still s.search.trail t.trail (omega (arith, left, within)) (omega (arith, left)) store) w.agreed))
+    (c.hear_turn.ensures.saw t.store still (g.met.B.Brancher.kept_on b s.search.store t.store still kept (omega (arith, left)) (same_back scope.subjects still s.search.store t.store (omega (arith, left, within)) (omega (arith, left)) store) w.agreed))
 
 pub returns-in-None-clause-others : goal.returns-in-None-clause-others
 returns-in-None-clause-others g c = g.met.Q.Port.moved_on c.args.port.now c.steps.new.port c.go_on.new.port c.in_ok-turn.ensures.others c.go_on.ensures.others

@@ -19,29 +19,29 @@ use Rattle.cps_core_guided.proofs.Reforming.{read_back}
 use Rattle.cps_core_guided.proofs.worker.CoreWorker+P+ActivityBrancher.new.Goals as goal
 
 pub first_form-requires-clause-bottom : goal.first_form-requires-clause-bottom
-first_form-requires-clause-bottom g c = ap (λ (x : Search). x.trail.level) c.in_ok-frame.ensures.is
+first_form-requires-clause-bottom g c = ap (λ (x : Search). x.store.level) c.in_ok-frame.ensures.is
 
 pub first_form-requires-clause-subjects : goal.first_form-requires-clause-subjects
 first_form-requires-clause-subjects g c =
     let s = c.in_ok-frame.frame in
     let ts = c.as_slice.result.now in
-    let here : ts ≡ objective_terms s.problem.model.objective = c.as_slice.ensures.value ∙ c.in_ok-terms.ensures ∙ ap (λ (x : Search). objective_terms x.problem.model.objective) (sym c.in_ok-frame.ensures.is) in
-    term-subjects (variable_count s.problem) (variable_count s.problem) ts (omega arith) (terms-of s.problem ts c.in_ok-frame.ensures.sound.instance here).subjects
+    let here : ts ≡ objective_terms s.instance.model.objective = c.as_slice.ensures.value ∙ c.in_ok-terms.ensures ∙ ap (λ (x : Search). objective_terms x.instance.model.objective) (sym c.in_ok-frame.ensures.is) in
+    term-subjects (variable_count s.instance) (variable_count s.instance) ts (omega arith) (terms-of s.instance ts c.in_ok-frame.ensures.sound.instance here).subjects
 
 pub first_form-requires-clause-small : goal.first_form-requires-clause-small
 first_form-requires-clause-small g c =
     let s = c.in_ok-frame.frame in
     let ts = c.as_slice.result.now in
-    let here : ts ≡ objective_terms s.problem.model.objective = c.as_slice.ensures.value ∙ c.in_ok-terms.ensures ∙ ap (λ (x : Search). objective_terms x.problem.model.objective) (sym c.in_ok-frame.ensures.is) in
-    (terms-of s.problem ts c.in_ok-frame.ensures.sound.instance here).small
+    let here : ts ≡ objective_terms s.instance.model.objective = c.as_slice.ensures.value ∙ c.in_ok-terms.ensures ∙ ap (λ (x : Search). objective_terms x.instance.model.objective) (sym c.in_ok-frame.ensures.is) in
+    (terms-of s.instance ts c.in_ok-frame.ensures.sound.instance here).small
 
 pub first_form-requires-clause-room : goal.first_form-requires-clause-room
 first_form-requires-clause-room g c =
     let s = c.in_ok-frame.frame in
     let ts = c.as_slice.result.now in
-    let here : ts ≡ objective_terms s.problem.model.objective = c.as_slice.ensures.value ∙ c.in_ok-terms.ensures ∙ ap (λ (x : Search). objective_terms x.problem.model.objective) (sym c.in_ok-frame.ensures.is) in
-    let few = (terms-of s.problem ts c.in_ok-frame.ensures.sound.instance here).few in
-    let same = ap (λ (x : Search). length x.problem.domains) c.in_ok-frame.ensures.is in
+    let here : ts ≡ objective_terms s.instance.model.objective = c.as_slice.ensures.value ∙ c.in_ok-terms.ensures ∙ ap (λ (x : Search). objective_terms x.instance.model.objective) (sym c.in_ok-frame.ensures.is) in
+    let few = (terms-of s.instance ts c.in_ok-frame.ensures.sound.instance here).few in
+    let same = ap (λ (x : Search). length x.instance.domains) c.in_ok-frame.ensures.is in
     let most = c.requires.few in
     omega (arith, few, same, most)
 
@@ -50,21 +50,21 @@ greatest_sum-greatest-requires-clause-subjects g c =
     let t = c.first_form.new.frame in
     let ts = c.as_slice-2.result.now in
     let k = c.in_ok-reform.ensures in
-    let here : ts ≡ objective_terms t.problem.model.objective =
-    c.as_slice-2.ensures.value ∙ c.in_ok-terms.ensures ∙ ap (λ (x : Search). objective_terms x.problem.model.objective) (sym c.in_ok-frame.ensures.is) ∙ ap (λ (m : CpModel). objective_terms m.objective) (sym k.grew.model) in
+    let here : ts ≡ objective_terms t.instance.model.objective =
+    c.as_slice-2.ensures.value ∙ c.in_ok-terms.ensures ∙ ap (λ (x : Search). objective_terms x.instance.model.objective) (sym c.in_ok-frame.ensures.is) ∙ ap (λ (m : CpModel). objective_terms m.objective) (sym k.grew.model) in
     let count = k.sound.instance.domains.count in
-    let size : length c.domains.result.now ≡ length t.problem.domains = c.domains.ensures.count ∙ ap (λ (p : Problem). length p.domains) c.instance-2.ensures in
-    term-subjects (variable_count t.problem) (length c.domains.result.now) ts (omega (arith, count, size)) (terms-of t.problem ts k.sound.instance here).subjects
+    let size : length c.domains.result.now ≡ length t.instance.domains = c.domains.ensures.count ∙ ap (λ (p : Problem). length p.domains) c.instance-2.ensures in
+    term-subjects (variable_count t.instance) (length c.domains.result.now) ts (omega (arith, count, size)) (terms-of t.instance ts k.sound.instance here).subjects
 
 pub greatest_sum-greatest-requires-clause-small : goal.greatest_sum-greatest-requires-clause-small
 greatest_sum-greatest-requires-clause-small g c =
     let t = c.first_form.new.frame in
     let ts = c.as_slice-2.result.now in
     let k = c.in_ok-reform.ensures in
-    let here : ts ≡ objective_terms t.problem.model.objective =
-    c.as_slice-2.ensures.value ∙ c.in_ok-terms.ensures ∙ ap (λ (x : Search). objective_terms x.problem.model.objective) (sym c.in_ok-frame.ensures.is) ∙ ap (λ (m : CpModel). objective_terms m.objective) (sym k.grew.model) in
-    let same : map intervals c.domains.result.now ≡ t.problem.domains = c.domains.ensures.list ∙ ap (λ (p : Problem). p.domains) c.instance-2.ensures in
-    subst (λ (ds : Domains). terms_reach ds ts < 2 ^ 62) (sym same) (terms-of t.problem ts k.sound.instance here).small
+    let here : ts ≡ objective_terms t.instance.model.objective =
+    c.as_slice-2.ensures.value ∙ c.in_ok-terms.ensures ∙ ap (λ (x : Search). objective_terms x.instance.model.objective) (sym c.in_ok-frame.ensures.is) ∙ ap (λ (m : CpModel). objective_terms m.objective) (sym k.grew.model) in
+    let same : map intervals c.domains.result.now ≡ t.instance.domains = c.domains.ensures.list ∙ ap (λ (p : Problem). p.domains) c.instance-2.ensures in
+    subst (λ (ds : Domains). terms_reach ds ts < 2 ^ 62) (sym same) (terms-of t.instance ts k.sound.instance here).small
 
 pub returns-clause-begins : goal.returns-clause-begins
 returns-clause-begins g c =
@@ -76,10 +76,10 @@ returns-clause-begins g c =
     let k = c.in_ok-reform.ensures in
     let r = c.greatest_sum-greatest.result in
     let grew : OnlyGrew s t (length ts) = subst (λ (us : List Term). OnlyGrew s t (length us)) c.as_slice.ensures.value k.grew in
-    let first : IsFirstForm t.problem ts f = subst (λ (us : List Term). IsFirstForm t.problem us f) c.as_slice.ensures.value k.first in
-    let same : map intervals c.domains.result.now ≡ t.problem.domains = c.domains.ensures.list ∙ ap (λ (q : Problem). q.domains) c.instance-2.ensures in
-    let most : to_z w64 (of_z w64 r) ≡ greatest_of_terms t.problem.domains ts =
-    read_back r c.greatest_sum-greatest.ensures.small ∙ c.greatest_sum-greatest.ensures.is ∙ ap (λ (ds : Domains). greatest_of_terms ds c.as_slice-2.result.now) same ∙ ap (λ (us : List Term). greatest_of_terms t.problem.domains us) c.as_slice-2.ensures.value in
+    let first : IsFirstForm t.instance ts f = subst (λ (us : List Term). IsFirstForm t.instance us f) c.as_slice.ensures.value k.first in
+    let same : map intervals c.domains.result.now ≡ t.instance.domains = c.domains.ensures.list ∙ ap (λ (q : Problem). q.domains) c.instance-2.ensures in
+    let most : to_z w64 (of_z w64 r) ≡ greatest_of_terms t.instance.domains ts =
+    read_back r c.greatest_sum-greatest.ensures.small ∙ c.greatest_sum-greatest.ensures.is ∙ ap (λ (ds : Domains). greatest_of_terms ds c.as_slice-2.result.now) same ∙ ap (λ (us : List Term). greatest_of_terms t.instance.domains us) c.as_slice-2.ensures.value in
     let v = to_z w64 (of_z w64 r) in
     let fresh = new-fresh p c.args.gap c.args.budget s t ts f v c.in_ok-frame.ensures.is grew k.sound first k.base c.in_ok-terms.ensures most c.requires.few in
     let is = ap (λ (b : Bool). with_refused (beginning t f v) b) (ap (λ (x : Search). x.refused) fresh) in
@@ -89,7 +89,7 @@ returns-clause-begins g c =
 pub returns-clause-hints : goal.returns-clause-hints
 returns-clause-hints g c =
     let t = c.first_form.new.frame in
-    let model : t.problem.model ≡ c.args.instance.model = c.in_ok-reform.ensures.grew.model ∙ ap (λ (x : Search). x.problem.model) c.in_ok-frame.ensures.is in
+    let model : t.instance.model ≡ c.args.instance.model = c.in_ok-reform.ensures.grew.model ∙ ap (λ (x : Search). x.instance.model) c.in_ok-frame.ensures.is in
     let size = ap (λ (m : CpModel). length m.variables) model in
     let count = c.in_ok-brancher.ensures.scope.variables_are in
     record {
@@ -108,13 +108,13 @@ invariant_of-result g c = λ running.
     let r = c.greatest_sum-greatest.result in
     let b = c.in_ok-brancher.brancher in
     let grew : OnlyGrew s t (length ts) = subst (λ (us : List Term). OnlyGrew s t (length us)) c.as_slice.ensures.value k.grew in
-    let first : IsFirstForm t.problem ts f = subst (λ (us : List Term). IsFirstForm t.problem us f) c.as_slice.ensures.value k.first in
-    let same : map intervals c.domains.result.now ≡ t.problem.domains = c.domains.ensures.list ∙ ap (λ (q : Problem). q.domains) c.instance-2.ensures in
-    let most : to_z w64 (of_z w64 r) ≡ greatest_of_terms t.problem.domains ts =
-    read_back r c.greatest_sum-greatest.ensures.small ∙ c.greatest_sum-greatest.ensures.is ∙ ap (λ (ds : Domains). greatest_of_terms ds c.as_slice-2.result.now) same ∙ ap (λ (us : List Term). greatest_of_terms t.problem.domains us) c.as_slice-2.ensures.value in
+    let first : IsFirstForm t.instance ts f = subst (λ (us : List Term). IsFirstForm t.instance us f) c.as_slice.ensures.value k.first in
+    let same : map intervals c.domains.result.now ≡ t.instance.domains = c.domains.ensures.list ∙ ap (λ (q : Problem). q.domains) c.instance-2.ensures in
+    let most : to_z w64 (of_z w64 r) ≡ greatest_of_terms t.instance.domains ts =
+    read_back r c.greatest_sum-greatest.ensures.small ∙ c.greatest_sum-greatest.ensures.is ∙ ap (λ (ds : Domains). greatest_of_terms ds c.as_slice-2.result.now) same ∙ ap (λ (us : List Term). greatest_of_terms t.instance.domains us) c.as_slice-2.ensures.value in
     let v = to_z w64 (of_z w64 r) in
     let fresh = new-fresh p c.args.gap c.args.budget s t ts f v c.in_ok-frame.ensures.is grew k.sound first k.base c.in_ok-terms.ensures most c.requires.few in (
       ap (λ (x : Search). x.refused) fresh,
       new-works p c.args.gap c.args.budget s t ts f v c.in_ok-frame.ensures.is grew k.sound first k.base c.in_ok-terms.ensures most c.requires.few (record { variables = length b.activities; subjects = length b.activities })
-          (λ n. AreFixedAside (length b.activities) b.aside t.trail n) c.in_ok-brancher.ensures.scope c.requires.budget (aside_none_kept (length b.activities) b.aside t.trail),
+          (λ n. AreFixedAside (length b.activities) b.aside t.store n) c.in_ok-brancher.ensures.scope c.requires.budget (aside_none_kept (length b.activities) b.aside t.store),
     )

@@ -12,6 +12,6 @@ returns-clause-decides g c =
 pub returns-clause-exploring : goal.returns-clause-exploring
 returns-clause-exploring g c =
     let d = c.in_ok-decide_next.ensures in
-    let seen : length c.entries-seen.result.now ≡ length c.args.self.now.frame.trail.entries = omega (arith, c.entries-seen.ensures.views.same_length, ap (λ (x : Trail). length x.entries) c.store.ensures) in
+    let seen : length c.entries-seen.result.now ≡ length c.args.self.now.frame.store.entries = omega (arith, c.entries-seen.ensures.views.same_length, ap (λ (x : Trail). length x.entries) c.store.ensures) in
     chosen_decided c.args.self.now _ c.requires.exploring c.requires.due c.requires.in_round c.requires.none (chosen_hinted c.args.self.now _ d.decided) d.sound (ap (λ (s : Scope). s.subjects) d.scope) seen d.saw
     (subst (λ (x : Trail). IsSound x) c.store.ensures c.entries-seen.ensures.sound).levels refl refl refl refl refl

@@ -66,5 +66,5 @@ returns-in_default g c =
           (record { rounds = ap (λ (n : Near). n.rounds) k.rest; round = ap (λ (n : Near). n.round) k.rest; draws = ap (λ (n : Near). n.draws) k.rest; brancher = ap (λ (n : Near). n.brancher) k.rest })
           (ap (λ (n : Near). n.conflicts) k.rest) (ap (λ (n : Near). n.aim) k.rest);
       exploring = explores_other x y _ _ _ turn c.requires.exploring c.requires.running (subst (λ (s : Search). IsSoundSearch s) (sym frame) c.in_ok-steps.ensures.sound.1) all c.in_default.not-Learnt c.requires.imported (g.met.Q.Port.few c.args.port.now)
-          (ap (λ (n : Near). n.brancher) k.rest) k.kept (ap (λ (n : Near). n.conflicts) k.rest) k.same.0 (ap (λ (n : Near). n.rounds) k.rest) k.same.1 k.decisions k.learnt (k.held ∙ ap (λ (s : Search). min x.round.held s.trail.level) (sym frame)) k.place;
+          (ap (λ (n : Near). n.brancher) k.rest) k.kept (ap (λ (n : Near). n.conflicts) k.rest) k.same.0 (ap (λ (n : Near). n.rounds) k.rest) k.same.1 k.decisions k.learnt (k.held ∙ ap (λ (s : Search). min x.round.held s.store.level) (sym frame)) k.place;
     }

@@ -35,8 +35,8 @@ turns-smaller g c =
     let p = (g.Q.Port.part c.turns.port).board in
     let q = (g.Q.Port.part c.turn.new.port).board in
     let less = near_lowered t u (g.Q.Port.rows c.turns.port) p q k.sound.0 k.sound.1 k.turn.setting k.turn.conflicts k.budget (k.turn.lowers (sym c.end_of.ensures ∙ c.in_default.is)) in
-    subst (λ (n : ℕ). near_left (open_values c.args.self.now.search.problem.domains [] + 1) u n q < near_left (open_values c.args.self.now.search.problem.domains [] + 1) t n p) i.rows
-    (subst (λ (x : Problem). near_left (open_values x.domains [] + 1) u (g.Q.Port.rows c.turns.port) q < near_left (open_values x.domains [] + 1) t (g.Q.Port.rows c.turns.port) p) i.run.run.setting.problem less)
+    subst (λ (n : ℕ). near_left (open_values c.args.self.now.search.instance.domains [] + 1) u n q < near_left (open_values c.args.self.now.search.instance.domains [] + 1) t n p) i.rows
+    (subst (λ (x : Problem). near_left (open_values x.domains [] + 1) u (g.Q.Port.rows c.turns.port) q < near_left (open_values x.domains [] + 1) t (g.Q.Port.rows c.turns.port) p) i.run.run.setting.instance less)
 
 pub turns-init : goal.turns-init
 turns-init g c = record {

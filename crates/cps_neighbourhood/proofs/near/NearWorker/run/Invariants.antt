@@ -17,4 +17,4 @@ invariant-turns g l = record {
 }
 
 abbrev pub decreases-turns : goal.decreases-turns
-decreases-turns g l = near_left (open_values l.fn.self.search.problem.domains [] + 1) l.self (g.Q.Port.rows l.fn.port) (g.Q.Port.part l.port).board
+decreases-turns g l = near_left (open_values l.fn.self.search.instance.domains [] + 1) l.self (g.Q.Port.rows l.fn.port) (g.Q.Port.part l.port).board

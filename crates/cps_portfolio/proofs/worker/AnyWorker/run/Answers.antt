@@ -25,12 +25,12 @@ turn-requires-clause-memory g c =
 pub turn-requires-clause-model : goal.turn-requires-clause-model
 turn-requires-clause-model g c =
     let kept = has_kept (g.Q.Port.rows c.args.port.now) (known_of c.args.self.now) (known_of c.turns.self) (g.Q.Port.part c.args.port.now) (g.Q.Port.part c.turns.port) c.turns.invariant.turns in
-    c.turns.invariant.model ∙ c.requires.model ∙ sym (ap (λ (p : Problem). p.model) kept.setting.problem)
+    c.turns.invariant.model ∙ c.requires.model ∙ sym (ap (λ (p : Problem). p.model) kept.setting.instance)
 
 pub turn-requires-clause-pool : goal.turn-requires-clause-pool
 turn-requires-clause-pool g c =
     let kept = has_kept (g.Q.Port.rows c.args.port.now) (known_of c.args.self.now) (known_of c.turns.self) (g.Q.Port.part c.args.port.now) (g.Q.Port.part c.turns.port) c.turns.invariant.turns in
-    c.turns.invariant.pool ∙ c.requires.pool ∙ sym (ap (λ (p : Problem). p.model) kept.setting.problem)
+    c.turns.invariant.pool ∙ c.requires.pool ∙ sym (ap (λ (p : Problem). p.model) kept.setting.instance)
 
 pub turn-requires-clause-imported : goal.turn-requires-clause-imported
 turn-requires-clause-imported g c =

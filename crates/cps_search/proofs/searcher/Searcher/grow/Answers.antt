@@ -21,7 +21,7 @@ returns-clause-grew g c =
     let subject = c.in_ok-subject.subject in
     let same = to_z-of_z c.ranges.offset in
     let sum : DefinedSum = record { terms = c.args.terms.now; offset = c.args.offset } in
-    let defines : Defines s.problem c.define.new.self sum subject = subst (λ (x : ℤ). Defines s.problem c.define.new.self (record { terms = c.args.terms.now; offset = x }) subject) same c.in_ok-subject.ensures.ok in
+    let defines : Defines s.instance c.define.new.self sum subject = subst (λ (x : ℤ). Defines s.instance c.define.new.self (record { terms = c.args.terms.now; offset = x }) subject) same c.in_ok-subject.ensures.ok in
     let tasks : c.add_sum.new.self.tasks ≡ s.tasks ++ sum_task subject sum ∷ [] =
     ap (λ (e : Agenda). e.tasks) c.in_ok-add_sum.ensures.adds ∙ ap (λ (x : ℤ). s.tasks ++ sum_task subject (record { terms = c.args.terms.now; offset = x }) ∷ []) same in
     record {
