@@ -60,7 +60,7 @@ abbrev pub past : View → ℕ
 past v = if v.part.full then v.splits else 0
 
 -- what a seat knows of the words, of n rows
-pub record Fits (m : CpModel) (n : ℕ) (ws : List ℕ) (v : View) : Type 0 where
+pub record FitsWords (m : CpModel) (n : ℕ) (ws : List ℕ) (v : View) : Type 0 where
   pub model : 0 < v.splits → v.model ≡ Some m
   -- a seat without splits has drawn nothing
   pub idle : v.splits ≡ 0 → v.draws ≡ 0
@@ -83,7 +83,7 @@ pub record Kept {S : Type 0} (m : CpModel) (s : State S View) : Type 0 where
   pub owned : (row : ℕ) → row < length s.homes → total (owns row) s.views ≡ one_if (nat_lt row (slice_index s.words 0))
   pub sound : (row : ℕ) → row < length s.homes → gate s.words row ≢ 0 → HasSound m (length s.homes) s.words row
   pub claimed : (row : ℕ) → row < length s.homes → gate s.words row ≢ 0 → row < slice_index s.words 0
-  pub each : (i : ℕ) (v : View) → get_elem? s.views i ≡ some v → Fits m (length s.homes) s.words v
+  pub each : (i : ℕ) (v : View) → get_elem? s.views i ≡ some v → FitsWords m (length s.homes) s.words v
 
 abbrev pub first_view : CpModel → View
 first_view m = record { model = Some m; splits = all_splits; draws = 0; written = []; part = no_rows }

@@ -18,7 +18,7 @@ use Rattle.cps_port.proofs.Bounding.{BoundLe-refl, BoundLe-trans, IsNoLower-tran
 use Rattle.cps_port.proofs.Places.{here, one_there, nothing, total_set, total_snoc, total_two}
 use Rattle.cps_bounds.specs.declared.view.View.{View}
 use Rattle.cps_port.specs.Words.{top, value_word, word_of, raise_word, bound_of, HasWord, HasWords}
-use Rattle.cps_bounds.specs.Rule.{all_splits, least, greatest, Fits, Kept, first_view, spent, kept_half, given_half, joined, with_part, OfModel, upper_seen, lower_seen, value_offered, bound_raised}
+use Rattle.cps_bounds.specs.Rule.{all_splits, least, greatest, FitsWords, Kept, first_view, spent, kept_half, given_half, joined, with_part, OfModel, upper_seen, lower_seen, value_offered, bound_raised}
 use Rattle.cps_port.proofs.InOrder.{word_of-bound_of, word_of-lesser, word_of-raised_above, raise_word-raised_to, raise_word-greater_of, raise_fits, has_word_infinite, has_word_of, has_words-raised_to, has_words-greater_of, has_word-raised_above, no_lower-greater_of, bound_of-grows}
 use Rattle.cps_bounds.proofs.Folds.{least_top, least_at, below_least, least_set, least_snoc, least_spent, greatest_base, greatest_at, greatest_below, greatest_set, greatest_snoc, greatest_spent}
 
@@ -39,7 +39,7 @@ one_of_max P a b x y = dite (dec_le a b) (λ h. let e : b ≡ max a b = omega ar
 
 module _ (m : CpModel) where
   -- the words only come closer
-  wider : (v : View) (u l u' l' : ℕ) → u' ≤ u → u ≤ top → l ≤ l' → l' ≤ top → Fits m u l v → Fits m u' l' v
+  wider : (v : View) (u l u' l' : ℕ) → u' ≤ u → u ≤ top → l ≤ l' → l' ≤ top → FitsWords m u l v → FitsWords m u' l' v
   wider v u l u' l' down high up low f = record {
     model = f.model;
     idle = f.idle;
@@ -49,9 +49,9 @@ module _ (m : CpModel) where
     lower = IsNoLower-trans v.part.saw_lower (bound_of l) (bound_of l') f.lower (bound_of-grows l l' up low);
   }
 
-  fits_set : (vs : List View) (id : ℕ) (w : View) (u l u' l' : ℕ) → u' ≤ u → u ≤ top → l ≤ l' → l' ≤ top → Fits m u' l' w → ((i : ℕ) (v : View) → get_elem? vs i ≡ some v → Fits m u l v)
-      → (i : ℕ) (v : View) → get_elem? (set vs id w) i ≡ some v → Fits m u' l' v
-  fits_set vs id w u l u' l' down high up low mine others i v e = ⊎_elim (λ (t : (i ≡ id) × (w ≡ v)). subst (λ (z : View). Fits m u' l' z) t.1 mine)
+  fits_set : (vs : List View) (id : ℕ) (w : View) (u l u' l' : ℕ) → u' ≤ u → u ≤ top → l ≤ l' → l' ≤ top → FitsWords m u' l' w → ((i : ℕ) (v : View) → get_elem? vs i ≡ some v → FitsWords m u l v)
+      → (i : ℕ) (v : View) → get_elem? (set vs id w) i ≡ some v → FitsWords m u' l' v
+  fits_set vs id w u l u' l' down high up low mine others i v e = ⊎_elim (λ (t : (i ≡ id) × (w ≡ v)). subst (λ (z : View). FitsWords m u' l' z) t.1 mine)
       (λ (t : (i ≢ id) × (get_elem? vs i ≡ some v)). wider v u l u' l' down high up low (others i v t.1)) (at_set vs id i w v e)
 
   of_model : (v : View) → v.model ≡ Some m → (P : CpModel → Type 0) → P m → OfModel v P
@@ -167,7 +167,7 @@ module _ {S : Type 0} (m : CpModel) where
         least_is = let t = least_set offer_of top s.views id v a (offer_of v) at (omega arith) in let n = least_snoc offer_of top (set s.views id a) b in let h = least_top offer_of top s.views in let lo = least_at offer_of top s.views id v at in let e = r.least_is in omega arith;
         greatest_is = let t = greatest_set raise_of (start_word m) s.views id v a (raise_of v) at (omega arith) in let n = greatest_snoc raise_of (start_word m) (set s.views id a) b in let hi = greatest_at raise_of (start_word m) s.views id v at in let e = r.greatest_is in omega arith;
         each = λ j d e. ⊎_elim (fits_set m s.views id a r.upper r.lower r.upper r.lower (omega arith) high (omega arith) low (record { model = λ _. q; idle = λ none. absurd (omega arith); offered = f.offered; raised = f.raised; upper = f.upper; lower = f.lower }) r.each j d)
-            (λ (t : b ≡ d). subst (λ (z : View). Fits m r.upper r.lower z) t (record { model = λ _. q; idle = λ none. absurd (omega arith); offered = has_word_infinite; raised = tt; upper = f.upper; lower = f.lower })) (at_snoc (set s.views id a) b d j e);
+            (λ (t : b ≡ d). subst (λ (z : View). FitsWords m r.upper r.lower z) t (record { model = λ _. q; idle = λ none. absurd (omega arith); offered = has_word_infinite; raised = tt; upper = f.upper; lower = f.lower })) (at_snoc (set s.views id a) b d j e);
         shown = r.shown;
         floor = r.floor;
       }
@@ -213,7 +213,7 @@ module _ {S : Type 0} (m : CpModel) where
     splits = refl;
     least_is = omega arith;
     greatest_is = omega arith;
-    each = λ i v e. ⊎_elim (λ t. absurd (nothing i v t)) (λ (t : first_view m ≡ v). subst (λ (z : View). Fits m top (start_word m) z) t
+    each = λ i v e. ⊎_elim (λ t. absurd (nothing i v t)) (λ (t : first_view m ≡ v). subst (λ (z : View). FitsWords m top (start_word m) z) t
         (record { model = λ _. refl; idle = λ none. absurd (omega arith); offered = has_word_infinite; raised = tt; upper = tt; lower = tt })) (at_snoc [] (first_view m) v i e);
     shown = shown_infinite m;
     floor = subst (IsLowerBound m) (sym word.back) good;

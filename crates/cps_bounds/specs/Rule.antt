@@ -30,7 +30,7 @@ module _ {A : Type 0} where
   greatest b f (x ∷ xs) = max (f x) (greatest b f xs)
 
 -- what a seat knows of the two words
-pub record Fits (m : CpModel) (u l : ℕ) (v : View) : Type 0 where
+pub record FitsWords (m : CpModel) (u l : ℕ) (v : View) : Type 0 where
   pub model : 0 < v.splits → v.model ≡ Some m
   -- a seat without splits has offered and raised nothing
   pub idle : v.splits ≡ 0 → (v.part.offered ≡ Infinite) × (v.part.raised ≡ None)
@@ -50,7 +50,7 @@ pub record Kept {S : Type 0} (m : CpModel) (s : State S View) : Type 0 where
   -- the upper bound is the least offer, and the lower bound the greatest raise
   pub least_is : upper ≡ least top (λ (v : View). word_of v.part.offered) s.views
   pub greatest_is : lower ≡ greatest (value_word (objective_start m)) (λ (v : View). raise_word v.part.raised) s.views
-  pub each : (i : ℕ) (v : View) → get_elem? s.views i ≡ some v → Fits m upper lower v
+  pub each : (i : ℕ) (v : View) → get_elem? s.views i ≡ some v → FitsWords m upper lower v
   pub shown : IsIncumbent m (bound_of upper)
   pub floor : IsLowerBound m (bound_of lower)
 

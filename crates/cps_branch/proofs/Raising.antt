@@ -4,7 +4,7 @@ use Rattle.std.proofs.Common.{ℕ, ◌+◌, ◌/◌, ◌^◌, ◌≤◌, ◌<◌
 use Rattle.std.proofs.lemmas.List.{take_more, get_or-map, length-map}
 use Rattle.std.proofs.lemmas.List.Folds.{list_any-append}
 use Rattle.cps_literal.specs.declared.atom.Atom.{Atom}
-use Rattle.cps_branch.specs.Activities.{speaks_of, gain, AreGained, Reaches, AreRaised, AreSmall, MarksOne}
+use Rattle.cps_branch.specs.Activities.{speaks_of, gain, AreGained, ReachesLimit, AreRaised, AreSmall, MarksOne}
 
 -- one more atom
 pub speaks_more : (clause : List Atom) (k : ℕ) (t d : Atom) (i : ℕ) → k < length clause → t ≡ get_or clause k d
@@ -71,23 +71,23 @@ eq_cases : (a b : ℕ) → (a ≡ b) ⊎ ((a == b) ≡ false)
 eq_cases a b = grind arith
 
 -- where one reaches the limit after one more atom, one did before or its subject does
-pub reaches-one : (s : ℕ) (marks marks' : List Bool) (mid new : List ℕ) → length new ≡ length mid → MarksOne s marks marks' mid new → Reaches new → Reaches mid ⊎ ((s < length new) × (2 ^ 40 ≤ get_or new s 0))
+pub reaches-one : (s : ℕ) (marks marks' : List Bool) (mid new : List ℕ) → length new ≡ length mid → MarksOne s marks marks' mid new → ReachesLimit new → ReachesLimit mid ⊎ ((s < length new) × (2 ^ 40 ≤ get_or new s 0))
 reaches-one s marks marks' mid new len one r = elim (eq_cases s r.0) [
   | inl e ↦ inr (omega (arith, e, r.1), subst (λ j. 2 ^ 40 ≤ get_or new j 0) (sym e) r.2)
   | inr ne ↦ inl (r.0, omega (arith, len, r.1), omega (arith, r.2, one.each r.0 (omega (arith, len, r.1)) ∙ ap (λ (b : Bool). get_or mid r.0 0 + (if b then (if get_or marks r.0 false then 0 else 1) else 0)) ne))
 ]
 
-pub reaches-kept : (s : ℕ) (marks marks' : List Bool) (mid new : List ℕ) → length new ≡ length mid → MarksOne s marks marks' mid new → Reaches mid → Reaches new
+pub reaches-kept : (s : ℕ) (marks marks' : List Bool) (mid new : List ℕ) → length new ≡ length mid → MarksOne s marks marks' mid new → ReachesLimit mid → ReachesLimit new
 reaches-kept s marks marks' mid new len one r = (r.0, omega (arith, len, r.1), omega (arith, r.2, one.each r.0 r.1))
 
 -- the activities after the clause
-pub raised-halved : (clause : List Atom) (old mid : List ℕ) → AreGained clause old mid → Reaches mid → AreRaised clause old (map (λ a. a / 2) mid)
+pub raised-halved : (clause : List Atom) (old mid : List ℕ) → AreGained clause old mid → ReachesLimit mid → AreRaised clause old (map (λ a. a / 2) mid)
 raised-halved clause old mid gains r = record { gained = mid; gains = gains; halved = λ _. refl; kept = λ not. absurd (not r) }
 
-pub raised-kept : (clause : List Atom) (old mid : List ℕ) → AreGained clause old mid → (Reaches mid → ⊥) → AreRaised clause old mid
+pub raised-kept : (clause : List Atom) (old mid : List ℕ) → AreGained clause old mid → (ReachesLimit mid → ⊥) → AreRaised clause old mid
 raised-kept clause old mid gains not = record { gained = mid; gains = gains; halved = λ r. absurd (not r); kept = λ _. refl }
 
-pub small-kept : (mid : List ℕ) → (Reaches mid → ⊥) → AreSmall mid
+pub small-kept : (mid : List ℕ) → (ReachesLimit mid → ⊥) → AreSmall mid
 small-kept mid not i l = elim (cases (get_or mid i 0) (2 ^ 40)) [ inl h ↦ h | inr h ↦ absurd (not (i, l, h)) ]
   where
     cases : (a b : ℕ) → (a < b) ⊎ (b ≤ a)

@@ -15,7 +15,7 @@ use Rattle.cps_instance.proofs.Agreeing.{All-append_right}
 use Rattle.cps_trail.specs.Trail.{Trail}
 use Rattle.cps_branch.specs.declared.strategy.Ranked.{Ranked}
 use Rattle.cps_branch.specs.Fixed.{IsFixed}
-use Rattle.cps_branch.specs.Strategies.{IsRank, IsRankedAbove, IsRankedFrom, IsTaken, better_of, IsDone, DecidesBy, Follows}
+use Rattle.cps_branch.specs.Strategies.{IsRank, IsRankedAbove, IsRankedFrom, IsTaken, better_of, IsDone, DecidesBy, FollowsStrategies}
 
 -- a fixed subject changes nothing
 pub taken_fixed : (choose : Choose) (s : Trail) (xs : List ℕ) (x : ℕ) (b : Ranked) → IsFixed s x → IsTaken choose s xs b.subject b.rank → IsTaken choose s (xs ++ x ∷ []) b.subject b.rank
@@ -97,7 +97,7 @@ taken_listed s xs k l fixed open_now = record {
 }
 
 -- the strategy at a place is the first that is not done
-pub follows_at : (strategies : List Steering) (s : Trail) (t : Atom) (k : ℕ) (g : Steering) → k < length strategies → g ≡ get_or strategies k g → All (IsDone s) (take k strategies) → DecidesBy g s t → Follows strategies s t
+pub follows_at : (strategies : List Steering) (s : Trail) (t : Atom) (k : ℕ) (g : Steering) → k < length strategies → g ≡ get_or strategies k g → All (IsDone s) (take k strategies) → DecidesBy g s t → FollowsStrategies strategies s t
 follows_at strategies s t k g l at done decides = record {
   before = take k strategies;
   strategy = g;

@@ -19,15 +19,15 @@ pub record AreGained (clause : List Atom) (old new : List ℕ) : Type 0 where
   pub each : (i : ℕ) → i < length old → slice_index new i ≡ slice_index old i + gain clause i
 
 -- one of the activities is 2 ^ 40 or more
-abbrev pub Reaches : List ℕ → Type 0
-Reaches activities = (i : ℕ) × (i < length activities) × (2 ^ 40 ≤ slice_index activities i)
+abbrev pub ReachesLimit : List ℕ → Type 0
+ReachesLimit activities = (i : ℕ) × (i < length activities) × (2 ^ 40 ≤ slice_index activities i)
 
 -- each variable of the clause gained 1; then, where one reached 2 ^ 40, all were halved
 pub record AreRaised (clause : List Atom) (old new : List ℕ) : Type 0 where
   pub gained : List ℕ
   pub gains : AreGained clause old gained
-  pub halved : Reaches gained → new ≡ map (λ a. a / 2) gained
-  pub kept : (Reaches gained → ⊥) → new ≡ gained
+  pub halved : ReachesLimit gained → new ≡ map (λ a. a / 2) gained
+  pub kept : (ReachesLimit gained → ⊥) → new ≡ gained
 
 -- all are below 2 ^ 40
 abbrev pub AreSmall : List ℕ → Type 0

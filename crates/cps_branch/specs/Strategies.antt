@@ -107,7 +107,7 @@ abbrev pub IsDone : Trail → Steering → Type 0
 IsDone s strategy = All (IsFixed s) strategy.subjects
 
 -- the first strategy that has a subject which is not fixed decides the atom
-pub record Follows (strategies : List Steering) (s : Trail) (t : Atom) : Type 0 where
+pub record FollowsStrategies (strategies : List Steering) (s : Trail) (t : Atom) : Type 0 where
   pub before : List Steering
   pub strategy : Steering
   pub after : List Steering
@@ -119,7 +119,7 @@ pub record Follows (strategies : List Steering) (s : Trail) (t : Atom) : Type 0 
 -- nothing to choose.
 abbrev pub ChoosesSteered : List Steering → ℕ → Trail → Option Atom → Type 0
 ChoosesSteered strategies n s None = AreFixed s n
-ChoosesSteered strategies n s (Some t) = Follows strategies s t ⊎ (All (IsDone s) strategies × (TakesLeast s t × IsFirstOpen n s t.subject))
+ChoosesSteered strategies n s (Some t) = FollowsStrategies strategies s t ⊎ (All (IsDone s) strategies × (TakesLeast s t × IsFirstOpen n s t.subject))
 
 -- the subjects of strategies are among the first so many
 abbrev pub AreWithin : ℕ → List Steering → Type 0

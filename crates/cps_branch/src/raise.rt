@@ -1,6 +1,6 @@
 //! How a learnt clause raises the activities of its variables.
 ghost use Rattle.std.specs.Prelude.{ℕ, ◌≡◌, ◌↔◌, ◌<◌, ◌≤◌, ◌/◌, ◌^◌, IsTrue, length, map, false, slice_index, slice_index_or};
-ghost use Rattle.cps_branch.specs.Activities.{speaks_of, AreGained, AreRaised, AreSmall, NoneMarked, Reaches, MarksOne};
+ghost use Rattle.cps_branch.specs.Activities.{speaks_of, AreGained, AreRaised, AreSmall, NoneMarked, ReachesLimit, MarksOne};
 
 use cps_literal::Atom;
 
@@ -32,7 +32,7 @@ fn raise(activities: &mut [u64], marks: &mut [bool], clause: &[Atom]) -> bool
     requires unmarked { NoneMarked marks.old }
     ensures gains { AreGained clause.now activities.old activities.new }
     ensures marked { (i : ℕ) → i < length activities.old → slice_index_or marks.new i false ≡ speaks_of clause.now i }
-    ensures reached { IsTrue result ↔ Reaches activities.new }
+    ensures reached { IsTrue result ↔ ReachesLimit activities.new }
 {
     let mut reached = false;
     for atom in clause {

@@ -8,7 +8,7 @@ ghost use Rattle.cps_domain.specs.Window.{IsRising, IsInterval, intervals, size_
 ghost use Rattle.cps_domain.specs.Division.{IsFloor};
 ghost use Rattle.cps_branch.specs.Fixed.{IsFixed};
 ghost use Rattle.cps_branch.specs.Choice.{IsUndecided};
-ghost use Rattle.cps_branch.specs.Strategies.{IsLeast, IsGreatest, HasSize, IsMiddle, IsMedian, IsRank, IsTaken, better_of, Selects, IsDone, Follows, AreWithin, DecidesBy, listed, values_of};
+ghost use Rattle.cps_branch.specs.Strategies.{IsLeast, IsGreatest, HasSize, IsMiddle, IsMedian, IsRank, IsTaken, better_of, Selects, IsDone, FollowsStrategies, AreWithin, DecidesBy, listed, values_of};
 
 use crate::scan::is_fixed;
 use cps_domain::Domain;
@@ -256,7 +256,7 @@ pub(crate) fn decided_at(store: &Store, strategies: &[Steering], place: usize) -
     requires within { AreWithin (length store.now.first) strategies.now }
     requires before { All (IsFixed store.now) (take place (listed strategies.now)) }
     requires open_there { place < length (listed strategies.now) → IsFixed store.now (slice_index (listed strategies.now) place) → ⊥ }
-    ensures choice { MatchOption result ((length (listed strategies.now) ≤ place) × All (IsDone store.now) strategies.now) (Follows strategies.now store.now) }
+    ensures choice { MatchOption result ((length (listed strategies.now) ≤ place) × All (IsDone store.now) strategies.now) (FollowsStrategies strategies.now store.now) }
     ensures undecided { IfSome result (IsUndecided store.now) }
 {
     let mut left = place;

@@ -20,8 +20,8 @@ use Rattle.cps_core_guided.specs.Reforming.{CoreSearch, ReformsTo, most_sums}
 use Rattle.cps_core_guided.specs.CoreTurns.{SameCoreSetting}
 
 -- the core-guided search that a worker stands for, as long as no allocation failed
-abbrev pub core_of : {P B : Type 0} → Guided P B → CoreSearch
-core_of {P} {B} g = record { search = g.frame; form = g.reform; sums = g.sums; greatest = g.greatest; raised = g.raised; ended = g.ended }
+abbrev pub core_search_of : {P B : Type 0} → Guided P B → CoreSearch
+core_search_of {P} {B} g = record { search = g.frame; form = g.reform; sums = g.sums; greatest = g.greatest; raised = g.raised; ended = g.ended }
 
 -- a decision is due, and not all variables are fixed
 pub record IsDue (s : Search) : Type 0 where

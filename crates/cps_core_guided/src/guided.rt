@@ -24,7 +24,7 @@ ghost use Rattle.cps_core_guided.specs.Assuming.{AreAssumed, IsFailed, IsFirstOp
 ghost use Rattle.cps_reform.specs.Floors.{IsPast};
 ghost use Rattle.cps_core_guided.specs.Reforming.{IsSoundCore, most_sums, whole};
 ghost use Rattle.cps_core_guided.specs.CoreTurns.{DecidedBy, GoesOn, IsCoreWorking, RaisesTo, TakesCoreTurn};
-ghost use Rattle.cps_core_guided.specs.Guiding.{core_of, HasFailed, IsDue, Splits, Tried};
+ghost use Rattle.cps_core_guided.specs.Guiding.{core_search_of, HasFailed, IsDue, Splits, Tried};
 
 use crate::assume::{first_failed, first_open};
 use crate::grow::grow_core;
@@ -63,20 +63,20 @@ pub(crate) struct Guided<'a, P: Defining, B: Brancher + Drop> {
 impl<'a, P: Defining, B: Brancher + Drop> Guided<'a, P, B> {
     /// Takes one turn.
     pub fn turn<Q: Port>(&mut self, port: &mut Q) -> Result<Turn, AllocError>
-        requires works { IsCoreWorking (core_of self.old) (B.scope self.old.brancher) (B.agrees self.old.brancher
+        requires works { IsCoreWorking (core_search_of self.old) (B.scope self.old.brancher) (B.agrees self.old.brancher
             self.old.frame.store) self.old.kept }
-        requires running { IsOver (whole (core_of self.old)).said → ⊥ }
+        requires running { IsOver (whole (core_search_of self.old)).said → ⊥ }
         requires model { Q.model port.old ≡ self.old.frame.instance.model }
         requires imported { self.old.frame.imported ≤ length (Q.part port.old).board.taken }
         ensures same { (Q.model port.new ≡ Q.model port.old) × (Q.rows port.new ≡ Q.rows port.old) }
         ensures others { Q.stays port.old port.new }
-        ensures turn { IfOk result (λ turn. TakesCoreTurn (B.chooses self.old.brancher) (core_of self.old) (core_of
+        ensures turn { IfOk result (λ turn. TakesCoreTurn (B.chooses self.old.brancher) (core_search_of self.old) (core_search_of
             self.new) (Q.rows port.old) (Q.part port.old) (Q.part port.new) turn) }
         ensures brancher { IfOk result (λ turn. BrancherTurn turn (HeardOne (λ clause restart. B.hears self.old.brancher
             clause restart self.new.brancher) self.old.frame self.new.frame) (DecidedBy (B.stays self.old.brancher
             self.new.brancher) (self.new.brancher ≡ self.old.brancher)) (self.new.brancher ≡ self.old.brancher)) }
         ensures guidance { B.guidance self.new.brancher ≡ B.guidance self.old.brancher }
-        ensures works { OnOk result (IsCoreWorking (core_of self.new) (B.scope self.new.brancher) (B.agrees
+        ensures works { OnOk result (IsCoreWorking (core_search_of self.new) (B.scope self.new.brancher) (B.agrees
             self.new.brancher self.new.frame.store) self.new.kept) }
     {
         match self.frame.steps(port)? {
@@ -92,19 +92,19 @@ impl<'a, P: Defining, B: Brancher + Drop> Guided<'a, P, B> {
     /// Goes on when a decision is due: reforms if an assumption is false; else decides an undecided assumption, or,
     /// without one, what the brancher chooses.
     fn go_on<Q: Port>(&mut self, port: &mut Q) -> Result<Turn, AllocError>
-        requires works { IsCoreWorking (core_of self.old) (B.scope self.old.brancher) (B.agrees self.old.brancher
+        requires works { IsCoreWorking (core_search_of self.old) (B.scope self.old.brancher) (B.agrees self.old.brancher
             self.old.frame.store) self.old.kept }
         requires due { IsDue self.old.frame }
         requires running { self.old.ended ≡ false }
         requires model { Q.model port.old ≡ self.old.frame.instance.model }
         ensures same { (Q.model port.new ≡ Q.model port.old) × (Q.rows port.new ≡ Q.rows port.old) }
         ensures others { Q.stays port.old port.new }
-        ensures goes_on { IfOk result (GoesOn (B.chooses self.old.brancher) (core_of self.old) (core_of self.new)
+        ensures goes_on { IfOk result (GoesOn (B.chooses self.old.brancher) (core_search_of self.old) (core_search_of self.new)
             (Q.part port.old) (Q.part port.new)) }
         ensures brancher { IfOk result (λ turn. BrancherTurn turn ⊥ (DecidedBy (B.stays self.old.brancher
             self.new.brancher) (self.new.brancher ≡ self.old.brancher)) (self.new.brancher ≡ self.old.brancher)) }
         ensures guidance { B.guidance self.new.brancher ≡ B.guidance self.old.brancher }
-        ensures works { OnOk result (IsCoreWorking (core_of self.new) (B.scope self.new.brancher) (B.agrees
+        ensures works { OnOk result (IsCoreWorking (core_search_of self.new) (B.scope self.new.brancher) (B.agrees
             self.new.brancher self.new.frame.store) self.new.kept) }
     {
         if self.sums >= MOST_SUMS {
@@ -121,17 +121,17 @@ impl<'a, P: Defining, B: Brancher + Drop> Guided<'a, P, B> {
 
     /// Decides the assumption of a term.
     fn assume(&mut self, place: usize) -> Result<Turn, AllocError>
-        requires works { IsCoreWorking (core_of self.old) (B.scope self.old.brancher) (B.agrees self.old.brancher
+        requires works { IsCoreWorking (core_search_of self.old) (B.scope self.old.brancher) (B.agrees self.old.brancher
             self.old.frame.store) self.old.kept }
         requires due { IsDue self.old.frame }
         requires few { self.old.sums < most_sums }
         requires none_fails { NoneFails self.old.frame.store self.old.reform.terms }
         requires open_now { IsFirstOpen self.old.frame.store self.old.reform.terms place }
-        ensures goes_on { IfOk result (λ turn. (part : Part) → GoesOn (B.chooses self.old.brancher) (core_of self.old)
-            (core_of self.new) part part turn) }
+        ensures goes_on { IfOk result (λ turn. (part : Part) → GoesOn (B.chooses self.old.brancher) (core_search_of self.old)
+            (core_search_of self.new) part part turn) }
         ensures decided { IfOk result (λ turn. turn ≡ Turn.Decided) }
         ensures brancher { self.new.brancher ≡ self.old.brancher }
-        ensures works { OnOk result (IsCoreWorking (core_of self.new) (B.scope self.new.brancher) (B.agrees
+        ensures works { OnOk result (IsCoreWorking (core_search_of self.new) (B.scope self.new.brancher) (B.agrees
             self.new.brancher self.new.frame.store) self.new.kept) }
     {
         let atom = assumption(&self.reform.terms()[place]);
@@ -141,17 +141,17 @@ impl<'a, P: Defining, B: Brancher + Drop> Guided<'a, P, B> {
 
     /// Decides what the brancher chooses.
     fn choose(&mut self) -> Result<Turn, AllocError>
-        requires works { IsCoreWorking (core_of self.old) (B.scope self.old.brancher) (B.agrees self.old.brancher
+        requires works { IsCoreWorking (core_search_of self.old) (B.scope self.old.brancher) (B.agrees self.old.brancher
             self.old.frame.store) self.old.kept }
         requires due { IsDue self.old.frame }
         requires assumed { self.old.sums < most_sums → AreAssumed self.old.frame.store.first
             self.old.frame.store.entries self.old.reform.terms }
-        ensures goes_on { IfOk result (λ turn. (part : Part) → GoesOn (B.chooses self.old.brancher) (core_of self.old)
-            (core_of self.new) part part turn) }
+        ensures goes_on { IfOk result (λ turn. (part : Part) → GoesOn (B.chooses self.old.brancher) (core_search_of self.old)
+            (core_search_of self.new) part part turn) }
         ensures decided { IfOk result (λ turn. turn ≡ Turn.Decided) }
         ensures brancher { B.stays self.old.brancher self.new.brancher }
         ensures guidance { B.guidance self.new.brancher ≡ B.guidance self.old.brancher }
-        ensures works { OnOk result (IsCoreWorking (core_of self.new) (B.scope self.new.brancher) (B.agrees
+        ensures works { OnOk result (IsCoreWorking (core_search_of self.new) (B.scope self.new.brancher) (B.agrees
             self.new.brancher self.new.frame.store) self.new.kept) }
     {
         let seen = self.frame.store().entries().len();
@@ -162,7 +162,7 @@ impl<'a, P: Defining, B: Brancher + Drop> Guided<'a, P, B> {
 
     /// Reforms the objective for a failed term, or ends if no solution below z can have the new form.
     fn reform_at<Q: Port>(&mut self, port: &mut Q, place: usize) -> Result<Turn, AllocError>
-        requires works { IsCoreWorking (core_of self.old) (B.scope self.old.brancher) (B.agrees self.old.brancher
+        requires works { IsCoreWorking (core_search_of self.old) (B.scope self.old.brancher) (B.agrees self.old.brancher
             self.old.frame.store) self.old.kept }
         requires due { IsDue self.old.frame }
         requires running { self.old.ended ≡ false }
@@ -171,10 +171,10 @@ impl<'a, P: Defining, B: Brancher + Drop> Guided<'a, P, B> {
         requires model { Q.model port.old ≡ self.old.frame.instance.model }
         ensures same { (Q.model port.new ≡ Q.model port.old) × (Q.rows port.new ≡ Q.rows port.old) }
         ensures others { Q.stays port.old port.new }
-        ensures goes_on { IfOk result (GoesOn (B.chooses self.old.brancher) (core_of self.old) (core_of self.new)
+        ensures goes_on { IfOk result (GoesOn (B.chooses self.old.brancher) (core_search_of self.old) (core_search_of self.new)
             (Q.part port.old) (Q.part port.new)) }
         ensures brancher { self.new.brancher ≡ self.old.brancher }
-        ensures works { OnOk result (IsCoreWorking (core_of self.new) (B.scope self.new.brancher) (B.agrees
+        ensures works { OnOk result (IsCoreWorking (core_search_of self.new) (B.scope self.new.brancher) (B.agrees
             self.new.brancher self.new.frame.store) self.new.kept) }
     {
         let atom = assumption(&self.reform.terms()[place]);
@@ -197,14 +197,14 @@ impl<'a, P: Defining, B: Brancher + Drop> Guided<'a, P, B> {
         atom: Atom,
         decisions: &[Atom],
     ) -> Result<bool, AllocError>
-        requires works { IsCoreWorking (core_of self.old) (B.scope self.old.brancher) (B.agrees self.old.brancher
+        requires works { IsCoreWorking (core_search_of self.old) (B.scope self.old.brancher) (B.agrees self.old.brancher
             self.old.frame.store) self.old.kept }
         requires bottom { IsFalseBelow self.old.frame }
-        requires failed { HasFailed (core_of self.old) place decisions.now }
+        requires failed { HasFailed (core_search_of self.old) place decisions.now }
         requires atom { atom ≡ assumed (term_at self.old.reform.terms place) }
-        ensures tried { IfOk result (Tried (core_of self.old) (core_of self.new) place decisions.now) }
+        ensures tried { IfOk result (Tried (core_search_of self.old) (core_search_of self.new) place decisions.now) }
         ensures brancher { self.new.brancher ≡ self.old.brancher }
-        ensures works { OnOk result (IsCoreWorking (core_of self.new) (B.scope self.new.brancher) (B.agrees
+        ensures works { OnOk result (IsCoreWorking (core_search_of self.new) (B.scope self.new.brancher) (B.agrees
             self.new.brancher self.new.frame.store) self.new.kept) }
     {
         match self.frame.store().truth(atom) {
@@ -223,14 +223,14 @@ impl<'a, P: Defining, B: Brancher + Drop> Guided<'a, P, B> {
         atom: Atom,
         decisions: &[Atom],
     ) -> Result<bool, AllocError>
-        requires works { IsCoreWorking (core_of self.old) (B.scope self.old.brancher) (B.agrees self.old.brancher
+        requires works { IsCoreWorking (core_search_of self.old) (B.scope self.old.brancher) (B.agrees self.old.brancher
             self.old.frame.store) self.old.kept }
         requires not_false { IsFalseNow self.old.frame.store atom → ⊥ }
-        requires failed { HasFailed (core_of self.old) place decisions.now }
+        requires failed { HasFailed (core_search_of self.old) place decisions.now }
         requires atom { atom ≡ assumed (term_at self.old.reform.terms place) }
-        ensures tried { IfOk result (Tried (core_of self.old) (core_of self.new) place decisions.now) }
+        ensures tried { IfOk result (Tried (core_search_of self.old) (core_search_of self.new) place decisions.now) }
         ensures brancher { self.new.brancher ≡ self.old.brancher }
-        ensures works { OnOk result (IsCoreWorking (core_of self.new) (B.scope self.new.brancher) (B.agrees
+        ensures works { OnOk result (IsCoreWorking (core_search_of self.new) (B.scope self.new.brancher) (B.agrees
             self.new.brancher self.new.frame.store) self.new.kept) }
     {
         // Reading the entries gives the proof the store's invariant.
@@ -246,23 +246,23 @@ impl<'a, P: Defining, B: Brancher + Drop> Guided<'a, P, B> {
     /// Raises the bound of a term: no solution below z has its subject below the new bound. Answers false, and changes
     /// nothing, if no solution below z can have the new form.
     fn lift(&mut self, place: usize, bound: i64) -> bool
-        requires sound { IsSoundCore (core_of self.old) }
+        requires sound { IsSoundCore (core_search_of self.old) }
         requires bottom { self.old.frame.store.level ≡ 0 }
         requires place { place < length self.old.reform.terms }
         requires rises { (term_at self.old.reform.terms place).bound ≤ℤ bound }
         requires risen { OfEachBelow self.old.frame.instance self.old.frame.z (λ xs. bound ≤ℤ value_at xs (term_at
             self.old.reform.terms place).subject) }
-        ensures lifts { result ≡ true → core_of self.new ≡ record (core_of self.old) {
+        ensures lifts { result ≡ true → core_search_of self.new ≡ record (core_search_of self.old) {
           form = lifted self.old.reform
               place bound;
         } }
-        ensures stays { result ≡ false → core_of self.new ≡ core_of self.old }
+        ensures stays { result ≡ false → core_search_of self.new ≡ core_search_of self.old }
         ensures not_past { result ≡ true → IsPast self.old.frame.z self.old.greatest self.old.frame.instance.domains
             self.new.reform → ⊥ }
         ensures past { result ≡ false → IsPast self.old.frame.z self.old.greatest self.old.frame.instance.domains (lifted
             self.old.reform place bound) }
         ensures none { result ≡ false → NoneBelow self.old.frame.instance.model self.old.frame.z }
-        ensures sound { IsSoundCore (core_of self.new) }
+        ensures sound { IsSoundCore (core_search_of self.new) }
         ensures kept { (self.new.brancher ≡ self.old.brancher) × (self.new.kept ≡ self.old.kept) }
     {
         // Reading the entries gives the proof the store's invariant.
@@ -279,7 +279,7 @@ impl<'a, P: Defining, B: Brancher + Drop> Guided<'a, P, B> {
     /// Splits a core of several terms: each solution below z has one of their subjects above its bound. Answers false
     /// if no solution below z can have the new form.
     fn split(&mut self, core: &[Term]) -> Result<bool, AllocError>
-        requires works { IsCoreWorking (core_of self.old) (B.scope self.old.brancher) (B.agrees self.old.brancher
+        requires works { IsCoreWorking (core_search_of self.old) (B.scope self.old.brancher) (B.agrees self.old.brancher
             self.old.frame.store) self.old.kept }
         requires bottom { self.old.frame.store.level ≡ 0 }
         requires few { self.old.sums < most_sums }
@@ -287,9 +287,9 @@ impl<'a, P: Defining, B: Brancher + Drop> Guided<'a, P, B> {
         requires weights { WeighAtLeast 1 self.old.reform.terms }
         requires above { OfEachBelow self.old.frame.instance self.old.frame.z (λ xs. IsSomeAbove xs
             self.old.reform.terms) }
-        ensures splits { IfOk result (Splits (core_of self.old) (core_of self.new)) }
+        ensures splits { IfOk result (Splits (core_search_of self.old) (core_search_of self.new)) }
         ensures brancher { self.new.brancher ≡ self.old.brancher }
-        ensures works { OnOk result (IsCoreWorking (core_of self.new) (B.scope self.new.brancher) (B.agrees
+        ensures works { OnOk result (IsCoreWorking (core_search_of self.new) (B.scope self.new.brancher) (B.agrees
             self.new.brancher self.new.frame.store) self.new.kept) }
     {
         let subject = grow_core(&mut self.frame, &self.reform, core)?;
@@ -306,19 +306,19 @@ impl<'a, P: Defining, B: Brancher + Drop> Guided<'a, P, B> {
 
     /// Raises the lower bound: to the new base, or to z where the worker is exhausted.
     fn conclude<Q: Port>(&mut self, port: &mut Q, is_reformed: bool) -> Turn
-        requires sound { IsSoundCore (core_of self.old) }
+        requires sound { IsSoundCore (core_search_of self.old) }
         requires model { Q.model port.old ≡ self.old.frame.instance.model }
         requires base { is_reformed ≡ true → IsLowerBound self.old.frame.instance.model (Bound.At self.old.reform.base) }
         requires none { is_reformed ≡ false → NoneBelow self.old.frame.instance.model self.old.frame.z }
         ensures same { (Q.model port.new ≡ Q.model port.old) × (Q.rows port.new ≡ Q.rows port.old) }
         ensures others { Q.stays port.old port.new }
         ensures reformed { is_reformed ≡ true → (result ≡ Turn.Reformed self.old.reform.base) × RaisesTo (Bound.At
-            self.old.reform.base) (core_of self.old) (core_of self.new) (Q.part port.old) (Q.part port.new) ×
+            self.old.reform.base) (core_search_of self.old) (core_search_of self.new) (Q.part port.old) (Q.part port.new) ×
             (self.new.ended ≡ self.old.ended) }
-        ensures exhausted { is_reformed ≡ false → (result ≡ Turn.Exhausted) × RaisesTo self.old.frame.z (core_of
-            self.old) (core_of self.new) (Q.part port.old) (Q.part port.new) × (self.new.ended ≡ true) }
+        ensures exhausted { is_reformed ≡ false → (result ≡ Turn.Exhausted) × RaisesTo self.old.frame.z (core_search_of
+            self.old) (core_search_of self.new) (Q.part port.old) (Q.part port.new) × (self.new.ended ≡ true) }
         ensures rest { self.new ≡ record self.old { raised = self.new.raised; ended = self.new.ended } }
-        ensures sound { IsSoundCore (core_of self.new) }
+        ensures sound { IsSoundCore (core_search_of self.new) }
     {
         if is_reformed {
             let base = self.reform.base();

@@ -40,11 +40,11 @@ impl<'a, P: Defining, B: Brancher + Drop> Model for CoreWorker<'a, P, B> {
 
     ghost use Rattle.std.specs.Prelude.{◌≡◌, false};
     ghost use Rattle.cps_core_guided.specs.CoreTurns.{IsCoreWorking};
-    ghost use Rattle.cps_core_guided.specs.Guiding.{core_of, with_refused};
+    ghost use Rattle.cps_core_guided.specs.Guiding.{core_search_of, with_refused};
 
-    ghost view = { λ w. (with_refused (core_of w.guided) w.refused, w.guided.brancher) };
+    ghost view = { λ w. (with_refused (core_search_of w.guided) w.refused, w.guided.brancher) };
 
-    ghost invariant = { λ w. w.refused ≡ false → (w.guided.frame.refused ≡ false) × IsCoreWorking (core_of w.guided) (B.scope w.guided.brancher) (B.agrees w.guided.brancher w.guided.frame.store) w.guided.kept };
+    ghost invariant = { λ w. w.refused ≡ false → (w.guided.frame.refused ≡ false) × IsCoreWorking (core_search_of w.guided) (B.scope w.guided.brancher) (B.agrees w.guided.brancher w.guided.frame.store) w.guided.kept };
 }
 
 impl<'a, P: Defining> CoreWorker<'a, P, ActivityBrancher> {

@@ -27,7 +27,7 @@ use Rattle.cps_rule.specs.declared.rule.Look.TheVariants.{Possible, Impossible}
 use Rattle.cps_rule.specs.Rules.{IsFittingRule, IsGiven, IsImpossible, IsFact, AreFacts, AllTrueAt, IsExplained, IsRefuted, IsSeen, IsAtRest}
 use Rattle.cps_enforce.specs.Force.{AreNegatable, IsOpenAt, IsBarred, but}
 use Rattle.cps_enforce.specs.Reasons.{task_of, Denies, IsReasonFor}
-use Rattle.cps_enforce.specs.Settling.{IsInForce, IsAside, IsResting, IsSettled}
+use Rattle.cps_enforce.specs.Settling.{IsInForce, IsAside, IsResting, IsBodySettled}
 use Rattle.cps_enforce.proofs.Denials.{conflict_denied, reason_denied}
 use Rattle.cps_enforce.proofs.Forces.{but_all, but_facts, negation_given, negation_made, false_not_true, fixed_true}
 
@@ -143,7 +143,7 @@ pub seen_possible : (b : Body) (s : Trail) (look : Look) → look ≡ Possible �
 seen_possible b s look e h = subst (λ (l : Look). IsSeen b s l) e h
 
 -- a settled task is decided and strong
-pub settled_decided : (s : Trail) (us : List Atom) (b : Body) → IsSettled s us b → IsDecided (task_of us b) s
+pub settled_decided : (s : Trail) (us : List Atom) (b : Body) → IsBodySettled s us b → IsDecided (task_of us b) s
 settled_decided s us b (inl h) = record {
   holds = λ fixed xs opens on.
       absurd (h.1.not_true no_atom (fixed_true s us xs (All-append_left (λ i. IsOpenTo s i (value_at xs i)) (atom_subjects us) (subjects_of_body b) opens) (All-append_left (IsFixedNow s) (atom_subjects us) (subjects_of_body b) fixed) on h.0 no_atom h.1.inside));
@@ -162,7 +162,7 @@ aside_last s us place b h k d l others none = elim (same_or place k) [
     same_or : (m n : ℕ) → (m ≡ n) ⊎ (m ≢ n)
     same_or m n = grind arith
 
-pub settled_strong : (s : Trail) (us : List Atom) (b : Body) → IsSettled s us b → IsStrong (task_of us b) s
+pub settled_strong : (s : Trail) (us : List Atom) (b : Body) → IsBodySettled s us b → IsStrong (task_of us b) s
 settled_strong s us b (inl h) = record {
   body = λ on. absurd (h.1.not_true no_atom (on h.0 no_atom h.1.inside));
   last = λ k d l others none. aside_last s us h.0 b h.1 k d l others none;

@@ -19,8 +19,8 @@ pub record IsResting (body : Body) (s : Trail) : Type 0 where
   pub rest : IsAtRest body s
   pub possible : IsExcludedBody body s → ⊥
 
-abbrev pub IsSettled : Trail → List Atom → Body → Type 0
-IsSettled s us body = ((place : ℕ) × IsAside s us place body) ⊎ IsResting body s
+abbrev pub IsBodySettled : Trail → List Atom → Body → Type 0
+IsBodySettled s us body = ((place : ℕ) × IsAside s us place body) ⊎ IsResting body s
 
 -- a task that fits is in force
 pub record IsInForce (s : Trail) (us : List Atom) (body : Body) : Type 0 where

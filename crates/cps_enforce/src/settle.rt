@@ -7,7 +7,7 @@ ghost use Rattle.cps_trail.specs.Adds.{Infers, Answers};
 ghost use Rattle.cps_trail.specs.Notes.{ByTask};
 ghost use Rattle.cps_enforce.specs.Force.{IsOpenAt};
 ghost use Rattle.cps_enforce.specs.Reasons.{task_of};
-ghost use Rattle.cps_enforce.specs.Settling.{IsInForce, IsAside, IsResting, IsSettled};
+ghost use Rattle.cps_enforce.specs.Settling.{IsInForce, IsAside, IsResting, IsBodySettled};
 
 use crate::force::{Force, force_of};
 use crate::narrow::{Header, Room, pass};
@@ -88,7 +88,7 @@ pub(crate) fn run<R: Rule>(
     ensures keeps { R.body rule.new ≡ R.body rule.old }
     ensures infers { OnOk result (Infers (ByTask header.now.number (HoldsTask (task_of header.now.enforcement.now (R.body rule.old)))) store.old store.new) }
     ensures answers { IfOk result (Answers (HoldsTask (task_of header.now.enforcement.now (R.body rule.old))) store.new) }
-    ensures settled { result ≡ Ok Step.Settled → IsSettled store.new header.now.enforcement.now (R.body rule.old) }
+    ensures settled { result ≡ Ok Step.Settled → IsBodySettled store.new header.now.enforcement.now (R.body rule.old) }
 {
     match force_of(&store.present(), header.enforcement) {
         Force::Idle => Ok(Step::Settled),

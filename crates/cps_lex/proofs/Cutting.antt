@@ -4,7 +4,7 @@ use Rattle.std.specs.Prelude.{All}
 use Rattle.cps_lex.specs.declared.types.TokenKind.{TokenKind}
 use Rattle.cps_lex.specs.declared.types.Token.{Token}
 use Rattle.cps_lex.proofs.Standing.{none_on_nothing}
-use Rattle.cps_lex.specs.Tokens.{Stands, IsLongest, NoneStands, IsTokenAt, Leads, AreTokens, HasNoTokenAt, IsWithin, past_blank}
+use Rattle.cps_lex.specs.Tokens.{Stands, IsLongest, NoneStands, IsTokenAt, Leads, AreTokens, HasNoTokenAt, IsSpanWithin, past_blank}
 
 -- a token more at the end
 pub leads_more : (bytes : List ℕ) (from to : ℕ) (ts : List Token) (t : Token) → Leads bytes from ts to → IsTokenAt bytes to t → Leads bytes from (ts ++ t ∷ []) (past_blank bytes t.end)
@@ -76,7 +76,7 @@ leads_few bytes from to (t ∷ ts) (here, rest) =
     omega (arith, here.start, some, leads_few bytes t.end to ts rest)
 
 -- each token stands on bytes of its kind
-token_within : (bytes : List ℕ) (at : ℕ) (t : Token) → IsTokenAt bytes at t → IsWithin bytes t
+token_within : (bytes : List ℕ) (at : ℕ) (t : Token) → IsTokenAt bytes at t → IsSpanWithin bytes t
 token_within bytes at t here =
     let some = stands_on_some _ _ _ here.longest.stands in
     record {
@@ -85,7 +85,7 @@ token_within bytes at t here =
       form = here.longest.stands.form;
     }
 
-pub leads_within : (bytes : List ℕ) (from to : ℕ) (ts : List Token) → Leads bytes from ts to → All (IsWithin bytes) ts
+pub leads_within : (bytes : List ℕ) (from to : ℕ) (ts : List Token) → Leads bytes from ts to → All (IsSpanWithin bytes) ts
 leads_within bytes from to [] leads k d lt = absurd (omega (arith, lt))
 leads_within bytes from to (t ∷ ts) (here, rest) zero d lt = token_within bytes _ t here
 leads_within bytes from to (t ∷ ts) (here, rest) (suc k) d lt = leads_within bytes t.end to ts rest k d (omega (arith, lt))

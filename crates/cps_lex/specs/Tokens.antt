@@ -58,7 +58,7 @@ HasNoTokenAt bytes at =
     (ts : List Token) × Leads bytes 0 ts at × (at < length bytes) × NoneStands (drop at bytes)
 
 -- a token stands on one or more of the bytes, which are of its kind
-pub record IsWithin (bytes : List ℕ) (t : Token) : Type 0 where
+pub record IsSpanWithin (bytes : List ℕ) (t : Token) : Type 0 where
   pub some : t.start < t.end
   pub within : t.end ≤ length bytes
   pub form : kind_of (text_of bytes t) ≡ Some t.kind

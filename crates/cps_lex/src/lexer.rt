@@ -1,7 +1,7 @@
 //! The tokens of a whole input.
 ghost use Rattle.std.specs.Prelude.{◌≡◌, ◌<◌, ◌≤◌, ◌^◌, length, IfOk, IfErr, List, All};
 ghost use Rattle.cps_lex.specs.declared.types.Token.{Token};
-ghost use Rattle.cps_lex.specs.Tokens.{AreTokens, IsWithin, IsRefusal, Gives};
+ghost use Rattle.cps_lex.specs.Tokens.{AreTokens, IsSpanWithin, IsRefusal, Gives};
 
 use super::scan::{blank_length, token_at};
 use super::types::{LexError, Token};
@@ -18,7 +18,7 @@ pub fn tokens(alloc: Global, bytes: &[u8]) -> Result<Vec<Token>, LexError>
 
     // What a caller needs to look at the tokens.
     ensures count { IfOk result (λ v. length v.items ≤ length bytes.now) }
-    ensures spans { IfOk result (λ v. All (IsWithin bytes.now) v.items) }
+    ensures spans { IfOk result (λ v. All (IsSpanWithin bytes.now) v.items) }
 {
     let mut tokens = Vec::new(alloc);
     let mut at = blank_length(bytes);

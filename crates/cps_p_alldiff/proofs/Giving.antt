@@ -15,7 +15,7 @@ use Rattle.cps_rule.specs.Rules.{IsFittingRule, IsGiven, IsImpossible, IsAtRest,
 use Rattle.cps_p_alldiff.specs.declared.interval.Interval.{Interval}
 use Rattle.cps_p_alldiff.specs.Intervals.{lies_in, covers, AreEnds, IsFull, IsOverfull, IsRoomy, IsBounded, AreBounded, AreHulls}
 use Rattle.cps_rule.specs.declared.rule.Narrowing.{Narrowing}
-use Rattle.cps_p_alldiff.specs.Bars.{IsBar, AreGiven}
+use Rattle.cps_p_alldiff.specs.Bars.{IsBar, AreGivenBars}
 use Rattle.cps_p_alldiff.proofs.Counting.{bool_cases, lies, covers_low, covers_high, pigeonhole, counted, counted_more}
 use Rattle.cps_p_alldiff.proofs.Certifying.{zip_length, zip_at}
 use Rattle.cps_p_alldiff.proofs.Ends.{hulls_ends, hulls_bound, HasRoom-hulls, rests}
@@ -82,8 +82,8 @@ module _ (s : Trail) (is : List ℕ) (es es' : List Interval) (hulls : AreHulls 
   room_read roomy = HasRoom-hulls s is es hulls (subst (λ (gs : List Interval). IsRoomy gs) same roomy)
 
 -- one more atom that is given
-pub given_more : (s : Trail) (is : List ℕ) (found found' : List Narrowing) (n : Narrowing) → found' ≡ found ++ n ∷ [] → AreGiven s is found → IsGiven (AllDiff is) s n.target → AreGiven s is found'
-given_more s is found found' n pushed given one = subst (λ (ns : List Narrowing). AreGiven s is ns) (sym pushed) (All-push (λ n. IsGiven (AllDiff is) s n.target) found n given one)
+pub given_more : (s : Trail) (is : List ℕ) (found found' : List Narrowing) (n : Narrowing) → found' ≡ found ++ n ∷ [] → AreGivenBars s is found → IsGiven (AllDiff is) s n.target → AreGivenBars s is found'
+given_more s is found found' n pushed given one = subst (λ (ns : List Narrowing). AreGivenBars s is ns) (sym pushed) (All-push (λ n. IsGiven (AllDiff is) s n.target) found n given one)
 
 -- the same of a body, which is seen through its subjects
 module _ (b : Body) (is is' : List ℕ) (view : AllDiff is ≡ b) (e : is' ≡ is) where
@@ -99,7 +99,7 @@ module _ (b : Body) (is is' : List ℕ) (view : AllDiff is ≡ b) (e : is' ≡ i
   pub seen_rest : (s : Trail) → HasRoom s is' → IsAtRest b s
   seen_rest s room = subst (λ (x : Body). IsAtRest x s) is_body (rests s is' room)
 
-  pub seen_given : (s : Trail) (found : List Narrowing) → AreGiven s is' found → All (λ n. IsGiven b s n.target) found
+  pub seen_given : (s : Trail) (found : List Narrowing) → AreGivenBars s is' found → All (λ n. IsGiven b s n.target) found
   seen_given s found h = subst (λ (x : Body). All (λ (n : Narrowing). IsGiven x s n.target) found) is_body h
 
   pub seen_explained : (s : Trail) (t : Atom) (facts : List Atom) → IsExplained (AllDiff is') s t facts → IsExplained b s t facts

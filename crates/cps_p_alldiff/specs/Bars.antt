@@ -16,8 +16,8 @@ pub record IsBar (i : ℕ) (e h : Interval) (t : Atom) : Type 0 where
   pub bars : (x : ℤ) → e.low ≤ℤ x → x ≤ℤ e.high → meets t.op t.value x ≡ false → lies_in h x ≡ true
 
 -- each of these atoms is given by the all-different of subjects
-abbrev pub AreGiven : Trail → List ℕ → List Narrowing → Type 0
-AreGiven s is found = All (λ n. IsGiven (AllDiff is) s n.target) found
+abbrev pub AreGivenBars : Trail → List ℕ → List Narrowing → Type 0
+AreGivenBars s is found = All (λ n. IsGiven (AllDiff is) s n.target) found
 
 -- whether a body asks that subjects have different values
 abbrev pub is_all_diff : Body → Bool

@@ -1,7 +1,7 @@
 //! What full intervals give of the other positions.
 ghost use Rattle.std.specs.Prelude.{◌<◌, length, All, OnOk, IfSome};
 ghost use Rattle.cps_p_alldiff.specs.Intervals.{IsInRange, IsFull, AreBounded};
-ghost use Rattle.cps_p_alldiff.specs.Bars.{IsBar, AreGiven};
+ghost use Rattle.cps_p_alldiff.specs.Bars.{IsBar, AreGivenBars};
 
 use crate::interval::{Interval, covers, is_full};
 use crate::settled::Settled;
@@ -52,8 +52,8 @@ fn keep_out(
     requires subjects { All (λ i. i < length store.now.first) subjects.now }
     requires bounded { AreBounded store.now subjects.now ends.now }
     requires full { IsFull ends.now hall.now }
-    requires given { AreGiven store.now subjects.now found.old.items }
-    ensures { OnOk result (AreGiven store.now subjects.now found.new.items) }
+    requires given { AreGivenBars store.now subjects.now found.old.items }
+    ensures { OnOk result (AreGivenBars store.now subjects.now found.new.items) }
 {
     let hint = Hint {
         a: hall.low,
@@ -80,8 +80,8 @@ pub(crate) fn clear_all(
 ) -> Result<(), AllocError>
     requires subjects { All (λ i. i < length store.now.first) subjects.now }
     requires bounded { AreBounded store.now subjects.now ends.now }
-    requires given { AreGiven store.now subjects.now found.old.items }
-    ensures { OnOk result (AreGiven store.now subjects.now found.new.items) }
+    requires given { AreGivenBars store.now subjects.now found.old.items }
+    ensures { OnOk result (AreGivenBars store.now subjects.now found.new.items) }
 {
     for hall in halls {
         if is_full(hall, ends) {
@@ -101,8 +101,8 @@ pub(crate) fn clear_fixed(
 ) -> Result<(), AllocError>
     requires subjects { All (λ i. i < length store.now.first) subjects.now }
     requires bounded { AreBounded store.now subjects.now ends.now }
-    requires given { AreGiven store.now subjects.now found.old.items }
-    ensures { OnOk result (AreGiven store.now subjects.now found.new.items) }
+    requires given { AreGivenBars store.now subjects.now found.old.items }
+    ensures { OnOk result (AreGivenBars store.now subjects.now found.new.items) }
 {
     for (place, each) in ends.iter().enumerate() {
         if each.low == each.high && !settled.has(place) && is_full(each, ends) {

@@ -23,7 +23,7 @@ use Rattle.cps_p_arith.specs.declared.bounds.Demand.{Demand}
 use Rattle.cps_p_arith.specs.declared.relation.Relation.{Relation}
 use Rattle.cps_p_arith.specs.declared.relation.Relation.TheVariants.{Quotient, Remainder, Product, Greatest}
 use Rattle.cps_p_arith.specs.Ranges.{IsIn, IsAt}
-use Rattle.cps_p_arith.specs.Demands.{Relates, body_by, body_of, IsHullNow, IsHeldIn, AreHeldEach, AreKnown, AreMeasured, AreHeld, AreFixedAt, IsMissed, IsComputedBy, IsPlace, IsImplied, AreImplied, Needs, NeedsWithin, Supports, SupportsEach, Refutes, AreSoundFor, Adds}
+use Rattle.cps_p_arith.specs.Demands.{Relates, body_by, body_of, IsHullNow, IsHeldIn, AreHeldEach, AreKnown, AreMeasured, AreHeld, AreFixedAt, IsMissed, IsComputedBy, IsPlace, IsImplied, AreImplied, Needs, NeedsWithin, Supports, SupportsEach, RefutesDemand, AreSoundFor, Adds}
 use Rattle.cps_p_arith.proofs.Zips.{zip_at, zip_both}
 
 met_by : (k : Relation) (t : ℕ) (es : List ℕ) (xs : List ℤ) → Relates k (value_at xs t) (values_at xs es) → HoldsBody (body_by k t es) xs
@@ -220,14 +220,14 @@ supports_both s p i e low high old middle new el eh a b = record {
 }
 
 pub refutes : (s : Trail) (p : Option Atom) (d : Demand) (b : Bounds) (old middle new : List Atom) → IsMissed b d → Supports s p d.target b.target old middle
-    → SupportsEach s p d.exprs.items b.members.items middle new → Refutes s d p new
+    → SupportsEach s p d.exprs.items b.members.items middle new → RefutesDemand s d p new
 refutes s p d b old middle new h t m = record {
   true_now = m.facts;
   excludes = λ xs w true_at o met. h.at xs (record { target = t.holds xs w (m.keeps xs true_at) o; members = m.holds xs w true_at o }) met;
 }
 
 -- an atom follows where its opposite is refuted
-pub explained : (s : Trail) (d : Demand) (u v : Atom) (fs : List Atom) → v.subject ≡ u.subject → ((x : ℤ) → meets v.op v.value x ≡ not (meets u.op u.value x)) → Refutes s d (Some v) fs → IsExplained (body_of d) s u fs
+pub explained : (s : Trail) (d : Demand) (u v : Atom) (fs : List Atom) → v.subject ≡ u.subject → ((x : ℤ) → meets v.op v.value x ≡ not (meets u.op u.value x)) → RefutesDemand s d (Some v) fs → IsExplained (body_of d) s u fs
 explained s d u v fs same opposite r = record {
   facts = r.true_now;
   gives = λ xs w t holds. elim (either (atom_holds xs u)) [
@@ -236,7 +236,7 @@ explained s d u v fs same opposite r = record {
   ];
 }
 
-pub refuted : (s : Trail) (d : Demand) (fs : List Atom) → Refutes s d None fs → IsRefuted (body_of d) s fs
+pub refuted : (s : Trail) (d : Demand) (fs : List Atom) → RefutesDemand s d None fs → IsRefuted (body_of d) s fs
 refuted s d fs r = record {
   facts = r.true_now;
   excludes = λ xs w t holds. r.excludes xs w t tt (holds_by d.relation d.target d.exprs.items xs holds);

@@ -138,7 +138,7 @@ pub record SupportsEach (s : Trail) (supposed : Option Atom) (is : List ℕ) (es
   pub holds : (xs : List ℤ) → IsWithin s.first xs → AllTrueAt xs new → IsSupposed supposed xs → AreHeldEach xs is es
 
 -- facts beside which, and beside what is supposed, the demand is not met
-pub record Refutes (s : Trail) (d : Demand) (supposed : Option Atom) (facts : List Atom) : Type 0 where
+pub record RefutesDemand (s : Trail) (d : Demand) (supposed : Option Atom) (facts : List Atom) : Type 0 where
   pub true_now : AreFacts s facts
   pub excludes : (xs : List ℤ) → IsWithin s.first xs → AllTrueAt xs facts → IsSupposed supposed xs → IsMet d xs → ⊥
 

@@ -7,7 +7,7 @@ ghost use Rattle.std.specs.Prelude.{◌≡◌, ◌<◌, ℤ, List, length, All, 
 ghost use Rattle.cps_literal.specs.Truth.{atom_holds};
 ghost use Rattle.cps_instance.specs.Terms.{AreIntervals, domain_at};
 ghost use Rattle.cps_rule.specs.Rules.{AreFacts};
-ghost use Rattle.cps_p_arith.specs.Demands.{IsSupposed, Needs, NeedsWithin, Supports, SupportsEach, Refutes, AreKnown, AreSoundFor};
+ghost use Rattle.cps_p_arith.specs.Demands.{IsSupposed, Needs, NeedsWithin, Supports, SupportsEach, RefutesDemand, AreKnown, AreSoundFor};
 
 use crate::bounds::{Bounds, Demand};
 use crate::ends::Ends;
@@ -154,7 +154,7 @@ pub(crate) fn justify(
 ) -> Result<bool, AllocError>
     requires known { AreKnown past.now.first demand.now }
     requires sound { AreSoundFor past.now.first demand.now }
-    ensures { result ≡ Ok true → Refutes past.now demand.now supposed facts.new.items }
+    ensures { result ≡ Ok true → RefutesDemand past.now demand.now supposed facts.new.items }
 {
     facts.clear();
     if bounds.members.len() != demand.exprs.len() || !bounds.exclude(demand) {

@@ -17,7 +17,7 @@ use Rattle.cps_p_bool.specs.Bodies.{body_of}
 use Rattle.cps_p_bool.specs.Seeking.{IsInForce}
 use Rattle.cps_p_bool.specs.Denying.{IsReasonFor, Gives, Excludes, AreLiterals, task_of}
 use Rattle.cps_p_bool.specs.Explaining.{IsExplanation, IsRuledOut, AsksForOne}
-use Rattle.cps_p_bool.specs.Normal.{IsNormal}
+use Rattle.cps_p_bool.specs.Normal.{IsNormalForm}
 use Rattle.cps_p_bool.proofs.Composing.{within_bits}
 use Rattle.cps_p_bool.proofs.Counting.{any_of_count}
 use Rattle.cps_p_bool.proofs.Denials.{IsOpposite}
@@ -46,7 +46,7 @@ pub IsReason-explained : (s : Trail) (k : ℕ) (t : Task) (u : Atom) (clause : L
 IsReason-explained s k t u clause is h = record { explains = λ d. subst (λ (v : Atom). Explains s.first (take k s.entries) clause v) (sym (is d)) h.explained; follows = h.follows }
 
 -- what holds of the parts of a normal form holds of the body
-module _ (s : Trail) (e us : List Atom) (b : Body) (sure : List Atom) (rest : Body) (live : List Atom) (fits : AreLiterals s.first us) (n : IsNormal us b sure rest live) where
+module _ (s : Trail) (e us : List Atom) (b : Body) (sure : List Atom) (rest : Body) (live : List Atom) (fits : AreLiterals s.first us) (n : IsNormalForm us b sure rest live) where
   pub IsExplanation-sure : (t : Atom) (clause : List Atom) → IsExplanation s (task_of e (BoolAnd sure)) t clause → IsExplanation s (task_of e b) t clause
   IsExplanation-sure t clause h = record { explained = h.explained; follows = record { at = λ xs within on. h.follows.at xs within (gives_sure s e us b sure rest live n fits xs within on) } }
 

@@ -13,7 +13,7 @@ ghost use Rattle.cps_p_bool.specs.Seeking.{IsInForce};
 ghost use Rattle.cps_p_bool.specs.Denying.{AreLiterals, Gives, task_of};
 ghost use Rattle.cps_p_bool.specs.Explaining.{IsExplanation, IsRuledOut, AsksForOne};
 ghost use Rattle.cps_p_bool.specs.Rules.{LimitsToOne};
-ghost use Rattle.cps_p_bool.specs.Normal.{IsNormal};
+ghost use Rattle.cps_p_bool.specs.Normal.{IsNormalForm};
 ghost use Rattle.cps_p_bool.specs.Bodies.{body_of};
 
 use crate::boolean::Kind;
@@ -391,7 +391,7 @@ fn deny_body(
     requires fits { AreLiterals past.now.first form.now.enforcement.now }
     requires sure_fits { AreLiterals past.now.first form.now.sure.now }
     requires live_fits { AreLiterals past.now.first form.now.live.now }
-    ensures { result ≡ Ok true → (us : List AtomOf) (b : Body) → AreLiterals past.now.first us → IsNormal us b form.now.sure.now (body_of form.now.rest form.now.live.now) form.now.live.now → IsRuledOut past.now form.now.enforcement.now b reason.new.items }
+    ensures { result ≡ Ok true → (us : List AtomOf) (b : Body) → AreLiterals past.now.first us → IsNormalForm us b form.now.sure.now (body_of form.now.rest form.now.live.now) form.now.live.now → IsRuledOut past.now form.now.enforcement.now b reason.new.items }
 {
     if deny_failed(past, form.enforcement, form.sure, noted.place, reason)? {
         return Ok(true);
@@ -412,7 +412,7 @@ fn explain_off(
     requires live_fits { AreLiterals past.now.first form.now.live.now }
     requires in_force { IsInForce past.now form.now.enforcement.now last }
     requires last { last < length form.now.enforcement.now }
-    ensures { result ≡ Ok true → (us : List AtomOf) (b : Body) → AreLiterals past.now.first us → IsNormal us b form.now.sure.now (body_of form.now.rest form.now.live.now) form.now.live.now → IsExplanation past.now (task_of form.now.enforcement.now b) noted.atom reason.new.items }
+    ensures { result ≡ Ok true → (us : List AtomOf) (b : Body) → AreLiterals past.now.first us → IsNormalForm us b form.now.sure.now (body_of form.now.rest form.now.live.now) form.now.live.now → IsExplanation past.now (task_of form.now.enforcement.now b) noted.atom reason.new.items }
 {
     let opposite = form.enforcement[last].negate();
     if opposite == noted.atom {
@@ -435,7 +435,7 @@ fn explain_on(
     requires sure_fits { AreLiterals past.now.first form.now.sure.now }
     requires live_fits { AreLiterals past.now.first form.now.live.now }
     requires enforced { All (IsTrueNow past.now) form.now.enforcement.now }
-    ensures { result ≡ Ok true → (us : List AtomOf) (b : Body) → AreLiterals past.now.first us → IsNormal us b form.now.sure.now (body_of form.now.rest form.now.live.now) form.now.live.now → IsExplanation past.now (task_of form.now.enforcement.now b) noted.atom reason.new.items }
+    ensures { result ≡ Ok true → (us : List AtomOf) (b : Body) → AreLiterals past.now.first us → IsNormalForm us b form.now.sure.now (body_of form.now.rest form.now.live.now) form.now.live.now → IsExplanation past.now (task_of form.now.enforcement.now b) noted.atom reason.new.items }
 {
     if explain_each(past, form.enforcement, form.sure, noted, reason)? {
         return Ok(true);
@@ -453,7 +453,7 @@ fn explain_noted(
     requires fits { AreLiterals past.now.first form.now.enforcement.now }
     requires sure_fits { AreLiterals past.now.first form.now.sure.now }
     requires live_fits { AreLiterals past.now.first form.now.live.now }
-    ensures { result ≡ Ok true → (us : List AtomOf) (b : Body) → AreLiterals past.now.first us → IsNormal us b form.now.sure.now (body_of form.now.rest form.now.live.now) form.now.live.now → IsExplanation past.now (task_of form.now.enforcement.now b) noted.atom reason.new.items }
+    ensures { result ≡ Ok true → (us : List AtomOf) (b : Body) → AreLiterals past.now.first us → IsNormalForm us b form.now.sure.now (body_of form.now.rest form.now.live.now) form.now.live.now → IsExplanation past.now (task_of form.now.enforcement.now b) noted.atom reason.new.items }
 {
     let Some(last) = in_force(past, form.enforcement) else {
         return Ok(false);
@@ -475,7 +475,7 @@ pub fn explain_entry(
     requires fits { AreLiterals store.now.first form.now.enforcement.now }
     requires sure_fits { AreLiterals store.now.first form.now.sure.now }
     requires live_fits { AreLiterals store.now.first form.now.live.now }
-    ensures { result ≡ Ok true → (us : List AtomOf) (b : Body) → AreLiterals store.now.first us → IsNormal us b form.now.sure.now (body_of form.now.rest form.now.live.now) form.now.live.now → IsReason (HoldsTask (task_of form.now.enforcement.now b)) store.now entry reason.new.items }
+    ensures { result ≡ Ok true → (us : List AtomOf) (b : Body) → AreLiterals store.now.first us → IsNormalForm us b form.now.sure.now (body_of form.now.rest form.now.live.now) form.now.live.now → IsReason (HoldsTask (task_of form.now.enforcement.now b)) store.now entry reason.new.items }
 {
     let shown = store.entries()[entry];
     let (place, other) = shown.reason.witness();

@@ -18,7 +18,7 @@ use Rattle.cps_rule.specs.Rules.{IsFact, IsGiven, IsImpossible, IsAtRest}
 use Rattle.cps_p_nooverlap.specs.declared.interval.Places.{Places}
 use Rattle.cps_p_nooverlap.specs.declared.interval.Hulls.{Hulls}
 use Rattle.cps_p_nooverlap.specs.Citing.{Cites, GivesMore}
-use Rattle.cps_p_nooverlap.specs.Hulls.{Offers}
+use Rattle.cps_p_nooverlap.specs.Hulls.{OffersAtom}
 use Rattle.cps_p_nooverlap.specs.Intervals.{body_of, ArePlaces, AreInterval, IsMeasured, IsPossible}
 
 pub Cites-push : (s : Trail) (old : List Atom) (u : Atom) → u.subject < length s.first → IsInside u.value → IsTrueNow s u → Cites s old (old ++ u ∷ []) (λ xs. atom_holds xs u ≡ true)
@@ -28,7 +28,7 @@ Cites-push s old u l i t = record {
   gives = λ xs h. All-head (λ v. atom_holds xs v ≡ true) u [] (All-append_right (λ v. atom_holds xs v ≡ true) old (u ∷ []) h);
 }
 
-pub gives_offered : (body : Body) (s : Trail) (t : Atom) (old new : List Narrowing) → IsGiven body s t → Offers t old new → GivesMore body s old new
+pub gives_offered : (body : Body) (s : Trail) (t : Atom) (old new : List Narrowing) → IsGiven body s t → OffersAtom t old new → GivesMore body s old new
 gives_offered body s t old new g (inl e) h = subst (λ (ns : List Narrowing). All (λ n. IsGiven body s n.target) ns) (sym e) h
 gives_offered body s t old new g (inr (hint, e)) h =
     subst (λ (ns : List Narrowing). All (λ n. IsGiven body s n.target) ns) (sym e) (All-push (λ (n : Narrowing). IsGiven body s n.target) old (record { target = t; hint = hint }) h g)

@@ -17,8 +17,8 @@ pub record IsHullNow (s : Trail) (i : ℕ) (h : Hull) : Type 0 where
   pub high_inside : IsInside h.high
 
 -- a list of narrowings gained one of this target, or stayed
-abbrev pub Offers : Atom → List Narrowing → List Narrowing → Type 0
-Offers target old new = (new ≡ old) ⊎ ((hint : Hint) × (new ≡ old ++ record { target = target; hint = hint } ∷ []))
+abbrev pub OffersAtom : Atom → List Narrowing → List Narrowing → Type 0
+OffersAtom target old new = (new ≡ old) ⊎ ((hint : Hint) × (new ≡ old ++ record { target = target; hint = hint } ∷ []))
 
 -- the same, where there is a target
 abbrev pub Proposes : Option Atom → List Narrowing → List Narrowing → Type 0

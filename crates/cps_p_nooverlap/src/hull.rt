@@ -1,6 +1,6 @@
 //! The ends of what a store leaves to a subject.
 ghost use Rattle.std.specs.Prelude.{◌≡◌, ◌<◌, ◌∷◌, ◌++◌, ◌⊎◌, [], length, OnOk};
-ghost use Rattle.cps_p_nooverlap.specs.Hulls.{IsHullNow, Offers};
+ghost use Rattle.cps_p_nooverlap.specs.Hulls.{IsHullNow, OffersAtom};
 
 use crate::facts::is_inside;
 use cps_literal::{Atom, Op};
@@ -34,7 +34,7 @@ pub(crate) fn offer(
     hint: Hint,
     found: &mut Vec<Narrowing>,
 ) -> Result<(), AllocError>
-    ensures { OnOk result (Offers target found.old.items found.new.items) }
+    ensures { OnOk result (OffersAtom target found.old.items found.new.items) }
 {
     let is_true = match target.op {
         Op::Le => hull.high <= target.value,

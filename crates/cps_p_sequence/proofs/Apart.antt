@@ -20,7 +20,7 @@ use Rattle.cps_rule.specs.declared.rule.Look.{Look}
 use Rattle.cps_rule.specs.declared.rule.Look.TheVariants.{Possible, Impossible}
 use Rattle.cps_rule.specs.declared.rule.Narrowing.{Narrowing}
 use Rattle.cps_rule.specs.Rules.{IsFittingRule, IsGiven, IsImpossible, IsSeen, IsExplained, IsRefuted}
-use Rattle.cps_p_sequence.specs.Inverses.{AreGiven, AreTrue}
+use Rattle.cps_p_sequence.specs.Inverses.{AreGivenPlaces, AreTrue}
 use Rattle.cps_p_sequence.specs.Sides.{AreSides, Implies, IsDenied, HasRoomOnEachSide}
 
 places : (v : ℤ) (n : ℕ) → pos 0 ≤ℤ v → v <ℤ pos n → (k : ℕ) × (k < n) × (v ≡ pos k)
@@ -61,7 +61,7 @@ module _ (ds js : List ℕ) (same : length ds ≡ length js) where
 
 -- what one body gives, a body gives that implies it
 module _ (b p : Body) (implies : Implies b p) (s : Trail) where
-  pub implied_given : (found : List Narrowing) → AreGiven p s found → AreGiven b s found
+  pub implied_given : (found : List Narrowing) → AreGivenPlaces p s found → AreGivenPlaces b s found
   implied_given found gs k d l = let g : IsGiven p s (get_or found k d).target = gs k d l in record { subject = g.subject; at = λ xs admitted h. g.at xs admitted (implies.at xs h) }
 
   pub implied_impossible : IsImpossible p s → IsImpossible b s
@@ -79,8 +79,8 @@ module _ (b p : Body) (implies : Implies b p) (s : Trail) where
 
 -- lists of atoms one after the other
 module _ (s : Trail) (found more all : List Narrowing) (e : all ≡ found ++ more) where
-  pub both_given : (b : Body) → AreGiven b s found → AreGiven b s more → AreGiven b s all
-  both_given b gs hs = subst (λ (ns : List Narrowing). AreGiven b s ns) (sym e) (All-append (λ n. IsGiven b s n.target) found more gs hs)
+  pub both_given : (b : Body) → AreGivenPlaces b s found → AreGivenPlaces b s more → AreGivenPlaces b s all
+  both_given b gs hs = subst (λ (ns : List Narrowing). AreGivenPlaces b s ns) (sym e) (All-append (λ n. IsGiven b s n.target) found more gs hs)
 
   pub first_true : AreTrue s all → AreTrue s found
   first_true h = All-append_left (λ n. IsTrueNow s n.target) found more (subst (λ (ns : List Narrowing). AreTrue s ns) e h)

@@ -17,7 +17,7 @@ use Rattle.cps_trail.specs.Trail.{Trail, IsTrueNow, IsInside}
 use Rattle.cps_propagate.specs.Now.{IsOpenTo}
 use Rattle.cps_rule.specs.declared.rule.Narrowing.{Narrowing}
 use Rattle.cps_rule.specs.Rules.{IsFact, IsGiven, IsExplained}
-use Rattle.cps_p_sequence.specs.Inverses.{AreGiven, AreTrue, HasPlace, IsMatched, ArePaired, AllPaired, IsWithinPlaces, AreMirroredAt}
+use Rattle.cps_p_sequence.specs.Inverses.{AreGivenPlaces, AreTrue, HasPlace, IsMatched, ArePaired, AllPaired, IsWithinPlaces, AreMirroredAt}
 
 bool_cases : (b : Bool) → (b ≡ true) ⊎ (b ≡ false)
 bool_cases true = inl refl
@@ -34,8 +34,8 @@ is_equal a b e = both (int_le a b) (int_le b a) (le_true a b (omega (arith, ints
 
 -- one more atom
 module _ (s : Trail) (old new : List Narrowing) (n : Narrowing) (t : Atom) (pushed : new ≡ old ++ n ∷ []) (is-t : n.target ≡ t) where
-  pub more_given : (b : Body) → IsGiven b s t → AreGiven b s old → AreGiven b s new
-  more_given b g gs = subst (λ (ns : List Narrowing). AreGiven b s ns) (sym pushed) (All-push (λ m. IsGiven b s m.target) old n gs (subst (λ (u : Atom). IsGiven b s u) (sym is-t) g))
+  pub more_given : (b : Body) → IsGiven b s t → AreGivenPlaces b s old → AreGivenPlaces b s new
+  more_given b g gs = subst (λ (ns : List Narrowing). AreGivenPlaces b s ns) (sym pushed) (All-push (λ m. IsGiven b s m.target) old n gs (subst (λ (u : Atom). IsGiven b s u) (sym is-t) g))
 
   pub more_kept : AreTrue s new → AreTrue s old
   more_kept all = All-append_left (λ m. IsTrueNow s m.target) old (n ∷ []) (subst (λ (ns : List Narrowing). AreTrue s ns) pushed all)
@@ -104,17 +104,17 @@ place_explained b s t count facts none wide place = record {
 
 -- so far, at a loop's start and after
 pub record KeptWithin (s : Trail) (is : List ℕ) (count : ℤ) (n : ℕ) (old new : List Narrowing) : Type 0 where
-  pub given : (b : Body) → All (λ i. HasPlace b i count) is → AreGiven b s old → AreGiven b s new
+  pub given : (b : Body) → All (λ i. HasPlace b i count) is → AreGivenPlaces b s old → AreGivenPlaces b s new
   pub kept : AreTrue s new → AreTrue s old
   pub within : AreTrue s new → (k d : ℕ) → k < n → k < length is → IsWithinPlaces s (get_or is k d) count
 
 pub record KeptApart (s : Trail) (i : ℕ) (m : ℤ) (others : List ℕ) (n : ℕ) (old new : List Narrowing) : Type 0 where
-  pub given : (b : Body) → ArePaired b i m others → AreGiven b s old → AreGiven b s new
+  pub given : (b : Body) → ArePaired b i m others → AreGivenPlaces b s old → AreGivenPlaces b s new
   pub kept : AreTrue s new → AreTrue s old
   pub mirrored : AreTrue s new → (k : ℕ) → k < n → (IsOpenTo s i (pos k) → IsOpenTo s (get_or others k 0) m) × (IsOpenTo s (get_or others k 0) m → IsOpenTo s i (pos k))
 
 pub record Mirrors (s : Trail) (direct inverse : List ℕ) (n : ℕ) (old new : List Narrowing) : Type 0 where
-  pub given : (b : Body) → AllPaired b direct inverse → AreGiven b s old → AreGiven b s new
+  pub given : (b : Body) → AllPaired b direct inverse → AreGivenPlaces b s old → AreGivenPlaces b s new
   pub kept : AreTrue s new → AreTrue s old
   pub mirrored : AreTrue s new → (k : ℕ) → k < n → AreMirroredAt s (get_or direct k 0) (pos k) inverse
 
@@ -123,8 +123,8 @@ last_or k n l = grind arith
 
 -- one more step of each loop
 pub within_more : (s : Trail) (is : List ℕ) (count : ℤ) (n : ℕ) (old mid next new : List Narrowing) (i : ℕ) → n < length is → i ≡ get_or is n 0
-    → ((b : Body) → (c : ℤ) → HasPlace b i c → AreGiven b s mid → AreGiven b s next) → (AreTrue s next → AreTrue s mid) → (AreTrue s next → (x : ℤ) → IsOpenTo s i x → pos 0 ≤ℤ x)
-    → ((b : Body) → HasPlace b i count → AreGiven b s next → AreGiven b s new) → (AreTrue s new → AreTrue s next) → (AreTrue s new → (x : ℤ) → IsOpenTo s i x → x <ℤ count)
+    → ((b : Body) → (c : ℤ) → HasPlace b i c → AreGivenPlaces b s mid → AreGivenPlaces b s next) → (AreTrue s next → AreTrue s mid) → (AreTrue s next → (x : ℤ) → IsOpenTo s i x → pos 0 ≤ℤ x)
+    → ((b : Body) → HasPlace b i count → AreGivenPlaces b s next → AreGivenPlaces b s new) → (AreTrue s new → AreTrue s next) → (AreTrue s new → (x : ℤ) → IsOpenTo s i x → x <ℤ count)
     → KeptWithin s is count n old mid → KeptWithin s is count (n + 1) old new
 within_more s is count n old mid next new i l is-i given1 kept1 least given2 kept2 below p = record {
   given = λ b places gs.
@@ -140,8 +140,8 @@ within_more s is count n old mid next new i l is-i given1 kept1 least given2 kep
 }
 
 pub apart_more : (s : Trail) (i : ℕ) (m : ℤ) (others : List ℕ) (n : ℕ) (old mid next new : List Narrowing) (j : ℕ) (v : ℤ) → n < length others → j ≡ get_or others n 0 → v ≡ pos n
-    → ((b : Body) → IsMatched b i m j v → AreGiven b s mid → AreGiven b s next) → (AreTrue s next → AreTrue s mid) → (AreTrue s next → IsOpenTo s i v → IsOpenTo s j m)
-    → ((b : Body) → IsMatched b j v i m → AreGiven b s next → AreGiven b s new) → (AreTrue s new → AreTrue s next) → (AreTrue s new → IsOpenTo s j m → IsOpenTo s i v)
+    → ((b : Body) → IsMatched b i m j v → AreGivenPlaces b s mid → AreGivenPlaces b s next) → (AreTrue s next → AreTrue s mid) → (AreTrue s next → IsOpenTo s i v → IsOpenTo s j m)
+    → ((b : Body) → IsMatched b j v i m → AreGivenPlaces b s next → AreGivenPlaces b s new) → (AreTrue s new → AreTrue s next) → (AreTrue s new → IsOpenTo s j m → IsOpenTo s i v)
     → KeptApart s i m others n old mid → KeptApart s i m others (n + 1) old new
 apart_more s i m others n old mid next new j v l is-j is-v given1 kept1 forth given2 kept2 back p = record {
   given = λ b paired gs.
@@ -160,7 +160,7 @@ apart_more s i m others n old mid next new j v l is-j is-v given1 kept1 forth gi
 }
 
 pub mirrors_more : (s : Trail) (direct inverse : List ℕ) (n : ℕ) (old mid new : List Narrowing) (i : ℕ) (v : ℤ) → n < length direct → i ≡ get_or direct n 0 → v ≡ pos n
-    → ((b : Body) → ArePaired b i v inverse → AreGiven b s mid → AreGiven b s new) → (AreTrue s new → AreTrue s mid) → (AreTrue s new → AreMirroredAt s i v inverse)
+    → ((b : Body) → ArePaired b i v inverse → AreGivenPlaces b s mid → AreGivenPlaces b s new) → (AreTrue s new → AreTrue s mid) → (AreTrue s new → AreMirroredAt s i v inverse)
     → Mirrors s direct inverse n old mid → Mirrors s direct inverse (n + 1) old new
 mirrors_more s direct inverse n old mid new i v l is-i is-v given kept mirrored p = record {
   given = λ b paired gs. given b (subst (λ (u : ℕ). ArePaired b u v inverse) (sym is-i) (subst (λ (z : ℤ). ArePaired b (get_or direct n 0) z inverse) (sym is-v) (paired.at n l))) (p.given b paired gs);

@@ -10,8 +10,8 @@ use Rattle.cps_rule.specs.declared.rule.Narrowing.{Narrowing}
 use Rattle.cps_rule.specs.Rules.{IsGiven}
 
 -- each of these atoms is given by the body
-abbrev pub AreGiven : Body → Trail → List Narrowing → Type 0
-AreGiven b s found = All (λ n. IsGiven b s n.target) found
+abbrev pub AreGivenPlaces : Body → Trail → List Narrowing → Type 0
+AreGivenPlaces b s found = All (λ n. IsGiven b s n.target) found
 
 -- each is true now
 abbrev pub AreTrue : Trail → List Narrowing → Type 0

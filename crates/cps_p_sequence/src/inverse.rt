@@ -9,7 +9,7 @@ ghost use Rattle.cps_instance.specs.declared.task.Body.{Body as BodyOf};
 ghost use Rattle.cps_trail.specs.Trail.{IsInside};
 ghost use Rattle.cps_propagate.specs.Now.{IsOpenTo};
 ghost use Rattle.cps_rule.specs.Rules.{IsExplained};
-ghost use Rattle.cps_p_sequence.specs.Inverses.{AreGiven, AreTrue, HasPlace, IsMatched, ArePaired, AllPaired, IsWithinPlaces, AreMirroredAt, AreMirrored};
+ghost use Rattle.cps_p_sequence.specs.Inverses.{AreGivenPlaces, AreTrue, HasPlace, IsMatched, ArePaired, AllPaired, IsWithinPlaces, AreMirroredAt, AreMirrored};
 
 use crate::sides::{Sides, is_possible};
 use cps_enforce::Enforced;
@@ -61,7 +61,7 @@ fn given(target: Atom) -> Narrowing
 /// Adds what keeps a subject's values from being negative.
 fn keep_from_zero(store: &Store, subject: u32, found: &mut Vec<Narrowing>) -> Result<(), AllocError>
     requires { subject < length store.now.first }
-    ensures given { OnOk result ((b : BodyOf) → (count : ℤ) → HasPlace b subject count → AreGiven b store.now found.old.items → AreGiven b store.now found.new.items) }
+    ensures given { OnOk result ((b : BodyOf) → (count : ℤ) → HasPlace b subject count → AreGivenPlaces b store.now found.old.items → AreGivenPlaces b store.now found.new.items) }
     ensures kept { OnOk result (AreTrue store.now found.new.items → AreTrue store.now found.old.items) }
     ensures least { OnOk result (AreTrue store.now found.new.items → (x : ℤ) → IsOpenTo store.now subject x → pos 0 ≤ℤ x) }
 {
@@ -85,7 +85,7 @@ fn keep_below(
 ) -> Result<(), AllocError>
     requires subject { subject < length store.now.first }
     requires count { pos 0 ≤ℤ count }
-    ensures given { OnOk result ((b : BodyOf) → HasPlace b subject count → AreGiven b store.now found.old.items → AreGiven b store.now found.new.items) }
+    ensures given { OnOk result ((b : BodyOf) → HasPlace b subject count → AreGivenPlaces b store.now found.old.items → AreGivenPlaces b store.now found.new.items) }
     ensures kept { OnOk result (AreTrue store.now found.new.items → AreTrue store.now found.old.items) }
     ensures below { OnOk result (AreTrue store.now found.new.items → (x : ℤ) → IsOpenTo store.now subject x → x <ℤ count) }
 {
@@ -109,7 +109,7 @@ fn keep_within(
 ) -> Result<(), AllocError>
     requires subjects { All (λ i. i < length store.now.first) subjects.now }
     requires count { pos 0 ≤ℤ count }
-    ensures given { OnOk result ((b : BodyOf) → All (λ i. HasPlace b i count) subjects.now → AreGiven b store.now found.old.items → AreGiven b store.now found.new.items) }
+    ensures given { OnOk result ((b : BodyOf) → All (λ i. HasPlace b i count) subjects.now → AreGivenPlaces b store.now found.old.items → AreGivenPlaces b store.now found.new.items) }
     ensures kept { OnOk result (AreTrue store.now found.new.items → AreTrue store.now found.old.items) }
     ensures within { OnOk result (AreTrue store.now found.new.items → All (λ i. IsWithinPlaces store.now i count) subjects.now) }
 {
@@ -129,7 +129,7 @@ fn keep_off(
 ) -> Result<(), AllocError>
     requires one { one.subject < length store.now.first }
     requires other { other.subject < length store.now.first }
-    ensures given { OnOk result ((b : BodyOf) → IsMatched b one.subject one.number other.subject other.number → AreGiven b store.now found.old.items → AreGiven b store.now found.new.items) }
+    ensures given { OnOk result ((b : BodyOf) → IsMatched b one.subject one.number other.subject other.number → AreGivenPlaces b store.now found.old.items → AreGivenPlaces b store.now found.new.items) }
     ensures kept { OnOk result (AreTrue store.now found.new.items → AreTrue store.now found.old.items) }
     ensures mirrored { OnOk result (AreTrue store.now found.new.items → IsOpenTo store.now one.subject other.number → IsOpenTo store.now other.subject one.number) }
 {
@@ -156,7 +156,7 @@ fn keep_apart(
 ) -> Result<(), AllocError>
     requires one { one.subject < length store.now.first }
     requires others { All (λ i. i < length store.now.first) others.now }
-    ensures given { OnOk result ((b : BodyOf) → ArePaired b one.subject one.number others.now → AreGiven b store.now found.old.items → AreGiven b store.now found.new.items) }
+    ensures given { OnOk result ((b : BodyOf) → ArePaired b one.subject one.number others.now → AreGivenPlaces b store.now found.old.items → AreGivenPlaces b store.now found.new.items) }
     ensures kept { OnOk result (AreTrue store.now found.new.items → AreTrue store.now found.old.items) }
     ensures mirrored { OnOk result (AreTrue store.now found.new.items → AreMirroredAt store.now one.subject one.number others.now) }
 {
@@ -180,7 +180,7 @@ fn mirror(
 ) -> Result<(), AllocError>
     requires direct { All (λ i. i < length store.now.first) direct.now }
     requires inverse { All (λ i. i < length store.now.first) inverse.now }
-    ensures given { OnOk result ((b : BodyOf) → AllPaired b direct.now inverse.now → AreGiven b store.now found.old.items → AreGiven b store.now found.new.items) }
+    ensures given { OnOk result ((b : BodyOf) → AllPaired b direct.now inverse.now → AreGivenPlaces b store.now found.old.items → AreGivenPlaces b store.now found.new.items) }
     ensures kept { OnOk result (AreTrue store.now found.new.items → AreTrue store.now found.old.items) }
     ensures mirrored { OnOk result (AreTrue store.now found.new.items → AreMirrored store.now direct.now inverse.now) }
 {

@@ -8,7 +8,7 @@ ghost use Rattle.cps_instance.specs.declared.task.Body.{Body as BodyOf};
 ghost use Rattle.cps_trail.specs.Trail.{Trail};
 ghost use Rattle.cps_propagate.specs.Strength.{IsStrongBody};
 ghost use Rattle.cps_rule.specs.Rules.{IsFittingRule, IsExplained, IsRefuted};
-ghost use Rattle.cps_p_sequence.specs.Inverses.{AreGiven, AreTrue};
+ghost use Rattle.cps_p_sequence.specs.Inverses.{AreGivenPlaces, AreTrue};
 ghost use Rattle.cps_p_sequence.specs.Sides.{AreSides, Implies, IsDenied};
 
 use cps_literal::Atom;
@@ -57,8 +57,8 @@ fn add_apart(
 ) -> Result<Look, AllocError>
     requires fits { IsFittingRule store.now.first side.old }
     ensures keeps { side.new ≡ side.old }
-    ensures given { OnOk result ((b : BodyOf) → Implies b side.old → AreGiven b store.now found.old.items →
-        AreGiven b store.now found.new.items) }
+    ensures given { OnOk result ((b : BodyOf) → Implies b side.old → AreGivenPlaces b store.now found.old.items →
+        AreGivenPlaces b store.now found.new.items) }
     ensures kept { OnOk result (AreTrue store.now found.new.items → AreTrue store.now found.old.items) }
     ensures denied { IfOk result (λ look. (b : BodyOf) → Implies b side.old → IsDenied b store.now look) }
     ensures strong { result ≡ Ok Look.Possible → AreTrue store.now found.new.items →
@@ -93,7 +93,7 @@ impl Sides {
         ensures keeps_direct { self.new.direct ≡ self.old.direct }
         ensures keeps_inverse { self.new.inverse ≡ self.old.inverse }
         ensures given { OnOk result ((b : BodyOf) → Implies b self.old.direct → Implies b self.old.inverse →
-            AreGiven b store.now found.new.items) }
+            AreGivenPlaces b store.now found.new.items) }
         ensures denied { IfOk result (λ look. (b : BodyOf) → Implies b self.old.direct →
             Implies b self.old.inverse → IsDenied b store.now look) }
         ensures strong { result ≡ Ok Look.Possible → AreTrue store.now found.new.items →

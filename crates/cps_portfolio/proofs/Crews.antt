@@ -26,7 +26,7 @@ use Rattle.cps_search.specs.Ends.{Ending, IsOver, IsHonestEnding}
 use Rattle.cps_search.specs.Following.{best_bound}
 use Rattle.cps_search.proofs.Bounds.{greater-second, same_bound}
 use Rattle.cps_portfolio.specs.declared.seats.Seated.{Seated}
-use Rattle.cps_portfolio.specs.Workers.{AnySearch, search_in, kind_in, ending_in, known_of, search_of, worker_kind}
+use Rattle.cps_portfolio.specs.Workers.{AnySearch, search_in, kind_in, ending_in, known_of, worker_search, worker_kind}
 use Rattle.cps_model.specs.Start.{objective_start}
 use Rattle.cps_port.specs.Incumbents.{IsLowerBound}
 use Rattle.cps_portfolio.specs.Outcomes.{CameTo, EndedWithin, GoesByModel, better, best_of}
@@ -216,7 +216,7 @@ one_gathered m gap conflicts first count k j q s e ends h kind_is done said is j
 pub is_ready : (m : CpModel) (gap conflicts : ℕ) (board : Board) (bounds : Bounds) (number : ℕ) (c : Seated) → words.model_of bounds ≡ m → IsSeated m gap conflicts board bounds number c → IsReady m c
 is_ready m gap conflicts board bounds number c model h =
     let b = has_begun m gap conflicts (known_of c.worker) h.begins in
-    let of_model : (search_of c.worker).instance.model ≡ m = ap (λ (x : Search). x.instance.model) b.is ∙ b.first.model in
+    let of_model : (worker_search c.worker).instance.model ≡ m = ap (λ (x : Search). x.instance.model) b.is ∙ b.first.model in
     record {
       of_model = of_model;
       running = λ over. subst (λ (x : Search). IsOver x.said) b.is over;

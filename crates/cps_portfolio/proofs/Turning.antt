@@ -27,7 +27,7 @@ use Rattle.cps_search.specs.Searches.{Search}
 use Rattle.cps_search.specs.Ends.{Ending, IsHonestEnding, IsOver}
 use Rattle.cps_search.specs.Following.{best_bound}
 use Rattle.cps_portfolio.specs.declared.interleaved.Turning.{Turning}
-use Rattle.cps_portfolio.specs.Workers.{AnySearch, search_in, ending_in, known_of, search_of, kind_of, worker_kind, HasTurned, TakesTurnsAs}
+use Rattle.cps_portfolio.specs.Workers.{AnySearch, search_in, ending_in, known_of, worker_search, kind_of, worker_kind, HasTurned, TakesTurnsAs}
 use Rattle.cps_portfolio.specs.Outcomes.{CameTo, EndedWithin, GoesByModel, best_of, greatest_raised}
 use Rattle.cps_portfolio.specs.Crews.{IsDone}
 use Rattle.cps_portfolio.specs.Turning.{AtWork, IsTurning, AreTurning, IsFresh, AreFresh, one_at_work, count_at_work, end_said, ended_of, place_at_work, drawn_place, TakesTurnAt, TakesDrawnTurns}
@@ -293,5 +293,5 @@ came_in_turns m gap conflicts rows workers c crew sound model len actors h none 
       each = all.each;
     }
 
-pub each_over : (m : CpModel) (gap conflicts rows : ℕ) (c : Core) (crew : List Turning) → AreTurning m gap conflicts rows c crew → count_at_work crew ≡ 0 → All (λ (w : Turning). IsOver (search_of w.worker).said) crew
-each_over m gap conflicts rows c crew h none i d l = let k = (h.each i d l).done (all_over crew none i d l) in over_is (search_of (get_or crew i d).worker) k.end k.over
+pub each_over : (m : CpModel) (gap conflicts rows : ℕ) (c : Core) (crew : List Turning) → AreTurning m gap conflicts rows c crew → count_at_work crew ≡ 0 → All (λ (w : Turning). IsOver (worker_search w.worker).said) crew
+each_over m gap conflicts rows c crew h none i d l = let k = (h.each i d l).done (all_over crew none i d l) in over_is (worker_search (get_or crew i d).worker) k.end k.over

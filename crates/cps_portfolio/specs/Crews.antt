@@ -18,7 +18,7 @@ use Rattle.cps_search.specs.Ends.{Ending, IsOver, IsHonestEnding}
 use Rattle.cps_search.specs.Following.{best_bound}
 use Rattle.cps_portfolio.specs.declared.seats.Seated.{Seated}
 use Rattle.cps_portfolio.specs.Ports.{part_of, SeatsStay}
-use Rattle.cps_portfolio.specs.Workers.{AnySearch, search_in, ending_in, known_of, search_of, kind_of, worker_kind, BeginsAs, HasEnded}
+use Rattle.cps_portfolio.specs.Workers.{AnySearch, search_in, ending_in, known_of, worker_search, kind_of, worker_kind, BeginsAs, HasEnded}
 use Rattle.cps_portfolio.specs.Outcomes.{GoesByModel, best_of, greatest_raised}
 
 abbrev pub part_at : Seated → Part
@@ -32,11 +32,11 @@ words_splits c = words.splits_of c.port.bounds_seat
 
 -- a worker of a model that may begin
 pub record IsReady (m : CpModel) (c : Seated) : Type 0 where
-  pub of_model : (search_of c.worker).instance.model ≡ m
-  pub running : IsOver (search_of c.worker).said → ⊥
-  pub memory : (search_of c.worker).refused ≡ false
-  pub model : words.model_of c.port.bounds.now ≡ (search_of c.worker).instance.model
-  pub imported : (search_of c.worker).imported ≤ length (boards.part_of c.port.board_seat).taken
+  pub of_model : (worker_search c.worker).instance.model ≡ m
+  pub running : IsOver (worker_search c.worker).said → ⊥
+  pub memory : (worker_search c.worker).refused ≡ false
+  pub model : words.model_of c.port.bounds.now ≡ (worker_search c.worker).instance.model
+  pub imported : (worker_search c.worker).imported ≤ length (boards.part_of c.port.board_seat).taken
 
 -- a worker took its turns up to its end, or ran out of memory
 pub record Worked (a b : Seated) : Type 0 where

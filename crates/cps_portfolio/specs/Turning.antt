@@ -15,7 +15,7 @@ use Rattle.cps_search.specs.declared.end.Said.{Said}
 use Rattle.cps_search.specs.declared.end.Said.TheVariants.{Nothing, Due, Over}
 use Rattle.cps_search.specs.Ends.{Ending, IsOver}
 use Rattle.cps_portfolio.specs.declared.interleaved.Turning.{Turning}
-use Rattle.cps_portfolio.specs.Workers.{AnySearch, search_in, ending_in, known_of, search_of, kind_of, worker_kind, BeginsAs, DrawsBy, TakesTurnsAs, HasTurned}
+use Rattle.cps_portfolio.specs.Workers.{AnySearch, search_in, ending_in, known_of, worker_search, kind_of, worker_kind, BeginsAs, DrawsBy, TakesTurnsAs, HasTurned}
 use Rattle.cps_portfolio.specs.Crews.{IsDone}
 
 -- ---- workers that have turns left
@@ -61,7 +61,7 @@ end_said Due = ends.RoundsDone
 end_said (Over end) = end
 
 abbrev pub ended_of : Turning → Ending
-ended_of w = ending_in (known_of w.worker) (end_said (search_of w.worker).said)
+ended_of w = ending_in (known_of w.worker) (end_said (worker_search w.worker).said)
 
 -- ---- the drawn schedule
 

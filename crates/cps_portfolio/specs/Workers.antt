@@ -49,8 +49,8 @@ known_of (Fixed w) = by_guidance kinds.Fixed (Steered w.1.plan) w.0
 known_of (Activity w) = by_guidance kinds.Activity (Hinted w.1.hints) w.0
 known_of (NearSolutions w) = in_rounds w.worker
 
-abbrev pub search_of : AnyWorker → Search
-search_of w = search_in (known_of w)
+abbrev pub worker_search : AnyWorker → Search
+worker_search w = search_in (known_of w)
 
 abbrev pub kind_of : AnyWorker → WorkerKind
 kind_of w = kind_in (known_of w)

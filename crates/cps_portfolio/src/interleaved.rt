@@ -13,7 +13,7 @@ ghost use Rattle.cps_port.specs.Sound.{IsSoundCore};
 ghost use Rattle.cps_kinds.specs.Kinds.{AreAllPropagated};
 ghost use Rattle.cps_search.specs.Searches.{HasNoAssumptions};
 ghost use Rattle.cps_search.specs.Ends.{IsOver};
-ghost use Rattle.cps_portfolio.specs.Workers.{known_of, search_of, kind_of, HasTurned};
+ghost use Rattle.cps_portfolio.specs.Workers.{known_of, worker_search, kind_of, HasTurned};
 ghost use Rattle.cps_portfolio.specs.Outcomes.{IsGoodOutcome};
 ghost use Rattle.cps_portfolio.specs.Turning.{AreTurning, AreFresh, count_at_work, ended_of, place_at_work, words_of_seed, TakesDrawnTurns, IsDrawnRun};
 ghost use Rattle.cps_portfolio.specs.declared.interleaved.Turning.{Turning as TurningOf};
@@ -107,11 +107,11 @@ fn take_turn(
 ) -> Result<bool, AllocError>
     requires actor { actor < actor_count port.old.core.now }
     requires idle { (board_part port.old.core.now.board actor).drawn ≡ None }
-    requires memory { (search_of worker.old).refused ≡ false }
-    requires running { IsOver (search_of worker.old).said → ⊥ }
-    requires model { port.old.core.now.model ≡ (search_of worker.old).instance.model }
-    requires pool { pool.old.model ≡ (search_of worker.old).instance.model }
-    requires imported { (search_of worker.old).imported ≤ length (part_at port.old.core.now actor).board.taken }
+    requires memory { (worker_search worker.old).refused ≡ false }
+    requires running { IsOver (worker_search worker.old).said → ⊥ }
+    requires model { port.old.core.now.model ≡ (worker_search worker.old).instance.model }
+    requires pool { pool.old.model ≡ (worker_search worker.old).instance.model }
+    requires imported { (worker_search worker.old).imported ≤ length (part_at port.old.core.now actor).board.taken }
     ensures same { (port.new.core.now.model ≡ port.old.core.now.model) × (length port.new.core.now.board.rows ≡ length port.old.core.now.board.rows) }
     ensures idle { (board_part port.new.core.now.board actor).drawn ≡ None }
     ensures alone { ActsAlone actor actor port.old.core.now port.new.core.now }
@@ -182,7 +182,7 @@ fn lower_of(core: &mut CoreState<'_>) -> Bound
 
 /// The ends of all workers.
 fn finish_all(alloc: Global, mut crew: Vec<Turning<'_>>) -> Result<Vec<Ended>, AllocError>
-    requires { All (λ c. IsOver (search_of c.worker).said) crew.items }
+    requires { All (λ c. IsOver (worker_search c.worker).said) crew.items }
     ensures { IfOk result (λ ends. ends.items ≡ map ended_of crew.entry.items) }
 {
     let mut ends = Vec::new(alloc);

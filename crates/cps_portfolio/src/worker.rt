@@ -11,7 +11,7 @@ ghost use Rattle.cps_options.specs.Ranges.{AreInRange};
 ghost use Rattle.cps_search.specs.Searches.{HasNoAssumptions, IsSoundSearch};
 ghost use Rattle.cps_search.specs.Ends.{IsOver, end_of};
 ghost use Rattle.cps_neighbourhood.specs.Drawing.{draws_of};
-ghost use Rattle.cps_portfolio.specs.Workers.{known_of, search_of, kind_of, worker_kind, ending_in, Begins, BeginsAs, BeginsRounds, DrawsBy, HasEnded, HasTurned, IsAimed, TurnedBy, TurnedNear};
+ghost use Rattle.cps_portfolio.specs.Workers.{known_of, worker_search, kind_of, worker_kind, ending_in, Begins, BeginsAs, BeginsRounds, DrawsBy, HasEnded, HasTurned, IsAimed, TurnedBy, TurnedNear};
 
 use cps_instance::Instance;
 use cps_kinds::{AnyPropagator, engine_of};
@@ -215,11 +215,11 @@ impl<'a> AnyWorker<'a> {
 
     /// Takes turns until one ends the worker.
     pub fn run<Q: Port, F: Pool>(&mut self, port: &mut Q, pool: &mut F) -> Result<(), AllocError>
-        requires memory { (search_of self.old).refused ≡ false }
-        requires running { IsOver (search_of self.old).said → ⊥ }
-        requires model { Q.model port.old ≡ (search_of self.old).instance.model }
-        requires pool { F.model pool.old ≡ (search_of self.old).instance.model }
-        requires imported { (search_of self.old).imported ≤ length (Q.part port.old).board.taken }
+        requires memory { (worker_search self.old).refused ≡ false }
+        requires running { IsOver (worker_search self.old).said → ⊥ }
+        requires model { Q.model port.old ≡ (worker_search self.old).instance.model }
+        requires pool { F.model pool.old ≡ (worker_search self.old).instance.model }
+        requires imported { (worker_search self.old).imported ≤ length (Q.part port.old).board.taken }
         ensures same { (Q.model port.new ≡ Q.model port.old) × (Q.rows port.new ≡ Q.rows port.old) }
         ensures others { Q.stays port.old port.new }
         ensures kind { kind_of self.new ≡ kind_of self.old }
@@ -236,11 +236,11 @@ impl<'a> AnyWorker<'a> {
     /// Takes one turn. Answers whether it was the worker's last. A solution that is found goes into the pool, and a
     /// neighbourhood worker is handed the pool's last solution before its turn.
     pub fn turn<Q: Port, F: Pool>(&mut self, port: &mut Q, pool: &mut F) -> Result<bool, AllocError>
-        requires memory { (search_of self.old).refused ≡ false }
-        requires running { IsOver (search_of self.old).said → ⊥ }
-        requires model { Q.model port.old ≡ (search_of self.old).instance.model }
-        requires pool { F.model pool.old ≡ (search_of self.old).instance.model }
-        requires imported { (search_of self.old).imported ≤ length (Q.part port.old).board.taken }
+        requires memory { (worker_search self.old).refused ≡ false }
+        requires running { IsOver (worker_search self.old).said → ⊥ }
+        requires model { Q.model port.old ≡ (worker_search self.old).instance.model }
+        requires pool { F.model pool.old ≡ (worker_search self.old).instance.model }
+        requires imported { (worker_search self.old).imported ≤ length (Q.part port.old).board.taken }
         ensures same { (Q.model port.new ≡ Q.model port.old) × (Q.rows port.new ≡ Q.rows port.old) }
         ensures others { Q.stays port.old port.new }
         ensures pool { F.model pool.new ≡ F.model pool.old }
@@ -256,8 +256,8 @@ impl<'a> AnyWorker<'a> {
 
     /// The worker as others see it after it ended.
     pub fn finish(self) -> Ended
-        requires { IsOver (search_of self).said }
-        ensures said { (search_of self.entry).said ≡ Said.Over result.end }
+        requires { IsOver (worker_search self).said }
+        ensures said { (worker_search self.entry).said ≡ Said.Over result.end }
         ensures is { result ≡ ending_in (known_of self.entry) result.end }
     {
         match self {

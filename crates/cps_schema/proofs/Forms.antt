@@ -14,7 +14,7 @@ use Rattle.cps_schema.specs.Tables.{Message, strategy_message, Content, formed, 
 use Rattle.cps_schema.specs.Faults.{is_other_form, has_other_form, values_fault}
 use Rattle.cps_schema.specs.Answers.{Refuses}
 use Rattle.cps_schema.specs.Steps.{Passes, Stops, FormedPasses, FormedStops}
-use Rattle.cps_schema.specs.Slots.{AreGiven}
+use Rattle.cps_schema.specs.Slots.{AreGivenSlots}
 use Rattle.cps_schema.specs.Parts.{is_other, strategy_slots, IsStrategyGiven}
 
 pub formed_passes : (w : Written) (m : Message) (before : List (List ℕ)) (f : Field) (form : Form) (content : Content) →
@@ -56,14 +56,14 @@ select_apart Older = refl
 select_apart Newer = refl
 
 pub choose_given : (old new : StrategyParts) (text : List ℕ) (before : List (List ℕ)) → text ≡ codes "variable_selection_strategy" →
-    new.form ≡ old.form → AreGiven (strategy_slots new) (text ∷ before) → IsStrategyGiven old before → IsStrategyGiven new (text ∷ before)
+    new.form ≡ old.form → AreGivenSlots (strategy_slots new) (text ∷ before) → IsStrategyGiven old before → IsStrategyGiven new (text ∷ before)
 choose_given old new text before e same slots given = record {
   slots = slots;
   forms = λ form. other_apart form (codes "variable_selection_strategy") (choose_apart form) text before e ∙ rw same (given.forms form);
 }
 
 pub select_given : (old new : StrategyParts) (text : List ℕ) (before : List (List ℕ)) → text ≡ codes "domain_reduction_strategy" →
-    new.form ≡ old.form → AreGiven (strategy_slots new) (text ∷ before) → IsStrategyGiven old before → IsStrategyGiven new (text ∷ before)
+    new.form ≡ old.form → AreGivenSlots (strategy_slots new) (text ∷ before) → IsStrategyGiven old before → IsStrategyGiven new (text ∷ before)
 select_given old new text before e same slots given = record {
   slots = slots;
   forms = λ form. other_apart form (codes "domain_reduction_strategy") (select_apart form) text before e ∙ rw same (given.forms form);
@@ -104,7 +104,7 @@ forms_given given own text before e same forms form =
 
 pub form_passes : (w : Written) (f : Field) (own : Form) (content : Content) (r : Result (Unit {0}) SchemaError) (old new : StrategyParts) →
     token_text w f.name ≡ form_name own → use_of strategy_message (form_name own) ≡ Some (formed own content) →
-    ((before : List (List ℕ)) → AreGiven (strategy_slots old) before → AreGiven (strategy_slots new) (token_text w f.name ∷ before)) →
+    ((before : List (List ℕ)) → AreGivenSlots (strategy_slots old) before → AreGivenSlots (strategy_slots new) (token_text w f.name ∷ before)) →
     OnOk r (FormedPasses w f own content (is_other old.form own)) → OnOk r (is_other old.form own ≡ false) → OnOk r (new.form ≡ Some own) →
     OnOk r ((before : List (List ℕ)) → IsStrategyGiven old before →
     Passes w strategy_message before f × IsStrategyGiven new (token_text w f.name ∷ before))

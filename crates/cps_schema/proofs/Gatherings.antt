@@ -26,7 +26,7 @@ use Rattle.cps_schema.specs.Tables.{Message, Content, Use, Table, use_in, use_of
 use Rattle.cps_schema.specs.Faults.{refused_at, is_alone, alone_fault, is_other_form, has_other_form, values_fault, fields_fault}
 use Rattle.cps_schema.specs.Answers.{Refuses}
 use Rattle.cps_schema.specs.Steps.{field_then, Passes, Stops}
-use Rattle.cps_schema.specs.Slots.{AreGiven}
+use Rattle.cps_schema.specs.Slots.{AreGivenSlots}
 use Rattle.cps_schema.specs.Parts.{is_other}
 use Rattle.cps_schema.specs.Gathered.{content_taken, use_taken, contents_of, takes_one, form_taken, entry_of, IsTableOf, are_apart, Found, nothing, joined, found_in, found_of, found, held, lines_of, found_from, all_from, marks, IsGathered, is_mixed, line_fault, form_behind, line_place}
 use Rattle.cps_schema.proofs.Steps.{next_given, not_read_stops}
@@ -92,7 +92,7 @@ lines_put text (s ∷ slots) old new e same = by_test (bytes_eq text s.line.0.no
 
 -- whether a line's field was read
 pub slot_given : (text : List ℕ) (slots : List Slot) (slot : Slot) (before : List (List ℕ)) → slot_named slots text ≡ Some slot →
-    AreGiven (marks slots) before → is_given before text ≡ slot.given
+    AreGivenSlots (marks slots) before → is_given before text ≡ slot.given
 slot_given text [] slot before e given = cc
 slot_given text (s ∷ slots) slot before e given =
     by_test (bytes_eq text s.line.0.now) refl (λ n. slot_given text slots slot before n given.1) where
@@ -140,7 +140,7 @@ apart_first slot slots e =
 
 -- a name more that is none of these
 marks_lacking : (name : List ℕ) (slots : List Slot) (before : List (List ℕ)) → LacksName name slots →
-    AreGiven (marks slots) before → AreGiven (marks slots) (name ∷ before)
+    AreGivenSlots (marks slots) before → AreGivenSlots (marks slots) (name ∷ before)
 marks_lacking name [] before lacks given = tt
 marks_lacking name (slot ∷ slots) before lacks given =
     (next_given slot.line.0.now name before ∙ rw lacks.0 given.0, marks_lacking name slots before lacks.1 given.1)
@@ -160,14 +160,14 @@ differs_back a b e = by_test (bytes_eq b a) refl where
 -- one field more is marked
 pub marks_put : (text : List ℕ) (slots : List Slot) (old new : Slot) (before : List (List ℕ)) → slot_named slots text ≡ Some old →
     new.line ≡ old.line → new.given ≡ true → are_apart (lines_of slots) ≡ true →
-    AreGiven (marks slots) before → AreGiven (marks (put_named slots text new)) (text ∷ before)
+    AreGivenSlots (marks slots) before → AreGivenSlots (marks (put_named slots text new)) (text ∷ before)
 marks_put text [] old new before e same given apart all = tt
 marks_put text (s ∷ slots) old new before e same given apart all =
     let first = apart_first s slots apart in
     by_test (bytes_eq text s.line.0.now) refl first (λ n. marks_put text slots old new before n same given first.1 all.1) where
       by_test : (b : Bool) → bytes_eq text s.line.0.now ≡ b → LacksName s.line.0.now slots × (are_apart (lines_of slots) ≡ true) →
-          (slot_named slots text ≡ Some old → AreGiven (marks (put_named slots text new)) (text ∷ before)) →
-          AreGiven (marks (put_named (s ∷ slots) text new)) (text ∷ before)
+          (slot_named slots text ≡ Some old → AreGivenSlots (marks (put_named slots text new)) (text ∷ before)) →
+          AreGivenSlots (marks (put_named (s ∷ slots) text new)) (text ∷ before)
       by_test true t first more =
           let this : Some s ≡ Some old = rw t at e in
           let one : s ≡ old = cc in
@@ -403,7 +403,7 @@ all_first w tree (s ∷ slots) e =
     let own : found_from w tree s ≡ found w tree s.line = ap (λ (h : Found). joined h (found w tree s.line)) empty in
     ap (λ (h : Found). h ∷ all_from w slots tree) own ∙ ap (λ (hs : List Found). found w tree s.line ∷ hs) (all_first w tree slots others)
 
-pub marks_first : (slots : List Slot) → map held slots ≡ map (λ (line : Line). nothing) (lines_of slots) → AreGiven (marks slots) []
+pub marks_first : (slots : List Slot) → map held slots ≡ map (λ (line : Line). nothing) (lines_of slots) → AreGivenSlots (marks slots) []
 unfolding is_given
 marks_first [] e = tt
 marks_first (s ∷ slots) e =

@@ -8,7 +8,7 @@ use Rattle.cps_schema.specs.Written.{Written, token_text}
 use Rattle.cps_schema.specs.Tables.{Message, Content, single, use_of, is_given}
 use Rattle.cps_schema.specs.Readings.{first_or, first_of}
 use Rattle.cps_schema.specs.Steps.{Passes, Stops, SinglePasses, SingleStops}
-use Rattle.cps_schema.specs.Slots.{AreGiven}
+use Rattle.cps_schema.specs.Slots.{AreGivenSlots}
 use Rattle.cps_schema.proofs.Steps.{next_given}
 
 -- what was read behind a further field of this name
@@ -17,7 +17,7 @@ after name [] = []
 after name (slot ∷ slots) = (slot.0, bytes_eq slot.0 name || slot.1) ∷ after name slots
 
 pub given_after : (text name : List ℕ) (slots : List (List ℕ × Bool)) (before : List (List ℕ)) → text ≡ name →
-    AreGiven slots before → AreGiven (after name slots) (text ∷ before)
+    AreGivenSlots slots before → AreGivenSlots (after name slots) (text ∷ before)
 given_after text name [] before e given = tt
 given_after text name (slot ∷ slots) before e given =
     (rw e (next_given slot.0 name before ∙ rw given.0 refl), given_after text name slots before e given.1)

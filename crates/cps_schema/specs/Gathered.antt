@@ -24,7 +24,7 @@ use Rattle.cps_schema.specs.Written.{Written, token_text}
 use Rattle.cps_schema.specs.Tables.{Message, Content, number, truth, message, expression_message, Use, single, repeated, formed, formed_single, Table, table_of, unread_names}
 use Rattle.cps_schema.specs.Faults.{refused_at, is_alone, alone_fault, has_other_form, values_fault}
 use Rattle.cps_schema.specs.Readings.{first_or, value_numbers, value_truths, value_messages, read_expression, numbers, truths, expressions, gives}
-use Rattle.cps_schema.specs.Slots.{AreGiven}
+use Rattle.cps_schema.specs.Slots.{AreGivenSlots}
 use Rattle.cps_schema.specs.Parts.{is_other}
 
 abbrev pub content_taken : Contents → Content
@@ -137,7 +137,7 @@ marks slots = map (λ (slot : Slot). (slot.line.0.now, slot.given)) slots
 
 -- the fields and the form that were read are those of the fields with these names
 pub record IsGathered (m : Message) (parts : Gathered) (before : List (List ℕ)) : Type 0 where
-  pub marked : AreGiven (marks parts.slots.items) before
+  pub marked : AreGivenSlots (marks parts.slots.items) before
   pub forms : (form : Form) → has_other_form m form before ≡ is_other parts.form form
 
 -- the fields of the other form were read

@@ -32,7 +32,7 @@ use Rattle.cps_schema.specs.Tables.{constraint_message, strategy_message, is_giv
 use Rattle.cps_schema.specs.Kinds.{field_name}
 use Rattle.cps_schema.specs.Members.{choose_of, select_of}
 use Rattle.cps_schema.specs.Faults.{has_kind, has_other_form}
-use Rattle.cps_schema.specs.Slots.{AreGiven}
+use Rattle.cps_schema.specs.Slots.{AreGivenSlots}
 use Rattle.cps_schema.specs.Readings.{first_or, first_of, numbers, texts, members, messages, given_kinds, scaling_of, read_variable, read_constraint, read_objective, read_expression, read_strategy, read_hint}
 use Rattle.cps_model.specs.Values.{reference_expression}
 
@@ -52,7 +52,7 @@ objective_from w parts rest = record {
 }
 
 -- the single fields that were read are those with one of these names
-pub record IsGiven (offset scaling : Option ℤ) (before : List (List ℕ)) : Type 0 where
+pub record IsGivenObjective (offset scaling : Option ℤ) (before : List (List ℕ)) : Type 0 where
   pub offset_given : is_given before (codes "offset") ≡ is_some offset
   pub scaling_given : is_given before (codes "scaling_factor") ≡ is_some scaling
 
@@ -115,7 +115,7 @@ strategy_slots parts =
 
 -- the single fields and the form that were read are those of the fields with these names
 pub record IsStrategyGiven (parts : StrategyParts) (before : List (List ℕ)) : Type 0 where
-  pub slots : AreGiven (strategy_slots parts) before
+  pub slots : AreGivenSlots (strategy_slots parts) before
   pub forms : (form : Form) → has_other_form strategy_message form before ≡ is_other parts.form form
 
 abbrev pub constraint_from : Written → ConstraintParts → Tree → Constraint

@@ -3,6 +3,6 @@ use Rattle.std.specs.Prelude.{◌≡◌, ℕ, Bool, List, [], ◌∷◌}
 use Rattle.cps_schema.specs.Tables.{is_given}
 
 -- of each field with such a name: it was read, exactly where one of the names before is its own
-abbrev pub AreGiven : List (List ℕ × Bool) → List (List ℕ) → Type 0
-AreGiven [] before = Unit {0}
-AreGiven (slot ∷ slots) before = (is_given before slot.0 ≡ slot.1) × AreGiven slots before
+abbrev pub AreGivenSlots : List (List ℕ × Bool) → List (List ℕ) → Type 0
+AreGivenSlots [] before = Unit {0}
+AreGivenSlots (slot ∷ slots) before = (is_given before slot.0 ≡ slot.1) × AreGivenSlots slots before

@@ -10,7 +10,7 @@ ghost use Rattle.cps_model.specs.Values.{reference_expression};
 ghost use Rattle.cps_schema.specs.Values.{nested_trees, trees_fault};
 ghost use Rattle.cps_schema.specs.Answers.{Refuses};
 ghost use Rattle.cps_schema.specs.Steps.{field_then, Passes, Stops};
-ghost use Rattle.cps_schema.specs.Slots.{AreGiven};
+ghost use Rattle.cps_schema.specs.Slots.{AreGivenSlots};
 ghost use Rattle.cps_schema.specs.Parts.{expression_from, expression_slots};
 
 use super::error::SchemaError;
@@ -36,13 +36,13 @@ pub struct ExpressionParts {
 
 /// Reads a field of an expression.
 fn add_field(source: &Source, parts: &mut ExpressionParts, field: &Field) -> Result<(), SchemaError>
-    ensures passes { OnOk result ((before : List (List ℕ)) → AreGiven (expression_slots parts.old) before →
+    ensures passes { OnOk result ((before : List (List ℕ)) → AreGivenSlots (expression_slots parts.old) before →
         Passes (written_of source.now) expression_message before field.now
-        × AreGiven (expression_slots parts.new) (token_text (written_of source.now) field.now.name ∷ before)) }
+        × AreGivenSlots (expression_slots parts.new) (token_text (written_of source.now) field.now.name ∷ before)) }
     ensures read { OnOk result ((rest : Tree) →
         expression_from (written_of source.now) parts.old (field_then field.now rest)
         ≡ expression_from (written_of source.now) parts.new rest) }
-    ensures err { IfErr result (λ e. (before : List (List ℕ)) → AreGiven (expression_slots parts.old) before →
+    ensures err { IfErr result (λ e. (before : List (List ℕ)) → AreGivenSlots (expression_slots parts.old) before →
         Stops (written_of source.now) expression_message before field.now e) }
 {
     let name = token_text(source, field.name as usize);

@@ -13,7 +13,7 @@ ghost use Rattle.cps_schema.specs.Faults.{values_fault, fields_fault};
 ghost use Rattle.cps_schema.specs.Readings.{ReadsAs, value_numbers, value_messages, read_variable, read_constraint, read_objective, read_hint, read_model};
 ghost use Rattle.cps_schema.specs.Answers.{Refuses, IsRefusal, Gives};
 ghost use Rattle.cps_schema.specs.Steps.{field_then, Passes, Stops, SinglePasses, SingleStops, ClosablePasses, ClosableStops};
-ghost use Rattle.cps_schema.specs.Slots.{AreGiven};
+ghost use Rattle.cps_schema.specs.Slots.{AreGivenSlots};
 ghost use Rattle.cps_schema.specs.Parts.{model_from, model_slots};
 ghost use Rattle.cps_schema.specs.Open.{closed_names, OpenKinds, OpenAssumptions};
 
@@ -71,13 +71,13 @@ fn add_field(
     parts: &mut ModelParts,
     field: &Field,
 ) -> Result<(), SchemaError>
-    ensures passes { OnOk result ((before : List (List ℕ)) → AreGiven (model_slots parts.old) before →
+    ensures passes { OnOk result ((before : List (List ℕ)) → AreGivenSlots (model_slots parts.old) before →
         Passes (written_of source.now) model_message before field.now
-        × AreGiven (model_slots parts.new) (token_text (written_of source.now) field.now.name ∷ before)) }
+        × AreGivenSlots (model_slots parts.new) (token_text (written_of source.now) field.now.name ∷ before)) }
     ensures read { OnOk result ((rest : Tree) →
         model_from (written_of source.now) parts.old (field_then field.now rest)
         ≡ model_from (written_of source.now) parts.new rest) }
-    ensures err { IfErr result (λ e. (before : List (List ℕ)) → AreGiven (model_slots parts.old) before →
+    ensures err { IfErr result (λ e. (before : List (List ℕ)) → AreGivenSlots (model_slots parts.old) before →
         Stops (written_of source.now) model_message before field.now e) }
 {
     let name = token_text(source, field.name as usize);

@@ -8,7 +8,7 @@ ghost use Rattle.cps_schema.specs.Faults.{fields_fault};
 ghost use Rattle.cps_schema.specs.Readings.{scaling_of, read_objective};
 ghost use Rattle.cps_schema.specs.Answers.{Refuses};
 ghost use Rattle.cps_schema.specs.Steps.{field_then, Passes, Stops};
-ghost use Rattle.cps_schema.specs.Parts.{objective_from, IsGiven};
+ghost use Rattle.cps_schema.specs.Parts.{objective_from, IsGivenObjective};
 
 use super::error::SchemaError;
 use super::lists::{add_ints, add_refs};
@@ -40,13 +40,13 @@ pub struct ObjectiveParts {
 
 /// Reads a field of an objective.
 fn add_field(source: &Source, parts: &mut ObjectiveParts, field: &Field) -> Result<(), SchemaError>
-    ensures passes { OnOk result ((before : List (List ℕ)) → IsGiven parts.old.offset parts.old.scaling before →
+    ensures passes { OnOk result ((before : List (List ℕ)) → IsGivenObjective parts.old.offset parts.old.scaling before →
         Passes (written_of source.now) objective_message before field.now
-        × IsGiven parts.new.offset parts.new.scaling (token_text (written_of source.now) field.now.name ∷ before)) }
+        × IsGivenObjective parts.new.offset parts.new.scaling (token_text (written_of source.now) field.now.name ∷ before)) }
     ensures read { OnOk result ((rest : Tree) →
         objective_from (written_of source.now) parts.old (field_then field.now rest)
         ≡ objective_from (written_of source.now) parts.new rest) }
-    ensures err { IfErr result (λ e. (before : List (List ℕ)) → IsGiven parts.old.offset parts.old.scaling before →
+    ensures err { IfErr result (λ e. (before : List (List ℕ)) → IsGivenObjective parts.old.offset parts.old.scaling before →
         Stops (written_of source.now) objective_message before field.now e) }
 {
     let name = token_text(source, field.name as usize);

@@ -9,7 +9,7 @@ ghost use Rattle.cps_schema.specs.Readings.{value_messages, read_variable};
 ghost use Rattle.cps_schema.specs.Values.{nested_trees, trees_fault};
 ghost use Rattle.cps_schema.specs.Answers.{Refuses};
 ghost use Rattle.cps_schema.specs.Steps.{field_then, Passes, Stops};
-ghost use Rattle.cps_schema.specs.Slots.{AreGiven};
+ghost use Rattle.cps_schema.specs.Slots.{AreGivenSlots};
 ghost use Rattle.cps_schema.specs.Parts.{variable_from, variable_slots};
 
 use super::error::SchemaError;
@@ -39,13 +39,13 @@ fn add_field(
     parts: &mut VariableParts,
     field: &Field,
 ) -> Result<(), SchemaError>
-    ensures passes { OnOk result ((before : List (List ℕ)) → AreGiven (variable_slots parts.old) before →
+    ensures passes { OnOk result ((before : List (List ℕ)) → AreGivenSlots (variable_slots parts.old) before →
         Passes (written_of source.now) variable_message before field.now
-        × AreGiven (variable_slots parts.new) (token_text (written_of source.now) field.now.name ∷ before)) }
+        × AreGivenSlots (variable_slots parts.new) (token_text (written_of source.now) field.now.name ∷ before)) }
     ensures read { OnOk result ((rest : Tree) →
         variable_from (written_of source.now) parts.old (field_then field.now rest)
         ≡ variable_from (written_of source.now) parts.new rest) }
-    ensures err { IfErr result (λ e. (before : List (List ℕ)) → AreGiven (variable_slots parts.old) before →
+    ensures err { IfErr result (λ e. (before : List (List ℕ)) → AreGivenSlots (variable_slots parts.old) before →
         Stops (written_of source.now) variable_message before field.now e) }
 {
     let name = token_text(source, field.name as usize);

@@ -12,7 +12,7 @@ use Rattle.cps_command.specs.declared.command.Command.{Command}
 use Rattle.cps_command.specs.declared.command.Command.TheVariants.{Solve, Validate, Print, Gen, Demo}
 use Rattle.cps_command.specs.Lines.{CommandLine, IsUsageFault, ReadsNothing, reads}
 use Rattle.cpsolve.specs.Inputs.{most_bytes, HasNo, IsModelText, IsInput}
-use Rattle.cpsolve.specs.Answers.{usage_text, IsText, Answers, Does, IsInRange}
+use Rattle.cpsolve.specs.Answers.{usage_text, IsText, IsAnswerTo, Does, IsInRange}
 use Rattle.cpsolve.specs.Answers.Answers.{usage, command}
 use Rattle.cpsolve.specs.Answers.AnswersInput.{refused}
 use Rattle.cpsolve.specs.Runs.{AreLeft}
@@ -49,7 +49,7 @@ long_left limit (Some bytes) new h = (bytes, refl, h.0)
 
 -- an answer of the words to the bytes that were left
 abbrev pub Given : List (List ℕ) → Option (List ℕ) → Answer → Type 0
-Given words left answer = (bytes : List ℕ) × AreLeft left bytes × Answers words bytes answer
+Given words left answer = (bytes : List ℕ) × AreLeft left bytes × IsAnswerTo words bytes answer
 
 pub usage_given : (words : List (List ℕ)) (left : Option (List ℕ)) (answer : Answer) → IsUsageFault words → IsText 2 usage_text answer → Given words left answer
 usage_given words left answer fault text = let some = some_left left in (some.0, some.1, usage fault text)

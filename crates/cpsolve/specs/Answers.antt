@@ -115,6 +115,6 @@ IsInRange (Gen r) = IsTrue (is_in_range r.family r.size)
 IsInRange (Demo r) = IsTrue (is_in_range r.family r.size)
 
 -- the usage line for words that have no command, and else what their command does
-pub data Answers (words : List (List ℕ)) (bytes : List ℕ) (answer : Answer) : Type 0 where
-  usage : IsUsageFault words → IsText 2 usage_text answer → Answers words bytes answer
-  command : (c : Command) → CommandLine words c → Does c bytes answer → Answers words bytes answer
+pub data IsAnswerTo (words : List (List ℕ)) (bytes : List ℕ) (answer : Answer) : Type 0 where
+  usage : IsUsageFault words → IsText 2 usage_text answer → IsAnswerTo words bytes answer
+  command : (c : Command) → CommandLine words c → Does c bytes answer → IsAnswerTo words bytes answer

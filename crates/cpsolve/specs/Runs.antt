@@ -5,7 +5,7 @@ use Rattle.cps_outer.specs.Transfers.{TakesPrefix}
 use Rattle.cpsolve.specs.declared.answer.Answer.{Answer}
 use Rattle.cpsolve.specs.declared.ran.Ran.{Ran}
 use Rattle.cpsolve.specs.Inputs.{most_bytes}
-use Rattle.cpsolve.specs.Answers.{Answers}
+use Rattle.cpsolve.specs.Answers.{IsAnswerTo}
 
 -- an exit status with which no text is written: a read failed, or memory ran out
 abbrev pub is_silent : ℕ → Bool
@@ -25,7 +25,7 @@ pub record GivesOut (words : List (List ℕ)) (left held_before held_after : Opt
   pub bytes : List ℕ
   pub answer : Answer
   pub input : AreLeft left bytes
-  pub right : Answers words bytes answer
+  pub right : IsAnswerTo words bytes answer
   pub outcome : ran.outcome ≡ answer.outcome
   pub whole : ran.exit ≢ 4 → (ran.exit ≡ answer.exit) × Appends held_before held_after answer.text
   pub part : ran.exit ≡ 4 → TakesPrefix held_before held_after answer.text

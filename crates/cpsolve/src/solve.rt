@@ -3,7 +3,7 @@ ghost use Rattle.std.specs.Prelude.{◌≡◌, ◌≢◌, ◌≤◌, IfOk, OnOk,
 ghost use Rattle.std.specs.Io.KnownBytes.{Appends};
 ghost use Rattle.cps_outer.specs.Faults.{Rose};
 ghost use Rattle.cps_outer.specs.Transfers.{TakesPrefix};
-ghost use Rattle.cpsolve.specs.Answers.{Answers};
+ghost use Rattle.cpsolve.specs.Answers.{IsAnswerTo};
 ghost use Rattle.cps_command.specs.Lines.{texts_of, IsReadingLine, ReadsNothing};
 ghost use Rattle.cpsolve.specs.Runs.{is_silent, AreLeft, IsReadThrough, GivesOut};
 ghost use Rattle.cpsolve.specs.declared.solve.Unanswered.TheVariants.{OutOfMemory};
@@ -46,7 +46,7 @@ fn answer_of<R: Threads + Wait + Sync, S: Source, G: Gate + Sync>(
     source: &mut S,
     gate: &G,
 ) -> Result<Answer, Unanswered>
-    ensures right { IfOk result (λ answer. (bytes : List ℕ) × AreLeft (S.left source.old) bytes × Answers (texts_of words.now) bytes answer) }
+    ensures right { IfOk result (λ answer. (bytes : List ℕ) × AreLeft (S.left source.old) bytes × IsAnswerTo (texts_of words.now) bytes answer) }
     ensures read { OnOk result (IsReadingLine (texts_of words.now) → IsReadThrough (S.left source.old) (S.left source.new)) }
     ensures nothing { ReadsNothing (texts_of words.now) → (source.new ≡ source.old) × (result ≢ Err Unanswered.ReadFault) }
     ensures fault { IsErrOf result Unanswered.ReadFault → Rose (S.faults source.old) (S.faults source.new) }

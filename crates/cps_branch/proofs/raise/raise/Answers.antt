@@ -2,7 +2,7 @@ use Rattle.std.specs.Prelude.{◌↔◌, IsTrue}
 use Rattle.std.proofs.Common.{◌≡◌, Bool, length, get_or, pos, refl, sym, subst, arith, ◌∙◌, true≢false, inl, inr}
 use Rattle.cps_literal.specs.declared.atom.Atom.{Atom}
 use Rattle.cps_literal.specs.declared.atom.Op.TheVariants.{Le}
-use Rattle.cps_branch.specs.Activities.{Reaches}
+use Rattle.cps_branch.specs.Activities.{ReachesLimit}
 use Rattle.cps_branch.proofs.Raising.{are_marked-more, gains-more, reaches-one, reaches-kept}
 use Rattle.cps_branch.proofs.raise.raise.Goals as goal
 use Rattle.cps_branch.proofs.raise.raise.Goals.{then-raise_one, else-raise_one}
@@ -22,7 +22,7 @@ loop-atom-preserved c =
     let inv = c.loop-atom.invariant in
     let t = get_or clause k none in
     let len : length new ≡ length mid = omega arith in
-    let P : Bool → Type 0 = λ b. IsTrue b ↔ Reaches new in
+    let P : Bool → Type 0 = λ b. IsTrue b ↔ ReachesLimit new in
     record {
       marks_length = omega (arith, inv.marks_length);
       gains = gains-more clause k t none marks marks' c.args.activities.now mid new (omega arith) refl len inv.marked c.raise_one.ensures.raises inv.gains;

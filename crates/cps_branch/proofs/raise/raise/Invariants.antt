@@ -1,7 +1,7 @@
 -- The activities and marks after some of the atoms.
 use Rattle.std.specs.Prelude.{◌↔◌, IsTrue}
 use Rattle.std.proofs.Common.{◌≡◌, length, take}
-use Rattle.cps_branch.specs.Activities.{AreGained, Reaches}
+use Rattle.cps_branch.specs.Activities.{AreGained, ReachesLimit}
 use Rattle.cps_branch.proofs.Raising.{AreMarked}
 use Rattle.cps_branch.proofs.raise.raise.Given as goal
 
@@ -10,5 +10,5 @@ invariant-loop-atom l = record {
   marks_length : length l.marks ≡ length l.activities;
   gains : AreGained (take l.atom-index l.clause) l.initial.activities l.activities;
   marked : AreMarked (take l.atom-index l.clause) (length l.initial.activities) l.marks;
-  reached : IsTrue l.reached ↔ Reaches l.activities;
+  reached : IsTrue l.reached ↔ ReachesLimit l.activities;
 }

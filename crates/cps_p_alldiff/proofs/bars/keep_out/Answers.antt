@@ -2,7 +2,7 @@ use Rattle.std.proofs.Common.{◌∙◌, pos, List, arith, sym, ap, subst}
 use Rattle.cps_rule.specs.declared.rule.Narrowing.{Narrowing}
 use Rattle.cps_p_alldiff.specs.declared.interval.Interval.{Interval}
 use Rattle.cps_p_alldiff.specs.Intervals.{IsBounded}
-use Rattle.cps_p_alldiff.specs.Bars.{AreGiven}
+use Rattle.cps_p_alldiff.specs.Bars.{AreGivenBars}
 use Rattle.cps_p_alldiff.proofs.Certifying.{zip_length}
 use Rattle.cps_p_alldiff.proofs.Giving.{bar_given, given_more}
 use Rattle.cps_p_alldiff.proofs.bars.keep_out.Goals as goal
@@ -30,9 +30,9 @@ loop-place-preserved c =
     let l = c.loop-place-test.true in
     elim c.if-not-covers.branch [
       | then-not-covers+in-Some+in_ok-push-in-Some w ↦
-          subst (λ (ns : List Narrowing). AreGiven s is ns) (sym (ap (λ v. v.items) w.found-is))
+          subst (λ (ns : List Narrowing). AreGivenBars s is ns) (sym (ap (λ v. v.items) w.found-is))
           (given_more s is c.loop-place.found.items w.push.new.self.items _ w.in_ok-push-in-Some.ensures.items c.loop-place.invariant
           (bar_given s is es c.args.hall.now k 0 no_ends w.in-Some.target c.requires.subjects c.requires.bounded c.requires.full (omega arith) (sym c.covers.ensures ∙ w.if-not-covers.true) w.in-Some.ensures))
-      | then-not-covers+in-None w ↦ subst (λ (ns : List Narrowing). AreGiven s is ns) (sym (ap (λ v. v.items) w.found-is)) c.loop-place.invariant
-      | else-not-covers w ↦ subst (λ (ns : List Narrowing). AreGiven s is ns) (sym (ap (λ v. v.items) w.found-is)) c.loop-place.invariant
+      | then-not-covers+in-None w ↦ subst (λ (ns : List Narrowing). AreGivenBars s is ns) (sym (ap (λ v. v.items) w.found-is)) c.loop-place.invariant
+      | else-not-covers w ↦ subst (λ (ns : List Narrowing). AreGivenBars s is ns) (sym (ap (λ v. v.items) w.found-is)) c.loop-place.invariant
     ]

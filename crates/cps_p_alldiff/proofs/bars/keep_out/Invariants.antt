@@ -1,5 +1,5 @@
-use Rattle.cps_p_alldiff.specs.Bars.{AreGiven}
+use Rattle.cps_p_alldiff.specs.Bars.{AreGivenBars}
 use Rattle.cps_p_alldiff.proofs.bars.keep_out.Given as goal
 
 abbrev pub invariant-loop-place : goal.invariant-loop-place
-invariant-loop-place l = AreGiven l.store l.subjects l.found.items
+invariant-loop-place l = AreGivenBars l.store l.subjects l.found.items

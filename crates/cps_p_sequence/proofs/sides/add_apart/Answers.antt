@@ -1,6 +1,6 @@
 use Rattle.std.proofs.Common.{List, sym, subst}
 use Rattle.cps_rule.specs.declared.rule.Narrowing.{Narrowing}
-use Rattle.cps_p_sequence.specs.Inverses.{AreGiven, AreTrue}
+use Rattle.cps_p_sequence.specs.Inverses.{AreGivenPlaces, AreTrue}
 use Rattle.cps_p_sequence.proofs.Apart.{implied_given, implied_denied, both_given, first_true, second_true}
 use Rattle.cps_p_sequence.proofs.sides.add_apart.Goals as goal
 
@@ -8,7 +8,7 @@ pub returns-clause-given : goal.returns-clause-given
 returns-clause-given c b implies gs =
     let s = c.args.store.now in
     let more = c.as_slice.result.now in
-    let part : AreGiven b s more = subst (λ (ns : List Narrowing). AreGiven b s ns) (sym c.as_slice.ensures.value) (implied_given b c.args.side.now implies s c.look.new.found.items c.in_ok-judged.ensures.given) in
+    let part : AreGivenPlaces b s more = subst (λ (ns : List Narrowing). AreGivenPlaces b s ns) (sym c.as_slice.ensures.value) (implied_given b c.args.side.now implies s c.look.new.found.items c.in_ok-judged.ensures.given) in
     both_given s c.args.found.now.items more c.extend_from_slice.new.self.items c.in_ok-extend_from_slice.ensures.items b gs part
 
 pub returns-clause-kept : goal.returns-clause-kept

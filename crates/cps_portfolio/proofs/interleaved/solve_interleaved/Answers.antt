@@ -8,7 +8,7 @@ use Rattle.cps_port.specs.Cores.{Core, actor_count, first_core}
 use Rattle.cps_search.specs.Ends.{Ending, IsOver}
 use Rattle.cps_portfolio.specs.declared.interleaved.Turning.{Turning}
 use Rattle.cps_portfolio.specs.declared.outcome.Outcome.{Outcome}
-use Rattle.cps_portfolio.specs.Workers.{search_of}
+use Rattle.cps_portfolio.specs.Workers.{worker_search}
 use Rattle.cps_portfolio.specs.Outcomes.{CameTo}
 use Rattle.cps_portfolio.specs.Turning.{AreFresh, AreTurning, IsDrawnRun, TakesDrawnTurns, ended_of, words_of_seed}
 use Rattle.cps_portfolio.proofs.Crews.{written}
@@ -38,7 +38,7 @@ finish_all-requires c =
     let full : c.in_ok-crew.crew.len ≡ length xs = search rules in
     let w = written c.in_ok-crew.crew.len xs ys full len in
     let t = c.in_ok-turns.ensures in
-    subst (λ (l : List Turning). All (λ (x : Turning). IsOver (search_of x.worker).said) l) (sym w) (each_over c.in_ok-core.core.model o.gap o.conflicts _ c.take_turns-turns.new.port.core.now ys t.crew t.over)
+    subst (λ (l : List Turning). All (λ (x : Turning). IsOver (worker_search x.worker).said) l) (sym w) (each_over c.in_ok-core.core.model o.gap o.conflicts _ c.take_turns-turns.new.port.core.now ys t.crew t.over)
 
 pub outcome_of-requires : goal.outcome_of-requires
 outcome_of-requires c =

@@ -9,7 +9,7 @@ use Rattle.cps_schema.specs.Tables.{expression_message, number, use_in, table_of
 use Rattle.cps_schema.specs.Readings.{value_numbers}
 use Rattle.cps_schema.specs.Parts.{expression_slots}
 use Rattle.cps_schema.proofs.Steps.{same_name, table_use, repeated_passes, repeated_stops, not_read_stops, if_passes, if_stops}
-use Rattle.cps_schema.specs.Slots.{AreGiven}
+use Rattle.cps_schema.specs.Slots.{AreGivenSlots}
 use Rattle.cps_schema.proofs.Slots.{given_after, slot_passes, slot_stops}
 use Rattle.cps_schema.proofs.expression.add_field.Goals as goal
 
@@ -18,7 +18,7 @@ returns-then-eq-clause-passes c =
     let w = written_of c.args.source.now in
     let f = c.args.field.now in
     let name : token_text w f.name ≡ codes "vars" = same_name _ _ _ _ c.eq.result c.eq.ensures c.if-eq.true c.token_text-name.ensures c.as_slice.ensures in
-    if_passes w expression_message f (λ (before : List (List ℕ)). AreGiven (expression_slots c.args.parts.now) before) (λ (before : List (List ℕ)). AreGiven (expression_slots c.args.parts.now) before) c.add_refs.result
+    if_passes w expression_message f (λ (before : List (List ℕ)). AreGivenSlots (expression_slots c.args.parts.now) before) (λ (before : List (List ℕ)). AreGivenSlots (expression_slots c.args.parts.now) before) c.add_refs.result
     (repeated_passes w expression_message f (number Int32) c.add_refs.result (table_use _ _ _ _ name refl) c.add_refs.ensures.fault)
     (λ before given. given_after (token_text w f.name) (codes "vars") (expression_slots c.args.parts.now) before name given)
 
@@ -37,7 +37,7 @@ returns-then-eq-clause-err c =
     let w = written_of c.args.source.now in
     let f = c.args.field.now in
     let name : token_text w f.name ≡ codes "vars" = same_name _ _ _ _ c.eq.result c.eq.ensures c.if-eq.true c.token_text-name.ensures c.as_slice.ensures in
-    if_stops w expression_message f (λ (before : List (List ℕ)). AreGiven (expression_slots c.args.parts.now) before) c.add_refs.result
+    if_stops w expression_message f (λ (before : List (List ℕ)). AreGivenSlots (expression_slots c.args.parts.now) before) c.add_refs.result
     (repeated_stops w expression_message f (number Int32) c.add_refs.result (table_use _ _ _ _ name refl) c.add_refs.ensures.err)
 
 pub returns-then-eq-2-clause-passes : goal.returns-then-eq-2-clause-passes
@@ -45,7 +45,7 @@ returns-then-eq-2-clause-passes c =
     let w = written_of c.args.source.now in
     let f = c.args.field.now in
     let name : token_text w f.name ≡ codes "coeffs" = same_name _ _ _ _ c.eq-else-eq.result c.eq-else-eq.ensures c.if-eq-2.true c.token_text-name.ensures c.as_slice-else-eq.ensures in
-    if_passes w expression_message f (λ (before : List (List ℕ)). AreGiven (expression_slots c.args.parts.now) before) (λ (before : List (List ℕ)). AreGiven (expression_slots c.args.parts.now) before) c.add_ints.result
+    if_passes w expression_message f (λ (before : List (List ℕ)). AreGivenSlots (expression_slots c.args.parts.now) before) (λ (before : List (List ℕ)). AreGivenSlots (expression_slots c.args.parts.now) before) c.add_ints.result
     (repeated_passes w expression_message f (number Int64) c.add_ints.result (table_use _ _ _ _ name refl) c.add_ints.ensures.fault)
     (λ before given. given_after (token_text w f.name) (codes "coeffs") (expression_slots c.args.parts.now) before name given)
 
@@ -64,7 +64,7 @@ returns-then-eq-2-clause-err c =
     let w = written_of c.args.source.now in
     let f = c.args.field.now in
     let name : token_text w f.name ≡ codes "coeffs" = same_name _ _ _ _ c.eq-else-eq.result c.eq-else-eq.ensures c.if-eq-2.true c.token_text-name.ensures c.as_slice-else-eq.ensures in
-    if_stops w expression_message f (λ (before : List (List ℕ)). AreGiven (expression_slots c.args.parts.now) before) c.add_ints.result
+    if_stops w expression_message f (λ (before : List (List ℕ)). AreGivenSlots (expression_slots c.args.parts.now) before) c.add_ints.result
     (repeated_stops w expression_message f (number Int64) c.add_ints.result (table_use _ _ _ _ name refl) c.add_ints.ensures.err)
 
 pub returns-then-eq-3-clause-passes : goal.returns-then-eq-3-clause-passes
@@ -72,7 +72,7 @@ returns-then-eq-3-clause-passes c =
     let w = written_of c.args.source.now in
     let f = c.args.field.now in
     let name : token_text w f.name ≡ codes "offset" = same_name _ _ _ _ c.eq-else-eq-2.result c.eq-else-eq-2.ensures c.if-eq-3.true c.token_text-name.ensures c.as_slice-else-eq-2.ensures in
-    slot_passes w expression_message f (number Int64) c.set_number.result (λ (before : List (List ℕ)). AreGiven (expression_slots c.args.parts.now) before) (λ (before : List (List ℕ)). AreGiven (expression_slots (record c.args.parts.now { offset = c.set_number.new.slot })) before)
+    slot_passes w expression_message f (number Int64) c.set_number.result (λ (before : List (List ℕ)). AreGivenSlots (expression_slots c.args.parts.now) before) (λ (before : List (List ℕ)). AreGivenSlots (expression_slots (record c.args.parts.now { offset = c.set_number.new.slot })) before)
     (is_some c.args.parts.now.offset) (table_use _ _ _ _ name refl) c.set_number.ensures.passes
     (λ before given. rw name given.0)
     (on_ok_weaker c.set_number.result
@@ -95,7 +95,7 @@ returns-then-eq-3-clause-err c =
     let w = written_of c.args.source.now in
     let f = c.args.field.now in
     let name : token_text w f.name ≡ codes "offset" = same_name _ _ _ _ c.eq-else-eq-2.result c.eq-else-eq-2.ensures c.if-eq-3.true c.token_text-name.ensures c.as_slice-else-eq-2.ensures in
-    slot_stops w expression_message f (number Int64) c.set_number.result (λ (before : List (List ℕ)). AreGiven (expression_slots c.args.parts.now) before)
+    slot_stops w expression_message f (number Int64) c.set_number.result (λ (before : List (List ℕ)). AreGivenSlots (expression_slots c.args.parts.now) before)
     (is_some c.args.parts.now.offset) (table_use _ _ _ _ name refl) c.set_number.ensures.err (λ before given. rw name given.0)
 
 pub returns-else-eq-3-clause-err : goal.returns-else-eq-3-clause-err

@@ -4,7 +4,7 @@ use Rattle.cps_schema.specs.Sources.{written_of}
 use Rattle.cps_schema.specs.Tables.{expression_message}
 use Rattle.cps_schema.specs.Faults.{fields_fault}
 use Rattle.cps_schema.specs.Readings.{read_expression}
-use Rattle.cps_schema.specs.Slots.{AreGiven}
+use Rattle.cps_schema.specs.Slots.{AreGivenSlots}
 use Rattle.cps_schema.specs.Parts.{expression_from, expression_slots}
 use Rattle.cps_schema.proofs.expression.read_expression.Given as goal
 
@@ -12,6 +12,6 @@ abbrev pub invariant-loop-field : goal.invariant-loop-field
 invariant-loop-field l =
     ((before : List (List ℕ)) × (fields_fault (written_of l.source) expression_message [] (field_list l.field-items)
     ≡ fields_fault (written_of l.source) expression_message before (field_list (drop l.field-index l.field-items)))
-    × AreGiven (expression_slots l.parts) before)
+    × AreGivenSlots (expression_slots l.parts) before)
     × (read_expression (written_of l.source) (field_list l.field-items)
     ≡ expression_from (written_of l.source) l.parts (field_list (drop l.field-index l.field-items)))

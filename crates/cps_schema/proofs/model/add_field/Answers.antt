@@ -10,7 +10,7 @@ use Rattle.cps_schema.specs.Tables.{model_message, variable_message, constraint_
 use Rattle.cps_schema.specs.Readings.{value_numbers, value_texts, value_messages, read_variable, read_constraint, read_objective, read_strategy, read_hint}
 use Rattle.cps_schema.specs.Parts.{model_slots}
 use Rattle.cps_schema.proofs.Steps.{same_name, other_text, table_use, repeated_passes, repeated_stops, not_read_stops, if_passes, if_stops, closable_passes, closable_refused}
-use Rattle.cps_schema.specs.Slots.{AreGiven}
+use Rattle.cps_schema.specs.Slots.{AreGivenSlots}
 use Rattle.cps_schema.proofs.Slots.{given_after, slot_passes, slot_stops}
 use Rattle.cps_schema.proofs.ModelFields.{no_model_field}
 use Rattle.cps_schema.proofs.model.add_field.Goals as goal
@@ -20,7 +20,7 @@ returns-then-eq-clause-passes c =
     let w = written_of c.args.source.now in
     let f = c.args.field.now in
     let name : token_text w f.name ≡ codes "name" = same_name _ _ _ _ c.eq.result c.eq.ensures c.if-eq.true c.token_text-name.ensures c.as_slice.ensures in
-    slot_passes w model_message f (text) c.set_name.result (λ (before : List (List ℕ)). AreGiven (model_slots c.args.parts.now) before) (λ (before : List (List ℕ)). AreGiven (model_slots (record c.args.parts.now { name = c.set_name.new.slot })) before)
+    slot_passes w model_message f (text) c.set_name.result (λ (before : List (List ℕ)). AreGivenSlots (model_slots c.args.parts.now) before) (λ (before : List (List ℕ)). AreGivenSlots (model_slots (record c.args.parts.now { name = c.set_name.new.slot })) before)
     (is_some c.args.parts.now.name) (table_use _ _ _ _ name refl) c.set_name.ensures.passes
     (λ before given. rw name given.0)
     (on_ok_weaker c.set_name.result
@@ -43,7 +43,7 @@ returns-then-eq-clause-err c =
     let w = written_of c.args.source.now in
     let f = c.args.field.now in
     let name : token_text w f.name ≡ codes "name" = same_name _ _ _ _ c.eq.result c.eq.ensures c.if-eq.true c.token_text-name.ensures c.as_slice.ensures in
-    slot_stops w model_message f (text) c.set_name.result (λ (before : List (List ℕ)). AreGiven (model_slots c.args.parts.now) before)
+    slot_stops w model_message f (text) c.set_name.result (λ (before : List (List ℕ)). AreGivenSlots (model_slots c.args.parts.now) before)
     (is_some c.args.parts.now.name) (table_use _ _ _ _ name refl) c.set_name.ensures.err (λ before given. rw name given.0)
 
 pub returns-then-eq-2-clause-passes : goal.returns-then-eq-2-clause-passes
@@ -51,7 +51,7 @@ returns-then-eq-2-clause-passes c =
     let w = written_of c.args.source.now in
     let f = c.args.field.now in
     let name : token_text w f.name ≡ codes "variables" = same_name _ _ _ _ c.eq-else-eq.result c.eq-else-eq.ensures c.if-eq-2.true c.token_text-name.ensures c.as_slice-else-eq.ensures in
-    if_passes w model_message f (λ (before : List (List ℕ)). AreGiven (model_slots c.args.parts.now) before) (λ (before : List (List ℕ)). AreGiven (model_slots c.args.parts.now) before) c.add_messages.result
+    if_passes w model_message f (λ (before : List (List ℕ)). AreGivenSlots (model_slots c.args.parts.now) before) (λ (before : List (List ℕ)). AreGivenSlots (model_slots c.args.parts.now) before) c.add_messages.result
     (repeated_passes w model_message f (message variable_message) c.add_messages.result (table_use _ _ _ _ name refl) c.add_messages.ensures.fault)
     (λ before given. given_after (token_text w f.name) (codes "variables") (model_slots c.args.parts.now) before name given)
 
@@ -70,7 +70,7 @@ returns-then-eq-2-clause-err c =
     let w = written_of c.args.source.now in
     let f = c.args.field.now in
     let name : token_text w f.name ≡ codes "variables" = same_name _ _ _ _ c.eq-else-eq.result c.eq-else-eq.ensures c.if-eq-2.true c.token_text-name.ensures c.as_slice-else-eq.ensures in
-    if_stops w model_message f (λ (before : List (List ℕ)). AreGiven (model_slots c.args.parts.now) before) c.add_messages.result
+    if_stops w model_message f (λ (before : List (List ℕ)). AreGivenSlots (model_slots c.args.parts.now) before) c.add_messages.result
     (repeated_stops w model_message f (message variable_message) c.add_messages.result (table_use _ _ _ _ name refl) c.add_messages.ensures.err)
 
 pub returns-then-eq-3-clause-passes : goal.returns-then-eq-3-clause-passes
@@ -78,7 +78,7 @@ returns-then-eq-3-clause-passes c =
     let w = written_of c.args.source.now in
     let f = c.args.field.now in
     let name : token_text w f.name ≡ codes "constraints" = same_name _ _ _ _ c.eq-else-eq-2.result c.eq-else-eq-2.ensures c.if-eq-3.true c.token_text-name.ensures c.as_slice-else-eq-2.ensures in
-    if_passes w model_message f (λ (before : List (List ℕ)). AreGiven (model_slots c.args.parts.now) before) (λ (before : List (List ℕ)). AreGiven (model_slots c.args.parts.now) before) c.add_messages-then-eq-3.result
+    if_passes w model_message f (λ (before : List (List ℕ)). AreGivenSlots (model_slots c.args.parts.now) before) (λ (before : List (List ℕ)). AreGivenSlots (model_slots c.args.parts.now) before) c.add_messages-then-eq-3.result
     (repeated_passes w model_message f (message constraint_message) c.add_messages-then-eq-3.result (table_use _ _ _ _ name refl) c.add_messages-then-eq-3.ensures.fault)
     (λ before given. given_after (token_text w f.name) (codes "constraints") (model_slots c.args.parts.now) before name given)
 
@@ -97,7 +97,7 @@ returns-then-eq-3-clause-err c =
     let w = written_of c.args.source.now in
     let f = c.args.field.now in
     let name : token_text w f.name ≡ codes "constraints" = same_name _ _ _ _ c.eq-else-eq-2.result c.eq-else-eq-2.ensures c.if-eq-3.true c.token_text-name.ensures c.as_slice-else-eq-2.ensures in
-    if_stops w model_message f (λ (before : List (List ℕ)). AreGiven (model_slots c.args.parts.now) before) c.add_messages-then-eq-3.result
+    if_stops w model_message f (λ (before : List (List ℕ)). AreGivenSlots (model_slots c.args.parts.now) before) c.add_messages-then-eq-3.result
     (repeated_stops w model_message f (message constraint_message) c.add_messages-then-eq-3.result (table_use _ _ _ _ name refl) c.add_messages-then-eq-3.ensures.err)
 
 pub returns-then-eq-4-clause-passes : goal.returns-then-eq-4-clause-passes
@@ -105,7 +105,7 @@ returns-then-eq-4-clause-passes c =
     let w = written_of c.args.source.now in
     let f = c.args.field.now in
     let name : token_text w f.name ≡ codes "objective" = same_name _ _ _ _ c.eq-else-eq-3.result c.eq-else-eq-3.ensures c.if-eq-4.true c.token_text-name.ensures c.as_slice-else-eq-3.ensures in
-    slot_passes w model_message f (message objective_message) c.set_once.result (λ (before : List (List ℕ)). AreGiven (model_slots c.args.parts.now) before) (λ (before : List (List ℕ)). AreGiven (model_slots (record c.args.parts.now { objective = c.set_once.new.slot })) before)
+    slot_passes w model_message f (message objective_message) c.set_once.result (λ (before : List (List ℕ)). AreGivenSlots (model_slots c.args.parts.now) before) (λ (before : List (List ℕ)). AreGivenSlots (model_slots (record c.args.parts.now { objective = c.set_once.new.slot })) before)
     (is_some c.args.parts.now.objective) (table_use _ _ _ _ name refl) c.set_once.ensures.passes
     (λ before given. rw name given.1.0)
     (on_ok_weaker c.set_once.result
@@ -128,7 +128,7 @@ returns-then-eq-4-clause-err c =
     let w = written_of c.args.source.now in
     let f = c.args.field.now in
     let name : token_text w f.name ≡ codes "objective" = same_name _ _ _ _ c.eq-else-eq-3.result c.eq-else-eq-3.ensures c.if-eq-4.true c.token_text-name.ensures c.as_slice-else-eq-3.ensures in
-    slot_stops w model_message f (message objective_message) c.set_once.result (λ (before : List (List ℕ)). AreGiven (model_slots c.args.parts.now) before)
+    slot_stops w model_message f (message objective_message) c.set_once.result (λ (before : List (List ℕ)). AreGivenSlots (model_slots c.args.parts.now) before)
     (is_some c.args.parts.now.objective) (table_use _ _ _ _ name refl) c.set_once.ensures.err (λ before given. rw name given.1.0)
 
 pub returns-then-eq-5-clause-passes : goal.returns-then-eq-5-clause-passes
@@ -136,7 +136,7 @@ returns-then-eq-5-clause-passes c =
     let w = written_of c.args.source.now in
     let f = c.args.field.now in
     let name : token_text w f.name ≡ codes "search_strategy" = same_name _ _ _ _ c.eq-else-eq-4.result c.eq-else-eq-4.ensures c.if-eq-5.true c.token_text-name.ensures c.as_slice-else-eq-4.ensures in
-    if_passes w model_message f (λ (before : List (List ℕ)). AreGiven (model_slots c.args.parts.now) before) (λ (before : List (List ℕ)). AreGiven (model_slots c.args.parts.now) before) c.add_messages-then-eq-5.result
+    if_passes w model_message f (λ (before : List (List ℕ)). AreGivenSlots (model_slots c.args.parts.now) before) (λ (before : List (List ℕ)). AreGivenSlots (model_slots c.args.parts.now) before) c.add_messages-then-eq-5.result
     (repeated_passes w model_message f (message strategy_message) c.add_messages-then-eq-5.result (table_use _ _ _ _ name refl) c.add_messages-then-eq-5.ensures.fault)
     (λ before given. given_after (token_text w f.name) (codes "search_strategy") (model_slots c.args.parts.now) before name given)
 
@@ -155,7 +155,7 @@ returns-then-eq-5-clause-err c =
     let w = written_of c.args.source.now in
     let f = c.args.field.now in
     let name : token_text w f.name ≡ codes "search_strategy" = same_name _ _ _ _ c.eq-else-eq-4.result c.eq-else-eq-4.ensures c.if-eq-5.true c.token_text-name.ensures c.as_slice-else-eq-4.ensures in
-    if_stops w model_message f (λ (before : List (List ℕ)). AreGiven (model_slots c.args.parts.now) before) c.add_messages-then-eq-5.result
+    if_stops w model_message f (λ (before : List (List ℕ)). AreGivenSlots (model_slots c.args.parts.now) before) c.add_messages-then-eq-5.result
     (repeated_stops w model_message f (message strategy_message) c.add_messages-then-eq-5.result (table_use _ _ _ _ name refl) c.add_messages-then-eq-5.ensures.err)
 
 pub returns-then-eq-6-clause-passes : goal.returns-then-eq-6-clause-passes
@@ -163,7 +163,7 @@ returns-then-eq-6-clause-passes c =
     let w = written_of c.args.source.now in
     let f = c.args.field.now in
     let name : token_text w f.name ≡ codes "solution_hint" = same_name _ _ _ _ c.eq-else-eq-5.result c.eq-else-eq-5.ensures c.if-eq-6.true c.token_text-name.ensures c.as_slice-else-eq-5.ensures in
-    slot_passes w model_message f (message hint_message) c.set_once-then-eq-6.result (λ (before : List (List ℕ)). AreGiven (model_slots c.args.parts.now) before) (λ (before : List (List ℕ)). AreGiven (model_slots (record c.args.parts.now { hint = c.set_once-then-eq-6.new.slot })) before)
+    slot_passes w model_message f (message hint_message) c.set_once-then-eq-6.result (λ (before : List (List ℕ)). AreGivenSlots (model_slots c.args.parts.now) before) (λ (before : List (List ℕ)). AreGivenSlots (model_slots (record c.args.parts.now { hint = c.set_once-then-eq-6.new.slot })) before)
     (is_some c.args.parts.now.hint) (table_use _ _ _ _ name refl) c.set_once-then-eq-6.ensures.passes
     (λ before given. rw name given.1.1.0)
     (on_ok_weaker c.set_once-then-eq-6.result
@@ -186,7 +186,7 @@ returns-then-eq-6-clause-err c =
     let w = written_of c.args.source.now in
     let f = c.args.field.now in
     let name : token_text w f.name ≡ codes "solution_hint" = same_name _ _ _ _ c.eq-else-eq-5.result c.eq-else-eq-5.ensures c.if-eq-6.true c.token_text-name.ensures c.as_slice-else-eq-5.ensures in
-    slot_stops w model_message f (message hint_message) c.set_once-then-eq-6.result (λ (before : List (List ℕ)). AreGiven (model_slots c.args.parts.now) before)
+    slot_stops w model_message f (message hint_message) c.set_once-then-eq-6.result (λ (before : List (List ℕ)). AreGivenSlots (model_slots c.args.parts.now) before)
     (is_some c.args.parts.now.hint) (table_use _ _ _ _ name refl) c.set_once-then-eq-6.ensures.err (λ before given. rw name given.1.1.0)
 
 pub returns-then-eq-7-clause-passes : goal.returns-then-eq-7-clause-passes
@@ -194,7 +194,7 @@ returns-then-eq-7-clause-passes c =
     let w = written_of c.args.source.now in
     let f = c.args.field.now in
     let name : token_text w f.name ≡ codes "assumptions" = same_name _ _ _ _ c.eq-else-eq-6.result c.eq-else-eq-6.ensures c.if-eq-7.true c.token_text-name.ensures c.as_slice-else-eq-6.ensures in
-    if_passes w model_message f (λ (before : List (List ℕ)). AreGiven (model_slots c.args.parts.now) before) (λ (before : List (List ℕ)). AreGiven (model_slots c.args.parts.now) before) c.add_assumptions.result
+    if_passes w model_message f (λ (before : List (List ℕ)). AreGivenSlots (model_slots c.args.parts.now) before) (λ (before : List (List ℕ)). AreGivenSlots (model_slots c.args.parts.now) before) c.add_assumptions.result
     (closable_passes w model_message f (number Int32) c.add_assumptions.result (table_use _ _ _ _ name refl) c.add_assumptions.ensures.passes)
     (λ before given. given_after (token_text w f.name) (codes "assumptions") (model_slots c.args.parts.now) before name given)
 
@@ -213,7 +213,7 @@ returns-then-eq-7-clause-err c =
     let w = written_of c.args.source.now in
     let f = c.args.field.now in
     let name : token_text w f.name ≡ codes "assumptions" = same_name _ _ _ _ c.eq-else-eq-6.result c.eq-else-eq-6.ensures c.if-eq-7.true c.token_text-name.ensures c.as_slice-else-eq-6.ensures in
-    if_stops w model_message f (λ (before : List (List ℕ)). AreGiven (model_slots c.args.parts.now) before) c.add_assumptions.result
+    if_stops w model_message f (λ (before : List (List ℕ)). AreGivenSlots (model_slots c.args.parts.now) before) c.add_assumptions.result
     (closable_refused w model_message f (number Int32) c.add_assumptions.result (table_use _ _ _ _ name refl) c.add_assumptions.ensures.err)
 
 pub returns-else-eq-7-clause-err : goal.returns-else-eq-7-clause-err

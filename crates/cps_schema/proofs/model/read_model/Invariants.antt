@@ -4,7 +4,7 @@ use Rattle.cps_schema.specs.Sources.{written_of}
 use Rattle.cps_schema.specs.Tables.{model_message}
 use Rattle.cps_schema.specs.Faults.{fields_fault}
 use Rattle.cps_schema.specs.Readings.{read_model}
-use Rattle.cps_schema.specs.Slots.{AreGiven}
+use Rattle.cps_schema.specs.Slots.{AreGivenSlots}
 use Rattle.cps_schema.specs.Parts.{model_from, model_slots}
 use Rattle.cps_schema.proofs.model.read_model.Given as goal
 
@@ -12,6 +12,6 @@ abbrev pub invariant-loop-field : goal.invariant-loop-field
 invariant-loop-field l =
     ((before : List (List ℕ)) × (fields_fault (written_of l.source) model_message [] (field_list l.field-items)
     ≡ fields_fault (written_of l.source) model_message before (field_list (drop l.field-index l.field-items)))
-    × AreGiven (model_slots l.parts) before)
+    × AreGivenSlots (model_slots l.parts) before)
     × (read_model (written_of l.source) (field_list l.field-items)
     ≡ model_from (written_of l.source) l.parts (field_list (drop l.field-index l.field-items)))

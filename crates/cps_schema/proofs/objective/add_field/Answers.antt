@@ -6,7 +6,7 @@ use Rattle.cps_schema.specs.Sources.{written_of}
 use Rattle.cps_schema.specs.Written.{token_text}
 use Rattle.cps_schema.specs.Tables.{objective_message, number, use_in, table_of}
 use Rattle.cps_schema.specs.Readings.{value_numbers}
-use Rattle.cps_schema.specs.Parts.{IsGiven}
+use Rattle.cps_schema.specs.Parts.{IsGivenObjective}
 use Rattle.cps_schema.proofs.Steps.{same_name, table_use, repeated_passes, repeated_stops, not_read_stops, if_passes, if_stops}
 use Rattle.cps_schema.proofs.Objectives.{other_given, offset_passes, offset_stops, scaling_passes, scaling_stops}
 use Rattle.cps_schema.proofs.objective.add_field.Goals as goal
@@ -16,7 +16,7 @@ returns-then-eq-clause-passes c =
     let w = written_of c.args.source.now in
     let f = c.args.field.now in
     let name : token_text w f.name ≡ codes "vars" = same_name _ _ _ _ c.eq.result c.eq.ensures c.if-eq.true c.token_text-name.ensures c.as_slice.ensures in
-    if_passes w objective_message f (IsGiven c.args.parts.now.offset c.args.parts.now.scaling) (IsGiven c.args.parts.now.offset c.args.parts.now.scaling) c.add_refs.result
+    if_passes w objective_message f (IsGivenObjective c.args.parts.now.offset c.args.parts.now.scaling) (IsGivenObjective c.args.parts.now.offset c.args.parts.now.scaling) c.add_refs.result
     (repeated_passes w objective_message f (number Int32) c.add_refs.result (table_use _ _ _ _ name refl) c.add_refs.ensures.fault)
     (other_given c.args.parts.now.offset c.args.parts.now.scaling (token_text w f.name) (codes "vars") name refl refl)
 
@@ -35,7 +35,7 @@ returns-then-eq-clause-err c =
     let w = written_of c.args.source.now in
     let f = c.args.field.now in
     let name : token_text w f.name ≡ codes "vars" = same_name _ _ _ _ c.eq.result c.eq.ensures c.if-eq.true c.token_text-name.ensures c.as_slice.ensures in
-    if_stops w objective_message f (IsGiven c.args.parts.now.offset c.args.parts.now.scaling) c.add_refs.result
+    if_stops w objective_message f (IsGivenObjective c.args.parts.now.offset c.args.parts.now.scaling) c.add_refs.result
     (repeated_stops w objective_message f (number Int32) c.add_refs.result (table_use _ _ _ _ name refl) c.add_refs.ensures.err)
 
 pub returns-then-eq-2-clause-passes : goal.returns-then-eq-2-clause-passes
@@ -43,7 +43,7 @@ returns-then-eq-2-clause-passes c =
     let w = written_of c.args.source.now in
     let f = c.args.field.now in
     let name : token_text w f.name ≡ codes "coeffs" = same_name _ _ _ _ c.eq-else-eq.result c.eq-else-eq.ensures c.if-eq-2.true c.token_text-name.ensures c.as_slice-else-eq.ensures in
-    if_passes w objective_message f (IsGiven c.args.parts.now.offset c.args.parts.now.scaling) (IsGiven c.args.parts.now.offset c.args.parts.now.scaling) c.add_ints.result
+    if_passes w objective_message f (IsGivenObjective c.args.parts.now.offset c.args.parts.now.scaling) (IsGivenObjective c.args.parts.now.offset c.args.parts.now.scaling) c.add_ints.result
     (repeated_passes w objective_message f (number Int64) c.add_ints.result (table_use _ _ _ _ name refl) c.add_ints.ensures.fault)
     (other_given c.args.parts.now.offset c.args.parts.now.scaling (token_text w f.name) (codes "coeffs") name refl refl)
 
@@ -62,7 +62,7 @@ returns-then-eq-2-clause-err c =
     let w = written_of c.args.source.now in
     let f = c.args.field.now in
     let name : token_text w f.name ≡ codes "coeffs" = same_name _ _ _ _ c.eq-else-eq.result c.eq-else-eq.ensures c.if-eq-2.true c.token_text-name.ensures c.as_slice-else-eq.ensures in
-    if_stops w objective_message f (IsGiven c.args.parts.now.offset c.args.parts.now.scaling) c.add_ints.result
+    if_stops w objective_message f (IsGivenObjective c.args.parts.now.offset c.args.parts.now.scaling) c.add_ints.result
     (repeated_stops w objective_message f (number Int64) c.add_ints.result (table_use _ _ _ _ name refl) c.add_ints.ensures.err)
 
 pub returns-then-eq-3-clause-passes : goal.returns-then-eq-3-clause-passes
@@ -98,7 +98,7 @@ returns-then-eq-5-clause-passes c =
     let w = written_of c.args.source.now in
     let f = c.args.field.now in
     let name : token_text w f.name ≡ codes "domain" = same_name _ _ _ _ c.eq-else-eq-4.result c.eq-else-eq-4.ensures c.if-eq-5.true c.token_text-name.ensures c.as_slice-else-eq-4.ensures in
-    if_passes w objective_message f (IsGiven c.args.parts.now.offset c.args.parts.now.scaling) (IsGiven c.args.parts.now.offset c.args.parts.now.scaling) c.add_ints-then-eq-5.result
+    if_passes w objective_message f (IsGivenObjective c.args.parts.now.offset c.args.parts.now.scaling) (IsGivenObjective c.args.parts.now.offset c.args.parts.now.scaling) c.add_ints-then-eq-5.result
     (repeated_passes w objective_message f (number Int64) c.add_ints-then-eq-5.result (table_use _ _ _ _ name refl) c.add_ints-then-eq-5.ensures.fault)
     (other_given c.args.parts.now.offset c.args.parts.now.scaling (token_text w f.name) (codes "domain") name refl refl)
 
@@ -107,7 +107,7 @@ returns-then-eq-5-clause-err c =
     let w = written_of c.args.source.now in
     let f = c.args.field.now in
     let name : token_text w f.name ≡ codes "domain" = same_name _ _ _ _ c.eq-else-eq-4.result c.eq-else-eq-4.ensures c.if-eq-5.true c.token_text-name.ensures c.as_slice-else-eq-4.ensures in
-    if_stops w objective_message f (IsGiven c.args.parts.now.offset c.args.parts.now.scaling) c.add_ints-then-eq-5.result
+    if_stops w objective_message f (IsGivenObjective c.args.parts.now.offset c.args.parts.now.scaling) c.add_ints-then-eq-5.result
     (repeated_stops w objective_message f (number Int64) c.add_ints-then-eq-5.result (table_use _ _ _ _ name refl) c.add_ints-then-eq-5.ensures.err)
 
 pub returns-else-eq-5-clause-err : goal.returns-else-eq-5-clause-err

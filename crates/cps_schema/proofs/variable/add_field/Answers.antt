@@ -9,7 +9,7 @@ use Rattle.cps_schema.specs.Tables.{variable_message, number, text, use_in, tabl
 use Rattle.cps_schema.specs.Readings.{value_numbers, value_texts}
 use Rattle.cps_schema.specs.Parts.{variable_slots}
 use Rattle.cps_schema.proofs.Steps.{same_name, table_use, repeated_passes, repeated_stops, not_read_stops, if_passes, if_stops}
-use Rattle.cps_schema.specs.Slots.{AreGiven}
+use Rattle.cps_schema.specs.Slots.{AreGivenSlots}
 use Rattle.cps_schema.proofs.Slots.{given_after, slot_passes, slot_stops}
 use Rattle.cps_schema.proofs.variable.add_field.Goals as goal
 
@@ -18,7 +18,7 @@ returns-then-eq-clause-passes c =
     let w = written_of c.args.source.now in
     let f = c.args.field.now in
     let name : token_text w f.name ≡ codes "name" = same_name _ _ _ _ c.eq.result c.eq.ensures c.if-eq.true c.token_text-name.ensures c.as_slice.ensures in
-    slot_passes w variable_message f (text) c.set_name.result (λ (before : List (List ℕ)). AreGiven (variable_slots c.args.parts.now) before) (λ (before : List (List ℕ)). AreGiven (variable_slots (record c.args.parts.now { name = c.set_name.new.slot })) before)
+    slot_passes w variable_message f (text) c.set_name.result (λ (before : List (List ℕ)). AreGivenSlots (variable_slots c.args.parts.now) before) (λ (before : List (List ℕ)). AreGivenSlots (variable_slots (record c.args.parts.now { name = c.set_name.new.slot })) before)
     (is_some c.args.parts.now.name) (table_use _ _ _ _ name refl) c.set_name.ensures.passes
     (λ before given. rw name given.0)
     (on_ok_weaker c.set_name.result
@@ -41,7 +41,7 @@ returns-then-eq-clause-err c =
     let w = written_of c.args.source.now in
     let f = c.args.field.now in
     let name : token_text w f.name ≡ codes "name" = same_name _ _ _ _ c.eq.result c.eq.ensures c.if-eq.true c.token_text-name.ensures c.as_slice.ensures in
-    slot_stops w variable_message f (text) c.set_name.result (λ (before : List (List ℕ)). AreGiven (variable_slots c.args.parts.now) before)
+    slot_stops w variable_message f (text) c.set_name.result (λ (before : List (List ℕ)). AreGivenSlots (variable_slots c.args.parts.now) before)
     (is_some c.args.parts.now.name) (table_use _ _ _ _ name refl) c.set_name.ensures.err (λ before given. rw name given.0)
 
 pub returns-then-eq-2-clause-passes : goal.returns-then-eq-2-clause-passes
@@ -49,7 +49,7 @@ returns-then-eq-2-clause-passes c =
     let w = written_of c.args.source.now in
     let f = c.args.field.now in
     let name : token_text w f.name ≡ codes "domain" = same_name _ _ _ _ c.eq-else-eq.result c.eq-else-eq.ensures c.if-eq-2.true c.token_text-name.ensures c.as_slice-else-eq.ensures in
-    if_passes w variable_message f (λ (before : List (List ℕ)). AreGiven (variable_slots c.args.parts.now) before) (λ (before : List (List ℕ)). AreGiven (variable_slots c.args.parts.now) before) c.add_ints.result
+    if_passes w variable_message f (λ (before : List (List ℕ)). AreGivenSlots (variable_slots c.args.parts.now) before) (λ (before : List (List ℕ)). AreGivenSlots (variable_slots c.args.parts.now) before) c.add_ints.result
     (repeated_passes w variable_message f (number Int64) c.add_ints.result (table_use _ _ _ _ name refl) c.add_ints.ensures.fault)
     (λ before given. given_after (token_text w f.name) (codes "domain") (variable_slots c.args.parts.now) before name given)
 
@@ -68,7 +68,7 @@ returns-then-eq-2-clause-err c =
     let w = written_of c.args.source.now in
     let f = c.args.field.now in
     let name : token_text w f.name ≡ codes "domain" = same_name _ _ _ _ c.eq-else-eq.result c.eq-else-eq.ensures c.if-eq-2.true c.token_text-name.ensures c.as_slice-else-eq.ensures in
-    if_stops w variable_message f (λ (before : List (List ℕ)). AreGiven (variable_slots c.args.parts.now) before) c.add_ints.result
+    if_stops w variable_message f (λ (before : List (List ℕ)). AreGivenSlots (variable_slots c.args.parts.now) before) c.add_ints.result
     (repeated_stops w variable_message f (number Int64) c.add_ints.result (table_use _ _ _ _ name refl) c.add_ints.ensures.err)
 
 pub returns-else-eq-2-clause-err : goal.returns-else-eq-2-clause-err

@@ -10,13 +10,13 @@ use Rattle.cps_reform.specs.declared.held.Held.{Held}
 use Rattle.cps_reform.specs.Forms.{term_at}
 use Rattle.cps_reform.specs.Marks.{assumed}
 use Rattle.cps_core_guided.specs.CoreTurns.{an_assumption}
-use Rattle.cps_core_guided.specs.Guiding.{core_of}
+use Rattle.cps_core_guided.specs.Guiding.{core_search_of}
 use Rattle.cps_core_guided.proofs.CoreWorking.{works-decided}
 use Rattle.cps_core_guided.proofs.guided.Guided.assume.Goals as goal
 
 pub returns-clause-goes_on : goal.returns-clause-goes_on
 returns-clause-goes_on g c = λ part.
-    let s = core_of c.args.self.now in
+    let s = core_search_of c.args.self.now in
     let a = c.assumption-atom.result in
     let is : a ≡ assumed (term_at s.form.terms c.args.place) = c.assumption-atom.ensures ∙ ap (λ (ts : List Held). assumed (term_at ts c.args.place)) c.terms.ensures in
     record {
@@ -29,7 +29,7 @@ returns-clause-goes_on g c = λ part.
 
 pub returns-clause-works : goal.returns-clause-works
 returns-clause-works g c =
-    let s = core_of c.args.self.now in
+    let s = core_search_of c.args.self.now in
     let t = c.decide.new.self in
     let a = c.assumption-atom.result in
     let b = c.args.self.now.brancher in

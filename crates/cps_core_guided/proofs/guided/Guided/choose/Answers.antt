@@ -4,13 +4,13 @@ use Rattle.cps_branch.specs.Scope.{AreSameUpTo}
 use Rattle.cps_search.specs.Searches.{Search}
 use Rattle.cps_search.proofs.Working.{decided_onward}
 use Rattle.cps_core_guided.specs.CoreTurns.{a_choice}
-use Rattle.cps_core_guided.specs.Guiding.{core_of}
+use Rattle.cps_core_guided.specs.Guiding.{core_search_of}
 use Rattle.cps_core_guided.proofs.CoreWorking.{works-decided}
 use Rattle.cps_core_guided.proofs.guided.Guided.choose.Goals as goal
 
 pub returns-clause-goes_on : goal.returns-clause-goes_on
 returns-clause-goes_on g c = λ part.
-    let s = core_of c.args.self.now in
+    let s = core_search_of c.args.self.now in
     let d = c.in_ok-decide_next.ensures.decided in
     record {
       atom = d.atom;
@@ -22,7 +22,7 @@ returns-clause-goes_on g c = λ part.
 
 pub returns-clause-works : goal.returns-clause-works
 returns-clause-works g c =
-    let s = core_of c.args.self.now in
+    let s = core_search_of c.args.self.now in
     let t = c.decide_next.new.frame in
     let b = c.decide_next.new.brancher in
     let d = c.in_ok-decide_next.ensures.decided in

@@ -3,7 +3,7 @@ use Rattle.cps_model.specs.declared.bound.Bound.{Bound}
 use Rattle.cps_port.specs.Order.{IsSmallBound, raised_to}
 use Rattle.cps_port.specs.Incumbents.{IsLowerBound}
 use Rattle.cps_search.proofs.Teaching.{lower_bound_of}
-use Rattle.cps_core_guided.specs.Guiding.{core_of}
+use Rattle.cps_core_guided.specs.Guiding.{core_search_of}
 use Rattle.cps_core_guided.specs.Reforming.{IsSoundCore}
 use Rattle.cps_core_guided.proofs.Keeping.{sound-ended, sound-raised}
 use Rattle.cps_core_guided.proofs.Reforming.{z-small}
@@ -19,8 +19,8 @@ raise-requires-2-clause-small g c = subst (λ (z : Bound). IsSmallBound z) (sym 
 
 pub returns-clause-sound : goal.returns-clause-sound
 returns-clause-sound g c =
-    let s = core_of c.args.self.now in
+    let s = core_search_of c.args.self.now in
     let none = c.requires.none c.if-is_reformed.false in
     let lower = subst (λ (z : Bound). IsLowerBound s.search.instance.model z) (sym c.z-z.ensures) (lower_bound_of s.search.instance.model s.search.z none) in
-    subst (λ (w : _). IsSoundCore (record (core_of w) { ended = true })) (sym c.raise-2.ensures.is)
+    subst (λ (w : _). IsSoundCore (record (core_search_of w) { ended = true })) (sym c.raise-2.ensures.is)
     (sound-ended (record s { raised = raised_to s.raised c.z-z.result }) (sound-raised s c.z-z.result c.requires.sound lower) none)

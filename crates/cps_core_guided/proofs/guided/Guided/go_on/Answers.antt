@@ -6,7 +6,7 @@ use Rattle.cps_search.specs.Ends.{BrancherTurn}
 use Rattle.cps_search.specs.declared.turn.Turn.TheVariants as turns
 use Rattle.cps_search.proofs.Results.{if_ok_weaker}
 use Rattle.cps_core_guided.specs.CoreTurns.{DecidedBy, GoesOn}
-use Rattle.cps_core_guided.specs.Guiding.{core_of}
+use Rattle.cps_core_guided.specs.Guiding.{core_search_of}
 use Rattle.cps_core_guided.proofs.Hearing.{decided-brancher, on-brancher}
 use Rattle.cps_core_guided.proofs.guided.Guided.go_on.Goals as goal
 
@@ -25,8 +25,8 @@ returns-in-Some-first_open-clause-others g c = g.met.Q.Port.unmoved c.args.port.
 
 pub returns-in-Some-clause-brancher : goal.returns-in-Some-clause-brancher
 returns-in-Some-clause-brancher g c =
-    let s = core_of c.args.self.now in
-    let t = core_of c.reform_at.new.self in
+    let s = core_search_of c.args.self.now in
+    let t = core_search_of c.reform_at.new.self in
     let old = c.args.self.now.brancher in
     let new = c.reform_at.new.self.brancher in
     let p = g.Q.Port.part c.args.port.now in

@@ -6,7 +6,7 @@ use Rattle.cps_port.specs.Order.{IsSmallBound}
 use Rattle.cps_reform.specs.Floors.{IsGreatest, IsPast, IsReform}
 use Rattle.cps_reform.specs.Forms.{Form, lifted}
 use Rattle.cps_trail.specs.Trail.{Trail, IsSound}
-use Rattle.cps_core_guided.specs.Guiding.{core_of}
+use Rattle.cps_core_guided.specs.Guiding.{core_search_of}
 use Rattle.cps_core_guided.proofs.Keeping.{sound-form}
 use Rattle.cps_core_guided.proofs.Reforming.{most-greatest, read_back, small-greatest, z-small}
 use Rattle.cps_core_guided.proofs.guided.Guided.lift.Goals as goal
@@ -16,25 +16,25 @@ lift_below-requires-clause-z g c = subst (λ (z : Bound). IsSmallBound z) (sym c
 
 pub lift_below-requires-clause-greatest : goal.lift_below-requires-clause-greatest
 lift_below-requires-clause-greatest g c =
-    let s = core_of c.args.self.now in
+    let s = core_search_of c.args.self.now in
     subst (λ (p : Problem). IsGreatest p.model (to_z w64 (of_z w64 s.greatest))) (sym c.instance.ensures)
     (subst (λ (v : ℤ). IsGreatest s.search.instance.model v) (sym (read_back s.greatest (small-greatest s c.requires.sound))) (most-greatest s c.requires.sound))
 
 pub lift_below-requires-clause-small : goal.lift_below-requires-clause-small
 lift_below-requires-clause-small g c =
-    let s = core_of c.args.self.now in
+    let s = core_search_of c.args.self.now in
     subst (λ (v : ℤ). unsigned_abs v < 2 ^ 62) (sym (read_back s.greatest (small-greatest s c.requires.sound))) (small-greatest s c.requires.sound)
 
 pub returns-clause-not_past : goal.returns-clause-not_past
 returns-clause-not_past g c =
-    let s = core_of c.args.self.now in
+    let s = core_search_of c.args.self.now in
     λ done. subst (λ (p : Problem). IsPast s.search.z s.greatest p.domains c.lift_below.new.self → ⊥) c.instance.ensures
     (subst (λ (v : ℤ). IsPast s.search.z v c.instance.result.now.domains c.lift_below.new.self → ⊥) (read_back s.greatest (small-greatest s c.requires.sound))
     (subst (λ (z : Bound). IsPast z (to_z w64 (of_z w64 s.greatest)) c.instance.result.now.domains c.lift_below.new.self → ⊥) c.z.ensures (c.lift_below.ensures.not_past done)))
 
 pub returns-clause-past : goal.returns-clause-past
 returns-clause-past g c =
-    let s = core_of c.args.self.now in
+    let s = core_search_of c.args.self.now in
     let f = lifted s.form c.args.place c.args.bound in
     λ done. subst (λ (p : Problem). IsPast s.search.z s.greatest p.domains f) c.instance.ensures
     (subst (λ (v : ℤ). IsPast s.search.z v c.instance.result.now.domains f) (read_back s.greatest (small-greatest s c.requires.sound))
@@ -43,7 +43,7 @@ returns-clause-past g c =
 
 pub returns-clause-sound : goal.returns-clause-sound
 returns-clause-sound g c =
-    let s = core_of c.args.self.now in
+    let s = core_search_of c.args.self.now in
     let f : Form = c.lift_below.new.self in
     let reform : IsReform s.search.instance s.search.z f = subst (λ (p : Problem). IsReform p s.search.z f) c.instance.ensures (subst (λ (z : Bound). IsReform c.instance.result.now z f) c.z.ensures c.lift_below.ensures.reform) in
     sound-form s f c.requires.sound reform c.lift_below.ensures.base (subst (λ (x : Trail). IsSound x) c.store.ensures c.entries.ensures.sound) c.requires.bottom

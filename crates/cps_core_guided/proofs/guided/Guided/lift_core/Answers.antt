@@ -10,7 +10,7 @@ use Rattle.cps_reform.specs.Cores.{core_terms}
 use Rattle.cps_reform.specs.Floors.{OfEachBelow}
 use Rattle.cps_reform.specs.Forms.{Form, lifted, term_at}
 use Rattle.cps_reform.proofs.Rooms.{bound-small}
-use Rattle.cps_core_guided.specs.Guiding.{Splits, Tried, core_of}
+use Rattle.cps_core_guided.specs.Guiding.{Splits, Tried, core_search_of}
 use Rattle.cps_core_guided.specs.Reforming.{CoreSearch, ReformsTo, alone}
 use Rattle.cps_core_guided.proofs.CoreLaw.{core-has-failed, core-some, core-weighs, in-core, risen-alone}
 use Rattle.cps_core_guided.proofs.Lifting.{lift-same, marked-sound, one_more, tried-lifted, tried-split, works-form}
@@ -22,19 +22,19 @@ fits_one v small = omega (arith, ints)
 
 pub overflow_add-atom : goal.overflow_add-atom
 overflow_add-atom g c =
-    let s = core_of c.args.self.now in
+    let s = core_search_of c.args.self.now in
     let value : c.args.atom.value ≡ (term_at s.form.terms c.args.place).bound = ap (λ (t : Atom). t.value) c.requires.atom in
     let small : unsigned_abs c.args.atom.value < 2 ^ 62 = subst (λ (v : ℤ). unsigned_abs v < 2 ^ 62) (sym value) (bound-small s.search.instance.domains s.form c.args.place c.requires.works.sound.form.roomy c.requires.failed.within) in
     subst (λ (x : ℤ). FitsSigned w64 (x +ℤ pos 1)) (sym (read_back c.args.atom.value small)) (fits_one c.args.atom.value small)
 
 pub lift-requires-clause-sound : goal.lift-requires-clause-sound
 lift-requires-clause-sound g c =
-    let s = core_of c.args.self.now in
+    let s = core_search_of c.args.self.now in
     marked-sound s c.mark_core.new.self c.args.place c.args.decisions.now c.requires.works.sound c.requires.failed.bottom (subst (λ (x : Trail). IsSound x) c.store.ensures c.entries.ensures.sound) c.mark_core.ensures
 
 pub lift-requires-clause-rises : goal.lift-requires-clause-rises
 lift-requires-clause-rises g c =
-    let s = core_of c.args.self.now in
+    let s = core_search_of c.args.self.now in
     let f : Form = c.mark_core.new.self in
     let value : c.args.atom.value ≡ (term_at s.form.terms c.args.place).bound = ap (λ (t : Atom). t.value) c.requires.atom in
     let small : unsigned_abs c.args.atom.value < 2 ^ 62 = subst (λ (v : ℤ). unsigned_abs v < 2 ^ 62) (sym value) (bound-small s.search.instance.domains s.form c.args.place c.requires.works.sound.form.roomy c.requires.failed.within) in
@@ -43,7 +43,7 @@ lift-requires-clause-rises g c =
 
 pub lift-requires-clause-risen : goal.lift-requires-clause-risen
 lift-requires-clause-risen g c =
-    let s = core_of c.args.self.now in
+    let s = core_search_of c.args.self.now in
     let f : Form = c.mark_core.new.self in
     let i = c.args.place in
     let value : c.args.atom.value ≡ (term_at s.form.terms i).bound = ap (λ (t : Atom). t.value) c.requires.atom in
@@ -56,8 +56,8 @@ lift-requires-clause-risen g c =
 
 pub returns-then-len-eq1-clause-tried : goal.returns-then-len-eq1-clause-tried
 returns-then-len-eq1-clause-tried g c =
-    let s = core_of c.args.self.now in
-    let t = core_of c.lift.new.self in
+    let s = core_search_of c.args.self.now in
+    let t = core_search_of c.lift.new.self in
     let f : Form = c.mark_core.new.self in
     let i = c.args.place in
     let decisions = c.args.decisions.now in
@@ -81,9 +81,9 @@ returns-then-len-eq1-clause-tried g c =
 
 pub returns-then-len-eq1-clause-works : goal.returns-then-len-eq1-clause-works
 returns-then-len-eq1-clause-works g c =
-    let s = core_of c.args.self.now in
+    let s = core_search_of c.args.self.now in
     let n = c.lift.new.self in
-    let t = core_of c.lift.new.self in
+    let t = core_search_of c.lift.new.self in
     let f : Form = c.mark_core.new.self in
     let old = c.args.self.now in
     let b = to_z w64 (of_z w64 (to_z w64 (of_z w64 c.args.atom.value) +ℤ pos 1)) in
@@ -97,7 +97,7 @@ returns-then-len-eq1-clause-works g c =
 
 pub split-requires-clause-works : goal.split-requires-clause-works
 split-requires-clause-works g c =
-    let s = core_of c.args.self.now in
+    let s = core_search_of c.args.self.now in
     let f : Form = c.mark_core.new.self in
     let old = c.args.self.now in
     let scope = g.B.Brancher.scope old.brancher in
@@ -106,15 +106,15 @@ split-requires-clause-works g c =
     works-form s (record s { form = f }) scope scope agrees agrees old.kept old.kept c.requires.works sound refl refl refl c.requires.works.agreed
 
 pub split-requires-clause-weights : goal.split-requires-clause-weights
-split-requires-clause-weights g c = core-weighs (core_of c.args.self.now) c.mark_core.new.self c.args.place c.args.decisions.now c.requires.failed c.mark_core.ensures
+split-requires-clause-weights g c = core-weighs (core_search_of c.args.self.now) c.mark_core.new.self c.args.place c.args.decisions.now c.requires.failed c.mark_core.ensures
 
 pub split-requires-clause-above : goal.split-requires-clause-above
-split-requires-clause-above g c = core-some (core_of c.args.self.now) c.mark_core.new.self c.args.place c.args.decisions.now c.requires.failed c.mark_core.ensures
+split-requires-clause-above g c = core-some (core_search_of c.args.self.now) c.mark_core.new.self c.args.place c.args.decisions.now c.requires.failed c.mark_core.ensures
 
 pub returns-clause-tried : goal.returns-clause-tried
 returns-clause-tried g c =
-    let s = core_of c.args.self.now in
-    let t = core_of c.split.new.self in
+    let s = core_search_of c.args.self.now in
+    let t = core_search_of c.split.new.self in
     let f : Form = c.mark_core.new.self in
     let i = c.args.place in
     let decisions = c.args.decisions.now in

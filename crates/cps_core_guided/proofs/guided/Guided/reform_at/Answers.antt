@@ -15,7 +15,7 @@ use Rattle.cps_reform.specs.declared.held.Held.{Held}
 use Rattle.cps_reform.specs.Forms.{term_at}
 use Rattle.cps_reform.specs.Marks.{assumed}
 use Rattle.cps_core_guided.specs.CoreTurns.{ExhaustsFrom, GoesOn, IsCoreWorking, RaisesTo, ReformsFrom}
-use Rattle.cps_core_guided.specs.Guiding.{HasFailed, Tried, core_of}
+use Rattle.cps_core_guided.specs.Guiding.{HasFailed, Tried, core_search_of}
 use Rattle.cps_core_guided.specs.Reforming.{CoreSearch}
 use Rattle.cps_core_guided.proofs.CoreWorking.{works-core}
 use Rattle.cps_core_guided.proofs.Failing.{exhausts-from, has-failed, reforms-from, sound-bottom, tried-bound}
@@ -29,7 +29,7 @@ not_refused b h = elim (bool_cases b) [
 
 pub reform_by-requires-clause-works : goal.reform_by-requires-clause-works
 reform_by-requires-clause-works g c =
-    let s = core_of c.args.self.now in
+    let s = core_search_of c.args.self.now in
     let w = c.requires.works in
     let r = c.restart.new.self in
     let i = c.args.place in
@@ -55,7 +55,7 @@ reform_by-requires-clause-works g c =
 
 pub reform_by-requires-clause-bottom : goal.reform_by-requires-clause-bottom
 reform_by-requires-clause-bottom g c =
-    let s = core_of c.args.self.now in
+    let s = core_search_of c.args.self.now in
     let w = c.requires.works in
     let r = c.restart.new.self in
     let i = c.args.place in
@@ -68,7 +68,7 @@ reform_by-requires-clause-bottom g c =
 
 pub reform_by-requires-clause-failed : goal.reform_by-requires-clause-failed
 reform_by-requires-clause-failed g c =
-    let s = core_of c.args.self.now in
+    let s = core_search_of c.args.self.now in
     let w = c.requires.works in
     let r = c.restart.new.self in
     let i = c.args.place in
@@ -86,7 +86,7 @@ reform_by-requires-clause-failed g c =
 
 pub conclude-requires-clause-base : goal.conclude-requires-clause-base
 conclude-requires-clause-base g c =
-    let s = core_of c.args.self.now in
+    let s = core_search_of c.args.self.now in
     let w = c.requires.works in
     let r = c.restart.new.self in
     let i = c.args.place in
@@ -94,14 +94,14 @@ conclude-requires-clause-base g c =
     let kept_same : c.decisions_behind.new.self ≡ s.search = c.in_ok-decisions.ensures.same in
     let is : r ≡ moved s.search r.store r.rested = c.restart.ensures.is ∙ ap (λ (x : Search). moved x r.store r.rested) kept_same in
     let back : GoesBack s.search.store r.store 0 = subst (λ (x : Search). GoesBack x.store r.store 0) kept_same c.restart.ensures.back in
-    let v = core_of c.reform_by.new.self in
+    let v = core_search_of c.reform_by.new.self in
     let done = c.in_ok-is_reformed.is_reformed in
     let h : Tried (record s { search = moved s.search r.store r.rested }) v i decisions done = subst (λ (x : Search). Tried (record s { search = x }) v i decisions done) is c.in_ok-is_reformed.ensures.tried in
     tried-bound s v r.store r.rested i decisions done h c.in_ok-is_reformed.ensures.works.sound
 
 pub returns-clause-goes_on : goal.returns-clause-goes_on
 returns-clause-goes_on g c =
-    let s = core_of c.args.self.now in
+    let s = core_search_of c.args.self.now in
     let w = c.requires.works in
     let r = c.restart.new.self in
     let i = c.args.place in
@@ -112,14 +112,14 @@ returns-clause-goes_on g c =
     let atom : c.assumption-atom.result ≡ assumed (term_at s.form.terms i) = c.assumption-atom.ensures ∙ ap (λ (ts : List Held). assumed (term_at ts i)) c.terms.ensures in
     let behind : AreBehindIn s.search (assumed (term_at s.form.terms i)) decisions =
     subst (λ (us : List Atom). AreBehindIn s.search (assumed (term_at s.form.terms i)) us) (sym c.as_slice.ensures.value) (subst (λ (a : Atom). AreBehindIn s.search a c.in_ok-decisions.decisions.items) atom c.in_ok-decisions.ensures.behind) in
-    let v = core_of c.reform_by.new.self in
+    let v = core_search_of c.reform_by.new.self in
     let done = c.in_ok-is_reformed.is_reformed in
     let h : Tried (record s { search = moved s.search r.store r.rested }) v i decisions done = subst (λ (x : Search). Tried (record s { search = x }) v i decisions done) is c.in_ok-is_reformed.ensures.tried in
-    let t = core_of c.conclude.new.self in
+    let t = core_search_of c.conclude.new.self in
     let p = g.Q.Port.part c.args.port.now in
     let q = g.Q.Port.part c.conclude.new.port in
     let chooses = g.B.Brancher.chooses c.args.self.now.brancher in
-    let same : t ≡ record v { raised = t.raised; ended = t.ended } = ap (λ (x : _). core_of x) c.conclude.ensures.rest in
+    let same : t ≡ record v { raised = t.raised; ended = t.ended } = ap (λ (x : _). core_search_of x) c.conclude.ensures.rest in
     elim (bool_cases done) as (λ u. GoesOn chooses s t p q c.conclude.result) [
       | inl on ↦
           let e = c.conclude.ensures.reformed on in

@@ -7,7 +7,7 @@ use Rattle.cps_instance.specs.Terms.{Domains}
 use Rattle.cps_trail.specs.Trail.{IsFalseNow, Trail}
 use Rattle.cps_reform.specs.Floors.{OfEachBelow}
 use Rattle.cps_reform.specs.Forms.{lifted, no_term, term_at}
-use Rattle.cps_core_guided.specs.Guiding.{core_of}
+use Rattle.cps_core_guided.specs.Guiding.{core_search_of}
 use Rattle.cps_core_guided.specs.Reforming.{CoreSearch, IsLeastNow, at_bottom}
 use Rattle.cps_core_guided.proofs.Lifting.{lift-same, tried-lifted, works-form}
 use Rattle.cps_core_guided.proofs.Reforming.{base-rises, least-above, least-now, risen-least}
@@ -15,7 +15,7 @@ use Rattle.cps_core_guided.proofs.guided.Guided.reform_by.Goals as goal
 
 pub lift-requires-clause-rises : goal.lift-requires-clause-rises
 lift-requires-clause-rises g c =
-    let s = core_of c.args.self.now in
+    let s = core_search_of c.args.self.now in
     let term = term_at s.form.terms c.args.place in
     let v = c.min-least.result in
     let fits : FitsSigned w64 v = search rules in
@@ -27,7 +27,7 @@ lift-requires-clause-rises g c =
 
 pub lift-requires-clause-risen : goal.lift-requires-clause-risen
 lift-requires-clause-risen g c =
-    let s = core_of c.args.self.now in
+    let s = core_search_of c.args.self.now in
     let term = term_at s.form.terms c.args.place in
     let v = c.min-least.result in
     let fits : FitsSigned w64 v = search rules in
@@ -39,8 +39,8 @@ lift-requires-clause-risen g c =
 
 pub returns-in-No-clause-tried : goal.returns-in-No-clause-tried
 returns-in-No-clause-tried g c =
-    let s = core_of c.args.self.now in
-    let t = core_of c.lift.new.self in
+    let s = core_search_of c.args.self.now in
+    let t = core_search_of c.lift.new.self in
     let i = c.args.place in
     let term = term_at s.form.terms i in
     let v = c.min-least.result in
@@ -56,9 +56,9 @@ returns-in-No-clause-tried g c =
 
 pub returns-in-No-clause-works : goal.returns-in-No-clause-works
 returns-in-No-clause-works g c =
-    let s = core_of c.args.self.now in
+    let s = core_search_of c.args.self.now in
     let n = c.lift.new.self in
-    let t = core_of c.lift.new.self in
+    let t = core_search_of c.lift.new.self in
     let old = c.args.self.now in
     let w = c.requires.works in
     let k = c.lift.ensures.kept in

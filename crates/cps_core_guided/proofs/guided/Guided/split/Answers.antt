@@ -11,7 +11,7 @@ use Rattle.cps_reform.specs.Cores.{core_sum, least_weight, split}
 use Rattle.cps_reform.specs.Floors.{IsGreatest, IsPast, IsReform, NoneIsBelow}
 use Rattle.cps_reform.specs.Forms.{Form}
 use Rattle.cps_core_guided.specs.CoreTurns.{IsCoreWorking}
-use Rattle.cps_core_guided.specs.Guiding.{Splits, core_of}
+use Rattle.cps_core_guided.specs.Guiding.{Splits, core_search_of}
 use Rattle.cps_core_guided.specs.Reforming.{CoreSearch}
 use Rattle.cps_core_guided.proofs.CoreWorking.{works-grown}
 use Rattle.cps_core_guided.proofs.Reforming.{most-greatest, read_back, small-greatest, z-small}
@@ -20,7 +20,7 @@ use Rattle.cps_core_guided.proofs.guided.Guided.split.Goals as goal
 
 pub split_below-requires-clause-reform : goal.split_below-requires-clause-reform
 split_below-requires-clause-reform g c =
-    let s = core_of c.args.self.now in
+    let s = core_search_of c.args.self.now in
     let t = c.grow_core.new.frame in
     let z : t.z ≡ s.search.z = ap (λ (x : Search). x.z) c.in_ok-subject.ensures.grew.is in
     subst (λ (p : Problem). IsReform p c.z.result s.form) (sym c.instance.ensures) (subst (λ (b : Bound). IsReform t.instance b s.form) (sym (c.z.ensures ∙ z)) (c.in_ok-subject.ensures.reform s.search.z c.requires.works.sound.form))
@@ -30,7 +30,7 @@ split_below-requires-clause-z g c = subst (λ (z : Bound). IsSmallBound z) (sym 
 
 pub split_below-requires-clause-greatest : goal.split_below-requires-clause-greatest
 split_below-requires-clause-greatest g c =
-    let s = core_of c.args.self.now in
+    let s = core_search_of c.args.self.now in
     let t = c.grow_core.new.frame in
     let model : c.instance.result.now.model ≡ s.search.instance.model = ap (λ (p : Problem). p.model) c.instance.ensures ∙ c.in_ok-subject.ensures.grew.defines.model in
     subst (λ (m : CpModel). IsGreatest m (to_z w64 (of_z w64 s.greatest))) (sym model)
@@ -38,12 +38,12 @@ split_below-requires-clause-greatest g c =
 
 pub split_below-requires-clause-small : goal.split_below-requires-clause-small
 split_below-requires-clause-small g c =
-    let s = core_of c.args.self.now in
+    let s = core_search_of c.args.self.now in
     subst (λ (v : ℤ). unsigned_abs v < 2 ^ 62) (sym (read_back s.greatest (small-greatest s c.requires.works.sound))) (small-greatest s c.requires.works.sound)
 
 pub returns-clause-splits : goal.returns-clause-splits
 returns-clause-splits g c =
-    let s = core_of c.args.self.now in
+    let s = core_search_of c.args.self.now in
     let t = c.grow_core.new.frame in
     let f : Form = c.split_below.new.self in
     let n = c.in_ok-subject.subject in
@@ -72,7 +72,7 @@ returns-clause-splits g c =
 
 pub returns-clause-works : goal.returns-clause-works
 returns-clause-works g c =
-    let s = core_of c.args.self.now in
+    let s = core_search_of c.args.self.now in
     let t = c.grow_core.new.frame in
     let f : Form = c.split_below.new.self in
     let b = c.args.self.now.brancher in

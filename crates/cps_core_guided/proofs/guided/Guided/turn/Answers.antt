@@ -6,7 +6,7 @@ use Rattle.cps_search.specs.Turns.{Steps}
 use Rattle.cps_search.proofs.Results.{if_ok_weaker}
 use Rattle.cps_search.proofs.Working.{brancher_heard, imported_few, same_back, same_onward, stands_imported, turn_heard}
 use Rattle.cps_core_guided.specs.CoreTurns.{DecidedBy, GoesOn, TakesCoreTurn}
-use Rattle.cps_core_guided.specs.Guiding.{core_of}
+use Rattle.cps_core_guided.specs.Guiding.{core_search_of}
 use Rattle.cps_core_guided.proofs.CoreTurning.{frame-not-decided, not-ended, turn-frame, turn-on}
 use Rattle.cps_core_guided.proofs.CoreWorking.{works-frame}
 use Rattle.cps_core_guided.proofs.Hearing.{heard-brancher}
@@ -14,7 +14,7 @@ use Rattle.cps_core_guided.proofs.guided.Guided.turn.Goals as goal
 
 pub go_on-requires-clause-works : goal.go_on-requires-clause-works
 go_on-requires-clause-works g c =
-    let s = core_of c.args.self.now in
+    let s = core_search_of c.args.self.now in
     let m = c.steps.new.self in
     let b = c.args.self.now.brancher in
     let kept = c.args.self.now.kept in
@@ -34,7 +34,7 @@ go_on-requires-clause-works g c =
 
 pub returns-in-Some-clause-turn : goal.returns-in-Some-clause-turn
 returns-in-Some-clause-turn g c =
-    let s = core_of c.args.self.now in
+    let s = core_search_of c.args.self.now in
     let m = c.steps.new.self in
     let t = c.hear_turn.new.frame in
     let turn = c.in-Some.turn in
@@ -61,7 +61,7 @@ returns-in-Some-clause-brancher g c =
 
 pub returns-in-Some-clause-works : goal.returns-in-Some-clause-works
 returns-in-Some-clause-works g c =
-    let s = core_of c.args.self.now in
+    let s = core_search_of c.args.self.now in
     let m = c.steps.new.self in
     let t = c.hear_turn.new.frame in
     let turn = c.in-Some.turn in
@@ -89,9 +89,9 @@ returns-in-None-clause-others g c = g.met.Q.Port.moved_on c.args.port.now c.step
 
 pub returns-in-None-clause-turn : goal.returns-in-None-clause-turn
 returns-in-None-clause-turn g c =
-    let s = core_of c.args.self.now in
+    let s = core_search_of c.args.self.now in
     let m = c.steps.new.self in
-    let t = core_of c.go_on.new.self in
+    let t = core_search_of c.go_on.new.self in
     let rows = g.Q.Port.rows c.args.port.now in
     let p = g.Q.Port.part c.args.port.now in
     let o = g.Q.Port.part c.steps.new.port in

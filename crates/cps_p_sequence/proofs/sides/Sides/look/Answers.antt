@@ -2,14 +2,14 @@ use Rattle.std.proofs.Common.{List, sym, subst}
 use Rattle.std.proofs.lemmas.List.Elements.{All-nil}
 use Rattle.cps_rule.specs.declared.rule.Narrowing.{Narrowing}
 use Rattle.cps_rule.specs.Rules.{IsGiven}
-use Rattle.cps_p_sequence.specs.Inverses.{AreGiven}
+use Rattle.cps_p_sequence.specs.Inverses.{AreGivenPlaces}
 use Rattle.cps_p_sequence.proofs.Apart.{ok_possible, possible_of}
 use Rattle.cps_p_sequence.proofs.sides.Sides.look.Goals as goal
 
 pub returns-clause-given : goal.returns-clause-given
 returns-clause-given c b direct inverse =
     let s = c.args.store.now in
-    let start : AreGiven b s c.clear.new.self.items = subst (λ (ns : List Narrowing). AreGiven b s ns) (sym c.clear.ensures.items) (All-nil (λ (n : Narrowing). IsGiven b s n.target)) in
+    let start : AreGivenPlaces b s c.clear.new.self.items = subst (λ (ns : List Narrowing). AreGivenPlaces b s ns) (sym c.clear.ensures.items) (All-nil (λ (n : Narrowing). IsGiven b s n.target)) in
     c.in_ok-two.ensures.given b inverse (c.in_ok-one.ensures.given b direct start)
 
 pub returns-clause-denied : goal.returns-clause-denied

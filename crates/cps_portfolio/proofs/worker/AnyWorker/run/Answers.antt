@@ -2,7 +2,7 @@
 use Rattle.std.proofs.Common.{◌≡◌, ◌<◌, ◌∙◌, ℕ, refl, sym, ap, subst, false, true, Bool}
 use Rattle.cps_instance.specs.Problem.{Problem}
 use Rattle.cps_search.specs.Searches.{Search}
-use Rattle.cps_portfolio.specs.Workers.{known_of, search_of, HasTurned}
+use Rattle.cps_portfolio.specs.Workers.{known_of, worker_search, HasTurned}
 use Rattle.cps_portfolio.proofs.Going.{has_kept, left_in, lighter_in, none_taken, still_runs, turned_on}
 use Rattle.cps_portfolio.proofs.worker.AnyWorker.run.Goals as goal
 

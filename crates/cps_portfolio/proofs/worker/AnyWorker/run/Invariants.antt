@@ -1,13 +1,13 @@
 -- The worker took turns so far, none of which ended it.
 use Rattle.std.proofs.Common.{◌≡◌}
 use Rattle.cps_search.specs.Ends.{IsOver}
-use Rattle.cps_portfolio.specs.Workers.{known_of, search_of, kind_of, TakesTurnsAs}
+use Rattle.cps_portfolio.specs.Workers.{known_of, worker_search, kind_of, TakesTurnsAs}
 use Rattle.cps_portfolio.proofs.Going.{left_in}
 use Rattle.cps_portfolio.proofs.worker.AnyWorker.run.Given as goal
 
 abbrev pub invariant-turns : goal.invariant-turns
 invariant-turns g l = record {
-  running : IsOver (search_of l.self).said → ⊥;
+  running : IsOver (worker_search l.self).said → ⊥;
   turns : TakesTurnsAs (g.Q.Port.rows l.fn.port) (known_of l.fn.self) (known_of l.self) (g.Q.Port.part l.fn.port) (g.Q.Port.part l.port);
   kind : kind_of l.self ≡ kind_of l.fn.self;
   model : g.Q.Port.model l.port ≡ g.Q.Port.model l.fn.port;
