@@ -4,6 +4,9 @@ ghost use Rattle.cps_branch.specs.Luby.{IsLuby};
 
 use std::marker::Model;
 
+/// How many conflicts a member of the sequence stands for.
+const RESTART_CONFLICTS: u64 = 100;
+
 /// A member of Luby's sequence 1, 1, 2, 1, 1, 2, 4, .., by its number from 1 on.
 pub(crate) fn luby(member: u64) -> u64
     requires some { 0 < member }
@@ -34,13 +37,13 @@ pub(crate) struct Restarts {
 
 impl Model for Restarts {
     ghost use Rattle.std.specs.Prelude.{◌<◌, ◌*◌, ◌^◌};
-    ghost use Rattle.cps_branch.specs.Luby.{Pace};
+    ghost use Rattle.cps_branch.specs.Luby.{Pace, restart_conflicts};
 
     ghost Value = { Pace };
 
     ghost view = { λ r. record { restarts = r.done; conflicts = r.conflicts } };
 
-    ghost invariant = { λ r. r.conflicts < 100 * 2 ^ 32 };
+    ghost invariant = { λ r. r.conflicts < restart_conflicts * 2 ^ 32 };
 }
 
 impl Restarts {
@@ -62,7 +65,7 @@ impl Restarts {
     {
         let member = luby(u64::from(self.done) + 1);
         let conflicts = self.conflicts + 1;
-        if conflicts < 100 * member {
+        if conflicts < RESTART_CONFLICTS * member {
             self.conflicts = conflicts;
             return false;
         }

@@ -36,7 +36,7 @@ pub(crate) fn push_spans_subjects(spans: &[Span], subjects: &mut Vec<u32>) -> Re
 }
 
 /// A copy of a span.
-fn span_again(alloc: Global, span: &Span) -> Result<Span, AllocError>
+fn copy_of_span(alloc: Global, span: &Span) -> Result<Span, AllocError>
     ensures { IfOk result (λ again. again ≡ span.now) }
 {
     Ok(Span {
@@ -49,12 +49,12 @@ fn span_again(alloc: Global, span: &Span) -> Result<Span, AllocError>
 }
 
 /// A copy of a list of spans.
-fn spans_again(alloc: Global, spans: &[Span]) -> Result<Listed<Span>, AllocError>
+fn copy_of_spans(alloc: Global, spans: &[Span]) -> Result<Listed<Span>, AllocError>
     ensures { IfOk result (λ list. list ≡ spans.now) }
 {
     let mut list = Vec::new(alloc);
     for span in spans {
-        list.push(span_again(alloc, span)?)?;
+        list.push(copy_of_span(alloc, span)?)?;
     }
     Ok(Listed::from_vec(list))
 }
@@ -70,7 +70,7 @@ pub(crate) fn resource_of(
 {
     Ok(Resource {
         capacity,
-        spans: spans_again(alloc, spans)?,
+        spans: copy_of_spans(alloc, spans)?,
         demands: Listed::from_vec(Vec::from_slice(alloc, demands)?),
     })
 }

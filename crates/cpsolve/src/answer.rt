@@ -16,6 +16,7 @@ ghost use Rattle.cps_portfolio.specs.Turning.{IsDrawnRun};
 ghost use Rattle.cpsolve.specs.Inputs.{most_bytes, IsModelText, IsInput};
 ghost use Rattle.cpsolve.specs.Answers.{usage_text, valid_text, IsText, IsFaultText, Solves, Validates, Prints, AnswersInput, Does, IsInRange};
 
+use crate::exits::{BAD_INPUT, BAD_WORDS, DONE};
 use crate::generation::{demo_answer, gen_answer};
 use crate::input::{Unread, read_model, valid_model_of};
 use cps_command::Command;
@@ -56,14 +57,14 @@ pub fn usage_answer(alloc: Global) -> Result<Answer, AllocError>
         alloc,
         "usage: cpsolve solve|validate|print|gen|demo|check\n",
     )?;
-    Ok(text_answer(2, text))
+    Ok(text_answer(BAD_WORDS, text))
 }
 
 /// The answer to an input that has a fault.
 pub fn fault_answer(alloc: Global, fault: &Fault) -> Result<Answer, AllocError>
     ensures { IfOk result (IsText 1 (fault_text fault.now)) }
 {
-    Ok(text_answer(1, fault_text(alloc, fault)?))
+    Ok(text_answer(BAD_INPUT, fault_text(alloc, fault)?))
 }
 
 /// The answer to an input that could not be read as a model.
@@ -127,7 +128,7 @@ fn solve_answer<R: Threads + Wait + Sync, G: Gate + Sync>(
     let text = response_text(alloc, model.model(), &response)?;
     let Response { solution, .. } = response;
     Ok(Answer {
-        exit: 0,
+        exit: DONE,
         outcome: Some(Outcome {
             status,
             solution,
@@ -161,7 +162,7 @@ fn solve_input<R: Threads + Wait + Sync, G: Gate + Sync>(
 fn valid_answer(alloc: Global) -> Result<Answer, AllocError>
     ensures { IfOk result (IsText 0 valid_text) }
 {
-    Ok(text_answer(0, String::from_str(alloc, "valid\n")?))
+    Ok(text_answer(DONE, String::from_str(alloc, "valid\n")?))
 }
 
 /// The answer of `validate` to an input that is not too long.
@@ -181,7 +182,7 @@ fn print_answer(alloc: Global, model: &CpModel) -> Result<Answer, AllocError>
     ensures back { (bytes : List ℕ) → IsReadAs bytes model.now → IfOk result (λ answer. IsReadAs answer.text model.now) }
 {
     let text = model_text(alloc, model)?;
-    Ok(text_answer(0, text))
+    Ok(text_answer(DONE, text))
 }
 
 /// The answer of `print` to an input that is not too long. It tests no rule.

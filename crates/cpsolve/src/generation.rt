@@ -7,6 +7,7 @@ ghost use Rattle.cps_search.specs.Searches.{HasNoAssumptions};
 ghost use Rattle.cpsolve.specs.Answers.{model_of, demo_options, Generates, Demonstrates};
 
 use crate::answer::{Answer, text_answer};
+use crate::exits::DONE;
 use cps_command::Recipe;
 use cps_gen::generate;
 use cps_model::Text;
@@ -23,7 +24,7 @@ pub fn gen_answer(alloc: Global, recipe: &Recipe) -> Result<Answer, AllocError>
 {
     let model = generate(alloc, recipe.family, recipe.size, recipe.seed)?;
     let text = model_text(alloc, &model)?;
-    Ok(text_answer(0, text))
+    Ok(text_answer(DONE, text))
 }
 
 /// The model as a valid one, which it is.
@@ -65,7 +66,7 @@ pub fn demo_answer(alloc: Global, recipe: &Recipe) -> Result<Answer, AllocError>
     let outcome = solve_interleaved(alloc, &model, &options)?;
     let text = demo_text(alloc, model.model(), outcome.status, &outcome.solution)?;
     Ok(Answer {
-        exit: 0,
+        exit: DONE,
         outcome: Some(outcome),
         text: Text::from_string(text),
     })

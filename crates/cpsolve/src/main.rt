@@ -11,6 +11,7 @@
 #![tactic(auto)]
 
 mod answer;
+mod exits;
 mod generation;
 #[cfg(test)]
 mod generation_tests;

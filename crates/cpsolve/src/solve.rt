@@ -9,6 +9,7 @@ ghost use Rattle.cpsolve.specs.Runs.{is_silent, AreLeft, IsReadThrough, GivesOut
 ghost use Rattle.cpsolve.specs.declared.solve.Unanswered.TheVariants.{OutOfMemory};
 
 use crate::answer::{Answer, command_answer, fault_answer, usage_answer};
+use crate::exits::{OUT_OF_MEMORY, READ_FAILED, WRITE_FAILED};
 use crate::ran::Ran;
 use cps_command::command_of;
 use cps_outer::{Gate, ReadError, Sink, Source, WriteFault, read_all, write_all};
@@ -82,7 +83,7 @@ fn write_answer<K: Sink>(sink: &mut K, answer: Answer) -> Ran
             outcome: answer.outcome,
         },
         Err(WriteFault) => Ran {
-            exit: 4,
+            exit: WRITE_FAILED,
             outcome: answer.outcome,
         },
     }
@@ -124,11 +125,11 @@ pub fn solve_main<R: Threads + Wait + Sync, S: Source, K: Sink, G: Gate + Sync>(
     match answer_of(rt, alloc, words, source, gate) {
         Ok(answer) => write_answer(sink, answer),
         Err(Unanswered::ReadFault) => Ran {
-            exit: 3,
+            exit: READ_FAILED,
             outcome: None,
         },
         Err(Unanswered::OutOfMemory) => Ran {
-            exit: 5,
+            exit: OUT_OF_MEMORY,
             outcome: None,
         },
     }
