@@ -1,5 +1,5 @@
--- How a row stands for an entry: the clause's length, its bound, and two words for each of its atoms, which are the subject
--- with the comparison, and the number.
+-- How a row stands for an entry: the clause's length, its bound, and two words for each of its atoms, which are the
+-- subject with the comparison, and the number.
 use Rattle.std.specs.Prelude.{◌≡◌, ℕ, ◌+◌, ◌*◌, ◌/◌, ◌%◌, ◌<◌, ◌≤◌, ◌^◌, ◌==◌, if◌then◌else◌, List, [], ◌∷◌, All, length, slice_index, drop}
 use Rattle.cps_model.specs.declared.bound.Bound.{Bound}
 use Rattle.cps_literal.specs.declared.atom.Atom.{Atom}

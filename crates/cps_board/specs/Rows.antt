@@ -1,6 +1,6 @@
 -- The rule of the board, and what each step tells.
--- Word 0 counts the draws. Row r has 35 words from word 35 * r + 1 on: its gate, which is 0 while it is closed, and 34 words
--- of content.
+-- Word 0 counts the draws. Row r has 35 words from word 35 * r + 1 on: its gate, which is 0 while it is closed, and 34
+-- words of content.
 use Rattle.std.specs.Prelude.{◌≡◌, ◌≢◌, ℕ, ◌+◌, ◌-◌, ◌*◌, ◌/◌, ◌<◌, ◌≤◌, nat_lt, true, if◌then◌else◌, List, [], ◌∷◌, ◌++◌, length, min, slice_index, Some, None}
 use mathlib.Core.Option.{some}
 use lib.ListN.{get_elem?}
@@ -111,11 +111,19 @@ longer (x ∷ xs) (y ∷ ys) = x ∷ longer xs ys
 -- what two seats know together: both took rows from the first one on, so the longer list has the shorter one's entries.
 -- The count of misses is the first one's.
 abbrev pub both_parts : BoardPart → BoardPart → BoardPart
-both_parts p q = record p { mine = p.mine ++ q.mine; taken = longer p.taken q.taken; full = if p.full then true else q.full }
+both_parts p q = record p {
+  mine = p.mine ++ q.mine;
+  taken = longer p.taken q.taken;
+  full = if p.full then true else q.full;
+}
 
 -- the splits of two seats are never more than all: the rule knows so, and a seat alone does not
 abbrev pub joined : View → View → View
-joined v w = record v { splits = min (v.splits + w.splits) all_splits; draws = v.draws + w.draws; part = both_parts v.part w.part }
+joined v w = record v {
+  splits = min (v.splits + w.splits) all_splits;
+  draws = v.draws + w.draws;
+  part = both_parts v.part w.part;
+}
 
 abbrev pub with_part : View → BoardPart → View
 with_part v p = record v { part = p }
@@ -140,19 +148,24 @@ pub record Took (v : View) (e : Entry) : Type 0 where
 module _ {S : Type 0} where
   -- there are as many rows as slots
   abbrev pub row_drawn : Step S → Me S View → ℕ → Me S View → Type 0
-  row_drawn st me row me' = (row < st.slots → me' ≡ (drawing me.0 (with_row me.0.part row), me.1)) × (st.slots ≤ row → me' ≡ (drawing me.0 (with_past me.0.part), me.1))
+  row_drawn st me row me' = (row < st.slots → me' ≡ (drawing me.0 (with_row me.0.part row), me.1))
+      × (st.slots ≤ row → me' ≡ (drawing me.0 (with_past me.0.part), me.1))
 
   abbrev pub word_put : Step S → Me S View → ℕ → Me S View → Type 0
   word_put st me word me' = me' ≡ (filling me.0 (me.0.written ++ word ∷ []), me.1)
 
   abbrev pub row_opened : Step S → Me S View → ℕ → Me S View → Type 0
-  row_opened st me word me' = (row : ℕ) → me.0.part.drawn ≡ Some row → me' ≡ (with_part me.0 (with_mine me.0.part (entry_from row me.0.written)), me.1)
+  row_opened st me word me' = (row : ℕ) → me.0.part.drawn ≡ Some row
+      → me' ≡ (with_part me.0 (with_mine me.0.part (entry_from row me.0.written)), me.1)
 
   abbrev pub row_looked_at : Step S → Me S View → ℕ → Me S View → Type 0
   row_looked_at st me word me' =
-      (word ≡ 0 → (me' ≡ (with_part me.0 (with_misses me.0.part (me.0.part.misses + 1)), me.1)) × OwnEntry me.0.part (length me.0.part.taken) (λ _. ⊥))
+      (word ≡ 0 → (me' ≡ (with_part me.0 (with_misses me.0.part (me.0.part.misses + 1)), me.1))
+      × OwnEntry me.0.part (length me.0.part.taken) (λ _. ⊥))
       × (word ≢ 0 → (e : Entry) × (me' ≡ (with_part me.0 (with_taken me.0.part e), me.1)) × Took me.0 e)
 
   -- a word of an open row that the seat took
   abbrev pub word_read : Step S → Me S View → ℕ → Me S View → Type 0
-  word_read st me word me' = (me' ≡ me) × ((row k : ℕ) (e : Entry) → st.word ≡ row_words * row + (k + 2) → get_elem? me.0.part.taken row ≡ some e → k < length (entry_words e.below (entry_clause e)) → word ≡ slice_index (entry_words e.below (entry_clause e)) k)
+  word_read st me word me' = (me' ≡ me)
+      × ((row k : ℕ) (e : Entry) → st.word ≡ row_words * row + (k + 2) → get_elem? me.0.part.taken row ≡ some e
+      → k < length (entry_words e.below (entry_clause e)) → word ≡ slice_index (entry_words e.below (entry_clause e)) k)

@@ -38,13 +38,18 @@ pub fn fill(
     clause: &[Atom],
 )
     requires own { seat.old.table_id ≡ shared.now.table_id }
-    requires inside { (row < shared.now.table_id.slots) × (shared.now.table_id.slots ≤ 4096) × (shared.now.table_id.words ≡ 35 * shared.now.table_id.slots + 1) }
+    requires inside { (row < shared.now.table_id.slots) × (shared.now.table_id.slots ≤ 4096)
+        × (shared.now.table_id.words ≡ 35 * shared.now.table_id.slots + 1) }
     requires part { 0 < seat.old.me.0.splits }
     requires drawn { (seat.old.me.0.part.drawn ≡ Some row) × (seat.old.me.0.written ≡ []) }
     requires coded { IsCoded below clause.now }
     requires sound { IsSoundEntry shared.now.key (entry_of row below clause.now) }
     ensures own { (seat.new.table_id ≡ seat.old.table_id) × (seat.new.id ≡ seat.old.id) }
-    ensures shared { seat.new.me ≡ (with_part (filling seat.old.me.0 (entry_words below clause.now)) (with_mine seat.old.me.0.part (entry_of row below clause.now)), seat.old.me.1) }
+    ensures shared { seat.new.me ≡ (
+      with_part (filling seat.old.me.0 (entry_words below clause.now))
+          (with_mine seat.old.me.0.part (entry_of row below clause.now)),
+      seat.old.me.1,
+    ) }
 {
     let base = ROW_WORDS * row as usize;
     shared.store::<Put>(seat, base + 2, clause.len() as u64);
@@ -63,9 +68,11 @@ pub fn read_row(
     row: u32,
 ) -> Entry
     requires own { seat.old.table_id ≡ shared.now.table_id }
-    requires inside { (row < shared.now.table_id.slots) × (shared.now.table_id.slots ≤ 4096) × (shared.now.table_id.words ≡ 35 * shared.now.table_id.slots + 1) }
+    requires inside { (row < shared.now.table_id.slots) × (shared.now.table_id.slots ≤ 4096)
+        × (shared.now.table_id.words ≡ 35 * shared.now.table_id.slots + 1) }
     requires part { 0 < seat.old.me.0.splits }
-    requires taken { (e : EntryOf) × (get_elem? seat.old.me.0.part.taken row ≡ some e) × (e.row ≡ row) × IsCodedEntry e }
+    requires taken { (e : EntryOf) × (get_elem? seat.old.me.0.part.taken row ≡ some e) × (e.row ≡ row)
+        × IsCodedEntry e }
     ensures own { (seat.new.table_id ≡ seat.old.table_id) × (seat.new.id ≡ seat.old.id) × (seat.new.me ≡ seat.old.me) }
     ensures entry { get_elem? seat.old.me.0.part.taken row ≡ some result }
 {

@@ -70,7 +70,8 @@ impl Board {
         requires incumbent { IsIncumbent (model_of self.now) below }
         ensures own { IsSeatOf self.now seat.new × (splits_of seat.new ≡ splits_of seat.old) }
         ensures said { ShareSays (rows_of self.now) below clause.now (part_of seat.old) (part_of seat.new) result }
-        ensures draws { draws_of seat.new ≡ (if (part_of seat.old).full then draws_of seat.old else draws_of seat.old + 1) }
+        ensures draws { draws_of seat.new
+            ≡ (if (part_of seat.old).full then draws_of seat.old else draws_of seat.old + 1) }
     {
         if seat.full {
             return Share::Full;
@@ -88,7 +89,8 @@ impl Board {
     /// The entry of the first row that this seat has not taken, its own rows among them.
     pub fn take(&self, seat: &mut BoardSeat) -> Taken
         requires { IsSeatOf self.now seat.old }
-        ensures own { IsSeatOf self.now seat.new × (splits_of seat.new ≡ splits_of seat.old) × (draws_of seat.new ≡ draws_of seat.old) }
+        ensures own { IsSeatOf self.now seat.new × (splits_of seat.new ≡ splits_of seat.old)
+            × (draws_of seat.new ≡ draws_of seat.old) }
         ensures said { TakeSays (model_of self.now) (rows_of self.now) (part_of seat.old) (part_of seat.new) result }
         ensures misses { result ≡ Taken.NotYet → (part_of seat.new).misses ≡ (part_of seat.old).misses + 1 }
     {
@@ -110,9 +112,11 @@ impl Board {
     pub fn split(&self, seat: &mut BoardSeat) -> BoardSeat
         requires own { IsSeatOf self.now seat.old }
         requires room { 2 ≤ splits_of seat.old }
-        ensures kept { IsSeatOf self.now seat.new × (part_of seat.new ≡ part_of seat.old) × (draws_of seat.new ≡ draws_of seat.old) }
+        ensures kept { IsSeatOf self.now seat.new × (part_of seat.new ≡ part_of seat.old)
+            × (draws_of seat.new ≡ draws_of seat.old) }
         ensures given { IsSeatOf self.now result × (part_of result ≡ newly (part_of seat.old)) × (draws_of result ≡ 0) }
-        ensures splits { (splits_of result ≡ splits_of seat.old / 2) × (splits_of seat.new ≡ splits_of seat.old - splits_of seat.old / 2) }
+        ensures splits { (splits_of result ≡ splits_of seat.old / 2)
+            × (splits_of seat.new ≡ splits_of seat.old - splits_of seat.old / 2) }
     {
         let half = seat.splits / 2;
         let other = self.table.shared.split_seat::<Halves>(&mut seat.seat);

@@ -94,16 +94,20 @@ OfModel v fact = (m : CpModel) → v.model ≡ Some m → fact m
 module _ {S : Type 0} where
   abbrev pub upper_seen : Step S → Me S View → ℕ → Me S View → Type 0
   upper_seen st me word me' =
-      (me' ≡ (with_part me.0 (after_upper me.0.part (bound_of word) (me.0.part.upper_loads + 1)), me.1)) × BoundLe (bound_of word) me.0.part.saw_upper × OfModel me.0 (λ m. IsIncumbent m (bound_of word))
+      (me' ≡ (with_part me.0 (after_upper me.0.part (bound_of word) (me.0.part.upper_loads + 1)), me.1))
+      × BoundLe (bound_of word) me.0.part.saw_upper × OfModel me.0 (λ m. IsIncumbent m (bound_of word))
 
   abbrev pub lower_seen : Step S → Me S View → ℕ → Me S View → Type 0
   lower_seen st me word me' =
-      (me' ≡ (with_part me.0 (after_lower me.0.part (bound_of word) (me.0.part.lower_loads + 1)), me.1)) × IsNoLower me.0.part.saw_lower (bound_of word) × OfModel me.0 (λ m. IsLowerBound m (bound_of word))
+      (me' ≡ (with_part me.0 (after_lower me.0.part (bound_of word) (me.0.part.lower_loads + 1)), me.1))
+      × IsNoLower me.0.part.saw_lower (bound_of word) × OfModel me.0 (λ m. IsLowerBound m (bound_of word))
 
   abbrev pub value_offered : Step S → Me S View → ℕ → Me S View → Type 0
   value_offered st me word me' =
-      (me' ≡ (with_part me.0 (after_offer me.0.part (bound_of st.first) (bound_of (min word st.first))), me.1)) × BoundLe (bound_of word) me.0.part.saw_upper × OfModel me.0 (λ m. IsIncumbent m (bound_of word))
+      (me' ≡ (with_part me.0 (after_offer me.0.part (bound_of st.first) (bound_of (min word st.first))), me.1))
+      × BoundLe (bound_of word) me.0.part.saw_upper × OfModel me.0 (λ m. IsIncumbent m (bound_of word))
 
   abbrev pub bound_raised : Step S → Me S View → ℕ → Me S View → Type 0
   bound_raised st me word me' =
-      (me' ≡ (with_part me.0 (after_raise me.0.part (bound_of st.first) (bound_of (max word st.first))), me.1)) × IsNoLower me.0.part.saw_lower (bound_of word) × OfModel me.0 (λ m. IsLowerBound m (bound_of word))
+      (me' ≡ (with_part me.0 (after_raise me.0.part (bound_of st.first) (bound_of (max word st.first))), me.1))
+      × IsNoLower me.0.part.saw_lower (bound_of word) × OfModel me.0 (λ m. IsLowerBound m (bound_of word))

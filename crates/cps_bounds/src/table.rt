@@ -109,7 +109,8 @@ impl Bounds {
         requires room { 2 ≤ splits_of seat.old }
         ensures kept { IsSeatOf self.now seat.new × (part_of seat.new ≡ part_of seat.old) }
         ensures given { IsSeatOf self.now result × (part_of result ≡ newly (part_of seat.old)) }
-        ensures splits { (splits_of result ≡ splits_of seat.old / 2) × (splits_of seat.new ≡ splits_of seat.old - splits_of seat.old / 2) }
+        ensures splits { (splits_of result ≡ splits_of seat.old / 2)
+            × (splits_of seat.new ≡ splits_of seat.old - splits_of seat.old / 2) }
     {
         let half = seat.splits / 2;
         let other = self.table.shared.split_seat::<Halves>(&mut seat.seat);
@@ -143,7 +144,8 @@ impl Bounds {
         ensures lower { IsLowerBound (model_of self) result.1 }
         ensures no_worse { BoundLe result.0 (part_of seat).saw_upper × IsNoLower (part_of seat).saw_lower result.1 }
         ensures whole_upper { splits_of seat ≡ all_splits → result.0 ≡ (part_of seat).offered }
-        ensures whole_lower { splits_of seat ≡ all_splits → result.1 ≡ raised_above (part_of seat).raised (Bound.At (objective_start (model_of self))) }
+        ensures whole_lower { splits_of seat ≡ all_splits
+            → result.1 ≡ raised_above (part_of seat).raised (Bound.At (objective_start (model_of self))) }
     {
         let Bounds { table } = self;
         let BoundsSeat {

@@ -39,11 +39,14 @@ NoneMarked marks = (i : ℕ) → i < length marks → slice_index_or marks i fal
 
 -- one subject gained 1, where it is a variable that was not marked, and is marked
 pub record MarksOne (subject : ℕ) (marks marks' : List Bool) (old new : List ℕ) : Type 0 where
-  pub marked : (i : ℕ) → i < length old → slice_index_or marks' i false ≡ (if subject == i then true else slice_index_or marks i false)
-  pub each : (i : ℕ) → i < length old → slice_index new i ≡ slice_index old i + (if subject == i then (if slice_index_or marks i false then 0 else 1) else 0)
+  pub marked : (i : ℕ) → i < length old
+      → slice_index_or marks' i false ≡ (if subject == i then true else slice_index_or marks i false)
+  pub each : (i : ℕ) → i < length old
+      → slice_index new i ≡ slice_index old i +
+      (if subject == i then (if slice_index_or marks i false then 0 else 1) else 0)
 
--- a brancher by activity: the activity of each variable, the pace of its restarts, the values to try first, and the variables that it set
--- aside, each with a number of entries after which it and those before it on the list were fixed
+-- a brancher by activity: the activity of each variable, the pace of its restarts, the values to try first, and the
+-- variables that it set aside, each with a number of entries after which it and those before it on the list were fixed
 pub record ByActivity : Type 0 where
   pub activities : List ℕ
   pub pace : Pace

@@ -27,5 +27,6 @@ pub record IsFirstOpen (n : ℕ) (s : Trail) (i : ℕ) : Type 0 where
 pub record IsMostActive (activities : List ℕ) (s : Trail) (i : ℕ) : Type 0 where
   pub within : i < length activities
   pub open_now : IsFixed s i → ⊥
-  pub greatest : (j : ℕ) → j < length activities → (IsFixed s j → ⊥) → slice_index activities j ≤ slice_index activities i
+  pub greatest : (j : ℕ) → j < length activities → (IsFixed s j → ⊥)
+      → slice_index activities j ≤ slice_index activities i
   pub first : (j : ℕ) → j < i → (IsFixed s j → ⊥) → slice_index activities j < slice_index activities i

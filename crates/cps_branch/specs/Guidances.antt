@@ -10,11 +10,12 @@ use Rattle.cps_branch.specs.Hints.{hint_for, ChoosesHinted}
 use Rattle.cps_branch.specs.Scope.{InOrder, IsScopeOf}
 use Rattle.cps_branch.specs.Strategies.{ChoosesSteered, Planned}
 
--- A choice goes by a guidance: by its strategies and then its variables in order; or, at the values of its hints, it takes the most active
--- of as many variables as have a place among the hints, by some activities.
+-- A choice goes by a guidance: by its strategies and then its variables in order; or, at the values of its hints, it
+-- takes the most active of as many variables as have a place among the hints, by some activities.
 abbrev pub ChoosesBy : Guidance → Trail → Option Atom → Type 0
 ChoosesBy (Steered plan) s choice = ChoosesSteered plan.strategies plan.variables s choice
-ChoosesBy (Hinted hints) s choice = (activities : List ℕ) × (length activities ≡ length hints) × ChoosesHinted activities hints s choice
+ChoosesBy (Hinted hints) s choice = (activities : List ℕ) × (length activities ≡ length hints)
+    × ChoosesHinted activities hints s choice
 
 -- the same plan is the same guidance, as is that of the same brancher, and so are the same hints
 pub steered_same : (plan plan' : Planned) → plan' ≡ plan → Steered plan' ≡ Steered plan

@@ -31,9 +31,11 @@ hint_for (Some h) i = hinted_in h.vars h.values i
 -- the atom says that its subject has the value of the hint, where it may have it, and else its least value
 abbrev pub TakesHinted : Option ℤ → Trail → Atom → Type 0
 TakesHinted None s t = TakesLeast s t
-TakesHinted (Some h) s t = ((t.op ≡ Eq) × (t.value ≡ h) × Admits s t.subject h) ⊎ ((Admits s t.subject h → ⊥) × TakesLeast s t)
+TakesHinted (Some h) s t = ((t.op ≡ Eq) × (t.value ≡ h) × Admits s t.subject h)
+    ⊎ ((Admits s t.subject h → ⊥) × TakesLeast s t)
 
 -- the most active subject takes the value of the hint, or its least
 abbrev pub ChoosesHinted : List ℕ → List (Option ℤ) → Trail → Option Atom → Type 0
 ChoosesHinted activities hints s None = AreFixed s (length activities)
-ChoosesHinted activities hints s (Some t) = TakesHinted (slice_index_or hints t.subject None) s t × IsMostActive activities s t.subject
+ChoosesHinted activities hints s (Some t) = TakesHinted (slice_index_or hints t.subject None) s t
+    × IsMostActive activities s t.subject

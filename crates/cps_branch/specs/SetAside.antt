@@ -12,11 +12,12 @@ use Rattle.cps_branch.specs.Tournament.{AreWon, HaveActivities, IsAheadOf, count
 abbrev pub aside_at : List Aside → ℕ → Aside
 aside_at aside p = slice_index_or aside p (record { variable = 0; after = 0 })
 
--- Where the first `kept` entries are those of the store that was seen last, what was seen then is so: after the count at a variable, it and
--- those that were set aside before it are fixed.
+-- Where the first `kept` entries are those of the store that was seen last, what was seen then is so: after the count
+-- at a variable, it and those that were set aside before it are fixed.
 abbrev pub AreFixedAside : ℕ → List Aside → Trail → ℕ → Type 0
 AreFixedAside n aside s kept =
-    0 < kept → (i j : ℕ) → i < length aside → (aside_at aside i).after ≤ kept → j ≤ i → (aside_at aside j).variable < n → IsFixedAfter s.first (take (aside_at aside i).after s.entries) (aside_at aside j).variable
+    0 < kept → (i j : ℕ) → i < length aside → (aside_at aside i).after ≤ kept → j ≤ i → (aside_at aside j).variable < n
+    → IsFixedAfter s.first (take (aside_at aside i).after s.entries) (aside_at aside j).variable
 
 -- the first ones stay aside, of which the last was fixed after at most `kept` entries; none where `kept` is 0
 pub record PutsBack (kept : ℕ) (old new : List Aside) : Type 0 where
@@ -69,7 +70,8 @@ pub record SameAside (old new : Ranking) : Type 0 where
 
 -- the activities are the same
 abbrev pub SameActivities : ℕ → Ranking → Ranking → Type 0
-SameActivities n old new = (i : ℕ) → i < n → (stands_at new.nodes.items (n + i)).activity ≡ (stands_at old.nodes.items (n + i)).activity
+SameActivities n old new = (i : ℕ) → i < n
+    → (stands_at new.nodes.items (n + i)).activity ≡ (stands_at old.nodes.items (n + i)).activity
 
 -- of n variables this one is in play, and ahead of each
 pub record Leads (n : ℕ) (nodes : List Contender) (variable : ℕ) : Type 0 where
@@ -83,4 +85,5 @@ NonePlays n nodes = (i : ℕ) → i < n → (stands_at nodes (n + i)).in_play �
 
 -- of the n variables that are not fixed this one is the most active, whatever activities they have in the ranking
 abbrev pub IsMostActiveIn : ℕ → Ranking → Trail → ℕ → Type 0
-IsMostActiveIn n r s variable = (activities : List ℕ) → length activities ≡ n → HaveActivities activities r.nodes.items → IsMostActive activities s variable
+IsMostActiveIn n r s variable = (activities : List ℕ) → length activities ≡ n → HaveActivities activities r.nodes.items
+    → IsMostActive activities s variable

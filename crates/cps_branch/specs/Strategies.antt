@@ -58,8 +58,8 @@ pub record IsMedian (s : Trail) (i : ℕ) (v : ℤ) : Type 0 where
   pub are : AreValuesOf s i values
   pub at : slice_index_or values ((length values - 1) / 2) (pos 0) ≡ v
 
--- By what a strategy compares subjects, of which the one with the least number is taken: by nothing, the least value, the greatest value (the
--- greater the better), or the number of values, the less or the greater the better.
+-- By what a strategy compares subjects, of which the one with the least number is taken: by nothing, the least value,
+-- the greatest value (the greater the better), or the number of values, the less or the greater the better.
 abbrev pub IsRank : Choose → Trail → ℕ → ℤ → Type 0
 IsRank First s i r = r ≡ pos 0
 IsRank LowestMin s i r = IsLeast s i r
@@ -115,11 +115,12 @@ pub record FollowsStrategies (strategies : List Steering) (s : Trail) (t : Atom)
   pub done : All (IsDone s) before
   pub decides : DecidesBy strategy s t
 
--- The strategies in order, then the first of the n variables that is not fixed, at its least value; where all variables are fixed there is
--- nothing to choose.
+-- The strategies in order, then the first of the n variables that is not fixed, at its least value; where all variables
+-- are fixed there is nothing to choose.
 abbrev pub ChoosesSteered : List Steering → ℕ → Trail → Option Atom → Type 0
 ChoosesSteered strategies n s None = AreFixed s n
-ChoosesSteered strategies n s (Some t) = FollowsStrategies strategies s t ⊎ (All (IsDone s) strategies × (TakesLeast s t × IsFirstOpen n s t.subject))
+ChoosesSteered strategies n s (Some t) = FollowsStrategies strategies s t
+    ⊎ (All (IsDone s) strategies × (TakesLeast s t × IsFirstOpen n s t.subject))
 
 -- the subjects of strategies are among the first so many
 abbrev pub AreWithin : ℕ → List Steering → Type 0

@@ -1,4 +1,5 @@
--- A tournament of n variables: variable i stands at node n + i, and at each node from 1 to n - 1 the winner of the two nodes below it.
+-- A tournament of n variables: variable i stands at node n + i, and at each node from 1 to n - 1 the winner of the two
+-- nodes below it.
 use Rattle.std.specs.Prelude.{ℕ, zero, suc, ◌+◌, ◌*◌, ◌<◌, ◌≤◌, ◌≡◌, ◌⊎◌, Bool, true, false, if◌then◌else◌, List, length, slice_index, slice_index_or}
 use Rattle.cps_branch.specs.declared.tournament.Contender.{Contender}
 
@@ -45,7 +46,8 @@ SameVariables n old new = (k : ℕ) → n ≤ k → stands_at new k ≡ stands_a
 
 -- each of the variables has its activity
 abbrev pub HaveActivities : List ℕ → List Contender → Type 0
-HaveActivities activities nodes = (i : ℕ) → i < length activities → (stands_at nodes (length activities + i)).activity ≡ slice_index activities i
+HaveActivities activities nodes = (i : ℕ) → i < length activities
+    → (stands_at nodes (length activities + i)).activity ≡ slice_index activities i
 
 -- of how many numbers below m the test is false
 abbrev pub count_false : (ℕ → Bool) → ℕ → ℕ

@@ -60,8 +60,10 @@ impl ActivityBrancher {
 
     /// A brancher over the variables of an instance, with the model's hint and no activity yet.
     pub fn of(alloc: Global, instance: &Instance) -> Result<Self, AllocError>
-        ensures scope { IfOk result (λ b. IsScopeOf instance.now (record { variables = length b.activities; subjects = length b.activities })) }
-        ensures hints { IfOk result (λ b. (i : ℕ) → i < length b.activities → slice_index_or b.hints i None ≡ hint_for instance.now.model.hint i) }
+        ensures scope { IfOk result (λ b. IsScopeOf instance.now
+            (record { variables = length b.activities; subjects = length b.activities })) }
+        ensures hints { IfOk result (λ b. (i : ℕ) → i < length b.activities
+            → slice_index_or b.hints i None ≡ hint_for instance.now.model.hint i) }
         ensures places { IfOk result (λ b. length b.hints ≡ length b.activities) }
         ensures idle { IfOk result (λ b. (i : ℕ) → slice_index b.activities i ≡ 0) }
         ensures fresh { IfOk result (λ b. b.pace ≡ record { restarts = 0; conflicts = 0 }) }
@@ -93,8 +95,10 @@ impl ActivityBrancher {
     fn most_active(&mut self, store: &Store, kept: usize) -> Option<u32>
         requires subjects { length self.old.activities ≤ length store.now.first }
         requires kept { AreFixedAside (length self.old.activities) self.old.aside store.now kept }
-        ensures choice { MatchOption result (AreFixed store.now (length self.old.activities)) (λ variable. IsMostActive self.old.activities store.now variable) }
-        ensures stays { (self.new.activities ≡ self.old.activities) × (self.new.pace ≡ self.old.pace) × (self.new.hints ≡ self.old.hints) }
+        ensures choice { MatchOption result (AreFixed store.now (length self.old.activities))
+            (λ variable. IsMostActive self.old.activities store.now variable) }
+        ensures stays { (self.new.activities ≡ self.old.activities) × (self.new.pace ≡ self.old.pace)
+            × (self.new.hints ≡ self.old.hints) }
         ensures places { length self.old.activities ≡ length self.old.hints }
         ensures saw { AreFixedAside (length self.old.activities) self.new.aside store.now (length store.now.entries) }
     {

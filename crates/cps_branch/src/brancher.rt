@@ -71,15 +71,18 @@ pub trait Brancher {
         ensures { result ≡ guidance self };
 
     // each choice goes by the guidance, which neither a choice nor a learnt clause changes
-    ghost goes_by: { (b : Self) (s : Trail) (choice : Option AtomOf) → chooses b s choice → ChoosesBy (guidance b) s choice };
+    ghost goes_by: { (b : Self) (s : Trail) (choice : Option AtomOf) → chooses b s choice
+        → ChoosesBy (guidance b) s choice };
 
     ghost stays_guided: { (b c : Self) → stays b c → guidance c ≡ guidance b };
 
-    ghost hears_guided: { (b c : Self) (clause : List AtomOf) (restart : Bool) → hears b clause restart c → guidance c ≡ guidance b };
+    ghost hears_guided: { (b c : Self) (clause : List AtomOf) (restart : Bool) → hears b clause restart c
+        → guidance c ≡ guidance b };
 
     // it agrees with each store where no entry is kept
     ghost none_kept: { (b : Self) (s : Trail) → agrees b s 0 };
 
     // where it agrees with a store, it does with each that has the same first entries, and where fewer are kept
-    ghost kept_on: { (b : Self) (s t : Trail) (k n : ℕ) → k ≤ n → AreSameUpTo (scope b).subjects k s t → agrees b s n → agrees b t k };
+    ghost kept_on: { (b : Self) (s t : Trail) (k n : ℕ) → k ≤ n → AreSameUpTo (scope b).subjects k s t → agrees b s n
+        → agrees b t k };
 }

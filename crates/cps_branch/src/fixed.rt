@@ -48,7 +48,8 @@ impl FixedBrancher {
 
     /// A brancher over the variables of an instance, with its strategies.
     pub fn of(alloc: Global, instance: &Instance) -> Result<Self, AllocError>
-        ensures scope { IfOk result (λ b. IsScopeOf instance.now (record { variables = b.plan.variables; subjects = b.plan.subjects })) }
+        ensures scope { IfOk result (λ b. IsScopeOf instance.now
+            (record { variables = b.plan.variables; subjects = b.plan.subjects })) }
         ensures follows { IfOk result (λ b. b.plan.strategies ≡ instance.now.steering) }
         ensures fresh { IfOk result (λ b. b.fixed_after ≡ []) }
     {

@@ -32,7 +32,9 @@ fn hinted_value(reference: i32, value: i64) -> Option<i64>
 
 /// Notes the value that a reference gives its variable, if that is one of those noted.
 fn note_one(hints: &mut [Option<i64>], reference: i32, value: i64)
-    ensures { (i : ℕ) → i < length hints.old → slice_index_or hints.new i None ≡ (if variable_of reference == i then hinted_value reference value else slice_index_or hints.old i None) }
+    ensures { (i : ℕ) → i < length hints.old
+        → slice_index_or hints.new i None
+        ≡ (if variable_of reference == i then hinted_value reference value else slice_index_or hints.old i None) }
 {
     let variable = variable_of(reference);
     if variable < hints.len() {
@@ -60,7 +62,8 @@ pub(crate) fn hints_of(
     count: usize,
 ) -> Result<Vec<Option<i64>>, AllocError>
     ensures count { IfOk result (λ hints. length hints.items ≡ count) }
-    ensures values { IfOk result (λ hints. (i : ℕ) → i < count → slice_index_or hints.items i None ≡ hint_for hint.now i) }
+    ensures values { IfOk result (λ hints. (i : ℕ) → i < count
+        → slice_index_or hints.items i None ≡ hint_for hint.now i) }
 {
     let mut hints = vec![in alloc; None; count]?;
     if let Some(hint) = hint {

@@ -111,7 +111,11 @@ impl Plan {
         requires within { AreWithin subjects strategies.items }
         requires variables { variables ≤ subjects }
         requires few { variables ≤ 2 ^ 31 }
-        ensures { IfOk result (λ p. p ≡ record { strategies = strategies.items; variables = variables; subjects = subjects }) }
+        ensures { IfOk result (λ p. p ≡ record {
+          strategies = strategies.items;
+          variables = variables;
+          subjects = subjects;
+        }) }
     {
         let order = order_over(alloc, &strategies, variables)?;
         Ok(Plan {
@@ -136,8 +140,10 @@ impl Plan {
         ensures low { from ≤ result }
         ensures high { result ≤ length (order_in self.now) }
         ensures before { (i : ℕ) → from ≤ i → i < result → IsFixed store.now (slice_index (order_in self.now) i) }
-        ensures open_there { result < length (order_in self.now) → IsFixed store.now (slice_index (order_in self.now) result) → ⊥ }
-        ensures within { (i : ℕ) → i < length (order_in self.now) → slice_index (order_in self.now) i < self.now.subjects }
+        ensures open_there { result < length (order_in self.now)
+            → IsFixed store.now (slice_index (order_in self.now) result) → ⊥ }
+        ensures within { (i : ℕ) → i < length (order_in self.now)
+            → slice_index (order_in self.now) i < self.now.subjects }
     {
         first_open_place(store, &self.order, from)
     }

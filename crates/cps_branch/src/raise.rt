@@ -11,9 +11,11 @@ const MOST: u64 = 1 << 40;
 fn raise_one(activities: &mut [u64], marks: &mut [bool], subject: usize) -> bool
     requires same_length { length marks.old ≡ length activities.old }
     requires small { (i : ℕ) → i < length activities.old → slice_index activities.old i ≤ 2 ^ 40 }
-    requires unmarked { (i : ℕ) → i < length activities.old → slice_index_or marks.old i false ≡ false → slice_index activities.old i < 2 ^ 40 }
+    requires unmarked { (i : ℕ) → i < length activities.old → slice_index_or marks.old i false ≡ false
+        → slice_index activities.old i < 2 ^ 40 }
     ensures raises { MarksOne subject marks.old marks.new activities.old activities.new }
-    ensures reached { IsTrue result ↔ ((subject < length activities.new) × (2 ^ 40 ≤ slice_index activities.new subject)) }
+    ensures reached { IsTrue result
+        ↔ ((subject < length activities.new) × (2 ^ 40 ≤ slice_index activities.new subject)) }
 {
     if activities.len() <= subject {
         return false;
@@ -65,7 +67,8 @@ fn halve(activities: &mut [u64])
     }
 }
 
-/// Raises each variable of the clause by 1, and halves all activities where one reached the limit. Answers whether it did.
+/// Raises each variable of the clause by 1, and halves all activities where one reached the limit. Answers whether it
+/// did.
 pub(crate) fn raise_all(activities: &mut [u64], marks: &mut [bool], clause: &[Atom]) -> bool
     requires same_length { length marks.old ≡ length activities.old }
     requires small { AreSmall activities.old }

@@ -69,7 +69,9 @@ impl Ranking {
         ensures size { length self.new.nodes.items ≡ length self.old.nodes.items }
         ensures won { AreWon (size_of self.old) self.new.nodes.items }
         ensures here { stands_at self.new.nodes.items (size_of self.old + contender.variable) ≡ contender }
-        ensures others { (i : ℕ) → (i ≡ contender.variable → ⊥) → stands_at self.new.nodes.items (size_of self.old + i) ≡ stands_at self.old.nodes.items (size_of self.old + i) }
+        ensures others { (i : ℕ) → (i ≡ contender.variable → ⊥)
+            → stands_at self.new.nodes.items (size_of self.old + i)
+            ≡ stands_at self.old.nodes.items (size_of self.old + i) }
         ensures aside { SameAside self.old self.new }
     {
         let count = self.aside.len();
@@ -83,8 +85,14 @@ impl Ranking {
         requires won { AreWon (size_of self.old) self.old.nodes.items }
         ensures size { length self.new.nodes.items ≡ length self.old.nodes.items }
         ensures won { AreWon (size_of self.old) self.new.nodes.items }
-        ensures here { stands_at self.new.nodes.items (size_of self.old + variable) ≡ record (stands_at self.old.nodes.items (size_of self.old + variable)) { variable = variable; in_play = in_play } }
-        ensures others { (i : ℕ) → (i ≡ variable → ⊥) → stands_at self.new.nodes.items (size_of self.old + i) ≡ stands_at self.old.nodes.items (size_of self.old + i) }
+        ensures here { stands_at self.new.nodes.items (size_of self.old + variable)
+            ≡ record (stands_at self.old.nodes.items (size_of self.old + variable)) {
+              variable = variable;
+              in_play = in_play;
+            } }
+        ensures others { (i : ℕ) → (i ≡ variable → ⊥)
+            → stands_at self.new.nodes.items (size_of self.old + i)
+            ≡ stands_at self.old.nodes.items (size_of self.old + i) }
         ensures aside { SameAside self.old self.new }
     {
         let count = self.aside.len();
@@ -101,8 +109,12 @@ impl Ranking {
         requires count { length activities.now ≡ size_of self.old }
         requires ranking { IsRanking self.old }
         ensures ranking { IsRanking self.new }
-        ensures here { subject < size_of self.old → (stands_at self.new.nodes.items (size_of self.old + subject)).activity ≡ slice_index activities.now subject }
-        ensures others { (i : ℕ) → (i ≡ subject → ⊥) → stands_at self.new.nodes.items (size_of self.old + i) ≡ stands_at self.old.nodes.items (size_of self.old + i) }
+        ensures here { subject < size_of self.old
+            → (stands_at self.new.nodes.items (size_of self.old + subject)).activity
+            ≡ slice_index activities.now subject }
+        ensures others { (i : ℕ) → (i ≡ subject → ⊥)
+            → stands_at self.new.nodes.items (size_of self.old + i)
+            ≡ stands_at self.old.nodes.items (size_of self.old + i) }
         ensures aside { SameAside self.old self.new }
     {
         let count = self.aside.len();
@@ -122,9 +134,11 @@ impl Ranking {
     fn refresh_clause(&mut self, activities: &[u64], clause: &[Atom])
         requires count { length activities.now ≡ size_of self.old }
         requires ranking { IsRanking self.old }
-        requires others { (i : ℕ) → i < size_of self.old → speaks_of clause.now i ≡ false → (stands_at self.old.nodes.items (size_of self.old + i)).activity ≡ slice_index activities.now i }
+        requires others { (i : ℕ) → i < size_of self.old → speaks_of clause.now i ≡ false
+            → (stands_at self.old.nodes.items (size_of self.old + i)).activity ≡ slice_index activities.now i }
         ensures ranking { IsRanking self.new }
-        ensures activities { (i : ℕ) → i < size_of self.old → (stands_at self.new.nodes.items (size_of self.old + i)).activity ≡ slice_index activities.now i }
+        ensures activities { (i : ℕ) → i < size_of self.old
+            → (stands_at self.new.nodes.items (size_of self.old + i)).activity ≡ slice_index activities.now i }
         ensures aside { SameAside self.old self.new }
     {
         for atom in clause {
@@ -137,7 +151,8 @@ impl Ranking {
         requires count { length activities.now ≡ size_of self.old }
         requires ranking { IsRanking self.old }
         ensures ranking { IsRanking self.new }
-        ensures activities { (i : ℕ) → i < size_of self.old → (stands_at self.new.nodes.items (size_of self.old + i)).activity ≡ slice_index activities.now i }
+        ensures activities { (i : ℕ) → i < size_of self.old
+            → (stands_at self.new.nodes.items (size_of self.old + i)).activity ≡ slice_index activities.now i }
         ensures aside { SameAside self.old self.new }
     {
         prove!(self.aside.len() <= 1 << 31);
@@ -151,9 +166,11 @@ impl Ranking {
     pub fn follow(&mut self, activities: &[u64], clause: &[Atom], halved: bool)
         requires count { length activities.now ≡ size_of self.old }
         requires ranking { IsRanking self.old }
-        requires others { halved ≡ false → (i : ℕ) → i < size_of self.old → speaks_of clause.now i ≡ false → (stands_at self.old.nodes.items (size_of self.old + i)).activity ≡ slice_index activities.now i }
+        requires others { halved ≡ false → (i : ℕ) → i < size_of self.old → speaks_of clause.now i ≡ false
+            → (stands_at self.old.nodes.items (size_of self.old + i)).activity ≡ slice_index activities.now i }
         ensures ranking { IsRanking self.new }
-        ensures activities { (i : ℕ) → i < size_of self.old → (stands_at self.new.nodes.items (size_of self.old + i)).activity ≡ slice_index activities.now i }
+        ensures activities { (i : ℕ) → i < size_of self.old
+            → (stands_at self.new.nodes.items (size_of self.old + i)).activity ≡ slice_index activities.now i }
         ensures aside { SameAside self.old self.new }
     {
         if halved {
@@ -247,7 +264,8 @@ impl Ranking {
         ensures same { SameActivities (size_of self.old) self.old self.new }
         ensures count { size_of self.new ≡ size_of self.old }
         ensures sets { SetsAside store.now (aside_of self.old) (aside_of self.new) }
-        ensures choice { MatchOption result (AreFixed store.now (size_of self.old)) (λ variable. IsMostActiveIn (size_of self.old) self.old store.now variable) }
+        ensures choice { MatchOption result (AreFixed store.now (size_of self.old))
+            (λ variable. IsMostActiveIn (size_of self.old) self.old store.now variable) }
     {
         'variables: loop {
             let Some(variable) = self.top() else {
@@ -268,7 +286,8 @@ fn fill(nodes: &mut [Contender], count: usize)
     requires empty { (k : ℕ) → stands_at nodes.old k ≡ nobody }
     ensures size { length nodes.new ≡ length nodes.old }
     ensures won { AreWon count nodes.new }
-    ensures each { (i : ℕ) → i < count → stands_at nodes.new (count + i) ≡ record { variable = i; activity = 0; in_play = true } }
+    ensures each { (i : ℕ) → i < count
+        → stands_at nodes.new (count + i) ≡ record { variable = i; activity = 0; in_play = true } }
 {
     for variable in 0..count {
         enter(

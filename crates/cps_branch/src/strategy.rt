@@ -255,8 +255,11 @@ fn decided_by(store: &Store, strategy: &Steering, from: usize) -> Atom
 pub(crate) fn decided_at(store: &Store, strategies: &[Steering], place: usize) -> Option<Atom>
     requires within { AreWithin (length store.now.first) strategies.now }
     requires before { All (IsFixed store.now) (take place (listed strategies.now)) }
-    requires open_there { place < length (listed strategies.now) → IsFixed store.now (slice_index (listed strategies.now) place) → ⊥ }
-    ensures choice { MatchOption result ((length (listed strategies.now) ≤ place) × All (IsDone store.now) strategies.now) (FollowsStrategies strategies.now store.now) }
+    requires open_there { place < length (listed strategies.now)
+        → IsFixed store.now (slice_index (listed strategies.now) place) → ⊥ }
+    ensures choice { MatchOption result
+        ((length (listed strategies.now) ≤ place) × All (IsDone store.now) strategies.now)
+        (FollowsStrategies strategies.now store.now) }
     ensures undecided { IfSome result (IsUndecided store.now) }
 {
     let mut left = place;

@@ -1,8 +1,8 @@
-//! A tournament of variables: the winner of all stands at the top, and where one variable changes, only the matches on its way to the
-//! top are played again. Knuth, "The Art of Computer Programming", volume 3, section 5.2.3.
+//! A tournament of variables: the winner of all stands at the top, and where one variable changes, only the matches on
+//! its way to the top are played again. Knuth, "The Art of Computer Programming", volume 3, section 5.2.3.
 //!
-//! Of n variables number i stands at node n + i, and at each node from 1 to n - 1 the winner of the two below it. Those of node k are
-//! the nodes 2k and 2k + 1.
+//! Of n variables number i stands at node n + i, and at each node from 1 to n - 1 the winner of the two below it. Those
+//! of node k are the nodes 2k and 2k + 1.
 ghost use Rattle.std.specs.Prelude.{ℕ, ◌≡◌, ◌<◌, ◌≤◌, ◌+◌, ◌*◌, ◌/◌, length};
 ghost use Rattle.cps_branch.specs.Tournament.{AreWon, AreWonBut, IsWinner, IsWon, SameNodesBut, SameVariables, stands_at};
 
@@ -68,7 +68,8 @@ pub(crate) fn enter(nodes: &mut [Contender], count: usize, contender: Contender)
     ensures same_length { length nodes.new ≡ length nodes.old }
     ensures won { AreWon count nodes.new }
     ensures here { stands_at nodes.new (count + contender.variable) ≡ contender }
-    ensures others { (i : ℕ) → (i ≡ contender.variable → ⊥) → stands_at nodes.new (count + i) ≡ stands_at nodes.old (count + i) }
+    ensures others { (i : ℕ) → (i ≡ contender.variable → ⊥)
+        → stands_at nodes.new (count + i) ≡ stands_at nodes.old (count + i) }
 {
     let node = count + contender.variable as usize;
     nodes[node] = contender;

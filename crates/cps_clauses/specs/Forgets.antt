@@ -23,7 +23,8 @@ pub record IsNamed (s : Trail) (number : ℕ) : Type 0 where
   pub within : entry < length s.entries
   pub names : NamesClause s entry number
 
--- A learnt clause may be dropped: it is in force, and no note of the store names it. It is meant by its place among the learnt ones.
+-- A learnt clause may be dropped: it is in force, and no note of the store names it. It is meant by its place among the
+-- learnt ones.
 pub record MayGo (clauses : List (List Atom)) (dropped : List Bool) (learnt : List ℕ) (s : Trail) (n : ℕ) : Type 0 where
   pub within : n < length learnt
   pub held : IsHeld clauses dropped (number_at learnt n)
@@ -32,7 +33,8 @@ pub record MayGo (clauses : List (List Atom)) (dropped : List Bool) (learnt : Li
 -- of two learnt clauses the first goes before the second: it is longer, or as long and older
 abbrev pub GoesFirst : List (List Atom) → List ℕ → ℕ → ℕ → Type 0
 GoesFirst clauses learnt n m =
-    (length (learnt_clause clauses learnt m) < length (learnt_clause clauses learnt n)) ⊎ ((length (learnt_clause clauses learnt m) ≡ length (learnt_clause clauses learnt n)) × (n < m))
+    (length (learnt_clause clauses learnt m) < length (learnt_clause clauses learnt n))
+    ⊎ ((length (learnt_clause clauses learnt m) ≡ length (learnt_clause clauses learnt n)) × (n < m))
 
 -- these are the learnt clauses that may go, in the order in which they go
 pub record AreInTurn (clauses : List (List Atom)) (dropped : List Bool) (learnt : List ℕ) (s : Trail) (order : List ℕ) : Type 0 where
@@ -48,14 +50,16 @@ without b which = record b {
   journal = b.journal ++ drops which;
 }
 
--- Learnt clauses go, the longest first and of equally long ones the oldest, but for those that a note names, until `keep` are left or none
--- can go.
+-- Learnt clauses go, the longest first and of equally long ones the oldest, but for those that a note names, until
+-- `keep` are left or none can go.
 pub record Forgets (b : Base) (s : Trail) (keep : ℕ) (which : List ℕ) : Type 0 where
   pub could_go : All (MayGo b.clauses b.dropped b.learnt s) which
   pub in_turn : AllPairs (GoesFirst b.clauses b.learnt) which
-  pub before_others : (n m : ℕ) → Contains which n → MayGo b.clauses b.dropped b.learnt s m → (Contains which m → ⊥) → GoesFirst b.clauses b.learnt n m
+  pub before_others : (n m : ℕ) → Contains which n → MayGo b.clauses b.dropped b.learnt s m → (Contains which m → ⊥)
+      → GoesFirst b.clauses b.learnt n m
   pub no_more : keep + length which ≤ learnt_in_force b ⊎ (which ≡ [])
-  pub no_fewer : learnt_in_force b ≤ keep + length which ⊎ ((n : ℕ) → MayGo b.clauses b.dropped b.learnt s n → Contains which n)
+  pub no_fewer : learnt_in_force b ≤ keep + length which
+      ⊎ ((n : ℕ) → MayGo b.clauses b.dropped b.learnt s n → Contains which n)
 
 -- so many learnt clauses were dropped, and the base is as it was without them
 pub record HasForgotten (b c : Base) (s : Trail) (keep count : ℕ) : Type 0 where

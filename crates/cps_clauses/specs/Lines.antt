@@ -25,7 +25,8 @@ drop_lines which = map lines.Drop which
 
 -- the clause that was learnt last, where the last item of a journal is one that was learnt
 abbrev pub IsLatest : List JournalItem → List Atom → Type 0
-IsLatest journal latest = (earlier : List JournalItem) (clause : List Atom) (below : Bound) → journal ≡ earlier ++ items.Learnt clause below ∷ [] → latest ≡ clause
+IsLatest journal latest = (earlier : List JournalItem) (clause : List Atom) (below : Bound)
+    → journal ≡ earlier ++ items.Learnt clause below ∷ [] → latest ≡ clause
 
 -- the lines of a journal lie within its atoms, and what was learnt last is kept beside them
 pub record IsKept (atoms : List Atom) (ls : List Line) (latest : List Atom) : Type 0 where

@@ -14,7 +14,8 @@ use Rattle.cps_command.specs.Numbers.{AreOptions, IsRecipe}
 abbrev pub texts_of : List (String Global) → List (List ℕ)
 texts_of words = map (λ word. string_bytes word) words
 
--- the words pass by the table, with no request for help or a version; and what they say: a command's name and what stands behind it
+-- the words pass by the table, with no request for help or a version; and what they say: a command's name and what
+-- stands behind it
 pub record IsPassed (words : List (List ℕ)) (says : Option (Text × List Row)) : Type 0 where
   pub passes : fault_of command_table words ≡ []
   pub is : says ≡ subcommand_of command_table words

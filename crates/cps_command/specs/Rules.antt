@@ -47,7 +47,8 @@ gap_rule = record (new_rule (codes "gap")) {
 -- `solve [--workers N] [--conflicts N] [--seed N] [--interleave] [--gap G]`
 unfoldable pub solve_line : App
 solve_line =
-    with_rule (with_rule (with_rule (with_rule (with_rule (new_app (codes "solve")) workers_rule) conflicts_rule) seed_rule) interleave_rule)
+    with_rule (with_rule (with_rule
+    (with_rule (with_rule (new_app (codes "solve")) workers_rule) conflicts_rule) seed_rule) interleave_rule)
     gap_rule
 
 -- `FAMILY`, a word
@@ -90,7 +91,8 @@ command_table =
     with_subcommand
     (with_subcommand
     (with_subcommand
-    (with_subcommand (with_subcommand (on_top wants_subcommand (new_app (codes "cpsolve"))) solve_line.top) validate_line.top)
+    (with_subcommand (with_subcommand
+    (on_top wants_subcommand (new_app (codes "cpsolve"))) solve_line.top) validate_line.top)
     print_line.top)
     (generating_line (codes "gen")).top)
     (generating_line (codes "demo")).top

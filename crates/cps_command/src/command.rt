@@ -61,7 +61,8 @@ fn command_in(line: &ArgMatches<'_>) -> Option<Command>
 
 /// The command that the words have, none where they are a usage fault. The first word is the program's name.
 pub fn command_of(alloc: Global, words: &[String]) -> Result<Option<Command>, AllocError>
-    ensures found { IfOk result (λ found. MatchOption found (IsUsageFault (texts_of words.now)) (CommandLine (texts_of words.now))) }
+    ensures found { IfOk result (λ found. MatchOption found (IsUsageFault (texts_of words.now))
+        (CommandLine (texts_of words.now))) }
     ensures one { HasOneCommand (texts_of words.now) }
 {
     match matches_of(alloc, words)? {

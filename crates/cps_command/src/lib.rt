@@ -1,7 +1,8 @@
 //! The command line: which words are which command, with which options, or with which model to generate.
 //!
-//! The table of commands is one of `clap`, and a line means what `clap` states of that table. Every other list of words, a request for
-//! help or for a version, a number out of its range and a family of models that there is not are no command line.
+//! The table of commands is one of `clap`, and a line means what `clap` states of that table. Every other list of
+//! words, a request for help or for a version, a number out of its range and a family of models that there is not are
+//! no command line.
 #![tactic(auto)]
 
 pub mod command;

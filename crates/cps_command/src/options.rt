@@ -35,7 +35,8 @@ fn is_on(matches: &ArgMatches<'_>, option: &str) -> bool
 
 /// The options that were given, none where one of them is out of its range.
 pub(crate) fn options_of(matches: &ArgMatches<'_>) -> Option<Options>
-    ensures { MatchOption result ((o : OptionsOf) → AreOptions (rows_of (found_of matches.now)) o → ⊥) (AreOptions (rows_of (found_of matches.now))) }
+    ensures { MatchOption result ((o : OptionsOf) → AreOptions (rows_of (found_of matches.now)) o → ⊥)
+        (AreOptions (rows_of (found_of matches.now))) }
 {
     let Some(workers) = number_of(matches, "workers") else {
         return None;

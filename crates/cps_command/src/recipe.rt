@@ -21,7 +21,8 @@ pub struct Recipe {
 
 /// The family that is named, none where no family has the name.
 fn family_of(matches: &ArgMatches<'_>) -> Option<Family>
-    ensures { MatchOption result ((f : FamilyOf) → NamesFamily (rows_of (found_of matches.now)) f → ⊥) (NamesFamily (rows_of (found_of matches.now))) }
+    ensures { MatchOption result ((f : FamilyOf) → NamesFamily (rows_of (found_of matches.now)) f → ⊥)
+        (NamesFamily (rows_of (found_of matches.now))) }
 {
     match matches.get_str("family") {
         Some(name) => Family::of_name(name),
@@ -31,7 +32,8 @@ fn family_of(matches: &ArgMatches<'_>) -> Option<Family>
 
 /// The model that is named; `None` if there is no such family or the size is out of its range.
 pub(crate) fn recipe_of(matches: &ArgMatches<'_>) -> Option<Recipe>
-    ensures { MatchOption result ((r : RecipeOf) → IsRecipe (rows_of (found_of matches.now)) r → ⊥) (IsRecipe (rows_of (found_of matches.now))) }
+    ensures { MatchOption result ((r : RecipeOf) → IsRecipe (rows_of (found_of matches.now)) r → ⊥)
+        (IsRecipe (rows_of (found_of matches.now))) }
 {
     let Some(family) = family_of(matches) else {
         return None;

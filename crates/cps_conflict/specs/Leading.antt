@@ -40,7 +40,8 @@ IsFetched makes s k clause = ((d : Entry) → (slice_index_or s.entries k d).rea
 pub data IsLedTo (reasons : Reasons) (s : Trail) (t : Atom) : ℕ → Type 0 where
   at_once : (k : ℕ) → IsBehind s t k → IsLedTo reasons s t k
   by_reason : (j k : ℕ) (reason : List Atom) (u : Atom) → IsLedTo reasons s t j → reasons j reason
-      → Contains reason u → ((d : Entry) → u ≢ (slice_index_or s.entries j d).atom) → IsBehind s u k → IsLedTo reasons s t k
+      → Contains reason u → ((d : Entry) → u ≢ (slice_index_or s.entries j d).atom) → IsBehind s u k
+      → IsLedTo reasons s t k
 
 -- an atom that was decided, by an entry to which reasons lead
 pub record IsDecisionBehind (reasons : Reasons) (s : Trail) (t u : Atom) : Type 0 where

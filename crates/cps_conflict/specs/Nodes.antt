@@ -30,7 +30,8 @@ pub record IsOpenAt (a : List ℤ) (pending : List Fallen) (next end : ℕ) : Ty
 
 -- where an entry's atom is not true at a list of values, that is so
 abbrev pub IsNodeAt : List ℤ → List Fallen → Atom → List Fallen → Node → Type 0
-IsNodeAt a earlier t pending n = n.failed ≡ false → atom_holds a n.denied ≡ true → IsOpenAt a pending n.next n.end ⊎ IsBack a earlier t n.latest
+IsNodeAt a earlier t pending n = n.failed ≡ false → atom_holds a n.denied ≡ true
+    → IsOpenAt a pending n.next n.end ⊎ IsBack a earlier t n.latest
 
 abbrev pub AreNodesAt : List Fallen → List ℤ → Minimiser → Type 0
 AreNodesAt earlier a m = All (IsNodeAt a earlier m.assert m.pending.items) m.nodes.items
@@ -48,7 +49,8 @@ pub record Carries (old new : Minimiser) : Type 0 where
 pub record Passes (m : Minimiser) (n : Node) (to : ℕ × ℕ) : Type 0 where
   pub within : to.0 ≤ n.end
   pub later : n.latest ≤ to.1
-  pub at : (earlier : List Fallen) (a : List ℤ) → AreNodesAt earlier a m → IsOpenAt a m.pending.items n.next to.0 → IsBack a earlier m.assert to.1
+  pub at : (earlier : List Fallen) (a : List ℤ) → AreNodesAt earlier a m → IsOpenAt a m.pending.items n.next to.0
+      → IsBack a earlier m.assert to.1
 
 -- a list has more at its end
 pub record Grows (old new : List Fallen) : Type 0 where
@@ -63,7 +65,9 @@ IsLook s earlier t u Away = Unit {0}
 
 -- an atom is the entry's, or where it is true it leads to one of those that were added or back
 abbrev pub IsTraced : Trail → List Fallen → Minimiser → Atom → List Fallen → ℕ → Atom → Type 0
-IsTraced s earlier m entry new latest u = (u ≡ entry) ⊎ ((a : List ℤ) → IsBacked s a → atom_holds a u ≡ true → IsOpenAt a new (length m.pending.items) (length new) ⊎ IsBack a earlier m.assert latest)
+IsTraced s earlier m entry new latest u = (u ≡ entry)
+    ⊎ ((a : List ℤ) → IsBacked s a → atom_holds a u ≡ true
+    → IsOpenAt a new (length m.pending.items) (length new) ⊎ IsBack a earlier m.assert latest)
 
 pub record Traces (s : Trail) (earlier : List Fallen) (m : Minimiser) (entry : Atom) (new : List Fallen) (latest : ℕ) (reason : List Atom) : Type 0 where
   pub each : All (IsTraced s earlier m entry new latest) reason

@@ -20,7 +20,8 @@ AreAssumed first es ts = All (λ t. 1 ≤ t.weight → IsTrueAfter first es (ass
 
 -- each decision on the trail is such an assumption, or was made where all of them were true
 pub record AssumesFirst (s : Trail) (ts : List Held) : Type 0 where
-  pub each : (k : ℕ) (d : Entry) → k < length s.entries → (slice_index_or s.entries k d).reason ≡ Decision → IsAssumption ts (slice_index_or s.entries k d).atom ⊎ AreAssumed s.first (take k s.entries) ts
+  pub each : (k : ℕ) (d : Entry) → k < length s.entries → (slice_index_or s.entries k d).reason ≡ Decision
+      → IsAssumption ts (slice_index_or s.entries k d).atom ⊎ AreAssumed s.first (take k s.entries) ts
 
 -- the first term with a weight above 0 whose assumption is false
 pub record IsFailed (s : Trail) (ts : List Held) (place : ℕ) : Type 0 where

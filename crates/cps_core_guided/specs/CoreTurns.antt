@@ -39,11 +39,13 @@ pub record SameCoreSetting (s t : CoreSearch) : Type 0 where
   pub refused : t.search.refused ≡ s.search.refused
   pub greatest : t.greatest ≡ s.greatest
 
--- Which atom a core-guided worker decides, where no assumption of a term fails: the first that is undecided; and what the brancher chooses
--- where all of them are true, or nothing is assumed any more.
+-- Which atom a core-guided worker decides, where no assumption of a term fails: the first that is undecided; and what
+-- the brancher chooses where all of them are true, or nothing is assumed any more.
 pub data DecidesOf (chooses : Trail → Option Atom → Type 0) (s : CoreSearch) (m : Trail) (t : Atom) : Type 0 where
-  an_assumption : s.sums < most_sums → NoneFails m s.form.terms → (place : ℕ) → IsFirstOpen m s.form.terms place → t ≡ assumed (term_at s.form.terms place) → DecidesOf chooses s m t
-  a_choice : (s.sums < most_sums → AreAssumed m.first m.entries s.form.terms) → chooses m (Some t) → DecidesOf chooses s m t
+  an_assumption : s.sums < most_sums → NoneFails m s.form.terms → (place : ℕ) → IsFirstOpen m s.form.terms place
+      → t ≡ assumed (term_at s.form.terms place) → DecidesOf chooses s m t
+  a_choice : (s.sums < most_sums → AreAssumed m.first m.entries s.form.terms) → chooses m (Some t)
+      → DecidesOf chooses s m t
 
 -- Where a decision was due, one was made: an assumption, or what the brancher chose.
 pub record DecidesFrom (chooses : Trail → Option Atom → Type 0) (m t : CoreSearch) (p q : Part) : Type 0 where
@@ -53,8 +55,8 @@ pub record DecidesFrom (chooses : Trail → Option Atom → Type 0) (m t : CoreS
   pub is : t ≡ record m { search = moved m.search (decided m.search.store atom) m.search.rested }
   pub part : q ≡ p
 
--- Where a decision was due, the assumption of a term fails: the search went back to level 0, and the objective would be reformed by the
--- decisions behind that assumption.
+-- Where a decision was due, the assumption of a term fails: the search went back to level 0, and the objective would be
+-- reformed by the decisions behind that assumption.
 pub record FailsFrom (m t : CoreSearch) (form : Form) (more : ℕ) : Type 0 where
   pub few : m.sums < most_sums
   pub place : ℕ
@@ -93,8 +95,8 @@ pub record ReformsFrom (m t : CoreSearch) (p q : Part) (base : ℤ) : Type 0 whe
   pub raises : RaisesTo (At base) m t p q
   pub ended : t.ended ≡ false
 
--- The worker is exhausted in place of a reform: no solution below z can have the form that the reform would come to. The lower bound was
--- raised to z.
+-- The worker is exhausted in place of a reform: no solution below z can have the form that the reform would come to.
+-- The lower bound was raised to z.
 pub record ExhaustsFrom (m t : CoreSearch) (p q : Part) : Type 0 where
   pub form : Form
   pub more : ℕ
@@ -137,9 +139,11 @@ CoreCaused chooses s t rows p q turns.Imported = ByFrame s t (TookOne s.search t
 CoreCaused chooses s t rows p q turns.Decided = FromDue s rows p (λ m o. DecidesFrom chooses m t o q)
 CoreCaused chooses s t rows p q turns.Learnt = ByFrame s t (LearntOne s.search t.search rows p q)
 CoreCaused chooses s t rows p q turns.Found = ByFrame s t (FoundOne s.search t.search rows p q)
-CoreCaused chooses s t rows p q turns.Exhausted = ByFrame s t (ExhaustedAll s.search t.search rows p q) ⊎ FromDue s rows p (λ m o. ExhaustsFrom m t o q)
+CoreCaused chooses s t rows p q turns.Exhausted = ByFrame s t (ExhaustedAll s.search t.search rows p q)
+    ⊎ FromDue s rows p (λ m o. ExhaustsFrom m t o q)
 CoreCaused chooses s t rows p q turns.SawClosed = ByFrame s t (SawMet s.search t.search p q)
-CoreCaused chooses s t rows p q (turns.Spent clause below) = ByFrame s t (SpentAll s.search t.search rows p q clause below)
+CoreCaused chooses s t rows p q (turns.Spent clause below) = ByFrame s t
+    (SpentAll s.search t.search rows p q clause below)
 CoreCaused chooses s t rows p q turns.RoundsDone = ⊥
 CoreCaused chooses s t rows p q (turns.Reformed base) = FromDue s rows p (λ m o. ReformsFrom m t o q base)
 
@@ -147,11 +151,15 @@ CoreCaused chooses s t rows p q (turns.Reformed base) = FromDue s rows p (λ m o
 -- objective, rows to take and open values, in this order, the first that a turn changes gets less; and each turn but
 -- the last changes one.
 pub data LowersCore (s t : CoreSearch) (rows : ℕ) (p q : BoardPart) : Type 0 where
-  fewer_conflicts : (budget : ℕ) → s.search.budget ≡ Some budget → s.search.tally < budget → t.search.tally ≡ s.search.tally + 1 → LowersCore s t rows p q
+  fewer_conflicts : (budget : ℕ) → s.search.budget ≡ Some budget → s.search.tally < budget
+      → t.search.tally ≡ s.search.tally + 1 → LowersCore s t rows p q
   lesser_z : t.search.tally ≡ s.search.tally → IsLess t.search.z s.search.z → LowersCore s t rows p q
-  higher_base : t.search.tally ≡ s.search.tally → BoundLe t.search.z s.search.z → s.form.base <ℤ t.form.base → t.form.base ≤ℤ t.greatest → LowersCore s t rows p q
-  fewer_rows : t.search.tally ≡ s.search.tally → BoundLe t.search.z s.search.z → t.form.base ≡ s.form.base → length p.taken < rows → length q.taken ≡ length p.taken + 1 → LowersCore s t rows p q
-  fewer_values : t.search.tally ≡ s.search.tally → BoundLe t.search.z s.search.z → t.form.base ≡ s.form.base → length q.taken ≡ length p.taken
+  higher_base : t.search.tally ≡ s.search.tally → BoundLe t.search.z s.search.z → s.form.base <ℤ t.form.base
+      → t.form.base ≤ℤ t.greatest → LowersCore s t rows p q
+  fewer_rows : t.search.tally ≡ s.search.tally → BoundLe t.search.z s.search.z → t.form.base ≡ s.form.base
+      → length p.taken < rows → length q.taken ≡ length p.taken + 1 → LowersCore s t rows p q
+  fewer_values : t.search.tally ≡ s.search.tally → BoundLe t.search.z s.search.z → t.form.base ≡ s.form.base
+      → length q.taken ≡ length p.taken
       → open_values t.search.store.first t.search.store.entries < open_values s.search.store.first s.search.store.entries → LowersCore s t rows p q
 
 -- a turn that may add what was not inferred, or go back to level 0 over a greater problem
@@ -171,17 +179,21 @@ pub record TakesCoreTurn (chooses : Trail → Option Atom → Type 0) (s t : Cor
 abbrev pub DecidedBy : Type 0 → Type 0 → Type 0
 DecidedBy chose same = chose ⊎ same
 
--- one turn of a core-guided worker whose search is sound before and after it and whose brancher has these rules, and what it does to the brancher
+-- one turn of a core-guided worker whose search is sound before and after it and whose brancher has these rules, and
+-- what it does to the brancher
 pub record OneCoreTurn {B : Type 0} (chooses : B → Trail → Option Atom → Type 0) (hears : B → List Atom → Bool → B → Type 0) (stays : B → B → Type 0) (rows : ℕ) (s t : CoreSearch × B) (p q : Part) (turn : Turn) : Type 0 where
   pub before : IsSoundCore s.0
   pub after : IsSoundCore t.0
   pub search : TakesCoreTurn (chooses s.1) s.0 t.0 rows p q turn
-  pub brancher : BrancherTurn turn (HeardOne (λ clause restart. hears s.1 clause restart t.1) s.0.search t.0.search) (DecidedBy (stays s.1 t.1) (t.1 ≡ s.1)) (t.1 ≡ s.1)
+  pub brancher : BrancherTurn turn (HeardOne (λ clause restart. hears s.1 clause restart t.1) s.0.search t.0.search)
+      (DecidedBy (stays s.1 t.1) (t.1 ≡ s.1)) (t.1 ≡ s.1)
 
 -- turns one after another, none of which ended the worker
 pub data TakesCoreTurns {B : Type 0} (chooses : B → Trail → Option Atom → Type 0) (hears : B → List Atom → Bool → B → Type 0) (stays : B → B → Type 0) (rows : ℕ) (s : CoreSearch × B) (p : Part) : CoreSearch × B → Part → Type 0 where
   no_turn : TakesCoreTurns chooses hears stays rows s p s p
-  one_turn_more : (m t : CoreSearch × B) (n q : Part) (turn : Turn) → TakesCoreTurns chooses hears stays rows s p m n → end_of turn ≡ None → OneCoreTurn chooses hears stays rows m t n q turn → TakesCoreTurns chooses hears stays rows s p t q
+  one_turn_more : (m t : CoreSearch × B) (n q : Part) (turn : Turn) → TakesCoreTurns chooses hears stays rows s p m n
+      → end_of turn ≡ None → OneCoreTurn chooses hears stays rows m t n q turn
+      → TakesCoreTurns chooses hears stays rows s p t q
 
 -- a run of a core-guided worker: turns one after another, of which the last ended it so
 pub record RunsInCoreTurns {B : Type 0} (chooses : B → Trail → Option Atom → Type 0) (hears : B → List Atom → Bool → B → Type 0) (stays : B → B → Type 0) (rows : ℕ) (s t : CoreSearch × B) (p q : Part) (end : End) : Type 0 where
@@ -199,8 +211,8 @@ pub record RunsCoreTo (s t : CoreSearch) (p q : Part) (end : End) : Type 0 where
   pub said : (whole t).said ≡ Over end
   pub why : EndsBy (whole t) q.bounds end
 
--- A worker that begins: nothing is known, but that the objective is its first form, over the instance with a sum for the opposite of each
--- variable that the objective takes off.
+-- A worker that begins: nothing is known, but that the objective is its first form, over the instance with a sum for
+-- the opposite of each variable that the objective takes off.
 pub record BeginsCore (p : Problem) (gap budget : ℕ) (s : CoreSearch) : Type 0 where
   pub instance : s.search.instance.model ≡ p.model
   pub search : s.search ≡ fresh s.search.instance gap (Some budget)
@@ -214,8 +226,8 @@ pub record BeginsCore (p : Problem) (gap budget : ℕ) (s : CoreSearch) : Type 0
 abbrev pub core_ending : End → CoreSearch → Ending
 core_ending end s = ending CoreGuided None end (whole s)
 
--- What a core-guided worker keeps as long as it has memory. Its brancher is of the instance, and agrees with the store as long as the first
--- `kept` entries stay.
+-- What a core-guided worker keeps as long as it has memory. Its brancher is of the instance, and agrees with the store
+-- as long as the first `kept` entries stay.
 pub record IsCoreWorking (s : CoreSearch) (scope : Scope) (agrees : ℕ → Type 0) (kept : ℕ) : Type 0 where
   pub sound : IsSoundCore s
   pub of_problem : IsScopeOf s.search.instance scope

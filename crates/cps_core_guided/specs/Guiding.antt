@@ -21,7 +21,14 @@ use Rattle.cps_core_guided.specs.CoreTurns.{SameCoreSetting}
 
 -- the core-guided search that a worker stands for, as long as no allocation failed
 abbrev pub core_search_of : {P B : Type 0} → Guided P B → CoreSearch
-core_search_of {P} {B} g = record { search = g.frame; form = g.reform; sums = g.sums; greatest = g.greatest; raised = g.raised; ended = g.ended }
+core_search_of {P} {B} g = record {
+  search = g.frame;
+  form = g.reform;
+  sums = g.sums;
+  greatest = g.greatest;
+  raised = g.raised;
+  ended = g.ended;
+}
 
 -- a decision is due, and not all variables are fixed
 pub record IsDue (s : Search) : Type 0 where
@@ -29,8 +36,8 @@ pub record IsDue (s : Search) : Type 0 where
   pub settled : IsSettled s
   pub left_open : AreFixed s.store (variable_count s.instance) → ⊥
 
--- A term failed, and the search went back to level 0: wherever decisions that are assumptions of terms are true below z, the term's assumption
--- is false.
+-- A term failed, and the search went back to level 0: wherever decisions that are assumptions of terms are true below
+-- z, the term's assumption is false.
 pub record HasFailed (s : CoreSearch) (place : ℕ) (decisions : List Atom) : Type 0 where
   pub few : s.sums < most_sums
   pub within : place < length s.form.terms
@@ -38,10 +45,11 @@ pub record HasFailed (s : CoreSearch) (place : ℕ) (decisions : List Atom) : Ty
   pub bottom : s.search.store.level ≡ 0
   pub said : s.search.said ≡ Nothing
   pub assumptions : All (IsAssumption s.form.terms) decisions
-  pub false_there : OfEachBelow s.search.instance s.search.z (λ xs. All (λ u. atom_holds xs u ≡ true) decisions → atom_holds xs (assumed (term_at s.form.terms place)) ≡ false)
+  pub false_there : OfEachBelow s.search.instance s.search.z
+      (λ xs. All (λ u. atom_holds xs u ≡ true) decisions → atom_holds xs (assumed (term_at s.form.terms place)) ≡ false)
 
--- A reform was tried at level 0. Where it went through, the form is the one that it comes to, which is not past what a solution below z can
--- have; else it would be past that, and no solution is below z.
+-- A reform was tried at level 0. Where it went through, the form is the one that it comes to, which is not past what a
+-- solution below z can have; else it would be past that, and no solution is below z.
 pub record Tried (s t : CoreSearch) (place : ℕ) (decisions : List Atom) (done : Bool) : Type 0 where
   pub form : Form
   pub more : ℕ
@@ -64,8 +72,8 @@ pub record Tried (s t : CoreSearch) (place : ℕ) (decisions : List Atom) (done 
   pub ended : t.ended ≡ s.ended
   pub said : t.search.said ≡ Nothing
 
--- A core of several terms was split by its sum, which was defined. Where that went through, the form is the split one; else it stays, and no
--- solution is below z.
+-- A core of several terms was split by its sum, which was defined. Where that went through, the form is the split one;
+-- else it stays, and no solution is below z.
 pub record Splits (s t : CoreSearch) (done : Bool) : Type 0 where
   pub subject : ℕ
   pub grew : GrewBy s.search t.search (core_sum s.form.terms) subject
@@ -73,7 +81,8 @@ pub record Splits (s t : CoreSearch) (done : Bool) : Type 0 where
   pub is : done ≡ true → t.form ≡ split s.form (least_weight s.form.terms) subject
   pub stays : done ≡ false → t.form ≡ s.form
   pub not_past : done ≡ true → IsPast t.search.z t.greatest t.search.instance.domains t.form → ⊥
-  pub past : done ≡ false → IsPast t.search.z t.greatest t.search.instance.domains (split s.form (least_weight s.form.terms) subject)
+  pub past : done ≡ false → IsPast t.search.z t.greatest t.search.instance.domains
+      (split s.form (least_weight s.form.terms) subject)
   pub none_below : done ≡ false → NoneBelow s.search.instance.model s.search.z
   pub raised : t.raised ≡ s.raised
   pub greatest : t.greatest ≡ s.greatest

@@ -18,8 +18,8 @@ use Rattle.cps_reform.specs.Floors.{IsReform}
 use Rattle.cps_reform.specs.Marks.{assumed, IsMarked}
 use Rattle.cps_core_guided.specs.Assuming.{AssumesFirst}
 
--- A search with the objective's form; how many sums it defined for cores; the greatest objective by the domains; the greatest value to which
--- the worker itself raised the lower bound; and whether it ended in place of a reform.
+-- A search with the objective's form; how many sums it defined for cores; the greatest objective by the domains; the
+-- greatest value to which the worker itself raised the lower bound; and whether it ended in place of a reform.
 pub record CoreSearch : Type 0 where
   pub search : Search
   pub form : Form
@@ -41,15 +41,20 @@ pub record IsLeastNow (s : Trail) (subject : ℕ) (v : ℤ) : Type 0 where
   pub has : admits s.first s.entries subject v ≡ true
   pub least : (x : ℤ) → admits s.first s.entries subject x ≡ true → v ≤ℤ x
 
--- A reform of a form for a failed term, by the decisions behind its assumption, in a store at level 0: the problem and the form that it comes
--- to, and how many sums it defined.
+-- A reform of a form for a failed term, by the decisions behind its assumption, in a store at level 0: the problem and
+-- the form that it comes to, and how many sums it defined.
 pub data ReformsTo (bottom : Trail) (p : Problem) (f : Form) (place : ℕ) (decisions : List Atom) : Problem → Form → ℕ → Type 0 where
   -- the assumption is false at level 0: the bound rises to the subject's least value there
-  at_bottom : (v : ℤ) → IsFalseNow bottom (assumed (term_at f.terms place)) → IsLeastNow bottom (term_at f.terms place).subject v → ReformsTo bottom p f place decisions p (lifted f place v) 0
+  at_bottom : (v : ℤ) → IsFalseNow bottom (assumed (term_at f.terms place))
+      → IsLeastNow bottom (term_at f.terms place).subject v
+      → ReformsTo bottom p f place decisions p (lifted f place v) 0
   -- it is not, and the core is that term alone: the bound rises by 1
-  alone : (g : Form) → (IsFalseNow bottom (assumed (term_at f.terms place)) → ⊥) → IsMarked f g place decisions → length (core_terms g.terms) ≡ 1 → ReformsTo bottom p f place decisions p (lifted g place ((term_at f.terms place).bound +ℤ pos 1)) 0
+  alone : (g : Form) → (IsFalseNow bottom (assumed (term_at f.terms place)) → ⊥) → IsMarked f g place decisions
+      → length (core_terms g.terms) ≡ 1
+      → ReformsTo bottom p f place decisions p (lifted g place ((term_at f.terms place).bound +ℤ pos 1)) 0
   -- it is not, and the core has several terms: their weights fall by the least of them, which their sum takes over
-  several : (g : Form) (q : Problem) (subject : ℕ) → (IsFalseNow bottom (assumed (term_at f.terms place)) → ⊥) → IsMarked f g place decisions → 2 ≤ length (core_terms g.terms) → Defines p q (core_sum g.terms) subject
+  several : (g : Form) (q : Problem) (subject : ℕ) → (IsFalseNow bottom (assumed (term_at f.terms place)) → ⊥)
+      → IsMarked f g place decisions → 2 ≤ length (core_terms g.terms) → Defines p q (core_sum g.terms) subject
       → ReformsTo bottom p f place decisions q (split g (least_weight g.terms) subject) 1
 
 -- what a worker said last: that it is exhausted, where it ended in place of a reform
@@ -60,8 +65,8 @@ said_of s = if s.ended then Over ends.Exhausted else s.search.said
 abbrev pub whole : CoreSearch → Search
 whole s = record s.search { raised = greater_of s.search.raised s.raised; said = said_of s }
 
--- What is true of a core-guided worker as long as it has memory. Its form is worth what the objective is, at every assignment; and it has
--- room for all sums to come.
+-- What is true of a core-guided worker as long as it has memory. Its form is worth what the objective is, at every
+-- assignment; and it has room for all sums to come.
 pub record IsSoundCore (s : CoreSearch) : Type 0 where
   pub search : IsSoundSearch s.search
   pub form : IsReform s.search.instance s.search.z s.form

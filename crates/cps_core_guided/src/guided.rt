@@ -70,7 +70,8 @@ impl<'a, P: Defining, B: Brancher + Drop> Guided<'a, P, B> {
         requires imported { self.old.frame.imported ≤ length (Q.part port.old).board.taken }
         ensures same { (Q.model port.new ≡ Q.model port.old) × (Q.rows port.new ≡ Q.rows port.old) }
         ensures others { Q.stays port.old port.new }
-        ensures turn { IfOk result (λ turn. TakesCoreTurn (B.chooses self.old.brancher) (core_search_of self.old) (core_search_of
+        ensures turn { IfOk result (λ turn. TakesCoreTurn (B.chooses self.old.brancher) (core_search_of self.old)
+            (core_search_of
             self.new) (Q.rows port.old) (Q.part port.old) (Q.part port.new) turn) }
         ensures brancher { IfOk result (λ turn. BrancherTurn turn (HeardOne (λ clause restart. B.hears self.old.brancher
             clause restart self.new.brancher) self.old.frame self.new.frame) (DecidedBy (B.stays self.old.brancher
@@ -99,7 +100,8 @@ impl<'a, P: Defining, B: Brancher + Drop> Guided<'a, P, B> {
         requires model { Q.model port.old ≡ self.old.frame.instance.model }
         ensures same { (Q.model port.new ≡ Q.model port.old) × (Q.rows port.new ≡ Q.rows port.old) }
         ensures others { Q.stays port.old port.new }
-        ensures goes_on { IfOk result (GoesOn (B.chooses self.old.brancher) (core_search_of self.old) (core_search_of self.new)
+        ensures goes_on { IfOk result
+            (GoesOn (B.chooses self.old.brancher) (core_search_of self.old) (core_search_of self.new)
             (Q.part port.old) (Q.part port.new)) }
         ensures brancher { IfOk result (λ turn. BrancherTurn turn ⊥ (DecidedBy (B.stays self.old.brancher
             self.new.brancher) (self.new.brancher ≡ self.old.brancher)) (self.new.brancher ≡ self.old.brancher)) }
@@ -127,7 +129,8 @@ impl<'a, P: Defining, B: Brancher + Drop> Guided<'a, P, B> {
         requires few { self.old.sums < most_sums }
         requires none_fails { NoneFails self.old.frame.store self.old.reform.terms }
         requires open_now { IsFirstOpen self.old.frame.store self.old.reform.terms place }
-        ensures goes_on { IfOk result (λ turn. (part : Part) → GoesOn (B.chooses self.old.brancher) (core_search_of self.old)
+        ensures goes_on { IfOk result
+            (λ turn. (part : Part) → GoesOn (B.chooses self.old.brancher) (core_search_of self.old)
             (core_search_of self.new) part part turn) }
         ensures decided { IfOk result (λ turn. turn ≡ Turn.Decided) }
         ensures brancher { self.new.brancher ≡ self.old.brancher }
@@ -146,7 +149,8 @@ impl<'a, P: Defining, B: Brancher + Drop> Guided<'a, P, B> {
         requires due { IsDue self.old.frame }
         requires assumed { self.old.sums < most_sums → AreAssumed self.old.frame.store.first
             self.old.frame.store.entries self.old.reform.terms }
-        ensures goes_on { IfOk result (λ turn. (part : Part) → GoesOn (B.chooses self.old.brancher) (core_search_of self.old)
+        ensures goes_on { IfOk result
+            (λ turn. (part : Part) → GoesOn (B.chooses self.old.brancher) (core_search_of self.old)
             (core_search_of self.new) part part turn) }
         ensures decided { IfOk result (λ turn. turn ≡ Turn.Decided) }
         ensures brancher { B.stays self.old.brancher self.new.brancher }
@@ -171,7 +175,8 @@ impl<'a, P: Defining, B: Brancher + Drop> Guided<'a, P, B> {
         requires model { Q.model port.old ≡ self.old.frame.instance.model }
         ensures same { (Q.model port.new ≡ Q.model port.old) × (Q.rows port.new ≡ Q.rows port.old) }
         ensures others { Q.stays port.old port.new }
-        ensures goes_on { IfOk result (GoesOn (B.chooses self.old.brancher) (core_search_of self.old) (core_search_of self.new)
+        ensures goes_on { IfOk result
+            (GoesOn (B.chooses self.old.brancher) (core_search_of self.old) (core_search_of self.new)
             (Q.part port.old) (Q.part port.new)) }
         ensures brancher { self.new.brancher ≡ self.old.brancher }
         ensures works { OnOk result (IsCoreWorking (core_search_of self.new) (B.scope self.new.brancher) (B.agrees
@@ -259,7 +264,8 @@ impl<'a, P: Defining, B: Brancher + Drop> Guided<'a, P, B> {
         ensures stays { result ≡ false → core_search_of self.new ≡ core_search_of self.old }
         ensures not_past { result ≡ true → IsPast self.old.frame.z self.old.greatest self.old.frame.instance.domains
             self.new.reform → ⊥ }
-        ensures past { result ≡ false → IsPast self.old.frame.z self.old.greatest self.old.frame.instance.domains (lifted
+        ensures past { result ≡ false
+            → IsPast self.old.frame.z self.old.greatest self.old.frame.instance.domains (lifted
             self.old.reform place bound) }
         ensures none { result ≡ false → NoneBelow self.old.frame.instance.model self.old.frame.z }
         ensures sound { IsSoundCore (core_search_of self.new) }
@@ -308,12 +314,14 @@ impl<'a, P: Defining, B: Brancher + Drop> Guided<'a, P, B> {
     fn conclude<Q: Port>(&mut self, port: &mut Q, is_reformed: bool) -> Turn
         requires sound { IsSoundCore (core_search_of self.old) }
         requires model { Q.model port.old ≡ self.old.frame.instance.model }
-        requires base { is_reformed ≡ true → IsLowerBound self.old.frame.instance.model (Bound.At self.old.reform.base) }
+        requires base { is_reformed ≡ true
+            → IsLowerBound self.old.frame.instance.model (Bound.At self.old.reform.base) }
         requires none { is_reformed ≡ false → NoneBelow self.old.frame.instance.model self.old.frame.z }
         ensures same { (Q.model port.new ≡ Q.model port.old) × (Q.rows port.new ≡ Q.rows port.old) }
         ensures others { Q.stays port.old port.new }
         ensures reformed { is_reformed ≡ true → (result ≡ Turn.Reformed self.old.reform.base) × RaisesTo (Bound.At
-            self.old.reform.base) (core_search_of self.old) (core_search_of self.new) (Q.part port.old) (Q.part port.new) ×
+            self.old.reform.base) (core_search_of self.old) (core_search_of self.new) (Q.part port.old)
+            (Q.part port.new) ×
             (self.new.ended ≡ self.old.ended) }
         ensures exhausted { is_reformed ≡ false → (result ≡ Turn.Exhausted) × RaisesTo self.old.frame.z (core_search_of
             self.old) (core_search_of self.new) (Q.part port.old) (Q.part port.new) × (self.new.ended ≡ true) }

@@ -1,5 +1,5 @@
-//! Worked runs over the public calls at the outer edge: bytes that come in and go out, and command lines. All code here is
-//! tests: they stand apart, so that the crates they call are proved once.
+//! Worked runs over the public calls at the outer edge: bytes that come in and go out, and command lines. All code here
+//! is tests: they stand apart, so that the crates they call are proved once.
 #![tactic(auto)]
 
 #[cfg(test)]

@@ -11,7 +11,8 @@ use Rattle.cps_rule.specs.Rules.{AllTrueAt}
 abbrev pub task_of : List Atom → Body → Task
 task_of enforcement body = record { enforcement = enforcement; body = body }
 
--- A clause gains atoms that are false in a store, and that are all false at values within the first domains only where facts are true.
+-- A clause gains atoms that are false in a store, and that are all false at values within the first domains only where
+-- facts are true.
 pub record Denies (s : Trail) (us old new : List Atom) : Type 0 where
   pub kept : (xs : List ℤ) → clause_holds old xs ≡ true → clause_holds new xs ≡ true
   pub false_now : (u : Atom) → Contains new u → Contains old u ⊎ IsFalseNow s u

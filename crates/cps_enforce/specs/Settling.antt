@@ -12,7 +12,8 @@ use Rattle.cps_enforce.specs.Reasons.{task_of}
 pub record IsAside (s : Trail) (us : List Atom) (place : ℕ) (body : Body) : Type 0 where
   pub inside : place < length us
   pub not_true : (d : Atom) → IsTrueNow s (slice_index_or us place d) → ⊥
-  pub last : OthersAre (IsTrueNow s) us place → IsExcludedBody body s → (d : Atom) → IsFalseNow s (slice_index_or us place d)
+  pub last : OthersAre (IsTrueNow s) us place → IsExcludedBody body s → (d : Atom)
+      → IsFalseNow s (slice_index_or us place d)
 
 -- a body is at rest, and its rule does not tell that it cannot hold
 pub record IsResting (body : Body) (s : Trail) : Type 0 where

@@ -40,8 +40,8 @@ impl<R: Rule> Enforced<R> {
     ghost use Rattle.cps_enforce.specs.Reasons.{task_of};
     ghost use Rattle.cps_enforce.specs.Tasks.{IsCostly};
 
-    /// The propagator of a rule's body, in force where these atoms are true. The body is neither an objective's cut nor one of literals
-    /// alone.
+    /// The propagator of a rule's body, in force where these atoms are true. The body is neither an objective's cut nor
+    /// one of literals alone.
     pub fn new(alloc: Global, enforcement: &[Atom], rule: R) -> Result<Self, AllocError>
         requires { IsCostly (R.body rule) }
         ensures { IfOk result (λ propagator. propagator ≡ task_of enforcement.now (R.body rule)) }

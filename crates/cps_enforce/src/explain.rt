@@ -33,7 +33,8 @@ fn explain_given<R: Rule>(
 ) -> Result<bool, AllocError>
     requires force { IsInForce past.now enforcement.now (R.body rule.now) }
     requires subject { narrowing.now.target.subject < length past.now.first }
-    ensures { result ≡ Ok true → IsReasonFor (HoldsTask (task_of enforcement.now (R.body rule.now))) past.now narrowing.now.target draft.new.reason.items }
+    ensures { result ≡ Ok true → IsReasonFor
+        (HoldsTask (task_of enforcement.now (R.body rule.now))) past.now narrowing.now.target draft.new.reason.items }
 {
     let target = narrowing.target;
     let is_explained = rule.explain(past, target, narrowing.hint, &mut draft.facts)?;
@@ -45,7 +46,8 @@ fn explain_given<R: Rule>(
     Ok(true)
 }
 
-/// The reason of the negation of the one enforcement atom that was open, if the rule gives facts beside which the body cannot hold.
+/// The reason of the negation of the one enforcement atom that was open, if the rule gives facts beside which the body
+/// cannot hold.
 fn explain_off<R: Rule>(
     past: &Before,
     enforcement: &[Atom],
@@ -57,7 +59,8 @@ fn explain_off<R: Rule>(
     requires fits { IsFitting past.now.first (task_of enforcement.now (R.body rule.now)) }
     requires open { IsOpenAt past.now enforcement.now place }
     requires subject { narrowing.now.target.subject < length past.now.first }
-    ensures { result ≡ Ok true → IsReasonFor (HoldsTask (task_of enforcement.now (R.body rule.now))) past.now narrowing.now.target draft.new.reason.items }
+    ensures { result ≡ Ok true → IsReasonFor
+        (HoldsTask (task_of enforcement.now (R.body rule.now))) past.now narrowing.now.target draft.new.reason.items }
 {
     let target = narrowing.target;
     let negation = enforcement[place].negate();
@@ -84,7 +87,8 @@ fn explain_before<R: Rule>(
 ) -> Result<bool, AllocError>
     requires fits { IsFitting past.now.first (task_of enforcement.now (R.body rule.now)) }
     requires subject { narrowing.now.target.subject < length past.now.first }
-    ensures { result ≡ Ok true → IsReasonFor (HoldsTask (task_of enforcement.now (R.body rule.now))) past.now narrowing.now.target draft.new.reason.items }
+    ensures { result ≡ Ok true → IsReasonFor
+        (HoldsTask (task_of enforcement.now (R.body rule.now))) past.now narrowing.now.target draft.new.reason.items }
 {
     match force_of(past, enforcement) {
         Force::On => explain_given(past, enforcement, rule, narrowing, draft),
@@ -104,7 +108,8 @@ pub(crate) fn explain_by_rule<R: Rule>(
 ) -> Result<bool, AllocError>
     requires within { entry < length store.now.entries }
     requires fits { IsFitting store.now.first (task_of enforcement.now (R.body rule.now)) }
-    ensures { result ≡ Ok true → IsReason (HoldsTask (task_of enforcement.now (R.body rule.now))) store.now entry reason.new.items }
+    ensures { result ≡ Ok true → IsReason
+        (HoldsTask (task_of enforcement.now (R.body rule.now))) store.now entry reason.new.items }
 {
     let shown = store.entries()[entry];
     let (a, b) = shown.reason.witness();
@@ -126,7 +131,8 @@ pub(crate) fn explain_by_rule<R: Rule>(
     Ok(true)
 }
 
-/// Puts the reason of an entry that names all that was narrowed before of what the task reads in the place of what a list holds.
+/// Puts the reason of an entry that names all that was narrowed before of what the task reads in the place of what a
+/// list holds.
 pub(crate) fn explain_by_past<R: Rule>(
     alloc: Global,
     store: &Store,
@@ -138,7 +144,8 @@ pub(crate) fn explain_by_past<R: Rule>(
     requires within { entry < length store.now.entries }
     requires fits { IsFitting store.now.first (task_of enforcement.now (R.body rule.now)) }
     requires forced { IsForcedAt (HoldsTask (task_of enforcement.now (R.body rule.now))) store.now entry }
-    ensures { OnOk result (IsReason (HoldsTask (task_of enforcement.now (R.body rule.now))) store.now entry reason.new.items) }
+    ensures { OnOk result (IsReason
+        (HoldsTask (task_of enforcement.now (R.body rule.now))) store.now entry reason.new.items) }
 {
     let mut subjects = Vec::new(alloc);
     push_all_subjects(enforcement, rule, &mut subjects)?;

@@ -65,7 +65,8 @@ fn refuse_by_past<R: Rule>(
 ) -> Result<(), AllocError>
     requires force { IsInForce store.now enforcement.now (R.body rule.now) }
     requires impossible { IsImpossible (R.body rule.now) store.now }
-    ensures { OnOk result (IsConflict (HoldsTask (task_of enforcement.now (R.body rule.now))) store.now room.new.reason.items) }
+    ensures { OnOk result (IsConflict
+        (HoldsTask (task_of enforcement.now (R.body rule.now))) store.now room.new.reason.items) }
 {
     room.subjects.clear();
     push_all_subjects(enforcement, rule, &mut room.subjects)?;
@@ -84,7 +85,8 @@ fn refuse<R: Rule>(
 ) -> Result<(), AllocError>
     requires force { IsInForce store.now enforcement.now (R.body rule.now) }
     requires impossible { IsImpossible (R.body rule.now) store.now }
-    ensures { OnOk result (IsConflict (HoldsTask (task_of enforcement.now (R.body rule.now))) store.now room.new.reason.items) }
+    ensures { OnOk result (IsConflict
+        (HoldsTask (task_of enforcement.now (R.body rule.now))) store.now room.new.reason.items) }
 {
     let past = store.present();
     let is_refuted = rule.refute(&past, hint, &mut room.facts)?;
@@ -108,7 +110,8 @@ fn contradict<R: Rule>(
     requires force { IsInForce store.now enforcement.now (R.body rule.now) }
     requires given { IsGiven (R.body rule.now) store.now narrowing.now.target }
     requires false_now { IsFalseNow store.now narrowing.now.target }
-    ensures { OnOk result (IsConflict (HoldsTask (task_of enforcement.now (R.body rule.now))) store.now room.new.reason.items) }
+    ensures { OnOk result (IsConflict
+        (HoldsTask (task_of enforcement.now (R.body rule.now))) store.now room.new.reason.items) }
 {
     let past = store.present();
     let target = narrowing.target;
@@ -132,8 +135,11 @@ fn narrow<R: Rule>(
 ) -> Result<Step, AllocError>
     requires force { IsInForce store.old header.now.enforcement.now (R.body rule.now) }
     requires given { IsGiven (R.body rule.now) store.old narrowing.now.target }
-    ensures infers { OnOk result (Infers (ByTask header.now.number (HoldsTask (task_of header.now.enforcement.now (R.body rule.now)))) store.old store.new) }
-    ensures answers { IfOk result (Answers (HoldsTask (task_of header.now.enforcement.now (R.body rule.now))) store.new) }
+    ensures infers { OnOk result (Infers
+        (ByTask header.now.number (HoldsTask
+        (task_of header.now.enforcement.now (R.body rule.now)))) store.old store.new) }
+    ensures answers { IfOk result
+        (Answers (HoldsTask (task_of header.now.enforcement.now (R.body rule.now))) store.new) }
     ensures made { result ≡ Ok Step.Settled → IsTrueNow store.new narrowing.now.target }
 {
     let note = Note::Task {
@@ -160,8 +166,11 @@ fn narrow_all<R: Rule>(
 ) -> Result<Step, AllocError>
     requires force { IsInForce store.old header.now.enforcement.now (R.body rule.now) }
     requires given { All (λ n. IsGiven (R.body rule.now) store.old n.target) found.now }
-    ensures infers { OnOk result (Infers (ByTask header.now.number (HoldsTask (task_of header.now.enforcement.now (R.body rule.now)))) store.old store.new) }
-    ensures answers { IfOk result (Answers (HoldsTask (task_of header.now.enforcement.now (R.body rule.now))) store.new) }
+    ensures infers { OnOk result (Infers
+        (ByTask header.now.number (HoldsTask
+        (task_of header.now.enforcement.now (R.body rule.now)))) store.old store.new) }
+    ensures answers { IfOk result
+        (Answers (HoldsTask (task_of header.now.enforcement.now (R.body rule.now))) store.new) }
     ensures made { result ≡ Ok Step.Settled → All (λ n. IsTrueNow store.new n.target) found.now }
 {
     for narrowing in found {
@@ -183,9 +192,13 @@ pub(crate) fn pass<R: Rule>(
 ) -> Result<Step, AllocError>
     requires force { IsInForce store.old header.now.enforcement.now (R.body rule.old) }
     ensures keeps { R.body rule.new ≡ R.body rule.old }
-    ensures infers { OnOk result (Infers (ByTask header.now.number (HoldsTask (task_of header.now.enforcement.now (R.body rule.old)))) store.old store.new) }
-    ensures answers { IfOk result (Answers (HoldsTask (task_of header.now.enforcement.now (R.body rule.old))) store.new) }
-    ensures rest { result ≡ Ok Step.Settled → store.new.entries ≡ store.old.entries → IsResting (R.body rule.old) store.new }
+    ensures infers { OnOk result (Infers
+        (ByTask header.now.number (HoldsTask
+        (task_of header.now.enforcement.now (R.body rule.old)))) store.old store.new) }
+    ensures answers { IfOk result
+        (Answers (HoldsTask (task_of header.now.enforcement.now (R.body rule.old))) store.new) }
+    ensures rest { result ≡ Ok Step.Settled → store.new.entries ≡ store.old.entries
+        → IsResting (R.body rule.old) store.new }
 {
     match rule.look(store, found)? {
         Look::Possible => {

@@ -1,4 +1,5 @@
-//! Reasons: the negations of facts that were true. A fact that each first value of its subject meets needs no place in a reason.
+//! Reasons: the negations of facts that were true. A fact that each first value of its subject meets needs no place in
+//! a reason.
 
 ghost use Rattle.std.specs.Prelude.{◌≡◌, ◌<◌, ◌≤◌, ◌++◌, [], length, All, OnOk};
 ghost use Rattle.cps_instance.specs.declared.task.Body.{Body as BodyOf};
@@ -54,7 +55,8 @@ pub(crate) fn refuse_by(
 ) -> Result<(), AllocError>
     requires enforcement { AreFacts past.now enforcement.now }
     requires facts { AreFacts past.now facts.now }
-    ensures { OnOk result ((body : BodyOf) → IsRefuted body past.now facts.now → IsConflict (HoldsTask (task_of enforcement.now body)) past.now reason.new.items) }
+    ensures { OnOk result ((body : BodyOf) → IsRefuted body past.now facts.now
+        → IsConflict (HoldsTask (task_of enforcement.now body)) past.now reason.new.items) }
 {
     deny_both(past, enforcement, facts, reason)?;
     Ok(())
@@ -71,7 +73,8 @@ pub(crate) fn give_by(
     requires enforcement { AreFacts past.now enforcement.now }
     requires facts { AreFacts past.now facts.now }
     requires subject { target.subject < length past.now.first }
-    ensures { OnOk result ((body : BodyOf) → IsExplained body past.now target facts.now → IsReasonFor (HoldsTask (task_of enforcement.now body)) past.now target reason.new.items) }
+    ensures { OnOk result ((body : BodyOf) → IsExplained body past.now target facts.now
+        → IsReasonFor (HoldsTask (task_of enforcement.now body)) past.now target reason.new.items) }
 {
     deny_both(past, enforcement, facts, reason)?;
     reason.push(target)?;
@@ -104,7 +107,8 @@ pub(crate) fn push_all_subjects<R: Rule>(
     rule: &R,
     subjects: &mut Vec<u32>,
 ) -> Result<(), AllocError>
-    ensures { OnOk result (subjects.new.items ≡ subjects.old.items ++ subjects_of (task_of enforcement.now (R.body rule.now))) }
+    ensures { OnOk result (subjects.new.items
+        ≡ subjects.old.items ++ subjects_of (task_of enforcement.now (R.body rule.now))) }
 {
     push_atom_subjects(enforcement, subjects)?;
     rule.push_subjects(subjects)?;

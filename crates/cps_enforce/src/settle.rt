@@ -26,8 +26,11 @@ fn settle<R: Rule>(
 ) -> Result<Step, AllocError>
     requires force { IsInForce store.old header.now.enforcement.now (R.body rule.old) }
     ensures keeps { R.body rule.new ≡ R.body rule.old }
-    ensures infers { OnOk result (Infers (ByTask header.now.number (HoldsTask (task_of header.now.enforcement.now (R.body rule.old)))) store.old store.new) }
-    ensures answers { IfOk result (Answers (HoldsTask (task_of header.now.enforcement.now (R.body rule.old))) store.new) }
+    ensures infers { OnOk result (Infers
+        (ByTask header.now.number (HoldsTask
+        (task_of header.now.enforcement.now (R.body rule.old)))) store.old store.new) }
+    ensures answers { IfOk result
+        (Answers (HoldsTask (task_of header.now.enforcement.now (R.body rule.old))) store.new) }
     ensures rest { result ≡ Ok Step.Settled → IsResting (R.body rule.old) store.new }
 {
     loop {
@@ -53,8 +56,11 @@ fn disable<R: Rule>(
     requires fits { IsFitting store.old.first (task_of header.now.enforcement.now (R.body rule.old)) }
     requires open { IsOpenAt store.old header.now.enforcement.now place }
     ensures keeps { R.body rule.new ≡ R.body rule.old }
-    ensures infers { OnOk result (Infers (ByTask header.now.number (HoldsTask (task_of header.now.enforcement.now (R.body rule.old)))) store.old store.new) }
-    ensures answers { IfOk result (Answers (HoldsTask (task_of header.now.enforcement.now (R.body rule.old))) store.new) }
+    ensures infers { OnOk result (Infers
+        (ByTask header.now.number (HoldsTask
+        (task_of header.now.enforcement.now (R.body rule.old)))) store.old store.new) }
+    ensures answers { IfOk result
+        (Answers (HoldsTask (task_of header.now.enforcement.now (R.body rule.old))) store.new) }
     ensures aside { result ≡ Ok Step.Settled → IsAside store.new header.now.enforcement.now place (R.body rule.old) }
 {
     let hint = match rule.look(store, found)? {
@@ -86,8 +92,11 @@ pub(crate) fn run<R: Rule>(
 ) -> Result<Step, AllocError>
     requires fits { IsFitting store.old.first (task_of header.now.enforcement.now (R.body rule.old)) }
     ensures keeps { R.body rule.new ≡ R.body rule.old }
-    ensures infers { OnOk result (Infers (ByTask header.now.number (HoldsTask (task_of header.now.enforcement.now (R.body rule.old)))) store.old store.new) }
-    ensures answers { IfOk result (Answers (HoldsTask (task_of header.now.enforcement.now (R.body rule.old))) store.new) }
+    ensures infers { OnOk result (Infers
+        (ByTask header.now.number (HoldsTask
+        (task_of header.now.enforcement.now (R.body rule.old)))) store.old store.new) }
+    ensures answers { IfOk result
+        (Answers (HoldsTask (task_of header.now.enforcement.now (R.body rule.old))) store.new) }
     ensures settled { result ≡ Ok Step.Settled → IsBodySettled store.new header.now.enforcement.now (R.body rule.old) }
 {
     match force_of(&store.present(), header.enforcement) {

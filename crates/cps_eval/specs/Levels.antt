@@ -7,7 +7,8 @@ use Rattle.cps_model.specs.Rules.{is_small}
 
 -- no time is less than one before it
 abbrev pub AreInOrder : List Event → Type 0
-AreInOrder es = (i j : ℕ) (d : Event) → i ≤ j → j < length es → (slice_index_or es i d).time ≤ℤ (slice_index_or es j d).time
+AreInOrder es = (i j : ℕ) (d : Event) → i ≤ j → j < length es
+    → (slice_index_or es i d).time ≤ℤ (slice_index_or es j d).time
 
 -- each change is small
 abbrev pub has_small_change : Event → Bool

@@ -21,10 +21,12 @@ AreGrouped steps =
 
 -- those of a state and a label begin at an index, and end before one
 abbrev pub BeginAt : List Transition → ℤ → ℤ → ℕ → Type 0
-BeginAt steps state label first = IsPartitionPoint (λ y. comes_before state label y ≡ true) (λ y. comes_before state label y ≡ false) steps first
+BeginAt steps state label first = IsPartitionPoint (λ y. comes_before state label y ≡ true)
+    (λ y. comes_before state label y ≡ false) steps first
 
 abbrev pub EndBefore : List Transition → ℤ → ℤ → ℕ → Type 0
-EndBefore steps state label end = IsPartitionPoint (λ y. comes_up_to state label y ≡ true) (λ y. comes_up_to state label y ≡ false) steps end
+EndBefore steps state label end = IsPartitionPoint (λ y. comes_up_to state label y ≡ true)
+    (λ y. comes_up_to state label y ≡ false) steps end
 
 -- the transitions from one place to before another
 abbrev pub part : List Transition → ℕ → ℕ → List Transition

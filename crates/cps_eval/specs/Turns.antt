@@ -12,4 +12,5 @@ ComesFirst p q = (p.start <ℤ q.start) ⊎ ((p.start ≡ q.start) × (p.end ≤
 
 -- they are sorted by start and end
 abbrev pub AreInTurn : List Run → Type 0
-AreInTurn runs = (k : ℕ) (d : Run) → k + 1 < length runs → ComesFirst (slice_index_or runs k d) (slice_index_or runs (k + 1) d)
+AreInTurn runs = (k : ℕ) (d : Run) → k + 1 < length runs
+    → ComesFirst (slice_index_or runs k d) (slice_index_or runs (k + 1) d)

@@ -108,7 +108,8 @@ fn states_after(
     label: i64,
 ) -> Result<Vec<i64>, AllocError>
     requires { AreGrouped steps.now }
-    ensures { IfOk result (λ after. (next : ℤ) → LeadsFromSome steps.now label states.now next ↔ Contains after.items next) }
+    ensures { IfOk result (λ after. (next : ℤ)
+        → LeadsFromSome steps.now label states.now next ↔ Contains after.items next) }
 {
     let mut after = Vec::new(alloc);
     for state in states {
@@ -126,7 +127,8 @@ fn end_states(
     labels: &[i64],
 ) -> Result<Vec<i64>, AllocError>
     requires { AreGrouped steps.now }
-    ensures { IfOk result (λ ends. (finals : List ℤ) → SomeAccepts steps.now finals ends.items [] ↔ Accepts steps.now finals start labels.now) }
+    ensures { IfOk result (λ ends. (finals : List ℤ)
+        → SomeAccepts steps.now finals ends.items [] ↔ Accepts steps.now finals start labels.now) }
 {
     let mut states = Vec::new(alloc);
     states.push(start)?;

@@ -234,7 +234,8 @@ pub fn have_circuit(
     requires heads { length tails.now ≡ length heads.now }
     requires literals { length tails.now ≡ length literals.now }
     requires named { IsTrue (are_named values.now literals.now) }
-    ensures { IfOk result (λ answer. IsTrue answer ↔ IsCircuit (tails.now ++ heads.now) (selected values.now tails.now heads.now literals.now)) }
+    ensures { IfOk result (λ answer. IsTrue answer
+        ↔ IsCircuit (tails.now ++ heads.now) (selected values.now tails.now heads.now literals.now)) }
 {
     let nodes = nodes(alloc, tails, heads)?;
     let arcs = selected(alloc, tails, heads, literals, values)?;

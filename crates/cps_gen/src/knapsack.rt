@@ -57,7 +57,8 @@ fn capacity(
     total: u32,
 ) -> Result<Listed<Constraint>, AllocError>
     requires { size < 2 ^ 31 }
-    ensures { IfOk result (λ cs. cs ≡ in_force (kinds.Linear (references size) weights (pos 0 ∷ pos (total / 2) ∷ [])) ∷ []) }
+    ensures { IfOk result (λ cs. cs
+        ≡ in_force (kinds.Linear (references size) weights (pos 0 ∷ pos (total / 2) ∷ [])) ∷ []) }
 {
     let kind = Kind::Linear {
         vars: references(alloc, size)?,

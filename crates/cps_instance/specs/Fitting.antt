@@ -58,7 +58,8 @@ pub record AreFittingSteps (tails heads labels : List ℤ) : Type 0 where
   pub headed : length tails ≡ length heads
   pub labelled : length tails ≡ length labels
 
--- levels between which 0 lies, and events, each with a time, a change, and an atom that stands for a literal where any has one
+-- levels between which 0 lies, and events, each with a time, a change, and an atom that stands for a literal where any
+-- has one
 pub record AreFittingLevels (domains : Domains) (min max : ℤ) (times changes : List ℕ) (active : List Atom) : Type 0 where
   pub paired : length times ≡ length changes
   pub tied : (length active ≡ 0) ⊎ (length active ≡ length times)

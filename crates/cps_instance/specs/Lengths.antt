@@ -19,7 +19,8 @@ coefficient_of v (r ∷ rs) (c ∷ cs) =
 
 -- whether a variable has the same coefficient in both expressions
 abbrev pub has_same_coefficient : LinearExpr → LinearExpr → ℕ → Bool
-has_same_coefficient start end v = int_eq (coefficient_of v start.vars start.coeffs) (coefficient_of v end.vars end.coeffs)
+has_same_coefficient start end v = int_eq (coefficient_of v start.vars start.coeffs)
+    (coefficient_of v end.vars end.coeffs)
 
 abbrev pub have_same_coefficients : LinearExpr → LinearExpr → List ℤ → Bool
 have_same_coefficients start end references = list_all (λ r. has_same_coefficient start end (variable_of r)) references
@@ -27,4 +28,5 @@ have_same_coefficients start end references = list_all (λ r. has_same_coefficie
 -- where both have the same terms, like ones merged, the one offset less the other
 abbrev pub length_between : LinearExpr → LinearExpr → Option ℤ
 length_between start end =
-    if have_same_coefficients start end start.vars && have_same_coefficients start end end.vars then Some (end.offset -ℤ start.offset) else None
+    if have_same_coefficients start end start.vars && have_same_coefficients start end end.vars then Some
+    (end.offset -ℤ start.offset) else None

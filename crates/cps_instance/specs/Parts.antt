@@ -30,7 +30,8 @@ span_end xs start end None = value_at xs end
 -- a span that is present
 abbrev pub span_run : List ℤ → Span → Option Run
 span_run xs s =
-    if list_all (atom_holds xs) s.presence then Some (record { start = value_at xs s.start; end = span_end xs s.start s.end s.length }) else None
+    if list_all (atom_holds xs) s.presence then Some
+    (record { start = value_at xs s.start; end = span_end xs s.start s.end s.length }) else None
 
 abbrev pub span_runs : List ℤ → List Span → List Run
 span_runs xs spans = filter_map (span_run xs) spans

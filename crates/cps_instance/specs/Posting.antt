@@ -61,7 +61,8 @@ expressions_of (kinds.NoOverlap2d x y) = []
 abbrev pub subject_lists : ℕ → List Constraint → List (List ℕ)
 subject_lists next [] = []
 subject_lists next (c ∷ cs) =
-    subjects_from next (expressions_of c.kind) ∷ subject_lists (next + length (flat_map expression_sums (expressions_of c.kind))) cs
+    subjects_from next (expressions_of c.kind) ∷ subject_lists
+    (next + length (flat_map expression_sums (expressions_of c.kind))) cs
 
 -- a span for an index of no interval constraint, which the rules exclude
 abbrev pub no_span : Span
@@ -100,16 +101,21 @@ body_of span subjects (kinds.IntDiv target exprs) = bodies.IntDiv (slice_index_o
 body_of span subjects (kinds.IntMod target exprs) = bodies.IntMod (slice_index_or subjects 0 0) (drop 1 subjects)
 body_of span subjects (kinds.IntProd target exprs) = bodies.IntProd (slice_index_or subjects 0 0) (drop 1 subjects)
 body_of span subjects (kinds.LinMax target exprs) = bodies.LinMax (slice_index_or subjects 0 0) (drop 1 subjects)
-body_of span subjects (kinds.Element index target exprs) = bodies.Element (slice_index_or subjects 0 0) (slice_index_or subjects 1 0) (drop 2 subjects)
+body_of span subjects (kinds.Element index target exprs) = bodies.Element (slice_index_or subjects 0 0)
+    (slice_index_or subjects 1 0) (drop 2 subjects)
 body_of span subjects (kinds.Table exprs values negated) = bodies.Table subjects values negated
 body_of span subjects (kinds.AllDiff exprs) = bodies.AllDiff subjects
 body_of span subjects (kinds.Circuit tails heads literals) = bodies.Circuit tails heads (map atom_of literals)
-body_of span subjects (kinds.Interval start end size) = bodies.Interval (slice_index_or subjects 0 0) (slice_index_or subjects 1 0) (slice_index_or subjects 2 0)
+body_of span subjects (kinds.Interval start end size) = bodies.Interval (slice_index_or subjects 0 0)
+    (slice_index_or subjects 1 0) (slice_index_or subjects 2 0)
 body_of span subjects (kinds.NoOverlap intervals) = bodies.NoOverlap (map span intervals)
-body_of span subjects (kinds.Cumulative capacity intervals demands) = bodies.Cumulative (slice_index_or subjects 0 0) (map span intervals) (drop 1 subjects)
-body_of span subjects (kinds.Inverse direct inverse) = bodies.Inverse (take (length direct) subjects) (drop (length direct) subjects)
+body_of span subjects (kinds.Cumulative capacity intervals demands) = bodies.Cumulative (slice_index_or subjects 0 0)
+    (map span intervals) (drop 1 subjects)
+body_of span subjects (kinds.Inverse direct inverse) = bodies.Inverse (take (length direct) subjects)
+    (drop (length direct) subjects)
 body_of span subjects (kinds.Automaton start finals tails heads labels exprs) = bodies.Automaton start finals tails heads labels subjects
-body_of span subjects (kinds.Reservoir min max times changes active) = bodies.Reservoir min max (take (length times) subjects) (drop (length times) subjects) (map atom_of active)
+body_of span subjects (kinds.Reservoir min max times changes active) = bodies.Reservoir min max
+    (take (length times) subjects) (drop (length times) subjects) (map atom_of active)
 body_of span subjects (kinds.NoOverlap2d x y) = bodies.NoOverlap2d (map span x) (map span y)
 
 abbrev pub task_of : (ℤ → Span) → List ℕ → Constraint → Task
@@ -159,8 +165,8 @@ problem_of m ds ts gs = record { model = m; defs = sums_in ts; domains = ds; tas
 abbrev pub HasSmallOffset : LinearExpr → Type 0
 HasSmallOffset e = unsigned_abs e.offset < 2 ^ 62
 
--- Each expression of a kind has a subject and a small offset, its sums have a coefficient for each reference, and its interval
--- indices are those of interval constraints.
+-- Each expression of a kind has a subject and a small offset, its sums have a coefficient for each reference, and its
+-- interval indices are those of interval constraints.
 pub record CanBePosted (cs : List Constraint) (subjects : List ℕ) (k : Kind) : Type 0 where
   pub each : length subjects ≡ length (expressions_of k)
   pub offsets : All HasSmallOffset (expressions_of k)

@@ -48,7 +48,8 @@ HoldsBody (Interval start end size) xs = IsInterval (value_at xs start) (value_a
 HoldsBody (NoOverlap spans) xs = IsNoOverlap (span_runs xs spans)
 HoldsBody (Cumulative capacity spans demands) xs = IsCumulative (value_at xs capacity) (span_uses xs spans demands)
 HoldsBody (Inverse direct inverse) xs = AreInverse (values_at xs direct) (values_at xs inverse)
-HoldsBody (Automaton start finals tails heads labels exprs) xs = Accepts (transitions tails heads labels) finals start (values_at xs exprs)
+HoldsBody (Automaton start finals tails heads labels exprs) xs = Accepts (transitions tails heads labels) finals start
+    (values_at xs exprs)
 HoldsBody (Reservoir min max times changes active) xs = IsReservoir min max (changes_at xs times changes active)
 HoldsBody (NoOverlap2d x y) xs = IsNoOverlap2d (span_areas xs x y)
 HoldsBody (Sum subject terms offset) xs = value_at xs subject ≡ terms_value xs terms +ℤ offset

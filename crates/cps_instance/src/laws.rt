@@ -7,5 +7,6 @@ ghost use Rattle.cps_instance.specs.Tasks.{HoldAll};
 
 /// The task of a defined sum rules nothing out: it holds at each assignment that is followed by the values of the sums.
 pub fn tasks_of_sums_hold()
-    ensures { (p : Problem) (a : List ℤ) → IsInstance p → IsAssignment p.model a → HoldAll (sum_tasks (variable_count p) p.defs) (extended p.defs a) }
+    ensures { (p : Problem) (a : List ℤ) → IsInstance p → IsAssignment p.model a
+        → HoldAll (sum_tasks (variable_count p) p.defs) (extended p.defs a) }
 {}

@@ -55,7 +55,8 @@ fn have_same_coefficients(
     start: &HashMap<u32, i128>,
     end: &HashMap<u32, i128>,
 ) -> bool
-    ensures { result ≡ list_all (λ r. int_eq (merged_coefficient start.now (variable_of r)) (merged_coefficient end.now (variable_of r))) references.now }
+    ensures { result ≡ list_all (λ r. int_eq (merged_coefficient start.now (variable_of r))
+        (merged_coefficient end.now (variable_of r))) references.now }
 {
     for reference in references {
         let variable = variable_of(*reference);

@@ -15,7 +15,8 @@ pub struct Span {
     pub length: Option<i64>,
 }
 
-/// What a task demands where it is in force. Atoms stand for literals, subjects for expressions, and spans for intervals.
+/// What a task demands where it is in force. Atoms stand for literals, subjects for expressions, and spans for
+/// intervals.
 #[derive(Drop)]
 pub enum Body {
     /// Nothing.

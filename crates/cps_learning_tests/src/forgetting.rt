@@ -27,7 +27,8 @@ fn learn_three(alloc: Global, base: &mut ClauseBase) -> Result<(), AllocError> {
     learn(alloc, base, &[one(0), one(1), one(2), one(3), one(4)])
 }
 
-/// What is looked at once a base forgot: how many learnt clauses it dropped, which one last, and which of the first three stand.
+/// What is looked at once a base forgot: how many learnt clauses it dropped, which one last, and which of the first
+/// three stand.
 #[derive(Clone, Copy, PartialEq, Eq)]
 struct Left {
     count: u32,

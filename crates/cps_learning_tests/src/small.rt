@@ -48,7 +48,14 @@ pub(crate) fn bits(alloc: Global) -> Result<Store, AllocError>
 
 /// Decides an atom; an error where it is true or false already.
 pub(crate) fn decide(store: &mut Store, atom: Atom) -> Result<(), AllocError>
-    ensures { OnOk result (store.new ≡ record store.old { entries = store.old.entries ++ record { atom = atom; level = store.old.level + 1; reason = Decision } ∷ []; level = store.old.level + 1 }) }
+    ensures { OnOk result (store.new ≡ record store.old {
+      entries = store.old.entries ++ record {
+        atom = atom;
+        level = store.old.level + 1;
+        reason = Decision;
+      } ∷ [];
+      level = store.old.level + 1;
+    }) }
 {
     if store.len() <= atom.subject as usize {
         return Err(AllocError);

@@ -20,8 +20,8 @@ simple_escape b =
     else (if (b == 63 || b == 92) || (b == 39 || b == 34) then Some b
     else None)))))))
 
--- the value of octal digits with one more. A value above 255 is none, so a third digit that takes it there is a fault: it
--- belongs to the escape, since digits are taken greedily.
+-- the value of octal digits with one more. A value above 255 is none, so a third digit that takes it there is a fault:
+-- it belongs to the escape, since digits are taken greedily.
 unfoldable pub octal_with : ℕ → ℕ → Option ℕ
 octal_with value b = if nat_le (8 * value + hex_value b) 255 then Some (8 * value + hex_value b) else None
 
@@ -41,8 +41,8 @@ is_scalar code = nat_lt code 0xD800 || (nat_le 0xE000 code && nat_le code 0x10FF
 unfoldable pub character_of : ℕ → Option ℕ
 character_of code = if is_scalar code then Some code else None
 
--- A byte of a string leads from one place to the next, and what it completes of the value is told beside that. `None` is where no
--- string goes on.
+-- A byte of a string leads from one place to the next, and what it completes of the value is told beside that. `None`
+-- is where no string goes on.
 
 -- behind a whole piece: the quote closes the string, a backslash begins an escape, and a line feed may not stand there
 unfoldable pub behind_piece : ℕ → ℕ → Option (Place × Denoted)

@@ -8,13 +8,16 @@ use Rattle.cps_lex.specs.Bytes.{is_digit, is_exponent_mark, is_plus_or_minus, is
 -- the part that a byte belongs to, behind this part
 abbrev pub next_part : Part → ℕ → Option Part
 next_part Zero b =
-    if b == 46 then Some Fraction else (if is_exponent_mark b then Some Mark else (if is_float_suffix b then Some Suffix else None))
+    if b == 46 then Some Fraction else
+    (if is_exponent_mark b then Some Mark else (if is_float_suffix b then Some Suffix else None))
 next_part Whole b =
     if is_digit b then Some Whole
-    else (if b == 46 then Some Fraction else (if is_exponent_mark b then Some Mark else (if is_float_suffix b then Some Suffix else None)))
+    else (if b == 46 then Some Fraction else
+    (if is_exponent_mark b then Some Mark else (if is_float_suffix b then Some Suffix else None)))
 next_part Point b = if is_digit b then Some Fraction else None
 next_part Fraction b =
-    if is_digit b then Some Fraction else (if is_exponent_mark b then Some Mark else (if is_float_suffix b then Some Suffix else None))
+    if is_digit b then Some Fraction else
+    (if is_exponent_mark b then Some Mark else (if is_float_suffix b then Some Suffix else None))
 next_part Mark b = if is_plus_or_minus b then Some Signed else (if is_digit b then Some Exponent else None)
 next_part Signed b = if is_digit b then Some Exponent else None
 next_part Exponent b = if is_digit b then Some Exponent else (if is_float_suffix b then Some Suffix else None)

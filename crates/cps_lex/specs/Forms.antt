@@ -37,8 +37,8 @@ abbrev pub is_hexadecimal : List ℕ → Bool
 is_hexadecimal (b ∷ x ∷ bs) = b == 48 && (is_x x && some_pass is_hex_digit bs)
 is_hexadecimal _ = false
 
--- a decimal, `.` and digits, perhaps none; or `.` and digits; each perhaps with an exponent; or a decimal and an exponent; each
--- perhaps with `f` behind it; or a decimal and `f`
+-- a decimal, `.` and digits, perhaps none; or `.` and digits; each perhaps with an exponent; or a decimal and an
+-- exponent; each perhaps with `f` behind it; or a decimal and `f`
 abbrev pub is_float : List ℕ → Bool
 is_float [] = false
 is_float (b ∷ bs) = is_number_start b && float_from (start_of b) bs

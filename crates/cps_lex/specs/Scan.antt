@@ -36,7 +36,8 @@ closing_by (Some s) count more = if is_closed s.0 then Some count else more s.0
 -- how many bytes there are up to the closing quote, with it and with so many before these, behind this place
 abbrev pub closing : ℕ → Place → ℕ → List ℕ → Option ℕ
 closing quote place count [] = None
-closing quote place count (b ∷ bs) = closing_by (step quote place b) (count + 1) (λ next. closing quote next (count + 1) bs)
+closing quote place count (b ∷ bs) = closing_by (step quote place b) (count + 1)
+    (λ next. closing quote next (count + 1) bs)
 
 -- the string that begins with this quote
 unfoldable pub text_at : ℕ → List ℕ → Option (TokenKind × ℕ)

@@ -13,5 +13,6 @@ same_atom t u = t.subject == u.subject && (rank t.op == rank u.op && int_eq t.va
 -- the map has the number of each atom of the list, and no other entry
 pub record IsIndexed (t : Inside) : Type 0 where
   pub unique : IsUnique same_atom t.numbers
-  pub number : (k : ℕ) (d : Atom) → k < length t.atoms.items → get same_atom t.numbers (slice_index_or t.atoms.items k d) ≡ Some k
+  pub number : (k : ℕ) (d : Atom) → k < length t.atoms.items
+      → get same_atom t.numbers (slice_index_or t.atoms.items k d) ≡ Some k
   pub listed : (atom : Atom) (k : ℕ) → get same_atom t.numbers atom ≡ Some k → slice_get t.atoms.items k ≡ Some atom

@@ -19,15 +19,18 @@ abbrev pub after_words : ℕ → Lcg → Lcg
 after_words zero draws = draws
 after_words (suc k) draws = after_words k (after_word draws)
 
--- Whether the first of `left` numbers is taken, where so many of them are wanted: the next word modulo `left` is less than that.
+-- Whether the first of `left` numbers is taken, where so many of them are wanted: the next word modulo `left` is less
+-- than that.
 abbrev pub is_taken : ℕ → ℕ → Lcg → Bool
 is_taken left wanted draws = nat_lt (next_word draws % left) wanted
 
--- So many of the `left` numbers from `first` on, in rising order: each number in turn has a word, by which it is taken or not.
+-- So many of the `left` numbers from `first` on, in rising order: each number in turn has a word, by which it is taken
+-- or not.
 abbrev pub sampled : ℕ → ℕ → ℕ → Lcg → List ℕ
 sampled zero first wanted draws = []
 sampled (suc left) first wanted draws =
-    if is_taken (suc left) wanted draws then first ∷ sampled left (first + 1) (wanted - 1) (after_word draws) else sampled left (first + 1) wanted (after_word draws)
+    if is_taken (suc left) wanted draws then first ∷ sampled left (first + 1) (wanted - 1)
+    (after_word draws) else sampled left (first + 1) wanted (after_word draws)
 
 -- `wanted` numbers below n, which are drawn with n words
 abbrev pub sample : ℕ → ℕ → Lcg → List ℕ

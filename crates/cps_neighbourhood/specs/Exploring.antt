@@ -31,7 +31,8 @@ near_as refused s = record s { search = record s.search { refused = refused } }
 pub record IsExploring {P : Type 0} (x : Explorer P) : Type 0 where
   pub sound : IsSoundSearch x.frame
   pub running : x.frame.refused ≡ false
-  pub scope : IsScopeOf x.frame.instance (record { variables = length x.brancher.activities; subjects = length x.brancher.activities })
+  pub scope : IsScopeOf x.frame.instance
+      (record { variables = length x.brancher.activities; subjects = length x.brancher.activities })
   pub budget : x.frame.budget ≡ None
   pub conflicts : x.conflicts ≤ 10 ^ 9
   pub imported : x.frame.imported ≤ 4096

@@ -25,8 +25,9 @@ use Rattle.cps_search.specs.Ends.{DecidedOne, Decides, EndsAs, EndsRaised, LastS
 use Rattle.cps_neighbourhood.specs.Drawing.{after_words}
 use Rattle.cps_neighbourhood.specs.Rounds.{ChoosesInRound, EndsRound, Round, first_round}
 
--- What a neighbourhood worker knows: its search and its brancher; the conflicts for which it does its rounds; the generator by which it draws; the solution
--- aimed at, if there is one; how many rounds ended; and the round that is under way, if one is.
+-- What a neighbourhood worker knows: its search and its brancher; the conflicts for which it does its rounds; the
+-- generator by which it draws; the solution aimed at, if there is one; how many rounds ended; and the round that is
+-- under way, if one is.
 pub record Near : Type 0 where
   pub search : Search
   pub brancher : ByActivity
@@ -139,7 +140,8 @@ NearCaused s t rows p q turns.Learnt = HasRounds s × LearntInRound s t rows p q
 NearCaused s t rows p q turns.Found = HasRounds s × FoundOne s.search t.search rows p q × SameRounds s t
 NearCaused s t rows p q turns.Exhausted = HasRounds s × ExhaustedAll s.search t.search rows p q × SameRounds s t
 NearCaused s t rows p q turns.SawClosed = SawMet s.search t.search p q × SameRounds s t
-NearCaused s t rows p q turns.RoundsDone = (s.rounds ≡ round_count s.conflicts) × RoundsOver s.search t.search p q × SameRounds s t
+NearCaused s t rows p q turns.RoundsDone = (s.rounds ≡ round_count s.conflicts) × RoundsOver s.search t.search p q
+    × SameRounds s t
 NearCaused s t rows p q turn = ⊥
 
 -- ---- turns
@@ -153,8 +155,10 @@ learnt_in (Some round) = round.learnt
 -- in this order, the first that a turn changes gets less; and each turn but the last changes one.
 pub data NearLowers (s t : Near) (rows : ℕ) (p q : BoardPart) : Type 0 where
   fewer_rounds : s.rounds < round_count s.conflicts → t.rounds ≡ s.rounds + 1 → NearLowers s t rows p q
-  fewer_conflicts : t.rounds ≡ s.rounds → learnt_in t.round ≡ learnt_in s.round + 1 → learnt_in t.round < round_conflicts → NearLowers s t rows p q
-  in_search : t.rounds ≡ s.rounds → learnt_in t.round ≡ learnt_in s.round → Lowers s.search t.search rows p q → NearLowers s t rows p q
+  fewer_conflicts : t.rounds ≡ s.rounds → learnt_in t.round ≡ learnt_in s.round + 1
+      → learnt_in t.round < round_conflicts → NearLowers s t rows p q
+  in_search : t.rounds ≡ s.rounds → learnt_in t.round ≡ learnt_in s.round → Lowers s.search t.search rows p q
+      → NearLowers s t rows p q
 
 -- what each turn of a neighbourhood worker does
 pub record TakesNearTurn (s t : Near) (rows : ℕ) (p q : Part) (turn : Turn) : Type 0 where
@@ -170,11 +174,14 @@ pub record TakesNearTurn (s t : Near) (rows : ℕ) (p q : Part) (turn : Turn) : 
 
 -- ---- runs
 
--- turns one after another, none of which ended the worker; between two of them it may be handed another solution to aim at
+-- turns one after another, none of which ended the worker; between two of them it may be handed another solution to aim
+-- at
 pub data TakesNearTurns (rows : ℕ) (s : Near) (p : Part) : Near → Part → Type 0 where
   none_yet : TakesNearTurns rows s p s p
-  one_more : (m t : Near) (n q : Part) (turn : Turn) → TakesNearTurns rows s p m n → end_of turn ≡ None → TakesNearTurn m t rows n q turn → TakesNearTurns rows s p t q
-  aimed : (t : Near) (q : Part) (solution : List ℤ) → TakesNearTurns rows s p t q → IsSolution t.search.instance.model solution → TakesNearTurns rows s p (record t { aim = Some solution }) q
+  one_more : (m t : Near) (n q : Part) (turn : Turn) → TakesNearTurns rows s p m n → end_of turn ≡ None
+      → TakesNearTurn m t rows n q turn → TakesNearTurns rows s p t q
+  aimed : (t : Near) (q : Part) (solution : List ℤ) → TakesNearTurns rows s p t q
+      → IsSolution t.search.instance.model solution → TakesNearTurns rows s p (record t { aim = Some solution }) q
 
 -- such turns, of which the last ended the worker so
 pub record NearRunsInTurns (rows : ℕ) (s t : Near) (p q : Part) (end : End) : Type 0 where

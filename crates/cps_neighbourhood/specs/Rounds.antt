@@ -30,10 +30,11 @@ has_value i x = record { subject = i; op = Eq; value = x }
 -- the variables from `first` on have these values, but for the free ones, of which nothing is said
 abbrev pub fixed_from : ℕ → List ℤ → List ℕ → List Atom
 fixed_from first [] free = []
-fixed_from first (x ∷ xs) free = if is_on free first then fixed_from (first + 1) xs free else has_value first x ∷ fixed_from (first + 1) xs free
+fixed_from first (x ∷ xs) free = if is_on free first then fixed_from
+    (first + 1) xs free else has_value first x ∷ fixed_from (first + 1) xs free
 
--- what a round is to decide, in this order: that the variables which it does not free have their values of the solution aimed at; without
--- one it fixes nothing
+-- what a round is to decide, in this order: that the variables which it does not free have their values of the solution
+-- aimed at; without one it fixes nothing
 abbrev pub to_decide : Option (List ℤ) → List ℕ → List Atom
 to_decide None free = []
 to_decide (Some solution) free = fixed_from 0 solution free
@@ -63,7 +64,8 @@ NoneOpen decisions s = All (λ t. IsUndecided s t → ⊥) decisions
 -- The round's first open decision, where there is one; then what the brancher chooses, by activity.
 abbrev pub ChoosesInRound : List Atom → ByActivity → Trail → Option Atom → Type 0
 ChoosesInRound decisions b s None = ⊥
-ChoosesInRound decisions b s (Some t) = IsFirstOpen decisions s t ⊎ (NoneOpen decisions s × ChoosesHinted b.activities b.hints s (Some t))
+ChoosesInRound decisions b s (Some t) = IsFirstOpen decisions s t
+    ⊎ (NoneOpen decisions s × ChoosesHinted b.activities b.hints s (Some t))
 
 -- ---- when a round ends
 

@@ -24,8 +24,8 @@ round_if under_way r = if under_way then Some (round_of r) else None
 abbrev pub at_end_of : Trail → ℕ → Trail
 at_end_of s level = record s { entries = up_to level s.entries; level = level }
 
--- Progress in a round agrees with a store: the first `held` levels began with decisions of the round, and no later one did; where there are
--- later ones, no decision was open at the end of these first levels. None before `place` is open.
+-- Progress in a round agrees with a store: the first `held` levels began with decisions of the round, and no later one
+-- did; where there are later ones, no decision was open at the end of these first levels. None before `place` is open.
 pub record IsUnderWay (r : Progress) (s : Trail) : Type 0 where
   pub few : r.learnt < round_conflicts
   pub subjects : All (λ t. t.subject < length s.first) r.decisions.items
@@ -33,7 +33,8 @@ pub record IsUnderWay (r : Progress) (s : Trail) : Type 0 where
   pub each : (l : ℕ) → 0 < l → l ≤ r.held → Any (λ e. IsOfRound r.decisions.items e × (e.level ≡ l)) s.entries
   pub beyond : All (λ e. IsOfRound r.decisions.items e → e.level ≤ r.held) s.entries
   pub settled : r.held < s.level → NoneOpen r.decisions.items (at_end_of s r.held)
-  pub passed : (j : ℕ) (d : Atom) → j < r.place → j < length r.decisions.items → IsUndecided s (slice_index_or r.decisions.items j d) → ⊥
+  pub passed : (j : ℕ) (d : Atom) → j < r.place → j < length r.decisions.items
+      → IsUndecided s (slice_index_or r.decisions.items j d) → ⊥
 
 -- a learnt clause that sends a search back to a level ends the round
 abbrev pub EndsAt : Progress → ℕ → Type 0

@@ -1,7 +1,7 @@
 //! Samples of numbers, drawn without replacement.
 //!
-//! Selection sampling: Knuth, "The Art of Computer Programming", volume 2, section 3.4.2, algorithm S. Each number has a
-//! word of the generator, and is taken if the word modulo the count of those that are left is less than how many are
+//! Selection sampling: Knuth, "The Art of Computer Programming", volume 2, section 3.4.2, algorithm S. Each number has
+//! a word of the generator, and is taken if the word modulo the count of those that are left is less than how many are
 //! still wanted. So the sample rises, and exactly as many are taken as are wanted. Drawing places and sorting them
 //! would need fewer words, but a second pass, and another draw whenever two places are the same.
 

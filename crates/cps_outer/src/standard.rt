@@ -1,5 +1,5 @@
-//! A source over a reader of std, and a sink over a writer of std; standard input and output are two of these. A source has
-//! left what its reader gives, so a read that failed is never taken for the end of the bytes.
+//! A source over a reader of std, and a sink over a writer of std; standard input and output are two of these. A source
+//! has left what its reader gives, so a read that failed is never taken for the end of the bytes.
 ghost use Rattle.std.specs.Prelude.{◌≡◌};
 
 use crate::traits::{Failed, Sink, Source};

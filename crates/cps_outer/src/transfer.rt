@@ -45,7 +45,8 @@ fn read_piece<S: Source>(source: &mut S, buf: &mut [u8], most: usize) -> Result<
     }
 }
 
-/// Reads a source to its end, or to the byte after the limit. After an `Err` the source has lost the bytes that were read.
+/// Reads a source to its end, or to the byte after the limit. After an `Err` the source has lost the bytes that were
+/// read.
 pub fn read_all<S: Source>(
     alloc: Global,
     source: &mut S,

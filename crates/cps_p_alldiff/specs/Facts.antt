@@ -1,4 +1,5 @@
--- Facts by which positions have values in an interval, and those by which an atom follows from one that its subject is not in.
+-- Facts by which positions have values in an interval, and those by which an atom follows from one that its subject is
+-- not in.
 use Rattle.std.specs.Prelude.{◌≡◌, ℕ, ◌≤◌, ◌==◌, ℤ, Bool, true, false, not, ◌&&◌, Option, Some, None, List}
 use Rattle.std.specs.List.{count_by}
 use Rattle.cps_literal.specs.declared.atom.Atom.{Atom}

@@ -47,7 +47,9 @@ pub record IsRoomy (es : List Interval) : Type 0 where
 
 -- no interval from one number to the greatest of one of these does
 pub record IsRoomyFrom (es : List Interval) (low : ℤ) : Type 0 where
-  pub room : (k : ℕ) (d : Interval) → k < length es → low ≤ℤ (slice_index_or es k d).high → covered (record { low = low; high = (slice_index_or es k d).high }) es ≤ numbers (record { low = low; high = (slice_index_or es k d).high })
+  pub room : (k : ℕ) (d : Interval) → k < length es → low ≤ℤ (slice_index_or es k d).high
+      → covered (record { low = low; high = (slice_index_or es k d).high }) es ≤ numbers
+      (record { low = low; high = (slice_index_or es k d).high })
 
 -- each value that a subject may have now lies between these ends
 pub record IsBounded (s : Trail) (i : ℕ) (e : Interval) : Type 0 where

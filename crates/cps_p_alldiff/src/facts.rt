@@ -28,8 +28,8 @@ fn was_within(past: &Before, subject: u32, hall: &Interval) -> bool
     hall.low <= low && high <= hall.high
 }
 
-/// Puts facts in the place of what a list holds by which so many positions have values in an interval, apart from those of one
-/// subject. Answers whether there are so many. Each fact is as weak as that needs.
+/// Puts facts in the place of what a list holds by which so many positions have values in an interval, apart from those
+/// of one subject. Answers whether there are so many. Each fact is as weak as that needs.
 pub(crate) fn hold(
     past: &Before,
     subjects: &[u32],
@@ -40,7 +40,8 @@ pub(crate) fn hold(
 ) -> Result<bool, AllocError>
     requires subjects { All (λ i. i < length past.now.first) subjects.now }
     requires range { IsInRange hall.now }
-    ensures { IfOk result (λ enough. IsTrue enough → AreHolding past.now subjects.now apart hall.now needed facts.new.items) }
+    ensures { IfOk result (λ enough. IsTrue enough
+        → AreHolding past.now subjects.now apart hall.now needed facts.new.items) }
 {
     facts.clear();
     let mut left = needed;
@@ -87,8 +88,8 @@ fn near_of(target: Atom, hall: &Interval) -> Option<Atom>
     None
 }
 
-/// Adds the fact that an atom needs beside an interval that its subject's value is not in, if it needs one. Answers whether the
-/// atom is given so, and the fact was true.
+/// Adds the fact that an atom needs beside an interval that its subject's value is not in, if it needs one. Answers
+/// whether the atom is given so, and the fact was true.
 pub(crate) fn add_near(
     past: &Before,
     target: Atom,

@@ -1,6 +1,7 @@
 //! One sweep of the positions by their greatest values, each put at the least free number that it may have.
 //!
-//! Nothing is promised of what it finds: the calls here are safe and end, and each number is read and written where there is one.
+//! Nothing is promised of what it finds: the calls here are safe and end, and each number is read and written where
+//! there is one.
 
 use crate::interval::Interval;
 use std::alloc::{AllocError, Global};
@@ -24,7 +25,8 @@ struct Job {
 /// The numbers at which positions can be put, each in a slot, and which slots are free.
 #[derive(Drop)]
 struct Slots {
-    /// The number of each slot, rising. After each block of numbers one next to the other stands a slot that stays free.
+    /// The number of each slot, rising. After each block of numbers one next to the other stands a slot that stays
+    /// free.
     numbers: Vec<i64>,
     /// From each slot the way to the least free slot from it on.
     next: Vec<usize>,
@@ -62,7 +64,8 @@ fn set_slot(list: &mut [usize], place: usize, entry: usize) {
     }
 }
 
-/// Lays out the numbers at which jobs can stand that are sorted by their least: for each the first free one from its least on.
+/// Lays out the numbers at which jobs can stand that are sorted by their least: for each the first free one from its
+/// least on.
 fn lay_out(jobs: &mut [Job], numbers: &mut Vec<i64>) -> Result<(), AllocError> {
     numbers.clear();
     let mut first: usize = 0;
@@ -250,8 +253,8 @@ impl Finder {
         }
     }
 
-    /// Puts one job at the least free number that it may have, and answers an interval that is crowded where that is past its
-    /// end.
+    /// Puts one job at the least free number that it may have, and answers an interval that is crowded where that is
+    /// past its end.
     fn put(&mut self, job: Job) -> Result<Option<Interval>, AllocError> {
         let slot = self.slots.free_from(job.slot);
         if slot != job.slot {
@@ -307,8 +310,8 @@ impl Finder {
         Ok(None)
     }
 
-    /// Looks for an interval that is crowded. Where none was found, `halls` are full ones that hold an end of another position,
-    /// and `values` are where the positions were put.
+    /// Looks for an interval that is crowded. Where none was found, `halls` are full ones that hold an end of another
+    /// position, and `values` are where the positions were put.
     pub(crate) fn sweep(&mut self, ends: &[Interval]) -> Result<Option<Interval>, AllocError> {
         self.halls.clear();
         let _ = self.sweep_from(ends, Side::Above)?;

@@ -1,6 +1,7 @@
 //! Which fixed positions need not be looked at again.
 //!
-//! Nothing is promised of it. A position may count as settled a while after it was taken back, which costs strength alone.
+//! Nothing is promised of it. A position may count as settled a while after it was taken back, which costs strength
+//! alone.
 
 use cps_trail::EntryView;
 use std::alloc::{AllocError, Global};

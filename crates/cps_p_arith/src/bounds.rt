@@ -58,7 +58,8 @@ fn measure_each(past: &Before, exprs: &[u32], ends: &mut Vec<Ends>) -> Result<()
 
 /// The ends of a subject's values: those of a place, where it is about this subject.
 fn chosen(subject: u32, ends: Ends, piece: Place) -> Ends
-    ensures { (xs : List ℤ) → IsIn ends (value_at xs subject) → IsIn piece.ends (value_at xs piece.subject) → IsIn result (value_at xs subject) }
+    ensures { (xs : List ℤ) → IsIn ends (value_at xs subject) → IsIn piece.ends (value_at xs piece.subject)
+        → IsIn result (value_at xs subject) }
 {
     if subject == piece.subject {
         piece.ends
@@ -76,7 +77,8 @@ fn cut_each(
 ) -> Result<(), AllocError>
     requires { length whole.now ≡ length exprs.now }
     ensures len { OnOk result (length ends.new.items ≡ length exprs.now) }
-    ensures held { OnOk result ((xs : List ℤ) → AreHeldEach xs exprs.now whole.now → IsIn piece.ends (value_at xs piece.subject) → AreHeldEach xs exprs.now ends.new.items) }
+    ensures held { OnOk result ((xs : List ℤ) → AreHeldEach xs exprs.now whole.now
+        → IsIn piece.ends (value_at xs piece.subject) → AreHeldEach xs exprs.now ends.new.items) }
 {
     ends.clear();
     for (k, subject) in exprs.iter().enumerate() {
@@ -114,7 +116,8 @@ impl Bounds {
     ) -> Result<(), AllocError>
         requires { length whole.now.members.items ≡ length demand.now.exprs.items }
         ensures len { OnOk result (length self.new.members.items ≡ length demand.now.exprs.items) }
-        ensures held { OnOk result ((xs : List ℤ) → AreHeld whole.now demand.now xs → IsIn piece.ends (value_at xs piece.subject) → AreHeld self.new demand.now xs) }
+        ensures held { OnOk result ((xs : List ℤ) → AreHeld whole.now demand.now xs
+            → IsIn piece.ends (value_at xs piece.subject) → AreHeld self.new demand.now xs) }
     {
         self.target = chosen(demand.target, whole.target, piece);
         cut_each(

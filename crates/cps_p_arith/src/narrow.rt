@@ -1,7 +1,7 @@
 //! What bounds give of a demand's subjects.
 //!
-//! An atom is given where the demand cannot be met by the values at which it is false. So each bound is tried: a finder proposes how far
-//! an end may be moved, in steps that double and then halve, and what it proposes is tested alone.
+//! An atom is given where the demand cannot be met by the values at which it is false. So each bound is tried: a finder
+//! proposes how far an end may be moved, in steps that double and then halve, and what it proposes is tested alone.
 ghost use Rattle.std.specs.Prelude.{◌≡◌, ◌<◌, ℤ, length, true, false, IfOk, IfSome, OnOk, Ok, Some};
 ghost use Rattle.cps_literal.specs.Truth.{meets};
 ghost use Rattle.cps_p_arith.specs.Ranges.{IsIn};
@@ -212,8 +212,8 @@ fn count_reaching(target: Ends, members: &[Ends]) -> usize {
         .count()
 }
 
-/// Whether it is worth while to try the bounds of a member: one of which a greatest value is taken gets a bound only where it may pass the
-/// target, or where no other may reach it.
+/// Whether it is worth while to try the bounds of a member: one of which a greatest value is taken gets a bound only
+/// where it may pass the target, or where no other may reach it.
 fn is_worth_trying(relation: Relation, target: Ends, member: Ends, reaching: usize) -> bool {
     match relation {
         Relation::Greatest => {

@@ -1,7 +1,7 @@
 //! When no value is the product of others.
 //!
-//! A product may be far greater than any value. It is cut off at a limit past all values, after each factor: the product with a
-//! number past the limit is past it too, or 0, and so is that with the limit itself.
+//! A product may be far greater than any value. It is cut off at a limit past all values, after each factor: the
+//! product with a number past the limit is past it too, or 0, and so is that with the limit itself.
 ghost use Rattle.std.specs.Prelude.{◌≡◌, ◌*ℤ◌, ℤ, false, List, IsTrue};
 ghost use Rattle.cps_model.specs.Arithmetic.{IsProduct};
 ghost use Rattle.cps_p_arith.specs.Ranges.{IsBetween, IsBoth, IsIn, IsAt, AreIn, AreAt, IsSmall};
@@ -49,7 +49,8 @@ fn scaled(number: i64, range: Range) -> Range
 /// The range of the products of two numbers, by the products of their ends.
 fn times(factor: Ends, range: Range) -> Range
     requires { IsSmall range }
-    ensures sound { (x y : ℤ) → IsIn factor x → IsBetween range.low range.high y → IsBetween result.low result.high (x *ℤ y) }
+    ensures sound { (x y : ℤ) → IsIn factor x → IsBetween range.low range.high y
+        → IsBetween result.low result.high (x *ℤ y) }
     ensures exact { (x y : ℤ) → IsAt factor x → IsBoth range.low range.high y → IsBoth result.low result.high (x *ℤ y) }
 {
     let one = scaled(factor.low, range);

@@ -12,7 +12,8 @@ pub(crate) fn all_above(quotient: Range, number: Range, divisor: Range) -> bool
     requires positive { pos 1 ≤ℤ divisor.low }
     requires quotient { IsSmall quotient }
     requires divisor { IsSmall divisor }
-    ensures { IsTrue result → (n d q r : ℤ) → number.low ≤ℤ n → IsBetween divisor.low divisor.high d → IsDivided n d q r → quotient.high <ℤ q }
+    ensures { IsTrue result → (n d q r : ℤ) → number.low ≤ℤ n → IsBetween divisor.low divisor.high d
+        → IsDivided n d q r → quotient.high <ℤ q }
 {
     if quotient.high < 0 {
         quotient.high * divisor.low < number.low
@@ -27,7 +28,8 @@ pub(crate) fn all_below(quotient: Range, number: Range, divisor: Range) -> bool
     requires quotient { IsSmall quotient }
     requires number { IsSmall number }
     requires divisor { IsSmall divisor }
-    ensures { IsTrue result → (n d q r : ℤ) → n ≤ℤ number.high → IsBetween divisor.low divisor.high d → IsDivided n d q r → q <ℤ quotient.low }
+    ensures { IsTrue result → (n d q r : ℤ) → n ≤ℤ number.high → IsBetween divisor.low divisor.high d
+        → IsDivided n d q r → q <ℤ quotient.low }
 {
     all_above(negated(quotient), negated(number), divisor)
 }
@@ -38,7 +40,8 @@ fn misses(quotient: Range, number: Range, divisor: Range) -> bool
     requires quotient { IsSmall quotient }
     requires number { IsSmall number }
     requires divisor { IsSmall divisor }
-    ensures { IsTrue result → (n d q r : ℤ) → IsBetween number.low number.high n → IsBetween divisor.low divisor.high d → IsDivided n d q r → IsBetween quotient.low quotient.high q → ⊥ }
+    ensures { IsTrue result → (n d q r : ℤ) → IsBetween number.low number.high n → IsBetween divisor.low divisor.high d
+        → IsDivided n d q r → IsBetween quotient.low quotient.high q → ⊥ }
 {
     divisor.high < divisor.low
         || all_above(quotient, number, divisor)
@@ -69,8 +72,10 @@ fn quotient_of(number: Ends, divisor: Ends) -> Range
 
 /// Whether no value of the target is the quotient of values of two. Where all are fixed it says which.
 fn excludes_pair(target: Ends, number: Ends, divisor: Ends) -> bool
-    ensures sound { IsTrue result → (q n d : ℤ) → IsIn target q → IsIn number n → IsIn divisor d → d ≢ pos 0 → q ≡ int_div n d → ⊥ }
-    ensures exact { result ≡ false → (q n d : ℤ) → IsAt target q → IsAt number n → IsAt divisor d → (d ≢ pos 0) × (q ≡ int_div n d) }
+    ensures sound { IsTrue result → (q n d : ℤ) → IsIn target q → IsIn number n → IsIn divisor d → d ≢ pos 0
+        → q ≡ int_div n d → ⊥ }
+    ensures exact { result ≡ false → (q n d : ℤ) → IsAt target q → IsAt number n → IsAt divisor d
+        → (d ≢ pos 0) × (q ≡ int_div n d) }
 {
     if number.is_fixed() && divisor.is_fixed() {
         return divisor.low == 0 || is_apart(target, quotient_of(number, divisor));

@@ -42,7 +42,8 @@ pub(crate) fn joined(one: Range, other: Range) -> Range
     ensures high { one.high ≤ℤ result.high }
     ensures other_low { result.low ≤ℤ other.low }
     ensures other_high { other.high ≤ℤ result.high }
-    ensures exact { (x : ℤ) → IsBoth one.low one.high x → IsBoth other.low other.high x → IsBoth result.low result.high x }
+    ensures exact { (x : ℤ) → IsBoth one.low one.high x → IsBoth other.low other.high x
+        → IsBoth result.low result.high x }
 {
     Range {
         low: if one.low < other.low {

@@ -1,7 +1,8 @@
 //! How far the bounds of an explanation may be loosened.
 //!
-//! A bound that the explanation can do without is dropped, and of the others each is loosened as far as the explanation stands: by halving
-//! the way between an end with which it stands and one with which it does not. What comes out is tested again where facts are made of it.
+//! A bound that the explanation can do without is dropped, and of the others each is loosened as far as the explanation
+//! stands: by halving the way between an end with which it stands and one with which it does not. What comes out is
+//! tested again where facts are made of it.
 ghost use Rattle.std.specs.Prelude.{◌≡◌, length, OnOk};
 
 use crate::bounds::{Bounds, Demand, Place};

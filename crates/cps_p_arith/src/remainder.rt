@@ -1,10 +1,11 @@
 //! When no value is what is left of another after it was divided by a third, rounded towards zero.
 //!
-//! What is left has the sign of what was divided, or is 0, and the divisor's sign does not matter. So both are taken by their signs, and
-//! the question is asked of a number that is not negative and a positive divisor alone. There the least quotient that the number's range
-//! admits is `k`, where `k` times the greatest divisor is at most the least number. Nothing fits where neither a quotient of `k` does,
-//! which leaves what the number has beyond `k` divisors, nor a greater one, which needs `k + 1` divisors. Where the divisor is fixed,
-//! this finds each remainder and each number that is possible; so it does where the number lies within one period of the divisor.
+//! What is left has the sign of what was divided, or is 0, and the divisor's sign does not matter. So both are taken by
+//! their signs, and the question is asked of a number that is not negative and a positive divisor alone. There the
+//! least quotient that the number's range admits is `k`, where `k` times the greatest divisor is at most the least
+//! number. Nothing fits where neither a quotient of `k` does, which leaves what the number has beyond `k` divisors, nor
+//! a greater one, which needs `k + 1` divisors. Where the divisor is fixed, this finds each remainder and each number
+//! that is possible; so it does where the number lies within one period of the divisor.
 ghost use Rattle.std.specs.Prelude.{◌≡◌, ◌≢◌, int_rem, ◌*ℤ◌, ◌≤ℤ◌, ℤ, pos, false, List, IsTrue};
 ghost use Rattle.cps_model.specs.Arithmetic.{IsRemainder};
 ghost use Rattle.cps_p_arith.specs.Ranges.{IsBetween, IsBoth, IsIn, IsAt, AreIn, AreAt, IsSmall};
@@ -49,7 +50,8 @@ fn none_beyond(quotient: Range, rest: Range, number: Range, divisor: Range) -> b
     requires rest { IsSmall rest }
     requires number { IsSmall number }
     requires divisor { IsSmall divisor }
-    ensures { IsTrue result → (n d q r : ℤ) → n ≤ℤ number.high → divisor.low ≤ℤ d → pos 1 ≤ℤ d → IsDivided n d q r → rest.low ≤ℤ r → q ≤ℤ quotient.low }
+    ensures { IsTrue result → (n d q r : ℤ) → n ≤ℤ number.high → divisor.low ≤ℤ d → pos 1 ≤ℤ d → IsDivided n d q r
+        → rest.low ≤ℤ r → q ≤ℤ quotient.low }
 {
     number.high - rest.low < (quotient.low + 1) * divisor.low
 }
@@ -61,7 +63,8 @@ fn needs_more(quotient: Range, rest: Range, number: Range, divisor: Range) -> bo
     requires rest { IsSmall rest }
     requires number { IsSmall number }
     requires divisor { IsSmall divisor }
-    ensures { IsTrue result → (n d r : ℤ) → n ≤ℤ number.high → divisor.low ≤ℤ d → IsDivided n d quotient.low r → rest.low ≤ℤ r → ⊥ }
+    ensures { IsTrue result → (n d r : ℤ) → n ≤ℤ number.high → divisor.low ≤ℤ d → IsDivided n d quotient.low r
+        → rest.low ≤ℤ r → ⊥ }
 {
     number.high - rest.low < quotient.low * divisor.low
 }
@@ -73,7 +76,8 @@ fn leaves_more(quotient: Range, rest: Range, number: Range, divisor: Range) -> b
     requires rest { IsSmall rest }
     requires number { IsSmall number }
     requires divisor { IsSmall divisor }
-    ensures { IsTrue result → (n d r : ℤ) → number.low ≤ℤ n → d ≤ℤ divisor.high → IsDivided n d quotient.low r → r ≤ℤ rest.high → ⊥ }
+    ensures { IsTrue result → (n d r : ℤ) → number.low ≤ℤ n → d ≤ℤ divisor.high → IsDivided n d quotient.low r
+        → r ≤ℤ rest.high → ⊥ }
 {
     quotient.low * divisor.high < number.low - rest.high
 }
@@ -85,12 +89,14 @@ fn misses_at(quotient: Range, rest: Range, number: Range, divisor: Range) -> boo
     requires rest { IsSmall rest }
     requires number { IsSmall number }
     requires divisor { IsSmall divisor }
-    ensures { IsTrue result → (n d r : ℤ) → IsBetween number.low number.high n → IsBetween divisor.low divisor.high d → IsDivided n d quotient.low r → IsBetween rest.low rest.high r → ⊥ }
+    ensures { IsTrue result → (n d r : ℤ) → IsBetween number.low number.high n → IsBetween divisor.low divisor.high d
+        → IsDivided n d quotient.low r → IsBetween rest.low rest.high r → ⊥ }
 {
     needs_more(quotient, rest, number, divisor) || leaves_more(quotient, rest, number, divisor)
 }
 
-/// Whether nothing in a range is left of a number by division, where none of them is negative and the divisor is positive.
+/// Whether nothing in a range is left of a number by division, where none of them is negative and the divisor is
+/// positive.
 fn misses_part(rest: Range, number: Range, divisor: Range) -> bool
     requires from { pos 0 ≤ℤ number.low }
     requires positive { pos 1 ≤ℤ divisor.low }
@@ -98,7 +104,8 @@ fn misses_part(rest: Range, number: Range, divisor: Range) -> bool
     requires rest { IsSmall rest }
     requires number { IsSmall number }
     requires divisor { IsSmall divisor }
-    ensures { IsTrue result → (n d q r : ℤ) → IsBetween number.low number.high n → IsBetween divisor.low divisor.high d → IsDivided n d q r → IsBetween rest.low rest.high r → ⊥ }
+    ensures { IsTrue result → (n d q r : ℤ) → IsBetween number.low number.high n → IsBetween divisor.low divisor.high d
+        → IsDivided n d q r → IsBetween rest.low rest.high r → ⊥ }
 {
     if divisor.high <= rest.low {
         return true;
@@ -113,7 +120,8 @@ fn misses_up(rest: Range, number: Range, divisor: Range) -> bool
     requires rest { IsSmall rest }
     requires number { IsSmall number }
     requires divisor { IsSmall divisor }
-    ensures { IsTrue result → (n d q r : ℤ) → pos 0 ≤ℤ n → IsBetween number.low number.high n → IsBetween divisor.low divisor.high d → IsDivided n d q r → IsBetween rest.low rest.high r → ⊥ }
+    ensures { IsTrue result → (n d q r : ℤ) → pos 0 ≤ℤ n → IsBetween number.low number.high n
+        → IsBetween divisor.low divisor.high d → IsDivided n d q r → IsBetween rest.low rest.high r → ⊥ }
 {
     if divisor.high < divisor.low {
         return true;
@@ -132,7 +140,8 @@ fn misses(rest: Range, number: Range, divisor: Range) -> bool
     requires rest { IsSmall rest }
     requires number { IsSmall number }
     requires divisor { IsSmall divisor }
-    ensures { IsTrue result → (n d q r : ℤ) → IsBetween number.low number.high n → IsBetween divisor.low divisor.high d → IsDivided n d q r → IsBetween rest.low rest.high r → ⊥ }
+    ensures { IsTrue result → (n d q r : ℤ) → IsBetween number.low number.high n → IsBetween divisor.low divisor.high d
+        → IsDivided n d q r → IsBetween rest.low rest.high r → ⊥ }
 {
     let turned_rest = negated(rest);
     let turned = negated(number);
@@ -163,8 +172,10 @@ fn rest_of(number: Ends, divisor: Ends) -> Range
 
 /// Whether no value of the target is what division leaves of values of two. Where all are fixed it says which.
 fn excludes_pair(target: Ends, number: Ends, divisor: Ends) -> bool
-    ensures sound { IsTrue result → (r n d : ℤ) → IsIn target r → IsIn number n → IsIn divisor d → d ≢ pos 0 → r ≡ int_rem n d → ⊥ }
-    ensures exact { result ≡ false → (r n d : ℤ) → IsAt target r → IsAt number n → IsAt divisor d → (d ≢ pos 0) × (r ≡ int_rem n d) }
+    ensures sound { IsTrue result → (r n d : ℤ) → IsIn target r → IsIn number n → IsIn divisor d → d ≢ pos 0
+        → r ≡ int_rem n d → ⊥ }
+    ensures exact { result ≡ false → (r n d : ℤ) → IsAt target r → IsAt number n → IsAt divisor d
+        → (d ≢ pos 0) × (r ≡ int_rem n d) }
 {
     if number.is_fixed() && divisor.is_fixed() {
         return divisor.low == 0 || is_apart(target, rest_of(number, divisor));
@@ -174,7 +185,8 @@ fn excludes_pair(target: Ends, number: Ends, divisor: Ends) -> bool
 
 /// Whether no value of the target is what division leaves of values of two members. Where all are fixed it says which.
 pub(crate) fn excludes_remainder(target: Ends, members: &[Ends]) -> bool
-    ensures sound { IsTrue result → (v : ℤ) (ns : List ℤ) → IsIn target v → AreIn members.now ns → IsRemainder v ns → ⊥ }
+    ensures sound { IsTrue result → (v : ℤ) (ns : List ℤ) → IsIn target v → AreIn members.now ns → IsRemainder v ns
+        → ⊥ }
     ensures exact { result ≡ false → (v : ℤ) (ns : List ℤ) → IsAt target v → AreAt members.now ns → IsRemainder v ns }
 {
     if members.len() == 2 {

@@ -1,7 +1,7 @@
 //! When no value is the product of two others, by their signs.
 //!
-//! The range of a factor that may be negative and positive says little as a whole: its products with another range reach far to both
-//! sides. Where the target is not 0 neither factor is, and each pair of signs is asked alone.
+//! The range of a factor that may be negative and positive says little as a whole: its products with another range
+//! reach far to both sides. Where the target is not 0 neither factor is, and each pair of signs is asked alone.
 ghost use Rattle.std.specs.Prelude.{◌≡◌, ◌≢◌, ◌*ℤ◌, ◌≤ℤ◌, ◌<ℤ◌, ℤ, pos, List, IsTrue};
 ghost use Rattle.cps_model.specs.Arithmetic.{IsProduct};
 ghost use Rattle.cps_p_arith.specs.Ranges.{IsBetween, IsIn, AreIn, IsSmall};
@@ -48,7 +48,8 @@ fn misses_positive(target: Range, one: Range, other: Range) -> bool
     requires other { IsSmall other }
     requires from_one { pos 1 ≤ℤ one.low }
     requires from_other { pos 1 ≤ℤ other.low }
-    ensures { IsTrue result → (x y : ℤ) → IsBetween one.low one.high x → IsBetween other.low other.high y → IsBetween target.low target.high (x *ℤ y) → ⊥ }
+    ensures { IsTrue result → (x y : ℤ) → IsBetween one.low one.high x → IsBetween other.low other.high y
+        → IsBetween target.low target.high (x *ℤ y) → ⊥ }
 {
     let one_reach = reach(one);
     let other_reach = reach(other);
@@ -60,7 +61,8 @@ fn misses_factor(target: Range, one: Range, other: Ends) -> bool
     requires target { IsSmall target }
     requires one { IsSmall one }
     requires from { pos 1 ≤ℤ one.low }
-    ensures { IsTrue result → (x y : ℤ) → IsBetween one.low one.high x → IsIn other y → y ≢ pos 0 → IsBetween target.low target.high (x *ℤ y) → ⊥ }
+    ensures { IsTrue result → (x y : ℤ) → IsBetween one.low one.high x → IsIn other y → y ≢ pos 0
+        → IsBetween target.low target.high (x *ℤ y) → ⊥ }
 {
     let turned = negated(target);
     let positive = positive_part(other);

@@ -1,6 +1,6 @@
-//! Reasons of a Boolean task's narrowings, made when they are asked for from the domains as they stood before. The note says at
-//! which places the literals stand that gave the narrowing. What it says is tested: where the kind's rule does not give the atom, no
-//! reason is made here.
+//! Reasons of a Boolean task's narrowings, made when they are asked for from the domains as they stood before. The note
+//! says at which places the literals stand that gave the narrowing. What it says is tested: where the kind's rule does
+//! not give the atom, no reason is made here.
 
 ghost use Rattle.std.specs.Prelude.{◌≡◌, ◌<◌, true, Ok, IsTrue, All, List, length};
 ghost use Rattle.cps_literal.specs.declared.atom.Atom.{Atom as AtomOf};
@@ -24,7 +24,8 @@ use cps_literal::{Atom, Truth};
 use cps_trail::{Before, Store};
 use std::alloc::AllocError;
 
-/// A task as its propagator keeps it: where the enforcement literals are true, those of `sure` are, and `rest` holds of `live`.
+/// A task as its propagator keeps it: where the enforcement literals are true, those of `sure` are, and `rest` holds of
+/// `live`.
 #[derive(Drop)]
 pub struct Form<'a> {
     pub enforcement: &'a [Atom],
@@ -75,7 +76,8 @@ fn explain_as(
     requires fits { AreLiterals past.now.first enforcement.now }
     requires used_fit { AreLiterals past.now.first used.now }
     requires subject { given.subject < length past.now.first }
-    ensures { result ≡ Ok true → (body : Body) → Gives past.now (task_of enforcement.now body) used.now given → IsExplanation past.now (task_of enforcement.now body) atom reason.new.items }
+    ensures { result ≡ Ok true → (body : Body) → Gives past.now (task_of enforcement.now body) used.now given
+        → IsExplanation past.now (task_of enforcement.now body) atom reason.new.items }
 {
     if given == atom {
         explain(reason, past, enforcement, used, atom)?;
@@ -95,7 +97,8 @@ fn explain_each(
     requires fits { AreLiterals past.now.first enforcement.now }
     requires atoms_fit { AreLiterals past.now.first atoms.now }
     requires enforced { All (IsTrueNow past.now) enforcement.now }
-    ensures { result ≡ Ok true → IsExplanation past.now (task_of enforcement.now (BoolAnd atoms.now)) noted.atom reason.new.items }
+    ensures { result ≡ Ok true → IsExplanation past.now
+        (task_of enforcement.now (BoolAnd atoms.now)) noted.atom reason.new.items }
 {
     if noted.place >= atoms.len() {
         return Ok(false);
@@ -121,7 +124,8 @@ fn explain_last(
     requires fits { AreLiterals past.now.first enforcement.now }
     requires atoms_fit { AreLiterals past.now.first atoms.now }
     requires enforced { All (IsTrueNow past.now) enforcement.now }
-    ensures { result ≡ Ok true → (body : Body) → AsksForOne body atoms.now → IsExplanation past.now (task_of enforcement.now body) atom reason.new.items }
+    ensures { result ≡ Ok true → (body : Body) → AsksForOne body atoms.now
+        → IsExplanation past.now (task_of enforcement.now body) atom reason.new.items }
 {
     let live = seek(past, atoms, 0, Sought::NotFalse);
     if live == atoms.len() {
@@ -145,7 +149,8 @@ fn explain_beside(
     requires fits { AreLiterals past.now.first enforcement.now }
     requires atoms_fit { AreLiterals past.now.first atoms.now }
     requires enforced { All (IsTrueNow past.now) enforcement.now }
-    ensures { result ≡ Ok true → (body : Body) → LimitsToOne body atoms.now → IsExplanation past.now (task_of enforcement.now body) noted.atom reason.new.items }
+    ensures { result ≡ Ok true → (body : Body) → LimitsToOne body atoms.now
+        → IsExplanation past.now (task_of enforcement.now body) noted.atom reason.new.items }
 {
     let place = noted.place;
     let chosen = noted.other;
@@ -184,7 +189,8 @@ fn explain_one(
     requires fits { AreLiterals past.now.first enforcement.now }
     requires atoms_fit { AreLiterals past.now.first atoms.now }
     requires enforced { All (IsTrueNow past.now) enforcement.now }
-    ensures { result ≡ Ok true → IsExplanation past.now (task_of enforcement.now (ExactlyOne atoms.now)) noted.atom reason.new.items }
+    ensures { result ≡ Ok true → IsExplanation past.now
+        (task_of enforcement.now (ExactlyOne atoms.now)) noted.atom reason.new.items }
 {
     if noted.place == noted.other {
         return explain_last(past, enforcement, atoms, noted.atom, reason);
@@ -203,7 +209,8 @@ fn explain_odd(
     requires fits { AreLiterals past.now.first enforcement.now }
     requires atoms_fit { AreLiterals past.now.first atoms.now }
     requires enforced { All (IsTrueNow past.now) enforcement.now }
-    ensures { result ≡ Ok true → IsExplanation past.now (task_of enforcement.now (BoolXor atoms.now)) atom reason.new.items }
+    ensures { result ≡ Ok true → IsExplanation past.now
+        (task_of enforcement.now (BoolXor atoms.now)) atom reason.new.items }
 {
     let place = seek(past, atoms, 0, Sought::Open);
     if place == atoms.len() {
@@ -234,7 +241,8 @@ fn explain_given(
     requires fits { AreLiterals past.now.first enforcement.now }
     requires atoms_fit { AreLiterals past.now.first atoms.now }
     requires enforced { All (IsTrueNow past.now) enforcement.now }
-    ensures { result ≡ Ok true → IsExplanation past.now (task_of enforcement.now (body_of kind atoms.now)) noted.atom reason.new.items }
+    ensures { result ≡ Ok true → IsExplanation past.now
+        (task_of enforcement.now (body_of kind atoms.now)) noted.atom reason.new.items }
 {
     match kind {
         Kind::Empty => Ok(false),
@@ -278,7 +286,8 @@ fn deny_none(
 ) -> Result<bool, AllocError>
     requires fits { AreLiterals past.now.first enforcement.now }
     requires atoms_fit { AreLiterals past.now.first atoms.now }
-    ensures { result ≡ Ok true → (body : Body) → AsksForOne body atoms.now → IsRuledOut past.now enforcement.now body reason.new.items }
+    ensures { result ≡ Ok true → (body : Body) → AsksForOne body atoms.now
+        → IsRuledOut past.now enforcement.now body reason.new.items }
 {
     if seek(past, atoms, 0, Sought::NotFalse) < atoms.len() {
         return Ok(false);
@@ -297,7 +306,8 @@ fn deny_two(
 ) -> Result<bool, AllocError>
     requires fits { AreLiterals past.now.first enforcement.now }
     requires atoms_fit { AreLiterals past.now.first atoms.now }
-    ensures { result ≡ Ok true → (body : Body) → LimitsToOne body atoms.now → IsRuledOut past.now enforcement.now body reason.new.items }
+    ensures { result ≡ Ok true → (body : Body) → LimitsToOne body atoms.now
+        → IsRuledOut past.now enforcement.now body reason.new.items }
 {
     let first = noted.place;
     let second = noted.other;
@@ -391,7 +401,9 @@ fn deny_body(
     requires fits { AreLiterals past.now.first form.now.enforcement.now }
     requires sure_fits { AreLiterals past.now.first form.now.sure.now }
     requires live_fits { AreLiterals past.now.first form.now.live.now }
-    ensures { result ≡ Ok true → (us : List AtomOf) (b : Body) → AreLiterals past.now.first us → IsNormalForm us b form.now.sure.now (body_of form.now.rest form.now.live.now) form.now.live.now → IsRuledOut past.now form.now.enforcement.now b reason.new.items }
+    ensures { result ≡ Ok true → (us : List AtomOf) (b : Body) → AreLiterals past.now.first us
+        → IsNormalForm us b form.now.sure.now (body_of form.now.rest form.now.live.now) form.now.live.now
+        → IsRuledOut past.now form.now.enforcement.now b reason.new.items }
 {
     if deny_failed(past, form.enforcement, form.sure, noted.place, reason)? {
         return Ok(true);
@@ -412,7 +424,9 @@ fn explain_off(
     requires live_fits { AreLiterals past.now.first form.now.live.now }
     requires in_force { IsInForce past.now form.now.enforcement.now last }
     requires last { last < length form.now.enforcement.now }
-    ensures { result ≡ Ok true → (us : List AtomOf) (b : Body) → AreLiterals past.now.first us → IsNormalForm us b form.now.sure.now (body_of form.now.rest form.now.live.now) form.now.live.now → IsExplanation past.now (task_of form.now.enforcement.now b) noted.atom reason.new.items }
+    ensures { result ≡ Ok true → (us : List AtomOf) (b : Body) → AreLiterals past.now.first us
+        → IsNormalForm us b form.now.sure.now (body_of form.now.rest form.now.live.now) form.now.live.now
+        → IsExplanation past.now (task_of form.now.enforcement.now b) noted.atom reason.new.items }
 {
     let opposite = form.enforcement[last].negate();
     if opposite == noted.atom {
@@ -435,7 +449,9 @@ fn explain_on(
     requires sure_fits { AreLiterals past.now.first form.now.sure.now }
     requires live_fits { AreLiterals past.now.first form.now.live.now }
     requires enforced { All (IsTrueNow past.now) form.now.enforcement.now }
-    ensures { result ≡ Ok true → (us : List AtomOf) (b : Body) → AreLiterals past.now.first us → IsNormalForm us b form.now.sure.now (body_of form.now.rest form.now.live.now) form.now.live.now → IsExplanation past.now (task_of form.now.enforcement.now b) noted.atom reason.new.items }
+    ensures { result ≡ Ok true → (us : List AtomOf) (b : Body) → AreLiterals past.now.first us
+        → IsNormalForm us b form.now.sure.now (body_of form.now.rest form.now.live.now) form.now.live.now
+        → IsExplanation past.now (task_of form.now.enforcement.now b) noted.atom reason.new.items }
 {
     if explain_each(past, form.enforcement, form.sure, noted, reason)? {
         return Ok(true);
@@ -453,7 +469,9 @@ fn explain_noted(
     requires fits { AreLiterals past.now.first form.now.enforcement.now }
     requires sure_fits { AreLiterals past.now.first form.now.sure.now }
     requires live_fits { AreLiterals past.now.first form.now.live.now }
-    ensures { result ≡ Ok true → (us : List AtomOf) (b : Body) → AreLiterals past.now.first us → IsNormalForm us b form.now.sure.now (body_of form.now.rest form.now.live.now) form.now.live.now → IsExplanation past.now (task_of form.now.enforcement.now b) noted.atom reason.new.items }
+    ensures { result ≡ Ok true → (us : List AtomOf) (b : Body) → AreLiterals past.now.first us
+        → IsNormalForm us b form.now.sure.now (body_of form.now.rest form.now.live.now) form.now.live.now
+        → IsExplanation past.now (task_of form.now.enforcement.now b) noted.atom reason.new.items }
 {
     let Some(last) = in_force(past, form.enforcement) else {
         return Ok(false);
@@ -475,7 +493,9 @@ pub fn explain_entry(
     requires fits { AreLiterals store.now.first form.now.enforcement.now }
     requires sure_fits { AreLiterals store.now.first form.now.sure.now }
     requires live_fits { AreLiterals store.now.first form.now.live.now }
-    ensures { result ≡ Ok true → (us : List AtomOf) (b : Body) → AreLiterals store.now.first us → IsNormalForm us b form.now.sure.now (body_of form.now.rest form.now.live.now) form.now.live.now → IsReason (HoldsTask (task_of form.now.enforcement.now b)) store.now entry reason.new.items }
+    ensures { result ≡ Ok true → (us : List AtomOf) (b : Body) → AreLiterals store.now.first us
+        → IsNormalForm us b form.now.sure.now (body_of form.now.rest form.now.live.now) form.now.live.now
+        → IsReason (HoldsTask (task_of form.now.enforcement.now b)) store.now entry reason.new.items }
 {
     let shown = store.entries()[entry];
     let (place, other) = shown.reason.witness();

@@ -84,17 +84,19 @@ IsShareToward side s t m v = (x : ℤ) × IsShareNow s t m.time m.change m.activ
 
 abbrev pub MayAddUp : Side → Trail → ℤ → List Move → ℤ → Type 0
 MayAddUp side s t [] v = v ≡ pos 0
-MayAddUp side s t (m ∷ ms) v = (own : ℤ) × (rest : ℤ) × IsShareToward side s t m own × MayAddUp side s t ms rest × (v ≡ own +ℤ rest)
+MayAddUp side s t (m ∷ ms) v = (own : ℤ) × (rest : ℤ) × IsShareToward side s t m own × MayAddUp side s t ms rest
+    × (v ≡ own +ℤ rest)
 
 -- from one time to another nothing becomes sure of an event: it is due by the one, or may be due after the other
 abbrev pub StaysFrom : Trail → ℤ → ℤ → Move → Type 0
 StaysFrom s t u m = ((x : ℤ) → IsOpenTo s m.time x → x ≤ℤ t) ⊎ ((x : ℤ) × IsOpenTo s m.time x × (u <ℤ x))
 
--- What an event adds towards a side at values that a store leaves, or more, and no less than it adds where its subjects are fixed. It may
--- have added just that, by that time and by a later one as long as nothing becomes sure of it.
+-- What an event adds towards a side at values that a store leaves, or more, and no less than it adds where its subjects
+-- are fixed. It may have added just that, by that time and by a later one as long as nothing becomes sure of it.
 pub record IsShare (s : Trail) (t : ℤ) (side : Side) (m : Move) (v : ℤ) : Type 0 where
   pub sound : (xs : List ℤ) → AreOpen s xs (move_subjects m) → v ≤ℤ share_of side xs t m
-  pub exact : (xs : List ℤ) → AreOpen s xs (move_subjects m) → All (IsFixedNow s) (move_subjects m) → share_of side xs t m ≤ℤ v
+  pub exact : (xs : List ℤ) → AreOpen s xs (move_subjects m) → All (IsFixedNow s) (move_subjects m)
+      → share_of side xs t m ≤ℤ v
   pub may : (u : ℤ) → t ≤ℤ u → StaysFrom s t u m → IsShareToward side s u m v
   pub near : unsigned_abs v ≤ 2 ^ 63
 
@@ -128,7 +130,8 @@ pub record IsSure (s : Trail) (t : ℤ) (m : Move) (v : Bool) : Type 0 where
 
 -- and where they are fixed
 pub record IsSureFixed (s : Trail) (t : ℤ) (m : Move) (v : Bool) : Type 0 where
-  pub sure : (xs : List ℤ) → AreOpen s xs (move_subjects m) → All (IsFixedNow s) (move_subjects m) → has_acted xs t m ≡ v
+  pub sure : (xs : List ℤ) → AreOpen s xs (move_subjects m) → All (IsFixedNow s) (move_subjects m)
+      → has_acted xs t m ≡ v
   pub may : MayBe s t m v
 
 -- the least that an event's change counts towards a side

@@ -36,7 +36,8 @@ pub record IsEndedBy (ends : List Part) (e : Ended) (t : ℤ) : Type 0 where
 
 -- what is demanded falls by what the passed ends demanded
 pub record Passes (ends : List Part) (old new : Ended) : Type 0 where
-  pub level : new.level + sum_by (λ p. p.demand) (take new.place ends) ≡ old.level + sum_by (λ p. p.demand) (take old.place ends)
+  pub level : new.level + sum_by (λ p. p.demand) (take new.place ends)
+      ≡ old.level + sum_by (λ p. p.demand) (take old.place ends)
   pub less : new.level ≤ old.level
 
 -- what began up to a place exceeds what ended by the time there by no more than the capacity

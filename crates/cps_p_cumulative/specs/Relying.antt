@@ -34,7 +34,8 @@ abbrev pub IsLong : Option ℤ → Stay → Type 0
 IsLong None stay = (stay.latest +ℤ stay.ticks) ≤ℤ (stay.after +ℤ pos 1)
 IsLong (Some far) stay = stay.ticks ≤ℤ far
 
--- A span of a length, or of none that is known, runs at so many of the times from t on, w of them, where it starts by one time and ends after another.
+-- A span of a length, or of none that is known, runs at so many of the times from t on, w of them, where it starts by
+-- one time and ends after another.
 pub record IsStay (t w : ℤ) (far : Option ℤ) (stay : Stay) : Type 0 where
   pub some : pos 0 ≤ℤ stay.ticks
   pub within : stay.ticks ≤ℤ w
@@ -59,4 +60,5 @@ pub record IsTaken (t w : ℤ) (p : Span) (d : ℕ) (left after : ℤ) (xs : Lis
 
 -- what was taken of a need, and what the spans from a place on use of the times, is no more than all use
 pub record IsCharged (t w : ℤ) (ps : List Span) (ds : List ℕ) (need : ℤ) (k : ℕ) (left : ℤ) (xs : List ℤ) : Type 0 where
-  pub used : ((need -ℤ left) +ℤ energies xs t (unsigned_abs w) (drop k ps) (drop k ds)) ≤ℤ energies xs t (unsigned_abs w) ps ds
+  pub used : ((need -ℤ left) +ℤ energies xs t (unsigned_abs w) (drop k ps) (drop k ds)) ≤ℤ energies xs t
+      (unsigned_abs w) ps ds

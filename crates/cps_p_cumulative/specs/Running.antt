@@ -13,7 +13,8 @@ use Rattle.cps_p_cumulative.specs.declared.resource.Resource.{Resource}
 
 -- whether a span is present and runs at a time
 abbrev pub is_running : List ℤ → ℤ → Span → Bool
-is_running xs t p = list_all (atom_holds xs) p.presence && (int_le (value_at xs p.start) t && int_lt t (span_end xs p.start p.end p.length))
+is_running xs t p = list_all (atom_holds xs) p.presence &&
+    (int_le (value_at xs p.start) t && int_lt t (span_end xs p.start p.end p.length))
 
 -- what it demands then
 abbrev pub demand_of : List ℤ → ℤ → Span → ℕ → ℤ

@@ -85,7 +85,8 @@ pub(crate) fn rely(
 ) -> Result<bool, AllocError>
     requires subject { atom.subject < length past.now.first }
     requires facts { AreFacts past.now facts.old.items }
-    ensures { result ≡ Ok true → Relies past.now case.assumed (λ xs. atom_holds xs atom ≡ true) facts.old.items facts.new.items }
+    ensures { result ≡ Ok true → Relies past.now case.assumed
+        (λ xs. atom_holds xs atom ≡ true) facts.old.items facts.new.items }
 {
     if case.assumed.implies(atom) {
         return Ok(true);
@@ -112,7 +113,8 @@ fn rely_all(
 ) -> Result<bool, AllocError>
     requires subjects { All (λ u. u.subject < length past.now.first) atoms.now }
     requires facts { AreFacts past.now facts.old.items }
-    ensures { result ≡ Ok true → Relies past.now case.assumed (λ xs. All (λ u. atom_holds xs u ≡ true) atoms.now) facts.old.items facts.new.items }
+    ensures { result ≡ Ok true → Relies past.now case.assumed
+        (λ xs. All (λ u. atom_holds xs u ≡ true) atoms.now) facts.old.items facts.new.items }
 {
     for atom in atoms {
         if !rely(past, case, *atom, facts)? {
@@ -153,7 +155,8 @@ fn rely_run(
 ) -> Result<bool, AllocError>
     requires span { IsSpanOf past.now.first span.now }
     requires facts { AreFacts past.now facts.old.items }
-    ensures { result ≡ Ok true → Relies past.now case.assumed (IsBetween stay.latest stay.after span.now) facts.old.items facts.new.items }
+    ensures { result ≡ Ok true → Relies past.now case.assumed
+        (IsBetween stay.latest stay.after span.now) facts.old.items facts.new.items }
 {
     let Some(last) = later(past, stay.after, span) else {
         return Ok(false);
@@ -332,7 +335,9 @@ fn charge_one(
     requires left { pos 0 ≤ℤ left }
     requires facts { AreFacts past.now facts.old.items }
     ensures falls { (after : ℤ) → result ≡ Ok (Some after) → (pos 0 ≤ℤ after) × (after ≤ℤ left) }
-    ensures charged { (after : ℤ) → result ≡ Ok (Some after) → Relies past.now case.assumed (IsTaken case.time case.width span.now demand left after) facts.old.items facts.new.items }
+    ensures charged { (after : ℤ) → result ≡ Ok (Some after)
+        → Relies past.now case.assumed
+        (IsTaken case.time case.width span.now demand left after) facts.old.items facts.new.items }
 {
     let Some(claim) = claim_of(past, case, span, demand, left) else {
         if rely(past, case, at_least(demand, 0), facts)? {
@@ -360,7 +365,9 @@ fn charge_all(
     requires resource { IsResourceOf past.now.first resource.now }
     requires need { pos 0 ≤ℤ need }
     requires facts { AreFacts past.now facts.old.items }
-    ensures { result ≡ Ok true → Relies past.now case.assumed (λ xs. need ≤ℤ energies xs case.time (unsigned_abs case.width) resource.now.spans resource.now.demands) facts.old.items facts.new.items }
+    ensures { result ≡ Ok true → Relies past.now case.assumed
+        (λ xs. need ≤ℤ energies xs case.time
+        (unsigned_abs case.width) resource.now.spans resource.now.demands) facts.old.items facts.new.items }
 {
     let spans = resource.spans.as_slice();
     let demands = resource.demands.as_slice();
@@ -387,7 +394,8 @@ pub(crate) fn charge(
 ) -> Result<bool, AllocError>
     requires resource { IsResourceOf past.now.first resource.now }
     requires facts { AreFacts past.now facts.old.items }
-    ensures { result ≡ Ok true → Relies past.now case.assumed (λ xs. HoldsBody (body_of resource.now) xs → ⊥) facts.old.items facts.new.items }
+    ensures { result ≡ Ok true → Relies past.now case.assumed
+        (λ xs. HoldsBody (body_of resource.now) xs → ⊥) facts.old.items facts.new.items }
 {
     let most = greatest(past, case, resource.capacity);
     if !rely(past, case, at_most(resource.capacity, most), facts)? {

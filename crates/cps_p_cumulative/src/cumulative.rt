@@ -91,8 +91,10 @@ fn look_at(
     requires inside { IsResourceOf past.now.first resource.now }
     requires demands { All (IsNeverNegative past.now.first) resource.now.demands }
     ensures given { OnOk result (All (λ n. IsGiven (body_of resource.now) past.now n.target) found.new.items) }
-    ensures impossible { (hint : Hint) → result ≡ Ok (Look.Impossible hint) → IsImpossible (body_of resource.now) past.now }
-    ensures possible { result ≡ Ok Look.Possible → HasCapacity past.now resource.now.capacity resource.now.spans resource.now.demands }
+    ensures impossible { (hint : Hint) → result ≡ Ok (Look.Impossible hint)
+        → IsImpossible (body_of resource.now) past.now }
+    ensures possible { result ≡ Ok Look.Possible
+        → HasCapacity past.now resource.now.capacity resource.now.spans resource.now.demands }
 {
     found.clear();
     let most = past.ends(resource.capacity).1;

@@ -1,8 +1,9 @@
 //! Whether a time is overloaded.
 //!
-//! A sweep over the starts and the ends of compulsory parts, each sorted, keeps what they demand. That no time is overloaded is proved of
-//! the sweep itself: what began and what ended are sums over two orders of the same list. Where the sweep names a time, the demands at it are
-//! summed again before it is used; should that not confirm it, each start is tried.
+//! A sweep over the starts and the ends of compulsory parts, each sorted, keeps what they demand. That no time is
+//! overloaded is proved of the sweep itself: what began and what ended are sums over two orders of the same list. Where
+//! the sweep names a time, the demands at it are summed again before it is used; should that not confirm it, each start
+//! is tried.
 ghost use Rattle.std.specs.Prelude.{◌≡◌, ◌<◌, ◌≤◌, ◌^◌, None, MatchOption, IfOk, IsTrue, false, length};
 ghost use Rattle.cps_p_cumulative.specs.Profile.{height, AreParts, IsRoomy, IsOver, IsEndedBy, Passes, IsSwept};
 
@@ -63,8 +64,8 @@ fn pass_ends(time: i64, ends: &[Part], ended: Ended) -> Ended
     Ended { place, level }
 }
 
-/// One sweep: a time at which what began seems to exceed what ended by more than the capacity. `starts` and `ends` are the parts
-/// in the order of their first times, and of their ends.
+/// One sweep: a time at which what began seems to exceed what ended by more than the capacity. `starts` and `ends` are
+/// the parts in the order of their first times, and of their ends.
 fn sweep(starts: &[Part], ends: &[Part], capacity: u64) -> Option<i64>
     requires starts { AreParts starts.now }
     requires capacity { capacity < 2 ^ 63 }
@@ -116,7 +117,8 @@ pub(crate) fn overload(
 ) -> Result<Option<i64>, AllocError>
     requires parts { AreParts parts.now }
     requires capacity { capacity < 2 ^ 63 }
-    ensures { IfOk result (λ found. MatchOption found (IsRoomy parts.now capacity) (λ time. IsOver parts.now capacity time)) }
+    ensures { IfOk result (λ found. MatchOption found (IsRoomy parts.now capacity)
+        (λ time. IsOver parts.now capacity time)) }
 {
     orders.starts.clear();
     orders.starts.extend_from_slice(parts)?;

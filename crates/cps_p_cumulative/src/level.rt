@@ -1,9 +1,9 @@
 //! Whether the level at a time surely passes a limit.
 //!
-//! An event that has surely taken place by the time counts its least change, one that surely has not counts nothing, and any other
-//! whichever is less. That sum is no more than what the level comes to, and where all is fixed it is the level. It rises only at an
-//! event's greatest time, where the event becomes sure, so the levels at these times tell of every time. Before any event the level is 0, which
-//! lies between the limits.
+//! An event that has surely taken place by the time counts its least change, one that surely has not counts nothing,
+//! and any other whichever is less. That sum is no more than what the level comes to, and where all is fixed it is the
+//! level. It rises only at an event's greatest time, where the event becomes sure, so the levels at these times tell of
+//! every time. Before any event the level is 0, which lies between the limits.
 ghost use Rattle.std.specs.Prelude.{◌≡◌, ◌≤◌, ◌<◌, ◌^◌, ◌-◌, ◌+ℤ◌, unsigned_abs, length, false, true, IsTrue, IfSome, None};
 ghost use Rattle.cps_rule.specs.Rules.{IsImpossible, IsAtRest};
 ghost use Rattle.cps_p_cumulative.specs.Levels.{IsMoveOf, IsTankOf, IsShare, IsLevel, IsSure, IsSureFixed, IsLeastToward, AllowsZero, HasRoomAfter, moves_of, tank_body};

@@ -1,8 +1,9 @@
 //! Why a level passes a limit.
 //!
-//! One search for facts serves conflicts and narrowings alike, as for resources: it sums what events add towards a side by a time, by facts
-//! that were true and one atom that is assumed, and sees that the sum passes the limit. An event that adds counts where it is seen to
-//! take place by the time, one that takes away is left out where it is seen not to, and of any other the change alone is bounded.
+//! One search for facts serves conflicts and narrowings alike, as for resources: it sums what events add towards a side
+//! by a time, by facts that were true and one atom that is assumed, and sees that the sum passes the limit. An event
+//! that adds counts where it is seen to take place by the time, one that takes away is left out where it is seen not
+//! to, and of any other the change alone is bounded.
 ghost use Rattle.std.specs.Prelude.{◌≡◌, ◌<◌, ◌+ℤ◌, true, false, ℤ, length, IfSome, Ok, Some};
 ghost use Rattle.cps_literal.specs.Truth.{atom_holds};
 ghost use Rattle.cps_instance.specs.Tasks.{HoldsBody};
@@ -60,7 +61,8 @@ fn rely_active(
 ) -> Result<bool, AllocError>
     requires subject { IfSome active (λ u. u.subject < length past.now.first) }
     requires facts { AreFacts past.now facts.old.items }
-    ensures { result ≡ Ok true → Relies past.now case.assumed (λ xs. is_active xs active ≡ true) facts.old.items facts.new.items }
+    ensures { result ≡ Ok true → Relies past.now case.assumed
+        (λ xs. is_active xs active ≡ true) facts.old.items facts.new.items }
 {
     match active {
         Some(atom) => rely(past, case, atom, facts),
@@ -77,7 +79,8 @@ fn rely_acted(
 ) -> Result<bool, AllocError>
     requires event { IsMoveOf past.now.first event.now }
     requires facts { AreFacts past.now facts.old.items }
-    ensures { result ≡ Ok true → Relies past.now case.assumed (λ xs. has_acted xs case.time event.now ≡ true) facts.old.items facts.new.items }
+    ensures { result ≡ Ok true → Relies past.now case.assumed
+        (λ xs. has_acted xs case.time event.now ≡ true) facts.old.items facts.new.items }
 {
     if !rely_active(past, case, event.active, facts)? {
         return Ok(false);
@@ -178,7 +181,8 @@ fn charge_move(
 ) -> Result<Option<i128>, AllocError>
     requires event { IsMoveOf past.now.first event.now }
     requires facts { AreFacts past.now facts.old.items }
-    ensures { (v : ℤ) → result ≡ Ok (Some v) → Relies past.now case.assumed (IsAdded side case.time event.now v) facts.old.items facts.new.items }
+    ensures { (v : ℤ) → result ≡ Ok (Some v)
+        → Relies past.now case.assumed (IsAdded side case.time event.now v) facts.old.items facts.new.items }
 {
     let counted = seeming_share(past, case, side, event);
     if let Some(rest) = rest_of(past, case, event, counted) {
@@ -225,7 +229,8 @@ fn charge_moves(
 ) -> Result<Option<i128>, AllocError>
     requires tank { IsTankOf past.now.first tank.now }
     requires facts { AreFacts past.now facts.old.items }
-    ensures { (v : ℤ) → result ≡ Ok (Some v) → Relies past.now case.assumed (AreAdded side case.time (moves_of tank.now) v) facts.old.items facts.new.items }
+    ensures { (v : ℤ) → result ≡ Ok (Some v)
+        → Relies past.now case.assumed (AreAdded side case.time (moves_of tank.now) v) facts.old.items facts.new.items }
 {
     let mut sum: i128 = 0;
     for k in 0..tank.count() {
@@ -240,7 +245,8 @@ fn charge_moves(
     Ok(Some(sum))
 }
 
-/// Adds facts beside which, with the assumed atom, the level passes the limit of a side. Answers false where it finds none.
+/// Adds facts beside which, with the assumed atom, the level passes the limit of a side. Answers false where it finds
+/// none.
 pub(crate) fn charge_level(
     past: &Before,
     case: Case,
@@ -250,7 +256,8 @@ pub(crate) fn charge_level(
 ) -> Result<bool, AllocError>
     requires tank { IsTankOf past.now.first tank.now }
     requires facts { AreFacts past.now facts.old.items }
-    ensures { result ≡ Ok true → Relies past.now case.assumed (λ xs. HoldsBody (tank_body tank.now) xs → ⊥) facts.old.items facts.new.items }
+    ensures { result ≡ Ok true → Relies past.now case.assumed
+        (λ xs. HoldsBody (tank_body tank.now) xs → ⊥) facts.old.items facts.new.items }
 {
     let limit = tank.limit(point.side);
     let Some(sum) = charge_moves(past, case, point.side, tank, facts)? else {

@@ -140,7 +140,8 @@ fn look_at(
     requires tank { IsTankOf past.now.first tank.now }
     requires zero { AllowsZero tank.now }
     ensures given { OnOk result (All (λ n. IsGiven (tank_body tank.now) past.now n.target) found.new.items) }
-    ensures impossible { (hint : Hint) → result ≡ Ok (Look.Impossible hint) → IsImpossible (tank_body tank.now) past.now }
+    ensures impossible { (hint : Hint) → result ≡ Ok (Look.Impossible hint)
+        → IsImpossible (tank_body tank.now) past.now }
     ensures possible { result ≡ Ok Look.Possible → IsAtRest (tank_body tank.now) past.now }
 {
     found.clear();

@@ -66,7 +66,11 @@ pub(crate) fn resource_of(
     spans: &[Span],
     demands: &[u32],
 ) -> Result<Resource, AllocError>
-    ensures { IfOk result (λ resource. resource ≡ record { capacity = capacity; spans = spans.now; demands = demands.now }) }
+    ensures { IfOk result (λ resource. resource ≡ record {
+      capacity = capacity;
+      spans = spans.now;
+      demands = demands.now;
+    }) }
 {
     Ok(Resource {
         capacity,

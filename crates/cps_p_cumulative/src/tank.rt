@@ -111,7 +111,13 @@ impl Tank {
         changes: &[u32],
         active: &[Atom],
     ) -> Result<Tank, AllocError>
-        ensures { IfOk result (λ tank. tank ≡ record { min = ends.0; max = ends.1; times = times.now; changes = changes.now; active = active.now }) }
+        ensures { IfOk result (λ tank. tank ≡ record {
+          min = ends.0;
+          max = ends.1;
+          times = times.now;
+          changes = changes.now;
+          active = active.now;
+        }) }
     {
         Ok(Tank {
             min: ends.0,

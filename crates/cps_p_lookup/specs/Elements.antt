@@ -76,4 +76,5 @@ pub record IsLeft (s : Trail) (i : ℕ) (es : List ℕ) (old new : List Atom) (w
   pub grows : Grows s old new
   pub inside : window.1 ≤ length es
   pub small : window.1 < 2 ^ 62
-  pub covers : (k : ℕ) → k < length es → (xs : List ℤ) → AllTrueAt xs new → value_at xs i ≡ pos k → (window.0 ≤ k) × (k < window.1)
+  pub covers : (k : ℕ) → k < length es → (xs : List ℤ) → AllTrueAt xs new → value_at xs i ≡ pos k
+      → (window.0 ≤ k) × (k < window.1)

@@ -32,8 +32,10 @@ fn first_open(store: &Store, exprs: &[u32], row: &[i64], from: usize) -> usize
     requires from { from ≤ length exprs.now }
     ensures after { from ≤ result }
     ensures within { result ≤ length exprs.now }
-    ensures passed { (k : ℕ) → from ≤ k → k < result → IsSingle store.now (slice_index_or exprs.now k 0) (slice_index_or row.now k (pos 0)) }
-    ensures open { result < length exprs.now → IsOff store.now (slice_index_or exprs.now result 0) (slice_index_or row.now result (pos 0)) }
+    ensures passed { (k : ℕ) → from ≤ k → k < result
+        → IsSingle store.now (slice_index_or exprs.now k 0) (slice_index_or row.now k (pos 0)) }
+    ensures open { result < length exprs.now
+        → IsOff store.now (slice_index_or exprs.now result 0) (slice_index_or row.now result (pos 0)) }
 {
     for k in from..exprs.len() {
         if !is_single(store, exprs[k], row[k]) {
@@ -43,7 +45,8 @@ fn first_open(store: &Store, exprs: &[u32], row: &[i64], from: usize) -> usize
     exprs.len()
 }
 
-/// Takes a row's value away where it is the last one that a column keeps it out by. Answers whether the values are surely the row.
+/// Takes a row's value away where it is the last one that a column keeps it out by. Answers whether the values are
+/// surely the row.
 fn visit(
     store: &Store,
     grid: &Grid,
@@ -53,10 +56,14 @@ fn visit(
     requires fits { All (λ e. e < length store.now.first) grid.now.exprs.now }
     requires some { 0 < length grid.now.exprs.now }
     requires row { (row + 1) * length grid.now.exprs.now ≤ length grid.now.values.now }
-    requires given { All (λ n. IsGiven (Table grid.now.exprs.now grid.now.values.now true) store.now n.target) found.old.items }
-    ensures given { OnOk result (All (λ n. IsGiven (Table grid.now.exprs.now grid.now.values.now true) store.now n.target) found.new.items) }
-    ensures banned { result ≡ Ok true → IsBanned store.now grid.now.exprs.now (row_at (length grid.now.exprs.now) grid.now.values.now row) }
-    ensures missed { result ≡ Ok false → IsMissed store.now grid.now.exprs.now (row_at (length grid.now.exprs.now) grid.now.values.now row) }
+    requires given { All (λ n. IsGiven
+        (Table grid.now.exprs.now grid.now.values.now true) store.now n.target) found.old.items }
+    ensures given { OnOk result (All
+        (λ n. IsGiven (Table grid.now.exprs.now grid.now.values.now true) store.now n.target) found.new.items) }
+    ensures banned { result ≡ Ok true
+        → IsBanned store.now grid.now.exprs.now (row_at (length grid.now.exprs.now) grid.now.values.now row) }
+    ensures missed { result ≡ Ok false
+        → IsMissed store.now grid.now.exprs.now (row_at (length grid.now.exprs.now) grid.now.values.now row) }
 {
     let width = grid.exprs.len();
     let values = row_at(grid.values, width, row);
@@ -87,7 +94,8 @@ pub(crate) fn look_outside(
 ) -> Result<Look, AllocError>
     requires fits { All (λ e. e < length store.now.first) grid.now.exprs.now }
     requires some { 0 < length grid.now.exprs.now }
-    ensures given { OnOk result (All (λ n. IsGiven (Table grid.now.exprs.now grid.now.values.now true) store.now n.target) found.new.items) }
+    ensures given { OnOk result (All
+        (λ n. IsGiven (Table grid.now.exprs.now grid.now.values.now true) store.now n.target) found.new.items) }
     ensures seen { IfOk result (IsSeen (Table grid.now.exprs.now grid.now.values.now true) store.now) }
     ensures rest { result ≡ Ok Look.Possible → IsAtRest (Table grid.now.exprs.now grid.now.values.now true) store.now }
 {

@@ -57,7 +57,8 @@ fn is_barred(exprs: &[u32], row: &[i64], facts: &[Atom]) -> bool
     false
 }
 
-/// The weakest atom by which a subject that had its values between two ends lacks a value: a bound where the value is past an end.
+/// The weakest atom by which a subject that had its values between two ends lacks a value: a bound where the value is
+/// past an end.
 fn off(subject: u32, value: i64, ends: (i64, i64)) -> Atom
     ensures { IsOffBy subject value result }
 {
@@ -108,7 +109,8 @@ pub(crate) fn exclude(
 ) -> Result<bool, AllocError>
     requires fits { All (λ e. e < length past.now.first) grid.now.exprs.now }
     requires some { 0 < length grid.now.exprs.now }
-    ensures { result ≡ Ok true → Gives (Table grid.now.exprs.now grid.now.values.now false) past.now goal facts.new.items }
+    ensures { result ≡ Ok true → Gives
+        (Table grid.now.exprs.now grid.now.values.now false) past.now goal facts.new.items }
 {
     facts.clear();
     let width = grid.exprs.len();
@@ -204,7 +206,8 @@ pub(crate) fn fix(
 ) -> Result<bool, AllocError>
     requires fits { All (λ e. e < length past.now.first) grid.now.exprs.now }
     requires some { 0 < length grid.now.exprs.now }
-    ensures { result ≡ Ok true → Gives (Table grid.now.exprs.now grid.now.values.now true) past.now goal facts.new.items }
+    ensures { result ≡ Ok true → Gives
+        (Table grid.now.exprs.now grid.now.values.now true) past.now goal facts.new.items }
 {
     facts.clear();
     let Some(row) = row_within(grid, number) else {

@@ -231,7 +231,8 @@ fn may_miss(values: &[i64], domain: &Domain, marks: &mut Vec<bool>) -> Result<bo
     }
 }
 
-/// Adds that a subject has none of the values of its domain between the ends of the listed ones, but those that are listed.
+/// Adds that a subject has none of the values of its domain between the ends of the listed ones, but those that are
+/// listed.
 pub(crate) fn exclude_missing(
     subject: u32,
     domain: &Domain,
@@ -251,7 +252,8 @@ pub(crate) fn exclude_missing(
     Ok(())
 }
 
-/// Adds that a subject has none of the values of its domain between another's ends that the other has not, where its domain is small.
+/// Adds that a subject has none of the values of its domain between another's ends that the other has not, where its
+/// domain is small.
 pub(crate) fn copy_holes(
     subject: u32,
     domain: &Domain,

@@ -47,7 +47,8 @@ fn give(
     requires target { case.now.target < length past.now.first }
     requires expr { case.now.expr < length past.now.first }
     requires place { case.now.place < 2 ^ 62 }
-    ensures yes { result ≡ Ok true → Closes past.now case.now.index case.now.target case.now.expr case.now.place goal facts.old.items facts.new.items }
+    ensures yes { result ≡ Ok true
+        → Closes past.now case.now.index case.now.target case.now.expr case.now.place goal facts.old.items facts.new.items }
     ensures no { result ≡ Ok false → facts.new.items ≡ facts.old.items }
 {
     let Some(atom) = goal else {
@@ -112,7 +113,8 @@ fn is_about(goal: Option<Atom>, subject: u32) -> bool {
     }
 }
 
-/// The places that facts leave to the index; all of them, without facts, where the atom that is to be given is about the index.
+/// The places that facts leave to the index; all of them, without facts, where the atom that is to be given is about
+/// the index.
 fn places_left(
     past: &Before,
     goal: Option<Atom>,
@@ -120,7 +122,8 @@ fn places_left(
     facts: &mut Vec<Atom>,
 ) -> Result<Option<(usize, usize)>, AllocError>
     requires { lookup.now.index < length past.now.first }
-    ensures { (window : ℕ × ℕ) → result ≡ Ok (Some window) → IsLeft past.now lookup.now.index lookup.now.exprs.now facts.old.items facts.new.items window }
+    ensures { (window : ℕ × ℕ) → result ≡ Ok (Some window)
+        → IsLeft past.now lookup.now.index lookup.now.exprs.now facts.old.items facts.new.items window }
 {
     let places = lookup.exprs.len();
     if places > LIMIT as usize {
@@ -149,7 +152,8 @@ pub(crate) fn justify(
     facts: &mut Vec<Atom>,
 ) -> Result<bool, AllocError>
     requires { IsFit past.now.first lookup.now.index lookup.now.target lookup.now.exprs.now }
-    ensures { result ≡ Ok true → Gives (Element lookup.now.index lookup.now.target lookup.now.exprs.now) past.now goal facts.new.items }
+    ensures { result ≡ Ok true → Gives
+        (Element lookup.now.index lookup.now.target lookup.now.exprs.now) past.now goal facts.new.items }
 {
     facts.clear();
     let Some(window) = places_left(past, goal, lookup, facts)? else {

@@ -46,7 +46,8 @@ pub(crate) struct Scan {
 /// Whether two domains may have a value in common: by their ends, and by values where one has a single one.
 pub(crate) fn can_meet(expr: &Domain, target: &Domain) -> bool
     ensures apart { result ≡ false → (x : ℤ) → contains expr.now x ≡ true → contains target.now x ≡ true → ⊥ }
-    ensures meet { result ≡ true → (x : ℤ) → contains expr.now x ≡ true → ((y : ℤ) → contains expr.now y ≡ true → y ≡ x) → contains target.now x ≡ true }
+    ensures meet { result ≡ true → (x : ℤ) → contains expr.now x ≡ true
+        → ((y : ℤ) → contains expr.now y ≡ true → y ≡ x) → contains target.now x ≡ true }
 {
     let low = expr.min();
     let high = expr.max();
@@ -123,9 +124,12 @@ fn visit(
     requires fits { IsFit store.now.first lookup.now.index lookup.now.target lookup.now.exprs.now }
     requires place { place < length lookup.now.exprs.now }
     requires small { place < 2 ^ 62 }
-    requires given { All (λ n. IsGiven (Element lookup.now.index lookup.now.target lookup.now.exprs.now) store.now n.target) found.old.items }
-    ensures given { OnOk result (All (λ n. IsGiven (Element lookup.now.index lookup.now.target lookup.now.exprs.now) store.now n.target) found.new.items) }
-    ensures visited { IfOk result (IsVisited store.now lookup.now.index lookup.now.target lookup.now.exprs.now place scan) }
+    requires given { All (λ n. IsGiven
+        (Element lookup.now.index lookup.now.target lookup.now.exprs.now) store.now n.target) found.old.items }
+    ensures given { OnOk result (All
+        (λ n. IsGiven (Element lookup.now.index lookup.now.target lookup.now.exprs.now) store.now n.target) found.new.items) }
+    ensures visited { IfOk result
+        (IsVisited store.now lookup.now.index lookup.now.target lookup.now.exprs.now place scan) }
 {
     let index = store.domain(lookup.index);
     if !index.contains(place as i64) {
@@ -179,7 +183,8 @@ pub(crate) fn scan_places(
     found: &mut Vec<Narrowing>,
 ) -> Result<Scan, AllocError>
     requires fits { IsFit store.now.first lookup.now.index lookup.now.target lookup.now.exprs.now }
-    ensures given { OnOk result (All (λ n. IsGiven (Element lookup.now.index lookup.now.target lookup.now.exprs.now) store.now n.target) found.new.items) }
+    ensures given { OnOk result (All
+        (λ n. IsGiven (Element lookup.now.index lookup.now.target lookup.now.exprs.now) store.now n.target) found.new.items) }
     ensures scanned { IfOk result (IsScanned store.now lookup.now.index lookup.now.target lookup.now.exprs.now) }
 {
     found.clear();
@@ -202,7 +207,8 @@ pub(crate) fn scan_places(
     Ok(scan)
 }
 
-/// Keeps the target between the ends of the open places, and, where one place is left, the expression there between the target's.
+/// Keeps the target between the ends of the open places, and, where one place is left, the expression there between the
+/// target's.
 fn bound_both(
     store: &Store,
     lookup: &Lookup,
@@ -212,8 +218,10 @@ fn bound_both(
     requires fits { IsFit store.now.first lookup.now.index lookup.now.target lookup.now.exprs.now }
     requires scanned { IsScanned store.now lookup.now.index lookup.now.target lookup.now.exprs.now scan }
     requires some { 0 < scan.open }
-    requires given { All (λ n. IsGiven (Element lookup.now.index lookup.now.target lookup.now.exprs.now) store.now n.target) found.old.items }
-    ensures { OnOk result (All (λ n. IsGiven (Element lookup.now.index lookup.now.target lookup.now.exprs.now) store.now n.target) found.new.items) }
+    requires given { All (λ n. IsGiven
+        (Element lookup.now.index lookup.now.target lookup.now.exprs.now) store.now n.target) found.old.items }
+    ensures { OnOk result (All (λ n. IsGiven
+        (Element lookup.now.index lookup.now.target lookup.now.exprs.now) store.now n.target) found.new.items) }
 {
     bound(store, lookup.target, scan.least, scan.greatest, found)?;
     if scan.open == 1 {
@@ -235,8 +243,10 @@ fn align(
     requires fits { IsFit store.now.first lookup.now.index lookup.now.target lookup.now.exprs.now }
     requires scanned { IsScanned store.now lookup.now.index lookup.now.target lookup.now.exprs.now scan }
     requires one { scan.open ≡ 1 }
-    requires given { All (λ n. IsGiven (Element lookup.now.index lookup.now.target lookup.now.exprs.now) store.now n.target) found.old.items }
-    ensures { OnOk result (All (λ n. IsGiven (Element lookup.now.index lookup.now.target lookup.now.exprs.now) store.now n.target) found.new.items) }
+    requires given { All (λ n. IsGiven
+        (Element lookup.now.index lookup.now.target lookup.now.exprs.now) store.now n.target) found.old.items }
+    ensures { OnOk result (All (λ n. IsGiven
+        (Element lookup.now.index lookup.now.target lookup.now.exprs.now) store.now n.target) found.new.items) }
 {
     let expr = lookup.exprs[scan.last];
     let target = store.domain(lookup.target);
@@ -298,8 +308,10 @@ fn narrow_inside(
     found: &mut Vec<Narrowing>,
 ) -> Result<(), AllocError>
     requires fits { IsFit store.now.first lookup.now.index lookup.now.target lookup.now.exprs.now }
-    requires given { All (λ n. IsGiven (Element lookup.now.index lookup.now.target lookup.now.exprs.now) store.now n.target) found.old.items }
-    ensures { OnOk result (All (λ n. IsGiven (Element lookup.now.index lookup.now.target lookup.now.exprs.now) store.now n.target) found.new.items) }
+    requires given { All (λ n. IsGiven
+        (Element lookup.now.index lookup.now.target lookup.now.exprs.now) store.now n.target) found.old.items }
+    ensures { OnOk result (All (λ n. IsGiven
+        (Element lookup.now.index lookup.now.target lookup.now.exprs.now) store.now n.target) found.new.items) }
 {
     let target = store.domain(lookup.target);
     if !is_worth(target, lookup.exprs.len()) {
@@ -320,9 +332,11 @@ pub(crate) fn look_up(
     found: &mut Vec<Narrowing>,
 ) -> Result<Look, AllocError>
     requires fits { IsFit store.now.first lookup.now.index lookup.now.target lookup.now.exprs.now }
-    ensures given { OnOk result (All (λ n. IsGiven (Element lookup.now.index lookup.now.target lookup.now.exprs.now) store.now n.target) found.new.items) }
+    ensures given { OnOk result (All
+        (λ n. IsGiven (Element lookup.now.index lookup.now.target lookup.now.exprs.now) store.now n.target) found.new.items) }
     ensures seen { IfOk result (IsSeen (Element lookup.now.index lookup.now.target lookup.now.exprs.now) store.now) }
-    ensures rest { result ≡ Ok Look.Possible → IsAtRest (Element lookup.now.index lookup.now.target lookup.now.exprs.now) store.now }
+    ensures rest { result ≡ Ok Look.Possible
+        → IsAtRest (Element lookup.now.index lookup.now.target lookup.now.exprs.now) store.now }
 {
     let scan = scan_places(store, lookup, found)?;
     if scan.open == 0 {

@@ -92,7 +92,8 @@ fn collect(
 fn all_meet(values: &[i64], width: usize, rows: &[usize], column: usize, atom: Atom) -> bool
     requires column { column < width }
     requires rows { All (λ r. (r + 1) * width ≤ length values.now) rows.now }
-    ensures { result ≡ true → All (λ r. meets atom.op atom.value (slice_index_or (row_at width values.now r) column (pos 0)) ≡ true) rows.now }
+    ensures { result ≡ true → All
+        (λ r. meets atom.op atom.value (slice_index_or (row_at width values.now r) column (pos 0)) ≡ true) rows.now }
 {
     for row in rows {
         if !is_met(atom, row_at(values, width, *row)[column]) {
@@ -115,8 +116,10 @@ fn propose(
     requires fits { All (λ e. e < length store.now.first) grid.now.exprs.now }
     requires column { column < length grid.now.exprs.now }
     requires rows { AreLive store.now grid.now.exprs.now grid.now.values.now rows.now }
-    requires given { All (λ n. IsGiven (Table grid.now.exprs.now grid.now.values.now false) store.now n.target) found.old.items }
-    ensures { OnOk result (All (λ n. IsGiven (Table grid.now.exprs.now grid.now.values.now false) store.now n.target) found.new.items) }
+    requires given { All (λ n. IsGiven
+        (Table grid.now.exprs.now grid.now.values.now false) store.now n.target) found.old.items }
+    ensures { OnOk result (All (λ n. IsGiven
+        (Table grid.now.exprs.now grid.now.values.now false) store.now n.target) found.new.items) }
 {
     let target = atom(grid.exprs[column], op, value);
     match store.truth(target) {
@@ -158,8 +161,10 @@ fn narrow_column(
     requires fits { All (λ e. e < length store.now.first) grid.now.exprs.now }
     requires column { column < length grid.now.exprs.now }
     requires rows { AreLive store.now grid.now.exprs.now grid.now.values.now rows.now }
-    requires given { All (λ n. IsGiven (Table grid.now.exprs.now grid.now.values.now false) store.now n.target) found.old.items }
-    ensures { OnOk result (All (λ n. IsGiven (Table grid.now.exprs.now grid.now.values.now false) store.now n.target) found.new.items) }
+    requires given { All (λ n. IsGiven
+        (Table grid.now.exprs.now grid.now.values.now false) store.now n.target) found.old.items }
+    ensures { OnOk result (All (λ n. IsGiven
+        (Table grid.now.exprs.now grid.now.values.now false) store.now n.target) found.new.items) }
 {
     let (low, high) = ends(grid, rows, column);
     propose(store, grid, rows, column, Op::Ge, low, found)?;
@@ -175,7 +180,8 @@ fn copy_column(
 ) -> Result<(), AllocError>
     requires column { column < length grid.now.exprs.now }
     requires rows { All (λ r. (r + 1) * length grid.now.exprs.now ≤ length grid.now.values.now) rows.now }
-    ensures { OnOk result (All (λ r. Contains values.new.items (slice_index_or (row_at (length grid.now.exprs.now) grid.now.values.now r) column (pos 0))) rows.now) }
+    ensures { OnOk result (All (λ r. Contains values.new.items
+        (slice_index_or (row_at (length grid.now.exprs.now) grid.now.values.now r) column (pos 0))) rows.now) }
 {
     values.clear();
     for row in rows {
@@ -197,8 +203,10 @@ fn narrow_inside(
     requires fits { All (λ e. e < length store.now.first) grid.now.exprs.now }
     requires column { column < length grid.now.exprs.now }
     requires rows { AreLive store.now grid.now.exprs.now grid.now.values.now rows.now }
-    requires given { All (λ n. IsGiven (Table grid.now.exprs.now grid.now.values.now false) store.now n.target) found.old.items }
-    ensures { OnOk result (All (λ n. IsGiven (Table grid.now.exprs.now grid.now.values.now false) store.now n.target) found.new.items) }
+    requires given { All (λ n. IsGiven
+        (Table grid.now.exprs.now grid.now.values.now false) store.now n.target) found.old.items }
+    ensures { OnOk result (All (λ n. IsGiven
+        (Table grid.now.exprs.now grid.now.values.now false) store.now n.target) found.new.items) }
 {
     let subject = grid.exprs[column];
     let domain = store.domain(subject);
@@ -210,7 +218,8 @@ fn narrow_inside(
     Ok(())
 }
 
-/// Keeps each column's subject to the values that the rows which are left have there; of a large domain, between their ends.
+/// Keeps each column's subject to the values that the rows which are left have there; of a large domain, between their
+/// ends.
 fn narrow_columns(
     store: &Store,
     grid: &Grid,
@@ -220,7 +229,8 @@ fn narrow_columns(
 ) -> Result<(), AllocError>
     requires fits { All (λ e. e < length store.now.first) grid.now.exprs.now }
     requires rows { AreLive store.now grid.now.exprs.now grid.now.values.now rows.now }
-    ensures { OnOk result (All (λ n. IsGiven (Table grid.now.exprs.now grid.now.values.now false) store.now n.target) found.new.items) }
+    ensures { OnOk result (All (λ n. IsGiven
+        (Table grid.now.exprs.now grid.now.values.now false) store.now n.target) found.new.items) }
 {
     found.clear();
     for column in 0..grid.exprs.len() {
@@ -254,7 +264,8 @@ pub(crate) fn look_among(
 ) -> Result<Look, AllocError>
     requires fits { All (λ e. e < length store.now.first) grid.now.exprs.now }
     requires some { 0 < length grid.now.exprs.now }
-    ensures given { OnOk result (All (λ n. IsGiven (Table grid.now.exprs.now grid.now.values.now false) store.now n.target) found.new.items) }
+    ensures given { OnOk result (All
+        (λ n. IsGiven (Table grid.now.exprs.now grid.now.values.now false) store.now n.target) found.new.items) }
     ensures seen { IfOk result (IsSeen (Table grid.now.exprs.now grid.now.values.now false) store.now) }
     ensures rest { result ≡ Ok Look.Possible → IsAtRest (Table grid.now.exprs.now grid.now.values.now false) store.now }
 {

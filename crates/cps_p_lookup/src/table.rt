@@ -68,9 +68,11 @@ fn look_at(
     found: &mut Vec<Narrowing>,
 ) -> Result<Look, AllocError>
     requires fits { All (λ e. e < length store.now.first) grid.now.exprs.now }
-    ensures given { OnOk result (All (λ n. IsGiven (TableOf grid.now.exprs.now grid.now.values.now negated) store.now n.target) found.new.items) }
+    ensures given { OnOk result (All
+        (λ n. IsGiven (TableOf grid.now.exprs.now grid.now.values.now negated) store.now n.target) found.new.items) }
     ensures seen { IfOk result (IsSeen (TableOf grid.now.exprs.now grid.now.values.now negated) store.now) }
-    ensures rest { result ≡ Ok Look.Possible → IsAtRest (TableOf grid.now.exprs.now grid.now.values.now negated) store.now }
+    ensures rest { result ≡ Ok Look.Possible
+        → IsAtRest (TableOf grid.now.exprs.now grid.now.values.now negated) store.now }
 {
     if grid.exprs.is_empty() {
         found.clear();
@@ -93,7 +95,8 @@ fn justify_at(
     facts: &mut Vec<Atom>,
 ) -> Result<bool, AllocError>
     requires fits { All (λ e. e < length past.now.first) grid.now.exprs.now }
-    ensures { result ≡ Ok true → Gives (TableOf grid.now.exprs.now grid.now.values.now negated) past.now goal facts.new.items }
+    ensures { result ≡ Ok true → Gives
+        (TableOf grid.now.exprs.now grid.now.values.now negated) past.now goal facts.new.items }
 {
     if grid.exprs.is_empty() {
         return Ok(false);

@@ -38,11 +38,13 @@ pub record ArePresent (xs : List ℤ) (ps : List Span) (pair : Pair) (d : Span) 
 
 -- one of two spans comes before the other
 abbrev pub AreApart : List ℤ → List Span → Pair → Span → Type 0
-AreApart xs ps pair d = IsBefore xs (slice_index_or ps pair.before d) (slice_index_or ps pair.after d) ⊎ IsBefore xs (slice_index_or ps pair.after d) (slice_index_or ps pair.before d)
+AreApart xs ps pair d = IsBefore xs (slice_index_or ps pair.before d) (slice_index_or ps pair.after d)
+    ⊎ IsBefore xs (slice_index_or ps pair.after d) (slice_index_or ps pair.before d)
 
 -- each two present boxes are apart in one of two directions
 abbrev pub AreDisjoint : List ℤ → List Span → List Span → Type 0
-AreDisjoint xs ps qs = (pair : Pair) (d : Span) → AreBoxes ps qs pair → ArePresent xs ps pair d → ArePresent xs qs pair d → AreApart xs ps pair d ⊎ AreApart xs qs pair d
+AreDisjoint xs ps qs = (pair : Pair) (d : Span) → AreBoxes ps qs pair → ArePresent xs ps pair d
+    → ArePresent xs qs pair d → AreApart xs ps pair d ⊎ AreApart xs qs pair d
 
 -- they are wherever a body holds
 abbrev pub KeepsApart : Body → List Span → List Span → Type 0
@@ -58,7 +60,8 @@ LeavesNone s ps qs = (b : Body) → KeepsApart b ps qs → IsImpossible b s
 
 -- where boxes are apart, one comes before another in the first direction
 abbrev pub OrdersBoxes : List ℤ → List Span → List Span → Pair → Type 0
-OrdersBoxes xs ps qs pair = (d : Span) → AreDisjoint xs ps qs → IsBefore xs (slice_index_or ps pair.before d) (slice_index_or ps pair.after d)
+OrdersBoxes xs ps qs pair = (d : Span) → AreDisjoint xs ps qs
+    → IsBefore xs (slice_index_or ps pair.before d) (slice_index_or ps pair.after d)
 
 -- so at all values that the store leaves
 abbrev pub BoxComesBefore : Trail → List Span → List Span → Pair → Type 0
@@ -66,24 +69,31 @@ BoxComesBefore s ps qs pair = (xs : List ℤ) → IsAdmitted s.first s.entries x
 
 -- there a box is not present
 abbrev pub IsBoxAbsent : Trail → List Span → List Span → ℕ → Type 0
-IsBoxAbsent s ps qs k = (xs : List ℤ) (d : Span) → IsAdmitted s.first s.entries xs → AreDisjoint xs ps qs → is_present xs (slice_index_or ps k d) ≡ true → is_present xs (slice_index_or qs k d) ≡ true → ⊥
+IsBoxAbsent s ps qs k = (xs : List ℤ) (d : Span) → IsAdmitted s.first s.entries xs → AreDisjoint xs ps qs
+    → is_present xs (slice_index_or ps k d) ≡ true → is_present xs (slice_index_or qs k d) ≡ true → ⊥
 
 -- of two spans the first cannot come after the second
 abbrev pub IsLate : List Seen → Pair → Type 0
-IsLate vs pair = (slice_index_or vs pair.before no_seen).times.start_high <ℤ (slice_index_or vs pair.after no_seen).times.end_low
+IsLate vs pair = (slice_index_or vs pair.before no_seen).times.start_high <ℤ
+    (slice_index_or vs pair.after no_seen).times.end_low
 
 -- it can, as far as their ends tell
 abbrev pub IsOpenOrder : List Seen → Pair → Type 0
-IsOpenOrder vs pair = (slice_index_or vs pair.after no_seen).times.end_low ≤ℤ (slice_index_or vs pair.before no_seen).times.start_high
+IsOpenOrder vs pair = (slice_index_or vs pair.after no_seen).times.end_low ≤ℤ
+    (slice_index_or vs pair.before no_seen).times.start_high
 
 -- neither can come first
 pub record Overlap (vs : List Seen) (pair : Pair) : Type 0 where
-  pub forth : (slice_index_or vs pair.after no_seen).times.start_high <ℤ (slice_index_or vs pair.before no_seen).times.end_low
-  pub back : (slice_index_or vs pair.before no_seen).times.start_high <ℤ (slice_index_or vs pair.after no_seen).times.end_low
+  pub forth : (slice_index_or vs pair.after no_seen).times.start_high <ℤ
+      (slice_index_or vs pair.before no_seen).times.end_low
+  pub back : (slice_index_or vs pair.before no_seen).times.start_high <ℤ
+      (slice_index_or vs pair.after no_seen).times.end_low
 
 -- one can
 abbrev pub MayBeApart : List Seen → Pair → Type 0
-MayBeApart vs pair = ((slice_index_or vs pair.before no_seen).times.end_low ≤ℤ (slice_index_or vs pair.after no_seen).times.start_high) ⊎ ((slice_index_or vs pair.after no_seen).times.end_low ≤ℤ (slice_index_or vs pair.before no_seen).times.start_high)
+MayBeApart vs pair = ((slice_index_or vs pair.before no_seen).times.end_low ≤ℤ
+    (slice_index_or vs pair.after no_seen).times.start_high)
+    ⊎ ((slice_index_or vs pair.after no_seen).times.end_low ≤ℤ (slice_index_or vs pair.before no_seen).times.start_high)
 
 -- both spans of a box are surely present
 pub record IsSureBox (vs ws : List Seen) (k : ℕ) : Type 0 where
@@ -92,7 +102,8 @@ pub record IsSureBox (vs ws : List Seen) (k : ℕ) : Type 0 where
 
 -- two boxes may be apart in a direction, or one is not surely present
 abbrev pub AreBoxesAllowed : List Seen → List Seen → Pair → Type 0
-AreBoxesAllowed vs ws pair = IsSureBox vs ws pair.before → IsSureBox vs ws pair.after → MayBeApart vs pair ⊎ MayBeApart ws pair
+AreBoxesAllowed vs ws pair = IsSureBox vs ws pair.before → IsSureBox vs ws pair.after
+    → MayBeApart vs pair ⊎ MayBeApart ws pair
 
 abbrev pub pair_of_places : ℕ → ℕ → Pair
 pair_of_places j i = record { before = j; after = i }
@@ -109,7 +120,8 @@ AreAllAllowed vs ws n = (j : ℕ) → j < n → AllowsBoxes vs ws j j
 pub record MakesPresent (s : Trail) (ps : List Span) (k : ℕ) (u : Atom) : Type 0 where
   pub subject : u.subject < length s.first
   pub small : IsSmallAtom u
-  pub present : (xs : List ℤ) (d : Span) → IsAdmitted s.first s.entries xs → atom_holds xs u ≡ true → is_present xs (slice_index_or ps k d) ≡ true
+  pub present : (xs : List ℤ) (d : Span) → IsAdmitted s.first s.entries xs → atom_holds xs u ≡ true
+      → is_present xs (slice_index_or ps k d) ≡ true
 
 -- so for both spans of a box
 pub record MakesBoxPresent (s : Trail) (ps qs : List Span) (k : ℕ) (u : Atom) : Type 0 where

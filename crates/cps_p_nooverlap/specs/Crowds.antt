@@ -48,7 +48,8 @@ pub record IsRun (e : Ends) (r : Bool) (xs : List ℤ) (p : Span) (w : ℕ) (a b
 
 -- so does each counted span among the first n
 abbrev pub AreRunsUpTo : ℕ → Ends → Bool → List ℤ → List Span → List ℕ → ℤ → ℤ → Type 0
-AreRunsUpTo n e r xs ps ws a b = (k : ℕ) → k < n → (d : Span) → 0 < slice_index_or ws k 0 → IsRun e r xs (slice_index_or ps k d) (slice_index_or ws k 0) a b
+AreRunsUpTo n e r xs ps ws a b = (k : ℕ) → k < n → (d : Span) → 0 < slice_index_or ws k 0
+    → IsRun e r xs (slice_index_or ps k d) (slice_index_or ws k 0) a b
 
 abbrev pub AreRuns : Ends → Bool → List ℤ → List Span → List ℕ → ℤ → ℤ → Type 0
 AreRuns e r xs ps ws a b = AreRunsUpTo (length ps) e r xs ps ws a b
@@ -77,7 +78,8 @@ pub record IsCrowd (n : ℕ) (whole part : List ℕ) (c : Crowd) (m : ℕ) : Typ
 
 -- where the spans do not overlap, one starts at a time or later, if it is present
 abbrev pub StartsFrom : Bool → List ℤ → List Span → ℕ → ℤ → Type 0
-StartsFrom r xs ps k time = (d : Span) → IsNoOverlap (span_runs xs ps) → is_present xs (slice_index_or ps k d) ≡ true → time ≤ℤ near_at r xs (slice_index_or ps k d)
+StartsFrom r xs ps k time = (d : Span) → IsNoOverlap (span_runs xs ps) → is_present xs (slice_index_or ps k d) ≡ true
+    → time ≤ℤ near_at r xs (slice_index_or ps k d)
 
 -- where an atom is false, a span is present and starts before a time
 abbrev pub StartsBeforeUnless : Bool → List ℤ → Span → ℤ → Atom → Type 0

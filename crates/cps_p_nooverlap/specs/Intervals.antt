@@ -49,11 +49,13 @@ AreInterval p xs = IsInterval (value_at xs p.start) (value_at xs p.end) (value_a
 pub record IsSupport (n : ℕ) (p : Places) (target : Atom) (u : Support) : Type 0 where
   pub one : u.one.subject < n
   pub other : u.other.subject < n
-  pub gives : (xs : List ℤ) → atom_holds xs u.one ≡ true → atom_holds xs u.other ≡ true → AreInterval p xs → atom_holds xs target ≡ true
+  pub gives : (xs : List ℤ) → atom_holds xs u.one ≡ true → atom_holds xs u.other ≡ true → AreInterval p xs
+      → atom_holds xs target ≡ true
 
 -- three atoms that leave no interval
 pub record IsOpposition (n : ℕ) (p : Places) (u : Support) (last : Atom) : Type 0 where
   pub one : u.one.subject < n
   pub other : u.other.subject < n
   pub third : last.subject < n
-  pub excludes : (xs : List ℤ) → atom_holds xs u.one ≡ true → atom_holds xs u.other ≡ true → atom_holds xs last ≡ true → AreInterval p xs → ⊥
+  pub excludes : (xs : List ℤ) → atom_holds xs u.one ≡ true → atom_holds xs u.other ≡ true → atom_holds xs last ≡ true
+      → AreInterval p xs → ⊥

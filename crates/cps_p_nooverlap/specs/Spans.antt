@@ -51,7 +51,8 @@ pub record AreTimes (s : Trail) (p : Span) (v : Times) : Type 0 where
   pub end_low : (x y : ℤ) → IsOpenTo s p.start x → IsOpenTo s p.end y → v.end_low ≤ℤ end_of p.length x y
   pub end_high : (x y : ℤ) → IsOpenTo s p.start x → IsOpenTo s p.end y → end_of p.length x y ≤ℤ v.end_high
   pub start_fixed : IsFixedNow s p.start → (x : ℤ) → IsOpenTo s p.start x → v.start_high ≤ℤ x
-  pub end_fixed : IsFixedNow s p.start → IsFixedNow s p.end → (x y : ℤ) → IsOpenTo s p.start x → IsOpenTo s p.end y → end_of p.length x y ≤ℤ v.end_low
+  pub end_fixed : IsFixedNow s p.start → IsFixedNow s p.end → (x y : ℤ) → IsOpenTo s p.start x → IsOpenTo s p.end y
+      → end_of p.length x y ≤ℤ v.end_low
   pub start_last : IsOpenTo s p.start v.start_high
   pub end_first : MayEndAt s p.start p.end p.length v.end_low
 
@@ -59,7 +60,8 @@ pub record AreTimes (s : Trail) (p : Span) (v : Times) : Type 0 where
 pub record IsPresence (s : Trail) (us : List Atom) (v : Presence) : Type 0 where
   pub sure : IsTrue v.sure → All (IsTrueNow s) us
   pub unsure : v.sure ≡ false → All (IsTrueNow s) us → ⊥
-  pub others : v.last < length us → (k : ℕ) (d : Atom) → k < length us → k ≢ v.last → IsTrueNow s (slice_index_or us k d)
+  pub others : v.last < length us → (k : ℕ) (d : Atom) → k < length us → k ≢ v.last
+      → IsTrueNow s (slice_index_or us k d)
 
 pub record IsSeen (s : Trail) (p : Span) (v : Seen) : Type 0 where
   pub times : AreTimes s p v.times
@@ -79,18 +81,27 @@ pub record IsPair (n : ℕ) (pair : Pair) : Type 0 where
 
 -- wherever the spans do not overlap at values that the store leaves, one comes before another
 abbrev pub ComesBefore : Trail → List Span → Pair → Type 0
-ComesBefore s ps pair = (xs : List ℤ) (d : Span) → IsAdmitted s.first s.entries xs → IsNoOverlap (span_runs xs ps) → IsBefore xs (slice_index_or ps pair.before d) (slice_index_or ps pair.after d)
+ComesBefore s ps pair = (xs : List ℤ) (d : Span) → IsAdmitted s.first s.entries xs → IsNoOverlap (span_runs xs ps)
+    → IsBefore xs (slice_index_or ps pair.before d) (slice_index_or ps pair.after d)
 
 -- there a span is not present
 abbrev pub IsAbsent : Trail → List Span → ℕ → Type 0
-IsAbsent s ps k = (xs : List ℤ) (d : Span) → IsAdmitted s.first s.entries xs → IsNoOverlap (span_runs xs ps) → is_present xs (slice_index_or ps k d) ≡ true → ⊥
+IsAbsent s ps k = (xs : List ℤ) (d : Span) → IsAdmitted s.first s.entries xs → IsNoOverlap (span_runs xs ps)
+    → is_present xs (slice_index_or ps k d) ≡ true → ⊥
 
 -- two spans may be one before the other, as far as their ends tell, or one is not surely present
 abbrev pub IsAllowed : Seen → Seen → Type 0
-IsAllowed v w = IsTrue v.presence.sure → IsTrue w.presence.sure → (v.times.end_low ≤ℤ w.times.start_high) ⊎ (w.times.end_low ≤ℤ v.times.start_high)
+IsAllowed v w = IsTrue v.presence.sure → IsTrue w.presence.sure
+    → (v.times.end_low ≤ℤ w.times.start_high) ⊎ (w.times.end_low ≤ℤ v.times.start_high)
 
 abbrev pub no_seen : Seen
-no_seen = record { times = record { start_low = pos 0; start_high = pos 0; end_low = pos 0; end_high = pos 0 }; presence = record { sure = false; last = 0 } }
+no_seen = record {
+  times = record { start_low = pos 0; start_high = pos 0; end_low = pos 0; end_high = pos 0 };
+  presence = record {
+    sure = false;
+    last = 0;
+  };
+}
 
 -- so are each two of the first n spans
 abbrev pub AreAllowed : List Seen → ℕ → Type 0
@@ -102,11 +113,14 @@ AllowsFirst vs j n = (i : ℕ) → i < n → IsAllowed (slice_index_or vs j no_s
 
 -- at a list of values at which the spans do not overlap, one comes before another
 abbrev pub OrdersAt : List ℤ → List Span → Pair → Type 0
-OrdersAt xs ps pair = (d : Span) → IsNoOverlap (span_runs xs ps) → IsBefore xs (slice_index_or ps pair.before d) (slice_index_or ps pair.after d)
+OrdersAt xs ps pair = (d : Span) → IsNoOverlap (span_runs xs ps)
+    → IsBefore xs (slice_index_or ps pair.before d) (slice_index_or ps pair.after d)
 
 -- at a list of values each of two spans ends after the other starts
 abbrev pub ClashesAt : List ℤ → List Span → Pair → Type 0
-ClashesAt xs ps pair = (d : Span) → (start_at xs (slice_index_or ps pair.before d) <ℤ end_at xs (slice_index_or ps pair.after d)) × (start_at xs (slice_index_or ps pair.after d) <ℤ end_at xs (slice_index_or ps pair.before d))
+ClashesAt xs ps pair = (d : Span)
+    → (start_at xs (slice_index_or ps pair.before d) <ℤ end_at xs (slice_index_or ps pair.after d))
+    × (start_at xs (slice_index_or ps pair.after d) <ℤ end_at xs (slice_index_or ps pair.before d))
 
 -- an atom that compares with 0 or 1
 pub record IsSmallAtom (u : Atom) : Type 0 where

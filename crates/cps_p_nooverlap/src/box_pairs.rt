@@ -1,8 +1,9 @@
 //! What two boxes give that do not overlap.
 //!
-//! Where neither of two spans can come first in one direction, the boxes are apart in the other one, and there they are ordered as two spans
-//! are that do not overlap. Where neither can come first in either direction, one of the boxes is absent, or the body cannot hold.
-//! Each step is written for a direction `along` which boxes are ordered and one `across` it, and serves both ways.
+//! Where neither of two spans can come first in one direction, the boxes are apart in the other one, and there they are
+//! ordered as two spans are that do not overlap. Where neither can come first in either direction, one of the boxes is
+//! absent, or the body cannot hold. Each step is written for a direction `along` which boxes are ordered and one
+//! `across` it, and serves both ways.
 ghost use Rattle.std.specs.Prelude.{◌≡◌, ◌<◌, length, slice_index_or, true, false, OnOk, IfOk, IfSome, IsTrue, ◌↔◌};
 ghost use Rattle.cps_p_nooverlap.specs.Spans.{IsPair, no_seen};
 ghost use Rattle.cps_p_nooverlap.specs.Boxes.{IsDirection, AreBoxes, AddsGiven, LeavesNone, BoxComesBefore, IsBoxAbsent, IsLate, IsOpenOrder, Overlap, MayBeApart, IsSureBox, AreBoxesAllowed, AllowsBoxes, AreAllAllowed, MakesPresent, MakesBoxPresent, IsCount};

@@ -1,7 +1,7 @@
 //! Why two boxes give what they give.
 //!
-//! That one box comes before another in a direction needs the facts that they are present, that neither span can come first across
-//! it, and that the order cannot be the other way round; and then the bound that is passed on.
+//! That one box comes before another in a direction needs the facts that they are present, that neither span can come
+//! first across it, and that the order cannot be the other way round; and then the bound that is passed on.
 ghost use Rattle.std.specs.Prelude.{ℤ, List, [], ◌≡◌, ◌<◌, All, length, true, false};
 ghost use Rattle.std.specs.List.{list_all};
 ghost use Rattle.cps_literal.specs.Truth.{atom_holds};
@@ -39,7 +39,8 @@ fn cite_boxes(
     requires along { AreSpans past.now.first along.now }
     requires across { AreSpans past.now.first across.now }
     requires pair { AreBoxes along.now across.now pair }
-    ensures { result ≡ Ok true → Cites past.now facts.old.items facts.new.items (λ xs. (d : SpanOf) → ArePresent xs along.now pair d × ArePresent xs across.now pair d) }
+    ensures { result ≡ Ok true → Cites past.now facts.old.items facts.new.items
+        (λ xs. (d : SpanOf) → ArePresent xs along.now pair d × ArePresent xs across.now pair d) }
 {
     if !cite_present(past, &along[pair.before], &along[pair.after], facts)? {
         return Ok(false);
@@ -58,7 +59,8 @@ fn cite_first(
     requires along { AreSpans past.now.first along.now }
     requires across { AreSpans past.now.first across.now }
     requires pair { AreBoxes along.now across.now pair }
-    ensures { result ≡ Ok true → Cites past.now facts.old.items facts.new.items (λ xs. OrdersBoxes xs along.now across.now pair) }
+    ensures { result ≡ Ok true → Cites past.now facts.old.items facts.new.items
+        (λ xs. OrdersBoxes xs along.now across.now pair) }
 {
     if !cite_boxes(past, along, across, pair, facts)? {
         return Ok(false);
@@ -80,7 +82,8 @@ fn explain_start(
     requires along { AreSpans past.now.first along.now }
     requires across { AreSpans past.now.first across.now }
     requires pair { AreBoxes along.now across.now claim.pair }
-    ensures { result ≡ Ok true → Cites past.now facts.old.items facts.new.items (λ xs. AreDisjoint xs along.now across.now → atom_holds xs claim.target ≡ true) }
+    ensures { result ≡ Ok true → Cites past.now facts.old.items facts.new.items
+        (λ xs. AreDisjoint xs along.now across.now → atom_holds xs claim.target ≡ true) }
 {
     let pair = claim.pair;
     let time = claim.target.value as i128;
@@ -109,7 +112,8 @@ fn explain_end(
     requires along { AreSpans past.now.first along.now }
     requires across { AreSpans past.now.first across.now }
     requires pair { AreBoxes along.now across.now claim.pair }
-    ensures { result ≡ Ok true → Cites past.now facts.old.items facts.new.items (λ xs. AreDisjoint xs along.now across.now → atom_holds xs claim.target ≡ true) }
+    ensures { result ≡ Ok true → Cites past.now facts.old.items facts.new.items
+        (λ xs. AreDisjoint xs along.now across.now → atom_holds xs claim.target ≡ true) }
 {
     let pair = claim.pair;
     let time = claim.target.value as i128 + along[pair.before].length.unwrap_or(0) as i128;
@@ -138,7 +142,8 @@ fn explain_along(
     requires along { AreSpans past.now.first along.now }
     requires across { AreSpans past.now.first across.now }
     requires pair { AreBoxes along.now across.now claim.pair }
-    ensures { result ≡ Ok true → Cites past.now [] facts.new.items (λ xs. AreDisjoint xs along.now across.now → atom_holds xs claim.target ≡ true) }
+    ensures { result ≡ Ok true → Cites past.now [] facts.new.items
+        (λ xs. AreDisjoint xs along.now across.now → atom_holds xs claim.target ≡ true) }
 {
     facts.clear();
     if explain_start(past, along, across, claim, facts)? {
@@ -165,7 +170,8 @@ fn cite_unless_denied(
 ) -> Result<bool, AllocError>
     requires subject { atom.subject < length past.now.first }
     requires small { IsSmallAtom atom }
-    ensures { result ≡ Ok true → Cites past.now facts.old.items facts.new.items (λ xs. atom_holds xs target ≡ false → atom_holds xs atom ≡ true) }
+    ensures { result ≡ Ok true → Cites past.now facts.old.items facts.new.items
+        (λ xs. atom_holds xs target ≡ false → atom_holds xs atom ≡ true) }
 {
     if is_denied(atom, target) {
         return Ok(true);
@@ -173,7 +179,8 @@ fn cite_unless_denied(
     cite(past, atom, facts)
 }
 
-/// Adds each of these atoms but those that a target denies, where they were true. So where it is false all of them hold.
+/// Adds each of these atoms but those that a target denies, where they were true. So where it is false all of them
+/// hold.
 pub(crate) fn cite_others(
     past: &Before,
     atoms: &[Atom],
@@ -182,7 +189,8 @@ pub(crate) fn cite_others(
 ) -> Result<bool, AllocError>
     requires subjects { All (λ u. u.subject < length past.now.first) atoms.now }
     requires small { All IsSmallAtom atoms.now }
-    ensures { result ≡ Ok true → Cites past.now facts.old.items facts.new.items (λ xs. atom_holds xs target ≡ false → list_all (atom_holds xs) atoms.now ≡ true) }
+    ensures { result ≡ Ok true → Cites past.now facts.old.items facts.new.items
+        (λ xs. atom_holds xs target ≡ false → list_all (atom_holds xs) atoms.now ≡ true) }
 {
     for atom in atoms {
         if !cite_unless_denied(past, *atom, target, facts)? {
@@ -203,7 +211,8 @@ fn cite_overlap(
     requires x { AreSpans past.now.first x.now }
     requires y { AreSpans past.now.first y.now }
     requires pair { AreBoxes x.now y.now pair }
-    ensures { result ≡ Ok true → Cites past.now facts.old.items facts.new.items (λ xs. ClashesAt xs x.now pair × ClashesAt xs y.now pair) }
+    ensures { result ≡ Ok true → Cites past.now facts.old.items facts.new.items
+        (λ xs. ClashesAt xs x.now pair × ClashesAt xs y.now pair) }
 {
     if !cite_clash(past, x, pair, facts)? {
         return Ok(false);
@@ -222,7 +231,8 @@ fn explain_absence(
     requires x { AreSpans past.now.first x.now }
     requires y { AreSpans past.now.first y.now }
     requires pair { AreBoxes x.now y.now claim.pair }
-    ensures { result ≡ Ok true → Cites past.now facts.old.items facts.new.items (λ xs. AreDisjoint xs x.now y.now → atom_holds xs claim.target ≡ true) }
+    ensures { result ≡ Ok true → Cites past.now facts.old.items facts.new.items
+        (λ xs. AreDisjoint xs x.now y.now → atom_holds xs claim.target ≡ true) }
 {
     let pair = claim.pair;
     if !cite_others(
@@ -258,7 +268,8 @@ pub(crate) fn explain_boxes(
     requires x { AreSpans past.now.first x.now }
     requires y { AreSpans past.now.first y.now }
     requires pair { AreBoxes x.now y.now claim.pair }
-    ensures { result ≡ Ok true → Cites past.now [] facts.new.items (λ xs. AreDisjoint xs x.now y.now → atom_holds xs claim.target ≡ true) }
+    ensures { result ≡ Ok true → Cites past.now [] facts.new.items
+        (λ xs. AreDisjoint xs x.now y.now → atom_holds xs claim.target ≡ true) }
 {
     if explain_along(past, x, y, claim, facts)? {
         return Ok(true);

@@ -1,7 +1,7 @@
 //! Spans that are counted in a window of time, and a span that they push.
 //!
-//! Time may be reversed: then a span starts at the negative of its end, and ends at the negative of its start. So each rule is written
-//! once, for spans that push another to a later start.
+//! Time may be reversed: then a span starts at the negative of its end, and ends at the negative of its start. So each
+//! rule is written once, for spans that push another to a later start.
 ghost use Rattle.std.specs.Prelude.{◌≡◌, ◌+◌, ◌<ℤ◌, ◌≤ℤ◌, ◌+ℤ◌, pos, IfSome, IsTrue};
 ghost use Rattle.std.specs.List.{sum};
 ghost use Rattle.cps_p_nooverlap.specs.Crowds.{IsCount, IsAside, IsCrowd};
@@ -44,15 +44,16 @@ pub(crate) struct Crowd {
     pub(crate) place: usize,
     /// How long it is.
     pub(crate) weight: u64,
-    /// The window of the others. By precedences they start in it, by edge finding they start and end in it, and else they
-    /// end in it.
+    /// The window of the others. By precedences they start in it, by edge finding they start and end in it, and else
+    /// they end in it.
     pub(crate) from: i64,
     pub(crate) to: i64,
     /// By edge finding, from when on those start that are a part of them, and else when the span ends at the earliest.
     pub(crate) edge: i64,
     /// When the span starts at the earliest.
     pub(crate) time: i64,
-    /// The place of the one atom of the span's presence that is open, where it is not surely present. It is absent then.
+    /// The place of the one atom of the span's presence that is open, where it is not surely present. It is absent
+    /// then.
     pub(crate) open: Option<usize>,
 }
 

@@ -1,7 +1,8 @@
 //! Why two spans give what they give.
 //!
-//! That one span cannot come before another needs two facts: that it ends at some time or later, and that the other starts before that
-//! time. The time is the least end that there was, so the second fact is loosened as far as the first allows.
+//! That one span cannot come before another needs two facts: that it ends at some time or later, and that the other
+//! starts before that time. The time is the least end that there was, so the second fact is loosened as far as the
+//! first allows.
 ghost use Rattle.std.specs.Prelude.{ℤ, List, [], not, ◌≡◌, ◌<◌, ◌≤ℤ◌, ◌<ℤ◌, All, length, true, IsTrue, IfSome, slice_index_or};
 ghost use Rattle.std.specs.List.{list_all};
 ghost use Rattle.cps_model.specs.Scheduling.{IsNoOverlap};
@@ -39,7 +40,8 @@ pub(crate) fn cite_all(
     facts: &mut Vec<Atom>,
 ) -> Result<bool, AllocError>
     requires { All (λ u. u.subject < length past.now.first) atoms.now }
-    ensures { result ≡ Ok true → Cites past.now facts.old.items facts.new.items (λ xs. list_all (atom_holds xs) atoms.now ≡ true) }
+    ensures { result ≡ Ok true → Cites past.now facts.old.items facts.new.items
+        (λ xs. list_all (atom_holds xs) atoms.now ≡ true) }
 {
     for atom in atoms {
         if !cite(past, *atom, facts)? {
@@ -100,7 +102,8 @@ pub(crate) fn cite_late(
 ) -> Result<bool, AllocError>
     requires late { IsSpan past.now.first late.now }
     requires early { IsSpan past.now.first early.now }
-    ensures { result ≡ Ok true → Cites past.now facts.old.items facts.new.items (λ xs. start_at xs early.now <ℤ end_at xs late.now) }
+    ensures { result ≡ Ok true → Cites past.now facts.old.items facts.new.items
+        (λ xs. start_at xs early.now <ℤ end_at xs late.now) }
 {
     let end = least_end(past, late);
     match end.checked_sub(1) {
@@ -123,7 +126,8 @@ pub(crate) fn cite_present(
 ) -> Result<bool, AllocError>
     requires one { IsSpan past.now.first one.now }
     requires other { IsSpan past.now.first other.now }
-    ensures { result ≡ Ok true → Cites past.now facts.old.items facts.new.items (λ xs. (is_present xs one.now ≡ true) × (is_present xs other.now ≡ true)) }
+    ensures { result ≡ Ok true → Cites past.now facts.old.items facts.new.items
+        (λ xs. (is_present xs one.now ≡ true) × (is_present xs other.now ≡ true)) }
 {
     if !cite_all(past, one.presence.as_slice(), facts)? {
         return Ok(false);
@@ -178,7 +182,8 @@ pub(crate) fn refute_pair(
 ) -> Result<bool, AllocError>
     requires spans { AreSpans past.now.first spans.now }
     requires pair { IsPair (length spans.now) pair }
-    ensures { result ≡ Ok true → Cites past.now facts.old.items facts.new.items (λ xs. IsNoOverlap (span_runs xs spans.now) → ⊥) }
+    ensures { result ≡ Ok true → Cites past.now facts.old.items facts.new.items
+        (λ xs. IsNoOverlap (span_runs xs spans.now) → ⊥) }
 {
     if !cite_present(past, &spans[pair.before], &spans[pair.after], facts)? {
         return Ok(false);
@@ -203,7 +208,8 @@ fn explain_start(
 ) -> Result<bool, AllocError>
     requires spans { AreSpans past.now.first spans.now }
     requires pair { IsPair (length spans.now) pair }
-    ensures { result ≡ Ok true → Cites past.now facts.old.items facts.new.items (λ xs. IsNoOverlap (span_runs xs spans.now) → atom_holds xs target ≡ true) }
+    ensures { result ≡ Ok true → Cites past.now facts.old.items facts.new.items
+        (λ xs. IsNoOverlap (span_runs xs spans.now) → atom_holds xs target ≡ true) }
 {
     let time = target.value as i128;
     match start_from(&spans[pair.after], time) {
@@ -230,7 +236,8 @@ fn explain_end(
 ) -> Result<bool, AllocError>
     requires spans { AreSpans past.now.first spans.now }
     requires pair { IsPair (length spans.now) pair }
-    ensures { result ≡ Ok true → Cites past.now facts.old.items facts.new.items (λ xs. IsNoOverlap (span_runs xs spans.now) → atom_holds xs target ≡ true) }
+    ensures { result ≡ Ok true → Cites past.now facts.old.items facts.new.items
+        (λ xs. IsNoOverlap (span_runs xs spans.now) → atom_holds xs target ≡ true) }
 {
     let time = target.value as i128 + spans[pair.before].length.unwrap_or(0) as i128;
     match end_up_to(&spans[pair.before], time) {
@@ -250,7 +257,8 @@ fn explain_end(
 /// The place of the atom that a target negates; the number of atoms if there is none.
 pub(crate) fn denied_place(atoms: &[Atom], target: Atom) -> usize
     requires { All IsSmallAtom atoms.now }
-    ensures { result < length atoms.now → (d : AtomOf) (xs : List ℤ) → atom_holds xs target ≡ not (atom_holds xs (slice_index_or atoms.now result d)) }
+    ensures { result < length atoms.now → (d : AtomOf) (xs : List ℤ)
+        → atom_holds xs target ≡ not (atom_holds xs (slice_index_or atoms.now result d)) }
 {
     for (place, atom) in atoms.iter().enumerate() {
         if atom.negate() == target {
@@ -270,7 +278,8 @@ fn explain_absence(
 ) -> Result<bool, AllocError>
     requires spans { AreSpans past.now.first spans.now }
     requires pair { IsPair (length spans.now) pair }
-    ensures { result ≡ Ok true → Cites past.now facts.old.items facts.new.items (λ xs. IsNoOverlap (span_runs xs spans.now) → atom_holds xs target ≡ true) }
+    ensures { result ≡ Ok true → Cites past.now facts.old.items facts.new.items
+        (λ xs. IsNoOverlap (span_runs xs spans.now) → atom_holds xs target ≡ true) }
 {
     let atoms = spans[pair.before].presence.as_slice();
     let place = denied_place(atoms, target);
@@ -299,7 +308,8 @@ pub(crate) fn explain_pair(
 ) -> Result<bool, AllocError>
     requires spans { AreSpans past.now.first spans.now }
     requires pair { IsPair (length spans.now) pair }
-    ensures { result ≡ Ok true → Cites past.now [] facts.new.items (λ xs. IsNoOverlap (span_runs xs spans.now) → atom_holds xs target ≡ true) }
+    ensures { result ≡ Ok true → Cites past.now [] facts.new.items
+        (λ xs. IsNoOverlap (span_runs xs spans.now) → atom_holds xs target ≡ true) }
 {
     facts.clear();
     if explain_start(past, spans, pair, target, facts)? {

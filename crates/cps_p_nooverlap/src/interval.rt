@@ -1,7 +1,8 @@
 //! An interval: its size is not negative, and takes its start to its end.
 //!
-//! Bounds are passed on in every direction. A bound of one follows from one bound of each of the two others; of a bound that is
-//! explained, one of the two facts is the bound that was there, and the other is loosened to what is needed beside it.
+//! Bounds are passed on in every direction. A bound of one follows from one bound of each of the two others; of a bound
+//! that is explained, one of the two facts is the bound that was there, and the other is loosened to what is needed
+//! beside it.
 ghost use Rattle.std.specs.Prelude.{◌≡◌, ◌<◌, length, IfSome, OnOk, true};
 ghost use Rattle.cps_rule.specs.Rules.{IsImpossible};
 ghost use Rattle.cps_literal.specs.Truth.{atom_holds};
@@ -276,7 +277,8 @@ fn support_of(past: &Before, places: Places, target: Atom, hint: Hint) -> Option
 fn cite_both(past: &Before, support: Support, facts: &mut Vec<Atom>) -> Result<bool, AllocError>
     requires one { support.one.subject < length past.now.first }
     requires other { support.other.subject < length past.now.first }
-    ensures { result ≡ Ok true → Cites past.now facts.old.items facts.new.items (λ xs. (atom_holds xs support.one ≡ true) × (atom_holds xs support.other ≡ true)) }
+    ensures { result ≡ Ok true → Cites past.now facts.old.items facts.new.items
+        (λ xs. (atom_holds xs support.one ≡ true) × (atom_holds xs support.other ≡ true)) }
 {
     if !cite(past, support.one, facts)? {
         return Ok(false);

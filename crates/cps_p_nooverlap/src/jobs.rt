@@ -90,8 +90,8 @@ impl Job {
         }
     }
 
-    /// Where it is pushed to, if it is pushed so far that something follows: a span that is not surely present is absent
-    /// where it would start later than it can.
+    /// Where it is pushed to, if it is pushed so far that something follows: a span that is not surely present is
+    /// absent where it would start later than it can.
     pub(crate) fn wanted(&self) -> Option<Push> {
         let mut push = self.push;
         if push.time <= self.low {

@@ -1,7 +1,7 @@
 //! What two spans of a list give that does not overlap.
 //!
-//! Where one cannot end before the other starts, it comes after the other: it starts when the other ends or later, and the other ends
-//! when it starts or sooner. Where neither can come first, they cannot both be present.
+//! Where one cannot end before the other starts, it comes after the other: it starts when the other ends or later, and
+//! the other ends when it starts or sooner. Where neither can come first, they cannot both be present.
 ghost use Rattle.std.specs.Prelude.{◌≡◌, ◌<◌, ◌<ℤ◌, ◌≤ℤ◌, length, slice_index_or, true, false, OnOk, IfOk, IfSome};
 ghost use Rattle.std.specs.List.{AllZip};
 ghost use Rattle.cps_instance.specs.declared.task.Body.{Body as BodyOf};
@@ -138,11 +138,14 @@ fn clash(
     requires spans { AreSpans _store.now.first spans.now }
     requires seen { AllZip (IsSeen _store.now) spans.now seen.now }
     requires pair { IsPair (length spans.now) pair }
-    requires forth { (slice_index_or seen.now pair.after no_seen).times.start_high <ℤ (slice_index_or seen.now pair.before no_seen).times.end_low }
-    requires back { (slice_index_or seen.now pair.before no_seen).times.start_high <ℤ (slice_index_or seen.now pair.after no_seen).times.end_low }
+    requires forth { (slice_index_or seen.now pair.after no_seen).times.start_high <ℤ
+        (slice_index_or seen.now pair.before no_seen).times.end_low }
+    requires back { (slice_index_or seen.now pair.before no_seen).times.start_high <ℤ
+        (slice_index_or seen.now pair.after no_seen).times.end_low }
     ensures given { OnOk result (GivesMore (BodyOf.NoOverlap spans.now) _store.now found.old.items found.new.items) }
     ensures impossible { result ≡ Ok true → IsImpossible (BodyOf.NoOverlap spans.now) _store.now }
-    ensures allowed { result ≡ Ok false → IsAllowed (slice_index_or seen.now pair.before no_seen) (slice_index_or seen.now pair.after no_seen) }
+    ensures allowed { result ≡ Ok false
+        → IsAllowed (slice_index_or seen.now pair.before no_seen) (slice_index_or seen.now pair.after no_seen) }
 {
     let before = seen[pair.before].presence.sure;
     let after = seen[pair.after].presence.sure;
@@ -170,7 +173,8 @@ fn meet(
     requires pair { IsPair (length spans.now) pair }
     ensures given { OnOk result (GivesMore (BodyOf.NoOverlap spans.now) _store.now found.old.items found.new.items) }
     ensures impossible { result ≡ Ok true → IsImpossible (BodyOf.NoOverlap spans.now) _store.now }
-    ensures allowed { result ≡ Ok false → IsAllowed (slice_index_or seen.now pair.before no_seen) (slice_index_or seen.now pair.after no_seen) }
+    ensures allowed { result ≡ Ok false
+        → IsAllowed (slice_index_or seen.now pair.before no_seen) (slice_index_or seen.now pair.after no_seen) }
 {
     let before = seen[pair.before];
     let after = seen[pair.after];
@@ -201,7 +205,8 @@ fn meet_below(
     requires seen { AllZip (IsSeen _store.now) spans.now seen.now }
     requires place { place < length spans.now }
     ensures given { OnOk result (GivesMore (BodyOf.NoOverlap spans.now) _store.now found.old.items found.new.items) }
-    ensures impossible { IfOk result (λ answer. IfSome answer (λ pair. IsImpossible (BodyOf.NoOverlap spans.now) _store.now)) }
+    ensures impossible { IfOk result
+        (λ answer. IfSome answer (λ pair. IsImpossible (BodyOf.NoOverlap spans.now) _store.now)) }
     ensures allowed { result ≡ Ok None → AllowsFirst seen.now place place }
 {
     for other in 0..place {
@@ -226,7 +231,8 @@ pub(crate) fn meet_all(
     requires spans { AreSpans _store.now.first spans.now }
     requires seen { AllZip (IsSeen _store.now) spans.now seen.now }
     ensures given { OnOk result (GivesMore (BodyOf.NoOverlap spans.now) _store.now found.old.items found.new.items) }
-    ensures impossible { IfOk result (λ answer. IfSome answer (λ pair. IsImpossible (BodyOf.NoOverlap spans.now) _store.now)) }
+    ensures impossible { IfOk result
+        (λ answer. IfSome answer (λ pair. IsImpossible (BodyOf.NoOverlap spans.now) _store.now)) }
     ensures allowed { result ≡ Ok None → AreAllowed seen.now (length spans.now) }
 {
     for place in 0..spans.len() {

@@ -24,7 +24,8 @@ fn crowd_with(job: &Job, push: Push, is_reversed: bool, from: i64, to: i64) -> C
     }
 }
 
-/// The jobs from the latest start on that come before a job, up to so many that they push it as far as it is said to be pushed.
+/// The jobs from the latest start on that come before a job, up to so many that they push it as far as it is said to be
+/// pushed.
 fn by_precedences(jobs: &[Job], job: &Job, push: Push, is_reversed: bool) -> Option<Crowd> {
     let mut taken: i64 = 0;
     for other in jobs.iter().rev() {
@@ -39,8 +40,8 @@ fn by_precedences(jobs: &[Job], job: &Job, push: Push, is_reversed: bool) -> Opt
     None
 }
 
-/// The jobs from the earliest end on that a job cannot come before, up to so many that they have no room after it. They stand
-/// in a queue in that order.
+/// The jobs from the earliest end on that a job cannot come before, up to so many that they have no room after it. They
+/// stand in a queue in that order.
 fn by_not_first(
     jobs: &[Job],
     bench: &Bench,
@@ -63,8 +64,8 @@ fn by_not_first(
     None
 }
 
-/// The jobs of a window that leave a job no room there, from the latest start on up to so many, and those after which it starts as late
-/// as it is said to.
+/// The jobs of a window that leave a job no room there, from the latest start on up to so many, and those after which
+/// it starts as late as it is said to.
 fn by_edge(jobs: &[Job], job: &Job, push: Push, is_reversed: bool) -> Option<Crowd> {
     let to = push.to;
     let mut taken: i64 = 0;
@@ -214,8 +215,8 @@ fn slack_of(crowd: &Crowd, marks: &Marks) -> i64 {
     }
 }
 
-/// Unmarks jobs of a crowd, outside its part, that it does not need. Answers by how much the others are still longer than it
-/// needs.
+/// Unmarks jobs of a crowd, outside its part, that it does not need. Answers by how much the others are still longer
+/// than it needs.
 fn thin_out(jobs: &[Job], crowd: &Crowd, marks: &mut Marks) -> i64 {
     let mut slack = slack_of(crowd, marks);
     for job in jobs {

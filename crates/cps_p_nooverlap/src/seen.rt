@@ -20,8 +20,8 @@ pub(crate) struct Times {
     pub(crate) end_high: i128,
 }
 
-/// Whether a span is surely present. Where one of its atoms is open and all others are true, `last` is that atom's place, and
-/// else it is the number of atoms.
+/// Whether a span is surely present. Where one of its atoms is open and all others are true, `last` is that atom's
+/// place, and else it is the number of atoms.
 #[derive(Clone, Copy)]
 pub(crate) struct Presence {
     pub(crate) sure: bool,
@@ -74,7 +74,8 @@ fn first_untrue(store: &Store, atoms: &[Atom], from: usize) -> usize
     requires subjects { All (λ u. u.subject < length store.now.first) atoms.now }
     ensures within { result ≤ length atoms.now }
     ensures passed { (k : ℕ) (d : AtomOf) → from ≤ k → k < result → IsTrueNow store.now (slice_index_or atoms.now k d) }
-    ensures found { (d : AtomOf) → result < length atoms.now → IsTrueNow store.now (slice_index_or atoms.now result d) → ⊥ }
+    ensures found { (d : AtomOf) → result < length atoms.now → IsTrueNow store.now (slice_index_or atoms.now result d)
+        → ⊥ }
 {
     for i in from..atoms.len() {
         if !is_true(store, atoms[i]) {

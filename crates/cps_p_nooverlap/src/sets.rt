@@ -1,7 +1,8 @@
 //! What sets of spans give: windows that hold too much, and spans that others push.
 //!
-//! The rules are tried from the cheapest on, each in both directions of time, and the next only where those before it give nothing.
-//! The hint of a push names the span, the rule and the direction, and by edge finding the end of the window that the span is pushed past.
+//! The rules are tried from the cheapest on, each in both directions of time, and the next only where those before it
+//! give nothing. The hint of a push names the span, the rule and the direction, and by edge finding the end of the
+//! window that the span is pushed past.
 ghost use Rattle.std.specs.Prelude.{[], ◌≡◌, true, length, OnOk, IfOk, IfSome, All};
 ghost use Rattle.std.specs.List.{AllZip};
 ghost use Rattle.cps_instance.specs.declared.task.Body.{Body as BodyOf};
@@ -185,8 +186,8 @@ impl Desk {
         self.bench.survey(self.jobs.as_mut_slice(), argument)
     }
 
-    /// Marks the jobs of a window among so many spans that are needed to overfill it, and answers the longest window that
-    /// they overfill.
+    /// Marks the jobs of a window among so many spans that are needed to overfill it, and answers the longest window
+    /// that they overfill.
     fn mark_window(&mut self, crowd: Crowd, spans: usize) -> Result<Crowd, AllocError> {
         mark_crowd(self.jobs.as_slice(), &crowd, spans, &mut self.marks)?;
         Ok(loosened(self.jobs.as_slice(), &crowd, &mut self.marks))
@@ -351,7 +352,8 @@ fn cite_absence(
     facts: &mut Vec<Atom>,
 ) -> Result<bool, AllocError>
     requires { IsSpan past.now.first span.now }
-    ensures { result ≡ Ok true → Cites past.now facts.old.items facts.new.items (λ xs. StartsBeforeUnless crowd.is_reversed xs span.now crowd.time target) }
+    ensures { result ≡ Ok true → Cites past.now facts.old.items facts.new.items
+        (λ xs. StartsBeforeUnless crowd.is_reversed xs span.now crowd.time target) }
 {
     let sooner = crowd.time.saturating_sub(1);
     if crowd.time <= sooner {
@@ -369,8 +371,8 @@ fn cite_absence(
     cite_high(past, span, time, facts)
 }
 
-/// Puts why a span cannot be present that would start too late in the place of what a list holds, and answers that one of its
-/// atoms is false.
+/// Puts why a span cannot be present that would start too late in the place of what a list holds, and answers that one
+/// of its atoms is false.
 fn give_absence(
     past: &Before,
     spans: &[Span],
@@ -521,7 +523,8 @@ fn meet_sets(
 ) -> Result<Option<Hint>, AllocError>
     requires { AreSpans past.now.first spans.now }
     ensures given { OnOk result (GivesMore (BodyOf.NoOverlap spans.now) past.now found.old.items found.new.items) }
-    ensures impossible { IfOk result (λ answer. IfSome answer (λ hint. IsImpossible (BodyOf.NoOverlap spans.now) past.now)) }
+    ensures impossible { IfOk result
+        (λ answer. IfSome answer (λ hint. IsImpossible (BodyOf.NoOverlap spans.now) past.now)) }
 {
     desk.begin(past, spans)?;
     if let Some(window) = overload(past, spans, desk)? {
@@ -542,7 +545,8 @@ pub(crate) fn meet_both(
     requires spans { AreSpans store.now.first spans.now }
     requires seen { AllZip (IsSeen store.now) spans.now seen.now }
     ensures given { OnOk result (GivesMore (BodyOf.NoOverlap spans.now) store.now found.old.items found.new.items) }
-    ensures impossible { IfOk result (λ answer. IfSome answer (λ hint. IsImpossible (BodyOf.NoOverlap spans.now) store.now)) }
+    ensures impossible { IfOk result
+        (λ answer. IfSome answer (λ hint. IsImpossible (BodyOf.NoOverlap spans.now) store.now)) }
     ensures allowed { result ≡ Ok None → AreAllowed seen.now (length spans.now) }
 {
     if let Some(pair) = meet_all(store, spans, seen, found)? {
@@ -610,7 +614,8 @@ fn explain_set(
     facts: &mut Vec<Atom>,
 ) -> Result<bool, AllocError>
     requires { AreSpans past.now.first spans.now }
-    ensures { result ≡ Ok true → Cites past.now [] facts.new.items (λ xs. IsNoOverlap (span_runs xs spans.now) → atom_holds xs question.target ≡ true) }
+    ensures { result ≡ Ok true → Cites past.now [] facts.new.items
+        (λ xs. IsNoOverlap (span_runs xs spans.now) → atom_holds xs question.target ≡ true) }
 {
     if !explain_at(past, spans, desk, question)? {
         return Ok(false);
@@ -629,7 +634,8 @@ pub(crate) fn explain_both(
     facts: &mut Vec<Atom>,
 ) -> Result<bool, AllocError>
     requires { AreSpans past.now.first spans.now }
-    ensures { result ≡ Ok true → Cites past.now [] facts.new.items (λ xs. IsNoOverlap (span_runs xs spans.now) → atom_holds xs wanted.target ≡ true) }
+    ensures { result ≡ Ok true → Cites past.now [] facts.new.items
+        (λ xs. IsNoOverlap (span_runs xs spans.now) → atom_holds xs wanted.target ≡ true) }
 {
     if let Some(pair) = pair_of(wanted.hint, spans.len()) {
         return explain_pair(past, spans, pair, wanted.target, facts);

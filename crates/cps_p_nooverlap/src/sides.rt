@@ -61,7 +61,8 @@ fn far_up_to(span: &Span, time: i64, is_reversed: bool) -> Option<Atom>
 
 /// That a span does not lie before a window with the ends of which it speaks.
 pub(crate) fn low_atom(span: &Span, window: Window) -> Option<Atom>
-    ensures { IfSome result (λ u. Says span.now u (λ xs. window.from ≤ℤ low_at window.ends window.is_reversed xs span.now)) }
+    ensures { IfSome result (λ u. Says span.now u
+        (λ xs. window.from ≤ℤ low_at window.ends window.is_reversed xs span.now)) }
 {
     match window.ends {
         Ends::Both => near_from(span, window.from, window.is_reversed),
@@ -72,7 +73,8 @@ pub(crate) fn low_atom(span: &Span, window: Window) -> Option<Atom>
 
 /// That a span does not lie after a window with the ends of which it speaks.
 fn high_atom(span: &Span, window: Window) -> Option<Atom>
-    ensures { IfSome result (λ u. Says span.now u (λ xs. high_at window.ends window.is_reversed xs span.now ≤ℤ window.to)) }
+    ensures { IfSome result (λ u. Says span.now u
+        (λ xs. high_at window.ends window.is_reversed xs span.now ≤ℤ window.to)) }
 {
     match window.ends {
         Ends::Both => far_up_to(span, window.to, window.is_reversed),
@@ -89,7 +91,8 @@ pub(crate) fn cite_low(
     facts: &mut Vec<Atom>,
 ) -> Result<bool, AllocError>
     requires { IsSpan past.now.first span.now }
-    ensures { result ≡ Ok true → Cites past.now facts.old.items facts.new.items (λ xs. window.from ≤ℤ low_at window.ends window.is_reversed xs span.now) }
+    ensures { result ≡ Ok true → Cites past.now facts.old.items facts.new.items
+        (λ xs. window.from ≤ℤ low_at window.ends window.is_reversed xs span.now) }
 {
     match low_atom(span, window) {
         Some(atom) => cite(past, atom, facts),
@@ -105,7 +108,8 @@ pub(crate) fn cite_high(
     facts: &mut Vec<Atom>,
 ) -> Result<bool, AllocError>
     requires { IsSpan past.now.first span.now }
-    ensures { result ≡ Ok true → Cites past.now facts.old.items facts.new.items (λ xs. high_at window.ends window.is_reversed xs span.now ≤ℤ window.to) }
+    ensures { result ≡ Ok true → Cites past.now facts.old.items facts.new.items
+        (λ xs. high_at window.ends window.is_reversed xs span.now ≤ℤ window.to) }
 {
     match high_atom(span, window) {
         Some(atom) => cite(past, atom, facts),

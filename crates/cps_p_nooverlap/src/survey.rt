@@ -1,12 +1,13 @@
 //! Which jobs are pushed, and which windows hold too much, found in n log n by trees.
 //!
-//! Precedences: jobs are asked in the order of their least ends, and the set is that of the jobs that start before that end at the
-//! latest. Not-first: they are asked from the latest start on, and the set is that of the jobs that end after that start at the
-//! earliest, with time reversed in the tree. Edge finding: jobs turn gray from the latest end on, and a gray one with which the set
-//! would end after its window comes after the set. The other way round the same is done with time reversed.
+//! Precedences: jobs are asked in the order of their least ends, and the set is that of the jobs that start before that
+//! end at the latest. Not-first: they are asked from the latest start on, and the set is that of the jobs that end
+//! after that start at the earliest, with time reversed in the tree. Edge finding: jobs turn gray from the latest end
+//! on, and a gray one with which the set would end after its window comes after the set. The other way round the same
+//! is done with time reversed.
 //!
-//! The algorithms are those of Vilím, "Filtering Algorithms for the Unary Resource Constraint" (2008). A job that may be absent is of no
-//! set, and is asked like any other.
+//! The algorithms are those of Vilím, "Filtering Algorithms for the Unary Resource Constraint" (2008). A job that may
+//! be absent is of no set, and is asked like any other.
 
 use crate::crowd::Argument;
 use crate::jobs::{Job, Key, Push};
@@ -227,8 +228,8 @@ impl Bench {
         Ok(())
     }
 
-    /// Notes when the job of an entry starts at the earliest where it cannot come before all of the set, to which jobs came
-    /// before a turn.
+    /// Notes when the job of an entry starts at the earliest where it cannot come before all of the set, to which jobs
+    /// came before a turn.
     fn ask_first(&mut self, jobs: &mut [Job], entry: Entry, turn: usize) {
         if let Some(job) = job_at(jobs, entry.index) {
             let latest = self.tree.end_without(job.leaf).wrapping_neg();

@@ -1,8 +1,9 @@
-//! Jobs of a set, in the order of the earliest times at which they can begin, with what they come to one after the other: a balanced
-//! tree whose leaves are jobs. A job may be gray: it is not of the set, and it is asked what the set would come to with one of the gray
-//! ones (theta trees and theta-lambda trees).
+//! Jobs of a set, in the order of the earliest times at which they can begin, with what they come to one after the
+//! other: a balanced tree whose leaves are jobs. A job may be gray: it is not of the set, and it is asked what the set
+//! would come to with one of the gray ones (theta trees and theta-lambda trees).
 //!
-//! Nothing is proved but that each call is safe and ends. Where a sum does not fit, what comes out is of no use, and does no harm.
+//! Nothing is proved but that each call is safe and ends. Where a sum does not fit, what comes out is of no use, and
+//! does no harm.
 
 use std::alloc::{AllocError, Global};
 

@@ -1,15 +1,16 @@
 //! Why spans that are counted in a window of time push another.
 //!
-//! Spans that do not overlap and lie in a window are no longer in all than the window is. So too many of them cannot be. Three
-//! rules push a span to a later start, and with time reversed to an earlier end.
+//! Spans that do not overlap and lie in a window are no longer in all than the window is. So too many of them cannot
+//! be. Three rules push a span to a later start, and with time reversed to an earlier end.
 //!
-//! Precedences: each of the others starts before the span can end, so each comes before it, and it starts no sooner than all of
-//! them can be done. Not-first: the span ends so late that the others would not have room after it, so one of them comes before it,
-//! and it starts no sooner than the first of them can end. Edge finding: the others leave it no room in their window, so it ends
-//! after the window, each of them comes before it, and it starts no sooner than those can be done that start from some time on.
+//! Precedences: each of the others starts before the span can end, so each comes before it, and it starts no sooner
+//! than all of them can be done. Not-first: the span ends so late that the others would not have room after it, so one
+//! of them comes before it, and it starts no sooner than the first of them can end. Edge finding: the others leave it
+//! no room in their window, so it ends after the window, each of them comes before it, and it starts no sooner than
+//! those can be done that start from some time on.
 //!
-//! A span whose length varies is counted by its least end less its greatest start. A task says when spans start and end, and nothing
-//! of their sizes, so this is the least length that follows from it.
+//! A span whose length varies is counted by its least end less its greatest start. A task says when spans start and
+//! end, and nothing of their sizes, so this is the least length that follows from it.
 ghost use Rattle.std.specs.Prelude.{◌≡◌, ◌<◌, ◌≤ℤ◌, ℤ, List, true, length, IsTrue};
 ghost use Rattle.cps_model.specs.Scheduling.{IsNoOverlap};
 ghost use Rattle.cps_instance.specs.Parts.{span_runs};
@@ -75,7 +76,8 @@ fn cite_run(
     facts: &mut Vec<Atom>,
 ) -> Result<bool, AllocError>
     requires { IsSpan past.now.first span.now }
-    ensures { result ≡ Ok true → Cites past.now facts.old.items facts.new.items (λ xs. IsRun window.ends window.is_reversed xs span.now weight window.from window.to) }
+    ensures { result ≡ Ok true → Cites past.now facts.old.items facts.new.items
+        (λ xs. IsRun window.ends window.is_reversed xs span.now weight window.from window.to) }
 {
     if !cite_all(past, span.presence.as_slice(), facts)? {
         return Ok(false);
@@ -98,7 +100,8 @@ fn cite_counted(
     facts: &mut Vec<Atom>,
 ) -> Result<bool, AllocError>
     requires { IsSpan past.now.first span.now }
-    ensures { result ≡ Ok true → Cites past.now facts.old.items facts.new.items (λ xs. 0 < weight → IsRun window.ends window.is_reversed xs span.now weight window.from window.to) }
+    ensures { result ≡ Ok true → Cites past.now facts.old.items facts.new.items
+        (λ xs. 0 < weight → IsRun window.ends window.is_reversed xs span.now weight window.from window.to) }
 {
     if weight == 0 {
         return Ok(true);
@@ -116,7 +119,8 @@ fn cite_runs(
 ) -> Result<bool, AllocError>
     requires spans { AreSpans past.now.first spans.now }
     requires each { length weights.now ≡ length spans.now }
-    ensures { result ≡ Ok true → Cites past.now facts.old.items facts.new.items (λ xs. AreRuns window.ends window.is_reversed xs spans.now weights.now window.from window.to) }
+    ensures { result ≡ Ok true → Cites past.now facts.old.items facts.new.items
+        (λ xs. AreRuns window.ends window.is_reversed xs spans.now weights.now window.from window.to) }
 {
     for place in 0..spans.len() {
         if !cite_counted(past, &spans[place], weights[place], window, facts)? {
@@ -135,7 +139,8 @@ pub(crate) fn refute_window(
     facts: &mut Vec<Atom>,
 ) -> Result<bool, AllocError>
     requires spans { AreSpans past.now.first spans.now }
-    ensures { result ≡ Ok true → Cites past.now facts.old.items facts.new.items (λ xs. IsNoOverlap (span_runs xs spans.now) → ⊥) }
+    ensures { result ≡ Ok true → Cites past.now facts.old.items facts.new.items
+        (λ xs. IsNoOverlap (span_runs xs spans.now) → ⊥) }
 {
     match count_of(weights, spans.len()) {
         Some(counted) => {
@@ -162,7 +167,8 @@ fn cite_late(
     facts: &mut Vec<Atom>,
 ) -> Result<bool, AllocError>
     requires { IsSpan past.now.first span.now }
-    ensures { result ≡ Ok true → Cites past.now facts.old.items facts.new.items (λ xs. crowd.edge ≤ℤ far_at crowd.is_reversed xs span.now) }
+    ensures { result ≡ Ok true → Cites past.now facts.old.items facts.new.items
+        (λ xs. crowd.edge ≤ℤ far_at crowd.is_reversed xs span.now) }
 {
     let late = Window {
         ends: Ends::End,
@@ -182,7 +188,8 @@ fn cite_precedences(
     facts: &mut Vec<Atom>,
 ) -> Result<bool, AllocError>
     requires spans { AreSpans past.now.first spans.now }
-    ensures { result ≡ Ok true → Cites past.now facts.old.items facts.new.items (λ xs. StartsFrom crowd.is_reversed xs spans.now crowd.place crowd.time) }
+    ensures { result ≡ Ok true → Cites past.now facts.old.items facts.new.items
+        (λ xs. StartsFrom crowd.is_reversed xs spans.now crowd.place crowd.time) }
 {
     let whole = marks.whole.as_slice();
     match count_beside(whole, crowd.place, spans.len()) {
@@ -217,7 +224,8 @@ fn cite_not_first(
     facts: &mut Vec<Atom>,
 ) -> Result<bool, AllocError>
     requires spans { AreSpans past.now.first spans.now }
-    ensures { result ≡ Ok true → Cites past.now facts.old.items facts.new.items (λ xs. StartsFrom crowd.is_reversed xs spans.now crowd.place crowd.time) }
+    ensures { result ≡ Ok true → Cites past.now facts.old.items facts.new.items
+        (λ xs. StartsFrom crowd.is_reversed xs spans.now crowd.place crowd.time) }
 {
     let whole = marks.whole.as_slice();
     match count_beside(whole, crowd.place, spans.len()) {
@@ -249,7 +257,8 @@ fn cite_early(
     facts: &mut Vec<Atom>,
 ) -> Result<bool, AllocError>
     requires { IsSpan past.now.first span.now }
-    ensures { result ≡ Ok true → Cites past.now facts.old.items facts.new.items (λ xs. LastsAt xs span.now weight × (window.from ≤ℤ low_at window.ends window.is_reversed xs span.now)) }
+    ensures { result ≡ Ok true → Cites past.now facts.old.items facts.new.items
+        (λ xs. LastsAt xs span.now weight × (window.from ≤ℤ low_at window.ends window.is_reversed xs span.now)) }
 {
     if !cite_length(past, span, weight, facts)? {
         return Ok(false);
@@ -266,7 +275,8 @@ fn cite_edge(
     facts: &mut Vec<Atom>,
 ) -> Result<bool, AllocError>
     requires spans { AreSpans past.now.first spans.now }
-    ensures { result ≡ Ok true → Cites past.now facts.old.items facts.new.items (λ xs. StartsFrom crowd.is_reversed xs spans.now crowd.place crowd.time) }
+    ensures { result ≡ Ok true → Cites past.now facts.old.items facts.new.items
+        (λ xs. StartsFrom crowd.is_reversed xs spans.now crowd.place crowd.time) }
 {
     match part_of(marks, crowd, spans.len()) {
         Some(counted) => {
@@ -306,7 +316,8 @@ pub(crate) fn cite_push(
     facts: &mut Vec<Atom>,
 ) -> Result<bool, AllocError>
     requires spans { AreSpans past.now.first spans.now }
-    ensures { result ≡ Ok true → Cites past.now facts.old.items facts.new.items (λ xs. StartsFrom crowd.is_reversed xs spans.now crowd.place crowd.time) }
+    ensures { result ≡ Ok true → Cites past.now facts.old.items facts.new.items
+        (λ xs. StartsFrom crowd.is_reversed xs spans.now crowd.place crowd.time) }
 {
     match crowd.argument {
         Argument::Precedences => cite_precedences(past, spans, marks, crowd, facts),

@@ -23,14 +23,17 @@ pub record IsLimited (us : List Atom) (i : ℕ) (limits : Limits) : Type 0 where
 -- the first labels of a list of values lead from the first state to a state
 abbrev pub Leads : List ℤ → List Step → ℕ → List ℕ → ℕ → ℕ → Type 0
 Leads xs steps first is zero q = q ≡ first
-Leads xs steps first is (suc n) q = (t : Step) × Contains steps t × (t.head ≡ q) × (t.label ≡ value_at xs (slice_index_or is n 0)) × Leads xs steps first is n t.tail
+Leads xs steps first is (suc n) q = (t : Step) × Contains steps t × (t.head ≡ q)
+    × (t.label ≡ value_at xs (slice_index_or is n 0)) × Leads xs steps first is n t.tail
 
--- by the first n steps: where the one with a subject's value as its label begins in a marked state, it ends in one; the facts have grown
+-- by the first n steps: where the one with a subject's value as its label begins in a marked state, it ends in one; the
+-- facts have grown
 pub record Comes (s : Trail) (goal : Option Atom) (i : ℕ) (steps : List Step) (n : ℕ) (tails heads : List Bool) (old new : List Atom) : Type 0 where
   pub size : length heads ≡ length tails
   pub grows : Grows s old new
   pub all : (xs : List ℤ) → AllTrueAt xs new → Denied goal xs → (k : ℕ) (d : Step) → k < n → k < length steps
-      → (slice_index_or steps k d).label ≡ value_at xs i → IsMarked tails (slice_index_or steps k d).tail → IsMarked heads (slice_index_or steps k d).head
+      → (slice_index_or steps k d).label ≡ value_at xs i → IsMarked tails (slice_index_or steps k d).tail
+      → IsMarked heads (slice_index_or steps k d).head
 
 -- each state to which the first n labels of values can lead beside facts is marked
 pub record AreCome (s : Trail) (goal : Option Atom) (steps : List Step) (first count : ℕ) (is : List ℕ) (n : ℕ) (us : List Atom) (marks : List Bool) : Type 0 where
@@ -41,4 +44,5 @@ pub record AreCome (s : Trail) (goal : Option Atom) (steps : List Step) (first c
 -- no values at which the facts are true and the atom is false lead to a last state
 pub record IsCut (s : Trail) (goal : Option Atom) (steps : List Step) (first : ℕ) (last : List Bool) (is : List ℕ) (us : List Atom) : Type 0 where
   pub facts : AreFacts s us
-  pub none : (xs : List ℤ) → AllTrueAt xs us → Denied goal xs → (q : ℕ) → Leads xs steps first is (length is) q → IsMarked last q → ⊥
+  pub none : (xs : List ℤ) → AllTrueAt xs us → Denied goal xs → (q : ℕ) → Leads xs steps first is (length is) q
+      → IsMarked last q → ⊥

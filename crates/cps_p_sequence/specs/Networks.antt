@@ -31,7 +31,8 @@ IsMarked marks q = slice_index_or marks q false ≡ true
 pub record AreFinals (finals states : List ℤ) (n : ℕ) (last : List Bool) : Type 0 where
   pub size : length last ≡ length states
   pub listed : (q : ℕ) → IsMarked last q → Contains finals (state_at states q)
-  pub marked : (k q : ℕ) → k < n → k < length finals → q < length states → state_at states q ≡ slice_index_or finals k (pos 0) → IsMarked last q
+  pub marked : (k q : ℕ) → k < n → k < length finals → q < length states
+      → state_at states q ≡ slice_index_or finals k (pos 0) → IsMarked last q
 
 -- the steps are transitions by numbers of their states, which differ
 pub record IsNetwork (raw : List Transition) (finals : List ℤ) (start : ℤ) (states : List ℤ) (first : ℕ) (last : List Bool) (steps : List Step) : Type 0 where

@@ -16,12 +16,14 @@ use Rattle.cps_p_sequence.specs.Networks.{IsMarked}
 -- from a state some run over these subjects leads to a last one
 abbrev pub CanEnd : Trail → List Step → List Bool → List ℕ → ℕ → Type 0
 CanEnd s steps last [] q = IsMarked last q
-CanEnd s steps last (i ∷ is) q = (t : Step) × Contains steps t × (t.tail ≡ q) × IsOpenTo s i t.label × CanEnd s steps last is t.head
+CanEnd s steps last (i ∷ is) q = (t : Step) × Contains steps t × (t.tail ≡ q) × IsOpenTo s i t.label
+    × CanEnd s steps last is t.head
 
 -- some run over the first so many subjects leads to a state
 abbrev pub CanReach : Trail → List Step → ℕ → List ℕ → ℕ → ℕ → Type 0
 CanReach s steps first is zero q = q ≡ first
-CanReach s steps first is (suc n) q = (t : Step) × Contains steps t × (t.head ≡ q) × IsOpenTo s (slice_index_or is n 0) t.label × CanReach s steps first is n t.tail
+CanReach s steps first is (suc n) q = (t : Step) × Contains steps t × (t.head ≡ q)
+    × IsOpenTo s (slice_index_or is n 0) t.label × CanReach s steps first is n t.tail
 
 -- the marked states are those from which a run may end, and those that it may reach
 pub record AreEnding (s : Trail) (steps : List Step) (last : List Bool) (is : List ℕ) (marks : List Bool) : Type 0 where
@@ -34,36 +36,46 @@ pub record AreReached (s : Trail) (steps : List Step) (first count : ℕ) (is : 
   pub reached : (q : ℕ) → IsMarked marks q → CanReach s steps first is n q
   pub all : (q : ℕ) → CanReach s steps first is n q → IsMarked marks q
 
--- one row of marks after another: for each subject but the first one, and so on, from which states a run may end; the last row comes first
+-- one row of marks after another: for each subject but the first one, and so on, from which states a run may end; the
+-- last row comes first
 abbrev pub AreRows : Trail → List Step → List Bool → List ℕ → List Bool → Type 0
 AreRows s steps last [] rows = rows ≡ []
-AreRows s steps last (i ∷ is) rows = (below : List Bool) × (row : List Bool) × (rows ≡ below ++ row) × AreEnding s steps last is row × AreRows s steps last is below
+AreRows s steps last (i ∷ is) rows = (below : List Bool) × (row : List Bool) × (rows ≡ below ++ row)
+    × AreEnding s steps last is row × AreRows s steps last is below
 
 -- by the first n steps: where an open one leads to a marked state, its tail is marked
 pub record AreTails (s : Trail) (i : ℕ) (steps : List Step) (n : ℕ) (heads tails : List Bool) : Type 0 where
   pub size : length tails ≡ length heads
-  pub all : (k : ℕ) (d : Step) → k < n → k < length steps → IsOpenTo s i (slice_index_or steps k d).label → IsMarked heads (slice_index_or steps k d).head → IsMarked tails (slice_index_or steps k d).tail
-  pub from : (q : ℕ) → IsMarked tails q → (t : Step) × Contains steps t × (t.tail ≡ q) × IsOpenTo s i t.label × IsMarked heads t.head
+  pub all : (k : ℕ) (d : Step) → k < n → k < length steps → IsOpenTo s i (slice_index_or steps k d).label
+      → IsMarked heads (slice_index_or steps k d).head → IsMarked tails (slice_index_or steps k d).tail
+  pub from : (q : ℕ) → IsMarked tails q
+      → (t : Step) × Contains steps t × (t.tail ≡ q) × IsOpenTo s i t.label × IsMarked heads t.head
 
 -- the other way
 pub record AreHeads (s : Trail) (i : ℕ) (steps : List Step) (n : ℕ) (tails heads : List Bool) : Type 0 where
   pub size : length heads ≡ length tails
-  pub all : (k : ℕ) (d : Step) → k < n → k < length steps → IsOpenTo s i (slice_index_or steps k d).label → IsMarked tails (slice_index_or steps k d).tail → IsMarked heads (slice_index_or steps k d).head
-  pub from : (q : ℕ) → IsMarked heads q → (t : Step) × Contains steps t × (t.head ≡ q) × IsOpenTo s i t.label × IsMarked tails t.tail
+  pub all : (k : ℕ) (d : Step) → k < n → k < length steps → IsOpenTo s i (slice_index_or steps k d).label
+      → IsMarked tails (slice_index_or steps k d).tail → IsMarked heads (slice_index_or steps k d).head
+  pub from : (q : ℕ) → IsMarked heads q
+      → (t : Step) × Contains steps t × (t.head ≡ q) × IsOpenTo s i t.label × IsMarked tails t.tail
 
 -- an open step by a label leads from a marked state to a marked one
 abbrev pub IsLed : Trail → ℕ → List Step → List Bool → List Bool → ℤ → Type 0
-IsLed s i steps tails heads v = (t : Step) × Contains steps t × (t.label ≡ v) × IsOpenTo s i v × IsMarked tails t.tail × IsMarked heads t.head
+IsLed s i steps tails heads v = (t : Step) × Contains steps t × (t.label ≡ v) × IsOpenTo s i v × IsMarked tails t.tail
+    × IsMarked heads t.head
 
 -- so far, the labels of such steps
 pub record AreLabels (s : Trail) (i : ℕ) (steps : List Step) (n : ℕ) (tails heads : List Bool) (labels : List ℤ) : Type 0 where
-  pub all : (k : ℕ) (d : Step) → k < n → k < length steps → IsOpenTo s i (slice_index_or steps k d).label → IsMarked tails (slice_index_or steps k d).tail → IsMarked heads (slice_index_or steps k d).head → Contains labels (slice_index_or steps k d).label
+  pub all : (k : ℕ) (d : Step) → k < n → k < length steps → IsOpenTo s i (slice_index_or steps k d).label
+      → IsMarked tails (slice_index_or steps k d).tail → IsMarked heads (slice_index_or steps k d).head
+      → Contains labels (slice_index_or steps k d).label
   pub led : (v : ℤ) → Contains labels v → IsLed s i steps tails heads v
 
 -- a run may have a label at a position
 abbrev pub IsAlive : Trail → List Step → ℕ → List Bool → List ℕ → ℕ → ℤ → Type 0
 IsAlive s steps first last is k v =
-    (t : Step) × Contains steps t × (t.label ≡ v) × IsOpenTo s (slice_index_or is k 0) v × CanReach s steps first is k t.tail × CanEnd s steps last (drop (k + 1) is) t.head
+    (t : Step) × Contains steps t × (t.label ≡ v) × IsOpenTo s (slice_index_or is k 0) v
+    × CanReach s steps first is k t.tail × CanEnd s steps last (drop (k + 1) is) t.head
 
 -- wherever the body holds, a subject has one of these values
 pub record HasLabels (b : Body) (s : Trail) (i : ℕ) (labels : List ℤ) : Type 0 where
@@ -72,7 +84,8 @@ pub record HasLabels (b : Body) (s : Trail) (i : ℕ) (labels : List ℤ) : Type
 -- wherever the body holds, the values are labels of a run
 pub record IsFollowed (b : Body) (s : Trail) (steps : List Step) (first : ℕ) (last : List Bool) (is : List ℕ) : Type 0 where
   pub whole : (xs : List ℤ) → IsAdmitted s.first s.entries xs → HoldsBody b xs → CanEnd s steps last is first
-  pub at : (k : ℕ) → k < length is → (xs : List ℤ) → IsAdmitted s.first s.entries xs → HoldsBody b xs → IsAlive s steps first last is k (value_at xs (slice_index_or is k 0))
+  pub at : (k : ℕ) → k < length is → (xs : List ℤ) → IsAdmitted s.first s.entries xs → HoldsBody b xs
+      → IsAlive s steps first last is k (value_at xs (slice_index_or is k 0))
 
 -- the values that a subject may have now are among fewer than 4,096 numbers, one next to the other
 pub record IsNarrowAt (s : Trail) (i : ℕ) : Type 0 where
@@ -85,11 +98,15 @@ AllGiven b s found = All (λ n. IsGiven b s n.target) found
 abbrev pub AllTrue : Trail → List Narrowing → Type 0
 AllTrue s found = All (λ n. IsTrueNow s n.target) found
 
--- at each of the first n positions the least and the greatest value are labels of a run, and so is each value that is the label of a step and, where they are among few numbers, each value
+-- at each of the first n positions the least and the greatest value are labels of a run, and so is each value that is
+-- the label of a step and, where they are among few numbers, each value
 pub record AreEndsAlive (s : Trail) (steps : List Step) (first : ℕ) (last : List Bool) (is : List ℕ) (n : ℕ) : Type 0 where
-  pub at : (k : ℕ) (v : ℤ) → k < n → k < length is → IsEndNow s (slice_index_or is k 0) v → IsAlive s steps first last is k v
-  pub labels : (k : ℕ) (t : Step) → k < n → k < length is → Contains steps t → IsOpenTo s (slice_index_or is k 0) t.label → IsAlive s steps first last is k t.label
-  pub values : (k : ℕ) (v : ℤ) → k < n → k < length is → IsNarrowAt s (slice_index_or is k 0) → IsOpenTo s (slice_index_or is k 0) v → IsAlive s steps first last is k v
+  pub at : (k : ℕ) (v : ℤ) → k < n → k < length is → IsEndNow s (slice_index_or is k 0) v
+      → IsAlive s steps first last is k v
+  pub labels : (k : ℕ) (t : Step) → k < n → k < length is → Contains steps t
+      → IsOpenTo s (slice_index_or is k 0) t.label → IsAlive s steps first last is k t.label
+  pub values : (k : ℕ) (v : ℤ) → k < n → k < length is → IsNarrowAt s (slice_index_or is k 0)
+      → IsOpenTo s (slice_index_or is k 0) v → IsAlive s steps first last is k v
 
 -- what is found at the first n positions
 pub record AreFound (s : Trail) (steps : List Step) (first : ℕ) (last : List Bool) (is : List ℕ) (n : ℕ) (found : List Narrowing) : Type 0 where
@@ -114,7 +131,8 @@ pub record IsUpTo (b : Body) (s : Trail) (i : ℕ) (greatest : ℤ) : Type 0 whe
 -- where the body holds nowhere that the store leaves, and what is found is given by it
 pub record IsDead (s : Trail) (steps : List Step) (first : ℕ) (last : List Bool) (is : List ℕ) (found : List Narrowing) : Type 0 where
   pub given : (b : Body) → IsFollowed b s steps first last is → AllGiven b s found
-  pub nowhere : (b : Body) → IsFollowed b s steps first last is → (xs : List ℤ) → IsAdmitted s.first s.entries xs → HoldsBody b xs → ⊥
+  pub nowhere : (b : Body) → IsFollowed b s steps first last is → (xs : List ℤ) → IsAdmitted s.first s.entries xs
+      → HoldsBody b xs → ⊥
 
 -- what a walk over all positions comes to: what is found, or that there is no run
 abbrev pub IsNarrowed : Trail → List Step → ℕ → List Bool → List ℕ → List Narrowing → Bool → Type 0
@@ -123,11 +141,14 @@ IsNarrowed s steps first last is found false = IsDead s steps first last is foun
 
 -- what a look comes to: a run, and what is found, or that there is none
 abbrev pub IsLooked : Trail → List Step → ℕ → List Bool → List ℕ → List Narrowing → Bool → Type 0
-IsLooked s steps first last is found true = CanEnd s steps last is first × AreFound s steps first last is (length is) found
+IsLooked s steps first last is found true = CanEnd s steps last is first
+    × AreFound s steps first last is (length is) found
 IsLooked s steps first last is found false = IsDead s steps first last is found
 
 -- each value of a position whose values are among few numbers is the label there of a run
 abbrev pub HasRunsOfAll : Body → Trail → Type 0
-HasRunsOfAll (Automaton start finals tails heads labels exprs) s = (k : ℕ) (v : ℤ) → k < length exprs → IsNarrowAt s (slice_index_or exprs k 0) → IsOpenTo s (slice_index_or exprs k 0) v
-    → (values : List ℤ) × IsRunNow s (transitions tails heads labels) finals start exprs values × (slice_index_or values k (pos 0) ≡ v)
+HasRunsOfAll (Automaton start finals tails heads labels exprs) s = (k : ℕ) (v : ℤ) → k < length exprs
+    → IsNarrowAt s (slice_index_or exprs k 0) → IsOpenTo s (slice_index_or exprs k 0) v
+    → (values : List ℤ) × IsRunNow s (transitions tails heads labels) finals start exprs values
+    × (slice_index_or values k (pos 0) ≡ v)
 HasRunsOfAll _ s = Unit {0}

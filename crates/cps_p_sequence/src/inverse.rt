@@ -61,9 +61,11 @@ fn given(target: Atom) -> Narrowing
 /// Adds what keeps a subject's values from being negative.
 fn keep_from_zero(store: &Store, subject: u32, found: &mut Vec<Narrowing>) -> Result<(), AllocError>
     requires { subject < length store.now.first }
-    ensures given { OnOk result ((b : BodyOf) → (count : ℤ) → HasPlace b subject count → AreGivenPlaces b store.now found.old.items → AreGivenPlaces b store.now found.new.items) }
+    ensures given { OnOk result ((b : BodyOf) → (count : ℤ) → HasPlace b subject count
+        → AreGivenPlaces b store.now found.old.items → AreGivenPlaces b store.now found.new.items) }
     ensures kept { OnOk result (AreTrue store.now found.new.items → AreTrue store.now found.old.items) }
-    ensures least { OnOk result (AreTrue store.now found.new.items → (x : ℤ) → IsOpenTo store.now subject x → pos 0 ≤ℤ x) }
+    ensures least { OnOk result (AreTrue store.now found.new.items → (x : ℤ) → IsOpenTo store.now subject x
+        → pos 0 ≤ℤ x) }
 {
     if 0 <= store.domain(subject).min() {
         return Ok(());
@@ -85,9 +87,11 @@ fn keep_below(
 ) -> Result<(), AllocError>
     requires subject { subject < length store.now.first }
     requires count { pos 0 ≤ℤ count }
-    ensures given { OnOk result ((b : BodyOf) → HasPlace b subject count → AreGivenPlaces b store.now found.old.items → AreGivenPlaces b store.now found.new.items) }
+    ensures given { OnOk result ((b : BodyOf) → HasPlace b subject count → AreGivenPlaces b store.now found.old.items
+        → AreGivenPlaces b store.now found.new.items) }
     ensures kept { OnOk result (AreTrue store.now found.new.items → AreTrue store.now found.old.items) }
-    ensures below { OnOk result (AreTrue store.now found.new.items → (x : ℤ) → IsOpenTo store.now subject x → x <ℤ count) }
+    ensures below { OnOk result (AreTrue store.now found.new.items → (x : ℤ) → IsOpenTo store.now subject x
+        → x <ℤ count) }
 {
     if store.domain(subject).max() < count {
         return Ok(());
@@ -109,9 +113,11 @@ fn keep_within(
 ) -> Result<(), AllocError>
     requires subjects { All (λ i. i < length store.now.first) subjects.now }
     requires count { pos 0 ≤ℤ count }
-    ensures given { OnOk result ((b : BodyOf) → All (λ i. HasPlace b i count) subjects.now → AreGivenPlaces b store.now found.old.items → AreGivenPlaces b store.now found.new.items) }
+    ensures given { OnOk result ((b : BodyOf) → All (λ i. HasPlace b i count) subjects.now
+        → AreGivenPlaces b store.now found.old.items → AreGivenPlaces b store.now found.new.items) }
     ensures kept { OnOk result (AreTrue store.now found.new.items → AreTrue store.now found.old.items) }
-    ensures within { OnOk result (AreTrue store.now found.new.items → All (λ i. IsWithinPlaces store.now i count) subjects.now) }
+    ensures within { OnOk result (AreTrue store.now found.new.items
+        → All (λ i. IsWithinPlaces store.now i count) subjects.now) }
 {
     for subject in subjects {
         keep_from_zero(store, *subject, found)?;
@@ -129,9 +135,12 @@ fn keep_off(
 ) -> Result<(), AllocError>
     requires one { one.subject < length store.now.first }
     requires other { other.subject < length store.now.first }
-    ensures given { OnOk result ((b : BodyOf) → IsMatched b one.subject one.number other.subject other.number → AreGivenPlaces b store.now found.old.items → AreGivenPlaces b store.now found.new.items) }
+    ensures given { OnOk result ((b : BodyOf) → IsMatched b one.subject one.number other.subject other.number
+        → AreGivenPlaces b store.now found.old.items → AreGivenPlaces b store.now found.new.items) }
     ensures kept { OnOk result (AreTrue store.now found.new.items → AreTrue store.now found.old.items) }
-    ensures mirrored { OnOk result (AreTrue store.now found.new.items → IsOpenTo store.now one.subject other.number → IsOpenTo store.now other.subject one.number) }
+    ensures mirrored { OnOk result
+        (AreTrue store.now found.new.items → IsOpenTo store.now one.subject other.number
+        → IsOpenTo store.now other.subject one.number) }
 {
     if !store.domain(one.subject).contains(other.number) {
         return Ok(());
@@ -156,9 +165,11 @@ fn keep_apart(
 ) -> Result<(), AllocError>
     requires one { one.subject < length store.now.first }
     requires others { All (λ i. i < length store.now.first) others.now }
-    ensures given { OnOk result ((b : BodyOf) → ArePaired b one.subject one.number others.now → AreGivenPlaces b store.now found.old.items → AreGivenPlaces b store.now found.new.items) }
+    ensures given { OnOk result ((b : BodyOf) → ArePaired b one.subject one.number others.now
+        → AreGivenPlaces b store.now found.old.items → AreGivenPlaces b store.now found.new.items) }
     ensures kept { OnOk result (AreTrue store.now found.new.items → AreTrue store.now found.old.items) }
-    ensures mirrored { OnOk result (AreTrue store.now found.new.items → AreMirroredAt store.now one.subject one.number others.now) }
+    ensures mirrored { OnOk result
+        (AreTrue store.now found.new.items → AreMirroredAt store.now one.subject one.number others.now) }
 {
     for (place, subject) in others.iter().enumerate() {
         let other = Position {
@@ -180,7 +191,8 @@ fn mirror(
 ) -> Result<(), AllocError>
     requires direct { All (λ i. i < length store.now.first) direct.now }
     requires inverse { All (λ i. i < length store.now.first) inverse.now }
-    ensures given { OnOk result ((b : BodyOf) → AllPaired b direct.now inverse.now → AreGivenPlaces b store.now found.old.items → AreGivenPlaces b store.now found.new.items) }
+    ensures given { OnOk result ((b : BodyOf) → AllPaired b direct.now inverse.now
+        → AreGivenPlaces b store.now found.old.items → AreGivenPlaces b store.now found.new.items) }
     ensures kept { OnOk result (AreTrue store.now found.new.items → AreTrue store.now found.old.items) }
     ensures mirrored { OnOk result (AreTrue store.now found.new.items → AreMirrored store.now direct.now inverse.now) }
 {
@@ -216,8 +228,8 @@ fn is_among(subjects: &[u32], subject: u32) -> bool
 /// The greatest number that a fact may name.
 const LIMIT: i64 = (1 << 62) - 1;
 
-/// Puts the fact by which a position cannot have the place that an atom denies it: that place's position cannot have its number.
-/// Answers whether it was true.
+/// Puts the fact by which a position cannot have the place that an atom denies it: that place's position cannot have
+/// its number. Answers whether it was true.
 fn explain_by(
     past: &Before,
     target: Atom,
@@ -228,7 +240,8 @@ fn explain_by(
     requires others { All (λ i. i < length past.now.first) others.now }
     requires number { pos 0 ≤ℤ number }
     requires op { target.op ≡ Op.Ne }
-    ensures { IfOk result (λ known. IsTrue known → (b : BodyOf) → ArePaired b target.subject number others.now → IsExplained b past.now target facts.new.items) }
+    ensures { IfOk result (λ known. IsTrue known → (b : BodyOf) → ArePaired b target.subject number others.now
+        → IsExplained b past.now target facts.new.items) }
 {
     if LIMIT < number {
         return Ok(false);
@@ -263,7 +276,8 @@ fn explain_from(
 ) -> Result<bool, AllocError>
     requires others { All (λ i. i < length past.now.first) others.now }
     requires op { target.op ≡ Op.Ne }
-    ensures { IfOk result (λ known. IsTrue known → (b : BodyOf) → AllPaired b own.now others.now → IsExplained b past.now target facts.new.items) }
+    ensures { IfOk result (λ known. IsTrue known → (b : BodyOf) → AllPaired b own.now others.now
+        → IsExplained b past.now target facts.new.items) }
 {
     for (place, subject) in own.iter().enumerate() {
         if *subject == target.subject && explain_by(past, target, place as i64, others, facts)? {

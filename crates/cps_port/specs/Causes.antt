@@ -11,7 +11,8 @@ use Rattle.cps_port.specs.Others.{ActsAlone, OthersStay}
 abbrev pub LeavesOthers : Type 0
 LeavesOthers = (actor actor' : ℕ) (old new : Core) → ActsAlone actor actor' old new → OthersStay actor actor' old new
 
--- an actor that found its next row closed looked at a row that was closed; its count of such looks was below the last value
+-- an actor that found its next row closed looked at a row that was closed; its count of such looks was below the last
+-- value
 abbrev pub ClosedWasClosed : Type 0
 ClosedWasClosed = (actor : ℕ) (old new : Core) → ActsAlone actor actor old new
     → FoundClosed (length old.board.rows) (board_part old.board actor) (board_part new.board actor)
@@ -19,6 +20,8 @@ ClosedWasClosed = (actor : ℕ) (old new : Core) → ActsAlone actor actor old n
 
 -- an actor that loaded the upper bound saw the bound that stood
 abbrev pub SawTheUpper : Type 0
-SawTheUpper = (actor loads : ℕ) (old new : Core) (seen : Bound) → IsSoundCore old → actor < actor_count old → ActsAlone actor actor old new
-    → bounds_part new.bounds actor ≡ after_upper (bounds_part old.bounds actor) seen loads → loads ≡ (bounds_part old.bounds actor).upper_loads + 1
+SawTheUpper = (actor loads : ℕ) (old new : Core) (seen : Bound) → IsSoundCore old → actor < actor_count old
+    → ActsAlone actor actor old new
+    → bounds_part new.bounds actor ≡ after_upper (bounds_part old.bounds actor) seen loads
+    → loads ≡ (bounds_part old.bounds actor).upper_loads + 1
     → seen ≡ old.bounds.upper

@@ -21,8 +21,8 @@ use Rattle.cps_port.specs.Incumbents.{IsAttained, IsIncumbent}
 use Rattle.cps_port.specs.Entries.{most_atoms, entry_clause, IsShareable}
 use Rattle.cps_port.specs.Parts.{no_rows, no_bounds, with_row, with_past, with_mine, with_taken, with_misses, after_upper, after_lower, after_offer, after_raise}
 
--- the board: an entry for each row that is published, and none for each other row; how many rows were drawn, with the draws
--- past the last row; and what each actor knows of it
+-- the board: an entry for each row that is published, and none for each other row; how many rows were drawn, with the
+-- draws past the last row; and what each actor knows of it
 pub record BoardState : Type 0 where
   pub rows : List (Option Entry)
   pub next : ℕ
@@ -90,7 +90,9 @@ row_drawn b = if nat_lt b.next (length b.rows) then Some b.next else None
 -- the board after an event of an actor
 abbrev pub board_after : BoardState → ℕ → Event → BoardState
 board_after b i Draw = record (with_board b i (drawn_by (board_part b i) b.next (length b.rows))) { next = b.next + 1 }
-board_after b i (Publish e) = record (with_board b i (with_mine (board_part b i) e)) { rows = slice_set b.rows e.row (Some e) }
+board_after b i (Publish e) = record (with_board b i (with_mine (board_part b i) e)) {
+  rows = slice_set b.rows e.row (Some e);
+}
 board_after b i Look = with_board b i (looked_by (board_part b i) (next_row b i))
 board_after b i (Offer v) = b
 board_after b i (Raise l) = b
@@ -99,10 +101,16 @@ board_after b i SeeLower = b
 
 -- the bounds after an event of an actor
 abbrev pub bounds_after : BoundsState → ℕ → Event → BoundsState
-bounds_after s i (Offer v) = record (with_bounds s i (after_offer (bounds_part s i) (At v) (lesser s.upper (At v)))) { upper = lesser s.upper (At v) }
-bounds_after s i (Raise l) = record (with_bounds s i (after_raise (bounds_part s i) l (greater s.lower l))) { lower = greater s.lower l }
-bounds_after s i SeeUpper = with_bounds s i (after_upper (bounds_part s i) s.upper (counted (bounds_part s i).upper_loads))
-bounds_after s i SeeLower = with_bounds s i (after_lower (bounds_part s i) s.lower (counted (bounds_part s i).lower_loads))
+bounds_after s i (Offer v) = record (with_bounds s i (after_offer (bounds_part s i) (At v) (lesser s.upper (At v)))) {
+  upper = lesser s.upper (At v);
+}
+bounds_after s i (Raise l) = record (with_bounds s i (after_raise (bounds_part s i) l (greater s.lower l))) {
+  lower = greater s.lower l;
+}
+bounds_after s i SeeUpper = with_bounds s i
+    (after_upper (bounds_part s i) s.upper (counted (bounds_part s i).upper_loads))
+bounds_after s i SeeLower = with_bounds s i
+    (after_lower (bounds_part s i) s.lower (counted (bounds_part s i).lower_loads))
 bounds_after s i Draw = s
 bounds_after s i (Publish e) = s
 bounds_after s i Look = s
@@ -139,7 +147,8 @@ pub record MayPublish (m : CpModel) (p : BoardPart) (e : Entry) : Type 0 where
   pub fits : e.len ≤ most_atoms
   pub clause : IsShareable m (entry_clause e)
   pub incumbent : IsIncumbent m e.below
-  pub follows : (a : List ℤ) → IsFree m a → IsBelow (objective_value m a) e.below → AreTrueBelow p.taken e.below a → IsTrue (clause_holds (entry_clause e) a)
+  pub follows : (a : List ℤ) → IsFree m a → IsBelow (objective_value m a) e.below → AreTrueBelow p.taken e.below a
+      → IsTrue (clause_holds (entry_clause e) a)
 
 -- A bound to which an actor may raise: no solution better than some incumbent has an objective below it, with the help
 -- of what the actor took.
@@ -147,7 +156,8 @@ pub record MayRaise (m : CpModel) (p : BoardPart) (l : Bound) : Type 0 where
   pub better_than : Bound
   pub incumbent : IsIncumbent m better_than
   pub within : BoundLe l better_than
-  pub follows : (a : List ℤ) → IsSolution m a → IsBelow (objective_value m a) better_than → AreTrueBelow p.taken better_than a → IsAtMost l (objective_value m a)
+  pub follows : (a : List ℤ) → IsSolution m a → IsBelow (objective_value m a) better_than
+      → AreTrueBelow p.taken better_than a → IsAtMost l (objective_value m a)
 
 -- an event that the actor may make
 abbrev pub IsLawful : Core → ℕ → Event → Type 0

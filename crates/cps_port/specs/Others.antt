@@ -1,5 +1,5 @@
--- What a plain port makes of the shared state: events of its actor, one after another, each lawful where it comes. So it
--- leaves all that the other actors know.
+-- What a plain port makes of the shared state: events of its actor, one after another, each lawful where it comes. So
+-- it leaves all that the other actors know.
 use Rattle.std.specs.Prelude.{◌≡◌, ◌≢◌, ℕ, List, [], ◌∷◌, ◌++◌, refl}
 use Rattle.std.proofs.Common.{◌∙◌, sym, ap, subst}
 use Rattle.cps_port.specs.declared.event.Event.{Event}
@@ -24,11 +24,13 @@ pub record OthersStay (actor actor' : ℕ) (old new : Core) : Type 0 where
   pub count : actor_count new ≡ actor_count old
   pub parts : (i : ℕ) → i ≢ actor → part_at new i ≡ part_at old i
 
-lawful-append : (actor : ℕ) (c : Core) (es fs : List Event) → AreLawful c (by actor es) → AreLawful (run c (by actor es)) (by actor fs) → AreLawful c (by actor (es ++ fs))
+lawful-append : (actor : ℕ) (c : Core) (es fs : List Event) → AreLawful c (by actor es)
+    → AreLawful (run c (by actor es)) (by actor fs) → AreLawful c (by actor (es ++ fs))
 lawful-append actor c [] fs l m = m
 lawful-append actor c (e ∷ es) fs l m = (l.0, l.1, lawful-append actor (after c actor e) es fs l.2 m)
 
-run-append : (actor : ℕ) (c : Core) (es fs : List Event) → run c (by actor (es ++ fs)) ≡ run (run c (by actor es)) (by actor fs)
+run-append : (actor : ℕ) (c : Core) (es fs : List Event)
+    → run c (by actor (es ++ fs)) ≡ run (run c (by actor es)) (by actor fs)
 run-append actor c [] fs = refl
 run-append actor c (e ∷ es) fs = run-append actor (after c actor e) es fs
 
@@ -40,7 +42,9 @@ moved_on a b d x y z p q = record {
   same = q.same ∙ p.same;
   events = p.events ++ q.events;
   lawful = lawful-append a x p.events q.events p.lawful
-      (subst (λ (c : Core). AreLawful c (by a q.events)) p.reaches (subst (λ (i : ℕ). AreLawful y (by i q.events)) p.same q.lawful));
-  reaches = q.reaches ∙ ap (λ (i : ℕ). run y (by i q.events)) p.same ∙ ap (λ (c : Core). run c (by a q.events)) p.reaches
+      (subst (λ (c : Core). AreLawful c (by a q.events)) p.reaches
+      (subst (λ (i : ℕ). AreLawful y (by i q.events)) p.same q.lawful));
+  reaches = q.reaches ∙ ap (λ (i : ℕ). run y (by i q.events)) p.same ∙ ap
+      (λ (c : Core). run c (by a q.events)) p.reaches
       ∙ sym (run-append a x p.events q.events);
 }

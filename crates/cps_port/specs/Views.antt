@@ -1,5 +1,5 @@
--- How the shared state is stored: a row has its entry once it is published, with the number of the actor that did; an actor
--- has a count of the rows that it took.
+-- How the shared state is stored: a row has its entry once it is published, with the number of the actor that did; an
+-- actor has a count of the rows that it took.
 use Rattle.std.specs.Prelude.{◌≡◌, ℕ, ◌+◌, ◌<◌, ◌≤◌, ◌^◌, ◌==◌, Bool, false, ◌&&◌, if◌then◌else◌, List, [], ◌∷◌, map, take, length, slice_index_or, Option, Some, None}
 use Rattle.cps_model.specs.declared.bound.Bound.{Bound}
 use Rattle.cps_model.specs.declared.bound.Bound.TheVariants.{Infinite}

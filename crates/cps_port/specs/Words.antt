@@ -1,4 +1,5 @@
--- The word that stands for a bound: its value plus 2 ^ 63, and 2 ^ 64 - 1 for `Infinite`. Words keep the order of bounds.
+-- The word that stands for a bound: its value plus 2 ^ 63, and 2 ^ 64 - 1 for `Infinite`. Words keep the order of
+-- bounds.
 use Rattle.std.specs.Prelude.{◌≡◌, ℕ, ◌+◌, ◌-◌, ◌≤◌, nat_lt, ◌==◌, ℤ, pos, negsuc, if◌then◌else◌, Option, Some, None}
 use Rattle.cps_model.specs.declared.bound.Bound.{Bound}
 use Rattle.cps_model.specs.declared.bound.Bound.TheVariants.{At, Infinite}

@@ -12,8 +12,8 @@ use crate::entry::{Share, Taken};
 use cps_literal::Atom;
 use cps_model::Bound;
 
-/// One actor's access to the shared state of a model: two bounds on the objective, and a board of clauses. Each answer is
-/// true of the model, whatever other actors do, and the actor's part says what this actor did and saw.
+/// One actor's access to the shared state of a model: two bounds on the objective, and a board of clauses. Each answer
+/// is true of the model, whatever other actors do, and the actor's part says what this actor did and saw.
 pub trait Port {
     ghost model: { Self → CpModelOf };
 
@@ -31,7 +31,8 @@ pub trait Port {
         ensures same { (model self.new ≡ model self.old) × (rows self.new ≡ rows self.old) }
         ensures others { stays self.old self.new }
         ensures board { (part self.new).board ≡ (part self.old).board }
-        ensures bounds { (part self.new).bounds ≡ after_upper (part self.old).bounds result (part self.new).bounds.upper_loads }
+        ensures bounds { (part self.new).bounds
+            ≡ after_upper (part self.old).bounds result (part self.new).bounds.upper_loads }
         ensures loads { Rises (part self.old).bounds.upper_loads (part self.new).bounds.upper_loads }
         ensures no_worse { BoundLe result (part self.old).bounds.saw_upper }
         ensures means { IsIncumbent (model self.old) result };
@@ -41,7 +42,8 @@ pub trait Port {
         ensures same { (model self.new ≡ model self.old) × (rows self.new ≡ rows self.old) }
         ensures others { stays self.old self.new }
         ensures board { (part self.new).board ≡ (part self.old).board }
-        ensures bounds { (part self.new).bounds ≡ after_lower (part self.old).bounds result (part self.new).bounds.lower_loads }
+        ensures bounds { (part self.new).bounds
+            ≡ after_lower (part self.old).bounds result (part self.new).bounds.lower_loads }
         ensures loads { Rises (part self.old).bounds.lower_loads (part self.new).bounds.lower_loads }
         ensures no_worse { IsNoLower (part self.old).bounds.saw_lower result }
         ensures means { IsLowerBound (model self.old) result };

@@ -42,7 +42,8 @@ pub record IsReady (m : CpModel) (c : Seated) : Type 0 where
 pub record Worked (a b : Seated) : Type 0 where
   pub seats : SeatsStay a.port.board.now b.port.board.now a.port.bounds.now b.port.bounds.now a.port.board_seat b.port.board_seat a.port.bounds_seat b.port.bounds_seat
   pub kind : kind_of b.worker ≡ kind_of a.worker
-  pub ended : b.refused ≡ false → HasEnded (boards.rows_of a.port.board.now) (known_of a.worker) (known_of b.worker) (part_at a) (part_at b)
+  pub ended : b.refused ≡ false
+      → HasEnded (boards.rows_of a.port.board.now) (known_of a.worker) (known_of b.worker) (part_at a) (part_at b)
 
 -- the worker of this number, which knows nothing yet, with seats of the two tables that have offered and raised nothing
 pub record IsSeated (m : CpModel) (gap conflicts : ℕ) (board : Board) (bounds : Bounds) (number : ℕ) (c : Seated) : Type 0 where

@@ -48,8 +48,9 @@ abbrev pub greatest_raised : Bound → List Ending → Bound
 greatest_raised start [] = start
 greatest_raised start (e ∷ es) = raised_above e.raised (greatest_raised start es)
 
--- A worker spent its budget of conflicts: it learnt from as many as it may, and ended with the clause that one more teaches. Its journal
--- with this clause at the end is honest, and no clause of it is about what is better than the least objective that was found.
+-- A worker spent its budget of conflicts: it learnt from as many as it may, and ended with the clause that one more
+-- teaches. Its journal with this clause at the end is honest, and no clause of it is about what is better than the
+-- least objective that was found.
 pub record SpentItsBudget (m : CpModel) (conflicts : ℕ) (upper : Bound) (e : Ending) : Type 0 where
   pub tally : e.tally ≡ conflicts
   pub learnt : learnt_count e.journal ≡ conflicts
@@ -64,8 +65,8 @@ pub record SpentItsBudget (m : CpModel) (conflicts : ℕ) (upper : Bound) (e : E
   pub honest : IsHonestJournal instance (e.journal ++ Learnt clause below ∷ [])
   pub above : All (IsItemAbove upper) (e.journal ++ Learnt clause below ∷ [])
 
--- A neighbourhood worker did its rounds, and ended for no other reason. It learnt from one conflict at least in each; its journal is honest, and
--- no clause of it is about what is better than the least objective that was found.
+-- A neighbourhood worker did its rounds, and ended for no other reason. It learnt from one conflict at least in each;
+-- its journal is honest, and no clause of it is about what is better than the least objective that was found.
 pub record DidItsRounds (m : CpModel) (conflicts : ℕ) (upper : Bound) (e : Ending) : Type 0 where
   pub end : e.end ≡ RoundsDone
   pub learnt : round_count conflicts ≤ learnt_count e.journal
@@ -99,9 +100,9 @@ pub record IsEndOfRounds (p : Problem) (gap conflicts : ℕ) (e : Ending) : Type
   pub runs : NearRunsInTurns rows first done before after e.end
   pub seen : e ≡ ending kinds.Near None e.end done.search
 
--- The decisions of a worker that ended went by what the model says, over an instance with the worker's sums: what is seen of a worker of a
--- complete kind is what a run comes to that begins with nothing known, and each decision of which goes by its guidance; and what is seen of a
--- neighbourhood worker is what its rounds come to.
+-- The decisions of a worker that ended went by what the model says, over an instance with the worker's sums: what is
+-- seen of a worker of a complete kind is what a run comes to that begins with nothing known, and each decision of which
+-- goes by its guidance; and what is seen of a neighbourhood worker is what its rounds come to.
 pub record GoesByModel (m : CpModel) (gap conflicts : ℕ) (e : Ending) : Type 0 where
   pub instance : Problem
   pub is_instance : IsInstance instance
@@ -112,11 +113,12 @@ pub record GoesByModel (m : CpModel) (gap conflicts : ℕ) (e : Ending) : Type 0
   pub rounds : e.kind ≡ kinds.Near → IsEndOfRounds instance gap conflicts e
 
 pub record IsGoodOutcome (m : CpModel) (options : Options) (o : Outcome) : Type 0 where
-  -- each worker ended, and is of the kind that its number says, with the sums that the model's strategies write and no others
+  -- each worker ended, and is of the kind that its number says, with the sums that the model's strategies write and no
+  -- others
   pub workers : map (λ e. e.kind) o.ends ≡ kinds_of options.workers
   pub sums : All (λ e. e.defs ≡ model_sums m) o.ends
-  -- a fixed worker decides by the model's strategies and then takes the variables, an activity worker by the model's hint, and a neighbourhood
-  -- worker in rounds
+  -- a fixed worker decides by the model's strategies and then takes the variables, an activity worker by the model's
+  -- hint, and a neighbourhood worker in rounds
   pub branchers : All (GoesByModel m options.gap options.conflicts) o.ends
   -- the status is that of the two bounds
   pub status : o.status ≡ status_of o.upper o.lower options.gap
@@ -124,10 +126,12 @@ pub record IsGoodOutcome (m : CpModel) (options : Options) (o : Outcome) : Type 
   pub found : All (λ e. IfSome e.best (IsSolution m)) o.ends
   pub solution : o.solution ≡ best_of m o.ends
   pub upper : o.upper ≡ best_bound m o.solution
-  -- the lower bound is the greatest of the least objective by the domains and of what the workers raised it to, and no solution is below
+  -- the lower bound is the greatest of the least objective by the domains and of what the workers raised it to, and no
+  -- solution is below
   pub lower : o.lower ≡ greatest_raised (At (objective_start m)) o.ends
   pub floor : (a : List ℤ) → IsSolution m a → IsAtMost o.lower (objective_value m a)
-  -- where the bounds have not met, each worker of a complete kind spent its budget, and each neighbourhood worker did its rounds
+  -- where the bounds have not met, each worker of a complete kind spent its budget, and each neighbourhood worker did
+  -- its rounds
   pub spent : is_closed o.lower o.upper options.gap ≡ false → All (DidItsPart m options.conflicts o.upper) o.ends
 
 -- A worker ended honestly, and saw nothing better than these two bounds.

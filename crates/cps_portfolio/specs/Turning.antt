@@ -71,7 +71,8 @@ place_at_work [] rank = 0
 place_at_work (w ∷ ws) zero = if w.over then 1 + place_at_work ws 0 else 0
 place_at_work (w ∷ ws) (suc rank) = 1 + place_at_work ws (if w.over then suc rank else rank)
 
--- the worker whose turn is next: the generator's next word, modulo the number of workers that have not ended, is its rank among these
+-- the worker whose turn is next: the generator's next word, modulo the number of workers that have not ended, is its
+-- rank among these
 abbrev pub drawn_place : List Turning → Lcg → ℕ
 drawn_place crew words = place_at_work crew ((pcg32 words).0 % count_at_work crew)
 
@@ -79,16 +80,19 @@ drawn_place crew words = place_at_work crew ((pcg32 words).0 % count_at_work cre
 abbrev pub words_of_seed : ℕ → Lcg
 words_of_seed seed = started 64 multiplier_64 seed (increment_of 64 0)
 
--- the worker at this place took a turn, alone at the state, and is `next` after it, of the same kind and with the same guidance
+-- the worker at this place took a turn, alone at the state, and is `next` after it, of the same kind and with the same
+-- guidance
 pub record TakesTurnAt (place rows : ℕ) (c d : Core) (crew : List Turning) (next : Turning) : Type 0 where
   pub some_left : 0 < count_at_work crew
   pub alone : ActsAlone place place c d
-  pub turned : HasTurned rows (known_of (slice_index_or crew place next).worker) (known_of next.worker) (part_at c place) (part_at d place) next.over
+  pub turned : HasTurned rows (known_of (slice_index_or crew place next).worker) (known_of next.worker)
+      (part_at c place) (part_at d place) next.over
 
 -- turns one after another, each of the worker that was drawn
 pub data TakesDrawnTurns (rows : ℕ) (c : Core) (crew : List Turning) (words : Lcg) : Core → List Turning → Lcg → Type 0 where
   none_yet : TakesDrawnTurns rows c crew words c crew words
-  one_more : (d e : Core) (later : List Turning) (next : Turning) (left : Lcg) → TakesDrawnTurns rows c crew words d later left → TakesTurnAt (drawn_place later left) rows d e later next
+  one_more : (d e : Core) (later : List Turning) (next : Turning) (left : Lcg)
+      → TakesDrawnTurns rows c crew words d later left → TakesTurnAt (drawn_place later left) rows d e later next
       → TakesDrawnTurns rows c crew words e (slice_set later (drawn_place later left) next) (pcg32 left).1
 
 -- these are the ends of workers that knew nothing at first, and took drawn turns until all had ended

@@ -1,4 +1,5 @@
--- Workers of several kinds, seen as searches: one that goes by a guidance, or one that searches near solutions in rounds.
+-- Workers of several kinds, seen as searches: one that goes by a guidance, or one that searches near solutions in
+-- rounds.
 use Rattle.std.specs.Prelude.{◌≡◌, ◌⊎◌, ⊤, ℕ, ◌+◌, ◌%◌, ◌==◌, if◌then◌else◌, ℤ, Bool, true, Option, Some, None, List, is_some}
 use Rattle.rand_pcg.specs.Lcg.{Lcg}
 use Rattle.cps_model.specs.declared.model.CpModel.{CpModel}
@@ -99,15 +100,18 @@ DrawsBy seed number (in_rounds n) = n.draws ≡ draws_of seed (16 + number)
 
 -- one turn, in which the decision goes by a guidance
 abbrev pub TurnsBy : Guidance → ℕ → Search → Search → Part → Part → Turn → Type 0
-TurnsBy guidance rows s t p q turn = OneTurn ChoosesBy (λ before clause restart after. after ≡ before) (λ before after. after ≡ before) rows (s, guidance) (t, guidance) p q turn
+TurnsBy guidance rows s t p q turn = OneTurn ChoosesBy (λ before clause restart after. after ≡ before)
+    (λ before after. after ≡ before) rows (s, guidance) (t, guidance) p q turn
 
 -- turns one after another, none of which ended the worker, and each decision of which goes by a guidance
 abbrev pub TakesTurnsBy : Guidance → ℕ → Search → Search → Part → Part → Type 0
-TakesTurnsBy guidance rows s t p q = TakesTurns ChoosesBy (λ before clause restart after. after ≡ before) (λ before after. after ≡ before) rows (s, guidance) p (t, guidance) q
+TakesTurnsBy guidance rows s t p q = TakesTurns ChoosesBy (λ before clause restart after. after ≡ before)
+    (λ before after. after ≡ before) rows (s, guidance) p (t, guidance) q
 
 -- it is aimed at a solution of its model, or aims where it did
 abbrev pub IsAimed : Near → Near → Type 0
-IsAimed n aimed = (aimed ≡ n) ⊎ ((solution : List ℤ) × IsSolution n.search.instance.model solution × (aimed ≡ record n { aim = Some solution }))
+IsAimed n aimed = (aimed ≡ n)
+    ⊎ ((solution : List ℤ) × IsSolution n.search.instance.model solution × (aimed ≡ record n { aim = Some solution }))
 
 -- one turn of a worker that goes by a guidance, which was its last or not
 pub record TurnedBy (guidance : Guidance) (rows : ℕ) (s t : Search) (p q : Part) (over : Bool) : Type 0 where
@@ -130,14 +134,16 @@ pub record TurnedNear (rows : ℕ) (m n : Near) (p q : Part) (over : Bool) : Typ
 
 -- a worker took one turn, which was its last or not
 abbrev pub HasTurned : ℕ → AnySearch → AnySearch → Part → Part → Bool → Type 0
-HasTurned rows (by_guidance kind guidance s) (by_guidance same_kind same t) p q over = (same_kind ≡ kind) × (same ≡ guidance) × TurnedBy guidance rows s t p q over
+HasTurned rows (by_guidance kind guidance s) (by_guidance same_kind same t) p q over = (same_kind ≡ kind)
+    × (same ≡ guidance) × TurnedBy guidance rows s t p q over
 HasTurned rows (by_guidance kind guidance s) (in_rounds n) p q over = ⊥
 HasTurned rows (in_rounds m) (by_guidance kind guidance t) p q over = ⊥
 HasTurned rows (in_rounds m) (in_rounds n) p q over = TurnedNear rows m n p q over
 
 -- turns one after another, none of which ended the worker
 abbrev pub TakesTurnsAs : ℕ → AnySearch → AnySearch → Part → Part → Type 0
-TakesTurnsAs rows (by_guidance kind guidance s) (by_guidance same_kind same t) p q = (same_kind ≡ kind) × (same ≡ guidance) × TakesTurnsBy guidance rows s t p q
+TakesTurnsAs rows (by_guidance kind guidance s) (by_guidance same_kind same t) p q = (same_kind ≡ kind)
+    × (same ≡ guidance) × TakesTurnsBy guidance rows s t p q
 TakesTurnsAs rows (by_guidance kind guidance s) (in_rounds n) p q = ⊥
 TakesTurnsAs rows (in_rounds m) (by_guidance kind guidance t) p q = ⊥
 TakesTurnsAs rows (in_rounds m) (in_rounds n) p q = TakesNearTurns rows m p n q

@@ -112,12 +112,14 @@ fn take_turn(
     requires model { port.old.core.now.model ≡ (worker_search worker.old).instance.model }
     requires pool { pool.old.model ≡ (worker_search worker.old).instance.model }
     requires imported { (worker_search worker.old).imported ≤ length (part_at port.old.core.now actor).board.taken }
-    ensures same { (port.new.core.now.model ≡ port.old.core.now.model) × (length port.new.core.now.board.rows ≡ length port.old.core.now.board.rows) }
+    ensures same { (port.new.core.now.model ≡ port.old.core.now.model)
+        × (length port.new.core.now.board.rows ≡ length port.old.core.now.board.rows) }
     ensures idle { (board_part port.new.core.now.board actor).drawn ≡ None }
     ensures alone { ActsAlone actor actor port.old.core.now port.new.core.now }
     ensures pool { pool.new.model ≡ pool.old.model }
     ensures kind { kind_of worker.new ≡ kind_of worker.old }
-    ensures turn { IfOk result (HasTurned (length port.old.core.now.board.rows) (known_of worker.old) (known_of worker.new) (part_at port.old.core.now actor) (part_at port.new.core.now actor)) }
+    ensures turn { IfOk result (HasTurned (length port.old.core.now.board.rows) (known_of worker.old)
+        (known_of worker.new) (part_at port.old.core.now actor) (part_at port.new.core.now actor)) }
 {
     port.actor = actor;
     worker.turn(port, pool)
@@ -134,14 +136,18 @@ fn take_turns(
     requires count { (actor_count port.old.core.now ≡ length crew.old) × (length crew.old ≤ 16) }
     requires idle { (i : ℕ) → (board_part port.old.core.now.board i).drawn ≡ None }
     requires pool { pool.old.model ≡ port.old.core.now.model }
-    requires crew { AreTurning port.old.core.now.model options.now.gap options.now.conflicts (length port.old.core.now.board.rows) port.old.core.now crew.old }
+    requires crew { AreTurning port.old.core.now.model options.now.gap options.now.conflicts
+        (length port.old.core.now.board.rows) port.old.core.now crew.old }
     ensures same { OnOk result (port.new.core.now.model ≡ port.old.core.now.model) }
     ensures count { OnOk result (actor_count port.new.core.now ≡ actor_count port.old.core.now) }
     ensures len { length crew.new ≡ length crew.old }
     ensures actors { actor_count port.old.core.now ≡ length crew.new }
-    ensures crew { OnOk result (AreTurning port.old.core.now.model options.now.gap options.now.conflicts (length port.old.core.now.board.rows) port.new.core.now crew.new) }
+    ensures crew { OnOk result (AreTurning port.old.core.now.model options.now.gap options.now.conflicts
+        (length port.old.core.now.board.rows) port.new.core.now crew.new) }
     ensures over { OnOk result (count_at_work crew.new ≡ 0) }
-    ensures drawn { OnOk result ((words : Lcg) × TakesDrawnTurns (length port.old.core.now.board.rows) port.old.core.now crew.old (words_of_seed options.now.seed) port.new.core.now crew.new words) }
+    ensures drawn { OnOk result ((words : Lcg)
+        × TakesDrawnTurns (length port.old.core.now.board.rows) port.old.core.now crew.old
+        (words_of_seed options.now.seed) port.new.core.now crew.new words) }
 {
     let mut words = Lcg64Xsh32::new(options.seed, 0);
     'turns: loop {

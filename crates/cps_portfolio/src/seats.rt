@@ -49,7 +49,8 @@ pub fn work_all<R: Threads + Wait + Sync, G: Gate + Sync>(
     requires some { 0 < length crew.old }
     requires ready { All (IsReady pool.now.model.now) crew.old }
     ensures len { length crew.new ≡ length crew.old }
-    ensures each { (i : ℕ) (d : SeatedOf) → i < length crew.old → Worked (slice_index_or crew.old i d) (slice_index_or crew.new i d) }
+    ensures each { (i : ℕ) (d : SeatedOf) → i < length crew.old
+        → Worked (slice_index_or crew.old i d) (slice_index_or crew.new i d) }
 {
     thread::for_each_mut(
         rt,

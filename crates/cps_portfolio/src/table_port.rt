@@ -40,8 +40,10 @@ impl<'a> TablePort<'a> {
         ensures other_part { words.part_of result.bounds_seat ≡ newly (words.part_of self.old.bounds_seat) }
         ensures seat { boards.part_of self.new.board_seat ≡ boards.part_of self.old.board_seat }
         ensures other_seat { boards.part_of result.board_seat ≡ board_rows.newly (boards.part_of self.old.board_seat) }
-        ensures board_splits { boards.splits_of self.new.board_seat ≡ boards.splits_of self.old.board_seat - boards.splits_of self.old.board_seat / 2 }
-        ensures splits { words.splits_of self.new.bounds_seat ≡ words.splits_of self.old.bounds_seat - words.splits_of self.old.bounds_seat / 2 }
+        ensures board_splits { boards.splits_of self.new.board_seat
+            ≡ boards.splits_of self.old.board_seat - boards.splits_of self.old.board_seat / 2 }
+        ensures splits { words.splits_of self.new.bounds_seat
+            ≡ words.splits_of self.old.bounds_seat - words.splits_of self.old.bounds_seat / 2 }
         ensures other_splits { words.splits_of result.bounds_seat ≡ words.splits_of self.old.bounds_seat / 2 }
     {
         TablePort {
@@ -56,10 +58,12 @@ impl<'a> TablePort<'a> {
     pub fn join(&mut self, other: TablePort<'a>)
         requires { (other.board.now ≡ self.old.board.now) × (other.bounds.now ≡ self.old.bounds.now) }
         ensures tables { (self.new.board.now ≡ self.old.board.now) × (self.new.bounds.now ≡ self.old.bounds.now) }
-        ensures part { words.part_of self.new.bounds_seat ≡ both_parts (words.part_of self.old.bounds_seat) (words.part_of other.entry.bounds_seat) }
+        ensures part { words.part_of self.new.bounds_seat
+            ≡ both_parts (words.part_of self.old.bounds_seat) (words.part_of other.entry.bounds_seat) }
         ensures seat { boards.part_of self.new.board_seat
             ≡ board_rows.both_parts (boards.part_of self.old.board_seat) (boards.part_of other.entry.board_seat) }
-        ensures splits { words.splits_of self.new.bounds_seat ≡ min (words.splits_of self.old.bounds_seat + words.splits_of other.entry.bounds_seat) all_splits }
+        ensures splits { words.splits_of self.new.bounds_seat
+            ≡ min (words.splits_of self.old.bounds_seat + words.splits_of other.entry.bounds_seat) all_splits }
     {
         let TablePort {
             board: _,

@@ -47,10 +47,14 @@ fn seat_one<'a>(
     requires assumptions { HasNoAssumptions model.now }
     requires kinds { AreAllPropagated model.now }
     requires room { (2 ≤ boards.splits_of kept.old.board_seat) × (2 ≤ words.splits_of kept.old.bounds_seat) }
-    ensures tables { OnOk result ((kept.new.board.now ≡ kept.old.board.now) × (kept.new.bounds.now ≡ kept.old.bounds.now)) }
+    ensures tables { OnOk result ((kept.new.board.now ≡ kept.old.board.now)
+        × (kept.new.bounds.now ≡ kept.old.bounds.now)) }
     ensures part { OnOk result (words.part_of kept.new.bounds_seat ≡ words.part_of kept.old.bounds_seat) }
-    ensures board_splits { OnOk result (boards.splits_of kept.new.board_seat ≡ boards.splits_of kept.old.board_seat - boards.splits_of kept.old.board_seat / 2) }
-    ensures splits { OnOk result (words.splits_of kept.new.bounds_seat ≡ words.splits_of kept.old.bounds_seat - words.splits_of kept.old.bounds_seat / 2) }
+    ensures board_splits { OnOk result
+        (boards.splits_of kept.new.board_seat
+        ≡ boards.splits_of kept.old.board_seat - boards.splits_of kept.old.board_seat / 2) }
+    ensures splits { OnOk result (words.splits_of kept.new.bounds_seat
+        ≡ words.splits_of kept.old.bounds_seat - words.splits_of kept.old.bounds_seat / 2) }
     ensures given { IfOk result (λ c. words_splits c ≡ words.splits_of kept.old.bounds_seat / 2) }
     ensures seated { IfOk result (IsSeated model.entry.now options.now.gap options.now.conflicts kept.old.board.now kept.old.bounds.now number) }
 {
@@ -73,10 +77,13 @@ fn seat_all<'a>(
     requires range { AreInRange options.now }
     requires assumptions { HasNoAssumptions model.now }
     requires kinds { AreAllPropagated model.now }
-    requires whole { (boards.splits_of kept.old.board_seat ≡ all_splits) × (words.splits_of kept.old.bounds_seat ≡ all_splits) }
-    ensures tables { OnOk result ((kept.new.board.now ≡ kept.old.board.now) × (kept.new.bounds.now ≡ kept.old.bounds.now)) }
+    requires whole { (boards.splits_of kept.old.board_seat ≡ all_splits)
+        × (words.splits_of kept.old.bounds_seat ≡ all_splits) }
+    ensures tables { OnOk result ((kept.new.board.now ≡ kept.old.board.now)
+        × (kept.new.bounds.now ≡ kept.old.bounds.now)) }
     ensures part { OnOk result (words.part_of kept.new.bounds_seat ≡ words.part_of kept.old.bounds_seat) }
-    ensures splits { IfOk result (λ crew. words.splits_of kept.new.bounds_seat + total words_splits crew.items ≡ all_splits) }
+    ensures splits { IfOk result (λ crew. words.splits_of kept.new.bounds_seat + total words_splits crew.items
+        ≡ all_splits) }
     ensures count { IfOk result (λ crew. vec_len crew ≡ options.now.workers) }
     ensures crew { IfOk result (λ crew. IsCrew model.entry.now options.now.gap options.now.conflicts kept.old.board.now kept.old.bounds.now crew.items) }
 {
@@ -108,12 +115,15 @@ fn gather<'a>(
     kept: &mut TablePort<'a>,
     mut crew: Vec<Seated<'a>>,
 ) -> Result<Vec<Ended>, AllocError>
-    requires idle { ((words.part_of kept.old.bounds_seat).offered ≡ Bound.Infinite) × ((words.part_of kept.old.bounds_seat).raised ≡ None) }
+    requires idle { ((words.part_of kept.old.bounds_seat).offered ≡ Bound.Infinite)
+        × ((words.part_of kept.old.bounds_seat).raised ≡ None) }
     requires splits { words.splits_of kept.old.bounds_seat + total words_splits crew.items ≡ all_splits }
     requires crew { AreBack model.now options.now.gap options.now.conflicts kept.old.board.now kept.old.bounds.now crew.items }
     ensures tables { (kept.new.board.now ≡ kept.old.board.now) × (kept.new.bounds.now ≡ kept.old.bounds.now) }
     ensures splits { OnOk result (words.splits_of kept.new.bounds_seat ≡ all_splits) }
-    ensures gathered { IfOk result (λ ends. AreGathered model.now options.now.gap options.now.conflicts 0 (vec_len crew.entry) (words.part_of kept.new.bounds_seat) ends.items) }
+    ensures gathered { IfOk result
+        (λ ends. AreGathered model.now options.now.gap options.now.conflicts 0 (vec_len crew.entry)
+        (words.part_of kept.new.bounds_seat) ends.items) }
 {
     if is_any_refused(crew.as_slice()) {
         return Err(AllocError);

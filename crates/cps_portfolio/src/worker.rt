@@ -141,7 +141,8 @@ fn turn_of<B: Brancher + Drop, Q: Port, F: Pool>(
     ensures others { Q.stays port.old port.new }
     ensures pool { F.model pool.new ≡ F.model pool.old }
     ensures guidance { B.guidance worker.new.1 ≡ B.guidance worker.old.1 }
-    ensures turn { IfOk result (TurnedBy (B.guidance worker.old.1) (Q.rows port.old) worker.old.0 worker.new.0 (Q.part port.old) (Q.part port.new)) }
+    ensures turn { IfOk result (TurnedBy (B.guidance worker.old.1) (Q.rows port.old) worker.old.0 worker.new.0
+        (Q.part port.old) (Q.part port.new)) }
 {
     let turn = worker.turn(port)?;
     note_turn(pool, &turn, worker.best())
@@ -176,7 +177,8 @@ fn near_turn_of<Q: Port, F: Pool>(
     ensures same { (Q.model port.new ≡ Q.model port.old) × (Q.rows port.new ≡ Q.rows port.old) }
     ensures others { Q.stays port.old port.new }
     ensures pool { F.model pool.new ≡ F.model pool.old }
-    ensures turn { IfOk result (TurnedNear (Q.rows port.old) near.old.worker near.new.worker (Q.part port.old) (Q.part port.new)) }
+    ensures turn { IfOk result (TurnedNear (Q.rows port.old) near.old.worker near.new.worker (Q.part port.old)
+        (Q.part port.new)) }
 {
     aim(near, pool);
     let turn = near.worker.turn(port)?;
@@ -199,7 +201,8 @@ impl<'a> AnyWorker<'a> {
         requires range { AreInRange options.now }
         requires assumptions { HasNoAssumptions model.now }
         requires kinds { AreAllPropagated model.now }
-        ensures begins { IfOk result (λ worker. BeginsAs model.entry.now options.now.gap options.now.conflicts (known_of worker)) }
+        ensures begins { IfOk result (λ worker. BeginsAs model.entry.now options.now.gap options.now.conflicts
+            (known_of worker)) }
         ensures kind { IfOk result (λ worker. kind_of worker ≡ worker_kind number) }
         ensures draws { IfOk result (λ worker. DrawsBy options.now.seed number (known_of worker)) }
     {
@@ -223,7 +226,8 @@ impl<'a> AnyWorker<'a> {
         ensures same { (Q.model port.new ≡ Q.model port.old) × (Q.rows port.new ≡ Q.rows port.old) }
         ensures others { Q.stays port.old port.new }
         ensures kind { kind_of self.new ≡ kind_of self.old }
-        ensures runs { OnOk result (HasEnded (Q.rows port.old) (known_of self.old) (known_of self.new) (Q.part port.old) (Q.part port.new)) }
+        ensures runs { OnOk result (HasEnded (Q.rows port.old) (known_of self.old) (known_of self.new)
+            (Q.part port.old) (Q.part port.new)) }
     {
         'turns: loop {
             let over = self.turn(port, pool)?;
@@ -245,7 +249,8 @@ impl<'a> AnyWorker<'a> {
         ensures others { Q.stays port.old port.new }
         ensures pool { F.model pool.new ≡ F.model pool.old }
         ensures kind { kind_of self.new ≡ kind_of self.old }
-        ensures turn { IfOk result (HasTurned (Q.rows port.old) (known_of self.old) (known_of self.new) (Q.part port.old) (Q.part port.new)) }
+        ensures turn { IfOk result (HasTurned (Q.rows port.old) (known_of self.old) (known_of self.new)
+            (Q.part port.old) (Q.part port.new)) }
     {
         match self {
             AnyWorker::Fixed(worker) => turn_of(worker, port, pool),

@@ -6,7 +6,8 @@ use Rattle.cps_print.specs.Fields.{fields_of, number_field, list_field, message_
 
 abbrev pub printed_expression : LinearExpr → Message
 printed_expression e =
-    fields_of (list_field (codes "vars") e.vars ∷ list_field (codes "coeffs") e.coeffs ∷ number_field (codes "offset") e.offset ∷ [])
+    fields_of (list_field (codes "vars") e.vars ∷ list_field (codes "coeffs") e.coeffs ∷ number_field
+    (codes "offset") e.offset ∷ [])
 
 -- no terms, and the offset is 0
 abbrev pub is_zero_sum : List ℤ → List ℤ → ℤ → Bool

@@ -21,7 +21,8 @@ printed_literals literals = fields_of (list_field (codes "literals") literals �
 
 abbrev pub printed_linear : List ℤ → List ℤ → List ℤ → Message
 printed_linear vars coeffs domain =
-    fields_of (list_field (codes "vars") vars ∷ list_field (codes "coeffs") coeffs ∷ list_field (codes "domain") domain ∷ [])
+    fields_of (list_field (codes "vars") vars ∷ list_field (codes "coeffs") coeffs ∷ list_field
+    (codes "domain") domain ∷ [])
 
 -- a quotient, a remainder, a product or a greatest value
 abbrev pub printed_arithmetic : LinearExpr → List LinearExpr → Message
@@ -124,7 +125,8 @@ kind_field (AllDiff exprs) = message_field (codes "all_diff") (printed_all_diff 
 kind_field (Circuit tails heads literals) = message_field (codes "circuit") (printed_circuit tails heads literals)
 kind_field (Interval start end size) = message_field (codes "interval") (printed_interval start end size)
 kind_field (NoOverlap intervals) = message_field (codes "no_overlap") (printed_no_overlap intervals)
-kind_field (Cumulative capacity intervals demands) = message_field (codes "cumulative") (printed_cumulative capacity intervals demands)
+kind_field (Cumulative capacity intervals demands) = message_field (codes "cumulative")
+    (printed_cumulative capacity intervals demands)
 kind_field (Inverse direct inverse) = message_field (codes "inverse") (printed_inverse direct inverse)
 kind_field (Automaton start finals tails heads labels exprs) =
     message_field (codes "automaton") (printed_automaton start finals tails heads labels exprs)

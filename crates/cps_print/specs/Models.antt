@@ -20,7 +20,8 @@ printed_variable v = fields_of (text_field (codes "name") v.name ∷ list_field 
 
 abbrev pub printed_constraint : Constraint → Message
 printed_constraint c =
-    fields_of (text_field (codes "name") c.name ∷ list_field (codes "enforcement_literal") c.enforcement ∷ kind_field c.kind ∷ [])
+    fields_of (text_field (codes "name") c.name ∷ list_field
+    (codes "enforcement_literal") c.enforcement ∷ kind_field c.kind ∷ [])
 
 -- the scaling factor is left out where it is 1, too
 unfoldable pub scaling_field : ℤ → Message

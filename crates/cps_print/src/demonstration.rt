@@ -31,15 +31,16 @@ fn put_best(
 
 /// Appends the line of a status.
 fn put_status(text: &mut String, status: Status) -> Result<(), AllocError>
-    ensures { OnOk result (string_bytes text.new ≡ string_bytes text.old ++ line_of (codes "status") (status_name status)) }
+    ensures { OnOk result (string_bytes text.new
+        ≡ string_bytes text.old ++ line_of (codes "status") (status_name status)) }
 {
     text.push_str("status: ")?;
     text.push_str(status_name(status))?;
     text.push_str("\n")
 }
 
-/// The four lines of a demonstration: how many variables and constraints the model has, the status, and the objective at
-/// the solution.
+/// The four lines of a demonstration: how many variables and constraints the model has, the status, and the objective
+/// at the solution.
 pub fn demo_text(
     alloc: Global,
     model: &CpModel,

@@ -60,7 +60,8 @@ pub fn put_number_field(
     name: &str,
     value: i64,
 ) -> Result<(), AllocError>
-    ensures { OnOk result (string_bytes text.new ≡ string_bytes text.old ++ text_of level (number_field name.now value)) }
+    ensures { OnOk result (string_bytes text.new
+        ≡ string_bytes text.old ++ text_of level (number_field name.now value)) }
 {
     if value == 0 {
         return Ok(());
@@ -77,7 +78,8 @@ pub fn put_word_field(
     name: &str,
     word: &str,
 ) -> Result<(), AllocError>
-    ensures { OnOk result (string_bytes text.new ≡ string_bytes text.old ++ text_of level (word_field name.now word.now)) }
+    ensures { OnOk result (string_bytes text.new
+        ≡ string_bytes text.old ++ text_of level (word_field name.now word.now)) }
 {
     if word.is_empty() {
         return Ok(());
@@ -104,7 +106,8 @@ pub fn put_list_field<N: Integer>(
     name: &str,
     values: &[N],
 ) -> Result<(), AllocError>
-    ensures { OnOk result (string_bytes text.new ≡ string_bytes text.old ++ list_lines N.text level name.now values.now) }
+    ensures { OnOk result (string_bytes text.new
+        ≡ string_bytes text.old ++ list_lines N.text level name.now values.now) }
 {
     let Some((first, others)) = values.split_first() else {
         return Ok(());

@@ -1,10 +1,10 @@
 //! The texts that are written: a model in its canonical form, a response to it, the four lines of a demonstration, and
 //! the two lines that say why an input is no valid model.
 //!
-//! The contract of each function says its text exactly. A message is laid out by one definition for all kinds (`text_of`
-//! in `specs/Layout.antt`), and each part of a model adds only which fields it has (`specs/Models.antt`, and for what
-//! constraints demand `specs/Kinds.antt`). Every function appends to one text, so that a model is printed without a copy
-//! of any of its parts.
+//! The contract of each function says its text exactly. A message is laid out by one definition for all kinds
+//! (`text_of` in `specs/Layout.antt`), and each part of a model adds only which fields it has (`specs/Models.antt`, and
+//! for what constraints demand `specs/Kinds.antt`). Every function appends to one text, so that a model is printed
+//! without a copy of any of its parts.
 //!
 //! A model that was read is read back from its text, names, strategies and hint included: what is printed is cut into
 //! pieces that are the tokens (`proofs/Pieces.antt`, `proofs/Cuts.antt`), and the tree of these tokens shows the fields

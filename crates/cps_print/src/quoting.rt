@@ -50,7 +50,8 @@ fn put_quoted(text: &mut String, bytes: &[u8]) -> Result<(), AllocError>
 /// Appends the line of a text.
 #[tactic(auto, unfolding(crate::specs::Layout::value_line))]
 fn put_text_line(text: &mut String, level: usize, name: &str, value: &str) -> Result<(), AllocError>
-    ensures { OnOk result (string_bytes text.new ≡ string_bytes text.old ++ value_line level name.now (in_quotes value.now)) }
+    ensures { OnOk result (string_bytes text.new
+        ≡ string_bytes text.old ++ value_line level name.now (in_quotes value.now)) }
 {
     put_start(text, level, name)?;
     text.push_str(": ")?;
@@ -66,7 +67,8 @@ pub fn put_text_field(
     name: &str,
     value: &str,
 ) -> Result<(), AllocError>
-    ensures { OnOk result (string_bytes text.new ≡ string_bytes text.old ++ text_of level (text_field name.now value.now)) }
+    ensures { OnOk result (string_bytes text.new
+        ≡ string_bytes text.old ++ text_of level (text_field name.now value.now)) }
 {
     if value.is_empty() {
         return Ok(());

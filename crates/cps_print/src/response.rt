@@ -77,7 +77,8 @@ pub fn put_objective_value(
 ) -> Result<(), AllocError>
     requires limits { HasLimits objective.now }
     requires ready { IsTrue (is_ready_objective values.now (Some objective.now)) }
-    ensures { OnOk result (string_bytes text.new ≡ string_bytes text.old ++ value_lines objective.now (Some values.now)) }
+    ensures { OnOk result (string_bytes text.new
+        ≡ string_bytes text.old ++ value_lines objective.now (Some values.now)) }
 {
     let sum = sum_of(
         objective.vars.as_slice(),
@@ -167,8 +168,9 @@ fn put_answer(text: &mut String, model: &CpModel, response: &Response) -> Result
     }
 }
 
-/// The text of a response to a model. An optimal and a feasible response have a solution, at which the model's objective
-/// can be summed up, and every response but an infeasible one has a lower bound. An infeasible one has its core.
+/// The text of a response to a model. An optimal and a feasible response have a solution, at which the model's
+/// objective can be summed up, and every response but an infeasible one has a lower bound. An infeasible one has its
+/// core.
 pub fn response_text(
     alloc: Global,
     model: &CpModel,

@@ -17,8 +17,9 @@ fn put_in_order(numbers: &mut Vec<u32>, is_rising: bool)
     }
 }
 
-/// Numbers that are taken out in rounds, in which they rise and fall by turns. One that comes while a round is on waits for the next. So a
-/// chain of sums is gone along in both directions within two rounds, where in the order in which they come each link may take a round.
+/// Numbers that are taken out in rounds, in which they rise and fall by turns. One that comes while a round is on waits
+/// for the next. So a chain of sums is gone along in both directions within two rounds, where in the order in which
+/// they come each link may take a round.
 #[derive(Drop)]
 pub(crate) struct Rounds {
     /// What is left of this round: the last is taken first.

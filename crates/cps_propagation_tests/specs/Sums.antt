@@ -34,7 +34,10 @@ abbrev pub tripled_sum : DefinedSum
 tripled_sum = record { terms = record { coeff = pos 3; subject = 0 } ∷ []; offset = pos 5 }
 
 abbrev pub cut_task : ℤ → Task
-cut_task upper = record { enforcement = []; body = bodies.Cut (record { coeff = pos 1; subject = 0 } ∷ []) (Some upper) }
+cut_task upper = record {
+  enforcement = [];
+  body = bodies.Cut (record { coeff = pos 1; subject = 0 } ∷ []) (Some upper);
+}
 
 -- what asks of nothing
 abbrev pub idle_task : Task

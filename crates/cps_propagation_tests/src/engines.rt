@@ -172,7 +172,8 @@ fn explain_last(
     Ok(())
 }
 
-/// Where the first is at least 1, three times it and 5 is at least 8: puts the reason of that into a list. Whether that came out.
+/// Where the first is at least 1, three times it and 5 is at least 8: puts the reason of that into a list. Whether that
+/// came out.
 fn explain_sum(
     alloc: Global,
     engine: &mut Engine<Linear>,

@@ -46,7 +46,8 @@ fn one_clause(alloc: Global) -> Result<Listed<Constraint>, AllocError> {
     Ok(Listed::from_vec(constraints))
 }
 
-/// How many of each an instance has, whether its first task is the clause, and whether it is of a model without constraints.
+/// How many of each an instance has, whether its first task is the clause, and whether it is of a model without
+/// constraints.
 #[derive(Clone, Copy)]
 struct Sizes {
     variables: usize,
@@ -226,8 +227,8 @@ fn is_steered_over(instance: &Instance, subjects: &[u32]) -> bool {
     }
 }
 
-/// Whether the strategy is over sums of its own where an expression is no variable, whether these have the ends that they are
-/// to have, and how many tasks there are.
+/// Whether the strategy is over sums of its own where an expression is no variable, whether these have the ends that
+/// they are to have, and how many tasks there are.
 fn steered(alloc: Global, model: &ValidModel) -> Result<(bool, bool, usize), AllocError> {
     let instance = Instance::of(alloc, model)?;
     let is_steered = is_steered_over(&instance, &[1, 2, 3, 4, 5, 0]);

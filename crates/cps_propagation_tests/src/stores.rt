@@ -49,7 +49,15 @@ pub fn are_bits(from: u32, to: u32, atoms: &[Atom]) -> bool
 pub fn decide(store: &mut Store, atom: Atom) -> Result<bool, AllocError>
     ensures first { OnOk result (store.new.first ≡ store.old.first) }
     ensures notes { OnOk result (HasNoNotes store.old → HasNoNotes store.new) }
-    ensures decided { result ≡ Ok true → store.new ≡ record store.old { entries = store.old.entries ++ record { atom = atom; level = store.old.level + 1; reason = Decision } ∷ []; level = store.old.level + 1 } }
+    ensures decided { result ≡ Ok true
+        → store.new ≡ record store.old {
+          entries = store.old.entries ++ record {
+            atom = atom;
+            level = store.old.level + 1;
+            reason = Decision;
+          } ∷ [];
+          level = store.old.level + 1;
+        } }
 {
     if store.len() <= atom.subject as usize {
         return Ok(false);

@@ -98,8 +98,8 @@ fn ran(
     run(alloc, linear, &mut store)
 }
 
-/// Runs the propagator of a sum that is to lie in one of the intervals, after decisions. Whether it settles, and the conflict or
-/// the reason of the last entry; `None` also where a term or an atom is none of those above.
+/// Runs the propagator of a sum that is to lie in one of the intervals, after decisions. Whether it settles, and the
+/// conflict or the reason of the last entry; `None` also where a term or an atom is none of those above.
 fn trial(
     alloc: Global,
     enforcement: &[Atom],
@@ -165,8 +165,8 @@ fn ends_move_inwards_past_gaps(rt: HostRuntime) {
     assert!(rt; settled(run, &[at_least(0, 2), at_least(1, 2)]));
 }
 
-// With the second at least 2, three times the first is at most 8, and so the first at most 2. With the second at least 5 and none of
-// the first, five times the third is at most 9, and so the third at most 1.
+// With the second at least 2, three times the first is at most 8, and so the first at most 2. With the second at least
+// 5 and none of the first, five times the third is at most 9, and so the third at most 1.
 #[test]
 fn reasons_are_weakened_by_the_slack(rt: HostRuntime) {
     let alloc = rt.alloc();

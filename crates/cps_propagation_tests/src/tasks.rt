@@ -282,8 +282,8 @@ fn push_body(subjects: &mut Vec<i64>, body: &Body) -> Result<(), AllocError> {
     }
 }
 
-/// The subjects of each task. Its sums are: twice variable 2 is 4, it with 1 is 5, 7 is 6, its opposite is 7, it with 7 is
-/// 8, and 7 again is 9.
+/// The subjects of each task. Its sums are: twice variable 2 is 4, it with 1 is 5, 7 is 6, its opposite is 7, it with 7
+/// is 8, and 7 again is 9.
 const SUBJECTS: [&[i64]; 15] = [
     &[2, 2, 3],
     &[2, 4, 3],

@@ -9,11 +9,13 @@ use Rattle.cps_instance.specs.Terms.{domain_at, least_of, magnitude, terms_value
 use Rattle.cps_reform.specs.declared.held.Held.{Held}
 use Rattle.cps_reform.specs.Forms.{Form, IsRoomy, form_value}
 
--- a subject stands for a term: the coefficient's magnitude times its value is what the term is worth at each assignment, and it goes as far as
--- the term's subject
+-- a subject stands for a term: the coefficient's magnitude times its value is what the term is worth at each
+-- assignment, and it goes as far as the term's subject
 pub record Holds (p : Problem) (t : Term) (subject : ℕ) : Type 0 where
   pub within : subject < length p.domains
-  pub value : (a : List ℤ) → IsAssignment p.model a → pos (unsigned_abs t.coeff) *ℤ value_at (extended p.defs a) subject ≡ t.coeff *ℤ value_at (extended p.defs a) t.subject
+  pub value : (a : List ℤ) → IsAssignment p.model a
+      → pos (unsigned_abs t.coeff) *ℤ value_at (extended p.defs a) subject
+      ≡ t.coeff *ℤ value_at (extended p.defs a) t.subject
   pub reach : magnitude (domain_at p.domains subject) ≡ magnitude (domain_at p.domains t.subject)
 
 -- a term of a sum is held at its least value
@@ -23,8 +25,10 @@ pub record IsHeldFirst (p : Problem) (t : Term) (h : Held) : Type 0 where
   pub bound : h.bound ≡ least_of (domain_at p.domains h.subject)
   pub unmarked : h.in_core ≡ false
 
--- the first form of a sum of terms: each of them is held at its least value, and the base is such that the form is worth what the sum is
+-- the first form of a sum of terms: each of them is held at its least value, and the base is such that the form is
+-- worth what the sum is
 pub record IsFirstForm (p : Problem) (ts : List Term) (f : Form) : Type 0 where
   pub terms : AllZip (IsHeldFirst p) ts f.terms
-  pub worth : (a : List ℤ) → IsAssignment p.model a → form_value (extended p.defs a) f ≡ terms_value (extended p.defs a) ts
+  pub worth : (a : List ℤ) → IsAssignment p.model a
+      → form_value (extended p.defs a) f ≡ terms_value (extended p.defs a) ts
   pub roomy : IsRoomy p.domains f

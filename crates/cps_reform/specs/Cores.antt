@@ -55,7 +55,8 @@ split f m subject = record {
   terms = map (fallen m) f.terms ++ sum_held m subject f.terms ∷ [];
 }
 
--- A core can be split by its least weight, with the sum of its bounds plus 1 as a bound, and the base rises to at most a limit.
+-- A core can be split by its least weight, with the sum of its bounds plus 1 as a bound, and the base rises to at most
+-- a limit.
 pub record Splits (ds : Domains) (f : Form) (subject : ℕ) (limit : ℤ) (weight : ℕ) (bound : ℤ) : Type 0 where
   pub weight_is : weight ≡ least_weight f.terms
   pub bound_is : bound ≡ core_bound f.terms +ℤ pos 1
@@ -65,4 +66,5 @@ pub record Splits (ds : Domains) (f : Form) (subject : ℕ) (limit : ℤ) (weigh
 
 -- it cannot: the bound would pass the sum's greatest value, or the base the limit
 abbrev pub IsPastSplit : Domains → Form → ℕ → ℤ → Type 0
-IsPastSplit ds f subject limit = (greatest_of (domain_at ds subject) <ℤ (core_bound f.terms +ℤ pos 1)) ⊎ (limit <ℤ (f.base +ℤ pos (least_weight f.terms)))
+IsPastSplit ds f subject limit = (greatest_of (domain_at ds subject) <ℤ (core_bound f.terms +ℤ pos 1))
+    ⊎ (limit <ℤ (f.base +ℤ pos (least_weight f.terms)))

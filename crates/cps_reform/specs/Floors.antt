@@ -30,20 +30,23 @@ pub record IsReform (p : Problem) (z : Bound) (f : Form) : Type 0 where
 abbrev pub IsGreatest : CpModel → ℤ → Type 0
 IsGreatest m greatest = (a : List ℤ) → IsSolution m a → objective_value m a ≤ℤ greatest
 
--- A subject that is the sum of a form's core: it has the core's value at each assignment, and its domain runs from the core's least to the
--- core's greatest value.
+-- A subject that is the sum of a form's core: it has the core's value at each assignment, and its domain runs from the
+-- core's least to the core's greatest value.
 pub record IsCoreSum (p : Problem) (ts : List Held) (subject : ℕ) : Type 0 where
   pub within : subject < length p.domains
-  pub domain : domain_at p.domains subject ≡ (least_sum_of p.domains (core_sum ts), greatest_sum_of p.domains (core_sum ts)) ∷ []
-  pub value : (a : List ℤ) → IsAssignment p.model a → value_at (extended p.defs a) subject ≡ terms_value (extended p.defs a) (core_terms ts)
+  pub domain : domain_at p.domains subject
+      ≡ (least_sum_of p.domains (core_sum ts), greatest_sum_of p.domains (core_sum ts)) ∷ []
+  pub value : (a : List ℤ) → IsAssignment p.model a
+      → value_at (extended p.defs a) subject ≡ terms_value (extended p.defs a) (core_terms ts)
 
 -- no solution is below a bound
 abbrev pub NoneIsBelow : Problem → Bound → Type 0
 NoneIsBelow p z = OfEachBelow p z (λ xs. ⊥)
 
--- a form that no solution below z can have: its base is at least z or above the greatest objective by the domains, or a bound is above its
--- subject's greatest value
+-- a form that no solution below z can have: its base is at least z or above the greatest objective by the domains, or a
+-- bound is above its subject's greatest value
 pub data IsPast (z : Bound) (greatest : ℤ) (ds : Domains) (f : Form) : Type 0 where
   past_z : BoundLe z (At f.base) → IsPast z greatest ds f
   past_greatest : greatest <ℤ f.base → IsPast z greatest ds f
-  past_domain : (i : ℕ) → i < length f.terms → greatest_of (domain_at ds (term_at f.terms i).subject) <ℤ (term_at f.terms i).bound → IsPast z greatest ds f
+  past_domain : (i : ℕ) → i < length f.terms
+      → greatest_of (domain_at ds (term_at f.terms i).subject) <ℤ (term_at f.terms i).bound → IsPast z greatest ds f

@@ -55,7 +55,12 @@ term_at ts i = slice_index_or ts i no_term
 abbrev pub with_held : Domains → Form → ℕ → ℕ → Form
 with_held ds f weight subject = record {
   base = f.base +ℤ pos weight *ℤ least_of (domain_at ds subject);
-  terms = f.terms ++ record { weight = weight; subject = subject; bound = least_of (domain_at ds subject); in_core = false } ∷ [];
+  terms = f.terms ++ record {
+    weight = weight;
+    subject = subject;
+    bound = least_of (domain_at ds subject);
+    in_core = false;
+  } ∷ [];
 }
 
 -- the bound of one term rises, and the base by its weight times as much
@@ -74,4 +79,5 @@ pub record Lifts (ds : Domains) (f : Form) (i : ℕ) (bound limit : ℤ) (amount
 
 -- it cannot: the bound would pass its subject's greatest value, or the base the limit
 abbrev pub IsPastLift : Domains → Form → ℕ → ℤ → ℤ → Type 0
-IsPastLift ds f i bound limit = (greatest_of (domain_at ds (term_at f.terms i).subject) <ℤ bound) ⊎ (limit <ℤ (lifted f i bound).base)
+IsPastLift ds f i bound limit = (greatest_of (domain_at ds (term_at f.terms i).subject) <ℤ bound)
+    ⊎ (limit <ℤ (lifted f i bound).base)

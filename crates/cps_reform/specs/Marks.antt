@@ -9,8 +9,8 @@ use Rattle.cps_reform.specs.Forms.{Form, term_at}
 abbrev pub assumed : Held → Atom
 assumed t = record { subject = t.subject; op = Le; value = t.bound }
 
--- whether a term is in the core of a failed one, by the decisions behind the assumption that is false: it is the failed one itself, or its
--- assumption is among them
+-- whether a term is in the core of a failed one, by the decisions behind the assumption that is false: it is the failed
+-- one itself, or its assumption is among them
 pub record IsInCore (ts : List Held) (place : ℕ) (decisions : List Atom) (i : ℕ) : Type 0 where
   pub weighs : 1 ≤ (term_at ts i).weight
   pub led_to : (i ≡ place) ⊎ Contains decisions (assumed (term_at ts i))

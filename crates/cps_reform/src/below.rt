@@ -42,7 +42,8 @@ impl Reform {
         requires reform { IsReform instance.now z self.old }
         requires place { place < length self.old.terms }
         requires rises { (term_at self.old.terms place).bound ≤ℤ bound }
-        requires risen { OfEachBelow instance.now z (λ xs. bound ≤ℤ value_at xs (term_at self.old.terms place).subject) }
+        requires risen { OfEachBelow instance.now z
+            (λ xs. bound ≤ℤ value_at xs (term_at self.old.terms place).subject) }
         requires z { IsSmallBound z }
         requires greatest { IsGreatest instance.now.model greatest }
         requires small { unsigned_abs greatest < 2 ^ 62 }

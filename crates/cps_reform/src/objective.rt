@@ -80,7 +80,8 @@ pub fn objective_terms(alloc: Global, instance: &Instance<'_>) -> Result<Vec<Ter
 /// The greater of a coefficient times the one end of a domain and times the other.
 fn greatest_part(domain: &Domain, coeff: i64) -> i64
     requires { unsigned_abs coeff * magnitude (intervals domain.now) < 2 ^ 62 }
-    ensures { result ≡ int_max (coeff *ℤ least_of (intervals domain.now)) (coeff *ℤ greatest_of (intervals domain.now)) }
+    ensures { result ≡ int_max (coeff *ℤ least_of (intervals domain.now))
+        (coeff *ℤ greatest_of (intervals domain.now)) }
 {
     let first = coeff * domain.min();
     let second = coeff * domain.max();

@@ -34,7 +34,8 @@ IsSeen body s (Impossible hint) = IsImpossible body s
 
 -- a body holds where its subjects are fixed, and is as strong as its kind's rule
 pub record IsAtRest (body : Body) (s : Trail) : Type 0 where
-  pub decided : All (IsFixedNow s) (subjects_of_body body) → (xs : List ℤ) → AreOpen s xs (subjects_of_body body) → HoldsBody body xs
+  pub decided : All (IsFixedNow s) (subjects_of_body body) → (xs : List ℤ) → AreOpen s xs (subjects_of_body body)
+      → HoldsBody body xs
   pub strong : IsStrongBody body s
 
 -- an atom that is true in a store, and can be negated

@@ -46,7 +46,8 @@ pub trait Rule: Drop {
         ensures keeps { body self.new ≡ body self.old }
         ensures given { OnOk result (All (λ n. IsGiven (body self.old) store.now n.target) found.new.items) }
         ensures seen { IfOk result (IsSeen (body self.old) store.now) }
-        ensures rest { result ≡ Ok Look.Possible → All (λ n. IsTrueNow store.now n.target) found.new.items → IsAtRest (body self.old) store.now };
+        ensures rest { result ≡ Ok Look.Possible → All (λ n. IsTrueNow store.now n.target) found.new.items
+            → IsAtRest (body self.old) store.now };
 
     /// Fills a list anew with facts that were true and with which the body gives an atom. Answers false if it finds
     /// none. The hint is that of the narrowing, and is not trusted.

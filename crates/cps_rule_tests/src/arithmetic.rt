@@ -222,7 +222,8 @@ fn what_is_left_is_less_than_the_divisor(rt: HostRuntime) -> Result<(), Fail> {
     Ok(())
 }
 
-/// A kind, ends and decisions, and the reason of what is narrowed last, or the conflict. Bounds that each first value meets are in neither.
+/// A kind, ends and decisions, and the reason of what is narrowed last, or the conflict. Bounds that each first value
+/// meets are in neither.
 #[derive(Clone, Copy)]
 struct Told<'a> {
     kind: Kind,

@@ -180,8 +180,8 @@ fn box_that_must_overlap_is_absent(rt: HostRuntime) -> Result<(), Fail> {
     Ok(())
 }
 
-// The second's x ends from 3 on, so it is enough that the first's starts by 2; the second's y ends from 3 on, and the first's
-// starts by 0.
+// The second's x ends from 3 on, so it is enough that the first's starts by 2; the second's y ends from 3 on, and the
+// first's starts by 0.
 #[test]
 fn reasons_name_the_overlap_and_the_order(rt: HostRuntime) -> Result<(), Fail> {
     let alloc = rt.alloc();

@@ -1,7 +1,8 @@
-//! Tests of the rules over public calls: a propagator is made of a task and runs on a store of whole intervals, after decisions.
+//! Tests of the rules over public calls: a propagator is made of a task and runs on a store of whole intervals, after
+//! decisions.
 //!
-//! Each module has the rules of one group. What a run is to leave is worked out by hand from what the constraint says, and a row's
-//! comment says how.
+//! Each module has the rules of one group. What a run is to leave is worked out by hand from what the constraint says,
+//! and a row's comment says how.
 #![tactic(auto)]
 
 #[cfg(test)]

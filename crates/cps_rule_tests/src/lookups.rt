@@ -84,7 +84,8 @@ fn tabled(
     trial(alloc, &mut propagator, ends, decided)
 }
 
-/// Ends of the index, the target and three expressions, and what is left of them; nothing where the element cannot hold.
+/// Ends of the index, the target and three expressions, and what is left of them; nothing where the element cannot
+/// hold.
 #[derive(Clone, Copy)]
 struct Held<'a> {
     ends: [Ends; 5],
@@ -120,8 +121,8 @@ fn elements_keep_to_places_that_may_meet(rt: HostRuntime) -> Result<(), Fail> {
     Ok(())
 }
 
-/// Ends and decisions of an element, and the reason of what is narrowed last, or the conflict. Facts that each first value meets are in
-/// neither.
+/// Ends and decisions of an element, and the reason of what is narrowed last, or the conflict. Facts that each first
+/// value meets are in neither.
 #[derive(Clone, Copy)]
 struct Told<'a> {
     ends: [Ends; 5],

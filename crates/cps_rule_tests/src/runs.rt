@@ -122,8 +122,8 @@ fn left_by(alloc: Global, store: &Store) -> Result<Vec<Left>, AllocError> {
     Ok(left)
 }
 
-/// Runs a propagator to rest on a store, after decisions. Nothing where its task has other subjects than the store, or where
-/// a further run narrows more.
+/// Runs a propagator to rest on a store, after decisions. Nothing where its task has other subjects than the store, or
+/// where a further run narrows more.
 pub fn run<P: Propagator>(
     alloc: Global,
     propagator: &mut P,

@@ -178,8 +178,8 @@ fn one_without_room_in_a_window_comes_after_it(rt: HostRuntime) -> Result<(), Fa
 fn one_of_varying_length_takes_what_it_takes_at_least(rt: HostRuntime) -> Result<(), Fail> {
     let shapes = [varying(0, 1), fixed(2, 2), fixed(3, 2), fixed(4, 1)];
     let rows = [
-        // the first runs from 2 to 8 at least, and with the next two fills the time up to 10; there is no room for 4 before it
-        // or after it
+        // the first runs from 2 to 8 at least, and with the next two fills the time up to 10; there is no room for 4
+        // before it or after it
         Row {
             shapes: &shapes,
             ends: &[(0, 2), (8, 10), (0, 8), (0, 8), (0, 20)],

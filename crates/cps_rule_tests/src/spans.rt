@@ -10,8 +10,8 @@ use cps_model::Listed;
 use cps_trail::Store;
 use std::alloc::{AllocError, Global};
 
-/// A span: the subjects of its start and of its end, how long it is where that is fixed, and the subject that is 1 where it is
-/// present, if it may be absent.
+/// A span: the subjects of its start and of its end, how long it is where that is fixed, and the subject that is 1
+/// where it is present, if it may be absent.
 #[derive(Clone, Copy)]
 pub struct Shape {
     start: u32,

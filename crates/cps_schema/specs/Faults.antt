@@ -79,13 +79,15 @@ is_other_form form other = false
 unfoldable pub has_other_form : Message → Form → List (List ℕ) → Bool
 has_other_form m form names = list_any (λ name. is_other_form form (use_of m name)) names
 
--- what is wrong with a field's name, given the names that are closed and those of the fields before it in the same message
+-- what is wrong with a field's name, given the names that are closed and those of the fields before it in the same
+-- message
 abbrev pub name_fault : List (List ℕ) → Message → List (List ℕ) → List ℕ → Option Use → Option FaultName
 name_fault closed m before name None = Some UnknownField
 name_fault closed m before name (Some unread) = Some Unsupported
 name_fault closed m before name (Some (repeated content)) = None
 name_fault closed m before name (Some (closable content)) = if is_given closed name then Some Unsupported else None
-name_fault closed m before name (Some (formed form content)) = if has_other_form m form before then Some MixedForms else None
+name_fault closed m before name
+    (Some (formed form content)) = if has_other_form m form before then Some MixedForms else None
 name_fault closed m before name (Some (formed_single form content)) =
     if is_given before name then Some Repeated
     else (if has_other_form m form before then Some MixedForms else None)

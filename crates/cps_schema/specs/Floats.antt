@@ -50,8 +50,8 @@ raised exponent = if is_minus exponent then 0 else exponent_size exponent
 abbrev pub lowered : List ℕ → ℕ
 lowered exponent = if is_minus exponent then exponent_size exponent else 0
 
--- The float is the whole number n. Its digits, read as one number, times the power of ten that its exponent and the digits behind
--- its point make are n; both sides are multiplied by the power's denominator, so that they are whole.
+-- The float is the whole number n. Its digits, read as one number, times the power of ten that its exponent and the
+-- digits behind its point make are n; both sides are multiplied by the power's denominator, so that they are whole.
 abbrev pub Denotes : List ℕ → ℕ → Type 0
 Denotes text n =
     decimal_value (whole_digits text ++ fraction_digits text) * 10 ^ raised (exponent_text text)
@@ -67,8 +67,10 @@ is_zero c = c == 48
 -- the whole number that digits write with the point behind so many of them; those behind the point must all be 0
 abbrev pub with_point : ℕ → List ℕ → Option ℕ
 with_point place digits =
-    if list_all is_zero (drop place digits) then Some (decimal_value (take place digits) * 10 ^ (place - length digits)) else None
+    if list_all is_zero (drop place digits) then Some
+    (decimal_value (take place digits) * 10 ^ (place - length digits)) else None
 
 -- the whole number that a float writes, if it writes one
 unfoldable pub float_value : List ℕ → Option ℕ
-float_value text = with_point (moved (length (whole_digits text)) (exponent_text text)) (whole_digits text ++ fraction_digits text)
+float_value text = with_point (moved (length (whole_digits text)) (exponent_text text))
+    (whole_digits text ++ fraction_digits text)

@@ -96,17 +96,66 @@ joined a b = record {
 
 -- of one field with these values
 abbrev pub found_in : Written → Contents → Values → Found
-found_in w References vs = record { given = true; references = value_numbers w vs; numbers = []; truths = []; expressions = [] }
-found_in w Numbers vs = record { given = true; references = []; numbers = value_numbers w vs; truths = []; expressions = [] }
-found_in w Truths vs = record { given = true; references = []; numbers = []; truths = value_truths w vs; expressions = [] }
-found_in w Expressions vs = record { given = true; references = []; numbers = []; truths = []; expressions = map (read_expression w) (value_messages vs) }
+found_in w References vs = record {
+  given = true;
+  references = value_numbers w vs;
+  numbers = [];
+  truths = [];
+  expressions = [];
+}
+found_in w Numbers vs = record {
+  given = true;
+  references = [];
+  numbers = value_numbers w vs;
+  truths = [];
+  expressions = [];
+}
+found_in w Truths vs = record {
+  given = true;
+  references = [];
+  numbers = [];
+  truths = value_truths w vs;
+  expressions = [];
+}
+found_in w Expressions vs = record {
+  given = true;
+  references = [];
+  numbers = [];
+  truths = [];
+  expressions = map (read_expression w)
+      (value_messages vs);
+}
 
 -- of all fields of a name
 abbrev pub found_of : Written → Contents → List ℕ → Tree → Found
-found_of w References name tree = record { given = gives w name tree; references = numbers w name tree; numbers = []; truths = []; expressions = [] }
-found_of w Numbers name tree = record { given = gives w name tree; references = []; numbers = numbers w name tree; truths = []; expressions = [] }
-found_of w Truths name tree = record { given = gives w name tree; references = []; numbers = []; truths = truths w name tree; expressions = [] }
-found_of w Expressions name tree = record { given = gives w name tree; references = []; numbers = []; truths = []; expressions = expressions w name tree }
+found_of w References name tree = record {
+  given = gives w name tree;
+  references = numbers w name tree;
+  numbers = [];
+  truths = [];
+  expressions = [];
+}
+found_of w Numbers name tree = record {
+  given = gives w name tree;
+  references = [];
+  numbers = numbers w name tree;
+  truths = [];
+  expressions = [];
+}
+found_of w Truths name tree = record {
+  given = gives w name tree;
+  references = [];
+  numbers = [];
+  truths = truths w name tree;
+  expressions = [];
+}
+found_of w Expressions name tree = record {
+  given = gives w name tree;
+  references = [];
+  numbers = [];
+  truths = [];
+  expressions = expressions w name tree;
+}
 
 -- of all fields of a line
 abbrev pub found : Written → Tree → Line → Found
@@ -157,7 +206,8 @@ many_fault w one f = if one then alone_fault w f.name (is_alone f.list (values_o
 abbrev pub line_fault : Written → Takes → Bool → Option Form → Field → Option (FaultName × ℕ)
 line_fault w takes given form f =
     option_or (refused_at f.name (again_fault (takes_one takes && given) (is_mixed form (form_taken takes))))
-    (option_or (many_fault w (takes_one takes) f) (values_fault w (Some (content_taken (contents_of takes))) (values_of f.items)))
+    (option_or (many_fault w (takes_one takes) f)
+    (values_fault w (Some (content_taken (contents_of takes))) (values_of f.items)))
 
 -- the form that was read behind a field of a line
 abbrev pub form_behind : Option Form → Takes → Option Form

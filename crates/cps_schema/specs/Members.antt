@@ -66,7 +66,8 @@ abbrev pub member_of : Enum → Bool → Option TokenKind → List ℕ → Resul
 member_of enum negative (Some Identifier) text = member_named enum negative text
 member_of enum negative (Some Decimal) text = member_numbered (fitted Int32 negative (token_size (Some Decimal) text))
 member_of enum negative (Some Octal) text = member_numbered (fitted Int32 negative (token_size (Some Octal) text))
-member_of enum negative (Some Hexadecimal) text = member_numbered (fitted Int32 negative (token_size (Some Hexadecimal) text))
+member_of enum negative (Some Hexadecimal) text = member_numbered
+    (fitted Int32 negative (token_size (Some Hexadecimal) text))
 member_of enum negative other text = Err WrongKind
 
 -- the same of the scalar that begins at this token

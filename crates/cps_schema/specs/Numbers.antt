@@ -71,7 +71,8 @@ kind_fault type fit None = Some WrongKind
 -- the number of this size and sign, where there is a size and the type has the number
 abbrev pub fitted : Number → Bool → Option ℕ → Option ℤ
 fitted type negative None = None
-fitted type negative (Some size) = if fits type (signed_value negative size) then Some (signed_value negative size) else None
+fitted type negative (Some size) = if fits type (signed_value negative size) then Some
+    (signed_value negative size) else None
 
 -- what is wrong with the scalar that begins at this token as a number of this type
 unfoldable pub number_fault : Written → Number → ℕ → Option FaultName

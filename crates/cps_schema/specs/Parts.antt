@@ -96,9 +96,11 @@ strategy_from w parts rest = record {
       (parts.exprs.items ++ map (read_expression w) (messages w (codes "exprs") rest))
       ++ map reference_expression (parts.variables.items ++ numbers w (codes "variables") rest);
   choose = first_or First
-      (option_to_list parts.choose ++ map choose_of (members w VariableSelection (codes "variable_selection_strategy") rest));
+      (option_to_list parts.choose ++ map choose_of
+      (members w VariableSelection (codes "variable_selection_strategy") rest));
   select = first_or MinValue
-      (option_to_list parts.select ++ map select_of (members w DomainReduction (codes "domain_reduction_strategy") rest));
+      (option_to_list parts.select ++ map select_of
+      (members w DomainReduction (codes "domain_reduction_strategy") rest));
 }
 
 -- a form is known, and it is the other one

@@ -176,7 +176,8 @@ read_newer_element w tree =
 
 abbrev pub read_older_element : Written → Tree → Kind
 read_older_element w tree =
-    Element (reference_expression (the_number w (codes "index") tree)) (reference_expression (the_number w (codes "target") tree))
+    Element (reference_expression (the_number w (codes "index") tree))
+    (reference_expression (the_number w (codes "target") tree))
     (references w (codes "vars") tree)
 
 abbrev pub read_element : Written → Tree → Kind
@@ -188,7 +189,8 @@ expressions_of_a_form w tree = expressions w (codes "exprs") tree ++ references 
 
 abbrev pub read_table : Written → Tree → Kind
 read_table w tree =
-    Table (expressions_of_a_form w tree) (numbers w (codes "values") tree) (first_or false (truths w (codes "negated") tree))
+    Table (expressions_of_a_form w tree) (numbers w (codes "values") tree)
+    (first_or false (truths w (codes "negated") tree))
 
 abbrev pub read_circuit : Written → Tree → Kind
 read_circuit w tree =
@@ -196,7 +198,8 @@ read_circuit w tree =
 
 abbrev pub read_interval : Written → Tree → Kind
 read_interval w tree =
-    Interval (the_expression w (codes "start") tree) (the_expression w (codes "end") tree) (the_expression w (codes "size") tree)
+    Interval (the_expression w (codes "start") tree) (the_expression w (codes "end") tree)
+    (the_expression w (codes "size") tree)
 
 abbrev pub read_cumulative : Written → Tree → Kind
 read_cumulative w tree =
@@ -281,7 +284,8 @@ read_objective w tree = record {
 -- A strategy's expressions are given in the newer or the older form. One without a fault has not both.
 abbrev pub read_strategy : Written → Tree → Strategy
 read_strategy w tree = record {
-  exprs = map (read_expression w) (messages w (codes "exprs") tree) ++ map reference_expression (numbers w (codes "variables") tree);
+  exprs = map (read_expression w) (messages w (codes "exprs") tree) ++ map reference_expression
+      (numbers w (codes "variables") tree);
   choose = first_or First (map choose_of (members w VariableSelection (codes "variable_selection_strategy") tree));
   select = first_or MinValue (map select_of (members w DomainReduction (codes "domain_reduction_strategy") tree));
 }

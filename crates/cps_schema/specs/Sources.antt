@@ -20,4 +20,5 @@ written_of s = record { bytes = s.bytes.now; tokens = s.tokens.now; closed = nam
 -- what is wrong with a field that takes one value, its name apart
 abbrev pub single_fault : Written → Content → Field → Option (FaultName × ℕ)
 single_fault w content f =
-    option_or (alone_fault w f.name (is_alone f.list (values_of f.items))) (values_fault w (Some content) (values_of f.items))
+    option_or (alone_fault w f.name (is_alone f.list (values_of f.items)))
+    (values_fault w (Some content) (values_of f.items))

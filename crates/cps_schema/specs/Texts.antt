@@ -31,4 +31,5 @@ joined w first end = flat_map (string_value w.bytes) (scalar_tokens w first end)
 -- the text that a scalar writes: all its tokens are strings, and their bytes together are UTF-8
 unfoldable pub text_at : Written → ℕ → ℕ → Option (List ℕ)
 text_at w first end =
-    if list_all is_string (scalar_tokens w first end) && is_utf8 (joined w first end) then Some (joined w first end) else None
+    if list_all is_string (scalar_tokens w first end) && is_utf8 (joined w first end) then Some
+    (joined w first end) else None

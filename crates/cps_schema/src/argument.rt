@@ -30,10 +30,14 @@ struct Argument {
 
 /// The target and the expressions that a message gives.
 fn read_argument(alloc: Global, source: &Source, node: &Node) -> Result<Argument, SchemaError>
-    ensures accepted { IfOk result (λ _. fields_fault (written_of source.now) linear_argument_message [] (tree_of node.now) ≡ None) }
-    ensures target { IfOk result (λ argument. argument.target ≡ the_expression (written_of source.now) (codes "target") (tree_of node.now)) }
-    ensures exprs { IfOk result (λ argument. argument.exprs ≡ expressions (written_of source.now) (codes "exprs") (tree_of node.now)) }
-    ensures err { IfErr result (Refuses (fields_fault (written_of source.now) linear_argument_message [] (tree_of node.now))) }
+    ensures accepted { IfOk result
+        (λ _. fields_fault (written_of source.now) linear_argument_message [] (tree_of node.now) ≡ None) }
+    ensures target { IfOk result (λ argument. argument.target
+        ≡ the_expression (written_of source.now) (codes "target") (tree_of node.now)) }
+    ensures exprs { IfOk result (λ argument. argument.exprs
+        ≡ expressions (written_of source.now) (codes "exprs") (tree_of node.now)) }
+    ensures err { IfErr result (Refuses
+        (fields_fault (written_of source.now) linear_argument_message [] (tree_of node.now))) }
 {
     let mut slots = match gather(alloc, source, &FIELDS, node) {
         Ok(slots) => slots.into_iter(),
@@ -47,9 +51,11 @@ fn read_argument(alloc: Global, source: &Source, node: &Node) -> Result<Argument
 
 /// The quotient that a message gives.
 pub(crate) fn read_int_div(alloc: Global, source: &Source, node: &Node) -> Result<Kind, SchemaError>
-    ensures accepted { IfOk result (λ _. fields_fault (written_of source.now) linear_argument_message [] (tree_of node.now) ≡ None) }
+    ensures accepted { IfOk result
+        (λ _. fields_fault (written_of source.now) linear_argument_message [] (tree_of node.now) ≡ None) }
     ensures reading { IfOk result (λ kind. kind ≡ read_int_div (written_of source.now) (tree_of node.now)) }
-    ensures err { IfErr result (Refuses (fields_fault (written_of source.now) linear_argument_message [] (tree_of node.now))) }
+    ensures err { IfErr result (Refuses
+        (fields_fault (written_of source.now) linear_argument_message [] (tree_of node.now))) }
 {
     let Argument { target, exprs } = read_argument(alloc, source, node)?;
     Ok(Kind::IntDiv { target, exprs })
@@ -57,9 +63,11 @@ pub(crate) fn read_int_div(alloc: Global, source: &Source, node: &Node) -> Resul
 
 /// The remainder that a message gives.
 pub(crate) fn read_int_mod(alloc: Global, source: &Source, node: &Node) -> Result<Kind, SchemaError>
-    ensures accepted { IfOk result (λ _. fields_fault (written_of source.now) linear_argument_message [] (tree_of node.now) ≡ None) }
+    ensures accepted { IfOk result
+        (λ _. fields_fault (written_of source.now) linear_argument_message [] (tree_of node.now) ≡ None) }
     ensures reading { IfOk result (λ kind. kind ≡ read_int_mod (written_of source.now) (tree_of node.now)) }
-    ensures err { IfErr result (Refuses (fields_fault (written_of source.now) linear_argument_message [] (tree_of node.now))) }
+    ensures err { IfErr result (Refuses
+        (fields_fault (written_of source.now) linear_argument_message [] (tree_of node.now))) }
 {
     let Argument { target, exprs } = read_argument(alloc, source, node)?;
     Ok(Kind::IntMod { target, exprs })
@@ -71,9 +79,11 @@ pub(crate) fn read_int_prod(
     source: &Source,
     node: &Node,
 ) -> Result<Kind, SchemaError>
-    ensures accepted { IfOk result (λ _. fields_fault (written_of source.now) linear_argument_message [] (tree_of node.now) ≡ None) }
+    ensures accepted { IfOk result
+        (λ _. fields_fault (written_of source.now) linear_argument_message [] (tree_of node.now) ≡ None) }
     ensures reading { IfOk result (λ kind. kind ≡ read_int_prod (written_of source.now) (tree_of node.now)) }
-    ensures err { IfErr result (Refuses (fields_fault (written_of source.now) linear_argument_message [] (tree_of node.now))) }
+    ensures err { IfErr result (Refuses
+        (fields_fault (written_of source.now) linear_argument_message [] (tree_of node.now))) }
 {
     let Argument { target, exprs } = read_argument(alloc, source, node)?;
     Ok(Kind::IntProd { target, exprs })
@@ -81,9 +91,11 @@ pub(crate) fn read_int_prod(
 
 /// The greatest that a message gives.
 pub(crate) fn read_lin_max(alloc: Global, source: &Source, node: &Node) -> Result<Kind, SchemaError>
-    ensures accepted { IfOk result (λ _. fields_fault (written_of source.now) linear_argument_message [] (tree_of node.now) ≡ None) }
+    ensures accepted { IfOk result
+        (λ _. fields_fault (written_of source.now) linear_argument_message [] (tree_of node.now) ≡ None) }
     ensures reading { IfOk result (λ kind. kind ≡ read_lin_max (written_of source.now) (tree_of node.now)) }
-    ensures err { IfErr result (Refuses (fields_fault (written_of source.now) linear_argument_message [] (tree_of node.now))) }
+    ensures err { IfErr result (Refuses
+        (fields_fault (written_of source.now) linear_argument_message [] (tree_of node.now))) }
 {
     let Argument { target, exprs } = read_argument(alloc, source, node)?;
     Ok(Kind::LinMax { target, exprs })

@@ -24,9 +24,11 @@ const FIELDS: [Line; 2] = [
 
 /// The boxes that a message gives.
 pub(crate) fn read_boxes(alloc: Global, source: &Source, node: &Node) -> Result<Kind, SchemaError>
-    ensures accepted { IfOk result (λ _. fields_fault (written_of source.now) no_overlap_2d_message [] (tree_of node.now) ≡ None) }
+    ensures accepted { IfOk result
+        (λ _. fields_fault (written_of source.now) no_overlap_2d_message [] (tree_of node.now) ≡ None) }
     ensures reading { IfOk result (λ kind. kind ≡ read_boxes (written_of source.now) (tree_of node.now)) }
-    ensures err { IfErr result (Refuses (fields_fault (written_of source.now) no_overlap_2d_message [] (tree_of node.now))) }
+    ensures err { IfErr result (Refuses
+        (fields_fault (written_of source.now) no_overlap_2d_message [] (tree_of node.now))) }
 {
     let mut slots = match gather(alloc, source, &FIELDS, node) {
         Ok(slots) => slots.into_iter(),

@@ -25,7 +25,8 @@ const FIELDS: [Line; 3] = [
 
 /// The circuit that a message gives.
 pub(crate) fn read_circuit(alloc: Global, source: &Source, node: &Node) -> Result<Kind, SchemaError>
-    ensures accepted { IfOk result (λ _. fields_fault (written_of source.now) circuit_message [] (tree_of node.now) ≡ None) }
+    ensures accepted { IfOk result
+        (λ _. fields_fault (written_of source.now) circuit_message [] (tree_of node.now) ≡ None) }
     ensures reading { IfOk result (λ kind. kind ≡ read_circuit (written_of source.now) (tree_of node.now)) }
     ensures err { IfErr result (Refuses (fields_fault (written_of source.now) circuit_message [] (tree_of node.now))) }
 {

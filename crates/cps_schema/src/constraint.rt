@@ -82,9 +82,12 @@ fn constraint_of(alloc: Global, parts: ConstraintParts) -> Constraint
 
 /// The constraint that a message gives.
 fn read_constraint(alloc: Global, source: &Source, node: &Node) -> Result<Constraint, SchemaError>
-    ensures accepted { IfOk result (λ _. fields_fault (written_of source.now) constraint_message [] (tree_of node.now) ≡ None) }
-    ensures reading { IfOk result (λ constraint. constraint ≡ read_constraint (written_of source.now) (tree_of node.now)) }
-    ensures err { IfErr result (Refuses (fields_fault (written_of source.now) constraint_message [] (tree_of node.now))) }
+    ensures accepted { IfOk result
+        (λ _. fields_fault (written_of source.now) constraint_message [] (tree_of node.now) ≡ None) }
+    ensures reading { IfOk result
+        (λ constraint. constraint ≡ read_constraint (written_of source.now) (tree_of node.now)) }
+    ensures err { IfErr result (Refuses
+        (fields_fault (written_of source.now) constraint_message [] (tree_of node.now))) }
 {
     let mut parts = ConstraintParts {
         name: None,

@@ -60,7 +60,8 @@ fn older_element(
 
 /// The element that a message gives.
 pub(crate) fn read_element(alloc: Global, source: &Source, node: &Node) -> Result<Kind, SchemaError>
-    ensures accepted { IfOk result (λ _. fields_fault (written_of source.now) element_message [] (tree_of node.now) ≡ None) }
+    ensures accepted { IfOk result
+        (λ _. fields_fault (written_of source.now) element_message [] (tree_of node.now) ≡ None) }
     ensures reading { IfOk result (λ kind. kind ≡ read_element (written_of source.now) (tree_of node.now)) }
     ensures err { IfErr result (Refuses (fields_fault (written_of source.now) element_message [] (tree_of node.now))) }
 {

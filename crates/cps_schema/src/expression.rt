@@ -76,9 +76,12 @@ fn expression_of(parts: ExpressionParts) -> LinearExpr
 
 /// The expression that a message gives.
 fn read_expression(alloc: Global, source: &Source, node: &Node) -> Result<LinearExpr, SchemaError>
-    ensures accepted { IfOk result (λ _. fields_fault (written_of source.now) expression_message [] (tree_of node.now) ≡ None) }
-    ensures reading { IfOk result (λ expression. expression ≡ read_expression (written_of source.now) (tree_of node.now)) }
-    ensures err { IfErr result (Refuses (fields_fault (written_of source.now) expression_message [] (tree_of node.now))) }
+    ensures accepted { IfOk result
+        (λ _. fields_fault (written_of source.now) expression_message [] (tree_of node.now) ≡ None) }
+    ensures reading { IfOk result
+        (λ expression. expression ≡ read_expression (written_of source.now) (tree_of node.now)) }
+    ensures err { IfErr result (Refuses
+        (fields_fault (written_of source.now) expression_message [] (tree_of node.now))) }
 {
     let mut parts = ExpressionParts {
         vars: Vec::new(alloc),

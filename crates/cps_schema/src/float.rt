@@ -1,8 +1,8 @@
 //! Floats that are whole numbers.
 //!
 //! A float is read by moving its point: the digits before it are a whole number, and all others must be 0. So no
-//! arithmetic of floats is used, and no digit is rounded away. Where an exponent is great only its size is compared with
-//! the count of digits.
+//! arithmetic of floats is used, and no digit is rounded away. Where an exponent is great only its size is compared
+//! with the count of digits.
 ghost use Rattle.std.specs.Prelude.{◌≡◌, ◌*◌, ◌^◌, ◌≤◌, ◌&&◌, ◌++◌, length, take, drop};
 ghost use Rattle.std.specs.Option.{option_map};
 ghost use Rattle.std.specs.List.{list_all, prefix_len};

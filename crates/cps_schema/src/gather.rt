@@ -163,11 +163,15 @@ fn add_values(
     slot: &mut Slot,
     field: &Field,
 ) -> Result<(), SchemaError>
-    ensures fault { OnOk result (values_fault (written_of source.now) (Some (content_taken (contents_of slot.old.line.1))) (values_of field.now.items) ≡ None) }
+    ensures fault { OnOk result (values_fault (written_of source.now)
+        (Some (content_taken (contents_of slot.old.line.1))) (values_of field.now.items) ≡ None) }
     ensures added { OnOk result (held slot.new
-        ≡ joined (held slot.old) (found_in (written_of source.now) (contents_of slot.old.line.1) (values_of field.now.items))) }
+        ≡ joined (held slot.old) (found_in (written_of source.now) (contents_of slot.old.line.1)
+        (values_of field.now.items))) }
     ensures line { slot.new.line ≡ slot.old.line }
-    ensures err { IfErr result (Refuses (values_fault (written_of source.now) (Some (content_taken (contents_of slot.old.line.1))) (values_of field.now.items))) }
+    ensures err { IfErr result (Refuses
+        (values_fault (written_of source.now) (Some (content_taken (contents_of slot.old.line.1)))
+        (values_of field.now.items))) }
 {
     slot.given = true;
     match contents_of(slot.line.1) {
@@ -186,13 +190,16 @@ fn add_to(
     form: &mut Option<Form>,
     field: &Field,
 ) -> Result<(), SchemaError>
-    ensures fault { OnOk result (line_fault (written_of source.now) slot.old.line.1 slot.old.given form.old field.now ≡ None) }
+    ensures fault { OnOk result (line_fault (written_of source.now) slot.old.line.1 slot.old.given form.old field.now
+        ≡ None) }
     ensures added { OnOk result (held slot.new
-        ≡ joined (held slot.old) (found_in (written_of source.now) (contents_of slot.old.line.1) (values_of field.now.items))) }
+        ≡ joined (held slot.old) (found_in (written_of source.now) (contents_of slot.old.line.1)
+        (values_of field.now.items))) }
     ensures line { OnOk result (slot.new.line ≡ slot.old.line) }
     ensures same { OnOk result (is_mixed form.old (form_taken slot.old.line.1) ≡ false) }
     ensures form { OnOk result (form.new ≡ form_behind form.old slot.old.line.1) }
-    ensures err { IfErr result (Refuses (line_fault (written_of source.now) slot.old.line.1 slot.old.given form.old field.now)) }
+    ensures err { IfErr result (Refuses
+        (line_fault (written_of source.now) slot.old.line.1 slot.old.given form.old field.now)) }
 {
     let takes = slot.line.1;
     let one = takes_one(takes);
@@ -269,9 +276,13 @@ pub(crate) fn gather(
     node: &Node,
 ) -> Result<Vec<Slot>, SchemaError>
     requires { are_apart lines.now ≡ true }
-    ensures accepted { IfOk result (λ _. (m : Message) → IsTableOf m lines.now → fields_fault (written_of source.now) m [] (tree_of node.now) ≡ None) }
-    ensures reading { IfOk result (λ slots. map held slots.items ≡ map (found (written_of source.now) (tree_of node.now)) lines.now) }
-    ensures err { IfErr result (λ e. (m : Message) → IsTableOf m lines.now → Refuses (fields_fault (written_of source.now) m [] (tree_of node.now)) e) }
+    ensures accepted { IfOk result
+        (λ _. (m : Message) → IsTableOf m lines.now
+        → fields_fault (written_of source.now) m [] (tree_of node.now) ≡ None) }
+    ensures reading { IfOk result
+        (λ slots. map held slots.items ≡ map (found (written_of source.now) (tree_of node.now)) lines.now) }
+    ensures err { IfErr result (λ e. (m : Message) → IsTableOf m lines.now
+        → Refuses (fields_fault (written_of source.now) m [] (tree_of node.now)) e) }
 {
     let mut parts = Gathered {
         slots: empty_slots(alloc, lines)?,

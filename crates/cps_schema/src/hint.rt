@@ -30,10 +30,13 @@ pub struct HintParts {
 
 /// Reads a field of a hint.
 fn add_field(source: &Source, parts: &mut HintParts, field: &Field) -> Result<(), SchemaError>
-    ensures passes { OnOk result ((before : List (List ℕ)) → Passes (written_of source.now) hint_message before field.now) }
+    ensures passes { OnOk result ((before : List (List ℕ))
+        → Passes (written_of source.now) hint_message before field.now) }
     ensures read { OnOk result ((rest : Tree) →
-        hint_from (written_of source.now) parts.old (field_then field.now rest) ≡ hint_from (written_of source.now) parts.new rest) }
-    ensures err { IfErr result (λ e. (before : List (List ℕ)) → Stops (written_of source.now) hint_message before field.now e) }
+        hint_from (written_of source.now) parts.old (field_then field.now rest)
+        ≡ hint_from (written_of source.now) parts.new rest) }
+    ensures err { IfErr result (λ e. (before : List (List ℕ))
+        → Stops (written_of source.now) hint_message before field.now e) }
 {
     let name = token_text(source, field.name as usize);
     if name == b"vars".as_slice() {
@@ -47,7 +50,8 @@ fn add_field(source: &Source, parts: &mut HintParts, field: &Field) -> Result<()
 
 /// The hint that a message gives.
 fn read_hint(alloc: Global, source: &Source, node: &Node) -> Result<Hint, SchemaError>
-    ensures accepted { IfOk result (λ _. fields_fault (written_of source.now) hint_message [] (tree_of node.now) ≡ None) }
+    ensures accepted { IfOk result
+        (λ _. fields_fault (written_of source.now) hint_message [] (tree_of node.now) ≡ None) }
     ensures reading { IfOk result (λ hint. hint ≡ read_hint (written_of source.now) (tree_of node.now)) }
     ensures err { IfErr result (Refuses (fields_fault (written_of source.now) hint_message [] (tree_of node.now))) }
 {

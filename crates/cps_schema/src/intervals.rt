@@ -21,11 +21,13 @@ const UNREAD: [&[u8]; 0] = [];
 
 /// Reads a field of a list of intervals.
 fn add_field(source: &Source, intervals: &mut Vec<i32>, field: &Field) -> Result<(), SchemaError>
-    ensures passes { OnOk result ((before : List (List ℕ)) → Passes (written_of source.now) no_overlap_message before field.now) }
+    ensures passes { OnOk result ((before : List (List ℕ))
+        → Passes (written_of source.now) no_overlap_message before field.now) }
     ensures read { OnOk result ((rest : Tree) →
         intervals.old.items ++ numbers (written_of source.now) (codes "intervals") (field_then field.now rest)
         ≡ intervals.new.items ++ numbers (written_of source.now) (codes "intervals") rest) }
-    ensures err { IfErr result (λ e. (before : List (List ℕ)) → Stops (written_of source.now) no_overlap_message before field.now e) }
+    ensures err { IfErr result (λ e. (before : List (List ℕ))
+        → Stops (written_of source.now) no_overlap_message before field.now e) }
 {
     if token_text(source, field.name as usize) == b"intervals".as_slice() {
         add_refs(source, intervals, field)
@@ -40,9 +42,12 @@ pub(crate) fn read_intervals(
     source: &Source,
     node: &Node,
 ) -> Result<Listed<i32>, SchemaError>
-    ensures accepted { IfOk result (λ _. fields_fault (written_of source.now) no_overlap_message [] (tree_of node.now) ≡ None) }
-    ensures reading { IfOk result (λ intervals. intervals ≡ numbers (written_of source.now) (codes "intervals") (tree_of node.now)) }
-    ensures err { IfErr result (Refuses (fields_fault (written_of source.now) no_overlap_message [] (tree_of node.now))) }
+    ensures accepted { IfOk result
+        (λ _. fields_fault (written_of source.now) no_overlap_message [] (tree_of node.now) ≡ None) }
+    ensures reading { IfOk result
+        (λ intervals. intervals ≡ numbers (written_of source.now) (codes "intervals") (tree_of node.now)) }
+    ensures err { IfErr result (Refuses
+        (fields_fault (written_of source.now) no_overlap_message [] (tree_of node.now))) }
 {
     let mut intervals = Vec::new(alloc);
     for field in fields_of(node) {

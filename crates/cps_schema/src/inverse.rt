@@ -24,7 +24,8 @@ const FIELDS: [Line; 2] = [
 
 /// The two lists that a message gives.
 pub(crate) fn read_inverse(alloc: Global, source: &Source, node: &Node) -> Result<Kind, SchemaError>
-    ensures accepted { IfOk result (λ _. fields_fault (written_of source.now) inverse_message [] (tree_of node.now) ≡ None) }
+    ensures accepted { IfOk result
+        (λ _. fields_fault (written_of source.now) inverse_message [] (tree_of node.now) ≡ None) }
     ensures reading { IfOk result (λ kind. kind ≡ read_inverse (written_of source.now) (tree_of node.now)) }
     ensures err { IfErr result (Refuses (fields_fault (written_of source.now) inverse_message [] (tree_of node.now))) }
 {

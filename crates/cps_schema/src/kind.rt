@@ -162,13 +162,15 @@ fn kind_message<'a>(
     name: KindName,
     field: &'a Field,
 ) -> Result<&'a Node, SchemaError>
-    ensures unclosed { IfOk result (λ _. is_given (written_of source.now).closed (token_text (written_of source.now) field.now.name) ≡ false) }
+    ensures unclosed { IfOk result
+        (λ _. is_given (written_of source.now).closed (token_text (written_of source.now) field.now.name) ≡ false) }
     ensures different { IfOk result (λ _. is_given_as given.now name ≡ false) }
     ensures first { IfOk result (λ _. is_some given.now ≡ false) }
     ensures messages { IfOk result (λ node. value_messages (values_of field.now.items) ≡ tree_of node.now ∷ []) }
     ensures inner { IfOk result (λ node. single_fault (written_of source.now) (message (message_of name)) field.now
         ≡ option_or (fields_fault (written_of source.now) (message_of name) [] (tree_of node.now)) None) }
-    ensures err { IfErr result (KindStops (written_of source.now) field.now (message_of name) (is_given_as given.now name) (is_some given.now)) }
+    ensures err { IfErr result (KindStops (written_of source.now) field.now (message_of name)
+        (is_given_as given.now name) (is_some given.now)) }
 {
     let token = field.name as usize;
     if is_given(source.closed, token_text(source, token)) {
@@ -199,9 +201,11 @@ fn read_kind(
     name: KindName,
     node: &Node,
 ) -> Result<Kind, SchemaError>
-    ensures accepted { IfOk result (λ _. fields_fault (written_of source.now) (message_of name) [] (tree_of node.now) ≡ None) }
+    ensures accepted { IfOk result
+        (λ _. fields_fault (written_of source.now) (message_of name) [] (tree_of node.now) ≡ None) }
     ensures reading { IfOk result (λ kind. kind ≡ read_kind (written_of source.now) name (tree_of node.now)) }
-    ensures err { IfErr result (Refuses (fields_fault (written_of source.now) (message_of name) [] (tree_of node.now))) }
+    ensures err { IfErr result (Refuses
+        (fields_fault (written_of source.now) (message_of name) [] (tree_of node.now))) }
 {
     match name {
         KindName::BoolOr => Ok(Kind::BoolOr(read_literals(alloc, source, node)?)),
@@ -237,12 +241,15 @@ pub(crate) fn set_kind(
     name: KindName,
     field: &Field,
 ) -> Result<(), SchemaError>
-    ensures passes { OnOk result (KindPasses (written_of source.now) field.now (message_of name) (is_given_as given.old name) (is_some given.old)) }
+    ensures passes { OnOk result (KindPasses (written_of source.now) field.now (message_of name)
+        (is_given_as given.old name) (is_some given.old)) }
     ensures added { OnOk result (kind_list given.new
-        ≡ kind_list given.old ++ map (read_kind (written_of source.now) name) (value_messages (values_of field.now.items))) }
+        ≡ kind_list given.old ++ map (read_kind (written_of source.now) name)
+        (value_messages (values_of field.now.items))) }
     ensures none { OnOk result (is_some given.old ≡ false) }
     ensures set { OnOk result (is_given_as given.new name ≡ true) }
-    ensures err { IfErr result (KindStops (written_of source.now) field.now (message_of name) (is_given_as given.old name) (is_some given.old)) }
+    ensures err { IfErr result (KindStops (written_of source.now) field.now (message_of name)
+        (is_given_as given.old name) (is_some given.old)) }
 {
     let node = kind_message(source, given, name, field)?;
     let kind = read_kind(alloc, source, name, node)?;

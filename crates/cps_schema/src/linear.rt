@@ -30,10 +30,13 @@ pub struct LinearParts {
 
 /// Reads a field of a linear constraint.
 fn add_field(source: &Source, parts: &mut LinearParts, field: &Field) -> Result<(), SchemaError>
-    ensures passes { OnOk result ((before : List (List ℕ)) → Passes (written_of source.now) linear_message before field.now) }
+    ensures passes { OnOk result ((before : List (List ℕ))
+        → Passes (written_of source.now) linear_message before field.now) }
     ensures read { OnOk result ((rest : Tree) →
-        linear_from (written_of source.now) parts.old (field_then field.now rest) ≡ linear_from (written_of source.now) parts.new rest) }
-    ensures err { IfErr result (λ e. (before : List (List ℕ)) → Stops (written_of source.now) linear_message before field.now e) }
+        linear_from (written_of source.now) parts.old (field_then field.now rest)
+        ≡ linear_from (written_of source.now) parts.new rest) }
+    ensures err { IfErr result (λ e. (before : List (List ℕ))
+        → Stops (written_of source.now) linear_message before field.now e) }
 {
     let name = token_text(source, field.name as usize);
     if name == b"vars".as_slice() {
@@ -49,7 +52,8 @@ fn add_field(source: &Source, parts: &mut LinearParts, field: &Field) -> Result<
 
 /// The linear constraint that a message gives.
 pub(crate) fn read_linear(alloc: Global, source: &Source, node: &Node) -> Result<Kind, SchemaError>
-    ensures accepted { IfOk result (λ _. fields_fault (written_of source.now) linear_message [] (tree_of node.now) ≡ None) }
+    ensures accepted { IfOk result
+        (λ _. fields_fault (written_of source.now) linear_message [] (tree_of node.now) ≡ None) }
     ensures reading { IfOk result (λ kind. kind ≡ read_linear (written_of source.now) (tree_of node.now)) }
     ensures err { IfErr result (Refuses (fields_fault (written_of source.now) linear_message [] (tree_of node.now))) }
 {

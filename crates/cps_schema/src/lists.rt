@@ -37,10 +37,12 @@ fn add_int(source: &Source, list: &mut Vec<i64>, first: u32) -> Result<(), Schem
 
 /// Adds the numbers of the scalars of a list.
 fn add_int_spans(source: &Source, list: &mut Vec<i64>, spans: &[Span]) -> Result<(), SchemaError>
-    ensures fault { OnOk result (values_fault (written_of source.now) (Some (number Int64)) (span_values spans.now) ≡ None) }
+    ensures fault { OnOk result (values_fault (written_of source.now) (Some (number Int64)) (span_values spans.now)
+        ≡ None) }
     ensures added { OnOk result (list.new.items
         ≡ list.old.items ++ value_numbers (written_of source.now) (span_values spans.now)) }
-    ensures err { IfErr result (Refuses (values_fault (written_of source.now) (Some (number Int64)) (span_values spans.now))) }
+    ensures err { IfErr result (Refuses
+        (values_fault (written_of source.now) (Some (number Int64)) (span_values spans.now))) }
 {
     if list.is_empty() {
         list.reserve_exact(spans.len())?;
@@ -57,10 +59,12 @@ pub(crate) fn add_ints(
     list: &mut Vec<i64>,
     field: &Field,
 ) -> Result<(), SchemaError>
-    ensures fault { OnOk result (values_fault (written_of source.now) (Some (number Int64)) (values_of field.now.items) ≡ None) }
+    ensures fault { OnOk result (values_fault (written_of source.now) (Some (number Int64)) (values_of field.now.items)
+        ≡ None) }
     ensures added { OnOk result (list.new.items
         ≡ list.old.items ++ value_numbers (written_of source.now) (values_of field.now.items)) }
-    ensures err { IfErr result (Refuses (values_fault (written_of source.now) (Some (number Int64)) (values_of field.now.items))) }
+    ensures err { IfErr result (Refuses
+        (values_fault (written_of source.now) (Some (number Int64)) (values_of field.now.items))) }
 {
     match &field.items {
         Items::One(Item::Scalar { first, .. }) => {
@@ -98,10 +102,12 @@ fn add_ref(source: &Source, list: &mut Vec<i32>, first: u32) -> Result<(), Schem
 
 /// Adds the references of the scalars of a list.
 fn add_ref_spans(source: &Source, list: &mut Vec<i32>, spans: &[Span]) -> Result<(), SchemaError>
-    ensures fault { OnOk result (values_fault (written_of source.now) (Some (number Int32)) (span_values spans.now) ≡ None) }
+    ensures fault { OnOk result (values_fault (written_of source.now) (Some (number Int32)) (span_values spans.now)
+        ≡ None) }
     ensures added { OnOk result (list.new.items
         ≡ list.old.items ++ value_numbers (written_of source.now) (span_values spans.now)) }
-    ensures err { IfErr result (Refuses (values_fault (written_of source.now) (Some (number Int32)) (span_values spans.now))) }
+    ensures err { IfErr result (Refuses
+        (values_fault (written_of source.now) (Some (number Int32)) (span_values spans.now))) }
 {
     if list.is_empty() {
         list.reserve_exact(spans.len())?;
@@ -118,10 +124,12 @@ pub(crate) fn add_refs(
     list: &mut Vec<i32>,
     field: &Field,
 ) -> Result<(), SchemaError>
-    ensures fault { OnOk result (values_fault (written_of source.now) (Some (number Int32)) (values_of field.now.items) ≡ None) }
+    ensures fault { OnOk result (values_fault (written_of source.now) (Some (number Int32)) (values_of field.now.items)
+        ≡ None) }
     ensures added { OnOk result (list.new.items
         ≡ list.old.items ++ value_numbers (written_of source.now) (values_of field.now.items)) }
-    ensures err { IfErr result (Refuses (values_fault (written_of source.now) (Some (number Int32)) (values_of field.now.items))) }
+    ensures err { IfErr result (Refuses
+        (values_fault (written_of source.now) (Some (number Int32)) (values_of field.now.items))) }
 {
     match &field.items {
         Items::One(Item::Scalar { first, .. }) => {

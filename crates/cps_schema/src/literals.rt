@@ -21,11 +21,13 @@ const UNREAD: [&[u8]; 0] = [];
 
 /// Reads a field of a list of literals.
 fn add_field(source: &Source, literals: &mut Vec<i32>, field: &Field) -> Result<(), SchemaError>
-    ensures passes { OnOk result ((before : List (List ℕ)) → Passes (written_of source.now) literals_message before field.now) }
+    ensures passes { OnOk result ((before : List (List ℕ))
+        → Passes (written_of source.now) literals_message before field.now) }
     ensures read { OnOk result ((rest : Tree) →
         literals.old.items ++ numbers (written_of source.now) (codes "literals") (field_then field.now rest)
         ≡ literals.new.items ++ numbers (written_of source.now) (codes "literals") rest) }
-    ensures err { IfErr result (λ e. (before : List (List ℕ)) → Stops (written_of source.now) literals_message before field.now e) }
+    ensures err { IfErr result (λ e. (before : List (List ℕ))
+        → Stops (written_of source.now) literals_message before field.now e) }
 {
     if token_text(source, field.name as usize) == b"literals".as_slice() {
         add_refs(source, literals, field)
@@ -40,8 +42,10 @@ pub(crate) fn read_literals(
     source: &Source,
     node: &Node,
 ) -> Result<Listed<i32>, SchemaError>
-    ensures accepted { IfOk result (λ _. fields_fault (written_of source.now) literals_message [] (tree_of node.now) ≡ None) }
-    ensures reading { IfOk result (λ literals. literals ≡ numbers (written_of source.now) (codes "literals") (tree_of node.now)) }
+    ensures accepted { IfOk result
+        (λ _. fields_fault (written_of source.now) literals_message [] (tree_of node.now) ≡ None) }
+    ensures reading { IfOk result
+        (λ literals. literals ≡ numbers (written_of source.now) (codes "literals") (tree_of node.now)) }
     ensures err { IfErr result (Refuses (fields_fault (written_of source.now) literals_message [] (tree_of node.now))) }
 {
     let mut literals = Vec::new(alloc);

@@ -195,11 +195,14 @@ pub(crate) fn set_choose(
     slot: &mut Option<Choose>,
     field: &Field,
 ) -> Result<(), SchemaError>
-    ensures passes { OnOk result (SinglePasses (written_of source.now) field.now (member Enum.VariableSelection) (is_some slot.old)) }
+    ensures passes { OnOk result (SinglePasses (written_of source.now) field.now (member Enum.VariableSelection)
+        (is_some slot.old)) }
     ensures added { OnOk result (option_to_list slot.new
-        ≡ option_to_list slot.old ++ map choose_of (value_members (written_of source.now) Enum.VariableSelection (values_of field.now.items))) }
+        ≡ option_to_list slot.old ++ map choose_of
+        (value_members (written_of source.now) Enum.VariableSelection (values_of field.now.items))) }
     ensures some { OnOk result (is_some slot.new ≡ true) }
-    ensures err { IfErr result (SingleStops (written_of source.now) field.now (member Enum.VariableSelection) (is_some slot.old)) }
+    ensures err { IfErr result (SingleStops (written_of source.now) field.now (member Enum.VariableSelection)
+        (is_some slot.old)) }
 {
     if slot.is_some() {
         return Err(SchemaError::Fault {
@@ -223,11 +226,14 @@ pub(crate) fn set_select(
     slot: &mut Option<Select>,
     field: &Field,
 ) -> Result<(), SchemaError>
-    ensures passes { OnOk result (SinglePasses (written_of source.now) field.now (member Enum.DomainReduction) (is_some slot.old)) }
+    ensures passes { OnOk result (SinglePasses (written_of source.now) field.now (member Enum.DomainReduction)
+        (is_some slot.old)) }
     ensures added { OnOk result (option_to_list slot.new
-        ≡ option_to_list slot.old ++ map select_of (value_members (written_of source.now) Enum.DomainReduction (values_of field.now.items))) }
+        ≡ option_to_list slot.old ++ map select_of
+        (value_members (written_of source.now) Enum.DomainReduction (values_of field.now.items))) }
     ensures some { OnOk result (is_some slot.new ≡ true) }
-    ensures err { IfErr result (SingleStops (written_of source.now) field.now (member Enum.DomainReduction) (is_some slot.old)) }
+    ensures err { IfErr result (SingleStops (written_of source.now) field.now (member Enum.DomainReduction)
+        (is_some slot.old)) }
 {
     if slot.is_some() {
         return Err(SchemaError::Fault {

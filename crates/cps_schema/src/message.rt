@@ -40,7 +40,8 @@ fn add_message<M: Message>(
     node: &Node,
 ) -> Result<(), SchemaError>
     ensures fault { OnOk result (fields_fault (written_of source.now) M.fields [] (tree_of node.now) ≡ None) }
-    ensures added { OnOk result (values.new.items ≡ values.old.items ++ M.reads (written_of source.now) (tree_of node.now) ∷ []) }
+    ensures added { OnOk result (values.new.items
+        ≡ values.old.items ++ M.reads (written_of source.now) (tree_of node.now) ∷ []) }
     ensures err { IfErr result (Refuses (fields_fault (written_of source.now) M.fields [] (tree_of node.now))) }
 {
     match M::read(alloc, source, node) {
@@ -61,7 +62,8 @@ fn add_listed<M: Message>(
     list: &[Nested],
 ) -> Result<(), SchemaError>
     ensures fault { OnOk result (trees_fault (written_of source.now) M.fields (nested_trees list.now) ≡ None) }
-    ensures added { OnOk result (values.new.items ≡ values.old.items ++ map (M.reads (written_of source.now)) (nested_trees list.now)) }
+    ensures added { OnOk result (values.new.items
+        ≡ values.old.items ++ map (M.reads (written_of source.now)) (nested_trees list.now)) }
     ensures err { IfErr result (Refuses (trees_fault (written_of source.now) M.fields (nested_trees list.now))) }
 {
     for nested in list {
@@ -77,10 +79,12 @@ pub(crate) fn add_messages<M: Message>(
     values: &mut Vec<M>,
     field: &Field,
 ) -> Result<(), SchemaError>
-    ensures fault { OnOk result (values_fault (written_of source.now) (Some (tables.message M.fields)) (values_of field.now.items) ≡ None) }
+    ensures fault { OnOk result (values_fault (written_of source.now) (Some (tables.message M.fields))
+        (values_of field.now.items) ≡ None) }
     ensures added { OnOk result (values.new.items
         ≡ values.old.items ++ map (M.reads (written_of source.now)) (value_messages (values_of field.now.items))) }
-    ensures err { IfErr result (Refuses (values_fault (written_of source.now) (Some (tables.message M.fields)) (values_of field.now.items))) }
+    ensures err { IfErr result (Refuses
+        (values_fault (written_of source.now) (Some (tables.message M.fields)) (values_of field.now.items))) }
 {
     match messages_of(field) {
         Ok(Messages::One(node)) => add_message(alloc, source, values, node),
@@ -97,11 +101,14 @@ pub(crate) fn set_once<M: Message>(
     slot: &mut Option<M>,
     field: &Field,
 ) -> Result<(), SchemaError>
-    ensures passes { OnOk result (SinglePasses (written_of source.now) field.now (tables.message M.fields) (is_some slot.old)) }
+    ensures passes { OnOk result (SinglePasses (written_of source.now) field.now (tables.message M.fields)
+        (is_some slot.old)) }
     ensures added { OnOk result (option_to_list slot.new
-        ≡ option_to_list slot.old ++ map (M.reads (written_of source.now)) (value_messages (values_of field.now.items))) }
+        ≡ option_to_list slot.old ++ map (M.reads (written_of source.now))
+        (value_messages (values_of field.now.items))) }
     ensures some { OnOk result (is_some slot.new ≡ true) }
-    ensures err { IfErr result (SingleStops (written_of source.now) field.now (tables.message M.fields) (is_some slot.old)) }
+    ensures err { IfErr result (SingleStops (written_of source.now) field.now (tables.message M.fields)
+        (is_some slot.old)) }
 {
     if slot.is_some() {
         return Err(SchemaError::Fault {

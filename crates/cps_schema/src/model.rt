@@ -127,7 +127,8 @@ fn model_of_parts(alloc: Global, parts: ModelParts) -> CpModel
 
 /// The model that a document's fields give.
 fn read_model(alloc: Global, source: &Source, node: &Node) -> Result<CpModel, SchemaError>
-    ensures accepted { IfOk result (λ _. fields_fault (written_of source.now) model_message [] (tree_of node.now) ≡ None) }
+    ensures accepted { IfOk result
+        (λ _. fields_fault (written_of source.now) model_message [] (tree_of node.now) ≡ None) }
     ensures reading { IfOk result (λ model. model ≡ read_model (written_of source.now) (tree_of node.now)) }
     ensures err { IfErr result (Refuses (fields_fault (written_of source.now) model_message [] (tree_of node.now))) }
 {
@@ -154,13 +155,17 @@ pub fn model_with(
     tokens: &[Token],
     node: &Node,
 ) -> Result<CpModel, SchemaError>
-    ensures ok { IfOk result (λ model. ReadsAs (written_with (names_of closed.now) bytes.now tokens.now) (tree_of node.now) model) }
+    ensures ok { IfOk result (λ model. ReadsAs (written_with (names_of closed.now) bytes.now tokens.now)
+        (tree_of node.now) model) }
     ensures kinds { IfOk result (λ model. OpenKinds (names_of closed.now) model) }
     ensures assumptions { IfOk result (λ model. OpenAssumptions (names_of closed.now) model) }
-    ensures err { IfErr result (IsRefusal (written_with (names_of closed.now) bytes.now tokens.now) (tree_of node.now)) }
+    ensures err { IfErr result (IsRefusal (written_with (names_of closed.now) bytes.now tokens.now)
+        (tree_of node.now)) }
 
     // A document that has a model is read as it, unless memory runs out.
-    ensures only { (model : CpModel) → ReadsAs (written_with (names_of closed.now) bytes.now tokens.now) (tree_of node.now) model → Gives result model }
+    ensures only { (model : CpModel)
+        → ReadsAs (written_with (names_of closed.now) bytes.now tokens.now) (tree_of node.now) model
+        → Gives result model }
 {
     let source = Source {
         bytes,
@@ -183,7 +188,8 @@ pub fn model_of(
     ensures err { IfErr result (IsRefusal (written bytes.now tokens.now) (tree_of node.now)) }
 
     // A document that has a model is read as it, unless memory runs out.
-    ensures only { (model : CpModel) → ReadsAs (written bytes.now tokens.now) (tree_of node.now) model → Gives result model }
+    ensures only { (model : CpModel) → ReadsAs (written bytes.now tokens.now) (tree_of node.now) model
+        → Gives result model }
 {
     model_with(alloc, &CLOSED, bytes, tokens, node)
 }

@@ -40,13 +40,16 @@ pub struct ObjectiveParts {
 
 /// Reads a field of an objective.
 fn add_field(source: &Source, parts: &mut ObjectiveParts, field: &Field) -> Result<(), SchemaError>
-    ensures passes { OnOk result ((before : List (List ℕ)) → IsGivenObjective parts.old.offset parts.old.scaling before →
+    ensures passes { OnOk result ((before : List (List ℕ))
+        → IsGivenObjective parts.old.offset parts.old.scaling before →
         Passes (written_of source.now) objective_message before field.now
-        × IsGivenObjective parts.new.offset parts.new.scaling (token_text (written_of source.now) field.now.name ∷ before)) }
+        × IsGivenObjective parts.new.offset parts.new.scaling
+        (token_text (written_of source.now) field.now.name ∷ before)) }
     ensures read { OnOk result ((rest : Tree) →
         objective_from (written_of source.now) parts.old (field_then field.now rest)
         ≡ objective_from (written_of source.now) parts.new rest) }
-    ensures err { IfErr result (λ e. (before : List (List ℕ)) → IsGivenObjective parts.old.offset parts.old.scaling before →
+    ensures err { IfErr result (λ e. (before : List (List ℕ))
+        → IsGivenObjective parts.old.offset parts.old.scaling before →
         Stops (written_of source.now) objective_message before field.now e) }
 {
     let name = token_text(source, field.name as usize);
@@ -95,9 +98,11 @@ fn objective_of(parts: ObjectiveParts) -> Objective
 
 /// The objective that a message gives.
 fn read_objective(alloc: Global, source: &Source, node: &Node) -> Result<Objective, SchemaError>
-    ensures accepted { IfOk result (λ _. fields_fault (written_of source.now) objective_message [] (tree_of node.now) ≡ None) }
+    ensures accepted { IfOk result
+        (λ _. fields_fault (written_of source.now) objective_message [] (tree_of node.now) ≡ None) }
     ensures reading { IfOk result (λ objective. objective ≡ read_objective (written_of source.now) (tree_of node.now)) }
-    ensures err { IfErr result (Refuses (fields_fault (written_of source.now) objective_message [] (tree_of node.now))) }
+    ensures err { IfErr result (Refuses
+        (fields_fault (written_of source.now) objective_message [] (tree_of node.now))) }
 {
     let mut parts = ObjectiveParts {
         vars: Vec::new(alloc),

@@ -31,9 +31,11 @@ pub(crate) fn read_reservoir(
     source: &Source,
     node: &Node,
 ) -> Result<Kind, SchemaError>
-    ensures accepted { IfOk result (λ _. fields_fault (written_of source.now) reservoir_message [] (tree_of node.now) ≡ None) }
+    ensures accepted { IfOk result
+        (λ _. fields_fault (written_of source.now) reservoir_message [] (tree_of node.now) ≡ None) }
     ensures reading { IfOk result (λ kind. kind ≡ read_reservoir (written_of source.now) (tree_of node.now)) }
-    ensures err { IfErr result (Refuses (fields_fault (written_of source.now) reservoir_message [] (tree_of node.now))) }
+    ensures err { IfErr result (Refuses
+        (fields_fault (written_of source.now) reservoir_message [] (tree_of node.now))) }
 {
     let mut slots = match gather(alloc, source, &FIELDS, node) {
         Ok(slots) => slots.into_iter(),

@@ -167,8 +167,10 @@ pub(crate) fn set_number(
 pub(crate) fn single_message<'a>(source: &Source, field: &'a Field) -> Result<&'a Node, SchemaError>
     ensures messages { IfOk result (λ node. value_messages (values_of field.now.items) ≡ tree_of node.now ∷ []) }
     ensures inner { IfOk result (λ node. (m : Message) →
-        single_fault (written_of source.now) (message m) field.now ≡ option_or (fields_fault (written_of source.now) m [] (tree_of node.now)) None) }
-    ensures err { IfErr result (λ e. (m : Message) → Refuses (single_fault (written_of source.now) (message m) field.now) e) }
+        single_fault (written_of source.now) (message m) field.now
+        ≡ option_or (fields_fault (written_of source.now) m [] (tree_of node.now)) None) }
+    ensures err { IfErr result (λ e. (m : Message)
+        → Refuses (single_fault (written_of source.now) (message m) field.now) e) }
 {
     match alone(field) {
         Some(Value::Message(_, node)) => Ok(node),
@@ -181,8 +183,10 @@ pub(crate) fn single_message<'a>(source: &Source, field: &'a Field) -> Result<&'
 #[tactic(auto, using(cps_textproto::proofs::Views::values_of_messages, crate::proofs::Values::first_message))]
 pub(crate) fn no_messages(messages: &Vec<Nested>) -> Result<(), SchemaError>
     ensures none { OnOk result (values_of (Items.Messages messages.now) ≡ no_values) }
-    ensures err { IfErr result (λ e. (w : Written) (type : Number) → Refuses (values_fault w (Some (number type)) (values_of (Items.Messages messages.now))) e) }
-    ensures truths { IfErr result (λ e. (w : Written) → Refuses (values_fault w (Some truth) (values_of (Items.Messages messages.now))) e) }
+    ensures err { IfErr result (λ e. (w : Written) (type : Number)
+        → Refuses (values_fault w (Some (number type)) (values_of (Items.Messages messages.now))) e) }
+    ensures truths { IfErr result
+        (λ e. (w : Written) → Refuses (values_fault w (Some truth) (values_of (Items.Messages messages.now))) e) }
 {
     match messages.first() {
         None => Ok(()),
@@ -199,7 +203,8 @@ pub(crate) enum Messages<'a> {
 /// Scalars where messages are taken: none is wrong where there is none.
 fn no_scalars(spans: &[Span]) -> Result<(), SchemaError>
     ensures none { OnOk result (span_values spans.now ≡ no_values) }
-    ensures err { IfErr result (λ e. (w : Written) (m : Message) → Refuses (values_fault w (Some (message m)) (span_values spans.now)) e) }
+    ensures err { IfErr result (λ e. (w : Written) (m : Message)
+        → Refuses (values_fault w (Some (message m)) (span_values spans.now)) e) }
 {
     match spans.first() {
         None => Ok(()),
@@ -213,7 +218,8 @@ pub(crate) fn messages_of(field: &Field) -> Result<Messages<'_>, SchemaError>
     ensures messages { IfOk result (λ ms. value_messages (values_of field.now.items) ≡ trees_of ms) }
     ensures inner { IfOk result (λ ms. (w : Written) (m : Message) →
         values_fault w (Some (message m)) (values_of field.now.items) ≡ trees_fault w m (trees_of ms)) }
-    ensures err { IfErr result (λ e. (w : Written) (m : Message) → Refuses (values_fault w (Some (message m)) (values_of field.now.items)) e) }
+    ensures err { IfErr result (λ e. (w : Written) (m : Message)
+        → Refuses (values_fault w (Some (message m)) (values_of field.now.items)) e) }
 {
     match &field.items {
         Items::One(Item::Message { node, .. }) => Ok(Messages::One(node)),

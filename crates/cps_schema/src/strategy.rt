@@ -49,12 +49,15 @@ fn add_newer(
     exprs: &mut Vec<LinearExpr>,
     field: &Field,
 ) -> Result<(), SchemaError>
-    ensures passes { OnOk result (FormedPasses (written_of source.now) field.now Form.Newer (message expression_message) (is_other form.old Form.Newer)) }
+    ensures passes { OnOk result (FormedPasses (written_of source.now) field.now Form.Newer
+        (message expression_message) (is_other form.old Form.Newer)) }
     ensures added { OnOk result (exprs.new.items
-        ≡ exprs.old.items ++ map (read_expression (written_of source.now)) (value_messages (values_of field.now.items))) }
+        ≡ exprs.old.items ++ map (read_expression (written_of source.now))
+        (value_messages (values_of field.now.items))) }
     ensures same { OnOk result (is_other form.old Form.Newer ≡ false) }
     ensures taken { OnOk result (form.new ≡ Some Form.Newer) }
-    ensures err { IfErr result (FormedStops (written_of source.now) field.now Form.Newer (message expression_message) (is_other form.old Form.Newer)) }
+    ensures err { IfErr result (FormedStops (written_of source.now) field.now Form.Newer (message expression_message)
+        (is_other form.old Form.Newer)) }
 {
     match take_form(form, Form::Newer, field) {
         Ok(()) => add_messages(alloc, source, exprs, field),
@@ -69,12 +72,14 @@ fn add_older(
     variables: &mut Vec<i32>,
     field: &Field,
 ) -> Result<(), SchemaError>
-    ensures passes { OnOk result (FormedPasses (written_of source.now) field.now Form.Older (number Number.Int32) (is_other form.old Form.Older)) }
+    ensures passes { OnOk result (FormedPasses (written_of source.now) field.now Form.Older (number Number.Int32)
+        (is_other form.old Form.Older)) }
     ensures added { OnOk result (variables.new.items
         ≡ variables.old.items ++ value_numbers (written_of source.now) (values_of field.now.items)) }
     ensures same { OnOk result (is_other form.old Form.Older ≡ false) }
     ensures taken { OnOk result (form.new ≡ Some Form.Older) }
-    ensures err { IfErr result (FormedStops (written_of source.now) field.now Form.Older (number Number.Int32) (is_other form.old Form.Older)) }
+    ensures err { IfErr result (FormedStops (written_of source.now) field.now Form.Older (number Number.Int32)
+        (is_other form.old Form.Older)) }
 {
     match take_form(form, Form::Older, field) {
         Ok(()) => add_refs(source, variables, field),
@@ -135,7 +140,8 @@ fn strategy_of(alloc: Global, parts: StrategyParts) -> Result<Strategy, AllocErr
 
 /// The strategy that a message gives.
 fn read_strategy(alloc: Global, source: &Source, node: &Node) -> Result<Strategy, SchemaError>
-    ensures accepted { IfOk result (λ _. fields_fault (written_of source.now) strategy_message [] (tree_of node.now) ≡ None) }
+    ensures accepted { IfOk result
+        (λ _. fields_fault (written_of source.now) strategy_message [] (tree_of node.now) ≡ None) }
     ensures reading { IfOk result (λ strategy. strategy ≡ read_strategy (written_of source.now) (tree_of node.now)) }
     ensures err { IfErr result (Refuses (fields_fault (written_of source.now) strategy_message [] (tree_of node.now))) }
 {

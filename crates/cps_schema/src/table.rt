@@ -27,7 +27,8 @@ const FIELDS: [Line; 4] = [
 
 /// The table that a message gives.
 pub(crate) fn read_table(alloc: Global, source: &Source, node: &Node) -> Result<Kind, SchemaError>
-    ensures accepted { IfOk result (λ _. fields_fault (written_of source.now) table_message [] (tree_of node.now) ≡ None) }
+    ensures accepted { IfOk result
+        (λ _. fields_fault (written_of source.now) table_message [] (tree_of node.now) ≡ None) }
     ensures reading { IfOk result (λ kind. kind ≡ read_table (written_of source.now) (tree_of node.now)) }
     ensures err { IfErr result (Refuses (fields_fault (written_of source.now) table_message [] (tree_of node.now))) }
 {

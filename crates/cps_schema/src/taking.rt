@@ -146,7 +146,8 @@ pub(crate) fn next_expressions_of_a_form(
     slots: &mut IntoIter<Slot>,
 ) -> Result<Listed<LinearExpr>, AllocError>
     ensures value { IfOk result (λ exprs. exprs
-        ≡ (next (left slots.old)).expressions ++ map reference_expression (next (behind_first (left slots.old))).references) }
+        ≡ (next (left slots.old)).expressions ++ map reference_expression
+        (next (behind_first (left slots.old))).references) }
     ensures rest { IfOk result (λ _. left slots.new ≡ behind_first (behind_first (left slots.old))) }
 {
     let mut exprs = next_expressions(alloc, slots).into_vec();

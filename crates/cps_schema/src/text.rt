@@ -79,7 +79,8 @@ fn utf8_text(bytes: Vec<u8>) -> Option<Text>
 #[tactic(auto, unfolding(crate::specs::Texts::text_at))]
 fn text_at(alloc: Global, source: &Source, span: Span) -> Result<Text, SchemaError>
     ensures ok { IfOk result (λ t. text_at (written_of source.now) span.first span.end ≡ Some t) }
-    ensures err { IfErr result (Refuses (refused_at span.first (text_fault (text_at (written_of source.now) span.first span.end)))) }
+    ensures err { IfErr result (Refuses
+        (refused_at span.first (text_fault (text_at (written_of source.now) span.first span.end)))) }
 {
     let tokens = scalar_tokens(source, span);
     if !are_strings(tokens) {

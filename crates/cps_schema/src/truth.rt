@@ -71,7 +71,8 @@ fn truth_at(source: &Source, first: u32) -> Option<bool>
 /// Adds the truth value of the scalar at token `first`.
 fn add_truth(source: &Source, list: &mut Vec<bool>, first: u32) -> Result<(), SchemaError>
     ensures fault { OnOk result (truth_fault (truth_at (written_of source.now) first) ≡ None) }
-    ensures added { OnOk result (list.new.items ≡ list.old.items ++ unwrap_or (truth_at (written_of source.now) first) false ∷ []) }
+    ensures added { OnOk result (list.new.items
+        ≡ list.old.items ++ unwrap_or (truth_at (written_of source.now) first) false ∷ []) }
     ensures err { IfErr result (Refuses (refused_at first (truth_fault (truth_at (written_of source.now) first)))) }
 {
     match truth_at(source, first) {
@@ -105,7 +106,8 @@ pub(crate) fn add_truths(
     ensures fault { OnOk result (values_fault (written_of source.now) (Some truth) (values_of field.now.items) ≡ None) }
     ensures added { OnOk result (list.new.items
         ≡ list.old.items ++ value_truths (written_of source.now) (values_of field.now.items)) }
-    ensures err { IfErr result (Refuses (values_fault (written_of source.now) (Some truth) (values_of field.now.items))) }
+    ensures err { IfErr result (Refuses
+        (values_fault (written_of source.now) (Some truth) (values_of field.now.items))) }
 {
     match &field.items {
         Items::One(Item::Scalar { first, .. }) => add_truth(source, list, *first),

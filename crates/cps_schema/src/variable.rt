@@ -71,7 +71,8 @@ fn variable_of(alloc: Global, parts: VariableParts) -> Variable
 
 /// The variable that a message gives.
 fn read_variable(alloc: Global, source: &Source, node: &Node) -> Result<Variable, SchemaError>
-    ensures accepted { IfOk result (λ _. fields_fault (written_of source.now) variable_message [] (tree_of node.now) ≡ None) }
+    ensures accepted { IfOk result
+        (λ _. fields_fault (written_of source.now) variable_message [] (tree_of node.now) ≡ None) }
     ensures reading { IfOk result (λ variable. variable ≡ read_variable (written_of source.now) (tree_of node.now)) }
     ensures err { IfErr result (Refuses (fields_fault (written_of source.now) variable_message [] (tree_of node.now))) }
 {

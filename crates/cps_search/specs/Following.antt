@@ -14,7 +14,8 @@ abbrev pub best_bound : CpModel → Option (List ℤ) → Bound
 best_bound m None = Infinite
 best_bound m (Some a) = At (objective_value m a)
 
--- The actor's least offer is the lesser of what it had offered before the search and the best solution that the search found.
+-- The actor's least offer is the lesser of what it had offered before the search and the best solution that the search
+-- found.
 abbrev pub OffersBest : Bound → Search → BoundsPart → Type 0
 OffersBest before s p = p.offered ≡ lesser before (best_bound s.instance.model s.best)
 

@@ -14,16 +14,20 @@ pub record IsDropDue (learnt stood stand : ℕ) : Type 0 where
   pub interval : learnt % drop_interval ≡ 0
   pub half_stays : stood / 2 < stand
 
--- each clause was dropped where that was due, after so many were learnt, of which so many stood when the last was and so many stand
+-- each clause was dropped where that was due, after so many were learnt, of which so many stood when the last was and
+-- so many stand
 abbrev pub DropsWhenDueFrom : ℕ → ℕ → ℕ → List JournalItem → Type 0
 DropsWhenDueFrom learnt stood stand [] = ⊤
-DropsWhenDueFrom learnt stood stand (Learnt clause below ∷ items) = DropsWhenDueFrom (learnt + 1) (stand + 1) (stand + 1) items
-DropsWhenDueFrom learnt stood stand (Drop i ∷ items) = IsDropDue learnt stood stand × DropsWhenDueFrom learnt stood (stand - 1) items
+DropsWhenDueFrom learnt stood stand (Learnt clause below ∷ items) = DropsWhenDueFrom (learnt + 1) (stand + 1)
+    (stand + 1) items
+DropsWhenDueFrom learnt stood stand (Drop i ∷ items) = IsDropDue learnt stood stand
+    × DropsWhenDueFrom learnt stood (stand - 1) items
 
 abbrev pub DropsWhenDue : List JournalItem → Type 0
 DropsWhenDue journal = DropsWhenDueFrom 0 0 0 journal
 
--- how many learnt clauses stand after these items, and how many stood when the last was learnt, as `DropsWhenDueFrom` counts them
+-- how many learnt clauses stand after these items, and how many stood when the last was learnt, as `DropsWhenDueFrom`
+-- counts them
 abbrev pub stand_after : ℕ → List JournalItem → ℕ
 stand_after stand [] = stand
 stand_after stand (Learnt clause below ∷ items) = stand_after (stand + 1) items

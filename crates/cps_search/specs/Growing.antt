@@ -35,9 +35,14 @@ pub record GrewBy (s t : Search) (sum : DefinedSum) (subject : ℕ) : Type 0 whe
 -- or one clause in force gives by itself; and at each free assignment below z at which all of them are true, the atom
 -- is false.
 pub record AreBehindIn (s : Search) (t : Atom) (decisions : List Atom) : Type 0 where
-  pub each : All (IsDecisionBehind (IsFetched (IsReasonOfOne s.tasks s.base.clauses s.store) s.store) s.store t) decisions
-  pub enough : (a : List ℤ) → IsFree s.instance.model a → IsBelow (objective_value s.instance.model a) s.z → All (λ u. atom_holds (extended s.instance.defs a) u ≡ true) decisions → atom_holds (extended s.instance.defs a) t ≡ false
+  pub each : All (IsDecisionBehind
+      (IsFetched (IsReasonOfOne s.tasks s.base.clauses s.store) s.store) s.store t) decisions
+  pub enough : (a : List ℤ) → IsFree s.instance.model a → IsBelow (objective_value s.instance.model a) s.z
+      → All (λ u. atom_holds (extended s.instance.defs a) u ≡ true) decisions
+      → atom_holds (extended s.instance.defs a) t ≡ false
 
 -- each atom that is false in the store of a search is false at each free assignment below z
 abbrev pub IsFalseBelow : Search → Type 0
-IsFalseBelow s = (t : Atom) → t.subject < length s.store.first → IsFalseNow s.store t → (a : List ℤ) → IsFree s.instance.model a → IsBelow (objective_value s.instance.model a) s.z → atom_holds (extended s.instance.defs a) t ≡ false
+IsFalseBelow s = (t : Atom) → t.subject < length s.store.first → IsFalseNow s.store t → (a : List ℤ)
+    → IsFree s.instance.model a → IsBelow (objective_value s.instance.model a) s.z
+    → atom_holds (extended s.instance.defs a) t ≡ false

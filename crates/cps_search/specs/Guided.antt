@@ -14,7 +14,8 @@ use Rattle.cps_branch.specs.Guidances.{ChoosesBy, IsPlanOf, AreHintsOf}
 
 -- a run of turns each decision of which goes by one guidance
 abbrev pub RunsBy : Guidance → ℕ → Search → Search → Part → Part → End → Type 0
-RunsBy guidance rows s t p q end = RunsInTurns ChoosesBy (λ before clause restart after. after ≡ before) (λ before after. after ≡ before) rows (s, guidance) (t, guidance) p q end
+RunsBy guidance rows s t p q end = RunsInTurns ChoosesBy (λ before clause restart after. after ≡ before)
+    (λ before after. after ≡ before) rows (s, guidance) (t, guidance) p q end
 
 -- A worker that ended is seen as such a run leaves it, if the run began with nothing known.
 pub record IsEndOfRun (p : Problem) (gap budget : ℕ) (guidance : Guidance) (e : Ending) : Type 0 where
@@ -25,8 +26,8 @@ pub record IsEndOfRun (p : Problem) (gap budget : ℕ) (guidance : Guidance) (e 
   pub runs : RunsBy guidance rows (fresh p gap (Some budget)) done before after e.end
   pub seen : e ≡ ending e.kind (Some guidance) e.end done
 
--- The brancher of a fixed worker goes through the strategies and the variables of the instance, and that of an activity worker has the
--- model's hint. Workers of other kinds may have none.
+-- The brancher of a fixed worker goes through the strategies and the variables of the instance, and that of an activity
+-- worker has the model's hint. Workers of other kinds may have none.
 abbrev pub IsGuidedBy : WorkerKind → Problem → Option Guidance → Type 0
 IsGuidedBy Fixed p None = ⊥
 IsGuidedBy Fixed p (Some (Steered plan)) = IsPlanOf p plan

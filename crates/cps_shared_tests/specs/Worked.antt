@@ -1,5 +1,5 @@
--- The worked models: one variable that is the objective, the same where it is at least 2, and nine variables of which at
--- least one is 1.
+-- The worked models: one variable that is the objective, the same where it is at least 2, and nine variables of which
+-- at least one is 1.
 use Rattle.std.specs.Prelude.{◌≡◌, pos, [], ◌∷◌, Some, length}
 use Rattle.cps_model.specs.declared.constraint.Constraint.{Constraint}
 use Rattle.cps_model.specs.declared.constraint.Kind.TheVariants.{BoolOr, Linear}
@@ -14,7 +14,11 @@ pub record IsMinimised (m : CpModel) : Type 0 where
   pub objective : m.objective ≡ Some the_variable
 
 abbrev pub at_least_two : Constraint
-at_least_two = record { name = []; enforcement = []; kind = Linear (pos 0 ∷ []) (pos 1 ∷ []) (pos 2 ∷ pos 9223372036854775807 ∷ []) }
+at_least_two = record {
+  name = [];
+  enforcement = [];
+  kind = Linear (pos 0 ∷ []) (pos 1 ∷ []) (pos 2 ∷ pos 9223372036854775807 ∷ []);
+}
 
 pub record IsAtLeastTwo (m : CpModel) : Type 0 where
   pub constraints : m.constraints ≡ at_least_two ∷ []

@@ -149,7 +149,8 @@ fn taken_by_each(alloc: Global, model: &ValidModel) -> Result<(Share, [Taken; 4]
     Ok((shared, [before, second, third, board.take(&mut a)]))
 }
 
-/// One seat shares twice on a board of one row, and the other one takes twice. After the join, the splits and the draws.
+/// One seat shares twice on a board of one row, and the other one takes twice. After the join, the splits and the
+/// draws.
 fn drawn_past_the_end(
     alloc: Global,
     model: &ValidModel,

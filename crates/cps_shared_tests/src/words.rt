@@ -54,7 +54,8 @@ fn race<R: Threads + Sync>(
     requires own { IsSeatOf bounds.now first × IsSeatOf bounds.now second }
     requires first { IsAttained (model_of bounds.now) (pos 7) × IsAttained (model_of bounds.now) (pos 4) }
     requires second { IsAttained (model_of bounds.now) (pos 5) × IsAttained (model_of bounds.now) (pos 6) }
-    requires low { IsLowerBound (model_of bounds.now) (Bound.At (pos 0)) × IsLowerBound (model_of bounds.now) (Bound.At (pos 2)) }
+    requires low { IsLowerBound (model_of bounds.now) (Bound.At (pos 0))
+        × IsLowerBound (model_of bounds.now) (Bound.At (pos 2)) }
     ensures { IsSeatOf bounds.now result.0 × IsSeatOf bounds.now result.1 }
 {
     join(

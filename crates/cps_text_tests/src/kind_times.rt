@@ -8,8 +8,8 @@ use std::fmt::Write;
 use std::process::Abort;
 use std::test::Fail;
 
-/// Intervals from a start to an end for a size, and a constraint on them, with assignments of the intervals' literals that satisfy
-/// all and others.
+/// Intervals from a start to an end for a size, and a constraint on them, with assignments of the intervals' literals
+/// that satisfy all and others.
 struct Row {
     intervals: &'static [[i64; 3]],
     constraint: &'static str,

@@ -21,7 +21,8 @@ const WIDE: &str = "[-9, 9]";
 
 const BITS: &str = "[0, 1]";
 
-/// Kinds that compute a number of others. Quotients are rounded towards zero, and a remainder has the sign of what is divided.
+/// Kinds that compute a number of others. Quotients are rounded towards zero, and a remainder has the sign of what is
+/// divided.
 const NUMBERS: [Row; 6] = [
     Row {
         domain: WIDE,
@@ -121,8 +122,8 @@ const LOOKUPS: [Row; 9] = [
     },
 ];
 
-/// Circuits: a triangle with a loop on each node, two pairs of arcs there and back with a way round all four nodes, two arcs from
-/// node 0 to node 1 and one back, and no arcs. Then lists that invert each other.
+/// Circuits: a triangle with a loop on each node, two pairs of arcs there and back with a way round all four nodes, two
+/// arcs from node 0 to node 1 and one back, and no arcs. Then lists that invert each other.
 const CIRCUITS: [Row; 6] = [
     Row {
         domain: BITS,
@@ -170,8 +171,8 @@ const CIRCUITS: [Row; 6] = [
     },
 ];
 
-/// An automaton goes from 0 by 5 to 1 or to 2, from 1 by 6 to 0, and from 2 by 7 to 1, which is final. Without positions it ends
-/// where it starts.
+/// An automaton goes from 0 by 5 to 1 or to 2, from 1 by 6 to 0, and from 2 by 7 to 1, which is final. Without
+/// positions it ends where it starts.
 const AUTOMATA: [Row; 4] = [
     Row {
         domain: WIDE,
@@ -202,8 +203,8 @@ const AUTOMATA: [Row; 4] = [
     },
 ];
 
-/// The level of a reservoir is kept at each time; changes of one time add up; and where literals are listed, an event whose literal
-/// is false changes nothing.
+/// The level of a reservoir is kept at each time; changes of one time add up; and where literals are listed, an event
+/// whose literal is false changes nothing.
 const LEVELS: [Row; 6] = [
     Row {
         domain: WIDE,

@@ -53,7 +53,12 @@ fn minimised(
 
 /// A response with a solution.
 fn solved(alloc: Global, status: Status, values: &[i64], lower: i64) -> Result<Response, AllocError>
-    ensures { IfOk result (λ r. r ≡ record { status = status; solution = Some values.now; lower = Bound.At lower; core = [] }) }
+    ensures { IfOk result (λ r. r ≡ record {
+      status = status;
+      solution = Some values.now;
+      lower = Bound.At lower;
+      core = [];
+    }) }
 {
     Ok(Response {
         status,

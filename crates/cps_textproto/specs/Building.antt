@@ -105,7 +105,8 @@ fields_behind o inner =
     else then_fields o.before (field o.name false (message_value o.first inner no_values) no_fields)
 
 abbrev pub messages_behind : Outer → Tree → Values
-messages_behind o inner = if o.frame.listed then then_values o.others (message_value o.first inner no_values) else o.others
+messages_behind o inner = if o.frame.listed then then_values o.others
+    (message_value o.first inner no_values) else o.others
 
 -- the innermost message is a field of the next, or the last of its list
 abbrev pub closed : List Outer → Build → Build
@@ -135,7 +136,8 @@ act actions.Name k b = record b { name = k }
 act actions.First k b = record b { first = k }
 act actions.Scalar k b = record (with_field b false (scalar_value k (suc k) no_values)) { first = k }
 act actions.SignedScalar k b = with_field b false (scalar_value b.first (suc k) no_values)
-act actions.MoreText k b = with_field (record b { fields = without_last b.fields }) false (scalar_value b.first (suc k) no_values)
+act actions.MoreText k b = with_field
+    (record b { fields = without_last b.fields }) false (scalar_value b.first (suc k) no_values)
 act actions.Begin k b = record b { scalars = no_values; messages = no_values }
 act actions.Item k b = record b { scalars = with_scalar b k }
 act actions.LastItem k b = record (with_field b true (with_scalar b k)) { scalars = no_values }

@@ -43,7 +43,8 @@ abbrev mutual
   past_fields (message c b inner s more) k =
       past_fields more (past_separator s (suc (past_fields inner (suc (past_colon c (suc k))))))
   past_fields (messages c b inner others s more) k =
-      past_fields more (past_separator s (suc (past_messages others (suc (past_fields inner (suc (suc (past_colon c (suc k)))))))))
+      past_fields more (past_separator s
+      (suc (past_messages others (suc (past_fields inner (suc (suc (past_colon c (suc k)))))))))
 
   pub past_messages : Messages → ℕ → ℕ
   past_messages no_more k = k
@@ -62,11 +63,13 @@ abbrev mutual
   pub tree_at : ℕ → Fields → Tree
   tree_at k end = no_fields
   tree_at k (scalar v s more) =
-      field k false (scalar_at (suc (suc k)) v no_values) (tree_at (past_separator s (past_scalar v (suc (suc k)))) more)
+      field k false (scalar_at (suc (suc k)) v no_values)
+      (tree_at (past_separator s (past_scalar v (suc (suc k)))) more)
   tree_at k (scalars v vs s more) =
       field k true (scalar_at (suc (suc (suc k))) v (others_at (past_scalar v (suc (suc (suc k)))) vs))
       (tree_at (past_separator s (suc (past_others vs (past_scalar v (suc (suc (suc k))))))) more)
-  tree_at k (nothing c s more) = field k true no_values (tree_at (past_separator s (suc (suc (past_colon c (suc k))))) more)
+  tree_at k (nothing c s more) = field k true no_values
+      (tree_at (past_separator s (suc (suc (past_colon c (suc k))))) more)
   tree_at k (message c b inner s more) =
       field k false (message_value (past_colon c (suc k)) (tree_at (suc (past_colon c (suc k))) inner) no_values)
       (tree_at (past_separator s (suc (past_fields inner (suc (past_colon c (suc k)))))) more)
@@ -74,7 +77,8 @@ abbrev mutual
       field k true
       (message_value (suc (past_colon c (suc k))) (tree_at (suc (suc (past_colon c (suc k)))) inner)
       (messages_at (suc (past_fields inner (suc (suc (past_colon c (suc k)))))) others))
-      (tree_at (past_separator s (suc (past_messages others (suc (past_fields inner (suc (suc (past_colon c (suc k))))))))) more)
+      (tree_at (past_separator s (suc
+      (past_messages others (suc (past_fields inner (suc (suc (past_colon c (suc k))))))))) more)
 
   pub messages_at : ℕ → Messages → Values
   messages_at k no_more = no_values

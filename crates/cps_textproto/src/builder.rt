@@ -276,7 +276,8 @@ fn many_messages(messages: Vec<Nested>) -> Items
 
 /// Adds the field with the one scalar `first..end`.
 fn end_scalar(builder: &mut Builder, first: u32, end: u32) -> Result<(), AllocError>
-    ensures { OnOk result (build_of builder.new ≡ with_field (build_of builder.old) false (scalar_value first end no_values)) }
+    ensures { OnOk result (build_of builder.new
+        ≡ with_field (build_of builder.old) false (scalar_value first end no_values)) }
 {
     push_field(
         &mut builder.fields,

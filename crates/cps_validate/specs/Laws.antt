@@ -30,8 +30,8 @@ DividesByNoZero m =
     (a : List ℤ) (target n d : LinearExpr) → IsWithinDomains m a
     → HasKind m (IntDiv target (n ∷ d ∷ [])) → expression_value a d ≢ pos 0
 
--- The rule of a divisor asks no more than that: where it refuses one of a single term, some value of the term's variable
--- makes it 0.
+-- The rule of a divisor asks no more than that: where it refuses one of a single term, some value of the term's
+-- variable makes it 0.
 abbrev pub RefusesOnlyZero : CpModel → Type 0
 RefusesOnlyZero m =
     (r c offset : ℤ) → IsTrue (names (length m.variables) r)

@@ -84,7 +84,8 @@ fn constraints_fault(
     constraints: &[Constraint],
 ) -> Result<Option<(u8, Place)>, AllocError>
     requires { length constraints.now ≤ most_items }
-    ensures { IfOk result (λ fault. fault ≡ first_faulty (constraint_fault variables.now constraints.now) Place.Constraint 0 constraints.now) }
+    ensures { IfOk result (λ fault. fault
+        ≡ first_faulty (constraint_fault variables.now constraints.now) Place.Constraint 0 constraints.now) }
 {
     for (i, constraint) in constraints.iter().enumerate() {
         if let Some(rule) = constraint_fault(alloc, variables, constraints, constraint)? {

@@ -39,7 +39,8 @@ fn take_turn<B: Brancher + Drop, Q: Port>(
     Ok(named.1)
 }
 
-/// Lets two workers take turns, each at a port of its own, until both are over, or for a hundred turns. Whether both are over.
+/// Lets two workers take turns, each at a port of its own, until both are over, or for a hundred turns. Whether both
+/// are over.
 fn turn_about<B: Brancher + Drop, C: Brancher + Drop, Q: Port>(
     first: &mut Worker<'_, AnyPropagator, B>,
     first_port: &mut Q,
@@ -62,7 +63,8 @@ fn turn_about<B: Brancher + Drop, C: Brancher + Drop, Q: Port>(
     Ok(first_over && second_over)
 }
 
-/// Lets a worker that takes variables in order and one that takes them by activity search to their ends. Whether both came to one.
+/// Lets a worker that takes variables in order and one that takes them by activity search to their ends. Whether both
+/// came to one.
 fn search_about<'a>(
     alloc: Global,
     model: &ValidModel,
@@ -82,7 +84,8 @@ fn search_about<'a>(
     turn_about(&mut first[0], first_port, &mut second[0], second_port)
 }
 
-/// The bounds that two workers leave that came to their ends, where the board has one row; `None` if one of them did not.
+/// The bounds that two workers leave that came to their ends, where the board has one row; `None` if one of them did
+/// not.
 fn bounds_left(alloc: Global, model: &ValidModel) -> Result<Option<(Bound, Bound)>, AllocError>
     requires assumptions { HasNoAssumptions model.now }
     requires kinds { AreAllPropagated model.now }

@@ -142,8 +142,8 @@ struct Left {
     lower: Bound,
 }
 
-/// A worker that takes the variables in order, up to so many conflicts, and then one that takes them by activity, over one shared
-/// state.
+/// A worker that takes the variables in order, up to so many conflicts, and then one that takes them by activity, over
+/// one shared state.
 fn one_after_the_other(
     alloc: Global,
     model: &ValidModel,

@@ -42,8 +42,8 @@ pub record IsText (status : ℕ) (bytes : List ℕ) (answer : Answer) : Type 0 w
 abbrev pub response_of : Outcome → Response
 response_of o = record { status = o.status; solution = o.solution; lower = o.lower; core = [] }
 
--- `solve` of a valid model: the response of an outcome that is good for the options, and where the workers take turns it is that of the
--- turns that the seed draws
+-- `solve` of a valid model: the response of an outcome that is good for the options, and where the workers take turns
+-- it is that of the turns that the seed draws
 pub record Solves (options : Options) (m : CpModel) (answer : Answer) : Type 0 where
   pub found : Outcome
   pub exit : answer.exit ≡ 0
@@ -66,7 +66,8 @@ pub record Prints (m : CpModel) (answer : Answer) : Type 0 where
 abbrev pub model_of : Recipe → CpModel
 model_of r = generated r.family r.size r.seed
 
--- the options of a demonstration: those of `solve` where nothing is said, but that the workers take turns that the seed draws
+-- the options of a demonstration: those of `solve` where nothing is said, but that the workers take turns that the seed
+-- draws
 abbrev pub demo_options : ℕ → Options
 demo_options seed = record { workers = 4; conflicts = 10000; seed = seed; interleave = true; gap = 0 }
 
@@ -75,7 +76,8 @@ pub record Generates (r : Recipe) (answer : Answer) : Type 0 where
   pub valid : IsValid (model_of r)
   pub canonical : IsText 0 (model_text (model_of r)) answer
 
--- `demo`: the four lines of an outcome that is good for the model, which is valid, and is that of the turns that the seed draws
+-- `demo`: the four lines of an outcome that is good for the model, which is valid, and is that of the turns that the
+-- seed draws
 pub record Demonstrates (r : Recipe) (answer : Answer) : Type 0 where
   pub found : Outcome
   pub exit : answer.exit ≡ 0
@@ -97,8 +99,8 @@ pub data AnswersInput (is_input : List ℕ → CpModel → Type 0) (does : CpMod
   refused : (fault : Fault) → HasFault bytes fault → HasNo is_input bytes → IsText 1 (fault_text fault) answer
       → AnswersInput is_input does bytes answer
 
--- What each command does. A valid model is solved, or said to be valid; `print` takes every model, so no broken rule makes it
--- refuse one. `gen` and `demo` look at no input.
+-- What each command does. A valid model is solved, or said to be valid; `print` takes every model, so no broken rule
+-- makes it refuse one. `gen` and `demo` look at no input.
 abbrev pub Does : Command → List ℕ → Answer → Type 0
 Does (Solve options) bytes answer = AnswersInput IsInput (Solves options) bytes answer
 Does Validate bytes answer = AnswersInput IsInput Validates bytes answer

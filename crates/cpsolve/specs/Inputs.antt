@@ -30,7 +30,8 @@ byte_of bytes ts token = start_or (length bytes) (slice_get ts token)
 -- the bytes are no document: no token stands at this byte, or with the token there no document goes on
 pub data IsTextFault (bytes : List ℕ) (byte : ℕ) : Type 0 where
   no_token : HasNoTokenAt bytes byte → IsTextFault bytes byte
-  no_document : (ts : List Token) (token : ℕ) → AreTokens bytes ts → IsRefusedAt (symbols bytes ts) token → byte ≡ byte_of bytes ts token → IsTextFault bytes byte
+  no_document : (ts : List Token) (token : ℕ) → AreTokens bytes ts → IsRefusedAt (symbols bytes ts) token
+      → byte ≡ byte_of bytes ts token → IsTextFault bytes byte
 
 -- the bytes are a document, and at this byte is the first field of it that is refused, or its value
 pub record IsFieldFault (bytes : List ℕ) (name : FaultName) (byte : ℕ) : Type 0 where

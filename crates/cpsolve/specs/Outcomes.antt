@@ -9,7 +9,8 @@ use Rattle.cps_options.specs.declared.options.Options.{Options}
 use Rattle.cps_portfolio.specs.declared.outcome.Outcome.{Outcome}
 use Rattle.cps_portfolio.specs.Outcomes.{DidItsPart}
 
--- a solution that none beats by more than the gap, with a lower bound that is at most its objective and within the gap of it
+-- a solution that none beats by more than the gap, with a lower bound that is at most its objective and within the gap
+-- of it
 pub record IsOptimal (m : CpModel) (gap : ℕ) (o : Outcome) (a : List ℤ) : Type 0 where
   pub this : o.solution ≡ Some a
   pub best : IsBest m gap a

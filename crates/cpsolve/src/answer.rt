@@ -179,7 +179,8 @@ fn validate_input(alloc: Global, bytes: &[u8]) -> Result<Answer, AllocError>
 /// The answer of `print` to a model.
 fn print_answer(alloc: Global, model: &CpModel) -> Result<Answer, AllocError>
     ensures canonical { IfOk result (IsText 0 (model_text model.now)) }
-    ensures back { (bytes : List ℕ) → IsReadAs bytes model.now → IfOk result (λ answer. IsReadAs answer.text model.now) }
+    ensures back { (bytes : List ℕ) → IsReadAs bytes model.now
+        → IfOk result (λ answer. IsReadAs answer.text model.now) }
 {
     let text = model_text(alloc, model)?;
     Ok(text_answer(DONE, text))

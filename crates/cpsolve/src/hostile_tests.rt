@@ -1,4 +1,5 @@
-//! Runs against a source and a sink that fail, and on texts that are cut off, too deep, too long or at the limits of their numbers.
+//! Runs against a source and a sink that fail, and on texts that are cut off, too deep, too long or at the limits of
+//! their numbers.
 use crate::known_answers::{COMMANDS, PRODUCTION, PRODUCTION_TEXT, Solving};
 use crate::running::{Given, Seen, run, unhindered};
 use std::alloc::{AllocError, Global};
@@ -135,7 +136,8 @@ fn each_write_fails(rt: HostRuntime) -> Result<(), Fail> {
 /// The lengths of the first parts of the text that end behind a whole message.
 const WHOLE: [usize; 10] = [0, 29, 30, 59, 60, 148, 149, 237, 238, 300];
 
-/// Whether so many bytes of the text are solved where they end behind a whole message, and are said to end too early elsewhere.
+/// Whether so many bytes of the text are solved where they end behind a whole message, and are said to end too early
+/// elsewhere.
 fn is_cut_off_at<R: Threads + Wait + Sync>(
     rt: &R,
     alloc: Global,
@@ -230,7 +232,8 @@ fn numbers_are_the_greatest(rt: HostRuntime) -> Result<(), Fail> {
     Ok(())
 }
 
-/// What is answered to so many spaces. The length is judged before the command works on the input, so one command stands for all.
+/// What is answered to so many spaces. The length is judged before the command works on the input, so one command
+/// stands for all.
 fn run_on_spaces<R: Threads + Wait + Sync>(
     rt: &R,
     alloc: Global,

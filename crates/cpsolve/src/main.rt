@@ -2,12 +2,12 @@
 //! says that the model is valid, or writes it in canonical form. It also generates models, and writes them or solves
 //! them.
 //!
-//! `solve_main` is the whole program over any source of bytes and any sink, and its contract says what the program does:
-//! OPTIMAL comes only with a solution that none beats by more than the gap that the words give, INFEASIBLE only where there is
-//! none, FEASIBLE and UNKNOWN only where each worker spent its budget of conflicts, or did its rounds near solutions,
-//! on clauses that said something new; `valid` comes only for a valid model, and a canonical text is read as the same
-//! model; and every other answer comes only where its cause is there. `main` hands it the words, standard input and
-//! standard output.
+//! `solve_main` is the whole program over any source of bytes and any sink, and its contract says what the program
+//! does: OPTIMAL comes only with a solution that none beats by more than the gap that the words give, INFEASIBLE only
+//! where there is none, FEASIBLE and UNKNOWN only where each worker spent its budget of conflicts, or did its rounds
+//! near solutions, on clauses that said something new; `valid` comes only for a valid model, and a canonical text is
+//! read as the same model; and every other answer comes only where its cause is there. `main` hands it the words,
+//! standard input and standard output.
 #![tactic(auto)]
 
 mod answer;

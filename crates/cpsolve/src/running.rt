@@ -6,8 +6,8 @@ use std::alloc::{AllocError, Global};
 use std::sync::Wait;
 use std::thread::Threads;
 
-/// What a run is handed: the words behind the program's name, the input, and how the source and the sink behave. A call number k of
-/// the source gives at most `pieces[k]` bytes, and the sink takes at most `at_once` bytes in a call.
+/// What a run is handed: the words behind the program's name, the input, and how the source and the sink behave. A call
+/// number k of the source gives at most `pieces[k]` bytes, and the sink takes at most `at_once` bytes in a call.
 #[derive(Clone, Copy)]
 pub struct Given<'a> {
     pub words: &'a [&'a str],

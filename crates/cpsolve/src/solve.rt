@@ -47,9 +47,12 @@ fn answer_of<R: Threads + Wait + Sync, S: Source, G: Gate + Sync>(
     source: &mut S,
     gate: &G,
 ) -> Result<Answer, Unanswered>
-    ensures right { IfOk result (λ answer. (bytes : List ℕ) × AreLeft (S.left source.old) bytes × IsAnswerTo (texts_of words.now) bytes answer) }
-    ensures read { OnOk result (IsReadingLine (texts_of words.now) → IsReadThrough (S.left source.old) (S.left source.new)) }
-    ensures nothing { ReadsNothing (texts_of words.now) → (source.new ≡ source.old) × (result ≢ Err Unanswered.ReadFault) }
+    ensures right { IfOk result (λ answer. (bytes : List ℕ) × AreLeft (S.left source.old) bytes
+        × IsAnswerTo (texts_of words.now) bytes answer) }
+    ensures read { OnOk result (IsReadingLine (texts_of words.now)
+        → IsReadThrough (S.left source.old) (S.left source.new)) }
+    ensures nothing { ReadsNothing (texts_of words.now)
+        → (source.new ≡ source.old) × (result ≢ Err Unanswered.ReadFault) }
     ensures fault { IsErrOf result Unanswered.ReadFault → Rose (S.faults source.old) (S.faults source.new) }
     ensures kept { result ≢ Err Unanswered.ReadFault → S.faults source.new ≡ S.faults source.old }
 {
@@ -72,7 +75,8 @@ fn write_answer<K: Sink>(sink: &mut K, answer: Answer) -> Ran
     requires { answer.exit ≤ 2 }
     ensures text { is_silent result.exit ≡ false }
     ensures outcome { result.outcome ≡ answer.outcome }
-    ensures whole { result.exit ≢ 4 → (result.exit ≡ answer.exit) × Appends (K.held sink.old) (K.held sink.new) answer.text }
+    ensures whole { result.exit ≢ 4
+        → (result.exit ≡ answer.exit) × Appends (K.held sink.old) (K.held sink.new) answer.text }
     ensures part { result.exit ≡ 4 → TakesPrefix (K.held sink.old) (K.held sink.new) answer.text }
     ensures fault { result.exit ≡ 4 → Rose (K.faults sink.old) (K.faults sink.new) }
     ensures kept { result.exit ≢ 4 → K.faults sink.new ≡ K.faults sink.old }
