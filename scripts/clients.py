@@ -77,7 +77,7 @@ DRAWN = {
     "no_overlap_2d": {"x_intervals": references, "y_intervals": references},
 }
 # The fields of a model that no worker serves: a model with one is refused. One that is opened is drawn like the others.
-CLOSED = ["assumptions"]
+CLOSED = []
 LITERALS = ["bool_or", "bool_and", "bool_xor", "at_most_one", "exactly_one"]
 
 

@@ -5,6 +5,7 @@ use Rattle.cps_literal.specs.declared.atom.Atom.{Atom}
 use Rattle.cps_literal.specs.Truth.{meets, atom_holds, clause_holds}
 use Rattle.cps_trail.specs.Trail.{Domains, Trail, Entry, Decision, Because, Explains, IsFalseAfter, IsFalseFrom}
 use Rattle.cps_trail.specs.Changes.{IsOn}
+use Rattle.cps_conflict.specs.Conflicts.{Reasons}
 use Rattle.cps_conflict.specs.Drafts.{IsBacked}
 
 -- both atoms are about one subject, and no value that meets the one meets the other
@@ -26,10 +27,6 @@ pub record IsRuledOutAt (s : Trail) (count : ℕ) (t : Atom) : Type 0 where
   pub last : ℕ
   pub is : count ≡ last + 1
   pub rules_out : (d : Entry) → RulesOut (slice_index_or s.entries last d).atom t
-
--- which clauses are reasons of entries by their number
-abbrev pub Reasons : Type 1
-Reasons = ℕ → List Atom → Type 0
 
 -- a reason of an entry that was kept, or was made from its note
 abbrev pub IsFetched : Reasons → Trail → Reasons

@@ -15,6 +15,7 @@ ghost use Rattle.std.specs.Prelude.{ℕ, ◌≡◌, ◌≢◌, ◌↔◌, ◌+�
 ghost use Rattle.std.specs.List.{All};
 ghost use Rattle.cps_trail.specs.Trail.{IsFalseNow, IsInside};
 ghost use Rattle.cps_trail.specs.Notes.{AllFit};
+ghost use Rattle.cps_conflict.specs.Conflicts.{AreTrueReasons};
 ghost use Rattle.cps_conflict.specs.Leading.{RulesOut, IsRuledOutAt, IsFetched, AreBehind, IsMarkedFalse, MarksBehind};
 ghost use Rattle.cps_conflict.specs.Leading.{MarksUnless, MarksReason, MarkedSoFar, FollowedSoFar, GoesBack, ArePicked};
 ghost use Rattle.cps_conflict.specs.Leading.{is_marked};
@@ -119,7 +120,7 @@ fn follow_one<E: Explain>(
     requires fits { AllFit (E.fits explain.now) store.now }
     requires marks { length marks.old ≡ length store.now.entries }
     ensures followed { OnOk result (GoesBack (IsFetched (E.makes explain.now store.now) store.now)
-        (E.holds explain.now) store.now (place + 1) place marks.old marks.new) }
+        (AreTrueReasons (E.makes explain.now store.now) store.now) store.now (place + 1) place marks.old marks.new) }
     ensures same_length { OnOk result (length marks.new ≡ length marks.old) }
 {
     if !marks[place] {
@@ -143,7 +144,8 @@ fn follow<E: Explain>(
     requires fits { AllFit (E.fits explain.now) store.now }
     requires marks { length marks.old ≡ length store.now.entries }
     ensures followed { OnOk result (GoesBack (IsFetched (E.makes explain.now store.now) store.now)
-        (E.holds explain.now) store.now (length store.now.entries) 0 marks.old marks.new) }
+        (AreTrueReasons (E.makes explain.now store.now) store.now) store.now
+        (length store.now.entries) 0 marks.old marks.new) }
     ensures same_length { OnOk result (length marks.new ≡ length marks.old) }
 {
     let mut reason = Vec::new(alloc);
@@ -194,7 +196,7 @@ fn mark_led_to<E: Explain>(
     requires marks { length marks.old ≡ length store.now.entries }
     requires none { (k : ℕ) → is_marked marks.old k ≡ false }
     ensures { OnOk result (FollowedSoFar (IsFetched (E.makes explain.now store.now) store.now)
-        (E.holds explain.now) store.now atom 0 marks.new) }
+        (AreTrueReasons (E.makes explain.now store.now) store.now) store.now atom 0 marks.new) }
 {
     mark_behind(store, atom, marks);
     follow(alloc, store, explain, marks)
@@ -211,7 +213,7 @@ pub fn decisions_behind<E: Explain>(
     requires false_now { IsFalseNow store.now atom }
     requires fits { AllFit (E.fits explain.now) store.now }
     ensures { IfOk result (λ decisions. AreBehind (IsFetched (E.makes explain.now store.now) store.now)
-        (E.holds explain.now) store.now atom decisions.items) }
+        (AreTrueReasons (E.makes explain.now store.now) store.now) store.now atom decisions.items) }
 {
     let mut marks = vec![in alloc; false; store.entries().len()]?;
     mark_led_to(alloc, store, atom, explain, &mut marks)?;

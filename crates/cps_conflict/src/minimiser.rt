@@ -97,6 +97,7 @@ fn level_before(store: &Store, count: usize) -> u64 {
 
 impl Minimiser {
     ghost use Rattle.cps_literal.specs.Truth.{atom_holds};
+    ghost use Rattle.cps_conflict.specs.Conflicts.{AreTrueReasons};
     ghost use Rattle.cps_conflict.specs.Drafts.{IsDraft, IsRedundant, Collects};
     ghost use Rattle.cps_conflict.specs.Nodes.{AreNodes, AreNodesAt, Carries, Passes, Traces, Grows, IsBack, IsLook};
     ghost use Rattle.cps_conflict.specs.declared.resolvent.Fallen.{Fallen as FallenOf};
@@ -327,8 +328,10 @@ impl Minimiser {
     ) -> Result<bool, AllocError>
         requires draft { IsDraft store.now resolvent.now }
         requires fits { AllFit (E.fits explain.now) store.now }
-        requires nodes { AreNodes (E.holds explain.now) store.now resolvent.now.earlier self.old }
-        ensures nodes { OnOk result (AreNodes (E.holds explain.now) store.now resolvent.now.earlier self.new) }
+        requires nodes { AreNodes (AreTrueReasons
+            (E.makes explain.now store.now) store.now) store.now resolvent.now.earlier self.old }
+        ensures nodes { OnOk result (AreNodes
+            (AreTrueReasons (E.makes explain.now store.now) store.now) store.now resolvent.now.earlier self.new) }
         ensures assert { OnOk result (self.new.assert ≡ self.old.assert) }
     {
         if !self.may_lead(store, fallen) {
@@ -378,8 +381,10 @@ impl Minimiser {
     ) -> Result<bool, AllocError>
         requires draft { IsDraft store.now resolvent.now }
         requires fits { AllFit (E.fits explain.now) store.now }
-        requires nodes { AreNodes (E.holds explain.now) store.now resolvent.now.earlier self.old }
-        ensures nodes { OnOk result (AreNodes (E.holds explain.now) store.now resolvent.now.earlier self.new) }
+        requires nodes { AreNodes (AreTrueReasons
+            (E.makes explain.now store.now) store.now) store.now resolvent.now.earlier self.old }
+        ensures nodes { OnOk result (AreNodes
+            (AreTrueReasons (E.makes explain.now store.now) store.now) store.now resolvent.now.earlier self.new) }
         ensures assert { OnOk result (self.new.assert ≡ self.old.assert) }
     {
         let Some(top) = self.path.last().copied() else {
@@ -403,8 +408,10 @@ impl Minimiser {
     ) -> Result<(), AllocError>
         requires draft { IsDraft store.now resolvent.now }
         requires fits { AllFit (E.fits explain.now) store.now }
-        requires nodes { AreNodes (E.holds explain.now) store.now resolvent.now.earlier self.old }
-        ensures nodes { OnOk result (AreNodes (E.holds explain.now) store.now resolvent.now.earlier self.new) }
+        requires nodes { AreNodes (AreTrueReasons
+            (E.makes explain.now store.now) store.now) store.now resolvent.now.earlier self.old }
+        ensures nodes { OnOk result (AreNodes
+            (AreTrueReasons (E.makes explain.now store.now) store.now) store.now resolvent.now.earlier self.new) }
         ensures assert { OnOk result (self.new.assert ≡ self.old.assert) }
     {
         self.path.clear();
@@ -430,11 +437,14 @@ impl Minimiser {
     ) -> Result<bool, AllocError>
         requires draft { IsDraft store.now resolvent.now }
         requires fits { AllFit (E.fits explain.now) store.now }
-        requires nodes { AreNodes (E.holds explain.now) store.now resolvent.now.earlier self.old }
-        ensures nodes { OnOk result (AreNodes (E.holds explain.now) store.now resolvent.now.earlier self.new) }
+        requires nodes { AreNodes (AreTrueReasons
+            (E.makes explain.now store.now) store.now) store.now resolvent.now.earlier self.old }
+        ensures nodes { OnOk result (AreNodes
+            (AreTrueReasons (E.makes explain.now store.now) store.now) store.now resolvent.now.earlier self.new) }
         ensures assert { OnOk result (self.new.assert ≡ self.old.assert) }
         ensures redundant { result ≡ Ok true
-            → IsRedundant (E.holds explain.now) store.now resolvent.now.earlier self.old.assert fallen }
+            → IsRedundant (AreTrueReasons
+            (E.makes explain.now store.now) store.now) store.now resolvent.now.earlier self.old.assert fallen }
     {
         self.walk(resolvent, store, explain, fallen)?;
         match self.led_to(fallen) {
@@ -455,7 +465,8 @@ impl Minimiser {
         requires draft { IsDraft store.now resolvent.now }
         requires fits { AllFit (E.fits explain.now) store.now }
         requires nodes { self.old.nodes.items ≡ [] }
-        ensures { IfOk result (Collects (E.holds explain.now) store.now resolvent.now.start resolvent.now.earlier
+        ensures { IfOk result (Collects
+            (AreTrueReasons (E.makes explain.now store.now) store.now) store.now resolvent.now.start resolvent.now.earlier
             self.old.assert resolvent.now.earlier atoms.new.items) }
     {
         atoms.clear();

@@ -32,7 +32,7 @@ term-subjects n m (t ∷ ts) l h =
 -- ---- a worker that begins
 -- the search, its form, and what the objective is at most
 abbrev pub beginning : Search → Form → ℤ → CoreSearch
-beginning t f greatest = record { search = t; form = f; sums = 0; greatest = greatest; raised = None; ended = false }
+beginning t f greatest = record { search = t; form = f; sums = 0; greatest = greatest; raised = None; ended = false; core = [] }
 
 module _ (p : Problem) (gap budget : ℕ) (s t : Search) (ts : List Term) (f : Form) (greatest : ℤ) (is : s ≡ fresh p gap (Some budget)) (grew : OnlyGrew s t (length ts)) (sound : IsSoundSearch t) (first : IsFirstForm t.instance ts f) (base : unsigned_abs f.base < 2 ^ 62)
     (terms : ts ≡ objective_terms p.model.objective) (most : greatest ≡ greatest_of_terms t.instance.domains ts) (few : length p.domains < 2 ^ 30) where

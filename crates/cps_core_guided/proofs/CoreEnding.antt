@@ -1,8 +1,8 @@
 -- What a core-guided worker's run says of it once it has ended.
 use Rattle.std.specs.Prelude.{IfSome, if◌then◌else◌}
-use Rattle.std.proofs.Common.{ℕ, ◌≤◌, ℤ, ◌≡◌, ◌∙◌, inl, inr, Bool, Option, Some, None, List, refl, sym, ap, subst, arith}
+use Rattle.std.proofs.Common.{ℕ, ◌≤◌, ℤ, ◌≡◌, ◌∙◌, inl, inr, Bool, true, false, Option, Some, None, List, [], refl, sym, ap, subst, arith}
 use Rattle.cps_model.specs.declared.bound.Bound.{Bound}
-use Rattle.cps_model.specs.declared.bound.Bound.TheVariants.{Infinite}
+use Rattle.cps_model.specs.declared.bound.Bound.TheVariants.{At, Infinite}
 use Rattle.cps_model.specs.declared.model.CpModel.{CpModel}
 use Rattle.cps_literal.specs.declared.atom.Atom.{Atom}
 use Rattle.cps_instance.specs.Problem.{Problem}
@@ -18,14 +18,15 @@ use Rattle.cps_search.specs.declared.end.End.TheVariants as ends
 use Rattle.cps_search.specs.declared.end.Said.{Said}
 use Rattle.cps_search.specs.declared.end.Said.TheVariants.{Due, Nothing, Over}
 use Rattle.cps_search.specs.declared.end.WorkerKind.TheVariants.{CoreGuided}
-use Rattle.cps_search.specs.Ends.{EndsBy, IsHonestEnding, IsWhy, LastSawMet, ending}
+use Rattle.cps_search.specs.Ends.{EndsBy, HasCore, IsHonestEnding, IsWhy, LastSawMet, RaisedToZ, ending}
 use Rattle.cps_search.specs.Following.{MovesWith, best_bound}
 use Rattle.cps_search.specs.Moves.{fresh}
-use Rattle.cps_search.specs.Searches.{IsFound, IsSoundSearch, SaidSo, Search}
+use Rattle.cps_search.specs.Assumptions.{IsCoreBelow, IsSufficient}
+use Rattle.cps_search.specs.Searches.{IsFound, IsSoundSearch, NoneBelow, SaidSo, Search}
 use Rattle.cps_search.proofs.Ending.{honest_by}
-use Rattle.cps_core_guided.specs.CoreTurns.{BeginsCore, RunsCoreTo, RunsInCoreTurns, core_ending}
-use Rattle.cps_core_guided.specs.Reforming.{CoreSearch, IsSoundCore, said_of, whole}
-use Rattle.cps_core_guided.proofs.CoreRunning.{core-turns-run}
+use Rattle.cps_core_guided.specs.CoreTurns.{BeginsCore, HasCoreAt, HasNoCore, RunsCoreTo, RunsInCoreTurns, core_ending}
+use Rattle.cps_core_guided.specs.Reforming.{CoreSearch, IsSoundCore, said_of, whole, whole_core}
+use Rattle.cps_core_guided.proofs.CoreRunning.{core-of-frame, core-of-own, core-turns-run, whole-core-below}
 use Rattle.cps_core_guided.proofs.CoreTurning.{said-search}
 
 -- ---- the search as it is seen is sound
@@ -38,18 +39,21 @@ raised-whole m a None h k = h
 raised-whole m None (Some r) h k = k
 raised-whole m (Some a) (Some r) h k = greater_is (IsLowerBound m) a r h k
 
-said-whole : (s : CoreSearch) (x : Said) → SaidSo s.search x → SaidSo (whole s) x
-said-whole s Nothing h = tt
-said-whole s Due h = record { tasks = h.tasks; clauses = h.clauses; rested = h.rested }
-said-whole s (Over ends.Exhausted) h = h
-said-whole s (Over ends.SawClosed) h = tt
-said-whole s (Over (ends.Spent clause below)) h = h
-said-whole s (Over ends.RoundsDone) h = tt
+said-whole : (s : CoreSearch) (x : Said) → s.ended ≡ false → SaidSo s.search x → SaidSo (whole s) x
+said-whole s Nothing off h = tt
+said-whole s Due off h = (record { tasks = h.0.tasks; clauses = h.0.clauses; rested = h.0.rested }, h.1)
+said-whole s (Over ends.Exhausted) off h = (h.0, subst (λ (c : List ℤ). IsCoreBelow s.search.instance.model s.search.z c) (sym (core-of-frame s off)) h.1)
+said-whole s (Over ends.SawClosed) off h = tt
+said-whole s (Over (ends.Spent clause below)) off h = h
+said-whole s (Over ends.RoundsDone) off h = tt
+
+exhausted-so : (s : CoreSearch) → s.ended ≡ true → NoneBelow s.search.instance.model s.search.z × (s.core ≡ whole_core s.search.instance.model s.search.z) → SaidSo (whole s) (Over ends.Exhausted)
+exhausted-so s on h = (h.0, subst (λ (c : List ℤ). IsCoreBelow s.search.instance.model s.search.z c) (sym (core-of-own s on ∙ h.1)) (whole-core-below s.search.instance.model s.search.z h.0))
 
 said-so : (s : CoreSearch) → IsSoundCore s → SaidSo (whole s) (said_of s)
 said-so s h = elim (bool_cases s.ended) [
-  | inl on ↦ subst (λ (x : Said). SaidSo (whole s) x) (sym (ap (λ (b : Bool). if b then Over ends.Exhausted else s.search.said) on)) (h.ended on)
-  | inr off ↦ subst (λ (x : Said). SaidSo (whole s) x) (sym (said-search s off)) (said-whole s s.search.said h.search.said)
+  | inl on ↦ subst (λ (x : Said). SaidSo (whole s) x) (sym (ap (λ (b : Bool). if b then Over ends.Exhausted else s.search.said) on)) (exhausted-so s on (h.ended on))
+  | inr off ↦ subst (λ (x : Said). SaidSo (whole s) x) (sym (said-search s off)) (said-whole s s.search.said off h.search.said)
 ]
 
 pub sound-whole : (s : CoreSearch) → IsSoundCore s → IsSoundSearch (whole s)
@@ -57,10 +61,10 @@ sound-whole s h =
     let k = h.search in
     record {
       instance = k.instance;
-      no_assumptions = k.no_assumptions;
       incumbent = k.incumbent;
       domains = k.domains;
       tasks = k.tasks;
+      first = k.first;
       given = k.given;
       clauses = k.clauses;
       subjects = k.subjects;
@@ -89,6 +93,34 @@ moves-begun a b t p q z model best raised imported h = record {
   imports = λ few. h.imports (omega (arith, few, imported));
 }
 
+-- ---- its core
+none-infinite : (r : Option Bound) → r ≡ None → r ≡ Some Infinite → ⊥
+none-infinite r e h = absurd (cc)
+
+top-only : (b : Bound) → BoundLe Infinite b → b ≡ Infinite
+top-only (At v) h = absurd h
+top-only Infinite h = refl
+
+core-at : (m : CpModel) (z : Bound) (core : List ℤ) → z ≡ Infinite → IsCoreBelow m z core → IsSufficient m core
+core-at m z core top h = subst (λ (x : Bound). IsCoreBelow m x core) top h
+
+-- where something is left, an exhausted worker has none
+exhausted-empty : (m : CpModel) (t : Search) (z : Bound) → t.z ≡ z → RaisedToZ t → IsCoreBelow m z t.core → ((t.raised ≡ Some Infinite) → ⊥) → t.core ≡ []
+exhausted-empty m t (At v) is h core some = core
+exhausted-empty m t Infinite is h core some = absurd (some (h.raised ∙ ap (λ (b : Bound). Some b) (top-only h.raise (subst (λ (x : Bound). BoundLe x h.raise) is h.at_least))))
+
+pub has-core : (m : CpModel) (end : End) (t : Search) (q : BoundsPart) → HasCoreAt end t → t.instance.model ≡ m → EndsBy t q end → HasCore m (ending CoreGuided None end t)
+has-core m ends.Exhausted t q at model h =
+    let core = subst (λ (k : CpModel). IsCoreBelow k t.z t.core) model h.core in
+    record {
+      sufficient = λ nothing. core-at m t.z t.core (at.only_there nothing.1).1 core;
+      empty = λ some. exhausted-empty m t t.z refl h core (λ inf. some (refl, inf));
+      only_there = λ inf. refl;
+    }
+has-core m ends.SawClosed t q at model h = record { sufficient = λ nothing. absurd (cc nothing.0); empty = λ some. at.none (λ e. absurd (cc e)); only_there = λ inf. (at.only_there inf).0 }
+has-core m (ends.Spent clause below) t q at model h = record { sufficient = λ nothing. absurd (cc nothing.0); empty = λ some. at.none (λ e. absurd (cc e)); only_there = λ inf. (at.only_there inf).0 }
+has-core m ends.RoundsDone t q at model h = absurd h
+
 some-is : (a b : ℕ) → Some a ≡ Some b → a ≡ b
 some-is a b e = cc
 
@@ -109,10 +141,15 @@ core-honest chooses hears stays p gap budget rows s t part q end begins h before
     let g = t.0.search.instance in
     let new = fresh g gap (Some budget) in
     let was = begins.search in
+    let none : HasNoCore s.0 = record {
+      frame = λ e. none-infinite s.0.search.raised (ap (λ (x : Search). x.raised) was) e;
+      own = λ e. none-infinite s.0.raised begins.raised e;
+      core = ap (λ (x : Search). x.core) was;
+    } in
     let capped : t.0.search.budget ≡ Some budget = runs.setting.budget ∙ ap (λ (x : Search). x.budget) was in
     let moves : MovesWith new (whole t.0) part q =
     moves-begun (whole s.0) new (whole t.0) part q (sym (ap (λ (x : Search). x.z) was)) runs.setting.model (sym (ap (λ (x : Search). x.best) was))
     (sym (ap (λ (o : Option Bound). greater_of s.0.search.raised o) begins.raised ∙ ap (λ (x : Search). x.raised) was)) (sym (ap (λ (x : Search). x.imported) was)) runs.moves in
     subst (λ (m : CpModel). IsHonestEnding m gap budget q.bounds (core_ending end t.0)) (runs.setting.model ∙ begins.instance)
-    (honest_by g gap budget (Some budget) (whole t.0) part q CoreGuided None end refl moves (sound-whole t.0 sound) offered raised (within-some t.0.search.budget budget t.0.search.tally capped sound.search.within_budget)
+    (honest_by g gap budget (Some budget) (whole t.0) part q CoreGuided None end refl (has-core g.model end (whole t.0) q.bounds (runs.core none) refl runs.why) moves (sound-whole t.0 sound) offered raised (within-some t.0.search.budget budget t.0.search.tally capped sound.search.within_budget)
     (why-of (whole t.0) gap budget q.bounds end end (runs.setting.gap ∙ ap (λ (x : Search). x.gap) was) capped runs.why))

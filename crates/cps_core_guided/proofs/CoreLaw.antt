@@ -12,13 +12,16 @@ use Rattle.cps_instance.specs.declared.term.Term.{Term}
 use Rattle.cps_trail.specs.Trail.{Trail, Entry, IsSound}
 use Rattle.cps_trail.proofs.Falls.{bool_cases, not_both}
 use Rattle.cps_trail.proofs.Times.{IsTrueAfter-all}
-use Rattle.cps_conflict.specs.Leading.{IsDecisionBehind, Reasons}
+use Rattle.cps_conflict.specs.Conflicts.{Reasons}
+use Rattle.cps_conflict.specs.Leading.{IsDecisionBehind}
 use Rattle.cps_reform.specs.declared.held.Held.{Held}
 use Rattle.cps_reform.specs.Forms.{Form, term_at, no_term}
 use Rattle.cps_reform.specs.Cores.{core_terms, IsSomeAbove, WeighAtLeast}
 use Rattle.cps_reform.specs.Floors.{OfEachBelow}
 use Rattle.cps_reform.specs.Marks.{assumed, IsMarked}
-use Rattle.cps_core_guided.specs.Assuming.{AssumesFirst, IsAssumption, IsFailed}
+use Rattle.cps_core_guided.specs.Assuming.{AssumesFirst, IsAssumption, IsFailed, IsSomeAssumption}
+use Rattle.cps_search.specs.Searches.{IsSoundSearch}
+use Rattle.cps_search.proofs.Cores.{assumed_holds}
 use Rattle.cps_core_guided.specs.Reforming.{CoreSearch}
 use Rattle.cps_core_guided.specs.Guiding.{HasFailed}
 
@@ -27,12 +30,12 @@ entry_at [] k l = absurd (omega (arith, l))
 entry_at (e ∷ es) k l = e
 
 -- the decisions behind a failed assumption are assumptions: after any other decision all of them were true
-pub assumptions-behind : (R : Reasons) (s : Trail) (ts : List Held) (place : ℕ) (t : Atom) (decisions : List Atom) → IsSound s → AssumesFirst s ts → IsFailed s ts place → (term_at ts place).subject < length s.first
-    → All (IsDecisionBehind R s t) decisions → All (IsAssumption ts) decisions
-assumptions-behind R s ts place t decisions sound first failed inside all = All-weaker (IsDecisionBehind R s t) (IsAssumption ts) (λ u b.
+pub assumptions-behind : (R : Reasons) (rs : List ℤ) (s : Trail) (ts : List Held) (place : ℕ) (t : Atom) (decisions : List Atom) → IsSound s → AssumesFirst rs s ts → IsFailed s ts place → (term_at ts place).subject < length s.first
+    → All (IsDecisionBehind R s t) decisions → All (IsSomeAssumption rs ts) decisions
+assumptions-behind R rs s ts place t decisions sound first failed inside all = All-weaker (IsDecisionBehind R s t) (IsSomeAssumption rs ts) (λ u b.
     let d = entry_at s.entries b.place b.within in
     elim (first.each b.place d b.within (b.decided d)) [
-      | inl a ↦ subst (λ (x : Atom). IsAssumption ts x) (b.is d) a
+      | inl a ↦ subst (λ (x : Atom). IsSomeAssumption rs ts x) (b.is d) a
       | inr assumed_then ↦ absurd (not_both s (assumed (term_at ts place)) inside sound (IsTrueAfter-all s.first s.entries b.place (assumed (term_at ts place)) (assumed_then place no_term failed.within failed.weighs)) failed.false_now)
     ]) decisions all
 
@@ -72,7 +75,7 @@ assumed-true xs ts i none has core = elim (bool_cases (int_le (value_at xs (term
 same-assumed : (f g : Form) (place : ℕ) (decisions : List Atom) (i : ℕ) → IsMarked f g place decisions → i < length f.terms → assumed (term_at g.terms i) ≡ assumed (term_at f.terms i)
 same-assumed f g place decisions i m l = ap (λ (t : Held). assumed t) (m.terms.same i l)
 
-module _ (s : CoreSearch) (g : Form) (place : ℕ) (decisions : List Atom) (h : HasFailed s place decisions) (m : IsMarked s.form g place decisions) where
+module _ (s : CoreSearch) (g : Form) (place : ℕ) (decisions : List Atom) (search : IsSoundSearch s.search) (h : HasFailed s place decisions) (m : IsMarked s.form g place decisions) where
   -- where no term of the core is above its bound, each term of it has a true assumption
   core-true : (xs : List ℤ) → (IsSomeAbove xs g.terms → ⊥) → (i : ℕ) → i < length s.form.terms → (term_at g.terms i).in_core ≡ true → atom_holds xs (assumed (term_at s.form.terms i)) ≡ true
   core-true xs none i l core = ap (atom_holds xs) (sym (same-assumed s.form g place decisions i m l)) ∙ assumed-true xs g.terms i none (let e = m.terms.same_length in omega (arith, e, l)) core
@@ -89,7 +92,10 @@ module _ (s : CoreSearch) (g : Form) (place : ℕ) (decisions : List Atom) (h : 
       elim (some-or-none xs g.terms) [
         | inl some ↦ some
         | inr none ↦ absurd (
-            let decided : All (λ u. atom_holds xs u ≡ true) decisions = λ k d l. decision-true xs none (get_or decisions k d) (Contains-get_or decisions k d l) (h.assumptions k d l) in
+            let decided : All (λ u. atom_holds xs u ≡ true) decisions = λ k d l. elim (h.assumptions k d l) [
+              | inl of_model ↦ assumed_holds s.search.instance search.instance a solution (get_or decisions k d) of_model
+              | inr of_term ↦ decision-true xs none (get_or decisions k d) (Contains-get_or decisions k d l) of_term
+            ] in
             let failed = core-true xs none place h.within ((m.terms.core place h.within).1 (record { weighs = h.weighs; led_to = inl refl })) in
             true≢false (sym failed ∙ h.false_there a solution below decided))
       ]
@@ -145,10 +151,10 @@ only-above xs (t ∷ ts) (suc i) l core one h =
     ] refl one
 
 -- so its bound can rise by 1
-pub risen-alone : (s : CoreSearch) (g : Form) (place : ℕ) (decisions : List Atom) → HasFailed s place decisions → IsMarked s.form g place decisions → length (core_terms g.terms) ≡ 1
+pub risen-alone : (s : CoreSearch) (g : Form) (place : ℕ) (decisions : List Atom) → IsSoundSearch s.search → HasFailed s place decisions → IsMarked s.form g place decisions → length (core_terms g.terms) ≡ 1
     → OfEachBelow s.search.instance s.search.z (λ xs. ((term_at g.terms place).bound +ℤ pos 1) ≤ℤ value_at xs (term_at g.terms place).subject)
-risen-alone s g place decisions h m one a solution below =
+risen-alone s g place decisions search h m one a solution below =
     let e = m.terms.same_length in
     let w = h.within in
-    let over = only-above (extended s.search.instance.defs a) g.terms place (omega (arith, e, w)) (core-has-failed s g place decisions h m) one (core-some s g place decisions h m a solution below) in
+    let over = only-above (extended s.search.instance.defs a) g.terms place (omega (arith, e, w)) (core-has-failed s g place decisions search h m) one (core-some s g place decisions search h m a solution below) in
     omega (arith, ints, over)

@@ -17,7 +17,7 @@ use Rattle.cps_search.specs.declared.end.Said.{Said}
 use Rattle.cps_search.specs.declared.end.Said.TheVariants.{Over}
 use Rattle.cps_search.specs.declared.turn.Turn.{Turn}
 use Rattle.cps_search.specs.declared.turn.Turn.TheVariants as turns
-use Rattle.cps_search.specs.Ends.{Decides, EndsAs, IsOver, Lowers, TakesTurn, TurnCaused, end_of, fewer_conflicts, lesser_z, fewer_rows, fewer_values}
+use Rattle.cps_search.specs.Ends.{Decides, EndsAs, IsNext, IsOver, Lowers, TakesTurn, TurnCaused, end_of, fewer_conflicts, lesser_z, fewer_rows, fewer_values}
 use Rattle.cps_search.specs.Following.{MovesWith}
 use Rattle.cps_search.specs.Moves.{moved, decided}
 use Rattle.cps_search.specs.Searches.{Search, IsSoundSearch}
@@ -27,7 +27,7 @@ use Rattle.cps_search.proofs.Working.{turn_decided}
 use Rattle.cps_reform.specs.Forms.{Form}
 use Rattle.cps_reform.specs.Floors.{past_greatest}
 use Rattle.cps_core_guided.specs.Reforming.{CoreSearch, said_of, whole}
-use Rattle.cps_core_guided.specs.CoreTurns.{CoreCaused, DecidesFrom, ExhaustsFrom, FailsFrom, GoesOn, LowersCore, ReformsFrom, SameCoreSetting, TakesCoreTurn}
+use Rattle.cps_core_guided.specs.CoreTurns.{CoreCaused, DecidesFrom, DecidesOf, of_the_model, of_a_term, a_choice, ExhaustsFrom, FailsFrom, GoesOn, LowersCore, ReformsFrom, SameCoreSetting, TakesCoreTurn}
 use Rattle.cps_core_guided.specs.CoreTurns.{fewer_conflicts as fewer_core_conflicts, lesser_z as lesser_core_z, higher_base, fewer_rows as fewer_core_rows, fewer_values as fewer_core_values}
 use Rattle.cps_core_guided.proofs.Wholes.{moves-raised, moves-whole}
 
@@ -76,6 +76,7 @@ lowers-core s t rows p q same (fewer_values tally falls taken less) = fewer_core
 pub turn-frame : (chooses : Trail → Option Atom → Type 0) (s t : CoreSearch) (rows : ℕ) (p q : Part) (turn : Turn) → s.ended ≡ false → t ≡ record s { search = t.search } → (turn ≡ turns.Decided → ⊥) → TakesTurn chooses s.search t.search rows p q turn
     → TakesCoreTurn chooses s t rows p q turn
 turn-frame chooses s t rows p q turn off is not h = record {
+  running = off;
   setting = setting-frame s t is h.setting;
   store = λ own. h.store not;
   cause = core-caused chooses s t rows p q turn is h.setting not h.cause;
@@ -88,14 +89,21 @@ turn-frame chooses s t rows p q turn off is not h = record {
 same-but : (s m t : CoreSearch) (x : Search) → m ≡ record s { search = m.search } → t ≡ record m { search = x } → t ≡ record s { search = t.search }
 same-but s m t x ms is = is ∙ ap (λ (c : CoreSearch). record c { search = x }) ms ∙ ap (λ (y : Search). record s { search = y }) (sym (ap (λ (c : CoreSearch). c.search) is))
 
+-- what is decided next
+next-of : (chooses : Trail → Option Atom → Type 0) (m : CoreSearch) (t : Atom) → DecidesOf chooses m m.search.store t → IsNext (λ c a. a ≡ Some t) m.search t
+next-of chooses m t (of_the_model none_fails next) = inl next
+next-of chooses m t (of_a_term none few none_fails place first is) = inr (none, refl)
+next-of chooses m t (a_choice none assumed chosen) = inr (none, refl)
+
 turn-decides : (chooses : Trail → Option Atom → Type 0) (s m t : CoreSearch) (rows : ℕ) (p o q : Part) → s.ended ≡ false → IsSome s.search.budget → IsSoundSearch s.search → Steps s.search m.search rows p o None → m ≡ record s { search = m.search }
     → DecidesFrom chooses m t o q → TakesCoreTurn chooses s t rows p q turns.Decided
 turn-decides chooses s m t rows p o q off has sound steps ms d =
     let x = moved m.search (decided m.search.store d.atom) m.search.rested in
     let is = same-but s m t x ms d.is in
-    let decides : Decides (λ c a. a ≡ Some d.atom) m.search t.search = record { atom = d.atom; undecided = d.undecided; chosen = refl; is = ap (λ (c : CoreSearch). c.search) d.is } in
+    let decides : Decides (λ c a. a ≡ Some d.atom) m.search t.search = record { atom = d.atom; undecided = d.undecided; next = next-of chooses m d.atom d.chosen; is = ap (λ (c : CoreSearch). c.search) d.is } in
     let h = turn_decided (λ c a. a ≡ Some d.atom) s.search m.search t.search rows p o has sound steps decides in
     record {
+      running = off;
       setting = setting-frame s t is h.setting;
       store = λ own. absurd (own (inl refl));
       cause = record { midway = m; part = o; due = steps.cause; setting = steps.setting; same = ms; on = d };
@@ -111,9 +119,9 @@ at_most_or_over v w = grind (arith, ints)
 failed-setting : (s m t : CoreSearch) (rows : ℕ) (p o : Part) (form : Form) (more : ℕ) → Steps s.search m.search rows p o None → m ≡ record s { search = m.search } → FailsFrom m t form more → SameCoreSetting s t
 failed-setting s m t rows p o form more steps ms h = setting-core s m t (setting-frame s m ms steps.setting) h.setting
 
-turn-reforms : (chooses : Trail → Option Atom → Type 0) (s m t : CoreSearch) (rows : ℕ) (p o q : Part) (base : ℤ) → Steps s.search m.search rows p o None → m ≡ record s { search = m.search } → ReformsFrom m t o q base
+turn-reforms : (chooses : Trail → Option Atom → Type 0) (s m t : CoreSearch) (rows : ℕ) (p o q : Part) (base : ℤ) → s.ended ≡ false → Steps s.search m.search rows p o None → m ≡ record s { search = m.search } → ReformsFrom m t o q base
     → TakesCoreTurn chooses s t rows p q (turns.Reformed base)
-turn-reforms chooses s m t rows p o q base steps ms h =
+turn-reforms chooses s m t rows p o q base off steps ms h =
     let f = h.fails in
     let moves = moves-raised m t o q (At base) h.raises f.setting.model f.z f.best f.imported f.search_raised in
     let most : t.form.base ≤ℤ t.greatest = elim (at_most_or_over t.form.base t.greatest) [
@@ -122,6 +130,7 @@ turn-reforms chooses s m t rows p o q base steps ms h =
     ] in
     let before : m.form.base ≡ s.form.base = ap (λ (c : CoreSearch). c.form.base) ms in
     record {
+      running = off;
       setting = failed-setting s m t rows p o t.form h.more steps ms f;
       store = λ own. absurd (own (inr (inr (base, refl))));
       cause = record { midway = m; part = o; due = steps.cause; setting = steps.setting; same = ms; on = h };
@@ -135,11 +144,12 @@ turn-reforms chooses s m t rows p o q base steps ms h =
 going : (end : End) → (Some end ≡ None) → ⊥
 going end e = absurd (cc)
 
-turn-exhausts : (chooses : Trail → Option Atom → Type 0) (s m t : CoreSearch) (rows : ℕ) (p o q : Part) → Steps s.search m.search rows p o None → m ≡ record s { search = m.search } → ExhaustsFrom m t o q → TakesCoreTurn chooses s t rows p q turns.Exhausted
-turn-exhausts chooses s m t rows p o q steps ms h =
+turn-exhausts : (chooses : Trail → Option Atom → Type 0) (s m t : CoreSearch) (rows : ℕ) (p o q : Part) → s.ended ≡ false → Steps s.search m.search rows p o None → m ≡ record s { search = m.search } → ExhaustsFrom m t o q → TakesCoreTurn chooses s t rows p q turns.Exhausted
+turn-exhausts chooses s m t rows p o q off steps ms h =
     let f = h.fails in
     let moves = moves-raised m t o q t.search.z h.raises f.setting.model f.z f.best f.imported f.search_raised in
     record {
+      running = off;
       setting = failed-setting s m t rows p o h.form h.more steps ms f;
       store = λ own. absurd (own (inr (inl refl)));
       cause = inr (record { midway = m; part = o; due = steps.cause; setting = steps.setting; same = ms; on = h });
@@ -152,8 +162,8 @@ turn-exhausts chooses s m t rows p o q steps ms h =
 pub turn-on : (chooses : Trail → Option Atom → Type 0) (s m t : CoreSearch) (rows : ℕ) (p o q : Part) (turn : Turn) → s.ended ≡ false → IsSome s.search.budget → IsSoundSearch s.search → Steps s.search m.search rows p o None
     → m ≡ record s { search = m.search } → GoesOn chooses m t o q turn → TakesCoreTurn chooses s t rows p q turn
 turn-on chooses s m t rows p o q turns.Decided off has sound steps ms h = turn-decides chooses s m t rows p o q off has sound steps ms h
-turn-on chooses s m t rows p o q (turns.Reformed base) off has sound steps ms h = turn-reforms chooses s m t rows p o q base steps ms h
-turn-on chooses s m t rows p o q turns.Exhausted off has sound steps ms h = turn-exhausts chooses s m t rows p o q steps ms h
+turn-on chooses s m t rows p o q (turns.Reformed base) off has sound steps ms h = turn-reforms chooses s m t rows p o q base off steps ms h
+turn-on chooses s m t rows p o q turns.Exhausted off has sound steps ms h = turn-exhausts chooses s m t rows p o q off steps ms h
 turn-on chooses s m t rows p o q turns.Imported off has sound steps ms h = absurd h
 turn-on chooses s m t rows p o q turns.Learnt off has sound steps ms h = absurd h
 turn-on chooses s m t rows p o q turns.Found off has sound steps ms h = absurd h

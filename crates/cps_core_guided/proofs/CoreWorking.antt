@@ -1,6 +1,6 @@
 -- What a core-guided worker keeps over its turns.
 use Rattle.std.specs.Prelude.{unsigned_abs, IfSome, IsSome}
-use Rattle.std.proofs.Common.{◌⊎◌, refl, length-append, ◌+◌, ◌≡◌, ℕ, ℤ, ◌<◌, ◌≤◌, ◌^◌, Option, List, [], ◌∷◌, ◌++◌, length, take, sym, ◌∙◌, ap, subst, arith}
+use Rattle.std.proofs.Common.{◌⊎◌, false, refl, length-append, ◌+◌, ◌≡◌, ℕ, ℤ, ◌<◌, ◌≤◌, ◌^◌, Option, List, [], ◌∷◌, ◌++◌, length, take, sym, ◌∙◌, ap, subst, arith}
 use Rattle.cps_model.specs.declared.model.CpModel.{CpModel}
 use Rattle.cps_instance.proofs.Growing.{same-append}
 use Rattle.cps_instance.specs.Problem.{Problem}
@@ -18,7 +18,7 @@ use Rattle.cps_search.proofs.Working.{room}
 use Rattle.cps_port.specs.Order.{BoundLe}
 use Rattle.cps_search.specs.Turns.{GoesOnAndBack, SameSetting}
 use Rattle.cps_search.specs.Moves.{moved, decided}
-use Rattle.cps_core_guided.specs.Assuming.{AreAssumed, IsAssumption}
+use Rattle.cps_core_guided.specs.Assuming.{AreAssumed, IsSomeAssumption}
 use Rattle.cps_core_guided.specs.Reforming.{CoreSearch, IsSoundCore, most_sums}
 use Rattle.cps_core_guided.proofs.Keeping.{sound-decided, sound-grown, sound-stepped}
 use Rattle.cps_core_guided.specs.CoreTurns.{IsCoreWorking, SameCoreSetting}
@@ -58,22 +58,22 @@ same-grown p scope s t kept added of first more entries = record {
 
 -- a decision that is an assumption, or that is made where all of them are true
 pub works-decided : (s : CoreSearch) (t : Search) (a : Atom) (scope scope' : Scope) (agrees agrees' : ℕ → Type 0) (kept kept' : ℕ) → IsCoreWorking s scope agrees kept → IsSoundSearch t → t ≡ moved s.search (decided s.search.store a) s.search.rested
-    → (s.sums < most_sums → IsAssumption s.form.terms a ⊎ AreAssumed s.search.store.first s.search.store.entries s.form.terms) → scope' ≡ scope → kept' ≤ length s.search.store.entries → agrees' kept' → IsCoreWorking (record s { search = t }) scope' agrees' kept'
-works-decided s t a scope scope' agrees agrees' kept kept' h sound is new same within agreed =
+    → s.ended ≡ false → (s.sums < most_sums → IsSomeAssumption s.search.instance.model.assumptions s.form.terms a ⊎ AreAssumed s.search.store.first s.search.store.entries s.form.terms) → scope' ≡ scope → kept' ≤ length s.search.store.entries → agrees' kept' → IsCoreWorking (record s { search = t }) scope' agrees' kept'
+works-decided s t a scope scope' agrees agrees' kept kept' h sound is running new same within agreed =
     let e : Entry = record { atom = a; level = s.search.store.level + 1; reason = Decision } in
     let size : length t.store.entries ≡ length s.search.store.entries + 1 = ap (λ (x : Search). length x.store.entries) is ∙ length-append s.search.store.entries (e ∷ []) in
     let few = h.few in
     let imported : t.imported ≡ s.search.imported = ap (λ (x : Search). x.imported) is in
     let longer : length t.instance.domains ≡ length s.search.instance.domains = ap (λ (x : Search). length x.instance.domains) is in
-    works-core s (record s { search = t }) scope scope' agrees agrees' kept kept' h (sound-decided s t a h.sound sound is new)
+    works-core s (record s { search = t }) scope scope' agrees agrees' kept kept' h (sound-decided s t a h.sound sound is running new)
     (record { model = ap (λ (x : Search). x.instance.model) is; gap = ap (λ (x : Search). x.gap) is; budget = ap (λ (x : Search). x.budget) is; refused = ap (λ (x : Search). x.refused) is; greatest = refl })
     (omega (arith, longer)) same (omega (arith, few, imported)) (omega (arith, within, size)) agreed
 
 -- a sum more at level 0, with a form over it
 pub works-grown : (s : CoreSearch) (t : Search) (f : Form) (sum : DefinedSum) (subject : ℕ) (scope : Scope) (agrees : Trail → ℕ → Type 0) (kept : ℕ) → IsCoreWorking s scope (agrees s.search.store) kept → s.sums < most_sums → IsSoundSearch t → GrewBy s.search t sum subject
-    → IsReform t.instance t.z f → unsigned_abs f.base < 2 ^ 62 → IsSound t.store → t.store.level ≡ 0 → (AreSameUpTo scope.subjects kept s.search.store t.store → agrees s.search.store kept → agrees t.store kept)
+    → IsReform t.instance t.z f → unsigned_abs f.base < 2 ^ 62 → IsSound t.store → t.store.level ≡ 0 → s.ended ≡ false → (AreSameUpTo scope.subjects kept s.search.store t.store → agrees s.search.store kept → agrees t.store kept)
     → IsCoreWorking (record s { search = t; form = f; sums = s.sums + 1 }) scope (agrees t.store) kept
-works-grown s t f sum subject scope agrees kept h few sound grew reform small store bottom on =
+works-grown s t f sum subject scope agrees kept h few sound grew reform small store bottom running on =
     let d = grew.defines in
     let is = grew.is in
     let longer : length t.instance.domains ≡ length s.search.instance.domains + 1 = ap (λ (ds : Domains). length ds) d.domains ∙ length-append s.search.instance.domains (d.added ∷ []) in
@@ -83,16 +83,16 @@ works-grown s t f sum subject scope agrees kept h few sound grew reform small st
     let within = h.within in
     let most = h.few in
     works-core s (record s { search = t; form = f; sums = s.sums + 1 }) scope scope (agrees s.search.store) (agrees t.store) kept kept h
-    (sound-grown s t f sum subject h.sound few sound grew reform small store bottom)
+    (sound-grown s t f sum subject h.sound few sound grew reform small store bottom running)
     (record { model = d.model; gap = ap (λ (x : Search). x.gap) is; budget = ap (λ (x : Search). x.budget) is; refused = ap (λ (x : Search). x.refused) is; greatest = refl })
     (omega (arith, longer)) refl (omega (arith, most, imported)) (omega (arith, within, size))
     (on (same-grown s.search.instance scope s.search.store t.store kept d.added h.of_problem h.sound.search.domains (ap (λ (x : Search). x.store.first) is ∙ d.domains) entries) h.agreed)
 
 -- a step of the frame, after which the last entries may go
-pub works-frame : (s : CoreSearch) (t : Search) (scope scope' : Scope) (agrees agrees' : ℕ → Type 0) (kept kept' : ℕ) → IsCoreWorking s scope agrees kept → IsSoundSearch t → SameSetting s.search t → BoundLe t.z s.search.z → GoesOnAndBack s.search.store t.store → scope' ≡ scope
+pub works-frame : (s : CoreSearch) (t : Search) (scope scope' : Scope) (agrees agrees' : ℕ → Type 0) (kept kept' : ℕ) → IsCoreWorking s scope agrees kept → IsSoundSearch t → SameSetting s.search t → BoundLe t.z s.search.z → s.ended ≡ false → GoesOnAndBack s.search.store t.store → scope' ≡ scope
     → t.imported ≤ 4096 → kept' ≤ length t.store.entries → agrees' kept' → IsCoreWorking (record s { search = t }) scope' agrees' kept'
-works-frame s t scope scope' agrees agrees' kept kept' h sound setting falls store same few within agreed =
+works-frame s t scope scope' agrees agrees' kept kept' h sound setting falls running store same few within agreed =
     let longer : length t.instance.domains ≡ length s.search.instance.domains = ap (λ (p : Problem). length p.domains) setting.instance in
-    works-core s (record s { search = t }) scope scope' agrees agrees' kept kept' h (sound-stepped s t h.sound sound setting.instance falls store)
+    works-core s (record s { search = t }) scope scope' agrees agrees' kept kept' h (sound-stepped s t h.sound sound setting.instance falls running store)
     (record { model = ap (λ (p : Problem). p.model) setting.instance; gap = setting.gap; budget = setting.budget; refused = setting.refused; greatest = refl })
     (omega (arith, longer)) same few within agreed

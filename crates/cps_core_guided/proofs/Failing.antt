@@ -1,5 +1,5 @@
 -- What is known where a term fails: the search went back to level 0, and a reform was tried.
-use Rattle.std.proofs.Common.{◌≡◌, ℕ, ◌<◌, Bool, true, false, Option, List, length, refl, sym, ◌∙◌, ap, subst, ◌<ℤ◌}
+use Rattle.std.proofs.Common.{◌≡◌, ℕ, ◌<◌, Bool, true, false, Option, ℤ, List, length, refl, sym, ◌∙◌, ap, subst, ◌<ℤ◌}
 use Rattle.cps_model.specs.declared.bound.Bound.{Bound}
 use Rattle.cps_model.specs.declared.bound.Bound.TheVariants.{At}
 use Rattle.cps_model.specs.declared.model.CpModel.{CpModel}
@@ -21,15 +21,15 @@ use Rattle.cps_reform.specs.Marks.{assumed}
 use Rattle.cps_core_guided.specs.Assuming.{IsFailed}
 use Rattle.cps_core_guided.specs.CoreTurns.{ExhaustsFrom, FailsFrom, RaisesTo, ReformsFrom}
 use Rattle.cps_core_guided.specs.Guiding.{HasFailed, Tried}
-use Rattle.cps_core_guided.specs.Reforming.{CoreSearch, IsSoundCore, most_sums}
+use Rattle.cps_core_guided.specs.Reforming.{CoreSearch, IsSoundCore, most_sums, whole_core}
 use Rattle.cps_core_guided.proofs.Assumptions.{assumes-bottom}
 use Rattle.cps_core_guided.proofs.CoreLaw.{assumptions-behind}
 use Rattle.cps_core_guided.proofs.Keeping.{sound-search}
 use Rattle.cps_core_guided.proofs.Reforming.{base-bound}
 
 -- a search that went back to level 0 is sound
-pub sound-bottom : (s : CoreSearch) (bottom : Trail) (rest : Rest) → IsSoundCore s → IsSoundSearch (moved s.search bottom rest) → IsSound bottom → bottom.level ≡ 0 → IsSoundCore (record s { search = moved s.search bottom rest })
-sound-bottom s bottom rest h sound store level = sound-search s (moved s.search bottom rest) h sound refl (BoundLe-refl s.search.z) (λ few. assumes-bottom bottom s.form.terms store level)
+pub sound-bottom : (s : CoreSearch) (bottom : Trail) (rest : Rest) → IsSoundCore s → IsSoundSearch (moved s.search bottom rest) → IsSound bottom → bottom.level ≡ 0 → s.ended ≡ false → IsSoundCore (record s { search = moved s.search bottom rest })
+sound-bottom s bottom rest h sound store level running = sound-search s (moved s.search bottom rest) h sound refl (BoundLe-refl s.search.z) running (λ few. assumes-bottom s.search.instance.model.assumptions bottom s.form.terms store level)
 
 -- the decisions behind the assumption that failed are assumptions
 pub has-failed : (s : CoreSearch) (bottom : Trail) (rest : Rest) (place : ℕ) (decisions : List Atom) → IsSoundCore s → IsSound s.search.store → s.sums < most_sums → IsFailed s.search.store s.form.terms place → bottom.level ≡ 0
@@ -42,7 +42,7 @@ has-failed s bottom rest place decisions h store few failed level behind =
       weighs = failed.weighs;
       bottom = level;
       said = refl;
-      assumptions = assumptions-behind _ s.search.store s.form.terms place (assumed (term_at s.form.terms place)) decisions store (h.assumes few) failed inside behind.each;
+      assumptions = assumptions-behind _ s.search.instance.model.assumptions s.search.store s.form.terms place (assumed (term_at s.form.terms place)) decisions store (h.assumes few) failed inside behind.led.each;
       false_there = λ a solution below decided. behind.enough a solution.free below decided;
     }
 
@@ -51,8 +51,8 @@ raises-from : (m v t : CoreSearch) (p q : Part) (bound : Bound) → v.raised ≡
 raises-from m v t p q bound same r = record { raised = r.raised ∙ ap (λ (o : Option Bound). raised_to o bound) same; seen = r.seen; at_least = r.at_least; told = r.told; board = r.board }
 
 module _ (m v : CoreSearch) (bottom : Trail) (rest : Rest) (place : ℕ) (decisions : List Atom) (done : Bool) (h : Tried (record m { search = moved m.search bottom rest }) v place decisions done) where
-  pub failed-from : (r : Option Bound) (e : Bool) → m.sums < most_sums → IsFailed m.search.store m.form.terms place → AreBehindIn m.search (assumed (term_at m.form.terms place)) decisions → GoesBack m.search.store bottom 0 → FailsFrom m (record v { raised = r; ended = e }) h.form h.more
-  failed-from r e few failed behind back = record {
+  pub failed-from : (r : Option Bound) (e : Bool) (c : List ℤ) → m.sums < most_sums → IsFailed m.search.store m.form.terms place → AreBehindIn m.search (assumed (term_at m.form.terms place)) decisions → GoesBack m.search.store bottom 0 → FailsFrom m (record v { raised = r; ended = e; core = c }) h.form h.more
+  failed-from r e c few failed behind back = record {
     few = few;
     place = place;
     failed = failed;
@@ -70,6 +70,7 @@ module _ (m v : CoreSearch) (bottom : Trail) (rest : Rest) (place : ℕ) (decisi
     imported = h.imported;
     best = h.best;
     search_raised = h.search_raised;
+    search_core = h.search_core;
     said = h.said;
   }
 
@@ -80,26 +81,27 @@ module _ (m v : CoreSearch) (bottom : Trail) (rest : Rest) (place : ℕ) (decisi
   pub tried-none : done ≡ false → NoneBelow v.search.instance.model v.search.z
   tried-none off = subst (λ (b : Bound). NoneBelow v.search.instance.model b) (sym h.z) (subst (λ (k : CpModel). NoneBelow k m.search.z) (sym h.setting.model) (h.none_below off))
 
-  pub reforms-from : (r : Option Bound) (e : Bool) (p q : Part) → m.sums < most_sums → IsFailed m.search.store m.form.terms place → AreBehindIn m.search (assumed (term_at m.form.terms place)) decisions → GoesBack m.search.store bottom 0
-      → done ≡ true → RaisesTo (At v.form.base) v (record v { raised = r; ended = e }) p q → e ≡ false → ReformsFrom m (record v { raised = r; ended = e }) p q v.form.base
-  reforms-from r e p q few failed behind back on raises off = record {
+  pub reforms-from : (r : Option Bound) (e : Bool) (c : List ℤ) (p q : Part) → m.sums < most_sums → IsFailed m.search.store m.form.terms place → AreBehindIn m.search (assumed (term_at m.form.terms place)) decisions → GoesBack m.search.store bottom 0
+      → done ≡ true → RaisesTo (At v.form.base) v (record v { raised = r; ended = e; core = c }) p q → e ≡ false → ReformsFrom m (record v { raised = r; ended = e; core = c }) p q v.form.base
+  reforms-from r e c p q few failed behind back on raises off = record {
     more = h.more;
-    fails = subst (λ (f : Form). FailsFrom m (record v { raised = r; ended = e }) f h.more) (sym (h.is on)) (failed-from r e few failed behind back);
+    fails = subst (λ (f : Form). FailsFrom m (record v { raised = r; ended = e; core = c }) f h.more) (sym (h.is on)) (failed-from r e c few failed behind back);
     is = refl;
     rises = subst (λ (f : Form). m.form.base <ℤ f.base) (sym (h.is on)) (h.rises on);
     not_past = subst (λ (f : Form). IsPast v.search.z v.greatest v.search.instance.domains f → ⊥) (sym (h.is on)) (h.not_past on);
-    raises = raises-from m v (record v { raised = r; ended = e }) p q (At v.form.base) h.raised raises;
+    raises = raises-from m v (record v { raised = r; ended = e; core = c }) p q (At v.form.base) h.raised raises;
     ended = off;
   }
 
-  pub exhausts-from : (r : Option Bound) (e : Bool) (p q : Part) → m.sums < most_sums → IsFailed m.search.store m.form.terms place → AreBehindIn m.search (assumed (term_at m.form.terms place)) decisions → GoesBack m.search.store bottom 0
-      → done ≡ false → RaisesTo v.search.z v (record v { raised = r; ended = e }) p q → e ≡ true → ExhaustsFrom m (record v { raised = r; ended = e }) p q
-  exhausts-from r e p q few failed behind back off raises on = record {
+  pub exhausts-from : (r : Option Bound) (e : Bool) (c : List ℤ) (p q : Part) → m.sums < most_sums → IsFailed m.search.store m.form.terms place → AreBehindIn m.search (assumed (term_at m.form.terms place)) decisions → GoesBack m.search.store bottom 0
+      → done ≡ false → RaisesTo v.search.z v (record v { raised = r; ended = e; core = c }) p q → e ≡ true → c ≡ whole_core v.search.instance.model v.search.z → ExhaustsFrom m (record v { raised = r; ended = e; core = c }) p q
+  exhausts-from r e c p q few failed behind back off raises on all = record {
     form = h.form;
     more = h.more;
-    fails = failed-from r e few failed behind back;
+    fails = failed-from r e c few failed behind back;
     past = h.past off;
     none_below = subst (λ (b : Bound). NoneBelow m.search.instance.model b) (sym h.z) (h.none_below off);
-    raises = raises-from m v (record v { raised = r; ended = e }) p q v.search.z h.raised raises;
+    raises = raises-from m v (record v { raised = r; ended = e; core = c }) p q v.search.z h.raised raises;
     ended = on;
+    core = all ∙ ap (λ (k : CpModel). whole_core k v.search.z) h.setting.model;
   }

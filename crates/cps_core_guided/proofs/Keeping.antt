@@ -1,9 +1,8 @@
 -- What keeps a core-guided search sound: a step of its frame, a decision, a new form at level 0, a sum more, a raise.
 use Rattle.std.specs.Prelude.{unsigned_abs, IfSome}
-use Rattle.std.proofs.Common.{◌≡◌, ◌⊎◌, ℕ, ◌+◌, ◌<◌, ◌≤◌, ◌^◌, true, Option, Some, None, [], ◌∷◌, length, sym, ◌∙◌, ap, subst, arith, length-append}
+use Rattle.std.proofs.Common.{◌≡◌, ◌⊎◌, ℕ, ◌+◌, ◌<◌, ◌≤◌, ◌^◌, ℤ, List, true, false, true≢false, Option, Some, None, [], ◌∷◌, length, sym, ◌∙◌, ap, subst, arith, length-append}
 use Rattle.cps_model.specs.declared.bound.Bound.{Bound}
 use Rattle.cps_model.specs.declared.model.CpModel.{CpModel}
-use Rattle.cps_model.specs.Solutions.{objective_value}
 use Rattle.cps_literal.specs.declared.atom.Atom.{Atom}
 use Rattle.cps_instance.specs.Posting.{objective_terms}
 use Rattle.cps_instance.specs.Problem.{Problem, Defines, IsInstance}
@@ -17,17 +16,16 @@ use Rattle.cps_search.specs.Growing.{GrewBy}
 use Rattle.cps_search.specs.Moves.{moved, decided}
 use Rattle.cps_search.specs.Searches.{Search, IsSoundSearch, NoneBelow}
 use Rattle.cps_search.specs.Turns.{GoesOnAndBack}
-use Rattle.cps_search.proofs.Holding.{below_less}
 use Rattle.cps_reform.specs.Forms.{Form}
 use Rattle.cps_reform.specs.Floors.{IsReform}
 use Rattle.cps_reform.proofs.Objectives.{greatest-longer}
-use Rattle.cps_core_guided.specs.Assuming.{AreAssumed, AssumesFirst, IsAssumption}
-use Rattle.cps_core_guided.specs.Reforming.{CoreSearch, IsSoundCore, greatest_objective, most_sums}
+use Rattle.cps_core_guided.specs.Assuming.{AreAssumed, AssumesFirst, IsSomeAssumption}
+use Rattle.cps_core_guided.specs.Reforming.{CoreSearch, IsSoundCore, greatest_objective, most_sums, whole_core}
 use Rattle.cps_core_guided.proofs.Assumptions.{assumes-bottom, assumes-decided, assumes-on-and-back, reform-falls}
 
 -- another search over the same problem, below a bound that is no greater
-pub sound-search : (s : CoreSearch) (t : Search) → IsSoundCore s → IsSoundSearch t → t.instance ≡ s.search.instance → BoundLe t.z s.search.z → (s.sums < most_sums → AssumesFirst t.store s.form.terms) → IsSoundCore (record s { search = t })
-sound-search s t h sound same falls assumes = record {
+pub sound-search : (s : CoreSearch) (t : Search) → IsSoundCore s → IsSoundSearch t → t.instance ≡ s.search.instance → BoundLe t.z s.search.z → s.ended ≡ false → (s.sums < most_sums → AssumesFirst t.instance.model.assumptions t.store s.form.terms) → IsSoundCore (record s { search = t })
+sound-search s t h sound same falls running assumes = record {
   search = sound;
   form = subst (λ (x : Problem). IsReform x t.z s.form) (sym same) (reform-falls s.search.instance t.z s.search.z s.form falls h.form);
   base = h.base;
@@ -36,19 +34,20 @@ sound-search s t h sound same falls assumes = record {
   few = h.few;
   room = subst (λ (x : Problem). length x.domains + most_sums ≤ 2 ^ 31 + s.sums) (sym same) h.room;
   raised = subst (λ (x : Problem). IfSome s.raised (IsLowerBound x.model)) (sym same) h.raised;
-  ended = λ is. subst (λ (x : Problem). NoneBelow x.model t.z) (sym same) (λ a solution below. h.ended is a solution (below_less (objective_value s.search.instance.model a) t.z s.search.z falls below));
+  ended = λ is. absurd (true≢false (sym is ∙ running));
 }
 
 -- the steps of a frame, after which the last entries may go
-pub sound-stepped : (s : CoreSearch) (t : Search) → IsSoundCore s → IsSoundSearch t → t.instance ≡ s.search.instance → BoundLe t.z s.search.z → GoesOnAndBack s.search.store t.store → IsSoundCore (record s { search = t })
-sound-stepped s t h sound same falls store = sound-search s t h sound same falls (λ few. assumes-on-and-back s.search.store t.store s.form.terms store (h.assumes few))
+pub sound-stepped : (s : CoreSearch) (t : Search) → IsSoundCore s → IsSoundSearch t → t.instance ≡ s.search.instance → BoundLe t.z s.search.z → s.ended ≡ false → GoesOnAndBack s.search.store t.store → IsSoundCore (record s { search = t })
+sound-stepped s t h sound same falls running store = sound-search s t h sound same falls running
+    (λ few. subst (λ (p : Problem). AssumesFirst p.model.assumptions t.store s.form.terms) (sym same) (assumes-on-and-back s.search.instance.model.assumptions s.search.store t.store s.form.terms store (h.assumes few)))
 
 -- a decision that is an assumption, or that is made where all of them are true
 pub sound-decided : (s : CoreSearch) (t : Search) (a : Atom) → IsSoundCore s → IsSoundSearch t → t ≡ moved s.search (decided s.search.store a) s.search.rested
-    → (s.sums < most_sums → IsAssumption s.form.terms a ⊎ AreAssumed s.search.store.first s.search.store.entries s.form.terms) → IsSoundCore (record s { search = t })
-sound-decided s t a h sound is new =
-    sound-search s t h sound (ap (λ (x : Search). x.instance) is) (subst (λ (x : Search). BoundLe x.z s.search.z) (sym is) (BoundLe-refl s.search.z))
-    (λ few. subst (λ (x : Search). AssumesFirst x.store s.form.terms) (sym is) (assumes-decided s.search.store a s.form.terms (h.assumes few) (new few)))
+    → s.ended ≡ false → (s.sums < most_sums → IsSomeAssumption s.search.instance.model.assumptions s.form.terms a ⊎ AreAssumed s.search.store.first s.search.store.entries s.form.terms) → IsSoundCore (record s { search = t })
+sound-decided s t a h sound is running new =
+    sound-search s t h sound (ap (λ (x : Search). x.instance) is) (subst (λ (x : Search). BoundLe x.z s.search.z) (sym is) (BoundLe-refl s.search.z)) running
+    (λ few. subst (λ (x : Search). AssumesFirst x.instance.model.assumptions x.store s.form.terms) (sym is) (assumes-decided s.search.instance.model.assumptions s.search.store a s.form.terms (h.assumes few) (new few)))
 
 -- a new form at level 0
 pub sound-form : (s : CoreSearch) (f : Form) → IsSoundCore s → IsReform s.search.instance s.search.z f → unsigned_abs f.base < 2 ^ 62 → IsSound s.search.store → s.search.store.level ≡ 0 → IsSoundCore (record s { form = f })
@@ -57,7 +56,7 @@ sound-form s f h reform small sound bottom = record {
   form = reform;
   base = small;
   greatest = h.greatest;
-  assumes = λ few. assumes-bottom s.search.store f.terms sound bottom;
+  assumes = λ few. assumes-bottom s.search.instance.model.assumptions s.search.store f.terms sound bottom;
   few = h.few;
   room = h.room;
   raised = h.raised;
@@ -73,8 +72,8 @@ greatest-grown p q sum subject i d =
 
 -- a sum more at level 0, with a form over it
 pub sound-grown : (s : CoreSearch) (t : Search) (f : Form) (sum : DefinedSum) (subject : ℕ) → IsSoundCore s → s.sums < most_sums → IsSoundSearch t → GrewBy s.search t sum subject → IsReform t.instance t.z f → unsigned_abs f.base < 2 ^ 62 → IsSound t.store
-    → t.store.level ≡ 0 → IsSoundCore (record s { search = t; form = f; sums = s.sums + 1 })
-sound-grown s t f sum subject h few sound grew reform small store bottom =
+    → t.store.level ≡ 0 → s.ended ≡ false → IsSoundCore (record s { search = t; form = f; sums = s.sums + 1 })
+sound-grown s t f sum subject h few sound grew reform small store bottom running =
     let d = grew.defines in
     let longer : length t.instance.domains ≡ length s.search.instance.domains + 1 = ap (λ (ds : Domains). length ds) d.domains ∙ length-append s.search.instance.domains (d.added ∷ []) in
     let room = h.room in
@@ -84,11 +83,11 @@ sound-grown s t f sum subject h few sound grew reform small store bottom =
       form = reform;
       base = small;
       greatest = h.greatest ∙ sym (greatest-grown s.search.instance t.instance sum subject h.search.instance d);
-      assumes = λ few. assumes-bottom t.store f.terms store bottom;
+      assumes = λ few. assumes-bottom t.instance.model.assumptions t.store f.terms store bottom;
       few = omega (arith, few);
       room = omega (arith, longer, room);
       raised = subst (λ (m : CpModel). IfSome s.raised (IsLowerBound m)) (sym d.model) h.raised;
-      ended = λ is. subst (λ (b : Bound). NoneBelow t.instance.model b) (sym z) (subst (λ (m : CpModel). NoneBelow m s.search.z) (sym d.model) (h.ended is));
+      ended = λ is. absurd (true≢false (sym is ∙ running));
     }
 
 raised_sound : (m : CpModel) (raised : Option Bound) (b : Bound) → IfSome raised (IsLowerBound m) → IsLowerBound m b → IfSome (raised_to raised b) (IsLowerBound m)
@@ -110,8 +109,8 @@ sound-raised s bound h lower = record {
 }
 
 -- the end in place of a reform
-pub sound-ended : (s : CoreSearch) → IsSoundCore s → NoneBelow s.search.instance.model s.search.z → IsSoundCore (record s { ended = true })
-sound-ended s h none = record {
+pub sound-ended : (s : CoreSearch) (core : List ℤ) → IsSoundCore s → NoneBelow s.search.instance.model s.search.z → core ≡ whole_core s.search.instance.model s.search.z → IsSoundCore (record s { ended = true; core = core })
+sound-ended s core h none all = record {
   search = h.search;
   form = h.form;
   base = h.base;
@@ -120,5 +119,5 @@ sound-ended s h none = record {
   few = h.few;
   room = h.room;
   raised = h.raised;
-  ended = λ is. none;
+  ended = λ is. (none, all);
 }

@@ -75,8 +75,10 @@ tried-lifted s t g place bound decisions done h reforms rises yes' no' not_past 
       imported = ap (λ (x : Search). x.imported) search;
       best = ap (λ (x : Search). x.best) search;
       search_raised = ap (λ (x : Search). x.raised) search;
+      search_core = ap (λ (x : Search). x.core) search;
       raised = ap (λ (c : CoreSearch). c.raised) same;
       ended = ap (λ (c : CoreSearch). c.ended) same;
+      core = ap (λ (c : CoreSearch). c.core) same;
       said = ap (λ (x : Search). x.said) search ∙ h.said;
     }
 
@@ -105,8 +107,10 @@ tried-split s t g place decisions done h not_false m two weighs sp =
       imported = ap (λ (x : Search). x.imported) is;
       best = ap (λ (x : Search). x.best) is;
       search_raised = ap (λ (x : Search). x.raised) is;
+      search_core = ap (λ (x : Search). x.core) is;
       raised = sp.raised;
       ended = sp.ended;
+      core = sp.core;
       said = ap (λ (x : Search). x.said) is;
     }
 

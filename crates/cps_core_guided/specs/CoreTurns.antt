@@ -1,7 +1,7 @@
 -- What a core-guided worker does in a turn and in a run, and one that has ended, as others see it.
-use Rattle.std.specs.Prelude.{◌≡◌, ◌⊎◌, ℕ, ◌+◌, ◌<◌, ◌≤◌, ◌^◌, ℤ, ◌≤ℤ◌, ◌<ℤ◌, Bool, true, false, Option, Some, None, IfSome, IsSome, List, length}
+use Rattle.std.specs.Prelude.{◌≡◌, ◌⊎◌, ℕ, ◌+◌, ◌<◌, ◌≤◌, ◌^◌, ℤ, ◌≤ℤ◌, ◌<ℤ◌, Bool, true, false, Option, Some, None, IfSome, IsSome, List, [], length}
 use Rattle.cps_model.specs.declared.bound.Bound.{Bound}
-use Rattle.cps_model.specs.declared.bound.Bound.TheVariants.{At}
+use Rattle.cps_model.specs.declared.bound.Bound.TheVariants.{At, Infinite}
 use Rattle.cps_literal.specs.declared.atom.Atom.{Atom}
 use Rattle.cps_instance.specs.Problem.{Problem}
 use Rattle.cps_instance.specs.Posting.{objective_terms}
@@ -17,19 +17,21 @@ use Rattle.cps_search.specs.declared.end.Said.TheVariants.{Nothing, Over}
 use Rattle.cps_search.specs.declared.end.WorkerKind.TheVariants.{CoreGuided}
 use Rattle.cps_search.specs.declared.turn.Turn.{Turn}
 use Rattle.cps_search.specs.declared.turn.Turn.TheVariants as turns
-use Rattle.cps_search.specs.Ends.{BrancherTurn, EndsAs, EndsBy, Ending, HeardOne, end_of, ending}
+use Rattle.cps_search.specs.Assumptions.{IsAssumedNext, NoneIsOpen}
+use Rattle.cps_search.specs.declared.end.End.TheVariants as ends
+use Rattle.cps_search.specs.Ends.{BrancherTurn, DecidedBy, EndsAs, EndsBy, Ending, HeardOne, end_of, ending}
 use Rattle.cps_search.specs.Following.{MovesWith}
 use Rattle.cps_search.specs.Growing.{AreBehindIn}
 use Rattle.cps_search.specs.Lessons.{GoesBack}
 use Rattle.cps_search.specs.Moves.{fresh, moved, decided}
-use Rattle.cps_search.specs.Searches.{NoneBelow}
-use Rattle.cps_search.specs.Turns.{DecisionDue, ExhaustedAll, FoundOne, GoesOnAndBack, IsLess, LearntOne, SameBest, SameImported, SameLearnt, SameRaised, SameSetting, SawMet, SpentAll, TookOne}
+use Rattle.cps_search.specs.Searches.{Search, NoneBelow}
+use Rattle.cps_search.specs.Turns.{DecisionDue, ExhaustedAll, FoundOne, GoesOnAndBack, IsLess, LearntOne, SameBest, SameCore, SameImported, SameLearnt, SameRaised, SameSetting, SawMet, SpentAll, TookOne}
 use Rattle.cps_reform.specs.Forms.{Form, term_at}
 use Rattle.cps_reform.specs.Beginning.{IsFirstForm}
 use Rattle.cps_reform.specs.Marks.{assumed}
 use Rattle.cps_core_guided.specs.Assuming.{AreAssumed, IsFailed, IsFirstOpen, NoneFails}
 use Rattle.cps_reform.specs.Floors.{IsPast}
-use Rattle.cps_core_guided.specs.Reforming.{CoreSearch, IsSoundCore, ReformsTo, most_sums, whole}
+use Rattle.cps_core_guided.specs.Reforming.{CoreSearch, IsSoundCore, ReformsTo, most_sums, whole, whole_core}
 
 -- what no turn changes: the problem gains sums alone, in a reform
 pub record SameCoreSetting (s t : CoreSearch) : Type 0 where
@@ -39,13 +41,17 @@ pub record SameCoreSetting (s t : CoreSearch) : Type 0 where
   pub refused : t.search.refused ≡ s.search.refused
   pub greatest : t.greatest ≡ s.greatest
 
--- Which atom a core-guided worker decides, where no assumption of a term fails: the first that is undecided; and what
--- the brancher chooses where all of them are true, or nothing is assumed any more.
+-- Which atom a core-guided worker decides, where no assumption of a term fails: the first assumption of the model that
+-- is undecided; where none is, the first of a term that is; and what the brancher chooses where all of them are true,
+-- or nothing is assumed of terms any more.
 pub data DecidesOf (chooses : Trail → Option Atom → Type 0) (s : CoreSearch) (m : Trail) (t : Atom) : Type 0 where
-  an_assumption : s.sums < most_sums → NoneFails m s.form.terms → (place : ℕ) → IsFirstOpen m s.form.terms place
-      → t ≡ assumed (term_at s.form.terms place) → DecidesOf chooses s m t
-  a_choice : (s.sums < most_sums → AreAssumed m.first m.entries s.form.terms) → chooses m (Some t)
+  of_the_model : (s.sums < most_sums → NoneFails m s.form.terms)
+      → IsAssumedNext s.search.instance.model.assumptions m t → DecidesOf chooses s m t
+  of_a_term : NoneIsOpen s.search.instance.model.assumptions m → s.sums < most_sums → NoneFails m s.form.terms
+      → (place : ℕ) → IsFirstOpen m s.form.terms place → t ≡ assumed (term_at s.form.terms place)
       → DecidesOf chooses s m t
+  a_choice : NoneIsOpen s.search.instance.model.assumptions m
+      → (s.sums < most_sums → AreAssumed m.first m.entries s.form.terms) → chooses m (Some t) → DecidesOf chooses s m t
 
 -- Where a decision was due, one was made: an assumption, or what the brancher chose.
 pub record DecidesFrom (chooses : Trail → Option Atom → Type 0) (m t : CoreSearch) (p q : Part) : Type 0 where
@@ -75,6 +81,7 @@ pub record FailsFrom (m t : CoreSearch) (form : Form) (more : ℕ) : Type 0 wher
   pub imported : SameImported m.search t.search
   pub best : SameBest m.search t.search
   pub search_raised : SameRaised m.search t.search
+  pub search_core : SameCore m.search t.search
   pub said : t.search.said ≡ Nothing
 
 -- The lower bound was raised to a bound, and nothing else was done to the shared state.
@@ -96,7 +103,7 @@ pub record ReformsFrom (m t : CoreSearch) (p q : Part) (base : ℤ) : Type 0 whe
   pub ended : t.ended ≡ false
 
 -- The worker is exhausted in place of a reform: no solution below z can have the form that the reform would come to.
--- The lower bound was raised to z.
+-- The lower bound was raised to z. Where no incumbent is known, it ends by all assumptions.
 pub record ExhaustsFrom (m t : CoreSearch) (p q : Part) : Type 0 where
   pub form : Form
   pub more : ℕ
@@ -105,6 +112,7 @@ pub record ExhaustsFrom (m t : CoreSearch) (p q : Part) : Type 0 where
   pub none_below : NoneBelow m.search.instance.model t.search.z
   pub raises : RaisesTo t.search.z m t p q
   pub ended : t.ended ≡ true
+  pub core : t.core ≡ whole_core m.search.instance.model t.search.z
 
 -- what a core-guided worker does where a decision is due
 abbrev pub GoesOn : (Trail → Option Atom → Type 0) → CoreSearch → CoreSearch → Part → Part → Turn → Type 0
@@ -168,16 +176,13 @@ IsOwn turn = (turn ≡ turns.Decided) ⊎ ((turn ≡ turns.Exhausted) ⊎ ((base
 
 -- what each turn of a core-guided worker does
 pub record TakesCoreTurn (chooses : Trail → Option Atom → Type 0) (s t : CoreSearch) (rows : ℕ) (p q : Part) (turn : Turn) : Type 0 where
+  pub running : s.ended ≡ false
   pub setting : SameCoreSetting s t
   pub store : (IsOwn turn → ⊥) → GoesOnAndBack s.search.store t.search.store
   pub cause : CoreCaused chooses s t rows p q turn
   pub moves : MovesWith (whole s) (whole t) p q
   pub ends : EndsAs (end_of turn) (whole t)
   pub lowers : end_of turn ≡ None → LowersCore s t rows p.board q.board
-
--- A decision leaves the brancher, or is one that it chose.
-abbrev pub DecidedBy : Type 0 → Type 0 → Type 0
-DecidedBy chose same = chose ⊎ same
 
 -- one turn of a core-guided worker whose search is sound before and after it and whose brancher has these rules, and
 -- what it does to the brancher
@@ -204,12 +209,25 @@ pub record RunsInCoreTurns {B : Type 0} (chooses : B → Trail → Option Atom �
   pub last : OneCoreTurn chooses hears stays rows before t part q turn
   pub ended : end_of turn ≡ Some end
 
+-- no bound was raised to `Infinite`, and no core is known
+pub record HasNoCore (s : CoreSearch) : Type 0 where
+  pub frame : s.search.raised ≡ Some Infinite → ⊥
+  pub own : s.raised ≡ Some Infinite → ⊥
+  pub core : s.search.core ≡ []
+
+-- The lower bound was raised to `Infinite` only where a worker is exhausted, and no incumbent is known; and only there
+-- it has a core.
+pub record HasCoreAt (end : End) (t : Search) : Type 0 where
+  pub only_there : t.raised ≡ Some Infinite → (end ≡ ends.Exhausted) × (t.z ≡ Infinite)
+  pub none : (end ≡ ends.Exhausted → ⊥) → t.core ≡ []
+
 -- what a run of a core-guided worker does, up to its end
 pub record RunsCoreTo (s t : CoreSearch) (p q : Part) (end : End) : Type 0 where
   pub setting : SameCoreSetting s t
   pub moves : MovesWith (whole s) (whole t) p q
   pub said : (whole t).said ≡ Over end
   pub why : EndsBy (whole t) q.bounds end
+  pub core : HasNoCore s → HasCoreAt end (whole t)
 
 -- A worker that begins: nothing is known, but that the objective is its first form, over the instance with a sum for
 -- the opposite of each variable that the objective takes off.

@@ -1,11 +1,11 @@
 -- How a turn of a core-guided worker goes from step to step.
-use Rattle.std.specs.Prelude.{◌≡◌, ℕ, ◌+◌, ◌<◌, ◌≤◌, ◌<ℤ◌, Bool, true, false, List, length}
+use Rattle.std.specs.Prelude.{◌≡◌, ℕ, ℤ, Option, Some, None, ◌+◌, ◌<◌, ◌≤◌, ◌<ℤ◌, Bool, true, false, List, length}
 use Rattle.cps_literal.specs.declared.atom.Atom.{Atom}
 use Rattle.cps_branch.specs.Fixed.{AreFixed}
 use Rattle.cps_instance.specs.Problem.{variable_count}
 use Rattle.cps_search.specs.declared.end.Said.TheVariants.{Due, Nothing}
 use Rattle.cps_search.specs.Searches.{Search, IsSettled, NoneBelow}
-use Rattle.cps_search.specs.Turns.{SameBest, SameImported, SameLearnt, SameRaised}
+use Rattle.cps_search.specs.Turns.{SameBest, SameCore, SameImported, SameLearnt, SameRaised}
 use Rattle.cps_core_guided.specs.declared.guided.Guided.{Guided}
 use Rattle.cps_reform.specs.Forms.{Form, term_at}
 use Rattle.cps_search.specs.Growing.{GrewBy}
@@ -14,7 +14,7 @@ use Rattle.cps_reform.specs.Floors.{OfEachBelow}
 use Rattle.cps_literal.specs.Truth.{atom_holds}
 use Rattle.std.specs.List.{All}
 use Rattle.cps_reform.specs.Marks.{assumed}
-use Rattle.cps_core_guided.specs.Assuming.{IsAssumption}
+use Rattle.cps_core_guided.specs.Assuming.{IsSomeAssumption}
 use Rattle.cps_reform.specs.Floors.{IsPast}
 use Rattle.cps_core_guided.specs.Reforming.{CoreSearch, ReformsTo, most_sums}
 use Rattle.cps_core_guided.specs.CoreTurns.{SameCoreSetting}
@@ -28,6 +28,7 @@ core_search_of {P} {B} g = record {
   greatest = g.greatest;
   raised = g.raised;
   ended = g.ended;
+  core = g.core;
 }
 
 -- a decision is due, and not all variables are fixed
@@ -36,15 +37,15 @@ pub record IsDue (s : Search) : Type 0 where
   pub settled : IsSettled s
   pub left_open : AreFixed s.store (variable_count s.instance) → ⊥
 
--- A term failed, and the search went back to level 0: wherever decisions that are assumptions of terms are true below
--- z, the term's assumption is false.
+-- A term failed, and the search went back to level 0: wherever decisions that are assumptions of the model or of terms
+-- are true below z, the term's assumption is false.
 pub record HasFailed (s : CoreSearch) (place : ℕ) (decisions : List Atom) : Type 0 where
   pub few : s.sums < most_sums
   pub within : place < length s.form.terms
   pub weighs : 1 ≤ (term_at s.form.terms place).weight
   pub bottom : s.search.store.level ≡ 0
   pub said : s.search.said ≡ Nothing
-  pub assumptions : All (IsAssumption s.form.terms) decisions
+  pub assumptions : All (IsSomeAssumption s.search.instance.model.assumptions s.form.terms) decisions
   pub false_there : OfEachBelow s.search.instance s.search.z
       (λ xs. All (λ u. atom_holds xs u ≡ true) decisions → atom_holds xs (assumed (term_at s.form.terms place)) ≡ false)
 
@@ -68,8 +69,10 @@ pub record Tried (s t : CoreSearch) (place : ℕ) (decisions : List Atom) (done 
   pub imported : SameImported s.search t.search
   pub best : SameBest s.search t.search
   pub search_raised : SameRaised s.search t.search
+  pub search_core : SameCore s.search t.search
   pub raised : t.raised ≡ s.raised
   pub ended : t.ended ≡ s.ended
+  pub core : t.core ≡ s.core
   pub said : t.search.said ≡ Nothing
 
 -- A core of several terms was split by its sum, which was defined. Where that went through, the form is the split one;
@@ -87,6 +90,12 @@ pub record Splits (s t : CoreSearch) (done : Bool) : Type 0 where
   pub raised : t.raised ≡ s.raised
   pub greatest : t.greatest ≡ s.greatest
   pub ended : t.ended ≡ s.ended
+  pub core : t.core ≡ s.core
+
+-- the core of a worker: its own, if it has one
+abbrev pub core_or : Option (List ℤ) → List ℤ → List ℤ
+core_or None core = core
+core_or (Some own) core = own
 
 -- the same with another word on whether memory was refused
 abbrev pub with_refused : CoreSearch → Bool → CoreSearch

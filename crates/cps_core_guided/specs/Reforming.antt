@@ -1,6 +1,8 @@
 -- How a core-guided worker reforms its objective, and what it keeps.
-use Rattle.std.specs.Prelude.{◌≡◌, ℕ, ◌+◌, ◌≤◌, ◌<◌, ◌^◌, ℤ, pos, ◌+ℤ◌, ◌≤ℤ◌, unsigned_abs, if◌then◌else◌, Bool, true, Option, IfSome, List, length}
+use Rattle.std.specs.Prelude.{◌≡◌, ℕ, ◌+◌, ◌≤◌, ◌<◌, ◌^◌, ℤ, pos, ◌+ℤ◌, ◌≤ℤ◌, unsigned_abs, if◌then◌else◌, Bool, true, Option, IfSome, List, [], length}
 use Rattle.cps_model.specs.declared.bound.Bound.{Bound}
+use Rattle.cps_model.specs.declared.bound.Bound.TheVariants.{At, Infinite}
+use Rattle.cps_model.specs.declared.model.CpModel.{CpModel}
 use Rattle.cps_literal.specs.declared.atom.Atom.{Atom}
 use Rattle.cps_instance.specs.Problem.{Problem, Defines}
 use Rattle.cps_instance.specs.Posting.{objective_terms}
@@ -19,7 +21,8 @@ use Rattle.cps_reform.specs.Marks.{assumed, IsMarked}
 use Rattle.cps_core_guided.specs.Assuming.{AssumesFirst}
 
 -- A search with the objective's form; how many sums it defined for cores; the greatest objective by the domains; the
--- greatest value to which the worker itself raised the lower bound; and whether it ended in place of a reform.
+-- greatest value to which the worker itself raised the lower bound; whether it ended in place of a reform, and by which
+-- assumptions.
 pub record CoreSearch : Type 0 where
   pub search : Search
   pub form : Form
@@ -27,6 +30,7 @@ pub record CoreSearch : Type 0 where
   pub greatest : ℤ
   pub raised : Option Bound
   pub ended : Bool
+  pub core : List ℤ
 
 -- after this many sums of cores nothing is assumed any more
 abbrev pub most_sums : ℕ
@@ -61,9 +65,18 @@ pub data ReformsTo (bottom : Trail) (p : Problem) (f : Form) (place : ℕ) (deci
 abbrev pub said_of : CoreSearch → Said
 said_of s = if s.ended then Over ends.Exhausted else s.search.said
 
+-- the assumptions by which it ended: its own where it ended in place of a reform
+abbrev pub core_seen : CoreSearch → List ℤ
+core_seen s = if s.ended then s.core else s.search.core
+
 -- the search as it is seen: what the worker itself raised counts too
 abbrev pub whole : CoreSearch → Search
-whole s = record s.search { raised = greater_of s.search.raised s.raised; said = said_of s }
+whole s = record s.search { raised = greater_of s.search.raised s.raised; core = core_seen s; said = said_of s }
+
+-- what a worker ends with in place of a reform: all assumptions where no incumbent is known, and else none
+abbrev pub whole_core : CpModel → Bound → List ℤ
+whole_core m (At z) = []
+whole_core m Infinite = m.assumptions
 
 -- What is true of a core-guided worker as long as it has memory. Its form is worth what the objective is, at every
 -- assignment; and it has room for all sums to come.
@@ -72,8 +85,9 @@ pub record IsSoundCore (s : CoreSearch) : Type 0 where
   pub form : IsReform s.search.instance s.search.z s.form
   pub base : unsigned_abs s.form.base < 2 ^ 62
   pub greatest : s.greatest ≡ greatest_objective s.search.instance
-  pub assumes : s.sums < most_sums → AssumesFirst s.search.store s.form.terms
+  pub assumes : s.sums < most_sums → AssumesFirst s.search.instance.model.assumptions s.search.store s.form.terms
   pub few : s.sums ≤ most_sums
   pub room : length s.search.instance.domains + most_sums ≤ 2 ^ 31 + s.sums
   pub raised : IfSome s.raised (IsLowerBound s.search.instance.model)
   pub ended : s.ended ≡ true → NoneBelow s.search.instance.model s.search.z
+      × (s.core ≡ whole_core s.search.instance.model s.search.z)

@@ -3,7 +3,7 @@
 ghost use Rattle.std.specs.Prelude.{◌≡◌, Some, IfSome, IsNone};
 
 use cps_clauses::Journal;
-use cps_model::Bound;
+use cps_model::{Bound, Refs};
 use cps_port::raised_to;
 use cps_search::{End, Ended};
 use std::marker::Model;
@@ -15,6 +15,8 @@ pub struct CoreEnded {
     pub(crate) ended: Ended,
     /// The greatest bound to which the worker itself raised the lower one.
     pub(crate) raised: Option<Bound>,
+    /// The assumptions by which it ended, if it ended in place of a reform.
+    pub(crate) own: Option<Refs>,
 }
 
 impl Model for CoreEnded {
@@ -23,8 +25,9 @@ impl Model for CoreEnded {
     ghost Value = { Ending };
 
     ghost use Rattle.cps_port.specs.Order.{greater_of};
+    ghost use Rattle.cps_core_guided.specs.Guiding.{core_or};
 
-    ghost view = { λ e. record e.ended { raised = greater_of e.ended.raised e.raised } };
+    ghost view = { λ e. record e.ended { raised = greater_of e.ended.raised e.raised; core = core_or e.own e.ended.core } };
 }
 
 impl CoreEnded {
@@ -64,6 +67,17 @@ impl CoreEnded {
         match self.raised {
             Some(own) => raised_to(self.ended.raised(), own),
             None => self.ended.raised(),
+        }
+    }
+
+    /// Assumptions that are sufficient for infeasibility, in the order of the model, where it left no solution at all;
+    /// else none.
+    pub fn core(&self) -> &[i32]
+        ensures { result.now ≡ self.now.core }
+    {
+        match &self.own {
+            Some(core) => core.as_slice(),
+            None => self.ended.core(),
         }
     }
 }

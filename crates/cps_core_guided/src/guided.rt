@@ -6,14 +6,15 @@
 //! it are the core. Cores are not minimised, and the terms are not taken by weight in stages: each would be a strategy
 //! of its own over the same proved steps.
 
-ghost use Rattle.std.specs.Prelude.{◌≡◌, ◌<◌, ◌≤◌, ◌^◌, ◌+◌, ℤ, ◌≤ℤ◌, length, true, false, OnOk, OnErr, IfOk, IsTrue};
+ghost use Rattle.std.specs.Prelude.{◌≡◌, ◌↔◌, ◌<◌, ◌≤◌, ◌^◌, ◌+◌, ℤ, ◌≤ℤ◌, length, true, false, OnOk, OnErr, IfOk, IfSome, IsNone, IsTrue};
 ghost use Rattle.cps_literal.specs.Truth.{value_at};
 ghost use Rattle.cps_trail.specs.Trail.{IsFalseNow};
 ghost use Rattle.cps_port.specs.declared.part.Part.{Part};
 ghost use Rattle.cps_port.specs.Order.{IsSmallBound, raised_to};
 ghost use Rattle.cps_port.specs.Incumbents.{IsLowerBound};
 ghost use Rattle.cps_search.specs.Stepping.{Raises};
-ghost use Rattle.cps_search.specs.Ends.{BrancherTurn, HeardOne, IsOver};
+ghost use Rattle.cps_search.specs.Assumptions.{IsAssumedNext, NoneIsOpen};
+ghost use Rattle.cps_search.specs.Ends.{BrancherTurn, DecidedBy, HeardOne, IsOver};
 ghost use Rattle.cps_search.specs.Growing.{IsFalseBelow};
 ghost use Rattle.cps_search.specs.Searches.{NoneBelow};
 ghost use Rattle.cps_reform.specs.Forms.{lifted, term_at};
@@ -22,8 +23,8 @@ ghost use Rattle.cps_reform.specs.Floors.{OfEachBelow};
 ghost use Rattle.cps_reform.specs.Marks.{assumed};
 ghost use Rattle.cps_core_guided.specs.Assuming.{AreAssumed, IsFailed, IsFirstOpen, NoneFails};
 ghost use Rattle.cps_reform.specs.Floors.{IsPast};
-ghost use Rattle.cps_core_guided.specs.Reforming.{IsSoundCore, most_sums, whole};
-ghost use Rattle.cps_core_guided.specs.CoreTurns.{DecidedBy, GoesOn, IsCoreWorking, RaisesTo, TakesCoreTurn};
+ghost use Rattle.cps_core_guided.specs.Reforming.{IsSoundCore, most_sums, whole, whole_core};
+ghost use Rattle.cps_core_guided.specs.CoreTurns.{GoesOn, IsCoreWorking, RaisesTo, TakesCoreTurn};
 ghost use Rattle.cps_core_guided.specs.Guiding.{core_search_of, HasFailed, IsDue, Splits, Tried};
 
 use crate::assume::{first_failed, first_open};
@@ -31,7 +32,7 @@ use crate::grow::grow_core;
 use cps_branch::Brancher;
 use cps_instance::Term;
 use cps_literal::{Atom, Truth};
-use cps_model::Bound;
+use cps_model::{Bound, Refs};
 use cps_port::{Port, raised_to};
 use cps_propagate::Defining;
 use cps_reform::{Reform, assumption};
@@ -54,8 +55,9 @@ pub(crate) struct Guided<'a, P: Defining, B: Brancher + Drop> {
     pub greatest: i64,
     /// The greatest bound to which the worker itself raised the lower one.
     pub raised: Option<Bound>,
-    /// Whether it ended because no solution below z could have the new form.
+    /// Whether it ended in place of a reform, and by which assumptions of the model.
     pub ended: bool,
+    pub core: Refs,
     /// How many of the store's first entries are those that the brancher saw last.
     pub kept: usize,
 }
@@ -90,8 +92,8 @@ impl<'a, P: Defining, B: Brancher + Drop> Guided<'a, P, B> {
         }
     }
 
-    /// Goes on when a decision is due: reforms if an assumption is false; else decides an undecided assumption, or,
-    /// without one, what the brancher chooses.
+    /// Goes on where a decision is due: reforms where the assumption of a term is false; decides an assumption that is
+    /// undecided, one of the model first; or decides what the brancher chooses.
     fn go_on<Q: Port>(&mut self, port: &mut Q) -> Result<Turn, AllocError>
         requires works { IsCoreWorking (core_search_of self.old) (B.scope self.old.brancher) (B.agrees self.old.brancher
             self.old.frame.store) self.old.kept }
@@ -109,11 +111,100 @@ impl<'a, P: Defining, B: Brancher + Drop> Guided<'a, P, B> {
         ensures works { OnOk result (IsCoreWorking (core_search_of self.new) (B.scope self.new.brancher) (B.agrees
             self.new.brancher self.new.frame.store) self.new.kept) }
     {
-        if self.sums >= MOST_SUMS {
-            return self.choose();
+        match self.failed_term() {
+            Some(place) => self.reform_at(port, place),
+            None => self.decide(),
         }
-        if let Some(place) = first_failed(self.frame.store(), self.reform.terms()) {
-            return self.reform_at(port, place);
+    }
+
+    /// Whether terms are assumed still.
+    fn assumes_terms(&self) -> bool
+        ensures { IsTrue result ↔ (self.now.sums < most_sums) }
+    {
+        self.sums < MOST_SUMS
+    }
+
+    /// The first term whose assumption is false, as long as terms are assumed.
+    fn failed_term(&self) -> Option<usize>
+        requires { IsSoundCore (core_search_of self.now) }
+        ensures some { IfSome result (λ place. (self.now.sums < most_sums)
+            × IsFailed self.now.frame.store self.now.reform.terms place) }
+        ensures none { IsNone result → self.now.sums < most_sums
+            → NoneFails self.now.frame.store self.now.reform.terms }
+    {
+        if !self.assumes_terms() {
+            return None;
+        }
+        first_failed(self.frame.store(), self.reform.terms())
+    }
+
+    /// Decides where no assumption of a term is false: an assumption of the model, one of a term, or what the brancher
+    /// chooses.
+    fn decide(&mut self) -> Result<Turn, AllocError>
+        requires works { IsCoreWorking (core_search_of self.old) (B.scope self.old.brancher) (B.agrees self.old.brancher
+            self.old.frame.store) self.old.kept }
+        requires due { IsDue self.old.frame }
+        requires running { self.old.ended ≡ false }
+        requires none_fails { self.old.sums < most_sums → NoneFails self.old.frame.store self.old.reform.terms }
+        ensures goes_on { IfOk result
+            (λ turn. (part : Part) → GoesOn (B.chooses self.old.brancher) (core_search_of self.old)
+            (core_search_of self.new) part part turn) }
+        ensures decided { IfOk result (λ turn. turn ≡ Turn.Decided) }
+        ensures brancher { OnOk result (DecidedBy (B.stays self.old.brancher self.new.brancher) (self.new.brancher
+            ≡ self.old.brancher)) }
+        ensures guidance { B.guidance self.new.brancher ≡ B.guidance self.old.brancher }
+        ensures works { OnOk result (IsCoreWorking (core_search_of self.new) (B.scope self.new.brancher) (B.agrees
+            self.new.brancher self.new.frame.store) self.new.kept) }
+    {
+        if self.frame.is_refused() {
+            return Err(AllocError);
+        }
+        match self.frame.open_assumption() {
+            Some(atom) => self.assume_next(atom),
+            None => self.decide_by_terms(),
+        }
+    }
+
+    /// Decides the first assumption of the model that is undecided.
+    fn assume_next(&mut self, atom: Atom) -> Result<Turn, AllocError>
+        requires works { IsCoreWorking (core_search_of self.old) (B.scope self.old.brancher) (B.agrees self.old.brancher
+            self.old.frame.store) self.old.kept }
+        requires due { IsDue self.old.frame }
+        requires running { self.old.ended ≡ false }
+        requires next { IsAssumedNext self.old.frame.instance.model.assumptions self.old.frame.store atom }
+        requires none_fails { self.old.sums < most_sums → NoneFails self.old.frame.store self.old.reform.terms }
+        ensures goes_on { IfOk result
+            (λ turn. (part : Part) → GoesOn (B.chooses self.old.brancher) (core_search_of self.old)
+            (core_search_of self.new) part part turn) }
+        ensures decided { IfOk result (λ turn. turn ≡ Turn.Decided) }
+        ensures brancher { self.new.brancher ≡ self.old.brancher }
+        ensures works { OnOk result (IsCoreWorking (core_search_of self.new) (B.scope self.new.brancher) (B.agrees
+            self.new.brancher self.new.frame.store) self.new.kept) }
+    {
+        self.frame.decide(atom)?;
+        Ok(Turn::Decided)
+    }
+
+    /// Decides where no assumption of the model is undecided: the assumption of a term, or what the brancher chooses.
+    fn decide_by_terms(&mut self) -> Result<Turn, AllocError>
+        requires works { IsCoreWorking (core_search_of self.old) (B.scope self.old.brancher) (B.agrees self.old.brancher
+            self.old.frame.store) self.old.kept }
+        requires due { IsDue self.old.frame }
+        requires running { self.old.ended ≡ false }
+        requires none_open { NoneIsOpen self.old.frame.instance.model.assumptions self.old.frame.store }
+        requires none_fails { self.old.sums < most_sums → NoneFails self.old.frame.store self.old.reform.terms }
+        ensures goes_on { IfOk result
+            (λ turn. (part : Part) → GoesOn (B.chooses self.old.brancher) (core_search_of self.old)
+            (core_search_of self.new) part part turn) }
+        ensures decided { IfOk result (λ turn. turn ≡ Turn.Decided) }
+        ensures brancher { OnOk result (DecidedBy (B.stays self.old.brancher self.new.brancher) (self.new.brancher
+            ≡ self.old.brancher)) }
+        ensures guidance { B.guidance self.new.brancher ≡ B.guidance self.old.brancher }
+        ensures works { OnOk result (IsCoreWorking (core_search_of self.new) (B.scope self.new.brancher) (B.agrees
+            self.new.brancher self.new.frame.store) self.new.kept) }
+    {
+        if !self.assumes_terms() {
+            return self.choose();
         }
         match first_open(self.frame.store(), self.reform.terms()) {
             Some(place) => self.assume(place),
@@ -126,6 +217,8 @@ impl<'a, P: Defining, B: Brancher + Drop> Guided<'a, P, B> {
         requires works { IsCoreWorking (core_search_of self.old) (B.scope self.old.brancher) (B.agrees self.old.brancher
             self.old.frame.store) self.old.kept }
         requires due { IsDue self.old.frame }
+        requires running { self.old.ended ≡ false }
+        requires none_open { NoneIsOpen self.old.frame.instance.model.assumptions self.old.frame.store }
         requires few { self.old.sums < most_sums }
         requires none_fails { NoneFails self.old.frame.store self.old.reform.terms }
         requires open_now { IsFirstOpen self.old.frame.store self.old.reform.terms place }
@@ -147,6 +240,8 @@ impl<'a, P: Defining, B: Brancher + Drop> Guided<'a, P, B> {
         requires works { IsCoreWorking (core_search_of self.old) (B.scope self.old.brancher) (B.agrees self.old.brancher
             self.old.frame.store) self.old.kept }
         requires due { IsDue self.old.frame }
+        requires running { self.old.ended ≡ false }
+        requires none_open { NoneIsOpen self.old.frame.instance.model.assumptions self.old.frame.store }
         requires assumed { self.old.sums < most_sums → AreAssumed self.old.frame.store.first
             self.old.frame.store.entries self.old.reform.terms }
         ensures goes_on { IfOk result
@@ -191,7 +286,21 @@ impl<'a, P: Defining, B: Brancher + Drop> Guided<'a, P, B> {
         let _ = self.frame.store().entries();
         self.kept = still_kept(self.frame.store(), self.kept);
         let is_reformed = self.reform_by(place, atom, decisions.as_slice())?;
-        Ok(self.conclude(port, is_reformed))
+        let core = self.whole_core()?;
+        Ok(self.conclude(port, is_reformed, core))
+    }
+
+    /// All assumptions of the model where no incumbent is known, and else none.
+    fn whole_core(&self) -> Result<Refs, AllocError>
+        ensures { IfOk result (λ core. core ≡ whole_core self.now.frame.instance.model self.now.frame.z) }
+    {
+        match self.frame.z() {
+            Bound::At(_) => Ok(Refs::new(self.alloc)),
+            Bound::Infinite => {
+                let assumptions = self.frame.instance().model().model().assumptions.as_slice();
+                Ok(Refs::from_vec(assumptions.to_vec(self.alloc)?))
+            }
+        }
     }
 
     /// Reforms the objective by the decisions behind the assumption of a failed term, at level 0. Answers false if no
@@ -205,6 +314,7 @@ impl<'a, P: Defining, B: Brancher + Drop> Guided<'a, P, B> {
         requires works { IsCoreWorking (core_search_of self.old) (B.scope self.old.brancher) (B.agrees self.old.brancher
             self.old.frame.store) self.old.kept }
         requires bottom { IsFalseBelow self.old.frame }
+        requires running { self.old.ended ≡ false }
         requires failed { HasFailed (core_search_of self.old) place decisions.now }
         requires atom { atom ≡ assumed (term_at self.old.reform.terms place) }
         ensures tried { IfOk result (Tried (core_search_of self.old) (core_search_of self.new) place decisions.now) }
@@ -231,6 +341,7 @@ impl<'a, P: Defining, B: Brancher + Drop> Guided<'a, P, B> {
         requires works { IsCoreWorking (core_search_of self.old) (B.scope self.old.brancher) (B.agrees self.old.brancher
             self.old.frame.store) self.old.kept }
         requires not_false { IsFalseNow self.old.frame.store atom → ⊥ }
+        requires running { self.old.ended ≡ false }
         requires failed { HasFailed (core_search_of self.old) place decisions.now }
         requires atom { atom ≡ assumed (term_at self.old.reform.terms place) }
         ensures tried { IfOk result (Tried (core_search_of self.old) (core_search_of self.new) place decisions.now) }
@@ -288,6 +399,7 @@ impl<'a, P: Defining, B: Brancher + Drop> Guided<'a, P, B> {
         requires works { IsCoreWorking (core_search_of self.old) (B.scope self.old.brancher) (B.agrees self.old.brancher
             self.old.frame.store) self.old.kept }
         requires bottom { self.old.frame.store.level ≡ 0 }
+        requires running { self.old.ended ≡ false }
         requires few { self.old.sums < most_sums }
         requires core { core.now ≡ core_terms self.old.reform.terms }
         requires weights { WeighAtLeast 1 self.old.reform.terms }
@@ -311,12 +423,13 @@ impl<'a, P: Defining, B: Brancher + Drop> Guided<'a, P, B> {
     }
 
     /// Raises the lower bound: to the new base, or to z where the worker is exhausted.
-    fn conclude<Q: Port>(&mut self, port: &mut Q, is_reformed: bool) -> Turn
+    fn conclude<Q: Port>(&mut self, port: &mut Q, is_reformed: bool, core: Refs) -> Turn
         requires sound { IsSoundCore (core_search_of self.old) }
         requires model { Q.model port.old ≡ self.old.frame.instance.model }
         requires base { is_reformed ≡ true
             → IsLowerBound self.old.frame.instance.model (Bound.At self.old.reform.base) }
         requires none { is_reformed ≡ false → NoneBelow self.old.frame.instance.model self.old.frame.z }
+        requires core { core ≡ whole_core self.old.frame.instance.model self.old.frame.z }
         ensures same { (Q.model port.new ≡ Q.model port.old) × (Q.rows port.new ≡ Q.rows port.old) }
         ensures others { Q.stays port.old port.new }
         ensures reformed { is_reformed ≡ true → (result ≡ Turn.Reformed self.old.reform.base) × RaisesTo (Bound.At
@@ -324,8 +437,13 @@ impl<'a, P: Defining, B: Brancher + Drop> Guided<'a, P, B> {
             (Q.part port.new) ×
             (self.new.ended ≡ self.old.ended) }
         ensures exhausted { is_reformed ≡ false → (result ≡ Turn.Exhausted) × RaisesTo self.old.frame.z (core_search_of
-            self.old) (core_search_of self.new) (Q.part port.old) (Q.part port.new) × (self.new.ended ≡ true) }
-        ensures rest { self.new ≡ record self.old { raised = self.new.raised; ended = self.new.ended } }
+            self.old) (core_search_of self.new) (Q.part port.old) (Q.part port.new) × (self.new.ended ≡ true)
+            × (self.new.core ≡ core) }
+        ensures rest { self.new ≡ record self.old {
+          raised = self.new.raised;
+          ended = self.new.ended;
+          core = self.new.core;
+        } }
         ensures sound { IsSoundCore (core_search_of self.new) }
     {
         if is_reformed {
@@ -335,6 +453,7 @@ impl<'a, P: Defining, B: Brancher + Drop> Guided<'a, P, B> {
         }
         let z = self.frame.z();
         self.raise(port, z);
+        self.core = core;
         self.ended = true;
         Turn::Exhausted
     }

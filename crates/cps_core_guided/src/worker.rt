@@ -6,10 +6,9 @@
 
 ghost use Rattle.std.specs.Prelude.{◌≡◌, ◌≤◌, ◌<◌, ◌^◌, length, None, OnOk, OnErr, IfOk, IfSome, IsErr, IsNone, IsTrue, Some};
 ghost use Rattle.cps_branch.specs.Guidances.{AreHintsOf};
-ghost use Rattle.cps_search.specs.Searches.{HasNoAssumptions};
-ghost use Rattle.cps_search.specs.Ends.{BrancherTurn, HeardOne, IsOver};
+ghost use Rattle.cps_search.specs.Ends.{BrancherTurn, DecidedBy, HeardOne, IsOver};
 ghost use Rattle.cps_core_guided.specs.Reforming.{IsSoundCore, whole};
-ghost use Rattle.cps_core_guided.specs.CoreTurns.{BeginsCore, DecidedBy, RunsCoreTo, RunsInCoreTurns, TakesCoreTurn, core_ending};
+ghost use Rattle.cps_core_guided.specs.CoreTurns.{BeginsCore, RunsCoreTo, RunsInCoreTurns, TakesCoreTurn, core_ending};
 
 use crate::ended::CoreEnded;
 use crate::first::first_form;
@@ -17,6 +16,7 @@ use crate::guided::Guided;
 use cps_branch::{ActivityBrancher, Brancher};
 use cps_clauses::Journal;
 use cps_instance::Instance;
+use cps_model::Refs;
 use cps_port::Port;
 use cps_propagate::{Defining, Engine};
 use cps_reform::{greatest_sum, objective_terms};
@@ -59,7 +59,6 @@ impl<'a, P: Defining> CoreWorker<'a, P, ActivityBrancher> {
         gap: u64,
     ) -> Result<Self, AllocError>
         requires tasks { engine.tasks ≡ instance.tasks }
-        requires assumptions { HasNoAssumptions instance.model }
         requires budget { budget ≤ 10 ^ 9 }
         requires few { length instance.domains < 2 ^ 30 }
         ensures begins { IfOk result (λ w. BeginsCore instance.entry gap budget w.0) }
@@ -80,6 +79,7 @@ impl<'a, P: Defining> CoreWorker<'a, P, ActivityBrancher> {
                 greatest,
                 raised: None,
                 ended: false,
+                core: Refs::new(alloc),
                 kept: 0,
             },
             refused: false,
@@ -88,9 +88,10 @@ impl<'a, P: Defining> CoreWorker<'a, P, ActivityBrancher> {
 }
 
 impl<'a, P: Defining, B: Brancher + Drop> CoreWorker<'a, P, B> {
-    /// Takes one turn: the first of these that applies. The two bounds met; an entry of the board is taken; a conflict
-    /// leaves no solution, spends the budget or is learnt from; a solution is found; an assumption is false, and the
-    /// objective is reformed, or no solution is left; an assumption, or else what the brancher chooses, is decided.
+    /// Takes a turn: the first that applies of these. The two bounds met; an entry of the board is taken; a conflict
+    /// ends all, or spends the budget, or is learnt from; an assumption of the model is false and ends all; a solution
+    /// is found; that of a term is false, and the objective is reformed, or no solution is left; an assumption of the
+    /// model, or of a term, or else what the brancher chooses, is decided.
     pub fn turn<Q: Port>(&mut self, port: &mut Q) -> Result<Turn, AllocError>
         requires running { IsOver (whole self.old.0).said → ⊥ }
         requires model { Q.model port.old ≡ self.old.0.search.instance.model }
@@ -161,6 +162,18 @@ impl<'a, P: Defining, B: Brancher + Drop> CoreWorker<'a, P, B> {
         self.guided.frame.best()
     }
 
+    /// Assumptions that are sufficient for infeasibility, in the order of the model, where the worker is exhausted and
+    /// no incumbent is known; else none.
+    pub fn core(&self) -> &[i32]
+        ensures { result.now ≡ (whole self.now.0).core }
+    {
+        if self.guided.ended {
+            self.guided.core.as_slice()
+        } else {
+            self.guided.frame.core()
+        }
+    }
+
     /// The worker as others see it after it ended.
     pub fn finish(self) -> CoreEnded
         requires { IsOver (whole self.0).said }
@@ -172,13 +185,21 @@ impl<'a, P: Defining, B: Brancher + Drop> CoreWorker<'a, P, B> {
             frame,
             raised,
             ended,
+            core,
             ..
         } = guided;
-        let ended = if ended {
-            frame.finish(WorkerKind::CoreGuided, End::Exhausted)
+        if ended {
+            CoreEnded {
+                ended: frame.finish(WorkerKind::CoreGuided, End::Exhausted),
+                raised,
+                own: Some(core),
+            }
         } else {
-            frame.finish_as_said(WorkerKind::CoreGuided, None)
-        };
-        CoreEnded { ended, raised }
+            CoreEnded {
+                ended: frame.finish_as_said(WorkerKind::CoreGuided, None),
+                raised,
+                own: None,
+            }
+        }
     }
 }

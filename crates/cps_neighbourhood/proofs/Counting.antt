@@ -1,10 +1,12 @@
 -- How many clauses a neighbourhood worker learns, by the rounds that it did, and what its turns come to.
 use Rattle.std.proofs.Common.{ℕ, ◌+◌, ◌*◌, ◌≤◌, ◌<◌, ◌≡◌, ◌∙◌, ◌⊎◌, inl, inr, Option, Some, None, refl, sym, ap, subst, arith}
 use Rattle.rand_pcg.specs.Lcg.{Lcg}
+use Rattle.cps_model.specs.declared.bound.Bound.{Bound}
 use Rattle.cps_model.specs.declared.bound.Bound.TheVariants.{Infinite}
 use Rattle.cps_instance.specs.Problem.{Problem}
 use Rattle.cps_port.specs.declared.part.BoundsPart.{BoundsPart}
 use Rattle.cps_port.specs.declared.part.Part.{Part}
+use Rattle.cps_port.specs.Order.{raised_to}
 use Rattle.cps_search.specs.declared.end.End.{End}
 use Rattle.cps_search.specs.declared.end.End.TheVariants as ends
 use Rattle.cps_search.specs.declared.end.WorkerKind.TheVariants as kinds
@@ -12,9 +14,9 @@ use Rattle.cps_search.specs.declared.turn.Turn.{Turn}
 use Rattle.cps_search.specs.declared.turn.Turn.TheVariants as turns
 use Rattle.cps_search.specs.Following.{MovesWith}
 use Rattle.cps_search.specs.Searches.{IsSoundSearch, Search}
-use Rattle.cps_search.specs.Turns.{SameRaised}
+use Rattle.cps_search.specs.Turns.{SameCore, SameRaised}
 use Rattle.cps_search.specs.Ends.{EndsAs, EndsRaised, IsHonestEnding, IsWhy, LastSawMet, end_of, ending, round_conflicts, round_count}
-use Rattle.cps_search.proofs.Ending.{honest_by}
+use Rattle.cps_search.proofs.Ending.{core_of, honest_by}
 use Rattle.cps_search.proofs.Moving.{ends_by, moves_more}
 use Rattle.cps_search.proofs.Turning.{setting_trans}
 use Rattle.cps_search.proofs.Working.{HasRun, run_begins}
@@ -104,12 +106,24 @@ raised_on s t rows p q turns.RoundsDone e k = absurd (cc e)
 raised_on s t rows p q (turns.Spent clause below) e k = absurd k
 raised_on s t rows p q (turns.Reformed base) e k = absurd k
 
+core_on : (s t : Near) (rows : ℕ) (p q : Part) (turn : Turn) → end_of turn ≡ None → NearCaused s t rows p q turn → SameCore s.search t.search
+core_on s t rows p q turns.Imported e k = k.1.core
+core_on s t rows p q turns.Decided e k = ap (λ (x : Search). x.core) k.1.one.is ∙ k.1.one.due.core
+core_on s t rows p q turns.Learnt e k = k.1.one.core
+core_on s t rows p q turns.Found e k = k.1.core
+core_on s t rows p q turns.Exhausted e k = absurd (cc e)
+core_on s t rows p q turns.SawClosed e k = absurd (cc e)
+core_on s t rows p q turns.RoundsDone e k = absurd (cc e)
+core_on s t rows p q (turns.Spent clause below) e k = absurd k
+core_on s t rows p q (turns.Reformed base) e k = absurd k
+
 pub near_goes_on : (s t u : Near) (rows : ℕ) (p m q : Part) (turn : Turn) → end_of turn ≡ None → HasNearRun s t p m → TakesNearTurn t u rows m q turn → HasNearRun s u p q
 near_goes_on s t u rows p m q turn e h k = record {
   run = record {
     setting = setting_trans s.search t.search u.search h.run.setting k.setting;
     moves = moves_more s.search t.search u.search p m q h.run.moves k.moves;
     raised = raised_on t u rows m q turn e k.cause ∙ h.run.raised;
+    core = core_on t u rows m q turn e k.cause ∙ h.run.core;
   };
   conflicts = k.conflicts ∙ h.conflicts;
 }
@@ -131,16 +145,16 @@ ended_by t u rows p q turns.RoundsDone end sound e k =
 ended_by t u rows p q (turns.Spent clause below) end sound e k = absurd k.cause
 ended_by t u rows p q (turns.Reformed base) end sound e k = absurd k.cause
 
-ended_raised : (s t u : Near) (rows : ℕ) (p q : Part) (turn : Turn) (end : End) → end_of turn ≡ Some end → NearCaused t u rows p q turn → SameRaised s.search t.search → EndsRaised s.search u.search end
-ended_raised s t u rows p q turns.Imported end e k same = absurd (cc e)
-ended_raised s t u rows p q turns.Decided end e k same = absurd (cc e)
-ended_raised s t u rows p q turns.Learnt end e k same = absurd (cc e)
-ended_raised s t u rows p q turns.Found end e k same = absurd (cc e)
-ended_raised s t u rows p q turns.Exhausted end e k same = subst (λ (x : End). EndsRaised s.search u.search x) (end_is ends.Exhausted end e) tt
-ended_raised s t u rows p q turns.SawClosed end e k same = subst (λ (x : End). EndsRaised s.search u.search x) (end_is ends.SawClosed end e) (ap (λ (x : Search). x.raised) k.0.same ∙ same)
-ended_raised s t u rows p q turns.RoundsDone end e k same = subst (λ (x : End). EndsRaised s.search u.search x) (end_is ends.RoundsDone end e) (ap (λ (x : Search). x.raised) k.1.is ∙ same)
-ended_raised s t u rows p q (turns.Spent clause below) end e k same = absurd k
-ended_raised s t u rows p q (turns.Reformed base) end e k same = absurd k
+ended_raised : (s t u : Near) (rows : ℕ) (p q : Part) (turn : Turn) (end : End) → end_of turn ≡ Some end → NearCaused t u rows p q turn → SameRaised s.search t.search → SameCore s.search t.search → EndsRaised s.search u.search end
+ended_raised s t u rows p q turns.Imported end e k same core = absurd (cc e)
+ended_raised s t u rows p q turns.Decided end e k same core = absurd (cc e)
+ended_raised s t u rows p q turns.Learnt end e k same core = absurd (cc e)
+ended_raised s t u rows p q turns.Found end e k same core = absurd (cc e)
+ended_raised s t u rows p q turns.Exhausted end e k same core = subst (λ (x : End). EndsRaised s.search u.search x) (end_is ends.Exhausted end e) (k.1.raised ∙ ap (λ (o : Option Bound). raised_to o u.search.z) same)
+ended_raised s t u rows p q turns.SawClosed end e k same core = subst (λ (x : End). EndsRaised s.search u.search x) (end_is ends.SawClosed end e) (ap (λ (x : Search). x.raised) k.0.same ∙ same, ap (λ (x : Search). x.core) k.0.same ∙ core)
+ended_raised s t u rows p q turns.RoundsDone end e k same core = subst (λ (x : End). EndsRaised s.search u.search x) (end_is ends.RoundsDone end e) (ap (λ (x : Search). x.raised) k.1.is ∙ same, ap (λ (x : Search). x.core) k.1.is ∙ core)
+ended_raised s t u rows p q (turns.Spent clause below) end e k same core = absurd k
+ended_raised s t u rows p q (turns.Reformed base) end e k same core = absurd k
 
 pub near_ends : (s t u : Near) (rows : ℕ) (p m q : Part) (turn : Turn) (end : End) → IsSoundSearch t.search → HasNearRun s t p m → TakesNearTurn t u rows m q turn → end_of turn ≡ Some end → NearRunsTo s u p q end
 near_ends s t u rows p m q turn end sound h k e = record {
@@ -149,7 +163,7 @@ near_ends s t u rows p m q turn end sound h k e = record {
   moves = moves_more s.search t.search u.search p m q h.run.moves k.moves;
   said = subst (λ (o : Option End). EndsAs o u.search) e k.ends;
   why = ended_by t u rows m q turn end sound e k;
-  raises_last = ended_raised s t u rows m q turn end e k.cause h.run.raised;
+  raises_last = ended_raised s t u rows m q turn end e k.cause h.run.raised h.run.core;
 }
 
 near_run : (rows : ℕ) (s : Near) (p : Part) (t : Near) (q : Part) → TakesNearTurns rows s p t q → HasNearRun s t p q
@@ -182,6 +196,8 @@ near_honest p gap conflicts rows draws s t part q end begins h before sound offe
     let same : t.conflicts ≡ conflicts = runs.conflicts ∙ begins.conflicts_are in
     honest_by p gap conflicts None t.search part q kinds.Near None end
     (runs.setting.instance ∙ ap (λ (x : Search). x.instance) begins.search)
+    (core_of p kinds.Near None t.search end s.search (runs.setting.instance ∙ ap (λ (x : Search). x.instance) begins.search) (ap (λ (x : Search). x.raised) begins.search) (ap (λ (x : Search). x.core) begins.search)
+    (λ e. subst (λ (x : End). NearEndsBy t q.bounds x) e runs.why) runs.raises_last)
     (subst (λ (x : Search). MovesWith x t.search part q) begins.search runs.moves) sound offered raised
     (omega (arith, counted.most, counted.whole, ap round_count same))
     (why_of t gap conflicts q.bounds end end (runs.setting.gap ∙ ap (λ (x : Search). x.gap) begins.search) same counted runs.why)

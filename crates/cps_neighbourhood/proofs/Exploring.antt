@@ -1,30 +1,35 @@
 -- How a worker keeps what it keeps between two turns, where it decides.
 use Rattle.std.specs.Prelude.{All}
-use Rattle.std.proofs.Common.{ℕ, ◌+◌, ◌*◌, ◌≤◌, ◌<◌, ℤ, ◌≡◌, ◌∙◌, inr, Bool, true, false, cond, Option, Some, None, List, [], ◌∷◌, length, refl, sym, ap, subst, arith, length-append}
+use Rattle.std.proofs.Common.{ℕ, ◌+◌, ◌*◌, ◌≤◌, ◌<◌, ℤ, ◌≡◌, ◌∙◌, inl, inr, pos, negsuc, Bool, true, false, cond, Option, Some, None, List, [], ◌∷◌, length, get_or, refl, sym, ap, subst, arith, length-append}
 use Rattle.std.proofs.lemmas.List.Elements.{All-cons, All-nil}
 use Rattle.cps_literal.specs.declared.atom.Atom.{Atom}
+use Rattle.cps_literal.specs.declared.atom.Op.TheVariants.{Eq, Ge, Le}
+use Rattle.cps_instance.specs.Posting.{atom_of}
 use Rattle.cps_instance.specs.Problem.{Problem, variable_count}
-use Rattle.cps_trail.specs.Trail.{Domains, Trail, Entry, Decision}
+use Rattle.cps_trail.specs.Trail.{Domains, Trail, Entry, Decision, IsSound}
+use Rattle.cps_trail.proofs.Times.{IsTrueAfter-all}
 use Rattle.cps_branch.specs.Agreeing.{aside_kept_on}
 use Rattle.cps_branch.specs.Hints.{ChoosesHinted}
 use Rattle.cps_branch.specs.Scope.{IsScopeOf}
 use Rattle.cps_branch.specs.SetAside.{AreFixedAside}
+use Rattle.cps_search.specs.Assumptions.{IsAssumedNext, NoneIsOpen, assumption_at}
 use Rattle.cps_search.specs.Searches.{IsSoundSearch, Search}
 use Rattle.cps_search.specs.declared.end.Said.{Said}
 use Rattle.cps_search.specs.declared.end.Said.TheVariants.{Due, Nothing}
 use Rattle.cps_search.specs.Moves.{decided, moved}
 use Rattle.cps_search.specs.Turns.{SameSetting}
-use Rattle.cps_search.specs.Ends.{Decides, IsOver, round_conflicts, round_count}
+use Rattle.cps_search.specs.Ends.{Decides, DecidesAssumption, IsOver, round_conflicts, round_count}
 use Rattle.cps_search.proofs.Turning.{setting_of, setting_same}
 use Rattle.cps_search.proofs.Working.{decided_onward}
 use Rattle.cps_neighbourhood.specs.declared.aim.Aim.{Aim}
 use Rattle.cps_neighbourhood.specs.declared.explorer.Explorer.{Explorer}
 use Rattle.cps_neighbourhood.specs.declared.round.Progress.{Progress}
 use Rattle.cps_neighbourhood.specs.Exploring.{IsExploring, near_of}
-use Rattle.cps_neighbourhood.specs.Nears.{DecidesInRound, draws_now, draws_or_after, learnt_in, round_now, round_or_first}
+use Rattle.cps_branch.specs.Choice.{IsUndecided}
+use Rattle.cps_neighbourhood.specs.Nears.{DecidesInRound, Near, SameButDecided, draws_now, draws_or_after, learnt_in, round_now, round_or_first}
 use Rattle.cps_neighbourhood.specs.Rounds.{IsFirstOpen, NoneOpen, Round, fixed_from, has_value, is_on, to_decide}
-use Rattle.cps_neighbourhood.specs.Standing.{IsUnderWay, round_if, round_of, solution_of}
-use Rattle.cps_neighbourhood.proofs.Keeping.{way_begins, way_chosen, way_decided}
+use Rattle.cps_neighbourhood.specs.Standing.{IsUnderWay, begun, round_if, round_of, solution_of}
+use Rattle.cps_neighbourhood.proofs.Keeping.{held_or_not, none_of_round, way_assumed, way_begins, way_chosen, way_decided}
 
 -- ---- rounds that are seen of a worker
 
@@ -78,10 +83,10 @@ learnt_same false true r u e l = absurd (cc e)
 learnt_same false false r u e l = refl
 
 -- the round made its next decision
-pub open_decided : {P : Type 0} (x y : Explorer P) (a : Atom) → IsExploring x → x.frame.said ≡ Due → x.in_round ≡ true → IsFirstOpen x.round.decisions.items x.frame.store a → x.round.held ≡ x.frame.store.level → y.frame ≡ moved x.frame (decided x.frame.store a) x.frame.rested → IsSoundSearch y.frame
-    → y.brancher ≡ x.brancher → y.kept ≡ x.kept → y.conflicts ≡ x.conflicts → y.aim ≡ x.aim → y.rounds ≡ x.rounds → y.in_round ≡ x.in_round → y.round.decisions.items ≡ x.round.decisions.items → y.round.learnt ≡ x.round.learnt → y.round.held ≡ y.frame.store.level
-    → y.round.place ≡ x.round.place → IsExploring y
-open_decided x y a h due on first held is sound brancher kept conflicts aim rounds in_round decisions learnt held_now place =
+pub open_decided : {P : Type 0} (x y : Explorer P) (a : Atom) → IsExploring x → x.frame.said ≡ Due → x.in_round ≡ true → IsFirstOpen x.round.decisions.items x.frame.store a → begun x.round ≡ x.frame.store.level → y.frame ≡ moved x.frame (decided x.frame.store a) x.frame.rested → IsSoundSearch y.frame
+    → y.brancher ≡ x.brancher → y.kept ≡ x.kept → y.conflicts ≡ x.conflicts → y.aim ≡ x.aim → y.rounds ≡ x.rounds → y.in_round ≡ x.in_round → y.round.decisions.items ≡ x.round.decisions.items → y.round.learnt ≡ x.round.learnt → y.round.assumed ≡ x.round.assumed
+    → y.round.held ≡ y.frame.store.level → y.round.place ≡ x.round.place → IsExploring y
+open_decided x y a h due on first held is sound brancher kept conflicts aim rounds in_round decisions learnt assumed held_now place =
     let s = x.frame.store in
     let e : Entry = record { atom = a; level = s.level + 1; reason = Decision } in
     let trail : y.frame.store ≡ decided s a = ap (λ (z : Search). z.store) is in
@@ -98,14 +103,93 @@ open_decided x y a h due on first held is sound brancher kept conflicts aim roun
     (omega (arith, ap (λ (z : Search). z.tally) is, h.tally, ap (λ (n : ℕ). round_conflicts * n) rounds, learnt_same x.in_round y.in_round x.round y.round in_round learnt))
     (λ off. absurd (clash off (in_round ∙ on)))
     (λ _ _. way_decided x.round y.round s y.frame.store e (ap (λ (t : Trail). t.first) trail) (ap (λ (t : Trail). t.entries) trail) level refl (record { decided = refl; one_of = (first.place, first.within, first.is a) }) held decisions
-    (omega (arith, held_now, level, held)) place learnt (h.under_way (due_runs x.frame.said due) on))
+    assumed held_now place learnt (h.under_way (due_runs x.frame.said due) on))
   where
     clash : {t : Bool} → t ≡ false → t ≡ true → ⊥
     clash e f = absurd (cc)
 
+-- the atom of an assumption is no value of a variable
+other_op : (r : ℤ) → (atom_of r).op ≡ Eq → ⊥
+other_op (pos i) e = absurd (let bad : Ge ≡ Eq = e in cc)
+other_op (negsuc i) e = absurd (let bad : Le ≡ Eq = e in cc)
+
+-- where an assumption is undecided, the round has decided nothing
+none_held : (s : Search) (r : Progress) (t : Atom) → IsSoundSearch s → IsAssumedNext s.instance.model.assumptions s.store t → IsUnderWay r s.store → r.held ≡ 0
+none_held s r t sound next way = elim (held_or_not r.held) [
+  | inl none ↦ none
+  | inr some ↦
+      let here = way.each r.held (way.above some) (omega arith) in
+      let of = here.4.0 in
+      let at : get_or s.store.entries here.0 here.1 ≡ here.1 = here.3 in
+      absurd (elim (sound.first.each here.0 here.1 here.2 (ap (λ (e : Entry). e.reason) at ∙ of.decided)) [
+        | inl assumed ↦ other_op (get_or s.instance.model.assumptions assumed.number (pos 0))
+            (ap (λ (u : Atom). u.op) (sym assumed.is ∙ ap (λ (e : Entry). e.atom) at ∙ sym of.one_of.2) ∙ way.values of.one_of.0 here.1.atom of.one_of.1)
+        | inr all ↦ next.is_open.left_open.not_true (IsTrueAfter-all s.store.first s.store.entries here.0 (assumption_at s.instance.model.assumptions next.number) (all next.number next.is_open.within))
+      ])
+]
+
+-- an assumption was decided
+pub assumption_decided : {P : Type 0} (x y : Explorer P) → IsExploring x → x.frame.said ≡ Due → x.in_round ≡ true → DecidesAssumption x.frame y.frame → IsSoundSearch y.frame
+    → y.brancher ≡ x.brancher → y.kept ≡ x.kept → y.conflicts ≡ x.conflicts → y.aim ≡ x.aim → y.rounds ≡ x.rounds → y.in_round ≡ x.in_round → y.round.decisions.items ≡ x.round.decisions.items → y.round.learnt ≡ x.round.learnt → y.round.assumed ≡ y.frame.store.level
+    → y.round.held ≡ x.round.held → y.round.place ≡ x.round.place → IsExploring y
+assumption_decided x y h due on d sound brancher kept conflicts aim rounds in_round decisions learnt assumed held place =
+    let s = x.frame.store in
+    let a = d.atom in
+    let e : Entry = record { atom = a; level = s.level + 1; reason = Decision } in
+    let trail : y.frame.store ≡ decided s a = ap (λ (z : Search). z.store) d.is in
+    let level : y.frame.store.level ≡ s.level + 1 = ap (λ (t : Trail). t.level) trail in
+    let size : length y.brancher.activities ≡ length x.brancher.activities = ap (λ (b : _). length b.activities) brancher in
+    let way = h.under_way (due_runs x.frame.said due) on in
+    explores_on x y h sound (setting_of x.frame (moved x.frame (decided s a) x.frame.rested) y.frame d.is refl refl refl refl)
+    (omega (arith, ap (λ (z : Search). z.imported) d.is, h.imported)) size conflicts aim
+    (omega (arith, kept, h.within, ap (λ (t : Trail). length t.entries) trail, length-append s.entries (e ∷ [])))
+    (subst (λ (b : _). AreFixedAside (length b.activities) b.aside y.frame.store y.kept) (sym brancher)
+    (subst (λ (k : ℕ). AreFixedAside (length x.brancher.activities) x.brancher.aside y.frame.store k) (sym kept)
+    (subst (λ (t : Trail). AreFixedAside (length x.brancher.activities) x.brancher.aside t x.kept) (sym trail)
+    (aside_kept_on (length x.brancher.activities) x.brancher.aside s (decided s a) x.kept x.kept (omega arith) (decided_onward (length x.brancher.activities) x.kept s a h.within) h.agreed))))
+    (omega (arith, rounds, h.rounds))
+    (omega (arith, ap (λ (z : Search). z.tally) d.is, h.tally, ap (λ (n : ℕ). round_conflicts * n) rounds, learnt_same x.in_round y.in_round x.round y.round in_round learnt))
+    (λ off. absurd (clash off (in_round ∙ on)))
+    (λ _ _. way_assumed x.round y.round s y.frame.store e (ap (λ (t : Trail). t.first) trail) (ap (λ (t : Trail). t.entries) trail) level refl
+    (λ is. other_op (get_or x.frame.instance.model.assumptions d.next.number (pos 0)) (ap (λ (u : Atom). u.op) (sym d.next.is) ∙ is))
+    (none_held x.frame x.round a h.sound d.next way) decisions assumed held place learnt way)
+  where
+    clash : {t : Bool} → t ≡ false → t ≡ true → ⊥
+    clash e f = absurd (cc)
+
+-- all but its search stays as it was in a round
+kept_in : {P : Type 0} (x : Explorer P) (n : Near) → x.in_round ≡ true → n ≡ record (near_of x) { search = n.search } → SameButDecided (near_of x) n
+kept_in x n on is = record {
+  round = ap (λ (m : Near). m.round) is ∙ round_in x.in_round x.round on ∙ ap (λ (r : Round). Some r) (sym (round_now_in x on));
+  draws = ap (λ (m : Near). m.draws) is ∙ sym (draws_now_in x on);
+  rounds = ap (λ (m : Near). m.rounds) is;
+  activities = ap (λ (m : Near). m.brancher.activities) is;
+  pace = ap (λ (m : Near). m.brancher.pace) is;
+  hints = ap (λ (m : Near). m.brancher.hints) is;
+  conflicts = ap (λ (m : Near). m.conflicts) is;
+  aim = ap (λ (m : Near). m.aim) is;
+}
+
+-- an assumption is decided in the round
+pub assumed_in : {P : Type 0} (x : Explorer P) (n : Near) → x.in_round ≡ true → DecidesAssumption x.frame n.search → n ≡ record (near_of x) { search = n.search } → DecidesInRound (near_of x) n
+assumed_in x n on d is = record {
+  one = record { atom = d.atom; undecided = subst (λ (u : Atom). IsUndecided x.frame.store u) (sym d.next.is) d.next.is_open.left_open; next = inl d.next; is = d.is };
+  rest = kept_in x n on is;
+}
+
+-- and so is what the round has open
+pub open_in : {P : Type 0} (x : Explorer P) (n : Near) (a : Atom) → x.in_round ≡ true → NoneIsOpen x.frame.instance.model.assumptions x.frame.store → IsFirstOpen x.round.decisions.items x.frame.store a → n ≡ record (near_of x) { search = moved x.frame (decided x.frame.store a) x.frame.rested }
+    → DecidesInRound (near_of x) n
+open_in x n a on none first is =
+    let search : n.search ≡ moved x.frame (decided x.frame.store a) x.frame.rested = ap (λ (m : Near). m.search) is in
+    record {
+      one = record { atom = a; undecided = first.left_open; next = inr (none, inl (subst (λ (r : Round). IsFirstOpen r.decisions x.frame.store a) (sym (round_now_in x on)) first)); is = search };
+      rest = kept_in x n on (is ∙ ap (λ (s : Search). record (near_of x) { search = s }) (sym search));
+    }
+
 -- a choice of the brancher is one by its activities and its hints
 pub chosen_hinted : {P : Type 0} (x : Explorer P) (t : Search) → Decides (λ s choice. (length x.brancher.activities ≡ length x.brancher.hints) × ChoosesHinted x.brancher.activities x.brancher.hints s choice) x.frame t → Decides (ChoosesHinted x.brancher.activities x.brancher.hints) x.frame t
-chosen_hinted x t d = record { atom = d.atom; undecided = d.undecided; chosen = d.chosen.1; is = d.is }
+chosen_hinted x t d = record { atom = d.atom; undecided = d.undecided; next = elim d.next [ inl assumed ↦ inl assumed | inr chosen ↦ inr (chosen.0, chosen.1.1) ]; is = d.is }
 
 -- the brancher made the next decision of the round
 pub chosen_decided : {P : Type 0} (x y : Explorer P) → IsExploring x → x.frame.said ≡ Due → x.in_round ≡ true → NoneOpen x.round.decisions.items x.frame.store → Decides (ChoosesHinted x.brancher.activities x.brancher.hints) x.frame y.frame → IsSoundSearch y.frame
@@ -139,7 +223,7 @@ chosen_in x y on none d stays in_round round draws rounds conflicts aim =
       one = record {
         atom = d.atom;
         undecided = d.undecided;
-        chosen = inr (subst (λ (r : Round). NoneOpen r.decisions x.frame.store) (sym now) none, d.chosen);
+        next = elim d.next [ inl assumed ↦ inl assumed | inr chosen ↦ inr (chosen.0, inr (subst (λ (r : Round). NoneOpen r.decisions x.frame.store) (sym now) none, chosen.1)) ];
         is = d.is;
       };
       rest = record {
@@ -151,6 +235,33 @@ chosen_in x y on none d stays in_round round draws rounds conflicts aim =
         hints = stays.2;
         conflicts = conflicts;
         aim = ap (λ (a : Aim). solution_of a) aim;
+      };
+    }
+
+-- another place in the round
+round_placed : (b : Bool) (r u : Progress) → u.decisions.items ≡ r.decisions.items → u.learnt ≡ r.learnt → round_if b u ≡ round_if b r
+round_placed true r u decisions learnt = ap (λ (x : Round). Some x) (cc)
+round_placed false r u decisions learnt = refl
+
+pub near_placed : {P : Type 0} (x : Explorer P) (r : Progress) → r.decisions.items ≡ x.round.decisions.items → r.learnt ≡ x.round.learnt → near_of (record x { round = r }) ≡ near_of x
+near_placed x r decisions learnt = ap (λ (o : Option Round). record (near_of x) { round = o }) (round_placed x.in_round x.round r decisions learnt)
+
+-- what is decided in a round that began with it is decided in the turn
+pub decided_begun : (s m t : Near) → m ≡ record s { round = Some (round_now s); draws = draws_now s } → DecidesInRound m t → DecidesInRound s t
+decided_begun s m t is h = from_first (subst (λ (n : Near). DecidesInRound n t) is h)
+  where
+    from_first : DecidesInRound (record s { round = Some (round_now s); draws = draws_now s }) t → DecidesInRound s t
+    from_first k = record {
+      one = k.one;
+      rest = record {
+        round = k.rest.round;
+        draws = k.rest.draws;
+        rounds = k.rest.rounds;
+        activities = k.rest.activities;
+        pace = k.rest.pace;
+        hints = k.rest.hints;
+        conflicts = k.rest.conflicts;
+        aim = k.rest.aim;
       };
     }
 
@@ -169,14 +280,28 @@ below_aim : (set : Bool) (values : List ℤ) (free : List ℕ) (n : ℕ) → len
 below_aim true values free n l = below_from 0 n values free (omega (arith, l))
 below_aim false values free n l = All-nil (λ (t : Atom). t.subject < n)
 
+values_from : (first : ℕ) (values : List ℤ) (free : List ℕ) → All (λ t. t.op ≡ Eq) (fixed_from first values free)
+values_from first [] free = All-nil (λ (t : Atom). t.op ≡ Eq)
+values_from first (x ∷ xs) free =
+    let rest = values_from (first + 1) xs free in
+    elim (is_on free first) as (λ (b : Bool). All (λ t. t.op ≡ Eq) (cond b (fixed_from (first + 1) xs free) (has_value first x ∷ fixed_from (first + 1) xs free))) [
+      | true ↦ rest
+      | false ↦ All-cons (λ (t : Atom). t.op ≡ Eq) (has_value first x) (fixed_from (first + 1) xs free) refl rest
+    ]
+
+values_aim : (set : Bool) (values : List ℤ) (free : List ℕ) → All (λ t. t.op ≡ Eq) (to_decide (cond set (Some values) None) free)
+values_aim true values free = values_from 0 values free
+values_aim false values free = All-nil (λ (t : Atom). t.op ≡ Eq)
+
 -- a round begins where none was under way
-pub begun : {P : Type 0} (x y : Explorer P) (free : List ℕ) → IsExploring x → x.in_round ≡ false → All (λ f. f.level ≤ x.frame.store.level) x.frame.store.entries → y.frame ≡ x.frame → y.brancher ≡ x.brancher → y.kept ≡ x.kept → y.conflicts ≡ x.conflicts → y.aim ≡ x.aim → y.rounds ≡ x.rounds
-    → y.in_round ≡ true → round_of y.round ≡ record { decisions = to_decide (solution_of x.aim) free; learnt = 0 } → y.round.held ≡ 0 → y.round.place ≡ 0 → IsExploring y
-begun x y free h off levels frame brancher kept conflicts aim rounds on round held place =
+pub begins : {P : Type 0} (x y : Explorer P) (free : List ℕ) → IsExploring x → x.in_round ≡ false → IsSound x.frame.store → y.frame ≡ x.frame → y.brancher ≡ x.brancher → y.kept ≡ x.kept → y.conflicts ≡ x.conflicts → y.aim ≡ x.aim → y.rounds ≡ x.rounds
+    → y.in_round ≡ true → round_of y.round ≡ record { decisions = to_decide (solution_of x.aim) free; learnt = 0 } → y.round.assumed ≡ 0 → y.round.held ≡ 0 → y.round.place ≡ 0 → IsExploring y
+begins x y free h off store frame brancher kept conflicts aim rounds on round assumed held place =
     let none : y.round.learnt ≡ 0 = ap (λ (r : Round). r.learnt) round in
     let enough : length x.aim.values.items ≤ length x.frame.store.first = omega (arith, h.variables, h.scope.variables_are, h.scope.subjects_within, ap (λ (ds : Domains). length ds) h.sound.domains) in
     let subjects : All (λ u. u.subject < length x.frame.store.first) y.round.decisions.items = subst (λ (ts : List Atom). All (λ u. u.subject < length x.frame.store.first) ts) (sym (ap (λ (r : Round). r.decisions) round)) (below_aim x.aim.is_set x.aim.values.items free (length x.frame.store.first) enough) in
-    let way : IsUnderWay y.round x.frame.store = way_begins y.round x.frame.store (omega (arith, none)) subjects held place (h.between off) levels in
+    let values : All (λ u. u.op ≡ Eq) y.round.decisions.items = subst (λ (ts : List Atom). All (λ u. u.op ≡ Eq) ts) (sym (ap (λ (r : Round). r.decisions) round)) (values_aim x.aim.is_set x.aim.values.items free) in
+    let way : IsUnderWay y.round x.frame.store = way_begins y.round x.frame.store (omega (arith, none)) subjects values assumed held place (h.between off) (none_of_round y.round.decisions.items x.frame.store store (h.between off)) in
     explores_on x y h (subst (λ (z : Search). IsSoundSearch z) (sym frame) h.sound) (subst (λ (z : Search). SameSetting x.frame z) (sym frame) (setting_same x.frame)) (omega (arith, ap (λ (z : Search). z.imported) frame, h.imported))
     (ap (λ (b : _). length b.activities) brancher) conflicts aim
     (omega (arith, kept, h.within, ap (λ (z : Search). length z.store.entries) frame))

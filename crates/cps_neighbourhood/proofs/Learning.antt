@@ -179,14 +179,10 @@ module _ {P : Type 0} (x y : Explorer P) (f : Search) (rows : ℕ) (p q : Part) 
     | inl ending ↦ (let e = ends ending in absurd (clash e.round again))
     | inr going ↦
         let g = goes_on going in
-        let least : f.store.level < x.round.held → ⊥ = λ l. going (inr l) in
         let l = below_last going in
         subst (λ (s : Search). IsUnderWay y.round s.store) (sym g.frame)
-        (way_back x.round y.round x.frame.store f.store f.store.level steps.store.first learnt.entries refl steps.store.level g.decisions (g.held ∙ least_is x.round.held f.store.level least) g.place (omega (arith, g.learnt, l)) way)
+        (way_back x.round y.round x.frame.store f.store f.store.level steps.store.first learnt.entries refl steps.store.level g.decisions g.assumed g.held g.place (omega (arith, g.learnt, l)) way)
   ]
-    where
-      least_is : (a b : ℕ) → (b < a → ⊥) → a ≡ min a b
-      least_is a b not = grind arith
 
   pub explores_learnt : IsSoundSearch y.frame → length y.brancher.activities ≡ length x.brancher.activities → y.kept ≡ min x.kept (length y.frame.store.entries)
       → ((s : Trail) (k : ℕ) → AreFixedAside (length x.brancher.activities) x.brancher.aside s k → AreFixedAside (length y.brancher.activities) y.brancher.aside s k) → IsExploring y

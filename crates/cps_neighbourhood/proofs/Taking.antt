@@ -35,9 +35,9 @@ use Rattle.cps_neighbourhood.specs.declared.round.Progress.{Progress}
 use Rattle.cps_neighbourhood.specs.Exploring.{IsExploring}
 use Rattle.cps_neighbourhood.specs.Nears.{DecidesInRound, Near, SameRounds, TakesNearTurn, draws_or_after, in_search, learnt_in, round_now, round_or_first}
 use Rattle.cps_neighbourhood.specs.Rounds.{ChoosesInRound, Round}
-use Rattle.cps_neighbourhood.specs.Standing.{IsUnderWay}
+use Rattle.cps_neighbourhood.specs.Standing.{IsUnderWay, held_to}
 use Rattle.cps_neighbourhood.proofs.Exploring.{explores_on, learnt_same, not_over}
-use Rattle.cps_neighbourhood.proofs.Keeping.{way_back, way_onward, way_placed}
+use Rattle.cps_neighbourhood.proofs.Keeping.{held_stays, way_back, way_onward, way_placed}
 
 -- ---- decisions
 
@@ -172,38 +172,40 @@ over_runs : (said : Said) (end : _) → said ≡ Over end → (IsOver said → �
 over_runs said end e running = running (subst (λ (x : Said). IsOver x) (sym e) tt)
 
 -- the store stayed, and the round looks from its beginning again
-same_way : (r u : Progress) (s t : Trail) → t ≡ s → u.decisions.items ≡ r.decisions.items → u.learnt ≡ r.learnt → u.held ≡ min r.held t.level → u.place ≡ 0 → IsUnderWay r s → IsUnderWay u t
-same_way r u s t is decisions learnt held place h =
+same_way : (r u : Progress) (s t : Trail) → t ≡ s → u.decisions.items ≡ r.decisions.items → u.learnt ≡ r.learnt → u.assumed ≡ min r.assumed t.level → u.held ≡ held_to r t.level → u.place ≡ 0 → IsUnderWay r s → IsUnderWay u t
+same_way r u s t is decisions learnt assumed held place h =
+    let stays = held_stays r s h in
+    let level : t.level ≡ s.level = ap (λ (x : Trail). x.level) is in
     subst (λ (x : Trail). IsUnderWay u x) (sym is)
-    (way_placed r u s decisions learnt (omega (arith, held, h.within, ap (λ (x : Trail). x.level) is)) (λ j d l m is_open. absurd (omega (arith, l, place))) h)
+    (way_placed r u s decisions learnt (assumed ∙ ap (λ (n : ℕ). min r.assumed n) level ∙ stays.0) (held ∙ ap (λ (n : ℕ). held_to r n) level ∙ stays.1) (λ j d l m is_open. absurd (omega (arith, l, place))) h)
 
-other_way : (s t : Search) (rows : ℕ) (p q : Part) (turn : Turn) (r u : Progress) → (turn ≡ turns.Learnt → ⊥) → Caused s t rows p q (Some turn) → (IsOver t.said → ⊥) → u.decisions.items ≡ r.decisions.items → u.learnt ≡ r.learnt → u.held ≡ min r.held t.store.level → u.place ≡ 0
+other_way : (s t : Search) (rows : ℕ) (p q : Part) (turn : Turn) (r u : Progress) → (turn ≡ turns.Learnt → ⊥) → Caused s t rows p q (Some turn) → (IsOver t.said → ⊥) → u.decisions.items ≡ r.decisions.items → u.learnt ≡ r.learnt → u.assumed ≡ min r.assumed t.store.level → u.held ≡ held_to r t.store.level → u.place ≡ 0
     → IsUnderWay r s.store → IsUnderWay u t.store
-other_way s t rows p q turns.Imported r u not k running decisions learnt held place h = elim k.used [
+other_way s t rows p q turns.Imported r u not k running decisions learnt assumed held place h = elim k.used [
   | inl given ↦
       let b = given.0.back in
       let at : t.store.level ≡ given.0.level = ap (λ (x : Trail). x.level) b.is in
-      way_back r u s.store t.store given.0.level (ap (λ (x : Trail). x.first) b.is) (ap (λ (x : Trail). x.entries) b.is) at b.within decisions (held ∙ ap (λ (n : ℕ). min r.held n) at) place (omega (arith, learnt, h.few)) h
-  | inr pass ↦ same_way r u s.store t.store pass.0.store decisions learnt held place h
+      way_back r u s.store t.store given.0.level (ap (λ (x : Trail). x.first) b.is) (ap (λ (x : Trail). x.entries) b.is) at b.within decisions (assumed ∙ ap (λ (n : ℕ). min r.assumed n) at) (held ∙ ap (λ (n : ℕ). held_to r n) at) place (omega (arith, learnt, h.few)) h
+  | inr pass ↦ same_way r u s.store t.store pass.0.store decisions learnt assumed held place h
 ]
-other_way s t rows p q turns.Found r u not k running decisions learnt held place h =
-    same_way r u t.store t.store refl decisions learnt held place (onward_way r s.store t.store k.onward h)
-other_way s t rows p q turns.Exhausted r u not k running decisions learnt held place h = absurd (over_runs t.said _ k.said running)
-other_way s t rows p q turns.SawClosed r u not k running decisions learnt held place h = absurd (over_runs t.said _ (ap (λ (x : Search). x.said) k.same) running)
-other_way s t rows p q turns.Decided r u not k running decisions learnt held place h = absurd k
-other_way s t rows p q turns.Learnt r u not k running decisions learnt held place h = absurd (not refl)
-other_way s t rows p q (turns.Spent clause below) r u not k running decisions learnt held place h = absurd (over_runs t.said _ k.said running)
-other_way s t rows p q turns.RoundsDone r u not k running decisions learnt held place h = absurd k
-other_way s t rows p q (turns.Reformed base) r u not k running decisions learnt held place h = absurd k
+other_way s t rows p q turns.Found r u not k running decisions learnt assumed held place h =
+    same_way r u t.store t.store refl decisions learnt assumed held place (onward_way r s.store t.store k.onward h)
+other_way s t rows p q turns.Exhausted r u not k running decisions learnt assumed held place h = absurd (over_runs t.said _ k.said running)
+other_way s t rows p q turns.SawClosed r u not k running decisions learnt assumed held place h = absurd (over_runs t.said _ (ap (λ (x : Search). x.said) k.same) running)
+other_way s t rows p q turns.Decided r u not k running decisions learnt assumed held place h = absurd k
+other_way s t rows p q turns.Learnt r u not k running decisions learnt assumed held place h = absurd (not refl)
+other_way s t rows p q (turns.Spent clause below) r u not k running decisions learnt assumed held place h = absurd (over_runs t.said _ k.said running)
+other_way s t rows p q turns.RoundsDone r u not k running decisions learnt assumed held place h = absurd k
+other_way s t rows p q (turns.Reformed base) r u not k running decisions learnt assumed held place h = absurd k
 
 pub explores_other : {P : Type 0} (x y : Explorer P) (rows : ℕ) (p q : Part) (turn : Turn) → IsExploring x → (IsOver x.frame.said → ⊥) → IsSoundSearch y.frame → Steps x.frame y.frame rows p q (Some turn) → (turn ≡ turns.Learnt → ⊥) → x.frame.imported ≤ length p.board.taken → rows ≤ 4096
     → y.brancher ≡ x.brancher → y.kept ≡ min x.kept (length y.frame.store.entries) → y.conflicts ≡ x.conflicts → y.aim ≡ x.aim → y.rounds ≡ x.rounds → y.in_round ≡ x.in_round → y.round.decisions.items ≡ x.round.decisions.items → y.round.learnt ≡ x.round.learnt
-    → y.round.held ≡ min x.round.held y.frame.store.level → y.round.place ≡ 0 → IsExploring y
-explores_other x y rows p q turn h running sound steps not taken small brancher kept conflicts aim rounds in_round decisions learnt held place =
+    → y.round.assumed ≡ min x.round.assumed y.frame.store.level → y.round.held ≡ held_to x.round y.frame.store.level → y.round.place ≡ 0 → IsExploring y
+explores_other x y rows p q turn h running sound steps not taken small brancher kept conflicts aim rounds in_round decisions learnt assumed held place =
     explores_on x y h sound steps.setting (imported_few x.frame y.frame rows p q (Some turn) h.imported taken small steps.cause) (ap (λ (b : ByActivity). length b.activities) brancher) conflicts aim (omega (arith, kept))
     (subst (λ (b : ByActivity). AreFixedAside (length b.activities) b.aside y.frame.store y.kept) (sym brancher)
     (aside_kept_on (length x.brancher.activities) x.brancher.aside x.frame.store y.frame.store y.kept x.kept (omega (arith, kept)) (same_back (length x.brancher.activities) y.kept x.frame.store y.frame.store (omega (arith, kept, h.within)) (omega (arith, kept)) steps.store) h.agreed))
     (omega (arith, rounds, h.rounds))
     (omega (arith, other_tally x.frame y.frame rows p q turn not steps.cause, h.tally, ap (λ (n : ℕ). round_conflicts * n) rounds, learnt_same x.in_round y.in_round x.round y.round in_round learnt))
     (λ off. (let none = h.between (sym in_round ∙ off) in omega (arith, steps.store.level, none)))
-    (λ run on. other_way x.frame y.frame rows p q turn x.round y.round not steps.cause run decisions learnt held place (h.under_way running (sym in_round ∙ on)))
+    (λ run on. other_way x.frame y.frame rows p q turn x.round y.round not steps.cause run decisions learnt assumed held place (h.under_way running (sym in_round ∙ on)))

@@ -1,5 +1,5 @@
 -- What a worker that has not ended keeps between two turns, and what a learnt clause does to it.
-use Rattle.std.specs.Prelude.{◌≡◌, ◌+◌, ◌*◌, ◌^◌, ◌≤◌, Bool, true, false, None, length}
+use Rattle.std.specs.Prelude.{◌≡◌, ◌+◌, ◌*◌, min, ◌^◌, ◌≤◌, Bool, true, false, None, length}
 use Rattle.cps_instance.specs.Problem.{variable_count}
 use Rattle.cps_branch.specs.Scope.{IsScopeOf}
 use Rattle.cps_branch.specs.SetAside.{AreFixedAside}
@@ -9,7 +9,7 @@ use Rattle.cps_search.specs.Ends.{IsOver, round_conflicts, round_count}
 use Rattle.cps_search.specs.Searches.{IsSoundSearch}
 use Rattle.cps_neighbourhood.specs.declared.explorer.Explorer.{Explorer}
 use Rattle.cps_neighbourhood.specs.Nears.{Near, learnt_in}
-use Rattle.cps_neighbourhood.specs.Standing.{IsUnderWay, round_if, solution_of}
+use Rattle.cps_neighbourhood.specs.Standing.{IsUnderWay, held_to, round_if, solution_of}
 
 -- what an explorer knows
 abbrev pub near_of : {P : Type 0} → Explorer P → Near
@@ -57,7 +57,8 @@ pub record RoundGoesOn {P : Type 0} (x y : Explorer P) : Type 0 where
   pub in_round : y.in_round ≡ x.in_round
   pub decisions : y.round.decisions.items ≡ x.round.decisions.items
   pub learnt : y.round.learnt ≡ x.round.learnt + 1
-  pub held : y.round.held ≡ x.round.held
+  pub assumed : y.round.assumed ≡ min x.round.assumed x.frame.store.level
+  pub held : y.round.held ≡ held_to x.round x.frame.store.level
   pub place : y.round.place ≡ 0
   pub frame : y.frame ≡ x.frame
 

@@ -87,7 +87,8 @@ pub record SameButDecided (s t : Near) : Type 0 where
   pub conflicts : t.conflicts ≡ s.conflicts
   pub aim : t.aim ≡ s.aim
 
--- what a decision does: the round under way, or one that begins with it, has its say before the brancher
+-- what a decision does: after the assumptions the round under way, or one that begins with it, has its say before the
+-- brancher
 pub record DecidesInRound (s t : Near) : Type 0 where
   pub one : Decides (ChoosesInRound (round_now s).decisions s.brancher) s.search t.search
   pub rest : SameButDecided s t

@@ -1,7 +1,8 @@
 -- How far a round is, and what agrees with a store.
-use Rattle.std.specs.Prelude.{◌≡◌, ◌⊎◌, ℕ, ◌+◌, ◌<◌, ◌≤◌, ℤ, if◌then◌else◌, Bool, Option, Some, None, List, length, slice_index_or, All}
+use Rattle.std.specs.Prelude.{◌≡◌, ◌⊎◌, ℕ, ◌+◌, ◌<◌, ◌≤◌, max, min, nat_le, ℤ, if◌then◌else◌, Bool, Option, Some, None, List, length, slice_index_or, All}
 use Rattle.std.specs.List.{Any}
 use Rattle.cps_literal.specs.declared.atom.Atom.{Atom}
+use Rattle.cps_literal.specs.declared.atom.Op.TheVariants.{Eq}
 use Rattle.cps_trail.specs.Trail.{Trail, up_to}
 use Rattle.cps_branch.specs.Choice.{IsUndecided}
 use Rattle.cps_search.specs.Ends.{round_conflicts}
@@ -24,17 +25,28 @@ round_if under_way r = if under_way then Some (round_of r) else None
 abbrev pub at_end_of : Trail → ℕ → Trail
 at_end_of s level = record s { entries = up_to level s.entries; level = level }
 
--- Progress in a round agrees with a store: the first `held` levels began with decisions of the round, and no later one
--- did; where there are later ones, no decision was open at the end of these first levels. None before `place` is open.
+-- the level of the last assumption or decision of the round that is on the trail
+abbrev pub begun : Progress → ℕ
+begun r = max r.assumed r.held
+
+-- Progress in a round agrees with a store: the first `assumed` levels began with assumptions, and those after them up
+-- to `held`, if there are any, with decisions of the round; no other level did. Where there are later ones, no decision
+-- of the round was open at the end of these. None before `place` is open. A round decides values.
 pub record IsUnderWay (r : Progress) (s : Trail) : Type 0 where
   pub few : r.learnt < round_conflicts
   pub subjects : All (λ t. t.subject < length s.first) r.decisions.items
-  pub within : r.held ≤ s.level
-  pub each : (l : ℕ) → 0 < l → l ≤ r.held → Any (λ e. IsOfRound r.decisions.items e × (e.level ≡ l)) s.entries
-  pub beyond : All (λ e. IsOfRound r.decisions.items e → e.level ≤ r.held) s.entries
-  pub settled : r.held < s.level → NoneOpen r.decisions.items (at_end_of s r.held)
+  pub values : All (λ t. t.op ≡ Eq) r.decisions.items
+  pub within : begun r ≤ s.level
+  pub above : 0 < r.held → r.assumed < r.held
+  pub each : (l : ℕ) → r.assumed < l → l ≤ r.held → Any (λ e. IsOfRound r.decisions.items e × (e.level ≡ l)) s.entries
+  pub between : All (λ e. IsOfRound r.decisions.items e → (r.assumed < e.level) × (e.level ≤ r.held)) s.entries
+  pub settled : begun r < s.level → NoneOpen r.decisions.items (at_end_of s (begun r))
   pub passed : (j : ℕ) (d : Atom) → j < r.place → j < length r.decisions.items
       → IsUndecided s (slice_index_or r.decisions.items j d) → ⊥
+
+-- how far it is where the search went back to a level
+abbrev pub held_to : Progress → ℕ → ℕ
+held_to r level = if nat_le level r.assumed then 0 else min r.held level
 
 -- a learnt clause that sends a search back to a level ends the round
 abbrev pub EndsAt : Progress → ℕ → Type 0

@@ -1,12 +1,12 @@
 //! The turn of a neighbourhood worker, as long as every allocation succeeds.
 //!
-//! `Frame::steps` does a turn up to a decision. When a decision is due, a round is begun if none is under way, and the
-//! round's next open decision comes before the brancher's choice. After a learnt clause the brancher hears it, and the
-//! round ends or goes on in the same turn; the brancher's wish to restart is not followed, since the round would only
-//! be decided once more. After any other turn the store may have gone back, so the round looks for open decisions from
-//! its first one on.
+//! `Frame::steps` does a turn up to a decision. When a decision is due, a round is begun if none is under way. An
+//! assumption of the model that is undecided comes first, then the round's next open decision, and then the brancher's
+//! choice. After a learnt clause the brancher hears it, and the round ends or goes on in the same turn; the brancher's
+//! wish to restart is not followed, since the round would only be decided once more. After any other turn the store may
+//! have gone back, so the round looks for open decisions from its first one on.
 
-ghost use Rattle.std.specs.Prelude.{◌≡◌, ◌↔◌, ℕ, ◌+◌, ◌<◌, ◌≤◌, ◌^◌, min, length, true, false, IfOk, OnOk, IsTrue, List, [], ◌∷◌, ◌++◌, None, Some};
+ghost use Rattle.std.specs.Prelude.{◌≡◌, ◌↔◌, ℕ, ◌+◌, ◌<◌, ◌≤◌, ◌^◌, min, length, true, false, Ok, IfOk, OnOk, IsTrue, List, [], ◌∷◌, ◌++◌, None, Some};
 ghost use Rattle.cps_model.specs.declared.bound.Bound.{Bound as BoundOf};
 ghost use Rattle.cps_literal.specs.declared.atom.Atom.{Atom as AtomOf};
 ghost use Rattle.cps_clauses.specs.declared.journal.JournalItem.{JournalItem as JournalItemOf};
@@ -14,12 +14,13 @@ ghost use Rattle.cps_trail.specs.Trail.{Trail};
 ghost use Rattle.cps_instance.specs.Problem.{variable_count};
 ghost use Rattle.cps_branch.specs.Fixed.{AreFixed};
 ghost use Rattle.cps_branch.specs.SetAside.{AreFixedAside};
-ghost use Rattle.cps_search.specs.Searches.{HasNoAssumptions, IsSettled, IsSoundSearch};
+ghost use Rattle.cps_search.specs.Assumptions.{NoneIsOpen};
+ghost use Rattle.cps_search.specs.Searches.{IsSettled, IsSoundSearch};
 ghost use Rattle.cps_search.specs.Ends.{Decides, IsOver, round_count, round_conflicts};
 ghost use Rattle.cps_search.specs.Moves.{decided, moved};
 ghost use Rattle.cps_neighbourhood.specs.Rounds.{ChoosesInRound, IsFirstOpen, NoneOpen};
 ghost use Rattle.cps_neighbourhood.specs.Nears.{BeginsNear, DecidesInRound, HeardClause, TakesNearTurn, draws_now, round_now};
-ghost use Rattle.cps_neighbourhood.specs.Standing.{EndsAt, round_of};
+ghost use Rattle.cps_neighbourhood.specs.Standing.{EndsAt, begun, held_to, round_of};
 ghost use Rattle.cps_neighbourhood.specs.Exploring.{IsExploring, KeepsRest, RoundEnds, RoundGoesOn, near_of};
 
 use crate::aim::Aim;
@@ -31,7 +32,7 @@ use cps_instance::Instance;
 use cps_literal::Atom;
 use cps_port::Port;
 use cps_propagate::{Engine, Propagator};
-use cps_search::{Frame, Said, Turn, decide_next, hear_last, still_kept};
+use cps_search::{Frame, Said, Turn, decide_assumption, decide_next, hear_last, still_kept};
 use rand_pcg::Lcg64Xsh32;
 use std::alloc::{AllocError, Global};
 
@@ -72,7 +73,6 @@ impl<'a, P: Propagator> Explorer<'a, P> {
         gap: u64,
     ) -> Result<Self, AllocError>
         requires tasks { engine.tasks ≡ instance.tasks }
-        requires assumptions { HasNoAssumptions instance.model }
         requires conflicts { conflicts ≤ 10 ^ 9 }
         ensures begins { IfOk result (λ x. BeginsNear instance.entry gap conflicts draws (near_of x)) }
         ensures exploring { IfOk result (λ x. IsExploring x) }
@@ -118,8 +118,9 @@ impl<'a, P: Propagator> Explorer<'a, P> {
         requires exploring { IsExploring self.old }
         requires in_round { IsTrue self.old.in_round }
         requires due { self.old.frame.said ≡ Said.Due }
+        requires none_open { NoneIsOpen self.old.frame.instance.model.assumptions self.old.frame.store }
         requires open { IsFirstOpen self.old.round.decisions.items self.old.frame.store atom }
-        requires held { self.old.round.held ≡ self.old.frame.store.level }
+        requires begun { begun self.old.round ≡ self.old.frame.store.level }
         ensures near { OnOk result (near_of self.new ≡ record (near_of self.old) {
           search = moved self.old.frame (decided self.old.frame.store atom) self.old.frame.rested;
         }) }
@@ -130,10 +131,29 @@ impl<'a, P: Propagator> Explorer<'a, P> {
         Ok(())
     }
 
-    /// Decides what the brancher chooses, where the round has nothing open.
+    /// Decides the first assumption that is undecided, where a decision is due. Answers false, and changes nothing,
+    /// where none is.
+    fn assume(&mut self) -> Result<bool, AllocError>
+        requires exploring { IsExploring self.old }
+        requires in_round { IsTrue self.old.in_round }
+        requires due { self.old.frame.said ≡ Said.Due }
+        ensures decides { result ≡ Ok true → DecidesInRound (near_of self.old) (near_of self.new) }
+        ensures none { result ≡ Ok false → (self.new ≡ self.old)
+            × NoneIsOpen self.old.frame.instance.model.assumptions self.old.frame.store }
+        ensures exploring { OnOk result (IsExploring self.new) }
+    {
+        if !decide_assumption(&mut self.frame)? {
+            return Ok(false);
+        }
+        self.round.assumed = self.frame.store().level();
+        Ok(true)
+    }
+
+    /// Decides what the brancher chooses, where no assumption is undecided and the round has nothing open.
     fn choose(&mut self) -> Result<(), AllocError>
         requires exploring { IsExploring self.old }
         requires in_round { IsTrue self.old.in_round }
+        requires none_open { NoneIsOpen self.old.frame.instance.model.assumptions self.old.frame.store }
         requires settled { IsSettled self.old.frame }
         requires due { self.old.frame.said ≡ Said.Due }
         requires left_open { AreFixed self.old.frame.store (variable_count self.old.frame.instance) → ⊥ }
@@ -147,7 +167,7 @@ impl<'a, P: Propagator> Explorer<'a, P> {
         Ok(())
     }
 
-    /// Decides in the round under way, or in one that begins.
+    /// Decides an assumption, or else in the round under way, which may begin with that.
     fn decide(&mut self) -> Result<(), AllocError>
         requires exploring { IsExploring self.old }
         requires settled { IsSettled self.old.frame }
@@ -157,6 +177,9 @@ impl<'a, P: Propagator> Explorer<'a, P> {
         ensures exploring { OnOk result (IsExploring self.new) }
     {
         self.enter()?;
+        if self.assume()? {
+            return Ok(());
+        }
         match self.round.next_open(self.frame.store()) {
             Some(atom) => self.decide_open(atom),
             None => self.choose(),
@@ -184,7 +207,7 @@ impl<'a, P: Propagator> Explorer<'a, P> {
         ensures brancher { (self.new.brancher ≡ self.old.brancher) × (self.new.kept ≡ self.old.kept) }
     {
         self.round.learnt += 1;
-        self.round.place = 0;
+        self.round.go_back(self.frame.store().level());
     }
 
     /// Ends the round with the clause that was learnt last, or goes on.
@@ -229,7 +252,8 @@ impl<'a, P: Propagator> Explorer<'a, P> {
     /// Looks what is left after a turn that neither decided nor learnt: the store may have lost its last entries.
     fn look_back(&mut self)
         ensures kept { self.new.kept ≡ min self.old.kept (length self.new.frame.store.entries) }
-        ensures held { self.new.round.held ≡ min self.old.round.held self.old.frame.store.level }
+        ensures held { (self.new.round.assumed ≡ min self.old.round.assumed self.old.frame.store.level)
+            × (self.new.round.held ≡ held_to self.old.round self.old.frame.store.level) }
         ensures place { self.new.round.place ≡ 0 }
         ensures rest { near_of self.new ≡ near_of self.old }
         ensures decisions { self.new.round.decisions.items ≡ self.old.round.decisions.items }
@@ -237,8 +261,7 @@ impl<'a, P: Propagator> Explorer<'a, P> {
         ensures same { (self.new.aim ≡ self.old.aim) × (self.new.in_round ≡ self.old.in_round) }
     {
         self.kept = still_kept(self.frame.store(), self.kept);
-        self.round.held = self.round.held.min(self.frame.store().level());
-        self.round.place = 0;
+        self.round.go_back(self.frame.store().level());
     }
 
     /// Takes one turn. If all rounds are done it is the last one, which only looks at the two bounds.

@@ -6,7 +6,7 @@
 
 ghost use Rattle.std.specs.Prelude.{◌≡◌, ◌+◌, ◌≤◌, ◌^◌, length, false, OnOk, OnErr, IfOk, IfSome, IsErr, IsNone, IsTrue, None, Some};
 ghost use Rattle.cps_model.specs.Solutions.{IsSolution};
-ghost use Rattle.cps_search.specs.Searches.{HasNoAssumptions, IsSoundSearch};
+ghost use Rattle.cps_search.specs.Searches.{IsSoundSearch};
 ghost use Rattle.cps_search.specs.Ends.{IsOver, ending};
 ghost use Rattle.cps_neighbourhood.specs.Drawing.{draws_of};
 ghost use Rattle.cps_neighbourhood.specs.Nears.{BeginsNear, NearRunsInTurns, NearRunsTo, TakesNearTurn};
@@ -58,7 +58,6 @@ impl<'a, P: Propagator> NearWorker<'a, P> {
         gap: u64,
     ) -> Result<Self, AllocError>
         requires tasks { engine.tasks ≡ instance.tasks }
-        requires assumptions { HasNoAssumptions instance.model }
         requires conflicts { conflicts ≤ 10 ^ 9 }
         ensures begins { IfOk result (λ w. BeginsNear instance.entry gap conflicts (draws_of seed (16 + number)) w) }
         ensures sound { IfOk result (λ w. IsSoundSearch w.search) }
@@ -71,9 +70,10 @@ impl<'a, P: Propagator> NearWorker<'a, P> {
         })
     }
 
-    /// Takes one turn: the first of these that applies. The two bounds met; all rounds are done; an entry of the board
-    /// is taken; a conflict leaves no solution, or is learnt from, which may end the round; a solution is found; an
-    /// atom is decided, by the round or by activity.
+    /// Takes a turn: the first that applies of these. The two bounds met; all rounds are done; an entry of the board is
+    /// taken; a conflict ends all, or is learnt from, which may end the round; an assumption that is false ends all; a
+    /// solution is found; an atom is decided: the first assumption that is undecided, or else by the round or by
+    /// activity.
     pub fn turn<Q: Port>(&mut self, port: &mut Q) -> Result<Turn, AllocError>
         requires running { IsOver self.old.search.said → ⊥ }
         requires model { Q.model port.old ≡ self.old.search.instance.model }
@@ -156,6 +156,14 @@ impl<'a, P: Propagator> NearWorker<'a, P> {
         ensures some { IfSome result (λ values. self.now.search.best ≡ Some values.now) }
     {
         self.explorer.frame.best()
+    }
+
+    /// Assumptions that are sufficient for infeasibility, in the order of the model, where the worker is exhausted and
+    /// no incumbent is known; else none.
+    pub fn core(&self) -> &[i32]
+        ensures { result.now ≡ self.now.search.core }
+    {
+        self.explorer.frame.core()
     }
 
     /// The worker as others see it after it ended.

@@ -1,18 +1,19 @@
 //! Rounds: what each is to decide, and how far it has come.
 //!
-//! The first levels of the trail are the round's own decisions, as many as `held` says; a clause that sends the search
-//! back below them refutes the neighbourhood. A decision of the round that inference made true already begins no level,
-//! and one that it made false is passed over: the round then searches where the aim cannot be followed. Decisions are
-//! looked for from `place` on, which goes back to 0 whenever entries may have gone.
+//! The first levels of the trail began with assumptions of the model, as many as `assumed` says, and those after them
+//! up to `held` with the round's own decisions; a clause that sends the search back below `held` refutes the
+//! neighbourhood. A decision of the round that inference made true already begins no level, and one that it made false
+//! is passed over: the round then searches where the aim cannot be followed. Decisions are looked for from `place` on,
+//! which goes back to 0 whenever entries may have gone.
 
-ghost use Rattle.std.specs.Prelude.{◌≡◌, ◌↔◌, ◌⊎◌, ℕ, ◌+◌, ◌≤◌, ◌<◌, ◌^◌, All, IfOk, IfSome, OnOk, IsNone, IsTrue, length, pos, slice_index_or};
+ghost use Rattle.std.specs.Prelude.{◌≡◌, ◌↔◌, ◌⊎◌, ℕ, ◌+◌, ◌≤◌, ◌<◌, ◌^◌, All, IfOk, IfSome, OnOk, IsNone, IsTrue, length, min, pos, slice_index_or};
 ghost use Rattle.cps_literal.specs.declared.atom.Atom.{Atom as AtomOf};
 ghost use Rattle.cps_trail.specs.Trail.{IsSound};
 ghost use Rattle.cps_branch.specs.Choice.{IsUndecided};
 ghost use Rattle.cps_search.specs.Ends.{round_conflicts};
 ghost use Rattle.cps_neighbourhood.specs.Drawing.{after_words, IsRising};
 ghost use Rattle.cps_neighbourhood.specs.Rounds.{first_round, fixed_from, free_count, freed, has_value, is_on, to_decide, IsFirstOpen, NoneOpen};
-ghost use Rattle.cps_neighbourhood.specs.Standing.{round_of, solution_of, EndsAt, IsUnderWay};
+ghost use Rattle.cps_neighbourhood.specs.Standing.{begun, held_to, round_of, solution_of, EndsAt, IsUnderWay};
 
 use crate::aim::Aim;
 use crate::draws::choose_free;
@@ -31,7 +32,9 @@ pub(crate) struct Progress {
     pub decisions: Vec<Atom>,
     /// How many clauses were learnt in it.
     pub learnt: u64,
-    /// The level of its last decision on the trail: each level up to this one began with a decision of the round.
+    /// The level of the last assumption on the trail: the first so many levels began with assumptions.
+    pub assumed: usize,
+    /// The level of its last decision on the trail, which comes after all assumptions; 0 if none is there.
     pub held: usize,
     /// None of its decisions before this place is open.
     pub place: usize,
@@ -133,6 +136,7 @@ impl Progress {
         Progress {
             decisions: Vec::new(alloc),
             learnt: 0,
+            assumed: 0,
             held: 0,
             place: 0,
         }
@@ -145,7 +149,7 @@ impl Progress {
         ensures is { IfOk result (λ r. round_of r
             ≡ first_round (length aim.now.values.items) (solution_of aim.now) draws.old) }
         ensures draws { OnOk result (draws.new ≡ after_words (length aim.now.values.items) draws.old) }
-        ensures held { IfOk result (λ r. r.held ≡ 0) }
+        ensures held { IfOk result (λ r. (r.assumed ≡ 0) × (r.held ≡ 0)) }
         ensures place { IfOk result (λ r. r.place ≡ 0) }
     {
         let count = aim.values.len() as u32;
@@ -154,6 +158,7 @@ impl Progress {
         Ok(Progress {
             decisions,
             learnt: 0,
+            assumed: 0,
             held: 0,
             place: 0,
         })
@@ -164,16 +169,16 @@ impl Progress {
         requires { IsUnderWay self.old store.now }
         ensures decisions { self.new.decisions.items ≡ self.old.decisions.items }
         ensures learnt { self.new.learnt ≡ self.old.learnt }
-        ensures held { self.new.held ≡ self.old.held }
+        ensures held { (self.new.assumed ≡ self.old.assumed) × (self.new.held ≡ self.old.held) }
         ensures none { IsNone result → NoneOpen self.old.decisions.items store.now }
         ensures some { IfSome result (λ t. IsFirstOpen self.old.decisions.items store.now t
-            × (self.old.held ≡ store.now.level)) }
+            × (begun self.old ≡ store.now.level)) }
         ensures under_way { IsUnderWay self.new store.now }
         ensures sound { IsSound store.now }
     {
         // Reading the entries gives the proof the store's invariant.
         let _ = store.entries();
-        if self.held < store.level() {
+        if self.assumed.max(self.held) < store.level() {
             self.place = self.decisions.len();
             return None;
         }
@@ -191,5 +196,22 @@ impl Progress {
         ensures { IsTrue result ↔ EndsAt self.now back }
     {
         self.learnt + 1 == LENGTH || back < self.held
+    }
+
+    /// Keeps what is left where the search went back to a level.
+    pub fn go_back(&mut self, level: usize)
+        ensures assumed { self.new.assumed ≡ min self.old.assumed level }
+        ensures held { self.new.held ≡ held_to self.old level }
+        ensures place { self.new.place ≡ 0 }
+        ensures decisions { self.new.decisions.items ≡ self.old.decisions.items }
+        ensures learnt { self.new.learnt ≡ self.old.learnt }
+    {
+        self.held = if level <= self.assumed {
+            0
+        } else {
+            self.held.min(level)
+        };
+        self.assumed = self.assumed.min(level);
+        self.place = 0;
     }
 }

@@ -1,8 +1,8 @@
 -- What workers came to, with the bounds that they left, is a good outcome.
 use Rattle.std.specs.Prelude.{Option, Some, None, IfSome, All, int_lt, if◌then◌else◌, Bool, true, false, ℤ}
-use Rattle.std.proofs.Common.{◌≡◌, ◌≢◌, ℕ, List, [], ◌∷◌, arith, refl, sym, ap, subst, ◌∙◌}
+use Rattle.std.proofs.Common.{◌≡◌, ◌≢◌, ℕ, List, [], ◌∷◌, inl, inr, ◌⊎◌, arith, refl, sym, ap, subst, ◌∙◌}
 use Rattle.std.proofs.lemmas.Int.{ints}
-use Rattle.std.proofs.lemmas.List.Elements.{All-nil, All-cons, All-push, All-weaker}
+use Rattle.std.proofs.lemmas.List.Elements.{All-nil, All-cons, All-head, All-push, All-tail, All-weaker}
 use Rattle.cps_model.specs.declared.model.CpModel.{CpModel}
 use Rattle.cps_model.specs.declared.bound.Bound.{Bound}
 use Rattle.cps_model.specs.declared.bound.Bound.TheVariants.{At, Infinite}
@@ -19,13 +19,15 @@ use Rattle.cps_search.specs.declared.end.End.{End}
 use Rattle.cps_search.specs.declared.end.End.TheVariants as ends
 use Rattle.cps_search.specs.declared.end.WorkerKind.{WorkerKind}
 use Rattle.cps_search.specs.declared.end.WorkerKind.TheVariants as kinds
+use Rattle.cps_model.specs.declared.status.Status.TheVariants.{Feasible, Infeasible, Optimal}
+use Rattle.cps_search.specs.Assumptions.{IsSufficient}
 use Rattle.cps_search.specs.Searches.{IsItemAbove}
-use Rattle.cps_search.specs.Ends.{Ending, IsComplete, IsHonestEnding, IsWhy}
+use Rattle.cps_search.specs.Ends.{Ending, HasCore, IsComplete, IsHonestEnding, IsWhy}
 use Rattle.cps_search.specs.Following.{best_bound}
 use Rattle.cps_search.proofs.Bounds.{greater-second}
 use Rattle.cps_options.specs.declared.options.Options.{Options}
 use Rattle.cps_portfolio.specs.declared.outcome.Outcome.{Outcome}
-use Rattle.cps_portfolio.specs.Outcomes.{IsGoodOutcome, GoesByModel, DidItsPart, DidItsPartAs, SpentItsBudget, EndedWithin, CameTo, better, best_of, greatest_raised}
+use Rattle.cps_portfolio.specs.Outcomes.{IsGoodOutcome, GoesByModel, DidItsPart, DidItsPartAs, SpentItsBudget, EndedWithin, CameTo, better, best_of, core_if, core_of, greatest_raised}
 
 -- ---- bounds that meet
 
@@ -122,14 +124,54 @@ spent_apart m gap conflicts upper lower e h raised apart = go e.end refl w.why
       above = above;
     })
 
+-- ---- the core
+
+-- what holds of a worker's core where it is the one that counts
+core_by : (P : List ℤ → Type 0) (end : End) (raised : Option Bound) (core other : List ℤ) → ((end ≡ ends.Exhausted) × (raised ≡ Some Infinite) → P core) → (((end ≡ ends.Exhausted) × (raised ≡ Some Infinite) → ⊥) → P other) → P (core_if end raised core other)
+core_by P ends.Exhausted (Some Infinite) core other yes no = yes (refl, refl)
+core_by P ends.Exhausted (Some (At v)) core other yes no = no (λ h. absurd (let bad : Some (At v) ≡ Some Infinite = h.1 in cc))
+core_by P ends.Exhausted None core other yes no = no (λ h. absurd (let bad : None ≡ Some Infinite = h.1 in cc))
+core_by P ends.SawClosed raised core other yes no = no (λ h. absurd (let bad : ends.SawClosed ≡ ends.Exhausted = h.0 in cc))
+core_by P (ends.Spent clause below) raised core other yes no = no (λ h. absurd (let bad : ends.Spent clause below ≡ ends.Exhausted = h.0 in cc))
+core_by P ends.RoundsDone raised core other yes no = no (λ h. absurd (let bad : ends.RoundsDone ≡ ends.Exhausted = h.0 in cc))
+
+infinite_or_less : (raised : Option Bound) (rest : Bound) → raised_above raised rest ≡ Infinite → (raised ≡ Some Infinite) ⊎ (rest ≡ Infinite)
+infinite_or_less None rest e = inr e
+infinite_or_less (Some Infinite) rest e = inl refl
+infinite_or_less (Some (At v)) Infinite e = inr refl
+infinite_or_less (Some (At v)) (At w) e = absurd (greater_finite v w e)
+  where
+    greater_finite : (v w : ℤ) → raised_above (Some (At v)) (At w) ≡ Infinite → ⊥
+    greater_finite v w e = cc
+
+-- where a worker raised the lower bound to `Infinite`, the core that counts is sufficient
+core_sufficient : (m : CpModel) (start : ℤ) (es : List Ending) → All (HasCore m) es → greatest_raised (At start) es ≡ Infinite → IsSufficient m (core_of es)
+core_sufficient m start [] h e = absurd (let bad : At start ≡ Infinite = e in cc)
+core_sufficient m start (e ∷ es) h top =
+    let here = All-head (HasCore m) e es h in
+    let rest = All-tail (HasCore m) e es h in
+    core_by (IsSufficient m) e.end e.raised e.core (core_of es) (λ nothing. here.sufficient nothing) (λ some. elim (infinite_or_less e.raised (greatest_raised (At start) es) top) [
+      | inl this ↦ absurd (some (here.only_there this, this))
+      | inr later ↦ core_sufficient m start es rest later
+    ])
+
+infeasible_top : (upper lower : Bound) (gap : ℕ) → status_of upper lower gap ≡ Infeasible → lower ≡ Infinite
+infeasible_top Infinite Infinite gap e = refl
+infeasible_top Infinite (At v) gap e = absurd (let bad : status_of Infinite (At v) gap ≡ Infeasible = e in cc)
+infeasible_top (At u) lower gap e = absurd (not_infeasible (is_closed lower (At u) gap) e)
+  where
+    not_infeasible : (met : Bool) → (if met then Optimal else Feasible) ≡ Infeasible → ⊥
+    not_infeasible true e = cc
+    not_infeasible false e = cc
+
 -- ---- the outcome
 
 pub all_found : (m : CpModel) (gap conflicts workers : ℕ) (upper lower : Bound) (es : List Ending) → CameTo m gap conflicts workers upper lower es → All (λ (e : Ending). IfSome e.best (IsSolution m)) es
 all_found m gap conflicts workers upper lower es h = All-weaker (EndedWithin m gap conflicts upper lower) (λ (e : Ending). IfSome e.best (IsSolution m)) (λ e k. k.ended.best) es h.each
 
-pub good_outcome : (m : CpModel) (options : Options) (o : Outcome) → CameTo m options.gap options.conflicts options.workers o.upper o.lower o.ends → o.status ≡ status_of o.upper o.lower options.gap → o.solution ≡ best_of m o.ends
+pub good_outcome : (m : CpModel) (options : Options) (o : Outcome) → CameTo m options.gap options.conflicts options.workers o.upper o.lower o.ends → o.status ≡ status_of o.upper o.lower options.gap → o.solution ≡ best_of m o.ends → o.core ≡ core_of o.ends
     → IsGoodOutcome m options o
-good_outcome m options o h status solution = record {
+good_outcome m options o h status solution core = record {
   workers = h.kinds;
   sums = All-weaker (EndedWithin m options.gap options.conflicts o.upper o.lower) (λ (e : Ending). e.defs ≡ model_sums m) (λ e k. k.sums) o.ends h.each;
   branchers = All-weaker (EndedWithin m options.gap options.conflicts o.upper o.lower) (GoesByModel m options.gap options.conflicts) (λ e k. k.goes) o.ends h.each;
@@ -139,6 +181,10 @@ good_outcome m options o h status solution = record {
   upper = h.upper_is ∙ ap (best_bound m) (sym solution);
   lower = h.lower_is;
   floor = floor_of m o.lower h.floor;
+  core = core;
+  sufficient = λ infeasible. subst (IsSufficient m) (sym core)
+      (core_sufficient m (objective_start m) o.ends (All-weaker (EndedWithin m options.gap options.conflicts o.upper o.lower) (HasCore m) (λ e k. k.ended.core) o.ends h.each)
+      (sym h.lower_is ∙ infeasible_top o.upper o.lower options.gap (sym status ∙ infeasible)));
   spent = λ apart i d l.
       let raised = subst (λ (b : Bound). All (RaisedBelow b) o.ends) (sym h.lower_is) (raised_in (At (objective_start m)) o.ends) in
       spent_apart m options.gap options.conflicts o.upper o.lower _ (h.each i d l) (raised i d l) apart;

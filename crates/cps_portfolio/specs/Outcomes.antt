@@ -4,7 +4,7 @@ use Rattle.std.specs.List.{range_with_len}
 use Rattle.rand_pcg.specs.Lcg.{Lcg}
 use Rattle.cps_model.specs.declared.model.CpModel.{CpModel}
 use Rattle.cps_model.specs.declared.bound.Bound.{Bound}
-use Rattle.cps_model.specs.declared.bound.Bound.TheVariants.{At}
+use Rattle.cps_model.specs.declared.bound.Bound.TheVariants.{At, Infinite}
 use Rattle.cps_model.specs.Solutions.{objective_value, IsSolution}
 use Rattle.cps_model.specs.Start.{objective_start}
 use Rattle.cps_model.specs.Statuses.{is_closed, status_of, IsAtMost}
@@ -18,7 +18,10 @@ use Rattle.cps_port.specs.Incumbents.{IsLowerBound}
 use Rattle.cps_clauses.specs.declared.journal.JournalItem.TheVariants.{Learnt}
 use Rattle.cps_search.specs.declared.end.WorkerKind.{WorkerKind}
 use Rattle.cps_search.specs.declared.end.WorkerKind.TheVariants as kinds
-use Rattle.cps_search.specs.declared.end.End.TheVariants.{Spent, RoundsDone}
+use Rattle.cps_search.specs.declared.end.End.{End}
+use Rattle.cps_search.specs.declared.end.End.TheVariants.{Exhausted, SawClosed, Spent, RoundsDone}
+use Rattle.cps_model.specs.declared.status.Status.TheVariants.{Infeasible}
+use Rattle.cps_search.specs.Assumptions.{IsSufficient}
 use Rattle.cps_search.specs.Searches.{IsHonestJournal, IsItemAbove, learnt_count}
 use Rattle.cps_search.specs.Ends.{Ending, IsHonestEnding, ending, round_count}
 use Rattle.cps_search.specs.Following.{best_bound}
@@ -47,6 +50,20 @@ best_of m (e ∷ es) = better m e.best (best_of m es)
 abbrev pub greatest_raised : Bound → List Ending → Bound
 greatest_raised start [] = start
 greatest_raised start (e ∷ es) = raised_above e.raised (greatest_raised start es)
+
+-- one core of a worker that left no solution at all, else the other
+abbrev pub core_if : End → Option Bound → List ℤ → List ℤ → List ℤ
+core_if Exhausted (Some Infinite) core other = core
+core_if Exhausted (Some (At value)) core other = other
+core_if Exhausted None core other = other
+core_if SawClosed raised core other = other
+core_if (Spent clause below) raised core other = other
+core_if RoundsDone raised core other = other
+
+-- the core of the first worker that left no solution at all; none where no worker did
+abbrev pub core_of : List Ending → List ℤ
+core_of [] = []
+core_of (e ∷ es) = core_if e.end e.raised e.core (core_of es)
 
 -- A worker spent its budget of conflicts: it learnt from as many as it may, and ended with the clause that one more
 -- teaches. Its journal with this clause at the end is honest, and no clause of it is about what is better than the
@@ -130,6 +147,9 @@ pub record IsGoodOutcome (m : CpModel) (options : Options) (o : Outcome) : Type 
   -- solution is below
   pub lower : o.lower ≡ greatest_raised (At (objective_start m)) o.ends
   pub floor : (a : List ℤ) → IsSolution m a → IsAtMost o.lower (objective_value m a)
+  -- the core is that of the first worker that left no solution at all, and is sufficient where the model is infeasible
+  pub core : o.core ≡ core_of o.ends
+  pub sufficient : o.status ≡ Infeasible → IsSufficient m o.core
   -- where the bounds have not met, each worker of a complete kind spent its budget, and each neighbourhood worker did
   -- its rounds
   pub spent : is_closed o.lower o.upper options.gap ≡ false → All (DidItsPart m options.conflicts o.upper) o.ends

@@ -1,16 +1,16 @@
 //! The outcome of workers that ended, from the bounds that they left and the end of each.
-ghost use Rattle.std.specs.Prelude.{◌≡◌, All, IfOk, IfSome};
+ghost use Rattle.std.specs.Prelude.{◌≡◌, ℤ, List, All, IfOk, IfSome, IsTrue, false};
 ghost use Rattle.cps_model.specs.Statuses.{status_of};
 ghost use Rattle.cps_model.specs.Solutions.{IsSolution};
 ghost use Rattle.cps_search.specs.Following.{best_bound};
-ghost use Rattle.cps_portfolio.specs.Outcomes.{IsGoodOutcome, CameTo, best_of};
+ghost use Rattle.cps_portfolio.specs.Outcomes.{IsGoodOutcome, CameTo, best_of, core_if, core_of};
 
 use crate::outcome::{Outcome, Reached};
 use cps_eval::objective;
-use cps_model::{Bound, Ints, Listed, Status};
+use cps_model::{Bound, Ints, Listed, Refs, Status};
 use cps_options::Options;
 use cps_port::is_closed;
-use cps_search::Ended;
+use cps_search::{End, Ended};
 use cps_validate::ValidModel;
 use std::alloc::{AllocError, Global};
 
@@ -47,6 +47,31 @@ fn solution_of(
     Ok(None)
 }
 
+/// Whether a worker left no solution at all.
+fn leaves_nothing(ended: &Ended) -> bool
+    ensures yes { IsTrue result → (other : List ℤ)
+        → core_if ended.now.end ended.now.raised ended.now.core other ≡ ended.now.core }
+    ensures no { result ≡ false → (other : List ℤ)
+        → core_if ended.now.end ended.now.raised ended.now.core other ≡ other }
+{
+    match (ended.end(), ended.raised()) {
+        (End::Exhausted, Some(Bound::Infinite)) => true,
+        _ => false,
+    }
+}
+
+/// The core of the first worker that left no solution at all.
+fn core_of(alloc: Global, ends: &[Ended]) -> Result<Refs, AllocError>
+    ensures { IfOk result (λ core. core ≡ core_of ends.now) }
+{
+    for ended in ends {
+        if leaves_nothing(ended) {
+            return Ok(Refs::from_vec(Vec::from_slice(alloc, ended.core())?));
+        }
+    }
+    Ok(Refs::new(alloc))
+}
+
 /// The outcome of workers that ended.
 pub fn outcome_of(
     alloc: Global,
@@ -60,11 +85,13 @@ pub fn outcome_of(
 {
     let Reached { upper, lower, ends } = reached;
     let solution = solution_of(alloc, model, upper, ends.as_slice())?;
+    let core = core_of(alloc, ends.as_slice())?;
     Ok(Outcome {
         status: status_of(upper, lower, options.gap),
         solution,
         upper,
         lower,
+        core,
         ends: Listed::from_vec(ends),
     })
 }

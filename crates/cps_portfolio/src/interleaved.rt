@@ -11,7 +11,6 @@ ghost use Rattle.cps_port.specs.Cores.{actor_count, board_part, part_at, after};
 ghost use Rattle.cps_port.specs.Others.{ActsAlone};
 ghost use Rattle.cps_port.specs.Sound.{IsSoundCore};
 ghost use Rattle.cps_kinds.specs.Kinds.{AreAllPropagated};
-ghost use Rattle.cps_search.specs.Searches.{HasNoAssumptions};
 ghost use Rattle.cps_search.specs.Ends.{IsOver};
 ghost use Rattle.cps_portfolio.specs.Workers.{known_of, worker_search, kind_of, HasTurned};
 ghost use Rattle.cps_portfolio.specs.Outcomes.{IsGoodOutcome};
@@ -50,7 +49,6 @@ fn crew_of<'a>(
     options: &Options,
 ) -> Result<Vec<Turning<'a>>, AllocError>
     requires range { AreInRange options.now }
-    requires assumptions { HasNoAssumptions model.now }
     requires kinds { AreAllPropagated model.now }
     ensures count { IfOk result (λ crew. vec_len crew ≡ options.now.workers) }
     ensures each { IfOk result (λ crew. AreFresh model.entry.now options.now.gap options.now.conflicts options.now.seed crew.items) }
@@ -208,7 +206,6 @@ pub fn solve_interleaved(
     options: &Options,
 ) -> Result<Outcome, AllocError>
     requires range { AreInRange options.now }
-    requires assumptions { HasNoAssumptions model.now }
     requires kinds { AreAllPropagated model.now }
     ensures good { IfOk result (IsGoodOutcome model.now options.now) }
     ensures drawn { IfOk result (λ o. IsDrawnRun model.now options.now 4096 o.ends) }

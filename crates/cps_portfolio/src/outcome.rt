@@ -1,5 +1,5 @@
 //! What a search came to.
-use cps_model::{Bound, Ints, Listed, Status};
+use cps_model::{Bound, Ints, Listed, Refs, Status};
 use cps_search::Ended;
 
 /// What the workers found, with the bounds that they reached on the objective.
@@ -12,6 +12,9 @@ pub struct Outcome {
     pub upper: Bound,
     /// At most the objective of each solution, infinite where there is none.
     pub lower: Bound,
+    /// Assumptions that are sufficient for infeasibility, if they are what makes the model infeasible: those of the
+    /// first worker that left no solution at all.
+    pub core: Refs,
     /// How each worker ended, by number.
     pub ends: Listed<Ended>,
 }

@@ -11,7 +11,6 @@ ghost use Rattle.cps_bounds.specs.Seats as words;
 ghost use Rattle.cps_bounds.specs.Rule.{all_splits};
 ghost use Rattle.cps_options.specs.Ranges.{AreInRange};
 ghost use Rattle.cps_kinds.specs.Kinds.{AreAllPropagated};
-ghost use Rattle.cps_search.specs.Searches.{HasNoAssumptions};
 ghost use Rattle.cps_portfolio.specs.Outcomes.{IsGoodOutcome};
 ghost use Rattle.cps_portfolio.specs.Crews.{words_splits, IsSeated, IsCrew, AreBack, AreGathered};
 
@@ -44,7 +43,6 @@ fn seat_one<'a>(
     kept: &mut TablePort<'a>,
 ) -> Result<Seated<'a>, AllocError>
     requires range { AreInRange options.now }
-    requires assumptions { HasNoAssumptions model.now }
     requires kinds { AreAllPropagated model.now }
     requires room { (2 ≤ boards.splits_of kept.old.board_seat) × (2 ≤ words.splits_of kept.old.bounds_seat) }
     ensures tables { OnOk result ((kept.new.board.now ≡ kept.old.board.now)
@@ -75,7 +73,6 @@ fn seat_all<'a>(
     kept: &mut TablePort<'a>,
 ) -> Result<Vec<Seated<'a>>, AllocError>
     requires range { AreInRange options.now }
-    requires assumptions { HasNoAssumptions model.now }
     requires kinds { AreAllPropagated model.now }
     requires whole { (boards.splits_of kept.old.board_seat ≡ all_splits)
         × (words.splits_of kept.old.bounds_seat ≡ all_splits) }
@@ -147,7 +144,6 @@ pub fn solve<R: Threads + Wait + Sync, G: Gate + Sync>(
     gate: &G,
 ) -> Result<Outcome, AllocError>
     requires range { AreInRange options.now }
-    requires assumptions { HasNoAssumptions model.now }
     requires kinds { AreAllPropagated model.now }
     ensures { IfOk result (IsGoodOutcome model.now options.now) }
 {

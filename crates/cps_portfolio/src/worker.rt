@@ -8,7 +8,7 @@ ghost use Rattle.cps_model.specs.Solutions.{IsSolution};
 ghost use Rattle.cps_branch.specs.Guidances.{AreHintsOf, IsPlanOf};
 ghost use Rattle.cps_kinds.specs.Kinds.{AreAllPropagated};
 ghost use Rattle.cps_options.specs.Ranges.{AreInRange};
-ghost use Rattle.cps_search.specs.Searches.{HasNoAssumptions, IsSoundSearch};
+ghost use Rattle.cps_search.specs.Searches.{IsSoundSearch};
 ghost use Rattle.cps_search.specs.Ends.{IsOver, end_of};
 ghost use Rattle.cps_neighbourhood.specs.Drawing.{draws_of};
 ghost use Rattle.cps_portfolio.specs.Workers.{known_of, worker_search, kind_of, worker_kind, ending_in, Begins, BeginsAs, BeginsRounds, DrawsBy, HasEnded, HasTurned, IsAimed, TurnedBy, TurnedNear};
@@ -52,7 +52,6 @@ fn fixed_worker<'a>(
     gap: u64,
 ) -> Result<Worker<'a, AnyPropagator, FixedBrancher>, AllocError>
     requires budget { conflicts ≤ 10 ^ 9 }
-    requires assumptions { HasNoAssumptions model.now }
     requires kinds { AreAllPropagated model.now }
     ensures begins { IfOk result (λ worker. Begins model.entry.now gap conflicts worker.0) }
     ensures plan { IfOk result (λ worker. IsPlanOf worker.0.instance worker.1.plan) }
@@ -70,7 +69,6 @@ fn activity_worker<'a>(
     gap: u64,
 ) -> Result<Worker<'a, AnyPropagator, ActivityBrancher>, AllocError>
     requires budget { conflicts ≤ 10 ^ 9 }
-    requires assumptions { HasNoAssumptions model.now }
     requires kinds { AreAllPropagated model.now }
     ensures begins { IfOk result (λ worker. Begins model.entry.now gap conflicts worker.0) }
     ensures hints { IfOk result (λ worker. AreHintsOf worker.0.instance worker.1.hints) }
@@ -88,7 +86,6 @@ fn near_worker<'a>(
     number: u32,
 ) -> Result<NearSeeker<'a>, AllocError>
     requires range { AreInRange options.now }
-    requires assumptions { HasNoAssumptions model.now }
     requires kinds { AreAllPropagated model.now }
     ensures begins { IfOk result (λ near. BeginsRounds model.entry.now options.now.gap options.now.conflicts near.worker) }
     ensures draws { IfOk result (λ near. near.worker.draws ≡ draws_of options.now.seed (16 + number)) }
@@ -199,7 +196,6 @@ impl<'a> AnyWorker<'a> {
         number: u32,
     ) -> Result<AnyWorker<'a>, AllocError>
         requires range { AreInRange options.now }
-        requires assumptions { HasNoAssumptions model.now }
         requires kinds { AreAllPropagated model.now }
         ensures begins { IfOk result (λ worker. BeginsAs model.entry.now options.now.gap options.now.conflicts
             (known_of worker)) }

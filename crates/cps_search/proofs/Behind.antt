@@ -9,17 +9,16 @@ use Rattle.cps_trail.specs.Trail.{Entry, IsSound, EndsAt, IsFalseAfter, up_to}
 use Rattle.cps_trail.proofs.Falls.{bool_cases}
 use Rattle.cps_trail.proofs.Marks.{up_to-all}
 use Rattle.cps_port.specs.Order.{IsBelow}
+use Rattle.cps_conflict.specs.Conflicts.{AreTrueReasons}
 use Rattle.cps_conflict.specs.Drafts.{IsBacked}
 use Rattle.cps_conflict.specs.Leading.{AreBehind, IsFetched}
 use Rattle.cps_conflict.proofs.Bottom.{false_at_bottom}
-use Rattle.cps_search.specs.Giving.{ByAll, IsReasonOfOne}
-use Rattle.cps_search.specs.Forcing.{forced_by_all}
-use Rattle.cps_search.specs.Resting.{AllHold}
+use Rattle.cps_search.specs.Giving.{IsReasonOfOne}
 use Rattle.cps_search.specs.Searches.{Search, IsSoundSearch}
 use Rattle.cps_search.specs.Growing.{AreBehindIn, IsFalseBelow}
-use Rattle.cps_search.proofs.Giving.{AreGiven-fit, has_note}
 use Rattle.cps_search.proofs.Holding.{free_within, reasons_below}
-use Rattle.cps_search.proofs.Keeping.{all_below, reasons_of}
+use Rattle.cps_search.proofs.Keeping.{reasons_of}
+use Rattle.cps_search.proofs.Reasons.{notes_there, reasons_there}
 
 -- the reasons of a search hold at each free assignment below z
 module _ (s : Search) (h : IsSoundSearch s) (a : List ℤ) (free : IsFree s.instance.model a) (below : IsBelow (objective_value s.instance.model a) s.z) where
@@ -27,15 +26,14 @@ module _ (s : Search) (h : IsSoundSearch s) (a : List ℤ) (free : IsFree s.inst
   backed = record {
     within = free_within s.instance s.store.first a h.instance h.domains free;
     reasons = reasons_below s.instance s.z s.store.entries a (reasons_of s h) free below;
-    notes = λ k d n l e left.
-        ((forced_by_all s.tasks s.base.clauses s.store k (has_note s.store k d n l e) (AreGiven-fit (ByAll s.tasks s.base.clauses) s.store h.given k l (has_note s.store k d n l e))).at d).at (extended s.instance.defs a) left (all_below s h a free below);
+    notes = notes_there s h a free below;
   }
 
 -- so the decisions behind an atom are enough there
-pub behind_in : (s : Search) (t : Atom) (decisions : List Atom) → IsSoundSearch s → AreBehind (IsFetched (IsReasonOfOne s.tasks s.base.clauses s.store) s.store) (AllHold s.tasks s.base.clauses) s.store t decisions → AreBehindIn s t decisions
+pub behind_in : (s : Search) (t : Atom) (decisions : List Atom) → IsSoundSearch s → AreBehind (IsFetched (IsReasonOfOne s.tasks s.base.clauses s.store) s.store) (AreTrueReasons (IsReasonOfOne s.tasks s.base.clauses s.store) s.store) s.store t decisions → AreBehindIn s t decisions
 behind_in s t decisions h behind = record {
-  each = behind.each;
-  enough = λ a free below on. behind.enough (extended s.instance.defs a) (all_below s h a free below) (backed s h a free below) on;
+  led = behind;
+  enough = λ a free below on. behind.enough (extended s.instance.defs a) (reasons_there s h a free below) (backed s h a free below) on;
 }
 
 -- and what is false at level 0 is false there

@@ -27,7 +27,7 @@ given_false tasks clauses s c h = elim h [
   | inr k ↦ (k.false_now, k.subjects)
 ]
 
-pub in_conflict : (s : Search) (conflict : List Atom) → IsSoundSearch s → IsSound s.store → IsGivenConflict s.tasks (in_force_on s.base) s.store conflict → Any (NotFalseAtBottom s.store) conflict → IsInConflict s
+abbrev pub in_conflict : (s : Search) (conflict : List Atom) → IsSoundSearch s → IsSound s.store → IsGivenConflict s.tasks (in_force_on s.base) s.store conflict → Any (NotFalseAtBottom s.store) conflict → IsInConflict s
 in_conflict s conflict h sound by_one bottom = record {
   sound = sound;
   given = h.given;

@@ -23,7 +23,7 @@ use Rattle.cps_instance.proofs.Extending.{length-extended, extended-push, agree-
 use Rattle.cps_instance.proofs.Growing.{same-append}
 use Rattle.cps_instance.proofs.Intervals.{least_among}
 use Rattle.cps_trail.specs.declared.note.Note.TheVariants as notes
-use Rattle.cps_trail.specs.Trail.{Trail, Entry, Reason, Decision, Because, Later, Explains, IsAdmitted, IsFalseAfter, IsTrueAfter, first_of, up_to}
+use Rattle.cps_trail.specs.Trail.{Trail, Entry, Reason, Decision, Because, Later, Explains, IsAdmitted, IsFalseAfter, IsSound, IsTrueAfter, first_of, up_to}
 use Rattle.cps_trail.proofs.Undoing.{admits-add}
 use Rattle.cps_port.specs.Order.{BoundLe, IsBelow}
 use Rattle.cps_port.specs.Incumbents.{IsIncumbent, IsLowerBound}
@@ -37,8 +37,9 @@ use Rattle.cps_clauses.proofs.Quieting.{IsQuiet-new_subject}
 use Rattle.cps_clauses.proofs.Dropping.{all_held, at_held}
 use Rattle.cps_search.specs.Shelves.{base_with, in_force_on}
 use Rattle.cps_search.specs.Giving.{ByAll, OrDecided, AreGiven}
-use Rattle.cps_search.specs.Searches.{Search, HasNoAssumptions, HoldsOver, IsFalsifiable, IsFound, IsHonestJournal, IsSatisfiable, IsSoundSearch, IsWorthy, below_bound}
+use Rattle.cps_search.specs.Searches.{Search, HoldsOver, IsFalsifiable, IsFound, IsHonestJournal, IsSatisfiable, IsSoundSearch, IsWorthy, below_bound}
 use Rattle.cps_search.specs.Growing.{GrewBy, grown}
+use Rattle.cps_search.proofs.Assuming.{first-bottom}
 use Rattle.cps_search.proofs.Completing.{fits_below}
 use Rattle.cps_search.proofs.Numbering.{few_tasks}
 
@@ -202,7 +203,7 @@ module _ (p q : Problem) (sum : DefinedSum) (subject : ℕ) (d : Defines p q sum
   honest_new journal h = record { news = AreHonest-weaker (IsWorthy p) (IsWorthy q) worthy_new [] journal h.news; drops = h.drops }
 
 -- a search that gained a sum at level 0 is sound
-module _ (s : Search) (q : Problem) (sum : DefinedSum) (subject : ℕ) (d : Defines s.instance q sum subject) (j : IsInstance q) (h : IsSoundSearch s) (bottom : s.store.level ≡ 0) where
+module _ (s : Search) (q : Problem) (sum : DefinedSum) (subject : ℕ) (d : Defines s.instance q sum subject) (j : IsInstance q) (h : IsSoundSearch s) (sound : IsSound s.store) (bottom : s.store.level ≡ 0) where
   trail_new : Trail
   trail_new = record s.store { first = q.domains }
 
@@ -238,7 +239,7 @@ module _ (s : Search) (q : Problem) (sum : DefinedSum) (subject : ℕ) (d : Defi
   sound_grown : IsSoundSearch (grown s q (sum_task subject sum))
   sound_grown = record {
     instance = j;
-    no_assumptions = subst HasNoAssumptions (sym d.model) h.no_assumptions;
+    first = first-bottom q.model.assumptions s.store q.domains sound bottom;
     incumbent = subst (λ (m : CpModel). IsIncumbent m s.z) (sym d.model) h.incumbent;
     domains = refl;
     tasks = tasks_new;
@@ -264,8 +265,8 @@ module _ (s : Search) (q : Problem) (sum : DefinedSum) (subject : ℕ) (d : Defi
     said = tt;
   }
 
-pub sound_grew : (s t : Search) (sum : DefinedSum) (subject : ℕ) → GrewBy s t sum subject → IsInstance t.instance → IsSoundSearch s → s.store.level ≡ 0 → IsSoundSearch t
-sound_grew s t sum subject h j sound bottom = subst IsSoundSearch (sym h.is) (sound_grown s t.instance sum subject h.defines j sound bottom)
+pub sound_grew : (s t : Search) (sum : DefinedSum) (subject : ℕ) → GrewBy s t sum subject → IsInstance t.instance → IsSoundSearch s → IsSound s.store → s.store.level ≡ 0 → IsSoundSearch t
+sound_grew s t sum subject h j is sound bottom = subst IsSoundSearch (sym h.is) (sound_grown s t.instance sum subject h.defines j is sound bottom)
 
 -- the fields of a search after the sum was defined in its instance, its store and its tasks
 pub grown_is : (s : Search) (q : Problem) (sum : DefinedSum) (subject : ℕ) (domain : Intervals) (trail : Trail) (tasks : List Task) → Defines s.instance q sum subject → IsSoundSearch s → domain ≡ domain_at q.domains subject → trail ≡ record s.store { first = s.store.first ++ domain ∷ [] }

@@ -1,6 +1,6 @@
 -- Runs of a worker go by its brancher's guidance.
 use Rattle.std.specs.Prelude.{Bool}
-use Rattle.std.proofs.Common.{ℕ, ◌≡◌, Option, Some, List, ap, subst}
+use Rattle.std.proofs.Common.{ℕ, ◌≡◌, inl, inr, Option, Some, List, ap, subst}
 use Rattle.cps_literal.specs.declared.atom.Atom.{Atom}
 use Rattle.cps_trail.specs.Trail.{Trail}
 use Rattle.cps_port.specs.declared.part.Part.{Part}
@@ -9,14 +9,17 @@ use Rattle.cps_branch.specs.declared.guidance.Guidance.{Guidance}
 use Rattle.cps_search.specs.declared.turn.Turn.{Turn}
 use Rattle.cps_search.specs.declared.turn.Turn.TheVariants as turns
 use Rattle.cps_search.specs.Searches.{Search}
-use Rattle.cps_search.specs.Ends.{BrancherTurn, HeardOne, OneTurn, RunsInTurns, TakesTurn, TakesTurns, TurnCaused, none_yet, one_more}
+use Rattle.cps_search.specs.Ends.{BrancherTurn, HeardOne, IsNext, OneTurn, RunsInTurns, TakesTurn, TakesTurns, TurnCaused, none_yet, one_more}
 use Rattle.cps_search.specs.Guided.{RunsBy}
 use Rattle.cps_branch.specs.Guidances.{ChoosesBy}
 
 -- a choice by one rule is one by another that it implies
+next_by : (P Q : Trail → Option Atom → Type 0) → ((s : Trail) (choice : Option Atom) → P s choice → Q s choice) → (s : Search) (t : Atom) → IsNext P s t → IsNext Q s t
+next_by P Q w s t h = elim h [ inl assumed ↦ inl assumed | inr chosen ↦ inr (chosen.0, w s.store (Some t) chosen.1) ]
+
 caused_by : (P Q : Trail → Option Atom → Type 0) → ((s : Trail) (choice : Option Atom) → P s choice → Q s choice) → (s t : Search) (rows : ℕ) (p q : Part) (turn : Turn) → TurnCaused P s t rows p q turn → TurnCaused Q s t rows p q turn
 caused_by P Q w s t rows p q turns.Imported h = h
-caused_by P Q w s t rows p q turns.Decided h = record { midway = h.midway; due = h.due; atom = h.atom; undecided = h.undecided; chosen = w h.midway.store (Some h.atom) h.chosen; is = h.is }
+caused_by P Q w s t rows p q turns.Decided h = record { midway = h.midway; due = h.due; atom = h.atom; undecided = h.undecided; next = next_by P Q w h.midway h.atom h.next; is = h.is }
 caused_by P Q w s t rows p q turns.Learnt h = h
 caused_by P Q w s t rows p q turns.Found h = h
 caused_by P Q w s t rows p q turns.Exhausted h = h
@@ -67,7 +70,7 @@ module _ {B : Type 0} (guidance : B → Guidance) (chooses : B → Trail → Opt
     search = takes_by (chooses s.1) (ChoosesBy (guidance s.1)) (goes_by s.1) s.0 t.0 rows p q turn h.search;
     brancher = brancher_by turn _ _ _ _ _ _
         (heard_by (λ clause restart. hears s.1 clause restart t.1) (λ clause restart. guidance t.1 ≡ guidance s.1) (λ clause restart. hears_guided s.1 t.1 clause restart) s.0 t.0)
-        (stays_guided s.1 t.1) (λ same. ap guidance same) h.brancher;
+        (λ decided. elim decided [ inl stays ↦ inl (stays_guided s.1 t.1 stays) | inr same ↦ inr (ap guidance same) ]) (λ same. ap guidance same) h.brancher;
   }
 
   turns_by : (s : Search × B) (p : Part) (t : Search × B) (q : Part) → TakesTurns chooses hears stays rows s p t q → TakesTurns ChoosesBy Heard Stays rows (seen s) p (seen t) q

@@ -10,7 +10,8 @@ use Rattle.cps_instance.specs.Problem.{Problem, Defines, sum_task}
 use Rattle.cps_instance.specs.Sums.{DefinedSum, extended}
 use Rattle.cps_trail.specs.Trail.{IsFalseNow}
 use Rattle.cps_port.specs.Order.{IsBelow}
-use Rattle.cps_conflict.specs.Leading.{IsDecisionBehind, IsFetched}
+use Rattle.cps_conflict.specs.Conflicts.{AreTrueReasons}
+use Rattle.cps_conflict.specs.Leading.{AreBehind, IsFetched}
 use Rattle.cps_search.specs.declared.end.Said.TheVariants.{Nothing}
 use Rattle.cps_search.specs.Giving.{IsReasonOfOne}
 use Rattle.cps_search.specs.Searches.{Search}
@@ -32,11 +33,11 @@ pub record GrewBy (s t : Search) (sum : DefinedSum) (subject : ℕ) : Type 0 whe
   pub is : t ≡ grown s t.instance (sum_task subject sum)
 
 -- The decisions behind an atom that is false in a search's store: reasons lead to each of them, each of which one task
--- or one clause in force gives by itself; and at each free assignment below z at which all of them are true, the atom
--- is false.
+-- or one clause in force gives by itself; the atom is false wherever these reasons hold and the decisions are true, and
+-- so at each free assignment below z at which all of them are.
 pub record AreBehindIn (s : Search) (t : Atom) (decisions : List Atom) : Type 0 where
-  pub each : All (IsDecisionBehind
-      (IsFetched (IsReasonOfOne s.tasks s.base.clauses s.store) s.store) s.store t) decisions
+  pub led : AreBehind (IsFetched (IsReasonOfOne s.tasks s.base.clauses s.store) s.store)
+      (AreTrueReasons (IsReasonOfOne s.tasks s.base.clauses s.store) s.store) s.store t decisions
   pub enough : (a : List ℤ) → IsFree s.instance.model a → IsBelow (objective_value s.instance.model a) s.z
       → All (λ u. atom_holds (extended s.instance.defs a) u ≡ true) decisions
       → atom_holds (extended s.instance.defs a) t ≡ false

@@ -30,10 +30,6 @@ Unsupported at 14: constraints { routes { } }
 Repeated at 26: constraints { bool_or { } bool_or: 0 }
 TwoKinds at 26: constraints { bool_or { } linear: 0 }
 TwoKinds at 30: constraints { at_most_one { } exactly_one { } }
-Unsupported at 0: assumptions: 0
-Unsupported at 29: variables { domain: [0, 1] } assumptions: [0, -1]
-Unsupported at 0: assumptions { }
-Unsupported at 9: name: \"\" assumptions: [ ]
 Repeated at 10: name: \"a\" name: \"b\"
 Repeated at 18: solution_hint { } solution_hint { }
 MixedForms at 28: search_strategy { exprs { } variables: 0 }
@@ -53,6 +49,7 @@ WrongKind at 6: name: x
 WrongKind at 20: constraints { name: 0 }
 WrongKind at 6: name: [\"a\"]
 WrongKind at 18: variables { name: \"a\" \"\\377\" }
+WrongKind at 12: assumptions { }
 ";
 
 const NUMBERS: &str = "\

@@ -1,7 +1,6 @@
 //! Three variables, no two of them equal.
 ghost use Rattle.std.specs.Prelude.{◌≡◌, All, IfOk, true};
 ghost use Rattle.cps_kinds.specs.Kinds.{is_propagated, AreAllPropagated};
-ghost use Rattle.cps_search.specs.Searches.{HasNoAssumptions};
 
 use cps_model::{Constraint, CpModel, Ints, Kind, Listed, Objective, Refs, Text, Variable};
 use cps_validate::{ValidModel, ValidateError, validate};
@@ -74,7 +73,6 @@ pub fn three(
     greatest: i64,
     objective: Option<Objective>,
 ) -> Result<ValidModel, ValidateError>
-    ensures assumptions { IfOk result HasNoAssumptions }
     ensures kinds { IfOk result AreAllPropagated }
 {
     let constraints = all_differ(alloc, greatest)?;

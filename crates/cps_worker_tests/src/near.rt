@@ -2,7 +2,6 @@
 ghost use Rattle.std.specs.Prelude.{◌≡◌, ◌≤◌, ◌^◌, IfOk};
 ghost use Rattle.cps_kinds.specs.Kinds.{AreAllPropagated};
 ghost use Rattle.cps_search.specs.Ends.{IsOver};
-ghost use Rattle.cps_search.specs.Searches.{HasNoAssumptions};
 
 use crate::models::{sum, three};
 use cps_instance::Instance;
@@ -21,7 +20,6 @@ fn near_worker_of<'a>(
     conflicts: u64,
 ) -> Result<NearWorker<'a, AnyPropagator>, AllocError>
     requires conflicts { conflicts ≤ 10 ^ 9 }
-    requires assumptions { HasNoAssumptions model.now }
     requires kinds { AreAllPropagated model.now }
     ensures model { IfOk result (λ worker. worker.search.instance.model ≡ model.entry.now) }
     ensures running { IfOk result (λ worker. IsOver worker.search.said → ⊥) }
@@ -40,7 +38,6 @@ fn rounds_over<Q: Port>(
     conflicts: u64,
 ) -> Result<u64, AllocError>
     requires conflicts { conflicts ≤ 10 ^ 9 }
-    requires assumptions { HasNoAssumptions model.now }
     requires kinds { AreAllPropagated model.now }
     requires model { Q.model port.old ≡ model.now }
 {
@@ -62,7 +59,6 @@ struct Explored {
 /// Such a worker alone over a state.
 fn alone(alloc: Global, model: &ValidModel, conflicts: u64) -> Result<Explored, AllocError>
     requires conflicts { conflicts ≤ 10 ^ 9 }
-    requires assumptions { HasNoAssumptions model.now }
     requires kinds { AreAllPropagated model.now }
 {
     let mut core = CoreState::new(alloc, model, 1, 4)?;

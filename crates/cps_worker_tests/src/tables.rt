@@ -3,7 +3,6 @@ ghost use Rattle.std.specs.Prelude.{◌≡◌, ◌≤◌, ◌^◌, length, false
 ghost use Rattle.cps_bounds.specs.Seats as words;
 ghost use Rattle.cps_search.specs.Ends.{IsOver};
 ghost use Rattle.cps_kinds.specs.Kinds.{AreAllPropagated};
-ghost use Rattle.cps_search.specs.Searches.{HasNoAssumptions};
 
 use crate::models::{sum, three};
 use crate::turns::{active_worker_of, name_of, ordered_worker_of};
@@ -71,7 +70,6 @@ fn search_about<'a>(
     first_port: &mut TablePort<'a>,
     second_port: &mut TablePort<'a>,
 ) -> Result<bool, AllocError>
-    requires assumptions { HasNoAssumptions model.now }
     requires kinds { AreAllPropagated model.now }
     requires first { words.model_of first_port.old.bounds.now ≡ model.now }
     requires second { words.model_of second_port.old.bounds.now ≡ model.now }
@@ -87,7 +85,6 @@ fn search_about<'a>(
 /// The bounds that two workers leave that came to their ends, where the board has one row; `None` if one of them did
 /// not.
 fn bounds_left(alloc: Global, model: &ValidModel) -> Result<Option<(Bound, Bound)>, AllocError>
-    requires assumptions { HasNoAssumptions model.now }
     requires kinds { AreAllPropagated model.now }
 {
     let (bounds, bounds_seat) = Bounds::new(alloc, model)?;

@@ -5,7 +5,6 @@
 ghost use Rattle.std.specs.Prelude.{◌≡◌, ◌≤◌, ◌^◌, length, false, None, IfOk};
 ghost use Rattle.cps_search.specs.Ends.{IsOver, end_of};
 ghost use Rattle.cps_kinds.specs.Kinds.{AreAllPropagated};
-ghost use Rattle.cps_search.specs.Searches.{HasNoAssumptions};
 ghost use Rattle.cps_portfolio.specs.Workers.{Begins};
 
 use crate::models::{sum, three};
@@ -25,7 +24,6 @@ pub fn ordered_worker_of<'a>(
     conflicts: u64,
 ) -> Result<Worker<'a, AnyPropagator, FixedBrancher>, AllocError>
     requires budget { conflicts ≤ 10 ^ 9 }
-    requires assumptions { HasNoAssumptions model.now }
     requires kinds { AreAllPropagated model.now }
     ensures { IfOk result (λ worker. Begins model.entry.now 0 conflicts worker.0) }
 {
@@ -42,7 +40,6 @@ pub fn active_worker_of<'a>(
     conflicts: u64,
 ) -> Result<Worker<'a, AnyPropagator, ActivityBrancher>, AllocError>
     requires budget { conflicts ≤ 10 ^ 9 }
-    requires assumptions { HasNoAssumptions model.now }
     requires kinds { AreAllPropagated model.now }
     ensures { IfOk result (λ worker. Begins model.entry.now 0 conflicts worker.0) }
 {
@@ -101,7 +98,6 @@ fn turns_in_order<Q: Port>(
     conflicts: u64,
 ) -> Result<String, AllocError>
     requires budget { conflicts ≤ 10 ^ 9 }
-    requires assumptions { HasNoAssumptions model.now }
     requires kinds { AreAllPropagated model.now }
     requires model { Q.model port.old ≡ model.now }
     ensures same { (Q.model port.new ≡ Q.model port.old) × (Q.rows port.new ≡ Q.rows port.old) }
@@ -121,7 +117,6 @@ fn turns_by_activity<Q: Port>(
     conflicts: u64,
 ) -> Result<String, AllocError>
     requires budget { conflicts ≤ 10 ^ 9 }
-    requires assumptions { HasNoAssumptions model.now }
     requires kinds { AreAllPropagated model.now }
     requires model { Q.model port.old ≡ model.now }
     ensures same { (Q.model port.new ≡ Q.model port.old) × (Q.rows port.new ≡ Q.rows port.old) }
@@ -150,7 +145,6 @@ fn one_after_the_other(
     conflicts: u64,
 ) -> Result<Left, AllocError>
     requires budget { conflicts ≤ 10 ^ 9 }
-    requires assumptions { HasNoAssumptions model.now }
     requires kinds { AreAllPropagated model.now }
 {
     let mut core = CoreState::new(alloc, model, 2, 4)?;

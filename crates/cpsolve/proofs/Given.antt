@@ -13,7 +13,7 @@ use Rattle.cps_command.specs.declared.command.Command.TheVariants.{Solve, Valida
 use Rattle.cps_command.specs.Lines.{CommandLine, IsUsageFault, ReadsNothing, reads}
 use Rattle.cpsolve.specs.Inputs.{most_bytes, HasNo, IsModelText, IsInput}
 use Rattle.cpsolve.specs.Answers.{usage_text, IsText, IsAnswerTo, Does, IsInRange}
-use Rattle.cpsolve.specs.Answers.Answers.{usage, command}
+use Rattle.cpsolve.specs.Answers.IsAnswerTo.{usage, command}
 use Rattle.cpsolve.specs.Answers.AnswersInput.{refused}
 use Rattle.cpsolve.specs.Runs.{AreLeft}
 

@@ -1,6 +1,6 @@
 -- A fault of the input, and that it is no valid model then.
 use Rattle.std.specs.Prelude.{Some, length}
-use Rattle.std.proofs.Common.{◌≡◌, ℕ, ◌≤◌, List, refl, sym, subst}
+use Rattle.std.proofs.Common.{◌≡◌, ℕ, ◌≤◌, List, sym, subst}
 use Rattle.cps_lex.specs.declared.types.Token.{Token}
 use Rattle.cps_textproto.specs.Symbols.{symbols}
 use Rattle.cps_textproto.specs.Grammar.{IsRefusedAt}
@@ -17,9 +17,8 @@ use Rattle.cps_print.specs.declared.fault.Fault.{Fault}
 use Rattle.cps_print.specs.declared.fault.Fault.TheVariants.{Text, Field, Rule}
 use Rattle.cps_print.specs.ReadBack.{IsReadAs}
 use Rattle.cps_print.specs.Responses.{IsShowable}
-use Rattle.cps_schema.proofs.Opened.{model_open, model_assumed}
+use Rattle.cps_schema.proofs.Opened.{model_open}
 use Rattle.cps_kinds.specs.Kinds.{AreAllPropagated}
-use Rattle.cps_search.specs.Searches.{HasNoAssumptions}
 use Rattle.cpsolve.proofs.Limits.{showable}
 use Rattle.cpsolve.proofs.Opening.{open_propagated}
 use Rattle.cpsolve.specs.declared.input.Unread.{Unread}
@@ -86,10 +85,6 @@ refused_too bytes unread.OutOfMemory refusal = tt
 -- a model that was read can be shown
 pub meant_showable : (bytes : List ℕ) (m : CpModel) → IsMeant bytes m → IsShowable m.objective
 meant_showable bytes m meant = showable (written bytes meant.this.tokens) meant.this.tree m meant.this.read
-
--- and has no assumptions
-pub meant_assumptions : (bytes : List ℕ) (m : CpModel) → IsMeant bytes m → HasNoAssumptions m
-meant_assumptions bytes m meant = model_assumed (written bytes meant.this.tokens) meant.this.tree m meant.this.read refl
 
 -- and only kinds that have a propagator
 pub meant_propagated : (bytes : List ℕ) (m : CpModel) → IsMeant bytes m → AreAllPropagated m

@@ -111,6 +111,7 @@ promise_kept m options o good =
     record {
       optimal = λ e. let found = p.optimal e in (found.0, record { this = found.1; best = found.2; below = found.3; near = found.4 });
       infeasible = p.infeasible;
+      core = good.sufficient;
       feasible = λ e. let found = p.feasible e in (found.0, record { this = found.1; solution = found.2; below = found.3; parts = found.4 });
       unknown = λ e. let none = p.unknown e in record { nothing = none.0; parts = none.1 };
     }

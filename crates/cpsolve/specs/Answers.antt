@@ -38,9 +38,9 @@ pub record IsText (status : ℕ) (bytes : List ℕ) (answer : Answer) : Type 0 w
   pub outcome : answer.outcome ≡ None
   pub text : answer.text ≡ bytes
 
--- what is written of an outcome: no worker assumes anything, so no assumption makes a model infeasible
+-- what is written of an outcome
 abbrev pub response_of : Outcome → Response
-response_of o = record { status = o.status; solution = o.solution; lower = o.lower; core = [] }
+response_of o = record { status = o.status; solution = o.solution; lower = o.lower; core = o.core }
 
 -- `solve` of a valid model: the response of an outcome that is good for the options, and where the workers take turns
 -- it is that of the turns that the seed draws

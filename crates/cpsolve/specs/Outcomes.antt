@@ -5,6 +5,7 @@ use Rattle.cps_model.specs.declared.bound.Bound.TheVariants.{At, Infinite}
 use Rattle.cps_model.specs.declared.status.Status.TheVariants.{Optimal, Feasible, Infeasible, Unknown}
 use Rattle.cps_model.specs.Solutions.{objective_value, IsSolution, IsBest, HasNoSolution}
 use Rattle.cps_model.specs.Statuses.{is_closed, IsAtMost}
+use Rattle.cps_search.specs.Assumptions.{IsSufficient}
 use Rattle.cps_options.specs.declared.options.Options.{Options}
 use Rattle.cps_portfolio.specs.declared.outcome.Outcome.{Outcome}
 use Rattle.cps_portfolio.specs.Outcomes.{DidItsPart}
@@ -33,5 +34,7 @@ pub record IsUnknown (m : CpModel) (options : Options) (o : Outcome) : Type 0 wh
 pub record KeepsPromise (m : CpModel) (options : Options) (o : Outcome) : Type 0 where
   pub optimal : o.status ≡ Optimal → (a : List ℤ) × IsOptimal m options.gap o a
   pub infeasible : o.status ≡ Infeasible → HasNoSolution m
+  -- the assumptions that are listed are some of the model's, and no free assignment makes all of them true
+  pub core : o.status ≡ Infeasible → IsSufficient m o.core
   pub feasible : o.status ≡ Feasible → (a : List ℤ) × IsFeasible m options o a
   pub unknown : o.status ≡ Unknown → IsUnknown m options o

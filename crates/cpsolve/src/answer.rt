@@ -9,7 +9,6 @@ ghost use Rattle.cps_print.specs.Models.{model_text};
 ghost use Rattle.cps_print.specs.ReadBack.{IsReadAs};
 ghost use Rattle.cps_print.specs.Responses.{IsShowable};
 ghost use Rattle.cps_kinds.specs.Kinds.{AreAllPropagated};
-ghost use Rattle.cps_search.specs.Searches.{HasNoAssumptions};
 ghost use Rattle.cps_options.specs.Ranges.{AreInRange};
 ghost use Rattle.cps_portfolio.specs.Outcomes.{IsGoodOutcome};
 ghost use Rattle.cps_portfolio.specs.Turning.{IsDrawnRun};
@@ -20,7 +19,7 @@ use crate::exits::{BAD_INPUT, BAD_WORDS, DONE};
 use crate::generation::{demo_answer, gen_answer};
 use crate::input::{Unread, read_model, valid_model_of};
 use cps_command::Command;
-use cps_model::{CpModel, Listed, Text};
+use cps_model::{CpModel, Text};
 use cps_options::Options;
 use cps_outer::Gate;
 use cps_portfolio::{Outcome, solve, solve_interleaved};
@@ -86,7 +85,6 @@ fn outcome_of<R: Threads + Wait + Sync, G: Gate + Sync>(
     gate: &G,
 ) -> Result<Outcome, AllocError>
     requires range { AreInRange options.now }
-    requires assumptions { HasNoAssumptions model.now }
     requires kinds { AreAllPropagated model.now }
     ensures good { IfOk result (IsGoodOutcome model.now options.now) }
     ensures drawn { IsTrue options.now.interleave → IfOk result (λ o. IsDrawnRun model.now options.now 4096 o.ends) }
@@ -107,7 +105,6 @@ fn solve_answer<R: Threads + Wait + Sync, G: Gate + Sync>(
     gate: &G,
 ) -> Result<Answer, AllocError>
     requires showable { IsShowable model.now.objective }
-    requires assumptions { HasNoAssumptions model.now }
     requires kinds { AreAllPropagated model.now }
     requires range { AreInRange options.now }
     ensures { IfOk result (Solves options.now model.now) }
@@ -117,16 +114,17 @@ fn solve_answer<R: Threads + Wait + Sync, G: Gate + Sync>(
         solution,
         upper,
         lower,
+        core,
         ends,
     } = outcome_of(rt, alloc, model, options, gate)?;
     let response = Response {
         status,
         solution,
         lower,
-        core: Listed::new(alloc),
+        core,
     };
     let text = response_text(alloc, model.model(), &response)?;
-    let Response { solution, .. } = response;
+    let Response { solution, core, .. } = response;
     Ok(Answer {
         exit: DONE,
         outcome: Some(Outcome {
@@ -134,6 +132,7 @@ fn solve_answer<R: Threads + Wait + Sync, G: Gate + Sync>(
             solution,
             upper,
             lower,
+            core,
             ends,
         }),
         text: Text::from_string(text),

@@ -3,7 +3,6 @@ ghost use Rattle.std.specs.Prelude.{◌≡◌, IfOk, IsTrue};
 ghost use Rattle.cps_gen.specs.Families.{is_in_range};
 ghost use Rattle.cps_kinds.specs.Kinds.{AreAllPropagated};
 ghost use Rattle.cps_print.specs.Responses.{IsShowable};
-ghost use Rattle.cps_search.specs.Searches.{HasNoAssumptions};
 ghost use Rattle.cpsolve.specs.Answers.{model_of, demo_options, Generates, Demonstrates};
 
 use crate::answer::{Answer, text_answer};
@@ -32,7 +31,6 @@ fn valid_model(alloc: Global, recipe: &Recipe) -> Result<ValidModel, AllocError>
     requires { IsTrue (is_in_range recipe.now.family recipe.now.size) }
     ensures stated { IfOk result (λ m. m ≡ model_of recipe.now) }
     ensures showable { IfOk result (λ m. IsShowable m.objective) }
-    ensures assumptions { IfOk result HasNoAssumptions }
     ensures kinds { IfOk result AreAllPropagated }
 {
     let model = generate(alloc, recipe.family, recipe.size, recipe.seed)?;

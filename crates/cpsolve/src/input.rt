@@ -1,10 +1,8 @@
 //! An input, from its bytes to a model, and to a valid one.
 ghost use Rattle.std.specs.Prelude.{◌≡◌, ◌≤◌, length, IfOk, IfErr};
 ghost use Rattle.cps_textproto.specs.Trees.{tree_of};
-ghost use Rattle.cps_model.specs.Validity.{IsValid};
 ghost use Rattle.cps_print.specs.Responses.{IsShowable};
 ghost use Rattle.cps_kinds.specs.Kinds.{AreAllPropagated};
-ghost use Rattle.cps_search.specs.Searches.{HasNoAssumptions};
 ghost use Rattle.cpsolve.specs.Inputs.{most_bytes, byte_of, IsModelText, IsInput};
 ghost use Rattle.cpsolve.specs.Reading.{IsCut, IsParsed, IsMeant, IsRefusal};
 
@@ -101,7 +99,6 @@ pub fn valid_model_of(alloc: Global, bytes: &[u8]) -> Result<ValidModel, Unread>
     requires { length bytes.now ≤ most_bytes }
     ensures ok { IfOk result (IsInput bytes.now) }
     ensures showable { IfOk result (λ model. IsShowable model.objective) }
-    ensures assumptions { IfOk result HasNoAssumptions }
     ensures kinds { IfOk result AreAllPropagated }
     ensures err { IfErr result (IsRefusal IsInput bytes.now) }
 {

@@ -21,7 +21,7 @@ pub struct Solving {
 }
 
 /// Inputs of `solve` that have one answer, whatever workers do.
-pub const INPUTS: [Solving; 47] = [
+pub const INPUTS: [Solving; 51] = [
     Solving {
         input: "",
         exit: 0,
@@ -297,6 +297,28 @@ pub const INPUTS: [Solving; 47] = [
         input: "constraints { reservoir { min_level: 1 max_level: 2 } }",
         exit: 1,
         text: "status: MODEL_INVALID\n# invalid V19 at constraint 0\n",
+    },
+    Solving {
+        input: "variables { domain: [0, 1] } assumptions: [0, -1]",
+        exit: 0,
+        text: "status: INFEASIBLE\nsufficient_assumptions_for_infeasibility: 0\n\
+            sufficient_assumptions_for_infeasibility: -1\n",
+    },
+    Solving {
+        input: "variables { domain: [0, 1] } variables { domain: [0, 1] } variables { domain: [0, 1] } \
+            constraints { bool_or { literals: [-1] } } assumptions: [0, 1, 2]",
+        exit: 0,
+        text: "status: INFEASIBLE\nsufficient_assumptions_for_infeasibility: 0\n",
+    },
+    Solving {
+        input: "variables { domain: [0, 1] } assumptions: [0]",
+        exit: 0,
+        text: "status: OPTIMAL\nsolution: 1\n",
+    },
+    Solving {
+        input: "variables { domain: [0, 2] } assumptions: [0]",
+        exit: 1,
+        text: "status: MODEL_INVALID\n# invalid V4 at assumption 0\n",
     },
 ];
 

@@ -1,5 +1,6 @@
 use Rattle.std.proofs.Common.{◌≡◌, ◌∙◌, Bool, false, List, length, replicate, ap, sym, subst, arith}
 use Rattle.std.proofs.lemmas.Result.{IfOk-weaker}
+use Rattle.cps_conflict.specs.Conflicts.{AreTrueReasons}
 use Rattle.cps_conflict.specs.Leading.{IsFetched, FollowedSoFar, is_marked}
 use Rattle.cps_conflict.proofs.Walking.{marks_written, none_marked, picked-behind}
 use Rattle.cps_conflict.proofs.leading.decisions_behind.Goals as goal
@@ -14,7 +15,7 @@ pub returns : goal.returns
 returns g c =
     let s = c.args.store.now in
     let made = IsFetched (g.E.Explain.makes c.args.explain.now s) s in
-    let holds = g.E.Explain.holds c.args.explain.now in
+    let holds = AreTrueReasons (g.E.Explain.makes c.args.explain.now c.args.store.now) c.args.store.now in
     let walked = c.in_ok-mark_led_to.ensures in
     let size : length c.mark_led_to.new.marks ≡ c.in_ok-marks.marks.len = omega (arith, walked.same_length, c.in_ok-marks.ensures.len, c.entries.ensures.views.same_length) in
     let same : c.deref.result.now ≡ c.mark_led_to.new.marks = c.deref.ensures.value ∙ marks_written c.in_ok-marks.marks.items c.mark_led_to.new.marks c.in_ok-marks.marks.len size in

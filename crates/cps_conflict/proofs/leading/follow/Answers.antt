@@ -1,4 +1,5 @@
 use Rattle.std.proofs.Common.{arith, subst, ◌∙◌}
+use Rattle.cps_conflict.specs.Conflicts.{AreTrueReasons}
 use Rattle.cps_conflict.specs.Leading.{FollowedSoFar, IsFetched}
 use Rattle.cps_conflict.proofs.leading.follow.Goals as goal
 
@@ -6,7 +7,7 @@ pub loop-place-preserved : goal.loop-place-preserved
 loop-place-preserved g c =
     let s = c.args.store.now in
     let made = IsFetched (g.E.Explain.makes c.args.explain.now s) s in
-    let holds = g.E.Explain.holds c.args.explain.now in
+    let holds = AreTrueReasons (g.E.Explain.makes c.args.explain.now c.args.store.now) c.args.store.now in
     record {
       within = omega (arith, c.loop-place.invariant.within);
       same_length = c.in_ok-follow_one.ensures.same_length ∙ c.loop-place.invariant.same_length;
@@ -18,5 +19,5 @@ pub returns-clause-followed : goal.returns-clause-followed
 returns-clause-followed g c =
     let s = c.args.store.now in
     let made = IsFetched (g.E.Explain.makes c.args.explain.now s) s in
-    let holds = g.E.Explain.holds c.args.explain.now in
+    let holds = AreTrueReasons (g.E.Explain.makes c.args.explain.now c.args.store.now) c.args.store.now in
     λ t h. subst (λ k. FollowedSoFar made holds s t k c.loop-place.marks) (omega (arith, c.loop-place-test.false)) (c.loop-place.invariant.followed t h)

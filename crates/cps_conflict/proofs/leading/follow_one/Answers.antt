@@ -4,6 +4,7 @@ use Rattle.std.proofs.lemmas.List.Elements.{Contains-get_or}
 use Rattle.cps_literal.specs.declared.atom.Atom.{Atom}
 use Rattle.cps_trail.specs.Trail.{IsFalseNow}
 use Rattle.cps_trail.proofs.Times.{IsFalseAfter-all}
+use Rattle.cps_conflict.specs.Conflicts.{AreTrueReasons}
 use Rattle.cps_conflict.specs.Drafts.{IsReasonOf}
 use Rattle.cps_conflict.specs.Leading.{IsFetched}
 use Rattle.cps_conflict.proofs.Uniting.{none_view, read}
@@ -33,7 +34,7 @@ pub returns-clause-followed : goal.returns-clause-followed
 returns-clause-followed g c =
     let s = c.args.store.now in
     let made = IsFetched (g.E.Explain.makes c.args.explain.now s) s in
-    let holds = g.E.Explain.holds c.args.explain.now in
+    let holds = AreTrueReasons (g.E.Explain.makes c.args.explain.now c.args.store.now) c.args.store.now in
     let e : Atom = (get_or c.entries.result.now c.args.place none_view).atom in
     let is = read s.entries c.entries.result.now c.args.place c.entries.ensures.views c.requires.within in
     let taken = ap Ok c.if-not-branch.false in

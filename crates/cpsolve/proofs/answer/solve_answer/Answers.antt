@@ -12,7 +12,7 @@ response_text-requires-clause-bounded g c = bounded c.args.model.now c.args.opti
 
 pub returns : goal.returns
 returns g c =
-    let shown = rw c.new.ensures at c.in_ok-text.ensures in
+    let shown = c.in_ok-text.ensures in
     record {
       found = _;
       exit = refl;

@@ -1,6 +1,6 @@
 -- The model that the bytes are the text of can be shown, and breaks a rule or none.
 use Rattle.std.proofs.lemmas.Result.{err_from_is_err_and}
-use Rattle.cpsolve.proofs.Inputs.{rule_right, valid_input, refused_too, meant_showable, meant_assumptions, meant_propagated}
+use Rattle.cpsolve.proofs.Inputs.{rule_right, valid_input, refused_too, meant_showable, meant_propagated}
 use Rattle.cpsolve.proofs.input.valid_model_of.Goals as goal
 
 pub returns-in_err-model-clause-err : goal.returns-in_err-model-clause-err
@@ -20,10 +20,6 @@ pub returns-in-Err-Invalid-clause-err : goal.returns-in-Err-Invalid-clause-err
 returns-in-Err-Invalid-clause-err c =
     rule_right c.args.bytes.now c.in_ok-model.model c.in-Err-Invalid.rule c.in-Err-Invalid.place c.requires c.in_ok-model.ensures.ok
     (rw c.in-Err-Invalid.field-0-is at c.in-Err-Invalid.ensures.err)
-
-pub returns-in-Ok-clause-assumptions : goal.returns-in-Ok-clause-assumptions
-returns-in-Ok-clause-assumptions c =
-    rw c.in-Ok.ensures.ok.0 (meant_assumptions c.args.bytes.now c.in_ok-model.model c.in_ok-model.ensures.ok)
 
 pub returns-in-Ok-clause-kinds : goal.returns-in-Ok-clause-kinds
 returns-in-Ok-clause-kinds c =

@@ -4,6 +4,7 @@ use Rattle.std.proofs.lemmas.Int.{ints}
 use Rattle.std.proofs.lemmas.List.Elements.{Contains-get_or}
 use Rattle.cps_literal.specs.declared.atom.Atom.{Atom}
 use Rattle.cps_trail.proofs.Times.{IsFalseAfter-all}
+use Rattle.cps_conflict.specs.Conflicts.{AreTrueReasons}
 use Rattle.cps_conflict.specs.declared.minimiser.Minimiser.{Minimiser}
 use Rattle.cps_conflict.specs.declared.minimiser.Node.{Node}
 use Rattle.cps_conflict.specs.Nodes.{Traces}
@@ -54,7 +55,7 @@ trace-requires-clause-false_now g c =
 
 pub returns-in_default-clause-nodes : goal.returns-in_default-clause-nodes
 returns-in_default-clause-nodes g c =
-    let C = g.E.Explain.holds c.args.explain.now in
+    let C = AreTrueReasons (g.E.Explain.makes c.args.explain.now c.args.store.now) c.args.store.now in
     let e = c.args.resolvent.now.earlier in
     AreNodes-added C c.args.store.now e c.trace.new.self c.add.new.self _ c.in_ok-add.ensures.assert c.in_ok-add.ensures.pending c.in_ok-add.ensures.nodes (λ a m b fine. absurd (true≢false fine))
     (AreNodes-kept C c.args.store.now e c.args.self.now c.trace.new.self c.in_ok-traced.ensures.assert c.in_ok-traced.ensures.nodes c.in_ok-traced.ensures.grows c.requires.nodes)
@@ -64,7 +65,7 @@ returns-clause-nodes g c =
     let led = c.may_lead.ensures c.if-not-may_lead.false in
     let l : c.args.fallen.from - 1 < length c.args.store.now.entries = omega (arith, led.0, led.1) in
     let r = c.in_ok-fetch.ensures.some (ap Ok c.if-not-branch.false) in
-    let C = g.E.Explain.holds c.args.explain.now in
+    let C = AreTrueReasons (g.E.Explain.makes c.args.explain.now c.args.store.now) c.args.store.now in
     let e = c.args.resolvent.now.earlier in
     let t : Atom = (get_or c.entries.result.now (c.args.fallen.from - 1) none_view).atom in
     let m : Minimiser = record c.args.self.now { reason = c.fetch.new.reason } in

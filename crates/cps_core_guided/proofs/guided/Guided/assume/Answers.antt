@@ -1,4 +1,4 @@
-use Rattle.std.proofs.Common.{◌≡◌, ◌∙◌, ap, arith, inl, List, refl, subst, sym}
+use Rattle.std.proofs.Common.{◌≡◌, ◌∙◌, ap, arith, inl, inr, List, refl, subst, sym}
 use Rattle.cps_literal.specs.declared.atom.Atom.{Atom}
 use Rattle.cps_trail.specs.Trail.{Trail}
 use Rattle.cps_branch.specs.Choice.{IsUndecided}
@@ -9,7 +9,7 @@ use Rattle.cps_search.proofs.Working.{decided_onward}
 use Rattle.cps_reform.specs.declared.held.Held.{Held}
 use Rattle.cps_reform.specs.Forms.{term_at}
 use Rattle.cps_reform.specs.Marks.{assumed}
-use Rattle.cps_core_guided.specs.CoreTurns.{an_assumption}
+use Rattle.cps_core_guided.specs.CoreTurns.{of_a_term}
 use Rattle.cps_core_guided.specs.Guiding.{core_search_of}
 use Rattle.cps_core_guided.proofs.CoreWorking.{works-decided}
 use Rattle.cps_core_guided.proofs.guided.Guided.assume.Goals as goal
@@ -22,7 +22,7 @@ returns-clause-goes_on g c = λ part.
     record {
       atom = a;
       undecided = subst (λ (t : Atom). IsUndecided s.search.store t) (sym is) c.requires.open_now.left_open;
-      chosen = an_assumption c.requires.few c.requires.none_fails c.args.place c.requires.open_now is;
+      chosen = of_a_term c.requires.none_open c.requires.few c.requires.none_fails c.args.place c.requires.open_now is;
       is = ap (λ (x : Search). record s { search = x }) c.in_ok-decide.ensures.decides;
       part = refl;
     }
@@ -39,7 +39,7 @@ returns-clause-works g c =
     let moves : t ≡ moved s.search (decided s.search.store a) s.search.rested = c.in_ok-decide.ensures.decides in
     let scope = g.B.Brancher.scope b in
     let agrees = g.B.Brancher.agrees b in
-    works-decided s t a scope scope (agrees s.search.store) (agrees t.store) kept kept w c.in_ok-decide.ensures.sound moves
-    (λ few. inl (record { place = c.args.place; within = c.requires.open_now.within; weighs = c.requires.open_now.weighs; is = is })) refl w.within
+    works-decided s t a scope scope (agrees s.search.store) (agrees t.store) kept kept w c.in_ok-decide.ensures.sound moves c.requires.running
+    (λ few. inl (inr (record { place = c.args.place; within = c.requires.open_now.within; weighs = c.requires.open_now.weighs; is = is }))) refl w.within
     (g.met.B.Brancher.kept_on b s.search.store t.store kept kept (omega arith)
     (subst (λ (x : Trail). AreSameUpTo scope.subjects kept s.search.store x) (sym (ap (λ (x : Search). x.store) moves)) (decided_onward scope.subjects kept s.search.store a w.within)) w.agreed)

@@ -3,6 +3,7 @@ use Rattle.cps_trail.specs.Trail.{Trail}
 use Rattle.cps_branch.specs.Scope.{AreSameUpTo}
 use Rattle.cps_search.specs.Searches.{Search}
 use Rattle.cps_search.proofs.Working.{decided_onward}
+use Rattle.cps_core_guided.proofs.Assumptions.{chosen_where_none_open}
 use Rattle.cps_core_guided.specs.CoreTurns.{a_choice}
 use Rattle.cps_core_guided.specs.Guiding.{core_search_of}
 use Rattle.cps_core_guided.proofs.CoreWorking.{works-decided}
@@ -15,7 +16,7 @@ returns-clause-goes_on g c = λ part.
     record {
       atom = d.atom;
       undecided = d.undecided;
-      chosen = a_choice c.requires.assumed d.chosen;
+      chosen = a_choice c.requires.none_open c.requires.assumed (chosen_where_none_open (g.B.Brancher.chooses c.args.self.now.brancher) s.search d.atom c.requires.none_open d.next);
       is = ap (λ (x : Search). record s { search = x }) d.is;
       part = refl;
     }
@@ -30,7 +31,7 @@ returns-clause-works g c =
     let n = length c.entries-seen.result.now in
     let was = c.args.self.now.brancher in
     let subjects = (g.B.Brancher.scope b).subjects in
-    works-decided s t d.atom (g.B.Brancher.scope was) (g.B.Brancher.scope b) (g.B.Brancher.agrees was s.search.store) (g.B.Brancher.agrees b t.store) c.args.self.now.kept n c.requires.works c.in_ok-decide_next.ensures.sound d.is
+    works-decided s t d.atom (g.B.Brancher.scope was) (g.B.Brancher.scope b) (g.B.Brancher.agrees was s.search.store) (g.B.Brancher.agrees b t.store) c.args.self.now.kept n c.requires.works c.in_ok-decide_next.ensures.sound d.is c.requires.running
     (λ few. inr (c.requires.assumed few)) c.in_ok-decide_next.ensures.scope (omega (arith, seen))
     (g.met.B.Brancher.kept_on b s.search.store t.store n (length s.search.store.entries) (omega (arith, seen))
     (subst (λ (x : Trail). AreSameUpTo subjects n s.search.store x) (sym (ap (λ (x : Search). x.store) d.is)) (decided_onward subjects n s.search.store d.atom (omega (arith, seen))))

@@ -22,5 +22,5 @@ returns-clause-sound g c =
     let s = core_search_of c.args.self.now in
     let none = c.requires.none c.if-is_reformed.false in
     let lower = subst (λ (z : Bound). IsLowerBound s.search.instance.model z) (sym c.z-z.ensures) (lower_bound_of s.search.instance.model s.search.z none) in
-    subst (λ (w : _). IsSoundCore (record (core_search_of w) { ended = true })) (sym c.raise-2.ensures.is)
-    (sound-ended (record s { raised = raised_to s.raised c.z-z.result }) (sound-raised s c.z-z.result c.requires.sound lower) none)
+    subst (λ (w : _). IsSoundCore (record (core_search_of w) { ended = true; core = c.args.core })) (sym c.raise-2.ensures.is)
+    (sound-ended (record s { raised = raised_to s.raised c.z-z.result }) c.args.core (sound-raised s c.z-z.result c.requires.sound lower) none c.requires.core)

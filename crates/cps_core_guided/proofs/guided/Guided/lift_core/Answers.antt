@@ -52,7 +52,7 @@ lift-requires-clause-risen g c =
     let bound : to_z w64 (of_z w64 (to_z w64 (of_z w64 c.args.atom.value) +ℤ pos 1)) ≡ (term_at f.terms i).bound +ℤ pos 1 = one_more c.args.atom.value small ∙ ap (λ (x : ℤ). x +ℤ pos 1) (value ∙ sym same) in
     let count : length c.in_ok-core.core.items ≡ c.len.result = omega (arith, c.len.ensures, c.in_ok-core.core.ok.0) in
     let one : length (core_terms f.terms) ≡ 1 = ap (λ (ts : List Term). length ts) (sym c.in_ok-core.ensures) ∙ count ∙ c.if-len-eq1.true in
-    subst (λ (b : ℤ). OfEachBelow s.search.instance s.search.z (λ xs. b ≤ℤ value_at xs (term_at f.terms i).subject)) (sym bound) (risen-alone s f i c.args.decisions.now c.requires.failed c.mark_core.ensures one)
+    subst (λ (b : ℤ). OfEachBelow s.search.instance s.search.z (λ xs. b ≤ℤ value_at xs (term_at f.terms i).subject)) (sym bound) (risen-alone s f i c.args.decisions.now c.requires.works.sound.search c.requires.failed c.mark_core.ensures one)
 
 pub returns-then-len-eq1-clause-tried : goal.returns-then-len-eq1-clause-tried
 returns-then-len-eq1-clause-tried g c =
@@ -106,10 +106,10 @@ split-requires-clause-works g c =
     works-form s (record s { form = f }) scope scope agrees agrees old.kept old.kept c.requires.works sound refl refl refl c.requires.works.agreed
 
 pub split-requires-clause-weights : goal.split-requires-clause-weights
-split-requires-clause-weights g c = core-weighs (core_search_of c.args.self.now) c.mark_core.new.self c.args.place c.args.decisions.now c.requires.failed c.mark_core.ensures
+split-requires-clause-weights g c = core-weighs (core_search_of c.args.self.now) c.mark_core.new.self c.args.place c.args.decisions.now c.requires.works.sound.search c.requires.failed c.mark_core.ensures
 
 pub split-requires-clause-above : goal.split-requires-clause-above
-split-requires-clause-above g c = core-some (core_search_of c.args.self.now) c.mark_core.new.self c.args.place c.args.decisions.now c.requires.failed c.mark_core.ensures
+split-requires-clause-above g c = core-some (core_search_of c.args.self.now) c.mark_core.new.self c.args.place c.args.decisions.now c.requires.works.sound.search c.requires.failed c.mark_core.ensures
 
 pub returns-clause-tried : goal.returns-clause-tried
 returns-clause-tried g c =
@@ -122,9 +122,9 @@ returns-clause-tried g c =
     let m = c.mark_core.ensures in
     let within = failed.within in
     let longer = m.terms.same_length in
-    let some = in-core f.terms i (omega (arith, within, longer)) (core-has-failed s f i decisions failed m) in
+    let some = in-core f.terms i (omega (arith, within, longer)) (core-has-failed s f i decisions c.requires.works.sound.search failed m) in
     let count : length c.in_ok-core.core.items ≡ c.len.result = omega (arith, c.len.ensures, c.in_ok-core.core.ok.0) in
     let size : length (core_terms f.terms) ≡ c.len.result = ap (λ (ts : List Term). length ts) (sym c.in_ok-core.ensures) ∙ count in
     let several_terms : 2 ≤ length (core_terms f.terms) = omega (arith, some, size, c.if-len-eq1.false) in
     let not_false = subst (λ (u : Atom). IsFalseNow s.search.store u → ⊥) c.requires.atom c.requires.not_false in
-    if_ok_weaker c.split.result (Splits (record s { form = f }) t) (Tried s t i decisions) (λ done sp. tried-split s t f i decisions done failed not_false m several_terms (core-weighs s f i decisions failed m) sp) c.split.ensures.splits
+    if_ok_weaker c.split.result (Splits (record s { form = f }) t) (Tried s t i decisions) (λ done sp. tried-split s t f i decisions done failed not_false m several_terms (core-weighs s f i decisions c.requires.works.sound.search failed m) sp) c.split.ensures.splits

@@ -45,7 +45,7 @@ reform_by-requires-clause-works g c =
     let k = c.still_kept-self.result in
     let left : k ≡ min kept (length r.store.entries) = c.still_kept-self.ensures ∙ ap (λ (x : Trail). min kept (length x.entries)) c.store-3.ensures in
     let within = w.within in
-    let sound = sound-bottom s r.store r.rested w.sound (subst (λ (x : Search). IsSoundSearch x) is (c.restart.ensures.sound running)) store level in
+    let sound = sound-bottom s r.store r.rested w.sound (subst (λ (x : Search). IsSoundSearch x) is (c.restart.ensures.sound running)) store level c.requires.running in
     let agrees = g.B.Brancher.agrees b in
     let scope = g.B.Brancher.scope b in
     subst (λ (x : Search). IsCoreWorking (record s { search = x }) scope (agrees r.store) k) (sym is)
@@ -119,16 +119,16 @@ returns-clause-goes_on g c =
     let p = g.Q.Port.part c.args.port.now in
     let q = g.Q.Port.part c.conclude.new.port in
     let chooses = g.B.Brancher.chooses c.args.self.now.brancher in
-    let same : t ≡ record v { raised = t.raised; ended = t.ended } = ap (λ (x : _). core_search_of x) c.conclude.ensures.rest in
+    let same : t ≡ record v { raised = t.raised; ended = t.ended; core = t.core } = ap (λ (x : _). core_search_of x) c.conclude.ensures.rest in
     elim (bool_cases done) as (λ u. GoesOn chooses s t p q c.conclude.result) [
       | inl on ↦
           let e = c.conclude.ensures.reformed on in
           let raises = subst (λ (x : CoreSearch). RaisesTo (At v.form.base) v x p q) same e.1 in
           subst (λ (turn : Turn). GoesOn chooses s t p q turn) (sym e.0) (subst (λ (x : CoreSearch). ReformsFrom s x p q v.form.base) (sym same)
-          (reforms-from s v r.store r.rested i decisions done h t.raised t.ended p q c.requires.few c.requires.failed behind back on raises (e.2 ∙ h.ended ∙ c.requires.running)))
+          (reforms-from s v r.store r.rested i decisions done h t.raised t.ended t.core p q c.requires.few c.requires.failed behind back on raises (e.2 ∙ h.ended ∙ c.requires.running)))
       | inr off ↦
           let e = c.conclude.ensures.exhausted off in
           let raises = subst (λ (x : CoreSearch). RaisesTo v.search.z v x p q) same e.1 in
           subst (λ (turn : Turn). GoesOn chooses s t p q turn) (sym e.0) (subst (λ (x : CoreSearch). ExhaustsFrom s x p q) (sym same)
-          (exhausts-from s v r.store r.rested i decisions done h t.raised t.ended p q c.requires.few c.requires.failed behind back off raises e.2))
+          (exhausts-from s v r.store r.rested i decisions done h t.raised t.ended t.core p q c.requires.few c.requires.failed behind back off raises e.2 (e.3 ∙ c.in_ok-core.ensures)))
     ]

@@ -68,6 +68,7 @@ returns-clause-splits g c =
       raised = refl;
       greatest = refl;
       ended = refl;
+      core = refl;
     })
 
 pub returns-clause-works : goal.returns-clause-works
@@ -84,5 +85,5 @@ returns-clause-works g c =
     let agrees = g.B.Brancher.agrees b in
     let works : IsCoreWorking (record s { search = t; form = f; sums = s.sums + 1 }) scope (agrees t.store) kept =
     works-grown s t f (core_sum s.form.terms) c.in_ok-subject.subject scope agrees kept c.requires.works c.requires.few c.in_ok-subject.ensures.sound grew reform c.split_below.ensures.base
-    (subst (λ (x : Trail). IsSound x) c.store.ensures c.entries.ensures.sound) level (λ same was. g.met.B.Brancher.kept_on b s.search.store t.store kept kept (omega arith) same was) in
+    (subst (λ (x : Trail). IsSound x) c.store.ensures c.entries.ensures.sound) level c.requires.running (λ same was. g.met.B.Brancher.kept_on b s.search.store t.store kept kept (omega arith) same was) in
     ok_if c.split_below.result (IsCoreWorking (record s { search = t; form = f; sums = s.sums + 1 }) scope (agrees t.store) kept) works

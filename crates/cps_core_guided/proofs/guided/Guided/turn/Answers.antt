@@ -1,11 +1,11 @@
 use Rattle.std.proofs.Common.{◌≡◌, ◌∙◌, ◌+◌, List, Option, Some, ap, arith, length, min, refl, subst, length-append}
 use Rattle.cps_trail.specs.Trail.{Entry, Trail}
 use Rattle.cps_search.specs.declared.turn.Turn.{Turn}
-use Rattle.cps_search.specs.Ends.{BrancherTurn, HeardOne}
+use Rattle.cps_search.specs.Ends.{BrancherTurn, DecidedBy, HeardOne}
 use Rattle.cps_search.specs.Turns.{Steps}
 use Rattle.cps_search.proofs.Results.{if_ok_weaker}
 use Rattle.cps_search.proofs.Working.{brancher_heard, imported_few, same_back, same_onward, stands_imported, turn_heard}
-use Rattle.cps_core_guided.specs.CoreTurns.{DecidedBy, GoesOn, TakesCoreTurn}
+use Rattle.cps_core_guided.specs.CoreTurns.{GoesOn, TakesCoreTurn}
 use Rattle.cps_core_guided.specs.Guiding.{core_search_of}
 use Rattle.cps_core_guided.proofs.CoreTurning.{frame-not-decided, not-ended, turn-frame, turn-on}
 use Rattle.cps_core_guided.proofs.CoreWorking.{works-frame}
@@ -29,7 +29,7 @@ go_on-requires-clause-works g c =
     let within = w.within in
     let few = w.few in
     let imported = steps.cause.imported in
-    works-frame s m scope scope (agrees s.search.store) (agrees m.store) kept kept w c.in_ok-turn.ensures.sound.1 steps.setting steps.moves.falls steps.store refl (omega (arith, few, imported)) (omega (arith, within, size))
+    works-frame s m scope scope (agrees s.search.store) (agrees m.store) kept kept w c.in_ok-turn.ensures.sound.1 steps.setting steps.moves.falls (not-ended s c.requires.running) steps.store refl (omega (arith, few, imported)) (omega (arith, within, size))
     (g.met.B.Brancher.kept_on b s.search.store m.store kept kept (omega arith) (same_onward scope.subjects kept s.search.store m.store within on) w.agreed)
 
 pub returns-in-Some-clause-turn : goal.returns-in-Some-clause-turn
@@ -80,7 +80,7 @@ returns-in-Some-clause-works g c =
     let left : still ≡ min kept (length t.store.entries) = c.still_kept-self.ensures ∙ ap (λ (x : Trail). min kept (length x.entries)) c.store.ensures in
     let within = w.within in
     let scope = g.B.Brancher.scope b in
-    works-frame s t scope (g.B.Brancher.scope new) (g.B.Brancher.agrees b s.search.store) (g.B.Brancher.agrees new t.store) kept still w (c.hear_turn.ensures.sound c.in_ok-turn.ensures.sound.1) taken.setting taken.moves.falls store c.hear_turn.ensures.scope
+    works-frame s t scope (g.B.Brancher.scope new) (g.B.Brancher.agrees b s.search.store) (g.B.Brancher.agrees new t.store) kept still w (c.hear_turn.ensures.sound c.in_ok-turn.ensures.sound.1) taken.setting taken.moves.falls (not-ended s c.requires.running) store c.hear_turn.ensures.scope
     (omega (arith, few, stands_imported m t c.hear_turn.ensures.frame)) (omega (arith, left))
     (c.hear_turn.ensures.saw t.store still (g.met.B.Brancher.kept_on b s.search.store t.store still kept (omega (arith, left)) (same_back scope.subjects still s.search.store t.store (omega (arith, left, within)) (omega (arith, left)) store) w.agreed))
 

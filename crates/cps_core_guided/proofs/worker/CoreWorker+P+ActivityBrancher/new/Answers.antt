@@ -1,4 +1,4 @@
-use Rattle.std.proofs.Common.{◌≡◌, ◌∙◌, ◌<◌, ◌^◌, Bool, List, ap, arith, length, map, of_z, subst, sym, to_z, w64}
+use Rattle.std.proofs.Common.{◌≡◌, ◌∙◌, ◌<◌, ◌^◌, ℕ, ℤ, Bool, false, List, ap, arith, length, map, of_z, subst, sym, to_z, w64}
 use Rattle.cps_domain.specs.Window.{intervals}
 use Rattle.cps_model.specs.declared.model.CpModel.{CpModel}
 use Rattle.cps_instance.specs.declared.term.Term.{Term}
@@ -7,11 +7,12 @@ use Rattle.cps_instance.specs.Problem.{Problem, variable_count}
 use Rattle.cps_instance.specs.Terms.{Domains, greatest_of_terms, terms_reach}
 use Rattle.cps_branch.specs.Agreeing.{aside_none_kept}
 use Rattle.cps_branch.specs.Hints.{hint_for}
+use Rattle.cps_branch.specs.Scope.{Scope}
 use Rattle.cps_branch.specs.SetAside.{AreFixedAside}
 use Rattle.cps_search.specs.Searches.{Search}
 use Rattle.cps_reform.specs.Beginning.{IsFirstForm}
 use Rattle.cps_core_guided.specs.Beginning.{OnlyGrew}
-use Rattle.cps_core_guided.specs.CoreTurns.{BeginsCore}
+use Rattle.cps_core_guided.specs.CoreTurns.{BeginsCore, IsCoreWorking}
 use Rattle.cps_core_guided.specs.Guiding.{with_refused}
 use Rattle.cps_core_guided.specs.Reforming.{CoreSearch}
 use Rattle.cps_core_guided.proofs.CoreBeginning.{beginning, new-begins, new-fresh, new-works, term-subjects, terms-of}
@@ -83,8 +84,9 @@ returns-clause-begins g c =
     let v = to_z w64 (of_z w64 r) in
     let fresh = new-fresh p c.args.gap c.args.budget s t ts f v c.in_ok-frame.ensures.is grew k.sound first k.base c.in_ok-terms.ensures most c.requires.few in
     let is = ap (λ (b : Bool). with_refused (beginning t f v) b) (ap (λ (x : Search). x.refused) fresh) in
-    subst (λ (x : CoreSearch). BeginsCore p c.args.gap c.args.budget x) is
-    (new-begins p c.args.gap c.args.budget s t ts f v c.in_ok-frame.ensures.is grew k.sound first k.base c.in_ok-terms.ensures most c.requires.few)
+    let begins = subst (λ (x : CoreSearch). BeginsCore p c.args.gap c.args.budget x) is
+    (new-begins p c.args.gap c.args.budget s t ts f v c.in_ok-frame.ensures.is grew k.sound first k.base c.in_ok-terms.ensures most c.requires.few) in
+    subst (λ (core : List ℤ). BeginsCore p c.args.gap c.args.budget (record (with_refused (beginning t f v) false) { core = core })) (sym c.new-2.ensures) begins
 
 pub returns-clause-hints : goal.returns-clause-hints
 returns-clause-hints g c =
@@ -113,8 +115,11 @@ invariant_of-result g c = λ running.
     let most : to_z w64 (of_z w64 r) ≡ greatest_of_terms t.instance.domains ts =
     read_back r c.greatest_sum-greatest.ensures.small ∙ c.greatest_sum-greatest.ensures.is ∙ ap (λ (ds : Domains). greatest_of_terms ds c.as_slice-2.result.now) same ∙ ap (λ (us : List Term). greatest_of_terms t.instance.domains us) c.as_slice-2.ensures.value in
     let v = to_z w64 (of_z w64 r) in
-    let fresh = new-fresh p c.args.gap c.args.budget s t ts f v c.in_ok-frame.ensures.is grew k.sound first k.base c.in_ok-terms.ensures most c.requires.few in (
+    let fresh = new-fresh p c.args.gap c.args.budget s t ts f v c.in_ok-frame.ensures.is grew k.sound first k.base c.in_ok-terms.ensures most c.requires.few in
+    let scope : Scope = record { variables = length b.activities; subjects = length b.activities } in
+    let agrees = λ (n : ℕ). AreFixedAside (length b.activities) b.aside t.store n in (
       ap (λ (x : Search). x.refused) fresh,
-      new-works p c.args.gap c.args.budget s t ts f v c.in_ok-frame.ensures.is grew k.sound first k.base c.in_ok-terms.ensures most c.requires.few (record { variables = length b.activities; subjects = length b.activities })
-          (λ n. AreFixedAside (length b.activities) b.aside t.store n) c.in_ok-brancher.ensures.scope c.requires.budget (aside_none_kept (length b.activities) b.aside t.store),
+      subst (λ (core : List ℤ). IsCoreWorking (record (beginning t f v) { core = core }) scope agrees 0) (sym c.new-2.ensures)
+          (new-works p c.args.gap c.args.budget s t ts f v c.in_ok-frame.ensures.is grew k.sound first k.base c.in_ok-terms.ensures most c.requires.few scope agrees
+          c.in_ok-brancher.ensures.scope c.requires.budget (aside_none_kept (length b.activities) b.aside t.store)),
     )

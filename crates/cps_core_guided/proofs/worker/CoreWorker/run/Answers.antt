@@ -52,7 +52,7 @@ turns-preserved g c =
     let i = c.turns.invariant in
     record {
       running = subst (λ (o : Option End). EndsAs o (whole c.turn.new.self.0)) (sym c.end_of.ensures ∙ c.in_default.is) k.turn.ends;
-      run = core-goes-on _ c.args.self.now.0 c.turns.self.0 c.turn.new.self.0 _ _ _ _ c.in_ok-turn.turn i.run k.turn;
+      run = core-goes-on _ c.args.self.now.0 c.turns.self.0 c.turn.new.self.0 _ _ _ _ c.in_ok-turn.turn i.run k.turn (sym c.end_of.ensures ∙ c.in_default.is);
       turns = one_turn_more c.turns.self c.turn.new.self (g.Q.Port.part c.turns.port) (g.Q.Port.part c.turn.new.port) c.in_ok-turn.turn i.turns (sym c.end_of.ensures ∙ c.in_default.is)
           (one-core-turn g.B.Brancher.chooses g.B.Brancher.hears g.B.Brancher.stays _ _ c.turns.self c.turn.new.self _ _ c.in_ok-turn.turn i.rows k.sound k.turn k.brancher);
       model = k.same.0 ∙ i.model;

@@ -1,6 +1,6 @@
 use Rattle.std.proofs.Common.{◌≡◌, ◌∙◌, false, refl, sym, subst}
-use Rattle.cps_search.specs.Ends.{BrancherTurn, HeardOne}
-use Rattle.cps_core_guided.specs.CoreTurns.{DecidedBy, TakesCoreTurn}
+use Rattle.cps_search.specs.Ends.{BrancherTurn, DecidedBy, HeardOne}
+use Rattle.cps_core_guided.specs.CoreTurns.{TakesCoreTurn}
 use Rattle.cps_core_guided.specs.Guiding.{core_search_of, with_refused}
 use Rattle.cps_core_guided.specs.Reforming.{CoreSearch, IsSoundCore}
 use Rattle.cps_core_guided.proofs.Viewing.{as-running, seen-running}

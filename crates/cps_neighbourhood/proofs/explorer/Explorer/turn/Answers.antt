@@ -6,6 +6,7 @@ use Rattle.cps_search.specs.Searches.{IsSoundSearch, Search}
 use Rattle.cps_search.specs.Turns.{Steps}
 use Rattle.cps_neighbourhood.specs.Nears.{Near}
 use Rattle.cps_neighbourhood.specs.Exploring.{near_of}
+use Rattle.cps_neighbourhood.specs.Standing.{held_to}
 use Rattle.cps_neighbourhood.proofs.Learning.{explores_learnt, turn_learnt}
 use Rattle.cps_neighbourhood.proofs.Taking.{explores_due, explores_other, turn_decided, turn_other}
 use Rattle.cps_neighbourhood.proofs.explorer.Explorer.turn.Goals as goal
@@ -66,5 +67,5 @@ returns-in_default g c =
           (record { rounds = ap (λ (n : Near). n.rounds) k.rest; round = ap (λ (n : Near). n.round) k.rest; draws = ap (λ (n : Near). n.draws) k.rest; brancher = ap (λ (n : Near). n.brancher) k.rest })
           (ap (λ (n : Near). n.conflicts) k.rest) (ap (λ (n : Near). n.aim) k.rest);
       exploring = explores_other x y _ _ _ turn c.requires.exploring c.requires.running (subst (λ (s : Search). IsSoundSearch s) (sym frame) c.in_ok-steps.ensures.sound.1) all c.in_default.not-Learnt c.requires.imported (g.met.Q.Port.few c.args.port.now)
-          (ap (λ (n : Near). n.brancher) k.rest) k.kept (ap (λ (n : Near). n.conflicts) k.rest) k.same.0 (ap (λ (n : Near). n.rounds) k.rest) k.same.1 k.decisions k.learnt (k.held ∙ ap (λ (s : Search). min x.round.held s.store.level) (sym frame)) k.place;
+          (ap (λ (n : Near). n.brancher) k.rest) k.kept (ap (λ (n : Near). n.conflicts) k.rest) k.same.0 (ap (λ (n : Near). n.rounds) k.rest) k.same.1 k.decisions k.learnt (k.held.0 ∙ ap (λ (s : Search). min x.round.assumed s.store.level) (sym frame)) (k.held.1 ∙ ap (λ (s : Search). held_to x.round s.store.level) (sym frame)) k.place;
     }

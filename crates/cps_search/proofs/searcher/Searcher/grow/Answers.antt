@@ -31,4 +31,4 @@ returns-clause-grew g c =
 
 pub returns-clause-sound : goal.returns-clause-sound
 returns-clause-sound g c =
-    sound_grew (search_of c.args.self.now) _ (record { terms = c.args.terms.now; offset = c.args.offset }) c.in_ok-subject.subject (returns-clause-grew g c) c.define.ensures.sound c.requires.sound c.requires.bottom
+    sound_grew (search_of c.args.self.now) _ (record { terms = c.args.terms.now; offset = c.args.offset }) c.in_ok-subject.subject (returns-clause-grew g c) c.define.ensures.sound c.requires.sound c.entries.ensures.sound c.requires.bottom
