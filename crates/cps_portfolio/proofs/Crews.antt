@@ -1,5 +1,5 @@
 -- Seats that are split among workers and joined again.
-use Rattle.std.specs.Prelude.{Option, Some, None, All, int_lt, ◌==◌, if◌then◌else◌, Bool, true, false, ℤ, slice_index_or}
+use Rattle.std.specs.Prelude.{Option, Some, None, All, int_lt, if◌then◌else◌, Bool, true, false, ℤ, slice_index_or}
 use Rattle.std.specs.Int.{int_min}
 use Rattle.std.proofs.Common.{◌≡◌, ℕ, zero, suc, ◌+◌, ◌-◌, ◌/◌, ◌^◌, ◌<◌, ◌≤◌, List, [], ◌∷◌, ◌++◌, length, get_or, arith, refl, sym, ap, ap₂, subst, ◌∙◌, length-append, ◌⊎◌, inl, inr, take, drop}
 use Rattle.std.proofs.Math.Nat.{two-pow-succ}
@@ -26,11 +26,11 @@ use Rattle.cps_search.specs.Ends.{Ending, IsOver, IsHonestEnding}
 use Rattle.cps_search.specs.Following.{best_bound}
 use Rattle.cps_search.proofs.Bounds.{greater-second, same_bound}
 use Rattle.cps_portfolio.specs.declared.seats.Seated.{Seated}
-use Rattle.cps_portfolio.specs.Workers.{AnySearch, search_in, kind_in, ending_in, known_of, worker_search, worker_kind}
+use Rattle.cps_portfolio.specs.Workers.{AnySearch, search_in, kind_in, ending_in, known_of, worker_kind}
 use Rattle.cps_model.specs.Start.{objective_start}
 use Rattle.cps_port.specs.Incumbents.{IsLowerBound}
-use Rattle.cps_portfolio.specs.Outcomes.{CameTo, EndedWithin, GoesByModel, better, best_of}
-use Rattle.cps_portfolio.specs.Crews.{part_at, words_part, words_splits, IsReady, Worked, IsSeated, IsCrew, IsDone, IsBack, AreBack, EndedSeen, AreGathered}
+use Rattle.cps_portfolio.specs.Outcomes.{CameTo, EndedWithin, GoesByModel, HasSums, better, best_of}
+use Rattle.cps_portfolio.specs.Crews.{part_at, words_splits, IsReady, Worked, IsSeated, IsCrew, IsDone, IsBack, AreBack, EndedSeen, AreGathered}
 use Rattle.cps_portfolio.proofs.Going.{has_begun, done_from}
 
 -- ---- lists that grow and shrink at their end
@@ -196,7 +196,7 @@ one_gathered m gap conflicts first count k j q s e ends h kind_is done said is j
       each = All-cons (EndedSeen m gap conflicts j) e ends (record {
         part = q;
         ended = honest;
-        sums = ap (λ (x : Ending). x.defs) all ∙ done.sums;
+        sums = subst (λ (x : Ending). HasSums x.kind m x.defs) (sym all) done.sums;
         goes = subst (GoesByModel m gap conflicts) (sym all) done.goes;
         above = subst (λ (b : Bound). BoundLe b q.saw_upper) (sym upper) (lesser-second k.saw_upper q.saw_upper);
         below = λ b l. no_lower_second k.saw_lower q.saw_lower b (subst (λ (o : Option Bound). IsNoLower o b) lower l);
@@ -216,13 +216,12 @@ one_gathered m gap conflicts first count k j q s e ends h kind_is done said is j
 pub is_ready : (m : CpModel) (gap conflicts : ℕ) (board : Board) (bounds : Bounds) (number : ℕ) (c : Seated) → words.model_of bounds ≡ m → IsSeated m gap conflicts board bounds number c → IsReady m c
 is_ready m gap conflicts board bounds number c model h =
     let b = has_begun m gap conflicts (known_of c.worker) h.begins in
-    let of_model : (worker_search c.worker).instance.model ≡ m = ap (λ (x : Search). x.instance.model) b.is ∙ b.first.model in
     record {
-      of_model = of_model;
-      running = λ over. subst (λ (x : Search). IsOver x.said) b.is over;
-      memory = ap (λ (x : Search). x.refused) b.is;
-      model = ap words.model_of h.bounds_is ∙ model ∙ sym of_model;
-      imported = omega (arith, ap (λ (x : Search). x.imported) b.is);
+      of_model = b.model;
+      running = b.running;
+      memory = b.refused;
+      model = ap words.model_of h.bounds_is ∙ model ∙ sym b.model;
+      imported = (let none = b.imported in omega (arith, none));
     }
 
 pub is_back : (m : CpModel) (gap conflicts : ℕ) (board : Board) (bounds : Bounds) (number : ℕ) (a b : Seated) → IsSeated m gap conflicts board bounds number a → Worked a b → IsBack m gap conflicts board bounds number b

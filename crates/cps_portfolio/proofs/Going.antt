@@ -1,8 +1,12 @@
 -- What turns of a worker of any kind come to, and why they come to an end.
-use Rattle.std.specs.Prelude.{Option, Some, None, is_some, Bool, true, false}
-use Rattle.std.proofs.Common.{◌≡◌, refl, sym, ap, subst, ◌∙◌, ℕ, ◌+◌, ◌<◌, ◌⊎◌, inl, inr, []}
+use denote.Ref.{Bor}
+use Rattle.std.specs.Prelude.{Option, Some, None, IfSome, is_some, true, false, ℤ, List}
+use Rattle.std.proofs.Common.{◌≡◌, refl, sym, ap, subst, ◌∙◌, ℕ, ◌+◌, ◌<◌, inl, inr, []}
 use Rattle.cps_model.specs.declared.model.CpModel.{CpModel}
 use Rattle.cps_model.specs.declared.bound.Bound.TheVariants.{Infinite}
+use Rattle.cps_model.specs.Solutions.{IsSolution}
+use Rattle.cps_instance.specs.Strategies.{model_sums}
+use Rattle.cps_instance.specs.Sums.{DefinedSum}
 use Rattle.cps_instance.specs.Problem.{Problem}
 use Rattle.cps_trail.specs.Trail.{open_values}
 use Rattle.cps_port.specs.declared.part.BoardPart.{BoardPart}
@@ -10,23 +14,29 @@ use Rattle.cps_port.specs.declared.part.Part.{Part}
 use Rattle.cps_branch.specs.declared.guidance.Guidance.{Guidance}
 use Rattle.cps_branch.specs.Guidances.{ChoosesBy}
 use Rattle.cps_search.specs.declared.end.End.{End}
+use Rattle.cps_search.specs.declared.end.Said.{Said}
 use Rattle.cps_search.specs.declared.end.WorkerKind.{WorkerKind}
 use Rattle.cps_search.specs.declared.end.WorkerKind.TheVariants as kinds
 use Rattle.cps_search.specs.declared.turn.Turn.{Turn}
-use Rattle.cps_search.specs.Searches.{Search, IsSoundSearch}
-use Rattle.cps_search.specs.Moves.{fresh}
-use Rattle.cps_search.specs.Turns.{SameSetting}
+use Rattle.cps_search.specs.Searches.{Search, IsFound, IsSoundSearch}
 use Rattle.cps_search.specs.Following.{MovesWith}
 use Rattle.cps_search.specs.Guided.{IsGuidedBy, RunsBy}
 use Rattle.cps_search.specs.Ends.{EndsAs, IsComplete, IsHonestEnding, IsOver, RunsTo, TakesTurns, none_yet, one_more, end_of, ending}
 use Rattle.cps_search.proofs.Ending.{honest_ending}
 use Rattle.cps_search.proofs.Weighing.{left_of, lowered}
 use Rattle.cps_search.proofs.Working.{HasRun, run_begins, run_goes_on, run_ends}
+use Rattle.cps_core_guided.specs.Reforming.{CoreSearch}
+use Rattle.cps_core_guided.specs.CoreTurns.{TakesCoreTurns, core_ending, no_turn, one_turn_more}
+use Rattle.cps_core_guided.proofs.CoreEnding.{core-honest}
+use Rattle.cps_core_guided.proofs.CoreLasting.{core_left, core_lowered}
+use Rattle.cps_core_guided.proofs.CoreRunning.{HasCoreRun, core-begins, core-goes-on, core-turns-run}
+use Rattle.cps_core_guided.proofs.CoreTurning.{said-search}
 use Rattle.cps_neighbourhood.specs.Nears.{Near, NearRunsInTurns, TakesNearTurn, TakesNearTurns, aimed}
 use Rattle.cps_neighbourhood.specs.Nears.{none_yet as near_none_yet, one_more as near_one_more}
 use Rattle.cps_neighbourhood.proofs.Counting.{HasNearRun, near_begins, near_goes_on, near_honest, near_turns_run}
 use Rattle.cps_neighbourhood.proofs.Lasting.{near_left, near_lowered}
-use Rattle.cps_portfolio.specs.Workers.{AnySearch, by_guidance, in_rounds, search_in, kind_in, IsFirstInstance, BeginsGuided, BeginsRounds, BeginsAs, IsAimed, TakesTurnsBy, TurnedBy, TurnedNear, HasTurned, TakesTurnsAs, HasEnded}
+use Rattle.cps_portfolio.specs.Workers.{AnySearch, by_guidance, by_cores, in_rounds, search_in, GoesByGuidance, BeginsGuided, BeginsByCores, BeginsRounds, BeginsAs, IsAimed, TakesTurnsBy, TakesCoreTurnsBy, RunsByCores, TurnedBy, TurnedByCores, TurnedNear, HasTurned, TakesTurnsAs, HasEnded}
+use Rattle.cps_portfolio.specs.Outcomes.{HasSums}
 use Rattle.cps_portfolio.specs.Crews.{IsDone}
 
 pub none_of : (o : Option End) → false ≡ is_some o → o ≡ None
@@ -39,15 +49,38 @@ some_of (Some x) e = (x, refl)
 
 -- ---- a worker that begins
 
-pub record HasBegun (m : CpModel) (gap : ℕ) (s : Search) : Type 0 where
-  pub budget : Option ℕ
-  pub instance : Problem
-  pub first : IsFirstInstance m instance
-  pub is : s ≡ fresh instance gap budget
+-- of a model, with memory, and with nothing imported or said
+pub record HasBegun (m : CpModel) (s : Search) : Type 0 where
+  pub model : s.instance.model ≡ m
+  pub refused : s.refused ≡ false
+  pub imported : s.imported ≡ 0
+  pub running : IsOver s.said → ⊥
 
-pub has_begun : (m : CpModel) (gap conflicts : ℕ) (s : AnySearch) → BeginsAs m gap conflicts s → HasBegun m gap (search_in s)
-has_begun m gap conflicts (by_guidance kind guidance s) h = record { budget = Some conflicts; instance = h.begins.instance; first = h.begins.first; is = h.begins.is }
-has_begun m gap conflicts (in_rounds n) h = record { budget = None; instance = h.instance; first = h.first; is = h.is.search }
+pub has_begun : (m : CpModel) (gap conflicts : ℕ) (s : AnySearch) → BeginsAs m gap conflicts s → HasBegun m (search_in s)
+has_begun m gap conflicts (by_guidance kind guidance s) h =
+    let is = h.begins.is in
+    record {
+      model = ap (λ (x : Search). x.instance.model) is ∙ h.begins.first.model;
+      refused = ap (λ (x : Search). x.refused) is;
+      imported = ap (λ (x : Search). x.imported) is;
+      running = λ over. subst (λ (x : Search). IsOver x.said) is over;
+    }
+has_begun m gap conflicts (by_cores guidance s) h =
+    let b = h.begins.is in
+    record {
+      model = b.instance ∙ h.begins.first.model;
+      refused = ap (λ (x : Search). x.refused) b.search;
+      imported = ap (λ (x : Search). x.imported) b.search;
+      running = λ over. subst (λ (x : Said). IsOver x) (said-search s b.ended ∙ ap (λ (x : Search). x.said) b.search) over;
+    }
+has_begun m gap conflicts (in_rounds n) h =
+    let is = h.is.search in
+    record {
+      model = ap (λ (x : Search). x.instance.model) is ∙ h.first.model;
+      refused = ap (λ (x : Search). x.refused) is;
+      imported = ap (λ (x : Search). x.imported) is;
+      running = λ over. subst (λ (x : Search). IsOver x.said) is over;
+    }
 
 -- ---- a worker that is handed a solution
 
@@ -70,19 +103,32 @@ near_run rows s p t q near_none_yet = near_begins s p
 near_run rows s p t q (near_one_more m u n r turn before going last) = near_goes_on s m u rows p n r turn going (near_run rows s p m n before) last
 near_run rows s p t q (aimed u r solution before is) = (let k = near_run rows s p u r before in record { run = k.run; conflicts = k.conflicts })
 
+core_run : (rows : ℕ) (s : CoreSearch × Guidance) (p : Part) (t : CoreSearch × Guidance) (q : Part) → TakesCoreTurns ChoosesBy (λ before clause restart after. after ≡ before) (λ before after. after ≡ before) rows s p t q → HasCoreRun s.0 t.0 p q
+core_run rows s p t q no_turn = core-begins s.0 p
+core_run rows s p t q (one_turn_more m u n r turn before going one) = core-goes-on (ChoosesBy m.1) s.0 m.0 u.0 rows p n r turn (core_run rows s p m n before) one.search going
+
+-- a core-guided worker's problem may have grown
 pub record HasKept (s t : Search) (p q : Part) : Type 0 where
-  pub setting : SameSetting s t
+  pub model : t.instance.model ≡ s.instance.model
+  pub refused : t.refused ≡ s.refused
   pub moves : MovesWith s t p q
 
 pub has_kept : (rows : ℕ) (s t : AnySearch) (p q : Part) → TakesTurnsAs rows s t p q → HasKept (search_in s) (search_in t) p q
-has_kept rows (by_guidance kind g s) (by_guidance same h t) p q turns = (let run = has_run rows (s, g) p (t, g) q turns.2 in record { setting = run.setting; moves = run.moves })
-has_kept rows (by_guidance kind g s) (in_rounds n) p q turns = absurd turns
-has_kept rows (in_rounds m) (by_guidance kind g t) p q turns = absurd turns
-has_kept rows (in_rounds m) (in_rounds n) p q turns = (let run = near_run rows m p n q turns in record { setting = run.run.setting; moves = run.run.moves })
+has_kept rows (by_guidance kind g s) (by_guidance same h t) p q turns =
+    let run = has_run rows (s, g) p (t, g) q turns.2 in
+    record { model = ap (λ (x : Problem). x.model) run.setting.instance; refused = run.setting.refused; moves = run.moves }
+has_kept rows (by_cores g s) (by_cores h t) p q turns =
+    let run = core_run rows (s, g) p (t, g) q turns.1 in
+    record { model = run.setting.model; refused = run.setting.refused; moves = run.moves }
+has_kept rows (in_rounds m) (in_rounds n) p q turns =
+    let run = near_run rows m p n q turns in
+    record { model = ap (λ (x : Problem). x.model) run.run.setting.instance; refused = run.run.setting.refused; moves = run.run.moves }
+has_kept rows s t p q turns = absurd turns
 
 -- no turn yet
 pub none_taken : (rows : ℕ) (s : AnySearch) (p : Part) → TakesTurnsAs rows s s p p
 none_taken rows (by_guidance kind g s) p = (refl, refl, none_yet)
+none_taken rows (by_cores g s) p = (refl, no_turn)
 none_taken rows (in_rounds n) p = near_none_yet
 
 -- one turn more that did not end the worker
@@ -90,24 +136,36 @@ pub turned_on : (rows : ℕ) (first s t : AnySearch) (start p q : Part) → Take
 turned_on rows (by_guidance k g f) (by_guidance l h s) (by_guidance o i t) start p q turns turn =
     let last = subst (λ (x : Guidance). TurnedBy x rows s t p q false) turns.1 turn.2 in
     (turn.0 ∙ turns.0, turn.1 ∙ turns.1, one_more (s, g) (t, g) p q last.turn turns.2 (none_of (end_of last.turn) last.last) last.takes)
-turned_on rows (by_guidance k g f) (by_guidance l h s) (in_rounds n) start p q turns turn = absurd turn
-turned_on rows (by_guidance k g f) (in_rounds m) t start p q turns turn = absurd turns
-turned_on rows (in_rounds f) (by_guidance l h s) t start p q turns turn = absurd turns
-turned_on rows (in_rounds f) (in_rounds m) (by_guidance o i t) start p q turns turn = absurd turn
+turned_on rows (by_cores g f) (by_cores h s) (by_cores i t) start p q turns turn =
+    let last = subst (λ (x : Guidance). TurnedByCores x rows s t p q false) turns.0 turn.1 in
+    (turn.0 ∙ turns.0, one_turn_more (s, g) (t, g) p q last.turn turns.1 (none_of (end_of last.turn) last.last) last.takes)
 turned_on rows (in_rounds f) (in_rounds m) (in_rounds n) start p q turns turn =
     near_one_more turn.aimed n p q turn.turn (aimed_turns rows f start m turn.aimed p turns turn.aims) (none_of (end_of turn.turn) turn.last) turn.takes
+turned_on rows (by_guidance k g f) (by_guidance l h s) (by_cores i t) start p q turns turn = absurd turn
+turned_on rows (by_guidance k g f) (by_guidance l h s) (in_rounds t) start p q turns turn = absurd turn
+turned_on rows (by_guidance k g f) (by_cores h s) t start p q turns turn = absurd turns
+turned_on rows (by_guidance k g f) (in_rounds s) t start p q turns turn = absurd turns
+turned_on rows (by_cores g f) (by_cores h s) (by_guidance l i t) start p q turns turn = absurd turn
+turned_on rows (by_cores g f) (by_cores h s) (in_rounds t) start p q turns turn = absurd turn
+turned_on rows (by_cores g f) (by_guidance l h s) t start p q turns turn = absurd turns
+turned_on rows (by_cores g f) (in_rounds s) t start p q turns turn = absurd turns
+turned_on rows (in_rounds f) (in_rounds m) (by_guidance o i t) start p q turns turn = absurd turn
+turned_on rows (in_rounds f) (in_rounds m) (by_cores i t) start p q turns turn = absurd turn
+turned_on rows (in_rounds f) (by_guidance l h s) t start p q turns turn = absurd turns
+turned_on rows (in_rounds f) (by_cores h s) t start p q turns turn = absurd turns
 
 pub still_runs : (rows : ℕ) (s t : AnySearch) (p q : Part) → HasTurned rows s t p q false → IsOver (search_in t).said → ⊥
 still_runs rows (by_guidance k g s) (by_guidance l h t) p q turn = (let last = turn.2 in subst (λ (o : Option End). EndsAs o t) (none_of (end_of last.turn) last.last) last.takes.search.ends)
-still_runs rows (by_guidance k g s) (in_rounds n) p q turn = absurd turn
-still_runs rows (in_rounds m) (by_guidance l h t) p q turn = absurd turn
+still_runs rows (by_cores g s) (by_cores h t) p q turn = (let last = turn.1 in subst (λ (o : Option End). EndsAs o (search_in (by_cores h t))) (none_of (end_of last.turn) last.last) last.takes.search.ends)
 still_runs rows (in_rounds m) (in_rounds n) p q turn = subst (λ (o : Option End). EndsAs o n.search) (none_of (end_of turn.turn) turn.last) turn.takes.ends
+still_runs rows s t p q turn = absurd turn
 
 -- ---- why turns come to an end
 
 -- what a worker has left to do
 abbrev pub left_in : AnySearch → ℕ → BoardPart → ℕ
 left_in (by_guidance kind g s) rows b = left_of (open_values s.instance.domains [] + 1) s rows b
+left_in (by_cores g s) rows b = core_left s rows b
 left_in (in_rounds n) rows b = near_left (open_values n.search.instance.domains [] + 1) n rows b
 
 guided_lighter : (rows : ℕ) (g : Guidance) (s t : Search) (p q : Part) → TurnedBy g rows s t p q false → left_of (open_values t.instance.domains [] + 1) t rows q.board < left_of (open_values s.instance.domains [] + 1) s rows p.board
@@ -115,6 +173,11 @@ guided_lighter rows g s t p q turn =
     let setting = turn.takes.search.setting in
     let less = lowered s t rows p.board q.board turn.before turn.after setting (turn.takes.search.lowers (none_of (end_of turn.turn) turn.last)) in
     subst (λ (x : Problem). left_of (open_values x.domains [] + 1) t rows q.board < left_of (open_values s.instance.domains [] + 1) s rows p.board) (sym setting.instance) less
+
+core_lighter : (rows : ℕ) (g : Guidance) (s t : CoreSearch) (p q : Part) → TurnedByCores g rows s t p q false → core_left t rows q.board < core_left s rows p.board
+core_lighter rows g s t p q turn =
+    let takes = turn.takes in
+    core_lowered s t rows p.board q.board takes.before takes.after takes.search.setting (takes.search.lowers (none_of (end_of turn.turn) turn.last))
 
 near_lighter_by : (rows : ℕ) (m n : Near) (p q : Part) (turn : Turn) → IsSoundSearch m.search → IsSoundSearch n.search → m.search.budget ≡ None → end_of turn ≡ None → TakesNearTurn m n rows p q turn
     → near_left (open_values n.search.instance.domains [] + 1) n rows q.board < near_left (open_values m.search.instance.domains [] + 1) m rows p.board
@@ -135,13 +198,25 @@ near_lighter rows m n p q turn = go turn.aimed turn.aims turn.takes
 
 pub lighter_in : (rows : ℕ) (s t : AnySearch) (p q : Part) → HasTurned rows s t p q false → left_in t rows q.board < left_in s rows p.board
 lighter_in rows (by_guidance k g s) (by_guidance l h t) p q turn = guided_lighter rows g s t p q turn.2
-lighter_in rows (by_guidance k g s) (in_rounds n) p q turn = absurd turn
-lighter_in rows (in_rounds m) (by_guidance l h t) p q turn = absurd turn
+lighter_in rows (by_cores g s) (by_cores h t) p q turn = core_lighter rows g s t p q turn.1
 lighter_in rows (in_rounds m) (in_rounds n) p q turn = near_lighter rows m n p q turn
+lighter_in rows s t p q turn = absurd turn
 
 -- ---- a worker that knew nothing at first has ended
 
--- a complete one, by a guidance that is what the model says
+complete_of : (kind : WorkerKind) → GoesByGuidance kind → IsComplete kind
+complete_of kinds.Fixed h = tt
+complete_of kinds.Activity h = tt
+complete_of kinds.CoreGuided h = tt
+complete_of kinds.Near h = absurd h
+
+sums_of : (kind : WorkerKind) (m : CpModel) (defs : List DefinedSum) → defs ≡ model_sums m → HasSums kind m defs
+sums_of kinds.Fixed m defs h = h
+sums_of kinds.Activity m defs h = h
+sums_of kinds.CoreGuided m defs h = tt
+sums_of kinds.Near m defs h = h
+
+-- one that went by a guidance that is what the model says
 guided_done : (m : CpModel) (gap conflicts rows : ℕ) (kind : WorkerKind) (g : Guidance) (s u t : Search) (p n q : Part) → BeginsGuided m gap conflicts kind g s → TakesTurnsBy g rows s u p n → TurnedBy g rows u t n q true
     → p.bounds.offered ≡ Infinite → p.bounds.raised ≡ None → IsDone m gap conflicts q.bounds (by_guidance kind g t)
 guided_done m gap conflicts rows kind g s u t p n q begins turns last offered raised =
@@ -154,8 +229,8 @@ guided_done m gap conflicts rows kind g s u t p n q begins turns last offered ra
       end = e.0;
       over = ends.said;
       honest = subst (λ (x : CpModel). IsHonestEnding x gap conflicts q.bounds (ending kind (Some g) e.0 t)) b.first.model
-          (honest_ending b.instance gap conflicts t p q kind (Some g) e.0 begins.complete runs last.after offered raised);
-      sums = ap (λ (x : Problem). x.defs) runs.setting.instance ∙ b.first.sums;
+          (honest_ending b.instance gap conflicts t p q kind (Some g) e.0 (complete_of kind begins.guided) runs last.after offered raised);
+      sums = sums_of kind m t.instance.defs (ap (λ (x : Problem). x.defs) runs.setting.instance ∙ b.first.sums);
       goes = record {
         instance = b.instance;
         is_instance = b.first.sound;
@@ -170,7 +245,34 @@ guided_done m gap conflicts rows kind g s u t p n q begins turns last offered ra
           runs = subst (λ (x : Search). RunsBy g rows x t p q e.0) b.is guided;
           seen = refl;
         };
-        rounds = λ is. absurd (subst IsComplete is begins.complete);
+        cores = λ is. absurd (subst GoesByGuidance is begins.guided);
+        rounds = λ is. absurd (subst GoesByGuidance is begins.guided);
+      };
+    }
+
+-- one that went by cores
+core_done : (m : CpModel) (gap conflicts rows : ℕ) (g : Guidance) (s u t : CoreSearch) (p n q : Part) → BeginsByCores m gap conflicts g s → TakesCoreTurnsBy g rows s u p n → TurnedByCores g rows u t n q true
+    → p.bounds.offered ≡ Infinite → p.bounds.raised ≡ None → IsDone m gap conflicts q.bounds (by_cores g t)
+core_done m gap conflicts rows g s u t p n q begins turns last offered raised =
+    let e = some_of (end_of last.turn) last.last in
+    let b = begins.begins in
+    let runs : RunsByCores g rows s t p q e.0 = record { before = (u, g); part = n; turns = turns; turn = last.turn; last = last.takes; ended = e.1 } in
+    let run = core-turns-run ChoosesBy (λ before clause restart after. after ≡ before) (λ before after. after ≡ before) rows (s, g) (t, g) p q e.0 runs last.takes.before in
+    record {
+      end = e.0;
+      over = run.said;
+      honest = subst (λ (x : CpModel). IsHonestEnding x gap conflicts q.bounds (core_ending e.0 t)) b.first.model
+          (core-honest ChoosesBy (λ before clause restart after. after ≡ before) (λ before after. after ≡ before) b.instance gap conflicts rows (s, g) (t, g) p q e.0 b.is runs last.takes.before last.takes.after offered raised);
+      sums = tt;
+      goes = record {
+        instance = t.search.instance;
+        is_instance = last.takes.after.search.instance;
+        model = run.setting.model ∙ b.is.instance ∙ b.first.model;
+        sums = refl;
+        guide = tt;
+        decisions = tt;
+        cores = λ is. record { rows = rows; guidance = g; first = s; begins = begins; done = t; before = p; after = q; runs = runs; seen = refl };
+        rounds = λ is. absurd (cc is);
       };
     }
 
@@ -196,6 +298,7 @@ near_done m gap conflicts rows s u t p n q begins turns last offered raised =
         sums = sym (ap (λ (x : Problem). x.defs) instance);
         guide = tt;
         decisions = tt;
+        cores = λ is. absurd (cc is);
         rounds = λ is. record { rows = rows; draws = begins.draws; first = s; begins = begins.is; done = t; before = p; after = q; runs = runs; seen = refl };
       };
     }
@@ -205,11 +308,31 @@ done_by : (m : CpModel) (gap conflicts rows : ℕ) (s u t : AnySearch) (p n q : 
 done_by m gap conflicts rows (by_guidance k g s) (by_guidance l h u) (by_guidance o i t) p n q begins turns last offered raised =
     let done = guided_done m gap conflicts rows k g s u t p n q begins turns.2 (subst (λ (x : Guidance). TurnedBy x rows u t n q true) turns.1 last.2) offered raised in
     subst (λ (x : WorkerKind). IsDone m gap conflicts q.bounds (by_guidance x i t)) (sym (last.0 ∙ turns.0)) (subst (λ (x : Guidance). IsDone m gap conflicts q.bounds (by_guidance k x t)) (sym (last.1 ∙ turns.1)) done)
-done_by m gap conflicts rows (by_guidance k g s) (by_guidance l h u) (in_rounds t) p n q begins turns last offered raised = absurd last
-done_by m gap conflicts rows (by_guidance k g s) (in_rounds u) t p n q begins turns last offered raised = absurd turns
-done_by m gap conflicts rows (in_rounds s) (by_guidance l h u) t p n q begins turns last offered raised = absurd turns
-done_by m gap conflicts rows (in_rounds s) (in_rounds u) (by_guidance o i t) p n q begins turns last offered raised = absurd last
+done_by m gap conflicts rows (by_cores g s) (by_cores h u) (by_cores i t) p n q begins turns last offered raised =
+    let done = core_done m gap conflicts rows g s u t p n q begins turns.1 (subst (λ (x : Guidance). TurnedByCores x rows u t n q true) turns.0 last.1) offered raised in
+    subst (λ (x : Guidance). IsDone m gap conflicts q.bounds (by_cores x t)) (sym (last.0 ∙ turns.0)) done
 done_by m gap conflicts rows (in_rounds s) (in_rounds u) (in_rounds t) p n q begins turns last offered raised = near_done m gap conflicts rows s u t p n q begins turns last offered raised
+done_by m gap conflicts rows (by_guidance k g s) (by_guidance l h u) (by_cores i t) p n q begins turns last offered raised = absurd last
+done_by m gap conflicts rows (by_guidance k g s) (by_guidance l h u) (in_rounds t) p n q begins turns last offered raised = absurd last
+done_by m gap conflicts rows (by_guidance k g s) (by_cores h u) t p n q begins turns last offered raised = absurd turns
+done_by m gap conflicts rows (by_guidance k g s) (in_rounds u) t p n q begins turns last offered raised = absurd turns
+done_by m gap conflicts rows (by_cores g s) (by_cores h u) (by_guidance o i t) p n q begins turns last offered raised = absurd last
+done_by m gap conflicts rows (by_cores g s) (by_cores h u) (in_rounds t) p n q begins turns last offered raised = absurd last
+done_by m gap conflicts rows (by_cores g s) (by_guidance l h u) t p n q begins turns last offered raised = absurd turns
+done_by m gap conflicts rows (by_cores g s) (in_rounds u) t p n q begins turns last offered raised = absurd turns
+done_by m gap conflicts rows (in_rounds s) (in_rounds u) (by_guidance o i t) p n q begins turns last offered raised = absurd last
+done_by m gap conflicts rows (in_rounds s) (in_rounds u) (by_cores i t) p n q begins turns last offered raised = absurd last
+done_by m gap conflicts rows (in_rounds s) (by_guidance l h u) t p n q begins turns last offered raised = absurd turns
+done_by m gap conflicts rows (in_rounds s) (by_cores h u) t p n q begins turns last offered raised = absurd turns
 
 pub done_from : (m : CpModel) (gap conflicts rows : ℕ) (s t : AnySearch) (p q : Part) → BeginsAs m gap conflicts s → p.bounds.offered ≡ Infinite → p.bounds.raised ≡ None → HasEnded rows s t p q → IsDone m gap conflicts q.bounds t
 done_from m gap conflicts rows s t p q begins offered raised h = done_by m gap conflicts rows s h.before t p h.part q begins h.turns h.last offered raised
+
+-- ---- what is found
+
+-- what a sound search has found is a solution of its model
+pub found_is : (m : CpModel) (s : Search) (o : Option (Bor (List ℤ))) → IsSoundSearch s → s.instance.model ≡ m → IfSome o (λ v. s.best ≡ Some v.now) → IfSome o (λ v. IsSolution m v.now)
+found_is m s None sound model h = tt
+found_is m s (Some v) sound model h =
+    let found : IsFound s v.now = subst (λ (b : Option (List ℤ)). IfSome b (IsFound s)) h sound.best in
+    subst (λ (x : CpModel). IsSolution x v.now) model found.solution

@@ -9,7 +9,6 @@ use Rattle.cps_model.specs.declared.bound.Bound.TheVariants.{At, Infinite}
 use Rattle.cps_model.specs.Solutions.{objective_value, IsSolution}
 use Rattle.cps_model.specs.Start.{objective_start}
 use Rattle.cps_model.specs.Statuses.{is_closed, status_of, IsAtMost}
-use Rattle.cps_instance.specs.Strategies.{model_sums}
 use Rattle.cps_port.specs.Order.{BoundLe, IsNoLower, greater, raised_above}
 use Rattle.cps_port.specs.Incumbents.{IsLowerBound}
 use Rattle.cps_port.proofs.Bounding.{BoundLe-refl, BoundLe-trans, greater-first}
@@ -27,7 +26,7 @@ use Rattle.cps_search.specs.Following.{best_bound}
 use Rattle.cps_search.proofs.Bounds.{greater-second}
 use Rattle.cps_options.specs.declared.options.Options.{Options}
 use Rattle.cps_portfolio.specs.declared.outcome.Outcome.{Outcome}
-use Rattle.cps_portfolio.specs.Outcomes.{IsGoodOutcome, GoesByModel, DidItsPart, DidItsPartAs, SpentItsBudget, EndedWithin, CameTo, better, best_of, core_if, core_of, greatest_raised}
+use Rattle.cps_portfolio.specs.Outcomes.{IsGoodOutcome, GoesByModel, HasSums, DidItsPart, DidItsPartAs, SpentItsBudget, EndedWithin, CameTo, better, best_of, core_if, core_of, greatest_raised}
 
 -- ---- bounds that meet
 
@@ -128,12 +127,12 @@ spent_apart m gap conflicts upper lower e h raised apart = go e.end refl w.why
 
 -- what holds of a worker's core where it is the one that counts
 core_by : (P : List ℤ → Type 0) (end : End) (raised : Option Bound) (core other : List ℤ) → ((end ≡ ends.Exhausted) × (raised ≡ Some Infinite) → P core) → (((end ≡ ends.Exhausted) × (raised ≡ Some Infinite) → ⊥) → P other) → P (core_if end raised core other)
-core_by P ends.Exhausted (Some Infinite) core other yes no = yes (refl, refl)
-core_by P ends.Exhausted (Some (At v)) core other yes no = no (λ h. absurd (let bad : Some (At v) ≡ Some Infinite = h.1 in cc))
-core_by P ends.Exhausted None core other yes no = no (λ h. absurd (let bad : None ≡ Some Infinite = h.1 in cc))
-core_by P ends.SawClosed raised core other yes no = no (λ h. absurd (let bad : ends.SawClosed ≡ ends.Exhausted = h.0 in cc))
-core_by P (ends.Spent clause below) raised core other yes no = no (λ h. absurd (let bad : ends.Spent clause below ≡ ends.Exhausted = h.0 in cc))
-core_by P ends.RoundsDone raised core other yes no = no (λ h. absurd (let bad : ends.RoundsDone ≡ ends.Exhausted = h.0 in cc))
+core_by P ends.Exhausted (Some Infinite) core other counts passes = counts (refl, refl)
+core_by P ends.Exhausted (Some (At v)) core other counts passes = passes (λ h. absurd (let bad : Some (At v) ≡ Some Infinite = h.1 in cc))
+core_by P ends.Exhausted None core other counts passes = passes (λ h. absurd (let bad : None ≡ Some Infinite = h.1 in cc))
+core_by P ends.SawClosed raised core other counts passes = passes (λ h. absurd (let bad : ends.SawClosed ≡ ends.Exhausted = h.0 in cc))
+core_by P (ends.Spent clause below) raised core other counts passes = passes (λ h. absurd (let bad : ends.Spent clause below ≡ ends.Exhausted = h.0 in cc))
+core_by P ends.RoundsDone raised core other counts passes = passes (λ h. absurd (let bad : ends.RoundsDone ≡ ends.Exhausted = h.0 in cc))
 
 infinite_or_less : (raised : Option Bound) (rest : Bound) → raised_above raised rest ≡ Infinite → (raised ≡ Some Infinite) ⊎ (rest ≡ Infinite)
 infinite_or_less None rest e = inr e
@@ -173,7 +172,7 @@ pub good_outcome : (m : CpModel) (options : Options) (o : Outcome) → CameTo m 
     → IsGoodOutcome m options o
 good_outcome m options o h status solution core = record {
   workers = h.kinds;
-  sums = All-weaker (EndedWithin m options.gap options.conflicts o.upper o.lower) (λ (e : Ending). e.defs ≡ model_sums m) (λ e k. k.sums) o.ends h.each;
+  sums = All-weaker (EndedWithin m options.gap options.conflicts o.upper o.lower) (λ (e : Ending). HasSums e.kind m e.defs) (λ e k. k.sums) o.ends h.each;
   branchers = All-weaker (EndedWithin m options.gap options.conflicts o.upper o.lower) (GoesByModel m options.gap options.conflicts) (λ e k. k.goes) o.ends h.each;
   status = status;
   found = all_found m options.gap options.conflicts options.workers o.upper o.lower o.ends h;

@@ -1,5 +1,5 @@
 -- Workers that take turns.
-use Rattle.std.specs.Prelude.{Option, Some, None, is_some, Bool, true, false, if◌then◌else◌, All, map}
+use Rattle.std.specs.Prelude.{Option, None, Bool, true, false, if◌then◌else◌, All, map}
 use Rattle.std.specs.List.{range_with_len}
 use Rattle.std.proofs.lemmas.List.Elements.{All-nil, All-cons}
 use Rattle.std.proofs.Common.{◌≡◌, ◌≢◌, refl, sym, ap, subst, ◌∙◌, ℕ, zero, suc, ◌+◌, ◌<◌, ◌≤◌, ◌%◌, List, [], ◌∷◌, length, get_or, set, drop, arith, length-set, ap₂, replicate}
@@ -10,7 +10,6 @@ use Rattle.cps_model.specs.declared.model.CpModel.{CpModel}
 use Rattle.cps_model.specs.declared.bound.Bound.{Bound}
 use Rattle.cps_model.specs.declared.bound.Bound.TheVariants.{At}
 use Rattle.cps_model.specs.Start.{objective_start}
-use Rattle.cps_instance.specs.Problem.{Problem}
 use Rattle.cps_port.specs.declared.entry.Entry.{Entry}
 use Rattle.cps_port.specs.Cores.{Core, part_at, actor_count, first_core}
 use Rattle.cps_port.specs.Parts.{newcomer, no_rows, no_bounds}
@@ -23,7 +22,6 @@ use Rattle.cps_port.specs.Incumbents.{IsLowerBound}
 use Rattle.cps_port.specs.Sound.{IsSoundCore, least_offer, greatest_raise}
 use Rattle.cps_search.specs.declared.end.WorkerKind.{WorkerKind}
 use Rattle.cps_search.specs.declared.end.Said.{Said}
-use Rattle.cps_search.specs.Searches.{Search}
 use Rattle.cps_search.specs.Ends.{Ending, IsHonestEnding, IsOver}
 use Rattle.cps_search.specs.Following.{best_bound}
 use Rattle.cps_portfolio.specs.declared.interleaved.Turning.{Turning}
@@ -75,19 +73,19 @@ pub work_model : (m : CpModel) (gap conflicts rows : ℕ) (s : AnySearch) (q : P
 work_model m gap conflicts rows s q h =
     let b = has_begun m gap conflicts h.first h.begins in
     let kept = has_kept rows h.first s newcomer q h.turns in
-    ap (λ (p : Problem). p.model) kept.setting.instance ∙ ap (λ (x : Search). x.instance.model) b.is ∙ b.first.model
+    kept.model ∙ b.model
 
 pub work_memory : (m : CpModel) (gap conflicts rows : ℕ) (s : AnySearch) (q : Part) → AtWork m gap conflicts rows s q → (search_in s).refused ≡ false
 work_memory m gap conflicts rows s q h =
     let b = has_begun m gap conflicts h.first h.begins in
     let kept = has_kept rows h.first s newcomer q h.turns in
-    kept.setting.refused ∙ ap (λ (x : Search). x.refused) b.is
+    kept.refused ∙ b.refused
 
 pub work_imported : (m : CpModel) (gap conflicts rows : ℕ) (s : AnySearch) (q : Part) → AtWork m gap conflicts rows s q → (search_in s).imported ≤ length q.board.taken
 work_imported m gap conflicts rows s q h =
     let b = has_begun m gap conflicts h.first h.begins in
     let kept = has_kept rows h.first s newcomer q h.turns in
-    kept.moves.imports (let none : (search_in h.first).imported ≡ 0 = ap (λ (x : Search). x.imported) b.is in omega (arith, none))
+    kept.moves.imports (let none = b.imported in omega (arith, none))
 
 turns_on : (m : CpModel) (gap conflicts rows : ℕ) (c d : Core) (i : ℕ) (w v : Turning) → IsTurning m gap conflicts rows c i w → w.over ≡ false → kind_of v.worker ≡ kind_of w.worker
     → HasTurned rows (known_of w.worker) (known_of v.worker) (part_at c i) (part_at d i) v.over → IsTurning m gap conflicts rows d i v
@@ -232,7 +230,7 @@ all_fresh m gap conflicts seed board actors rows c crew is h = record { each = �
             first = s;
             begins = k.begins;
             turns = subst (TakesTurnsAs board s s newcomer) (sym part) (none_taken board s newcomer);
-            running = λ over. subst (λ (x : Search). IsOver x.said) b.is over;
+            running = b.running;
           };
           done = λ stopped. absurd (let q : false ≡ true = sym k.not_over ∙ stopped in cc);
         }

@@ -4,7 +4,6 @@ use Rattle.std.specs.List.{range_with_len}
 use Rattle.cps_model.specs.declared.bound.Bound.{Bound}
 use Rattle.cps_model.specs.declared.bound.Bound.TheVariants.{Infinite}
 use Rattle.cps_model.specs.declared.model.CpModel.{CpModel}
-use Rattle.cps_instance.specs.Strategies.{model_sums}
 use Rattle.cps_bounds.specs.declared.seats.Bounds.{Bounds}
 use Rattle.cps_board.specs.declared.seats.Board.{Board}
 use Rattle.cps_bounds.specs.Seats as words
@@ -18,8 +17,8 @@ use Rattle.cps_search.specs.Ends.{Ending, IsOver, IsHonestEnding}
 use Rattle.cps_search.specs.Following.{best_bound}
 use Rattle.cps_portfolio.specs.declared.seats.Seated.{Seated}
 use Rattle.cps_portfolio.specs.Ports.{part_of, SeatsStay}
-use Rattle.cps_portfolio.specs.Workers.{AnySearch, search_in, ending_in, known_of, worker_search, kind_of, worker_kind, BeginsAs, HasEnded}
-use Rattle.cps_portfolio.specs.Outcomes.{GoesByModel, best_of, greatest_raised}
+use Rattle.cps_portfolio.specs.Workers.{AnySearch, search_in, kind_in, ending_in, known_of, worker_search, kind_of, worker_kind, BeginsAs, HasEnded}
+use Rattle.cps_portfolio.specs.Outcomes.{GoesByModel, HasSums, best_of, greatest_raised}
 
 abbrev pub part_at : Seated → Part
 part_at c = part_of c.port.board_seat c.port.bounds_seat
@@ -58,12 +57,12 @@ pub record IsSeated (m : CpModel) (gap conflicts : ℕ) (board : Board) (bounds 
 pub record IsCrew (m : CpModel) (gap conflicts : ℕ) (board : Board) (bounds : Bounds) (crew : List Seated) : Type 0 where
   pub each : (i : ℕ) (d : Seated) → i < length crew → IsSeated m gap conflicts board bounds i (slice_index_or crew i d)
 
--- a worker that ended honestly, by its guidance or its rounds
+-- a worker that ended honestly, by its guidance, its cores or its rounds
 pub record IsDone (m : CpModel) (gap conflicts : ℕ) (q : BoundsPart) (s : AnySearch) : Type 0 where
   pub end : End
   pub over : (search_in s).said ≡ Over end
   pub honest : IsHonestEnding m gap conflicts q (ending_in s end)
-  pub sums : (search_in s).instance.defs ≡ model_sums m
+  pub sums : HasSums (kind_in s) m (search_in s).instance.defs
   pub goes : GoesByModel m gap conflicts (ending_in s end)
 
 -- the worker of this number has ended honestly, or ran out of memory
@@ -80,7 +79,7 @@ pub record AreBack (m : CpModel) (gap conflicts : ℕ) (board : Board) (bounds :
 pub record EndedSeen (m : CpModel) (gap conflicts : ℕ) (k : BoundsPart) (e : Ending) : Type 0 where
   pub part : BoundsPart
   pub ended : IsHonestEnding m gap conflicts part e
-  pub sums : e.defs ≡ model_sums m
+  pub sums : HasSums e.kind m e.defs
   pub goes : GoesByModel m gap conflicts e
   pub above : BoundLe k.saw_upper part.saw_upper
   pub below : (b : Bound) → IsNoLower k.saw_lower b → IsNoLower part.saw_lower b

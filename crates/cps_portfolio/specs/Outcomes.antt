@@ -1,5 +1,5 @@
 -- What the outcome of a search says of its model.
-use Rattle.std.specs.Prelude.{◌≡◌, ◌≤◌, ℕ, false, if◌then◌else◌, ℤ, int_lt, Option, Some, None, IfSome, List, [], ◌∷◌, ◌++◌, map, All}
+use Rattle.std.specs.Prelude.{◌≡◌, ◌≤◌, ⊤, ℕ, false, if◌then◌else◌, ℤ, int_lt, Option, Some, None, IfSome, List, [], ◌∷◌, ◌++◌, map, All}
 use Rattle.std.specs.List.{range_with_len}
 use Rattle.rand_pcg.specs.Lcg.{Lcg}
 use Rattle.cps_model.specs.declared.model.CpModel.{CpModel}
@@ -11,6 +11,7 @@ use Rattle.cps_model.specs.Statuses.{is_closed, status_of, IsAtMost}
 use Rattle.cps_literal.specs.declared.atom.Atom.{Atom}
 use Rattle.cps_instance.specs.Problem.{Problem, IsInstance}
 use Rattle.cps_instance.specs.Strategies.{model_sums}
+use Rattle.cps_instance.specs.Sums.{DefinedSum}
 use Rattle.cps_port.specs.declared.part.BoundsPart.{BoundsPart}
 use Rattle.cps_port.specs.declared.part.Part.{Part}
 use Rattle.cps_port.specs.Order.{BoundLe, IsNoLower, raised_above}
@@ -26,10 +27,13 @@ use Rattle.cps_search.specs.Searches.{IsHonestJournal, IsItemAbove, learnt_count
 use Rattle.cps_search.specs.Ends.{Ending, IsHonestEnding, ending, round_count}
 use Rattle.cps_search.specs.Following.{best_bound}
 use Rattle.cps_search.specs.Guided.{IsEndOfRun, IsGuidedBy}
+use Rattle.cps_branch.specs.declared.guidance.Guidance.{Guidance}
+use Rattle.cps_core_guided.specs.Reforming.{CoreSearch}
+use Rattle.cps_core_guided.specs.CoreTurns.{core_ending}
 use Rattle.cps_neighbourhood.specs.Nears.{Near, BeginsNear, NearRunsInTurns}
 use Rattle.cps_options.specs.declared.options.Options.{Options}
 use Rattle.cps_portfolio.specs.declared.outcome.Outcome.{Outcome}
-use Rattle.cps_portfolio.specs.Workers.{worker_kind}
+use Rattle.cps_portfolio.specs.Workers.{worker_kind, BeginsByCores, RunsByCores}
 
 -- the kinds of the workers by number
 abbrev pub kinds_of : ℕ → List WorkerKind
@@ -51,7 +55,7 @@ abbrev pub greatest_raised : Bound → List Ending → Bound
 greatest_raised start [] = start
 greatest_raised start (e ∷ es) = raised_above e.raised (greatest_raised start es)
 
--- one core of a worker that left no solution at all, else the other
+-- the core of a worker that left no solution at all; where it left some, the other core
 abbrev pub core_if : End → Option Bound → List ℤ → List ℤ → List ℤ
 core_if Exhausted (Some Infinite) core other = core
 core_if Exhausted (Some (At value)) core other = other
@@ -117,9 +121,31 @@ pub record IsEndOfRounds (p : Problem) (gap conflicts : ℕ) (e : Ending) : Type
   pub runs : NearRunsInTurns rows first done before after e.end
   pub seen : e ≡ ending kinds.Near None e.end done.search
 
+-- What is seen of a core-guided worker that ended is what turns come to that began with nothing known but the
+-- objective's first form, over an instance of the model; where nothing is left to assume, they go by the model's hint.
+pub record IsEndOfCores (m : CpModel) (gap conflicts : ℕ) (e : Ending) : Type 0 where
+  pub rows : ℕ
+  pub guidance : Guidance
+  pub first : CoreSearch
+  pub begins : BeginsByCores m gap conflicts guidance first
+  pub done : CoreSearch
+  pub before : Part
+  pub after : Part
+  pub runs : RunsByCores guidance rows first done before after e.end
+  pub seen : e ≡ core_ending e.end done
+
+-- The sums that a worker of a kind defined are those that the model writes; only a core-guided one defines more, for
+-- its form of the objective.
+abbrev pub HasSums : WorkerKind → CpModel → List DefinedSum → Type 0
+HasSums kinds.Fixed m defs = defs ≡ model_sums m
+HasSums kinds.Activity m defs = defs ≡ model_sums m
+HasSums kinds.CoreGuided m defs = ⊤
+HasSums kinds.Near m defs = defs ≡ model_sums m
+
 -- The decisions of a worker that ended went by what the model says, over an instance with the worker's sums: what is
--- seen of a worker of a complete kind is what a run comes to that begins with nothing known, and each decision of which
--- goes by its guidance; and what is seen of a neighbourhood worker is what its rounds come to.
+-- seen of one that goes by a guidance is what a run comes to that begins with nothing known, and each decision of which
+-- goes by that guidance; what is seen of a core-guided worker is what its reforms and decisions come to; and what is
+-- seen of a neighbourhood worker is what its rounds come to.
 pub record GoesByModel (m : CpModel) (gap conflicts : ℕ) (e : Ending) : Type 0 where
   pub instance : Problem
   pub is_instance : IsInstance instance
@@ -127,15 +153,16 @@ pub record GoesByModel (m : CpModel) (gap conflicts : ℕ) (e : Ending) : Type 0
   pub sums : instance.defs ≡ e.defs
   pub guide : IsGuidedBy e.kind instance e.guidance
   pub decisions : IfSome e.guidance (λ guidance. IsEndOfRun instance gap conflicts guidance e)
+  pub cores : e.kind ≡ kinds.CoreGuided → IsEndOfCores m gap conflicts e
   pub rounds : e.kind ≡ kinds.Near → IsEndOfRounds instance gap conflicts e
 
 pub record IsGoodOutcome (m : CpModel) (options : Options) (o : Outcome) : Type 0 where
-  -- each worker ended, and is of the kind that its number says, with the sums that the model's strategies write and no
-  -- others
+  -- each worker ended, and is of the kind that its number says, with the sums that the model writes and, but for a
+  -- core-guided one, no others
   pub workers : map (λ e. e.kind) o.ends ≡ kinds_of options.workers
-  pub sums : All (λ e. e.defs ≡ model_sums m) o.ends
+  pub sums : All (λ e. HasSums e.kind m e.defs) o.ends
   -- a fixed worker decides by the model's strategies and then takes the variables, an activity worker by the model's
-  -- hint, and a neighbourhood worker in rounds
+  -- hint, a core-guided worker by assumptions and then by the hint, and a neighbourhood worker in rounds
   pub branchers : All (GoesByModel m options.gap options.conflicts) o.ends
   -- the status is that of the two bounds
   pub status : o.status ≡ status_of o.upper o.lower options.gap
@@ -158,7 +185,7 @@ pub record IsGoodOutcome (m : CpModel) (options : Options) (o : Outcome) : Type 
 pub record EndedWithin (m : CpModel) (gap conflicts : ℕ) (upper lower : Bound) (e : Ending) : Type 0 where
   pub part : BoundsPart
   pub ended : IsHonestEnding m gap conflicts part e
-  pub sums : e.defs ≡ model_sums m
+  pub sums : HasSums e.kind m e.defs
   pub goes : GoesByModel m gap conflicts e
   pub above : BoundLe upper part.saw_upper
   pub below : IsNoLower part.saw_lower lower

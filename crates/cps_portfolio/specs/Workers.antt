@@ -1,6 +1,6 @@
--- Workers of several kinds, seen as searches: one that goes by a guidance, or one that searches near solutions in
--- rounds.
-use Rattle.std.specs.Prelude.{◌≡◌, ◌⊎◌, ⊤, ℕ, ◌+◌, ◌%◌, ◌==◌, if◌then◌else◌, ℤ, Bool, true, Option, Some, None, List, is_some}
+-- Workers of several kinds, seen as searches: one that goes by a guidance, one that goes by cores, or one that searches
+-- near solutions in rounds.
+use Rattle.std.specs.Prelude.{◌≡◌, ◌⊎◌, ⊤, ℕ, ◌+◌, ◌<◌, ◌%◌, ◌==◌, if◌then◌else◌, ℤ, Bool, true, Option, Some, None, List, is_some}
 use Rattle.rand_pcg.specs.Lcg.{Lcg}
 use Rattle.cps_model.specs.declared.model.CpModel.{CpModel}
 use Rattle.cps_model.specs.Solutions.{IsSolution}
@@ -17,37 +17,46 @@ use Rattle.cps_search.specs.Searches.{Search, IsSoundSearch}
 use Rattle.cps_search.specs.Moves.{fresh}
 use Rattle.cps_search.specs.Guided.{IsGuidedBy}
 use Rattle.cps_branch.specs.Guidances.{ChoosesBy}
-use Rattle.cps_search.specs.Ends.{Ending, IsComplete, OneTurn, TakesTurns, end_of, ending}
+use Rattle.cps_search.specs.Ends.{Ending, OneTurn, TakesTurns, end_of, ending}
+use Rattle.cps_core_guided.specs.Reforming.{CoreSearch, whole}
+use Rattle.cps_core_guided.specs.CoreTurns.{BeginsCore, OneCoreTurn, RunsInCoreTurns, TakesCoreTurns}
 use Rattle.cps_neighbourhood.specs.Drawing.{draws_of}
 use Rattle.cps_neighbourhood.specs.Nears.{Near, BeginsNear, TakesNearTurn, TakesNearTurns}
 use Rattle.cps_portfolio.specs.declared.worker.AnyWorker.{AnyWorker}
-use Rattle.cps_portfolio.specs.declared.worker.AnyWorker.TheVariants.{Fixed, Activity, Near as NearSolutions}
+use Rattle.cps_portfolio.specs.declared.worker.AnyWorker.TheVariants.{Fixed, Activity, Core, Near as NearSolutions}
 
--- what is known of a worker: a search of a complete kind that goes by a guidance, or one that goes in rounds
+-- what is known of a worker: a search of a kind that goes by a guidance; one that goes by cores, and by a guidance
+-- where there is nothing left to assume; or one that goes in rounds
 pub data AnySearch : Type 0 where
   by_guidance : WorkerKind → Guidance → Search → AnySearch
+  by_cores : Guidance → CoreSearch → AnySearch
   in_rounds : Near → AnySearch
 
 abbrev pub search_in : AnySearch → Search
 search_in (by_guidance kind guidance s) = s
+search_in (by_cores guidance s) = whole s
 search_in (in_rounds n) = n.search
 
 abbrev pub kind_in : AnySearch → WorkerKind
 kind_in (by_guidance kind guidance s) = kind
+kind_in (by_cores guidance s) = kinds.CoreGuided
 kind_in (in_rounds n) = kinds.Near
 
+-- the guidance that is seen of it when it has ended
 abbrev pub guidance_in : AnySearch → Option Guidance
 guidance_in (by_guidance kind guidance s) = Some guidance
+guidance_in (by_cores guidance s) = None
 guidance_in (in_rounds n) = None
 
 -- what is seen of it when it has ended so
 abbrev pub ending_in : AnySearch → End → Ending
 ending_in s end = ending (kind_in s) (guidance_in s) end (search_in s)
 
--- a worker of each kind; the brancher's plan or hints are what a complete one goes by
+-- a worker of each kind; the brancher's plan or hints are what it goes by
 abbrev pub known_of : AnyWorker → AnySearch
 known_of (Fixed w) = by_guidance kinds.Fixed (Steered w.1.plan) w.0
 known_of (Activity w) = by_guidance kinds.Activity (Hinted w.1.hints) w.0
+known_of (Core w) = by_cores (Hinted w.1.hints) w.0
 known_of (NearSolutions w) = in_rounds w.worker
 
 abbrev pub worker_search : AnyWorker → Search
@@ -56,9 +65,21 @@ worker_search w = search_in (known_of w)
 abbrev pub kind_of : AnyWorker → WorkerKind
 kind_of w = kind_in (known_of w)
 
--- The kind of a worker by its number: after the first, every third one searches near solutions.
+-- The kind of a worker by its number: after the first, three kinds in turn.
 abbrev pub worker_kind : ℕ → WorkerKind
-worker_kind number = if number == 0 then kinds.Fixed else (if number % 3 == 0 then kinds.Near else kinds.Activity)
+worker_kind number = if number == 0 then kinds.Fixed else
+    (if number % 3 == 0 then kinds.Near else (if number % 3 == 2 then kinds.CoreGuided else kinds.Activity))
+
+-- one of so many workers searches near solutions
+abbrev pub SearchesNear : ℕ → Type 0
+SearchesNear workers = (number : ℕ) × (number < workers) × (worker_kind number ≡ kinds.Near)
+
+-- a kind whose workers go by a guidance alone
+abbrev pub GoesByGuidance : WorkerKind → Type 0
+GoesByGuidance kinds.Fixed = ⊤
+GoesByGuidance kinds.Activity = ⊤
+GoesByGuidance kinds.CoreGuided = ⊥
+GoesByGuidance kinds.Near = ⊥
 
 -- ---- workers that begin
 
@@ -74,11 +95,22 @@ pub record Begins (m : CpModel) (gap conflicts : ℕ) (s : Search) : Type 0 wher
   pub first : IsFirstInstance m instance
   pub is : s ≡ fresh instance gap (Some conflicts)
 
--- one of a complete kind, whose guidance is what the model says
+-- one of a kind that goes by a guidance, which is what the model says
 pub record BeginsGuided (m : CpModel) (gap conflicts : ℕ) (kind : WorkerKind) (guidance : Guidance) (s : Search) : Type 0 where
   pub begins : Begins m gap conflicts s
-  pub complete : IsComplete kind
+  pub guided : GoesByGuidance kind
   pub guide : IsGuidedBy kind s.instance (Some guidance)
+
+-- one that goes by cores: the objective has its first form
+pub record BeginsCores (m : CpModel) (gap conflicts : ℕ) (s : CoreSearch) : Type 0 where
+  pub instance : Problem
+  pub first : IsFirstInstance m instance
+  pub is : BeginsCore instance gap conflicts s
+
+-- and its guidance is the model's hint
+pub record BeginsByCores (m : CpModel) (gap conflicts : ℕ) (guidance : Guidance) (s : CoreSearch) : Type 0 where
+  pub begins : BeginsCores m gap conflicts s
+  pub guide : IsGuidedBy kinds.Activity s.search.instance (Some guidance)
 
 -- one that goes in rounds, for so many conflicts
 pub record BeginsRounds (m : CpModel) (gap conflicts : ℕ) (n : Near) : Type 0 where
@@ -89,11 +121,13 @@ pub record BeginsRounds (m : CpModel) (gap conflicts : ℕ) (n : Near) : Type 0 
 
 abbrev pub BeginsAs : CpModel → ℕ → ℕ → AnySearch → Type 0
 BeginsAs m gap conflicts (by_guidance kind guidance s) = BeginsGuided m gap conflicts kind guidance s
+BeginsAs m gap conflicts (by_cores guidance s) = BeginsByCores m gap conflicts guidance s
 BeginsAs m gap conflicts (in_rounds n) = BeginsRounds m gap conflicts n
 
 -- one that goes in rounds draws by a generator of its own
 abbrev pub DrawsBy : ℕ → ℕ → AnySearch → Type 0
 DrawsBy seed number (by_guidance kind guidance s) = ⊤
+DrawsBy seed number (by_cores guidance s) = ⊤
 DrawsBy seed number (in_rounds n) = n.draws ≡ draws_of seed (16 + number)
 
 -- ---- turns
@@ -108,6 +142,21 @@ abbrev pub TakesTurnsBy : Guidance → ℕ → Search → Search → Part → Pa
 TakesTurnsBy guidance rows s t p q = TakesTurns ChoosesBy (λ before clause restart after. after ≡ before)
     (λ before after. after ≡ before) rows (s, guidance) p (t, guidance) q
 
+-- one turn of a worker that goes by cores, in which a choice goes by a guidance
+abbrev pub CoreTurnBy : Guidance → ℕ → CoreSearch → CoreSearch → Part → Part → Turn → Type 0
+CoreTurnBy guidance rows s t p q turn = OneCoreTurn ChoosesBy (λ before clause restart after. after ≡ before)
+    (λ before after. after ≡ before) rows (s, guidance) (t, guidance) p q turn
+
+-- such turns one after another, none of which ended the worker
+abbrev pub TakesCoreTurnsBy : Guidance → ℕ → CoreSearch → CoreSearch → Part → Part → Type 0
+TakesCoreTurnsBy guidance rows s t p q = TakesCoreTurns ChoosesBy (λ before clause restart after. after ≡ before)
+    (λ before after. after ≡ before) rows (s, guidance) p (t, guidance) q
+
+-- such turns, of which the last ended it so
+abbrev pub RunsByCores : Guidance → ℕ → CoreSearch → CoreSearch → Part → Part → End → Type 0
+RunsByCores guidance rows s t p q end = RunsInCoreTurns ChoosesBy (λ before clause restart after. after ≡ before)
+    (λ before after. after ≡ before) rows (s, guidance) (t, guidance) p q end
+
 -- it is aimed at a solution of its model, or aims where it did
 abbrev pub IsAimed : Near → Near → Type 0
 IsAimed n aimed = (aimed ≡ n)
@@ -119,6 +168,12 @@ pub record TurnedBy (guidance : Guidance) (rows : ℕ) (s t : Search) (p q : Par
   pub after : IsSoundSearch t
   pub turn : Turn
   pub takes : TurnsBy guidance rows s t p q turn
+  pub last : over ≡ is_some (end_of turn)
+
+-- one turn of a worker that goes by cores, which was its last or not
+pub record TurnedByCores (guidance : Guidance) (rows : ℕ) (s t : CoreSearch) (p q : Part) (over : Bool) : Type 0 where
+  pub turn : Turn
+  pub takes : CoreTurnBy guidance rows s t p q turn
   pub last : over ≡ is_some (end_of turn)
 
 -- one turn of a worker that goes in rounds, which was handed a solution before it or was not
@@ -136,17 +191,19 @@ pub record TurnedNear (rows : ℕ) (m n : Near) (p q : Part) (over : Bool) : Typ
 abbrev pub HasTurned : ℕ → AnySearch → AnySearch → Part → Part → Bool → Type 0
 HasTurned rows (by_guidance kind guidance s) (by_guidance same_kind same t) p q over = (same_kind ≡ kind)
     × (same ≡ guidance) × TurnedBy guidance rows s t p q over
-HasTurned rows (by_guidance kind guidance s) (in_rounds n) p q over = ⊥
-HasTurned rows (in_rounds m) (by_guidance kind guidance t) p q over = ⊥
+HasTurned rows (by_cores guidance s) (by_cores same t) p q over = (same ≡ guidance)
+    × TurnedByCores guidance rows s t p q over
 HasTurned rows (in_rounds m) (in_rounds n) p q over = TurnedNear rows m n p q over
+HasTurned rows s t p q over = ⊥
 
 -- turns one after another, none of which ended the worker
 abbrev pub TakesTurnsAs : ℕ → AnySearch → AnySearch → Part → Part → Type 0
 TakesTurnsAs rows (by_guidance kind guidance s) (by_guidance same_kind same t) p q = (same_kind ≡ kind)
     × (same ≡ guidance) × TakesTurnsBy guidance rows s t p q
-TakesTurnsAs rows (by_guidance kind guidance s) (in_rounds n) p q = ⊥
-TakesTurnsAs rows (in_rounds m) (by_guidance kind guidance t) p q = ⊥
+TakesTurnsAs rows (by_cores guidance s) (by_cores same t) p q = (same ≡ guidance)
+    × TakesCoreTurnsBy guidance rows s t p q
 TakesTurnsAs rows (in_rounds m) (in_rounds n) p q = TakesNearTurns rows m p n q
+TakesTurnsAs rows s t p q = ⊥
 
 -- such turns, and one more that ended it
 pub record HasEnded (rows : ℕ) (s t : AnySearch) (p q : Part) : Type 0 where

@@ -5,12 +5,13 @@ ghost use Rattle.cps_model.specs.Solutions.{IsSolution};
 ghost use Rattle.cps_search.specs.Following.{best_bound};
 ghost use Rattle.cps_portfolio.specs.Outcomes.{IsGoodOutcome, CameTo, best_of, core_if, core_of};
 
+use crate::ended::AnyEnded;
 use crate::outcome::{Outcome, Reached};
 use cps_eval::objective;
 use cps_model::{Bound, Ints, Listed, Refs, Status};
 use cps_options::Options;
 use cps_port::is_closed;
-use cps_search::{End, Ended};
+use cps_search::End;
 use cps_validate::ValidModel;
 use std::alloc::{AllocError, Global};
 
@@ -31,7 +32,7 @@ fn solution_of(
     alloc: Global,
     model: &ValidModel,
     upper: Bound,
-    ends: &[Ended],
+    ends: &[AnyEnded],
 ) -> Result<Option<Ints>, AllocError>
     requires found { All (λ e. IfSome e.best (IsSolution model.now)) ends.now }
     requires upper { upper ≡ best_bound model.now (best_of model.now ends.now) }
@@ -48,7 +49,7 @@ fn solution_of(
 }
 
 /// Whether a worker left no solution at all.
-fn leaves_nothing(ended: &Ended) -> bool
+fn leaves_nothing(ended: &AnyEnded) -> bool
     ensures yes { IsTrue result → (other : List ℤ)
         → core_if ended.now.end ended.now.raised ended.now.core other ≡ ended.now.core }
     ensures no { result ≡ false → (other : List ℤ)
@@ -61,7 +62,7 @@ fn leaves_nothing(ended: &Ended) -> bool
 }
 
 /// The core of the first worker that left no solution at all.
-fn core_of(alloc: Global, ends: &[Ended]) -> Result<Refs, AllocError>
+fn core_of(alloc: Global, ends: &[AnyEnded]) -> Result<Refs, AllocError>
     ensures { IfOk result (λ core. core ≡ core_of ends.now) }
 {
     for ended in ends {

@@ -18,13 +18,13 @@ ghost use Rattle.cps_portfolio.specs.Turning.{AreTurning, AreFresh, count_at_wor
 ghost use Rattle.cps_portfolio.specs.declared.interleaved.Turning.{Turning as TurningOf};
 
 use crate::conclusion::outcome_of;
+use crate::ended::AnyEnded;
 use crate::outcome::{Outcome, Reached};
 use crate::worker::{AnyWorker, reads_pool};
 use cps_model::Bound;
 use cps_options::Options;
 use cps_pool::PlainPool;
 use cps_port::{CoreState, Event, PlainPort, Seen};
-use cps_search::Ended;
 use cps_validate::ValidModel;
 use rand_core::utils::NextWord;
 use rand_pcg::Lcg64Xsh32;
@@ -185,7 +185,7 @@ fn lower_of(core: &mut CoreState<'_>) -> Bound
 }
 
 /// The ends of all workers.
-fn finish_all(alloc: Global, mut crew: Vec<Turning<'_>>) -> Result<Vec<Ended>, AllocError>
+fn finish_all(alloc: Global, mut crew: Vec<Turning<'_>>) -> Result<Vec<AnyEnded>, AllocError>
     requires { All (λ c. IsOver (worker_search c.worker).said) crew.items }
     ensures { IfOk result (λ ends. ends.items ≡ map ended_of crew.entry.items) }
 {

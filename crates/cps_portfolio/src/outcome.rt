@@ -1,6 +1,6 @@
 //! What a search came to.
+use crate::ended::AnyEnded;
 use cps_model::{Bound, Ints, Listed, Refs, Status};
-use cps_search::Ended;
 
 /// What the workers found, with the bounds that they reached on the objective.
 #[derive(Drop)]
@@ -16,7 +16,7 @@ pub struct Outcome {
     /// first worker that left no solution at all.
     pub core: Refs,
     /// How each worker ended, by number.
-    pub ends: Listed<Ended>,
+    pub ends: Listed<AnyEnded>,
 }
 
 /// How the workers ended, by number, and the bounds that they left.
@@ -24,5 +24,5 @@ pub struct Outcome {
 pub struct Reached {
     pub upper: Bound,
     pub lower: Bound,
-    pub ends: Vec<Ended>,
+    pub ends: Vec<AnyEnded>,
 }

@@ -15,6 +15,7 @@ ghost use Rattle.cps_portfolio.specs.Outcomes.{IsGoodOutcome};
 ghost use Rattle.cps_portfolio.specs.Crews.{words_splits, IsSeated, IsCrew, AreBack, AreGathered};
 
 use crate::conclusion::outcome_of;
+use crate::ended::AnyEnded;
 use crate::outcome::{Outcome, Reached};
 use crate::seats::{Seated, work_all};
 use crate::table_port::TablePort;
@@ -25,7 +26,6 @@ use cps_model::Bound;
 use cps_options::Options;
 use cps_outer::Gate;
 use cps_pool::SharedPool;
-use cps_search::Ended;
 use cps_validate::ValidModel;
 use std::alloc::{AllocError, Global};
 use std::sync::Wait;
@@ -111,7 +111,7 @@ fn gather<'a>(
     options: &Options,
     kept: &mut TablePort<'a>,
     mut crew: Vec<Seated<'a>>,
-) -> Result<Vec<Ended>, AllocError>
+) -> Result<Vec<AnyEnded>, AllocError>
     requires idle { ((words.part_of kept.old.bounds_seat).offered ≡ Bound.Infinite)
         × ((words.part_of kept.old.bounds_seat).raised ≡ None) }
     requires splits { words.splits_of kept.old.bounds_seat + total words_splits crew.items ≡ all_splits }

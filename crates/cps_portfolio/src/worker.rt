@@ -3,25 +3,25 @@
 //! An enum and not a trait object: there are few kinds, each turn is a match, and the contract of a turn can say of
 //! each kind what it owes. Turns are taken here one by one, in threads too, since a solution goes into the pool after
 //! the turn that found it, and a neighbourhood worker is aimed before its turn.
-ghost use Rattle.std.specs.Prelude.{◌≡◌, ◌+◌, ◌≤◌, ◌^◌, length, false, OnOk, IfOk, IfSome, Some, is_some};
+ghost use Rattle.std.specs.Prelude.{◌≡◌, ◌↔◌, ◌+◌, ◌≤◌, ◌^◌, length, false, OnOk, IfOk, IfSome, IsTrue, Some, is_some};
 ghost use Rattle.cps_model.specs.Solutions.{IsSolution};
 ghost use Rattle.cps_branch.specs.Guidances.{AreHintsOf, IsPlanOf};
 ghost use Rattle.cps_kinds.specs.Kinds.{AreAllPropagated};
 ghost use Rattle.cps_options.specs.Ranges.{AreInRange};
-ghost use Rattle.cps_search.specs.Searches.{IsSoundSearch};
 ghost use Rattle.cps_search.specs.Ends.{IsOver, end_of};
+ghost use Rattle.cps_core_guided.specs.Reforming.{whole};
 ghost use Rattle.cps_neighbourhood.specs.Drawing.{draws_of};
-ghost use Rattle.cps_portfolio.specs.Workers.{known_of, worker_search, kind_of, worker_kind, ending_in, Begins, BeginsAs, BeginsRounds, DrawsBy, HasEnded, HasTurned, IsAimed, TurnedBy, TurnedNear};
+ghost use Rattle.cps_portfolio.specs.Workers.{known_of, worker_search, kind_of, worker_kind, ending_in, Begins, BeginsAs, BeginsCores, BeginsRounds, DrawsBy, HasEnded, HasTurned, IsAimed, SearchesNear, TurnedBy, TurnedByCores, TurnedNear};
 
+use crate::ended::AnyEnded;
+use cps_core_guided::CoreWorker;
 use cps_instance::Instance;
 use cps_kinds::{AnyPropagator, engine_of};
 use cps_neighbourhood::NearWorker;
 use cps_options::Options;
 use cps_pool::Pool;
 use cps_port::Port;
-use cps_search::{
-    ActivityBrancher, Brancher, Ended, FixedBrancher, Said, Turn, Worker, WorkerKind,
-};
+use cps_search::{ActivityBrancher, Brancher, FixedBrancher, Said, Turn, Worker, WorkerKind};
 use cps_validate::ValidModel;
 use std::alloc::{AllocError, Global};
 
@@ -32,6 +32,8 @@ pub enum AnyWorker<'a> {
     Fixed(Worker<'a, AnyPropagator, FixedBrancher>),
     /// Takes the variables of recent conflicts first, at the values of the model's hint.
     Activity(Worker<'a, AnyPropagator, ActivityBrancher>),
+    /// Assumes that each part of the objective stays at its bound, and raises the lower bound by each core.
+    Core(CoreWorker<'a, AnyPropagator, ActivityBrancher>),
     /// Searches near solutions that workers found.
     Near(NearSeeker<'a>),
 }
@@ -77,6 +79,22 @@ fn activity_worker<'a>(
     let engine = engine_of(alloc, &instance)?;
     let brancher = ActivityBrancher::of(alloc, &instance)?;
     Worker::new(alloc, instance, engine, brancher, conflicts, gap)
+}
+
+fn core_worker<'a>(
+    alloc: Global,
+    model: &'a ValidModel,
+    conflicts: u64,
+    gap: u64,
+) -> Result<CoreWorker<'a, AnyPropagator, ActivityBrancher>, AllocError>
+    requires budget { conflicts ≤ 10 ^ 9 }
+    requires kinds { AreAllPropagated model.now }
+    ensures begins { IfOk result (λ worker. BeginsCores model.entry.now gap conflicts worker.0) }
+    ensures hints { IfOk result (λ worker. AreHintsOf worker.0.search.instance worker.1.hints) }
+{
+    let instance = Instance::of(alloc, model)?;
+    let engine = engine_of(alloc, &instance)?;
+    CoreWorker::new(alloc, instance, engine, conflicts, gap)
 }
 
 fn near_worker<'a>(
@@ -145,6 +163,27 @@ fn turn_of<B: Brancher + Drop, Q: Port, F: Pool>(
     note_turn(pool, &turn, worker.best())
 }
 
+/// Lets a core-guided worker take a turn, and answers whether it was the last.
+fn core_turn_of<B: Brancher + Drop, Q: Port, F: Pool>(
+    worker: &mut CoreWorker<'_, AnyPropagator, B>,
+    port: &mut Q,
+    pool: &mut F,
+) -> Result<bool, AllocError>
+    requires running { IsOver (whole worker.old.0).said → ⊥ }
+    requires model { Q.model port.old ≡ worker.old.0.search.instance.model }
+    requires pool { F.model pool.old ≡ worker.old.0.search.instance.model }
+    requires imported { worker.old.0.search.imported ≤ length (Q.part port.old).board.taken }
+    ensures same { (Q.model port.new ≡ Q.model port.old) × (Q.rows port.new ≡ Q.rows port.old) }
+    ensures others { Q.stays port.old port.new }
+    ensures pool { F.model pool.new ≡ F.model pool.old }
+    ensures guidance { B.guidance worker.new.1 ≡ B.guidance worker.old.1 }
+    ensures turn { IfOk result (TurnedByCores (B.guidance worker.old.1) (Q.rows port.old) worker.old.0 worker.new.0
+        (Q.part port.old) (Q.part port.new)) }
+{
+    let turn = worker.turn(port)?;
+    note_turn(pool, &turn, worker.best())
+}
+
 /// Hands a neighbourhood worker the pool's last solution, unless it was handed that one before.
 fn aim<F: Pool>(near: &mut NearSeeker<'_>, pool: &F)
     requires memory { near.old.worker.search.refused ≡ false }
@@ -183,7 +222,9 @@ fn near_turn_of<Q: Port, F: Pool>(
 }
 
 /// Whether one of so many workers searches near solutions: number 3 is the first.
-pub fn reads_pool(workers: u32) -> bool {
+pub fn reads_pool(workers: u32) -> bool
+    ensures { IsTrue result ↔ SearchesNear workers }
+{
     workers > 3
 }
 
@@ -207,6 +248,8 @@ impl<'a> AnyWorker<'a> {
             Ok(AnyWorker::Fixed(fixed_worker(alloc, model, conflicts, gap)?))
         } else if number % 3 == 0 {
             Ok(AnyWorker::Near(near_worker(alloc, model, options, number)?))
+        } else if number % 3 == 2 {
+            Ok(AnyWorker::Core(core_worker(alloc, model, conflicts, gap)?))
         } else {
             Ok(AnyWorker::Activity(activity_worker(alloc, model, conflicts, gap)?))
         }
@@ -251,22 +294,24 @@ impl<'a> AnyWorker<'a> {
         match self {
             AnyWorker::Fixed(worker) => turn_of(worker, port, pool),
             AnyWorker::Activity(worker) => turn_of(worker, port, pool),
+            AnyWorker::Core(worker) => core_turn_of(worker, port, pool),
             AnyWorker::Near(near) => near_turn_of(near, port, pool),
         }
     }
 
     /// The worker as others see it after it ended.
-    pub fn finish(self) -> Ended
+    pub fn finish(self) -> AnyEnded
         requires { IsOver (worker_search self).said }
         ensures said { (worker_search self.entry).said ≡ Said.Over result.end }
         ensures is { result ≡ ending_in (known_of self.entry) result.end }
     {
         match self {
-            AnyWorker::Fixed(worker) => worker.finish(WorkerKind::Fixed),
-            AnyWorker::Activity(worker) => worker.finish(WorkerKind::Activity),
+            AnyWorker::Fixed(worker) => AnyEnded::plain(worker.finish(WorkerKind::Fixed)),
+            AnyWorker::Activity(worker) => AnyEnded::plain(worker.finish(WorkerKind::Activity)),
+            AnyWorker::Core(worker) => AnyEnded::guided(worker.finish()),
             AnyWorker::Near(near) => {
                 let NearSeeker { worker, .. } = near;
-                worker.finish()
+                AnyEnded::plain(worker.finish())
             }
         }
     }

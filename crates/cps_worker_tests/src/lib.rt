@@ -1,9 +1,11 @@
 //! Workers over a shared state, turn by turn: their turns and the bounds that they leave, which were worked out by
 //! hand.
-//! `models` builds the models, `turns` lets workers take their turns over a plain state, `near` lets one do its rounds,
-//! and `tables` lets two turn about over the tables that threads share.
+//! `models` builds the models, `turns` lets workers take their turns over a plain state, `cores` lets one go by cores,
+//! `near` lets one do its rounds, and `tables` lets two turn about over the tables that threads share.
 #![tactic(auto)]
 
+#[cfg(test)]
+mod cores;
 #[cfg(test)]
 mod models;
 #[cfg(test)]

@@ -1,4 +1,4 @@
-//! Three variables, no two of them equal.
+//! Three variables: no two of them equal, or one of the first two not 0.
 ghost use Rattle.std.specs.Prelude.{◌≡◌, All, IfOk, true};
 ghost use Rattle.cps_kinds.specs.Kinds.{is_propagated, AreAllPropagated};
 
@@ -81,6 +81,47 @@ pub fn three(
         variables: variables(alloc, greatest)?,
         constraints,
         objective,
+        strategies: Listed::new(alloc),
+        hint: None,
+        assumptions: Refs::new(alloc),
+    };
+    validate(alloc, model)
+}
+
+/// One of the first two variables is 1.
+fn one_of_two(alloc: Global) -> Result<Listed<Constraint>, AllocError>
+    ensures { IfOk result (All (λ c. is_propagated c.kind ≡ true)) }
+{
+    let mut constraints = Vec::new(alloc);
+    constraints.push(Constraint {
+        name: Text::new(alloc),
+        enforcement: Refs::new(alloc),
+        kind: Kind::BoolOr(refs(alloc, &[0, 1])?),
+    })?;
+    Ok(Listed::from_vec(constraints))
+}
+
+/// The sum of the first two variables.
+fn sum_of_two(alloc: Global) -> Result<Objective, AllocError> {
+    Ok(Objective {
+        vars: refs(alloc, &[0, 1])?,
+        coeffs: ints(alloc, &[1, 1])?,
+        offset: 0,
+        scaling: 1,
+        domain: Ints::new(alloc),
+    })
+}
+
+/// Three variables that are 0 or 1, one of the first two is 1, and the sum of these two is to be least.
+pub fn pair(alloc: Global) -> Result<ValidModel, ValidateError>
+    ensures kinds { IfOk result AreAllPropagated }
+{
+    let constraints = one_of_two(alloc)?;
+    let model = CpModel {
+        name: Text::new(alloc),
+        variables: variables(alloc, 1)?,
+        constraints,
+        objective: Some(sum_of_two(alloc)?),
         strategies: Listed::new(alloc),
         hint: None,
         assumptions: Refs::new(alloc),

@@ -1,6 +1,6 @@
 -- The last worker's seats were joined, and its end is the first of the ends.
 use Rattle.std.specs.Prelude.{Option, option_to_list}
-use Rattle.std.proofs.Common.{rules, ◌≡◌, false, All, ℕ, ◌+◌, length, sym, ap, subst, ◌∙◌, List, [], ◌∷◌, ◌++◌, arith, length-append}
+use Rattle.std.proofs.Common.{◌≡◌, false, All, ℕ, ◌+◌, length, sym, ap, subst, ◌∙◌, List, [], ◌∷◌, ◌++◌, arith, length-append}
 use Rattle.cps_instance.proofs.Agreeing.{All-append_left, All-append_right}
 use Rattle.cps_port.specs.Totals.{total}
 use Rattle.cps_search.specs.Ends.{Ending}

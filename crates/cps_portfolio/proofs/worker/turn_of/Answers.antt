@@ -1,5 +1,5 @@
 -- The turn goes by the brancher's guidance, which it leaves; what is found is a solution of the pool's model.
-use Rattle.std.proofs.Common.{◌≡◌, ◌∙◌, sym, subst}
+use Rattle.std.proofs.Common.{◌≡◌, subst}
 use Rattle.std.specs.Prelude.{is_some}
 use Rattle.std.proofs.lemmas.Result.{IfOk-weaker}
 use Rattle.cps_search.specs.Ends.{OneTurn, end_of}

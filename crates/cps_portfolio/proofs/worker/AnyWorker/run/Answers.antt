@@ -1,9 +1,7 @@
 -- One turn more, of a worker that has not ended, and that it leaves less to do.
-use Rattle.std.proofs.Common.{◌≡◌, ◌<◌, ◌∙◌, ℕ, refl, sym, ap, subst, false, true, Bool}
-use Rattle.cps_instance.specs.Problem.{Problem}
-use Rattle.cps_search.specs.Searches.{Search}
-use Rattle.cps_portfolio.specs.Workers.{known_of, worker_search, HasTurned}
-use Rattle.cps_portfolio.proofs.Going.{has_kept, left_in, lighter_in, none_taken, still_runs, turned_on}
+use Rattle.std.proofs.Common.{◌∙◌, ℕ, refl, sym, subst, false, true}
+use Rattle.cps_portfolio.specs.Workers.{known_of, HasTurned}
+use Rattle.cps_portfolio.proofs.Going.{has_kept, lighter_in, none_taken, still_runs, turned_on}
 use Rattle.cps_portfolio.proofs.worker.AnyWorker.run.Goals as goal
 
 pub turns-init : goal.turns-init
@@ -20,17 +18,17 @@ turns-init g c = record {
 pub turn-requires-clause-memory : goal.turn-requires-clause-memory
 turn-requires-clause-memory g c =
     let kept = has_kept (g.Q.Port.rows c.args.port.now) (known_of c.args.self.now) (known_of c.turns.self) (g.Q.Port.part c.args.port.now) (g.Q.Port.part c.turns.port) c.turns.invariant.turns in
-    kept.setting.refused ∙ c.requires.memory
+    kept.refused ∙ c.requires.memory
 
 pub turn-requires-clause-model : goal.turn-requires-clause-model
 turn-requires-clause-model g c =
     let kept = has_kept (g.Q.Port.rows c.args.port.now) (known_of c.args.self.now) (known_of c.turns.self) (g.Q.Port.part c.args.port.now) (g.Q.Port.part c.turns.port) c.turns.invariant.turns in
-    c.turns.invariant.model ∙ c.requires.model ∙ sym (ap (λ (p : Problem). p.model) kept.setting.instance)
+    c.turns.invariant.model ∙ c.requires.model ∙ sym kept.model
 
 pub turn-requires-clause-pool : goal.turn-requires-clause-pool
 turn-requires-clause-pool g c =
     let kept = has_kept (g.Q.Port.rows c.args.port.now) (known_of c.args.self.now) (known_of c.turns.self) (g.Q.Port.part c.args.port.now) (g.Q.Port.part c.turns.port) c.turns.invariant.turns in
-    c.turns.invariant.pool ∙ c.requires.pool ∙ sym (ap (λ (p : Problem). p.model) kept.setting.instance)
+    c.turns.invariant.pool ∙ c.requires.pool ∙ sym kept.model
 
 pub turn-requires-clause-imported : goal.turn-requires-clause-imported
 turn-requires-clause-imported g c =

@@ -1,0 +1,38 @@
+-- The turn goes by the brancher's guidance, which it leaves; what is found is a solution of the pool's model.
+use Rattle.std.proofs.Common.{◌≡◌, ◌∙◌, refl, sym, subst}
+use Rattle.std.specs.Prelude.{is_some}
+use Rattle.std.proofs.lemmas.Result.{IfOk-weaker}
+use Rattle.cps_search.specs.Ends.{end_of}
+use Rattle.cps_branch.specs.Guidances.{ChoosesBy}
+use Rattle.cps_branch.specs.declared.guidance.Guidance.{Guidance}
+use Rattle.cps_core_guided.specs.CoreTurns.{OneCoreTurn}
+use Rattle.cps_core_guided.proofs.CoreRunning.{one-core-turn}
+use Rattle.cps_portfolio.specs.Workers.{TurnedByCores}
+use Rattle.cps_portfolio.proofs.Going.{found_is}
+use Rattle.cps_portfolio.proofs.Guiding.{core_turn_by}
+use Rattle.cps_portfolio.proofs.worker.core_turn_of.Goals as goal
+
+pub note_turn-requires : goal.note_turn-requires
+note_turn-requires g c =
+    let k = c.in_ok-turn.ensures in
+    let t = c.turn.new.self.0 in
+    found_is (g.F.Pool.model c.args.pool.now) t.search c.best.result k.sound.1.search (k.turn.setting.model ∙ sym c.requires.pool) c.best.ensures.some
+
+pub returns-clause-turn : goal.returns-clause-turn
+returns-clause-turn g c =
+    let k = c.in_ok-turn.ensures in
+    let s = c.args.worker.now in
+    let t = c.turn.new.self in
+    let p = g.Q.Port.part c.args.port.now in
+    let q = g.Q.Port.part c.turn.new.port in
+    let rows = g.Q.Port.rows c.args.port.now in
+    let turn = c.in_ok-turn.turn in
+    let before = g.B.Brancher.guidance s.1 in
+    let one = one-core-turn g.B.Brancher.chooses g.B.Brancher.hears g.B.Brancher.stays rows rows s t p q turn refl k.sound k.turn k.brancher in
+    let takes = core_turn_by g.B.Brancher.guidance g.B.Brancher.chooses g.B.Brancher.hears g.B.Brancher.stays g.met.B.Brancher.goes_by g.met.B.Brancher.stays_guided g.met.B.Brancher.hears_guided
+    rows s t p q turn one in
+    IfOk-weaker c.note_turn.result (λ over. over ≡ is_some (end_of turn)) (TurnedByCores before rows s.0 t.0 p q) (λ over last. record {
+      turn = turn;
+      takes = subst (λ (x : Guidance). OneCoreTurn ChoosesBy (λ h clause restart after. after ≡ h) (λ h after. after ≡ h) rows (s.0, before) (t.0, x) p q turn) k.guidance takes;
+      last = last;
+    }) c.note_turn.ensures.last
