@@ -1,4 +1,9 @@
 //! Reasons of a task's narrowings, made when they are asked for from the domains as they stood before.
+//!
+//! A rule gives facts about its body alone. Where the task was in force, the facts and the enforcement atoms, all true then,
+//! make the reason. Where one enforcement atom was open, what was narrowed is that atom's negation, and facts beside which the
+//! body cannot hold make the reason with the other enforcement atoms. Where a rule gives no facts, the reason names all that
+//! was narrowed before of what the task reads: longer, and never wrong. Nothing is kept here; who asks keeps what it asked for.
 
 ghost use Rattle.std.specs.Prelude.{◌≡◌, ◌<◌, true, Ok, OnOk, length};
 ghost use Rattle.cps_instance.specs.Tasks.{HoldsTask};
