@@ -88,11 +88,15 @@ fn decides_implies_and_goes_back(rt: HostRuntime) -> Result<(), Fail> {
     Ok(())
 }
 
+/// The number of a subject that a store without any is given, and how many it has then.
+fn first_added(alloc: Global) -> Result<(u32, usize), AllocError> {
+    let mut store = Store::new(alloc, &[])?;
+    let number = store.add(Domain::of_bounds(alloc, &[0, 1])?)?;
+    Ok((number, store.len()))
+}
+
 #[test]
 fn adds_a_subject(rt: HostRuntime) -> Result<(), Fail> {
-    let mut store = Store::new(rt.alloc(), &[])?;
-    let domain = Domain::of_bounds(rt.alloc(), &[0, 1])?;
-    assert_eq!(rt; store.add(domain)?, 0);
-    assert_eq!(rt; store.len(), 1);
+    assert_eq!(rt; first_added(rt.alloc())?, (0, 1));
     Ok(())
 }

@@ -190,7 +190,10 @@ fn reads_models(rt: HostRuntime) -> Result<(), Fail> {
             Shape::Variables,
         ),
         (
-            "constraints { enforcement_literal: [0, -2147483648] bool_or { literals: 2147483647 } } constraints { } constraints { linear: { vars: 0 vars: [1], coeffs: -3, domain: -9223372036854775808 } } constraints { bool_and { literals: [1, -2] } } constraints { at_most_one { literals: 3 } } constraints { exactly_one { literals: [4, 4] } } constraints { bool_xor { } }",
+            "constraints { enforcement_literal: [0, -2147483648] bool_or { literals: 2147483647 } } constraints { } \
+             constraints { linear: { vars: 0 vars: [1], coeffs: -3, domain: -9223372036854775808 } } \
+             constraints { bool_and { literals: [1, -2] } } constraints { at_most_one { literals: 3 } } \
+             constraints { exactly_one { literals: [4, 4] } } constraints { bool_xor { } }",
             Shape::Constraints,
         ),
         (
@@ -206,7 +209,9 @@ fn reads_models(rt: HostRuntime) -> Result<(), Fail> {
             Shape::Names,
         ),
         (
-            "search_strategy { variables: -3 domain_reduction_strategy: SELECT_MAX_VALUE } search_strategy { variable_selection_strategy: 0x4 exprs { vars: 1 coeffs: 2 offset: -017 } domain_reduction_strategy: -0 } solution_hint { values: [4, -5] vars: 0 vars: 1 }",
+            "search_strategy { variables: -3 domain_reduction_strategy: SELECT_MAX_VALUE } \
+             search_strategy { variable_selection_strategy: 0x4 exprs { vars: 1 coeffs: 2 offset: -017 } domain_reduction_strategy: -0 } \
+             solution_hint { values: [4, -5] vars: 0 vars: 1 }",
             Shape::Steered,
         ),
     ];

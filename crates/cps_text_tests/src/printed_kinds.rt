@@ -110,13 +110,15 @@ const KINDS: [(&str, &str); 25] = [
     ),
     // The state 0 to start in is left out.
     (
-        "automaton { exprs { vars: 0 coeffs: 1 } transition_label: [5, -6] transition_head: [1, 2] transition_tail: [0, 1] final_states: 1 starting_state: 0 exprs { offset: 5 } }",
+        "automaton { exprs { vars: 0 coeffs: 1 } transition_label: [5, -6] transition_head: [1, 2] transition_tail: [0, 1] \
+         final_states: 1 starting_state: 0 exprs { offset: 5 } }",
         "  automaton {\n    final_states: [1]\n    transition_tail: [0, 1]\n    transition_head: [1, 2]\n    \
          transition_label: [5, -6]\n    exprs {\n      vars: [0]\n      coeffs: [1]\n    }\n    \
          exprs {\n      offset: 5\n    }\n  }\n",
     ),
     (
-        "reservoir { active_literals: [2, -4] max_level: 4 min_level: -1 level_changes { vars: 1 coeffs: 1 } level_changes { offset: -2 } time_exprs { vars: 0 coeffs: 1 } time_exprs { offset: 9 } }",
+        "reservoir { active_literals: [2, -4] max_level: 4 min_level: -1 level_changes { vars: 1 coeffs: 1 } \
+         level_changes { offset: -2 } time_exprs { vars: 0 coeffs: 1 } time_exprs { offset: 9 } }",
         "  reservoir {\n    min_level: -1\n    max_level: 4\n    \
          time_exprs {\n      vars: [0]\n      coeffs: [1]\n    }\n    time_exprs {\n      offset: 9\n    }\n    \
          level_changes {\n      vars: [1]\n      coeffs: [1]\n    }\n    level_changes {\n      offset: -2\n    }\n    \
