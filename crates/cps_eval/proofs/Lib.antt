@@ -12,4 +12,5 @@ pub mod Stepping
 pub mod Loads
 pub mod ActiveEvents
 pub mod Inverses
+pub mod Listing
 pub mod LevelsInOrder

@@ -20,7 +20,7 @@ use crate::lookups::{is_element, is_in_table};
 use crate::reservoirs::{events, is_reservoir};
 use crate::sequences::are_inverse;
 use crate::values::{
-    expression_value, literal_holds, literals_hold, reference_values, sum_of, values_of,
+    all_values, expression_value, literal_holds, literals_hold, reference_values, sum_of, values_of,
 };
 use cps_model::{Constraint, Kind, are_different, is_within};
 use std::alloc::{AllocError, Global};
@@ -105,7 +105,7 @@ fn holds(
         } => Ok(is_element(
             expression_value(index, values),
             expression_value(target, values),
-            exprs.as_slice(),
+            exprs,
             values,
         )),
         Kind::Table {
@@ -113,7 +113,7 @@ fn holds(
             values: rows,
             negated,
         } => {
-            let numbers = values_of(alloc, exprs.as_slice(), values)?;
+            let numbers = all_values(alloc, exprs, values)?;
             Ok(is_in_table(*negated, rows.as_slice(), numbers.as_slice()))
         }
         Kind::AllDiff(exprs) => {
@@ -171,7 +171,7 @@ fn holds(
             exprs,
         } => {
             let steps = transitions(alloc, tails.as_slice(), heads.as_slice(), labels.as_slice())?;
-            let numbers = values_of(alloc, exprs.as_slice(), values)?;
+            let numbers = all_values(alloc, exprs, values)?;
             let answer = accepts(alloc, steps, finals.as_slice(), *start, numbers.as_slice())?;
             Ok(answer)
         }

@@ -97,6 +97,7 @@ fn span_of(alloc: Global, subjects: &[u32], constraint: &Constraint) -> Result<S
     requires offsets { All HasSmallOffset (expressions_of constraint.now.kind) }
     ensures { IfOk result (λ span. span ≡ span_of subjects.now constraint.now.enforcement constraint.now.kind) }
 {
+    // The rules let an interval index name nothing else.
     let Kind::Interval { start, end, .. } = &constraint.kind else {
         unreachable!()
     };

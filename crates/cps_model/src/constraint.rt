@@ -1,4 +1,5 @@
 //! A constraint and the kinds that there are.
+use crate::exprs::Exprs;
 use crate::listed::Listed;
 use crate::model::LinearExpr;
 use crate::text::Text;
@@ -49,12 +50,12 @@ pub enum Kind {
     Element {
         index: LinearExpr,
         target: LinearExpr,
-        exprs: Listed<LinearExpr>,
+        exprs: Exprs,
     },
     /// The expressions' values are a row of the table, whose rows stand in `values` one after another; where it is
     /// negated, they are none. Without expressions it says nothing.
     Table {
-        exprs: Listed<LinearExpr>,
+        exprs: Exprs,
         values: Listed<i64>,
         negated: bool,
     },
@@ -95,7 +96,7 @@ pub enum Kind {
         tails: Listed<i64>,
         heads: Listed<i64>,
         labels: Listed<i64>,
-        exprs: Listed<LinearExpr>,
+        exprs: Exprs,
     },
     /// After each active event the changes up to its time add up to a level between `min` and `max`. Without literals
     /// each event is active.

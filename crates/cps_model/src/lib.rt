@@ -10,6 +10,7 @@
 mod bound;
 mod bounds;
 mod constraint;
+mod exprs;
 mod fault;
 mod listed;
 mod model;
@@ -24,6 +25,7 @@ mod text;
 pub use bound::Bound;
 pub use bounds::is_within;
 pub use constraint::{Constraint, Kind};
+pub use exprs::Exprs;
 pub use fault::FaultName;
 pub use listed::Listed;
 pub use model::{CpModel, LinearExpr, Objective, Variable};
@@ -41,6 +43,3 @@ pub type Refs = Listed<i32>;
 
 /// Whole numbers.
 pub type Ints = Listed<i64>;
-
-/// Linear expressions.
-pub type Exprs = Listed<LinearExpr>;

@@ -138,6 +138,11 @@ pub none_left : (level : ℕ) (s : List ℕ) → s ≡ s ++ text_of level empty
 unfolding text_of
 none_left level s = sym (append-nil s)
 
+-- a number that is 0 is left out
+pub zero_left : (level : ℕ) (name s : List ℕ) → s ≡ s ++ text_of level (number_field name (pos 0))
+unfolding text_of number_field
+zero_left level name s = sym (append-nil s)
+
 pub field_then : (level : ℕ) (field others : Message) (s t u : List ℕ) → t ≡ s ++ text_of level field → u ≡ t ++ text_of level others → u ≡ s ++ text_of level (followed_by field others)
 field_then level field others s t u p q =
     q ∙ (ap (λ xs. xs ++ text_of level others) p ∙ (append_assoc s (text_of level field) (text_of level others) ∙ ap (λ xs. s ++ xs) (sym (text_of-followed_by level field others))))

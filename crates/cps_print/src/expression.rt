@@ -1,12 +1,13 @@
 //! The lines of expressions.
-ghost use Rattle.std.specs.Prelude.{◌≡◌, ◌++◌, ◌+◌, ◌^◌, ◌<◌, OnOk, string_bytes};
+ghost use Rattle.std.specs.Prelude.{◌≡◌, ◌++◌, ◌+◌, ◌^◌, ◌<◌, OnOk, map, string_bytes};
 ghost use Rattle.std.specs.List.{flat_map};
+ghost use Rattle.cps_model.specs.Values.{reference_expression};
 ghost use Rattle.cps_print.specs.Layout.{text_of};
 ghost use Rattle.cps_print.specs.Fields.{message_field};
 ghost use Rattle.cps_print.specs.Expressions.{printed_expression, is_empty_expression, expression_field};
 
 use crate::layout::{close_message, open_message, put_list_field, put_number_field};
-use cps_model::LinearExpr;
+use cps_model::{Exprs, LinearExpr};
 use std::alloc::AllocError;
 
 /// Whether an expression has no term and the offset 0.
@@ -49,6 +50,52 @@ pub fn put_expressions(
         put_expression(text, level, name, expression)?;
     }
     Ok(())
+}
+
+/// Appends a reference as an expression, as one of several.
+fn put_reference(
+    text: &mut String,
+    level: usize,
+    name: &str,
+    reference: i32,
+) -> Result<(), AllocError>
+    requires { level < 2 ^ 32 }
+    ensures { OnOk result (string_bytes text.new ≡ string_bytes text.old
+        ++ text_of level (message_field name.now (printed_expression (reference_expression reference)))) }
+{
+    open_message(text, level, name)?;
+    put_list_field(text, level + 1, "vars", &[reference])?;
+    put_list_field(text, level + 1, "coeffs", &[1i64])?;
+    close_message(text, level)
+}
+
+/// Appends references as expressions.
+fn put_references(
+    text: &mut String,
+    level: usize,
+    name: &str,
+    references: &[i32],
+) -> Result<(), AllocError>
+    requires { level < 2 ^ 32 }
+    ensures { OnOk result (string_bytes text.new ≡ string_bytes text.old
+        ++ flat_map (λ e. text_of level (message_field name.now (printed_expression e)))
+        (map reference_expression references.now)) }
+{
+    for reference in references {
+        put_reference(text, level, name, *reference)?;
+    }
+    Ok(())
+}
+
+/// Appends expressions, also those that are empty, where some may be plain references.
+pub fn put_all(text: &mut String, level: usize, name: &str, exprs: &Exprs) -> Result<(), AllocError>
+    requires { level < 2 ^ 32 }
+    ensures { OnOk result (string_bytes text.new ≡ string_bytes text.old
+        ++ flat_map (λ e. text_of level (message_field name.now (printed_expression e))) exprs.now) }
+{
+    let (written, references) = exprs.parts();
+    put_expressions(text, level, name, written)?;
+    put_references(text, level, name, references)
 }
 
 /// Appends a single expression, unless it is empty.

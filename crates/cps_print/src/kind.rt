@@ -8,11 +8,11 @@ ghost use Rattle.cps_print.specs.Layout.{text_of};
 ghost use Rattle.cps_print.specs.Fields.{message_field};
 ghost use Rattle.cps_print.specs.Kinds.{flag_name, printed_literals, printed_linear, printed_arithmetic, printed_element, printed_table, printed_all_diff, printed_circuit, printed_interval, printed_no_overlap, printed_cumulative, printed_inverse, printed_automaton, printed_reservoir, printed_no_overlap_2d, kind_field};
 
-use crate::expression::{put_expression_field, put_expressions};
+use crate::expression::{put_all, put_expression_field, put_expressions};
 use crate::layout::{
     close_message, open_message, put_list_field, put_number_field, put_word_field,
 };
-use cps_model::{Kind, LinearExpr};
+use cps_model::{Exprs, Kind, LinearExpr};
 use std::alloc::AllocError;
 
 fn put_literals(text: &mut String, name: &str, literals: &[i32]) -> Result<(), AllocError>
@@ -60,7 +60,7 @@ fn put_element(
     text: &mut String,
     index: &LinearExpr,
     target: &LinearExpr,
-    exprs: &[LinearExpr],
+    exprs: &Exprs,
 ) -> Result<(), AllocError>
     ensures { OnOk result (string_bytes text.new ≡ string_bytes text.old
         ++ text_of 1 (message_field (codes "element") (printed_element index.now target.now exprs.now))) }
@@ -68,7 +68,7 @@ fn put_element(
     open_message(text, 1, "element")?;
     put_expression_field(text, 2, "linear_index", index)?;
     put_expression_field(text, 2, "linear_target", target)?;
-    put_expressions(text, 2, "exprs", exprs)?;
+    put_all(text, 2, "exprs", exprs)?;
     close_message(text, 1)
 }
 
@@ -81,7 +81,7 @@ fn flag_name(flag: bool) -> &'static str
 
 fn put_table(
     text: &mut String,
-    exprs: &[LinearExpr],
+    exprs: &Exprs,
     values: &[i64],
     negated: bool,
 ) -> Result<(), AllocError>
@@ -89,7 +89,7 @@ fn put_table(
         ++ text_of 1 (message_field (codes "table") (printed_table exprs.now values.now negated))) }
 {
     open_message(text, 1, "table")?;
-    put_expressions(text, 2, "exprs", exprs)?;
+    put_all(text, 2, "exprs", exprs)?;
     put_list_field(text, 2, "values", values)?;
     put_word_field(text, 2, "negated", flag_name(negated))?;
     close_message(text, 1)
@@ -184,7 +184,7 @@ fn put_automaton(
     start: i64,
     finals: &[i64],
     transitions: &Transitions,
-    exprs: &[LinearExpr],
+    exprs: &Exprs,
 ) -> Result<(), AllocError>
     ensures { OnOk result (string_bytes text.new ≡ string_bytes text.old
         ++ text_of 1 (message_field (codes "automaton") (printed_automaton start finals.now
@@ -196,7 +196,7 @@ fn put_automaton(
     put_list_field(text, 2, "transition_tail", transitions.tails)?;
     put_list_field(text, 2, "transition_head", transitions.heads)?;
     put_list_field(text, 2, "transition_label", transitions.labels)?;
-    put_expressions(text, 2, "exprs", exprs)?;
+    put_all(text, 2, "exprs", exprs)?;
     close_message(text, 1)
 }
 
@@ -257,12 +257,12 @@ pub fn put_kind(text: &mut String, kind: &Kind) -> Result<(), AllocError>
             index,
             target,
             exprs,
-        } => put_element(text, index, target, exprs.as_slice()),
+        } => put_element(text, index, target, exprs),
         Kind::Table {
             exprs,
             values,
             negated,
-        } => put_table(text, exprs.as_slice(), values.as_slice(), *negated),
+        } => put_table(text, exprs, values.as_slice(), *negated),
         Kind::AllDiff(exprs) => put_all_diff(text, exprs.as_slice()),
         Kind::Circuit {
             tails,
@@ -297,13 +297,7 @@ pub fn put_kind(text: &mut String, kind: &Kind) -> Result<(), AllocError>
                 heads: heads.as_slice(),
                 labels: labels.as_slice(),
             };
-            put_automaton(
-                text,
-                *start,
-                finals.as_slice(),
-                &transitions,
-                exprs.as_slice(),
-            )
+            put_automaton(text, *start, finals.as_slice(), &transitions, exprs)
         }
         Kind::Reservoir {
             min,

@@ -10,7 +10,7 @@ ghost use Rattle.cps_print.specs.Fields.{list_field, message_field, repeated_fie
 ghost use Rattle.cps_print.specs.Models.{printed_variable, printed_constraint, scaling_field, printed_objective, objective_field, choose_name, select_name, printed_strategy, printed_hint, hint_field, model_text};
 ghost use Rattle.cps_print.specs.ReadBack.{IsReadWith};
 
-use crate::expression::put_expressions;
+use crate::expression::put_all;
 use crate::kind::put_kind;
 use crate::layout::{
     close_message, open_message, put_list_field, put_number_field, put_word_field,
@@ -124,7 +124,7 @@ fn put_strategy(text: &mut String, strategy: &Strategy) -> Result<(), AllocError
         ++ text_of 0 (message_field (codes "search_strategy") (printed_strategy strategy.now))) }
 {
     open_message(text, 0, "search_strategy")?;
-    put_expressions(text, 1, "exprs", strategy.exprs.as_slice())?;
+    put_all(text, 1, "exprs", &strategy.exprs)?;
     put_word_field(
         text,
         1,

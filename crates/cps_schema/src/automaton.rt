@@ -50,6 +50,6 @@ pub(crate) fn read_automaton(
         tails: next_numbers(alloc, &mut slots),
         heads: next_numbers(alloc, &mut slots),
         labels: next_numbers(alloc, &mut slots),
-        exprs: next_expressions_of_a_form(alloc, &mut slots)?,
+        exprs: next_expressions_of_a_form(alloc, &mut slots),
     })
 }

@@ -23,6 +23,7 @@ use cps_model::{Constraint, Kind, Listed, Text};
 use cps_textproto::{Field, Node};
 use std::alloc::Global;
 
+/// The fields of this message that CP-SAT has and that are not served: each is refused as unsupported.
 const UNREAD: [&[u8]; 2] = [b"routes", b"dummy_constraint"];
 
 /// What was read so far of a constraint.

@@ -9,14 +9,14 @@ ghost use Rattle.cps_model.specs.Values.{reference_expression};
 ghost use Rattle.cps_schema.specs.Answers.{Refuses};
 
 use super::error::SchemaError;
-use super::expression::{add_references, reference_expression};
+use super::expression::reference_expression;
 use super::form::Form::{Newer, Older};
 use super::gather::Contents::{Expressions, References};
 use super::gather::Takes::{ManyOf, OneOf};
 use super::gather::{Line, gather};
 use super::source::Source;
 use super::taking::{next_expression, next_expressions, next_given};
-use cps_model::{Kind, Listed};
+use cps_model::{Exprs, Kind, Listed};
 use cps_textproto::Node;
 use std::alloc::{AllocError, Global};
 
@@ -44,17 +44,15 @@ fn older_element(
     alloc: Global,
     index: &Listed<i32>,
     target: &Listed<i32>,
-    vars: &Listed<i32>,
+    vars: Listed<i32>,
 ) -> Result<Kind, AllocError>
     ensures { IfOk result (λ kind. kind ≡ Kind.Element (reference_expression (first_or (pos 0) index.now))
-        (reference_expression (first_or (pos 0) target.now)) (map reference_expression vars.now)) }
+        (reference_expression (first_or (pos 0) target.now)) (map reference_expression vars)) }
 {
-    let mut exprs = Vec::new(alloc);
-    add_references(alloc, &mut exprs, vars.as_slice())?;
     Ok(Kind::Element {
         index: reference_expression(alloc, the_reference(index))?,
         target: reference_expression(alloc, the_reference(target))?,
-        exprs: Listed::from_vec(exprs),
+        exprs: Exprs::of(Vec::new(alloc), vars.into_vec()),
     })
 }
 
@@ -72,13 +70,16 @@ pub(crate) fn read_element(alloc: Global, source: &Source, node: &Node) -> Resul
     let newer = Kind::Element {
         index: next_expression(alloc, &mut slots),
         target: next_expression(alloc, &mut slots),
-        exprs: next_expressions(alloc, &mut slots),
+        exprs: Exprs::of(
+            next_expressions(alloc, &mut slots).into_vec(),
+            Vec::new(alloc),
+        ),
     };
     let index = next_given(alloc, &mut slots);
     let target = next_given(alloc, &mut slots);
     let vars = next_given(alloc, &mut slots);
     if index.0 || target.0 || vars.0 {
-        Ok(older_element(alloc, &index.1, &target.1, &vars.1)?)
+        Ok(older_element(alloc, &index.1, &target.1, vars.1)?)
     } else {
         Ok(newer)
     }

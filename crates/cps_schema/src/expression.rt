@@ -24,6 +24,7 @@ use cps_model::{LinearExpr, Listed};
 use cps_textproto::{Field, Node};
 use std::alloc::{AllocError, Global};
 
+/// The fields of this message that CP-SAT has and that are not served: each is refused as unsupported.
 const UNREAD: [&[u8]; 0] = [];
 
 /// What was read so far of an expression.
@@ -120,19 +121,4 @@ pub(crate) fn reference_expression(alloc: Global, reference: i32) -> Result<Line
         coeffs: Listed::from_vec(coeffs),
         offset: 0,
     })
-}
-
-/// Adds references as expressions.
-pub(crate) fn add_references(
-    alloc: Global,
-    expressions: &mut Vec<LinearExpr>,
-    references: &[i32],
-) -> Result<(), AllocError>
-    ensures { OnOk result (expressions.new.items ≡ expressions.old.items ++ map reference_expression references.now) }
-{
-    expressions.reserve_exact(references.len())?;
-    for reference in references {
-        expressions.push(reference_expression(alloc, *reference)?)?;
-    }
-    Ok(())
 }

@@ -17,6 +17,7 @@ use cps_model::Listed;
 use cps_textproto::{Field, Node};
 use std::alloc::Global;
 
+/// The fields of this message that CP-SAT has and that are not served: each is refused as unsupported.
 const UNREAD: [&[u8]; 0] = [];
 
 /// Reads a field of a list of intervals.

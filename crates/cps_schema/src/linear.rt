@@ -18,6 +18,7 @@ use cps_model::{Kind, Listed};
 use cps_textproto::{Field, Node};
 use std::alloc::Global;
 
+/// The fields of this message that CP-SAT has and that are not served: each is refused as unsupported.
 const UNREAD: [&[u8]; 0] = [];
 
 /// What was read so far of a linear constraint.

@@ -33,6 +33,7 @@ use cps_model::{
 use cps_textproto::{Field, Node};
 use std::alloc::Global;
 
+/// The fields of this message that CP-SAT has and that are not served: each is refused as unsupported.
 const UNREAD: [&[u8]; 2] = [b"floating_point_objective", b"symmetry"];
 
 /// What was read so far of a model.

@@ -21,6 +21,7 @@ use cps_model::{Listed, Objective};
 use cps_textproto::{Field, Node};
 use std::alloc::Global;
 
+/// The fields of this message that CP-SAT has and that are not served: each is refused as unsupported.
 const UNREAD: [&[u8]; 4] = [
     b"scaling_was_exact",
     b"integer_before_offset",

@@ -44,6 +44,7 @@ pub(crate) fn bracket(source: &Source, name: u32) -> usize
     }
 }
 
+/// The fault of a value of another type than the field's, at its first token.
 pub(crate) fn wrong_kind(token: usize) -> SchemaError
     ensures { result ≡ SchemaError.Fault FaultName.WrongKind token }
 {

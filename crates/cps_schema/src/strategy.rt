@@ -1,6 +1,6 @@
 //! Strategies: expressions in one of two forms, and two enums.
 //!
-//! The older form gives references, which are read as the expressions that they are; a field of the one form after one
+//! The older form gives references, which stand for the expressions that they are; a field of the one form after one
 //! of the other is refused. The parts read so far keep both lists and which form came.
 ghost use Rattle.std.specs.Prelude.{◌≡◌, ◌++◌, ℕ, List, [], ◌∷◌, true, false, None, Some, map, OnOk, IfOk, IfErr};
 ghost use Rattle.cps_textproto.specs.Trees.{Tree, no_fields, tree_of, values_of};
@@ -15,7 +15,6 @@ ghost use Rattle.cps_schema.specs.Steps.{field_then, Passes, Stops, FormedPasses
 ghost use Rattle.cps_schema.specs.Parts.{strategy_from, is_other, IsStrategyGiven};
 
 use super::error::SchemaError;
-use super::expression::add_references;
 use super::form::{Form, take_form};
 use super::lists::add_refs;
 use super::member::{set_choose, set_select};
@@ -24,10 +23,11 @@ use super::names::not_read;
 use super::number::Number;
 use super::single::fields_of;
 use super::source::{Source, token_text};
-use cps_model::{Choose, LinearExpr, Listed, Select, Strategy};
+use cps_model::{Choose, Exprs, LinearExpr, Select, Strategy};
 use cps_textproto::{Field, Node};
-use std::alloc::{AllocError, Global};
+use std::alloc::Global;
 
+/// The fields of this message that CP-SAT has and that are not served: each is refused as unsupported.
 const UNREAD: [&[u8]; 0] = [];
 
 /// What was read so far of a strategy: its expressions in the newer form, or in the older one as references.
@@ -119,8 +119,8 @@ fn add_field(
 
 /// The strategy of these parts alone.
 #[tactic(auto, using(crate::proofs::Slots::first_read, crate::proofs::Slots::no_further))]
-fn strategy_of(alloc: Global, parts: StrategyParts) -> Result<Strategy, AllocError>
-    ensures { IfOk result (λ strategy. (w : Written) → strategy ≡ strategy_from w parts no_fields) }
+fn strategy_of(parts: StrategyParts) -> Strategy
+    ensures { (w : Written) → result ≡ strategy_from w parts no_fields }
 {
     let StrategyParts {
         exprs,
@@ -129,13 +129,11 @@ fn strategy_of(alloc: Global, parts: StrategyParts) -> Result<Strategy, AllocErr
         select,
         ..
     } = parts;
-    let mut exprs = exprs;
-    add_references(alloc, &mut exprs, &variables)?;
-    Ok(Strategy {
-        exprs: Listed::from_vec(exprs),
+    Strategy {
+        exprs: Exprs::of(exprs, variables),
         choose: choose.unwrap_or(Choose::First),
         select: select.unwrap_or(Select::MinValue),
-    })
+    }
 }
 
 /// The strategy that a message gives.
@@ -155,7 +153,7 @@ fn read_strategy(alloc: Global, source: &Source, node: &Node) -> Result<Strategy
     for field in fields_of(node) {
         add_field(alloc, source, &mut parts, field)?;
     }
-    Ok(strategy_of(alloc, parts)?)
+    Ok(strategy_of(parts))
 }
 
 impl Message for Strategy {

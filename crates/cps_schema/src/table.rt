@@ -37,7 +37,7 @@ pub(crate) fn read_table(alloc: Global, source: &Source, node: &Node) -> Result<
         Err(error) => return Err(error),
     };
     Ok(Kind::Table {
-        exprs: next_expressions_of_a_form(alloc, &mut slots)?,
+        exprs: next_expressions_of_a_form(alloc, &mut slots),
         values: next_numbers(alloc, &mut slots),
         negated: next_truth(&mut slots),
     })

@@ -8,10 +8,9 @@ ghost use Rattle.cps_schema.specs.Readings.{first_or, no_expression};
 ghost use Rattle.cps_model.specs.Values.{reference_expression};
 ghost use Rattle.cps_schema.specs.Gathered.{held, left, behind_first, next};
 
-use super::expression::add_references;
 use super::gather::Slot;
-use cps_model::{LinearExpr, Listed};
-use std::alloc::{AllocError, Global};
+use cps_model::{Exprs, LinearExpr, Listed};
+use std::alloc::Global;
 use std::vec::IntoIter;
 
 /// What the next field gives, if there is one.
@@ -141,17 +140,12 @@ pub(crate) fn next_given(alloc: Global, slots: &mut IntoIter<Slot>) -> (bool, Li
 }
 
 /// The expressions of the next field, of the newer form, and the references of the one behind it, of the older form.
-pub(crate) fn next_expressions_of_a_form(
-    alloc: Global,
-    slots: &mut IntoIter<Slot>,
-) -> Result<Listed<LinearExpr>, AllocError>
-    ensures value { IfOk result (λ exprs. exprs
-        ≡ (next (left slots.old)).expressions ++ map reference_expression
-        (next (behind_first (left slots.old))).references) }
-    ensures rest { IfOk result (λ _. left slots.new ≡ behind_first (behind_first (left slots.old))) }
+pub(crate) fn next_expressions_of_a_form(alloc: Global, slots: &mut IntoIter<Slot>) -> Exprs
+    ensures value { result ≡ (next (left slots.old)).expressions ++ map reference_expression
+        (next (behind_first (left slots.old))).references }
+    ensures rest { left slots.new ≡ behind_first (behind_first (left slots.old)) }
 {
-    let mut exprs = next_expressions(alloc, slots).into_vec();
+    let written = next_expressions(alloc, slots);
     let references = next_references(alloc, slots);
-    add_references(alloc, &mut exprs, references.as_slice())?;
-    Ok(Listed::from_vec(exprs))
+    Exprs::of(written.into_vec(), references.into_vec())
 }

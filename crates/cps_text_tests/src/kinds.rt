@@ -4,7 +4,7 @@
 //! What was read is shown in a notation of its own, and not by the printer, which would make the same mistakes; a row
 //! has the text and what it is to be.
 use crate::reading::{model_of_all, refusal_of_all};
-use cps_model::{CpModel, Kind, LinearExpr, Listed};
+use cps_model::{CpModel, Exprs, Kind, LinearExpr, Listed};
 use std::alloc::Global;
 use std::fmt::Write;
 use std::process::Abort;
@@ -22,6 +22,19 @@ fn put_expressions(text: &mut String, list: &Listed<LinearExpr>) -> Result<(), F
     for e in list.as_slice() {
         put_expression(text, e)?;
         text.push_str(";")?;
+    }
+    Ok(())
+}
+
+/// Appends expressions of which some may be plain references, each with a semicolon behind it.
+fn put_all(text: &mut String, exprs: &Exprs) -> Result<(), Fail> {
+    let (written, references) = exprs.parts();
+    for e in written {
+        put_expression(text, e)?;
+        text.push_str(";")?;
+    }
+    for reference in references {
+        write!(text, "[{reference}][1]0;")?;
     }
     Ok(())
 }
@@ -114,14 +127,16 @@ fn put_lookups(text: &mut String, kind: &Kind) -> Result<(), Fail> {
         } => {
             put_expression(text, index)?;
             text.push_str(" ")?;
-            put_argument(text, target, exprs)
+            put_expression(text, target)?;
+            text.push_str(" of ")?;
+            put_all(text, exprs)
         }
         Kind::Table {
             exprs,
             values,
             negated,
         } => {
-            put_expressions(text, exprs)?;
+            put_all(text, exprs)?;
             let values = values.as_slice();
             write!(text, " {values:?} {negated}")?;
             Ok(())
@@ -137,7 +152,7 @@ fn put_lookups(text: &mut String, kind: &Kind) -> Result<(), Fail> {
             let (a, b) = (finals.as_slice(), tails.as_slice());
             let (c, d) = (heads.as_slice(), labels.as_slice());
             write!(text, "{start} {a:?}{b:?}{c:?}{d:?} ")?;
-            put_expressions(text, exprs)
+            put_all(text, exprs)
         }
         _ => put_times(text, kind),
     }

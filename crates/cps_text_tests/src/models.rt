@@ -102,22 +102,21 @@ fn are_names(model: &CpModel) -> bool {
     }
 }
 
-/// A strategy chooses so, and has one expression, of these references, coefficients and offset.
-fn is_strategy(
-    strategy: &Strategy,
-    choose: Choose,
-    select: Select,
-    refs: &[i32],
-    factors: &[i64],
-    offset: i64,
-) -> bool {
-    match strategy.exprs.as_slice() {
-        [expr] => {
-            strategy.choose == choose
-                && strategy.select == select
-                && expr.vars.as_slice() == refs
+/// A strategy chooses so.
+fn chooses(strategy: &Strategy, choose: Choose, select: Select) -> bool {
+    strategy.choose == choose && strategy.select == select
+}
+
+/// A strategy has one expression, of these references, coefficients and offset.
+fn has_expr(strategy: &Strategy, refs: &[i32], factors: &[i64], offset: i64) -> bool {
+    match strategy.exprs.parts() {
+        ([expr], []) => {
+            expr.vars.as_slice() == refs
                 && expr.coeffs.as_slice() == factors
                 && expr.offset == offset
+        }
+        ([], [reference]) => {
+            refs == [*reference].as_slice() && factors == [1].as_slice() && offset == 0
         }
         _ => false,
     }
@@ -126,15 +125,10 @@ fn is_strategy(
 fn is_steered(model: &CpModel) -> bool {
     match (model.strategies.as_slice(), &model.hint) {
         ([older, newer], Some(hint)) => {
-            is_strategy(older, Choose::First, Select::MaxValue, &[-3], &[1], 0)
-                && is_strategy(
-                    newer,
-                    Choose::MaxDomainSize,
-                    Select::MinValue,
-                    &[1],
-                    &[2],
-                    -15,
-                )
+            chooses(older, Choose::First, Select::MaxValue)
+                && has_expr(older, &[-3], &[1], 0)
+                && chooses(newer, Choose::MaxDomainSize, Select::MinValue)
+                && has_expr(newer, &[1], &[2], -15)
                 && hint.vars.as_slice() == [0, 1].as_slice()
                 && hint.values.as_slice() == [4, -5].as_slice()
         }
@@ -144,7 +138,7 @@ fn is_steered(model: &CpModel) -> bool {
 
 fn has_members(model: &CpModel, choose: Choose, select: Select) -> bool {
     match model.strategies.as_slice() {
-        [strategy] => is_strategy(strategy, choose, select, &[], &[], 0),
+        [strategy] => chooses(strategy, choose, select) && has_expr(strategy, &[], &[], 0),
         _ => false,
     }
 }

@@ -68,6 +68,7 @@ pub struct Builder {
     pub messages: Vec<Nested>,
 }
 
+/// What a token adds to the tree, by what could come before it.
 pub(crate) fn action_of(mode: Mode, symbol: Symbol) -> Action
     ensures { result ≡ action_of mode symbol }
 {

@@ -9,5 +9,5 @@ returns c =
     let fields =
     field_then 2 _ _ _ _ _ (c.in_ok-put_expression_field.ensures {u = tt})
     (field_then 2 _ _ _ _ _ (c.in_ok-put_expression_field-2.ensures {u = tt})
-    (repeated_then 2 _ printed_expression _ _ _ _ _ _ refl (c.in_ok-put_expressions.ensures {u = tt}) (none_left 2 _))) in
+    (repeated_then 2 _ printed_expression _ _ _ _ _ _ refl (c.in_ok-put_all.ensures {u = tt}) (none_left 2 _))) in
     on_ok c.close_message.result (message_then 1 _ _ _ _ _ _ (c.in_ok-open_message.ensures {u = tt}) fields) c.close_message.ensures

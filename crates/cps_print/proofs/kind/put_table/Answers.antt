@@ -7,7 +7,7 @@ use Rattle.cps_print.proofs.kind.put_table.Goals as goal
 pub returns : goal.returns
 returns c =
     let fields =
-    repeated_then 2 _ printed_expression _ _ _ _ _ _ refl (c.in_ok-put_expressions.ensures {u = tt})
+    repeated_then 2 _ printed_expression _ _ _ _ _ _ refl (c.in_ok-put_all.ensures {u = tt})
     (list_then 2 _ _ _ _ _ _ _ refl (c.in_ok-put_list_field.ensures {u = tt})
     (word_then 2 _ _ _ _ _ _ _ c.flag_name.ensures (c.in_ok-put_word_field.ensures {u = tt}) (none_left 2 _))) in
     on_ok c.close_message.result (message_then 1 _ _ _ _ _ _ (c.in_ok-open_message.ensures {u = tt}) fields) c.close_message.ensures

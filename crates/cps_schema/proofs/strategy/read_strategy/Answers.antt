@@ -24,4 +24,4 @@ returns-clause-reading c =
     let past : drop c.loop-field.field-index items ≡ [] = grind (arith, common_steps) in
     let read : read_strategy w (field_list items) ≡ strategy_from w c.loop-field.parts no_fields =
     c.loop-field.invariant.1 ∙ ap (λ fs. strategy_from w c.loop-field.parts (field_list fs)) past in
-    c.in_ok-strategy_of.ensures w ∙ sym read ∙ ap (read_strategy w) c.fields_of-field-items.ensures
+    c.strategy_of.ensures w ∙ sym read ∙ ap (read_strategy w) c.fields_of-field-items.ensures

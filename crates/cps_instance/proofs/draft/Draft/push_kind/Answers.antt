@@ -15,19 +15,42 @@ use Rattle.cps_instance.proofs.draft.Draft.push_kind.Goals as goal
 
 pub push_both-requires-clause-rules : goal.push_both-requires-clause-rules
 push_both-requires-clause-rules c =
-    let vs = c.args.self.now.model.variables in
+    let P = KeepsRules c.args.self.now.model.variables in
     let a = c.in-Element in
-    let es : expressions_of c.args.kind.now ≡ a.index ∷ a.target ∷ c.as_slice.result.now = ap expressions_of a.is ∙ ap (λ (xs : List LinearExpr). a.index ∷ a.target ∷ xs) (sym c.as_slice.ensures) in
-    let rest = All-tail (KeepsRules vs) a.index (a.target ∷ c.as_slice.result.now) (subst (λ (xs : List LinearExpr). All (KeepsRules vs) xs) es c.requires.rules) in
-    numbers_rules c.args.self.now c.push_subject.new.self (a.index ∷ []) (a.target ∷ c.as_slice.result.now) c.args.subjects.now.items c.push_subject.new.subjects.items c.in_ok-push_subject-in-Element.ensures rest
+    let all = subst (λ (xs : List LinearExpr). All P xs) (ap expressions_of a.is) c.requires.rules in
+    subst (λ (xs : List LinearExpr). All P (a.index ∷ xs)) (sym c.from_ref.ensures.value) (All-append_left P (a.index ∷ a.target ∷ []) a.exprs all)
+
+pub push_both-requires-clause-room : goal.push_both-requires-clause-room
+push_both-requires-clause-room c =
+    let all = ap (λ (xs : List LinearExpr). length xs) (ap expressions_of c.in-Element.is) in
+    let one = ap (λ (xs : List LinearExpr). length xs) c.from_ref.ensures.value in
+    let room = c.requires.room in
+    omega arith
+
+pub push_all-requires-clause-rules : goal.push_all-requires-clause-rules
+push_all-requires-clause-rules c =
+    let p = c.args.self.now in
+    let P = KeepsRules p.model.variables in
+    let a = c.in-Element in
+    let all = subst (λ (xs : List LinearExpr). All P xs) (ap expressions_of a.is) c.requires.rules in
+    numbers_rules p c.push_both.new.self (a.index ∷ c.from_ref.result.now) a.exprs c.args.subjects.now.items c.push_both.new.subjects.items c.in_ok-push_both-in-Element.ensures (All-append_right P (a.index ∷ a.target ∷ []) a.exprs all)
+
+pub push_all-requires-clause-room : goal.push_all-requires-clause-room
+push_all-requires-clause-room c =
+    let a = c.in-Element in
+    let most = numbers_room c.args.self.now c.push_both.new.self (a.index ∷ c.from_ref.result.now) c.args.subjects.now.items c.push_both.new.subjects.items c.requires.begun c.in_ok-push_both-in-Element.ensures in
+    let all = ap (λ (xs : List LinearExpr). length xs) (ap expressions_of a.is) in
+    let one = ap (λ (xs : List LinearExpr). length xs) c.from_ref.ensures.value in
+    let room = c.requires.room in
+    omega arith
 
 pub push_both-requires-in-Interval-clause-rules : goal.push_both-requires-in-Interval-clause-rules
 push_both-requires-in-Interval-clause-rules c =
     let vs = c.args.self.now.model.variables in
     let a = c.in-Interval in
-    let es : expressions_of c.args.kind.now ≡ a.start ∷ a.end ∷ c.from_ref.result.now = ap expressions_of a.is ∙ ap (λ (xs : List LinearExpr). a.start ∷ a.end ∷ xs) (sym c.from_ref.ensures.value) in
-    let rest = All-tail (KeepsRules vs) a.start (a.end ∷ c.from_ref.result.now) (subst (λ (xs : List LinearExpr). All (KeepsRules vs) xs) es c.requires.rules) in
-    numbers_rules c.args.self.now c.push_subject-in-Interval.new.self (a.start ∷ []) (a.end ∷ c.from_ref.result.now) c.args.subjects.now.items c.push_subject-in-Interval.new.subjects.items c.in_ok-push_subject-in-Interval.ensures rest
+    let es : expressions_of c.args.kind.now ≡ a.start ∷ a.end ∷ c.from_ref-in-Interval.result.now = ap expressions_of a.is ∙ ap (λ (xs : List LinearExpr). a.start ∷ a.end ∷ xs) (sym c.from_ref-in-Interval.ensures.value) in
+    let rest = All-tail (KeepsRules vs) a.start (a.end ∷ c.from_ref-in-Interval.result.now) (subst (λ (xs : List LinearExpr). All (KeepsRules vs) xs) es c.requires.rules) in
+    numbers_rules c.args.self.now c.push_subject.new.self (a.start ∷ []) (a.end ∷ c.from_ref-in-Interval.result.now) c.args.subjects.now.items c.push_subject.new.subjects.items c.in_ok-push_subject-in-Interval.ensures rest
 
 pub push_both-requires-in-Cumulative-clause-rules : goal.push_both-requires-in-Cumulative-clause-rules
 push_both-requires-in-Cumulative-clause-rules c =
@@ -66,25 +89,25 @@ push_references-requires-in-Inverse-clause-room c =
     let room = c.requires.room in
     omega arith
 
-pub push_subjects-requires-clause-rules : goal.push_subjects-requires-clause-rules
-push_subjects-requires-clause-rules c =
+pub push_subjects-requires-in-Reservoir-clause-rules : goal.push_subjects-requires-in-Reservoir-clause-rules
+push_subjects-requires-in-Reservoir-clause-rules c =
     let vs = c.args.self.now.model.variables in
     let a = c.in-Reservoir in
     let es : expressions_of c.args.kind.now ≡ c.as_slice-in-Reservoir.result.now ++ a.changes = ap expressions_of a.is ∙ ap (λ (xs : List LinearExpr). xs ++ a.changes) (sym c.as_slice-in-Reservoir.ensures) in
     All-append_left (KeepsRules vs) c.as_slice-in-Reservoir.result.now a.changes (subst (λ (xs : List LinearExpr). All (KeepsRules vs) xs) es c.requires.rules)
 
-pub push_subjects-requires-in-Reservoir-clause-rules : goal.push_subjects-requires-in-Reservoir-clause-rules
-push_subjects-requires-in-Reservoir-clause-rules c =
+pub push_subjects-requires-in-Reservoir-2-clause-rules : goal.push_subjects-requires-in-Reservoir-2-clause-rules
+push_subjects-requires-in-Reservoir-2-clause-rules c =
     let vs = c.args.self.now.model.variables in
     let a = c.in-Reservoir in
     let es : expressions_of c.args.kind.now ≡ a.times ++ c.as_slice-in-Reservoir-2.result.now = ap expressions_of a.is ∙ ap (λ (xs : List LinearExpr). a.times ++ xs) (sym c.as_slice-in-Reservoir-2.ensures) in
     let rest = All-append_right (KeepsRules vs) a.times c.as_slice-in-Reservoir-2.result.now (subst (λ (xs : List LinearExpr). All (KeepsRules vs) xs) es c.requires.rules) in
-    numbers_rules c.args.self.now c.push_subjects.new.self c.as_slice-in-Reservoir.result.now c.as_slice-in-Reservoir-2.result.now c.args.subjects.now.items c.push_subjects.new.subjects.items c.in_ok-push_subjects-in-Reservoir.ensures rest
+    numbers_rules c.args.self.now c.push_subjects-in-Reservoir.new.self c.as_slice-in-Reservoir.result.now c.as_slice-in-Reservoir-2.result.now c.args.subjects.now.items c.push_subjects-in-Reservoir.new.subjects.items c.in_ok-push_subjects-in-Reservoir.ensures rest
 
-pub push_subjects-requires-in-Reservoir-clause-room : goal.push_subjects-requires-in-Reservoir-clause-room
-push_subjects-requires-in-Reservoir-clause-room c =
+pub push_subjects-requires-in-Reservoir-2-clause-room : goal.push_subjects-requires-in-Reservoir-2-clause-room
+push_subjects-requires-in-Reservoir-2-clause-room c =
     let a = c.in-Reservoir in
-    let most = numbers_room c.args.self.now c.push_subjects.new.self c.as_slice-in-Reservoir.result.now c.args.subjects.now.items c.push_subjects.new.subjects.items c.requires.begun c.in_ok-push_subjects-in-Reservoir.ensures in
+    let most = numbers_room c.args.self.now c.push_subjects-in-Reservoir.new.self c.as_slice-in-Reservoir.result.now c.args.subjects.now.items c.push_subjects-in-Reservoir.new.subjects.items c.requires.begun c.in_ok-push_subjects-in-Reservoir.ensures in
     let all = ap (λ (xs : List LinearExpr). length xs) (ap expressions_of a.is) in
     let both = length-append a.times a.changes in
     let times = ap (λ (xs : List LinearExpr). length xs) c.as_slice-in-Reservoir.ensures in
@@ -99,24 +122,24 @@ push_both-requires-in-IntDiv-clause-rules c =
     elim a.is [ inl e ↦ ap expressions_of e | inr r ↦ elim r [ inl e ↦ ap expressions_of e | inr s ↦ elim s [ inl e ↦ ap expressions_of e | inr e ↦ ap expressions_of e ] ] ] in
     subst (λ (xs : List LinearExpr). All (KeepsRules c.args.self.now.model.variables) xs) (es ∙ ap (λ (xs : List LinearExpr). a.target ∷ xs) (sym c.as_slice-in-IntDiv.ensures)) c.requires.rules
 
-pub returns-in_ok-push_subject-in-Element : goal.returns-in_ok-push_subject-in-Element
-returns-in_ok-push_subject-in-Element c =
+pub returns-in_ok-push_both-in-Element : goal.returns-in_ok-push_both-in-Element
+returns-in_ok-push_both-in-Element c =
     let p = c.args.self.now in
     let a = c.in-Element in
-    let es : (a.index ∷ []) ++ (a.target ∷ c.as_slice.result.now) ≡ expressions_of c.args.kind.now = sym (ap expressions_of a.is ∙ ap (λ (xs : List LinearExpr). a.index ∷ a.target ∷ xs) (sym c.as_slice.ensures)) in
-    on_ok_weaker c.push_both.result
-    (λ h. subst (λ (xs : List LinearExpr). Numbers p c.push_both.new.self xs c.args.subjects.now.items c.push_both.new.subjects.items) es
-    (numbers_both p c.push_subject.new.self c.push_both.new.self (a.index ∷ []) (a.target ∷ c.as_slice.result.now) c.args.subjects.now.items c.push_subject.new.subjects.items c.push_both.new.subjects.items c.in_ok-push_subject-in-Element.ensures h))
-    c.push_both.ensures
+    let es : (a.index ∷ c.from_ref.result.now) ++ a.exprs ≡ expressions_of c.args.kind.now = ap (λ (xs : List LinearExpr). a.index ∷ (xs ++ a.exprs)) c.from_ref.ensures.value ∙ sym (ap expressions_of a.is) in
+    on_ok_weaker c.push_all.result
+    (λ h. subst (λ (xs : List LinearExpr). Numbers p c.push_all.new.self xs c.args.subjects.now.items c.push_all.new.subjects.items) es
+    (numbers_both p c.push_both.new.self c.push_all.new.self (a.index ∷ c.from_ref.result.now) a.exprs c.args.subjects.now.items c.push_both.new.subjects.items c.push_all.new.subjects.items c.in_ok-push_both-in-Element.ensures h))
+    c.push_all.ensures
 
 pub returns-in_ok-push_subject-in-Interval : goal.returns-in_ok-push_subject-in-Interval
 returns-in_ok-push_subject-in-Interval c =
     let p = c.args.self.now in
     let a = c.in-Interval in
-    let es : (a.start ∷ []) ++ (a.end ∷ c.from_ref.result.now) ≡ expressions_of c.args.kind.now = sym (ap expressions_of a.is ∙ ap (λ (xs : List LinearExpr). a.start ∷ a.end ∷ xs) (sym c.from_ref.ensures.value)) in
+    let es : (a.start ∷ []) ++ (a.end ∷ c.from_ref-in-Interval.result.now) ≡ expressions_of c.args.kind.now = sym (ap expressions_of a.is ∙ ap (λ (xs : List LinearExpr). a.start ∷ a.end ∷ xs) (sym c.from_ref-in-Interval.ensures.value)) in
     on_ok_weaker c.push_both-in-Interval.result
     (λ h. subst (λ (xs : List LinearExpr). Numbers p c.push_both-in-Interval.new.self xs c.args.subjects.now.items c.push_both-in-Interval.new.subjects.items) es
-    (numbers_both p c.push_subject-in-Interval.new.self c.push_both-in-Interval.new.self (a.start ∷ []) (a.end ∷ c.from_ref.result.now) c.args.subjects.now.items c.push_subject-in-Interval.new.subjects.items c.push_both-in-Interval.new.subjects.items
+    (numbers_both p c.push_subject.new.self c.push_both-in-Interval.new.self (a.start ∷ []) (a.end ∷ c.from_ref-in-Interval.result.now) c.args.subjects.now.items c.push_subject.new.subjects.items c.push_both-in-Interval.new.subjects.items
     c.in_ok-push_subject-in-Interval.ensures h))
     c.push_both-in-Interval.ensures
 
@@ -144,8 +167,8 @@ returns-in_ok-push_subjects-in-Reservoir c =
     let back = c.as_slice-in-Reservoir-2.result.now in
     let es : front ++ back ≡ expressions_of c.args.kind.now =
     ap (λ (xs : List LinearExpr). xs ++ back) c.as_slice-in-Reservoir.ensures ∙ ap (λ (xs : List LinearExpr). a.times ++ xs) c.as_slice-in-Reservoir-2.ensures ∙ sym (ap expressions_of a.is) in
-    on_ok_weaker c.push_subjects-in-Reservoir.result
-    (λ h. subst (λ (xs : List LinearExpr). Numbers p c.push_subjects-in-Reservoir.new.self xs c.args.subjects.now.items c.push_subjects-in-Reservoir.new.subjects.items) es
-    (numbers_both p c.push_subjects.new.self c.push_subjects-in-Reservoir.new.self front back c.args.subjects.now.items c.push_subjects.new.subjects.items c.push_subjects-in-Reservoir.new.subjects.items
+    on_ok_weaker c.push_subjects-in-Reservoir-2.result
+    (λ h. subst (λ (xs : List LinearExpr). Numbers p c.push_subjects-in-Reservoir-2.new.self xs c.args.subjects.now.items c.push_subjects-in-Reservoir-2.new.subjects.items) es
+    (numbers_both p c.push_subjects-in-Reservoir.new.self c.push_subjects-in-Reservoir-2.new.self front back c.args.subjects.now.items c.push_subjects-in-Reservoir.new.subjects.items c.push_subjects-in-Reservoir-2.new.subjects.items
     c.in_ok-push_subjects-in-Reservoir.ensures h))
-    c.push_subjects-in-Reservoir.ensures
+    c.push_subjects-in-Reservoir-2.ensures

@@ -1,5 +1,6 @@
 -- One more reference has its subject.
-use Rattle.std.proofs.Common.{rules, ◌≡◌, ◌<◌, take, map, get_or, pos, length, arith}
+use Rattle.std.proofs.Common.{rules, ◌≡◌, ◌<◌, ℤ, ap, take, map, get_or, pos, to_z, of_z, w32, FitsSigned, length, arith}
+use Rattle.std.proofs.lemmas.Int.{to_z-of_z}
 use Rattle.cps_model.specs.Values.{reference_expression}
 use Rattle.cps_instance.proofs.Drafting.{numbers_none, reference_keeps, reference_room, numbers_reference}
 use Rattle.cps_instance.proofs.draft.Draft.push_references.Goals as goal
@@ -7,16 +8,18 @@ use Rattle.cps_instance.proofs.draft.Draft.push_references.Goals as goal
 pub loop-reference-init : goal.loop-reference-init
 loop-reference-init c = numbers_none c.args.self.now c.args.subjects.now.items c.requires.begun
 
-pub push_subject-requires-clause-rules : goal.push_subject-requires-clause-rules
-push_subject-requires-clause-rules c =
+pub push_reference-requires-clause-rules : goal.push_reference-requires-clause-rules
+push_reference-requires-clause-rules c =
     let k = c.loop-reference.reference-index in
     let l : k < length c.args.references.now = omega arith in
-    let is : c.in_ok-expr.expr ≡ reference_expression (get_or c.args.references.now k (pos 0)) = search rules in
+    let r = get_or c.args.references.now k (pos 0) in
+    let fits : FitsSigned w32 r = search rules in
+    let is : reference_expression (to_z w32 (of_z w32 r)) ≡ reference_expression r = ap (λ (z : ℤ). reference_expression z) (to_z-of_z w32 _ fits) in
     reference_keeps c.args.self.now c.loop-reference.self c.args.references.now (map reference_expression (take k c.args.references.now)) c.args.subjects.now.items c.loop-reference.subjects.items c.loop-reference.invariant c.requires.rules
-    k c.in_ok-expr.expr l is
+    k (reference_expression (to_z w32 (of_z w32 r))) l is
 
-pub push_subject-requires-clause-room : goal.push_subject-requires-clause-room
-push_subject-requires-clause-room c =
+pub push_reference-requires-clause-room : goal.push_reference-requires-clause-room
+push_reference-requires-clause-room c =
     let k = c.loop-reference.reference-index in
     let l : k < length c.args.references.now = omega arith in
     reference_room c.args.self.now c.loop-reference.self c.args.references.now k c.args.subjects.now.items c.loop-reference.subjects.items c.requires.begun c.loop-reference.invariant l c.requires.room
@@ -25,6 +28,8 @@ pub loop-reference-preserved : goal.loop-reference-preserved
 loop-reference-preserved c =
     let k = c.loop-reference.reference-index in
     let l : k < length c.args.references.now = omega arith in
-    let is : c.in_ok-expr.expr ≡ reference_expression (get_or c.args.references.now k (pos 0)) = search rules in
-    numbers_reference c.args.self.now c.loop-reference.self c.push_subject.new.self c.args.references.now k c.in_ok-expr.expr c.args.subjects.now.items c.loop-reference.subjects.items c.push_subject.new.subjects.items
-    l is c.loop-reference.invariant c.in_ok-push_subject.ensures
+    let r = get_or c.args.references.now k (pos 0) in
+    let fits : FitsSigned w32 r = search rules in
+    let is : reference_expression (to_z w32 (of_z w32 r)) ≡ reference_expression r = ap (λ (z : ℤ). reference_expression z) (to_z-of_z w32 _ fits) in
+    numbers_reference c.args.self.now c.loop-reference.self c.push_reference.new.self c.args.references.now k (reference_expression (to_z w32 (of_z w32 r))) c.args.subjects.now.items c.loop-reference.subjects.items c.push_reference.new.subjects.items
+    l is c.loop-reference.invariant c.in_ok-push_reference.ensures
