@@ -1,4 +1,5 @@
-//! Numbers in rounds.
+//! The order in which waiting propagators of one price are visited: in rounds, in which their numbers rise and fall by
+//! turns.
 
 ghost use Rattle.std.specs.Prelude.{◌≡◌, ◌++◌, [], ◌∷◌, OnOk, OnErr, IfSome, IsNone, IsPermutation};
 

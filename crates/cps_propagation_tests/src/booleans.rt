@@ -23,7 +23,7 @@ type Came = (Option<usize>, usize, Atom);
 
 /// What a list of atoms is to be.
 #[derive(Clone, Copy)]
-enum Kind {
+pub enum Kind {
     Or,
     And,
     AtMostOne,
@@ -31,17 +31,18 @@ enum Kind {
     Xor,
 }
 
-fn yes(subject: u32) -> Atom {
+pub fn yes(subject: u32) -> Atom {
     at_least(subject, 1)
 }
 
-fn no(subject: u32) -> Atom {
+pub fn no(subject: u32) -> Atom {
     at_most(subject, 0)
 }
 
-fn store_of_bits(alloc: Global) -> Result<Store, AllocError>
+pub fn store_of_bits(alloc: Global) -> Result<Store, AllocError>
     ensures first { IfOk result (λ store. store.first ≡ four_bits) }
     ensures none { IfOk result (λ store. store.entries ≡ []) }
+    ensures level { IfOk result (λ store. store.level ≡ 0) }
 {
     let mut domains = Vec::new(alloc);
     domains.push(Domain::of_bounds(alloc, &[0, 1])?)?;
@@ -66,7 +67,7 @@ fn body(alloc: Global, kind: Kind, atoms: &[Atom]) -> Result<Body, AllocError>
 }
 
 /// The propagator of a task of a kind.
-fn boolean(
+pub fn boolean(
     alloc: Global,
     kind: Kind,
     enforcement: &[Atom],

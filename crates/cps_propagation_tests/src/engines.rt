@@ -1,21 +1,25 @@
-//! Engines: one of propagators that have nothing to narrow, and one of a defined sum after a decision.
+//! Engines: one of propagators that have nothing to narrow, one of a defined sum after a decision, and some of literals.
 //!
 //! The first shows that an engine is generic over propagators, by an idle one that is made here; the second that a run
-//! goes on from the entry at which the last one came to rest.
+//! goes on from the entry at which the last one came to rest; the others that one comes to rest where a subject is
+//! narrowed on the side on which nothing follows, and narrows on where it is on the other.
 
 ghost use Rattle.std.specs.Prelude.{◌≡◌, [], ◌∷◌, true, Ok, All, IfOk};
 ghost use Rattle.cps_instance.specs.Problem.{sum_task};
 ghost use Rattle.cps_instance.specs.Fitting.{IsFitting};
 ghost use Rattle.cps_trail.specs.Notes.{AllFit, IsGivenAt};
 ghost use Rattle.cps_propagate.specs.Notes.{ByTasks};
+ghost use Rattle.cps_propagation_tests.specs.Bits.{four_bits};
 ghost use Rattle.cps_propagation_tests.specs.Sums.{idle_task, sum_domains, tripled_sum};
 
-use crate::stores::{at_least, at_most, decide, has_note};
+use crate::booleans::{Kind, boolean, no, store_of_bits, yes};
+use crate::stores::{are_bits, at_least, at_most, decide, has_note};
 use cps_domain::Domain;
 use cps_instance::Term;
 use cps_literal::Atom;
+use cps_p_bool::Boolean;
 use cps_p_linear::Linear;
-use cps_propagate::{Engine, Propagator, conclude, push_atom_subjects, push_term_subjects};
+use cps_propagate::{Engine, Propagator, Wake, conclude, push_atom_subjects, push_term_subjects};
 use cps_trail::{Explain, Step, Store};
 use std::alloc::{AllocError, Global};
 use std::test::Fail;
@@ -48,6 +52,10 @@ impl Propagator for Idle {
 
     fn push_subjects(&self, _subjects: &mut Vec<u32>) -> Result<(), AllocError> {
         Ok(())
+    }
+
+    fn wakes_on(&self, _subject: u32, _place: usize) -> Wake {
+        Wake::Any
     }
 
     fn is_cut(&self) -> bool {
@@ -122,7 +130,11 @@ fn tripled(alloc: Global) -> Result<Store, AllocError>
 }
 
 /// Runs an engine, decides an atom, and runs the engine on from there. Whether all settled.
-fn run_on(engine: &mut Engine<Linear>, store: &mut Store, atom: Atom) -> Result<bool, AllocError>
+fn run_on<P: Propagator>(
+    engine: &mut Engine<P>,
+    store: &mut Store,
+    atom: Atom,
+) -> Result<bool, AllocError>
     requires fits { All (IsFitting store.old.first) engine.old.tasks }
     requires none { store.old.entries ≡ [] }
     requires level { store.old.level ≡ 0 }
@@ -200,4 +212,84 @@ fn an_engine_runs_on_after_a_decision(rt: HostRuntime) -> Result<(), Fail> {
         [at_most(0, 0), at_least(1, 8)].as_slice()
     );
     Ok(())
+}
+
+/// An engine of one propagator of literals.
+fn engine_of(alloc: Global, propagator: Boolean) -> Result<Engine<Boolean>, AllocError>
+    requires { IsFitting four_bits propagator }
+    ensures { IfOk result (λ engine. All (IsFitting four_bits) engine.tasks) }
+{
+    let mut engine: Engine<Boolean> = Engine::new(alloc, Vec::new(alloc))?;
+    engine.add(propagator)?;
+    Ok(engine)
+}
+
+/// How many entries there are where an engine ran, an atom was decided, and the engine ran on; none where a run met a
+/// conflict.
+fn entries_at_rest(
+    alloc: Global,
+    engine: &mut Engine<Boolean>,
+    decision: Atom,
+) -> Result<usize, AllocError>
+    requires { All (IsFitting four_bits) engine.old.tasks }
+{
+    let mut store = store_of_bits(alloc)?;
+    if run_on(engine, &mut store, decision)? {
+        return Ok(store.entries().len());
+    }
+    Ok(0)
+}
+
+/// The same of a kind over literals of the four subjects.
+fn entries_of(alloc: Global, kind: Kind, atoms: &[Atom], decision: Atom) -> Option<usize> {
+    if !are_bits(0, 4, atoms) {
+        return None;
+    }
+    let propagator = boolean(alloc, kind, &[], atoms).ok()?;
+    let mut engine = engine_of(alloc, propagator).ok()?;
+    entries_at_rest(alloc, &mut engine, decision).ok()
+}
+
+/// A kind over two literals, what is decided, and how many entries there are at rest: one more than the decision where
+/// something follows.
+#[derive(Clone, Copy)]
+struct Decided<'a> {
+    kind: Kind,
+    atoms: &'a [Atom],
+    decision: Atom,
+    entries: usize,
+}
+
+#[test]
+fn a_narrowing_on_the_other_side_leaves_all_at_rest(rt: HostRuntime) {
+    let rows = [
+        Decided {
+            kind: Kind::Or,
+            atoms: &[yes(0), no(1)],
+            decision: yes(0),
+            entries: 1,
+        },
+        Decided {
+            kind: Kind::Or,
+            atoms: &[yes(0), no(1)],
+            decision: yes(1),
+            entries: 2,
+        },
+        Decided {
+            kind: Kind::AtMostOne,
+            atoms: &[yes(0), no(1)],
+            decision: yes(1),
+            entries: 1,
+        },
+        Decided {
+            kind: Kind::AtMostOne,
+            atoms: &[yes(0), no(1)],
+            decision: yes(0),
+            entries: 2,
+        },
+    ];
+    for row in rows {
+        let found = entries_of(rt.alloc(), row.kind, row.atoms, row.decision);
+        assert_eq!(rt; found, Some(row.entries));
+    }
 }

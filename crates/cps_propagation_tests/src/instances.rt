@@ -5,7 +5,7 @@
 use crate::stores::at_most;
 use cps_instance::{Body, Instance};
 use cps_model::{
-    Choose, Constraint, CpModel, Kind, LinearExpr, Listed, Select, Strategy, Text, Variable,
+    Choose, Constraint, CpModel, Exprs, Kind, LinearExpr, Listed, Select, Strategy, Text, Variable,
 };
 use cps_validate::{ValidModel, validate};
 use std::alloc::{AllocError, Global};
@@ -164,14 +164,14 @@ fn push_expr(
     Ok(())
 }
 
-/// Over two variables: one of them, the opposite of the other, its double, it with an offset, both, and it alone.
-const EXPRESSIONS: [(&[i32], &[i64], i64); 6] = [
+/// Over two variables: one of them, the opposite of the other, its double, it with an offset, and both; behind them
+/// come references to it alone and to the opposite of the first.
+const EXPRESSIONS: [(&[i32], &[i64], i64); 5] = [
     (&[1], &[1], 0),
     (&[-1], &[1], 0),
     (&[0], &[2], 0),
     (&[0], &[1], 5),
     (&[0, 1], &[1, 1], 0),
-    (&[0], &[1], 0),
 ];
 
 /// A strategy over these.
@@ -182,7 +182,7 @@ fn one_strategy(alloc: Global) -> Result<Listed<Strategy>, AllocError> {
     }
     let mut strategies = Vec::new(alloc);
     strategies.push(Strategy {
-        exprs: Listed::from_vec(exprs),
+        exprs: Exprs::of(exprs, Vec::from_slice(alloc, &[0, -2])?),
         choose: Choose::LowestMin,
         select: Select::MaxValue,
     })?;
@@ -231,8 +231,8 @@ fn is_steered_over(instance: &Instance, subjects: &[u32]) -> bool {
 /// they are to have, and how many tasks there are.
 fn steered(alloc: Global, model: &ValidModel) -> Result<(bool, bool, usize), AllocError> {
     let instance = Instance::of(alloc, model)?;
-    let is_steered = is_steered_over(&instance, &[1, 2, 3, 4, 5, 0]);
-    let ends = [(0, 1), (2, 5), (-1, 0), (0, 2), (5, 6), (2, 6)];
+    let is_steered = is_steered_over(&instance, &[1, 2, 3, 4, 5, 0, 6]);
+    let ends = [(0, 1), (2, 5), (-1, 0), (0, 2), (5, 6), (2, 6), (-5, -2)];
     let has_ends = has_ends(alloc, &instance, &ends)?;
     Ok((is_steered, has_ends, instance.tasks().len()))
 }
@@ -244,5 +244,5 @@ fn steered_of_model(alloc: Global) -> Option<(bool, bool, usize)> {
 
 #[test]
 fn strategies_define_sums(rt: HostRuntime) {
-    assert_eq!(rt; steered_of_model(rt.alloc()), Some((true, true, 6)));
+    assert_eq!(rt; steered_of_model(rt.alloc()), Some((true, true, 7)));
 }

@@ -5,7 +5,7 @@
 //! by hand.
 use cps_instance::{Body, Instance, Span};
 use cps_literal::Atom;
-use cps_model::{Constraint, CpModel, Kind, LinearExpr, Listed, Text, Variable};
+use cps_model::{Constraint, CpModel, Exprs, Kind, LinearExpr, Listed, Text, Variable};
 use cps_validate::{ValidModel, validate};
 use std::alloc::{AllocError, Global};
 
@@ -58,6 +58,11 @@ fn two(
     Ok(Listed::from_vec(exprs))
 }
 
+/// Expressions that are written out.
+fn written(alloc: Global, exprs: Listed<LinearExpr>) -> Exprs {
+    Exprs::of(exprs.into_vec(), Vec::new(alloc))
+}
+
 /// Kinds that compute a number or look it up.
 fn computed(alloc: Global, place: usize) -> Result<Kind, AllocError> {
     let target = value(alloc, 2)?;
@@ -81,7 +86,7 @@ fn computed(alloc: Global, place: usize) -> Result<Kind, AllocError> {
         _ => Ok(Kind::Element {
             index: value(alloc, 0)?,
             target,
-            exprs: two(alloc, value(alloc, 3)?, number(alloc, 7))?,
+            exprs: written(alloc, two(alloc, value(alloc, 3)?, number(alloc, 7))?),
         }),
     }
 }
@@ -90,7 +95,7 @@ fn computed(alloc: Global, place: usize) -> Result<Kind, AllocError> {
 fn listed(alloc: Global, place: usize) -> Result<Kind, AllocError> {
     match place {
         5 => Ok(Kind::Table {
-            exprs: two(alloc, value(alloc, 2)?, value(alloc, 3)?)?,
+            exprs: Exprs::of(Vec::new(alloc), Vec::from_slice(alloc, &[2, 3])?),
             values: ints(alloc, &[1, 2])?,
             negated: false,
         }),
@@ -110,7 +115,7 @@ fn listed(alloc: Global, place: usize) -> Result<Kind, AllocError> {
             tails: ints(alloc, &[0])?,
             heads: ints(alloc, &[0])?,
             labels: ints(alloc, &[1])?,
-            exprs: one(alloc, value(alloc, 2)?)?,
+            exprs: written(alloc, one(alloc, value(alloc, 2)?)?),
         }),
     }
 }

@@ -10,7 +10,7 @@ use Rattle.cps_propagation_tests.proofs.SumFits.{decided_step}
 use Rattle.cps_propagation_tests.proofs.engines.run_on.Goals as goal
 
 pub run_from-requires-clause-in_step : goal.run_from-requires-clause-in_step
-run_from-requires-clause-in_step c =
+run_from-requires-clause-in_step g c =
     let tasks = c.args.engine.now.tasks in
     let s = c.run.new.store in
     let t = c.decide.new.store in
@@ -21,7 +21,7 @@ run_from-requires-clause-in_step c =
     (c.in_ok-was_open.ensures.decided (ap Ok c.if-was_open.true)) c.entries-from.ensures.views.same_length)
 
 pub returns-after-branch-5 : goal.returns-after-branch-5
-returns-after-branch-5 c = λ _.
+returns-after-branch-5 g c = λ _.
     let tasks = c.args.engine.now.tasks in
     let r = c.args.store.now in
     let s = c.run.new.store in
