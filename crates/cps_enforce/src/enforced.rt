@@ -1,11 +1,11 @@
 //! The propagator of a rule.
 
-use crate::explain::{explain_by_past, explain_by_rule};
+use crate::explain::{Asked, explain_by_past, explain_by_rule};
 use crate::narrow::{Header, Room};
 use crate::reasons::push_all_subjects;
 use crate::settle::run;
 use cps_literal::Atom;
-use cps_propagate::Propagator;
+use cps_propagate::{Propagator, Wake};
 use cps_rule::{Narrowing, Rule};
 use cps_trail::{Step, Store};
 use std::alloc::{AllocError, Global};
@@ -80,13 +80,15 @@ impl<R: Rule> Propagator for Enforced<R> {
         reason: &mut Vec<Atom>,
     ) -> Result<(), AllocError> {
         let enforcement = self.enforcement.as_slice();
-        if explain_by_rule(self.alloc, store, entry, enforcement, &self.rule, reason)? {
+        let asked = Asked { store, entry };
+        if explain_by_rule(self.alloc, &asked, enforcement, &self.rule, reason)? {
             return Ok(());
         }
-        explain_by_past(self.alloc, store, entry, enforcement, &self.rule, reason)
+        explain_by_past(self.alloc, &asked, enforcement, &self.rule, reason)
     }
 
     fn lower(&mut self, _upper: i64) {
+        // Reading the rule gives the proof the invariant: the body is no cut and not of literals alone.
         let _ = &self.rule;
     }
 
@@ -94,12 +96,19 @@ impl<R: Rule> Propagator for Enforced<R> {
         push_all_subjects(self.enforcement.as_slice(), &self.rule, subjects)
     }
 
+    fn wakes_on(&self, _subject: u32, _place: usize) -> Wake {
+        let _ = &self.rule;
+        Wake::Any
+    }
+
     fn is_cut(&self) -> bool {
+        // Reading the rule gives the proof the invariant: the body is no cut and not of literals alone.
         let _ = &self.rule;
         false
     }
 
     fn is_cheap(&self) -> bool {
+        // Reading the rule gives the proof the invariant: the body is no cut and not of literals alone.
         let _ = &self.rule;
         false
     }

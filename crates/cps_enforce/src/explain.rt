@@ -1,9 +1,10 @@
 //! Reasons of a task's narrowings, made when they are asked for from the domains as they stood before.
 //!
-//! A rule gives facts about its body alone. Where the task was in force, the facts and the enforcement atoms, all true then,
-//! make the reason. Where one enforcement atom was open, what was narrowed is that atom's negation, and facts beside which the
-//! body cannot hold make the reason with the other enforcement atoms. Where a rule gives no facts, the reason names all that
-//! was narrowed before of what the task reads: longer, and never wrong. Nothing is kept here; who asks keeps what it asked for.
+//! A rule gives facts about its body alone. Where the task was in force, the facts and the enforcement atoms, all true
+//! then, make the reason. Where one enforcement atom was open, what was narrowed is that atom's negation, and facts
+//! beside which the body cannot hold make the reason with the other enforcement atoms. Where a rule gives no facts, the
+//! reason names all that was narrowed before of what the task reads: longer, and never wrong. Nothing is kept here; who
+//! asks keeps what it asked for.
 
 ghost use Rattle.std.specs.Prelude.{◌≡◌, ◌<◌, true, Ok, OnOk, length};
 ghost use Rattle.cps_instance.specs.Tasks.{HoldsTask};
@@ -26,6 +27,20 @@ use std::alloc::{AllocError, Global};
 struct Draft {
     facts: Vec<Atom>,
     reason: Vec<Atom>,
+}
+
+/// An entry of a store whose reason is asked for.
+#[derive(Clone, Copy)]
+pub(crate) struct Asked<'a> {
+    pub(crate) store: &'a Store,
+    pub(crate) entry: usize,
+}
+
+/// Enforcement atoms of which the one at a place alone was open.
+#[derive(Clone, Copy)]
+struct Waiting<'a> {
+    enforcement: &'a [Atom],
+    place: usize,
 }
 
 /// The reason of an atom where the task was in force, if the rule gives facts for it.
@@ -55,18 +70,20 @@ fn explain_given<R: Rule>(
 /// cannot hold.
 fn explain_off<R: Rule>(
     past: &Before,
-    enforcement: &[Atom],
-    place: usize,
+    waiting: &Waiting,
     rule: &R,
     narrowing: &Narrowing,
     draft: &mut Draft,
 ) -> Result<bool, AllocError>
-    requires fits { IsFitting past.now.first (task_of enforcement.now (R.body rule.now)) }
-    requires open { IsOpenAt past.now enforcement.now place }
+    requires fits { IsFitting past.now.first (task_of waiting.now.enforcement.now (R.body rule.now)) }
+    requires open { IsOpenAt past.now waiting.now.enforcement.now waiting.now.place }
     requires subject { narrowing.now.target.subject < length past.now.first }
     ensures { result ≡ Ok true → IsReasonFor
-        (HoldsTask (task_of enforcement.now (R.body rule.now))) past.now narrowing.now.target draft.new.reason.items }
+        (HoldsTask (task_of waiting.now.enforcement.now (R.body rule.now)))
+        past.now narrowing.now.target draft.new.reason.items }
 {
+    let enforcement = waiting.enforcement;
+    let place = waiting.place;
     let target = narrowing.target;
     let negation = enforcement[place].negate();
     if !negation.implies(target) {
@@ -97,7 +114,10 @@ fn explain_before<R: Rule>(
 {
     match force_of(past, enforcement) {
         Force::On => explain_given(past, enforcement, rule, narrowing, draft),
-        Force::Open(place) => explain_off(past, enforcement, place, rule, narrowing, draft),
+        Force::Open(place) => {
+            let waiting = Waiting { enforcement, place };
+            explain_off(past, &waiting, rule, narrowing, draft)
+        }
         Force::Idle => Ok(false),
     }
 }
@@ -105,17 +125,18 @@ fn explain_before<R: Rule>(
 /// Puts the reason of an entry in the place of what a list holds, if the rule gives one.
 pub(crate) fn explain_by_rule<R: Rule>(
     alloc: Global,
-    store: &Store,
-    entry: usize,
+    asked: &Asked,
     enforcement: &[Atom],
     rule: &R,
     reason: &mut Vec<Atom>,
 ) -> Result<bool, AllocError>
-    requires within { entry < length store.now.entries }
-    requires fits { IsFitting store.now.first (task_of enforcement.now (R.body rule.now)) }
+    requires within { asked.now.entry < length asked.now.store.now.entries }
+    requires fits { IsFitting asked.now.store.now.first (task_of enforcement.now (R.body rule.now)) }
     ensures { result ≡ Ok true → IsReason
-        (HoldsTask (task_of enforcement.now (R.body rule.now))) store.now entry reason.new.items }
+        (HoldsTask (task_of enforcement.now (R.body rule.now))) asked.now.store.now asked.now.entry reason.new.items }
 {
+    let store = asked.store;
+    let entry = asked.entry;
     let shown = store.entries()[entry];
     let (a, b) = shown.reason.witness();
     let narrowing = Narrowing {
@@ -140,20 +161,20 @@ pub(crate) fn explain_by_rule<R: Rule>(
 /// list holds.
 pub(crate) fn explain_by_past<R: Rule>(
     alloc: Global,
-    store: &Store,
-    entry: usize,
+    asked: &Asked,
     enforcement: &[Atom],
     rule: &R,
     reason: &mut Vec<Atom>,
 ) -> Result<(), AllocError>
-    requires within { entry < length store.now.entries }
-    requires fits { IsFitting store.now.first (task_of enforcement.now (R.body rule.now)) }
-    requires forced { IsForcedAt (HoldsTask (task_of enforcement.now (R.body rule.now))) store.now entry }
+    requires within { asked.now.entry < length asked.now.store.now.entries }
+    requires fits { IsFitting asked.now.store.now.first (task_of enforcement.now (R.body rule.now)) }
+    requires forced { IsForcedAt
+        (HoldsTask (task_of enforcement.now (R.body rule.now))) asked.now.store.now asked.now.entry }
     ensures { OnOk result (IsReason
-        (HoldsTask (task_of enforcement.now (R.body rule.now))) store.now entry reason.new.items) }
+        (HoldsTask (task_of enforcement.now (R.body rule.now))) asked.now.store.now asked.now.entry reason.new.items) }
 {
     let mut subjects = Vec::new(alloc);
     push_all_subjects(enforcement, rule, &mut subjects)?;
-    deny_all(store, entry, subjects.as_slice(), reason)?;
-    conclude(store, entry, reason)
+    deny_all(asked.store, asked.entry, subjects.as_slice(), reason)?;
+    conclude(asked.store, asked.entry, reason)
 }

@@ -74,10 +74,12 @@ fn disable<R: Rule>(
         b: hint.b,
     };
     let is_made = narrow_later(store, negation, note)?;
+    // The enforcement atom is open, so its negation is not false.
     if !is_made {
         unreachable!();
     }
-    // Each subject has a value left, so an atom that is false is not true.
+    // Reading the entries gives the proof the store's invariant: each subject has a value left, so an atom that is
+    // false is not true.
     let _entries = store.entries();
     Ok(Step::Settled)
 }

@@ -3,7 +3,7 @@ ghost use Rattle.std.specs.Prelude.{◌≡◌, IfOk, IfSome, IsTrue, Contains};
 ghost use Rattle.cps_p_alldiff.specs.Intervals.{AreEnds};
 
 use crate::bars::{clear_all, clear_fixed};
-use crate::facts::{add_near, hold};
+use crate::facts::{Crowd, add_near, hold};
 use crate::find::Finder;
 use crate::interval::{Interval, are_ends, measure, numbers};
 use crate::judge::judge;
@@ -127,7 +127,12 @@ impl Rule for AllDifferent {
             return Ok(false);
         }
         let needed = numbers(&hall);
-        if !hold(past, subjects, Some(target.subject), &hall, needed, facts)? {
+        let crowd = Crowd {
+            hall,
+            apart: Some(target.subject),
+            needed,
+        };
+        if !hold(past, subjects, &crowd, facts)? {
             return Ok(false);
         }
         let given = add_near(past, target, &hall, facts)?;
@@ -139,7 +144,12 @@ impl Rule for AllDifferent {
             return Ok(false);
         };
         let needed = numbers(&hall) + 1;
-        let crowded = hold(past, self.subjects.as_slice(), None, &hall, needed, facts)?;
+        let crowd = Crowd {
+            hall,
+            apart: None,
+            needed,
+        };
+        let crowded = hold(past, self.subjects.as_slice(), &crowd, facts)?;
         Ok(crowded)
     }
 

@@ -28,28 +28,36 @@ fn was_within(past: &Before, subject: u32, hall: &Interval) -> bool
     hall.low <= low && high <= hall.high
 }
 
-/// Puts facts in the place of what a list holds by which so many positions have values in an interval, apart from those
-/// of one subject. Answers whether there are so many. Each fact is as weak as that needs.
+/// So many positions that have values in an interval, apart from those of one subject.
+#[derive(Clone, Copy)]
+pub(crate) struct Crowd {
+    pub(crate) hall: Interval,
+    pub(crate) apart: Option<u32>,
+    pub(crate) needed: u64,
+}
+
+/// Puts facts in the place of what a list holds by which there is a crowd. Answers whether there is one. Each fact is as
+/// weak as that needs.
 pub(crate) fn hold(
     past: &Before,
     subjects: &[u32],
-    apart: Option<u32>,
-    hall: &Interval,
-    needed: u64,
+    crowd: &Crowd,
     facts: &mut Vec<Atom>,
 ) -> Result<bool, AllocError>
     requires subjects { All (λ i. i < length past.now.first) subjects.now }
-    requires range { IsInRange hall.now }
-    ensures { IfOk result (λ enough. IsTrue enough
-        → AreHolding past.now subjects.now apart hall.now needed facts.new.items) }
+    requires range { IsInRange crowd.now.hall }
+    ensures { IfOk result (λ enough. IsTrue enough → AreHolding past.now subjects.now
+        crowd.now.apart crowd.now.hall crowd.now.needed facts.new.items) }
 {
+    let hall = crowd.hall;
+    let apart = crowd.apart;
     facts.clear();
-    let mut left = needed;
+    let mut left = crowd.needed;
     for subject in subjects {
         if left == 0 {
             return Ok(true);
         }
-        if is_other(apart, *subject) && was_within(past, *subject, hall) {
+        if is_other(apart, *subject) && was_within(past, *subject, &hall) {
             facts.push(Atom {
                 subject: *subject,
                 op: Op::Ge,

@@ -42,6 +42,13 @@ pub struct Noted {
     other: usize,
 }
 
+/// What a narrowing follows from: the enforcement literals, and the literals of the body that are used.
+#[derive(Clone, Copy)]
+struct Antecedents<'a> {
+    enforcement: &'a [Atom],
+    used: &'a [Atom],
+}
+
 /// Whether an atom was true.
 fn was_true(past: &Before, atom: Atom) -> bool
     requires { atom.subject < length past.now.first }
@@ -67,20 +74,20 @@ fn was_false(past: &Before, atom: Atom) -> bool
 /// The reason of an atom, if it is the one that the used literals give.
 fn explain_as(
     past: &Before,
-    enforcement: &[Atom],
-    used: &[Atom],
+    from: &Antecedents<'_>,
     given: Atom,
     atom: Atom,
     reason: &mut Vec<Atom>,
 ) -> Result<bool, AllocError>
-    requires fits { AreLiterals past.now.first enforcement.now }
-    requires used_fit { AreLiterals past.now.first used.now }
+    requires fits { AreLiterals past.now.first from.now.enforcement.now }
+    requires used_fit { AreLiterals past.now.first from.now.used.now }
     requires subject { given.subject < length past.now.first }
-    ensures { result ≡ Ok true → (body : Body) → Gives past.now (task_of enforcement.now body) used.now given
-        → IsExplanation past.now (task_of enforcement.now body) atom reason.new.items }
+    ensures { result ≡ Ok true → (body : Body)
+        → Gives past.now (task_of from.now.enforcement.now body) from.now.used.now given
+        → IsExplanation past.now (task_of from.now.enforcement.now body) atom reason.new.items }
 {
     if given == atom {
-        explain(reason, past, enforcement, used, atom)?;
+        explain(reason, past, from.enforcement, from.used, atom)?;
         return Ok(true);
     }
     Ok(false)
@@ -103,14 +110,11 @@ fn explain_each(
     if noted.place >= atoms.len() {
         return Ok(false);
     }
-    explain_as(
-        past,
+    let from = Antecedents {
         enforcement,
-        &[],
-        atoms[noted.place],
-        noted.atom,
-        reason,
-    )
+        used: &[],
+    };
+    explain_as(past, &from, atoms[noted.place], noted.atom, reason)
 }
 
 /// The reason of the one literal that was not false, where one is to be true.
@@ -135,7 +139,11 @@ fn explain_last(
     if second < atoms.len() {
         return Ok(false);
     }
-    explain_as(past, enforcement, atoms, atoms[live], atom, reason)
+    let from = Antecedents {
+        enforcement,
+        used: atoms,
+    };
+    explain_as(past, &from, atoms[live], atom, reason)
 }
 
 /// The reason of the opposite of a literal beside one that was true, where one may be.
@@ -168,14 +176,11 @@ fn explain_beside(
         return Ok(false);
     }
     let given = atoms[place].negate();
-    explain_as(
-        past,
+    let from = Antecedents {
         enforcement,
-        used.as_slice(),
-        given,
-        noted.atom,
-        reason,
-    )
+        used: used.as_slice(),
+    };
+    explain_as(past, &from, given, noted.atom, reason)
 }
 
 /// The reason of a literal or of its opposite, where one is to be true and no other.
@@ -222,29 +227,33 @@ fn explain_odd(
     }
     let before = count_true(past, &atoms[..place]);
     let after = count_true(past, &atoms[place + 1..]);
+    let from = Antecedents {
+        enforcement,
+        used: atoms,
+    };
     if (before + after) % 2 == 0 {
-        return explain_as(past, enforcement, atoms, atoms[place], atom, reason);
+        return explain_as(past, &from, atoms[place], atom, reason);
     }
     let given = atoms[place].negate();
-    explain_as(past, enforcement, atoms, given, atom, reason)
+    explain_as(past, &from, given, atom, reason)
 }
 
 /// The reason of an atom that a kind's rule gave where the task was in force.
 fn explain_given(
     past: &Before,
-    kind: Kind,
-    enforcement: &[Atom],
-    atoms: &[Atom],
+    form: &Form<'_>,
     noted: Noted,
     reason: &mut Vec<Atom>,
 ) -> Result<bool, AllocError>
-    requires fits { AreLiterals past.now.first enforcement.now }
-    requires atoms_fit { AreLiterals past.now.first atoms.now }
-    requires enforced { All (IsTrueNow past.now) enforcement.now }
+    requires fits { AreLiterals past.now.first form.now.enforcement.now }
+    requires live_fits { AreLiterals past.now.first form.now.live.now }
+    requires enforced { All (IsTrueNow past.now) form.now.enforcement.now }
     ensures { result ≡ Ok true → IsExplanation past.now
-        (task_of enforcement.now (body_of kind atoms.now)) noted.atom reason.new.items }
+        (task_of form.now.enforcement.now (body_of form.now.rest form.now.live.now)) noted.atom reason.new.items }
 {
-    match kind {
+    let enforcement = form.enforcement;
+    let atoms = form.live;
+    match form.rest {
         Kind::Empty => Ok(false),
         Kind::Or => explain_last(past, enforcement, atoms, noted.atom, reason),
         Kind::And => explain_each(past, enforcement, atoms, noted, reason),
@@ -371,17 +380,18 @@ fn deny_even(
 /// Denies the literals by which a kind's rule found that its list can not be as it is to be.
 fn deny_ruled_out(
     past: &Before,
-    kind: Kind,
-    enforcement: &[Atom],
-    atoms: &[Atom],
+    form: &Form<'_>,
     noted: Noted,
     reason: &mut Vec<Atom>,
 ) -> Result<bool, AllocError>
-    requires fits { AreLiterals past.now.first enforcement.now }
-    requires atoms_fit { AreLiterals past.now.first atoms.now }
-    ensures { result ≡ Ok true → IsRuledOut past.now enforcement.now (body_of kind atoms.now) reason.new.items }
+    requires fits { AreLiterals past.now.first form.now.enforcement.now }
+    requires live_fits { AreLiterals past.now.first form.now.live.now }
+    ensures { result ≡ Ok true → IsRuledOut past.now
+        form.now.enforcement.now (body_of form.now.rest form.now.live.now) reason.new.items }
 {
-    match kind {
+    let enforcement = form.enforcement;
+    let atoms = form.live;
+    match form.rest {
         Kind::Empty => Ok(false),
         Kind::Or => deny_none(past, enforcement, atoms, reason),
         Kind::And => deny_failed(past, enforcement, atoms, noted.place, reason),
@@ -408,7 +418,7 @@ fn deny_body(
     if deny_failed(past, form.enforcement, form.sure, noted.place, reason)? {
         return Ok(true);
     }
-    deny_ruled_out(past, form.rest, form.enforcement, form.live, noted, reason)
+    deny_ruled_out(past, form, noted, reason)
 }
 
 /// The reason of the opposite of the one enforcement literal that was open.
@@ -456,7 +466,7 @@ fn explain_on(
     if explain_each(past, form.enforcement, form.sure, noted, reason)? {
         return Ok(true);
     }
-    explain_given(past, form.rest, form.enforcement, form.live, noted, reason)
+    explain_given(past, form, noted, reason)
 }
 
 /// The reason of an atom that the task gave.

@@ -166,6 +166,13 @@ fn shut_arcs(alloc: Global, literals: &[Atom], past: &Before) -> Result<Vec<usiz
     Ok(shut)
 }
 
+/// From which node a walk goes on, and whether forward or back.
+#[derive(Clone, Copy)]
+pub struct Outset {
+    pub start: usize,
+    pub way: Way,
+}
+
 /// Nodes that no arc left that could be taken: those that the arcs led to from a node, or those from which they did not
 /// lead there.
 pub fn closed_nodes(
@@ -173,15 +180,14 @@ pub fn closed_nodes(
     links: &Links,
     literals: &[Atom],
     past: &Before,
-    way: Way,
-    start: usize,
+    from: Outset,
 ) -> Result<Reach, AllocError>
     requires { All (λ i. i < length past.now.first) (atom_subjects literals.now) }
 {
     let shut = shut_arcs(alloc, literals, past)?;
     let mut reach = Reach::new(alloc);
-    reach.explore(links, way, shut.as_slice(), start)?;
-    if let Way::Back = way {
+    reach.explore(links, from.way, shut.as_slice(), from.start)?;
+    if let Way::Back = from.way {
         reach.turn();
     }
     Ok(reach)

@@ -16,9 +16,9 @@ use crate::decided::{is_round, read_taken};
 use crate::find::{Candidate, Finder};
 use crate::graph::Graph;
 use crate::hints::{Claim, Parting, Way, claim_of, hint_of};
-use crate::reach::{Links, closed_nodes};
+use crate::reach::{Links, Outset, closed_nodes};
 use crate::shown::{FARTHEST, atom_of, keep};
-use crate::tour::{marks_from, tail_of};
+use crate::tour::{Arcs, marks_from, tail_of};
 use cps_enforce::Enforced;
 use cps_instance::{Body, Task};
 use cps_literal::{Atom, Truth};
@@ -109,14 +109,11 @@ impl Circuit {
         requires { All (λ i. i < length past.now.first) (atom_subjects self.now.literals.items) }
         ensures { result ≡ Ok true → IsClashOf self.now.graph used.new.items }
     {
-        let marks = marks_from(
-            self.alloc,
-            &self.graph,
-            self.literals.as_slice(),
-            past,
-            denied,
-            arc,
-        )?;
+        let arcs = Arcs {
+            graph: &self.graph,
+            literals: self.literals.as_slice(),
+        };
+        let marks = marks_from(self.alloc, &arcs, past, denied, arc)?;
         let inner = Witness { arc, moves: true };
         self.graph.cut(marks.as_slice(), inner, outer, used)
     }
@@ -131,9 +128,12 @@ impl Circuit {
         requires { All (λ i. i < length past.now.first) (atom_subjects self.now.literals.items) }
         ensures { result ≡ Ok true → IsClashOf self.now.graph used.new.items }
     {
-        let start = tail_of(&self.graph, parting.root.arc);
+        let from = Outset {
+            start: tail_of(&self.graph, parting.root.arc),
+            way: parting.way,
+        };
         let literals = self.literals.as_slice();
-        let reach = closed_nodes(self.alloc, &self.links, literals, past, parting.way, start)?;
+        let reach = closed_nodes(self.alloc, &self.links, literals, past, from)?;
         let (inner, outer) = match parting.way {
             Way::Forward => (parting.root, parting.other),
             Way::Back => (parting.other, parting.root),

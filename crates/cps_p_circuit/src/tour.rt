@@ -49,20 +49,28 @@ pub fn tail_of(graph: &Graph, arc: usize) -> usize {
     }
 }
 
+/// A graph, and the literal of each of its arcs.
+#[derive(Clone, Copy)]
+pub struct Arcs<'a> {
+    pub graph: &'a Graph,
+    pub literals: &'a [Atom],
+}
+
 /// For each node 2 more than an arc that was taken from there, or that an atom that is denied says is taken.
 fn taken_from(
     alloc: Global,
-    graph: &Graph,
-    literals: &[Atom],
+    arcs: &Arcs,
     past: &Before,
     denied: Option<Atom>,
 ) -> Result<Vec<usize>, AllocError>
-    requires { All (λ i. i < length past.now.first) (atom_subjects literals.now) }
+    requires { All (λ i. i < length past.now.first) (atom_subjects arcs.now.literals.now) }
 {
+    let graph = arcs.graph;
+    let literals = arcs.literals;
     let mut next = Vec::new(alloc);
     clear_slots(&mut next, graph.nodes.len())?;
-    let arcs = graph.arcs().min(literals.len());
-    for k in 0..arcs {
+    let count = graph.arcs().min(literals.len());
+    for k in 0..count {
         let literal = literals[k];
         if follows(denied, literal) || was_true(past, literal) {
             set_slot(&mut next, tail_of(graph, k), k.wrapping_add(2));
@@ -74,15 +82,15 @@ fn taken_from(
 /// The marks of the nodes that taken arcs lead by from an arc's tail on.
 pub fn marks_from(
     alloc: Global,
-    graph: &Graph,
-    literals: &[Atom],
+    arcs: &Arcs,
     past: &Before,
     denied: Option<Atom>,
     arc: usize,
 ) -> Result<Vec<usize>, AllocError>
-    requires { All (λ i. i < length past.now.first) (atom_subjects literals.now) }
+    requires { All (λ i. i < length past.now.first) (atom_subjects arcs.now.literals.now) }
 {
-    let next = taken_from(alloc, graph, literals, past, denied)?;
+    let graph = arcs.graph;
+    let next = taken_from(alloc, arcs, past, denied)?;
     let mut marks = Vec::new(alloc);
     clear_slots(&mut marks, graph.nodes.len())?;
     let mut node = tail_of(graph, arc);

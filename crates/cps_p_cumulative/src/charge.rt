@@ -282,12 +282,21 @@ fn is_stay(case: Case, span: &Span, stay: Stay) -> bool
     }
 }
 
+/// A span, and its demand.
+#[derive(Clone, Copy)]
+struct Load<'a> {
+    span: &'a Span,
+    demand: u32,
+}
+
 /// What a span seems to use of the window, as far as it is needed.
-fn claim_of(past: &Before, case: Case, span: &Span, demand: u32, left: i128) -> Option<Claim>
-    requires span { IsSpanOf past.now.first span.now }
-    requires demand { demand < length past.now.first }
-    ensures { IfSome result (IsClaim case.time case.width span.now.length) }
+fn claim_of(past: &Before, case: Case, load: &Load, left: i128) -> Option<Claim>
+    requires span { IsSpanOf past.now.first load.now.span.now }
+    requires demand { load.now.demand < length past.now.first }
+    ensures { IfSome result (IsClaim case.time case.width load.now.span.now.length) }
 {
+    let span = load.span;
+    let demand = load.demand;
     let size = least(past, case, demand);
     if left <= 0 || size <= 0 || !seems_present(past, case, span) {
         return None;
@@ -325,21 +334,22 @@ fn rest_of(left: i128, taken: i128) -> i128
 fn charge_one(
     past: &Before,
     case: Case,
-    span: &Span,
-    demand: u32,
+    load: &Load,
     left: i128,
     facts: &mut Vec<Atom>,
 ) -> Result<Option<i128>, AllocError>
-    requires span { IsSpanOf past.now.first span.now }
-    requires demand { demand < length past.now.first }
+    requires span { IsSpanOf past.now.first load.now.span.now }
+    requires demand { load.now.demand < length past.now.first }
     requires left { pos 0 ≤ℤ left }
     requires facts { AreFacts past.now facts.old.items }
     ensures falls { (after : ℤ) → result ≡ Ok (Some after) → (pos 0 ≤ℤ after) × (after ≤ℤ left) }
     ensures charged { (after : ℤ) → result ≡ Ok (Some after)
         → Relies past.now case.assumed
-        (IsTaken case.time case.width span.now demand left after) facts.old.items facts.new.items }
+        (IsTaken case.time case.width load.now.span.now load.now.demand left after) facts.old.items facts.new.items }
 {
-    let Some(claim) = claim_of(past, case, span, demand, left) else {
+    let span = load.span;
+    let demand = load.demand;
+    let Some(claim) = claim_of(past, case, load, left) else {
         if rely(past, case, at_least(demand, 0), facts)? {
             return Ok(Some(left));
         }
@@ -374,7 +384,11 @@ fn charge_all(
     let count = spans.len().min(demands.len());
     let mut left = need;
     for k in 0..count {
-        match charge_one(past, case, &spans[k], demands[k], left, facts)? {
+        let load = Load {
+            span: &spans[k],
+            demand: demands[k],
+        };
+        match charge_one(past, case, &load, left, facts)? {
             Some(after) => left = after,
             None => return Ok(false),
         }

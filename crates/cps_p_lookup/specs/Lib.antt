@@ -3,3 +3,4 @@ pub mod Elements
 pub mod Tabling
 pub mod Bodies
 pub mod Gaps
+pub mod Columns

@@ -4,12 +4,14 @@
 //! between the ends of its values there, and off the values inside that no row has. No list of rows is kept between
 //! looks: the plain scan needs nothing undone, and is what the proof is about.
 
-ghost use Rattle.std.specs.Prelude.{ℕ, ℤ, pos, ◌≡◌, ◌<◌, ◌≤◌, ◌+◌, ◌*◌, [], length, All, IfOk, OnOk, IsTrue, true, false, slice_index_or, Contains};
+ghost use Rattle.std.specs.Prelude.{ℕ, ℤ, pos, ◌≡◌, ◌<◌, ◌≤◌, ◌+◌, ◌*◌, List, [], length, All, IfOk, OnOk, IsTrue, true, false, slice_index_or, Contains};
 ghost use Rattle.cps_literal.specs.Truth.{meets};
 ghost use Rattle.cps_model.specs.Lookups.{row_at};
 ghost use Rattle.cps_instance.specs.declared.task.Body.TheVariants.{Table};
 ghost use Rattle.cps_rule.specs.Rules.{IsGiven, IsSeen, IsAtRest};
+ghost use Rattle.cps_trail.specs.Trail.{Trail};
 ghost use Rattle.cps_p_lookup.specs.Tabling.{IsOpenRow, IsDeadRow, IsLive, AreLive};
+ghost use Rattle.cps_p_lookup.specs.Columns.{IsColumnIn};
 
 use crate::facts::{atom, is_met};
 use crate::gaps::{Gaps, exclude_missing, is_worth};
@@ -103,30 +105,36 @@ fn all_meet(values: &[i64], width: usize, rows: &[usize], column: usize, atom: A
     true
 }
 
+/// A column of the rows that are left.
+#[derive(Clone, Copy)]
+struct Column<'a> {
+    grid: Grid<'a>,
+    rows: &'a [usize],
+    place: usize,
+}
+
 /// Adds an atom about a column's subject, if each of the rows that are left meets it and it is not true already.
 fn propose(
     store: &Store,
-    grid: &Grid,
-    rows: &[usize],
-    column: usize,
+    column: &Column,
     op: Op,
     value: i64,
     found: &mut Vec<Narrowing>,
 ) -> Result<(), AllocError>
-    requires fits { All (λ e. e < length store.now.first) grid.now.exprs.now }
-    requires column { column < length grid.now.exprs.now }
-    requires rows { AreLive store.now grid.now.exprs.now grid.now.values.now rows.now }
+    requires column { IsColumnIn store.now column.now }
     requires given { All (λ n. IsGiven
-        (Table grid.now.exprs.now grid.now.values.now false) store.now n.target) found.old.items }
+        (Table column.now.grid.exprs.now column.now.grid.values.now false) store.now n.target) found.old.items }
     ensures { OnOk result (All (λ n. IsGiven
-        (Table grid.now.exprs.now grid.now.values.now false) store.now n.target) found.new.items) }
+        (Table column.now.grid.exprs.now column.now.grid.values.now false) store.now n.target) found.new.items) }
 {
-    let target = atom(grid.exprs[column], op, value);
+    let grid = column.grid;
+    let place = column.place;
+    let target = atom(grid.exprs[place], op, value);
     match store.truth(target) {
         Truth::Yes => return Ok(()),
         _ => {}
     }
-    if all_meet(grid.values, grid.exprs.len(), rows, column, target) {
+    if all_meet(grid.values, grid.exprs.len(), column.rows, place, target) {
         found.push(Narrowing {
             target,
             hint: NO_HINT,
@@ -135,15 +143,19 @@ fn propose(
     Ok(())
 }
 
-/// The least and the greatest value of a column of some rows.
-fn ends(grid: &Grid, rows: &[usize], column: usize) -> (i64, i64)
-    requires column { column < length grid.now.exprs.now }
-    requires rows { All (λ r. (r + 1) * length grid.now.exprs.now ≤ length grid.now.values.now) rows.now }
+/// The least and the greatest value of a column.
+fn ends(column: &Column) -> (i64, i64)
+    requires place { column.now.place < length column.now.grid.exprs.now }
+    requires rows { All (λ r. (r + 1) * length column.now.grid.exprs.now ≤ length column.now.grid.values.now)
+        column.now.rows.now }
 {
+    let grid = column.grid;
+    let place = column.place;
+    let rows = column.rows;
     let mut low = i64::MAX;
     let mut high = i64::MIN;
     for row in rows {
-        let value = row_at(grid.values, grid.exprs.len(), *row)[column];
+        let value = row_at(grid.values, grid.exprs.len(), *row)[place];
         low = low.min(value);
         high = high.max(value);
     }
@@ -153,39 +165,35 @@ fn ends(grid: &Grid, rows: &[usize], column: usize) -> (i64, i64)
 /// Keeps a column's subject between the ends of the rows that are left.
 fn narrow_column(
     store: &Store,
-    grid: &Grid,
-    rows: &[usize],
-    column: usize,
+    column: &Column,
     found: &mut Vec<Narrowing>,
 ) -> Result<(), AllocError>
-    requires fits { All (λ e. e < length store.now.first) grid.now.exprs.now }
-    requires column { column < length grid.now.exprs.now }
-    requires rows { AreLive store.now grid.now.exprs.now grid.now.values.now rows.now }
+    requires column { IsColumnIn store.now column.now }
     requires given { All (λ n. IsGiven
-        (Table grid.now.exprs.now grid.now.values.now false) store.now n.target) found.old.items }
+        (Table column.now.grid.exprs.now column.now.grid.values.now false) store.now n.target) found.old.items }
     ensures { OnOk result (All (λ n. IsGiven
-        (Table grid.now.exprs.now grid.now.values.now false) store.now n.target) found.new.items) }
+        (Table column.now.grid.exprs.now column.now.grid.values.now false) store.now n.target) found.new.items) }
 {
-    let (low, high) = ends(grid, rows, column);
-    propose(store, grid, rows, column, Op::Ge, low, found)?;
-    propose(store, grid, rows, column, Op::Le, high, found)
+    let (low, high) = ends(column);
+    propose(store, column, Op::Ge, low, found)?;
+    propose(store, column, Op::Le, high, found)
 }
 
-/// Makes a list that of a column's values in some rows.
-fn copy_column(
-    grid: &Grid,
-    rows: &[usize],
-    column: usize,
-    values: &mut Vec<i64>,
-) -> Result<(), AllocError>
-    requires column { column < length grid.now.exprs.now }
-    requires rows { All (λ r. (r + 1) * length grid.now.exprs.now ≤ length grid.now.values.now) rows.now }
-    ensures { OnOk result (All (λ r. Contains values.new.items
-        (slice_index_or (row_at (length grid.now.exprs.now) grid.now.values.now r) column (pos 0))) rows.now) }
+/// Makes a list that of a column's values.
+fn copy_column(column: &Column, values: &mut Vec<i64>) -> Result<(), AllocError>
+    requires place { column.now.place < length column.now.grid.exprs.now }
+    requires rows { All (λ r. (r + 1) * length column.now.grid.exprs.now ≤ length column.now.grid.values.now)
+        column.now.rows.now }
+    ensures { OnOk result (All (λ r. Contains values.new.items (slice_index_or
+        (row_at (length column.now.grid.exprs.now) column.now.grid.values.now r) column.now.place (pos 0)))
+        column.now.rows.now) }
 {
+    let grid = column.grid;
+    let place = column.place;
+    let rows = column.rows;
     values.clear();
     for row in rows {
-        let value = row_at(grid.values, grid.exprs.len(), *row)[column];
+        let value = row_at(grid.values, grid.exprs.len(), *row)[place];
         values.push(value)?;
     }
     Ok(())
@@ -194,26 +202,24 @@ fn copy_column(
 /// Keeps a column's subject off the values between its ends that none of the rows has.
 fn narrow_inside(
     store: &Store,
-    grid: &Grid,
-    rows: &[usize],
-    column: usize,
+    column: &Column,
     gaps: &mut Gaps,
     found: &mut Vec<Narrowing>,
 ) -> Result<(), AllocError>
-    requires fits { All (λ e. e < length store.now.first) grid.now.exprs.now }
-    requires column { column < length grid.now.exprs.now }
-    requires rows { AreLive store.now grid.now.exprs.now grid.now.values.now rows.now }
+    requires column { IsColumnIn store.now column.now }
     requires given { All (λ n. IsGiven
-        (Table grid.now.exprs.now grid.now.values.now false) store.now n.target) found.old.items }
+        (Table column.now.grid.exprs.now column.now.grid.values.now false) store.now n.target) found.old.items }
     ensures { OnOk result (All (λ n. IsGiven
-        (Table grid.now.exprs.now grid.now.values.now false) store.now n.target) found.new.items) }
+        (Table column.now.grid.exprs.now column.now.grid.values.now false) store.now n.target) found.new.items) }
 {
-    let subject = grid.exprs[column];
+    let grid = column.grid;
+    let place = column.place;
+    let subject = grid.exprs[place];
     let domain = store.domain(subject);
-    if !is_worth(domain, rows.len()) {
+    if !is_worth(domain, column.rows.len()) {
         return Ok(());
     }
-    copy_column(grid, rows, column, &mut gaps.listed)?;
+    copy_column(column, &mut gaps.listed)?;
     exclude_missing(subject, domain, gaps, found)?;
     Ok(())
 }
@@ -233,20 +239,24 @@ fn narrow_columns(
         (Table grid.now.exprs.now grid.now.values.now false) store.now n.target) found.new.items) }
 {
     found.clear();
-    for column in 0..grid.exprs.len() {
-        narrow_column(store, grid, rows, column, found)?;
-        narrow_inside(store, grid, rows, column, gaps, found)?;
+    for place in 0..grid.exprs.len() {
+        let column = Column {
+            grid: *grid,
+            rows,
+            place,
+        };
+        narrow_column(store, &column, found)?;
+        narrow_inside(store, &column, gaps, found)?;
     }
     Ok(())
 }
 
-/// What rows that are left say of their table.
-fn verdict(_store: &Store, _grid: &Grid, rows: &[usize]) -> Look
-    requires fits { All (λ e. e < length _store.now.first) _grid.now.exprs.now }
-    requires some { 0 < length _grid.now.exprs.now }
-    requires rows { AreLive _store.now _grid.now.exprs.now _grid.now.values.now rows.now }
-    ensures seen { IsSeen (Table _grid.now.exprs.now _grid.now.values.now false) _store.now result }
-    ensures rest { result ≡ Look.Possible → IsAtRest (Table _grid.now.exprs.now _grid.now.values.now false) _store.now }
+/// What the rows that are left of a table say of it.
+fn verdict(rows: &[usize]) -> Look
+    ensures seen { (s : Trail) (es : List ℕ) (values : List ℤ) → All (λ e. e < length s.first) es → 0 < length es
+        → AreLive s es values rows.now → IsSeen (Table es values false) s result }
+    ensures rest { result ≡ Look.Possible → (s : Trail) (es : List ℕ) (values : List ℤ)
+        → AreLive s es values rows.now → IsAtRest (Table es values false) s }
 {
     let left = rows.len();
     if left == 0 {
@@ -272,5 +282,5 @@ pub(crate) fn look_among(
     collect(store, grid.exprs, grid.values, &mut room.rows)?;
     let live = room.rows.as_slice();
     narrow_columns(store, grid, live, &mut room.gaps, found)?;
-    Ok(verdict(store, grid, live))
+    Ok(verdict(live))
 }

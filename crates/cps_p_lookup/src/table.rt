@@ -59,52 +59,61 @@ impl Table {
     }
 }
 
+/// A table whose rows are the allowed ones, or where it is negated the forbidden ones.
+#[derive(Clone, Copy)]
+struct SignedTable<'a> {
+    grid: Grid<'a>,
+    negated: bool,
+}
+
 /// What a table gives, or that it cannot hold.
 fn look_at(
     store: &Store,
-    grid: &Grid,
-    negated: bool,
+    table: &SignedTable,
     room: &mut Room,
     found: &mut Vec<Narrowing>,
 ) -> Result<Look, AllocError>
-    requires fits { All (λ e. e < length store.now.first) grid.now.exprs.now }
+    requires fits { All (λ e. e < length store.now.first) table.now.grid.exprs.now }
     ensures given { OnOk result (All
-        (λ n. IsGiven (TableOf grid.now.exprs.now grid.now.values.now negated) store.now n.target) found.new.items) }
-    ensures seen { IfOk result (IsSeen (TableOf grid.now.exprs.now grid.now.values.now negated) store.now) }
+        (λ n. IsGiven (TableOf table.now.grid.exprs.now table.now.grid.values.now table.now.negated)
+        store.now n.target) found.new.items) }
+    ensures seen { IfOk result (IsSeen
+        (TableOf table.now.grid.exprs.now table.now.grid.values.now table.now.negated) store.now) }
     ensures rest { result ≡ Ok Look.Possible
-        → IsAtRest (TableOf grid.now.exprs.now grid.now.values.now negated) store.now }
+        → IsAtRest (TableOf table.now.grid.exprs.now table.now.grid.values.now table.now.negated) store.now }
 {
+    let grid = table.grid;
     if grid.exprs.is_empty() {
         found.clear();
         return Ok(Look::Possible);
     }
-    if negated {
-        look_outside(store, grid, found)
+    if table.negated {
+        look_outside(store, &grid, found)
     } else {
-        look_among(store, grid, room, found)
+        look_among(store, &grid, room, found)
     }
 }
 
 /// Makes the facts those by which a table gives an atom, or by which it cannot hold where there is none to give.
 fn justify_at(
     past: &Before,
-    grid: &Grid,
-    negated: bool,
+    table: &SignedTable,
     goal: Option<Atom>,
     row: i64,
     facts: &mut Vec<Atom>,
 ) -> Result<bool, AllocError>
-    requires fits { All (λ e. e < length past.now.first) grid.now.exprs.now }
+    requires fits { All (λ e. e < length past.now.first) table.now.grid.exprs.now }
     ensures { result ≡ Ok true → Gives
-        (TableOf grid.now.exprs.now grid.now.values.now negated) past.now goal facts.new.items }
+        (TableOf table.now.grid.exprs.now table.now.grid.values.now table.now.negated) past.now goal facts.new.items }
 {
+    let grid = table.grid;
     if grid.exprs.is_empty() {
         return Ok(false);
     }
-    if negated {
-        fix(past, grid, goal, row, facts)
+    if table.negated {
+        fix(past, &grid, goal, row, facts)
     } else {
-        exclude(past, grid, goal, facts)
+        exclude(past, &grid, goal, facts)
     }
 }
 
@@ -116,7 +125,11 @@ impl Rule for Table {
             exprs: self.exprs.as_slice(),
             values: self.values.as_slice(),
         };
-        look_at(store, &grid, self.negated, &mut self.room, found)
+        let table = SignedTable {
+            grid,
+            negated: self.negated,
+        };
+        look_at(store, &table, &mut self.room, found)
     }
 
     fn explain(
@@ -130,7 +143,11 @@ impl Rule for Table {
             exprs: self.exprs.as_slice(),
             values: self.values.as_slice(),
         };
-        justify_at(past, &grid, self.negated, Some(target), hint.a, facts)
+        let table = SignedTable {
+            grid,
+            negated: self.negated,
+        };
+        justify_at(past, &table, Some(target), hint.a, facts)
     }
 
     fn refute(&self, past: &Before, hint: Hint, facts: &mut Vec<Atom>) -> Result<bool, AllocError> {
@@ -138,7 +155,11 @@ impl Rule for Table {
             exprs: self.exprs.as_slice(),
             values: self.values.as_slice(),
         };
-        justify_at(past, &grid, self.negated, None, hint.a, facts)
+        let table = SignedTable {
+            grid,
+            negated: self.negated,
+        };
+        justify_at(past, &table, None, hint.a, facts)
     }
 
     fn push_subjects(&self, subjects: &mut Vec<u32>) -> Result<(), AllocError> {

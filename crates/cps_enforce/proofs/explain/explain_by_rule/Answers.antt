@@ -13,13 +13,13 @@ explain_before-requires-clause-fits g c = subst (λ (s : Trail). IsFitting s.fir
 
 pub explain_before-requires-clause-subject : goal.explain_before-requires-clause-subject
 explain_before-requires-clause-subject g c =
-    let l = subject_inside c.args.store.now c.args.entry (get_or c.entries.result.now c.args.entry none_view).atom c.entries.ensures.sound c.requires.within (read c.args.store.now.entries c.entries.result.now c.args.entry c.entries.ensures.views c.requires.within) in
-    subst (λ (s : Trail). (get_or c.entries.result.now c.args.entry none_view).atom.subject < length s.first) (sym c.before-past.ensures) l
+    let l = subject_inside c.args.asked.now.store.now c.args.asked.now.entry (get_or c.entries.result.now c.args.asked.now.entry none_view).atom c.entries.ensures.sound c.requires.within (read c.args.asked.now.store.now.entries c.entries.result.now c.args.asked.now.entry c.entries.ensures.views c.requires.within) in
+    subst (λ (s : Trail). (get_or c.entries.result.now c.args.asked.now.entry none_view).atom.subject < length s.first) (sym c.before-past.ensures) l
 
 pub returns : goal.returns
 returns g c = λ _.
     let C = HoldsTask (task_of c.args.enforcement.now (g.R.Rule.body c.args.rule.now)) in
-    let u = (get_or c.entries.result.now c.args.entry none_view).atom in
+    let u = (get_or c.entries.result.now c.args.asked.now.entry none_view).atom in
     let e = c.in_ok-extend_from_slice.ensures.items ∙ ap (λ (l : List Atom). l ++ c.as_slice.result.now) c.clear.ensures.items ∙ c.as_slice.ensures.value in
-    reason_at C c.args.store.now c.args.entry u c.explain_before.new.draft.reason.items c.extend_from_slice.new.self.items c.requires.within (read c.args.store.now.entries c.entries.result.now c.args.entry c.entries.ensures.views c.requires.within) e
+    reason_at C c.args.asked.now.store.now c.args.asked.now.entry u c.explain_before.new.draft.reason.items c.extend_from_slice.new.self.items c.requires.within (read c.args.asked.now.store.now.entries c.entries.result.now c.args.asked.now.entry c.entries.ensures.views c.requires.within) e
     (subst (λ (s : Trail). IsReasonFor C s u c.explain_before.new.draft.reason.items) c.before-past.ensures (c.in_ok-is_made.ensures (ap Ok c.if-not-is_made.false)))

@@ -8,11 +8,11 @@ use Rattle.cps_enforce.proofs.Tasks.{fits_rule, fits_negatable, off_reason}
 use Rattle.cps_enforce.proofs.explain.explain_off.Goals as goal
 
 pub refute-requires : goal.refute-requires
-refute-requires g c = record { fits = fits_rule c.args.past.now.first c.args.enforcement.now (g.R.Rule.body c.args.rule.now) c.requires.fits }
+refute-requires g c = record { fits = fits_rule c.args.past.now.first c.args.waiting.now.enforcement.now (g.R.Rule.body c.args.rule.now) c.requires.fits }
 
 pub deny_others-requires-clause-enforcement : goal.deny_others-requires-clause-enforcement
 deny_others-requires-clause-enforcement g c =
-    but_facts c.args.past.now c.args.enforcement.now c.args.place (fits_negatable c.args.past.now.first c.args.enforcement.now (g.R.Rule.body c.args.rule.now) c.requires.fits) c.requires.open
+    but_facts c.args.past.now c.args.waiting.now.enforcement.now c.args.waiting.now.place (fits_negatable c.args.past.now.first c.args.waiting.now.enforcement.now (g.R.Rule.body c.args.rule.now) c.requires.fits) c.requires.open
 
 pub deny_others-requires-clause-facts : goal.deny_others-requires-clause-facts
 deny_others-requires-clause-facts g c = subst (λ (l : List Atom). AreFacts c.args.past.now l) (sym c.as_slice-facts.ensures.value) (c.in_ok-is_refuted.ensures (ap Ok c.if-not-is_refuted.false)).facts
@@ -23,6 +23,6 @@ returns g c = λ _.
     let s = c.args.past.now in
     let t = c.args.narrowing.now.target in
     let refuted = subst (λ (l : List Atom). IsRefuted b c.args.past.now l) (sym c.as_slice-facts.ensures.value) (c.in_ok-is_refuted.ensures (ap Ok c.if-not-is_refuted.false)) in
-    subst (λ (l : List Atom). IsReasonFor (HoldsTask (task_of c.args.enforcement.now b)) c.args.past.now c.args.narrowing.now.target l) (sym c.in_ok-push.ensures.items)
-    (off_reason s c.args.enforcement.now c.args.place c.negate-negation.result b c.requires.open.inside c.negate-negation.ensures.subject c.negate-negation.ensures.negated
+    subst (λ (l : List Atom). IsReasonFor (HoldsTask (task_of c.args.waiting.now.enforcement.now b)) c.args.past.now c.args.narrowing.now.target l) (sym c.in_ok-push.ensures.items)
+    (off_reason s c.args.waiting.now.enforcement.now c.args.waiting.now.place c.negate-negation.result b c.requires.open.inside c.negate-negation.ensures.subject c.negate-negation.ensures.negated
     c.as_slice-facts.result.now c.deny_others.new.reason.items t c.in_ok-deny_others.ensures c.requires.subject (c.implies.ensures.0 c.if-not-implies.false) refuted)

@@ -3,4 +3,4 @@ use Rattle.cps_p_circuit.proofs.Deciding.{subject_holds}
 use Rattle.cps_p_circuit.proofs.tour.taken_from.Goals as goal
 
 pub was_true-requires : goal.was_true-requires
-was_true-requires c = subject_holds (λ i. i < length c.args.past.now.first) c.args.literals.now c.loop-k.k _ (omega arith) c.requires
+was_true-requires c = subject_holds (λ i. i < length c.args.past.now.first) c.args.arcs.now.literals.now c.loop-k.k _ (omega arith) c.requires

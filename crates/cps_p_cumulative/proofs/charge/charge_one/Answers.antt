@@ -29,7 +29,7 @@ returns-then-branch-clause-charged c = λ after ok.
     let e = rw (to_z-of_z w128 c.args.left f) at ok in
     let same : c.args.left ≡ after = some_of c.args.left after e in
     let one : c.rely.result ≡ Ok true = cc in
-    charge-skip c.args.past.now c.args.case.assumed c.args.case.time c.args.case.width c.args.span.now c.args.demand c.args.left after c.at_least.result c.args.facts.now.items c.rely.new.facts.items same c.at_least.ensures (c.rely.ensures one)
+    charge-skip c.args.past.now c.args.case.assumed c.args.case.time c.args.case.width c.args.load.now.span.now c.args.load.now.demand c.args.left after c.at_least.result c.args.facts.now.items c.rely.new.facts.items same c.at_least.ensures (c.rely.ensures one)
 
 pub returns-clause-charged : goal.returns-clause-charged
 returns-clause-charged c = λ after ok.
@@ -47,5 +47,5 @@ returns-clause-charged c = λ after ok.
     let ok' = rw (to_z-of_z w128 c.rest_of.result l) at ok in
     let got : c.rest_of.result ≡ after = some_of c.rest_of.result after ok' in
     let taken' : (c.args.left -ℤ after) ≤ℤ (claim.stay.ticks *ℤ claim.demand) = subst (λ (z : ℤ). (c.args.left -ℤ z) ≤ℤ (claim.stay.ticks *ℤ claim.demand)) got (subst (λ (z : ℤ). (c.args.left -ℤ c.rest_of.result) ≤ℤ z) e taken) in
-    charge-run c.args.past.now c.args.case.assumed c.args.case.time c.args.case.width c.args.span.now c.args.demand c.args.left after claim c.at_least-2.result c.args.facts.now.items c.rely_run.new.facts.items c.rely-2.new.facts.items
+    charge-run c.args.past.now c.args.case.assumed c.args.case.time c.args.case.width c.args.load.now.span.now c.args.load.now.demand c.args.left after claim c.at_least-2.result c.args.facts.now.items c.rely_run.new.facts.items c.rely-2.new.facts.items
     c.in-Some.ensures taken' is (c.rely_run.ensures one) (c.rely-2.ensures two)

@@ -4,5 +4,5 @@ use Rattle.cps_instance.specs.declared.task.Body.TheVariants.{Table}
 use Rattle.cps_rule.specs.Rules.{IsGiven}
 use Rattle.cps_p_lookup.proofs.rows.narrow_columns.Given as goal
 
-abbrev pub invariant-loop-column : goal.invariant-loop-column
-invariant-loop-column l = All (λ n. IsGiven (Table l.grid.exprs.now l.grid.values.now false) l.store n.target) l.found.items
+abbrev pub invariant-loop-place : goal.invariant-loop-place
+invariant-loop-place l = All (λ n. IsGiven (Table l.grid.exprs.now l.grid.values.now false) l.store n.target) l.found.items

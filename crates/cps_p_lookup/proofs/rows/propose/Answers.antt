@@ -6,12 +6,12 @@ use Rattle.cps_p_lookup.proofs.Tables.{live_long, column_given}
 use Rattle.cps_p_lookup.proofs.rows.propose.Goals as goal
 
 pub all_meet-requires : goal.all_meet-requires
-all_meet-requires c = record { column = c.requires.column; rows = live_long c.args.store.now c.args.grid.now.exprs.now c.args.grid.now.values.now c.args.rows.now c.requires.rows }
+all_meet-requires c = record { column = c.requires.column.place; rows = live_long c.args.store.now c.args.column.now.grid.exprs.now c.args.column.now.grid.values.now c.args.column.now.rows.now c.requires.column.rows }
 
 pub returns-in_ok-push : goal.returns-in_ok-push
 returns-in_ok-push c =
     let s = c.args.store.now in
-    let es = c.args.grid.now.exprs.now in
-    let vs = c.args.grid.now.values.now in
+    let es = c.args.column.now.grid.exprs.now in
+    let vs = c.args.column.now.grid.values.now in
     more_given (Table es vs false) s c.args.found.now.items c.push.new.self.items _ c.in_ok-push.ensures.items
-    (column_given s es vs c.args.rows.now c.args.column c.atom-target.result c.requires.column c.requires.fits c.requires.rows (ap (λ (w : Atom). w.subject) c.atom-target.ensures) (c.all_meet.ensures c.if-all_meet.true)) c.requires.given
+    (column_given s es vs c.args.column.now.rows.now c.args.column.now.place c.atom-target.result c.requires.column.place c.requires.column.fits c.requires.column.rows (ap (λ (w : Atom). w.subject) c.atom-target.ensures) (c.all_meet.ensures c.if-all_meet.true)) c.requires.given

@@ -1,0 +1,29 @@
+use Rattle.std.proofs.Common.{◌<◌, ◌∙◌, ℕ, List, pos, sym, subst, length}
+use Rattle.cps_literal.specs.declared.atom.Atom.{Atom}
+use Rattle.cps_literal.specs.declared.atom.Op.TheVariants.{Le}
+use Rattle.cps_literal.proofs.Normalizing.{holds_too}
+use Rattle.cps_p_linear.specs.Supporting.{AreFacts}
+use Rattle.cps_p_linear.specs.Measuring.{Asks}
+use Rattle.cps_p_linear.proofs.Explained.{reason_for}
+use Rattle.cps_p_linear.proofs.Forces.{but_facts, negation_given}
+use Rattle.cps_p_linear.proofs.explain.explain_enforcement.Goals as goal
+
+abbrev no_atom : Atom
+no_atom = record { subject = 0; op = Le; value = pos 0 }
+
+pub explain_none-requires-clause-facts : goal.explain_none-requires-clause-facts
+explain_none-requires-clause-facts c =
+    subst (λ (us : List Atom). AreFacts c.args.past.now us) (sym c.in_ok-begin_without.ensures)
+    (but_facts c.args.past.now c.args.measured.now.task.enforcement.now c.args.place c.requires.negatable (c.are_true_but.ensures c.if-not-are_true_but.false))
+
+pub returns : goal.returns
+returns c _ =
+    let m = c.args.measured.now in
+    let s = c.args.past.now in
+    let n = c.negate-negation.result in
+    let others = c.are_true_but.ensures c.if-not-are_true_but.false in
+    let follows = c.implies.ensures.0 c.if-not-implies.false in
+    let inside : c.args.target.subject < length c.args.past.now.first = subst (λ (i : ℕ). i < length c.args.past.now.first) (sym c.negate-negation.ensures.subject ∙ follows.subject) (c.requires.negatable.subjects c.args.place no_atom others.inside) in
+    reason_for (Asks m.task) s c.args.target c.explain_none.new.facts.atoms.items c.refute_facts.new.facts.atoms.items c.refute_facts.new.facts.reason.items c.push.new.self.items
+    c.in_ok-refute_facts.ensures.atoms c.in_ok-refute_facts.ensures.reason c.in_ok-push.ensures.items c.in_ok-explain_none.ensures.extends.facts inside
+    (λ xs within passing all. holds_too n c.args.target xs follows (negation_given s m.task.enforcement.now c.args.place no_atom n m.task.terms.now m.task.admitted.now c.begin_without.new.facts c.explain_none.new.facts others.inside c.negate-negation.ensures.subject c.negate-negation.ensures.negated c.in_ok-begin_without.ensures c.in_ok-explain_none.ensures xs within passing all))
