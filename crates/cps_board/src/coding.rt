@@ -7,6 +7,7 @@ use cps_literal::{Atom, Op};
 use cps_model::Bound;
 use cps_port::word::{value_of, word_of};
 
+/// The number of a comparison in an atom's first word.
 fn op_code(op: Op) -> u64
     ensures { result ≡ op_code op }
 {
@@ -18,6 +19,7 @@ fn op_code(op: Op) -> u64
     }
 }
 
+/// The comparison of this number.
 fn op_of(code: u64) -> Op
     ensures { result ≡ op_of code }
 {

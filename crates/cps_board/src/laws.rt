@@ -1,5 +1,5 @@
-//! Laws of the board's rule, which holds between any two steps of all threads. Each is the contract of a function with
-//! an empty body.
+//! Laws of the board's rule, which holds between any two steps of all threads. Each is the contract of a function that
+//! does nothing.
 ghost use Rattle.cps_board.specs.OneList.{TakesOneList, TakesSoundEntries};
 
 /// Of what two seats took, the shorter list is the beginning of the longer one.

@@ -26,6 +26,7 @@ use std::alloc::{AllocError, Global};
 /// The splits of a whole table.
 const ALL_SPLITS: u64 = 4294967296;
 
+/// Whether one of two is true.
 fn either(first: bool, second: bool) -> bool
     ensures { result ≡ (if first then true else second) }
 {

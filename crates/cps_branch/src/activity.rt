@@ -69,6 +69,7 @@ impl ActivityBrancher {
         ensures fresh { IfOk result (λ b. b.pace ≡ record { restarts = 0; conflicts = 0 }) }
     {
         let count = instance.variable_count();
+        // The variables are the first subjects, of which there are at most 2^31.
         prove!(count <= instance.domains().len());
         ActivityBrancher::over(alloc, count, &instance.model().model().hint)
     }

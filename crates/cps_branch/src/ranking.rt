@@ -155,6 +155,7 @@ impl Ranking {
             → (stands_at self.new.nodes.items (size_of self.old + i)).activity ≡ slice_index activities.now i }
         ensures aside { SameAside self.old self.new }
     {
+        // There is a place for each variable, so a variable's number fits 32 bits.
         prove!(self.aside.len() <= 1 << 31);
         for variable in 0..activities.len() {
             self.refresh(variable as u32, activities);

@@ -48,6 +48,7 @@ fn size(store: &Store, subject: u32) -> u64
     ensures { HasSize store.now subject result }
 {
     let domain = store.domain(subject);
+    // Reading its ends gives the proof the domain's invariant.
     prove!(domain.min() <= domain.max());
     domain.size()
 }
@@ -188,6 +189,7 @@ fn value_at_place(intervals: &[(i64, i64)], place: u64) -> i64
         }
         left -= width;
     }
+    // The place is below the number of values.
     unreachable!()
 }
 
@@ -246,6 +248,7 @@ fn decided_by(store: &Store, strategy: &Steering, from: usize) -> Atom
     ensures undecided { IsUndecided store.now result }
 {
     let taken = taken(store, strategy.choose, strategy.subjects.as_slice(), from);
+    // Reading its ends gives the proof that they are in order.
     prove!(least(store, taken.subject) <= greatest(store, taken.subject));
     selected(store, strategy.select, taken.subject)
 }

@@ -1,10 +1,10 @@
 //! The turn of a core-guided worker.
 //!
-//! `Frame::steps` does a turn up to a decision. Where a decision is due, the first term whose assumption is false is
-//! reformed (`reform_at`); without one the first undecided assumption is decided, and without that the brancher
-//! chooses. A reform goes back to level 0: a false assumption there lifts its term alone, and else the decisions behind
-//! it are the core. Cores are not minimised, and the terms are not taken by weight in stages: each would be a strategy
-//! of its own over the same proved steps.
+//! `Frame::steps` does a turn up to a decision. Where a decision is due, the objective is reformed for the first term
+//! whose assumption is false (`reform_at`); without one the first undecided assumption is decided, those of the model
+//! before those of terms, and without that the brancher chooses. A reform goes back to level 0: a false assumption
+//! there lifts its term alone, and else the decisions behind it are the core. Cores are not minimised, and the terms
+//! are not taken by weight in stages: each would be a strategy of its own over the same proved steps.
 
 ghost use Rattle.std.specs.Prelude.{◌≡◌, ◌↔◌, ◌<◌, ◌≤◌, ◌^◌, ◌+◌, ℤ, ◌≤ℤ◌, length, true, false, OnOk, OnErr, IfOk, IfSome, IsNone, IsTrue};
 ghost use Rattle.cps_literal.specs.Truth.{value_at};
@@ -12,6 +12,7 @@ ghost use Rattle.cps_trail.specs.Trail.{IsFalseNow};
 ghost use Rattle.cps_port.specs.declared.part.Part.{Part};
 ghost use Rattle.cps_port.specs.Order.{IsSmallBound, raised_to};
 ghost use Rattle.cps_port.specs.Incumbents.{IsLowerBound};
+ghost use Rattle.cps_search.specs.Keeps.{Keeps};
 ghost use Rattle.cps_search.specs.Stepping.{Raises};
 ghost use Rattle.cps_search.specs.Assumptions.{IsAssumedNext, NoneIsOpen};
 ghost use Rattle.cps_search.specs.Ends.{BrancherTurn, DecidedBy, HeardOne, IsOver};
@@ -55,8 +56,9 @@ pub(crate) struct Guided<'a, P: Defining, B: Brancher + Drop> {
     pub greatest: i64,
     /// The greatest bound to which the worker itself raised the lower one.
     pub raised: Option<Bound>,
-    /// Whether it ended in place of a reform, and by which assumptions of the model.
+    /// Whether it ended in place of a reform.
     pub ended: bool,
+    /// By which assumptions of the model it then ended.
     pub core: Refs,
     /// How many of the store's first entries are those that the brancher saw last.
     pub kept: usize,
@@ -70,8 +72,7 @@ impl<'a, P: Defining, B: Brancher + Drop> Guided<'a, P, B> {
         requires running { IsOver (whole (core_search_of self.old)).said → ⊥ }
         requires model { Q.model port.old ≡ self.old.frame.instance.model }
         requires imported { self.old.frame.imported ≤ length (Q.part port.old).board.taken }
-        ensures same { (Q.model port.new ≡ Q.model port.old) × (Q.rows port.new ≡ Q.rows port.old) }
-        ensures others { Q.stays port.old port.new }
+        ensures keeps { Keeps Q.model Q.rows Q.stays port.old port.new }
         ensures turn { IfOk result (λ turn. TakesCoreTurn (B.chooses self.old.brancher) (core_search_of self.old)
             (core_search_of
             self.new) (Q.rows port.old) (Q.part port.old) (Q.part port.new) turn) }
@@ -100,8 +101,7 @@ impl<'a, P: Defining, B: Brancher + Drop> Guided<'a, P, B> {
         requires due { IsDue self.old.frame }
         requires running { self.old.ended ≡ false }
         requires model { Q.model port.old ≡ self.old.frame.instance.model }
-        ensures same { (Q.model port.new ≡ Q.model port.old) × (Q.rows port.new ≡ Q.rows port.old) }
-        ensures others { Q.stays port.old port.new }
+        ensures keeps { Keeps Q.model Q.rows Q.stays port.old port.new }
         ensures goes_on { IfOk result
             (GoesOn (B.chooses self.old.brancher) (core_search_of self.old) (core_search_of self.new)
             (Q.part port.old) (Q.part port.new)) }
@@ -268,8 +268,7 @@ impl<'a, P: Defining, B: Brancher + Drop> Guided<'a, P, B> {
         requires few { self.old.sums < most_sums }
         requires failed { IsFailed self.old.frame.store self.old.reform.terms place }
         requires model { Q.model port.old ≡ self.old.frame.instance.model }
-        ensures same { (Q.model port.new ≡ Q.model port.old) × (Q.rows port.new ≡ Q.rows port.old) }
-        ensures others { Q.stays port.old port.new }
+        ensures keeps { Keeps Q.model Q.rows Q.stays port.old port.new }
         ensures goes_on { IfOk result
             (GoesOn (B.chooses self.old.brancher) (core_search_of self.old) (core_search_of self.new)
             (Q.part port.old) (Q.part port.new)) }
@@ -430,8 +429,7 @@ impl<'a, P: Defining, B: Brancher + Drop> Guided<'a, P, B> {
             → IsLowerBound self.old.frame.instance.model (Bound.At self.old.reform.base) }
         requires none { is_reformed ≡ false → NoneBelow self.old.frame.instance.model self.old.frame.z }
         requires core { core ≡ whole_core self.old.frame.instance.model self.old.frame.z }
-        ensures same { (Q.model port.new ≡ Q.model port.old) × (Q.rows port.new ≡ Q.rows port.old) }
-        ensures others { Q.stays port.old port.new }
+        ensures keeps { Keeps Q.model Q.rows Q.stays port.old port.new }
         ensures reformed { is_reformed ≡ true → (result ≡ Turn.Reformed self.old.reform.base) × RaisesTo (Bound.At
             self.old.reform.base) (core_search_of self.old) (core_search_of self.new) (Q.part port.old)
             (Q.part port.new) ×
@@ -463,8 +461,7 @@ impl<'a, P: Defining, B: Brancher + Drop> Guided<'a, P, B> {
         requires model { Q.model port.old ≡ self.old.frame.instance.model }
         requires bound { IsLowerBound self.old.frame.instance.model bound }
         requires small { IsSmallBound bound }
-        ensures same { (Q.model port.new ≡ Q.model port.old) × (Q.rows port.new ≡ Q.rows port.old) }
-        ensures others { Q.stays port.old port.new }
+        ensures keeps { Keeps Q.model Q.rows Q.stays port.old port.new }
         ensures board { (Q.part port.new).board ≡ (Q.part port.old).board }
         ensures bounds { Raises bound (Q.part port.old).bounds (Q.part port.new).bounds }
         ensures is { self.new ≡ record self.old { raised = raised_to self.old.raised bound } }

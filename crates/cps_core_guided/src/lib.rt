@@ -5,10 +5,9 @@
 //! bound. Where an assumption fails, the reasons on the trail lead to a core: terms that cannot all stay at their
 //! bounds in a solution below z. The base then rises by the least weight in the core, and the sum of the core's
 //! subjects takes that weight over at a bound one greater, so that the form is worth the same as before. This is the
-//! algorithm OLL of Andres, Kaufmann, Matheis and
-//! Schaub, "Unsatisfiability-based Optimization in clasp" (2012), section 4, as Morgado, Dodaro and Marques-Silva,
-//! "Core-Guided MaxSAT with Soft Cardinality Constraints" (2014), section 3, state it, over bounds of whole-number
-//! subjects in place of literals.
+//! algorithm OLL of Andres, Kaufmann, Matheis and Schaub, "Unsatisfiability-based Optimization in clasp" (2012),
+//! section 4, as Morgado, Dodaro and Marques-Silva, "Core-Guided MaxSAT with Soft Cardinality Constraints" (2014),
+//! section 3, state it, over bounds of whole-number subjects in place of literals.
 //!
 //! The contracts say that the form stays worth the objective, that what is raised is at most the objective of each
 //! solution and at most z, and that a turn reforms exactly where a decision is due and an assumption is false.

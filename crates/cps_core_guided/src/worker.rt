@@ -6,6 +6,7 @@
 
 ghost use Rattle.std.specs.Prelude.{◌≡◌, ◌≤◌, ◌<◌, ◌^◌, length, None, OnOk, OnErr, IfOk, IfSome, IsErr, IsNone, IsTrue, Some};
 ghost use Rattle.cps_branch.specs.Guidances.{AreHintsOf};
+ghost use Rattle.cps_search.specs.Keeps.{Keeps};
 ghost use Rattle.cps_search.specs.Ends.{BrancherTurn, DecidedBy, HeardOne, IsOver};
 ghost use Rattle.cps_core_guided.specs.Reforming.{IsSoundCore, whole};
 ghost use Rattle.cps_core_guided.specs.CoreTurns.{BeginsCore, RunsCoreTo, RunsInCoreTurns, TakesCoreTurn, core_ending};
@@ -96,8 +97,7 @@ impl<'a, P: Defining, B: Brancher + Drop> CoreWorker<'a, P, B> {
         requires running { IsOver (whole self.old.0).said → ⊥ }
         requires model { Q.model port.old ≡ self.old.0.search.instance.model }
         requires imported { self.old.0.search.imported ≤ length (Q.part port.old).board.taken }
-        ensures same { (Q.model port.new ≡ Q.model port.old) × (Q.rows port.new ≡ Q.rows port.old) }
-        ensures others { Q.stays port.old port.new }
+        ensures keeps { Keeps Q.model Q.rows Q.stays port.old port.new }
         ensures turn { IfOk result (λ turn. TakesCoreTurn (B.chooses self.old.1) self.old.0 self.new.0 (Q.rows port.old)
             (Q.part port.old) (Q.part port.new) turn) }
         ensures brancher { IfOk result (λ turn. BrancherTurn turn (HeardOne (λ clause restart. B.hears self.old.1 clause
@@ -122,8 +122,7 @@ impl<'a, P: Defining, B: Brancher + Drop> CoreWorker<'a, P, B> {
         requires running { IsOver (whole self.old.0).said → ⊥ }
         requires model { Q.model port.old ≡ self.old.0.search.instance.model }
         requires imported { self.old.0.search.imported ≤ length (Q.part port.old).board.taken }
-        ensures same { (Q.model port.new ≡ Q.model port.old) × (Q.rows port.new ≡ Q.rows port.old) }
-        ensures others { Q.stays port.old port.new }
+        ensures keeps { Keeps Q.model Q.rows Q.stays port.old port.new }
         ensures runs { IfOk result (λ end. RunsCoreTo self.old.0 self.new.0 (Q.part port.old) (Q.part port.new) end) }
         ensures turns { IfOk result (λ end. RunsInCoreTurns B.chooses B.hears B.stays (Q.rows port.old) self.old
             self.new (Q.part port.old) (Q.part port.new) end) }

@@ -14,6 +14,7 @@ ghost use Rattle.cps_trail.specs.Trail.{Trail};
 ghost use Rattle.cps_instance.specs.Problem.{variable_count};
 ghost use Rattle.cps_branch.specs.Fixed.{AreFixed};
 ghost use Rattle.cps_branch.specs.SetAside.{AreFixedAside};
+ghost use Rattle.cps_search.specs.Keeps.{Keeps};
 ghost use Rattle.cps_search.specs.Assumptions.{NoneIsOpen};
 ghost use Rattle.cps_search.specs.Searches.{IsSettled, IsSoundSearch};
 ghost use Rattle.cps_search.specs.Ends.{Decides, IsOver, round_count, round_conflicts};
@@ -43,6 +44,13 @@ fn round_count(conflicts: u64) -> u64
     1 + conflicts / LENGTH
 }
 
+/// By what a worker's rounds go: the number of conflicts that it was given, and the draws.
+#[derive(Drop)]
+pub(crate) struct Course {
+    pub conflicts: u64,
+    pub draws: Lcg64Xsh32,
+}
+
 /// A neighbourhood worker while it has memory.
 #[derive(Drop)]
 pub(crate) struct Explorer<'a, P: Propagator> {
@@ -53,12 +61,15 @@ pub(crate) struct Explorer<'a, P: Propagator> {
     pub kept: usize,
     /// The number of conflicts that it was given, by which the number of its rounds goes.
     pub conflicts: u64,
+    /// The generator by whose words variables are freed.
     pub draws: Lcg64Xsh32,
+    /// The solution that the next round takes up.
     pub aim: Aim,
     /// How many rounds ended.
     pub rounds: u64,
-    /// The round that is under way, if one is.
+    /// The round that is under way, or the last one.
     pub round: Progress,
+    /// Whether a round is under way.
     pub in_round: bool,
 }
 
@@ -68,15 +79,15 @@ impl<'a, P: Propagator> Explorer<'a, P> {
         alloc: Global,
         instance: Instance<'a>,
         engine: Engine<P>,
-        conflicts: u64,
-        draws: Lcg64Xsh32,
+        course: Course,
         gap: u64,
     ) -> Result<Self, AllocError>
         requires tasks { engine.tasks ≡ instance.tasks }
-        requires conflicts { conflicts ≤ 10 ^ 9 }
-        ensures begins { IfOk result (λ x. BeginsNear instance.entry gap conflicts draws (near_of x)) }
+        requires conflicts { course.conflicts ≤ 10 ^ 9 }
+        ensures begins { IfOk result (λ x. BeginsNear instance.entry gap course.conflicts course.draws (near_of x)) }
         ensures exploring { IfOk result (λ x. IsExploring x) }
     {
+        let Course { conflicts, draws } = course;
         let brancher = ActivityBrancher::of(alloc, &instance)?;
         let aim = Aim::new(alloc, instance.variable_count())?;
         let frame = Frame::new(alloc, instance, engine, None, gap)?;
@@ -244,6 +255,7 @@ impl<'a, P: Propagator> Explorer<'a, P> {
             → AreFixedAside (length self.new.brancher.activities) self.new.brancher.aside s k }
         ensures sound { self.old.frame.refused ≡ false → IsSoundSearch self.old.frame → IsSoundSearch self.new.frame }
     {
+        // A wish to restart is not followed: the round would decide the same once more.
         let _ = hear_last(&mut self.brancher, self.frame.clauses());
         self.end_or_go_on();
         self.kept = still_kept(self.frame.store(), self.kept);
@@ -270,8 +282,7 @@ impl<'a, P: Propagator> Explorer<'a, P> {
         requires running { IsOver self.old.frame.said → ⊥ }
         requires model { Q.model port.old ≡ self.old.frame.instance.model }
         requires imported { self.old.frame.imported ≤ length (Q.part port.old).board.taken }
-        ensures same { (Q.model port.new ≡ Q.model port.old) × (Q.rows port.new ≡ Q.rows port.old) }
-        ensures others { Q.stays port.old port.new }
+        ensures keeps { Keeps Q.model Q.rows Q.stays port.old port.new }
         ensures turn { IfOk result (λ turn. TakesNearTurn (near_of self.old) (near_of self.new)
             (Q.rows port.old) (Q.part port.old) (Q.part port.new) turn) }
         ensures exploring { OnOk result (IsExploring self.new) }

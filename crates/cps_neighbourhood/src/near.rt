@@ -6,13 +6,14 @@
 
 ghost use Rattle.std.specs.Prelude.{◌≡◌, ◌+◌, ◌≤◌, ◌^◌, length, false, OnOk, OnErr, IfOk, IfSome, IsErr, IsNone, IsTrue, None, Some};
 ghost use Rattle.cps_model.specs.Solutions.{IsSolution};
+ghost use Rattle.cps_search.specs.Keeps.{Keeps};
 ghost use Rattle.cps_search.specs.Searches.{IsSoundSearch};
 ghost use Rattle.cps_search.specs.Ends.{IsOver, ending};
 ghost use Rattle.cps_neighbourhood.specs.Drawing.{draws_of};
 ghost use Rattle.cps_neighbourhood.specs.Nears.{BeginsNear, NearRunsInTurns, NearRunsTo, TakesNearTurn};
 
 use crate::draws::draws_of;
-use crate::explorer::Explorer;
+use crate::explorer::{Course, Explorer};
 use cps_clauses::Journal;
 use cps_instance::Instance;
 use cps_port::Port;
@@ -63,7 +64,8 @@ impl<'a, P: Propagator> NearWorker<'a, P> {
         ensures sound { IfOk result (λ w. IsSoundSearch w.search) }
     {
         let draws = draws_of(seed, 16 + u64::from(number));
-        let explorer = Explorer::new(alloc, instance, engine, conflicts, draws, gap)?;
+        let course = Course { conflicts, draws };
+        let explorer = Explorer::new(alloc, instance, engine, course, gap)?;
         Ok(NearWorker {
             explorer,
             refused: false,
@@ -78,8 +80,7 @@ impl<'a, P: Propagator> NearWorker<'a, P> {
         requires running { IsOver self.old.search.said → ⊥ }
         requires model { Q.model port.old ≡ self.old.search.instance.model }
         requires imported { self.old.search.imported ≤ length (Q.part port.old).board.taken }
-        ensures same { (Q.model port.new ≡ Q.model port.old) × (Q.rows port.new ≡ Q.rows port.old) }
-        ensures others { Q.stays port.old port.new }
+        ensures keeps { Keeps Q.model Q.rows Q.stays port.old port.new }
         ensures turn { IfOk result (λ turn. TakesNearTurn self.old self.new
             (Q.rows port.old) (Q.part port.old) (Q.part port.new) turn) }
         ensures sound { OnOk result (IsSoundSearch self.old.search × IsSoundSearch self.new.search) }
@@ -101,8 +102,7 @@ impl<'a, P: Propagator> NearWorker<'a, P> {
         requires running { IsOver self.old.search.said → ⊥ }
         requires model { Q.model port.old ≡ self.old.search.instance.model }
         requires imported { self.old.search.imported ≤ length (Q.part port.old).board.taken }
-        ensures same { (Q.model port.new ≡ Q.model port.old) × (Q.rows port.new ≡ Q.rows port.old) }
-        ensures others { Q.stays port.old port.new }
+        ensures keeps { Keeps Q.model Q.rows Q.stays port.old port.new }
         ensures runs { IfOk result (λ end. NearRunsTo self.old self.new (Q.part port.old) (Q.part port.new) end) }
         ensures turns { IfOk result (λ end. NearRunsInTurns (Q.rows port.old) self.old self.new
             (Q.part port.old) (Q.part port.new) end) }

@@ -7,7 +7,7 @@ use cps_model::Bound;
 /// The most atoms of a clause that is shared.
 pub const MOST_ATOMS: usize = 16;
 
-// Fills the places of an entry that its clause leaves free.
+/// Fills the places of an entry that its clause leaves free.
 pub(crate) const BLANK: Atom = Atom {
     subject: 0,
     op: Op::Le,

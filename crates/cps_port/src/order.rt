@@ -26,7 +26,7 @@ pub fn greater(first: Bound, second: Bound) -> Bound
     }
 }
 
-/// The greatest of the bounds so far and one more.
+/// The greater of a further bound and of the greatest so far, which is `None` where there was none.
 pub fn raised_to(greatest: Option<Bound>, bound: Bound) -> Option<Bound>
     ensures { result ≡ raised_to greatest bound }
 {

@@ -150,6 +150,7 @@ impl<'a> CoreState<'a> {
         Some(row as u32)
     }
 
+    /// Opens the row that an actor drew, with its entry.
     pub(crate) fn publish(&mut self, actor: u32, entry: Entry)
         requires actor { actor < actor_count self.old }
         requires lawful { IsLawful self.old actor (Event.Publish entry) }
@@ -186,6 +187,7 @@ impl<'a> CoreState<'a> {
         None
     }
 
+    /// The upper bound, as an actor loads it.
     pub(crate) fn see_upper(&mut self, actor: u32) -> Bound
         requires actor { actor < actor_count self.old }
         ensures state { self.new ≡ after self.old actor Event.SeeUpper }
@@ -200,6 +202,7 @@ impl<'a> CoreState<'a> {
         self.upper
     }
 
+    /// The lower bound, as an actor loads it.
     pub(crate) fn see_lower(&mut self, actor: u32) -> Bound
         requires actor { actor < actor_count self.old }
         ensures state { self.new ≡ after self.old actor Event.SeeLower }
@@ -214,6 +217,7 @@ impl<'a> CoreState<'a> {
         self.lower
     }
 
+    /// Lowers the upper bound to the objective of a solution that an actor found, and answers what it is then.
     pub(crate) fn offer(&mut self, actor: u32, value: i64) -> Bound
         requires actor { actor < actor_count self.old }
         requires lawful { IsLawful self.old actor (Event.Offer value) }
@@ -229,6 +233,7 @@ impl<'a> CoreState<'a> {
         self.upper
     }
 
+    /// Raises the lower bound to one that an actor showed, and answers what it is then.
     pub(crate) fn raise(&mut self, actor: u32, bound: Bound) -> Bound
         requires actor { actor < actor_count self.old }
         requires lawful { IsLawful self.old actor (Event.Raise bound) }

@@ -93,6 +93,7 @@ fn place_of(crew: &[Turning<'_>], rank: usize) -> usize
             left -= 1;
         }
     }
+    // The rank is below the number of workers that have not ended.
     unreachable!()
 }
 
@@ -169,6 +170,7 @@ fn upper_of(core: &mut CoreState<'_>) -> Bound
 {
     match core.step(0, Event::SeeUpper) {
         Seen::Word(bound) => bound,
+        // A look at a bound sees a word.
         _ => unreachable!(),
     }
 }
@@ -180,6 +182,7 @@ fn lower_of(core: &mut CoreState<'_>) -> Bound
 {
     match core.step(0, Event::SeeLower) {
         Seen::Word(bound) => bound,
+        // A look at a bound sees a word.
         _ => unreachable!(),
     }
 }

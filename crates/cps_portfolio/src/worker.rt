@@ -8,6 +8,7 @@ ghost use Rattle.cps_model.specs.Solutions.{IsSolution};
 ghost use Rattle.cps_branch.specs.Guidances.{AreHintsOf, IsPlanOf};
 ghost use Rattle.cps_kinds.specs.Kinds.{AreAllPropagated};
 ghost use Rattle.cps_options.specs.Ranges.{AreInRange};
+ghost use Rattle.cps_search.specs.Keeps.{Keeps};
 ghost use Rattle.cps_search.specs.Ends.{IsOver, end_of};
 ghost use Rattle.cps_core_guided.specs.Reforming.{whole};
 ghost use Rattle.cps_neighbourhood.specs.Drawing.{draws_of};
@@ -47,6 +48,7 @@ pub struct NearSeeker<'a> {
     pub handed: usize,
 }
 
+/// A worker that follows the model's strategies, and then takes the variables in order.
 fn fixed_worker<'a>(
     alloc: Global,
     model: &'a ValidModel,
@@ -64,6 +66,7 @@ fn fixed_worker<'a>(
     Worker::new(alloc, instance, engine, brancher, conflicts, gap)
 }
 
+/// A worker that takes the variables of recent conflicts first.
 fn activity_worker<'a>(
     alloc: Global,
     model: &'a ValidModel,
@@ -81,6 +84,7 @@ fn activity_worker<'a>(
     Worker::new(alloc, instance, engine, brancher, conflicts, gap)
 }
 
+/// A worker that raises the lower bound core by core.
 fn core_worker<'a>(
     alloc: Global,
     model: &'a ValidModel,
@@ -97,6 +101,8 @@ fn core_worker<'a>(
     CoreWorker::new(alloc, instance, engine, conflicts, gap)
 }
 
+/// A worker that searches near solutions. It draws from the stream 16 + `number` of the seed; the turns of an
+/// interleaved run are drawn from stream 0.
 fn near_worker<'a>(
     alloc: Global,
     model: &'a ValidModel,
@@ -152,8 +158,7 @@ fn turn_of<B: Brancher + Drop, Q: Port, F: Pool>(
     requires model { Q.model port.old ≡ worker.old.0.instance.model }
     requires pool { F.model pool.old ≡ worker.old.0.instance.model }
     requires imported { worker.old.0.imported ≤ length (Q.part port.old).board.taken }
-    ensures same { (Q.model port.new ≡ Q.model port.old) × (Q.rows port.new ≡ Q.rows port.old) }
-    ensures others { Q.stays port.old port.new }
+    ensures keeps { Keeps Q.model Q.rows Q.stays port.old port.new }
     ensures pool { F.model pool.new ≡ F.model pool.old }
     ensures guidance { B.guidance worker.new.1 ≡ B.guidance worker.old.1 }
     ensures turn { IfOk result (TurnedBy (B.guidance worker.old.1) (Q.rows port.old) worker.old.0 worker.new.0
@@ -173,8 +178,7 @@ fn core_turn_of<B: Brancher + Drop, Q: Port, F: Pool>(
     requires model { Q.model port.old ≡ worker.old.0.search.instance.model }
     requires pool { F.model pool.old ≡ worker.old.0.search.instance.model }
     requires imported { worker.old.0.search.imported ≤ length (Q.part port.old).board.taken }
-    ensures same { (Q.model port.new ≡ Q.model port.old) × (Q.rows port.new ≡ Q.rows port.old) }
-    ensures others { Q.stays port.old port.new }
+    ensures keeps { Keeps Q.model Q.rows Q.stays port.old port.new }
     ensures pool { F.model pool.new ≡ F.model pool.old }
     ensures guidance { B.guidance worker.new.1 ≡ B.guidance worker.old.1 }
     ensures turn { IfOk result (TurnedByCores (B.guidance worker.old.1) (Q.rows port.old) worker.old.0 worker.new.0
@@ -210,8 +214,7 @@ fn near_turn_of<Q: Port, F: Pool>(
     requires model { Q.model port.old ≡ near.old.worker.search.instance.model }
     requires pool { F.model pool.old ≡ near.old.worker.search.instance.model }
     requires imported { near.old.worker.search.imported ≤ length (Q.part port.old).board.taken }
-    ensures same { (Q.model port.new ≡ Q.model port.old) × (Q.rows port.new ≡ Q.rows port.old) }
-    ensures others { Q.stays port.old port.new }
+    ensures keeps { Keeps Q.model Q.rows Q.stays port.old port.new }
     ensures pool { F.model pool.new ≡ F.model pool.old }
     ensures turn { IfOk result (TurnedNear (Q.rows port.old) near.old.worker near.new.worker (Q.part port.old)
         (Q.part port.new)) }
@@ -229,7 +232,8 @@ pub fn reads_pool(workers: u32) -> bool
 }
 
 impl<'a> AnyWorker<'a> {
-    /// The worker of this number, which knows nothing yet.
+    /// The worker of this number, which knows nothing yet. Number 0 follows the strategies; after it number 1 goes by
+    /// activity, number 2 by cores and number 3 near solutions, and so on in turn.
     pub fn of(
         alloc: Global,
         model: &'a ValidModel,
@@ -262,8 +266,7 @@ impl<'a> AnyWorker<'a> {
         requires model { Q.model port.old ≡ (worker_search self.old).instance.model }
         requires pool { F.model pool.old ≡ (worker_search self.old).instance.model }
         requires imported { (worker_search self.old).imported ≤ length (Q.part port.old).board.taken }
-        ensures same { (Q.model port.new ≡ Q.model port.old) × (Q.rows port.new ≡ Q.rows port.old) }
-        ensures others { Q.stays port.old port.new }
+        ensures keeps { Keeps Q.model Q.rows Q.stays port.old port.new }
         ensures kind { kind_of self.new ≡ kind_of self.old }
         ensures runs { OnOk result (HasEnded (Q.rows port.old) (known_of self.old) (known_of self.new)
             (Q.part port.old) (Q.part port.new)) }
@@ -284,8 +287,7 @@ impl<'a> AnyWorker<'a> {
         requires model { Q.model port.old ≡ (worker_search self.old).instance.model }
         requires pool { F.model pool.old ≡ (worker_search self.old).instance.model }
         requires imported { (worker_search self.old).imported ≤ length (Q.part port.old).board.taken }
-        ensures same { (Q.model port.new ≡ Q.model port.old) × (Q.rows port.new ≡ Q.rows port.old) }
-        ensures others { Q.stays port.old port.new }
+        ensures keeps { Keeps Q.model Q.rows Q.stays port.old port.new }
         ensures pool { F.model pool.new ≡ F.model pool.old }
         ensures kind { kind_of self.new ≡ kind_of self.old }
         ensures turn { IfOk result (HasTurned (Q.rows port.old) (known_of self.old) (known_of self.new)

@@ -1,4 +1,4 @@
-//! Laws of all searches. Each is the contract of a function with an empty body.
+//! Laws of all searches. Each is the contract of a function that does nothing.
 
 ghost use Rattle.std.specs.Prelude.{◌≡◌, ℕ, ◌+◌, ◌≤◌, ℤ, List, [], ◌∷◌, ◌++◌, length, All, Option, None};
 ghost use Rattle.cps_model.specs.declared.bound.Bound.TheVariants.{Infinite};

@@ -3,6 +3,7 @@
 //! The names of a worker's turns are listed and compared with those that were worked out by hand, for small models
 //! whose search is determined. The second test shows that a worker goes on from what another one shared.
 ghost use Rattle.std.specs.Prelude.{◌≡◌, ◌≤◌, ◌^◌, length, false, None, IfOk};
+ghost use Rattle.cps_search.specs.Keeps.{Keeps};
 ghost use Rattle.cps_search.specs.Ends.{IsOver, end_of};
 ghost use Rattle.cps_kinds.specs.Kinds.{AreAllPropagated};
 ghost use Rattle.cps_portfolio.specs.Workers.{Begins};
@@ -75,8 +76,7 @@ fn turns_of<B: Brancher + Drop, Q: Port>(
     requires running { IsOver worker.old.0.said → ⊥ }
     requires model { Q.model port.old ≡ worker.old.0.instance.model }
     requires imported { worker.old.0.imported ≤ length (Q.part port.old).board.taken }
-    ensures same { (Q.model port.new ≡ Q.model port.old) × (Q.rows port.new ≡ Q.rows port.old) }
-    ensures others { Q.stays port.old port.new }
+    ensures keeps { Keeps Q.model Q.rows Q.stays port.old port.new }
 {
     let mut turns = String::new(alloc);
     for _ in 0..100 {
@@ -100,8 +100,7 @@ fn turns_in_order<Q: Port>(
     requires budget { conflicts ≤ 10 ^ 9 }
     requires kinds { AreAllPropagated model.now }
     requires model { Q.model port.old ≡ model.now }
-    ensures same { (Q.model port.new ≡ Q.model port.old) × (Q.rows port.new ≡ Q.rows port.old) }
-    ensures others { Q.stays port.old port.new }
+    ensures keeps { Keeps Q.model Q.rows Q.stays port.old port.new }
 {
     // A list is dropped as one; the borrow checker does not cover how a worker in a variable is.
     let mut crew = Vec::new(alloc);
@@ -119,8 +118,7 @@ fn turns_by_activity<Q: Port>(
     requires budget { conflicts ≤ 10 ^ 9 }
     requires kinds { AreAllPropagated model.now }
     requires model { Q.model port.old ≡ model.now }
-    ensures same { (Q.model port.new ≡ Q.model port.old) × (Q.rows port.new ≡ Q.rows port.old) }
-    ensures others { Q.stays port.old port.new }
+    ensures keeps { Keeps Q.model Q.rows Q.stays port.old port.new }
 {
     // As above.
     let mut crew = Vec::new(alloc);

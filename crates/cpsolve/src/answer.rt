@@ -1,8 +1,9 @@
 //! The answer to a command line and an input, before it is written.
 //!
 //! Each command that reads has a function that takes its model from the input and one that answers the model; the
-//! faults of an input have one answer for all commands. The text is complete before anything is written, so a run that
-//! runs out of memory writes nothing.
+//! faults of an input have one answer for all commands, and so have words that are no command. The commands that
+//! generate a model are answered in `generation`. The text is complete before anything is written, so a run that runs
+//! out of memory writes nothing.
 ghost use Rattle.std.specs.Prelude.{◌≡◌, ◌≤◌, ℕ, List, IfOk, IsTrue, length, string_bytes};
 ghost use Rattle.cps_print.specs.Faults.{fault_text};
 ghost use Rattle.cps_print.specs.Models.{model_text};
@@ -96,7 +97,8 @@ fn outcome_of<R: Threads + Wait + Sync, G: Gate + Sync>(
     }
 }
 
-/// The answer of `solve` to a valid model.
+/// The answer of `solve` to a valid model. A response owns its solution and its core, so the outcome gives them to it
+/// and takes them back when the text is made.
 fn solve_answer<R: Threads + Wait + Sync, G: Gate + Sync>(
     rt: &R,
     alloc: Global,

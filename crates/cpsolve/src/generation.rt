@@ -36,6 +36,7 @@ fn valid_model(alloc: Global, recipe: &Recipe) -> Result<ValidModel, AllocError>
     let model = generate(alloc, recipe.family, recipe.size, recipe.seed)?;
     match validate(alloc, model) {
         Ok(model) => Ok(model),
+        // What is generated keeps every rule (`generate`).
         Err(ValidateError::Invalid { .. }) => unreachable!(),
         Err(ValidateError::OutOfMemory) => Err(AllocError),
     }

@@ -94,7 +94,8 @@ pub fn read_model(alloc: Global, bytes: &[u8]) -> Result<CpModel, Unread>
     meaning_of(alloc, bytes, &tokens, &node)
 }
 
-/// The valid model that the bytes are the text of.
+/// The valid model that the bytes are the text of. Its objective's offset and scaling factor are within what can be
+/// shown, and each of its kinds has a propagator: the reader takes no others.
 pub fn valid_model_of(alloc: Global, bytes: &[u8]) -> Result<ValidModel, Unread>
     requires { length bytes.now ≤ most_bytes }
     ensures ok { IfOk result (IsInput bytes.now) }

@@ -37,7 +37,7 @@ use std::io::ErrorKind;
 use std::process::ExitCode;
 
 /// The words of the command line, the program's name first. Where one of them is no text there are none, which is no
-/// command line either.
+/// command line either. The only other error of `args` is that memory ran out.
 fn words_of<R: Env + Alloc<A = Global>>(rt: &R) -> Result<Vec<String>, AllocError> {
     match env::args(rt) {
         Ok(words) => words.collect(rt.alloc()),

@@ -5,12 +5,12 @@ use Rattle.cps_portfolio.specs.Workers.{known_of, HasTurned}
 use Rattle.cps_portfolio.proofs.interleaved.take_turn.Goals as goal
 
 pub returns-clause-idle : goal.returns-clause-idle
-returns-clause-idle c = let k = c.turn.ensures.others in subst (λ (n : ℕ). (board_part c.turn.new.port.core.now.board n).drawn ≡ None) k.same c.turn.new.port.idle
+returns-clause-idle c = let k = c.turn.ensures.keeps.others in subst (λ (n : ℕ). (board_part c.turn.new.port.core.now.board n).drawn ≡ None) k.same c.turn.new.port.idle
 
 pub returns-clause-alone : goal.returns-clause-alone
-returns-clause-alone c = let k = c.turn.ensures.others in record { same = refl; events = k.events; lawful = k.lawful; reaches = k.reaches }
+returns-clause-alone c = let k = c.turn.ensures.keeps.others in record { same = refl; events = k.events; lawful = k.lawful; reaches = k.reaches }
 
 pub returns-clause-turn : goal.returns-clause-turn
 returns-clause-turn c =
-    let k = c.turn.ensures.others in
+    let k = c.turn.ensures.keeps.others in
     subst (λ (n : ℕ). IfOk c.turn.result (HasTurned (length c.args.port.now.core.now.board.rows) (known_of c.args.worker.now) (known_of c.turn.new.self) (part_at c.args.port.now.core.now c.args.actor) (part_at c.turn.new.port.core.now n))) k.same c.turn.ensures.turn

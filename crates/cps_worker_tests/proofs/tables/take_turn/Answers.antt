@@ -12,7 +12,7 @@ returns-clause-running g c =
 
 pub returns-clause-model : goal.returns-clause-model
 returns-clause-model g c =
-    c.in_ok-turn.ensures.same.0 ∙ c.requires.model ∙ sym (ap (λ (p : Problem). p.model) c.in_ok-turn.ensures.turn.setting.instance)
+    c.in_ok-turn.ensures.keeps.model ∙ c.requires.model ∙ sym (ap (λ (p : Problem). p.model) c.in_ok-turn.ensures.turn.setting.instance)
 
 pub returns-clause-imported : goal.returns-clause-imported
 returns-clause-imported g c = c.in_ok-turn.ensures.turn.moves.imports c.requires.imported

@@ -9,9 +9,9 @@ pub invariant_of-port-2 : goal.invariant_of-port-2
 invariant_of-port-2 c =
     let ran = c.turns_in_order-first.ensures in
     let first = c.in_ok-core.ensures.first in
-    let stay = others_stay _ _ _ _ ran.others in
+    let stay = others_stay _ _ _ _ ran.keeps.others in
     let count : actor_count c.turns_in_order-first.new.port.core.now ≡ 2 = stay.count ∙ ap actor_count first in
-    let rows : length c.turns_in_order-first.new.port.core.now.board.rows ≡ 4 = ran.same.1 ∙ ap (λ (x : Core). length x.board.rows) first in
+    let rows : length c.turns_in_order-first.new.port.core.now.board.rows ≡ 4 = ran.keeps.rows ∙ ap (λ (x : Core). length x.board.rows) first in
     record {
       known = omega (count, arith);
       idle = ap (λ (p : Part). p.board.drawn) (stay.parts 1 (λ (e : 1 ≡ 0). omega (e, arith))) ∙ ap (λ (x : Core). (board_part x.board 1).drawn) first;

@@ -1,13 +1,14 @@
 use Rattle.std.proofs.Common.{◌≡◌, inr}
 use Rattle.cps_search.specs.Ends.{BrancherTurn, DecidedBy}
+use Rattle.cps_search.proofs.Keeps.{keeps_none}
 use Rattle.cps_search.proofs.Results.{if_ok_weaker}
 use Rattle.cps_core_guided.specs.CoreTurns.{GoesOn}
 use Rattle.cps_core_guided.specs.Guiding.{core_search_of}
 use Rattle.cps_core_guided.proofs.Hearing.{decided-by, on-brancher}
 use Rattle.cps_core_guided.proofs.guided.Guided.go_on.Goals as goal
 
-pub returns-in-None-clause-others : goal.returns-in-None-clause-others
-returns-in-None-clause-others g c = g.met.Q.Port.unmoved c.args.port.now
+pub returns-in-None-clause-keeps : goal.returns-in-None-clause-keeps
+returns-in-None-clause-keeps g c = keeps_none _ _ _ g.met.Q.Port.unmoved _
 
 pub returns-in-Some-clause-brancher : goal.returns-in-Some-clause-brancher
 returns-in-Some-clause-brancher g c =

@@ -3,6 +3,7 @@ use Rattle.cps_trail.specs.Trail.{Entry, Trail}
 use Rattle.cps_search.specs.declared.turn.Turn.{Turn}
 use Rattle.cps_search.specs.Ends.{BrancherTurn, DecidedBy, HeardOne}
 use Rattle.cps_search.specs.Turns.{Steps}
+use Rattle.cps_search.proofs.Keeps.{keeps_then}
 use Rattle.cps_search.proofs.Results.{if_ok_weaker}
 use Rattle.cps_search.proofs.Working.{brancher_heard, imported_few, same_back, same_onward, stands_imported, turn_heard}
 use Rattle.cps_core_guided.specs.CoreTurns.{GoesOn, TakesCoreTurn}
@@ -84,8 +85,8 @@ returns-in-Some-clause-works g c =
     (omega (arith, few, stands_imported m t c.hear_turn.ensures.frame)) (omega (arith, left))
     (c.hear_turn.ensures.saw t.store still (g.met.B.Brancher.kept_on b s.search.store t.store still kept (omega (arith, left)) (same_back scope.subjects still s.search.store t.store (omega (arith, left, within)) (omega (arith, left)) store) w.agreed))
 
-pub returns-in-None-clause-others : goal.returns-in-None-clause-others
-returns-in-None-clause-others g c = g.met.Q.Port.moved_on c.args.port.now c.steps.new.port c.go_on.new.port c.in_ok-turn.ensures.others c.go_on.ensures.others
+pub returns-in-None-clause-keeps : goal.returns-in-None-clause-keeps
+returns-in-None-clause-keeps g c = keeps_then _ _ _ g.met.Q.Port.moved_on _ _ _ c.in_ok-turn.ensures.keeps c.go_on.ensures.keeps
 
 pub returns-in-None-clause-turn : goal.returns-in-None-clause-turn
 returns-in-None-clause-turn g c =

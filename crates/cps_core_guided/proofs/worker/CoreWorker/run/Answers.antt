@@ -5,6 +5,7 @@ use Rattle.cps_core_guided.specs.CoreTurns.{no_turn, one_turn_more}
 use Rattle.cps_core_guided.specs.Reforming.{whole}
 use Rattle.cps_core_guided.proofs.CoreLasting.{core_left, core_lowered}
 use Rattle.cps_core_guided.proofs.CoreRunning.{core-begins, core-ends, core-goes-on, one-core-turn}
+use Rattle.cps_search.proofs.Keeps.{keeps_none, keeps_then}
 use Rattle.cps_core_guided.proofs.worker.CoreWorker.run.Goals as goal
 
 pub returns-in-Some-clause-runs : goal.returns-in-Some-clause-runs
@@ -21,7 +22,7 @@ returns-in-Some-clause-turns g c =
       part = g.Q.Port.part c.turns.port;
       turns = i.turns;
       turn = c.in_ok-turn.turn;
-      last = one-core-turn g.B.Brancher.chooses g.B.Brancher.hears g.B.Brancher.stays _ _ c.turns.self c.turn.new.self _ _ c.in_ok-turn.turn i.rows k.sound k.turn k.brancher;
+      last = one-core-turn g.B.Brancher.chooses g.B.Brancher.hears g.B.Brancher.stays _ _ c.turns.self c.turn.new.self _ _ c.in_ok-turn.turn i.keeps.rows k.sound k.turn k.brancher;
       ended = sym c.end_of.ensures ∙ c.in-Some.is;
     }
 
@@ -32,7 +33,7 @@ turns-smaller g c =
     let k = c.in_ok-turn.ensures in
     let p = (g.Q.Port.part c.turns.port).board in
     let q = (g.Q.Port.part c.turn.new.port).board in
-    subst (λ (n : ℕ). core_left u n q < core_left t n p) c.turns.invariant.rows
+    subst (λ (n : ℕ). core_left u n q < core_left t n p) c.turns.invariant.keeps.rows
     (core_lowered t u (g.Q.Port.rows c.turns.port) p q k.sound.0 k.sound.1 k.turn.setting (k.turn.lowers (sym c.end_of.ensures ∙ c.in_default.is)))
 
 pub turns-init : goal.turns-init
@@ -40,10 +41,8 @@ turns-init g c = record {
   running = c.requires.running;
   run = core-begins c.args.self.now.0 (g.Q.Port.part c.args.port.now);
   turns = no_turn;
-  model = refl;
+  keeps = keeps_none _ _ _ g.met.Q.Port.unmoved _;
   guidance = refl;
-  rows = refl;
-  stays = g.met.Q.Port.unmoved c.args.port.now;
 }
 
 pub turns-preserved : goal.turns-preserved
@@ -54,9 +53,10 @@ turns-preserved g c =
       running = subst (λ (o : Option End). EndsAs o (whole c.turn.new.self.0)) (sym c.end_of.ensures ∙ c.in_default.is) k.turn.ends;
       run = core-goes-on _ c.args.self.now.0 c.turns.self.0 c.turn.new.self.0 _ _ _ _ c.in_ok-turn.turn i.run k.turn (sym c.end_of.ensures ∙ c.in_default.is);
       turns = one_turn_more c.turns.self c.turn.new.self (g.Q.Port.part c.turns.port) (g.Q.Port.part c.turn.new.port) c.in_ok-turn.turn i.turns (sym c.end_of.ensures ∙ c.in_default.is)
-          (one-core-turn g.B.Brancher.chooses g.B.Brancher.hears g.B.Brancher.stays _ _ c.turns.self c.turn.new.self _ _ c.in_ok-turn.turn i.rows k.sound k.turn k.brancher);
-      model = k.same.0 ∙ i.model;
+          (one-core-turn g.B.Brancher.chooses g.B.Brancher.hears g.B.Brancher.stays _ _ c.turns.self c.turn.new.self _ _ c.in_ok-turn.turn i.keeps.rows k.sound k.turn k.brancher);
+      keeps = keeps_then _ _ _ g.met.Q.Port.moved_on _ _ _ i.keeps k.keeps;
       guidance = k.guidance ∙ i.guidance;
-      rows = k.same.1 ∙ i.rows;
-      stays = g.met.Q.Port.moved_on c.args.port.now c.turns.port c.turn.new.port i.stays k.others;
     }
+
+pub returns-in-Some-clause-keeps : goal.returns-in-Some-clause-keeps
+returns-in-Some-clause-keeps g c = keeps_then _ _ _ g.met.Q.Port.moved_on _ _ _ c.turns.invariant.keeps c.in_ok-turn.ensures.keeps

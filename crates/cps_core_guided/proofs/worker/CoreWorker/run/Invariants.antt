@@ -1,5 +1,6 @@
 use Rattle.std.proofs.Common.{◌≡◌}
 use Rattle.cps_search.specs.Ends.{IsOver}
+use Rattle.cps_search.specs.Keeps.{Keeps}
 use Rattle.cps_core_guided.specs.CoreTurns.{TakesCoreTurns}
 use Rattle.cps_core_guided.specs.Reforming.{whole}
 use Rattle.cps_core_guided.proofs.CoreLasting.{core_left}
@@ -11,10 +12,8 @@ invariant-turns g l = record {
   running : IsOver (whole l.self.0).said → ⊥;
   run : HasCoreRun l.fn.self.0 l.self.0 (g.Q.Port.part l.fn.port) (g.Q.Port.part l.port);
   turns : TakesCoreTurns g.B.Brancher.chooses g.B.Brancher.hears g.B.Brancher.stays (g.Q.Port.rows l.fn.port) l.fn.self (g.Q.Port.part l.fn.port) l.self (g.Q.Port.part l.port);
-  model : g.Q.Port.model l.port ≡ g.Q.Port.model l.fn.port;
+  keeps : Keeps g.Q.Port.model g.Q.Port.rows g.Q.Port.stays l.fn.port l.port;
   guidance : g.B.Brancher.guidance l.self.1 ≡ g.B.Brancher.guidance l.fn.self.1;
-  rows : g.Q.Port.rows l.port ≡ g.Q.Port.rows l.fn.port;
-  stays : g.Q.Port.stays l.fn.port l.port;
 }
 
 abbrev pub decreases-turns : goal.decreases-turns

@@ -4,6 +4,7 @@ use Rattle.cps_core_guided.specs.CoreTurns.{TakesCoreTurn}
 use Rattle.cps_core_guided.specs.Guiding.{core_search_of, with_refused}
 use Rattle.cps_core_guided.specs.Reforming.{CoreSearch, IsSoundCore}
 use Rattle.cps_core_guided.proofs.Viewing.{as-running, seen-running}
+use Rattle.cps_search.proofs.Keeps.{keeps_none}
 use Rattle.cps_core_guided.proofs.worker.CoreWorker.turn.Goals as goal
 
 pub returns-clause-turn : goal.returns-clause-turn
@@ -38,3 +39,6 @@ returns-clause-sound g c =
     let before : c.args.self.now ≡ (core_search_of x, x.brancher) = sym c.self.view_is ∙ seen-running x c.self.inside.refused c.if-self.false h.0 in
     let after : with_refused (core_search_of y) false ≡ core_search_of y = as-running y false refl (k.turn.setting.refused ∙ h.0) in
     (subst (λ (w : _). IsSoundCore w.0) (sym before) h.1.sound, subst (λ (n : CoreSearch). IsSoundCore n) (sym after) k.works.sound)
+
+pub returns-then-self-clause-keeps : goal.returns-then-self-clause-keeps
+returns-then-self-clause-keeps g c = keeps_none _ _ _ g.met.Q.Port.unmoved _

@@ -61,8 +61,7 @@ returns-in_default g c =
     subst (λ (s : Search). Steps x.frame s (g.Q.Port.rows c.args.port.now) (g.Q.Port.part c.args.port.now) (g.Q.Port.part c.steps.new.port) (Some turn)) (sym frame) steps in
     let left : x.rounds < round_count x.conflicts = omega (arith, c.if-self-round_count.false, c.round_count.ensures, c.requires.exploring.rounds) in
     record {
-      same = c.steps.ensures.same;
-      others = c.steps.ensures.others;
+      keeps = c.steps.ensures.keeps;
       turn = turn_other (near_of x) (near_of y) _ _ _ turn left c.in_ok-steps.ensures.sound.0 c.requires.exploring.budget all c.in_default.not-Learnt
           (record { rounds = ap (λ (n : Near). n.rounds) k.rest; round = ap (λ (n : Near). n.round) k.rest; draws = ap (λ (n : Near). n.draws) k.rest; brancher = ap (λ (n : Near). n.brancher) k.rest })
           (ap (λ (n : Near). n.conflicts) k.rest) (ap (λ (n : Near). n.aim) k.rest);

@@ -6,6 +6,7 @@ use Rattle.cps_search.specs.Ends.{EndsAs}
 use Rattle.cps_neighbourhood.specs.Nears.{TakesNearTurn, none_yet, one_more}
 use Rattle.cps_neighbourhood.proofs.Counting.{near_begins, near_ends, near_goes_on}
 use Rattle.cps_neighbourhood.proofs.Lasting.{near_left, near_lowered}
+use Rattle.cps_search.proofs.Keeps.{keeps_none, keeps_then}
 use Rattle.cps_neighbourhood.proofs.near.NearWorker.run.Goals as goal
 
 pub returns-in-Some-clause-runs : goal.returns-in-Some-clause-runs
@@ -22,7 +23,7 @@ returns-in-Some-clause-turns g c =
       part = g.Q.Port.part c.turns.port;
       turns = i.turns;
       turn = c.in_ok-turn.turn;
-      last = subst (λ (n : ℕ). TakesNearTurn c.turns.self c.turn.new.self n (g.Q.Port.part c.turns.port) (g.Q.Port.part c.turn.new.port) c.in_ok-turn.turn) i.rows k.turn;
+      last = subst (λ (n : ℕ). TakesNearTurn c.turns.self c.turn.new.self n (g.Q.Port.part c.turns.port) (g.Q.Port.part c.turn.new.port) c.in_ok-turn.turn) i.keeps.rows k.turn;
       ended = sym c.end_of.ensures ∙ c.in-Some.is;
     }
 
@@ -35,7 +36,7 @@ turns-smaller g c =
     let p = (g.Q.Port.part c.turns.port).board in
     let q = (g.Q.Port.part c.turn.new.port).board in
     let less = near_lowered t u (g.Q.Port.rows c.turns.port) p q k.sound.0 k.sound.1 k.turn.setting k.turn.conflicts k.budget (k.turn.lowers (sym c.end_of.ensures ∙ c.in_default.is)) in
-    subst (λ (n : ℕ). near_left (open_values c.args.self.now.search.instance.domains [] + 1) u n q < near_left (open_values c.args.self.now.search.instance.domains [] + 1) t n p) i.rows
+    subst (λ (n : ℕ). near_left (open_values c.args.self.now.search.instance.domains [] + 1) u n q < near_left (open_values c.args.self.now.search.instance.domains [] + 1) t n p) i.keeps.rows
     (subst (λ (x : Problem). near_left (open_values x.domains [] + 1) u (g.Q.Port.rows c.turns.port) q < near_left (open_values x.domains [] + 1) t (g.Q.Port.rows c.turns.port) p) i.run.run.setting.instance less)
 
 pub turns-init : goal.turns-init
@@ -43,9 +44,7 @@ turns-init g c = record {
   running = c.requires.running;
   run = near_begins c.args.self.now (g.Q.Port.part c.args.port.now);
   turns = none_yet;
-  model = refl;
-  rows = refl;
-  stays = g.met.Q.Port.unmoved c.args.port.now;
+  keeps = keeps_none _ _ _ g.met.Q.Port.unmoved _;
 }
 
 pub turns-preserved : goal.turns-preserved
@@ -56,8 +55,9 @@ turns-preserved g c =
       running = subst (λ (o : Option End). EndsAs o c.turn.new.self.search) (sym c.end_of.ensures ∙ c.in_default.is) k.turn.ends;
       run = near_goes_on c.args.self.now c.turns.self c.turn.new.self _ _ _ _ c.in_ok-turn.turn (sym c.end_of.ensures ∙ c.in_default.is) i.run k.turn;
       turns = one_more c.turns.self c.turn.new.self (g.Q.Port.part c.turns.port) (g.Q.Port.part c.turn.new.port) c.in_ok-turn.turn i.turns (sym c.end_of.ensures ∙ c.in_default.is)
-          (subst (λ (n : ℕ). TakesNearTurn c.turns.self c.turn.new.self n (g.Q.Port.part c.turns.port) (g.Q.Port.part c.turn.new.port) c.in_ok-turn.turn) i.rows k.turn);
-      model = k.same.0 ∙ i.model;
-      rows = k.same.1 ∙ i.rows;
-      stays = g.met.Q.Port.moved_on c.args.port.now c.turns.port c.turn.new.port i.stays k.others;
+          (subst (λ (n : ℕ). TakesNearTurn c.turns.self c.turn.new.self n (g.Q.Port.part c.turns.port) (g.Q.Port.part c.turn.new.port) c.in_ok-turn.turn) i.keeps.rows k.turn);
+      keeps = keeps_then _ _ _ g.met.Q.Port.moved_on _ _ _ i.keeps k.keeps;
     }
+
+pub returns-in-Some-clause-keeps : goal.returns-in-Some-clause-keeps
+returns-in-Some-clause-keeps g c = keeps_then _ _ _ g.met.Q.Port.moved_on _ _ _ c.turns.invariant.keeps c.in_ok-turn.ensures.keeps

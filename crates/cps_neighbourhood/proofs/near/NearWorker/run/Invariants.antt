@@ -1,6 +1,7 @@
 use Rattle.std.proofs.Common.{◌≡◌, ◌+◌, []}
 use Rattle.cps_trail.specs.Trail.{open_values}
 use Rattle.cps_search.specs.Ends.{IsOver}
+use Rattle.cps_search.specs.Keeps.{Keeps}
 use Rattle.cps_neighbourhood.specs.Nears.{TakesNearTurns}
 use Rattle.cps_neighbourhood.proofs.Counting.{HasNearRun}
 use Rattle.cps_neighbourhood.proofs.Lasting.{near_left}
@@ -11,9 +12,7 @@ invariant-turns g l = record {
   running : IsOver l.self.search.said → ⊥;
   run : HasNearRun l.fn.self l.self (g.Q.Port.part l.fn.port) (g.Q.Port.part l.port);
   turns : TakesNearTurns (g.Q.Port.rows l.fn.port) l.fn.self (g.Q.Port.part l.fn.port) l.self (g.Q.Port.part l.port);
-  model : g.Q.Port.model l.port ≡ g.Q.Port.model l.fn.port;
-  rows : g.Q.Port.rows l.port ≡ g.Q.Port.rows l.fn.port;
-  stays : g.Q.Port.stays l.fn.port l.port;
+  keeps : Keeps g.Q.Port.model g.Q.Port.rows g.Q.Port.stays l.fn.port l.port;
 }
 
 abbrev pub decreases-turns : goal.decreases-turns

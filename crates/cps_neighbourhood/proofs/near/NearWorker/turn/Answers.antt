@@ -3,6 +3,7 @@ use Rattle.cps_search.specs.Searches.{IsSoundSearch}
 use Rattle.cps_neighbourhood.specs.Exploring.{near_as, near_of}
 use Rattle.cps_neighbourhood.specs.Nears.{Near, TakesNearTurn}
 use Rattle.cps_neighbourhood.proofs.Viewing.{as_refused, as_running}
+use Rattle.cps_search.proofs.Keeps.{keeps_none}
 use Rattle.cps_neighbourhood.proofs.near.NearWorker.turn.Goals as goal
 
 pub returns-clause-turn : goal.returns-clause-turn
@@ -24,3 +25,6 @@ returns-clause-sound g c =
     let before : c.args.self.now ≡ near_of x = sym c.self.view_is ∙ as_refused c.self.inside.refused x c.if-self.false h in
     let after : near_as false (near_of y) ≡ near_of y = as_running y k.exploring in
     (subst (λ (n : Near). IsSoundSearch n.search) (sym before) h.sound, subst (λ (n : Near). IsSoundSearch n.search) (sym after) k.exploring.sound)
+
+pub returns-then-self-clause-keeps : goal.returns-then-self-clause-keeps
+returns-then-self-clause-keeps g c = keeps_none _ _ _ g.met.Q.Port.unmoved _

@@ -2,6 +2,7 @@
 use Rattle.std.proofs.Common.{◌∙◌, ℕ, refl, sym, subst, false, true}
 use Rattle.cps_portfolio.specs.Workers.{known_of, HasTurned}
 use Rattle.cps_portfolio.proofs.Going.{has_kept, lighter_in, none_taken, still_runs, turned_on}
+use Rattle.cps_search.proofs.Keeps.{keeps_none, keeps_then}
 use Rattle.cps_portfolio.proofs.worker.AnyWorker.run.Goals as goal
 
 pub turns-init : goal.turns-init
@@ -9,9 +10,7 @@ turns-init g c = record {
   running = c.requires.running;
   turns = none_taken (g.Q.Port.rows c.args.port.now) (known_of c.args.self.now) (g.Q.Port.part c.args.port.now);
   kind = refl;
-  model = refl;
-  rows = refl;
-  stays = g.met.Q.Port.unmoved c.args.port.now;
+  keeps = keeps_none _ _ _ g.met.Q.Port.unmoved _;
   pool = refl;
 }
 
@@ -23,7 +22,7 @@ turn-requires-clause-memory g c =
 pub turn-requires-clause-model : goal.turn-requires-clause-model
 turn-requires-clause-model g c =
     let kept = has_kept (g.Q.Port.rows c.args.port.now) (known_of c.args.self.now) (known_of c.turns.self) (g.Q.Port.part c.args.port.now) (g.Q.Port.part c.turns.port) c.turns.invariant.turns in
-    c.turns.invariant.model ∙ c.requires.model ∙ sym kept.model
+    c.turns.invariant.keeps.model ∙ c.requires.model ∙ sym kept.model
 
 pub turn-requires-clause-pool : goal.turn-requires-clause-pool
 turn-requires-clause-pool g c =
@@ -44,14 +43,12 @@ turns-preserved g c =
     let p = g.Q.Port.part c.turns.port in
     let q = g.Q.Port.part c.turn.new.port in
     let rows = g.Q.Port.rows c.args.port.now in
-    let turn = subst (λ (n : ℕ). HasTurned n s t p q false) i.rows (subst (HasTurned (g.Q.Port.rows c.turns.port) s t p q) c.if-over.false k.turn) in
+    let turn = subst (λ (n : ℕ). HasTurned n s t p q false) i.keeps.rows (subst (HasTurned (g.Q.Port.rows c.turns.port) s t p q) c.if-over.false k.turn) in
     record {
       running = still_runs rows s t p q turn;
       turns = turned_on rows (known_of c.args.self.now) s t (g.Q.Port.part c.args.port.now) p q i.turns turn;
       kind = k.kind ∙ i.kind;
-      model = k.same.0 ∙ i.model;
-      rows = k.same.1 ∙ i.rows;
-      stays = g.met.Q.Port.moved_on c.args.port.now c.turns.port c.turn.new.port i.stays k.others;
+      keeps = keeps_then _ _ _ g.met.Q.Port.moved_on _ _ _ i.keeps k.keeps;
       pool = k.pool ∙ i.pool;
     }
 
@@ -61,7 +58,7 @@ turns-smaller g c =
     let t = known_of c.turn.new.self in
     let p = g.Q.Port.part c.turns.port in
     let q = g.Q.Port.part c.turn.new.port in
-    let turn = subst (λ (n : ℕ). HasTurned n s t p q false) c.turns.invariant.rows (subst (HasTurned (g.Q.Port.rows c.turns.port) s t p q) c.if-over.false c.in_ok-over.ensures.turn) in
+    let turn = subst (λ (n : ℕ). HasTurned n s t p q false) c.turns.invariant.keeps.rows (subst (HasTurned (g.Q.Port.rows c.turns.port) s t p q) c.if-over.false c.in_ok-over.ensures.turn) in
     lighter_in (g.Q.Port.rows c.args.port.now) s t p q turn
 
 pub returns-then-over-clause-runs : goal.returns-then-over-clause-runs
@@ -75,5 +72,8 @@ returns-then-over-clause-runs g c =
       before = s;
       part = p;
       turns = i.turns;
-      last = subst (λ (n : ℕ). HasTurned n s t p q true) i.rows (subst (HasTurned (g.Q.Port.rows c.turns.port) s t p q) c.if-over.true c.in_ok-over.ensures.turn);
+      last = subst (λ (n : ℕ). HasTurned n s t p q true) i.keeps.rows (subst (HasTurned (g.Q.Port.rows c.turns.port) s t p q) c.if-over.true c.in_ok-over.ensures.turn);
     }
+
+pub returns-then-over-clause-keeps : goal.returns-then-over-clause-keeps
+returns-then-over-clause-keeps g c = keeps_then _ _ _ g.met.Q.Port.moved_on _ _ _ c.turns.invariant.keeps c.in_ok-over.ensures.keeps

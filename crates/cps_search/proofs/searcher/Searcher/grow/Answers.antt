@@ -1,34 +1,57 @@
+use Rattle.std.specs.Prelude.{None, unsigned_abs}
+use Rattle.std.specs.List.{All}
 use mir.Facts.{to_z-of_z}
-use Rattle.std.proofs.Common.{◌≡◌, ◌∙◌, ◌<◌, ◌^◌, ℤ, [], ◌∷◌, ◌++◌, length, sym, subst, ap}
+use Rattle.std.proofs.Common.{◌≡◌, ◌+◌, ◌∙◌, ◌<◌, ◌^◌, ℤ, [], ◌∷◌, ◌++◌, length, sym, subst, ap}
 use Rattle.cps_domain.specs.Window.{intervals}
 use Rattle.cps_instance.specs.Problem.{Defines, sum_task}
 use Rattle.cps_instance.specs.Sums.{DefinedSum}
-use Rattle.cps_instance.specs.Terms.{Domains}
+use Rattle.cps_instance.specs.Terms.{Domains, terms_reach}
+use Rattle.cps_trail.specs.Trail.{IsSound}
 use Rattle.cps_propagate.specs.Agenda.{Agenda}
-use Rattle.cps_search.specs.Stepping.{search_of}
+use Rattle.cps_search.specs.declared.end.Said.TheVariants.{Nothing}
+use Rattle.cps_search.specs.Growing.{GrewBy}
+use Rattle.cps_search.specs.Searches.{Search, IsSoundSearch}
+use Rattle.cps_search.specs.Searching.{search_of}
 use Rattle.cps_search.proofs.Growing.{few_and_one, grown_is, sound_grew}
 use Rattle.cps_search.proofs.searcher.Searcher.grow.Goals as goal
 
+pub define-requires-clause-subjects : goal.define-requires-clause-subjects
+define-requires-clause-subjects g c = subst (λ (x : Search). All (λ t. t.subject < length x.instance.domains) c.args.terms.now) (sym c.self.view_is) c.requires.subjects
+
+pub define-requires-clause-room : goal.define-requires-clause-room
+define-requires-clause-room g c = subst (λ (x : Search). length x.instance.domains < 2 ^ 31) (sym c.self.view_is) c.requires.room
+
+pub add-requires-clause-level : goal.add-requires-clause-level
+add-requires-clause-level g c = ap (λ (x : Search). x.store.level) c.self.view_is ∙ c.requires.bottom
+
 pub add-requires-clause-room : goal.add-requires-clause-room
-add-requires-clause-room g c = subst (λ (ds : Domains). length ds < 2 ^ 31) (sym c.requires.sound.domains) c.requires.room
+add-requires-clause-room g c =
+    subst (λ (x : Search). length x.store.first < 2 ^ 31) (sym c.self.view_is) (subst (λ (ds : Domains). length ds < 2 ^ 31) (sym c.requires.sound.domains) c.requires.room)
 
 pub add_sum-requires : goal.add_sum-requires
-add_sum-requires g c = few_and_one (search_of c.args.self.now) c.define.new.self _ c.in_ok-subject.subject c.in_ok-subject.ensures.ok c.define.ensures.sound c.requires.sound
+add_sum-requires g c =
+    let s = search_of c.self.inside in
+    let sound : IsSoundSearch s = subst (λ (x : Search). IsSoundSearch x) (sym c.self.view_is) c.requires.sound in
+    few_and_one s c.define.new.self _ c.in_ok-subject.subject c.in_ok-subject.ensures.ok c.define.ensures.sound sound
 
 pub returns-clause-grew : goal.returns-clause-grew
 returns-clause-grew g c =
-    let s = search_of c.args.self.now in
+    let s = search_of c.self.inside in
+    let sound : IsSoundSearch s = subst (λ (x : Search). IsSoundSearch x) (sym c.self.view_is) c.requires.sound in
     let subject = c.in_ok-subject.subject in
     let same = to_z-of_z c.ranges.offset in
     let sum : DefinedSum = record { terms = c.args.terms.now; offset = c.args.offset } in
     let defines : Defines s.instance c.define.new.self sum subject = subst (λ (x : ℤ). Defines s.instance c.define.new.self (record { terms = c.args.terms.now; offset = x }) subject) same c.in_ok-subject.ensures.ok in
     let tasks : c.add_sum.new.self.tasks ≡ s.tasks ++ sum_task subject sum ∷ [] =
     ap (λ (e : Agenda). e.tasks) c.in_ok-add_sum.ensures.adds ∙ ap (λ (x : ℤ). s.tasks ++ sum_task subject (record { terms = c.args.terms.now; offset = x }) ∷ []) same in
-    record {
+    let t : Search = record s { instance = c.define.new.self; store = c.add.new.self; tasks = c.add_sum.new.self.tasks; rested = record s.rested { tasks = None }; said = Nothing } in
+    let grew : GrewBy s t sum subject = record {
       defines = defines;
-      is = grown_is s c.define.new.self sum subject (intervals c.in_ok-domain.domain) c.add.new.self c.add_sum.new.self.tasks defines c.requires.sound c.in_ok-domain.ensures c.in_ok-add.ensures.adds tasks;
-    }
+      is = grown_is s c.define.new.self sum subject (intervals c.in_ok-domain.domain) c.add.new.self c.add_sum.new.self.tasks defines sound c.in_ok-domain.ensures c.in_ok-add.ensures.adds tasks;
+    } in
+    subst (λ (x : Search). GrewBy x t sum subject) c.self.view_is grew
 
 pub returns-clause-sound : goal.returns-clause-sound
 returns-clause-sound g c =
-    sound_grew (search_of c.args.self.now) _ (record { terms = c.args.terms.now; offset = c.args.offset }) c.in_ok-subject.subject (returns-clause-grew g c) c.define.ensures.sound c.requires.sound c.entries.ensures.sound c.requires.bottom
+    sound_grew c.args.self.now _ (record { terms = c.args.terms.now; offset = c.args.offset }) c.in_ok-subject.subject (returns-clause-grew g c) c.define.ensures.sound c.requires.sound
+    (subst (λ (x : Search). IsSound x.store) c.self.view_is c.entries.ensures.sound) c.requires.bottom
