@@ -5,7 +5,7 @@ pub mod Taking
 pub mod Planning
 pub mod Hinting
 pub mod Numbering
-pub mod Raising
+pub mod Bumping
 pub mod Leading
 pub mod Playing
 pub mod Aside

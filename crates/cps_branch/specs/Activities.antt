@@ -23,7 +23,7 @@ abbrev pub ReachesLimit : List ℕ → Type 0
 ReachesLimit activities = (i : ℕ) × (i < length activities) × (2 ^ 40 ≤ slice_index activities i)
 
 -- each variable of the clause gained 1; then, where one reached 2 ^ 40, all were halved
-pub record AreRaised (clause : List Atom) (old new : List ℕ) : Type 0 where
+pub record AreBumped (clause : List Atom) (old new : List ℕ) : Type 0 where
   pub gained : List ℕ
   pub gains : AreGained clause old gained
   pub halved : ReachesLimit gained → new ≡ map (λ a. a / 2) gained

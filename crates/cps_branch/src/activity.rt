@@ -6,9 +6,9 @@
 ghost use Rattle.std.specs.Prelude.{ℕ, ◌≡◌, ◌≤◌, ◌^◌, length, IfOk};
 
 use crate::brancher::Brancher;
+use crate::bump::bump_all;
 use crate::guidance::Guidance;
 use crate::hint::{at_hint, hints_of};
-use crate::raise::raise_all;
 use crate::ranking::Ranking;
 use crate::restarts::Restarts;
 use cps_instance::Instance;
@@ -111,7 +111,7 @@ impl ActivityBrancher {
 impl Brancher for ActivityBrancher {
     ghost use Rattle.std.specs.Prelude.{◌≡◌, length};
     ghost use Rattle.cps_branch.specs.Hints.{ChoosesHinted};
-    ghost use Rattle.cps_branch.specs.Activities.{AreRaised};
+    ghost use Rattle.cps_branch.specs.Activities.{AreBumped};
     ghost use Rattle.cps_branch.specs.Luby.{CountsConflict};
     ghost use Rattle.cps_branch.specs.SetAside.{AreFixedAside};
     ghost use Rattle.cps_branch.specs.Guidances.{hinted_same};
@@ -124,7 +124,7 @@ impl Brancher for ActivityBrancher {
 
     ghost chooses = { λ b s atom. (length b.activities ≡ length b.hints) × ChoosesHinted b.activities b.hints s atom };
 
-    ghost hears = { λ b clause restart c. AreRaised clause b.activities c.activities × CountsConflict b.pace c.pace restart × (c.hints ≡ b.hints) };
+    ghost hears = { λ b clause restart c. AreBumped clause b.activities c.activities × CountsConflict b.pace c.pace restart × (c.hints ≡ b.hints) };
 
     ghost stays = { λ b c. (c.activities ≡ b.activities) × (c.pace ≡ b.pace) × (c.hints ≡ b.hints) };
 
@@ -150,7 +150,7 @@ impl Brancher for ActivityBrancher {
     }
 
     fn learnt(&mut self, clause: &[Atom]) -> bool {
-        let halved = raise_all(&mut self.activities, &mut self.marks, clause);
+        let halved = bump_all(&mut self.activities, &mut self.marks, clause);
         self.ranking.follow(&self.activities, clause, halved);
         self.restarts.conflict()
     }

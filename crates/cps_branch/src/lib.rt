@@ -18,11 +18,11 @@
 
 mod activity;
 mod brancher;
+mod bump;
 mod fixed;
 mod guidance;
 mod hint;
 mod plan;
-mod raise;
 mod ranking;
 mod restarts;
 mod scan;

@@ -4,17 +4,17 @@ use Rattle.std.specs.List.{All, Contains}
 use Rattle.std.proofs.lemmas.List.{get_or_default, get_or-set_same, get_or-set_other, length-set, map-append, take_more}
 use Rattle.std.proofs.lemmas.List.Elements.{All-cons, All-head, All-tail, All-contains_itself}
 use Rattle.cps_literal.specs.declared.atom.Atom.{Atom}
-use Rattle.cps_clauses.specs.InForce.{is_dropped, in_force, IsHeld, blanked, marked, emptied}
+use Rattle.cps_clauses.specs.InForce.{is_dropped, in_force, IsNumberInForce, blanked, marked, emptied}
 use Rattle.cps_clauses.specs.Watches.{clause_of}
 
-held_before : (c : List Atom) (cs : List (List Atom)) (b : Bool) (ds : List Bool) (i : ℕ) → IsHeld (c ∷ cs) (b ∷ ds) (suc i) → IsHeld cs ds i
+held_before : (c : List Atom) (cs : List (List Atom)) (b : Bool) (ds : List Bool) (i : ℕ) → IsNumberInForce (c ∷ cs) (b ∷ ds) (suc i) → IsNumberInForce cs ds i
 held_before c cs b ds i h = record { within = (let l = h.within in omega (arith, l)); stays = h.stays }
 
-held_after : (c : List Atom) (cs : List (List Atom)) (b : Bool) (ds : List Bool) (i : ℕ) → IsHeld cs ds i → IsHeld (c ∷ cs) (b ∷ ds) (suc i)
+held_after : (c : List Atom) (cs : List (List Atom)) (b : Bool) (ds : List Bool) (i : ℕ) → IsNumberInForce cs ds i → IsNumberInForce (c ∷ cs) (b ∷ ds) (suc i)
 held_after c cs b ds i h = record { within = (let l = h.within in omega (arith, l)); stays = h.stays }
 
 -- what holds of the clauses in force holds of each that is
-pub at_held : (P : List Atom → Type 0) (cs : List (List Atom)) (ds : List Bool) (i : ℕ) → All P (in_force cs ds) → IsHeld cs ds i → P (clause_of cs i)
+pub at_held : (P : List Atom → Type 0) (cs : List (List Atom)) (ds : List Bool) (i : ℕ) → All P (in_force cs ds) → IsNumberInForce cs ds i → P (clause_of cs i)
 at_held P [] ds i all h = absurd (let l = h.within in omega (arith, l))
 at_held P (c ∷ cs) [] i all h = all i [] h.within
 at_held P (c ∷ cs) (true ∷ ds) zero all h = absurd (true≢false h.stays)
@@ -23,7 +23,7 @@ at_held P (c ∷ cs) (false ∷ ds) zero all h = All-head P c (in_force cs ds) a
 at_held P (c ∷ cs) (false ∷ ds) (suc i) all h = at_held P cs ds i (All-tail P c (in_force cs ds) all) (held_before c cs false ds i h)
 
 -- and the other way
-pub all_held : (P : List Atom → Type 0) (cs : List (List Atom)) (ds : List Bool) → ((i : ℕ) → IsHeld cs ds i → P (clause_of cs i)) → All P (in_force cs ds)
+pub all_held : (P : List Atom → Type 0) (cs : List (List Atom)) (ds : List Bool) → ((i : ℕ) → IsNumberInForce cs ds i → P (clause_of cs i)) → All P (in_force cs ds)
 all_held P [] ds each = λ k d l. absurd (omega (arith, l))
 all_held P (c ∷ cs) [] each = λ k d l. subst P (get_or_default (c ∷ cs) k [] d l) (each k (record { within = l; stays = refl }))
 all_held P (c ∷ cs) (true ∷ ds) each = all_held P cs ds (λ i h. each (suc i) (held_after c cs true ds i h))
@@ -31,13 +31,13 @@ all_held P (c ∷ cs) (false ∷ ds) each =
     All-cons P c (in_force cs ds) (each zero (record { within = omega arith; stays = refl })) (all_held P cs ds (λ i h. each (suc i) (held_after c cs false ds i h)))
 
 -- a clause that is held is one of those in force
-pub held_in : (cs : List (List Atom)) (ds : List Bool) (i : ℕ) → IsHeld cs ds i → Contains (in_force cs ds) (clause_of cs i)
+pub held_in : (cs : List (List Atom)) (ds : List Bool) (i : ℕ) → IsNumberInForce cs ds i → Contains (in_force cs ds) (clause_of cs i)
 held_in cs ds i h = at_held (Contains (in_force cs ds)) cs ds i (All-contains_itself (in_force cs ds)) h
 
 -- one of those in force has a number
 pub record HasNumber (cs : List (List Atom)) (ds : List Bool) (c : List Atom) : Type 0 where
   pub number : ℕ
-  pub held : IsHeld cs ds number
+  pub held : IsNumberInForce cs ds number
   pub is : clause_of cs number ≡ c
 
 pub number_of_one : (cs : List (List Atom)) (ds : List Bool) (c : List Atom) → Contains (in_force cs ds) c → HasNumber cs ds c

@@ -11,7 +11,7 @@ use Rattle.cps_trail.specs.Trail.{Trail, up_to}
 use Rattle.cps_clauses.specs.declared.journal.JournalItem.{JournalItem}
 use Rattle.cps_clauses.specs.declared.journal.JournalItem.TheVariants.{Drop}
 use Rattle.cps_clauses.specs.declared.watch.Watcher.{Watcher}
-use Rattle.cps_clauses.specs.InForce.{is_dropped, IsHeld, blanked, marked, emptied}
+use Rattle.cps_clauses.specs.InForce.{is_dropped, IsNumberInForce, blanked, marked, emptied}
 use Rattle.cps_clauses.specs.Journals.{count_standing, standing_in, drops, IsHonest, IsStanding}
 use Rattle.cps_clauses.specs.Quiet.{IsQuiet, IsQuietAfter}
 use Rattle.cps_clauses.specs.Watches.{clause_of, slot_of, IsWatching, HasRoom, list_at}
@@ -154,7 +154,7 @@ left_is b s keep which cs ds j sound forgets marks left drops_too =
     ∙ ap (λ (x : List JournalItem). record b { clauses = emptied b.clauses (map (number_at b.learnt) which); dropped = marked b.dropped (map (number_at b.learnt) which); journal = x }) drops_too
 
 -- what is in force without them was in force, with the same atoms
-pub held_before : (b : Base) (which : List ℕ) (i : ℕ) → IsSoundBase b → All (λ n. n < length b.learnt) which → IsHeld (without b which).clauses (without b which).dropped i → IsHeld b.clauses b.dropped i × (clause_of (without b which).clauses i ≡ clause_of b.clauses i)
+pub held_before : (b : Base) (which : List ℕ) (i : ℕ) → IsSoundBase b → All (λ n. n < length b.learnt) which → IsNumberInForce (without b which).clauses (without b which).dropped i → IsNumberInForce b.clauses b.dropped i × (clause_of (without b which).clauses i ≡ clause_of b.clauses i)
 held_before b which i sound places held =
     let cs = emptied_is b.clauses b.dropped b.learnt b.journal which sound.sizes sound.blank sound.numbered places in
     let long : length (emptied b.clauses (map (number_at b.learnt) which)) ≡ length b.clauses =

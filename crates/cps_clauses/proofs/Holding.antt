@@ -6,7 +6,7 @@ use Rattle.cps_literal.specs.declared.atom.Atom.{Atom}
 use Rattle.cps_trail.specs.Trail.{Domains, Entry, Trail, IsFalseNow, IsSound, up_to}
 use Rattle.cps_trail.proofs.Marks.{up_to-all}
 use Rattle.cps_clauses.specs.declared.watch.Watch.{Watch}
-use Rattle.cps_clauses.specs.InForce.{is_dropped, in_force, IsHeld}
+use Rattle.cps_clauses.specs.InForce.{is_dropped, in_force, IsNumberInForce}
 use Rattle.cps_clauses.specs.Conflicts.{IsConflictInForce}
 use Rattle.cps_clauses.specs.Quiet.{IsQuiet, IsQuietAfter, Fits}
 use Rattle.cps_clauses.specs.Watches.{clause_of, watch_of, IsGuarded, IsPair}
@@ -19,7 +19,7 @@ some_or_none : (n : ℕ) → (1 ≤ n) ⊎ (n ≡ 0)
 some_or_none n = grind arith
 
 -- a clause that has atoms was not dropped
-pub some_held : (cs : List (List Atom)) (ds : List Bool) (i : ℕ) → ((j : ℕ) → is_dropped ds j ≡ true → clause_of cs j ≡ []) → i < length cs → 1 ≤ length (clause_of cs i) → IsHeld cs ds i
+pub some_held : (cs : List (List Atom)) (ds : List Bool) (i : ℕ) → ((j : ℕ) → is_dropped ds j ≡ true → clause_of cs j ≡ []) → i < length cs → 1 ≤ length (clause_of cs i) → IsNumberInForce cs ds i
 some_held cs ds i blank l some = record { within = l; stays = go (is_dropped ds i) refl }
   where
     go : (b : Bool) → is_dropped ds i ≡ b → is_dropped ds i ≡ false
@@ -49,7 +49,7 @@ below_or : (m n : ℕ) → (m < n) ⊎ (n ≤ m)
 below_or m n = grind arith
 
 -- each clause in force has an atom, where the base was in step and no clause added since is without
-pub all_some : (b : Base) (first : Domains) (es : List Entry) → IsInStep b first es → ((i : ℕ) → b.watched.settled ≤ i → IsHeld b.clauses b.dropped i → 1 ≤ length (clause_of b.clauses i)) → (i : ℕ) → IsHeld b.clauses b.dropped i → 1 ≤ length (clause_of b.clauses i)
+pub all_some : (b : Base) (first : Domains) (es : List Entry) → IsInStep b first es → ((i : ℕ) → b.watched.settled ≤ i → IsNumberInForce b.clauses b.dropped i → 1 ≤ length (clause_of b.clauses i)) → (i : ℕ) → IsNumberInForce b.clauses b.dropped i → 1 ≤ length (clause_of b.clauses i)
 all_some b first es h later i held = elim (below_or i b.watched.settled) [
   | inl before ↦ guarded_some first (up_to 0 es) (clause_of b.clauses i) (watch_of b.watched.watches i) (h.at 0 i before held)
   | inr after ↦ later i after held
@@ -57,13 +57,13 @@ all_some b first es h later i held = elim (below_or i b.watched.settled) [
 
 -- once all clauses with atoms are guarded, those in force are quiet now
 pub quiet_now : (cs : List (List Atom)) (ds : List Bool) (ws : List Watch) (s : Trail) → IsSound s → All (Fits s.first) cs → ((i : ℕ) → i < length cs → IsPair (length (clause_of cs i)) (watch_of ws i)) → AreGuarded s.first s.entries cs ws (length cs)
-    → ((i : ℕ) → IsHeld cs ds i → 1 ≤ length (clause_of cs i)) → All (IsQuietAfter s.first s.entries) (in_force cs ds)
+    → ((i : ℕ) → IsNumberInForce cs ds i → 1 ≤ length (clause_of cs i)) → All (IsQuietAfter s.first s.entries) (in_force cs ds)
 quiet_now cs ds ws s sound fits pairs guarded some = all_held (IsQuietAfter s.first s.entries) cs ds (λ i held.
     quiet_by_guard s (clause_of cs i) (watch_of ws i) sound (fits i [] held.within) (pairs i held.within)
     (subst (λ (es : List Entry). IsGuarded s.first es (clause_of cs i) (watch_of ws i)) (up_to-all s.level s.entries sound.levels) (guarded s.level i held.within (some i held))))
 
 -- a clause in force that is false is a conflict
-pub conflict_held : (cs : List (List Atom)) (ds : List Bool) (s : Trail) (i : ℕ) → IsHeld cs ds i → All (IsFalseNow s) (clause_of cs i) → Fits s.first (clause_of cs i) → IsConflictInForce (in_force cs ds) s (clause_of cs i)
+pub conflict_held : (cs : List (List Atom)) (ds : List Bool) (s : Trail) (i : ℕ) → IsNumberInForce cs ds i → All (IsFalseNow s) (clause_of cs i) → Fits s.first (clause_of cs i) → IsConflictInForce (in_force cs ds) s (clause_of cs i)
 conflict_held cs ds s i held all fits =
     let has = held_in cs ds i held in record {
       number = has.0;

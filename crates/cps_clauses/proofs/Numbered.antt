@@ -7,7 +7,7 @@ use Rattle.std.proofs.lemmas.List.Elements.{All-head, All-tail, All-push, All-we
 use Rattle.std.proofs.lemmas.Option.{get_or_from_slice_get, slice_get_cases}
 use Rattle.cps_literal.specs.declared.atom.Atom.{Atom}
 use Rattle.cps_literal.specs.Table.{Numbers}
-use Rattle.cps_clauses.specs.Spans.{atom_in}
+use Rattle.cps_clauses.specs.AtomRanges.{atom_in}
 use Rattle.cps_clauses.specs.Watches.{no_atom}
 
 -- each of the numbers is one of a table

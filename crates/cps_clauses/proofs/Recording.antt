@@ -10,24 +10,24 @@ use Rattle.cps_clauses.specs.declared.journal.JournalItem.{JournalItem}
 use Rattle.cps_clauses.specs.declared.journal.JournalItem.TheVariants as items
 use Rattle.cps_clauses.specs.declared.journal.Line.{Line}
 use Rattle.cps_clauses.specs.declared.journal.Line.TheVariants as lines
-use Rattle.cps_clauses.specs.declared.span.Span.{Span}
+use Rattle.cps_clauses.specs.declared.atom_range.AtomRange.{AtomRange}
 use Rattle.cps_clauses.specs.Journals.{drops}
 use Rattle.cps_clauses.specs.Lines.{item_of, drop_lines, IsKept, IsLatest, IsLine}
-use Rattle.cps_clauses.specs.Spans.{IsAppended}
+use Rattle.cps_clauses.specs.AtomRanges.{IsAppended}
 
 -- each of the lines lies within so many atoms
 abbrev pub AreLines : ℕ → List Line → Type 0
 AreLines len ls = All (IsLine len) ls
 
 pub line_wider : (m n : ℕ) → m ≤ n → (l : Line) → IsLine m l → IsLine n l
-line_wider m n le (lines.Learnt span below) h = record { ordered = h.ordered; within = omega (arith, h.within, le) }
+line_wider m n le (lines.Learnt atom_range below) h = record { ordered = h.ordered; within = omega (arith, h.within, le) }
 line_wider m n le (lines.Drop i) h = tt
 
 pub lines_wider : (m n : ℕ) → m ≤ n → (ls : List Line) → AreLines m ls → AreLines n ls
 lines_wider m n le ls h = λ k d l. line_wider m n le _ (h k d l)
 
 item_grown : (atoms more : List Atom) (l : Line) → IsLine (length atoms) l → item_of (atoms ++ more) l ≡ item_of atoms l
-item_grown atoms more (lines.Learnt span below) h = ap (λ (c : List Atom). items.Learnt c below) (slice_grown atoms more span.from span.to h.within)
+item_grown atoms more (lines.Learnt atom_range below) h = ap (λ (c : List Atom). items.Learnt c below) (slice_grown atoms more atom_range.from atom_range.to h.within)
 item_grown atoms more (lines.Drop i) h = refl
 
 items_grown : (atoms more : List Atom) (ls : List Line) → AreLines (length atoms) ls → map (item_of (atoms ++ more)) ls ≡ map (item_of atoms) ls
@@ -37,17 +37,17 @@ items_grown atoms more (l ∷ ls) h =
     ∙ ap (λ (es : List JournalItem). item_of atoms l ∷ es) (items_grown atoms more ls (All-tail (IsLine (length atoms)) l ls h))
 
 -- one more clause was learnt
-pub items_learnt : (old new clause : List Atom) (ls : List Line) (span : Span) (below : Bound) → IsAppended old new clause span → AreLines (length old) ls → map (item_of new) (ls ++ lines.Learnt span below ∷ []) ≡ map (item_of old) ls ++ items.Learnt clause below ∷ []
-items_learnt old new clause ls span below h within =
-    map-append (item_of new) ls (lines.Learnt span below ∷ [])
+pub items_learnt : (old new clause : List Atom) (ls : List Line) (atom_range : AtomRange) (below : Bound) → IsAppended old new clause atom_range → AreLines (length old) ls → map (item_of new) (ls ++ lines.Learnt atom_range below ∷ []) ≡ map (item_of old) ls ++ items.Learnt clause below ∷ []
+items_learnt old new clause ls atom_range below h within =
+    map-append (item_of new) ls (lines.Learnt atom_range below ∷ [])
     ∙ ap (λ (c : List Atom). map (item_of new) ls ++ items.Learnt c below ∷ []) h.is
     ∙ ap (λ (ts : List Atom). map (item_of ts) ls ++ items.Learnt clause below ∷ []) h.grows
     ∙ ap (λ (es : List JournalItem). es ++ items.Learnt clause below ∷ []) (items_grown old clause ls within)
 
-lines_learnt : (old new clause : List Atom) (ls : List Line) (span : Span) (below : Bound) → IsAppended old new clause span → AreLines (length old) ls → AreLines (length new) (ls ++ lines.Learnt span below ∷ [])
-lines_learnt old new clause ls span below h within =
+lines_learnt : (old new clause : List Atom) (ls : List Line) (atom_range : AtomRange) (below : Bound) → IsAppended old new clause atom_range → AreLines (length old) ls → AreLines (length new) (ls ++ lines.Learnt atom_range below ∷ [])
+lines_learnt old new clause ls atom_range below h within =
     let grows = ap (λ (ts : List Atom). length ts) h.grows in
-    All-push (IsLine (length new)) ls (lines.Learnt span below) (lines_wider (length old) (length new) (omega (arith, grows, length-append old clause)) ls within) h.fits
+    All-push (IsLine (length new)) ls (lines.Learnt atom_range below) (lines_wider (length old) (length new) (omega (arith, grows, length-append old clause)) ls within) h.fits
 
 -- learnt clauses were dropped
 drop_items : (atoms : List Atom) (which : List ℕ) → map (item_of atoms) (drop_lines which) ≡ drops which
@@ -89,10 +89,10 @@ IsLatest-drops journal (n ∷ ns) latest h =
     (IsLatest-drops (journal ++ items.Drop n ∷ []) ns latest (λ earlier c b is. absurd (no_drop n c b (last_item journal earlier (items.Drop n) (items.Learnt c b) is))))
 
 -- what is kept, after one more clause, and after drops
-pub IsKept-learnt : (old new clause latest : List Atom) (ls : List Line) (span : Span) (below : Bound) → IsAppended old new clause span → IsKept old ls latest → IsKept new (ls ++ lines.Learnt span below ∷ []) clause
-IsKept-learnt old new clause latest ls span below h kept = record {
-  within = lines_learnt old new clause ls span below h kept.within;
-  last = subst (λ (es : List JournalItem). IsLatest es clause) (sym (items_learnt old new clause ls span below h kept.within)) (IsLatest-learnt (map (item_of old) ls) clause below);
+pub IsKept-learnt : (old new clause latest : List Atom) (ls : List Line) (atom_range : AtomRange) (below : Bound) → IsAppended old new clause atom_range → IsKept old ls latest → IsKept new (ls ++ lines.Learnt atom_range below ∷ []) clause
+IsKept-learnt old new clause latest ls atom_range below h kept = record {
+  within = lines_learnt old new clause ls atom_range below h kept.within;
+  last = subst (λ (es : List JournalItem). IsLatest es clause) (sym (items_learnt old new clause ls atom_range below h kept.within)) (IsLatest-learnt (map (item_of old) ls) clause below);
 }
 
 pub IsKept-dropped : (atoms latest : List Atom) (ls : List Line) (which : List ℕ) → IsKept atoms ls latest → IsKept atoms (ls ++ drop_lines which) latest

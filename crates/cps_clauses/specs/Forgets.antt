@@ -4,7 +4,7 @@ use Rattle.std.specs.List.{All, Contains}
 use Rattle.cps_literal.specs.declared.atom.Atom.{Atom}
 use Rattle.cps_trail.specs.Trail.{Trail}
 use Rattle.cps_trail.specs.Notes.{NamesClause}
-use Rattle.cps_clauses.specs.InForce.{IsHeld, marked, emptied}
+use Rattle.cps_clauses.specs.InForce.{IsNumberInForce, marked, emptied}
 use Rattle.cps_clauses.specs.Journals.{standing_in, count_standing, drops}
 use Rattle.cps_clauses.specs.Watches.{clause_of}
 use Rattle.cps_clauses.specs.Bases.{Base, number_at}
@@ -27,7 +27,7 @@ pub record IsNamed (s : Trail) (number : ℕ) : Type 0 where
 -- learnt ones.
 pub record MayGo (clauses : List (List Atom)) (dropped : List Bool) (learnt : List ℕ) (s : Trail) (n : ℕ) : Type 0 where
   pub within : n < length learnt
-  pub held : IsHeld clauses dropped (number_at learnt n)
+  pub held : IsNumberInForce clauses dropped (number_at learnt n)
   pub unnamed : IsNamed s (number_at learnt n) → ⊥
 
 -- of two learnt clauses the first goes before the second: it is longer, or as long and older

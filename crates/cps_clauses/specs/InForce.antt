@@ -14,7 +14,7 @@ in_force (c ∷ cs) (true ∷ ds) = in_force cs ds
 in_force (c ∷ cs) (false ∷ ds) = c ∷ in_force cs ds
 
 -- the clause with a number is in force
-pub record IsHeld (clauses : List (List Atom)) (dropped : List Bool) (i : ℕ) : Type 0 where
+pub record IsNumberInForce (clauses : List (List Atom)) (dropped : List Bool) (i : ℕ) : Type 0 where
   pub within : i < length clauses
   pub stays : is_dropped dropped i ≡ false
 

@@ -7,16 +7,16 @@ use Rattle.cps_clauses.specs.declared.journal.JournalItem.{JournalItem}
 use Rattle.cps_clauses.specs.declared.journal.JournalItem.TheVariants as items
 use Rattle.cps_clauses.specs.declared.journal.Line.{Line}
 use Rattle.cps_clauses.specs.declared.journal.Line.TheVariants as lines
-use Rattle.cps_clauses.specs.Spans.{clause_at, IsSpan}
+use Rattle.cps_clauses.specs.AtomRanges.{clause_at, IsAtomRange}
 
 -- the item of a line, over the atoms of all learnt clauses
 abbrev pub item_of : List Atom → Line → JournalItem
-item_of atoms (lines.Learnt span below) = items.Learnt (clause_at atoms span) below
+item_of atoms (lines.Learnt atom_range below) = items.Learnt (clause_at atoms atom_range) below
 item_of atoms (lines.Drop i) = items.Drop i
 
 -- a clause's atoms stand within a list of this length
 abbrev pub IsLine : ℕ → Line → Type 0
-IsLine len (lines.Learnt span below) = IsSpan len span
+IsLine len (lines.Learnt atom_range below) = IsAtomRange len atom_range
 IsLine len (lines.Drop i) = ⊤
 
 -- the lines that say of these learnt clauses that they were dropped, in order

@@ -1,10 +1,10 @@
 //! Atoms in a list, each held as a number of four bytes.
 
 ghost use Rattle.std.specs.Prelude.{◌≡◌, [], ◌∷◌, ◌++◌, length, take, IfOk, OnOk, OnErr};
-ghost use Rattle.cps_clauses.specs.Spans.{clause_at, IsSpan, IsAppended};
+ghost use Rattle.cps_clauses.specs.AtomRanges.{clause_at, IsAtomRange, IsAppended};
 
+use crate::atom_range::AtomRange;
 use crate::literals::Literals;
-use crate::span::Span;
 use cps_literal::{Atom, LiteralTable};
 use std::alloc::{AllocError, Global};
 use std::marker::Model;
@@ -26,7 +26,7 @@ impl Model for AtomList {
 
     ghost Value = { List Atom };
 
-    ghost use Rattle.cps_clauses.specs.Spans.{atom_in};
+    ghost use Rattle.cps_clauses.specs.AtomRanges.{atom_in};
 
     ghost view = { λ a. map (atom_in a.literals) a.numbers.items };
 
@@ -89,13 +89,13 @@ impl AtomList {
     }
 
     /// Adds the atoms of a clause at the end, and answers where they stand.
-    pub(crate) fn append(&mut self, clause: &[Atom]) -> Result<Span, AllocError>
+    pub(crate) fn append(&mut self, clause: &[Atom]) -> Result<AtomRange, AllocError>
         ensures ok { IfOk result (IsAppended self.old self.new clause.now) }
         ensures err { OnErr result (self.new ≡ self.old) }
     {
         let from = self.len();
         match self.extend(clause) {
-            Ok(()) => Ok(Span {
+            Ok(()) => Ok(AtomRange {
                 from,
                 to: self.len(),
             }),
@@ -106,11 +106,14 @@ impl AtomList {
         }
     }
 
-    /// The clause at a span, in place.
-    pub(crate) fn literals(&self, span: Span) -> Literals<'_>
-        requires { IsSpan (length self.now) span }
-        ensures { result ≡ clause_at self.now span }
+    /// The clause at a range, in place.
+    pub(crate) fn literals(&self, atom_range: AtomRange) -> Literals<'_>
+        requires { IsAtomRange (length self.now) atom_range }
+        ensures { result ≡ clause_at self.now atom_range }
     {
-        Literals::new(&self.numbers[span.from..span.to], &self.literals)
+        Literals::new(
+            &self.numbers[atom_range.from..atom_range.to],
+            &self.literals,
+        )
     }
 }

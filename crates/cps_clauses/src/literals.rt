@@ -2,7 +2,7 @@
 
 ghost use Rattle.std.specs.Prelude.{◌≡◌, ◌<◌, ◌↔◌, ◌++◌, length, map, slice_index_or, IfOk, OnOk, IsTrue};
 ghost use Rattle.std.specs.List.{All};
-ghost use Rattle.cps_clauses.specs.Spans.{atom_in};
+ghost use Rattle.cps_clauses.specs.AtomRanges.{atom_in};
 ghost use Rattle.cps_clauses.specs.Watches.{no_atom};
 
 use cps_literal::{Atom, Clause, LiteralTable};
@@ -23,7 +23,7 @@ impl<'a> Model for Literals<'a> {
 
     ghost Value = { List Atom };
 
-    ghost use Rattle.cps_clauses.specs.Spans.{atom_in};
+    ghost use Rattle.cps_clauses.specs.AtomRanges.{atom_in};
 
     ghost view = { λ l. map (atom_in l.table.now) l.numbers.now };
 

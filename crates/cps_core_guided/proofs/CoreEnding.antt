@@ -15,19 +15,19 @@ use Rattle.cps_port.specs.Order.{BoundLe, greater_of, lesser}
 use Rattle.cps_port.proofs.Bounding.{BoundLe-refl, greater_is}
 use Rattle.cps_search.specs.declared.end.End.{End}
 use Rattle.cps_search.specs.declared.end.End.TheVariants as ends
-use Rattle.cps_search.specs.declared.end.Said.{Said}
-use Rattle.cps_search.specs.declared.end.Said.TheVariants.{Due, Nothing, Over}
+use Rattle.cps_search.specs.declared.end.Phase.{Phase}
+use Rattle.cps_search.specs.declared.end.Phase.TheVariants.{Deciding, Stepping, Over}
 use Rattle.cps_search.specs.declared.end.WorkerKind.TheVariants.{CoreGuided}
 use Rattle.cps_search.specs.Ends.{EndsBy, HasCore, IsHonestEnding, IsWhy, LastSawMet, RaisedToZ, ending}
 use Rattle.cps_search.specs.Following.{MovesWith, best_bound}
 use Rattle.cps_search.specs.Moves.{fresh}
 use Rattle.cps_search.specs.Assumptions.{IsCoreBelow, IsSufficient}
-use Rattle.cps_search.specs.Searches.{IsFound, IsSoundSearch, NoneBelow, SaidSo, Search}
+use Rattle.cps_search.specs.Searches.{IsFound, IsSoundSearch, NoneBelow, IsInPhase, Search}
 use Rattle.cps_search.proofs.Ending.{honest_by}
 use Rattle.cps_core_guided.specs.CoreTurns.{BeginsCore, HasCoreAt, HasNoCore, RunsCoreTo, RunsInCoreTurns, core_ending}
-use Rattle.cps_core_guided.specs.Reforming.{CoreSearch, IsSoundCore, said_of, whole, whole_core}
+use Rattle.cps_core_guided.specs.Reforming.{CoreSearch, IsSoundCore, phase_of, whole, whole_core}
 use Rattle.cps_core_guided.proofs.CoreRunning.{core-of-frame, core-of-own, core-turns-run, whole-core-below}
-use Rattle.cps_core_guided.proofs.CoreTurning.{said-search}
+use Rattle.cps_core_guided.proofs.CoreTurning.{phase-search}
 
 -- ---- the search as it is seen is sound
 found-whole : (s : CoreSearch) (best : Option (List ℤ)) → IfSome best (IsFound s.search) → IfSome best (IsFound (whole s))
@@ -39,21 +39,21 @@ raised-whole m a None h k = h
 raised-whole m None (Some r) h k = k
 raised-whole m (Some a) (Some r) h k = greater_is (IsLowerBound m) a r h k
 
-said-whole : (s : CoreSearch) (x : Said) → s.ended ≡ false → SaidSo s.search x → SaidSo (whole s) x
-said-whole s Nothing off h = tt
-said-whole s Due off h = (record { tasks = h.0.tasks; clauses = h.0.clauses; rested = h.0.rested }, h.1)
-said-whole s (Over ends.Exhausted) off h = (h.0, subst (λ (c : List ℤ). IsCoreBelow s.search.instance.model s.search.z c) (sym (core-of-frame s off)) h.1)
-said-whole s (Over ends.SawClosed) off h = tt
-said-whole s (Over (ends.Spent clause below)) off h = h
-said-whole s (Over ends.RoundsDone) off h = tt
+phase-whole : (s : CoreSearch) (x : Phase) → s.ended ≡ false → IsInPhase s.search x → IsInPhase (whole s) x
+phase-whole s Stepping off h = tt
+phase-whole s Deciding off h = (record { tasks = h.0.tasks; clauses = h.0.clauses; rested = h.0.rested }, h.1)
+phase-whole s (Over ends.Exhausted) off h = (h.0, subst (λ (c : List ℤ). IsCoreBelow s.search.instance.model s.search.z c) (sym (core-of-frame s off)) h.1)
+phase-whole s (Over ends.SawClosed) off h = tt
+phase-whole s (Over (ends.Spent clause below)) off h = h
+phase-whole s (Over ends.RoundsDone) off h = tt
 
-exhausted-so : (s : CoreSearch) → s.ended ≡ true → NoneBelow s.search.instance.model s.search.z × (s.core ≡ whole_core s.search.instance.model s.search.z) → SaidSo (whole s) (Over ends.Exhausted)
+exhausted-so : (s : CoreSearch) → s.ended ≡ true → NoneBelow s.search.instance.model s.search.z × (s.core ≡ whole_core s.search.instance.model s.search.z) → IsInPhase (whole s) (Over ends.Exhausted)
 exhausted-so s on h = (h.0, subst (λ (c : List ℤ). IsCoreBelow s.search.instance.model s.search.z c) (sym (core-of-own s on ∙ h.1)) (whole-core-below s.search.instance.model s.search.z h.0))
 
-said-so : (s : CoreSearch) → IsSoundCore s → SaidSo (whole s) (said_of s)
-said-so s h = elim (bool_cases s.ended) [
-  | inl on ↦ subst (λ (x : Said). SaidSo (whole s) x) (sym (ap (λ (b : Bool). if b then Over ends.Exhausted else s.search.said) on)) (exhausted-so s on (h.ended on))
-  | inr off ↦ subst (λ (x : Said). SaidSo (whole s) x) (sym (said-search s off)) (said-whole s s.search.said off h.search.said)
+in-phase : (s : CoreSearch) → IsSoundCore s → IsInPhase (whole s) (phase_of s)
+in-phase s h = elim (bool_cases s.ended) [
+  | inl on ↦ subst (λ (x : Phase). IsInPhase (whole s) x) (sym (ap (λ (b : Bool). if b then Over ends.Exhausted else s.search.phase) on)) (exhausted-so s on (h.ended on))
+  | inr off ↦ subst (λ (x : Phase). IsInPhase (whole s) x) (sym (phase-search s off)) (phase-whole s s.search.phase off h.search.phase)
 ]
 
 pub sound-whole : (s : CoreSearch) → IsSoundCore s → IsSoundSearch (whole s)
@@ -79,7 +79,7 @@ sound-whole s h =
       count = k.count;
       best = found-whole s s.search.best k.best;
       raised = raised-whole s.search.instance.model s.search.raised s.raised k.raised h.raised;
-      said = said-so s h;
+      phase = in-phase s h;
     }
 
 -- ---- it is honest

@@ -208,7 +208,7 @@ pub core-ends : (chooses : Trail → Option Atom → Type 0) (s t u : CoreSearch
 core-ends chooses s t u rows p m q turn end sound h k e = record {
   setting = setting-core s t u h.setting k.setting;
   moves = moves_more (whole s) (whole t) (whole u) p m q h.moves k.moves;
-  said = subst (λ (o : Option End). EndsAs o (whole u)) e k.ends;
+  phase = subst (λ (o : Option End). EndsAs o (whole u)) e k.ends;
   why = ends-core-by chooses t u rows m q turn end k.running sound k.cause e;
   core = λ none. has-core-at chooses t u rows m q turn end k.running e k.cause (h.core none);
 }

@@ -13,8 +13,8 @@ use Rattle.cps_port.specs.declared.part.Part.{Part}
 use Rattle.cps_port.specs.Order.{BoundLe}
 use Rattle.cps_search.specs.declared.end.End.{End}
 use Rattle.cps_search.specs.declared.end.End.TheVariants as ends
-use Rattle.cps_search.specs.declared.end.Said.{Said}
-use Rattle.cps_search.specs.declared.end.Said.TheVariants.{Over}
+use Rattle.cps_search.specs.declared.end.Phase.{Phase}
+use Rattle.cps_search.specs.declared.end.Phase.TheVariants.{Over}
 use Rattle.cps_search.specs.declared.turn.Turn.{Turn}
 use Rattle.cps_search.specs.declared.turn.Turn.TheVariants as turns
 use Rattle.cps_search.specs.Ends.{Decides, EndsAs, IsNext, IsOver, Lowers, TakesTurn, TurnCaused, end_of, fewer_conflicts, lesser_z, fewer_rows, fewer_values}
@@ -26,20 +26,20 @@ use Rattle.cps_search.proofs.Moving.{moves_more}
 use Rattle.cps_search.proofs.Working.{turn_decided}
 use Rattle.cps_reform.specs.Forms.{Form}
 use Rattle.cps_reform.specs.Floors.{past_greatest}
-use Rattle.cps_core_guided.specs.Reforming.{CoreSearch, said_of, whole}
+use Rattle.cps_core_guided.specs.Reforming.{CoreSearch, phase_of, whole}
 use Rattle.cps_core_guided.specs.CoreTurns.{CoreCaused, DecidesFrom, DecidesOf, of_the_model, of_a_term, a_choice, ExhaustsFrom, FailsFrom, GoesOn, LowersCore, ReformsFrom, SameCoreSetting, TakesCoreTurn}
 use Rattle.cps_core_guided.specs.CoreTurns.{fewer_conflicts as fewer_core_conflicts, lesser_z as lesser_core_z, higher_base, fewer_rows as fewer_core_rows, fewer_values as fewer_core_values}
 use Rattle.cps_core_guided.proofs.Wholes.{moves-raised, moves-whole}
 
 -- a worker that goes on did not end in place of a reform
-pub not-ended : (s : CoreSearch) → (IsOver (whole s).said → ⊥) → s.ended ≡ false
+pub not-ended : (s : CoreSearch) → (IsOver (whole s).phase → ⊥) → s.ended ≡ false
 not-ended s h = elim (bool_cases s.ended) [
-  | inl on ↦ absurd (h (subst (λ (x : Said). IsOver x) (sym (ap (λ (b : Bool). if b then Over ends.Exhausted else s.search.said) on)) tt))
+  | inl on ↦ absurd (h (subst (λ (x : Phase). IsOver x) (sym (ap (λ (b : Bool). if b then Over ends.Exhausted else s.search.phase) on)) tt))
   | inr off ↦ off
 ]
 
-pub said-search : (t : CoreSearch) → t.ended ≡ false → said_of t ≡ t.search.said
-said-search t off = ap (λ (b : Bool). if b then Over ends.Exhausted else t.search.said) off
+pub phase-search : (t : CoreSearch) → t.ended ≡ false → phase_of t ≡ t.search.phase
+phase-search t off = ap (λ (b : Bool). if b then Over ends.Exhausted else t.search.phase) off
 
 pub setting-core : (a b c : CoreSearch) → SameCoreSetting a b → SameCoreSetting b c → SameCoreSetting a c
 setting-core a b c h k = record { model = k.model ∙ h.model; gap = k.gap ∙ h.gap; budget = k.budget ∙ h.budget; refused = k.refused ∙ h.refused; greatest = k.greatest ∙ h.greatest }
@@ -63,8 +63,8 @@ core-caused chooses s t rows p q turns.RoundsDone is setting not h = absurd h
 core-caused chooses s t rows p q (turns.Reformed base) is setting not h = absurd h
 
 ends-core : (end : Option End) (t : CoreSearch) → t.ended ≡ false → EndsAs end t.search → EndsAs end (whole t)
-ends-core None t off h = subst (λ (x : Said). IsOver x → ⊥) (sym (said-search t off)) h
-ends-core (Some end) t off h = said-search t off ∙ h
+ends-core None t off h = subst (λ (x : Phase). IsOver x → ⊥) (sym (phase-search t off)) h
+ends-core (Some end) t off h = phase-search t off ∙ h
 
 lowers-core : (s t : CoreSearch) (rows : ℕ) (p q : BoardPart) → t.form ≡ s.form → Lowers s.search t.search rows p q → LowersCore s t rows p q
 lowers-core s t rows p q same (fewer_conflicts budget is left more) = fewer_core_conflicts budget is left more
@@ -135,7 +135,7 @@ turn-reforms chooses s m t rows p o q base off steps ms h =
       store = λ own. absurd (own (inr (inr (base, refl))));
       cause = record { midway = m; part = o; due = steps.cause; setting = steps.setting; same = ms; on = h };
       moves = moves_more (whole s) (whole m) (whole t) p o q (moves-whole s m p o steps.moves (ap (λ (c : CoreSearch). c.raised) ms)) moves;
-      ends = subst (λ (x : Said). IsOver x → ⊥) (sym (said-search t h.ended ∙ f.said)) (λ x. x);
+      ends = subst (λ (x : Phase). IsOver x → ⊥) (sym (phase-search t h.ended ∙ f.phase)) (λ x. x);
       lowers = λ going.
           higher_base (f.learnt.tally ∙ steps.cause.learnt.tally) (subst (λ (b : Bound). BoundLe b s.search.z) (sym f.z) steps.moves.falls)
           (subst (λ (v : ℤ). v <ℤ t.form.base) before (subst (λ (v : ℤ). m.form.base <ℤ v) (sym h.is) h.rises)) most;
@@ -154,7 +154,7 @@ turn-exhausts chooses s m t rows p o q off steps ms h =
       store = λ own. absurd (own (inr (inl refl)));
       cause = inr (record { midway = m; part = o; due = steps.cause; setting = steps.setting; same = ms; on = h });
       moves = moves_more (whole s) (whole m) (whole t) p o q (moves-whole s m p o steps.moves (ap (λ (c : CoreSearch). c.raised) ms)) moves;
-      ends = ap (λ (b : Bool). if b then Over ends.Exhausted else t.search.said) h.ended;
+      ends = ap (λ (b : Bool). if b then Over ends.Exhausted else t.search.phase) h.ended;
       lowers = λ on. absurd (going ends.Exhausted on);
     }
 

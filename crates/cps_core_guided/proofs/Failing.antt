@@ -41,7 +41,7 @@ has-failed s bottom rest place decisions h store few failed level behind =
       within = failed.within;
       weighs = failed.weighs;
       bottom = level;
-      said = refl;
+      phase = refl;
       assumptions = assumptions-behind _ s.search.instance.model.assumptions s.search.store s.form.terms place (assumed (term_at s.form.terms place)) decisions store (h.assumes few) failed inside behind.led.each;
       false_there = λ a solution below decided. behind.enough a solution.free below decided;
     }
@@ -71,7 +71,7 @@ module _ (m v : CoreSearch) (bottom : Trail) (rest : Rest) (place : ℕ) (decisi
     best = h.best;
     search_raised = h.search_raised;
     search_core = h.search_core;
-    said = h.said;
+    phase = h.phase;
   }
 
   -- the form that a reform came to has a base that is a lower bound

@@ -79,7 +79,7 @@ tried-lifted s t g place bound decisions done h reforms rises yes' no' not_past 
       raised = ap (λ (c : CoreSearch). c.raised) same;
       ended = ap (λ (c : CoreSearch). c.ended) same;
       core = ap (λ (c : CoreSearch). c.core) same;
-      said = ap (λ (x : Search). x.said) search ∙ h.said;
+      phase = ap (λ (x : Search). x.phase) search ∙ h.phase;
     }
 
 -- a core of several terms was split, or no solution is below z
@@ -111,7 +111,7 @@ tried-split s t g place decisions done h not_false m two weighs sp =
       raised = sp.raised;
       ended = sp.ended;
       core = sp.core;
-      said = ap (λ (x : Search). x.said) is;
+      phase = ap (λ (x : Search). x.phase) is;
     }
 
 -- one more than a bound, read back from its word

@@ -13,7 +13,7 @@ use Rattle.cps_port.specs.declared.part.Part.{Part}
 use Rattle.cps_port.specs.Order.{BoundLe, raised_to}
 use Rattle.cps_port.specs.Parts.{after_raise}
 use Rattle.cps_search.specs.declared.end.End.{End}
-use Rattle.cps_search.specs.declared.end.Said.TheVariants.{Nothing, Over}
+use Rattle.cps_search.specs.declared.end.Phase.TheVariants.{Stepping, Over}
 use Rattle.cps_search.specs.declared.end.WorkerKind.TheVariants.{CoreGuided}
 use Rattle.cps_search.specs.declared.turn.Turn.{Turn}
 use Rattle.cps_search.specs.declared.turn.Turn.TheVariants as turns
@@ -82,7 +82,7 @@ pub record FailsFrom (m t : CoreSearch) (form : Form) (more : ℕ) : Type 0 wher
   pub best : SameBest m.search t.search
   pub search_raised : SameRaised m.search t.search
   pub search_core : SameCore m.search t.search
-  pub said : t.search.said ≡ Nothing
+  pub phase : t.search.phase ≡ Stepping
 
 -- The lower bound was raised to a bound, and nothing else was done to the shared state.
 pub record RaisesTo (bound : Bound) (m t : CoreSearch) (p q : Part) : Type 0 where
@@ -225,7 +225,7 @@ pub record HasCoreAt (end : End) (t : Search) : Type 0 where
 pub record RunsCoreTo (s t : CoreSearch) (p q : Part) (end : End) : Type 0 where
   pub setting : SameCoreSetting s t
   pub moves : MovesWith (whole s) (whole t) p q
-  pub said : (whole t).said ≡ Over end
+  pub phase : (whole t).phase ≡ Over end
   pub why : EndsBy (whole t) q.bounds end
   pub core : HasNoCore s → HasCoreAt end (whole t)
 

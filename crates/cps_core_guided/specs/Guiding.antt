@@ -3,7 +3,7 @@ use Rattle.std.specs.Prelude.{◌≡◌, ℕ, ℤ, Option, Some, None, ◌+◌, 
 use Rattle.cps_literal.specs.declared.atom.Atom.{Atom}
 use Rattle.cps_branch.specs.Fixed.{AreFixed}
 use Rattle.cps_instance.specs.Problem.{variable_count}
-use Rattle.cps_search.specs.declared.end.Said.TheVariants.{Due, Nothing}
+use Rattle.cps_search.specs.declared.end.Phase.TheVariants.{Deciding, Stepping}
 use Rattle.cps_search.specs.Searches.{Search, IsSettled, NoneBelow}
 use Rattle.cps_search.specs.Turns.{SameBest, SameCore, SameImported, SameLearnt, SameRaised}
 use Rattle.cps_core_guided.specs.declared.guided.Guided.{Guided}
@@ -33,7 +33,7 @@ core_search_of {P} {B} g = record {
 
 -- a decision is due, and not all variables are fixed
 pub record IsDue (s : Search) : Type 0 where
-  pub said : s.said ≡ Due
+  pub phase : s.phase ≡ Deciding
   pub settled : IsSettled s
   pub left_open : AreFixed s.store (variable_count s.instance) → ⊥
 
@@ -44,7 +44,7 @@ pub record HasFailed (s : CoreSearch) (place : ℕ) (decisions : List Atom) : Ty
   pub within : place < length s.form.terms
   pub weighs : 1 ≤ (term_at s.form.terms place).weight
   pub bottom : s.search.store.level ≡ 0
-  pub said : s.search.said ≡ Nothing
+  pub phase : s.search.phase ≡ Stepping
   pub assumptions : All (IsSomeAssumption s.search.instance.model.assumptions s.form.terms) decisions
   pub false_there : OfEachBelow s.search.instance s.search.z
       (λ xs. All (λ u. atom_holds xs u ≡ true) decisions → atom_holds xs (assumed (term_at s.form.terms place)) ≡ false)
@@ -73,7 +73,7 @@ pub record Tried (s t : CoreSearch) (place : ℕ) (decisions : List Atom) (done 
   pub raised : t.raised ≡ s.raised
   pub ended : t.ended ≡ s.ended
   pub core : t.core ≡ s.core
-  pub said : t.search.said ≡ Nothing
+  pub phase : t.search.phase ≡ Stepping
 
 -- A core of several terms was split by its sum, which was defined. Where that went through, the form is the split one;
 -- else it stays, and no solution is below z.

@@ -11,8 +11,8 @@ use Rattle.cps_trail.specs.Trail.{Trail, IsFalseNow, admits}
 use Rattle.cps_port.specs.Order.{greater_of}
 use Rattle.cps_port.specs.Incumbents.{IsLowerBound}
 use Rattle.cps_search.specs.declared.end.End.TheVariants as ends
-use Rattle.cps_search.specs.declared.end.Said.{Said}
-use Rattle.cps_search.specs.declared.end.Said.TheVariants.{Over}
+use Rattle.cps_search.specs.declared.end.Phase.{Phase}
+use Rattle.cps_search.specs.declared.end.Phase.TheVariants.{Over}
 use Rattle.cps_search.specs.Searches.{Search, IsSoundSearch, NoneBelow}
 use Rattle.cps_reform.specs.Forms.{Form, term_at, lifted}
 use Rattle.cps_reform.specs.Cores.{core_terms, core_sum, least_weight, split}
@@ -61,9 +61,9 @@ pub data ReformsTo (bottom : Trail) (p : Problem) (f : Form) (place : ℕ) (deci
       → IsMarked f g place decisions → 2 ≤ length (core_terms g.terms) → Defines p q (core_sum g.terms) subject
       → ReformsTo bottom p f place decisions q (split g (least_weight g.terms) subject) 1
 
--- what a worker said last: that it is exhausted, where it ended in place of a reform
-abbrev pub said_of : CoreSearch → Said
-said_of s = if s.ended then Over ends.Exhausted else s.search.said
+-- a worker's phase: it is exhausted, where it ended in place of a reform
+abbrev pub phase_of : CoreSearch → Phase
+phase_of s = if s.ended then Over ends.Exhausted else s.search.phase
 
 -- the assumptions by which it ended: its own where it ended in place of a reform
 abbrev pub core_seen : CoreSearch → List ℤ
@@ -71,7 +71,7 @@ core_seen s = if s.ended then s.core else s.search.core
 
 -- the search as it is seen: what the worker itself raised counts too
 abbrev pub whole : CoreSearch → Search
-whole s = record s.search { raised = greater_of s.search.raised s.raised; core = core_seen s; said = said_of s }
+whole s = record s.search { raised = greater_of s.search.raised s.raised; core = core_seen s; phase = phase_of s }
 
 -- what a worker ends with in place of a reform: all assumptions where no incumbent is known, and else none
 abbrev pub whole_core : CpModel → Bound → List ℤ

@@ -69,7 +69,7 @@ impl<'a, P: Defining, B: Brancher + Drop> Guided<'a, P, B> {
     pub fn turn<Q: Port>(&mut self, port: &mut Q) -> Result<Turn, AllocError>
         requires works { IsCoreWorking (core_search_of self.old) (B.scope self.old.brancher) (B.agrees self.old.brancher
             self.old.frame.store) self.old.kept }
-        requires running { IsOver (whole (core_search_of self.old)).said → ⊥ }
+        requires running { IsOver (whole (core_search_of self.old)).phase → ⊥ }
         requires model { Q.model port.old ≡ self.old.frame.instance.model }
         requires imported { self.old.frame.imported ≤ length (Q.part port.old).board.taken }
         ensures keeps { Keeps Q.model Q.rows Q.stays port.old port.new }

@@ -21,7 +21,7 @@ use cps_model::Refs;
 use cps_port::Port;
 use cps_propagate::{Defining, Engine};
 use cps_reform::{greatest_sum, objective_terms};
-use cps_search::{End, Frame, Said, Turn, WorkerKind, end_of};
+use cps_search::{End, Frame, Phase, Turn, WorkerKind, end_of};
 use std::alloc::{AllocError, Global};
 use std::marker::Model;
 
@@ -94,7 +94,7 @@ impl<'a, P: Defining, B: Brancher + Drop> CoreWorker<'a, P, B> {
     /// is found; that of a term is false, and the objective is reformed, or no solution is left; an assumption of the
     /// model, or of a term, or else what the brancher chooses, is decided.
     pub fn turn<Q: Port>(&mut self, port: &mut Q) -> Result<Turn, AllocError>
-        requires running { IsOver (whole self.old.0).said → ⊥ }
+        requires running { IsOver (whole self.old.0).phase → ⊥ }
         requires model { Q.model port.old ≡ self.old.0.search.instance.model }
         requires imported { self.old.0.search.imported ≤ length (Q.part port.old).board.taken }
         ensures keeps { Keeps Q.model Q.rows Q.stays port.old port.new }
@@ -119,7 +119,7 @@ impl<'a, P: Defining, B: Brancher + Drop> CoreWorker<'a, P, B> {
 
     /// Takes turns until one ends the worker.
     pub fn run<Q: Port>(&mut self, port: &mut Q) -> Result<End, AllocError>
-        requires running { IsOver (whole self.old.0).said → ⊥ }
+        requires running { IsOver (whole self.old.0).phase → ⊥ }
         requires model { Q.model port.old ≡ self.old.0.search.instance.model }
         requires imported { self.old.0.search.imported ≤ length (Q.part port.old).board.taken }
         ensures keeps { Keeps Q.model Q.rows Q.stays port.old port.new }
@@ -175,8 +175,8 @@ impl<'a, P: Defining, B: Brancher + Drop> CoreWorker<'a, P, B> {
 
     /// The worker as others see it after it ended.
     pub fn finish(self) -> CoreEnded
-        requires { IsOver (whole self.0).said }
-        ensures said { (whole self.entry.0).said ≡ Said.Over result.end }
+        requires { IsOver (whole self.0).phase }
+        ensures phase { (whole self.entry.0).phase ≡ Phase.Over result.end }
         ensures is { result ≡ core_ending result.end self.entry.0 }
     {
         let CoreWorker { guided, .. } = self;
@@ -195,7 +195,7 @@ impl<'a, P: Defining, B: Brancher + Drop> CoreWorker<'a, P, B> {
             }
         } else {
             CoreEnded {
-                ended: frame.finish_as_said(WorkerKind::CoreGuided, None),
+                ended: frame.finish_ended(WorkerKind::CoreGuided, None),
                 raised,
                 own: None,
             }

@@ -161,7 +161,7 @@ near_ends s t u rows p m q turn end sound h k e = record {
   setting = setting_trans s.search t.search u.search h.run.setting k.setting;
   conflicts = k.conflicts ∙ h.conflicts;
   moves = moves_more s.search t.search u.search p m q h.run.moves k.moves;
-  said = subst (λ (o : Option End). EndsAs o u.search) e k.ends;
+  phase = subst (λ (o : Option End). EndsAs o u.search) e k.ends;
   why = ended_by t u rows m q turn end sound e k;
   raises_last = ended_raised s t u rows m q turn end e k.cause h.run.raised h.run.core;
 }

@@ -14,8 +14,8 @@ use Rattle.cps_branch.specs.Scope.{IsScopeOf}
 use Rattle.cps_branch.specs.SetAside.{AreFixedAside}
 use Rattle.cps_search.specs.Assumptions.{IsAssumedNext, NoneIsOpen, assumption_at}
 use Rattle.cps_search.specs.Searches.{IsSoundSearch, Search}
-use Rattle.cps_search.specs.declared.end.Said.{Said}
-use Rattle.cps_search.specs.declared.end.Said.TheVariants.{Due, Nothing}
+use Rattle.cps_search.specs.declared.end.Phase.{Phase}
+use Rattle.cps_search.specs.declared.end.Phase.TheVariants.{Deciding, Stepping}
 use Rattle.cps_search.specs.Moves.{decided, moved}
 use Rattle.cps_search.specs.Turns.{SameSetting}
 use Rattle.cps_search.specs.Ends.{Decides, DecidesAssumption, IsOver, round_conflicts, round_count}
@@ -48,16 +48,16 @@ draws_now_in x e = ap (λ (b : Bool). draws_or_after (variable_count x.frame.ins
 -- ---- what a worker keeps
 
 -- where a decision is due, the worker has not ended
-pub due_runs : (said : Said) → said ≡ Due → IsOver said → ⊥
-due_runs said e = subst (λ (x : Said). IsOver x → ⊥) (sym e) (λ h. h)
+pub due_runs : (phase : Phase) → phase ≡ Deciding → IsOver phase → ⊥
+due_runs phase e = subst (λ (x : Phase). IsOver x → ⊥) (sym e) (λ h. h)
 
--- nor where nothing was said
-pub not_over : (said : Said) → said ≡ Nothing → IsOver said → ⊥
-not_over said e = subst (λ (x : Said). IsOver x → ⊥) (sym e) (λ h. h)
+-- nor where it is to step
+pub not_over : (phase : Phase) → phase ≡ Stepping → IsOver phase → ⊥
+not_over phase e = subst (λ (x : Phase). IsOver x → ⊥) (sym e) (λ h. h)
 
 pub explores_on : {P : Type 0} (x y : Explorer P) → IsExploring x → IsSoundSearch y.frame → SameSetting x.frame y.frame → y.frame.imported ≤ 4096 → length y.brancher.activities ≡ length x.brancher.activities
     → y.conflicts ≡ x.conflicts → y.aim ≡ x.aim → y.kept ≤ length y.frame.store.entries → AreFixedAside (length y.brancher.activities) y.brancher.aside y.frame.store y.kept → y.rounds ≤ round_count x.conflicts
-    → y.frame.tally ≤ round_conflicts * y.rounds + learnt_in (round_if y.in_round y.round) → (y.in_round ≡ false → y.frame.store.level ≡ 0) → ((IsOver y.frame.said → ⊥) → y.in_round ≡ true → IsUnderWay y.round y.frame.store) → IsExploring y
+    → y.frame.tally ≤ round_conflicts * y.rounds + learnt_in (round_if y.in_round y.round) → (y.in_round ≡ false → y.frame.store.level ≡ 0) → ((IsOver y.frame.phase → ⊥) → y.in_round ≡ true → IsUnderWay y.round y.frame.store) → IsExploring y
 explores_on x y h sound setting imported size conflicts aim within agreed rounds tally between under_way = record {
   sound = sound;
   running = setting.refused ∙ h.running;
@@ -83,7 +83,7 @@ learnt_same false true r u e l = absurd (cc e)
 learnt_same false false r u e l = refl
 
 -- the round made its next decision
-pub open_decided : {P : Type 0} (x y : Explorer P) (a : Atom) → IsExploring x → x.frame.said ≡ Due → x.in_round ≡ true → IsFirstOpen x.round.decisions.items x.frame.store a → begun x.round ≡ x.frame.store.level → y.frame ≡ moved x.frame (decided x.frame.store a) x.frame.rested → IsSoundSearch y.frame
+pub open_decided : {P : Type 0} (x y : Explorer P) (a : Atom) → IsExploring x → x.frame.phase ≡ Deciding → x.in_round ≡ true → IsFirstOpen x.round.decisions.items x.frame.store a → begun x.round ≡ x.frame.store.level → y.frame ≡ moved x.frame (decided x.frame.store a) x.frame.rested → IsSoundSearch y.frame
     → y.brancher ≡ x.brancher → y.kept ≡ x.kept → y.conflicts ≡ x.conflicts → y.aim ≡ x.aim → y.rounds ≡ x.rounds → y.in_round ≡ x.in_round → y.round.decisions.items ≡ x.round.decisions.items → y.round.learnt ≡ x.round.learnt → y.round.assumed ≡ x.round.assumed
     → y.round.held ≡ y.frame.store.level → y.round.place ≡ x.round.place → IsExploring y
 open_decided x y a h due on first held is sound brancher kept conflicts aim rounds in_round decisions learnt assumed held_now place =
@@ -103,7 +103,7 @@ open_decided x y a h due on first held is sound brancher kept conflicts aim roun
     (omega (arith, ap (λ (z : Search). z.tally) is, h.tally, ap (λ (n : ℕ). round_conflicts * n) rounds, learnt_same x.in_round y.in_round x.round y.round in_round learnt))
     (λ off. absurd (clash off (in_round ∙ on)))
     (λ _ _. way_decided x.round y.round s y.frame.store e (ap (λ (t : Trail). t.first) trail) (ap (λ (t : Trail). t.entries) trail) level refl (record { decided = refl; one_of = (first.place, first.within, first.is a) }) held decisions
-    assumed held_now place learnt (h.under_way (due_runs x.frame.said due) on))
+    assumed held_now place learnt (h.under_way (due_runs x.frame.phase due) on))
   where
     clash : {t : Bool} → t ≡ false → t ≡ true → ⊥
     clash e f = absurd (cc)
@@ -129,7 +129,7 @@ none_held s r t sound next way = elim (held_or_not r.held) [
 ]
 
 -- an assumption was decided
-pub assumption_decided : {P : Type 0} (x y : Explorer P) → IsExploring x → x.frame.said ≡ Due → x.in_round ≡ true → DecidesAssumption x.frame y.frame → IsSoundSearch y.frame
+pub assumption_decided : {P : Type 0} (x y : Explorer P) → IsExploring x → x.frame.phase ≡ Deciding → x.in_round ≡ true → DecidesAssumption x.frame y.frame → IsSoundSearch y.frame
     → y.brancher ≡ x.brancher → y.kept ≡ x.kept → y.conflicts ≡ x.conflicts → y.aim ≡ x.aim → y.rounds ≡ x.rounds → y.in_round ≡ x.in_round → y.round.decisions.items ≡ x.round.decisions.items → y.round.learnt ≡ x.round.learnt → y.round.assumed ≡ y.frame.store.level
     → y.round.held ≡ x.round.held → y.round.place ≡ x.round.place → IsExploring y
 assumption_decided x y h due on d sound brancher kept conflicts aim rounds in_round decisions learnt assumed held place =
@@ -139,7 +139,7 @@ assumption_decided x y h due on d sound brancher kept conflicts aim rounds in_ro
     let trail : y.frame.store ≡ decided s a = ap (λ (z : Search). z.store) d.is in
     let level : y.frame.store.level ≡ s.level + 1 = ap (λ (t : Trail). t.level) trail in
     let size : length y.brancher.activities ≡ length x.brancher.activities = ap (λ (b : _). length b.activities) brancher in
-    let way = h.under_way (due_runs x.frame.said due) on in
+    let way = h.under_way (due_runs x.frame.phase due) on in
     explores_on x y h sound (setting_of x.frame (moved x.frame (decided s a) x.frame.rested) y.frame d.is refl refl refl refl)
     (omega (arith, ap (λ (z : Search). z.imported) d.is, h.imported)) size conflicts aim
     (omega (arith, kept, h.within, ap (λ (t : Trail). length t.entries) trail, length-append s.entries (e ∷ [])))
@@ -192,7 +192,7 @@ pub chosen_hinted : {P : Type 0} (x : Explorer P) (t : Search) → Decides (λ s
 chosen_hinted x t d = record { atom = d.atom; undecided = d.undecided; next = elim d.next [ inl assumed ↦ inl assumed | inr chosen ↦ inr (chosen.0, chosen.1.1) ]; is = d.is }
 
 -- the brancher made the next decision of the round
-pub chosen_decided : {P : Type 0} (x y : Explorer P) → IsExploring x → x.frame.said ≡ Due → x.in_round ≡ true → NoneOpen x.round.decisions.items x.frame.store → Decides (ChoosesHinted x.brancher.activities x.brancher.hints) x.frame y.frame → IsSoundSearch y.frame
+pub chosen_decided : {P : Type 0} (x y : Explorer P) → IsExploring x → x.frame.phase ≡ Deciding → x.in_round ≡ true → NoneOpen x.round.decisions.items x.frame.store → Decides (ChoosesHinted x.brancher.activities x.brancher.hints) x.frame y.frame → IsSoundSearch y.frame
     → length y.brancher.activities ≡ length x.brancher.activities → y.kept ≡ length x.frame.store.entries → AreFixedAside (length y.brancher.activities) y.brancher.aside x.frame.store (length x.frame.store.entries) → All (λ f. f.level ≤ x.frame.store.level) x.frame.store.entries
     → y.conflicts ≡ x.conflicts → y.aim ≡ x.aim → y.rounds ≡ x.rounds → y.in_round ≡ x.in_round → y.round ≡ x.round → IsExploring y
 chosen_decided x y h due on none d sound size kept saw levels conflicts aim rounds in_round round =
@@ -210,7 +210,7 @@ chosen_decided x y h due on none d sound size kept saw levels conflicts aim roun
     (omega (arith, ap (λ (z : Search). z.tally) d.is, h.tally, ap (λ (n : ℕ). round_conflicts * n) rounds, learnt_same x.in_round y.in_round x.round y.round in_round (ap (λ (r : Progress). r.learnt) round)))
     (λ off. absurd (clash off (in_round ∙ on)))
     (λ _ _. subst (λ (r : Progress). IsUnderWay r y.frame.store) (sym round)
-    (way_chosen x.round s y.frame.store e (ap (λ (t : Trail). t.first) trail) (ap (λ (t : Trail). t.entries) trail) (ap (λ (t : Trail). t.level) trail) refl d.undecided none levels (h.under_way (due_runs x.frame.said due) on)))
+    (way_chosen x.round s y.frame.store e (ap (λ (t : Trail). t.first) trail) (ap (λ (t : Trail). t.entries) trail) (ap (λ (t : Trail). t.level) trail) refl d.undecided none levels (h.under_way (due_runs x.frame.phase due) on)))
   where
     clash : {t : Bool} → t ≡ false → t ≡ true → ⊥
     clash e f = absurd (cc)

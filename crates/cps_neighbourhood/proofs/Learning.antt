@@ -60,11 +60,11 @@ was_in x h above = by_test x.in_round refl
     by_test true e = e
     by_test false e = (let none = h.between e in absurd (omega (arith, none, above)))
 
-pub few_learnt : {P : Type 0} (x : Explorer P) (f : Search) (rows : ℕ) (p q : Part) → IsExploring x → (IsOver x.frame.said → ⊥) → LearntOne x.frame f rows p q → x.round.learnt < round_conflicts
+pub few_learnt : {P : Type 0} (x : Explorer P) (f : Search) (rows : ℕ) (p q : Part) → IsExploring x → (IsOver x.frame.phase → ⊥) → LearntOne x.frame f rows p q → x.round.learnt < round_conflicts
 few_learnt x f rows p q h running one = (h.under_way running (was_in x h (omega (arith, one.back)))).few
 
 -- What was heard: the worker x before the turn, its search f after the steps, and the worker y after the turn.
-module _ {P : Type 0} (x y : Explorer P) (f : Search) (rows : ℕ) (p q : Part) (h : IsExploring x) (running : IsOver x.frame.said → ⊥) (left : x.rounds < round_count x.conflicts) (steps : Steps x.frame f rows p q (Some turns.Learnt))
+module _ {P : Type 0} (x y : Explorer P) (f : Search) (rows : ℕ) (p q : Part) (h : IsExploring x) (running : IsOver x.frame.phase → ⊥) (left : x.rounds < round_count x.conflicts) (steps : Steps x.frame f rows p q (Some turns.Learnt))
     (ends : EndsAt x.round f.store.level → RoundEnds (record x { frame = f }) y) (goes_on : (EndsAt x.round f.store.level → ⊥) → RoundGoesOn (record x { frame = f }) y) (rest : KeepsRest (record x { frame = f }) y) where
   one : LearntOne x.frame f rows p q
   one = steps.cause.0
@@ -148,7 +148,7 @@ module _ {P : Type 0} (x y : Explorer P) (f : Search) (rows : ℕ) (p q : Part) 
         store = λ _. stands_back x.frame.store f y.frame steps.store stands;
         cause = (left, in_round heard);
         moves = turn_moves (λ s o. ⊥) x.frame y.frame rows p q turns.Learnt sound setting in_all;
-        ends = not_over y.frame.said in_all.said;
+        ends = not_over y.frame.phase in_all.phase;
         lowers = λ _. lowers;
       }
 

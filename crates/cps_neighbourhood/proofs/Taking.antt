@@ -17,8 +17,8 @@ use Rattle.cps_port.specs.Says.{TookEntry}
 use Rattle.cps_branch.specs.Activities.{ByActivity}
 use Rattle.cps_branch.specs.Agreeing.{aside_kept_on}
 use Rattle.cps_branch.specs.SetAside.{AreFixedAside}
-use Rattle.cps_search.specs.declared.end.Said.{Said}
-use Rattle.cps_search.specs.declared.end.Said.TheVariants.{Over}
+use Rattle.cps_search.specs.declared.end.Phase.{Phase}
+use Rattle.cps_search.specs.declared.end.Phase.TheVariants.{Over}
 use Rattle.cps_search.specs.declared.turn.Turn.{Turn}
 use Rattle.cps_search.specs.declared.turn.Turn.TheVariants as turns
 use Rattle.cps_search.specs.Following.{MovesWith}
@@ -92,7 +92,7 @@ turn_decided s t f rows p q left sound steps h =
         },
       );
       moves = moves;
-      ends = not_over t.search.said (ap (λ (x : Search). x.said) h.one.is);
+      ends = not_over t.search.phase (ap (λ (x : Search). x.phase) h.one.is);
       lowers = λ _. in_search h.rest.rounds (ap (λ (o : Option Round). learnt_in o) round ∙ learnt_now (variable_count s.search.instance) s.aim s.draws s.round) (lowers_decided (ChoosesInRound (round_now s).decisions s.brancher) s.search t.search rows p q moves one);
     }
 
@@ -100,7 +100,7 @@ onward_way : (r : Progress) (s t : Trail) → IsOnward s t → IsUnderWay r s �
 onward_way r s t h k = way_onward r s t h.added h.first h.level h.entries (All-weaker (IsInferredAt s.level) (λ (e : Entry). e.level ≡ s.level) (λ e i. i.at) h.added h.inferred) (All-weaker (IsInferredAt s.level) (λ (e : Entry). e.reason ≡ Decision → ⊥) (λ e i. i.not_decided) h.added h.inferred) k
 
 -- what is kept, where a decision is due
-pub explores_due : {P : Type 0} (x y : Explorer P) (rows : ℕ) (p q : Part) → IsExploring x → (IsOver x.frame.said → ⊥) → IsSoundSearch y.frame → Steps x.frame y.frame rows p q None → y.brancher ≡ x.brancher → y.kept ≡ x.kept → y.conflicts ≡ x.conflicts → y.aim ≡ x.aim → y.rounds ≡ x.rounds
+pub explores_due : {P : Type 0} (x y : Explorer P) (rows : ℕ) (p q : Part) → IsExploring x → (IsOver x.frame.phase → ⊥) → IsSoundSearch y.frame → Steps x.frame y.frame rows p q None → y.brancher ≡ x.brancher → y.kept ≡ x.kept → y.conflicts ≡ x.conflicts → y.aim ≡ x.aim → y.rounds ≡ x.rounds
     → y.in_round ≡ x.in_round → y.round ≡ x.round → IsExploring y
 explores_due x y rows p q h running sound steps brancher kept conflicts aim rounds in_round round =
     let d = steps.cause in
@@ -127,7 +127,7 @@ turn_other s t rows p q turns.Imported left sound budget h not same conflicts ai
       store = λ _. h.store;
       cause = (left, h.cause, same);
       moves = h.moves;
-      ends = not_over t.search.said h.cause.said;
+      ends = not_over t.search.phase h.cause.phase;
       lowers = λ _. in_search same.rounds (ap (λ (o : Option Round). learnt_in o) same.round) (fewer_rows h.cause.tally h.moves.falls h.cause.takes.left (taken_more s.search.instance.model rows p.board q.board h.cause.entry h.cause.takes));
     }
 turn_other s t rows p q turns.Found left sound budget h not same conflicts aim =
@@ -140,14 +140,14 @@ turn_other s t rows p q turns.Found left sound budget h not same conflicts aim =
       store = λ _. h.store;
       cause = (left, k, same);
       moves = h.moves;
-      ends = not_over t.search.said k.said;
+      ends = not_over t.search.phase k.phase;
       lowers = λ _. in_search same.rounds (ap (λ (o : Option Round). learnt_in o) same.round)
           (lesser_z k.learnt.tally (subst (λ (b : Bound). IsLess b s.search.z) (sym k.z) (less_than (At v) k.before s.search.z (below_less v k.before k.below) (saw_open s.search p.bounds k.midway.bounds k.before k.begins.bounds).falls)));
     }
 turn_other s t rows p q turns.Exhausted left sound budget h not same conflicts aim =
-    record { setting = h.setting; conflicts = conflicts; aim = aim; store = λ _. h.store; cause = (left, h.cause, same); moves = h.moves; ends = h.cause.said; lowers = λ e. absurd (cc e) }
+    record { setting = h.setting; conflicts = conflicts; aim = aim; store = λ _. h.store; cause = (left, h.cause, same); moves = h.moves; ends = h.cause.phase; lowers = λ e. absurd (cc e) }
 turn_other s t rows p q turns.SawClosed left sound budget h not same conflicts aim =
-    record { setting = h.setting; conflicts = conflicts; aim = aim; store = λ _. h.store; cause = (h.cause, same); moves = h.moves; ends = ap (λ (x : Search). x.said) h.cause.same; lowers = λ e. absurd (cc e) }
+    record { setting = h.setting; conflicts = conflicts; aim = aim; store = λ _. h.store; cause = (h.cause, same); moves = h.moves; ends = ap (λ (x : Search). x.phase) h.cause.same; lowers = λ e. absurd (cc e) }
 turn_other s t rows p q turns.Decided left sound budget h not same conflicts aim = absurd h.cause
 turn_other s t rows p q turns.Learnt left sound budget h not same conflicts aim = absurd (not refl)
 turn_other s t rows p q (turns.Spent clause below) left sound budget h not same conflicts aim = absurd (none_some s.search.tally s.search.budget budget h.cause.budget)
@@ -168,8 +168,8 @@ other_tally s t rows p q (turns.Spent clause below) not h = h.learnt.tally
 other_tally s t rows p q turns.RoundsDone not h = absurd h
 other_tally s t rows p q (turns.Reformed base) not h = absurd h
 
-over_runs : (said : Said) (end : _) → said ≡ Over end → (IsOver said → ⊥) → ⊥
-over_runs said end e running = running (subst (λ (x : Said). IsOver x) (sym e) tt)
+over_runs : (phase : Phase) (end : _) → phase ≡ Over end → (IsOver phase → ⊥) → ⊥
+over_runs phase end e running = running (subst (λ (x : Phase). IsOver x) (sym e) tt)
 
 -- the store stayed, and the round looks from its beginning again
 same_way : (r u : Progress) (s t : Trail) → t ≡ s → u.decisions.items ≡ r.decisions.items → u.learnt ≡ r.learnt → u.assumed ≡ min r.assumed t.level → u.held ≡ held_to r t.level → u.place ≡ 0 → IsUnderWay r s → IsUnderWay u t
@@ -179,7 +179,7 @@ same_way r u s t is decisions learnt assumed held place h =
     subst (λ (x : Trail). IsUnderWay u x) (sym is)
     (way_placed r u s decisions learnt (assumed ∙ ap (λ (n : ℕ). min r.assumed n) level ∙ stays.0) (held ∙ ap (λ (n : ℕ). held_to r n) level ∙ stays.1) (λ j d l m is_open. absurd (omega (arith, l, place))) h)
 
-other_way : (s t : Search) (rows : ℕ) (p q : Part) (turn : Turn) (r u : Progress) → (turn ≡ turns.Learnt → ⊥) → Caused s t rows p q (Some turn) → (IsOver t.said → ⊥) → u.decisions.items ≡ r.decisions.items → u.learnt ≡ r.learnt → u.assumed ≡ min r.assumed t.store.level → u.held ≡ held_to r t.store.level → u.place ≡ 0
+other_way : (s t : Search) (rows : ℕ) (p q : Part) (turn : Turn) (r u : Progress) → (turn ≡ turns.Learnt → ⊥) → Caused s t rows p q (Some turn) → (IsOver t.phase → ⊥) → u.decisions.items ≡ r.decisions.items → u.learnt ≡ r.learnt → u.assumed ≡ min r.assumed t.store.level → u.held ≡ held_to r t.store.level → u.place ≡ 0
     → IsUnderWay r s.store → IsUnderWay u t.store
 other_way s t rows p q turns.Imported r u not k running decisions learnt assumed held place h = elim k.used [
   | inl given ↦
@@ -190,15 +190,15 @@ other_way s t rows p q turns.Imported r u not k running decisions learnt assumed
 ]
 other_way s t rows p q turns.Found r u not k running decisions learnt assumed held place h =
     same_way r u t.store t.store refl decisions learnt assumed held place (onward_way r s.store t.store k.onward h)
-other_way s t rows p q turns.Exhausted r u not k running decisions learnt assumed held place h = absurd (over_runs t.said _ k.said running)
-other_way s t rows p q turns.SawClosed r u not k running decisions learnt assumed held place h = absurd (over_runs t.said _ (ap (λ (x : Search). x.said) k.same) running)
+other_way s t rows p q turns.Exhausted r u not k running decisions learnt assumed held place h = absurd (over_runs t.phase _ k.phase running)
+other_way s t rows p q turns.SawClosed r u not k running decisions learnt assumed held place h = absurd (over_runs t.phase _ (ap (λ (x : Search). x.phase) k.same) running)
 other_way s t rows p q turns.Decided r u not k running decisions learnt assumed held place h = absurd k
 other_way s t rows p q turns.Learnt r u not k running decisions learnt assumed held place h = absurd (not refl)
-other_way s t rows p q (turns.Spent clause below) r u not k running decisions learnt assumed held place h = absurd (over_runs t.said _ k.said running)
+other_way s t rows p q (turns.Spent clause below) r u not k running decisions learnt assumed held place h = absurd (over_runs t.phase _ k.phase running)
 other_way s t rows p q turns.RoundsDone r u not k running decisions learnt assumed held place h = absurd k
 other_way s t rows p q (turns.Reformed base) r u not k running decisions learnt assumed held place h = absurd k
 
-pub explores_other : {P : Type 0} (x y : Explorer P) (rows : ℕ) (p q : Part) (turn : Turn) → IsExploring x → (IsOver x.frame.said → ⊥) → IsSoundSearch y.frame → Steps x.frame y.frame rows p q (Some turn) → (turn ≡ turns.Learnt → ⊥) → x.frame.imported ≤ length p.board.taken → rows ≤ 4096
+pub explores_other : {P : Type 0} (x y : Explorer P) (rows : ℕ) (p q : Part) (turn : Turn) → IsExploring x → (IsOver x.frame.phase → ⊥) → IsSoundSearch y.frame → Steps x.frame y.frame rows p q (Some turn) → (turn ≡ turns.Learnt → ⊥) → x.frame.imported ≤ length p.board.taken → rows ≤ 4096
     → y.brancher ≡ x.brancher → y.kept ≡ min x.kept (length y.frame.store.entries) → y.conflicts ≡ x.conflicts → y.aim ≡ x.aim → y.rounds ≡ x.rounds → y.in_round ≡ x.in_round → y.round.decisions.items ≡ x.round.decisions.items → y.round.learnt ≡ x.round.learnt
     → y.round.assumed ≡ min x.round.assumed y.frame.store.level → y.round.held ≡ held_to x.round y.frame.store.level → y.round.place ≡ 0 → IsExploring y
 explores_other x y rows p q turn h running sound steps not taken small brancher kept conflicts aim rounds in_round decisions learnt assumed held place =

@@ -43,7 +43,7 @@ pub record IsExploring {P : Type 0} (x : Explorer P) : Type 0 where
   pub rounds : x.rounds ≤ round_count x.conflicts
   pub tally : x.frame.tally ≤ round_conflicts * x.rounds + learnt_in (round_if x.in_round x.round)
   pub between : x.in_round ≡ false → x.frame.store.level ≡ 0
-  pub under_way : (IsOver x.frame.said → ⊥) → x.in_round ≡ true → IsUnderWay x.round x.frame.store
+  pub under_way : (IsOver x.frame.phase → ⊥) → x.in_round ≡ true → IsUnderWay x.round x.frame.store
 
 -- what a learnt clause does to rounds: the round ends, and the search goes back to level 0; or it goes on
 pub record RoundEnds {P : Type 0} (x y : Explorer P) : Type 0 where

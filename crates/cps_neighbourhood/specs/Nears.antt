@@ -7,11 +7,11 @@ use Rattle.cps_instance.specs.Problem.{Problem, variable_count}
 use Rattle.cps_port.specs.declared.part.BoardPart.{BoardPart}
 use Rattle.cps_port.specs.declared.part.BoundsPart.{BoundsPart}
 use Rattle.cps_port.specs.declared.part.Part.{Part}
-use Rattle.cps_branch.specs.Activities.{AreRaised, ByActivity}
+use Rattle.cps_branch.specs.Activities.{AreBumped, ByActivity}
 use Rattle.cps_branch.specs.Luby.{CountsConflict}
 use Rattle.cps_search.specs.declared.end.End.{End}
 use Rattle.cps_search.specs.declared.end.End.TheVariants as ends
-use Rattle.cps_search.specs.declared.end.Said.TheVariants.{Over}
+use Rattle.cps_search.specs.declared.end.Phase.TheVariants.{Over}
 use Rattle.cps_search.specs.declared.turn.Turn.{Turn}
 use Rattle.cps_search.specs.declared.turn.Turn.TheVariants as turns
 use Rattle.cps_search.specs.Shelves.{HasLearnt}
@@ -102,7 +102,7 @@ pub record DecidedInRound (s t : Near) (rows : ℕ) (p q : Part) : Type 0 where
 
 -- the brancher heard a clause: its activities rose; its wish to restart was not followed
 pub record HeardClause (clause : List Atom) (b c : ByActivity) : Type 0 where
-  pub raised : AreRaised clause b.activities c.activities
+  pub raised : AreBumped clause b.activities c.activities
   pub wish : Bool
   pub counted : CountsConflict b.pace c.pace wish
   pub hints : c.hints ≡ b.hints
@@ -205,6 +205,6 @@ pub record NearRunsTo (s t : Near) (p q : Part) (end : End) : Type 0 where
   pub setting : SameSetting s.search t.search
   pub conflicts : t.conflicts ≡ s.conflicts
   pub moves : MovesWith s.search t.search p q
-  pub said : t.search.said ≡ Over end
+  pub phase : t.search.phase ≡ Over end
   pub why : NearEndsBy t q.bounds end
   pub raises_last : EndsRaised s.search t.search end

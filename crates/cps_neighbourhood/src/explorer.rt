@@ -26,14 +26,14 @@ ghost use Rattle.cps_neighbourhood.specs.Exploring.{IsExploring, KeepsRest, Roun
 
 use crate::aim::Aim;
 use crate::draws::draws_of;
-use crate::round::{LENGTH, Progress};
+use crate::round::{Progress, ROUND_CONFLICTS};
 use cps_branch::ActivityBrancher;
 use cps_clauses::JournalItem;
 use cps_instance::Instance;
 use cps_literal::Atom;
 use cps_port::Port;
 use cps_propagate::{Engine, Propagator};
-use cps_search::{Frame, Said, Turn, decide_assumption, decide_next, hear_last, still_kept};
+use cps_search::{Frame, Phase, Turn, decide_assumption, decide_next, hear_last, still_kept};
 use rand_pcg::Lcg64Xsh32;
 use std::alloc::{AllocError, Global};
 
@@ -41,7 +41,7 @@ use std::alloc::{AllocError, Global};
 fn round_count(conflicts: u64) -> u64
     ensures { result ≡ round_count conflicts }
 {
-    1 + conflicts / LENGTH
+    1 + conflicts / ROUND_CONFLICTS
 }
 
 /// By what a worker's rounds go: the number of conflicts that it was given, and the draws.
@@ -128,7 +128,7 @@ impl<'a, P: Propagator> Explorer<'a, P> {
     fn decide_open(&mut self, atom: Atom) -> Result<(), AllocError>
         requires exploring { IsExploring self.old }
         requires in_round { IsTrue self.old.in_round }
-        requires due { self.old.frame.said ≡ Said.Due }
+        requires due { self.old.frame.phase ≡ Phase.Deciding }
         requires none_open { NoneIsOpen self.old.frame.instance.model.assumptions self.old.frame.store }
         requires open { IsFirstOpen self.old.round.decisions.items self.old.frame.store atom }
         requires begun { begun self.old.round ≡ self.old.frame.store.level }
@@ -147,7 +147,7 @@ impl<'a, P: Propagator> Explorer<'a, P> {
     fn assume(&mut self) -> Result<bool, AllocError>
         requires exploring { IsExploring self.old }
         requires in_round { IsTrue self.old.in_round }
-        requires due { self.old.frame.said ≡ Said.Due }
+        requires due { self.old.frame.phase ≡ Phase.Deciding }
         ensures decides { result ≡ Ok true → DecidesInRound (near_of self.old) (near_of self.new) }
         ensures none { result ≡ Ok false → (self.new ≡ self.old)
             × NoneIsOpen self.old.frame.instance.model.assumptions self.old.frame.store }
@@ -166,7 +166,7 @@ impl<'a, P: Propagator> Explorer<'a, P> {
         requires in_round { IsTrue self.old.in_round }
         requires none_open { NoneIsOpen self.old.frame.instance.model.assumptions self.old.frame.store }
         requires settled { IsSettled self.old.frame }
-        requires due { self.old.frame.said ≡ Said.Due }
+        requires due { self.old.frame.phase ≡ Phase.Deciding }
         requires left_open { AreFixed self.old.frame.store (variable_count self.old.frame.instance) → ⊥ }
         requires none { NoneOpen self.old.round.decisions.items self.old.frame.store }
         ensures decides { OnOk result (DecidesInRound (near_of self.old) (near_of self.new)) }
@@ -182,7 +182,7 @@ impl<'a, P: Propagator> Explorer<'a, P> {
     fn decide(&mut self) -> Result<(), AllocError>
         requires exploring { IsExploring self.old }
         requires settled { IsSettled self.old.frame }
-        requires due { self.old.frame.said ≡ Said.Due }
+        requires due { self.old.frame.phase ≡ Phase.Deciding }
         requires left_open { AreFixed self.old.frame.store (variable_count self.old.frame.instance) → ⊥ }
         ensures decides { OnOk result (DecidesInRound (near_of self.old) (near_of self.new)) }
         ensures exploring { OnOk result (IsExploring self.new) }
@@ -279,7 +279,7 @@ impl<'a, P: Propagator> Explorer<'a, P> {
     /// Takes one turn. If all rounds are done it is the last one, which only looks at the two bounds.
     pub fn turn<Q: Port>(&mut self, port: &mut Q) -> Result<Turn, AllocError>
         requires exploring { IsExploring self.old }
-        requires running { IsOver self.old.frame.said → ⊥ }
+        requires running { IsOver self.old.frame.phase → ⊥ }
         requires model { Q.model port.old ≡ self.old.frame.instance.model }
         requires imported { self.old.frame.imported ≤ length (Q.part port.old).board.taken }
         ensures keeps { Keeps Q.model Q.rows Q.stays port.old port.new }

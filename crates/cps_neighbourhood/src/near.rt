@@ -18,7 +18,7 @@ use cps_clauses::Journal;
 use cps_instance::Instance;
 use cps_port::Port;
 use cps_propagate::{Engine, Propagator};
-use cps_search::{End, Ended, Said, Turn, WorkerKind, end_of};
+use cps_search::{End, Ended, Phase, Turn, WorkerKind, end_of};
 use std::alloc::{AllocError, Global};
 use std::marker::Model;
 
@@ -77,7 +77,7 @@ impl<'a, P: Propagator> NearWorker<'a, P> {
     /// solution is found; an atom is decided: the first assumption that is undecided, or else by the round or by
     /// activity.
     pub fn turn<Q: Port>(&mut self, port: &mut Q) -> Result<Turn, AllocError>
-        requires running { IsOver self.old.search.said → ⊥ }
+        requires running { IsOver self.old.search.phase → ⊥ }
         requires model { Q.model port.old ≡ self.old.search.instance.model }
         requires imported { self.old.search.imported ≤ length (Q.part port.old).board.taken }
         ensures keeps { Keeps Q.model Q.rows Q.stays port.old port.new }
@@ -99,7 +99,7 @@ impl<'a, P: Propagator> NearWorker<'a, P> {
 
     /// Takes turns until one ends the worker.
     pub fn run<Q: Port>(&mut self, port: &mut Q) -> Result<End, AllocError>
-        requires running { IsOver self.old.search.said → ⊥ }
+        requires running { IsOver self.old.search.phase → ⊥ }
         requires model { Q.model port.old ≡ self.old.search.instance.model }
         requires imported { self.old.search.imported ≤ length (Q.part port.old).board.taken }
         ensures keeps { Keeps Q.model Q.rows Q.stays port.old port.new }
@@ -168,12 +168,12 @@ impl<'a, P: Propagator> NearWorker<'a, P> {
 
     /// The worker as others see it after it ended.
     pub fn finish(self) -> Ended
-        requires { IsOver self.search.said }
-        ensures said { self.entry.search.said ≡ Said.Over result.end }
+        requires { IsOver self.search.phase }
+        ensures phase { self.entry.search.phase ≡ Phase.Over result.end }
         ensures is { result ≡ ending WorkerKind.Near None result.end self.entry.search }
     {
         let NearWorker { explorer, .. } = self;
         let Explorer { frame, .. } = explorer;
-        frame.finish_as_said(WorkerKind::Near, None)
+        frame.finish_ended(WorkerKind::Near, None)
     }
 }

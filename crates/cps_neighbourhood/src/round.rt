@@ -23,7 +23,7 @@ use rand_pcg::Lcg64Xsh32;
 use std::alloc::{AllocError, Global};
 
 /// After how many conflicts a round ends if it was not refuted before.
-pub(crate) const LENGTH: u64 = 100;
+pub(crate) const ROUND_CONFLICTS: u64 = 100;
 
 /// A round, and how far it has come.
 #[derive(Drop)]
@@ -195,7 +195,7 @@ impl Progress {
         requires { self.now.learnt < round_conflicts }
         ensures { IsTrue result ↔ EndsAt self.now back }
     {
-        self.learnt + 1 == LENGTH || back < self.held
+        self.learnt + 1 == ROUND_CONFLICTS || back < self.held
     }
 
     /// Keeps what is left where the search went back to a level.

@@ -6,7 +6,7 @@ use Rattle.cps_port.specs.declared.part.BoardPart.{BoardPart}
 use Rattle.cps_port.specs.declared.part.BoundsPart.{BoundsPart}
 use Rattle.cps_port.specs.declared.part.Part.{Part}
 use Rattle.cps_port.specs.Parts.{no_rows, no_bounds}
-use Rattle.cps_port.specs.Cores.{BoardState, BoundsState, Core, board_part, bounds_part, part_at, actor_count, board_after, bounds_after, after, IsLawful}
+use Rattle.cps_port.specs.Shared.{BoardState, BoundsState, Shared, board_part, bounds_part, part_at, actor_count, board_after, bounds_after, after, IsLawful}
 use Rattle.cps_port.specs.Sound.{run}
 use Rattle.cps_port.specs.Others.{by, ActsAlone, OthersStay, moved_on}
 
@@ -28,7 +28,7 @@ other_bounds s i j (Raise l) n = get_or-set_other s.parts i j _ no_bounds n
 other_bounds s i j SeeUpper n = get_or-set_other s.parts i j _ no_bounds n
 other_bounds s i j SeeLower n = get_or-set_other s.parts i j _ no_bounds n
 
-other_part : (c : Core) (i j : ℕ) (e : Event) → j ≢ i → part_at (after c i e) j ≡ part_at c j
+other_part : (c : Shared) (i j : ℕ) (e : Event) → j ≢ i → part_at (after c i e) j ≡ part_at c j
 other_part c i j e n =
     let board : board_part (board_after c.board i e) j ≡ board_part c.board j = other_rows c.board i j e n in
     let bounds : bounds_part (bounds_after c.bounds i e) j ≡ bounds_part c.bounds j = other_bounds c.bounds i j e n in
@@ -45,28 +45,28 @@ same_count b i (Raise l) = refl
 same_count b i SeeUpper = refl
 same_count b i SeeLower = refl
 
-run_count : (c : Core) (i : ℕ) (es : List Event) → actor_count (run c (by i es)) ≡ actor_count c
+run_count : (c : Shared) (i : ℕ) (es : List Event) → actor_count (run c (by i es)) ≡ actor_count c
 run_count c i [] = refl
 run_count c i (e ∷ es) = run_count (after c i e) i es ∙ same_count c.board i e
 
-run_other : (c : Core) (i j : ℕ) (es : List Event) → j ≢ i → part_at (run c (by i es)) j ≡ part_at c j
+run_other : (c : Shared) (i j : ℕ) (es : List Event) → j ≢ i → part_at (run c (by i es)) j ≡ part_at c j
 run_other c i j [] n = refl
 run_other c i j (e ∷ es) n = run_other (after c i e) i j es n ∙ other_part c i j e n
 
 -- what the other actors know stays
-pub others_stay : (actor actor' : ℕ) (c d : Core) → ActsAlone actor actor' c d → OthersStay actor actor' c d
+pub others_stay : (actor actor' : ℕ) (c d : Shared) → ActsAlone actor actor' c d → OthersStay actor actor' c d
 others_stay actor actor' c d h = record {
   same = h.same;
   count = ap actor_count h.reaches ∙ run_count c actor h.events;
-  parts = λ i n. ap (λ (x : Core). part_at x i) h.reaches ∙ run_other c actor i h.events n;
+  parts = λ i n. ap (λ (x : Shared). part_at x i) h.reaches ∙ run_other c actor i h.events n;
 }
 
 -- one event
-pub acts : (c d : Core) (i : ℕ) (e : Event) → i < actor_count c → IsLawful c i e → d ≡ after c i e → ActsAlone i i c d
+pub acts : (c d : Shared) (i : ℕ) (e : Event) → i < actor_count c → IsLawful c i e → d ≡ after c i e → ActsAlone i i c d
 acts c d i e h l is = record { same = refl; events = e ∷ []; lawful = (h, l, tt); reaches = is }
 
 -- one event after another
-pub acts_twice : (b c d : Core) (i : ℕ) (e f : Event) → i < actor_count b → IsLawful b i e → c ≡ after b i e → IsLawful c i f → d ≡ after c i f → ActsAlone i i b d
+pub acts_twice : (b c d : Shared) (i : ℕ) (e f : Event) → i < actor_count b → IsLawful b i e → c ≡ after b i e → IsLawful c i f → d ≡ after c i f → ActsAlone i i b d
 acts_twice b c d i e f h l is m at =
     let count : actor_count c ≡ actor_count b = ap actor_count is ∙ same_count b.board i e in
     moved_on i i i b c d (acts b c i e h l is) (acts c d i f (omega arith) m at)

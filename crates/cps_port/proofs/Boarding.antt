@@ -22,7 +22,7 @@ use Rattle.cps_port.specs.Incumbents.{HoldsBelow, IsLowerBound}
 use Rattle.cps_port.specs.Entries.{entry_clause, IsSoundEntry}
 use Rattle.cps_port.specs.Parts.{no_rows, with_row, with_past, with_mine, with_taken, with_misses}
 use Rattle.cps_port.specs.Totals.{total, one_if, times}
-use Rattle.cps_port.specs.Cores.{BoardState, board_part, row_at, next_row, counted, looked_by, board_after, AreTrueBelow, MayPublish, MayRaise}
+use Rattle.cps_port.specs.Shared.{BoardState, board_part, row_at, next_row, counted, looked_by, board_after, AreTrueBelow, MayPublish, MayRaise}
 use Rattle.cps_port.specs.Sound.{owners, IsSoundBoard}
 use Rattle.cps_port.specs.Kept.{IsDrawn, full_count, BoardKept}
 use Rattle.cps_port.proofs.Lists.{at_each, total-set, total-none, one_if-same, one_if-other, times-append, times-none}

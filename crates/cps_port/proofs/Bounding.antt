@@ -14,7 +14,7 @@ use Rattle.cps_port.specs.declared.part.BoundsPart.{BoundsPart}
 use Rattle.cps_port.specs.Order.{BoundLe, lesser, greater, raised_to, raised_above, IsNoLower}
 use Rattle.cps_port.specs.Incumbents.{IsAttained, IsIncumbent, IsLowerBound}
 use Rattle.cps_port.specs.Parts.{no_bounds, after_upper, after_lower, after_offer, after_raise}
-use Rattle.cps_port.specs.Cores.{BoundsState, bounds_part, counted, bounds_after}
+use Rattle.cps_port.specs.Shared.{BoundsState, bounds_part, counted, bounds_after}
 use Rattle.cps_port.specs.Sound.{least_offer, greatest_raise, IsSoundBounds}
 
 same_int : (x y : ℤ) → x ≤ℤ y → y ≤ℤ x → x ≡ y

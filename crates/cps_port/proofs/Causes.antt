@@ -7,7 +7,7 @@ use Rattle.cps_port.specs.declared.event.Event.{Event}
 use Rattle.cps_port.specs.declared.event.Event.TheVariants.{Draw, Publish, Look, Offer, Raise, SeeUpper, SeeLower}
 use Rattle.cps_port.specs.declared.part.BoardPart.{BoardPart}
 use Rattle.cps_port.specs.Parts.{no_rows, with_row, with_past, with_mine}
-use Rattle.cps_port.specs.Cores.{BoardState, Core, board_part, next_row, looked_by, actor_count, board_after, after}
+use Rattle.cps_port.specs.Shared.{BoardState, Shared, board_part, next_row, looked_by, actor_count, board_after, after}
 use Rattle.cps_port.specs.Sound.{run, AreLawful}
 use Rattle.cps_port.specs.Others.{by}
 use Rattle.cps_port.specs.Causes.{ClosedWasClosed}
@@ -46,7 +46,7 @@ looked : (b : BoardState) (i : ℕ) (r : Option Entry) → i < length b.parts �
 looked b i r h is = get_or-set_same b.parts i (looked_by (board_part b i) (next_row b i)) no_rows h ∙ ap (looked_by (board_part b i)) is
 
 -- how much an actor took
-abbrev count : Core → ℕ → ℕ
+abbrev count : Shared → ℕ → ℕ
 count c i = length (board_part c.board i).taken
 
 look_grows : (p : BoardPart) (r : Option Entry) → length p.taken ≤ length (looked_by p r).taken
@@ -56,7 +56,7 @@ look_grows p (Some e) = let n = length-append p.taken (e ∷ []) in omega arith
 rests_grow : (p q : BoardPart) → Rests p q → length p.taken ≤ length q.taken
 rests_grow p q r = let n = ap (λ (l : List Entry). length l) r.taken in omega arith
 
-grows : (c : Core) (i : ℕ) (e : Event) → i < actor_count c → count c i ≤ count (after c i e) i
+grows : (c : Shared) (i : ℕ) (e : Event) → i < actor_count c → count c i ≤ count (after c i e) i
 grows c i Draw h = rests_grow _ _ (rests_at c.board i _ h (draw_rests (nat_lt c.board.next (length c.board.rows)) (board_part c.board i) c.board.next))
 grows c i (Publish e) h = rests_grow _ _ (rests_at c.board i (with_mine (board_part c.board i) e) h (record { taken = refl; misses = refl }))
 grows c i Look h =
@@ -67,20 +67,20 @@ grows c i (Raise l) h = omega arith
 grows c i SeeUpper h = omega arith
 grows c i SeeLower h = omega arith
 
-run_grows : (c : Core) (i : ℕ) (es : List Event) → AreLawful c (by i es) → count c i ≤ count (run c (by i es)) i
+run_grows : (c : Shared) (i : ℕ) (es : List Event) → AreLawful c (by i es) → count c i ≤ count (run c (by i es)) i
 run_grows c i [] l = omega arith
 run_grows c i (e ∷ es) l = let first = grows c i e l.0 in let rest = run_grows (after c i e) i es l.2 in omega arith
 
 -- an actor at an open row that takes nothing misses nothing, and is at it still
-record Waits (c d : Core) (i : ℕ) : Type 0 where
+record Waits (c d : Shared) (i : ℕ) : Type 0 where
   misses : (board_part d.board i).misses ≡ (board_part c.board i).misses
   row : HasEntry d.board.rows (count d i)
 
-waits : (c d : Core) (i : ℕ) → Rests (board_part c.board i) (board_part d.board i) → HasEntry d.board.rows (count c i) → Waits c d i
+waits : (c d : Shared) (i : ℕ) → Rests (board_part c.board i) (board_part d.board i) → HasEntry d.board.rows (count c i) → Waits c d i
 waits c d i r o = let n : count d i ≡ count c i = ap (λ (l : List Entry). length l) r.taken in
     record { misses = r.misses; row = (o.0, ap (λ (k : ℕ). get_or d.board.rows k None) n ∙ o.1) }
 
-waits_once : (c : Core) (i : ℕ) (e : Event) → i < actor_count c → HasEntry c.board.rows (count c i) → count (after c i e) i ≤ count c i → Waits c (after c i e) i
+waits_once : (c : Shared) (i : ℕ) (e : Event) → i < actor_count c → HasEntry c.board.rows (count c i) → count (after c i e) i ≤ count c i → Waits c (after c i e) i
 waits_once c i Draw h o t =
     waits c (after c i Draw) i (rests_at c.board i _ h (draw_rests (nat_lt c.board.next (length c.board.rows)) (board_part c.board i) c.board.next)) o
 waits_once c i (Publish e) h o t =
@@ -93,7 +93,7 @@ waits_once c i (Raise l) h o t = record { misses = refl; row = o }
 waits_once c i SeeUpper h o t = record { misses = refl; row = o }
 waits_once c i SeeLower h o t = record { misses = refl; row = o }
 
-waits_on : (c : Core) (i : ℕ) (es : List Event) → AreLawful c (by i es) → HasEntry c.board.rows (count c i) → count (run c (by i es)) i ≤ count c i
+waits_on : (c : Shared) (i : ℕ) (es : List Event) → AreLawful c (by i es) → HasEntry c.board.rows (count c i) → count (run c (by i es)) i ≤ count c i
     → (board_part (run c (by i es)).board i).misses ≡ (board_part c.board i).misses
 waits_on c i [] l o t = refl
 waits_on c i (e ∷ es) l o t =
@@ -107,7 +107,7 @@ closed_was_closed i c d h f low = go (next_row c.board i) refl where
   go : (r : Option Entry) → next_row c.board i ≡ r → next_row c.board i ≡ None
   go None e = e
   go (Some x) e =
-      let end : board_part d.board i ≡ board_part (run c (by i h.events)).board i = ap (λ (x : Core). board_part x.board i) h.reaches in
+      let end : board_part d.board i ≡ board_part (run c (by i h.events)).board i = ap (λ (x : Shared). board_part x.board i) h.reaches in
       let taken = ap (λ (p : BoardPart). length p.taken) (sym end ∙ f.counts) in
       let same = waits_on c i h.events h.lawful (x, e) (omega arith) in
       let misses = ap (λ (p : BoardPart). p.misses) end in

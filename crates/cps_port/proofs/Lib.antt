@@ -1,7 +1,7 @@
 pub mod Bounding
 pub mod Lists
 pub mod Boarding
-pub mod SoundCore
+pub mod SoundShared
 pub mod Storing
 pub mod Porting
 pub mod Acting

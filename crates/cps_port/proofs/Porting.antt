@@ -18,8 +18,8 @@ use Rattle.cps_port.specs.Incumbents.{HoldsBelow, IsIncumbent, IsLowerBound}
 use Rattle.cps_port.specs.Entries.{most_atoms, blank, entry_of, entry_clause, IsShareable}
 use Rattle.cps_port.specs.Parts.{no_rows, no_bounds, with_row, with_past, with_misses, after_upper, after_lower, after_offer, after_raise}
 use Rattle.cps_port.specs.Says.{TookEntry, FoundClosed}
-use Rattle.cps_port.specs.Cores.{BoundsState, Core, board_part, bounds_part, row_at, next_row, row_drawn, counted, drawn_by, looked_by, actor_count, after, MayPublish, MayRaise}
-use Rattle.cps_port.specs.Sound.{IsSoundCore}
+use Rattle.cps_port.specs.Shared.{BoundsState, Shared, board_part, bounds_part, row_at, next_row, row_drawn, counted, drawn_by, looked_by, actor_count, after, MayPublish, MayRaise}
+use Rattle.cps_port.specs.Sound.{IsSoundShared}
 
 same_some : {X : Type 0} (x y : X) → Some x ≡ Some y → x ≡ y
 same_some x y e = cc
@@ -54,7 +54,7 @@ take-front [] more = refl
 take-front (t ∷ ts) more = ap (λ (l : List Atom). t ∷ l) (take-front ts more)
 
 -- a shared clause may be published in the row that was drawn for it
-pub may_publish : (c d : Core) (i row : ℕ) (below : Bound) (clause : List Atom) (e : Entry) → i < actor_count c → d ≡ after c i Draw → Some row ≡ row_drawn c.board → e ≡ entry_of row below clause
+pub may_publish : (c d : Shared) (i row : ℕ) (below : Bound) (clause : List Atom) (e : Entry) → i < actor_count c → d ≡ after c i Draw → Some row ≡ row_drawn c.board → e ≡ entry_of row below clause
     → IsShareable c.model clause → HoldsBelow c.model below clause → IsIncumbent c.model below → MayPublish d.model (board_part d.board i) e
 unfolding HoldsBelow
 may_publish c d i row below clause e h is drawn entry fits holds shown =
@@ -67,12 +67,12 @@ may_publish c d i row below clause e h is drawn entry fits holds shown =
       incumbent = shown;
       follows = λ a free less _. subst (λ (l : List Atom). IsTrue (clause_holds l a)) (sym same) (holds a free less);
     } in
-    subst (λ (x : Core). MayPublish x.model (board_part x.board i) e) (sym is) (subst (MayPublish c.model (board_part (after c i Draw).board i)) (sym entry) made) where
+    subst (λ (x : Shared). MayPublish x.model (board_part x.board i) e) (sym is) (subst (MayPublish c.model (board_part (after c i Draw).board i)) (sym entry) made) where
       row_of : (t : Bool) (p : BoardPart) (next row : ℕ) → Some row ≡ (if t then Some next else None) → (if t then Some next else None) ≡ (if t then with_row p next else with_past p).drawn
       row_of true p next row e = refl
       row_of false p next row e = absurd (none_some row (sym e))
 
-module _ (c d : Core) (i : ℕ) (sound : IsSoundCore c) (h : i < actor_count c) where
+module _ (c d : Shared) (i : ℕ) (sound : IsSoundShared c) (h : i < actor_count c) where
   among : i < length c.bounds.parts
   among = let b = sound.both in omega arith
 
@@ -84,28 +84,28 @@ module _ (c d : Core) (i : ℕ) (sound : IsSoundCore c) (h : i < actor_count c) 
   upper_part b e is =
       let p : BoundsPart = bounds_part c.bounds i in
       let q : BoundsPart = after_upper p c.bounds.upper (counted p.upper_loads) in
-      let here : bounds_part d.bounds i ≡ q = bounds_here q c.bounds.upper c.bounds.lower (ap (λ (x : Core). x.bounds) e) in
+      let here : bounds_part d.bounds i ≡ q = bounds_here q c.bounds.upper c.bounds.lower (ap (λ (x : Shared). x.bounds) e) in
       (here ∙ sym (ap (λ (x : BoundsPart). after_upper p b x.upper_loads) here ∙ ap (λ (x : Bound). after_upper p x (counted p.upper_loads)) is), subst (λ (x : BoundsPart). Rises p.upper_loads x.upper_loads) (sym here) (counted_rises p.upper_loads))
 
   pub lower_part : (b : Bound) → d ≡ after c i SeeLower → b ≡ c.bounds.lower → (bounds_part d.bounds i ≡ after_lower (bounds_part c.bounds i) b (bounds_part d.bounds i).lower_loads) × Rises (bounds_part c.bounds i).lower_loads (bounds_part d.bounds i).lower_loads
   lower_part b e is =
       let p : BoundsPart = bounds_part c.bounds i in
       let q : BoundsPart = after_lower p c.bounds.lower (counted p.lower_loads) in
-      let here : bounds_part d.bounds i ≡ q = bounds_here q c.bounds.upper c.bounds.lower (ap (λ (x : Core). x.bounds) e) in
+      let here : bounds_part d.bounds i ≡ q = bounds_here q c.bounds.upper c.bounds.lower (ap (λ (x : Shared). x.bounds) e) in
       (here ∙ sym (ap (λ (x : BoundsPart). after_lower p b x.lower_loads) here ∙ ap (λ (x : Bound). after_lower p x (counted p.lower_loads)) is), subst (λ (x : BoundsPart). Rises p.lower_loads x.lower_loads) (sym here) (counted_rises p.lower_loads))
 
   pub offer_part : (v : ℤ) (b : Bound) → d ≡ after c i (Offer v) → b ≡ lesser c.bounds.upper (At v) → bounds_part d.bounds i ≡ after_offer (bounds_part c.bounds i) (At v) b
   offer_part v b e is =
       let p : BoundsPart = bounds_part c.bounds i in let u : Bound = lesser c.bounds.upper (At v) in
-      bounds_here (after_offer p (At v) u) u c.bounds.lower (ap (λ (x : Core). x.bounds) e) ∙ ap (after_offer p (At v)) (sym is)
+      bounds_here (after_offer p (At v) u) u c.bounds.lower (ap (λ (x : Shared). x.bounds) e) ∙ ap (after_offer p (At v)) (sym is)
 
   pub raise_part : (l b : Bound) → d ≡ after c i (Raise l) → b ≡ greater c.bounds.lower l → bounds_part d.bounds i ≡ after_raise (bounds_part c.bounds i) l b
   raise_part l b e is =
       let p : BoundsPart = bounds_part c.bounds i in let g : Bound = greater c.bounds.lower l in
-      bounds_here (after_raise p l g) c.bounds.upper g (ap (λ (x : Core). x.bounds) e) ∙ ap (after_raise p l) (sym is)
+      bounds_here (after_raise p l g) c.bounds.upper g (ap (λ (x : Shared). x.bounds) e) ∙ ap (after_raise p l) (sym is)
 
   looked : (r : Option Entry) → d ≡ after c i Look → r ≡ next_row c.board i → board_part d.board i ≡ looked_by (board_part c.board i) r
-  looked r e is = ap (λ (x : Core). board_part x.board i) e ∙ (get_or-set_same c.board.parts i (looked_by (board_part c.board i) (next_row c.board i)) no_rows h ∙ ap (looked_by (board_part c.board i)) (sym is))
+  looked r e is = ap (λ (x : Shared). board_part x.board i) e ∙ (get_or-set_same c.board.parts i (looked_by (board_part c.board i) (next_row c.board i)) no_rows h ∙ ap (looked_by (board_part c.board i)) (sym is))
 
   -- an entry of the actor's own in this row is the row's
   own_row : (x : Entry) → Contains (board_part c.board i).mine x → x.row ≡ length (board_part c.board i).taken → next_row c.board i ≡ Some x

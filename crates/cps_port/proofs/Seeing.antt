@@ -8,12 +8,12 @@ use Rattle.cps_port.specs.declared.event.Event.TheVariants.{Draw, Publish, Look,
 use Rattle.cps_port.specs.declared.part.BoundsPart.{BoundsPart}
 use Rattle.cps_port.specs.Order.{BoundLe, lesser, greater}
 use Rattle.cps_port.specs.Parts.{no_bounds, after_upper, after_lower, after_offer, after_raise}
-use Rattle.cps_port.specs.Cores.{BoundsState, Core, bounds_part, counted, bounds_after, after}
+use Rattle.cps_port.specs.Shared.{BoundsState, Shared, bounds_part, counted, bounds_after, after}
 use Rattle.cps_port.specs.Sound.{least_offer, run}
 use Rattle.cps_port.specs.Others.{by}
 use Rattle.cps_port.specs.Causes.{SawTheUpper}
 use Rattle.cps_port.proofs.Bounding.{BoundLe-refl, BoundLe-trans, lesser-first, lesser-second, lesser_is}
-use Rattle.cps_port.proofs.SoundCore.{same_parts}
+use Rattle.cps_port.proofs.SoundShared.{same_parts}
 
 same_number : (x y : ℤ) → x ≤ℤ y → y ≤ℤ x → x ≡ y
 same_number x y p q = omega (arith, ints)
@@ -60,7 +60,7 @@ offer_falls s i SeeLower h = alike _ (after_lower (bounds_part s i) s.lower (cou
 among : (s : BoundsState) (i : ℕ) (e : Event) → i < length s.parts → i < length (bounds_after s i e).parts
 among s i e h = let n = same_parts s i e in omega arith
 
-offers_fall : (c : Core) (i : ℕ) (es : List Event) → i < length c.bounds.parts → BoundLe (offered (run c (by i es)).bounds i) (offered c.bounds i)
+offers_fall : (c : Shared) (i : ℕ) (es : List Event) → i < length c.bounds.parts → BoundLe (offered (run c (by i es)).bounds i) (offered c.bounds i)
 offers_fall c i [] h = BoundLe-refl (offered c.bounds i)
 offers_fall c i (e ∷ es) h =
     BoundLe-trans (offered (run (after c i e) (by i es)).bounds i) (offered (after c i e).bounds i) (offered c.bounds i) (offers_fall (after c i e) i es (among c.bounds i e h)) (offer_falls c.bounds i e h)
@@ -110,11 +110,11 @@ saw_then b c p q r same first rest =
     (λ (g : (r.upper_last ≡ q.upper_last) × (r.upper_loads ≡ q.upper_loads)). ⊎_elim (λ (e : q.upper_last ≡ Some b). inl (g.0 ∙ e))
     (λ (f : (q.upper_last ≡ p.upper_last) × (q.upper_loads ≡ p.upper_loads)). inr (g.0 ∙ f.0, g.1 ∙ f.1)) first) rest
 
-stands_on : (c : Core) (i : ℕ) (es : List Event) → i < length c.bounds.parts → BoundLe c.bounds.upper (offered c.bounds i) → BoundLe (offered c.bounds i) (offered (run c (by i es)).bounds i)
+stands_on : (c : Shared) (i : ℕ) (es : List Event) → i < length c.bounds.parts → BoundLe c.bounds.upper (offered c.bounds i) → BoundLe (offered c.bounds i) (offered (run c (by i es)).bounds i)
     → Stands c.bounds (run c (by i es)).bounds i
 stands_on c i [] h above still = stands c.bounds c.bounds i (bounds_part c.bounds i) refl refl refl (inr (refl, refl))
 stands_on c i (e ∷ es) h above still =
-    let d : Core = after c i e in
+    let d : Shared = after c i e in
     let end : BoundsState = (run d (by i es)).bounds in
     let k = among c.bounds i e h in
     let fall = offers_fall d i es k in
@@ -132,7 +132,7 @@ pub saw_the_upper : SawTheUpper
 saw_the_upper i loads c d seen sound known h part count =
     let p : BoundsPart = bounds_part c.bounds i in
     let end : BoundsState = (run c (by i h.events)).bounds in
-    let is : bounds_part end i ≡ after_upper p seen loads = sym (ap (λ (x : Core). bounds_part x.bounds i) h.reaches) ∙ part in
+    let is : bounds_part end i ≡ after_upper p seen loads = sym (ap (λ (x : Shared). bounds_part x.bounds i) h.reaches) ∙ part in
     let both = sound.both in
     let above : BoundLe c.bounds.upper p.offered = subst (λ (b : Bound). BoundLe b p.offered) (sym sound.bounds.upper) (least_le c.bounds.parts i) in
     let still : BoundLe p.offered (offered end i) = subst (λ (b : Bound). BoundLe p.offered b) (sym (ap (λ (q : BoundsPart). q.offered) is)) (BoundLe-refl p.offered) in

@@ -17,14 +17,14 @@ use Rattle.cps_port.specs.declared.seat.Row.{Row}
 use Rattle.cps_port.specs.declared.seat.Seat.{Seat}
 use Rattle.cps_port.specs.Order.{lesser, greater, raised_to}
 use Rattle.cps_port.specs.Parts.{no_rows, no_bounds, with_row, with_past, with_mine, with_taken, with_misses, after_upper, after_lower, after_offer, after_raise}
-use Rattle.cps_port.specs.Cores.{Core, first_core, board_part, bounds_part, next_row, counted, drawn_by, looked_by, actor_count, after, IsLawful}
-use Rattle.cps_port.specs.Sound.{IsSoundCore}
+use Rattle.cps_port.specs.Shared.{Shared, first_shared, board_part, bounds_part, next_row, counted, drawn_by, looked_by, actor_count, after, IsLawful}
+use Rattle.cps_port.specs.Sound.{IsSoundShared}
 use Rattle.cps_port.specs.Totals.{total, one_if}
 use Rattle.cps_port.specs.Kept.{full_count, IsKept}
-use Rattle.cps_port.specs.Views.{no_row, no_seat, row_entry, is_own, own_entries, first_entries, seat_part, seat_parts, core_of, row_of, seat_of, IsStored, IsWhole}
+use Rattle.cps_port.specs.Views.{no_row, no_seat, row_entry, is_own, own_entries, first_entries, seat_part, seat_parts, shared_of, row_of, seat_of, IsStored, IsWhole}
 use Rattle.cps_port.proofs.Lists.{at_each}
 use Rattle.cps_port.proofs.Boarding.{taken_before}
-use Rattle.cps_port.proofs.SoundCore.{get_or-replicate, starts, keeps, sound_of}
+use Rattle.cps_port.proofs.SoundShared.{get_or-replicate, starts, keeps, sound_of}
 
 -- an element that is there does not depend on what stands for one that is not
 pub get_or-there : {A : Type 0} (l : List A) (i : ℕ) (x d : A) → i < length l → x ≡ get_or l i x → get_or l i d ≡ x
@@ -141,18 +141,18 @@ own_same i (x ∷ xs) zero r new old = own_step (is_own i r) r.entry (own_entrie
 own_same i (x ∷ xs) (suc row) r new old = ap (λ (l : List Entry). if is_own i x then x.entry ∷ l else l) (own_same i xs row r new old)
 
 -- the state after an event of an actor
-pub record Stepped (c c' : Core) (rows : List Row) (seats : List Seat) (i : ℕ) (event : Event) : Type 0 where
+pub record Stepped (c c' : Shared) (rows : List Row) (seats : List Seat) (i : ℕ) (event : Event) : Type 0 where
   pub state : c' ≡ after c i event
   pub whole : IsWhole c' rows seats
-  pub sound : IsSoundCore c × IsSoundCore c'
+  pub sound : IsSoundShared c × IsSoundShared c'
 
 module _ (m : CpModel) (rows : List Row) (next : ℕ) (seats : List Seat) (upper lower : Bound) (bounds : List BoundsPart) where
-  abbrev C : Core
-  C = core_of m rows next seats upper lower bounds
+  abbrev C : Shared
+  C = shared_of m rows next seats upper lower bounds
 
-  module _ (c : Core) (is : C ≡ c) (w : IsWhole C rows seats) (i : ℕ) (h : i < actor_count c) where
+  module _ (c : Shared) (is : C ≡ c) (w : IsWhole C rows seats) (i : ℕ) (h : i < actor_count c) where
     pub among : i < length seats
-    among = let l = length-seat_parts rows 0 seats in let n : length (seat_parts rows 0 seats) ≡ actor_count c = ap (λ (x : Core). actor_count x) is in omega arith
+    among = let l = length-seat_parts rows 0 seats in let n : length (seat_parts rows 0 seats) ≡ actor_count c = ap (λ (x : Shared). actor_count x) is in omega arith
 
     pub among_bounds : i < length bounds
     among_bounds = let a = among in let l = length-seat_parts rows 0 seats in let b = w.kept.both in omega arith
@@ -166,34 +166,34 @@ module _ (m : CpModel) (rows : List Row) (next : ℕ) (seats : List Seat) (upper
     next_small = let n = w.kept.board.next in let t = total_full (seat_parts rows 0 seats) in let l = length-seat_parts rows 0 seats in let a = w.stored.actors in let f = w.kept.few in omega arith
 
     here : i < actor_count C
-    here = subst (λ (x : Core). i < actor_count x) (sym is) h
+    here = subst (λ (x : Shared). i < actor_count x) (sym is) h
 
-    stepped : (event : Event) (c' : Core) (rows' : List Row) (seats' : List Seat) → IsLawful C i event → c' ≡ after C i event → IsStored rows' seats' → Stepped c c' rows' seats' i event
+    stepped : (event : Event) (c' : Shared) (rows' : List Row) (seats' : List Seat) → IsLawful C i event → c' ≡ after C i event → IsStored rows' seats' → Stepped c c' rows' seats' i event
     stepped event c' rows' seats' lawful e stored =
         let kept : IsKept c' = subst IsKept (sym e) (keeps C i event w.kept here lawful) in
-        record { state = e ∙ ap (λ (x : Core). after x i event) is; whole = record { kept = kept; stored = stored }; sound = (subst IsSoundCore is (sound_of C w.kept), sound_of c' kept) }
+        record { state = e ∙ ap (λ (x : Shared). after x i event) is; whole = record { kept = kept; stored = stored }; sound = (subst IsSoundShared is (sound_of C w.kept), sound_of c' kept) }
 
     lawful_here : (event : Event) → IsLawful c i event → IsLawful C i event
-    lawful_here event l = subst (λ (x : Core). IsLawful x i event) (sym is) l
+    lawful_here event l = subst (λ (x : Shared). IsLawful x i event) (sym is) l
 
     -- the events on the bounds
     module _ (x : BoundsPart) (there : x ≡ get_or bounds i x) where
       part : bounds_part C.bounds i ≡ x
       part = get_or-there bounds i x no_bounds among_bounds there
 
-      pub sees_upper : (count : ℕ) → count ≡ counted x.upper_loads → Stepped c (core_of m rows next seats upper lower (set bounds i (after_upper x upper count))) rows seats i SeeUpper
-      sees_upper count e = stepped SeeUpper _ rows seats tt (ap (λ (p : BoundsPart). core_of m rows next seats upper lower (set bounds i p)) (ap (after_upper x upper) e ∙ ap (λ (p : BoundsPart). after_upper p upper (counted p.upper_loads)) (sym part))) w.stored
+      pub sees_upper : (count : ℕ) → count ≡ counted x.upper_loads → Stepped c (shared_of m rows next seats upper lower (set bounds i (after_upper x upper count))) rows seats i SeeUpper
+      sees_upper count e = stepped SeeUpper _ rows seats tt (ap (λ (p : BoundsPart). shared_of m rows next seats upper lower (set bounds i p)) (ap (after_upper x upper) e ∙ ap (λ (p : BoundsPart). after_upper p upper (counted p.upper_loads)) (sym part))) w.stored
 
-      pub sees_lower : (count : ℕ) → count ≡ counted x.lower_loads → Stepped c (core_of m rows next seats upper lower (set bounds i (after_lower x lower count))) rows seats i SeeLower
-      sees_lower count e = stepped SeeLower _ rows seats tt (ap (λ (p : BoundsPart). core_of m rows next seats upper lower (set bounds i p)) (ap (after_lower x lower) e ∙ ap (λ (p : BoundsPart). after_lower p lower (counted p.lower_loads)) (sym part))) w.stored
+      pub sees_lower : (count : ℕ) → count ≡ counted x.lower_loads → Stepped c (shared_of m rows next seats upper lower (set bounds i (after_lower x lower count))) rows seats i SeeLower
+      sees_lower count e = stepped SeeLower _ rows seats tt (ap (λ (p : BoundsPart). shared_of m rows next seats upper lower (set bounds i p)) (ap (after_lower x lower) e ∙ ap (λ (p : BoundsPart). after_lower p lower (counted p.lower_loads)) (sym part))) w.stored
 
-      pub offers : (v : ℤ) (u o : Bound) → IsLawful c i (Offer v) → u ≡ lesser upper (At v) → o ≡ lesser x.offered (At v) → Stepped c (core_of m rows next seats u lower (set bounds i (record x { saw_upper = u; offered = o }))) rows seats i (Offer v)
+      pub offers : (v : ℤ) (u o : Bound) → IsLawful c i (Offer v) → u ≡ lesser upper (At v) → o ≡ lesser x.offered (At v) → Stepped c (shared_of m rows next seats u lower (set bounds i (record x { saw_upper = u; offered = o }))) rows seats i (Offer v)
       offers v u o l e f = stepped (Offer v) _ rows seats (lawful_here (Offer v) l)
-          (ap (λ (q : Bound). core_of m rows next seats u lower (set bounds i (record x { saw_upper = u; offered = q }))) f ∙ (ap (λ (q : Bound). core_of m rows next seats q lower (set bounds i (after_offer x (At v) q))) e ∙ ap (λ (p : BoundsPart). core_of m rows next seats (lesser upper (At v)) lower (set bounds i (after_offer p (At v) (lesser upper (At v))))) (sym part))) w.stored
+          (ap (λ (q : Bound). shared_of m rows next seats u lower (set bounds i (record x { saw_upper = u; offered = q }))) f ∙ (ap (λ (q : Bound). shared_of m rows next seats q lower (set bounds i (after_offer x (At v) q))) e ∙ ap (λ (p : BoundsPart). shared_of m rows next seats (lesser upper (At v)) lower (set bounds i (after_offer p (At v) (lesser upper (At v))))) (sym part))) w.stored
 
-      pub raises : (b l : Bound) (r : Option Bound) → IsLawful c i (Raise b) → l ≡ greater lower b → r ≡ raised_to x.raised b → Stepped c (core_of m rows next seats upper l (set bounds i (record x { saw_lower = Some l; raised = r }))) rows seats i (Raise b)
+      pub raises : (b l : Bound) (r : Option Bound) → IsLawful c i (Raise b) → l ≡ greater lower b → r ≡ raised_to x.raised b → Stepped c (shared_of m rows next seats upper l (set bounds i (record x { saw_lower = Some l; raised = r }))) rows seats i (Raise b)
       raises b l r lawful e f = stepped (Raise b) _ rows seats (lawful_here (Raise b) lawful)
-          (ap (λ (q : Option Bound). core_of m rows next seats upper l (set bounds i (record x { saw_lower = Some l; raised = q }))) f ∙ (ap (λ (q : Bound). core_of m rows next seats upper q (set bounds i (after_raise x b q))) e ∙ ap (λ (p : BoundsPart). core_of m rows next seats upper (greater lower b) (set bounds i (after_raise p b (greater lower b)))) (sym part))) w.stored
+          (ap (λ (q : Option Bound). shared_of m rows next seats upper l (set bounds i (record x { saw_lower = Some l; raised = q }))) f ∙ (ap (λ (q : Bound). shared_of m rows next seats upper q (set bounds i (after_raise x b q))) e ∙ ap (λ (p : BoundsPart). shared_of m rows next seats upper (greater lower b) (set bounds i (after_raise p b (greater lower b)))) (sym part))) w.stored
 
     -- the events on the board
     module _ (x : Seat) (there : x ≡ get_or seats i x) where
@@ -228,10 +228,10 @@ module _ (m : CpModel) (rows : List Row) (next : ℕ) (seats : List Seat) (upper
       length-rows : length (map row_entry rows) ≡ length rows
       length-rows = length-map rows row_entry
 
-      board_same : (n : ℕ) (s : Seat) (p : BoardPart) → p ≡ seat_part rows i s → core_of m rows n (set seats i s) upper lower bounds ≡ record C { board = record { rows = map row_entry rows; next = n; parts = set (seat_parts rows 0 seats) i p } }
+      board_same : (n : ℕ) (s : Seat) (p : BoardPart) → p ≡ seat_part rows i s → shared_of m rows n (set seats i s) upper lower bounds ≡ record C { board = record { rows = map row_entry rows; next = n; parts = set (seat_parts rows 0 seats) i p } }
       board_same n s p e = ap (λ (l : List BoardPart). record C { board = record { rows = map row_entry rows; next = n; parts = l } }) (parts_are s ∙ ap (set (seat_parts rows 0 seats) i) (sym e))
 
-      pub draws_row : IsLawful c i Draw → next < length rows → Stepped c (core_of m rows (next + 1) (set seats i (record x { drawn = Some next })) upper lower bounds) rows (set seats i (record x { drawn = Some next })) i Draw
+      pub draws_row : IsLawful c i Draw → next < length rows → Stepped c (shared_of m rows (next + 1) (set seats i (record x { drawn = Some next })) upper lower bounds) rows (set seats i (record x { drawn = Some next })) i Draw
       draws_row lawful room =
           let s : Seat = record x { drawn = Some next } in
           let test : nat_lt next (length (map row_entry rows)) ≡ true = let l = length-rows in is_below next (length (map row_entry rows)) (omega arith) in
@@ -239,7 +239,7 @@ module _ (m : CpModel) (rows : List Row) (next : ℕ) (seats : List Seat) (upper
           stepped Draw _ rows (set seats i s) (lawful_here Draw lawful) (board_same (next + 1) s (drawn_by (board_part C.board i) next (length (map row_entry rows))) p)
           (stored_as s seat_taken (λ row k g l. let same : next ≡ row = some_same next row g in ⊎_elim (λ t. let below = w.kept.board.claimed k (row_of rows k).entry (row_at-stored rows k ∙ own_entry i (row_of rows k) t) in absurd (omega arith)) (λ f. f) (bool_cases (is_own i (row_of rows k)))))
 
-      pub draws_past : IsLawful c i Draw → length rows ≤ next → Stepped c (core_of m rows (next + 1) (set seats i (record x { full = true })) upper lower bounds) rows (set seats i (record x { full = true })) i Draw
+      pub draws_past : IsLawful c i Draw → length rows ≤ next → Stepped c (shared_of m rows (next + 1) (set seats i (record x { full = true })) upper lower bounds) rows (set seats i (record x { full = true })) i Draw
       draws_past lawful past =
           let s : Seat = record x { full = true } in
           let test : nat_lt next (length (map row_entry rows)) ≡ false = let l = length-rows in not_below next (length (map row_entry rows)) (omega arith) in
@@ -247,13 +247,13 @@ module _ (m : CpModel) (rows : List Row) (next : ℕ) (seats : List Seat) (upper
           stepped Draw _ rows (set seats i s) (lawful_here Draw lawful) (board_same (next + 1) s (drawn_by (board_part C.board i) next (length (map row_entry rows))) p) (stored_as s seat_taken seat_ordered)
 
       pub full_is : x.full ≡ (board_part c.board i).full
-      full_is = ap (λ (p : BoardPart). p.full) (sym board_is) ∙ ap (λ (d : Core). (board_part d.board i).full) is
+      full_is = ap (λ (p : BoardPart). p.full) (sym board_is) ∙ ap (λ (d : Shared). (board_part d.board i).full) is
 
       pub taken_is : length (board_part c.board i).taken ≡ x.taken
-      taken_is = ap (λ (d : Core). length (board_part d.board i).taken) (sym is) ∙ (ap (λ (p : BoardPart). length p.taken) board_is ∙ length-first_entries rows x.taken seat_taken)
+      taken_is = ap (λ (d : Shared). length (board_part d.board i).taken) (sym is) ∙ (ap (λ (p : BoardPart). length p.taken) board_is ∙ length-first_entries rows x.taken seat_taken)
 
       pub rows_is : length c.board.rows ≡ length rows
-      rows_is = ap (λ (d : Core). length d.board.rows) (sym is) ∙ length-rows
+      rows_is = ap (λ (d : Shared). length d.board.rows) (sym is) ∙ length-rows
 
       -- how far the actor took
       pub looks_within : IsLawful c i Look → x.taken < length rows
@@ -269,24 +269,24 @@ module _ (m : CpModel) (rows : List Row) (next : ℕ) (seats : List Seat) (upper
           ap (λ (n : ℕ). get_or (map row_entry rows) n None) a ∙ (row_at-stored rows x.taken ∙ ap row_entry (get_or-there rows x.taken r no_row l e))
 
       pub looks_closed : (r : Row) (count : ℕ) → r ≡ get_or rows x.taken r → IsLawful c i Look → r.published ≡ false → count ≡ counted x.misses
-          → Stepped c (core_of m rows next (set seats i (record x { misses = count })) upper lower bounds) rows (set seats i (record x { misses = count })) i Look × (None ≡ next_row c.board i)
+          → Stepped c (shared_of m rows next (set seats i (record x { misses = count })) upper lower bounds) rows (set seats i (record x { misses = count })) i Look × (None ≡ next_row c.board i)
       looks_closed r count e lawful closed counts =
           let s : Seat = record x { misses = count } in
           let none : next_row C.board i ≡ None = next_is r e (looks_within lawful) ∙ ap (λ (t : Bool). if t then Some r.entry else None) closed in
           let p : looked_by (board_part C.board i) (next_row C.board i) ≡ seat_part rows i s = ap (looked_by (board_part C.board i)) none ∙ (ap (λ (q : BoardPart). with_misses q (counted q.misses)) board_is ∙ ap (with_misses (seat_part rows i x)) (sym counts)) in
-          (stepped Look _ rows (set seats i s) (lawful_here Look lawful) (board_same next s (looked_by (board_part C.board i) (next_row C.board i)) p) (stored_as s seat_taken seat_ordered), sym none ∙ ap (λ (d : Core). next_row d.board i) is)
+          (stepped Look _ rows (set seats i s) (lawful_here Look lawful) (board_same next s (looked_by (board_part C.board i) (next_row C.board i)) p) (stored_as s seat_taken seat_ordered), sym none ∙ ap (λ (d : Shared). next_row d.board i) is)
 
       pub looks_open : (r : Row) → r ≡ get_or rows x.taken r → IsLawful c i Look → r.published ≡ true
-          → Stepped c (core_of m rows next (set seats i (record x { taken = x.taken + 1 })) upper lower bounds) rows (set seats i (record x { taken = x.taken + 1 })) i Look × (Some r.entry ≡ next_row c.board i)
+          → Stepped c (shared_of m rows next (set seats i (record x { taken = x.taken + 1 })) upper lower bounds) rows (set seats i (record x { taken = x.taken + 1 })) i Look × (Some r.entry ≡ next_row c.board i)
       looks_open r e lawful open_ =
           let s : Seat = record x { taken = x.taken + 1 } in let l = looks_within lawful in
           let some_ : next_row C.board i ≡ Some r.entry = next_is r e l ∙ ap (λ (t : Bool). if t then Some r.entry else None) open_ in
           let more : with_taken (seat_part rows i x) r.entry ≡ seat_part rows i s = ap (λ (t : List Entry). record (seat_part rows i x) { taken = t }) (sym (first_entries-more rows x.taken r l e)) in
           let p : looked_by (board_part C.board i) (next_row C.board i) ≡ seat_part rows i s = ap (looked_by (board_part C.board i)) some_ ∙ (ap (λ (q : BoardPart). with_taken q r.entry) board_is ∙ more) in
-          (stepped Look _ rows (set seats i s) (lawful_here Look lawful) (board_same next s (looked_by (board_part C.board i) (next_row C.board i)) p) (stored_as s (omega arith) seat_ordered), sym some_ ∙ ap (λ (d : Core). next_row d.board i) is)
+          (stepped Look _ rows (set seats i s) (lawful_here Look lawful) (board_same next s (looked_by (board_part C.board i) (next_row C.board i)) p) (stored_as s (omega arith) seat_ordered), sym some_ ∙ ap (λ (d : Shared). next_row d.board i) is)
 
       pub publishes : (e : Entry) → IsLawful c i (Publish e)
-          → Stepped c (core_of m (set rows e.row (record { published = true; owner = i; entry = e })) next (set seats i (record x { drawn = None })) upper lower bounds) (set rows e.row (record { published = true; owner = i; entry = e })) (set seats i (record x { drawn = None })) i (Publish e)
+          → Stepped c (shared_of m (set rows e.row (record { published = true; owner = i; entry = e })) next (set seats i (record x { drawn = None })) upper lower bounds) (set rows e.row (record { published = true; owner = i; entry = e })) (set seats i (record x { drawn = None })) i (Publish e)
       publishes e lawful =
           let s : Seat = record x { drawn = None } in
           let r : Row = record { published = true; owner = i; entry = e } in
@@ -337,14 +337,14 @@ seat_parts-replicate rows b (suc n) = ap (λ (l : List Entry). record no_rows { 
     ∙ ap (λ (l : List BoardPart). no_rows ∷ l) (seat_parts-replicate rows (b + 1) n)
 
 module _ (m : CpModel) (actors n : ℕ) (rows : List Row) (seats : List Seat) (bounds : List BoundsPart) (start : ℤ) (r : rows ≡ replicate n no_row) (s : seats ≡ replicate actors no_seat) (b : bounds ≡ replicate actors no_bounds) (is : start ≡ objective_start m) where
-  pub begins : core_of m rows 0 seats Infinite (At start) bounds ≡ first_core m actors n
+  pub begins : shared_of m rows 0 seats Infinite (At start) bounds ≡ first_shared m actors n
   begins =
-      ap (λ (l : List Row). core_of m l 0 seats Infinite (At start) bounds) r ∙ (ap (λ (l : List Seat). core_of m (replicate n no_row) 0 l Infinite (At start) bounds) s
-      ∙ (ap (λ (l : List BoundsPart). core_of m (replicate n no_row) 0 (replicate actors no_seat) Infinite (At start) l) b ∙ (ap (λ (z : ℤ). core_of m (replicate n no_row) 0 (replicate actors no_seat) Infinite (At z) (replicate actors no_bounds)) is
-      ∙ (ap (λ (l : List (Option Entry)). record (first_core m actors n) { board = record { rows = l; next = 0; parts = seat_parts (replicate n no_row) 0 (replicate actors no_seat) } }) (map-replicate row_entry n no_row)
-      ∙ ap (λ (l : List BoardPart). record (first_core m actors n) { board = record { rows = replicate n None; next = 0; parts = l } }) (seat_parts-replicate n 0 actors)))))
+      ap (λ (l : List Row). shared_of m l 0 seats Infinite (At start) bounds) r ∙ (ap (λ (l : List Seat). shared_of m (replicate n no_row) 0 l Infinite (At start) bounds) s
+      ∙ (ap (λ (l : List BoundsPart). shared_of m (replicate n no_row) 0 (replicate actors no_seat) Infinite (At start) l) b ∙ (ap (λ (z : ℤ). shared_of m (replicate n no_row) 0 (replicate actors no_seat) Infinite (At z) (replicate actors no_bounds)) is
+      ∙ (ap (λ (l : List (Option Entry)). record (first_shared m actors n) { board = record { rows = l; next = 0; parts = seat_parts (replicate n no_row) 0 (replicate actors no_seat) } }) (map-replicate row_entry n no_row)
+      ∙ ap (λ (l : List BoardPart). record (first_shared m actors n) { board = record { rows = replicate n None; next = 0; parts = l } }) (seat_parts-replicate n 0 actors)))))
 
-  pub begins_whole : IsValid m → n ≤ 4096 → actors < 2 ^ 32 → IsWhole (core_of m rows 0 seats Infinite (At start) bounds) rows seats
+  pub begins_whole : IsValid m → n ≤ 4096 → actors < 2 ^ 32 → IsWhole (shared_of m rows 0 seats Infinite (At start) bounds) rows seats
   begins_whole valid few small =
       let seat : (i : ℕ) → seat_of seats i ≡ no_seat = λ i. ap (λ (l : List Seat). seat_of l i) s ∙ get_or-replicate actors i no_seat in
       let row : (k : ℕ) → row_of rows k ≡ no_row = λ k. ap (λ (l : List Row). row_of l k) r ∙ get_or-replicate n k no_row in record {

@@ -5,7 +5,7 @@ use Rattle.cps_model.specs.Validity.{IsValid}
 use Rattle.cps_port.specs.declared.entry.Entry.{Entry}
 use Rattle.cps_port.specs.declared.part.BoardPart.{BoardPart}
 use Rattle.cps_port.specs.Totals.{total, one_if}
-use Rattle.cps_port.specs.Cores.{BoardState, Core, board_part, row_at}
+use Rattle.cps_port.specs.Shared.{BoardState, Shared, board_part, row_at}
 use Rattle.cps_port.specs.Sound.{IsSoundBoard, IsSoundBounds}
 
 -- a row that is drawn and not published
@@ -25,7 +25,7 @@ pub record BoardKept (m : CpModel) (b : BoardState) : Type 0 where
   pub drawn : (i row : ℕ) → (board_part b i).drawn ≡ Some row → IsDrawn b row
   pub apart : (i j row : ℕ) → (board_part b i).drawn ≡ Some row → (board_part b j).drawn ≡ Some row → i ≡ j
 
-pub record IsKept (c : Core) : Type 0 where
+pub record IsKept (c : Shared) : Type 0 where
   pub valid : IsValid c.model
   pub few : length c.board.rows ≤ 4096
   pub both : length c.bounds.parts ≡ length c.board.parts

@@ -4,7 +4,7 @@ pub mod Incumbents
 pub mod Entries
 pub mod Parts
 pub mod Says
-pub mod Cores
+pub mod Shared
 pub mod Sound
 pub mod Kept
 pub mod Views

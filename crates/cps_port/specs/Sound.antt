@@ -12,7 +12,7 @@ use Rattle.cps_port.specs.Order.{BoundLe, IsNoLower, lesser, raised_above}
 use Rattle.cps_port.specs.Incumbents.{IsIncumbent, IsLowerBound}
 use Rattle.cps_port.specs.Entries.{IsSoundEntry}
 use Rattle.cps_port.specs.Totals.{total, times}
-use Rattle.cps_port.specs.Cores.{BoardState, BoundsState, Core, board_part, bounds_part, row_at, actor_count, after, IsLawful}
+use Rattle.cps_port.specs.Shared.{BoardState, BoundsState, Shared, board_part, bounds_part, row_at, actor_count, after, IsLawful}
 
 -- the least of the actors' least offers, `Infinite` without one
 abbrev pub least_offer : List BoundsPart → Bound
@@ -48,22 +48,22 @@ pub record IsSoundBounds (m : CpModel) (s : BoundsState) : Type 0 where
   pub saw_upper : (i : ℕ) → BoundLe s.upper (bounds_part s i).saw_upper
   pub saw_lower : (i : ℕ) → IsNoLower (bounds_part s i).saw_lower s.lower
 
-pub record IsSoundCore (c : Core) : Type 0 where
+pub record IsSoundShared (c : Shared) : Type 0 where
   pub few : length c.board.rows ≤ 4096
   pub both : length c.bounds.parts ≡ length c.board.parts
   pub board : IsSoundBoard c.model c.board
   pub bounds : IsSoundBounds c.model c.bounds
 
 -- events of actors, one after another
-abbrev pub run : Core → List (ℕ × Event) → Core
+abbrev pub run : Shared → List (ℕ × Event) → Shared
 run c [] = c
 run c (e ∷ es) = run (after c e.0 e.1) es
 
 -- each by one of the actors, and lawful where it comes
-abbrev pub AreLawful : Core → List (ℕ × Event) → Type 0
+abbrev pub AreLawful : Shared → List (ℕ × Event) → Type 0
 AreLawful c [] = Unit {0}
 AreLawful c (e ∷ es) = (e.0 < actor_count c) × IsLawful c e.0 e.1 × AreLawful (after c e.0 e.1) es
 
 -- the state is sound after every list of lawful events
-abbrev pub StaysSound : Core → Type 0
-StaysSound c = (events : List (ℕ × Event)) → AreLawful c events → IsSoundCore (run c events)
+abbrev pub StaysSound : Shared → Type 0
+StaysSound c = (events : List (ℕ × Event)) → AreLawful c events → IsSoundShared (run c events)

@@ -10,7 +10,7 @@ use Rattle.cps_port.specs.declared.part.BoundsPart.{BoundsPart}
 use Rattle.cps_port.specs.declared.seat.Row.{Row}
 use Rattle.cps_port.specs.declared.seat.Seat.{Seat}
 use Rattle.cps_port.specs.Entries.{entry_of}
-use Rattle.cps_port.specs.Cores.{Core}
+use Rattle.cps_port.specs.Shared.{Shared}
 use Rattle.cps_port.specs.Kept.{IsKept}
 
 -- a row that is not published, and an actor before its first event
@@ -43,8 +43,8 @@ abbrev pub seat_parts : List Row → ℕ → List Seat → List BoardPart
 seat_parts rows i [] = []
 seat_parts rows i (s ∷ ss) = seat_part rows i s ∷ seat_parts rows (i + 1) ss
 
-abbrev pub core_of : CpModel → List Row → ℕ → List Seat → Bound → Bound → List BoundsPart → Core
-core_of m rows next seats upper lower bounds = record {
+abbrev pub shared_of : CpModel → List Row → ℕ → List Seat → Bound → Bound → List BoundsPart → Shared
+shared_of m rows next seats upper lower bounds = record {
   model = m;
   board = record { rows = map row_entry rows; next = next; parts = seat_parts rows 0 seats };
   bounds = record { upper = upper; lower = lower; parts = bounds };
@@ -63,6 +63,6 @@ pub record IsStored (rows : List Row) (seats : List Seat) : Type 0 where
   -- an actor's own rows come before the one that it drew
   pub ordered : (i row k : ℕ) → (seat_of seats i).drawn ≡ Some row → row ≤ k → is_own i (row_of rows k) ≡ false
 
-pub record IsWhole (c : Core) (rows : List Row) (seats : List Seat) : Type 0 where
+pub record IsWhole (c : Shared) (rows : List Row) (seats : List Seat) : Type 0 where
   pub kept : IsKept c
   pub stored : IsStored rows seats

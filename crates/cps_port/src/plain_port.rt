@@ -1,6 +1,6 @@
 //! A port of one actor over the shared state.
 ghost use Rattle.std.specs.Prelude.{◌≡◌, ◌<◌, ◌≤◌, length, None};
-ghost use Rattle.cps_port.specs.Cores.{actor_count, board_part};
+ghost use Rattle.cps_port.specs.Shared.{actor_count, board_part};
 
 use crate::entry::{Entry, Share, Taken};
 use crate::port::Port;
@@ -22,7 +22,7 @@ pub struct PlainPort<'a, 'm> {
 
 impl Port for PlainPort<'_, '_> {
     ghost use Rattle.std.specs.Prelude.{length};
-    ghost use Rattle.cps_port.specs.Cores.{part_at};
+    ghost use Rattle.cps_port.specs.Shared.{part_at};
     ghost use Rattle.cps_port.specs.Others.{ActsAlone, unmoved, moved_on};
 
     ghost model = { λ p. p.core.now.model };

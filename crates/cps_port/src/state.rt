@@ -2,12 +2,12 @@
 //!
 //! `step` is the definition made to run: each event changes exactly what `after` says, and answers what `seen` says. A
 //! row holds its entry and the actor that published it; a seat holds counts, from which the specification reads the
-//! entries that the actor took and published (`core_of`), so that no list is kept per actor. Counts of looks stand
+//! entries that the actor took and published (`shared_of`), so that no list is kept per actor. Counts of looks stand
 //! still at their type's last value, since a count that wraps would tell of a look that did not take place.
 ghost use Rattle.std.specs.Prelude.{◌≡◌, ◌<◌, ◌≤◌, ◌^◌, ◌↔◌, IfOk, IsTrue, length};
 ghost use Rattle.cps_model.specs.Start.{objective_start};
-ghost use Rattle.cps_port.specs.Cores.{first_core, actor_count, board_part, next_row, row_drawn, after, seen, counted, IsLawful};
-ghost use Rattle.cps_port.specs.Sound.{IsSoundCore, StaysSound};
+ghost use Rattle.cps_port.specs.Shared.{first_shared, actor_count, board_part, next_row, row_drawn, after, seen, counted, IsLawful};
+ghost use Rattle.cps_port.specs.Sound.{IsSoundShared, StaysSound};
 ghost use Rattle.cps_port.specs.Order.{lesser, greater};
 
 use crate::entry::Entry;
@@ -35,15 +35,15 @@ pub struct CoreState<'a> {
 }
 
 impl<'a> Model for CoreState<'a> {
-    ghost use Rattle.cps_port.specs.Cores.{Core};
+    ghost use Rattle.cps_port.specs.Shared.{Shared};
 
-    ghost Value = { Core };
+    ghost Value = { Shared };
 
-    ghost use Rattle.cps_port.specs.Views.{core_of, IsWhole};
+    ghost use Rattle.cps_port.specs.Views.{shared_of, IsWhole};
 
-    ghost view = { λ s. core_of s.model.now s.rows.items s.next s.seats.items s.upper s.lower s.bounds.items };
+    ghost view = { λ s. shared_of s.model.now s.rows.items s.next s.seats.items s.upper s.lower s.bounds.items };
 
-    ghost invariant = { λ s. IsWhole (core_of s.model.now s.rows.items s.next s.seats.items s.upper s.lower s.bounds.items) s.rows.items s.seats.items };
+    ghost invariant = { λ s. IsWhole (shared_of s.model.now s.rows.items s.next s.seats.items s.upper s.lower s.bounds.items) s.rows.items s.seats.items };
 }
 
 /// One more, up to the type's last value.
@@ -63,8 +63,8 @@ impl<'a> CoreState<'a> {
         rows: u32,
     ) -> Result<CoreState<'a>, AllocError>
         requires { (1 ≤ rows) × (rows ≤ 4096) }
-        ensures first { IfOk result (λ core. core ≡ first_core model.now actors rows) }
-        ensures sound { IfOk result IsSoundCore }
+        ensures first { IfOk result (λ core. core ≡ first_shared model.now actors rows) }
+        ensures sound { IfOk result IsSoundShared }
         ensures lasting { IfOk result StaysSound }
     {
         // Reading the model gives the proof its invariant: the model keeps every rule.
@@ -90,7 +90,7 @@ impl<'a> CoreState<'a> {
         requires lawful { IsLawful self.old actor event }
         ensures state { self.new ≡ after self.old actor event }
         ensures seen { result ≡ seen self.old actor event }
-        ensures sound { IsSoundCore self.old × IsSoundCore self.new }
+        ensures sound { IsSoundShared self.old × IsSoundShared self.new }
     {
         match event {
             Event::Draw => match self.draw(actor) {
@@ -135,7 +135,7 @@ impl<'a> CoreState<'a> {
         requires lawful { IsLawful self.old actor Event.Draw }
         ensures state { self.new ≡ after self.old actor Event.Draw }
         ensures row { result ≡ row_drawn self.old.board }
-        ensures sound { IsSoundCore self.old × IsSoundCore self.new }
+        ensures sound { IsSoundShared self.old × IsSoundShared self.new }
     {
         let mut seat = self.seats[actor as usize];
         let row = self.next;
@@ -155,7 +155,7 @@ impl<'a> CoreState<'a> {
         requires actor { actor < actor_count self.old }
         requires lawful { IsLawful self.old actor (Event.Publish entry) }
         ensures state { self.new ≡ after self.old actor (Event.Publish entry) }
-        ensures sound { IsSoundCore self.old × IsSoundCore self.new }
+        ensures sound { IsSoundShared self.old × IsSoundShared self.new }
     {
         let mut seat = self.seats[actor as usize];
         seat.drawn = None;
@@ -173,7 +173,7 @@ impl<'a> CoreState<'a> {
         requires lawful { IsLawful self.old actor Event.Look }
         ensures state { self.new ≡ after self.old actor Event.Look }
         ensures entry { result ≡ next_row self.old.board actor }
-        ensures sound { IsSoundCore self.old × IsSoundCore self.new }
+        ensures sound { IsSoundShared self.old × IsSoundShared self.new }
     {
         let mut seat = self.seats[actor as usize];
         let row = self.rows[seat.taken as usize];
@@ -192,7 +192,7 @@ impl<'a> CoreState<'a> {
         requires actor { actor < actor_count self.old }
         ensures state { self.new ≡ after self.old actor Event.SeeUpper }
         ensures bound { result ≡ self.old.bounds.upper }
-        ensures sound { IsSoundCore self.old × IsSoundCore self.new }
+        ensures sound { IsSoundShared self.old × IsSoundShared self.new }
     {
         let mut part = self.bounds[actor as usize];
         part.saw_upper = self.upper;
@@ -207,7 +207,7 @@ impl<'a> CoreState<'a> {
         requires actor { actor < actor_count self.old }
         ensures state { self.new ≡ after self.old actor Event.SeeLower }
         ensures bound { result ≡ self.old.bounds.lower }
-        ensures sound { IsSoundCore self.old × IsSoundCore self.new }
+        ensures sound { IsSoundShared self.old × IsSoundShared self.new }
     {
         let mut part = self.bounds[actor as usize];
         part.saw_lower = Some(self.lower);
@@ -223,7 +223,7 @@ impl<'a> CoreState<'a> {
         requires lawful { IsLawful self.old actor (Event.Offer value) }
         ensures state { self.new ≡ after self.old actor (Event.Offer value) }
         ensures bound { result ≡ lesser self.old.bounds.upper (Bound.At value) }
-        ensures sound { IsSoundCore self.old × IsSoundCore self.new }
+        ensures sound { IsSoundShared self.old × IsSoundShared self.new }
     {
         self.upper = lesser(self.upper, Bound::At(value));
         let mut part = self.bounds[actor as usize];
@@ -239,7 +239,7 @@ impl<'a> CoreState<'a> {
         requires lawful { IsLawful self.old actor (Event.Raise bound) }
         ensures state { self.new ≡ after self.old actor (Event.Raise bound) }
         ensures bound { result ≡ greater self.old.bounds.lower bound }
-        ensures sound { IsSoundCore self.old × IsSoundCore self.new }
+        ensures sound { IsSoundShared self.old × IsSoundShared self.new }
     {
         self.lower = greater(self.lower, bound);
         let mut part = self.bounds[actor as usize];

@@ -19,7 +19,7 @@ use Rattle.cps_port.specs.Order.{BoundLe, IsNoLower, lesser, greater, greater_of
 use Rattle.cps_port.specs.Totals.{total}
 use Rattle.cps_port.proofs.Bounding.{BoundLe-trans, lesser-first, lesser-second, greater-first, greater-exchange}
 use Rattle.cps_search.specs.declared.end.End.{End}
-use Rattle.cps_search.specs.declared.end.Said.TheVariants.{Over}
+use Rattle.cps_search.specs.declared.end.Phase.TheVariants.{Over}
 use Rattle.cps_search.specs.declared.end.WorkerKind.{WorkerKind}
 use Rattle.cps_search.specs.Searches.{Search}
 use Rattle.cps_search.specs.Ends.{Ending, IsOver, IsHonestEnding}
@@ -30,7 +30,7 @@ use Rattle.cps_portfolio.specs.Workers.{AnySearch, search_in, kind_in, ending_in
 use Rattle.cps_model.specs.Start.{objective_start}
 use Rattle.cps_port.specs.Incumbents.{IsLowerBound}
 use Rattle.cps_portfolio.specs.Outcomes.{CameTo, EndedWithin, GoesByModel, HasSums, better, best_of}
-use Rattle.cps_portfolio.specs.Crews.{part_at, words_splits, IsReady, Worked, IsSeated, IsCrew, IsDone, IsBack, AreBack, EndedSeen, AreGathered}
+use Rattle.cps_portfolio.specs.Crews.{part_at, words_splits, IsReady, Worked, IsSeated, IsCrew, IsDone, HasReturned, HaveReturned, EndedSeen, AreGathered}
 use Rattle.cps_portfolio.proofs.Going.{has_begun, done_from}
 
 -- ---- lists that grow and shrink at their end
@@ -175,13 +175,13 @@ none_gathered m gap conflicts first k offered raised = record {
   each = All-nil (EndedSeen m gap conflicts k);
 }
 
-pub over_is : (s : Search) (end : End) → s.said ≡ Over end → IsOver s.said
+pub over_is : (s : Search) (end : End) → s.phase ≡ Over end → IsOver s.phase
 over_is s end e = subst IsOver (sym e) tt
 
 pub one_gathered : (m : CpModel) (gap conflicts first count : ℕ) (k j q : BoundsPart) (s : AnySearch) (e : Ending) (ends : List Ending) → AreGathered m gap conflicts (first + 1) count k ends → kind_in s ≡ worker_kind first
-    → IsDone m gap conflicts q s → (search_in s).said ≡ Over e.end → e ≡ ending_in s e.end → j ≡ both_parts k q → AreGathered m gap conflicts first (suc count) j (e ∷ ends)
-one_gathered m gap conflicts first count k j q s e ends h kind_is done said is joined =
-    let both : Over e.end ≡ Over done.end = sym said ∙ done.over in
+    → IsDone m gap conflicts q s → (search_in s).phase ≡ Over e.end → e ≡ ending_in s e.end → j ≡ both_parts k q → AreGathered m gap conflicts first (suc count) j (e ∷ ends)
+one_gathered m gap conflicts first count k j q s e ends h kind_is done phase is joined =
+    let both : Over e.end ≡ Over done.end = sym phase ∙ done.over in
     let same : e.end ≡ done.end = cc in
     let all : e ≡ ending_in s done.end = is ∙ ap (ending_in s) same in
     let honest : IsHonestEnding m gap conflicts q e = subst (IsHonestEnding m gap conflicts q) (sym all) done.honest in
@@ -224,8 +224,8 @@ is_ready m gap conflicts board bounds number c model h =
       imported = (let none = b.imported in omega (arith, none));
     }
 
-pub is_back : (m : CpModel) (gap conflicts : ℕ) (board : Board) (bounds : Bounds) (number : ℕ) (a b : Seated) → IsSeated m gap conflicts board bounds number a → Worked a b → IsBack m gap conflicts board bounds number b
-is_back m gap conflicts board bounds number a b h w = record {
+pub has_returned : (m : CpModel) (gap conflicts : ℕ) (board : Board) (bounds : Bounds) (number : ℕ) (a b : Seated) → IsSeated m gap conflicts board bounds number a → Worked a b → HasReturned m gap conflicts board bounds number b
+has_returned m gap conflicts board bounds number a b h w = record {
   kind = w.kind ∙ h.kind;
   board_is = w.seats.board ∙ h.board_is;
   bounds_is = w.seats.bounds ∙ h.bounds_is;
@@ -236,8 +236,8 @@ pub all_ready : (m : CpModel) (gap conflicts : ℕ) (board : Board) (bounds : Bo
 all_ready m gap conflicts board bounds crew model h i d l = is_ready m gap conflicts board bounds i _ model (h.each i d l)
 
 pub all_back : (m : CpModel) (gap conflicts : ℕ) (board : Board) (bounds : Bounds) (crew after : List Seated) → length after ≡ length crew → IsCrew m gap conflicts board bounds crew
-    → ((i : ℕ) (d : Seated) → i < length crew → Worked (slice_index_or crew i d) (slice_index_or after i d)) → AreBack m gap conflicts board bounds after
-all_back m gap conflicts board bounds crew after len h w = record { each = λ i d l. let k : i < length crew = omega (arith, l, len) in is_back m gap conflicts board bounds i _ _ (h.each i d k) (w i d k) }
+    → ((i : ℕ) (d : Seated) → i < length crew → Worked (slice_index_or crew i d) (slice_index_or after i d)) → HaveReturned m gap conflicts board bounds after
+all_back m gap conflicts board bounds crew after len h w = record { each = λ i d l. let k : i < length crew = omega (arith, l, len) in has_returned m gap conflicts board bounds i _ _ (h.each i d k) (w i d k) }
 
 pub splits_back : (crew after : List Seated) → length after ≡ length crew → ((i : ℕ) (d : Seated) → i < length crew → Worked (slice_index_or crew i d) (slice_index_or after i d)) → total words_splits after ≡ total words_splits crew
 splits_back crew after len w = total_same words_splits crew after len (λ i d l. (w i d l).seats.bounds_splits)

@@ -14,7 +14,7 @@ use Rattle.cps_port.specs.declared.part.Part.{Part}
 use Rattle.cps_branch.specs.declared.guidance.Guidance.{Guidance}
 use Rattle.cps_branch.specs.Guidances.{ChoosesBy}
 use Rattle.cps_search.specs.declared.end.End.{End}
-use Rattle.cps_search.specs.declared.end.Said.{Said}
+use Rattle.cps_search.specs.declared.end.Phase.{Phase}
 use Rattle.cps_search.specs.declared.end.WorkerKind.{WorkerKind}
 use Rattle.cps_search.specs.declared.end.WorkerKind.TheVariants as kinds
 use Rattle.cps_search.specs.declared.turn.Turn.{Turn}
@@ -30,7 +30,7 @@ use Rattle.cps_core_guided.specs.CoreTurns.{TakesCoreTurns, core_ending, no_turn
 use Rattle.cps_core_guided.proofs.CoreEnding.{core-honest}
 use Rattle.cps_core_guided.proofs.CoreLasting.{core_left, core_lowered}
 use Rattle.cps_core_guided.proofs.CoreRunning.{HasCoreRun, core-begins, core-goes-on, core-turns-run}
-use Rattle.cps_core_guided.proofs.CoreTurning.{said-search}
+use Rattle.cps_core_guided.proofs.CoreTurning.{phase-search}
 use Rattle.cps_neighbourhood.specs.Nears.{Near, NearRunsInTurns, TakesNearTurn, TakesNearTurns, aimed}
 use Rattle.cps_neighbourhood.specs.Nears.{none_yet as near_none_yet, one_more as near_one_more}
 use Rattle.cps_neighbourhood.proofs.Counting.{HasNearRun, near_begins, near_goes_on, near_honest, near_turns_run}
@@ -49,12 +49,12 @@ some_of (Some x) e = (x, refl)
 
 -- ---- a worker that begins
 
--- of a model, with memory, and with nothing imported or said
+-- of a model, with memory, with nothing imported, and about to step
 pub record HasBegun (m : CpModel) (s : Search) : Type 0 where
   pub model : s.instance.model ≡ m
   pub refused : s.refused ≡ false
   pub imported : s.imported ≡ 0
-  pub running : IsOver s.said → ⊥
+  pub running : IsOver s.phase → ⊥
 
 pub has_begun : (m : CpModel) (gap conflicts : ℕ) (s : AnySearch) → BeginsAs m gap conflicts s → HasBegun m (search_in s)
 has_begun m gap conflicts (by_guidance kind guidance s) h =
@@ -63,7 +63,7 @@ has_begun m gap conflicts (by_guidance kind guidance s) h =
       model = ap (λ (x : Search). x.instance.model) is ∙ h.begins.first.model;
       refused = ap (λ (x : Search). x.refused) is;
       imported = ap (λ (x : Search). x.imported) is;
-      running = λ over. subst (λ (x : Search). IsOver x.said) is over;
+      running = λ over. subst (λ (x : Search). IsOver x.phase) is over;
     }
 has_begun m gap conflicts (by_cores guidance s) h =
     let b = h.begins.is in
@@ -71,7 +71,7 @@ has_begun m gap conflicts (by_cores guidance s) h =
       model = b.instance ∙ h.begins.first.model;
       refused = ap (λ (x : Search). x.refused) b.search;
       imported = ap (λ (x : Search). x.imported) b.search;
-      running = λ over. subst (λ (x : Said). IsOver x) (said-search s b.ended ∙ ap (λ (x : Search). x.said) b.search) over;
+      running = λ over. subst (λ (x : Phase). IsOver x) (phase-search s b.ended ∙ ap (λ (x : Search). x.phase) b.search) over;
     }
 has_begun m gap conflicts (in_rounds n) h =
     let is = h.is.search in
@@ -79,7 +79,7 @@ has_begun m gap conflicts (in_rounds n) h =
       model = ap (λ (x : Search). x.instance.model) is ∙ h.first.model;
       refused = ap (λ (x : Search). x.refused) is;
       imported = ap (λ (x : Search). x.imported) is;
-      running = λ over. subst (λ (x : Search). IsOver x.said) is over;
+      running = λ over. subst (λ (x : Search). IsOver x.phase) is over;
     }
 
 -- ---- a worker that is handed a solution
@@ -154,7 +154,7 @@ turned_on rows (in_rounds f) (in_rounds m) (by_cores i t) start p q turns turn =
 turned_on rows (in_rounds f) (by_guidance l h s) t start p q turns turn = absurd turns
 turned_on rows (in_rounds f) (by_cores h s) t start p q turns turn = absurd turns
 
-pub still_runs : (rows : ℕ) (s t : AnySearch) (p q : Part) → HasTurned rows s t p q false → IsOver (search_in t).said → ⊥
+pub still_runs : (rows : ℕ) (s t : AnySearch) (p q : Part) → HasTurned rows s t p q false → IsOver (search_in t).phase → ⊥
 still_runs rows (by_guidance k g s) (by_guidance l h t) p q turn = (let last = turn.2 in subst (λ (o : Option End). EndsAs o t) (none_of (end_of last.turn) last.last) last.takes.search.ends)
 still_runs rows (by_cores g s) (by_cores h t) p q turn = (let last = turn.1 in subst (λ (o : Option End). EndsAs o (search_in (by_cores h t))) (none_of (end_of last.turn) last.last) last.takes.search.ends)
 still_runs rows (in_rounds m) (in_rounds n) p q turn = subst (λ (o : Option End). EndsAs o n.search) (none_of (end_of turn.turn) turn.last) turn.takes.ends
@@ -227,7 +227,7 @@ guided_done m gap conflicts rows kind g s u t p n q begins turns last offered ra
     let guided : RunsBy g rows s t p q e.0 = record { before = (u, g); part = n; turns = turns; turn = last.turn; last = last.takes; ended = e.1 } in
     record {
       end = e.0;
-      over = ends.said;
+      over = ends.phase;
       honest = subst (λ (x : CpModel). IsHonestEnding x gap conflicts q.bounds (ending kind (Some g) e.0 t)) b.first.model
           (honest_ending b.instance gap conflicts t p q kind (Some g) e.0 (complete_of kind begins.guided) runs last.after offered raised);
       sums = sums_of kind m t.instance.defs (ap (λ (x : Problem). x.defs) runs.setting.instance ∙ b.first.sums);
@@ -260,7 +260,7 @@ core_done m gap conflicts rows g s u t p n q begins turns last offered raised =
     let run = core-turns-run ChoosesBy (λ before clause restart after. after ≡ before) (λ before after. after ≡ before) rows (s, g) (t, g) p q e.0 runs last.takes.before in
     record {
       end = e.0;
-      over = run.said;
+      over = run.phase;
       honest = subst (λ (x : CpModel). IsHonestEnding x gap conflicts q.bounds (core_ending e.0 t)) b.first.model
           (core-honest ChoosesBy (λ before clause restart after. after ≡ before) (λ before after. after ≡ before) b.instance gap conflicts rows (s, g) (t, g) p q e.0 b.is runs last.takes.before last.takes.after offered raised);
       sums = tt;
@@ -287,7 +287,7 @@ near_done m gap conflicts rows s u t p n q begins turns last offered raised =
     let instance : t.search.instance ≡ begins.instance = run.setting.instance ∙ ap (λ (x : Search). x.instance) begins.is.search in
     record {
       end = e.0;
-      over = run.said;
+      over = run.phase;
       honest = subst (λ (x : CpModel). IsHonestEnding x gap conflicts q.bounds (ending kinds.Near None e.0 t.search)) begins.first.model
           (near_honest begins.instance gap conflicts rows begins.draws s t p q e.0 begins.is runs sound last.after offered raised);
       sums = ap (λ (x : Problem). x.defs) instance ∙ begins.first.sums;

@@ -11,7 +11,7 @@ use Rattle.cps_model.specs.declared.bound.Bound.{Bound}
 use Rattle.cps_model.specs.declared.bound.Bound.TheVariants.{At}
 use Rattle.cps_model.specs.Start.{objective_start}
 use Rattle.cps_port.specs.declared.entry.Entry.{Entry}
-use Rattle.cps_port.specs.Cores.{Core, part_at, actor_count, first_core}
+use Rattle.cps_port.specs.Shared.{Shared, part_at, actor_count, first_shared}
 use Rattle.cps_port.specs.Parts.{newcomer, no_rows, no_bounds}
 use Rattle.cps_port.specs.declared.part.BoardPart.{BoardPart}
 use Rattle.cps_port.specs.declared.part.BoundsPart.{BoundsPart}
@@ -19,16 +19,16 @@ use Rattle.cps_port.specs.declared.part.Part.{Part}
 use Rattle.cps_port.specs.Others.{ActsAlone}
 use Rattle.cps_port.specs.Order.{BoundLe, IsNoLower, lesser, raised_above}
 use Rattle.cps_port.specs.Incumbents.{IsLowerBound}
-use Rattle.cps_port.specs.Sound.{IsSoundCore, least_offer, greatest_raise}
+use Rattle.cps_port.specs.Sound.{IsSoundShared, least_offer, greatest_raise}
 use Rattle.cps_search.specs.declared.end.WorkerKind.{WorkerKind}
-use Rattle.cps_search.specs.declared.end.Said.{Said}
+use Rattle.cps_search.specs.declared.end.Phase.{Phase}
 use Rattle.cps_search.specs.Ends.{Ending, IsHonestEnding, IsOver}
 use Rattle.cps_search.specs.Following.{best_bound}
 use Rattle.cps_portfolio.specs.declared.interleaved.Turning.{Turning}
 use Rattle.cps_portfolio.specs.Workers.{AnySearch, search_in, ending_in, known_of, worker_search, kind_of, worker_kind, HasTurned, TakesTurnsAs}
 use Rattle.cps_portfolio.specs.Outcomes.{CameTo, EndedWithin, GoesByModel, best_of, greatest_raised}
 use Rattle.cps_portfolio.specs.Crews.{IsDone}
-use Rattle.cps_portfolio.specs.Turning.{AtWork, IsTurning, AreTurning, IsFresh, AreFresh, one_at_work, count_at_work, end_said, ended_of, place_at_work, drawn_place, TakesTurnAt, TakesDrawnTurns}
+use Rattle.cps_portfolio.specs.Turning.{AtWork, IsTurning, AreTurning, IsFresh, AreFresh, one_at_work, count_at_work, end_of_phase, ended_of, place_at_work, drawn_place, TakesTurnAt, TakesDrawnTurns}
 use Rattle.cps_portfolio.specs.Turning.{one_more as one_drawn}
 use Rattle.cps_portfolio.proofs.Going.{has_begun, has_kept, none_taken, turned_on, still_runs, left_in, lighter_in, done_from}
 use Rattle.cps_portfolio.proofs.Crews.{lesser_best, over_is}
@@ -65,7 +65,7 @@ module _ {A : Type 0} where
 
 -- ---- a worker's turn among others
 
-pub at_work : (m : CpModel) (gap conflicts rows : ℕ) (c : Core) (crew : List Turning) (i : ℕ) (d : Turning) → AreTurning m gap conflicts rows c crew → i < length crew → (get_or crew i d).over ≡ false
+pub at_work : (m : CpModel) (gap conflicts rows : ℕ) (c : Shared) (crew : List Turning) (i : ℕ) (d : Turning) → AreTurning m gap conflicts rows c crew → i < length crew → (get_or crew i d).over ≡ false
     → AtWork m gap conflicts rows (known_of (get_or crew i d).worker) (part_at c i)
 at_work m gap conflicts rows c crew i d h l still = (h.each i d l).at_work still
 
@@ -87,7 +87,7 @@ work_imported m gap conflicts rows s q h =
     let kept = has_kept rows h.first s newcomer q h.turns in
     kept.moves.imports (let none = b.imported in omega (arith, none))
 
-turns_on : (m : CpModel) (gap conflicts rows : ℕ) (c d : Core) (i : ℕ) (w v : Turning) → IsTurning m gap conflicts rows c i w → w.over ≡ false → kind_of v.worker ≡ kind_of w.worker
+turns_on : (m : CpModel) (gap conflicts rows : ℕ) (c d : Shared) (i : ℕ) (w v : Turning) → IsTurning m gap conflicts rows c i w → w.over ≡ false → kind_of v.worker ≡ kind_of w.worker
     → HasTurned rows (known_of w.worker) (known_of v.worker) (part_at c i) (part_at d i) v.over → IsTurning m gap conflicts rows d i v
 turns_on m gap conflicts rows c d i w v h still kind turn =
     let a = h.at_work still in
@@ -103,7 +103,7 @@ turns_on m gap conflicts rows c d i w v h still kind turn =
           done_from m gap conflicts rows a.first t newcomer (part_at d i) a.begins refl refl (record { before = s; part = part_at c i; turns = a.turns; last = last });
     }
 
-pub all_turn_on : (m : CpModel) (gap conflicts rows : ℕ) (c d : Core) (crew : List Turning) (k : ℕ) (w v : Turning) → AreTurning m gap conflicts rows c crew → k < length crew → get_or crew k w ≡ w → w.over ≡ false → kind_of v.worker ≡ kind_of w.worker
+pub all_turn_on : (m : CpModel) (gap conflicts rows : ℕ) (c d : Shared) (crew : List Turning) (k : ℕ) (w v : Turning) → AreTurning m gap conflicts rows c crew → k < length crew → get_or crew k w ≡ w → w.over ≡ false → kind_of v.worker ≡ kind_of w.worker
     → HasTurned rows (known_of w.worker) (known_of v.worker) (part_at c k) (part_at d k) v.over → ((i : ℕ) → i ≢ k → part_at d i ≡ part_at c i) → AreTurning m gap conflicts rows d (set crew k v)
 all_turn_on m gap conflicts rows c d crew k w v h l is still kind turn others =
     let here = subst (λ (x : Turning). IsTurning m gap conflicts rows c k x) is (h.each k w l) in
@@ -117,10 +117,10 @@ all_turn_on m gap conflicts rows c d crew k w v h l is still kind turn others =
 -- ---- why the turns come to an end
 
 -- what a worker has left to do
-abbrev pub weigh : ℕ → Core → ℕ → Turning → ℕ
+abbrev pub weigh : ℕ → Shared → ℕ → Turning → ℕ
 weigh rows c i w = if w.over then 0 else 1 + left_in (known_of w.worker) rows (part_at c i).board
 
-lighter : (rows : ℕ) (c d : Core) (k : ℕ) (w v : Turning) → w.over ≡ false → HasTurned rows (known_of w.worker) (known_of v.worker) (part_at c k) (part_at d k) v.over → weigh rows d k v < weigh rows c k w
+lighter : (rows : ℕ) (c d : Shared) (k : ℕ) (w v : Turning) → w.over ≡ false → HasTurned rows (known_of w.worker) (known_of v.worker) (part_at c k) (part_at d k) v.over → weigh rows d k v < weigh rows c k w
 lighter rows c d k w v still turn = go v.over refl
   where
     left : ℕ
@@ -139,7 +139,7 @@ lighter rows c d k w v still turn = go v.over refl
         let q : weigh rows d k v ≡ 1 + right = ap (λ (b : Bool). if b then zero else 1 + right) is in
         omega (arith, was, less, q)
 
-pub all_lighter : (rows : ℕ) (c d : Core) (crew : List Turning) (k : ℕ) (w v : Turning) → k < length crew → get_or crew k w ≡ w → w.over ≡ false → HasTurned rows (known_of w.worker) (known_of v.worker) (part_at c k) (part_at d k) v.over
+pub all_lighter : (rows : ℕ) (c d : Shared) (crew : List Turning) (k : ℕ) (w v : Turning) → k < length crew → get_or crew k w ≡ w → w.over ≡ false → HasTurned rows (known_of w.worker) (known_of v.worker) (part_at c k) (part_at d k) v.over
     → ((i : ℕ) → i ≢ k → part_at d i ≡ part_at c i) → total_by (weigh rows d) (set crew k v) < total_by (weigh rows c) crew
 all_lighter rows c d crew k w v l is still turn others =
     less_by (weigh rows c) (weigh rows d) crew k v w l (subst (λ (x : Turning). weigh rows d k v < weigh rows c k x) (sym is) (lighter rows c d k w v still turn))
@@ -185,7 +185,7 @@ some_at_work zero h = absurd (h refl)
 some_at_work (suc n) h = omega arith
 
 -- one turn more, of the worker that was drawn
-pub drawn_more : (rows : ℕ) (c : Core) (crew : List Turning) (begun : Lcg) (d e : Core) (later : List Turning) (next : Turning) (words after : Lcg) (word count place : ℕ) (any : Turning)
+pub drawn_more : (rows : ℕ) (c : Shared) (crew : List Turning) (begun : Lcg) (d e : Shared) (later : List Turning) (next : Turning) (words after : Lcg) (word count place : ℕ) (any : Turning)
     → TakesDrawnTurns rows c crew begun d later words → (word, after) ≡ pcg32 words → count ≡ count_at_work later → (count ≡ 0 → ⊥) → place ≡ place_at_work later (word % count) → place < length later
     → HasTurned rows (known_of (get_or later place any).worker) (known_of next.worker) (part_at d place) (part_at e place) next.over → ActsAlone place place d e
     → TakesDrawnTurns rows c crew begun e (set later place next) after
@@ -209,21 +209,21 @@ replicated zero i x = refl
 replicated (suc n) zero x = refl
 replicated (suc n) (suc i) x = replicated n i x
 
-fresh_part : (m : CpModel) (actors rows i : ℕ) → part_at (first_core m actors rows) i ≡ newcomer
+fresh_part : (m : CpModel) (actors rows i : ℕ) → part_at (first_shared m actors rows) i ≡ newcomer
 fresh_part m actors rows i = ap₂ (λ (b : BoardPart) (q : BoundsPart). let p : Part = record { board = b; bounds = q } in p) (replicated actors i no_rows) (replicated actors i no_bounds)
 
 -- a state begins with as many rows as it was made with
-pub first_rows : (m : CpModel) (actors rows : ℕ) → length (first_core m actors rows).board.rows ≡ rows
+pub first_rows : (m : CpModel) (actors rows : ℕ) → length (first_shared m actors rows).board.rows ≡ rows
 first_rows m actors rows = length-replicate {A = Option Entry} rows None
 
-pub all_fresh : (m : CpModel) (gap conflicts seed board actors rows : ℕ) (c : Core) (crew : List Turning) → c ≡ first_core m actors rows → AreFresh m gap conflicts seed crew → AreTurning m gap conflicts board c crew
+pub all_fresh : (m : CpModel) (gap conflicts seed board actors rows : ℕ) (c : Shared) (crew : List Turning) → c ≡ first_shared m actors rows → AreFresh m gap conflicts seed crew → AreTurning m gap conflicts board c crew
 all_fresh m gap conflicts seed board actors rows c crew is h = record { each = λ i d l. one i (get_or crew i d) (h.each i d l) }
   where
     one : (i : ℕ) (w : Turning) → IsFresh m gap conflicts seed i w → IsTurning m gap conflicts board c i w
     one i w k =
         let s = known_of w.worker in
         let b = has_begun m gap conflicts s k.begins in
-        let part : part_at c i ≡ newcomer = ap (λ (x : Core). part_at x i) is ∙ fresh_part m actors rows i in
+        let part : part_at c i ≡ newcomer = ap (λ (x : Shared). part_at x i) is ∙ fresh_part m actors rows i in
         record {
           kind = k.kind;
           at_work = λ still. record {
@@ -260,7 +260,7 @@ module _ (m : CpModel) (gap conflicts : ℕ) (upper lower : Bound) where
       let rest = concluded (first + 1) ws ps (omega (arith, len))
       (λ i d l. subst (λ (j : ℕ). IsConcluded m gap conflicts upper lower j (get_or ps i no_bounds) (get_or ws i d)) (let q : first + suc i ≡ first + 1 + i = omega arith in q) (h (suc i) d (omega (arith, l)))) in
       let s = known_of w.worker in
-      let is : ended_of w ≡ ending_in s k.done.end = ap (λ (y : Said). ending_in s (end_said y)) k.done.over in
+      let is : ended_of w ≡ ending_in s k.done.end = ap (λ (y : Phase). ending_in s (end_of_phase y)) k.done.over in
       let honest : IsHonestEnding m gap conflicts p (ended_of w) = subst (IsHonestEnding m gap conflicts p) (sym is) k.done.honest in
       record {
         kinds = ap₂ (λ (x : WorkerKind) (xs : List WorkerKind). x ∷ xs) k.kind rest.kinds;
@@ -276,7 +276,7 @@ module _ (m : CpModel) (gap conflicts : ℕ) (upper lower : Bound) where
         }) rest.each;
       }
 
-pub came_in_turns : (m : CpModel) (gap conflicts rows workers : ℕ) (c : Core) (crew : List Turning) → IsSoundCore c → c.model ≡ m → length crew ≡ workers → actor_count c ≡ length crew → AreTurning m gap conflicts rows c crew → count_at_work crew ≡ 0
+pub came_in_turns : (m : CpModel) (gap conflicts rows workers : ℕ) (c : Shared) (crew : List Turning) → IsSoundShared c → c.model ≡ m → length crew ≡ workers → actor_count c ≡ length crew → AreTurning m gap conflicts rows c crew → count_at_work crew ≡ 0
     → CameTo m gap conflicts workers c.bounds.upper c.bounds.lower (map ended_of crew)
 came_in_turns m gap conflicts rows workers c crew sound model len actors h none =
     let all = concluded m gap conflicts c.bounds.upper c.bounds.lower 0 crew c.bounds.parts (sound.both ∙ actors) (λ i d l.
@@ -291,5 +291,5 @@ came_in_turns m gap conflicts rows workers c crew sound model len actors h none 
       each = all.each;
     }
 
-pub each_over : (m : CpModel) (gap conflicts rows : ℕ) (c : Core) (crew : List Turning) → AreTurning m gap conflicts rows c crew → count_at_work crew ≡ 0 → All (λ (w : Turning). IsOver (worker_search w.worker).said) crew
+pub each_over : (m : CpModel) (gap conflicts rows : ℕ) (c : Shared) (crew : List Turning) → AreTurning m gap conflicts rows c crew → count_at_work crew ≡ 0 → All (λ (w : Turning). IsOver (worker_search w.worker).phase) crew
 each_over m gap conflicts rows c crew h none i d l = let k = (h.each i d l).done (all_over crew none i d l) in over_is (worker_search (get_or crew i d).worker) k.end k.over

@@ -12,7 +12,7 @@ use Rattle.cps_port.specs.declared.part.BoundsPart.{BoundsPart}
 use Rattle.cps_port.specs.declared.part.Part.{Part}
 use Rattle.cps_port.specs.Order.{BoundLe, IsNoLower, raised_above}
 use Rattle.cps_search.specs.declared.end.End.{End}
-use Rattle.cps_search.specs.declared.end.Said.TheVariants.{Over}
+use Rattle.cps_search.specs.declared.end.Phase.TheVariants.{Over}
 use Rattle.cps_search.specs.Ends.{Ending, IsOver, IsHonestEnding}
 use Rattle.cps_search.specs.Following.{best_bound}
 use Rattle.cps_portfolio.specs.declared.seats.Seated.{Seated}
@@ -32,7 +32,7 @@ words_splits c = words.splits_of c.port.bounds_seat
 -- a worker of a model that may begin
 pub record IsReady (m : CpModel) (c : Seated) : Type 0 where
   pub of_model : (worker_search c.worker).instance.model ≡ m
-  pub running : IsOver (worker_search c.worker).said → ⊥
+  pub running : IsOver (worker_search c.worker).phase → ⊥
   pub memory : (worker_search c.worker).refused ≡ false
   pub model : words.model_of c.port.bounds.now ≡ (worker_search c.worker).instance.model
   pub imported : (worker_search c.worker).imported ≤ length (boards.part_of c.port.board_seat).taken
@@ -60,20 +60,21 @@ pub record IsCrew (m : CpModel) (gap conflicts : ℕ) (board : Board) (bounds : 
 -- a worker that ended honestly, by its guidance, its cores or its rounds
 pub record IsDone (m : CpModel) (gap conflicts : ℕ) (q : BoundsPart) (s : AnySearch) : Type 0 where
   pub end : End
-  pub over : (search_in s).said ≡ Over end
+  pub over : (search_in s).phase ≡ Over end
   pub honest : IsHonestEnding m gap conflicts q (ending_in s end)
   pub sums : HasSums (kind_in s) m (search_in s).instance.defs
   pub goes : GoesByModel m gap conflicts (ending_in s end)
 
 -- the worker of this number has ended honestly, or ran out of memory
-pub record IsBack (m : CpModel) (gap conflicts : ℕ) (board : Board) (bounds : Bounds) (number : ℕ) (c : Seated) : Type 0 where
+pub record HasReturned (m : CpModel) (gap conflicts : ℕ) (board : Board) (bounds : Bounds) (number : ℕ) (c : Seated) : Type 0 where
   pub kind : kind_of c.worker ≡ worker_kind number
   pub board_is : c.port.board.now ≡ board
   pub bounds_is : c.port.bounds.now ≡ bounds
   pub done : c.refused ≡ false → IsDone m gap conflicts (words_part c) (known_of c.worker)
 
-pub record AreBack (m : CpModel) (gap conflicts : ℕ) (board : Board) (bounds : Bounds) (crew : List Seated) : Type 0 where
-  pub each : (i : ℕ) (d : Seated) → i < length crew → IsBack m gap conflicts board bounds i (slice_index_or crew i d)
+pub record HaveReturned (m : CpModel) (gap conflicts : ℕ) (board : Board) (bounds : Bounds) (crew : List Seated) : Type 0 where
+  pub each : (i : ℕ) (d : Seated) → i < length crew
+      → HasReturned m gap conflicts board bounds i (slice_index_or crew i d)
 
 -- a worker ended honestly, and saw nothing better than what a seat knows
 pub record EndedSeen (m : CpModel) (gap conflicts : ℕ) (k : BoundsPart) (e : Ending) : Type 0 where

@@ -6,13 +6,13 @@ use Rattle.cps_model.specs.declared.model.CpModel.{CpModel}
 use Rattle.cps_options.specs.declared.options.Options.{Options}
 use Rattle.cps_port.specs.declared.part.Part.{Part}
 use Rattle.cps_port.specs.Parts.{newcomer}
-use Rattle.cps_port.specs.Cores.{Core, part_at, first_core}
+use Rattle.cps_port.specs.Shared.{Shared, part_at, first_shared}
 use Rattle.cps_port.specs.Others.{ActsAlone}
 use Rattle.cps_port.specs.Totals.{total}
 use Rattle.cps_search.specs.declared.end.End.{End}
 use Rattle.cps_search.specs.declared.end.End.TheVariants as ends
-use Rattle.cps_search.specs.declared.end.Said.{Said}
-use Rattle.cps_search.specs.declared.end.Said.TheVariants.{Nothing, Due, Over}
+use Rattle.cps_search.specs.declared.end.Phase.{Phase}
+use Rattle.cps_search.specs.declared.end.Phase.TheVariants.{Stepping, Deciding, Over}
 use Rattle.cps_search.specs.Ends.{Ending, IsOver}
 use Rattle.cps_portfolio.specs.declared.interleaved.Turning.{Turning}
 use Rattle.cps_portfolio.specs.Workers.{AnySearch, search_in, ending_in, known_of, worker_search, kind_of, worker_kind, BeginsAs, DrawsBy, TakesTurnsAs, HasTurned}
@@ -25,15 +25,15 @@ pub record AtWork (m : CpModel) (gap conflicts rows : ℕ) (s : AnySearch) (q : 
   pub first : AnySearch
   pub begins : BeginsAs m gap conflicts first
   pub turns : TakesTurnsAs rows first s newcomer q
-  pub running : IsOver (search_in s).said → ⊥
+  pub running : IsOver (search_in s).phase → ⊥
 
 -- the worker of this number is at work, or has ended honestly
-pub record IsTurning (m : CpModel) (gap conflicts rows : ℕ) (c : Core) (number : ℕ) (w : Turning) : Type 0 where
+pub record IsTurning (m : CpModel) (gap conflicts rows : ℕ) (c : Shared) (number : ℕ) (w : Turning) : Type 0 where
   pub kind : kind_of w.worker ≡ worker_kind number
   pub at_work : w.over ≡ false → AtWork m gap conflicts rows (known_of w.worker) (part_at c number)
   pub done : w.over ≡ true → IsDone m gap conflicts (part_at c number).bounds (known_of w.worker)
 
-pub record AreTurning (m : CpModel) (gap conflicts rows : ℕ) (c : Core) (crew : List Turning) : Type 0 where
+pub record AreTurning (m : CpModel) (gap conflicts rows : ℕ) (c : Shared) (crew : List Turning) : Type 0 where
   pub each : (i : ℕ) (d : Turning) → i < length crew → IsTurning m gap conflicts rows c i (slice_index_or crew i d)
 
 abbrev pub one_at_work : Turning → ℕ
@@ -55,13 +55,13 @@ pub record AreFresh (m : CpModel) (gap conflicts seed : ℕ) (crew : List Turnin
 
 -- ---- what is seen of workers that have ended
 
-abbrev pub end_said : Said → End
-end_said Nothing = ends.RoundsDone
-end_said Due = ends.RoundsDone
-end_said (Over end) = end
+abbrev pub end_of_phase : Phase → End
+end_of_phase Stepping = ends.RoundsDone
+end_of_phase Deciding = ends.RoundsDone
+end_of_phase (Over end) = end
 
 abbrev pub ended_of : Turning → Ending
-ended_of w = ending_in (known_of w.worker) (end_said (worker_search w.worker).said)
+ended_of w = ending_in (known_of w.worker) (end_of_phase (worker_search w.worker).phase)
 
 -- ---- the drawn schedule
 
@@ -82,16 +82,16 @@ words_of_seed seed = started 64 multiplier_64 seed (increment_of 64 0)
 
 -- the worker at this place took a turn, alone at the state, and is `next` after it, of the same kind and with the same
 -- guidance
-pub record TakesTurnAt (place rows : ℕ) (c d : Core) (crew : List Turning) (next : Turning) : Type 0 where
+pub record TakesTurnAt (place rows : ℕ) (c d : Shared) (crew : List Turning) (next : Turning) : Type 0 where
   pub some_left : 0 < count_at_work crew
   pub alone : ActsAlone place place c d
   pub turned : HasTurned rows (known_of (slice_index_or crew place next).worker) (known_of next.worker)
       (part_at c place) (part_at d place) next.over
 
 -- turns one after another, each of the worker that was drawn
-pub data TakesDrawnTurns (rows : ℕ) (c : Core) (crew : List Turning) (words : Lcg) : Core → List Turning → Lcg → Type 0 where
+pub data TakesDrawnTurns (rows : ℕ) (c : Shared) (crew : List Turning) (words : Lcg) : Shared → List Turning → Lcg → Type 0 where
   none_yet : TakesDrawnTurns rows c crew words c crew words
-  one_more : (d e : Core) (later : List Turning) (next : Turning) (left : Lcg)
+  one_more : (d e : Shared) (later : List Turning) (next : Turning) (left : Lcg)
       → TakesDrawnTurns rows c crew words d later left → TakesTurnAt (drawn_place later left) rows d e later next
       → TakesDrawnTurns rows c crew words e (slice_set later (drawn_place later left) next) (pcg32 left).1
 
@@ -100,9 +100,10 @@ pub record IsDrawnRun (m : CpModel) (options : Options) (rows : ℕ) (es : List 
   pub crew : List Turning
   pub count : length crew ≡ options.workers
   pub begins : AreFresh m options.gap options.conflicts options.seed crew
-  pub core : Core
+  pub core : Shared
   pub last : List Turning
   pub words : Lcg
-  pub turns : TakesDrawnTurns rows (first_core m options.workers rows) crew (words_of_seed options.seed) core last words
+  pub turns : TakesDrawnTurns rows (first_shared m options.workers rows) crew
+      (words_of_seed options.seed) core last words
   pub all_over : count_at_work last ≡ 0
   pub seen : es ≡ map ended_of last

@@ -7,9 +7,9 @@
 ghost use Rattle.std.specs.Prelude.{◌≡◌, ℕ, ◌<◌, ◌≤◌, length, vec_len, All, IfOk, OnOk, map, false, None, slice_index_or};
 ghost use Rattle.rand_pcg.specs.Lcg.{Lcg};
 ghost use Rattle.cps_options.specs.Ranges.{AreInRange};
-ghost use Rattle.cps_port.specs.Cores.{actor_count, board_part, part_at, after};
+ghost use Rattle.cps_port.specs.Shared.{actor_count, board_part, part_at, after};
 ghost use Rattle.cps_port.specs.Others.{ActsAlone};
-ghost use Rattle.cps_port.specs.Sound.{IsSoundCore};
+ghost use Rattle.cps_port.specs.Sound.{IsSoundShared};
 ghost use Rattle.cps_kinds.specs.Kinds.{AreAllPropagated};
 ghost use Rattle.cps_search.specs.Ends.{IsOver};
 ghost use Rattle.cps_portfolio.specs.Workers.{known_of, worker_search, kind_of, HasTurned};
@@ -107,7 +107,7 @@ fn take_turn(
     requires actor { actor < actor_count port.old.core.now }
     requires idle { (board_part port.old.core.now.board actor).drawn ≡ None }
     requires memory { (worker_search worker.old).refused ≡ false }
-    requires running { IsOver (worker_search worker.old).said → ⊥ }
+    requires running { IsOver (worker_search worker.old).phase → ⊥ }
     requires model { port.old.core.now.model ≡ (worker_search worker.old).instance.model }
     requires pool { pool.old.model ≡ (worker_search worker.old).instance.model }
     requires imported { (worker_search worker.old).imported ≤ length (part_at port.old.core.now actor).board.taken }
@@ -165,7 +165,7 @@ fn take_turns(
 fn upper_of(core: &mut CoreState<'_>) -> Bound
     requires { 0 < actor_count core.old }
     ensures bound { result ≡ core.old.bounds.upper }
-    ensures sound { IsSoundCore core.old }
+    ensures sound { IsSoundShared core.old }
     ensures after { core.new ≡ after core.old 0 Event.SeeUpper }
 {
     match core.step(0, Event::SeeUpper) {
@@ -189,7 +189,7 @@ fn lower_of(core: &mut CoreState<'_>) -> Bound
 
 /// The ends of all workers.
 fn finish_all(alloc: Global, mut crew: Vec<Turning<'_>>) -> Result<Vec<AnyEnded>, AllocError>
-    requires { All (λ c. IsOver (worker_search c.worker).said) crew.items }
+    requires { All (λ c. IsOver (worker_search c.worker).phase) crew.items }
     ensures { IfOk result (λ ends. ends.items ≡ map ended_of crew.entry.items) }
 {
     let mut ends = Vec::new(alloc);

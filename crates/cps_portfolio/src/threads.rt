@@ -12,7 +12,7 @@ ghost use Rattle.cps_bounds.specs.Rule.{all_splits};
 ghost use Rattle.cps_options.specs.Ranges.{AreInRange};
 ghost use Rattle.cps_kinds.specs.Kinds.{AreAllPropagated};
 ghost use Rattle.cps_portfolio.specs.Outcomes.{IsGoodOutcome};
-ghost use Rattle.cps_portfolio.specs.Crews.{words_splits, IsSeated, IsCrew, AreBack, AreGathered};
+ghost use Rattle.cps_portfolio.specs.Crews.{words_splits, IsSeated, IsCrew, HaveReturned, AreGathered};
 
 use crate::conclusion::outcome_of;
 use crate::ended::AnyEnded;
@@ -115,7 +115,7 @@ fn gather<'a>(
     requires idle { ((words.part_of kept.old.bounds_seat).offered ≡ Bound.Infinite)
         × ((words.part_of kept.old.bounds_seat).raised ≡ None) }
     requires splits { words.splits_of kept.old.bounds_seat + total words_splits crew.items ≡ all_splits }
-    requires crew { AreBack model.now options.now.gap options.now.conflicts kept.old.board.now kept.old.bounds.now crew.items }
+    requires crew { HaveReturned model.now options.now.gap options.now.conflicts kept.old.board.now kept.old.bounds.now crew.items }
     ensures tables { (kept.new.board.now ≡ kept.old.board.now) × (kept.new.bounds.now ≡ kept.old.bounds.now) }
     ensures splits { OnOk result (words.splits_of kept.new.bounds_seat ≡ all_splits) }
     ensures gathered { IfOk result

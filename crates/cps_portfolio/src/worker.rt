@@ -22,7 +22,7 @@ use cps_neighbourhood::NearWorker;
 use cps_options::Options;
 use cps_pool::Pool;
 use cps_port::Port;
-use cps_search::{ActivityBrancher, Brancher, FixedBrancher, Said, Turn, Worker, WorkerKind};
+use cps_search::{ActivityBrancher, Brancher, FixedBrancher, Phase, Turn, Worker, WorkerKind};
 use cps_validate::ValidModel;
 use std::alloc::{AllocError, Global};
 
@@ -36,12 +36,12 @@ pub enum AnyWorker<'a> {
     /// Assumes that each part of the objective stays at its bound, and raises the lower bound by each core.
     Core(CoreWorker<'a, AnyPropagator, ActivityBrancher>),
     /// Searches near solutions that workers found.
-    Near(NearSeeker<'a>),
+    Near(AimedWorker<'a>),
 }
 
 /// A neighbourhood worker, and how much of the pool it has seen.
 #[derive(Drop)]
-pub struct NearSeeker<'a> {
+pub struct AimedWorker<'a> {
     /// The worker.
     pub worker: NearWorker<'a, AnyPropagator>,
     /// How many solutions the pool had when the worker was last handed one.
@@ -108,7 +108,7 @@ fn near_worker<'a>(
     model: &'a ValidModel,
     options: &Options,
     number: u32,
-) -> Result<NearSeeker<'a>, AllocError>
+) -> Result<AimedWorker<'a>, AllocError>
     requires range { AreInRange options.now }
     requires kinds { AreAllPropagated model.now }
     ensures begins { IfOk result (λ near. BeginsRounds model.entry.now options.now.gap options.now.conflicts near.worker) }
@@ -123,7 +123,7 @@ fn near_worker<'a>(
     let instance = Instance::of(alloc, model)?;
     let engine = engine_of(alloc, &instance)?;
     let worker = NearWorker::new(alloc, instance, engine, conflicts, seed, number, gap)?;
-    Ok(NearSeeker { worker, handed: 0 })
+    Ok(AimedWorker { worker, handed: 0 })
 }
 
 /// Whether a turn ends its worker.
@@ -154,7 +154,7 @@ fn turn_of<B: Brancher + Drop, Q: Port, F: Pool>(
     port: &mut Q,
     pool: &mut F,
 ) -> Result<bool, AllocError>
-    requires running { IsOver worker.old.0.said → ⊥ }
+    requires running { IsOver worker.old.0.phase → ⊥ }
     requires model { Q.model port.old ≡ worker.old.0.instance.model }
     requires pool { F.model pool.old ≡ worker.old.0.instance.model }
     requires imported { worker.old.0.imported ≤ length (Q.part port.old).board.taken }
@@ -174,7 +174,7 @@ fn core_turn_of<B: Brancher + Drop, Q: Port, F: Pool>(
     port: &mut Q,
     pool: &mut F,
 ) -> Result<bool, AllocError>
-    requires running { IsOver (whole worker.old.0).said → ⊥ }
+    requires running { IsOver (whole worker.old.0).phase → ⊥ }
     requires model { Q.model port.old ≡ worker.old.0.search.instance.model }
     requires pool { F.model pool.old ≡ worker.old.0.search.instance.model }
     requires imported { worker.old.0.search.imported ≤ length (Q.part port.old).board.taken }
@@ -189,7 +189,7 @@ fn core_turn_of<B: Brancher + Drop, Q: Port, F: Pool>(
 }
 
 /// Hands a neighbourhood worker the pool's last solution, unless it was handed that one before.
-fn aim<F: Pool>(near: &mut NearSeeker<'_>, pool: &F)
+fn aim<F: Pool>(near: &mut AimedWorker<'_>, pool: &F)
     requires memory { near.old.worker.search.refused ≡ false }
     requires pool { F.model pool.now ≡ near.old.worker.search.instance.model }
     ensures { IsAimed near.old.worker near.new.worker }
@@ -205,12 +205,12 @@ fn aim<F: Pool>(near: &mut NearSeeker<'_>, pool: &F)
 
 /// Aims a neighbourhood worker and lets it take one turn. Answers whether it was the worker's last.
 fn near_turn_of<Q: Port, F: Pool>(
-    near: &mut NearSeeker<'_>,
+    near: &mut AimedWorker<'_>,
     port: &mut Q,
     pool: &mut F,
 ) -> Result<bool, AllocError>
     requires memory { near.old.worker.search.refused ≡ false }
-    requires running { IsOver near.old.worker.search.said → ⊥ }
+    requires running { IsOver near.old.worker.search.phase → ⊥ }
     requires model { Q.model port.old ≡ near.old.worker.search.instance.model }
     requires pool { F.model pool.old ≡ near.old.worker.search.instance.model }
     requires imported { near.old.worker.search.imported ≤ length (Q.part port.old).board.taken }
@@ -262,7 +262,7 @@ impl<'a> AnyWorker<'a> {
     /// Takes turns until one ends the worker.
     pub fn run<Q: Port, F: Pool>(&mut self, port: &mut Q, pool: &mut F) -> Result<(), AllocError>
         requires memory { (worker_search self.old).refused ≡ false }
-        requires running { IsOver (worker_search self.old).said → ⊥ }
+        requires running { IsOver (worker_search self.old).phase → ⊥ }
         requires model { Q.model port.old ≡ (worker_search self.old).instance.model }
         requires pool { F.model pool.old ≡ (worker_search self.old).instance.model }
         requires imported { (worker_search self.old).imported ≤ length (Q.part port.old).board.taken }
@@ -283,7 +283,7 @@ impl<'a> AnyWorker<'a> {
     /// neighbourhood worker is handed the pool's last solution before its turn.
     pub fn turn<Q: Port, F: Pool>(&mut self, port: &mut Q, pool: &mut F) -> Result<bool, AllocError>
         requires memory { (worker_search self.old).refused ≡ false }
-        requires running { IsOver (worker_search self.old).said → ⊥ }
+        requires running { IsOver (worker_search self.old).phase → ⊥ }
         requires model { Q.model port.old ≡ (worker_search self.old).instance.model }
         requires pool { F.model pool.old ≡ (worker_search self.old).instance.model }
         requires imported { (worker_search self.old).imported ≤ length (Q.part port.old).board.taken }
@@ -303,8 +303,8 @@ impl<'a> AnyWorker<'a> {
 
     /// The worker as others see it after it ended.
     pub fn finish(self) -> AnyEnded
-        requires { IsOver (worker_search self).said }
-        ensures said { (worker_search self.entry).said ≡ Said.Over result.end }
+        requires { IsOver (worker_search self).phase }
+        ensures phase { (worker_search self.entry).phase ≡ Phase.Over result.end }
         ensures is { result ≡ ending_in (known_of self.entry) result.end }
     {
         match self {
@@ -312,7 +312,7 @@ impl<'a> AnyWorker<'a> {
             AnyWorker::Activity(worker) => AnyEnded::plain(worker.finish(WorkerKind::Activity)),
             AnyWorker::Core(worker) => AnyEnded::guided(worker.finish()),
             AnyWorker::Near(near) => {
-                let NearSeeker { worker, .. } = near;
+                let AimedWorker { worker, .. } = near;
                 AnyEnded::plain(worker.finish())
             }
         }

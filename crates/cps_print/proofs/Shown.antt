@@ -285,7 +285,7 @@ is_listed (Some (tables.closable content)) = true
 is_listed (Some (tables.formed form content)) = true
 is_listed (Some (tables.formed_single form content)) = false
 is_listed (Some (tables.one_kind k)) = false
-is_listed (Some tables.unread) = false
+is_listed (Some tables.unsupported) = false
 
 pub record TakesNumber (closed : List (List ℕ)) (m : tables.Message) (before : List (List ℕ)) (name : List ℕ) (n : ℤ) : Type 0 where
   pub type : Number
@@ -362,7 +362,7 @@ one_clear w (Some (tables.closable content)) k = refl
 one_clear w (Some (tables.formed form content)) k = refl
 one_clear w (Some (tables.formed_single form content)) k = refl
 one_clear w (Some (tables.one_kind m)) k = refl
-one_clear w (Some tables.unread) k = refl
+one_clear w (Some tables.unsupported) k = refl
 
 list_clear : (w : Written) (u : Option Use) (k : ℕ) (alone : Bool) → is_listed u ≡ true → list_fault w u k alone ≡ None
 list_clear w None k alone e = refl
@@ -372,7 +372,7 @@ list_clear w (Some (tables.closable content)) k alone e = refl
 list_clear w (Some (tables.formed form content)) k alone e = refl
 list_clear w (Some (tables.formed_single form content)) k alone e = cc
 list_clear w (Some (tables.one_kind m)) k alone e = cc
-list_clear w (Some tables.unread) k alone e = refl
+list_clear w (Some tables.unsupported) k alone e = refl
 
 sized : (w : Written) (first : ℕ) → token_kind w (unsigned_token w first) ≡ Some Decimal → is_some (size_at w first) ≡ true
 unfolding size_at

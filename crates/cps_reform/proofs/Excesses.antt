@@ -9,7 +9,7 @@ use Rattle.cps_literal.specs.Truth.{value_at}
 use Rattle.cps_instance.specs.Terms.{Domains, domain_at, magnitude, terms_value, terms_reach}
 use Rattle.cps_reform.specs.declared.held.Held.{Held}
 use Rattle.cps_reform.specs.Forms.{excess, IsAbove, held_reach}
-use Rattle.cps_reform.specs.Cores.{core_terms, core_bound, WeighAtLeast, IsSomeAbove, fallen}
+use Rattle.cps_reform.specs.Cores.{core_terms, core_bound, WeighAtLeast, IsSomeAbove, lessened}
 
 -- the rules of a product with a weight
 pub plus : (m : ℕ) (x y : ℤ) → pos m *ℤ (x +ℤ y) ≡ pos m *ℤ x +ℤ pos m *ℤ y
@@ -42,14 +42,14 @@ keeps : (here m : ℕ) (x : ℤ) (before after sum bound : ℤ) → before ≡ a
 keeps here m x before after sum bound e = let z : sum -ℤ (pos 0 +ℤ bound) ≡ sum -ℤ bound = omega (arith, ints) in omega (arith, ints, ap (λ (v : ℤ). pos m *ℤ v) z)
 
 -- the excess is that of the terms with fallen weights, and m times that of the core's sum
-pub excess-fallen : (xs : List ℤ) (m : ℕ) (ts : List Held) → WeighAtLeast m ts → excess xs ts ≡ excess xs (map (fallen m) ts) +ℤ pos m *ℤ (terms_value xs (core_terms ts) -ℤ core_bound ts)
-excess-fallen xs m [] h = omega (arith, ints)
-excess-fallen xs m (t ∷ ts) h =
-    let rest = excess-fallen xs m ts (All-tail (λ (u : Held). u.in_core ≡ true → m ≤ u.weight) t ts h) in
+pub excess-lessened : (xs : List ℤ) (m : ℕ) (ts : List Held) → WeighAtLeast m ts → excess xs ts ≡ excess xs (map (lessened m) ts) +ℤ pos m *ℤ (terms_value xs (core_terms ts) -ℤ core_bound ts)
+excess-lessened xs m [] h = omega (arith, ints)
+excess-lessened xs m (t ∷ ts) h =
+    let rest = excess-lessened xs m ts (All-tail (λ (u : Held). u.in_core ≡ true → m ≤ u.weight) t ts h) in
     let here = All-head (λ (u : Held). u.in_core ≡ true → m ≤ u.weight) t ts h in
-    elim (t.in_core) as (λ b. t.in_core ≡ b → pos t.weight *ℤ (value_at xs t.subject -ℤ t.bound) +ℤ excess xs ts ≡ excess xs ((if b then record t { weight = t.weight - m; in_core = false } else t) ∷ map (fallen m) ts) +ℤ pos m *ℤ (terms_value xs (if b then record { coeff = pos 1; subject = t.subject } ∷ core_terms ts else core_terms ts) -ℤ ((if b then t.bound else pos 0) +ℤ core_bound ts))) [
-      | true ↦ λ e. gives t.weight m (value_at xs t.subject) t.bound (excess xs ts) (excess xs (map (fallen m) ts)) (terms_value xs (core_terms ts)) (core_bound ts) (here e) rest
-      | false ↦ λ e. keeps 0 m (pos t.weight *ℤ (value_at xs t.subject -ℤ t.bound)) (excess xs ts) (excess xs (map (fallen m) ts)) (terms_value xs (core_terms ts)) (core_bound ts) rest
+    elim (t.in_core) as (λ b. t.in_core ≡ b → pos t.weight *ℤ (value_at xs t.subject -ℤ t.bound) +ℤ excess xs ts ≡ excess xs ((if b then record t { weight = t.weight - m; in_core = false } else t) ∷ map (lessened m) ts) +ℤ pos m *ℤ (terms_value xs (if b then record { coeff = pos 1; subject = t.subject } ∷ core_terms ts else core_terms ts) -ℤ ((if b then t.bound else pos 0) +ℤ core_bound ts))) [
+      | true ↦ λ e. gives t.weight m (value_at xs t.subject) t.bound (excess xs ts) (excess xs (map (lessened m) ts)) (terms_value xs (core_terms ts)) (core_bound ts) (here e) rest
+      | false ↦ λ e. keeps 0 m (pos t.weight *ℤ (value_at xs t.subject -ℤ t.bound)) (excess xs ts) (excess xs (map (lessened m) ts)) (terms_value xs (core_terms ts)) (core_bound ts) rest
     ] refl
 
 -- where no term is below its bound, the core's sum is at least the sum of its bounds
@@ -90,12 +90,12 @@ lost w m g after sum before h e =
     omega arith
 
 -- the reach that the weights lose goes over to the sum
-pub reach-fallen : (ds : Domains) (m : ℕ) (ts : List Held) → WeighAtLeast m ts → held_reach ds (map (fallen m) ts) + m * terms_reach ds (core_terms ts) ≡ held_reach ds ts
-reach-fallen ds m [] h = omega arith
-reach-fallen ds m (t ∷ ts) h =
-    let rest = reach-fallen ds m ts (All-tail (λ (u : Held). u.in_core ≡ true → m ≤ u.weight) t ts h) in
+pub reach-lessened : (ds : Domains) (m : ℕ) (ts : List Held) → WeighAtLeast m ts → held_reach ds (map (lessened m) ts) + m * terms_reach ds (core_terms ts) ≡ held_reach ds ts
+reach-lessened ds m [] h = omega arith
+reach-lessened ds m (t ∷ ts) h =
+    let rest = reach-lessened ds m ts (All-tail (λ (u : Held). u.in_core ≡ true → m ≤ u.weight) t ts h) in
     let here = All-head (λ (u : Held). u.in_core ≡ true → m ≤ u.weight) t ts h in
-    elim (t.in_core) as (λ b. t.in_core ≡ b → held_reach ds ((if b then record t { weight = t.weight - m; in_core = false } else t) ∷ map (fallen m) ts) + m * terms_reach ds (if b then record { coeff = pos 1; subject = t.subject } ∷ core_terms ts else core_terms ts) ≡ t.weight * magnitude (domain_at ds t.subject) + held_reach ds ts) [
-      | true ↦ λ e. lost t.weight m (magnitude (domain_at ds t.subject)) (held_reach ds (map (fallen m) ts)) (terms_reach ds (core_terms ts)) (held_reach ds ts) (here e) rest
+    elim (t.in_core) as (λ b. t.in_core ≡ b → held_reach ds ((if b then record t { weight = t.weight - m; in_core = false } else t) ∷ map (lessened m) ts) + m * terms_reach ds (if b then record { coeff = pos 1; subject = t.subject } ∷ core_terms ts else core_terms ts) ≡ t.weight * magnitude (domain_at ds t.subject) + held_reach ds ts) [
+      | true ↦ λ e. lost t.weight m (magnitude (domain_at ds t.subject)) (held_reach ds (map (lessened m) ts)) (terms_reach ds (core_terms ts)) (held_reach ds ts) (here e) rest
       | false ↦ λ e. omega arith
     ] refl

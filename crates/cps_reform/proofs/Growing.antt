@@ -18,7 +18,7 @@ use Rattle.cps_reform.specs.declared.held.Held.{Held}
 use Rattle.cps_reform.specs.Forms.{Form, IsAbove, IsHeld, IsRoomy, held_reach}
 use Rattle.cps_reform.specs.Cores.{core_terms, core_sum, WeighAtLeast, IsSomeAbove}
 use Rattle.cps_reform.specs.Floors.{IsReform, OfEachBelow, IsCoreSum}
-use Rattle.cps_reform.proofs.Excesses.{reach-fallen}
+use Rattle.cps_reform.proofs.Excesses.{reach-lessened}
 use Rattle.cps_reform.proofs.Floors.{Reformulates-defined, above-longer, core-longer, defined-values}
 use Rattle.cps_reform.proofs.Steps.{assigned}
 
@@ -33,7 +33,7 @@ core-subjects ds (t ∷ ts) h =
     ]
 
 pub core-reach : (ds : Domains) (f : Form) → IsRoomy ds f → WeighAtLeast 1 f.terms → terms_reach ds (core_terms f.terms) + 0 < 2 ^ 62
-core-reach ds f h w = let a = reach-fallen ds 1 f.terms w in let small = h.small in omega arith
+core-reach ds f h w = let a = reach-lessened ds 1 f.terms w in let small = h.small in omega arith
 
 held-longer : (ds es : Domains) (t : Held) → IsHeld ds t → IsHeld (ds ++ es) t
 held-longer ds es t h =

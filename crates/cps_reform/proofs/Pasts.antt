@@ -8,7 +8,7 @@ use Rattle.cps_instance.specs.Terms.{Domains, domain_at, greatest_of}
 use Rattle.cps_port.specs.Order.{BoundLe, IsBelow}
 use Rattle.cps_reform.specs.declared.held.Held.{Held}
 use Rattle.cps_reform.specs.Forms.{Form, IsRoomy, IsPastLift, lifted, term_at, no_term}
-use Rattle.cps_reform.specs.Cores.{IsPastSplit, fallen, least_weight, split, sum_held}
+use Rattle.cps_reform.specs.Cores.{IsPastSplit, lessened, least_weight, split, sum_held}
 use Rattle.cps_reform.specs.Floors.{IsPast, past_z, past_greatest, past_domain}
 
 at_most_or_over : (v w : ℤ) → (v ≤ℤ w) ⊎ (w <ℤ v)
@@ -51,7 +51,7 @@ past-split z greatest limit ds f subject all h =
     let t = sum_held m subject f.terms in
     elim h as (λ u. IsPast z greatest ds (split f m subject)) [
       | inl over ↦
-          let us = map (fallen m) f.terms in
+          let us = map (lessened m) f.terms in
           past_domain (length us) (let n = length-append us (t ∷ []) in omega (arith, n)) (subst (λ (u : Held). greatest_of (domain_at ds u.subject) <ℤ u.bound) (sym (at_end us t)) over)
       | inr base ↦ of-base z greatest ds (split f m subject) (past-base z greatest limit (split f m subject).base all base)
     ]

@@ -12,8 +12,8 @@ use Rattle.cps_instance.specs.Sums.{least_sum_of, greatest_sum_of}
 use Rattle.cps_instance.proofs.Boundings.{least-reach, greatest-reach}
 use Rattle.cps_reform.specs.declared.held.Held.{Held}
 use Rattle.cps_reform.specs.Forms.{Form, excess, form_value, IsAbove, held_reach, IsHeld, IsRoomy, term_at, with_held, lifted, IsPastLift}
-use Rattle.cps_reform.specs.Cores.{core_terms, core_sum, core_bound, core_size, least_weight, WeighAtLeast, IsSomeAbove, fallen, sum_held, split, IsPastSplit}
-use Rattle.cps_reform.proofs.Excesses.{plus, one_times, excess-fallen, core-some_above, reach-fallen}
+use Rattle.cps_reform.specs.Cores.{core_terms, core_sum, core_bound, core_size, least_weight, WeighAtLeast, IsSomeAbove, lessened, sum_held, split, IsPastSplit}
+use Rattle.cps_reform.proofs.Excesses.{plus, one_times, excess-lessened, core-some_above, reach-lessened}
 
 -- what a term is worth before and after its bound rises
 rising : (w : ℕ) (x b c rest : ℤ) → (pos w *ℤ (x -ℤ c) +ℤ rest) +ℤ pos w *ℤ (c -ℤ b) ≡ pos w *ℤ (x -ℤ b) +ℤ rest
@@ -69,27 +69,27 @@ all-at P [] i l h = absurd (let f : i < 0 = l in omega arith)
 all-at P (t ∷ ts) zero l h = All-head P t ts h
 all-at P (t ∷ ts) (suc i) l h = all-at P ts i (omega arith) (All-tail P t ts h)
 
-pub all-fallen : (ds : Domains) (m : ℕ) (ts : List Held) → All (IsHeld ds) ts → All (IsHeld ds) (map (fallen m) ts)
-all-fallen ds m [] h = All-nil (IsHeld ds)
-all-fallen ds m (t ∷ ts) h =
-    let rest = all-fallen ds m ts (All-tail (IsHeld ds) t ts h) in
+pub all-lessened : (ds : Domains) (m : ℕ) (ts : List Held) → All (IsHeld ds) ts → All (IsHeld ds) (map (lessened m) ts)
+all-lessened ds m [] h = All-nil (IsHeld ds)
+all-lessened ds m (t ∷ ts) h =
+    let rest = all-lessened ds m ts (All-tail (IsHeld ds) t ts h) in
     let here = All-head (IsHeld ds) t ts h in
-    let first : IsHeld ds (fallen m t) = elim (t.in_core) as (λ b. IsHeld ds (if b then record t { weight = t.weight - m; in_core = false } else t)) [
+    let first : IsHeld ds (lessened m t) = elim (t.in_core) as (λ b. IsHeld ds (if b then record t { weight = t.weight - m; in_core = false } else t)) [
       | true ↦ record { subject = here.subject; low = here.low; high = here.high; small = here.small }
       | false ↦ here
     ] in
-    All-cons (IsHeld ds) (fallen m t) (map (fallen m) ts) first rest
+    All-cons (IsHeld ds) (lessened m t) (map (lessened m) ts) first rest
 
-pub above-fallen : (xs : List ℤ) (m : ℕ) (ts : List Held) → IsAbove xs ts → IsAbove xs (map (fallen m) ts)
-above-fallen xs m [] h = All-nil (λ (t : Held). t.bound ≤ℤ value_at xs t.subject)
-above-fallen xs m (t ∷ ts) h =
-    let rest = above-fallen xs m ts (All-tail (λ (u : Held). u.bound ≤ℤ value_at xs u.subject) t ts h) in
+pub above-lessened : (xs : List ℤ) (m : ℕ) (ts : List Held) → IsAbove xs ts → IsAbove xs (map (lessened m) ts)
+above-lessened xs m [] h = All-nil (λ (t : Held). t.bound ≤ℤ value_at xs t.subject)
+above-lessened xs m (t ∷ ts) h =
+    let rest = above-lessened xs m ts (All-tail (λ (u : Held). u.bound ≤ℤ value_at xs u.subject) t ts h) in
     let here = All-head (λ (u : Held). u.bound ≤ℤ value_at xs u.subject) t ts h in
-    let first : (fallen m t).bound ≤ℤ value_at xs (fallen m t).subject = elim (t.in_core) as (λ b. (if b then record t { weight = t.weight - m; in_core = false } else t).bound ≤ℤ value_at xs (if b then record t { weight = t.weight - m; in_core = false } else t).subject) [
+    let first : (lessened m t).bound ≤ℤ value_at xs (lessened m t).subject = elim (t.in_core) as (λ b. (if b then record t { weight = t.weight - m; in_core = false } else t).bound ≤ℤ value_at xs (if b then record t { weight = t.weight - m; in_core = false } else t).subject) [
       | true ↦ here
       | false ↦ here
     ] in
-    All-cons (λ (u : Held). u.bound ≤ℤ value_at xs u.subject) (fallen m t) (map (fallen m) ts) first rest
+    All-cons (λ (u : Held). u.bound ≤ℤ value_at xs u.subject) (lessened m t) (map (lessened m) ts) first rest
 
 -- nothing is worth less than nothing where no value is below its bound
 pub excess-above : (xs : List ℤ) (ts : List Held) → IsAbove xs ts → pos 0 ≤ℤ excess xs ts
@@ -111,8 +111,8 @@ reach-push ds (u ∷ ts) t = let rest = reach-push ds ts t in omega arith
 -- a core that is split is worth the same wherever the new subject is its sum
 pub worth-split : (xs : List ℤ) (f : Form) (m subject : ℕ) → WeighAtLeast m f.terms → value_at xs subject ≡ terms_value xs (core_terms f.terms) → form_value xs (split f m subject) ≡ form_value xs f
 worth-split xs f m subject h e =
-    let a = excess-fallen xs m f.terms h in
-    let b = excess-push xs (map (fallen m) f.terms) (sum_held m subject f.terms) in
+    let a = excess-lessened xs m f.terms h in
+    let b = excess-push xs (map (lessened m) f.terms) (sum_held m subject f.terms) in
     let s = terms_value xs (core_terms f.terms) in
     let one : value_at xs subject -ℤ (core_bound f.terms +ℤ pos 1) ≡ (s -ℤ core_bound f.terms) -ℤ pos 1 = omega (arith, ints) in
     let c : pos m *ℤ (value_at xs subject -ℤ (core_bound f.terms +ℤ pos 1)) ≡ pos m *ℤ (s -ℤ core_bound f.terms) -ℤ pos m = ap (λ (v : ℤ). pos m *ℤ v) one ∙ less_one m (s -ℤ core_bound f.terms) in
@@ -120,10 +120,10 @@ worth-split xs f m subject h e =
 
 pub above-split : (xs : List ℤ) (f : Form) (m subject : ℕ) → IsAbove xs f.terms → IsSomeAbove xs f.terms → value_at xs subject ≡ terms_value xs (core_terms f.terms) → IsAbove xs (split f m subject).terms
 above-split xs f m subject h s e =
-    let a = above-fallen xs m f.terms h in
+    let a = above-lessened xs m f.terms h in
     let b = core-some_above xs f.terms h s in
     let last : (core_bound f.terms +ℤ pos 1) ≤ℤ value_at xs subject = omega (arith, ints) in
-    All-append (λ (u : Held). u.bound ≤ℤ value_at xs u.subject) (map (fallen m) f.terms) (sum_held m subject f.terms ∷ []) a
+    All-append (λ (u : Held). u.bound ≤ℤ value_at xs u.subject) (map (lessened m) f.terms) (sum_held m subject f.terms ∷ []) a
     (All-cons (λ (u : Held). u.bound ≤ℤ value_at xs u.subject) (sum_held m subject f.terms) [] last (All-nil (λ (u : Held). u.bound ≤ℤ value_at xs u.subject)))
 
 reach-at : (ds : Domains) (ts : List Held) (i : ℕ) → i < length ts → (term_at ts i).weight * magnitude (domain_at ds (term_at ts i).subject) ≤ held_reach ds ts
@@ -202,8 +202,8 @@ pub roomy-split : (ds : Domains) (f : Form) (m subject : ℕ) → IsRoomy ds f �
     → domain_at ds subject ≡ (least_sum_of ds (core_sum f.terms), greatest_sum_of ds (core_sum f.terms)) ∷ []
     → (core_bound f.terms +ℤ pos 1) ≤ℤ greatest_of (domain_at ds subject) → IsRoomy ds (split f m subject)
 roomy-split ds f m subject h w some l e high =
-    let a = reach-fallen ds m f.terms w in
-    let b = reach-push ds (map (fallen m) f.terms) (sum_held m subject f.terms) in
+    let a = reach-lessened ds m f.terms w in
+    let b = reach-push ds (map (lessened m) f.terms) (sum_held m subject f.terms) in
     let c = sum-magnitude ds f.terms subject e in
     let d = mul-le-mul_left m c in
     let small = h.small in
@@ -212,7 +212,7 @@ roomy-split ds f m subject h w some l e high =
     let low : least_of (domain_at ds subject) ≤ℤ (core_bound f.terms +ℤ pos 1) = let k : least_of (domain_at ds subject) ≡ least_of_terms ds (core_terms f.terms) +ℤ pos 0 = ap least_of e in omega (arith, ints) in
     let held : IsHeld ds (sum_held m subject f.terms) = record { subject = l; low = low; high = high; small = omega arith } in
     record {
-      terms = All-append (IsHeld ds) (map (fallen m) f.terms) (sum_held m subject f.terms ∷ []) (all-fallen ds m f.terms h.terms) (All-cons (IsHeld ds) (sum_held m subject f.terms) [] held (All-nil (IsHeld ds)));
+      terms = All-append (IsHeld ds) (map (lessened m) f.terms) (sum_held m subject f.terms ∷ []) (all-lessened ds m f.terms h.terms) (All-cons (IsHeld ds) (sum_held m subject f.terms) [] held (All-nil (IsHeld ds)));
       small = omega arith;
     }
 
@@ -281,7 +281,7 @@ none-split ds xs f subject limit p h s e g = elim p as (λ q. limit <ℤ form_va
 pub core-small : (ds : Domains) (f : Form) → IsRoomy ds f → WeighAtLeast 1 f.terms → core_size f.terms < 2 ^ 62
 core-small ds f h w =
     let a = core-size ds f.terms h.terms in
-    let b = reach-fallen ds 1 f.terms w in
+    let b = reach-lessened ds 1 f.terms w in
     let small = h.small in
     omega arith
 

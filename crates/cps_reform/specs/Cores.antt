@@ -41,8 +41,8 @@ IsSomeAbove xs [] = ⊥
 IsSomeAbove xs (t ∷ ts) = ((t.in_core ≡ true) × (t.bound <ℤ value_at xs t.subject)) ⊎ IsSomeAbove xs ts
 
 -- a term of the core weighs less, and is in it no more
-abbrev pub fallen : ℕ → Held → Held
-fallen m t = if t.in_core then record t { weight = t.weight - m; in_core = false } else t
+abbrev pub lessened : ℕ → Held → Held
+lessened m t = if t.in_core then record t { weight = t.weight - m; in_core = false } else t
 
 -- a term for the sum of the core
 abbrev pub sum_held : ℕ → ℕ → List Held → Held
@@ -52,7 +52,7 @@ sum_held m subject ts = record { weight = m; subject = subject; bound = core_bou
 abbrev pub split : Form → ℕ → ℕ → Form
 split f m subject = record {
   base = f.base +ℤ pos m;
-  terms = map (fallen m) f.terms ++ sum_held m subject f.terms ∷ [];
+  terms = map (lessened m) f.terms ++ sum_held m subject f.terms ∷ [];
 }
 
 -- A core can be split by its least weight, with the sum of its bounds plus 1 as a bound, and the base rises to at most

@@ -3,7 +3,7 @@
 //! Each step first computes whether the new form stays within a limit and within its subjects' ends, and changes the
 //! form only if it does; a refusal says that no values within the limit are left. So no sum overflows, and a form never
 //! has a base that no solution can meet. The core is a mark on its terms, and helpers go by one term each (`lesser`,
-//! `with_bound`, `fall`), since the specification folds over the same list.
+//! `with_bound`, `lessen`), since the specification folds over the same list.
 
 ghost use Rattle.std.specs.Prelude.{◌≡◌, ◌⊎◌, ◌+◌, ◌*◌, ◌<◌, ◌≤◌, ◌^◌, ◌++◌, min, if◌then◌else◌, slice_set, ℤ, pos, ◌+ℤ◌, ◌-ℤ◌, ◌*ℤ◌, ◌≤ℤ◌, ◌<ℤ◌, unsigned_abs, List, [], ◌∷◌, map, length, true, false, Ok, IfOk, OnOk, OnErr, IfSome, IsNone};
 ghost use Rattle.cps_domain.specs.Window.{intervals};
@@ -12,7 +12,7 @@ ghost use Rattle.cps_instance.specs.Terms.{domain_at, least_of, greatest_of, mag
 ghost use Rattle.cps_instance.specs.Sums.{least_sum_of, greatest_sum_of};
 ghost use Rattle.cps_reform.specs.Marks.{IsMarked};
 ghost use Rattle.cps_reform.specs.Forms.{form_value, held_reach, with_held, IsAbove, IsRoomy, term_at, lifted, Lifts, IsPastLift};
-ghost use Rattle.cps_reform.specs.Cores.{core_terms, core_sum, core_bound, core_size, least_weight, WeighAtLeast, IsSomeAbove, fallen, sum_held, split, Splits, IsPastSplit};
+ghost use Rattle.cps_reform.specs.Cores.{core_terms, core_sum, core_bound, core_size, least_weight, WeighAtLeast, IsSomeAbove, lessened, sum_held, split, Splits, IsPastSplit};
 
 use crate::held::Held;
 use crate::mark::mark_terms;
@@ -170,9 +170,9 @@ fn set(terms: &mut [Held], place: usize, term: Held)
 }
 
 /// A term after the weights of the core fell.
-fn fall(term: Held, weight: u64) -> Held
+fn lessen(term: Held, weight: u64) -> Held
     requires { term.in_core ≡ true → weight ≤ term.weight }
-    ensures { result ≡ fallen weight term }
+    ensures { result ≡ lessened weight term }
 {
     if !term.in_core {
         return term;
@@ -185,12 +185,12 @@ fn fall(term: Held, weight: u64) -> Held
 }
 
 /// Takes a weight off each term of the core, and unmarks it.
-fn fall_all(terms: &mut [Held], weight: u64)
+fn lessen_all(terms: &mut [Held], weight: u64)
     requires { WeighAtLeast weight terms.old }
-    ensures { terms.new ≡ map (fallen weight) terms.old }
+    ensures { terms.new ≡ map (lessened weight) terms.old }
 {
     for term in terms.iter_mut() {
-        *term = fall(*term, weight);
+        *term = lessen(*term, weight);
     }
 }
 
@@ -198,7 +198,7 @@ fn fall_all(terms: &mut [Held], weight: u64)
 fn split_terms(terms: &mut Vec<Held>, subject: u32, share: Share) -> Result<(), AllocError>
     requires weight { share.weight ≡ least_weight terms.old.items }
     requires bound { share.bound ≡ core_bound terms.old.items +ℤ pos 1 }
-    ensures splits { OnOk result (terms.new.items ≡ map (fallen share.weight) terms.old.items ++ sum_held share.weight
+    ensures splits { OnOk result (terms.new.items ≡ map (lessened share.weight) terms.old.items ++ sum_held share.weight
         subject terms.old.items ∷ []) }
     ensures err { OnErr result (terms.new.items ≡ terms.old.items) }
 {
@@ -208,7 +208,7 @@ fn split_terms(terms: &mut Vec<Held>, subject: u32, share: Share) -> Result<(), 
         bound: share.bound,
         in_core: false,
     })?;
-    fall_all(terms.as_mut_slice(), share.weight);
+    lessen_all(terms.as_mut_slice(), share.weight);
     Ok(())
 }
 

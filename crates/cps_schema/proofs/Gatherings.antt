@@ -22,14 +22,14 @@ use Rattle.cps_schema.specs.declared.gather.Line.{Line}
 use Rattle.cps_schema.specs.declared.gather.Slot.{Slot}
 use Rattle.cps_schema.specs.declared.gather.Gathered.{Gathered}
 use Rattle.cps_schema.specs.Written.{Written, token_text}
-use Rattle.cps_schema.specs.Tables.{Message, Content, Use, Table, use_in, use_of, table_of, unread_names, is_given}
+use Rattle.cps_schema.specs.Tables.{Message, Content, Use, Table, use_in, use_of, table_of, unsupported_names, is_given}
 use Rattle.cps_schema.specs.Faults.{refused_at, is_alone, alone_fault, is_other_form, has_other_form, values_fault, fields_fault}
 use Rattle.cps_schema.specs.Answers.{Refuses}
 use Rattle.cps_schema.specs.Steps.{field_then, Passes, Stops}
 use Rattle.cps_schema.specs.Slots.{AreGivenSlots}
 use Rattle.cps_schema.specs.Parts.{is_other}
 use Rattle.cps_schema.specs.Gathered.{content_taken, use_taken, contents_of, takes_one, form_taken, entry_of, IsTableOf, are_apart, Found, nothing, joined, found_in, found_of, found, held, lines_of, found_from, all_from, marks, IsGathered, is_mixed, line_fault, form_behind, line_place}
-use Rattle.cps_schema.proofs.Steps.{next_given, not_read_stops}
+use Rattle.cps_schema.proofs.Steps.{next_given, refused_stops}
 use Rattle.cps_schema.proofs.Forms.{next_form, joined_form}
 
 -- the slot of a name
@@ -483,5 +483,5 @@ pub no_field_stops : (w : Written) (f : Field) (slots : List Slot) → slot_name
     (m : Message) (before : List (List ℕ)) → IsTableOf m (lines_of slots) → Stops w m before f (Fault UnknownField f.name)
 unfolding is_given
 no_field_stops w f slots none m before is =
-    let stops = not_read_stops w m f (table_no_use m slots (token_text w f.name) is none) before in
-    rw is.unread at stops
+    let stops = refused_stops w m f (table_no_use m slots (token_text w f.name) is none) before in
+    rw is.unsupported at stops

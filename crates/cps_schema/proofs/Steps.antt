@@ -10,9 +10,9 @@ use Rattle.cps_model.specs.declared.fault.FaultName.TheVariants.{UnknownField, U
 use Rattle.cps_schema.specs.declared.error.SchemaError.{SchemaError}
 use Rattle.cps_schema.specs.declared.error.SchemaError.TheVariants.{Fault, OutOfMemory}
 use Rattle.cps_schema.specs.Written.{Written, token_text}
-use Rattle.cps_schema.specs.Tables.{Message, Content, message, Use, single, repeated, closable, one_kind, table_of, use_in, use_of, unread_names, is_given}
+use Rattle.cps_schema.specs.Tables.{Message, Content, message, Use, single, repeated, closable, one_kind, table_of, use_in, use_of, unsupported_names, is_given}
 use Rattle.cps_schema.specs.Faults.{has_kind, is_alone, alone_fault, values_fault, fields_fault}
-use Rattle.cps_schema.specs.Sources.{single_fault}
+use Rattle.cps_schema.specs.Inputs.{single_fault}
 use Rattle.cps_schema.specs.Answers.{Refuses}
 use Rattle.cps_schema.specs.Steps.{Passes, Stops, KindStops, ClosablePasses, ClosableStops, field_then}
 
@@ -49,13 +49,13 @@ repeated_stops w m f content (Err (Fault name token)) takes refused = λ before 
 repeated_stops w m f content (Err OutOfMemory) takes refused = λ before rest. tt
 
 -- a name that the table has not
-pub not_read_stops : (w : Written) (m : Message) (f : Field) → use_in (table_of m) (token_text w f.name) ≡ None →
+pub refused_stops : (w : Written) (m : Message) (f : Field) → use_in (table_of m) (token_text w f.name) ≡ None →
     (before : List (List ℕ)) →
-    Stops w m before f (Fault (if is_given (unread_names m) (token_text w f.name) then Unsupported else UnknownField) f.name)
+    Stops w m before f (Fault (if is_given (unsupported_names m) (token_text w f.name) then Unsupported else UnknownField) f.name)
 unfolding use_of
-not_read_stops w m f none before rest = by_test (is_given (unread_names m) (token_text w f.name)) refl where
-  by_test : (known : Bool) → is_given (unread_names m) (token_text w f.name) ≡ known →
-      Refuses (fields_fault w m before (field_then f rest)) (Fault (if is_given (unread_names m) (token_text w f.name) then Unsupported else UnknownField) f.name)
+refused_stops w m f none before rest = by_test (is_given (unsupported_names m) (token_text w f.name)) refl where
+  by_test : (known : Bool) → is_given (unsupported_names m) (token_text w f.name) ≡ known →
+      Refuses (fields_fault w m before (field_then f rest)) (Fault (if is_given (unsupported_names m) (token_text w f.name) then Unsupported else UnknownField) f.name)
   by_test true e = rw (none, e) refl
   by_test false e = rw (none, e) refl
 

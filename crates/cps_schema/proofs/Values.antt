@@ -3,9 +3,9 @@ use Rattle.std.specs.Option.{option_or}
 use Rattle.std.proofs.lemmas.Grind.{common_steps}
 use Rattle.std.proofs.Common.{ℕ, ◌+◌, ◌<◌, ◌++◌, drop, map, ◌≡◌, ◌≢◌, List, [], ◌∷◌, length, get_or, slice_get, false, Some, None, Vec, Global, refl, sym, ap, ◌∙◌, arith}
 use Rattle.cps_textproto.specs.declared.tree.Nested.{Nested, Nested', out-Nested}
-use Rattle.cps_textproto.specs.declared.tree.Span.{Span}
+use Rattle.cps_textproto.specs.declared.tree.TokenRange.{TokenRange}
 use Rattle.cps_textproto.specs.declared.tree.Items.TheVariants.{Messages}
-use Rattle.cps_textproto.specs.Trees.{Tree, Values, no_values, tree_of, span_values, values_of, nested_value, nested_values}
+use Rattle.cps_textproto.specs.Trees.{Tree, Values, no_values, tree_of, range_values, values_of, nested_value, nested_values}
 use Rattle.cps_textproto.proofs.Views.{values_of_messages}
 use Rattle.cps_model.specs.declared.fault.FaultName.TheVariants.{WrongKind}
 use Rattle.cps_schema.specs.declared.number.Number.{Number}
@@ -15,7 +15,7 @@ use Rattle.cps_schema.specs.Faults.{is_alone, values_fault, fields_fault}
 use Rattle.cps_schema.specs.Readings.{value_messages}
 use Rattle.cps_schema.specs.Values.{nested_tree, nested_trees, trees_fault}
 
-pub not_alone : (ss : List Span) → length ss ≢ 1 → is_alone false (span_values ss) ≡ false
+pub not_alone : (ss : List TokenRange) → length ss ≢ 1 → is_alone false (range_values ss) ≡ false
 not_alone [] n = refl
 not_alone (s ∷ []) n = absurd (n refl)
 not_alone (s ∷ t ∷ ss) n = refl

@@ -13,7 +13,7 @@ use Rattle.cps_schema.specs.Numbers.{number_fault}
 use Rattle.cps_schema.specs.Texts.{text_at}
 use Rattle.cps_schema.specs.Members.{member_at}
 use Rattle.cps_schema.specs.Truths.{truth_at}
-use Rattle.cps_schema.specs.Tables.{Message, model_message, Content, number, truth, text, member, message, Use, single, repeated, closable, formed, formed_single, one_kind, unread, is_given, use_of, content_of}
+use Rattle.cps_schema.specs.Tables.{Message, model_message, Content, number, truth, text, member, message, Use, single, repeated, closable, formed, formed_single, one_kind, unsupported, is_given, use_of, content_of}
 
 -- with the token at which it is refused
 abbrev pub refused_at : ℕ → Option FaultName → Option (FaultName × ℕ)
@@ -61,7 +61,7 @@ is_kind (Some (closable content)) = false
 is_kind (Some (formed form content)) = false
 is_kind (Some (formed_single form content)) = false
 is_kind (Some (one_kind m)) = true
-is_kind (Some unread) = false
+is_kind (Some unsupported) = false
 
 -- one of the names is that of a kind
 unfoldable pub has_kind : Message → List (List ℕ) → Bool
@@ -83,7 +83,7 @@ has_other_form m form names = list_any (λ name. is_other_form form (use_of m na
 -- message
 abbrev pub name_fault : List (List ℕ) → Message → List (List ℕ) → List ℕ → Option Use → Option FaultName
 name_fault closed m before name None = Some UnknownField
-name_fault closed m before name (Some unread) = Some Unsupported
+name_fault closed m before name (Some unsupported) = Some Unsupported
 name_fault closed m before name (Some (repeated content)) = None
 name_fault closed m before name (Some (closable content)) = if is_given closed name then Some Unsupported else None
 name_fault closed m before name
@@ -124,7 +124,7 @@ list_fault w (Some (closable content)) name alone = None
 list_fault w (Some (formed form content)) name alone = None
 list_fault w (Some (formed_single form content)) name alone = alone_fault w name alone
 list_fault w (Some (one_kind m)) name alone = alone_fault w name alone
-list_fault w (Some unread) name alone = None
+list_fault w (Some unsupported) name alone = None
 
 -- what is wrong with a field, its values apart
 abbrev pub field_fault : Written → Message → List (List ℕ) → ℕ → Bool → Values → Option (FaultName × ℕ)

@@ -21,7 +21,7 @@ use Rattle.cps_schema.specs.declared.gather.Line.{Line}
 use Rattle.cps_schema.specs.declared.gather.Slot.{Slot}
 use Rattle.cps_schema.specs.declared.gather.Gathered.{Gathered}
 use Rattle.cps_schema.specs.Written.{Written, token_text}
-use Rattle.cps_schema.specs.Tables.{Message, Content, number, truth, message, expression_message, Use, single, repeated, formed, formed_single, Table, table_of, unread_names}
+use Rattle.cps_schema.specs.Tables.{Message, Content, number, truth, message, expression_message, Use, single, repeated, formed, formed_single, Table, table_of, unsupported_names}
 use Rattle.cps_schema.specs.Faults.{refused_at, is_alone, alone_fault, has_other_form, values_fault}
 use Rattle.cps_schema.specs.Readings.{first_or, value_numbers, value_truths, value_messages, read_expression, numbers, truths, expressions, gives}
 use Rattle.cps_schema.specs.Slots.{AreGivenSlots}
@@ -65,7 +65,7 @@ entry_of line = (line.0.now, use_taken line.1)
 -- the fields of a message are these, and all are read
 pub record IsTableOf (m : Message) (lines : List Line) : Type 0 where
   pub table : table_of m ≡ map entry_of lines
-  pub unread : unread_names m ≡ []
+  pub unsupported : unsupported_names m ≡ []
 
 -- no two fields have one name
 abbrev pub are_apart : List Line → Bool

@@ -1,7 +1,7 @@
 pub mod Digits
 pub mod Floats
 pub mod Written
-pub mod Sources
+pub mod Inputs
 pub mod Numbers
 pub mod Texts
 pub mod Truths

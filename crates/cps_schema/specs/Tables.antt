@@ -55,8 +55,8 @@ pub data Use : Type 0 where
   formed_single : Form → Content → Use
   -- one message, and a constraint has at most one field of this use
   one_kind : Message → Use
-  -- the field is known, and not read
-  unread : Use
+  -- the field is known, and not supported
+  unsupported : Use
 
 abbrev pub Table : Type 0
 Table = List (List ℕ × Use)
@@ -195,40 +195,40 @@ table_of hint_message =
     ∷ (codes "values", repeated (number Int64))
     ∷ []
 
--- the fields that are known, and not read
-abbrev pub unread_names : Message → List (List ℕ)
-unread_names model_message =
+-- the fields that are known, and not supported
+abbrev pub unsupported_names : Message → List (List ℕ)
+unsupported_names model_message =
     codes "floating_point_objective"
     ∷ codes "symmetry"
     ∷ []
-unread_names variable_message = []
-unread_names constraint_message =
+unsupported_names variable_message = []
+unsupported_names constraint_message =
     codes "routes"
     ∷ codes "dummy_constraint"
     ∷ []
-unread_names literals_message = []
-unread_names linear_message = []
-unread_names linear_argument_message = []
-unread_names all_diff_message = []
-unread_names element_message = []
-unread_names table_message = []
-unread_names circuit_message = []
-unread_names interval_message = []
-unread_names no_overlap_message = []
-unread_names cumulative_message = []
-unread_names automaton_message = []
-unread_names inverse_message = []
-unread_names reservoir_message = []
-unread_names no_overlap_2d_message = []
-unread_names objective_message =
+unsupported_names literals_message = []
+unsupported_names linear_message = []
+unsupported_names linear_argument_message = []
+unsupported_names all_diff_message = []
+unsupported_names element_message = []
+unsupported_names table_message = []
+unsupported_names circuit_message = []
+unsupported_names interval_message = []
+unsupported_names no_overlap_message = []
+unsupported_names cumulative_message = []
+unsupported_names automaton_message = []
+unsupported_names inverse_message = []
+unsupported_names reservoir_message = []
+unsupported_names no_overlap_2d_message = []
+unsupported_names objective_message =
     codes "scaling_was_exact"
     ∷ codes "integer_before_offset"
     ∷ codes "integer_after_offset"
     ∷ codes "integer_scaling_factor"
     ∷ []
-unread_names strategy_message = []
-unread_names expression_message = []
-unread_names hint_message = []
+unsupported_names strategy_message = []
+unsupported_names expression_message = []
+unsupported_names hint_message = []
 
 -- the name is one of these
 unfoldable pub is_given : List (List ℕ) → List ℕ → Bool
@@ -241,7 +241,7 @@ use_in (entry ∷ entries) name = if bytes_eq name entry.0 then Some entry.1 els
 -- what the field of this name takes in a message. A name that the message has not is unknown.
 unfoldable pub use_of : Message → List ℕ → Option Use
 use_of m name =
-    option_or (use_in (table_of m) name) (if is_given (unread_names m) name then Some unread else None)
+    option_or (use_in (table_of m) name) (if is_given (unsupported_names m) name then Some unsupported else None)
 
 -- of which sort the values of a field are
 abbrev pub content_of : Option Use → Option Content
@@ -252,4 +252,4 @@ content_of (Some (closable content)) = Some content
 content_of (Some (formed form content)) = Some content
 content_of (Some (formed_single form content)) = Some content
 content_of (Some (one_kind m)) = Some (message m)
-content_of (Some unread) = None
+content_of (Some unsupported) = None

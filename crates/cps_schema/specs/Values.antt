@@ -13,7 +13,7 @@ use Rattle.cps_schema.specs.Tables as tables
 use Rattle.cps_schema.specs.Faults.{fields_fault}
 
 abbrev pub value_of : Value → Values
-value_of (Scalar span) = scalar_value span.first span.end no_values
+value_of (Scalar token_range) = scalar_value token_range.first token_range.end no_values
 value_of (Message first node) = message_value first (tree_of node.now) no_values
 
 -- the fields of a message of a list

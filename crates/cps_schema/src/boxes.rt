@@ -1,7 +1,7 @@
 //! Boxes that do not overlap.
 ghost use Rattle.std.specs.Prelude.{◌≡◌, [], None, IfOk, IfErr};
 ghost use Rattle.cps_textproto.specs.Trees.{tree_of};
-ghost use Rattle.cps_schema.specs.Sources.{written_of};
+ghost use Rattle.cps_schema.specs.Inputs.{written_of};
 ghost use Rattle.cps_schema.specs.Tables.{no_overlap_2d_message};
 ghost use Rattle.cps_schema.specs.Faults.{fields_fault};
 ghost use Rattle.cps_schema.specs.Readings.{read_boxes};
@@ -11,7 +11,7 @@ use super::error::SchemaError;
 use super::gather::Contents::References;
 use super::gather::Takes::Many;
 use super::gather::{Line, gather};
-use super::source::Source;
+use super::input::Input;
 use super::taking::next_references;
 use cps_model::Kind;
 use cps_textproto::Node;
@@ -23,14 +23,14 @@ const FIELDS: [Line; 2] = [
 ];
 
 /// The boxes that a message gives.
-pub(crate) fn read_boxes(alloc: Global, source: &Source, node: &Node) -> Result<Kind, SchemaError>
+pub(crate) fn read_boxes(alloc: Global, input: &Input, node: &Node) -> Result<Kind, SchemaError>
     ensures accepted { IfOk result
-        (λ _. fields_fault (written_of source.now) no_overlap_2d_message [] (tree_of node.now) ≡ None) }
-    ensures reading { IfOk result (λ kind. kind ≡ read_boxes (written_of source.now) (tree_of node.now)) }
+        (λ _. fields_fault (written_of input.now) no_overlap_2d_message [] (tree_of node.now) ≡ None) }
+    ensures reading { IfOk result (λ kind. kind ≡ read_boxes (written_of input.now) (tree_of node.now)) }
     ensures err { IfErr result (Refuses
-        (fields_fault (written_of source.now) no_overlap_2d_message [] (tree_of node.now))) }
+        (fields_fault (written_of input.now) no_overlap_2d_message [] (tree_of node.now))) }
 {
-    let mut slots = match gather(alloc, source, &FIELDS, node) {
+    let mut slots = match gather(alloc, input, &FIELDS, node) {
         Ok(slots) => slots.into_iter(),
         Err(error) => return Err(error),
     };

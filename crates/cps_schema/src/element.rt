@@ -1,7 +1,7 @@
 //! Elements of lists.
 ghost use Rattle.std.specs.Prelude.{◌≡◌, [], None, map, pos, IfOk, IfErr};
 ghost use Rattle.cps_textproto.specs.Trees.{tree_of};
-ghost use Rattle.cps_schema.specs.Sources.{written_of};
+ghost use Rattle.cps_schema.specs.Inputs.{written_of};
 ghost use Rattle.cps_schema.specs.Tables.{element_message};
 ghost use Rattle.cps_schema.specs.Faults.{fields_fault};
 ghost use Rattle.cps_schema.specs.Readings.{first_or, read_element};
@@ -14,7 +14,7 @@ use super::form::Form::{Newer, Older};
 use super::gather::Contents::{Expressions, References};
 use super::gather::Takes::{ManyOf, OneOf};
 use super::gather::{Line, gather};
-use super::source::Source;
+use super::input::Input;
 use super::taking::{next_expression, next_expressions, next_given};
 use cps_model::{Exprs, Kind, Listed};
 use cps_textproto::Node;
@@ -57,13 +57,13 @@ fn older_element(
 }
 
 /// The element that a message gives.
-pub(crate) fn read_element(alloc: Global, source: &Source, node: &Node) -> Result<Kind, SchemaError>
+pub(crate) fn read_element(alloc: Global, input: &Input, node: &Node) -> Result<Kind, SchemaError>
     ensures accepted { IfOk result
-        (λ _. fields_fault (written_of source.now) element_message [] (tree_of node.now) ≡ None) }
-    ensures reading { IfOk result (λ kind. kind ≡ read_element (written_of source.now) (tree_of node.now)) }
-    ensures err { IfErr result (Refuses (fields_fault (written_of source.now) element_message [] (tree_of node.now))) }
+        (λ _. fields_fault (written_of input.now) element_message [] (tree_of node.now) ≡ None) }
+    ensures reading { IfOk result (λ kind. kind ≡ read_element (written_of input.now) (tree_of node.now)) }
+    ensures err { IfErr result (Refuses (fields_fault (written_of input.now) element_message [] (tree_of node.now))) }
 {
-    let mut slots = match gather(alloc, source, &FIELDS, node) {
+    let mut slots = match gather(alloc, input, &FIELDS, node) {
         Ok(slots) => slots.into_iter(),
         Err(error) => return Err(error),
     };

@@ -2,7 +2,7 @@
 ghost use Rattle.std.specs.Prelude.{◌≡◌, ◌++◌, ℕ, List, [], ◌∷◌, None, Some, map, OnOk, IfOk, IfErr};
 ghost use Rattle.cps_textproto.specs.Trees.{Tree, no_fields, tree_of, values_of};
 ghost use Rattle.cps_schema.specs.Written.{Written, token_text};
-ghost use Rattle.cps_schema.specs.Sources.{written_of};
+ghost use Rattle.cps_schema.specs.Inputs.{written_of};
 ghost use Rattle.cps_schema.specs.Tables.{expression_message, message};
 ghost use Rattle.cps_schema.specs.Faults.{fields_fault, values_fault};
 ghost use Rattle.cps_schema.specs.Readings.{value_messages, read_expression};
@@ -14,18 +14,18 @@ ghost use Rattle.cps_schema.specs.Slots.{AreGivenSlots};
 ghost use Rattle.cps_schema.specs.Parts.{expression_from, expression_slots};
 
 use super::error::SchemaError;
+use super::input::{Input, token_text};
 use super::lists::{add_ints, add_refs};
 use super::message::Message;
-use super::names::not_read;
+use super::names::refused_field;
 use super::number::Number;
 use super::single::{fields_of, set_number};
-use super::source::{Source, token_text};
 use cps_model::{LinearExpr, Listed};
 use cps_textproto::{Field, Node};
 use std::alloc::{AllocError, Global};
 
 /// The fields of this message that CP-SAT has and that are not served: each is refused as unsupported.
-const UNREAD: [&[u8]; 0] = [];
+const UNSUPPORTED: [&[u8]; 0] = [];
 
 /// What was read so far of an expression.
 #[derive(Drop)]
@@ -36,25 +36,25 @@ pub struct ExpressionParts {
 }
 
 /// Reads a field of an expression.
-fn add_field(source: &Source, parts: &mut ExpressionParts, field: &Field) -> Result<(), SchemaError>
+fn add_field(input: &Input, parts: &mut ExpressionParts, field: &Field) -> Result<(), SchemaError>
     ensures passes { OnOk result ((before : List (List ℕ)) → AreGivenSlots (expression_slots parts.old) before →
-        Passes (written_of source.now) expression_message before field.now
-        × AreGivenSlots (expression_slots parts.new) (token_text (written_of source.now) field.now.name ∷ before)) }
+        Passes (written_of input.now) expression_message before field.now
+        × AreGivenSlots (expression_slots parts.new) (token_text (written_of input.now) field.now.name ∷ before)) }
     ensures read { OnOk result ((rest : Tree) →
-        expression_from (written_of source.now) parts.old (field_then field.now rest)
-        ≡ expression_from (written_of source.now) parts.new rest) }
+        expression_from (written_of input.now) parts.old (field_then field.now rest)
+        ≡ expression_from (written_of input.now) parts.new rest) }
     ensures err { IfErr result (λ e. (before : List (List ℕ)) → AreGivenSlots (expression_slots parts.old) before →
-        Stops (written_of source.now) expression_message before field.now e) }
+        Stops (written_of input.now) expression_message before field.now e) }
 {
-    let name = token_text(source, field.name as usize);
+    let name = token_text(input, field.name as usize);
     if name == b"vars".as_slice() {
-        add_refs(source, &mut parts.vars, field)
+        add_refs(input, &mut parts.vars, field)
     } else if name == b"coeffs".as_slice() {
-        add_ints(source, &mut parts.coeffs, field)
+        add_ints(input, &mut parts.coeffs, field)
     } else if name == b"offset".as_slice() {
-        set_number(source, Number::Int64, &mut parts.offset, field)
+        set_number(input, Number::Int64, &mut parts.offset, field)
     } else {
-        Err(not_read(source, &UNREAD, field.name))
+        Err(refused_field(input, &UNSUPPORTED, field.name))
     }
 }
 
@@ -76,13 +76,13 @@ fn expression_of(parts: ExpressionParts) -> LinearExpr
 }
 
 /// The expression that a message gives.
-fn read_expression(alloc: Global, source: &Source, node: &Node) -> Result<LinearExpr, SchemaError>
+fn read_expression(alloc: Global, input: &Input, node: &Node) -> Result<LinearExpr, SchemaError>
     ensures accepted { IfOk result
-        (λ _. fields_fault (written_of source.now) expression_message [] (tree_of node.now) ≡ None) }
+        (λ _. fields_fault (written_of input.now) expression_message [] (tree_of node.now) ≡ None) }
     ensures reading { IfOk result
-        (λ expression. expression ≡ read_expression (written_of source.now) (tree_of node.now)) }
+        (λ expression. expression ≡ read_expression (written_of input.now) (tree_of node.now)) }
     ensures err { IfErr result (Refuses
-        (fields_fault (written_of source.now) expression_message [] (tree_of node.now))) }
+        (fields_fault (written_of input.now) expression_message [] (tree_of node.now))) }
 {
     let mut parts = ExpressionParts {
         vars: Vec::new(alloc),
@@ -90,7 +90,7 @@ fn read_expression(alloc: Global, source: &Source, node: &Node) -> Result<Linear
         offset: None,
     };
     for field in fields_of(node) {
-        add_field(source, &mut parts, field)?;
+        add_field(input, &mut parts, field)?;
     }
     Ok(expression_of(parts))
 }
@@ -103,8 +103,8 @@ impl Message for LinearExpr {
 
     ghost reads = { read_expression };
 
-    fn read(alloc: Global, source: &Source, node: &Node) -> Result<Self, SchemaError> {
-        read_expression(alloc, source, node)
+    fn read(alloc: Global, input: &Input, node: &Node) -> Result<Self, SchemaError> {
+        read_expression(alloc, input, node)
     }
 }
 

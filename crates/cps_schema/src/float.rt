@@ -11,7 +11,7 @@ ghost use Rattle.cps_schema.specs.Digits.{digits_after, decimal_value, capped};
 ghost use Rattle.cps_schema.specs.Floats.{leading_digits, past_digits, past_point, past_mark, is_minus, past_sign, whole_digits, fraction_digits, exponent_text, exponent_size, moved, is_zero, with_point, float_value};
 
 use super::digits::{decimal_value, digits_after};
-use super::source::{behind, front};
+use super::input::{behind, front};
 
 /// A number that is not 0 has more than 64 bits with this many zeros behind it.
 const MANY_ZEROS: u64 = 20;

@@ -6,7 +6,7 @@
 ghost use Rattle.std.specs.Prelude.{◌≡◌, ◌<◌, ◌++◌, ◌&&◌, ℕ, List, [], ◌∷◌, true, false, None, Some, map, length, OnOk, IfOk, IfErr, IfSome};
 ghost use Rattle.cps_textproto.specs.Trees.{Tree, tree_of, values_of};
 ghost use Rattle.cps_schema.specs.Written.{token_text};
-ghost use Rattle.cps_schema.specs.Sources.{written_of};
+ghost use Rattle.cps_schema.specs.Inputs.{written_of};
 ghost use Rattle.cps_schema.specs.Tables.{Message};
 ghost use Rattle.cps_schema.specs.Faults.{refused_at, values_fault, fields_fault};
 ghost use Rattle.cps_schema.specs.Answers.{Refuses};
@@ -16,11 +16,11 @@ ghost use Rattle.cps_schema.specs.Gathered.{content_taken, contents_of, takes_on
 
 use super::error::SchemaError;
 use super::form::{Form, is_other};
+use super::input::{Input, token_text};
 use super::lists::{add_ints, add_refs};
 use super::message::add_messages;
-use super::names::not_read;
+use super::names::refused_field;
 use super::single::{Value, alone, bracket, fields_of, wrong_kind};
-use super::source::{Source, token_text};
 use super::truth::add_truths;
 use cps_model::{FaultName, LinearExpr};
 use cps_textproto::{Field, Node};
@@ -142,9 +142,9 @@ fn check_again(again: bool, mixed: bool, field: &Field) -> Result<(), SchemaErro
 }
 
 /// Refuses a list where one value is taken.
-fn check_alone(source: &Source, one: bool, field: &Field) -> Result<(), SchemaError>
-    ensures ok { OnOk result (many_fault (written_of source.now) one field.now ≡ None) }
-    ensures err { IfErr result (Refuses (many_fault (written_of source.now) one field.now)) }
+fn check_alone(input: &Input, one: bool, field: &Field) -> Result<(), SchemaError>
+    ensures ok { OnOk result (many_fault (written_of input.now) one field.now ≡ None) }
+    ensures err { IfErr result (Refuses (many_fault (written_of input.now) one field.now)) }
 {
     if !one {
         return Ok(());
@@ -152,60 +152,60 @@ fn check_alone(source: &Source, one: bool, field: &Field) -> Result<(), SchemaEr
     match alone(field) {
         Some(Value::Scalar(_)) => Ok(()),
         Some(Value::Message(_, _)) => Ok(()),
-        None => Err(wrong_kind(bracket(source, field.name))),
+        None => Err(wrong_kind(bracket(input, field.name))),
     }
 }
 
 /// Adds the values of a field.
 fn add_values(
     alloc: Global,
-    source: &Source,
+    input: &Input,
     slot: &mut Slot,
     field: &Field,
 ) -> Result<(), SchemaError>
-    ensures fault { OnOk result (values_fault (written_of source.now)
+    ensures fault { OnOk result (values_fault (written_of input.now)
         (Some (content_taken (contents_of slot.old.line.1))) (values_of field.now.items) ≡ None) }
     ensures added { OnOk result (held slot.new
-        ≡ joined (held slot.old) (found_in (written_of source.now) (contents_of slot.old.line.1)
+        ≡ joined (held slot.old) (found_in (written_of input.now) (contents_of slot.old.line.1)
         (values_of field.now.items))) }
     ensures line { slot.new.line ≡ slot.old.line }
     ensures err { IfErr result (Refuses
-        (values_fault (written_of source.now) (Some (content_taken (contents_of slot.old.line.1)))
+        (values_fault (written_of input.now) (Some (content_taken (contents_of slot.old.line.1)))
         (values_of field.now.items))) }
 {
     slot.given = true;
     match contents_of(slot.line.1) {
-        Contents::References => add_refs(source, &mut slot.references, field),
-        Contents::Numbers => add_ints(source, &mut slot.numbers, field),
-        Contents::Truths => add_truths(source, &mut slot.truths, field),
-        Contents::Expressions => add_messages(alloc, source, &mut slot.expressions, field),
+        Contents::References => add_refs(input, &mut slot.references, field),
+        Contents::Numbers => add_ints(input, &mut slot.numbers, field),
+        Contents::Truths => add_truths(input, &mut slot.truths, field),
+        Contents::Expressions => add_messages(alloc, input, &mut slot.expressions, field),
     }
 }
 
 /// Reads a further field of a line.
 fn add_to(
     alloc: Global,
-    source: &Source,
+    input: &Input,
     slot: &mut Slot,
     form: &mut Option<Form>,
     field: &Field,
 ) -> Result<(), SchemaError>
-    ensures fault { OnOk result (line_fault (written_of source.now) slot.old.line.1 slot.old.given form.old field.now
+    ensures fault { OnOk result (line_fault (written_of input.now) slot.old.line.1 slot.old.given form.old field.now
         ≡ None) }
     ensures added { OnOk result (held slot.new
-        ≡ joined (held slot.old) (found_in (written_of source.now) (contents_of slot.old.line.1)
+        ≡ joined (held slot.old) (found_in (written_of input.now) (contents_of slot.old.line.1)
         (values_of field.now.items))) }
     ensures line { OnOk result (slot.new.line ≡ slot.old.line) }
     ensures same { OnOk result (is_mixed form.old (form_taken slot.old.line.1) ≡ false) }
     ensures form { OnOk result (form.new ≡ form_behind form.old slot.old.line.1) }
     ensures err { IfErr result (Refuses
-        (line_fault (written_of source.now) slot.old.line.1 slot.old.given form.old field.now)) }
+        (line_fault (written_of input.now) slot.old.line.1 slot.old.given form.old field.now)) }
 {
     let takes = slot.line.1;
     let one = takes_one(takes);
     check_again(one && slot.given, is_mixed(*form, takes), field)?;
-    check_alone(source, one, field)?;
-    add_values(alloc, source, slot, field)?;
+    check_alone(input, one, field)?;
+    add_values(alloc, input, slot, field)?;
     *form = form_behind(*form, takes);
     Ok(())
 }
@@ -225,28 +225,28 @@ fn place_of(slots: &[Slot], name: &[u8]) -> Option<usize>
 /// Reads a field of a message.
 fn add_field(
     alloc: Global,
-    source: &Source,
+    input: &Input,
     parts: &mut Gathered,
     field: &Field,
 ) -> Result<(), SchemaError>
     requires { are_apart (lines_of parts.old.slots.items) ≡ true }
     ensures passes { OnOk result ((m : Message) (before : List (List ℕ)) →
         IsTableOf m (lines_of parts.old.slots.items) → IsGathered m parts.old before →
-        Passes (written_of source.now) m before field.now
-        × IsGathered m parts.new (token_text (written_of source.now) field.now.name ∷ before)) }
+        Passes (written_of input.now) m before field.now
+        × IsGathered m parts.new (token_text (written_of input.now) field.now.name ∷ before)) }
     ensures read { OnOk result ((rest : Tree) →
-        all_from (written_of source.now) parts.old.slots.items (field_then field.now rest)
-        ≡ all_from (written_of source.now) parts.new.slots.items rest) }
+        all_from (written_of input.now) parts.old.slots.items (field_then field.now rest)
+        ≡ all_from (written_of input.now) parts.new.slots.items rest) }
     ensures lines { OnOk result (lines_of parts.new.slots.items ≡ lines_of parts.old.slots.items) }
     ensures err { IfErr result (λ e. (m : Message) (before : List (List ℕ)) →
         IsTableOf m (lines_of parts.old.slots.items) → IsGathered m parts.old before →
-        Stops (written_of source.now) m before field.now e) }
+        Stops (written_of input.now) m before field.now e) }
 {
-    let Some(place) = place_of(&parts.slots, token_text(source, field.name as usize)) else {
-        return Err(not_read(source, &[], field.name));
+    let Some(place) = place_of(&parts.slots, token_text(input, field.name as usize)) else {
+        return Err(refused_field(input, &[], field.name));
     };
     let slot = &mut parts.slots[place];
-    add_to(alloc, source, slot, &mut parts.form, field)
+    add_to(alloc, input, slot, &mut parts.form, field)
 }
 
 /// The slots of lines, before any field was read.
@@ -271,25 +271,25 @@ fn empty_slots(alloc: Global, lines: &[Line]) -> Result<Vec<Slot>, AllocError>
 /// What the fields of a message give, which are those of these lines: a slot for each line.
 pub(crate) fn gather(
     alloc: Global,
-    source: &Source,
+    input: &Input,
     lines: &[Line],
     node: &Node,
 ) -> Result<Vec<Slot>, SchemaError>
     requires { are_apart lines.now ≡ true }
     ensures accepted { IfOk result
         (λ _. (m : Message) → IsTableOf m lines.now
-        → fields_fault (written_of source.now) m [] (tree_of node.now) ≡ None) }
+        → fields_fault (written_of input.now) m [] (tree_of node.now) ≡ None) }
     ensures reading { IfOk result
-        (λ slots. map held slots.items ≡ map (found (written_of source.now) (tree_of node.now)) lines.now) }
+        (λ slots. map held slots.items ≡ map (found (written_of input.now) (tree_of node.now)) lines.now) }
     ensures err { IfErr result (λ e. (m : Message) → IsTableOf m lines.now
-        → Refuses (fields_fault (written_of source.now) m [] (tree_of node.now)) e) }
+        → Refuses (fields_fault (written_of input.now) m [] (tree_of node.now)) e) }
 {
     let mut parts = Gathered {
         slots: empty_slots(alloc, lines)?,
         form: None,
     };
     for field in fields_of(node) {
-        match add_field(alloc, source, &mut parts, field) {
+        match add_field(alloc, input, &mut parts, field) {
             Ok(()) => {}
             Err(error) => return Err(error),
         }

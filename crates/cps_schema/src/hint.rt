@@ -1,7 +1,7 @@
 //! Hints.
 ghost use Rattle.std.specs.Prelude.{◌≡◌, ℕ, List, [], None, OnOk, IfOk, IfErr};
 ghost use Rattle.cps_textproto.specs.Trees.{Tree, tree_of};
-ghost use Rattle.cps_schema.specs.Sources.{written_of};
+ghost use Rattle.cps_schema.specs.Inputs.{written_of};
 ghost use Rattle.cps_schema.specs.Tables.{hint_message};
 ghost use Rattle.cps_schema.specs.Faults.{fields_fault};
 ghost use Rattle.cps_schema.specs.Readings.{read_hint};
@@ -10,17 +10,17 @@ ghost use Rattle.cps_schema.specs.Steps.{field_then, Passes, Stops};
 ghost use Rattle.cps_schema.specs.Parts.{hint_from};
 
 use super::error::SchemaError;
+use super::input::{Input, token_text};
 use super::lists::{add_ints, add_refs};
 use super::message::Message;
-use super::names::not_read;
+use super::names::refused_field;
 use super::single::fields_of;
-use super::source::{Source, token_text};
 use cps_model::{Hint, Listed};
 use cps_textproto::{Field, Node};
 use std::alloc::Global;
 
 /// The fields of this message that CP-SAT has and that are not served: each is refused as unsupported.
-const UNREAD: [&[u8]; 0] = [];
+const UNSUPPORTED: [&[u8]; 0] = [];
 
 /// What was read so far of a hint.
 #[derive(Drop)]
@@ -30,38 +30,38 @@ pub struct HintParts {
 }
 
 /// Reads a field of a hint.
-fn add_field(source: &Source, parts: &mut HintParts, field: &Field) -> Result<(), SchemaError>
+fn add_field(input: &Input, parts: &mut HintParts, field: &Field) -> Result<(), SchemaError>
     ensures passes { OnOk result ((before : List (List ℕ))
-        → Passes (written_of source.now) hint_message before field.now) }
+        → Passes (written_of input.now) hint_message before field.now) }
     ensures read { OnOk result ((rest : Tree) →
-        hint_from (written_of source.now) parts.old (field_then field.now rest)
-        ≡ hint_from (written_of source.now) parts.new rest) }
+        hint_from (written_of input.now) parts.old (field_then field.now rest)
+        ≡ hint_from (written_of input.now) parts.new rest) }
     ensures err { IfErr result (λ e. (before : List (List ℕ))
-        → Stops (written_of source.now) hint_message before field.now e) }
+        → Stops (written_of input.now) hint_message before field.now e) }
 {
-    let name = token_text(source, field.name as usize);
+    let name = token_text(input, field.name as usize);
     if name == b"vars".as_slice() {
-        add_refs(source, &mut parts.vars, field)
+        add_refs(input, &mut parts.vars, field)
     } else if name == b"values".as_slice() {
-        add_ints(source, &mut parts.values, field)
+        add_ints(input, &mut parts.values, field)
     } else {
-        Err(not_read(source, &UNREAD, field.name))
+        Err(refused_field(input, &UNSUPPORTED, field.name))
     }
 }
 
 /// The hint that a message gives.
-fn read_hint(alloc: Global, source: &Source, node: &Node) -> Result<Hint, SchemaError>
+fn read_hint(alloc: Global, input: &Input, node: &Node) -> Result<Hint, SchemaError>
     ensures accepted { IfOk result
-        (λ _. fields_fault (written_of source.now) hint_message [] (tree_of node.now) ≡ None) }
-    ensures reading { IfOk result (λ hint. hint ≡ read_hint (written_of source.now) (tree_of node.now)) }
-    ensures err { IfErr result (Refuses (fields_fault (written_of source.now) hint_message [] (tree_of node.now))) }
+        (λ _. fields_fault (written_of input.now) hint_message [] (tree_of node.now) ≡ None) }
+    ensures reading { IfOk result (λ hint. hint ≡ read_hint (written_of input.now) (tree_of node.now)) }
+    ensures err { IfErr result (Refuses (fields_fault (written_of input.now) hint_message [] (tree_of node.now))) }
 {
     let mut parts = HintParts {
         vars: Vec::new(alloc),
         values: Vec::new(alloc),
     };
     for field in fields_of(node) {
-        add_field(source, &mut parts, field)?;
+        add_field(input, &mut parts, field)?;
     }
     let HintParts { vars, values } = parts;
     Ok(Hint {
@@ -78,7 +78,7 @@ impl Message for Hint {
 
     ghost reads = { read_hint };
 
-    fn read(alloc: Global, source: &Source, node: &Node) -> Result<Self, SchemaError> {
-        read_hint(alloc, source, node)
+    fn read(alloc: Global, input: &Input, node: &Node) -> Result<Self, SchemaError> {
+        read_hint(alloc, input, node)
     }
 }

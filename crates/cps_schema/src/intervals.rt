@@ -1,7 +1,7 @@
 //! The intervals of a no-overlap constraint.
 ghost use Rattle.std.specs.Prelude.{◌≡◌, ℕ, List, [], ◌++◌, None, OnOk, IfOk, IfErr, codes};
 ghost use Rattle.cps_textproto.specs.Trees.{Tree, tree_of};
-ghost use Rattle.cps_schema.specs.Sources.{written_of};
+ghost use Rattle.cps_schema.specs.Inputs.{written_of};
 ghost use Rattle.cps_schema.specs.Tables.{no_overlap_message};
 ghost use Rattle.cps_schema.specs.Faults.{fields_fault};
 ghost use Rattle.cps_schema.specs.Readings.{numbers};
@@ -9,50 +9,50 @@ ghost use Rattle.cps_schema.specs.Answers.{Refuses};
 ghost use Rattle.cps_schema.specs.Steps.{field_then, Passes, Stops};
 
 use super::error::SchemaError;
+use super::input::{Input, token_text};
 use super::lists::add_refs;
-use super::names::not_read;
+use super::names::refused_field;
 use super::single::fields_of;
-use super::source::{Source, token_text};
 use cps_model::Listed;
 use cps_textproto::{Field, Node};
 use std::alloc::Global;
 
 /// The fields of this message that CP-SAT has and that are not served: each is refused as unsupported.
-const UNREAD: [&[u8]; 0] = [];
+const UNSUPPORTED: [&[u8]; 0] = [];
 
 /// Reads a field of a list of intervals.
-fn add_field(source: &Source, intervals: &mut Vec<i32>, field: &Field) -> Result<(), SchemaError>
+fn add_field(input: &Input, intervals: &mut Vec<i32>, field: &Field) -> Result<(), SchemaError>
     ensures passes { OnOk result ((before : List (List ℕ))
-        → Passes (written_of source.now) no_overlap_message before field.now) }
+        → Passes (written_of input.now) no_overlap_message before field.now) }
     ensures read { OnOk result ((rest : Tree) →
-        intervals.old.items ++ numbers (written_of source.now) (codes "intervals") (field_then field.now rest)
-        ≡ intervals.new.items ++ numbers (written_of source.now) (codes "intervals") rest) }
+        intervals.old.items ++ numbers (written_of input.now) (codes "intervals") (field_then field.now rest)
+        ≡ intervals.new.items ++ numbers (written_of input.now) (codes "intervals") rest) }
     ensures err { IfErr result (λ e. (before : List (List ℕ))
-        → Stops (written_of source.now) no_overlap_message before field.now e) }
+        → Stops (written_of input.now) no_overlap_message before field.now e) }
 {
-    if token_text(source, field.name as usize) == b"intervals".as_slice() {
-        add_refs(source, intervals, field)
+    if token_text(input, field.name as usize) == b"intervals".as_slice() {
+        add_refs(input, intervals, field)
     } else {
-        Err(not_read(source, &UNREAD, field.name))
+        Err(refused_field(input, &UNSUPPORTED, field.name))
     }
 }
 
 /// The intervals that a message gives.
 pub(crate) fn read_intervals(
     alloc: Global,
-    source: &Source,
+    input: &Input,
     node: &Node,
 ) -> Result<Listed<i32>, SchemaError>
     ensures accepted { IfOk result
-        (λ _. fields_fault (written_of source.now) no_overlap_message [] (tree_of node.now) ≡ None) }
+        (λ _. fields_fault (written_of input.now) no_overlap_message [] (tree_of node.now) ≡ None) }
     ensures reading { IfOk result
-        (λ intervals. intervals ≡ numbers (written_of source.now) (codes "intervals") (tree_of node.now)) }
+        (λ intervals. intervals ≡ numbers (written_of input.now) (codes "intervals") (tree_of node.now)) }
     ensures err { IfErr result (Refuses
-        (fields_fault (written_of source.now) no_overlap_message [] (tree_of node.now))) }
+        (fields_fault (written_of input.now) no_overlap_message [] (tree_of node.now))) }
 {
     let mut intervals = Vec::new(alloc);
     for field in fields_of(node) {
-        add_field(source, &mut intervals, field)?;
+        add_field(input, &mut intervals, field)?;
     }
     Ok(Listed::from_vec(intervals))
 }

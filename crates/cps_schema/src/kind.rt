@@ -7,7 +7,7 @@ ghost use Rattle.std.specs.Option.{option_or};
 ghost use Rattle.std.specs.List.{find};
 ghost use Rattle.std.specs.Str.{bytes_eq};
 ghost use Rattle.cps_textproto.specs.Trees.{tree_of, values_of};
-ghost use Rattle.cps_schema.specs.Sources.{written_of, single_fault};
+ghost use Rattle.cps_schema.specs.Inputs.{written_of, single_fault};
 ghost use Rattle.cps_schema.specs.Written.{token_text};
 ghost use Rattle.cps_schema.specs.Tables.{message, is_given};
 ghost use Rattle.cps_schema.specs.Kinds.{field_name, message_of, kind_named};
@@ -25,6 +25,7 @@ use super::circuit::read_circuit;
 use super::cumulative::read_cumulative;
 use super::element::read_element;
 use super::error::SchemaError;
+use super::input::{Input, token_text};
 use super::interval::read_interval;
 use super::intervals::read_intervals;
 use super::inverse::read_inverse;
@@ -33,7 +34,6 @@ use super::literals::read_literals;
 use super::names::is_given;
 use super::reservoir::read_reservoir;
 use super::single::single_message;
-use super::source::{Source, token_text};
 use super::table::read_table;
 use cps_model::{FaultName, Kind};
 use cps_textproto::{Field, Node};
@@ -157,23 +157,23 @@ fn is_given_as(given: &Option<GivenKind>, name: KindName) -> bool
 /// The message of a field of a kind, which must be the first.
 #[tactic(auto, using(crate::proofs::Steps::closed_stops, crate::proofs::Steps::kind_again, crate::proofs::Steps::second_kind, crate::proofs::Steps::kind_stops))]
 fn kind_message<'a>(
-    source: &Source,
+    input: &Input,
     given: &Option<GivenKind>,
     name: KindName,
     field: &'a Field,
 ) -> Result<&'a Node, SchemaError>
     ensures unclosed { IfOk result
-        (λ _. is_given (written_of source.now).closed (token_text (written_of source.now) field.now.name) ≡ false) }
+        (λ _. is_given (written_of input.now).closed (token_text (written_of input.now) field.now.name) ≡ false) }
     ensures different { IfOk result (λ _. is_given_as given.now name ≡ false) }
     ensures first { IfOk result (λ _. is_some given.now ≡ false) }
     ensures messages { IfOk result (λ node. value_messages (values_of field.now.items) ≡ tree_of node.now ∷ []) }
-    ensures inner { IfOk result (λ node. single_fault (written_of source.now) (message (message_of name)) field.now
-        ≡ option_or (fields_fault (written_of source.now) (message_of name) [] (tree_of node.now)) None) }
-    ensures err { IfErr result (KindStops (written_of source.now) field.now (message_of name)
+    ensures inner { IfOk result (λ node. single_fault (written_of input.now) (message (message_of name)) field.now
+        ≡ option_or (fields_fault (written_of input.now) (message_of name) [] (tree_of node.now)) None) }
+    ensures err { IfErr result (KindStops (written_of input.now) field.now (message_of name)
         (is_given_as given.now name) (is_some given.now)) }
 {
     let token = field.name as usize;
-    if is_given(source.closed, token_text(source, token)) {
+    if is_given(input.closed, token_text(input, token)) {
         return Err(SchemaError::Fault {
             name: FaultName::Unsupported,
             token,
@@ -191,44 +191,39 @@ fn kind_message<'a>(
             token,
         });
     }
-    single_message(source, field)
+    single_message(input, field)
 }
 
 /// The kind of this name that a message gives.
-fn read_kind(
-    alloc: Global,
-    source: &Source,
-    name: KindName,
-    node: &Node,
-) -> Result<Kind, SchemaError>
+fn read_kind(alloc: Global, input: &Input, name: KindName, node: &Node) -> Result<Kind, SchemaError>
     ensures accepted { IfOk result
-        (λ _. fields_fault (written_of source.now) (message_of name) [] (tree_of node.now) ≡ None) }
-    ensures reading { IfOk result (λ kind. kind ≡ read_kind (written_of source.now) name (tree_of node.now)) }
+        (λ _. fields_fault (written_of input.now) (message_of name) [] (tree_of node.now) ≡ None) }
+    ensures reading { IfOk result (λ kind. kind ≡ read_kind (written_of input.now) name (tree_of node.now)) }
     ensures err { IfErr result (Refuses
-        (fields_fault (written_of source.now) (message_of name) [] (tree_of node.now))) }
+        (fields_fault (written_of input.now) (message_of name) [] (tree_of node.now))) }
 {
     match name {
-        KindName::BoolOr => Ok(Kind::BoolOr(read_literals(alloc, source, node)?)),
-        KindName::BoolAnd => Ok(Kind::BoolAnd(read_literals(alloc, source, node)?)),
-        KindName::AtMostOne => Ok(Kind::AtMostOne(read_literals(alloc, source, node)?)),
-        KindName::ExactlyOne => Ok(Kind::ExactlyOne(read_literals(alloc, source, node)?)),
-        KindName::BoolXor => Ok(Kind::BoolXor(read_literals(alloc, source, node)?)),
-        KindName::IntDiv => read_int_div(alloc, source, node),
-        KindName::IntMod => read_int_mod(alloc, source, node),
-        KindName::IntProd => read_int_prod(alloc, source, node),
-        KindName::LinMax => read_lin_max(alloc, source, node),
-        KindName::Linear => read_linear(alloc, source, node),
-        KindName::AllDiff => read_all_diff(alloc, source, node),
-        KindName::Element => read_element(alloc, source, node),
-        KindName::Circuit => read_circuit(alloc, source, node),
-        KindName::Table => read_table(alloc, source, node),
-        KindName::Interval => read_interval(alloc, source, node),
-        KindName::NoOverlap => Ok(Kind::NoOverlap(read_intervals(alloc, source, node)?)),
-        KindName::Cumulative => read_cumulative(alloc, source, node),
-        KindName::Automaton => read_automaton(alloc, source, node),
-        KindName::Inverse => read_inverse(alloc, source, node),
-        KindName::Reservoir => read_reservoir(alloc, source, node),
-        KindName::NoOverlap2d => read_boxes(alloc, source, node),
+        KindName::BoolOr => Ok(Kind::BoolOr(read_literals(alloc, input, node)?)),
+        KindName::BoolAnd => Ok(Kind::BoolAnd(read_literals(alloc, input, node)?)),
+        KindName::AtMostOne => Ok(Kind::AtMostOne(read_literals(alloc, input, node)?)),
+        KindName::ExactlyOne => Ok(Kind::ExactlyOne(read_literals(alloc, input, node)?)),
+        KindName::BoolXor => Ok(Kind::BoolXor(read_literals(alloc, input, node)?)),
+        KindName::IntDiv => read_int_div(alloc, input, node),
+        KindName::IntMod => read_int_mod(alloc, input, node),
+        KindName::IntProd => read_int_prod(alloc, input, node),
+        KindName::LinMax => read_lin_max(alloc, input, node),
+        KindName::Linear => read_linear(alloc, input, node),
+        KindName::AllDiff => read_all_diff(alloc, input, node),
+        KindName::Element => read_element(alloc, input, node),
+        KindName::Circuit => read_circuit(alloc, input, node),
+        KindName::Table => read_table(alloc, input, node),
+        KindName::Interval => read_interval(alloc, input, node),
+        KindName::NoOverlap => Ok(Kind::NoOverlap(read_intervals(alloc, input, node)?)),
+        KindName::Cumulative => read_cumulative(alloc, input, node),
+        KindName::Automaton => read_automaton(alloc, input, node),
+        KindName::Inverse => read_inverse(alloc, input, node),
+        KindName::Reservoir => read_reservoir(alloc, input, node),
+        KindName::NoOverlap2d => read_boxes(alloc, input, node),
     }
 }
 
@@ -236,23 +231,23 @@ fn read_kind(
 #[tactic(auto, using(crate::proofs::Steps::kind_passes, crate::proofs::Steps::kind_stops))]
 pub(crate) fn set_kind(
     alloc: Global,
-    source: &Source,
+    input: &Input,
     given: &mut Option<GivenKind>,
     name: KindName,
     field: &Field,
 ) -> Result<(), SchemaError>
-    ensures passes { OnOk result (KindPasses (written_of source.now) field.now (message_of name)
+    ensures passes { OnOk result (KindPasses (written_of input.now) field.now (message_of name)
         (is_given_as given.old name) (is_some given.old)) }
     ensures added { OnOk result (kind_list given.new
-        ≡ kind_list given.old ++ map (read_kind (written_of source.now) name)
+        ≡ kind_list given.old ++ map (read_kind (written_of input.now) name)
         (value_messages (values_of field.now.items))) }
     ensures none { OnOk result (is_some given.old ≡ false) }
     ensures set { OnOk result (is_given_as given.new name ≡ true) }
-    ensures err { IfErr result (KindStops (written_of source.now) field.now (message_of name)
+    ensures err { IfErr result (KindStops (written_of input.now) field.now (message_of name)
         (is_given_as given.old name) (is_some given.old)) }
 {
-    let node = kind_message(source, given, name, field)?;
-    let kind = read_kind(alloc, source, name, node)?;
+    let node = kind_message(input, given, name, field)?;
+    let kind = read_kind(alloc, input, name, node)?;
     *given = Some(GivenKind { name, kind });
     Ok(())
 }

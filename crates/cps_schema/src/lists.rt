@@ -1,9 +1,9 @@
 //! The numbers of repeated fields.
 ghost use Rattle.std.specs.Prelude.{◌≡◌, ◌++◌, [], ◌∷◌, Some, None, OnOk, IfErr};
-ghost use Rattle.cps_textproto.specs.Trees.{span_values, values_of};
+ghost use Rattle.cps_textproto.specs.Trees.{range_values, values_of};
 ghost use Rattle.cps_schema.specs.declared.number.Number.TheVariants.{Int64, Int32};
 ghost use Rattle.cps_schema.specs.Written.{number_at};
-ghost use Rattle.cps_schema.specs.Sources.{written_of};
+ghost use Rattle.cps_schema.specs.Inputs.{written_of};
 ghost use Rattle.cps_schema.specs.Numbers.{number_fault};
 ghost use Rattle.cps_schema.specs.Tables.{number};
 ghost use Rattle.cps_schema.specs.Faults.{refused_at, values_fault};
@@ -11,19 +11,19 @@ ghost use Rattle.cps_schema.specs.Readings.{value_numbers};
 ghost use Rattle.cps_schema.specs.Answers.{Refuses};
 
 use super::error::SchemaError;
+use super::input::Input;
 use super::number::{Number, int32_at, number_at};
 use super::single::no_messages;
-use super::source::Source;
 use cps_model::FaultName;
-use cps_textproto::{Field, Item, Items, Span};
+use cps_textproto::{Field, Item, Items, TokenRange};
 
 /// Adds the number of the scalar at token `first`.
-fn add_int(source: &Source, list: &mut Vec<i64>, first: u32) -> Result<(), SchemaError>
-    ensures fault { OnOk result (number_fault (written_of source.now) Int64 first ≡ None) }
-    ensures added { OnOk result (list.new.items ≡ list.old.items ++ number_at (written_of source.now) first ∷ []) }
-    ensures err { IfErr result (Refuses (refused_at first (number_fault (written_of source.now) Int64 first))) }
+fn add_int(input: &Input, list: &mut Vec<i64>, first: u32) -> Result<(), SchemaError>
+    ensures fault { OnOk result (number_fault (written_of input.now) Int64 first ≡ None) }
+    ensures added { OnOk result (list.new.items ≡ list.old.items ++ number_at (written_of input.now) first ∷ []) }
+    ensures err { IfErr result (Refuses (refused_at first (number_fault (written_of input.now) Int64 first))) }
 {
-    match number_at(source, Number::Int64, first) {
+    match number_at(input, Number::Int64, first) {
         Ok(value) => {
             list.push(value)?;
             Ok(())
@@ -36,59 +36,60 @@ fn add_int(source: &Source, list: &mut Vec<i64>, first: u32) -> Result<(), Schem
 }
 
 /// Adds the numbers of the scalars of a list.
-fn add_int_spans(source: &Source, list: &mut Vec<i64>, spans: &[Span]) -> Result<(), SchemaError>
-    ensures fault { OnOk result (values_fault (written_of source.now) (Some (number Int64)) (span_values spans.now)
+fn add_int_ranges(
+    input: &Input,
+    list: &mut Vec<i64>,
+    token_ranges: &[TokenRange],
+) -> Result<(), SchemaError>
+    ensures fault { OnOk result (values_fault (written_of input.now) (Some (number Int64))
+        (range_values token_ranges.now)
         ≡ None) }
     ensures added { OnOk result (list.new.items
-        ≡ list.old.items ++ value_numbers (written_of source.now) (span_values spans.now)) }
+        ≡ list.old.items ++ value_numbers (written_of input.now) (range_values token_ranges.now)) }
     ensures err { IfErr result (Refuses
-        (values_fault (written_of source.now) (Some (number Int64)) (span_values spans.now))) }
+        (values_fault (written_of input.now) (Some (number Int64)) (range_values token_ranges.now))) }
 {
     if list.is_empty() {
-        list.reserve_exact(spans.len())?;
+        list.reserve_exact(token_ranges.len())?;
     }
-    for span in spans {
-        add_int(source, list, span.first)?;
+    for token_range in token_ranges {
+        add_int(input, list, token_range.first)?;
     }
     Ok(())
 }
 
 /// Adds the numbers of a field.
-pub(crate) fn add_ints(
-    source: &Source,
-    list: &mut Vec<i64>,
-    field: &Field,
-) -> Result<(), SchemaError>
-    ensures fault { OnOk result (values_fault (written_of source.now) (Some (number Int64)) (values_of field.now.items)
+pub(crate) fn add_ints(input: &Input, list: &mut Vec<i64>, field: &Field) -> Result<(), SchemaError>
+    ensures fault { OnOk result (values_fault (written_of input.now) (Some (number Int64)) (values_of field.now.items)
         ≡ None) }
     ensures added { OnOk result (list.new.items
-        ≡ list.old.items ++ value_numbers (written_of source.now) (values_of field.now.items)) }
+        ≡ list.old.items ++ value_numbers (written_of input.now) (values_of field.now.items)) }
     ensures err { IfErr result (Refuses
-        (values_fault (written_of source.now) (Some (number Int64)) (values_of field.now.items))) }
+        (values_fault (written_of input.now) (Some (number Int64)) (values_of field.now.items))) }
 {
     match &field.items {
         Items::One(Item::Scalar { first, .. }) => {
             if list.is_empty() {
                 list.reserve_exact(1)?;
             }
-            add_int(source, list, *first)
+            add_int(input, list, *first)
         }
         Items::One(Item::Message { first, .. }) => Err(SchemaError::Fault {
             name: FaultName::WrongKind,
             token: *first as usize,
         }),
-        Items::Scalars(spans) => add_int_spans(source, list, spans),
+        Items::Scalars(token_ranges) => add_int_ranges(input, list, token_ranges),
         Items::Messages(messages) => no_messages(messages),
     }
 }
 
 /// Adds the reference of the scalar at token `first`.
-fn add_ref(source: &Source, list: &mut Vec<i32>, first: u32) -> Result<(), SchemaError>
-    ensures fault { OnOk result (number_fault (written_of source.now) Int32 first ≡ None) }
-    ensures added { OnOk result (list.new.items ≡ list.old.items ++ number_at (written_of source.now) first ∷ []) }
-    ensures err { IfErr result (Refuses (refused_at first (number_fault (written_of source.now) Int32 first))) }
+fn add_ref(input: &Input, list: &mut Vec<i32>, first: u32) -> Result<(), SchemaError>
+    ensures fault { OnOk result (number_fault (written_of input.now) Int32 first ≡ None) }
+    ensures added { OnOk result (list.new.items ≡ list.old.items ++ number_at (written_of input.now) first ∷ []) }
+    ensures err { IfErr result (Refuses (refused_at first (number_fault (written_of input.now) Int32 first))) }
 {
-    match int32_at(source, first) {
+    match int32_at(input, first) {
         Ok(value) => {
             list.push(value)?;
             Ok(())
@@ -101,48 +102,49 @@ fn add_ref(source: &Source, list: &mut Vec<i32>, first: u32) -> Result<(), Schem
 }
 
 /// Adds the references of the scalars of a list.
-fn add_ref_spans(source: &Source, list: &mut Vec<i32>, spans: &[Span]) -> Result<(), SchemaError>
-    ensures fault { OnOk result (values_fault (written_of source.now) (Some (number Int32)) (span_values spans.now)
+fn add_ref_ranges(
+    input: &Input,
+    list: &mut Vec<i32>,
+    token_ranges: &[TokenRange],
+) -> Result<(), SchemaError>
+    ensures fault { OnOk result (values_fault (written_of input.now) (Some (number Int32))
+        (range_values token_ranges.now)
         ≡ None) }
     ensures added { OnOk result (list.new.items
-        ≡ list.old.items ++ value_numbers (written_of source.now) (span_values spans.now)) }
+        ≡ list.old.items ++ value_numbers (written_of input.now) (range_values token_ranges.now)) }
     ensures err { IfErr result (Refuses
-        (values_fault (written_of source.now) (Some (number Int32)) (span_values spans.now))) }
+        (values_fault (written_of input.now) (Some (number Int32)) (range_values token_ranges.now))) }
 {
     if list.is_empty() {
-        list.reserve_exact(spans.len())?;
+        list.reserve_exact(token_ranges.len())?;
     }
-    for span in spans {
-        add_ref(source, list, span.first)?;
+    for token_range in token_ranges {
+        add_ref(input, list, token_range.first)?;
     }
     Ok(())
 }
 
 /// Adds the references of a field.
-pub(crate) fn add_refs(
-    source: &Source,
-    list: &mut Vec<i32>,
-    field: &Field,
-) -> Result<(), SchemaError>
-    ensures fault { OnOk result (values_fault (written_of source.now) (Some (number Int32)) (values_of field.now.items)
+pub(crate) fn add_refs(input: &Input, list: &mut Vec<i32>, field: &Field) -> Result<(), SchemaError>
+    ensures fault { OnOk result (values_fault (written_of input.now) (Some (number Int32)) (values_of field.now.items)
         ≡ None) }
     ensures added { OnOk result (list.new.items
-        ≡ list.old.items ++ value_numbers (written_of source.now) (values_of field.now.items)) }
+        ≡ list.old.items ++ value_numbers (written_of input.now) (values_of field.now.items)) }
     ensures err { IfErr result (Refuses
-        (values_fault (written_of source.now) (Some (number Int32)) (values_of field.now.items))) }
+        (values_fault (written_of input.now) (Some (number Int32)) (values_of field.now.items))) }
 {
     match &field.items {
         Items::One(Item::Scalar { first, .. }) => {
             if list.is_empty() {
                 list.reserve_exact(1)?;
             }
-            add_ref(source, list, *first)
+            add_ref(input, list, *first)
         }
         Items::One(Item::Message { first, .. }) => Err(SchemaError::Fault {
             name: FaultName::WrongKind,
             token: *first as usize,
         }),
-        Items::Scalars(spans) => add_ref_spans(source, list, spans),
+        Items::Scalars(token_ranges) => add_ref_ranges(input, list, token_ranges),
         Items::Messages(messages) => no_messages(messages),
     }
 }

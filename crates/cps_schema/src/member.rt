@@ -5,7 +5,7 @@
 //! unsupported; every other unknown name is of the wrong kind.
 ghost use Rattle.std.specs.Prelude.{◌≡◌, ◌++◌, [], ◌∷◌, true, Some, None, is_some, map, OnOk, IfOk, IfErr, option_to_list};
 ghost use Rattle.cps_textproto.specs.Trees.{values_of};
-ghost use Rattle.cps_schema.specs.Sources.{written_of, single_fault, names_of};
+ghost use Rattle.cps_schema.specs.Inputs.{written_of, single_fault, names_of};
 ghost use Rattle.cps_schema.specs.Members.{member_names, place_from, is_known_member, name_refusal, member_named, member_numbered, member_of, member_at, choose_of, select_of};
 ghost use Rattle.cps_schema.specs.Tables.{member};
 ghost use Rattle.cps_schema.specs.Readings.{value_members};
@@ -13,9 +13,9 @@ ghost use Rattle.cps_schema.specs.Answers.{Refuses};
 ghost use Rattle.cps_schema.specs.Steps.{SinglePasses, SingleStops};
 
 use super::error::SchemaError;
+use super::input::{Input, token_kind, token_text};
 use super::number::{Number, is_negative, whole_number};
 use super::single::{Value, alone, bracket, wrong_kind};
-use super::source::{Source, token_kind, token_text};
 use cps_lex::TokenKind;
 use cps_model::{Choose, FaultName, Select};
 use cps_textproto::Field;
@@ -132,33 +132,33 @@ fn member_of(kind: Enum, negative: bool, token: TokenKind, text: &[u8]) -> Resul
 
 /// The number of the member that the scalar at token `first` gives.
 #[tactic(auto, unfolding(crate::specs::Members::member_at))]
-fn member_at(source: &Source, kind: Enum, first: u32) -> Result<usize, FaultName>
-    ensures { result ≡ member_at (written_of source.now) kind first }
+fn member_at(input: &Input, kind: Enum, first: u32) -> Result<usize, FaultName>
+    ensures { result ≡ member_at (written_of input.now) kind first }
 {
-    let negative = is_negative(source, first);
+    let negative = is_negative(input, first);
     let at = first as usize + negative as usize;
-    match token_kind(source, at) {
-        Some(token) => member_of(kind, negative, token, token_text(source, at)),
+    match token_kind(input, at) {
+        Some(token) => member_of(kind, negative, token, token_text(input, at)),
         None => Err(FaultName::WrongKind),
     }
 }
 
 /// The number of the member of a field that takes one.
-fn single_member(source: &Source, kind: Enum, field: &Field) -> Result<usize, SchemaError>
-    ensures fault { IfOk result (λ _. single_fault (written_of source.now) (member kind) field.now ≡ None) }
-    ensures value { IfOk result (λ n. value_members (written_of source.now) kind (values_of field.now.items) ≡ n ∷ []) }
-    ensures err { IfErr result (Refuses (single_fault (written_of source.now) (member kind) field.now)) }
+fn single_member(input: &Input, kind: Enum, field: &Field) -> Result<usize, SchemaError>
+    ensures fault { IfOk result (λ _. single_fault (written_of input.now) (member kind) field.now ≡ None) }
+    ensures value { IfOk result (λ n. value_members (written_of input.now) kind (values_of field.now.items) ≡ n ∷ []) }
+    ensures err { IfErr result (Refuses (single_fault (written_of input.now) (member kind) field.now)) }
 {
     match alone(field) {
-        Some(Value::Scalar(span)) => match member_at(source, kind, span.first) {
+        Some(Value::Scalar(token_range)) => match member_at(input, kind, token_range.first) {
             Ok(number) => Ok(number),
             Err(name) => Err(SchemaError::Fault {
                 name,
-                token: span.first as usize,
+                token: token_range.first as usize,
             }),
         },
         Some(Value::Message(first, _)) => Err(wrong_kind(first as usize)),
-        None => Err(wrong_kind(bracket(source, field.name))),
+        None => Err(wrong_kind(bracket(input, field.name))),
     }
 }
 
@@ -191,17 +191,17 @@ fn select_of(number: usize) -> Select
 /// Reads how a strategy chooses a variable, which may not have been read before.
 #[tactic(auto, using(crate::proofs::Steps::single_passes, crate::proofs::Steps::single_stops))]
 pub(crate) fn set_choose(
-    source: &Source,
+    input: &Input,
     slot: &mut Option<Choose>,
     field: &Field,
 ) -> Result<(), SchemaError>
-    ensures passes { OnOk result (SinglePasses (written_of source.now) field.now (member Enum.VariableSelection)
+    ensures passes { OnOk result (SinglePasses (written_of input.now) field.now (member Enum.VariableSelection)
         (is_some slot.old)) }
     ensures added { OnOk result (option_to_list slot.new
         ≡ option_to_list slot.old ++ map choose_of
-        (value_members (written_of source.now) Enum.VariableSelection (values_of field.now.items))) }
+        (value_members (written_of input.now) Enum.VariableSelection (values_of field.now.items))) }
     ensures some { OnOk result (is_some slot.new ≡ true) }
-    ensures err { IfErr result (SingleStops (written_of source.now) field.now (member Enum.VariableSelection)
+    ensures err { IfErr result (SingleStops (written_of input.now) field.now (member Enum.VariableSelection)
         (is_some slot.old)) }
 {
     if slot.is_some() {
@@ -210,7 +210,7 @@ pub(crate) fn set_choose(
             token: field.name as usize,
         });
     }
-    match single_member(source, Enum::VariableSelection, field) {
+    match single_member(input, Enum::VariableSelection, field) {
         Ok(number) => {
             *slot = Some(choose_of(number));
             Ok(())
@@ -222,17 +222,17 @@ pub(crate) fn set_choose(
 /// Reads how a strategy chooses a value, which may not have been read before.
 #[tactic(auto, using(crate::proofs::Steps::single_passes, crate::proofs::Steps::single_stops))]
 pub(crate) fn set_select(
-    source: &Source,
+    input: &Input,
     slot: &mut Option<Select>,
     field: &Field,
 ) -> Result<(), SchemaError>
-    ensures passes { OnOk result (SinglePasses (written_of source.now) field.now (member Enum.DomainReduction)
+    ensures passes { OnOk result (SinglePasses (written_of input.now) field.now (member Enum.DomainReduction)
         (is_some slot.old)) }
     ensures added { OnOk result (option_to_list slot.new
         ≡ option_to_list slot.old ++ map select_of
-        (value_members (written_of source.now) Enum.DomainReduction (values_of field.now.items))) }
+        (value_members (written_of input.now) Enum.DomainReduction (values_of field.now.items))) }
     ensures some { OnOk result (is_some slot.new ≡ true) }
-    ensures err { IfErr result (SingleStops (written_of source.now) field.now (member Enum.DomainReduction)
+    ensures err { IfErr result (SingleStops (written_of input.now) field.now (member Enum.DomainReduction)
         (is_some slot.old)) }
 {
     if slot.is_some() {
@@ -241,7 +241,7 @@ pub(crate) fn set_select(
             token: field.name as usize,
         });
     }
-    match single_member(source, Enum::DomainReduction, field) {
+    match single_member(input, Enum::DomainReduction, field) {
         Ok(number) => {
             *slot = Some(select_of(number));
             Ok(())

@@ -2,7 +2,7 @@
 ghost use Rattle.std.specs.Prelude.{◌≡◌, ◌++◌, [], ◌∷◌, true, None, Some, map, is_some, OnOk, IfOk, IfErr, option_to_list};
 ghost use Rattle.cps_textproto.specs.Trees.{Tree, tree_of, values_of};
 ghost use Rattle.cps_schema.specs.Written.{Written};
-ghost use Rattle.cps_schema.specs.Sources.{written_of};
+ghost use Rattle.cps_schema.specs.Inputs.{written_of};
 ghost use Rattle.cps_schema.specs.Tables as tables;
 ghost use Rattle.cps_schema.specs.Faults.{fields_fault, values_fault};
 ghost use Rattle.cps_schema.specs.Readings.{value_messages};
@@ -11,8 +11,8 @@ ghost use Rattle.cps_schema.specs.Answers.{Refuses};
 ghost use Rattle.cps_schema.specs.Steps.{SinglePasses, SingleStops};
 
 use super::error::SchemaError;
+use super::input::Input;
 use super::single::{Messages, messages_of, single_message};
-use super::source::Source;
 use cps_model::FaultName;
 use cps_textproto::{Field, Nested, Node};
 use std::alloc::Global;
@@ -26,25 +26,25 @@ pub(crate) trait Message: Sized + Drop {
     ghost reads: { Written → Tree → Self };
 
     /// What the fields of a message give, or the first that is refused.
-    fn read(alloc: Global, source: &Source, node: &Node) -> Result<Self, SchemaError>
-        ensures accepted { IfOk result (λ _. fields_fault (written_of source.now) fields [] (tree_of node.now) ≡ None) }
-        ensures reading { IfOk result (λ value. value ≡ reads (written_of source.now) (tree_of node.now)) }
-        ensures err { IfErr result (Refuses (fields_fault (written_of source.now) fields [] (tree_of node.now))) };
+    fn read(alloc: Global, input: &Input, node: &Node) -> Result<Self, SchemaError>
+        ensures accepted { IfOk result (λ _. fields_fault (written_of input.now) fields [] (tree_of node.now) ≡ None) }
+        ensures reading { IfOk result (λ value. value ≡ reads (written_of input.now) (tree_of node.now)) }
+        ensures err { IfErr result (Refuses (fields_fault (written_of input.now) fields [] (tree_of node.now))) };
 }
 
 /// Adds what a message gives.
 fn add_message<M: Message>(
     alloc: Global,
-    source: &Source,
+    input: &Input,
     values: &mut Vec<M>,
     node: &Node,
 ) -> Result<(), SchemaError>
-    ensures fault { OnOk result (fields_fault (written_of source.now) M.fields [] (tree_of node.now) ≡ None) }
+    ensures fault { OnOk result (fields_fault (written_of input.now) M.fields [] (tree_of node.now) ≡ None) }
     ensures added { OnOk result (values.new.items
-        ≡ values.old.items ++ M.reads (written_of source.now) (tree_of node.now) ∷ []) }
-    ensures err { IfErr result (Refuses (fields_fault (written_of source.now) M.fields [] (tree_of node.now))) }
+        ≡ values.old.items ++ M.reads (written_of input.now) (tree_of node.now) ∷ []) }
+    ensures err { IfErr result (Refuses (fields_fault (written_of input.now) M.fields [] (tree_of node.now))) }
 {
-    match M::read(alloc, source, node) {
+    match M::read(alloc, input, node) {
         Ok(value) => {
             values.push(value)?;
             Ok(())
@@ -57,17 +57,17 @@ fn add_message<M: Message>(
 #[tactic(auto, using(crate::proofs::Values::tree_of_nested))]
 fn add_listed<M: Message>(
     alloc: Global,
-    source: &Source,
+    input: &Input,
     values: &mut Vec<M>,
     list: &[Nested],
 ) -> Result<(), SchemaError>
-    ensures fault { OnOk result (trees_fault (written_of source.now) M.fields (nested_trees list.now) ≡ None) }
+    ensures fault { OnOk result (trees_fault (written_of input.now) M.fields (nested_trees list.now) ≡ None) }
     ensures added { OnOk result (values.new.items
-        ≡ values.old.items ++ map (M.reads (written_of source.now)) (nested_trees list.now)) }
-    ensures err { IfErr result (Refuses (trees_fault (written_of source.now) M.fields (nested_trees list.now))) }
+        ≡ values.old.items ++ map (M.reads (written_of input.now)) (nested_trees list.now)) }
+    ensures err { IfErr result (Refuses (trees_fault (written_of input.now) M.fields (nested_trees list.now))) }
 {
     for nested in list {
-        add_message(alloc, source, values, &nested.node)?;
+        add_message(alloc, input, values, &nested.node)?;
     }
     Ok(())
 }
@@ -75,20 +75,20 @@ fn add_listed<M: Message>(
 /// Adds what the messages of a field give.
 pub(crate) fn add_messages<M: Message>(
     alloc: Global,
-    source: &Source,
+    input: &Input,
     values: &mut Vec<M>,
     field: &Field,
 ) -> Result<(), SchemaError>
-    ensures fault { OnOk result (values_fault (written_of source.now) (Some (tables.message M.fields))
+    ensures fault { OnOk result (values_fault (written_of input.now) (Some (tables.message M.fields))
         (values_of field.now.items) ≡ None) }
     ensures added { OnOk result (values.new.items
-        ≡ values.old.items ++ map (M.reads (written_of source.now)) (value_messages (values_of field.now.items))) }
+        ≡ values.old.items ++ map (M.reads (written_of input.now)) (value_messages (values_of field.now.items))) }
     ensures err { IfErr result (Refuses
-        (values_fault (written_of source.now) (Some (tables.message M.fields)) (values_of field.now.items))) }
+        (values_fault (written_of input.now) (Some (tables.message M.fields)) (values_of field.now.items))) }
 {
     match messages_of(field) {
-        Ok(Messages::One(node)) => add_message(alloc, source, values, node),
-        Ok(Messages::List(list)) => add_listed(alloc, source, values, list),
+        Ok(Messages::One(node)) => add_message(alloc, input, values, node),
+        Ok(Messages::List(list)) => add_listed(alloc, input, values, list),
         Err(error) => Err(error),
     }
 }
@@ -97,17 +97,17 @@ pub(crate) fn add_messages<M: Message>(
 #[tactic(auto, using(crate::proofs::Steps::single_passes, crate::proofs::Steps::single_stops))]
 pub(crate) fn set_once<M: Message>(
     alloc: Global,
-    source: &Source,
+    input: &Input,
     slot: &mut Option<M>,
     field: &Field,
 ) -> Result<(), SchemaError>
-    ensures passes { OnOk result (SinglePasses (written_of source.now) field.now (tables.message M.fields)
+    ensures passes { OnOk result (SinglePasses (written_of input.now) field.now (tables.message M.fields)
         (is_some slot.old)) }
     ensures added { OnOk result (option_to_list slot.new
-        ≡ option_to_list slot.old ++ map (M.reads (written_of source.now))
+        ≡ option_to_list slot.old ++ map (M.reads (written_of input.now))
         (value_messages (values_of field.now.items))) }
     ensures some { OnOk result (is_some slot.new ≡ true) }
-    ensures err { IfErr result (SingleStops (written_of source.now) field.now (tables.message M.fields)
+    ensures err { IfErr result (SingleStops (written_of input.now) field.now (tables.message M.fields)
         (is_some slot.old)) }
 {
     if slot.is_some() {
@@ -116,8 +116,8 @@ pub(crate) fn set_once<M: Message>(
             token: field.name as usize,
         });
     }
-    match single_message(source, field) {
-        Ok(node) => match M::read(alloc, source, node) {
+    match single_message(input, field) {
+        Ok(node) => match M::read(alloc, input, node) {
             Ok(value) => {
                 *slot = Some(value);
                 Ok(())

@@ -7,7 +7,7 @@ ghost use Rattle.std.specs.Prelude.{◌≡◌, ◌++◌, ℕ, List, [], ◌∷�
 ghost use Rattle.cps_textproto.specs.Trees.{Tree, no_fields, tree_of, values_of};
 ghost use Rattle.cps_model.specs.declared.model.CpModel.{CpModel};
 ghost use Rattle.cps_schema.specs.Written.{Written, written, written_with, token_text};
-ghost use Rattle.cps_schema.specs.Sources.{written_of, names_of};
+ghost use Rattle.cps_schema.specs.Inputs.{written_of, names_of};
 ghost use Rattle.cps_schema.specs.Tables.{model_message, variable_message, constraint_message, objective_message, hint_message, message, number};
 ghost use Rattle.cps_schema.specs.Faults.{values_fault, fields_fault};
 ghost use Rattle.cps_schema.specs.Readings.{ReadsAs, value_numbers, value_messages, read_variable, read_constraint, read_objective, read_hint, read_model};
@@ -19,12 +19,12 @@ ghost use Rattle.cps_schema.specs.Open.{closed_names, OpenKinds, OpenAssumptions
 
 use super::closed::CLOSED;
 use super::error::SchemaError;
+use super::input::{Input, token_text};
 use super::lists::add_refs;
 use super::message::{add_messages, set_once};
-use super::names::{is_given, not_read};
+use super::names::{is_given, refused_field};
 use super::number::Number;
 use super::single::fields_of;
-use super::source::{Source, token_text};
 use super::text::{name_or_empty, set_name};
 use cps_lex::Token;
 use cps_model::{
@@ -34,7 +34,7 @@ use cps_textproto::{Field, Node};
 use std::alloc::Global;
 
 /// The fields of this message that CP-SAT has and that are not served: each is refused as unsupported.
-const UNREAD: [&[u8]; 2] = [b"floating_point_objective", b"symmetry"];
+const UNSUPPORTED: [&[u8]; 2] = [b"floating_point_objective", b"symmetry"];
 
 /// What was read so far of a model.
 #[derive(Drop)]
@@ -49,55 +49,55 @@ pub struct ModelParts {
 }
 
 /// Adds the assumptions of a field, unless the field is closed.
-fn add_assumptions(source: &Source, list: &mut Vec<i32>, field: &Field) -> Result<(), SchemaError>
-    ensures passes { OnOk result (ClosablePasses (written_of source.now) field.now (number Number.Int32)) }
+fn add_assumptions(input: &Input, list: &mut Vec<i32>, field: &Field) -> Result<(), SchemaError>
+    ensures passes { OnOk result (ClosablePasses (written_of input.now) field.now (number Number.Int32)) }
     ensures added { OnOk result (list.new.items
-        ≡ list.old.items ++ value_numbers (written_of source.now) (values_of field.now.items)) }
-    ensures err { IfErr result (ClosableStops (written_of source.now) field.now (number Number.Int32)) }
+        ≡ list.old.items ++ value_numbers (written_of input.now) (values_of field.now.items)) }
+    ensures err { IfErr result (ClosableStops (written_of input.now) field.now (number Number.Int32)) }
 {
     let token = field.name as usize;
-    if is_given(source.closed, token_text(source, token)) {
+    if is_given(input.closed, token_text(input, token)) {
         return Err(SchemaError::Fault {
             name: FaultName::Unsupported,
             token,
         });
     }
-    add_refs(source, list, field)
+    add_refs(input, list, field)
 }
 
 /// Reads a field of a model.
 fn add_field(
     alloc: Global,
-    source: &Source,
+    input: &Input,
     parts: &mut ModelParts,
     field: &Field,
 ) -> Result<(), SchemaError>
     ensures passes { OnOk result ((before : List (List ℕ)) → AreGivenSlots (model_slots parts.old) before →
-        Passes (written_of source.now) model_message before field.now
-        × AreGivenSlots (model_slots parts.new) (token_text (written_of source.now) field.now.name ∷ before)) }
+        Passes (written_of input.now) model_message before field.now
+        × AreGivenSlots (model_slots parts.new) (token_text (written_of input.now) field.now.name ∷ before)) }
     ensures read { OnOk result ((rest : Tree) →
-        model_from (written_of source.now) parts.old (field_then field.now rest)
-        ≡ model_from (written_of source.now) parts.new rest) }
+        model_from (written_of input.now) parts.old (field_then field.now rest)
+        ≡ model_from (written_of input.now) parts.new rest) }
     ensures err { IfErr result (λ e. (before : List (List ℕ)) → AreGivenSlots (model_slots parts.old) before →
-        Stops (written_of source.now) model_message before field.now e) }
+        Stops (written_of input.now) model_message before field.now e) }
 {
-    let name = token_text(source, field.name as usize);
+    let name = token_text(input, field.name as usize);
     if name == b"name".as_slice() {
-        set_name(alloc, source, &mut parts.name, field)
+        set_name(alloc, input, &mut parts.name, field)
     } else if name == b"variables".as_slice() {
-        add_messages(alloc, source, &mut parts.variables, field)
+        add_messages(alloc, input, &mut parts.variables, field)
     } else if name == b"constraints".as_slice() {
-        add_messages(alloc, source, &mut parts.constraints, field)
+        add_messages(alloc, input, &mut parts.constraints, field)
     } else if name == b"objective".as_slice() {
-        set_once(alloc, source, &mut parts.objective, field)
+        set_once(alloc, input, &mut parts.objective, field)
     } else if name == b"search_strategy".as_slice() {
-        add_messages(alloc, source, &mut parts.strategies, field)
+        add_messages(alloc, input, &mut parts.strategies, field)
     } else if name == b"solution_hint".as_slice() {
-        set_once(alloc, source, &mut parts.hint, field)
+        set_once(alloc, input, &mut parts.hint, field)
     } else if name == b"assumptions".as_slice() {
-        add_assumptions(source, &mut parts.assumptions, field)
+        add_assumptions(input, &mut parts.assumptions, field)
     } else {
-        Err(not_read(source, &UNREAD, field.name))
+        Err(refused_field(input, &UNSUPPORTED, field.name))
     }
 }
 
@@ -127,11 +127,11 @@ fn model_of_parts(alloc: Global, parts: ModelParts) -> CpModel
 }
 
 /// The model that a document's fields give.
-fn read_model(alloc: Global, source: &Source, node: &Node) -> Result<CpModel, SchemaError>
+fn read_model(alloc: Global, input: &Input, node: &Node) -> Result<CpModel, SchemaError>
     ensures accepted { IfOk result
-        (λ _. fields_fault (written_of source.now) model_message [] (tree_of node.now) ≡ None) }
-    ensures reading { IfOk result (λ model. model ≡ read_model (written_of source.now) (tree_of node.now)) }
-    ensures err { IfErr result (Refuses (fields_fault (written_of source.now) model_message [] (tree_of node.now))) }
+        (λ _. fields_fault (written_of input.now) model_message [] (tree_of node.now) ≡ None) }
+    ensures reading { IfOk result (λ model. model ≡ read_model (written_of input.now) (tree_of node.now)) }
+    ensures err { IfErr result (Refuses (fields_fault (written_of input.now) model_message [] (tree_of node.now))) }
 {
     let mut parts = ModelParts {
         name: None,
@@ -143,7 +143,7 @@ fn read_model(alloc: Global, source: &Source, node: &Node) -> Result<CpModel, Sc
         assumptions: Vec::new(alloc),
     };
     for field in fields_of(node) {
-        add_field(alloc, source, &mut parts, field)?;
+        add_field(alloc, input, &mut parts, field)?;
     }
     Ok(model_of_parts(alloc, parts))
 }
@@ -168,12 +168,12 @@ pub fn model_with(
         → ReadsAs (written_with (names_of closed.now) bytes.now tokens.now) (tree_of node.now) model
         → Gives result model }
 {
-    let source = Source {
+    let input = Input {
         bytes,
         tokens,
         closed,
     };
-    read_model(alloc, &source, node)
+    read_model(alloc, &input, node)
 }
 
 /// The model of a document, given its bytes, its tokens and its tree. The fields of `CLOSED` are refused.

@@ -1,11 +1,11 @@
-//! Fields that are not read.
+//! Fields that are not taken.
 ghost use Rattle.std.specs.Prelude.{◌≡◌, if◌then◌else◌};
 ghost use Rattle.cps_schema.specs.Written.{token_text};
-ghost use Rattle.cps_schema.specs.Sources.{written_of, names_of};
+ghost use Rattle.cps_schema.specs.Inputs.{written_of, names_of};
 ghost use Rattle.cps_schema.specs.Tables.{is_given};
 
 use super::error::SchemaError;
-use super::source::{Source, token_text};
+use super::input::{Input, token_text};
 use cps_model::FaultName;
 
 /// The name is one of these.
@@ -21,12 +21,13 @@ pub(crate) fn is_given(names: &[&[u8]], name: &[u8]) -> bool
     false
 }
 
-/// Why a field is refused that is not read: its name is one of those that are known, or not.
-pub(crate) fn not_read(source: &Source, unread: &[&[u8]], token: u32) -> SchemaError
-    ensures { result ≡ SchemaError.Fault (if is_given (names_of unread.now) (token_text (written_of source.now) token)
+/// Why a field is refused: its name is one of those that are known and not supported, or it is not known.
+pub(crate) fn refused_field(input: &Input, unsupported: &[&[u8]], token: u32) -> SchemaError
+    ensures { result ≡ SchemaError.Fault
+        (if is_given (names_of unsupported.now) (token_text (written_of input.now) token)
         then FaultName.Unsupported else FaultName.UnknownField) token }
 {
-    let known = is_given(unread, token_text(source, token as usize));
+    let known = is_given(unsupported, token_text(input, token as usize));
     SchemaError::Fault {
         name: if known {
             FaultName::Unsupported

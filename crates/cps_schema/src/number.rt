@@ -8,12 +8,12 @@ ghost use Rattle.std.specs.Prelude.{◌≡◌, ◌^◌, ◌≤◌, pos, neg_ℤ,
 ghost use Rattle.std.specs.Option.{option_map};
 ghost use Rattle.cps_schema.specs.Digits.{capped};
 ghost use Rattle.cps_schema.specs.Written.{token_size, number_at, is_negative};
-ghost use Rattle.cps_schema.specs.Sources.{written_of};
+ghost use Rattle.cps_schema.specs.Inputs.{written_of};
 ghost use Rattle.cps_schema.specs.Numbers.{fits, limit, misfit, word_fault, other_base_fault, float_fault, token_fault, fitted, number_fault};
 
 use super::digits::{decimal_value, digits_after};
 use super::float::float_value;
-use super::source::{Source, behind, token_kind, token_text};
+use super::input::{Input, behind, token_kind, token_text};
 use cps_lex::TokenKind;
 use cps_model::FaultName;
 
@@ -60,10 +60,10 @@ fn in_type(number: Number, negative: bool, size: u64) -> Option<i64>
 }
 
 #[tactic(auto, unfolding(crate::specs::Written::is_negative))]
-pub(crate) fn is_negative(source: &Source, first: u32) -> bool
-    ensures { result ≡ is_negative (written_of source.now) first }
+pub(crate) fn is_negative(input: &Input, first: u32) -> bool
+    ensures { result ≡ is_negative (written_of input.now) first }
 {
-    token_text(source, first as usize) == b"-".as_slice()
+    token_text(input, first as usize) == b"-".as_slice()
 }
 
 /// The whole number that a token of this kind writes, or the greatest of 64 bits where it is greater, if it writes one.
@@ -109,21 +109,21 @@ fn token_fault(number: Number, kind: TokenKind) -> Option<FaultName>
 
 /// The number that the scalar at token `first` is worth, if the type has it.
 #[tactic(auto, unfolding(crate::specs::Numbers::number_fault, crate::specs::Written::number_at, crate::specs::Written::size_at))]
-pub(crate) fn number_at(source: &Source, number: Number, first: u32) -> Result<i64, FaultName>
-    ensures fault { IfOk result (λ _. number_fault (written_of source.now) number first ≡ None) }
-    ensures value { IfOk result (λ z. z ≡ number_at (written_of source.now) first) }
+pub(crate) fn number_at(input: &Input, number: Number, first: u32) -> Result<i64, FaultName>
+    ensures fault { IfOk result (λ _. number_fault (written_of input.now) number first ≡ None) }
+    ensures value { IfOk result (λ z. z ≡ number_at (written_of input.now) first) }
     ensures fits { IfOk result (λ z. IsTrue (fits number z)) }
-    ensures err { IfErr result (λ name. number_fault (written_of source.now) number first ≡ Some name) }
+    ensures err { IfErr result (λ name. number_fault (written_of input.now) number first ≡ Some name) }
 {
-    let negative = is_negative(source, first);
+    let negative = is_negative(input, first);
     let token = first as usize + negative as usize;
-    let Some(kind) = token_kind(source, token) else {
+    let Some(kind) = token_kind(input, token) else {
         return Err(FaultName::WrongKind);
     };
     if let Some(name) = token_fault(number, kind) {
         return Err(name);
     }
-    match whole_number(number, negative, kind, token_text(source, token)) {
+    match whole_number(number, negative, kind, token_text(input, token)) {
         Some(value) => Ok(value),
         None => Err(misfit(number)),
     }
@@ -139,12 +139,12 @@ fn narrow(value: i64) -> i32
 }
 
 /// The number of 32 bits that the scalar at token `first` is worth.
-pub(crate) fn int32_at(source: &Source, first: u32) -> Result<i32, FaultName>
-    ensures fault { IfOk result (λ _. number_fault (written_of source.now) Number.Int32 first ≡ None) }
-    ensures value { IfOk result (λ z. z ≡ number_at (written_of source.now) first) }
-    ensures err { IfErr result (λ name. number_fault (written_of source.now) Number.Int32 first ≡ Some name) }
+pub(crate) fn int32_at(input: &Input, first: u32) -> Result<i32, FaultName>
+    ensures fault { IfOk result (λ _. number_fault (written_of input.now) Number.Int32 first ≡ None) }
+    ensures value { IfOk result (λ z. z ≡ number_at (written_of input.now) first) }
+    ensures err { IfErr result (λ name. number_fault (written_of input.now) Number.Int32 first ≡ Some name) }
 {
-    match number_at(source, Number::Int32, first) {
+    match number_at(input, Number::Int32, first) {
         Ok(value) => Ok(narrow(value)),
         Err(name) => Err(name),
     }

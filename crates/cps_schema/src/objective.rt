@@ -2,7 +2,7 @@
 ghost use Rattle.std.specs.Prelude.{◌≡◌, ℕ, List, [], ◌∷◌, None, OnOk, IfOk, IfErr};
 ghost use Rattle.cps_textproto.specs.Trees.{Tree, no_fields, tree_of};
 ghost use Rattle.cps_schema.specs.Written.{Written, token_text};
-ghost use Rattle.cps_schema.specs.Sources.{written_of};
+ghost use Rattle.cps_schema.specs.Inputs.{written_of};
 ghost use Rattle.cps_schema.specs.Tables.{objective_message};
 ghost use Rattle.cps_schema.specs.Faults.{fields_fault};
 ghost use Rattle.cps_schema.specs.Readings.{scaling_of, read_objective};
@@ -11,18 +11,18 @@ ghost use Rattle.cps_schema.specs.Steps.{field_then, Passes, Stops};
 ghost use Rattle.cps_schema.specs.Parts.{objective_from, IsGivenObjective};
 
 use super::error::SchemaError;
+use super::input::{Input, token_text};
 use super::lists::{add_ints, add_refs};
 use super::message::Message;
-use super::names::not_read;
+use super::names::refused_field;
 use super::number::Number;
 use super::single::{fields_of, set_number};
-use super::source::{Source, token_text};
 use cps_model::{Listed, Objective};
 use cps_textproto::{Field, Node};
 use std::alloc::Global;
 
 /// The fields of this message that CP-SAT has and that are not served: each is refused as unsupported.
-const UNREAD: [&[u8]; 4] = [
+const UNSUPPORTED: [&[u8]; 4] = [
     b"scaling_was_exact",
     b"integer_before_offset",
     b"integer_after_offset",
@@ -40,32 +40,32 @@ pub struct ObjectiveParts {
 }
 
 /// Reads a field of an objective.
-fn add_field(source: &Source, parts: &mut ObjectiveParts, field: &Field) -> Result<(), SchemaError>
+fn add_field(input: &Input, parts: &mut ObjectiveParts, field: &Field) -> Result<(), SchemaError>
     ensures passes { OnOk result ((before : List (List ℕ))
         → IsGivenObjective parts.old.offset parts.old.scaling before →
-        Passes (written_of source.now) objective_message before field.now
+        Passes (written_of input.now) objective_message before field.now
         × IsGivenObjective parts.new.offset parts.new.scaling
-        (token_text (written_of source.now) field.now.name ∷ before)) }
+        (token_text (written_of input.now) field.now.name ∷ before)) }
     ensures read { OnOk result ((rest : Tree) →
-        objective_from (written_of source.now) parts.old (field_then field.now rest)
-        ≡ objective_from (written_of source.now) parts.new rest) }
+        objective_from (written_of input.now) parts.old (field_then field.now rest)
+        ≡ objective_from (written_of input.now) parts.new rest) }
     ensures err { IfErr result (λ e. (before : List (List ℕ))
         → IsGivenObjective parts.old.offset parts.old.scaling before →
-        Stops (written_of source.now) objective_message before field.now e) }
+        Stops (written_of input.now) objective_message before field.now e) }
 {
-    let name = token_text(source, field.name as usize);
+    let name = token_text(input, field.name as usize);
     if name == b"vars".as_slice() {
-        add_refs(source, &mut parts.vars, field)
+        add_refs(input, &mut parts.vars, field)
     } else if name == b"coeffs".as_slice() {
-        add_ints(source, &mut parts.coeffs, field)
+        add_ints(input, &mut parts.coeffs, field)
     } else if name == b"offset".as_slice() {
-        set_number(source, Number::Exact, &mut parts.offset, field)
+        set_number(input, Number::Exact, &mut parts.offset, field)
     } else if name == b"scaling_factor".as_slice() {
-        set_number(source, Number::Exact, &mut parts.scaling, field)
+        set_number(input, Number::Exact, &mut parts.scaling, field)
     } else if name == b"domain".as_slice() {
-        add_ints(source, &mut parts.domain, field)
+        add_ints(input, &mut parts.domain, field)
     } else {
-        Err(not_read(source, &UNREAD, field.name))
+        Err(refused_field(input, &UNSUPPORTED, field.name))
     }
 }
 
@@ -98,12 +98,12 @@ fn objective_of(parts: ObjectiveParts) -> Objective
 }
 
 /// The objective that a message gives.
-fn read_objective(alloc: Global, source: &Source, node: &Node) -> Result<Objective, SchemaError>
+fn read_objective(alloc: Global, input: &Input, node: &Node) -> Result<Objective, SchemaError>
     ensures accepted { IfOk result
-        (λ _. fields_fault (written_of source.now) objective_message [] (tree_of node.now) ≡ None) }
-    ensures reading { IfOk result (λ objective. objective ≡ read_objective (written_of source.now) (tree_of node.now)) }
+        (λ _. fields_fault (written_of input.now) objective_message [] (tree_of node.now) ≡ None) }
+    ensures reading { IfOk result (λ objective. objective ≡ read_objective (written_of input.now) (tree_of node.now)) }
     ensures err { IfErr result (Refuses
-        (fields_fault (written_of source.now) objective_message [] (tree_of node.now))) }
+        (fields_fault (written_of input.now) objective_message [] (tree_of node.now))) }
 {
     let mut parts = ObjectiveParts {
         vars: Vec::new(alloc),
@@ -113,7 +113,7 @@ fn read_objective(alloc: Global, source: &Source, node: &Node) -> Result<Objecti
         domain: Vec::new(alloc),
     };
     for field in fields_of(node) {
-        add_field(source, &mut parts, field)?;
+        add_field(input, &mut parts, field)?;
     }
     Ok(objective_of(parts))
 }
@@ -126,7 +126,7 @@ impl Message for Objective {
 
     ghost reads = { read_objective };
 
-    fn read(alloc: Global, source: &Source, node: &Node) -> Result<Self, SchemaError> {
-        read_objective(alloc, source, node)
+    fn read(alloc: Global, input: &Input, node: &Node) -> Result<Self, SchemaError> {
+        read_objective(alloc, input, node)
     }
 }

@@ -6,10 +6,10 @@
 ghost use Rattle.std.specs.Prelude.{◌≡◌, ◌++◌, [], ◌∷◌, true, false, Some, None, is_some, OnOk, IfOk, IfErr, IfSome, IfNone, option_to_list};
 ghost use Rattle.std.specs.Option.{option_or};
 ghost use Rattle.cps_textproto.specs.declared.tree.Items.TheVariants as Items;
-ghost use Rattle.cps_textproto.specs.Trees.{tree_of, field_list, values_of, span_values, nested_value, no_values, scalar_value};
+ghost use Rattle.cps_textproto.specs.Trees.{tree_of, field_list, values_of, range_values, nested_value, no_values, scalar_value};
 ghost use Rattle.cps_schema.specs.declared.number.Number.{Number};
 ghost use Rattle.cps_schema.specs.Written.{Written};
-ghost use Rattle.cps_schema.specs.Sources.{written_of, single_fault};
+ghost use Rattle.cps_schema.specs.Inputs.{written_of, single_fault};
 ghost use Rattle.cps_schema.specs.Tables.{Message, number, truth, message};
 ghost use Rattle.cps_schema.specs.Faults.{bracket, is_alone, values_fault, fields_fault};
 ghost use Rattle.cps_schema.specs.Readings.{value_numbers, value_messages};
@@ -18,10 +18,10 @@ ghost use Rattle.cps_schema.specs.Steps.{SinglePasses, SingleStops};
 ghost use Rattle.cps_schema.specs.Values.{value_of, trees_of, trees_fault};
 
 use super::error::SchemaError;
+use super::input::{Input, token_text};
 use super::number::{Number, number_at};
-use super::source::{Source, token_text};
 use cps_model::FaultName;
-use cps_textproto::{Field, Item, Items, Nested, Node, Span};
+use cps_textproto::{Field, Item, Items, Nested, Node, TokenRange};
 
 /// The fields of a message.
 #[tactic(auto, using(cps_textproto::proofs::Views::tree_of_node))]
@@ -33,11 +33,11 @@ pub(crate) fn fields_of(node: &Node) -> &[Field]
 
 /// The token of the `[` of a field's list.
 #[tactic(auto, unfolding(crate::specs::Faults::bracket))]
-pub(crate) fn bracket(source: &Source, name: u32) -> usize
-    ensures { result ≡ bracket (written_of source.now) name }
+pub(crate) fn bracket(input: &Input, name: u32) -> usize
+    ensures { result ≡ bracket (written_of input.now) name }
 {
     let name = name as usize;
-    if token_text(source, name + 1) == b":".as_slice() {
+    if token_text(input, name + 1) == b":".as_slice() {
         name + 2
     } else {
         name + 1
@@ -56,18 +56,19 @@ pub(crate) fn wrong_kind(token: usize) -> SchemaError
 
 /// A value: a scalar, or a message with the token that opens it.
 pub(crate) enum Value<'a> {
-    Scalar(Span),
+    Scalar(TokenRange),
     Message(u32, &'a Node),
 }
 
 /// The scalar of a list that has one.
 #[tactic(auto, using(crate::proofs::Values::not_alone))]
-fn only(spans: &[Span]) -> Option<Span>
-    ensures none { IfNone result (is_alone false (span_values spans.now) ≡ false) }
-    ensures some { IfSome result (λ span. span_values spans.now ≡ scalar_value span.first span.end no_values) }
+fn only(token_ranges: &[TokenRange]) -> Option<TokenRange>
+    ensures none { IfNone result (is_alone false (range_values token_ranges.now) ≡ false) }
+    ensures some { IfSome result (λ token_range. range_values token_ranges.now
+        ≡ scalar_value token_range.first token_range.end no_values) }
 {
-    if spans.len() == 1 {
-        Some(spans[0])
+    if token_ranges.len() == 1 {
+        Some(token_ranges[0])
     } else {
         None
     }
@@ -97,13 +98,13 @@ pub(crate) fn alone(field: &Field) -> Option<Value<'_>>
         return None;
     }
     match &field.items {
-        Items::One(Item::Scalar { first, end }) => Some(Value::Scalar(Span {
+        Items::One(Item::Scalar { first, end }) => Some(Value::Scalar(TokenRange {
             first: *first,
             end: *end,
         })),
         Items::One(Item::Message { first, node }) => Some(Value::Message(*first, node)),
-        Items::Scalars(spans) => match only(spans) {
-            Some(span) => Some(Value::Scalar(span)),
+        Items::Scalars(token_ranges) => match only(token_ranges) {
+            Some(token_range) => Some(Value::Scalar(token_range)),
             None => None,
         },
         Items::Messages(list) => match only_message(list) {
@@ -114,40 +115,36 @@ pub(crate) fn alone(field: &Field) -> Option<Value<'_>>
 }
 
 /// The number of a field that takes one.
-pub(crate) fn single_number(
-    source: &Source,
-    kind: Number,
-    field: &Field,
-) -> Result<i64, SchemaError>
-    ensures fault { IfOk result (λ _. single_fault (written_of source.now) (number kind) field.now ≡ None) }
-    ensures value { IfOk result (λ z. value_numbers (written_of source.now) (values_of field.now.items) ≡ z ∷ []) }
-    ensures err { IfErr result (Refuses (single_fault (written_of source.now) (number kind) field.now)) }
+pub(crate) fn single_number(input: &Input, kind: Number, field: &Field) -> Result<i64, SchemaError>
+    ensures fault { IfOk result (λ _. single_fault (written_of input.now) (number kind) field.now ≡ None) }
+    ensures value { IfOk result (λ z. value_numbers (written_of input.now) (values_of field.now.items) ≡ z ∷ []) }
+    ensures err { IfErr result (Refuses (single_fault (written_of input.now) (number kind) field.now)) }
 {
     match alone(field) {
-        Some(Value::Scalar(span)) => match number_at(source, kind, span.first) {
+        Some(Value::Scalar(token_range)) => match number_at(input, kind, token_range.first) {
             Ok(value) => Ok(value),
             Err(name) => Err(SchemaError::Fault {
                 name,
-                token: span.first as usize,
+                token: token_range.first as usize,
             }),
         },
         Some(Value::Message(first, _)) => Err(wrong_kind(first as usize)),
-        None => Err(wrong_kind(bracket(source, field.name))),
+        None => Err(wrong_kind(bracket(input, field.name))),
     }
 }
 
 /// Reads the number of a single field, which may not have been read before.
 pub(crate) fn set_number(
-    source: &Source,
+    input: &Input,
     kind: Number,
     slot: &mut Option<i64>,
     field: &Field,
 ) -> Result<(), SchemaError>
-    ensures passes { OnOk result (SinglePasses (written_of source.now) field.now (number kind) (is_some slot.old)) }
+    ensures passes { OnOk result (SinglePasses (written_of input.now) field.now (number kind) (is_some slot.old)) }
     ensures added { OnOk result (option_to_list slot.new
-        ≡ option_to_list slot.old ++ value_numbers (written_of source.now) (values_of field.now.items)) }
+        ≡ option_to_list slot.old ++ value_numbers (written_of input.now) (values_of field.now.items)) }
     ensures some { OnOk result (is_some slot.new ≡ true) }
-    ensures err { IfErr result (SingleStops (written_of source.now) field.now (number kind) (is_some slot.old)) }
+    ensures err { IfErr result (SingleStops (written_of input.now) field.now (number kind) (is_some slot.old)) }
 {
     if slot.is_some() {
         return Err(SchemaError::Fault {
@@ -155,7 +152,7 @@ pub(crate) fn set_number(
             token: field.name as usize,
         });
     }
-    match single_number(source, kind, field) {
+    match single_number(input, kind, field) {
         Ok(value) => {
             *slot = Some(value);
             Ok(())
@@ -165,18 +162,18 @@ pub(crate) fn set_number(
 }
 
 /// The message of a field that takes one.
-pub(crate) fn single_message<'a>(source: &Source, field: &'a Field) -> Result<&'a Node, SchemaError>
+pub(crate) fn single_message<'a>(input: &Input, field: &'a Field) -> Result<&'a Node, SchemaError>
     ensures messages { IfOk result (λ node. value_messages (values_of field.now.items) ≡ tree_of node.now ∷ []) }
     ensures inner { IfOk result (λ node. (m : Message) →
-        single_fault (written_of source.now) (message m) field.now
-        ≡ option_or (fields_fault (written_of source.now) m [] (tree_of node.now)) None) }
+        single_fault (written_of input.now) (message m) field.now
+        ≡ option_or (fields_fault (written_of input.now) m [] (tree_of node.now)) None) }
     ensures err { IfErr result (λ e. (m : Message)
-        → Refuses (single_fault (written_of source.now) (message m) field.now) e) }
+        → Refuses (single_fault (written_of input.now) (message m) field.now) e) }
 {
     match alone(field) {
         Some(Value::Message(_, node)) => Ok(node),
-        Some(Value::Scalar(span)) => Err(wrong_kind(span.first as usize)),
-        None => Err(wrong_kind(bracket(source, field.name))),
+        Some(Value::Scalar(token_range)) => Err(wrong_kind(token_range.first as usize)),
+        None => Err(wrong_kind(bracket(input, field.name))),
     }
 }
 
@@ -202,14 +199,14 @@ pub(crate) enum Messages<'a> {
 }
 
 /// Scalars where messages are taken: none is wrong where there is none.
-fn no_scalars(spans: &[Span]) -> Result<(), SchemaError>
-    ensures none { OnOk result (span_values spans.now ≡ no_values) }
+fn no_scalars(token_ranges: &[TokenRange]) -> Result<(), SchemaError>
+    ensures none { OnOk result (range_values token_ranges.now ≡ no_values) }
     ensures err { IfErr result (λ e. (w : Written) (m : Message)
-        → Refuses (values_fault w (Some (message m)) (span_values spans.now)) e) }
+        → Refuses (values_fault w (Some (message m)) (range_values token_ranges.now)) e) }
 {
-    match spans.first() {
+    match token_ranges.first() {
         None => Ok(()),
-        Some(span) => Err(wrong_kind(span.first as usize)),
+        Some(token_range) => Err(wrong_kind(token_range.first as usize)),
     }
 }
 
@@ -225,7 +222,7 @@ pub(crate) fn messages_of(field: &Field) -> Result<Messages<'_>, SchemaError>
     match &field.items {
         Items::One(Item::Message { node, .. }) => Ok(Messages::One(node)),
         Items::One(Item::Scalar { first, .. }) => Err(wrong_kind(*first as usize)),
-        Items::Scalars(spans) => match no_scalars(spans) {
+        Items::Scalars(token_ranges) => match no_scalars(token_ranges) {
             Ok(()) => Ok(Messages::List(&[])),
             Err(error) => Err(error),
         },

@@ -5,7 +5,7 @@
 ghost use Rattle.std.specs.Prelude.{◌≡◌, ◌++◌, ℕ, List, [], ◌∷◌, true, false, None, Some, map, OnOk, IfOk, IfErr};
 ghost use Rattle.cps_textproto.specs.Trees.{Tree, no_fields, tree_of, values_of};
 ghost use Rattle.cps_schema.specs.Written.{Written, token_text};
-ghost use Rattle.cps_schema.specs.Sources.{written_of};
+ghost use Rattle.cps_schema.specs.Inputs.{written_of};
 ghost use Rattle.cps_schema.specs.Tables.{strategy_message, expression_message, number, message};
 ghost use Rattle.cps_schema.specs.Faults.{fields_fault, values_fault};
 ghost use Rattle.cps_schema.specs.Readings.{value_numbers, value_messages, read_expression, read_strategy};
@@ -16,19 +16,19 @@ ghost use Rattle.cps_schema.specs.Parts.{strategy_from, is_other, IsStrategyGive
 
 use super::error::SchemaError;
 use super::form::{Form, take_form};
+use super::input::{Input, token_text};
 use super::lists::add_refs;
 use super::member::{set_choose, set_select};
 use super::message::{Message, add_messages};
-use super::names::not_read;
+use super::names::refused_field;
 use super::number::Number;
 use super::single::fields_of;
-use super::source::{Source, token_text};
 use cps_model::{Choose, Exprs, LinearExpr, Select, Strategy};
 use cps_textproto::{Field, Node};
 use std::alloc::Global;
 
 /// The fields of this message that CP-SAT has and that are not served: each is refused as unsupported.
-const UNREAD: [&[u8]; 0] = [];
+const UNSUPPORTED: [&[u8]; 0] = [];
 
 /// What was read so far of a strategy: its expressions in the newer form, or in the older one as references.
 #[derive(Drop)]
@@ -44,45 +44,45 @@ pub struct StrategyParts {
 /// Adds the expressions of a field of the newer form.
 fn add_newer(
     alloc: Global,
-    source: &Source,
+    input: &Input,
     form: &mut Option<Form>,
     exprs: &mut Vec<LinearExpr>,
     field: &Field,
 ) -> Result<(), SchemaError>
-    ensures passes { OnOk result (FormedPasses (written_of source.now) field.now Form.Newer
+    ensures passes { OnOk result (FormedPasses (written_of input.now) field.now Form.Newer
         (message expression_message) (is_other form.old Form.Newer)) }
     ensures added { OnOk result (exprs.new.items
-        ≡ exprs.old.items ++ map (read_expression (written_of source.now))
+        ≡ exprs.old.items ++ map (read_expression (written_of input.now))
         (value_messages (values_of field.now.items))) }
     ensures same { OnOk result (is_other form.old Form.Newer ≡ false) }
     ensures taken { OnOk result (form.new ≡ Some Form.Newer) }
-    ensures err { IfErr result (FormedStops (written_of source.now) field.now Form.Newer (message expression_message)
+    ensures err { IfErr result (FormedStops (written_of input.now) field.now Form.Newer (message expression_message)
         (is_other form.old Form.Newer)) }
 {
     match take_form(form, Form::Newer, field) {
-        Ok(()) => add_messages(alloc, source, exprs, field),
+        Ok(()) => add_messages(alloc, input, exprs, field),
         Err(error) => Err(error),
     }
 }
 
 /// Adds the references of a field of the older form.
 fn add_older(
-    source: &Source,
+    input: &Input,
     form: &mut Option<Form>,
     variables: &mut Vec<i32>,
     field: &Field,
 ) -> Result<(), SchemaError>
-    ensures passes { OnOk result (FormedPasses (written_of source.now) field.now Form.Older (number Number.Int32)
+    ensures passes { OnOk result (FormedPasses (written_of input.now) field.now Form.Older (number Number.Int32)
         (is_other form.old Form.Older)) }
     ensures added { OnOk result (variables.new.items
-        ≡ variables.old.items ++ value_numbers (written_of source.now) (values_of field.now.items)) }
+        ≡ variables.old.items ++ value_numbers (written_of input.now) (values_of field.now.items)) }
     ensures same { OnOk result (is_other form.old Form.Older ≡ false) }
     ensures taken { OnOk result (form.new ≡ Some Form.Older) }
-    ensures err { IfErr result (FormedStops (written_of source.now) field.now Form.Older (number Number.Int32)
+    ensures err { IfErr result (FormedStops (written_of input.now) field.now Form.Older (number Number.Int32)
         (is_other form.old Form.Older)) }
 {
     match take_form(form, Form::Older, field) {
-        Ok(()) => add_refs(source, variables, field),
+        Ok(()) => add_refs(input, variables, field),
         Err(error) => Err(error),
     }
 }
@@ -90,30 +90,30 @@ fn add_older(
 /// Reads a field of a strategy.
 fn add_field(
     alloc: Global,
-    source: &Source,
+    input: &Input,
     parts: &mut StrategyParts,
     field: &Field,
 ) -> Result<(), SchemaError>
     ensures passes { OnOk result ((before : List (List ℕ)) → IsStrategyGiven parts.old before →
-        Passes (written_of source.now) strategy_message before field.now
-        × IsStrategyGiven parts.new (token_text (written_of source.now) field.now.name ∷ before)) }
+        Passes (written_of input.now) strategy_message before field.now
+        × IsStrategyGiven parts.new (token_text (written_of input.now) field.now.name ∷ before)) }
     ensures read { OnOk result ((rest : Tree) →
-        strategy_from (written_of source.now) parts.old (field_then field.now rest)
-        ≡ strategy_from (written_of source.now) parts.new rest) }
+        strategy_from (written_of input.now) parts.old (field_then field.now rest)
+        ≡ strategy_from (written_of input.now) parts.new rest) }
     ensures err { IfErr result (λ e. (before : List (List ℕ)) → IsStrategyGiven parts.old before →
-        Stops (written_of source.now) strategy_message before field.now e) }
+        Stops (written_of input.now) strategy_message before field.now e) }
 {
-    let name = token_text(source, field.name as usize);
+    let name = token_text(input, field.name as usize);
     if name == b"exprs".as_slice() {
-        add_newer(alloc, source, &mut parts.form, &mut parts.exprs, field)
+        add_newer(alloc, input, &mut parts.form, &mut parts.exprs, field)
     } else if name == b"variables".as_slice() {
-        add_older(source, &mut parts.form, &mut parts.variables, field)
+        add_older(input, &mut parts.form, &mut parts.variables, field)
     } else if name == b"variable_selection_strategy".as_slice() {
-        set_choose(source, &mut parts.choose, field)
+        set_choose(input, &mut parts.choose, field)
     } else if name == b"domain_reduction_strategy".as_slice() {
-        set_select(source, &mut parts.select, field)
+        set_select(input, &mut parts.select, field)
     } else {
-        Err(not_read(source, &UNREAD, field.name))
+        Err(refused_field(input, &UNSUPPORTED, field.name))
     }
 }
 
@@ -137,11 +137,11 @@ fn strategy_of(parts: StrategyParts) -> Strategy
 }
 
 /// The strategy that a message gives.
-fn read_strategy(alloc: Global, source: &Source, node: &Node) -> Result<Strategy, SchemaError>
+fn read_strategy(alloc: Global, input: &Input, node: &Node) -> Result<Strategy, SchemaError>
     ensures accepted { IfOk result
-        (λ _. fields_fault (written_of source.now) strategy_message [] (tree_of node.now) ≡ None) }
-    ensures reading { IfOk result (λ strategy. strategy ≡ read_strategy (written_of source.now) (tree_of node.now)) }
-    ensures err { IfErr result (Refuses (fields_fault (written_of source.now) strategy_message [] (tree_of node.now))) }
+        (λ _. fields_fault (written_of input.now) strategy_message [] (tree_of node.now) ≡ None) }
+    ensures reading { IfOk result (λ strategy. strategy ≡ read_strategy (written_of input.now) (tree_of node.now)) }
+    ensures err { IfErr result (Refuses (fields_fault (written_of input.now) strategy_message [] (tree_of node.now))) }
 {
     let mut parts = StrategyParts {
         exprs: Vec::new(alloc),
@@ -151,7 +151,7 @@ fn read_strategy(alloc: Global, source: &Source, node: &Node) -> Result<Strategy
         select: None,
     };
     for field in fields_of(node) {
-        add_field(alloc, source, &mut parts, field)?;
+        add_field(alloc, input, &mut parts, field)?;
     }
     Ok(strategy_of(parts))
 }
@@ -164,7 +164,7 @@ impl Message for Strategy {
 
     ghost reads = { read_strategy };
 
-    fn read(alloc: Global, source: &Source, node: &Node) -> Result<Self, SchemaError> {
-        read_strategy(alloc, source, node)
+    fn read(alloc: Global, input: &Input, node: &Node) -> Result<Self, SchemaError> {
+        read_strategy(alloc, input, node)
     }
 }

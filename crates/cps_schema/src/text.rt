@@ -3,7 +3,7 @@ ghost use Rattle.std.specs.Prelude.{◌≡◌, ◌++◌, [], ◌∷◌, true, fa
 ghost use Rattle.std.specs.List.{list_all, flat_map};
 ghost use Rattle.std.specs.Str.{is_utf8};
 ghost use Rattle.cps_textproto.specs.Trees.{values_of};
-ghost use Rattle.cps_schema.specs.Sources.{written_of, single_fault};
+ghost use Rattle.cps_schema.specs.Inputs.{written_of, single_fault};
 ghost use Rattle.cps_schema.specs.Texts.{scalar_tokens, is_string, string_value, text_at};
 ghost use Rattle.cps_schema.specs.Tables.{text};
 ghost use Rattle.cps_schema.specs.Faults.{refused_at, text_fault};
@@ -12,20 +12,20 @@ ghost use Rattle.cps_schema.specs.Steps.{SinglePasses, SingleStops};
 ghost use Rattle.cps_schema.specs.Answers.{Refuses};
 
 use super::error::SchemaError;
+use super::input::{Input, span_text};
 use super::single::{Value, alone, bracket, wrong_kind};
-use super::source::{Source, span_text};
 use cps_lex::{Token, TokenKind, push_text};
 use cps_model::{FaultName, Text};
-use cps_textproto::{Field, Span};
+use cps_textproto::{Field, TokenRange};
 use std::alloc::{AllocError, Global};
 
 /// The tokens of a scalar.
-fn scalar_tokens<'a>(source: &Source<'a>, span: Span) -> &'a [Token]
-    ensures { result.now ≡ scalar_tokens (written_of source.now) span.first span.end }
+fn scalar_tokens<'a>(input: &Input<'a>, token_range: TokenRange) -> &'a [Token]
+    ensures { result.now ≡ scalar_tokens (written_of input.now) token_range.first token_range.end }
 {
-    let tokens = source.tokens;
-    let rest = &tokens[(span.first as usize).min(tokens.len())..];
-    let count = (span.end as usize).saturating_sub(span.first as usize);
+    let tokens = input.tokens;
+    let rest = &tokens[(token_range.first as usize).min(tokens.len())..];
+    let count = (token_range.end as usize).saturating_sub(token_range.first as usize);
     &rest[..count.min(rest.len())]
 }
 
@@ -77,51 +77,48 @@ fn utf8_text(bytes: Vec<u8>) -> Option<Text>
 
 /// The text that a scalar writes.
 #[tactic(auto, unfolding(crate::specs::Texts::text_at))]
-fn text_at(alloc: Global, source: &Source, span: Span) -> Result<Text, SchemaError>
-    ensures ok { IfOk result (λ t. text_at (written_of source.now) span.first span.end ≡ Some t) }
+fn text_at(alloc: Global, input: &Input, token_range: TokenRange) -> Result<Text, SchemaError>
+    ensures ok { IfOk result (λ t. text_at (written_of input.now) token_range.first token_range.end ≡ Some t) }
     ensures err { IfErr result (Refuses
-        (refused_at span.first (text_fault (text_at (written_of source.now) span.first span.end)))) }
+        (refused_at token_range.first
+        (text_fault (text_at (written_of input.now) token_range.first token_range.end)))) }
 {
-    let tokens = scalar_tokens(source, span);
+    let tokens = scalar_tokens(input, token_range);
     if !are_strings(tokens) {
-        return Err(wrong_kind(span.first as usize));
+        return Err(wrong_kind(token_range.first as usize));
     }
-    let bytes = joined(alloc, source.bytes, tokens)?;
+    let bytes = joined(alloc, input.bytes, tokens)?;
     match utf8_text(bytes) {
         Some(text) => Ok(text),
-        None => Err(wrong_kind(span.first as usize)),
+        None => Err(wrong_kind(token_range.first as usize)),
     }
 }
 
 /// The text of a field that takes one.
-pub(crate) fn single_text(
-    alloc: Global,
-    source: &Source,
-    field: &Field,
-) -> Result<Text, SchemaError>
-    ensures fault { IfOk result (λ _. single_fault (written_of source.now) text field.now ≡ None) }
-    ensures value { IfOk result (λ t. value_texts (written_of source.now) (values_of field.now.items) ≡ t ∷ []) }
-    ensures err { IfErr result (Refuses (single_fault (written_of source.now) text field.now)) }
+pub(crate) fn single_text(alloc: Global, input: &Input, field: &Field) -> Result<Text, SchemaError>
+    ensures fault { IfOk result (λ _. single_fault (written_of input.now) text field.now ≡ None) }
+    ensures value { IfOk result (λ t. value_texts (written_of input.now) (values_of field.now.items) ≡ t ∷ []) }
+    ensures err { IfErr result (Refuses (single_fault (written_of input.now) text field.now)) }
 {
     match alone(field) {
-        Some(Value::Scalar(span)) => text_at(alloc, source, span),
+        Some(Value::Scalar(token_range)) => text_at(alloc, input, token_range),
         Some(Value::Message(first, _)) => Err(wrong_kind(first as usize)),
-        None => Err(wrong_kind(bracket(source, field.name))),
+        None => Err(wrong_kind(bracket(input, field.name))),
     }
 }
 
 /// Reads the name that a message gives, which may not have been read before.
 pub(crate) fn set_name(
     alloc: Global,
-    source: &Source,
+    input: &Input,
     slot: &mut Option<Text>,
     field: &Field,
 ) -> Result<(), SchemaError>
-    ensures passes { OnOk result (SinglePasses (written_of source.now) field.now text (is_some slot.old)) }
+    ensures passes { OnOk result (SinglePasses (written_of input.now) field.now text (is_some slot.old)) }
     ensures added { OnOk result (option_to_list slot.new
-        ≡ option_to_list slot.old ++ value_texts (written_of source.now) (values_of field.now.items)) }
+        ≡ option_to_list slot.old ++ value_texts (written_of input.now) (values_of field.now.items)) }
     ensures some { OnOk result (is_some slot.new ≡ true) }
-    ensures err { IfErr result (SingleStops (written_of source.now) field.now text (is_some slot.old)) }
+    ensures err { IfErr result (SingleStops (written_of input.now) field.now text (is_some slot.old)) }
 {
     if slot.is_some() {
         return Err(SchemaError::Fault {
@@ -129,7 +126,7 @@ pub(crate) fn set_name(
             token: field.name as usize,
         });
     }
-    match single_text(alloc, source, field) {
+    match single_text(alloc, input, field) {
         Ok(name) => {
             *slot = Some(name);
             Ok(())

@@ -1,8 +1,8 @@
 //! Truth values.
 ghost use Rattle.std.specs.Prelude.{◌≡◌, ◌++◌, [], ◌∷◌, false, Some, None, OnOk, IfErr};
 ghost use Rattle.std.specs.Option.{unwrap_or};
-ghost use Rattle.cps_textproto.specs.Trees.{span_values, values_of};
-ghost use Rattle.cps_schema.specs.Sources.{written_of};
+ghost use Rattle.cps_textproto.specs.Trees.{range_values, values_of};
+ghost use Rattle.cps_schema.specs.Inputs.{written_of};
 ghost use Rattle.cps_schema.specs.Truths.{truth_named, truth_numbered, truth_of, truth_at};
 ghost use Rattle.cps_schema.specs.Tables.{truth};
 ghost use Rattle.cps_schema.specs.Faults.{refused_at, truth_fault, values_fault};
@@ -10,11 +10,11 @@ ghost use Rattle.cps_schema.specs.Readings.{value_truths};
 ghost use Rattle.cps_schema.specs.Answers.{Refuses};
 
 use super::error::SchemaError;
+use super::input::{Input, token_kind, token_text};
 use super::number::size_of;
 use super::single::{no_messages, wrong_kind};
-use super::source::{Source, token_kind, token_text};
 use cps_lex::TokenKind;
-use cps_textproto::{Field, Item, Items, Span};
+use cps_textproto::{Field, Item, Items, TokenRange};
 
 /// The truth value that a word names, if it names one.
 fn truth_named(name: &[u8]) -> Option<bool>
@@ -59,23 +59,23 @@ fn truth_of(kind: TokenKind, text: &[u8]) -> Option<bool>
 
 /// The truth value that the scalar at token `first` gives, if it gives one.
 #[tactic(auto, unfolding(crate::specs::Truths::truth_at))]
-fn truth_at(source: &Source, first: u32) -> Option<bool>
-    ensures { result ≡ truth_at (written_of source.now) first }
+fn truth_at(input: &Input, first: u32) -> Option<bool>
+    ensures { result ≡ truth_at (written_of input.now) first }
 {
-    match token_kind(source, first as usize) {
-        Some(kind) => truth_of(kind, token_text(source, first as usize)),
+    match token_kind(input, first as usize) {
+        Some(kind) => truth_of(kind, token_text(input, first as usize)),
         None => None,
     }
 }
 
 /// Adds the truth value of the scalar at token `first`.
-fn add_truth(source: &Source, list: &mut Vec<bool>, first: u32) -> Result<(), SchemaError>
-    ensures fault { OnOk result (truth_fault (truth_at (written_of source.now) first) ≡ None) }
+fn add_truth(input: &Input, list: &mut Vec<bool>, first: u32) -> Result<(), SchemaError>
+    ensures fault { OnOk result (truth_fault (truth_at (written_of input.now) first) ≡ None) }
     ensures added { OnOk result (list.new.items
-        ≡ list.old.items ++ unwrap_or (truth_at (written_of source.now) first) false ∷ []) }
-    ensures err { IfErr result (Refuses (refused_at first (truth_fault (truth_at (written_of source.now) first)))) }
+        ≡ list.old.items ++ unwrap_or (truth_at (written_of input.now) first) false ∷ []) }
+    ensures err { IfErr result (Refuses (refused_at first (truth_fault (truth_at (written_of input.now) first)))) }
 {
-    match truth_at(source, first) {
+    match truth_at(input, first) {
         Some(value) => {
             list.push(value)?;
             Ok(())
@@ -85,34 +85,40 @@ fn add_truth(source: &Source, list: &mut Vec<bool>, first: u32) -> Result<(), Sc
 }
 
 /// Adds the truth values of the scalars of a list.
-fn add_truth_spans(source: &Source, list: &mut Vec<bool>, spans: &[Span]) -> Result<(), SchemaError>
-    ensures fault { OnOk result (values_fault (written_of source.now) (Some truth) (span_values spans.now) ≡ None) }
+fn add_truth_ranges(
+    input: &Input,
+    list: &mut Vec<bool>,
+    token_ranges: &[TokenRange],
+) -> Result<(), SchemaError>
+    ensures fault { OnOk result (values_fault (written_of input.now) (Some truth) (range_values token_ranges.now)
+        ≡ None) }
     ensures added { OnOk result (list.new.items
-        ≡ list.old.items ++ value_truths (written_of source.now) (span_values spans.now)) }
-    ensures err { IfErr result (Refuses (values_fault (written_of source.now) (Some truth) (span_values spans.now))) }
+        ≡ list.old.items ++ value_truths (written_of input.now) (range_values token_ranges.now)) }
+    ensures err { IfErr result (Refuses
+        (values_fault (written_of input.now) (Some truth) (range_values token_ranges.now))) }
 {
-    for span in spans {
-        add_truth(source, list, span.first)?;
+    for token_range in token_ranges {
+        add_truth(input, list, token_range.first)?;
     }
     Ok(())
 }
 
 /// Adds the truth values of a field.
 pub(crate) fn add_truths(
-    source: &Source,
+    input: &Input,
     list: &mut Vec<bool>,
     field: &Field,
 ) -> Result<(), SchemaError>
-    ensures fault { OnOk result (values_fault (written_of source.now) (Some truth) (values_of field.now.items) ≡ None) }
+    ensures fault { OnOk result (values_fault (written_of input.now) (Some truth) (values_of field.now.items) ≡ None) }
     ensures added { OnOk result (list.new.items
-        ≡ list.old.items ++ value_truths (written_of source.now) (values_of field.now.items)) }
+        ≡ list.old.items ++ value_truths (written_of input.now) (values_of field.now.items)) }
     ensures err { IfErr result (Refuses
-        (values_fault (written_of source.now) (Some truth) (values_of field.now.items))) }
+        (values_fault (written_of input.now) (Some truth) (values_of field.now.items))) }
 {
     match &field.items {
-        Items::One(Item::Scalar { first, .. }) => add_truth(source, list, *first),
+        Items::One(Item::Scalar { first, .. }) => add_truth(input, list, *first),
         Items::One(Item::Message { first, .. }) => Err(wrong_kind(*first as usize)),
-        Items::Scalars(spans) => add_truth_spans(source, list, spans),
+        Items::Scalars(token_ranges) => add_truth_ranges(input, list, token_ranges),
         Items::Messages(messages) => no_messages(messages),
     }
 }

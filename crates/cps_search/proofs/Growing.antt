@@ -1,7 +1,7 @@
 -- A search stays sound when its instance gains a sum.
 use Rattle.std.specs.Prelude.{map, ◌||◌, IfSome}
 use Rattle.std.specs.List.{All}
-use Rattle.cps_search.specs.declared.end.Said.TheVariants.{Nothing}
+use Rattle.cps_search.specs.declared.end.Phase.TheVariants.{Stepping}
 use Rattle.std.proofs.Common.{ℕ, ◌+◌, ◌<◌, ◌^◌, ℤ, ◌≡◌, ◌∙◌, ◌⊎◌, inl, inr, Bool, true, Option, Some, None, List, [], ◌∷◌, ◌++◌, length, take, get_or, refl, sym, ap, subst, arith, length-append}
 use Rattle.std.proofs.lemmas.List.{get_or_append_left, length-map}
 use Rattle.std.proofs.lemmas.List.Elements.{All-head, All-tail, All-weaker, All-contains, All-get_or}
@@ -262,7 +262,7 @@ module _ (s : Search) (q : Problem) (sum : DefinedSum) (subject : ℕ) (d : Defi
     count = h.count;
     best = found_new s.best h.best;
     raised = subst (λ (m : CpModel). IfSome s.raised (IsLowerBound m)) (sym d.model) h.raised;
-    said = tt;
+    phase = tt;
   }
 
 pub sound_grew : (s t : Search) (sum : DefinedSum) (subject : ℕ) → GrewBy s t sum subject → IsInstance t.instance → IsSoundSearch s → IsSound s.store → s.store.level ≡ 0 → IsSoundSearch t
@@ -270,12 +270,12 @@ sound_grew s t sum subject h j is sound bottom = subst IsSoundSearch (sym h.is) 
 
 -- the fields of a search after the sum was defined in its instance, its store and its tasks
 pub grown_is : (s : Search) (q : Problem) (sum : DefinedSum) (subject : ℕ) (domain : Intervals) (trail : Trail) (tasks : List Task) → Defines s.instance q sum subject → IsSoundSearch s → domain ≡ domain_at q.domains subject → trail ≡ record s.store { first = s.store.first ++ domain ∷ [] }
-    → tasks ≡ s.tasks ++ sum_task subject sum ∷ [] → record s { instance = q; store = trail; tasks = tasks; rested = record s.rested { tasks = None }; said = Nothing } ≡ grown s q (sum_task subject sum)
+    → tasks ≡ s.tasks ++ sum_task subject sum ∷ [] → record s { instance = q; store = trail; tasks = tasks; rested = record s.rested { tasks = None }; phase = Stepping } ≡ grown s q (sum_task subject sum)
 grown_is s q sum subject domain trail tasks d h is t e =
     let there : domain ≡ d.added = is ∙ ap (λ (n : ℕ). first_of q.domains n) d.subject_is ∙ ap (λ (ds : Domains). first_of ds (length s.instance.domains)) d.domains ∙ at_end s.instance.domains d.added in
     let firsts : s.store.first ++ domain ∷ [] ≡ q.domains = ap (λ (ds : Domains). ds ++ domain ∷ []) h.domains ∙ ap (λ (ps : Intervals). s.instance.domains ++ ps ∷ []) there ∙ sym d.domains in
-    ap (λ (x : Trail). record s { instance = q; store = x; tasks = tasks; rested = record s.rested { tasks = None }; said = Nothing }) (t ∙ ap (λ (ds : Domains). record s.store { first = ds }) firsts)
-    ∙ ap (λ (ts : List Task). record s { instance = q; store = record s.store { first = q.domains }; tasks = ts; rested = record s.rested { tasks = None }; said = Nothing }) e
+    ap (λ (x : Trail). record s { instance = q; store = x; tasks = tasks; rested = record s.rested { tasks = None }; phase = Stepping }) (t ∙ ap (λ (ds : Domains). record s.store { first = ds }) firsts)
+    ∙ ap (λ (ts : List Task). record s { instance = q; store = record s.store { first = q.domains }; tasks = ts; rested = record s.rested { tasks = None }; phase = Stepping }) e
   where
     at_end : (ds : Domains) (ps : Intervals) → get_or (ds ++ ps ∷ []) (length ds) [] ≡ ps
     at_end [] ps = refl

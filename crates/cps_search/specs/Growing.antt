@@ -12,7 +12,7 @@ use Rattle.cps_trail.specs.Trail.{IsFalseNow}
 use Rattle.cps_port.specs.Order.{IsBelow}
 use Rattle.cps_conflict.specs.Conflicts.{AreTrueReasons}
 use Rattle.cps_conflict.specs.Leading.{AreBehind, IsFetched}
-use Rattle.cps_search.specs.declared.end.Said.TheVariants.{Nothing}
+use Rattle.cps_search.specs.declared.end.Phase.TheVariants.{Stepping}
 use Rattle.cps_search.specs.Giving.{IsReasonOfOne}
 use Rattle.cps_search.specs.Searches.{Search}
 
@@ -24,7 +24,7 @@ grown s p task = record s {
   store = record s.store { first = p.domains };
   tasks = s.tasks ++ task ∷ [];
   rested = record s.rested { tasks = None };
-  said = Nothing;
+  phase = Stepping;
 }
 
 -- A sum was defined in the instance, the store and the tasks of a search, as one subject; nothing else changed.

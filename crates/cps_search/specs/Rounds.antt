@@ -2,7 +2,7 @@
 use Rattle.std.specs.Prelude.{◌≡◌}
 use Rattle.cps_port.specs.declared.part.Part.{Part}
 use Rattle.cps_search.specs.declared.end.End.TheVariants as ends
-use Rattle.cps_search.specs.declared.end.Said.TheVariants.{Over}
+use Rattle.cps_search.specs.declared.end.Phase.TheVariants.{Over}
 use Rattle.cps_search.specs.declared.turn.Turn.{Turn}
 use Rattle.cps_search.specs.declared.turn.Turn.TheVariants as turns
 use Rattle.cps_search.specs.Following.{MovesWith}
@@ -14,7 +14,7 @@ use Rattle.cps_search.specs.Turns.{SameSetting, SawMet, SawOpen}
 pub record RoundsOver (s t : Search) (p q : Part) : Type 0 where
   pub bounds : SawOpen s p.bounds q.bounds t.z
   pub board : q.board ≡ p.board
-  pub is : t ≡ record (below s t.z) { said = Over ends.RoundsDone }
+  pub is : t ≡ record (below s t.z) { phase = Over ends.RoundsDone }
 
 -- the cause of the last turn of a worker that did its rounds
 abbrev pub EndsRoundsBy : Search → Search → Part → Part → Turn → Type 0

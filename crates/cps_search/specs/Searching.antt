@@ -25,6 +25,6 @@ search_of {P} s = record {
   raised = s.raised;
   core = s.core;
   rested = rest_in s;
-  said = s.said;
+  phase = s.phase;
   refused = false;
 }

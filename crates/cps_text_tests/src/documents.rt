@@ -211,7 +211,7 @@ fn reads_trees(rt: HostRuntime) -> Result<(), Fail> {
         (
             "a:[\"\",\",-0]",
             "Node { fields: [Field { name: 0, list: true, items: Scalars([\
-             Span { first: 3, end: 5 }, Span { first: 6, end: 7 }, Span { first: 8, end: 10 }]) }] }",
+             TokenRange { first: 3, end: 5 }, TokenRange { first: 6, end: 7 }, TokenRange { first: 8, end: 10 }]) }] }",
         ),
         (
             "a:[\"\"]",

@@ -2,9 +2,9 @@
 use Rattle.std.proofs.Common.{◌≡◌, suc, ◌-◌, List, [], ◌∷◌, ◌++◌, length, length-append, take, refl, sym, ◌∙◌, ap, arith}
 use Rattle.cps_textproto.specs.declared.tree.Field.{Field}
 use Rattle.cps_textproto.specs.declared.tree.Nested.{Nested, Nested'}
-use Rattle.cps_textproto.specs.declared.tree.Span.{Span}
+use Rattle.cps_textproto.specs.declared.tree.TokenRange.{TokenRange}
 use Rattle.cps_textproto.specs.declared.builder.Opened.{Opened}
-use Rattle.cps_textproto.specs.Trees.{Values, field_list, values_of, span_values, nested_value, nested_values, then_fields, then_values, before_last, without_last, field, scalar_value, no_fields, no_values}
+use Rattle.cps_textproto.specs.Trees.{Values, field_list, values_of, range_values, nested_value, nested_values, then_fields, then_values, before_last, without_last, field, scalar_value, no_fields, no_values}
 use Rattle.cps_textproto.specs.Building.{Outer, outer_of, outer_onto}
 
 pub field_list_more : (fs : List Field) (f : Field) → field_list (fs ++ f ∷ []) ≡ then_fields (field_list fs) (field f.name f.list (values_of f.items) no_fields)
@@ -23,9 +23,9 @@ field_list_less (f ∷ fs) =
     let one : length (f ∷ fs) - 1 ≡ length fs = omega arith in
     ap (λ n. field_list (take n (f ∷ fs))) one ∙ before_field f fs
 
-pub span_values_more : (ss : List Span) (s : Span) → span_values (ss ++ s ∷ []) ≡ then_values (span_values ss) (scalar_value s.first s.end no_values)
-span_values_more [] s = refl
-span_values_more (x ∷ xs) s = ap (scalar_value x.first x.end) (span_values_more xs s)
+pub range_values_more : (ss : List TokenRange) (s : TokenRange) → range_values (ss ++ s ∷ []) ≡ then_values (range_values ss) (scalar_value s.first s.end no_values)
+range_values_more [] s = refl
+range_values_more (x ∷ xs) s = ap (scalar_value x.first x.end) (range_values_more xs s)
 
 nested_value-more : (m : Nested) (rest more : Values) → then_values (nested_value m rest) more ≡ nested_value m (then_values rest more)
 nested_value-more (Nested' first node) rest more = refl

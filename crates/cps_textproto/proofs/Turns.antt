@@ -5,15 +5,15 @@ use Rattle.cps_textproto.specs.declared.symbol.Symbol.{Symbol}
 use Rattle.cps_textproto.specs.declared.symbol.Symbol.TheVariants.{Name, Text, Close, OpenList, CloseList, Comma}
 use Rattle.cps_textproto.specs.declared.machine.Mode.{Mode}
 use Rattle.cps_textproto.specs.declared.machine.Mode.TheVariants.{Between, After, Texted, Named, Valued, Signed, ListFirst, ListNext, ListSigned, ListItem, ListTexted, MessagesFirst, MessagesNext, MessagesItem}
-use Rattle.cps_textproto.specs.declared.machine.Frame.{Frame}
+use Rattle.cps_textproto.specs.declared.machine.OpenMessage.{OpenMessage}
 use Rattle.cps_textproto.specs.declared.machine.Move.{Move}
 use Rattle.cps_textproto.specs.declared.machine.Move.TheVariants.{Go, Enter, Leave, Further, Stop}
 use Rattle.cps_textproto.specs.declared.machine.Place.{Place}
 use Rattle.cps_textproto.specs.Machine.{State, same, mode_behind, move_of, moved, next_place, top_of, without_top, stack_behind, state_of, on_stack, step}
-use Rattle.cps_textproto.specs.Building.{Outer, Build, action_of, act, closed, frames, stack_of}
+use Rattle.cps_textproto.specs.Building.{Outer, Build, action_of, act, closed, forms, stack_of}
 
-closed_stack : (os : List Outer) (b : Build) → b.outer ≡ os → frames (closed os b).outer ≡ without_top (frames os)
-closed_stack [] b is = ap frames is
+closed_stack : (os : List Outer) (b : Build) → b.outer ≡ os → forms (closed os b).outer ≡ without_top (forms os)
+closed_stack [] b is = ap forms is
 closed_stack (o ∷ os) b is = refl
 
 -- the open messages behind a symbol
@@ -56,7 +56,7 @@ turn place next old new k x on is =
     ap (on_stack (stack_behind (move_of place.mode x) (stack_of old))) on
     ∙ ap (λ stack. Some (state_of next stack)) (sym (ap stack_of is ∙ act_stack place.mode x k old))
 
-pub no_turn : (place : Place) (stack : List Frame) (x : Symbol) → next_place place (top_of stack) x ≡ None → step (state_of place stack) x ≡ None
+pub no_turn : (place : Place) (stack : List OpenMessage) (x : Symbol) → next_place place (top_of stack) x ≡ None → step (state_of place stack) x ≡ None
 no_turn place stack x off = ap (on_stack (stack_behind (move_of place.mode x) stack)) off
 
 -- what may still be opened, with what is open, stays the same
@@ -65,11 +65,11 @@ abbrev HasInAll : ℕ → Option State → Type 0
 HasInAll n None = Unit {0}
 HasInAll n (Some state) = state.room + length state.stack ≡ n
 
-left_in_all : (b : Bool) (m : Mode) (f : Frame) (stack : List Frame) (room : ℕ) → HasInAll (room + length (f ∷ stack)) (on_stack stack (if b then Some (record { mode = m; room = suc room }) else None))
+left_in_all : (b : Bool) (m : Mode) (f : OpenMessage) (stack : List OpenMessage) (room : ℕ) → HasInAll (room + length (f ∷ stack)) (on_stack stack (if b then Some (record { mode = m; room = suc room }) else None))
 left_in_all true m f stack room = omega arith
 left_in_all false m f stack room = tt
 
-move_in_all : (move : Move) (stack : List Frame) (room : ℕ) → HasInAll (room + length stack) (on_stack (stack_behind move stack) (moved (top_of stack) room move))
+move_in_all : (move : Move) (stack : List OpenMessage) (room : ℕ) → HasInAll (room + length stack) (on_stack (stack_behind move stack) (moved (top_of stack) room move))
 move_in_all (Go m) stack room = refl
 move_in_all (Enter f) stack zero = tt
 move_in_all (Enter f) stack (suc room) = omega arith

@@ -4,13 +4,13 @@ use Rattle.cps_textproto.specs.declared.symbol.Symbol.{Symbol}
 use Rattle.cps_textproto.specs.declared.symbol.Symbol.TheVariants.{Name, Number, Text, Open, Close, OpenList, CloseList, Comma, Minus}
 use Rattle.cps_textproto.specs.declared.machine.Mode.{Mode}
 use Rattle.cps_textproto.specs.declared.machine.Mode.TheVariants.{Between, After, Texted, Named, Valued, Signed, ListFirst, ListNext, ListItem, ListTexted, MessagesFirst, MessagesNext, MessagesItem}
-use Rattle.cps_textproto.specs.declared.machine.Frame.{Frame}
+use Rattle.cps_textproto.specs.declared.machine.OpenMessage.{OpenMessage}
 use Rattle.cps_textproto.specs.declared.builder.Action.{Action}
 use Rattle.cps_textproto.specs.declared.builder.Action.TheVariants as actions
 use Rattle.cps_textproto.specs.declared.builder.Opened.{Opened}
 use Rattle.cps_textproto.specs.declared.builder.Builder.{Builder}
-use Rattle.cps_textproto.specs.Trees.{Tree, Values, no_fields, field, no_values, scalar_value, message_value, field_list, span_values, nested_values, then_fields, then_values, without_last}
-use Rattle.cps_textproto.specs.Machine.{State, frame_of, step, from_next, stops, start}
+use Rattle.cps_textproto.specs.Trees.{Tree, Values, no_fields, field, no_values, scalar_value, message_value, field_list, range_values, nested_values, then_fields, then_values, without_last}
+use Rattle.cps_textproto.specs.Machine.{State, open_message_of, step, from_next, stops, start}
 use Rattle.cps_textproto.specs.declared.reading.TextError.{TextError}
 use Rattle.cps_textproto.specs.declared.reading.TextError.TheVariants.{NotADocument, OutOfMemory}
 
@@ -20,7 +20,7 @@ list_action ListFirst Name = actions.First
 list_action ListFirst Number = actions.First
 list_action ListFirst Text = actions.First
 list_action ListFirst Minus = actions.First
-list_action ListFirst (Open b) = actions.Open (frame_of b true)
+list_action ListFirst (Open b) = actions.Open (open_message_of b true)
 list_action ListFirst CloseList = actions.End
 list_action ListFirst _ = actions.Nothing
 list_action ListNext Name = actions.First
@@ -34,10 +34,10 @@ list_action ListItem _ = actions.Nothing
 list_action ListTexted Comma = actions.Item
 list_action ListTexted CloseList = actions.LastItem
 list_action ListTexted _ = actions.Nothing
-list_action MessagesFirst (Open b) = actions.Open (frame_of b true)
+list_action MessagesFirst (Open b) = actions.Open (open_message_of b true)
 list_action MessagesFirst CloseList = actions.End
 list_action MessagesFirst _ = actions.Nothing
-list_action MessagesNext (Open b) = actions.Open (frame_of b true)
+list_action MessagesNext (Open b) = actions.Open (open_message_of b true)
 list_action MessagesNext _ = actions.Nothing
 list_action MessagesItem CloseList = actions.End
 list_action MessagesItem _ = actions.Nothing
@@ -55,14 +55,14 @@ action_of Texted Text = actions.MoreText
 action_of Texted Name = actions.Name
 action_of Texted (Close b) = actions.Close
 action_of Texted _ = actions.Nothing
-action_of Named (Open b) = actions.Open (frame_of b false)
+action_of Named (Open b) = actions.Open (open_message_of b false)
 action_of Named OpenList = actions.Begin
 action_of Named _ = actions.Nothing
 action_of Valued Name = actions.Scalar
 action_of Valued Number = actions.Scalar
 action_of Valued Text = actions.Scalar
 action_of Valued Minus = actions.First
-action_of Valued (Open b) = actions.Open (frame_of b false)
+action_of Valued (Open b) = actions.Open (open_message_of b false)
 action_of Valued OpenList = actions.Begin
 action_of Valued _ = actions.Nothing
 action_of Signed Name = actions.SignedScalar
@@ -77,7 +77,7 @@ pub record Outer : Type 0 where
   pub others : Values
   pub name : ℕ
   pub first : ℕ
-  pub frame : Frame
+  pub form : OpenMessage
 
 -- the innermost message's fields, the open messages from the inside out, and what is known of a field that is not
 -- finished: its name, the token that its scalar begins with, the scalars and the messages of its list
@@ -101,11 +101,11 @@ with_scalar b end = then_values b.scalars (scalar_value b.first end no_values)
 
 abbrev pub fields_behind : Outer → Tree → Tree
 fields_behind o inner =
-    if o.frame.listed then o.before
+    if o.form.listed then o.before
     else then_fields o.before (field o.name false (message_value o.first inner no_values) no_fields)
 
 abbrev pub messages_behind : Outer → Tree → Values
-messages_behind o inner = if o.frame.listed then then_values o.others
+messages_behind o inner = if o.form.listed then then_values o.others
     (message_value o.first inner no_values) else o.others
 
 -- the innermost message is a field of the next, or the last of its list
@@ -120,10 +120,10 @@ closed (o ∷ os) b = record {
   messages = messages_behind o b.fields;
 }
 
-abbrev pub opened : Frame → ℕ → Build → Build
+abbrev pub opened : OpenMessage → ℕ → Build → Build
 opened f k b = record {
   fields = no_fields;
-  outer = record { before = b.fields; others = b.messages; name = b.name; first = k; frame = f } ∷ b.outer;
+  outer = record { before = b.fields; others = b.messages; name = b.name; first = k; form = f } ∷ b.outer;
   name = b.name;
   first = b.first;
   scalars = b.scalars;
@@ -156,12 +156,12 @@ built state b k (x ∷ xs) = from_next (step state x) b (λ next. built next (ac
 
 -- the open messages as the machine sees them
 
-abbrev pub frames : List Outer → List Frame
-frames [] = []
-frames (o ∷ os) = o.frame ∷ frames os
+abbrev pub forms : List Outer → List OpenMessage
+forms [] = []
+forms (o ∷ os) = o.form ∷ forms os
 
-abbrev pub stack_of : Build → List Frame
-stack_of b = frames b.outer
+abbrev pub stack_of : Build → List OpenMessage
+stack_of b = forms b.outer
 
 -- the same as the code keeps it
 
@@ -171,7 +171,7 @@ outer_of o = record {
   others = nested_values o.messages.items;
   name = o.name;
   first = o.first;
-  frame = o.frame;
+  form = o.form;
 }
 
 -- a stack with its top at the end, as a list with the top in front
@@ -185,7 +185,7 @@ build_of b = record {
   outer = outer_onto b.opened.items [];
   name = b.name;
   first = b.first;
-  scalars = span_values b.scalars.items;
+  scalars = range_values b.scalars.items;
   messages = nested_values b.messages.items;
 }
 

@@ -6,7 +6,7 @@ use Rattle.cps_textproto.specs.declared.tree.Items.{Items, Row_of-Nested, end_of
 use Rattle.cps_textproto.specs.declared.tree.Items.TheVariants.{One, Scalars, Messages'}
 use Rattle.cps_textproto.specs.declared.tree.Item.{Item}
 use Rattle.cps_textproto.specs.declared.tree.Item.TheVariants.{Scalar, Message}
-use Rattle.cps_textproto.specs.declared.tree.Span.{Span}
+use Rattle.cps_textproto.specs.declared.tree.TokenRange.{TokenRange}
 use Rattle.cps_textproto.specs.declared.tree.Nested.{Nested, Nested'}
 
 mutual
@@ -34,9 +34,9 @@ abbrev mutual
 
 -- the tree of a node, in its memory
 
-abbrev pub span_values : List Span → Values
-span_values [] = no_values
-span_values (s ∷ ss) = scalar_value s.first s.end (span_values ss)
+abbrev pub range_values : List TokenRange → Values
+range_values [] = no_values
+range_values (s ∷ ss) = scalar_value s.first s.end (range_values ss)
 
 abbrev mutual
   pub tree_of : Node → Tree
@@ -48,7 +48,7 @@ abbrev mutual
 
   pub values_of : Items → Values
   values_of (One item) = item_value item
-  values_of (Scalars spans) = span_values spans.items
+  values_of (Scalars token_ranges) = range_values token_ranges.items
   values_of (Messages' shape row) = row_values row
 
   pub row_values : {m : _} → Row_of-Nested m → Values

@@ -6,13 +6,13 @@
 //! fill most of the memory that a run has.
 ghost use Rattle.std.specs.Prelude.{◌≡◌, ◌+◌, ◌<◌, ◌^◌, false, true, OnOk, IfOk, [], ◌∷◌};
 ghost use Rattle.cps_textproto.specs.declared.tree.Field.{Field};
-ghost use Rattle.cps_textproto.specs.Trees.{tree_of, field_list, values_of, span_values, nested_value, nested_values, then_fields, then_values, without_last, field, scalar_value, message_value, no_fields, no_values};
-ghost use Rattle.cps_textproto.specs.Machine.{frame_of, top_of};
+ghost use Rattle.cps_textproto.specs.Trees.{tree_of, field_list, values_of, range_values, nested_value, nested_values, then_fields, then_values, without_last, field, scalar_value, message_value, no_fields, no_values};
+ghost use Rattle.cps_textproto.specs.Machine.{open_message_of, top_of};
 ghost use Rattle.cps_textproto.specs.Building.{action_of, list_action, act, build_of, stack_of, with_field};
 
-use super::machine::{Frame, Mode};
+use super::machine::{Mode, OpenMessage};
 use super::symbol::{Bracket, Symbol};
-use super::tree::{Field, Item, Items, Nested, Node, Span};
+use super::tree::{Field, Item, Items, Nested, Node, TokenRange};
 use std::alloc::{AllocError, Global};
 use std::mem;
 
@@ -39,7 +39,7 @@ pub enum Action {
     /// It ends a list of messages, perhaps of none.
     End,
     /// It opens a message.
-    Open(Frame),
+    Open(OpenMessage),
     /// It closes one.
     Close,
 }
@@ -52,7 +52,7 @@ pub struct Opened {
     pub messages: Vec<Nested>,
     pub name: u32,
     pub first: u32,
-    pub frame: Frame,
+    pub form: OpenMessage,
 }
 
 /// The fields so far of the innermost message, the messages round it, and the parts of a field that
@@ -64,7 +64,7 @@ pub struct Builder {
     pub opened: Vec<Opened>,
     pub name: u32,
     pub first: u32,
-    pub scalars: Vec<Span>,
+    pub scalars: Vec<TokenRange>,
     pub messages: Vec<Nested>,
 }
 
@@ -142,18 +142,18 @@ fn list_action(mode: Mode, symbol: Symbol) -> Action
 }
 
 fn opens(bracket: Bracket, listed: bool) -> Action
-    ensures { result ≡ Action.Open (frame_of bracket listed) }
+    ensures { result ≡ Action.Open (open_message_of bracket listed) }
 {
-    Action::Open(Frame { bracket, listed })
+    Action::Open(OpenMessage { bracket, listed })
 }
 
 /// The innermost open message, as the machine sees it.
 #[tactic(auto, using(crate::proofs::Tops::last_is_top, crate::proofs::Tops::no_last_no_top))]
-pub(crate) fn innermost(builder: &Builder) -> Option<Frame>
+pub(crate) fn innermost(builder: &Builder) -> Option<OpenMessage>
     ensures { result ≡ top_of (stack_of (build_of builder.now)) }
 {
     match builder.opened.last() {
-        Some(opened) => Some(opened.frame),
+        Some(opened) => Some(opened.form),
         None => None,
     }
 }
@@ -179,12 +179,12 @@ fn pop_field(fields: &mut Vec<Field>)
     fields.pop();
 }
 
-#[tactic(auto, using(crate::proofs::Pushes::span_values_more))]
-fn push_scalar(scalars: &mut Vec<Span>, first: u32, end: u32) -> Result<(), AllocError>
-    ensures { OnOk result (span_values scalars.new.items
-        ≡ then_values (span_values scalars.old.items) (scalar_value first end no_values)) }
+#[tactic(auto, using(crate::proofs::Pushes::range_values_more))]
+fn push_scalar(scalars: &mut Vec<TokenRange>, first: u32, end: u32) -> Result<(), AllocError>
+    ensures { OnOk result (range_values scalars.new.items
+        ≡ then_values (range_values scalars.old.items) (scalar_value first end no_values)) }
 {
-    scalars.push(Span { first, end })?;
+    scalars.push(TokenRange { first, end })?;
     Ok(())
 }
 
@@ -244,10 +244,10 @@ fn one_message(first: u32, node: Node) -> Items
 }
 
 /// The scalars of a list, in no more memory than they take.
-fn scalars_of(alloc: Global, scalars: &[Span]) -> Result<Items, AllocError>
-    ensures { IfOk result (λ items. values_of items ≡ span_values scalars.now) }
+fn scalars_of(alloc: Global, scalars: &[TokenRange]) -> Result<Items, AllocError>
+    ensures { IfOk result (λ items. values_of items ≡ range_values scalars.now) }
 {
-    if let [Span { first, end }] = scalars {
+    if let [TokenRange { first, end }] = scalars {
         return Ok(one_scalar(*first, *end));
     }
     Ok(Items::Scalars(Vec::from_slice(alloc, scalars)?))
@@ -327,9 +327,9 @@ fn open_message(
     builder: &mut Builder,
     alloc: Global,
     first: u32,
-    frame: Frame,
+    form: OpenMessage,
 ) -> Result<(), AllocError>
-    ensures { OnOk result (build_of builder.new ≡ act (Action.Open frame) first (build_of builder.old)) }
+    ensures { OnOk result (build_of builder.new ≡ act (Action.Open form) first (build_of builder.old)) }
 {
     let fields = mem::replace(&mut builder.fields, Vec::new(alloc));
     let messages = mem::replace(&mut builder.messages, Vec::new(alloc));
@@ -339,7 +339,7 @@ fn open_message(
         messages,
         name,
         first,
-        frame,
+        form,
     })?;
     Ok(())
 }
@@ -357,12 +357,12 @@ fn close_message(builder: &mut Builder) -> Result<(), AllocError>
         messages,
         name,
         first,
-        frame,
+        form,
     } = opened;
     let inner = mem::replace(&mut builder.fields, fields);
     builder.messages = messages;
     builder.name = name;
-    if frame.listed {
+    if form.listed {
         push_message(&mut builder.messages, first, inner)
     } else {
         let items = one_message(first, exact_node(inner));
@@ -407,7 +407,7 @@ pub(crate) fn act(
         Action::Item => push_scalar(&mut builder.scalars, builder.first, token),
         Action::LastItem => end_scalars(builder, alloc, token),
         Action::End => end_messages(builder, alloc),
-        Action::Open(frame) => open_message(builder, alloc, token, frame),
+        Action::Open(form) => open_message(builder, alloc, token, form),
         Action::Close => close_message(builder),
     }
 }

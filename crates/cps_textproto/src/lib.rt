@@ -17,4 +17,4 @@ mod symbol;
 mod tree;
 
 pub use reading::{TextError, document};
-pub use tree::{Field, Item, Items, Nested, Node, Span};
+pub use tree::{Field, Item, Items, Nested, Node, TokenRange};

@@ -21,7 +21,7 @@ pub struct Field {
 #[derive(Debug, Drop)]
 pub enum Items {
     One(Item),
-    Scalars(Vec<Span>),
+    Scalars(Vec<TokenRange>),
     Messages(Vec<Nested>),
 }
 
@@ -35,7 +35,7 @@ pub enum Item {
 
 /// The scalar on the tokens `first..end`.
 #[derive(Clone, Copy, Debug, PartialEq, Eq)]
-pub struct Span {
+pub struct TokenRange {
     pub first: u32,
     pub end: u32,
 }

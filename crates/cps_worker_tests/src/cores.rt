@@ -23,7 +23,7 @@ fn core_worker_of<'a>(
 ) -> Result<CoreWorker<'a, AnyPropagator, ActivityBrancher>, AllocError>
     requires kinds { AreAllPropagated model.now }
     ensures model { IfOk result (λ worker. worker.0.search.instance.model ≡ model.entry.now) }
-    ensures running { IfOk result (λ worker. IsOver (whole worker.0).said → ⊥) }
+    ensures running { IfOk result (λ worker. IsOver (whole worker.0).phase → ⊥) }
     ensures imported { IfOk result (λ worker. worker.0.search.imported ≡ 0) }
 {
     let instance = Instance::of(alloc, model)?;
@@ -37,7 +37,7 @@ fn reforms_and_runs<B: Brancher + Drop, Q: Port>(
     worker: &mut CoreWorker<'_, AnyPropagator, B>,
     port: &mut Q,
 ) -> Result<Option<i64>, AllocError>
-    requires running { IsOver (whole worker.old.0).said → ⊥ }
+    requires running { IsOver (whole worker.old.0).phase → ⊥ }
     requires model { Q.model port.old ≡ worker.old.0.search.instance.model }
     requires imported { worker.old.0.search.imported ≤ length (Q.part port.old).board.taken }
 {

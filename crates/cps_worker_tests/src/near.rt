@@ -22,7 +22,7 @@ fn near_worker_of<'a>(
     requires conflicts { conflicts ≤ 10 ^ 9 }
     requires kinds { AreAllPropagated model.now }
     ensures model { IfOk result (λ worker. worker.search.instance.model ≡ model.entry.now) }
-    ensures running { IfOk result (λ worker. IsOver worker.search.said → ⊥) }
+    ensures running { IfOk result (λ worker. IsOver worker.search.phase → ⊥) }
     ensures imported { IfOk result (λ worker. worker.search.imported ≡ 0) }
 {
     let instance = Instance::of(alloc, model)?;

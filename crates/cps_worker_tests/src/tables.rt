@@ -23,10 +23,10 @@ fn take_turn<B: Brancher + Drop, Q: Port>(
     port: &mut Q,
     is_over: bool,
 ) -> Result<bool, AllocError>
-    requires running { is_over ≡ false → IsOver worker.old.0.said → ⊥ }
+    requires running { is_over ≡ false → IsOver worker.old.0.phase → ⊥ }
     requires model { Q.model port.old ≡ worker.old.0.instance.model }
     requires imported { worker.old.0.imported ≤ length (Q.part port.old).board.taken }
-    ensures running { IfOk result (λ over. over ≡ false → IsOver worker.new.0.said → ⊥) }
+    ensures running { IfOk result (λ over. over ≡ false → IsOver worker.new.0.phase → ⊥) }
     ensures model { OnOk result (Q.model port.new ≡ worker.new.0.instance.model) }
     ensures imported { OnOk result (worker.new.0.imported ≤ length (Q.part port.new).board.taken) }
 {
@@ -46,10 +46,10 @@ fn turn_about<B: Brancher + Drop, C: Brancher + Drop, Q: Port>(
     second: &mut Worker<'_, AnyPropagator, C>,
     second_port: &mut Q,
 ) -> Result<bool, AllocError>
-    requires first_runs { IsOver first.old.0.said → ⊥ }
+    requires first_runs { IsOver first.old.0.phase → ⊥ }
     requires first_model { Q.model first_port.old ≡ first.old.0.instance.model }
     requires first_imported { first.old.0.imported ≤ length (Q.part first_port.old).board.taken }
-    requires second_runs { IsOver second.old.0.said → ⊥ }
+    requires second_runs { IsOver second.old.0.phase → ⊥ }
     requires second_model { Q.model second_port.old ≡ second.old.0.instance.model }
     requires second_imported { second.old.0.imported ≤ length (Q.part second_port.old).board.taken }
 {

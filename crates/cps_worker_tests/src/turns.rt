@@ -73,7 +73,7 @@ fn turns_of<B: Brancher + Drop, Q: Port>(
     worker: &mut Worker<'_, AnyPropagator, B>,
     port: &mut Q,
 ) -> Result<String, AllocError>
-    requires running { IsOver worker.old.0.said → ⊥ }
+    requires running { IsOver worker.old.0.phase → ⊥ }
     requires model { Q.model port.old ≡ worker.old.0.instance.model }
     requires imported { worker.old.0.imported ≤ length (Q.part port.old).board.taken }
     ensures keeps { Keeps Q.model Q.rows Q.stays port.old port.new }

@@ -5,8 +5,8 @@ use Rattle.cps_model.specs.declared.model.CpModel.{CpModel}
 use Rattle.cps_print.specs.Models.{model_text}
 use Rattle.cps_print.specs.ReadBack.{IsReadAs}
 use Rattle.cpsolve.specs.declared.answer.Answer.{Answer}
-use Rattle.cpsolve.specs.declared.input.Unread.{Unread}
-use Rattle.cpsolve.specs.declared.input.Unread.TheVariants as unread
+use Rattle.cpsolve.specs.declared.input.InputError.{InputError}
+use Rattle.cpsolve.specs.declared.input.InputError.TheVariants as input_error
 use Rattle.cpsolve.specs.Inputs.{most_bytes, IsModelText}
 use Rattle.cpsolve.specs.Reading.{IsMeant, IsRefusal}
 use Rattle.cpsolve.specs.Answers.{IsText, IsFaultText, Prints, AnswersInput}
@@ -19,11 +19,11 @@ takes is_input does bytes m (Ok answer) input done = taken m input done
 takes is_input does bytes m (Err e) input done = tt
 
 -- an input that was refused is answered by its fault
-pub refuses : {E : Type 0} (is_input : List ℕ → CpModel → Type 0) (does : CpModel → Answer → Type 0) (bytes : List ℕ) (u : Unread) (r : Result Answer E)
+pub refuses : {E : Type 0} (is_input : List ℕ → CpModel → Type 0) (does : CpModel → Answer → Type 0) (bytes : List ℕ) (u : InputError) (r : Result Answer E)
     → IsRefusal is_input bytes u → IfOk r (IsFaultText u) → IfOk r (AnswersInput is_input does bytes)
 refuses is_input does bytes u (Err e) refusal text = tt
-refuses is_input does bytes (unread.Fault fault) (Ok answer) refusal text = refused fault refusal.0 refusal.1 text
-refuses is_input does bytes unread.OutOfMemory (Ok answer) refusal text = absurd text
+refuses is_input does bytes (input_error.Fault fault) (Ok answer) refusal text = refused fault refusal.0 refusal.1 text
+refuses is_input does bytes input_error.OutOfMemory (Ok answer) refusal text = absurd text
 
 -- a model that was read is printed
 pub prints : {E : Type 0} (bytes : List ℕ) (m : CpModel) (r : Result Answer E) → length bytes ≤ most_bytes → IsMeant bytes m

@@ -21,8 +21,8 @@ use Rattle.cps_schema.proofs.Opened.{model_open}
 use Rattle.cps_kinds.specs.Kinds.{AreAllPropagated}
 use Rattle.cpsolve.proofs.Limits.{showable}
 use Rattle.cpsolve.proofs.Opening.{open_propagated}
-use Rattle.cpsolve.specs.declared.input.Unread.{Unread}
-use Rattle.cpsolve.specs.declared.input.Unread.TheVariants as unread
+use Rattle.cpsolve.specs.declared.input.InputError.{InputError}
+use Rattle.cpsolve.specs.declared.input.InputError.TheVariants as input_error
 use Rattle.cpsolve.specs.Inputs.{most_bytes, byte_of, HasNo, IsModelText, IsInput, HasFault}
 use Rattle.cpsolve.specs.Inputs.IsTextFault.{no_document}
 use Rattle.cpsolve.specs.Reading.{IsCut, IsParsed, IsMeant, IsRefusal}
@@ -78,9 +78,9 @@ valid_input bytes m v short meant same valid =
     subst (λ (n : CpModel). IsInput bytes n) (sym same) input
 
 -- what is refused as a model is refused as a valid one
-pub refused_too : (bytes : List ℕ) (u : Unread) → IsRefusal IsModelText bytes u → IsRefusal IsInput bytes u
-refused_too bytes (unread.Fault fault) refusal = (refusal.0, λ (m : CpModel) (i : IsInput bytes m). refusal.1 m i.text)
-refused_too bytes unread.OutOfMemory refusal = tt
+pub refused_too : (bytes : List ℕ) (u : InputError) → IsRefusal IsModelText bytes u → IsRefusal IsInput bytes u
+refused_too bytes (input_error.Fault fault) refusal = (refusal.0, λ (m : CpModel) (i : IsInput bytes m). refusal.1 m i.text)
+refused_too bytes input_error.OutOfMemory refusal = tt
 
 -- a model that was read can be shown
 pub meant_showable : (bytes : List ℕ) (m : CpModel) → IsMeant bytes m → IsShowable m.objective

@@ -9,8 +9,8 @@ use Rattle.cps_print.specs.Models.{model_text}
 use Rattle.cps_print.specs.ReadBack.{IsReadAs}
 use Rattle.cps_print.specs.Responses.{response_text}
 use Rattle.cpsolve.specs.declared.answer.Answer.{Answer}
-use Rattle.cpsolve.specs.declared.input.Unread.{Unread}
-use Rattle.cpsolve.specs.declared.input.Unread.TheVariants as unread
+use Rattle.cpsolve.specs.declared.input.InputError.{InputError}
+use Rattle.cpsolve.specs.declared.input.InputError.TheVariants as input_error
 use Rattle.cps_command.specs.declared.command.Command.{Command}
 use Rattle.cps_command.specs.declared.command.Command.TheVariants.{Solve, Validate, Print, Gen, Demo}
 use Rattle.cps_options.specs.declared.options.Options.{Options}
@@ -89,9 +89,9 @@ pub record Demonstrates (r : Recipe) (answer : Answer) : Type 0 where
   pub drawn : IsDrawnRun (model_of r) (demo_options r.seed) 4096 found.ends
 
 -- the text for an input that is refused; running out of memory has none
-abbrev pub IsFaultText : Unread → Answer → Type 0
-IsFaultText (unread.Fault fault) answer = IsText 1 (fault_text fault) answer
-IsFaultText unread.OutOfMemory answer = ⊥
+abbrev pub IsFaultText : InputError → Answer → Type 0
+IsFaultText (input_error.Fault fault) answer = IsText 1 (fault_text fault) answer
+IsFaultText input_error.OutOfMemory answer = ⊥
 
 -- a command that reads a model: what it does with the one that the input is the text of, and else why there is none
 pub data AnswersInput (is_input : List ℕ → CpModel → Type 0) (does : CpModel → Answer → Type 0) (bytes : List ℕ) (answer : Answer) : Type 0 where

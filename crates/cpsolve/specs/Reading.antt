@@ -7,8 +7,8 @@ use Rattle.cps_textproto.specs.Trees.{Tree}
 use Rattle.cps_textproto.specs.Reading.{HasTree}
 use Rattle.cps_model.specs.declared.model.CpModel.{CpModel}
 use Rattle.cps_print.specs.ReadBack.{IsReadAs}
-use Rattle.cpsolve.specs.declared.input.Unread.{Unread}
-use Rattle.cpsolve.specs.declared.input.Unread.TheVariants.{Fault, OutOfMemory}
+use Rattle.cpsolve.specs.declared.input.InputError.{InputError}
+use Rattle.cpsolve.specs.declared.input.InputError.TheVariants.{Fault, OutOfMemory}
 use Rattle.cpsolve.specs.Inputs.{HasFault, HasNo}
 
 -- the only tokens of the bytes
@@ -28,6 +28,6 @@ pub record IsMeant (bytes : List ℕ) (m : CpModel) : Type 0 where
   pub alone : (other : CpModel) → IsReadAs bytes other → m ≡ other
 
 -- a fault is right, and there is no model of the kind that is wanted then
-abbrev pub IsRefusal : (List ℕ → CpModel → Type 0) → List ℕ → Unread → Type 0
+abbrev pub IsRefusal : (List ℕ → CpModel → Type 0) → List ℕ → InputError → Type 0
 IsRefusal is_input bytes (Fault fault) = HasFault bytes fault × HasNo is_input bytes
 IsRefusal is_input bytes OutOfMemory = Unit {0}

@@ -18,7 +18,7 @@ ghost use Rattle.cpsolve.specs.Answers.{usage_text, valid_text, IsText, IsFaultT
 
 use crate::exits::{BAD_INPUT, BAD_WORDS, DONE};
 use crate::generation::{demo_answer, gen_answer};
-use crate::input::{Unread, read_model, valid_model_of};
+use crate::input::{InputError, read_model, valid_model_of};
 use cps_command::Command;
 use cps_model::{CpModel, Text};
 use cps_options::Options;
@@ -68,12 +68,12 @@ pub fn fault_answer(alloc: Global, fault: &Fault) -> Result<Answer, AllocError>
 }
 
 /// The answer to an input that could not be read as a model.
-fn unread_answer(alloc: Global, unread: Unread) -> Result<Answer, AllocError>
-    ensures { IfOk result (IsFaultText unread) }
+fn input_error_answer(alloc: Global, input_error: InputError) -> Result<Answer, AllocError>
+    ensures { IfOk result (IsFaultText input_error) }
 {
-    match unread {
-        Unread::Fault(fault) => fault_answer(alloc, &fault),
-        Unread::OutOfMemory => Err(AllocError),
+    match input_error {
+        InputError::Fault(fault) => fault_answer(alloc, &fault),
+        InputError::OutOfMemory => Err(AllocError),
     }
 }
 
@@ -155,7 +155,7 @@ fn solve_input<R: Threads + Wait + Sync, G: Gate + Sync>(
 {
     match valid_model_of(alloc, bytes) {
         Ok(model) => solve_answer(rt, alloc, &model, options, gate),
-        Err(unread) => unread_answer(alloc, unread),
+        Err(input_error) => input_error_answer(alloc, input_error),
     }
 }
 
@@ -173,7 +173,7 @@ fn validate_input(alloc: Global, bytes: &[u8]) -> Result<Answer, AllocError>
 {
     match valid_model_of(alloc, bytes) {
         Ok(_model) => valid_answer(alloc),
-        Err(unread) => unread_answer(alloc, unread),
+        Err(input_error) => input_error_answer(alloc, input_error),
     }
 }
 
@@ -194,7 +194,7 @@ fn print_input(alloc: Global, bytes: &[u8]) -> Result<Answer, AllocError>
 {
     match read_model(alloc, bytes) {
         Ok(model) => print_answer(alloc, &model),
-        Err(unread) => unread_answer(alloc, unread),
+        Err(input_error) => input_error_answer(alloc, input_error),
     }
 }
 

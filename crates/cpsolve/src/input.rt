@@ -17,7 +17,7 @@ use thiserror::Error;
 
 /// Why an input could not be read as a model, or as a valid one.
 #[derive(Debug, Drop, Error)]
-pub enum Unread {
+pub enum InputError {
     /// It is no model, or no valid one.
     #[error("the input is no valid model: {0:?}")]
     Fault(Fault),
@@ -36,20 +36,20 @@ fn byte_of(bytes: &[u8], tokens: &[Token], token: usize) -> usize
 }
 
 /// The tokens of the bytes.
-fn tokens_of(alloc: Global, bytes: &[u8]) -> Result<Vec<Token>, Unread>
+fn tokens_of(alloc: Global, bytes: &[u8]) -> Result<Vec<Token>, InputError>
     requires { length bytes.now ≤ most_bytes }
     ensures ok { IfOk result (λ tokens. IsCut bytes.now tokens.items) }
     ensures err { IfErr result (IsRefusal IsModelText bytes.now) }
 {
     match tokens(alloc, bytes) {
         Ok(tokens) => Ok(tokens),
-        Err(LexError::NoToken { at }) => Err(Unread::Fault(Fault::Text { byte: at })),
-        Err(LexError::OutOfMemory) => Err(Unread::OutOfMemory),
+        Err(LexError::NoToken { at }) => Err(InputError::Fault(Fault::Text { byte: at })),
+        Err(LexError::OutOfMemory) => Err(InputError::OutOfMemory),
     }
 }
 
 /// The document that the tokens are.
-fn node_of(alloc: Global, bytes: &[u8], tokens: &[Token]) -> Result<Node, Unread>
+fn node_of(alloc: Global, bytes: &[u8], tokens: &[Token]) -> Result<Node, InputError>
     requires short { length bytes.now ≤ most_bytes }
     requires cut { IsCut bytes.now tokens.now }
     ensures ok { IfOk result (λ node. IsParsed bytes.now tokens.now (tree_of node)) }
@@ -57,15 +57,20 @@ fn node_of(alloc: Global, bytes: &[u8], tokens: &[Token]) -> Result<Node, Unread
 {
     match document(alloc, bytes, tokens) {
         Ok(node) => Ok(node),
-        Err(TextError::NotADocument { token }) => Err(Unread::Fault(Fault::Text {
+        Err(TextError::NotADocument { token }) => Err(InputError::Fault(Fault::Text {
             byte: byte_of(bytes, tokens, token),
         })),
-        Err(TextError::OutOfMemory) => Err(Unread::OutOfMemory),
+        Err(TextError::OutOfMemory) => Err(InputError::OutOfMemory),
     }
 }
 
 /// The model that the document means.
-fn meaning_of(alloc: Global, bytes: &[u8], tokens: &[Token], node: &Node) -> Result<CpModel, Unread>
+fn meaning_of(
+    alloc: Global,
+    bytes: &[u8],
+    tokens: &[Token],
+    node: &Node,
+) -> Result<CpModel, InputError>
     requires short { length bytes.now ≤ most_bytes }
     requires cut { IsCut bytes.now tokens.now }
     requires parsed { IsParsed bytes.now tokens.now (tree_of node.now) }
@@ -74,17 +79,17 @@ fn meaning_of(alloc: Global, bytes: &[u8], tokens: &[Token], node: &Node) -> Res
 {
     match model_of(alloc, bytes, tokens, node) {
         Ok(model) => Ok(model),
-        Err(SchemaError::Fault { name, token }) => Err(Unread::Fault(Fault::Field {
+        Err(SchemaError::Fault { name, token }) => Err(InputError::Fault(Fault::Field {
             name,
             byte: byte_of(bytes, tokens, token),
         })),
-        Err(SchemaError::OutOfMemory) => Err(Unread::OutOfMemory),
+        Err(SchemaError::OutOfMemory) => Err(InputError::OutOfMemory),
     }
 }
 
 /// The model that the bytes are the text of. No rule is tested. The tokens are dropped, so that solving has their
 /// memory.
-pub fn read_model(alloc: Global, bytes: &[u8]) -> Result<CpModel, Unread>
+pub fn read_model(alloc: Global, bytes: &[u8]) -> Result<CpModel, InputError>
     requires { length bytes.now ≤ most_bytes }
     ensures ok { IfOk result (IsMeant bytes.now) }
     ensures err { IfErr result (IsRefusal IsModelText bytes.now) }
@@ -96,7 +101,7 @@ pub fn read_model(alloc: Global, bytes: &[u8]) -> Result<CpModel, Unread>
 
 /// The valid model that the bytes are the text of. Its objective's offset and scaling factor are within what can be
 /// shown, and each of its kinds has a propagator: the reader takes no others.
-pub fn valid_model_of(alloc: Global, bytes: &[u8]) -> Result<ValidModel, Unread>
+pub fn valid_model_of(alloc: Global, bytes: &[u8]) -> Result<ValidModel, InputError>
     requires { length bytes.now ≤ most_bytes }
     ensures ok { IfOk result (IsInput bytes.now) }
     ensures showable { IfOk result (λ model. IsShowable model.objective) }
@@ -106,10 +111,10 @@ pub fn valid_model_of(alloc: Global, bytes: &[u8]) -> Result<ValidModel, Unread>
     let model = read_model(alloc, bytes)?;
     match validate(alloc, model) {
         Ok(model) => Ok(model),
-        Err(ValidateError::Invalid { rule, place }) => Err(Unread::Fault(Fault::Rule {
+        Err(ValidateError::Invalid { rule, place }) => Err(InputError::Fault(Fault::Rule {
             rule,
             place,
         })),
-        Err(ValidateError::OutOfMemory) => Err(Unread::OutOfMemory),
+        Err(ValidateError::OutOfMemory) => Err(InputError::OutOfMemory),
     }
 }

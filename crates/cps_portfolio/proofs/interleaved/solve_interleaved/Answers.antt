@@ -4,7 +4,7 @@ use Rattle.std.proofs.lemmas.Result.{IfOk-weaker}
 use Rattle.cps_model.specs.declared.model.CpModel.{CpModel}
 use Rattle.cps_model.specs.declared.bound.Bound.{Bound}
 use Rattle.cps_pool.specs.Pools.{Found}
-use Rattle.cps_port.specs.Cores.{Core, actor_count, first_core}
+use Rattle.cps_port.specs.Shared.{Shared, actor_count, first_shared}
 use Rattle.cps_search.specs.Ends.{Ending, IsOver}
 use Rattle.cps_portfolio.specs.declared.interleaved.Turning.{Turning}
 use Rattle.cps_portfolio.specs.declared.outcome.Outcome.{Outcome}
@@ -21,13 +21,13 @@ take_turns-turns-requires-clause-crew c =
     let m = c.args.model.now in
     let core = c.in_ok-core.core in
     let first = c.in_ok-core.ensures.first in
-    let model : core.model ≡ m = ap (λ (x : Core). x.model) first in
+    let model : core.model ≡ m = ap (λ (x : Shared). x.model) first in
     let crew = subst (λ (l : List Turning). AreFresh m o.gap o.conflicts o.seed l) (sym c.as_mut_slice.ensures.value) c.in_ok-crew.ensures.each in
     subst (λ (x : CpModel). AreTurning x o.gap o.conflicts (length core.board.rows) core c.as_mut_slice.result.now) (sym model)
     (all_fresh m o.gap o.conflicts o.seed (length core.board.rows) o.workers 4096 core c.as_mut_slice.result.now first crew)
 
 pub take_turns-turns-requires-clause-pool : goal.take_turns-turns-requires-clause-pool
-take_turns-turns-requires-clause-pool c = ap (λ (x : Found). x.model) c.new-pool.ensures ∙ sym (ap (λ (x : Core). x.model) c.in_ok-core.ensures.first)
+take_turns-turns-requires-clause-pool c = ap (λ (x : Found). x.model) c.new-pool.ensures ∙ sym (ap (λ (x : Shared). x.model) c.in_ok-core.ensures.first)
 
 pub finish_all-requires : goal.finish_all-requires
 finish_all-requires c =
@@ -38,14 +38,14 @@ finish_all-requires c =
     let full : c.in_ok-crew.crew.len ≡ length xs = search rules in
     let w = written c.in_ok-crew.crew.len xs ys full len in
     let t = c.in_ok-turns.ensures in
-    subst (λ (l : List Turning). All (λ (x : Turning). IsOver (worker_search x.worker).said) l) (sym w) (each_over c.in_ok-core.core.model o.gap o.conflicts _ c.take_turns-turns.new.port.core.now ys t.crew t.over)
+    subst (λ (l : List Turning). All (λ (x : Turning). IsOver (worker_search x.worker).phase) l) (sym w) (each_over c.in_ok-core.core.model o.gap o.conflicts _ c.take_turns-turns.new.port.core.now ys t.crew t.over)
 
 pub outcome_of-requires : goal.outcome_of-requires
 outcome_of-requires c =
     let o = c.args.options.now in
     let m = c.args.model.now in
     let first = c.in_ok-core.ensures.first in
-    let model : c.in_ok-core.core.model ≡ m = ap (λ (x : Core). x.model) first in
+    let model : c.in_ok-core.core.model ≡ m = ap (λ (x : Shared). x.model) first in
     let xs : List Turning = c.in_ok-crew.crew.items in
     let ys : List Turning = c.take_turns-turns.new.crew in
     let same : c.as_mut_slice.result.now ≡ xs = c.as_mut_slice.ensures.value in
@@ -61,7 +61,7 @@ outcome_of-requires c =
     let ends : c.in_ok-ends.ends.items ≡ map ended_of ys = c.in_ok-ends.ensures ∙ ap (map ended_of) w in
     let came = came_in_turns m o.gap o.conflicts rows o.workers core ys c.upper_of-upper.ensures.sound (t.same ∙ model) workers actors turning t.over in
     let upper = c.upper_of-upper.ensures.bound in
-    let lower : c.lower_of-lower.result ≡ core.bounds.lower = c.lower_of-lower.ensures ∙ ap (λ (x : Core). x.bounds.lower) c.upper_of-upper.ensures.after in
+    let lower : c.lower_of-lower.result ≡ core.bounds.lower = c.lower_of-lower.ensures ∙ ap (λ (x : Shared). x.bounds.lower) c.upper_of-upper.ensures.after in
     subst (λ (es : List Ending). CameTo m o.gap o.conflicts o.workers c.upper_of-upper.result c.lower_of-lower.result es) (sym ends)
     (subst (λ (u : Bound). CameTo m o.gap o.conflicts o.workers u c.lower_of-lower.result (map ended_of ys)) (sym upper)
     (subst (λ (l : Bound). CameTo m o.gap o.conflicts o.workers core.bounds.upper l (map ended_of ys)) (sym lower) came))
@@ -80,9 +80,9 @@ returns-clause-drawn c =
     let t = c.in_ok-turns.ensures in
     let core = c.take_turns-turns.new.port.core.now in
     let seed = words_of_seed o.seed in
-    let rows : length c.in_ok-core.core.board.rows ≡ 4096 = ap (λ (x : Core). length x.board.rows) first ∙ first_rows m o.workers 4096 in
+    let rows : length c.in_ok-core.core.board.rows ≡ 4096 = ap (λ (x : Shared). length x.board.rows) first ∙ first_rows m o.workers 4096 in
     let by_rows = subst (λ (n : ℕ). TakesDrawnTurns n c.in_ok-core.core c.as_mut_slice.result.now seed core ys t.drawn.0) rows t.drawn.1 in
-    let by_core = subst (λ (x : Core). TakesDrawnTurns 4096 x c.as_mut_slice.result.now seed core ys t.drawn.0) first by_rows in
+    let by_core = subst (λ (x : Shared). TakesDrawnTurns 4096 x c.as_mut_slice.result.now seed core ys t.drawn.0) first by_rows in
     let run : IsDrawnRun m o 4096 c.in_ok-ends.ends.items = record {
       crew = xs;
       count = sym full ∙ c.in_ok-crew.ensures.count;
@@ -90,7 +90,7 @@ returns-clause-drawn c =
       core = core;
       last = ys;
       words = t.drawn.0;
-      turns = subst (λ (l : List Turning). TakesDrawnTurns 4096 (first_core m o.workers 4096) l seed core ys t.drawn.0) same by_core;
+      turns = subst (λ (l : List Turning). TakesDrawnTurns 4096 (first_shared m o.workers 4096) l seed core ys t.drawn.0) same by_core;
       all_over = t.over;
       seen = c.in_ok-ends.ensures ∙ ap (map ended_of) w;
     } in

@@ -1,6 +1,6 @@
 -- The port's actor is the one that it was before the turn.
 use Rattle.std.proofs.Common.{◌≡◌, ℕ, None, IfOk, refl, subst, length}
-use Rattle.cps_port.specs.Cores.{board_part, part_at}
+use Rattle.cps_port.specs.Shared.{board_part, part_at}
 use Rattle.cps_portfolio.specs.Workers.{known_of, HasTurned}
 use Rattle.cps_portfolio.proofs.interleaved.take_turn.Goals as goal
 

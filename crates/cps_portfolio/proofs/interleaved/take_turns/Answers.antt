@@ -5,7 +5,7 @@ use mathlib.Core.Logic.{dite}
 use native.Mathlib.Decide.{ℕ_discrete}
 use Rattle.cps_port.proofs.Acting.{others_stay}
 use Rattle.cps_port.specs.declared.part.Part.{Part}
-use Rattle.cps_port.specs.Cores.{part_at, board_part}
+use Rattle.cps_port.specs.Shared.{part_at, board_part}
 use Rattle.cps_portfolio.specs.declared.interleaved.Turning.{Turning}
 use Rattle.cps_portfolio.specs.Workers.{known_of, HasTurned}
 use Rattle.cps_portfolio.specs.Turning.{TakesDrawnTurns, none_yet, words_of_seed}

@@ -1,6 +1,6 @@
 -- The workers took drawn turns so far, and each is at work or has ended honestly.
 use Rattle.std.proofs.Common.{◌≡◌, ℕ, length, None}
-use Rattle.cps_port.specs.Cores.{actor_count, board_part}
+use Rattle.cps_port.specs.Shared.{actor_count, board_part}
 use Rattle.cps_portfolio.specs.Turning.{AreTurning, TakesDrawnTurns, words_of_seed}
 use Rattle.cps_portfolio.proofs.Turning.{total_by, weigh}
 use Rattle.cps_portfolio.proofs.interleaved.take_turns.Given as goal

@@ -4,14 +4,14 @@ use Rattle.cps_port.specs.Totals.{total}
 use Rattle.cps_bounds.specs.Seats as words
 use Rattle.cps_bounds.specs.Rule.{all_splits}
 use Rattle.cps_portfolio.specs.declared.seats.Seated.{Seated}
-use Rattle.cps_portfolio.specs.Crews.{words_splits, AreBack, AreGathered}
+use Rattle.cps_portfolio.specs.Crews.{words_splits, HaveReturned, AreGathered}
 use Rattle.cps_portfolio.proofs.threads.gather.Given as goal
 
 abbrev pub invariant-loop-seated : goal.invariant-loop-seated
 invariant-loop-seated l = record {
   tables : (l.kept.board.now ≡ l.initial.kept.board.now) × (l.kept.bounds.now ≡ l.initial.kept.bounds.now);
   splits : words.splits_of l.kept.bounds_seat + total words_splits l.crew.items ≡ all_splits;
-  crew : AreBack l.model l.options.gap l.options.conflicts l.initial.kept.board.now l.initial.kept.bounds.now l.crew.items;
+  crew : HaveReturned l.model l.options.gap l.options.conflicts l.initial.kept.board.now l.initial.kept.bounds.now l.crew.items;
   has_memory : All (λ (c : Seated). c.refused ≡ false) l.crew.items;
   count : length l.crew.items + length l.ends.items ≡ length l.initial.crew.items;
   gathered : AreGathered l.model l.options.gap l.options.conflicts (length l.crew.items) (length l.ends.items) (words.part_of l.kept.bounds_seat) l.ends.items;

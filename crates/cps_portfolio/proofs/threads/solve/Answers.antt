@@ -10,7 +10,7 @@ use Rattle.cps_port.specs.Order.{raised_above}
 use Rattle.cps_port.specs.Totals.{total}
 use Rattle.cps_bounds.specs.Seats as words
 use Rattle.cps_portfolio.specs.declared.seats.Seated.{Seated}
-use Rattle.cps_portfolio.specs.Crews.{words_splits, IsCrew, IsReady, AreBack, AreGathered}
+use Rattle.cps_portfolio.specs.Crews.{words_splits, IsCrew, IsReady, HaveReturned, AreGathered}
 use Rattle.cps_portfolio.proofs.Crews.{written, all_ready, all_back, splits_back, came_to}
 use Rattle.cps_portfolio.proofs.threads.solve.Goals as goal
 
@@ -48,7 +48,7 @@ gather-requires-clause-crew g c =
     let tables = c.in_ok-crew.ensures.tables in
     let crew = subst (λ (b : Bounds). IsCrew m o.gap o.conflicts board b xs) (sym tables.1) (subst (λ (b : Board). IsCrew m o.gap o.conflicts b c.in_ok-bounds.bounds xs) (sym tables.0) c.in_ok-crew.ensures.crew) in
     let here = subst (λ (l : List Seated). IsCrew m o.gap o.conflicts board bounds l) (sym same) crew in
-    subst (λ (l : List Seated). AreBack m o.gap o.conflicts board bounds l) (sym w)
+    subst (λ (l : List Seated). HaveReturned m o.gap o.conflicts board bounds l) (sym w)
     (all_back m o.gap o.conflicts board bounds c.as_mut_slice.result.now ys c.work_all.ensures.len here c.work_all.ensures.each)
 
 pub outcome_of-requires : goal.outcome_of-requires

@@ -3,19 +3,19 @@ use Rattle.std.proofs.Common.{◌≡◌, ◌++◌, List, ℕ, codes, Some, None,
 use Rattle.std.proofs.lemmas.Result.{on_ok_weaker}
 use Rattle.cps_textproto.specs.Trees.{values_of}
 use Rattle.cps_schema.specs.declared.number.Number.TheVariants.{Int32}
-use Rattle.cps_schema.specs.Sources.{written_of}
+use Rattle.cps_schema.specs.Inputs.{written_of}
 use Rattle.cps_schema.specs.Written.{token_text}
 use Rattle.cps_schema.specs.Tables.{constraint_message, number, text}
 use Rattle.cps_schema.specs.Readings.{value_numbers, value_texts}
 use Rattle.cps_schema.specs.Parts.{IsConstraintGiven}
-use Rattle.cps_schema.proofs.Steps.{same_name, other_text, table_use, repeated_passes, repeated_stops, not_read_stops, if_passes, if_stops}
+use Rattle.cps_schema.proofs.Steps.{same_name, other_text, table_use, repeated_passes, repeated_stops, refused_stops, if_passes, if_stops}
 use Rattle.cps_schema.proofs.GivenKinds.{no_constraint_field, constraint_kept, name_given_first, kind_field_passes, kind_field_read, kind_field_stops, named_as}
 use Rattle.cps_schema.proofs.Slots.{slot_passes, slot_stops}
 use Rattle.cps_schema.proofs.constraint.add_field.Goals as goal
 
 pub returns-then-eq-clause-passes : goal.returns-then-eq-clause-passes
 returns-then-eq-clause-passes c =
-    let w = written_of c.args.source.now in
+    let w = written_of c.args.input.now in
     let f = c.args.field.now in
     let name : token_text w f.name ≡ codes "name" = same_name _ _ _ _ c.eq.result c.eq.ensures c.if-eq.true c.token_text-name.ensures c.as_slice.ensures in
     slot_passes w constraint_message f text c.set_name.result (λ (before : List (List ℕ)). IsConstraintGiven c.args.parts.now before)
@@ -29,7 +29,7 @@ returns-then-eq-clause-passes c =
 
 pub returns-then-eq-clause-read : goal.returns-then-eq-clause-read
 returns-then-eq-clause-read c =
-    let w = written_of c.args.source.now in
+    let w = written_of c.args.input.now in
     let f = c.args.field.now in
     let name : token_text w f.name ≡ codes "name" = same_name _ _ _ _ c.eq.result c.eq.ensures c.if-eq.true c.token_text-name.ensures c.as_slice.ensures in
     on_ok_weaker c.set_name.result
@@ -39,7 +39,7 @@ returns-then-eq-clause-read c =
 
 pub returns-then-eq-clause-err : goal.returns-then-eq-clause-err
 returns-then-eq-clause-err c =
-    let w = written_of c.args.source.now in
+    let w = written_of c.args.input.now in
     let f = c.args.field.now in
     let name : token_text w f.name ≡ codes "name" = same_name _ _ _ _ c.eq.result c.eq.ensures c.if-eq.true c.token_text-name.ensures c.as_slice.ensures in
     slot_stops w constraint_message f text c.set_name.result (λ (before : List (List ℕ)). IsConstraintGiven c.args.parts.now before)
@@ -47,7 +47,7 @@ returns-then-eq-clause-err c =
 
 pub returns-then-eq-2-clause-passes : goal.returns-then-eq-2-clause-passes
 returns-then-eq-2-clause-passes c =
-    let w = written_of c.args.source.now in
+    let w = written_of c.args.input.now in
     let f = c.args.field.now in
     let name : token_text w f.name ≡ codes "enforcement_literal" = same_name _ _ _ _ c.eq-else-eq.result c.eq-else-eq.ensures c.if-eq-2.true c.token_text-name.ensures c.as_slice-else-eq.ensures in
     if_passes w constraint_message f (IsConstraintGiven c.args.parts.now) (IsConstraintGiven (record c.args.parts.now { enforcement = c.add_refs.new.list })) c.add_refs.result
@@ -56,7 +56,7 @@ returns-then-eq-2-clause-passes c =
 
 pub returns-then-eq-2-clause-read : goal.returns-then-eq-2-clause-read
 returns-then-eq-2-clause-read c =
-    let w = written_of c.args.source.now in
+    let w = written_of c.args.input.now in
     let f = c.args.field.now in
     let name : token_text w f.name ≡ codes "enforcement_literal" = same_name _ _ _ _ c.eq-else-eq.result c.eq-else-eq.ensures c.if-eq-2.true c.token_text-name.ensures c.as_slice-else-eq.ensures in
     on_ok_weaker c.add_refs.result
@@ -66,7 +66,7 @@ returns-then-eq-2-clause-read c =
 
 pub returns-then-eq-2-clause-err : goal.returns-then-eq-2-clause-err
 returns-then-eq-2-clause-err c =
-    let w = written_of c.args.source.now in
+    let w = written_of c.args.input.now in
     let f = c.args.field.now in
     let name : token_text w f.name ≡ codes "enforcement_literal" = same_name _ _ _ _ c.eq-else-eq.result c.eq-else-eq.ensures c.if-eq-2.true c.token_text-name.ensures c.as_slice-else-eq.ensures in
     if_stops w constraint_message f (IsConstraintGiven c.args.parts.now) c.add_refs.result
@@ -74,28 +74,28 @@ returns-then-eq-2-clause-err c =
 
 pub returns-in-Some-clause-passes : goal.returns-in-Some-clause-passes
 returns-in-Some-clause-passes c =
-    let w = written_of c.args.source.now in
+    let w = written_of c.args.input.now in
     let f = c.args.field.now in
     let named = named_as c.token_text-name.result.now (token_text w f.name) (Some c.in-Some.kind) c.token_text-name.ensures c.in-Some.ensures in
     kind_field_passes w f c.in-Some.kind c.set_kind.result c.args.parts.now (record c.args.parts.now { given = c.set_kind.new.given }) refl named c.set_kind.ensures.passes c.set_kind.ensures.none c.set_kind.ensures.set
 
 pub returns-in-Some-clause-read : goal.returns-in-Some-clause-read
 returns-in-Some-clause-read c =
-    let w = written_of c.args.source.now in
+    let w = written_of c.args.input.now in
     let f = c.args.field.now in
     let named = named_as c.token_text-name.result.now (token_text w f.name) (Some c.in-Some.kind) c.token_text-name.ensures c.in-Some.ensures in
     kind_field_read w f c.in-Some.kind c.set_kind.result c.args.parts.now (record c.args.parts.now { given = c.set_kind.new.given }) refl refl named c.set_kind.ensures.added
 
 pub returns-in-Some-clause-err : goal.returns-in-Some-clause-err
 returns-in-Some-clause-err c =
-    let w = written_of c.args.source.now in
+    let w = written_of c.args.input.now in
     let f = c.args.field.now in
     let named = named_as c.token_text-name.result.now (token_text w f.name) (Some c.in-Some.kind) c.token_text-name.ensures c.in-Some.ensures in
     kind_field_stops w f c.in-Some.kind c.set_kind.result c.args.parts.now named c.set_kind.ensures.err
 
 pub returns-in_default-clause-err : goal.returns-in_default-clause-err
 returns-in_default-clause-err c = λ before given.
-    let w = written_of c.args.source.now in
+    let w = written_of c.args.input.now in
     let f = c.args.field.now in
     let text = token_text w f.name in
     let name = c.token_text-name in
@@ -103,4 +103,4 @@ returns-in_default-clause-err c = λ before given.
     let other = no_constraint_field text
     (other_text name.result.now c.as_slice.result.now text (codes "name") c.eq.result c.eq.ensures c.if-eq.false name.ensures c.as_slice.ensures)
     (other_text name.result.now c.as_slice-else-eq.result.now text (codes "enforcement_literal") c.eq-else-eq.result c.eq-else-eq.ensures c.if-eq-2.false name.ensures c.as_slice-else-eq.ensures) none in
-    rw c.not_read.ensures (not_read_stops w constraint_message f other before)
+    rw c.refused_field.ensures (refused_stops w constraint_message f other before)

@@ -3,19 +3,19 @@ use Rattle.std.proofs.Common.{◌≡◌, ◌++◌, List, ℕ, codes, None, true,
 use Rattle.std.proofs.lemmas.Result.{on_ok_weaker}
 use Rattle.cps_textproto.specs.Trees.{values_of}
 use Rattle.cps_schema.specs.declared.number.Number.TheVariants.{Int32, Int64}
-use Rattle.cps_schema.specs.Sources.{written_of}
+use Rattle.cps_schema.specs.Inputs.{written_of}
 use Rattle.cps_schema.specs.Written.{token_text}
 use Rattle.cps_schema.specs.Tables.{expression_message, number, use_in, table_of}
 use Rattle.cps_schema.specs.Readings.{value_numbers}
 use Rattle.cps_schema.specs.Parts.{expression_slots}
-use Rattle.cps_schema.proofs.Steps.{same_name, table_use, repeated_passes, repeated_stops, not_read_stops, if_passes, if_stops}
+use Rattle.cps_schema.proofs.Steps.{same_name, table_use, repeated_passes, repeated_stops, refused_stops, if_passes, if_stops}
 use Rattle.cps_schema.specs.Slots.{AreGivenSlots}
 use Rattle.cps_schema.proofs.Slots.{given_after, slot_passes, slot_stops}
 use Rattle.cps_schema.proofs.expression.add_field.Goals as goal
 
 pub returns-then-eq-clause-passes : goal.returns-then-eq-clause-passes
 returns-then-eq-clause-passes c =
-    let w = written_of c.args.source.now in
+    let w = written_of c.args.input.now in
     let f = c.args.field.now in
     let name : token_text w f.name ≡ codes "vars" = same_name _ _ _ _ c.eq.result c.eq.ensures c.if-eq.true c.token_text-name.ensures c.as_slice.ensures in
     if_passes w expression_message f (λ (before : List (List ℕ)). AreGivenSlots (expression_slots c.args.parts.now) before) (λ (before : List (List ℕ)). AreGivenSlots (expression_slots c.args.parts.now) before) c.add_refs.result
@@ -24,7 +24,7 @@ returns-then-eq-clause-passes c =
 
 pub returns-then-eq-clause-read : goal.returns-then-eq-clause-read
 returns-then-eq-clause-read c =
-    let w = written_of c.args.source.now in
+    let w = written_of c.args.input.now in
     let f = c.args.field.now in
     let name : token_text w f.name ≡ codes "vars" = same_name _ _ _ _ c.eq.result c.eq.ensures c.if-eq.true c.token_text-name.ensures c.as_slice.ensures in
     on_ok_weaker c.add_refs.result
@@ -34,7 +34,7 @@ returns-then-eq-clause-read c =
 
 pub returns-then-eq-clause-err : goal.returns-then-eq-clause-err
 returns-then-eq-clause-err c =
-    let w = written_of c.args.source.now in
+    let w = written_of c.args.input.now in
     let f = c.args.field.now in
     let name : token_text w f.name ≡ codes "vars" = same_name _ _ _ _ c.eq.result c.eq.ensures c.if-eq.true c.token_text-name.ensures c.as_slice.ensures in
     if_stops w expression_message f (λ (before : List (List ℕ)). AreGivenSlots (expression_slots c.args.parts.now) before) c.add_refs.result
@@ -42,7 +42,7 @@ returns-then-eq-clause-err c =
 
 pub returns-then-eq-2-clause-passes : goal.returns-then-eq-2-clause-passes
 returns-then-eq-2-clause-passes c =
-    let w = written_of c.args.source.now in
+    let w = written_of c.args.input.now in
     let f = c.args.field.now in
     let name : token_text w f.name ≡ codes "coeffs" = same_name _ _ _ _ c.eq-else-eq.result c.eq-else-eq.ensures c.if-eq-2.true c.token_text-name.ensures c.as_slice-else-eq.ensures in
     if_passes w expression_message f (λ (before : List (List ℕ)). AreGivenSlots (expression_slots c.args.parts.now) before) (λ (before : List (List ℕ)). AreGivenSlots (expression_slots c.args.parts.now) before) c.add_ints.result
@@ -51,7 +51,7 @@ returns-then-eq-2-clause-passes c =
 
 pub returns-then-eq-2-clause-read : goal.returns-then-eq-2-clause-read
 returns-then-eq-2-clause-read c =
-    let w = written_of c.args.source.now in
+    let w = written_of c.args.input.now in
     let f = c.args.field.now in
     let name : token_text w f.name ≡ codes "coeffs" = same_name _ _ _ _ c.eq-else-eq.result c.eq-else-eq.ensures c.if-eq-2.true c.token_text-name.ensures c.as_slice-else-eq.ensures in
     on_ok_weaker c.add_ints.result
@@ -61,7 +61,7 @@ returns-then-eq-2-clause-read c =
 
 pub returns-then-eq-2-clause-err : goal.returns-then-eq-2-clause-err
 returns-then-eq-2-clause-err c =
-    let w = written_of c.args.source.now in
+    let w = written_of c.args.input.now in
     let f = c.args.field.now in
     let name : token_text w f.name ≡ codes "coeffs" = same_name _ _ _ _ c.eq-else-eq.result c.eq-else-eq.ensures c.if-eq-2.true c.token_text-name.ensures c.as_slice-else-eq.ensures in
     if_stops w expression_message f (λ (before : List (List ℕ)). AreGivenSlots (expression_slots c.args.parts.now) before) c.add_ints.result
@@ -69,7 +69,7 @@ returns-then-eq-2-clause-err c =
 
 pub returns-then-eq-3-clause-passes : goal.returns-then-eq-3-clause-passes
 returns-then-eq-3-clause-passes c =
-    let w = written_of c.args.source.now in
+    let w = written_of c.args.input.now in
     let f = c.args.field.now in
     let name : token_text w f.name ≡ codes "offset" = same_name _ _ _ _ c.eq-else-eq-2.result c.eq-else-eq-2.ensures c.if-eq-3.true c.token_text-name.ensures c.as_slice-else-eq-2.ensures in
     slot_passes w expression_message f (number Int64) c.set_number.result (λ (before : List (List ℕ)). AreGivenSlots (expression_slots c.args.parts.now) before) (λ (before : List (List ℕ)). AreGivenSlots (expression_slots (record c.args.parts.now { offset = c.set_number.new.slot })) before)
@@ -82,7 +82,7 @@ returns-then-eq-3-clause-passes c =
 
 pub returns-then-eq-3-clause-read : goal.returns-then-eq-3-clause-read
 returns-then-eq-3-clause-read c =
-    let w = written_of c.args.source.now in
+    let w = written_of c.args.input.now in
     let f = c.args.field.now in
     let name : token_text w f.name ≡ codes "offset" = same_name _ _ _ _ c.eq-else-eq-2.result c.eq-else-eq-2.ensures c.if-eq-3.true c.token_text-name.ensures c.as_slice-else-eq-2.ensures in
     on_ok_weaker c.set_number.result
@@ -92,7 +92,7 @@ returns-then-eq-3-clause-read c =
 
 pub returns-then-eq-3-clause-err : goal.returns-then-eq-3-clause-err
 returns-then-eq-3-clause-err c =
-    let w = written_of c.args.source.now in
+    let w = written_of c.args.input.now in
     let f = c.args.field.now in
     let name : token_text w f.name ≡ codes "offset" = same_name _ _ _ _ c.eq-else-eq-2.result c.eq-else-eq-2.ensures c.if-eq-3.true c.token_text-name.ensures c.as_slice-else-eq-2.ensures in
     slot_stops w expression_message f (number Int64) c.set_number.result (λ (before : List (List ℕ)). AreGivenSlots (expression_slots c.args.parts.now) before)
@@ -100,7 +100,7 @@ returns-then-eq-3-clause-err c =
 
 pub returns-else-eq-3-clause-err : goal.returns-else-eq-3-clause-err
 returns-else-eq-3-clause-err c = λ before given.
-    let w = written_of c.args.source.now in
+    let w = written_of c.args.input.now in
     let f = c.args.field.now in
     let other : use_in (table_of expression_message) (token_text w f.name) ≡ None = grind (arith) in
-    rw c.not_read.ensures (not_read_stops w expression_message f other before)
+    rw c.refused_field.ensures (refused_stops w expression_message f other before)

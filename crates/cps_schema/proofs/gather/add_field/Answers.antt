@@ -2,7 +2,7 @@ use Rattle.std.proofs.Common.{◌≡◌, ◌<◌, List, ℕ, [], Option, Some, N
 use Rattle.std.specs.Vec.{with_item}
 use Rattle.cps_schema.specs.declared.gather.Slot.{Slot}
 use Rattle.cps_schema.specs.declared.gather.Gathered.{Gathered}
-use Rattle.cps_schema.specs.Sources.{written_of}
+use Rattle.cps_schema.specs.Inputs.{written_of}
 use Rattle.cps_schema.specs.Written.{Written, token_text}
 use Rattle.cps_schema.specs.Tables.{is_given}
 use Rattle.cps_schema.specs.Gathered.{line_place}
@@ -17,7 +17,7 @@ no_place slots view text name same called none = rw (← same, ← called) (unpl
 
 pub index_mut-slot-requires : goal.index_mut-slot-requires
 index_mut-slot-requires c =
-    let w = written_of c.args.source.now in
+    let w = written_of c.args.input.now in
     let at = at_place c.args.parts.now.slots.items c.deref.result.now (token_text w c.args.field.now.name) c.token_text.result.now c.in-Some.place
     c.deref.ensures.value c.token_text.ensures c.in-Some.ensures in
     rw (← c.deref.ensures.len, c.deref.ensures.value) at.within
@@ -25,14 +25,14 @@ index_mut-slot-requires c =
 pub returns-in_default-clause-err : goal.returns-in_default-clause-err
 unfolding is_given
 returns-in_default-clause-err c = λ m before is given.
-    let w = written_of c.args.source.now in
+    let w = written_of c.args.input.now in
     let none = no_place c.args.parts.now.slots.items c.deref.result.now (token_text w c.args.field.now.name) c.token_text.result.now
     c.deref.ensures.value c.token_text.ensures c.in_default.ensures in
-    rw c.not_read.ensures (no_field_stops w c.args.field.now c.args.parts.now.slots.items none m before is)
+    rw c.refused_field.ensures (no_field_stops w c.args.field.now c.args.parts.now.slots.items none m before is)
 
 pub returns-clause-passes : goal.returns-clause-passes
 returns-clause-passes c =
-    let w = written_of c.args.source.now in
+    let w = written_of c.args.input.now in
     let text = token_text w c.args.field.now.name in
     let old = c.args.parts.now in
     let s = c.index_mut-slot.result.now in
@@ -45,7 +45,7 @@ returns-clause-passes c =
 
 pub returns-clause-read : goal.returns-clause-read
 returns-clause-read c =
-    let w = written_of c.args.source.now in
+    let w = written_of c.args.input.now in
     let text = token_text w c.args.field.now.name in
     let old = c.args.parts.now in
     let s = c.index_mut-slot.result.now in
@@ -58,7 +58,7 @@ returns-clause-read c =
 
 pub returns-clause-lines : goal.returns-clause-lines
 returns-clause-lines c =
-    let w = written_of c.args.source.now in
+    let w = written_of c.args.input.now in
     let text = token_text w c.args.field.now.name in
     let old = c.args.parts.now in
     let s = c.index_mut-slot.result.now in
@@ -70,7 +70,7 @@ returns-clause-lines c =
 
 pub returns-clause-err : goal.returns-clause-err
 returns-clause-err c =
-    let w = written_of c.args.source.now in
+    let w = written_of c.args.input.now in
     let text = token_text w c.args.field.now.name in
     let old = c.args.parts.now in
     let s = c.index_mut-slot.result.now in

@@ -3,7 +3,7 @@ use Rattle.std.proofs.lemmas.Grind.{common_steps}
 use Rattle.cps_textproto.specs.Trees.{Tree, field_list, tree_of}
 use Rattle.cps_schema.specs.declared.gather.Line.{Line}
 use Rattle.cps_schema.specs.declared.gather.Slot.{Slot}
-use Rattle.cps_schema.specs.Sources.{written_of}
+use Rattle.cps_schema.specs.Inputs.{written_of}
 use Rattle.cps_schema.specs.Written.{Written, token_text}
 use Rattle.cps_schema.specs.Tables.{is_given}
 use Rattle.cps_schema.specs.Faults.{has_other_form, fields_fault}
@@ -24,7 +24,7 @@ first_reading w tree slots lines same empty = rw (← same) (sym (all_first w tr
 pub loop-field-init : goal.loop-field-init
 unfolding is_given has_other_form
 loop-field-init c =
-    let w = written_of c.args.source.now in
+    let w = written_of c.args.input.now in
     let slots = c.in_ok-empty_slots.field-0.items in
     let lines = c.args.lines.now in
     let same : lines_of slots ≡ lines = c.in_ok-empty_slots.ensures.lines in
@@ -36,7 +36,7 @@ loop-field-init c =
 
 pub returns-in-Err-clause-err : goal.returns-in-Err-clause-err
 returns-in-Err-clause-err c = λ m is.
-    let w = written_of c.args.source.now in
+    let w = written_of c.args.input.now in
     let items = c.fields_of-field-items.result.now in
     let i = c.loop-field.field-index in
     let before = c.loop-field.invariant.accepted.0 in
@@ -51,7 +51,7 @@ returns-in-Err-clause-err c = λ m is.
 
 pub loop-field-preserved : goal.loop-field-preserved
 loop-field-preserved c =
-    let w = written_of c.args.source.now in
+    let w = written_of c.args.input.now in
     let items = c.fields_of-field-items.result.now in
     let i = c.loop-field.field-index in
     let before = c.loop-field.invariant.accepted.0 in
@@ -73,7 +73,7 @@ loop-field-preserved c =
 
 pub returns-clause-reading : goal.returns-clause-reading
 returns-clause-reading c =
-    let w = written_of c.args.source.now in
+    let w = written_of c.args.input.now in
     let items = c.fields_of-field-items.result.now in
     let slots = c.loop-field.parts.slots.items in
     let past : drop c.loop-field.field-index items ≡ [] = grind (arith, common_steps) in

@@ -2,23 +2,23 @@ use Rattle.std.proofs.Common.{◌≡◌, ◌++◌, codes, None, refl, arith, app
 use Rattle.std.proofs.lemmas.Result.{on_ok_weaker}
 use Rattle.cps_textproto.specs.Trees.{values_of}
 use Rattle.cps_schema.specs.declared.number.Number.TheVariants.{Int32, Int64}
-use Rattle.cps_schema.specs.Sources.{written_of}
+use Rattle.cps_schema.specs.Inputs.{written_of}
 use Rattle.cps_schema.specs.Written.{token_text}
 use Rattle.cps_schema.specs.Tables.{hint_message, number, use_in, table_of}
 use Rattle.cps_schema.specs.Readings.{value_numbers}
-use Rattle.cps_schema.proofs.Steps.{same_name, table_use, repeated_passes, repeated_stops, not_read_stops}
+use Rattle.cps_schema.proofs.Steps.{same_name, table_use, repeated_passes, repeated_stops, refused_stops}
 use Rattle.cps_schema.proofs.hint.add_field.Goals as goal
 
 pub returns-then-eq-clause-passes : goal.returns-then-eq-clause-passes
 returns-then-eq-clause-passes c =
-    let w = written_of c.args.source.now in
+    let w = written_of c.args.input.now in
     let f = c.args.field.now in
     let name : token_text w f.name ≡ codes "vars" = same_name _ _ _ _ c.eq.result c.eq.ensures c.if-eq.true c.token_text-name.ensures c.as_slice.ensures in
     repeated_passes w hint_message f (number Int32) c.add_refs.result (table_use _ _ _ _ name refl) c.add_refs.ensures.fault
 
 pub returns-then-eq-clause-read : goal.returns-then-eq-clause-read
 returns-then-eq-clause-read c =
-    let w = written_of c.args.source.now in
+    let w = written_of c.args.input.now in
     let f = c.args.field.now in
     let name : token_text w f.name ≡ codes "vars" = same_name _ _ _ _ c.eq.result c.eq.ensures c.if-eq.true c.token_text-name.ensures c.as_slice.ensures in
     on_ok_weaker c.add_refs.result
@@ -28,21 +28,21 @@ returns-then-eq-clause-read c =
 
 pub returns-then-eq-clause-err : goal.returns-then-eq-clause-err
 returns-then-eq-clause-err c =
-    let w = written_of c.args.source.now in
+    let w = written_of c.args.input.now in
     let f = c.args.field.now in
     let name : token_text w f.name ≡ codes "vars" = same_name _ _ _ _ c.eq.result c.eq.ensures c.if-eq.true c.token_text-name.ensures c.as_slice.ensures in
     repeated_stops w hint_message f (number Int32) c.add_refs.result (table_use _ _ _ _ name refl) c.add_refs.ensures.err
 
 pub returns-then-eq-2-clause-passes : goal.returns-then-eq-2-clause-passes
 returns-then-eq-2-clause-passes c =
-    let w = written_of c.args.source.now in
+    let w = written_of c.args.input.now in
     let f = c.args.field.now in
     let name : token_text w f.name ≡ codes "values" = same_name _ _ _ _ c.eq-else-eq.result c.eq-else-eq.ensures c.if-eq-2.true c.token_text-name.ensures c.as_slice-else-eq.ensures in
     repeated_passes w hint_message f (number Int64) c.add_ints.result (table_use _ _ _ _ name refl) c.add_ints.ensures.fault
 
 pub returns-then-eq-2-clause-read : goal.returns-then-eq-2-clause-read
 returns-then-eq-2-clause-read c =
-    let w = written_of c.args.source.now in
+    let w = written_of c.args.input.now in
     let f = c.args.field.now in
     let name : token_text w f.name ≡ codes "values" = same_name _ _ _ _ c.eq-else-eq.result c.eq-else-eq.ensures c.if-eq-2.true c.token_text-name.ensures c.as_slice-else-eq.ensures in
     on_ok_weaker c.add_ints.result
@@ -52,14 +52,14 @@ returns-then-eq-2-clause-read c =
 
 pub returns-then-eq-2-clause-err : goal.returns-then-eq-2-clause-err
 returns-then-eq-2-clause-err c =
-    let w = written_of c.args.source.now in
+    let w = written_of c.args.input.now in
     let f = c.args.field.now in
     let name : token_text w f.name ≡ codes "values" = same_name _ _ _ _ c.eq-else-eq.result c.eq-else-eq.ensures c.if-eq-2.true c.token_text-name.ensures c.as_slice-else-eq.ensures in
     repeated_stops w hint_message f (number Int64) c.add_ints.result (table_use _ _ _ _ name refl) c.add_ints.ensures.err
 
 pub returns-else-eq-2-clause-err : goal.returns-else-eq-2-clause-err
 returns-else-eq-2-clause-err c =
-    let w = written_of c.args.source.now in
+    let w = written_of c.args.input.now in
     let f = c.args.field.now in
     let other : use_in (table_of hint_message) (token_text w f.name) ≡ None = grind (arith) in
-    rw c.not_read.ensures (not_read_stops w hint_message f other)
+    rw c.refused_field.ensures (refused_stops w hint_message f other)

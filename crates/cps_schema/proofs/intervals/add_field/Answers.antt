@@ -1,25 +1,25 @@
 use Rattle.std.proofs.Common.{◌≡◌, codes, None, refl, arith}
 use Rattle.cps_schema.specs.declared.number.Number.TheVariants.{Int32}
-use Rattle.cps_schema.specs.Sources.{written_of}
+use Rattle.cps_schema.specs.Inputs.{written_of}
 use Rattle.cps_schema.specs.Written.{token_text}
 use Rattle.cps_schema.specs.Tables.{no_overlap_message, number, use_in, table_of}
-use Rattle.cps_schema.proofs.Steps.{same_text, table_use, repeated_passes, repeated_stops, not_read_stops}
+use Rattle.cps_schema.proofs.Steps.{same_text, table_use, repeated_passes, repeated_stops, refused_stops}
 use Rattle.cps_schema.proofs.intervals.add_field.Goals as goal
 
 pub returns-then-eq-clause-passes : goal.returns-then-eq-clause-passes
 returns-then-eq-clause-passes c =
-    let w = written_of c.args.source.now in
+    let w = written_of c.args.input.now in
     let name : token_text w c.args.field.now.name ≡ codes "intervals" = grind (arith, same_text c.token_text.result.now c.as_slice.result.now c.eq.result) in
     repeated_passes w no_overlap_message c.args.field.now (number Int32) c.add_refs.result (table_use _ _ _ _ name refl) c.add_refs.ensures.fault
 
 pub returns-then-eq-clause-err : goal.returns-then-eq-clause-err
 returns-then-eq-clause-err c =
-    let w = written_of c.args.source.now in
+    let w = written_of c.args.input.now in
     let name : token_text w c.args.field.now.name ≡ codes "intervals" = grind (arith, same_text c.token_text.result.now c.as_slice.result.now c.eq.result) in
     repeated_stops w no_overlap_message c.args.field.now (number Int32) c.add_refs.result (table_use _ _ _ _ name refl) c.add_refs.ensures.err
 
 pub returns-else-eq-clause-err : goal.returns-else-eq-clause-err
 returns-else-eq-clause-err c =
-    let w = written_of c.args.source.now in
+    let w = written_of c.args.input.now in
     let other : use_in (table_of no_overlap_message) (token_text w c.args.field.now.name) ≡ None = grind (arith) in
-    rw c.not_read.ensures (not_read_stops w no_overlap_message c.args.field.now other)
+    rw c.refused_field.ensures (refused_stops w no_overlap_message c.args.field.now other)

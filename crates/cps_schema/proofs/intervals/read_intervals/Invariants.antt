@@ -1,6 +1,6 @@
 use Rattle.std.specs.Prelude.{◌≡◌, ◌++◌, List, ℕ, [], drop, codes}
 use Rattle.cps_textproto.specs.Trees.{field_list}
-use Rattle.cps_schema.specs.Sources.{written_of}
+use Rattle.cps_schema.specs.Inputs.{written_of}
 use Rattle.cps_schema.specs.Tables.{no_overlap_message}
 use Rattle.cps_schema.specs.Faults.{fields_fault}
 use Rattle.cps_schema.specs.Readings.{numbers}
@@ -8,7 +8,7 @@ use Rattle.cps_schema.proofs.intervals.read_intervals.Given as goal
 
 abbrev pub invariant-loop-field : goal.invariant-loop-field
 invariant-loop-field l =
-    ((before : List (List ℕ)) × (fields_fault (written_of l.source) no_overlap_message [] (field_list l.field-items)
-    ≡ fields_fault (written_of l.source) no_overlap_message before (field_list (drop l.field-index l.field-items))))
-    × (numbers (written_of l.source) (codes "intervals") (field_list l.field-items)
-    ≡ l.intervals.items ++ numbers (written_of l.source) (codes "intervals") (field_list (drop l.field-index l.field-items)))
+    ((before : List (List ℕ)) × (fields_fault (written_of l.input) no_overlap_message [] (field_list l.field-items)
+    ≡ fields_fault (written_of l.input) no_overlap_message before (field_list (drop l.field-index l.field-items))))
+    × (numbers (written_of l.input) (codes "intervals") (field_list l.field-items)
+    ≡ l.intervals.items ++ numbers (written_of l.input) (codes "intervals") (field_list (drop l.field-index l.field-items)))

@@ -1,7 +1,7 @@
 use Rattle.std.proofs.Common.{◌≡◌, false, is_some, sym, ap, ◌∙◌}
 use Rattle.cps_schema.specs.Written.{token_text}
 use Rattle.cps_schema.specs.Tables.{is_given}
-use Rattle.cps_schema.specs.Sources.{written_of}
+use Rattle.cps_schema.specs.Inputs.{written_of}
 use Rattle.cps_schema.specs.Kinds.{message_of}
 use Rattle.cps_schema.specs.Parts.{is_given_as}
 use Rattle.cps_schema.proofs.Steps.{first_kind_stops}
@@ -10,7 +10,7 @@ use Rattle.cps_schema.proofs.kind.kind_message.Goals as goal
 pub returns-clause-err : goal.returns-clause-err
 returns-clause-err c =
     let given = c.args.given.now in
-    let w = written_of c.args.source.now in
+    let w = written_of c.args.input.now in
     let unclosed : is_given w.closed (token_text w c.args.field.now.name) ≡ false = ap (is_given w.closed) (sym c.token_text.ensures) ∙ sym c.is_given.ensures ∙ c.if-is_given.false in
     first_kind_stops w c.args.field.now (message_of c.args.name) (is_given_as given c.args.name) (is_some given)
     c.single_message.result unclosed (sym c.is_given_as.ensures ∙ c.if-is_given_as.false) (sym c.is_some.ensures ∙ c.if-is_some.false)

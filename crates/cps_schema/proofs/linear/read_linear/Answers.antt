@@ -2,7 +2,7 @@ use Rattle.std.proofs.Common.{◌+◌, ◌<◌, ◌∷◌, ◌∙◌, ap, length
 use Rattle.std.proofs.lemmas.Grind.{common_steps}
 use Rattle.cps_textproto.specs.Trees.{field_list}
 use Rattle.cps_schema.specs.Written.{token_text}
-use Rattle.cps_schema.specs.Sources.{written_of}
+use Rattle.cps_schema.specs.Inputs.{written_of}
 use Rattle.cps_schema.specs.Tables.{linear_message}
 use Rattle.cps_schema.specs.Faults.{fields_fault}
 use Rattle.cps_schema.specs.Parts.{linear_from}
@@ -16,7 +16,7 @@ returns-in_err-add_field-clause-err c =
 
 pub loop-field-preserved : goal.loop-field-preserved
 loop-field-preserved c =
-    let w = written_of c.args.source.now in
+    let w = written_of c.args.input.now in
     let items = c.fields_of-field-items.result.now in
     let i = c.loop-field.field-index in
     let before = c.loop-field.invariant.0.0 in

@@ -1,6 +1,6 @@
 use Rattle.std.specs.Prelude.{◌≡◌, List, ℕ, [], drop}
 use Rattle.cps_textproto.specs.Trees.{field_list}
-use Rattle.cps_schema.specs.Sources.{written_of}
+use Rattle.cps_schema.specs.Inputs.{written_of}
 use Rattle.cps_schema.specs.Tables.{linear_message}
 use Rattle.cps_schema.specs.Faults.{fields_fault}
 use Rattle.cps_schema.specs.Readings.{read_linear}
@@ -9,7 +9,7 @@ use Rattle.cps_schema.proofs.linear.read_linear.Given as goal
 
 abbrev pub invariant-loop-field : goal.invariant-loop-field
 invariant-loop-field l =
-    ((before : List (List ℕ)) × (fields_fault (written_of l.source) linear_message [] (field_list l.field-items)
-    ≡ fields_fault (written_of l.source) linear_message before (field_list (drop l.field-index l.field-items))))
-    × (read_linear (written_of l.source) (field_list l.field-items)
-    ≡ linear_from (written_of l.source) l.parts (field_list (drop l.field-index l.field-items)))
+    ((before : List (List ℕ)) × (fields_fault (written_of l.input) linear_message [] (field_list l.field-items)
+    ≡ fields_fault (written_of l.input) linear_message before (field_list (drop l.field-index l.field-items))))
+    × (read_linear (written_of l.input) (field_list l.field-items)
+    ≡ linear_from (written_of l.input) l.parts (field_list (drop l.field-index l.field-items)))

@@ -1,7 +1,7 @@
 use Rattle.std.proofs.Common.{◌≡◌, ℕ, Bool, List, Some, refl, ◌∙◌, arith}
 use Rattle.cps_lex.specs.declared.types.TokenKind.{TokenKind}
 use Rattle.cps_schema.specs.declared.member.Enum.{Enum}
-use Rattle.cps_schema.specs.Sources.{written_of}
+use Rattle.cps_schema.specs.Inputs.{written_of}
 use Rattle.cps_schema.specs.Written.{Written, is_negative, unsigned_token, token_kind, token_text}
 use Rattle.cps_schema.specs.Members.{member_of, member_at}
 use Rattle.cps_schema.proofs.member.member_at.Goals as goal
@@ -17,5 +17,5 @@ pub returns-in-Some : goal.returns-in-Some
 returns-in-Some c =
     let sign = c.is_negative-negative.ensures in
     c.member_of.ensures
-    ∙ of_token (written_of c.args.source.now) c.args.kind c.args.first _ c.is_negative-negative.result c.in-Some.token c.token_text.result.now
+    ∙ of_token (written_of c.args.input.now) c.args.kind c.args.first _ c.is_negative-negative.result c.in-Some.token c.token_text.result.now
     c.in-Some.ensures c.token_text.ensures sign (grind arith)

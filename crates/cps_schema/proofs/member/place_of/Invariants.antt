@@ -1,5 +1,5 @@
 use Rattle.std.specs.Prelude.{◌≡◌, drop}
-use Rattle.cps_schema.specs.Sources.{names_of}
+use Rattle.cps_schema.specs.Inputs.{names_of}
 use Rattle.cps_schema.specs.Members.{place_from}
 use Rattle.cps_schema.proofs.member.place_of.Given as goal
 

@@ -4,12 +4,12 @@ use Rattle.std.proofs.lemmas.List.{map-append}
 use Rattle.std.proofs.lemmas.Result.{on_ok_weaker}
 use Rattle.cps_textproto.specs.Trees.{values_of}
 use Rattle.cps_schema.specs.declared.number.Number.TheVariants.{Int32}
-use Rattle.cps_schema.specs.Sources.{written_of}
+use Rattle.cps_schema.specs.Inputs.{written_of}
 use Rattle.cps_schema.specs.Written.{token_text}
 use Rattle.cps_schema.specs.Tables.{model_message, variable_message, constraint_message, objective_message, strategy_message, hint_message, text, message, number}
 use Rattle.cps_schema.specs.Readings.{value_numbers, value_texts, value_messages, read_variable, read_constraint, read_objective, read_strategy, read_hint}
 use Rattle.cps_schema.specs.Parts.{model_slots}
-use Rattle.cps_schema.proofs.Steps.{same_name, other_text, table_use, repeated_passes, repeated_stops, not_read_stops, if_passes, if_stops, closable_passes, closable_refused}
+use Rattle.cps_schema.proofs.Steps.{same_name, other_text, table_use, repeated_passes, repeated_stops, refused_stops, if_passes, if_stops, closable_passes, closable_refused}
 use Rattle.cps_schema.specs.Slots.{AreGivenSlots}
 use Rattle.cps_schema.proofs.Slots.{given_after, slot_passes, slot_stops}
 use Rattle.cps_schema.proofs.ModelFields.{no_model_field}
@@ -17,7 +17,7 @@ use Rattle.cps_schema.proofs.model.add_field.Goals as goal
 
 pub returns-then-eq-clause-passes : goal.returns-then-eq-clause-passes
 returns-then-eq-clause-passes c =
-    let w = written_of c.args.source.now in
+    let w = written_of c.args.input.now in
     let f = c.args.field.now in
     let name : token_text w f.name ≡ codes "name" = same_name _ _ _ _ c.eq.result c.eq.ensures c.if-eq.true c.token_text-name.ensures c.as_slice.ensures in
     slot_passes w model_message f (text) c.set_name.result (λ (before : List (List ℕ)). AreGivenSlots (model_slots c.args.parts.now) before) (λ (before : List (List ℕ)). AreGivenSlots (model_slots (record c.args.parts.now { name = c.set_name.new.slot })) before)
@@ -30,7 +30,7 @@ returns-then-eq-clause-passes c =
 
 pub returns-then-eq-clause-read : goal.returns-then-eq-clause-read
 returns-then-eq-clause-read c =
-    let w = written_of c.args.source.now in
+    let w = written_of c.args.input.now in
     let f = c.args.field.now in
     let name : token_text w f.name ≡ codes "name" = same_name _ _ _ _ c.eq.result c.eq.ensures c.if-eq.true c.token_text-name.ensures c.as_slice.ensures in
     on_ok_weaker c.set_name.result
@@ -40,7 +40,7 @@ returns-then-eq-clause-read c =
 
 pub returns-then-eq-clause-err : goal.returns-then-eq-clause-err
 returns-then-eq-clause-err c =
-    let w = written_of c.args.source.now in
+    let w = written_of c.args.input.now in
     let f = c.args.field.now in
     let name : token_text w f.name ≡ codes "name" = same_name _ _ _ _ c.eq.result c.eq.ensures c.if-eq.true c.token_text-name.ensures c.as_slice.ensures in
     slot_stops w model_message f (text) c.set_name.result (λ (before : List (List ℕ)). AreGivenSlots (model_slots c.args.parts.now) before)
@@ -48,7 +48,7 @@ returns-then-eq-clause-err c =
 
 pub returns-then-eq-2-clause-passes : goal.returns-then-eq-2-clause-passes
 returns-then-eq-2-clause-passes c =
-    let w = written_of c.args.source.now in
+    let w = written_of c.args.input.now in
     let f = c.args.field.now in
     let name : token_text w f.name ≡ codes "variables" = same_name _ _ _ _ c.eq-else-eq.result c.eq-else-eq.ensures c.if-eq-2.true c.token_text-name.ensures c.as_slice-else-eq.ensures in
     if_passes w model_message f (λ (before : List (List ℕ)). AreGivenSlots (model_slots c.args.parts.now) before) (λ (before : List (List ℕ)). AreGivenSlots (model_slots c.args.parts.now) before) c.add_messages.result
@@ -57,7 +57,7 @@ returns-then-eq-2-clause-passes c =
 
 pub returns-then-eq-2-clause-read : goal.returns-then-eq-2-clause-read
 returns-then-eq-2-clause-read c =
-    let w = written_of c.args.source.now in
+    let w = written_of c.args.input.now in
     let f = c.args.field.now in
     let name : token_text w f.name ≡ codes "variables" = same_name _ _ _ _ c.eq-else-eq.result c.eq-else-eq.ensures c.if-eq-2.true c.token_text-name.ensures c.as_slice-else-eq.ensures in
     on_ok_weaker c.add_messages.result
@@ -67,7 +67,7 @@ returns-then-eq-2-clause-read c =
 
 pub returns-then-eq-2-clause-err : goal.returns-then-eq-2-clause-err
 returns-then-eq-2-clause-err c =
-    let w = written_of c.args.source.now in
+    let w = written_of c.args.input.now in
     let f = c.args.field.now in
     let name : token_text w f.name ≡ codes "variables" = same_name _ _ _ _ c.eq-else-eq.result c.eq-else-eq.ensures c.if-eq-2.true c.token_text-name.ensures c.as_slice-else-eq.ensures in
     if_stops w model_message f (λ (before : List (List ℕ)). AreGivenSlots (model_slots c.args.parts.now) before) c.add_messages.result
@@ -75,7 +75,7 @@ returns-then-eq-2-clause-err c =
 
 pub returns-then-eq-3-clause-passes : goal.returns-then-eq-3-clause-passes
 returns-then-eq-3-clause-passes c =
-    let w = written_of c.args.source.now in
+    let w = written_of c.args.input.now in
     let f = c.args.field.now in
     let name : token_text w f.name ≡ codes "constraints" = same_name _ _ _ _ c.eq-else-eq-2.result c.eq-else-eq-2.ensures c.if-eq-3.true c.token_text-name.ensures c.as_slice-else-eq-2.ensures in
     if_passes w model_message f (λ (before : List (List ℕ)). AreGivenSlots (model_slots c.args.parts.now) before) (λ (before : List (List ℕ)). AreGivenSlots (model_slots c.args.parts.now) before) c.add_messages-then-eq-3.result
@@ -84,7 +84,7 @@ returns-then-eq-3-clause-passes c =
 
 pub returns-then-eq-3-clause-read : goal.returns-then-eq-3-clause-read
 returns-then-eq-3-clause-read c =
-    let w = written_of c.args.source.now in
+    let w = written_of c.args.input.now in
     let f = c.args.field.now in
     let name : token_text w f.name ≡ codes "constraints" = same_name _ _ _ _ c.eq-else-eq-2.result c.eq-else-eq-2.ensures c.if-eq-3.true c.token_text-name.ensures c.as_slice-else-eq-2.ensures in
     on_ok_weaker c.add_messages-then-eq-3.result
@@ -94,7 +94,7 @@ returns-then-eq-3-clause-read c =
 
 pub returns-then-eq-3-clause-err : goal.returns-then-eq-3-clause-err
 returns-then-eq-3-clause-err c =
-    let w = written_of c.args.source.now in
+    let w = written_of c.args.input.now in
     let f = c.args.field.now in
     let name : token_text w f.name ≡ codes "constraints" = same_name _ _ _ _ c.eq-else-eq-2.result c.eq-else-eq-2.ensures c.if-eq-3.true c.token_text-name.ensures c.as_slice-else-eq-2.ensures in
     if_stops w model_message f (λ (before : List (List ℕ)). AreGivenSlots (model_slots c.args.parts.now) before) c.add_messages-then-eq-3.result
@@ -102,7 +102,7 @@ returns-then-eq-3-clause-err c =
 
 pub returns-then-eq-4-clause-passes : goal.returns-then-eq-4-clause-passes
 returns-then-eq-4-clause-passes c =
-    let w = written_of c.args.source.now in
+    let w = written_of c.args.input.now in
     let f = c.args.field.now in
     let name : token_text w f.name ≡ codes "objective" = same_name _ _ _ _ c.eq-else-eq-3.result c.eq-else-eq-3.ensures c.if-eq-4.true c.token_text-name.ensures c.as_slice-else-eq-3.ensures in
     slot_passes w model_message f (message objective_message) c.set_once.result (λ (before : List (List ℕ)). AreGivenSlots (model_slots c.args.parts.now) before) (λ (before : List (List ℕ)). AreGivenSlots (model_slots (record c.args.parts.now { objective = c.set_once.new.slot })) before)
@@ -115,7 +115,7 @@ returns-then-eq-4-clause-passes c =
 
 pub returns-then-eq-4-clause-read : goal.returns-then-eq-4-clause-read
 returns-then-eq-4-clause-read c =
-    let w = written_of c.args.source.now in
+    let w = written_of c.args.input.now in
     let f = c.args.field.now in
     let name : token_text w f.name ≡ codes "objective" = same_name _ _ _ _ c.eq-else-eq-3.result c.eq-else-eq-3.ensures c.if-eq-4.true c.token_text-name.ensures c.as_slice-else-eq-3.ensures in
     on_ok_weaker c.set_once.result
@@ -125,7 +125,7 @@ returns-then-eq-4-clause-read c =
 
 pub returns-then-eq-4-clause-err : goal.returns-then-eq-4-clause-err
 returns-then-eq-4-clause-err c =
-    let w = written_of c.args.source.now in
+    let w = written_of c.args.input.now in
     let f = c.args.field.now in
     let name : token_text w f.name ≡ codes "objective" = same_name _ _ _ _ c.eq-else-eq-3.result c.eq-else-eq-3.ensures c.if-eq-4.true c.token_text-name.ensures c.as_slice-else-eq-3.ensures in
     slot_stops w model_message f (message objective_message) c.set_once.result (λ (before : List (List ℕ)). AreGivenSlots (model_slots c.args.parts.now) before)
@@ -133,7 +133,7 @@ returns-then-eq-4-clause-err c =
 
 pub returns-then-eq-5-clause-passes : goal.returns-then-eq-5-clause-passes
 returns-then-eq-5-clause-passes c =
-    let w = written_of c.args.source.now in
+    let w = written_of c.args.input.now in
     let f = c.args.field.now in
     let name : token_text w f.name ≡ codes "search_strategy" = same_name _ _ _ _ c.eq-else-eq-4.result c.eq-else-eq-4.ensures c.if-eq-5.true c.token_text-name.ensures c.as_slice-else-eq-4.ensures in
     if_passes w model_message f (λ (before : List (List ℕ)). AreGivenSlots (model_slots c.args.parts.now) before) (λ (before : List (List ℕ)). AreGivenSlots (model_slots c.args.parts.now) before) c.add_messages-then-eq-5.result
@@ -142,7 +142,7 @@ returns-then-eq-5-clause-passes c =
 
 pub returns-then-eq-5-clause-read : goal.returns-then-eq-5-clause-read
 returns-then-eq-5-clause-read c =
-    let w = written_of c.args.source.now in
+    let w = written_of c.args.input.now in
     let f = c.args.field.now in
     let name : token_text w f.name ≡ codes "search_strategy" = same_name _ _ _ _ c.eq-else-eq-4.result c.eq-else-eq-4.ensures c.if-eq-5.true c.token_text-name.ensures c.as_slice-else-eq-4.ensures in
     on_ok_weaker c.add_messages-then-eq-5.result
@@ -152,7 +152,7 @@ returns-then-eq-5-clause-read c =
 
 pub returns-then-eq-5-clause-err : goal.returns-then-eq-5-clause-err
 returns-then-eq-5-clause-err c =
-    let w = written_of c.args.source.now in
+    let w = written_of c.args.input.now in
     let f = c.args.field.now in
     let name : token_text w f.name ≡ codes "search_strategy" = same_name _ _ _ _ c.eq-else-eq-4.result c.eq-else-eq-4.ensures c.if-eq-5.true c.token_text-name.ensures c.as_slice-else-eq-4.ensures in
     if_stops w model_message f (λ (before : List (List ℕ)). AreGivenSlots (model_slots c.args.parts.now) before) c.add_messages-then-eq-5.result
@@ -160,7 +160,7 @@ returns-then-eq-5-clause-err c =
 
 pub returns-then-eq-6-clause-passes : goal.returns-then-eq-6-clause-passes
 returns-then-eq-6-clause-passes c =
-    let w = written_of c.args.source.now in
+    let w = written_of c.args.input.now in
     let f = c.args.field.now in
     let name : token_text w f.name ≡ codes "solution_hint" = same_name _ _ _ _ c.eq-else-eq-5.result c.eq-else-eq-5.ensures c.if-eq-6.true c.token_text-name.ensures c.as_slice-else-eq-5.ensures in
     slot_passes w model_message f (message hint_message) c.set_once-then-eq-6.result (λ (before : List (List ℕ)). AreGivenSlots (model_slots c.args.parts.now) before) (λ (before : List (List ℕ)). AreGivenSlots (model_slots (record c.args.parts.now { hint = c.set_once-then-eq-6.new.slot })) before)
@@ -173,7 +173,7 @@ returns-then-eq-6-clause-passes c =
 
 pub returns-then-eq-6-clause-read : goal.returns-then-eq-6-clause-read
 returns-then-eq-6-clause-read c =
-    let w = written_of c.args.source.now in
+    let w = written_of c.args.input.now in
     let f = c.args.field.now in
     let name : token_text w f.name ≡ codes "solution_hint" = same_name _ _ _ _ c.eq-else-eq-5.result c.eq-else-eq-5.ensures c.if-eq-6.true c.token_text-name.ensures c.as_slice-else-eq-5.ensures in
     on_ok_weaker c.set_once-then-eq-6.result
@@ -183,7 +183,7 @@ returns-then-eq-6-clause-read c =
 
 pub returns-then-eq-6-clause-err : goal.returns-then-eq-6-clause-err
 returns-then-eq-6-clause-err c =
-    let w = written_of c.args.source.now in
+    let w = written_of c.args.input.now in
     let f = c.args.field.now in
     let name : token_text w f.name ≡ codes "solution_hint" = same_name _ _ _ _ c.eq-else-eq-5.result c.eq-else-eq-5.ensures c.if-eq-6.true c.token_text-name.ensures c.as_slice-else-eq-5.ensures in
     slot_stops w model_message f (message hint_message) c.set_once-then-eq-6.result (λ (before : List (List ℕ)). AreGivenSlots (model_slots c.args.parts.now) before)
@@ -191,7 +191,7 @@ returns-then-eq-6-clause-err c =
 
 pub returns-then-eq-7-clause-passes : goal.returns-then-eq-7-clause-passes
 returns-then-eq-7-clause-passes c =
-    let w = written_of c.args.source.now in
+    let w = written_of c.args.input.now in
     let f = c.args.field.now in
     let name : token_text w f.name ≡ codes "assumptions" = same_name _ _ _ _ c.eq-else-eq-6.result c.eq-else-eq-6.ensures c.if-eq-7.true c.token_text-name.ensures c.as_slice-else-eq-6.ensures in
     if_passes w model_message f (λ (before : List (List ℕ)). AreGivenSlots (model_slots c.args.parts.now) before) (λ (before : List (List ℕ)). AreGivenSlots (model_slots c.args.parts.now) before) c.add_assumptions.result
@@ -200,7 +200,7 @@ returns-then-eq-7-clause-passes c =
 
 pub returns-then-eq-7-clause-read : goal.returns-then-eq-7-clause-read
 returns-then-eq-7-clause-read c =
-    let w = written_of c.args.source.now in
+    let w = written_of c.args.input.now in
     let f = c.args.field.now in
     let name : token_text w f.name ≡ codes "assumptions" = same_name _ _ _ _ c.eq-else-eq-6.result c.eq-else-eq-6.ensures c.if-eq-7.true c.token_text-name.ensures c.as_slice-else-eq-6.ensures in
     on_ok_weaker c.add_assumptions.result
@@ -210,7 +210,7 @@ returns-then-eq-7-clause-read c =
 
 pub returns-then-eq-7-clause-err : goal.returns-then-eq-7-clause-err
 returns-then-eq-7-clause-err c =
-    let w = written_of c.args.source.now in
+    let w = written_of c.args.input.now in
     let f = c.args.field.now in
     let name : token_text w f.name ≡ codes "assumptions" = same_name _ _ _ _ c.eq-else-eq-6.result c.eq-else-eq-6.ensures c.if-eq-7.true c.token_text-name.ensures c.as_slice-else-eq-6.ensures in
     if_stops w model_message f (λ (before : List (List ℕ)). AreGivenSlots (model_slots c.args.parts.now) before) c.add_assumptions.result
@@ -218,7 +218,7 @@ returns-then-eq-7-clause-err c =
 
 pub returns-else-eq-7-clause-err : goal.returns-else-eq-7-clause-err
 returns-else-eq-7-clause-err c = λ before given.
-    let w = written_of c.args.source.now in
+    let w = written_of c.args.input.now in
     let f = c.args.field.now in
     let text = token_text w f.name in
     let name = c.token_text-name in
@@ -230,4 +230,4 @@ returns-else-eq-7-clause-err c = λ before given.
     (other_text name.result.now c.as_slice-else-eq-4.result.now text (codes "search_strategy") c.eq-else-eq-4.result c.eq-else-eq-4.ensures c.if-eq-5.false name.ensures c.as_slice-else-eq-4.ensures)
     (other_text name.result.now c.as_slice-else-eq-5.result.now text (codes "solution_hint") c.eq-else-eq-5.result c.eq-else-eq-5.ensures c.if-eq-6.false name.ensures c.as_slice-else-eq-5.ensures)
     (other_text name.result.now c.as_slice-else-eq-6.result.now text (codes "assumptions") c.eq-else-eq-6.result c.eq-else-eq-6.ensures c.if-eq-7.false name.ensures c.as_slice-else-eq-6.ensures) in
-    rw c.not_read.ensures (not_read_stops w model_message f other before)
+    rw c.refused_field.ensures (refused_stops w model_message f other before)

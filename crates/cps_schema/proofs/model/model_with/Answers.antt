@@ -1,5 +1,5 @@
 use Rattle.cps_textproto.specs.Trees.{tree_of}
-use Rattle.cps_schema.specs.Sources.{names_of}
+use Rattle.cps_schema.specs.Inputs.{names_of}
 use Rattle.cps_schema.specs.Written.{written_with}
 use Rattle.cps_schema.proofs.Opened.{answer_open, answer_assumed}
 use Rattle.cps_schema.proofs.model.model_with.Goals as goal

@@ -2,18 +2,18 @@ use Rattle.std.proofs.Common.{◌≡◌, ◌++◌, codes, None, refl, arith, app
 use Rattle.std.proofs.lemmas.Result.{on_ok_weaker}
 use Rattle.cps_textproto.specs.Trees.{values_of}
 use Rattle.cps_schema.specs.declared.number.Number.TheVariants.{Int32, Int64}
-use Rattle.cps_schema.specs.Sources.{written_of}
+use Rattle.cps_schema.specs.Inputs.{written_of}
 use Rattle.cps_schema.specs.Written.{token_text}
 use Rattle.cps_schema.specs.Tables.{objective_message, number, use_in, table_of}
 use Rattle.cps_schema.specs.Readings.{value_numbers}
 use Rattle.cps_schema.specs.Parts.{IsGivenObjective}
-use Rattle.cps_schema.proofs.Steps.{same_name, table_use, repeated_passes, repeated_stops, not_read_stops, if_passes, if_stops}
+use Rattle.cps_schema.proofs.Steps.{same_name, table_use, repeated_passes, repeated_stops, refused_stops, if_passes, if_stops}
 use Rattle.cps_schema.proofs.Objectives.{other_given, offset_passes, offset_stops, scaling_passes, scaling_stops}
 use Rattle.cps_schema.proofs.objective.add_field.Goals as goal
 
 pub returns-then-eq-clause-passes : goal.returns-then-eq-clause-passes
 returns-then-eq-clause-passes c =
-    let w = written_of c.args.source.now in
+    let w = written_of c.args.input.now in
     let f = c.args.field.now in
     let name : token_text w f.name ≡ codes "vars" = same_name _ _ _ _ c.eq.result c.eq.ensures c.if-eq.true c.token_text-name.ensures c.as_slice.ensures in
     if_passes w objective_message f (IsGivenObjective c.args.parts.now.offset c.args.parts.now.scaling) (IsGivenObjective c.args.parts.now.offset c.args.parts.now.scaling) c.add_refs.result
@@ -22,7 +22,7 @@ returns-then-eq-clause-passes c =
 
 pub returns-then-eq-clause-read : goal.returns-then-eq-clause-read
 returns-then-eq-clause-read c =
-    let w = written_of c.args.source.now in
+    let w = written_of c.args.input.now in
     let f = c.args.field.now in
     let name : token_text w f.name ≡ codes "vars" = same_name _ _ _ _ c.eq.result c.eq.ensures c.if-eq.true c.token_text-name.ensures c.as_slice.ensures in
     on_ok_weaker c.add_refs.result
@@ -32,7 +32,7 @@ returns-then-eq-clause-read c =
 
 pub returns-then-eq-clause-err : goal.returns-then-eq-clause-err
 returns-then-eq-clause-err c =
-    let w = written_of c.args.source.now in
+    let w = written_of c.args.input.now in
     let f = c.args.field.now in
     let name : token_text w f.name ≡ codes "vars" = same_name _ _ _ _ c.eq.result c.eq.ensures c.if-eq.true c.token_text-name.ensures c.as_slice.ensures in
     if_stops w objective_message f (IsGivenObjective c.args.parts.now.offset c.args.parts.now.scaling) c.add_refs.result
@@ -40,7 +40,7 @@ returns-then-eq-clause-err c =
 
 pub returns-then-eq-2-clause-passes : goal.returns-then-eq-2-clause-passes
 returns-then-eq-2-clause-passes c =
-    let w = written_of c.args.source.now in
+    let w = written_of c.args.input.now in
     let f = c.args.field.now in
     let name : token_text w f.name ≡ codes "coeffs" = same_name _ _ _ _ c.eq-else-eq.result c.eq-else-eq.ensures c.if-eq-2.true c.token_text-name.ensures c.as_slice-else-eq.ensures in
     if_passes w objective_message f (IsGivenObjective c.args.parts.now.offset c.args.parts.now.scaling) (IsGivenObjective c.args.parts.now.offset c.args.parts.now.scaling) c.add_ints.result
@@ -49,7 +49,7 @@ returns-then-eq-2-clause-passes c =
 
 pub returns-then-eq-2-clause-read : goal.returns-then-eq-2-clause-read
 returns-then-eq-2-clause-read c =
-    let w = written_of c.args.source.now in
+    let w = written_of c.args.input.now in
     let f = c.args.field.now in
     let name : token_text w f.name ≡ codes "coeffs" = same_name _ _ _ _ c.eq-else-eq.result c.eq-else-eq.ensures c.if-eq-2.true c.token_text-name.ensures c.as_slice-else-eq.ensures in
     on_ok_weaker c.add_ints.result
@@ -59,7 +59,7 @@ returns-then-eq-2-clause-read c =
 
 pub returns-then-eq-2-clause-err : goal.returns-then-eq-2-clause-err
 returns-then-eq-2-clause-err c =
-    let w = written_of c.args.source.now in
+    let w = written_of c.args.input.now in
     let f = c.args.field.now in
     let name : token_text w f.name ≡ codes "coeffs" = same_name _ _ _ _ c.eq-else-eq.result c.eq-else-eq.ensures c.if-eq-2.true c.token_text-name.ensures c.as_slice-else-eq.ensures in
     if_stops w objective_message f (IsGivenObjective c.args.parts.now.offset c.args.parts.now.scaling) c.add_ints.result
@@ -67,35 +67,35 @@ returns-then-eq-2-clause-err c =
 
 pub returns-then-eq-3-clause-passes : goal.returns-then-eq-3-clause-passes
 returns-then-eq-3-clause-passes c =
-    let w = written_of c.args.source.now in
+    let w = written_of c.args.input.now in
     let f = c.args.field.now in
     let name : token_text w f.name ≡ codes "offset" = same_name _ _ _ _ c.eq-else-eq-2.result c.eq-else-eq-2.ensures c.if-eq-3.true c.token_text-name.ensures c.as_slice-else-eq-2.ensures in
     offset_passes w f c.set_number.result c.args.parts.now.offset c.set_number.new.slot c.args.parts.now.scaling name c.set_number.ensures.passes c.set_number.ensures.some
 
 pub returns-then-eq-3-clause-err : goal.returns-then-eq-3-clause-err
 returns-then-eq-3-clause-err c =
-    let w = written_of c.args.source.now in
+    let w = written_of c.args.input.now in
     let f = c.args.field.now in
     let name : token_text w f.name ≡ codes "offset" = same_name _ _ _ _ c.eq-else-eq-2.result c.eq-else-eq-2.ensures c.if-eq-3.true c.token_text-name.ensures c.as_slice-else-eq-2.ensures in
     offset_stops w f c.set_number.result c.args.parts.now.offset c.args.parts.now.scaling name c.set_number.ensures.err
 
 pub returns-then-eq-4-clause-passes : goal.returns-then-eq-4-clause-passes
 returns-then-eq-4-clause-passes c =
-    let w = written_of c.args.source.now in
+    let w = written_of c.args.input.now in
     let f = c.args.field.now in
     let name : token_text w f.name ≡ codes "scaling_factor" = same_name _ _ _ _ c.eq-else-eq-3.result c.eq-else-eq-3.ensures c.if-eq-4.true c.token_text-name.ensures c.as_slice-else-eq-3.ensures in
     scaling_passes w f c.set_number-then-eq-4.result c.args.parts.now.scaling c.set_number-then-eq-4.new.slot c.args.parts.now.offset name c.set_number-then-eq-4.ensures.passes c.set_number-then-eq-4.ensures.some
 
 pub returns-then-eq-4-clause-err : goal.returns-then-eq-4-clause-err
 returns-then-eq-4-clause-err c =
-    let w = written_of c.args.source.now in
+    let w = written_of c.args.input.now in
     let f = c.args.field.now in
     let name : token_text w f.name ≡ codes "scaling_factor" = same_name _ _ _ _ c.eq-else-eq-3.result c.eq-else-eq-3.ensures c.if-eq-4.true c.token_text-name.ensures c.as_slice-else-eq-3.ensures in
     scaling_stops w f c.set_number-then-eq-4.result c.args.parts.now.scaling c.args.parts.now.offset name c.set_number-then-eq-4.ensures.err
 
 pub returns-then-eq-5-clause-passes : goal.returns-then-eq-5-clause-passes
 returns-then-eq-5-clause-passes c =
-    let w = written_of c.args.source.now in
+    let w = written_of c.args.input.now in
     let f = c.args.field.now in
     let name : token_text w f.name ≡ codes "domain" = same_name _ _ _ _ c.eq-else-eq-4.result c.eq-else-eq-4.ensures c.if-eq-5.true c.token_text-name.ensures c.as_slice-else-eq-4.ensures in
     if_passes w objective_message f (IsGivenObjective c.args.parts.now.offset c.args.parts.now.scaling) (IsGivenObjective c.args.parts.now.offset c.args.parts.now.scaling) c.add_ints-then-eq-5.result
@@ -104,7 +104,7 @@ returns-then-eq-5-clause-passes c =
 
 pub returns-then-eq-5-clause-err : goal.returns-then-eq-5-clause-err
 returns-then-eq-5-clause-err c =
-    let w = written_of c.args.source.now in
+    let w = written_of c.args.input.now in
     let f = c.args.field.now in
     let name : token_text w f.name ≡ codes "domain" = same_name _ _ _ _ c.eq-else-eq-4.result c.eq-else-eq-4.ensures c.if-eq-5.true c.token_text-name.ensures c.as_slice-else-eq-4.ensures in
     if_stops w objective_message f (IsGivenObjective c.args.parts.now.offset c.args.parts.now.scaling) c.add_ints-then-eq-5.result
@@ -112,7 +112,7 @@ returns-then-eq-5-clause-err c =
 
 pub returns-else-eq-5-clause-err : goal.returns-else-eq-5-clause-err
 returns-else-eq-5-clause-err c = λ before given.
-    let w = written_of c.args.source.now in
+    let w = written_of c.args.input.now in
     let f = c.args.field.now in
     let other : use_in (table_of objective_message) (token_text w f.name) ≡ None = grind (arith) in
-    rw c.not_read.ensures (not_read_stops w objective_message f other before)
+    rw c.refused_field.ensures (refused_stops w objective_message f other before)

@@ -4,7 +4,7 @@ use Rattle.std.proofs.lemmas.List.{map-append}
 use Rattle.std.proofs.lemmas.Result.{on_ok_weaker}
 use Rattle.cps_textproto.specs.Trees.{values_of}
 use Rattle.cps_schema.specs.declared.number.Number.TheVariants.{Int32}
-use Rattle.cps_schema.specs.Sources.{written_of}
+use Rattle.cps_schema.specs.Inputs.{written_of}
 use Rattle.cps_schema.specs.Written.{token_text}
 use Rattle.cps_schema.specs.declared.form.Form.TheVariants.{Older, Newer}
 use Rattle.cps_schema.specs.declared.member.Enum.TheVariants.{VariableSelection, DomainReduction}
@@ -12,7 +12,7 @@ use Rattle.cps_schema.specs.Members.{choose_of, select_of}
 use Rattle.cps_schema.specs.Tables.{strategy_message, expression_message, number, member, message, use_of}
 use Rattle.cps_schema.specs.Readings.{value_numbers, value_members, value_messages, read_expression}
 use Rattle.cps_schema.specs.Parts.{strategy_slots, IsStrategyGiven}
-use Rattle.cps_schema.proofs.Steps.{same_name, other_text, table_use, not_read_stops}
+use Rattle.cps_schema.proofs.Steps.{same_name, other_text, table_use, refused_stops}
 use Rattle.cps_schema.proofs.Slots.{given_after, slot_passes, slot_stops}
 use Rattle.cps_schema.proofs.Forms.{form_passes, form_stops, choose_given, select_given, no_strategy_field}
 use Rattle.cps_schema.proofs.strategy.add_field.Goals as goal
@@ -20,7 +20,7 @@ use Rattle.cps_schema.proofs.strategy.add_field.Goals as goal
 pub returns-then-eq-clause-passes : goal.returns-then-eq-clause-passes
 unfolding use_of
 returns-then-eq-clause-passes c =
-    let w = written_of c.args.source.now in
+    let w = written_of c.args.input.now in
     let f = c.args.field.now in
     let name : token_text w f.name ≡ codes "exprs" = same_name _ _ _ _ c.eq.result c.eq.ensures c.if-eq.true c.token_text-name.ensures c.as_slice.ensures in
     form_passes w f Newer (message expression_message) c.add_newer.result c.args.parts.now (record c.args.parts.now { exprs = c.add_newer.new.exprs; form = c.add_newer.new.form }) name refl
@@ -29,7 +29,7 @@ returns-then-eq-clause-passes c =
 
 pub returns-then-eq-clause-read : goal.returns-then-eq-clause-read
 returns-then-eq-clause-read c =
-    let w = written_of c.args.source.now in
+    let w = written_of c.args.input.now in
     let f = c.args.field.now in
     let name : token_text w f.name ≡ codes "exprs" = same_name _ _ _ _ c.eq.result c.eq.ensures c.if-eq.true c.token_text-name.ensures c.as_slice.ensures in
     on_ok_weaker c.add_newer.result
@@ -40,7 +40,7 @@ returns-then-eq-clause-read c =
 pub returns-then-eq-clause-err : goal.returns-then-eq-clause-err
 unfolding use_of
 returns-then-eq-clause-err c =
-    let w = written_of c.args.source.now in
+    let w = written_of c.args.input.now in
     let f = c.args.field.now in
     let name : token_text w f.name ≡ codes "exprs" = same_name _ _ _ _ c.eq.result c.eq.ensures c.if-eq.true c.token_text-name.ensures c.as_slice.ensures in
     form_stops w f Newer (message expression_message) c.add_newer.result c.args.parts.now name refl c.add_newer.ensures.err
@@ -48,7 +48,7 @@ returns-then-eq-clause-err c =
 pub returns-then-eq-2-clause-passes : goal.returns-then-eq-2-clause-passes
 unfolding use_of
 returns-then-eq-2-clause-passes c =
-    let w = written_of c.args.source.now in
+    let w = written_of c.args.input.now in
     let f = c.args.field.now in
     let name : token_text w f.name ≡ codes "variables" = same_name _ _ _ _ c.eq-else-eq.result c.eq-else-eq.ensures c.if-eq-2.true c.token_text-name.ensures c.as_slice-else-eq.ensures in
     form_passes w f Older (number Int32) c.add_older.result c.args.parts.now (record c.args.parts.now { variables = c.add_older.new.variables; form = c.add_older.new.form }) name refl
@@ -57,7 +57,7 @@ returns-then-eq-2-clause-passes c =
 
 pub returns-then-eq-2-clause-read : goal.returns-then-eq-2-clause-read
 returns-then-eq-2-clause-read c =
-    let w = written_of c.args.source.now in
+    let w = written_of c.args.input.now in
     let f = c.args.field.now in
     let name : token_text w f.name ≡ codes "variables" = same_name _ _ _ _ c.eq-else-eq.result c.eq-else-eq.ensures c.if-eq-2.true c.token_text-name.ensures c.as_slice-else-eq.ensures in
     on_ok_weaker c.add_older.result
@@ -68,14 +68,14 @@ returns-then-eq-2-clause-read c =
 pub returns-then-eq-2-clause-err : goal.returns-then-eq-2-clause-err
 unfolding use_of
 returns-then-eq-2-clause-err c =
-    let w = written_of c.args.source.now in
+    let w = written_of c.args.input.now in
     let f = c.args.field.now in
     let name : token_text w f.name ≡ codes "variables" = same_name _ _ _ _ c.eq-else-eq.result c.eq-else-eq.ensures c.if-eq-2.true c.token_text-name.ensures c.as_slice-else-eq.ensures in
     form_stops w f Older (number Int32) c.add_older.result c.args.parts.now name refl c.add_older.ensures.err
 
 pub returns-then-eq-3-clause-passes : goal.returns-then-eq-3-clause-passes
 returns-then-eq-3-clause-passes c =
-    let w = written_of c.args.source.now in
+    let w = written_of c.args.input.now in
     let f = c.args.field.now in
     let name : token_text w f.name ≡ codes "variable_selection_strategy" = same_name _ _ _ _ c.eq-else-eq-2.result c.eq-else-eq-2.ensures c.if-eq-3.true c.token_text-name.ensures c.as_slice-else-eq-2.ensures in
     slot_passes w strategy_message f (member VariableSelection) c.set_choose.result (λ (before : List (List ℕ)). IsStrategyGiven c.args.parts.now before) (λ (before : List (List ℕ)). IsStrategyGiven (record c.args.parts.now { choose = c.set_choose.new.slot }) before)
@@ -89,7 +89,7 @@ returns-then-eq-3-clause-passes c =
 
 pub returns-then-eq-3-clause-read : goal.returns-then-eq-3-clause-read
 returns-then-eq-3-clause-read c =
-    let w = written_of c.args.source.now in
+    let w = written_of c.args.input.now in
     let f = c.args.field.now in
     let name : token_text w f.name ≡ codes "variable_selection_strategy" = same_name _ _ _ _ c.eq-else-eq-2.result c.eq-else-eq-2.ensures c.if-eq-3.true c.token_text-name.ensures c.as_slice-else-eq-2.ensures in
     on_ok_weaker c.set_choose.result
@@ -99,7 +99,7 @@ returns-then-eq-3-clause-read c =
 
 pub returns-then-eq-3-clause-err : goal.returns-then-eq-3-clause-err
 returns-then-eq-3-clause-err c =
-    let w = written_of c.args.source.now in
+    let w = written_of c.args.input.now in
     let f = c.args.field.now in
     let name : token_text w f.name ≡ codes "variable_selection_strategy" = same_name _ _ _ _ c.eq-else-eq-2.result c.eq-else-eq-2.ensures c.if-eq-3.true c.token_text-name.ensures c.as_slice-else-eq-2.ensures in
     slot_stops w strategy_message f (member VariableSelection) c.set_choose.result (λ (before : List (List ℕ)). IsStrategyGiven c.args.parts.now before)
@@ -107,7 +107,7 @@ returns-then-eq-3-clause-err c =
 
 pub returns-then-eq-4-clause-passes : goal.returns-then-eq-4-clause-passes
 returns-then-eq-4-clause-passes c =
-    let w = written_of c.args.source.now in
+    let w = written_of c.args.input.now in
     let f = c.args.field.now in
     let name : token_text w f.name ≡ codes "domain_reduction_strategy" = same_name _ _ _ _ c.eq-else-eq-3.result c.eq-else-eq-3.ensures c.if-eq-4.true c.token_text-name.ensures c.as_slice-else-eq-3.ensures in
     slot_passes w strategy_message f (member DomainReduction) c.set_select.result (λ (before : List (List ℕ)). IsStrategyGiven c.args.parts.now before) (λ (before : List (List ℕ)). IsStrategyGiven (record c.args.parts.now { select = c.set_select.new.slot }) before)
@@ -121,7 +121,7 @@ returns-then-eq-4-clause-passes c =
 
 pub returns-then-eq-4-clause-read : goal.returns-then-eq-4-clause-read
 returns-then-eq-4-clause-read c =
-    let w = written_of c.args.source.now in
+    let w = written_of c.args.input.now in
     let f = c.args.field.now in
     let name : token_text w f.name ≡ codes "domain_reduction_strategy" = same_name _ _ _ _ c.eq-else-eq-3.result c.eq-else-eq-3.ensures c.if-eq-4.true c.token_text-name.ensures c.as_slice-else-eq-3.ensures in
     on_ok_weaker c.set_select.result
@@ -131,7 +131,7 @@ returns-then-eq-4-clause-read c =
 
 pub returns-then-eq-4-clause-err : goal.returns-then-eq-4-clause-err
 returns-then-eq-4-clause-err c =
-    let w = written_of c.args.source.now in
+    let w = written_of c.args.input.now in
     let f = c.args.field.now in
     let name : token_text w f.name ≡ codes "domain_reduction_strategy" = same_name _ _ _ _ c.eq-else-eq-3.result c.eq-else-eq-3.ensures c.if-eq-4.true c.token_text-name.ensures c.as_slice-else-eq-3.ensures in
     slot_stops w strategy_message f (member DomainReduction) c.set_select.result (λ (before : List (List ℕ)). IsStrategyGiven c.args.parts.now before)
@@ -139,7 +139,7 @@ returns-then-eq-4-clause-err c =
 
 pub returns-else-eq-4-clause-err : goal.returns-else-eq-4-clause-err
 returns-else-eq-4-clause-err c = λ before given.
-    let w = written_of c.args.source.now in
+    let w = written_of c.args.input.now in
     let f = c.args.field.now in
     let text = token_text w f.name in
     let name = c.token_text-name in
@@ -148,4 +148,4 @@ returns-else-eq-4-clause-err c = λ before given.
     (other_text name.result.now c.as_slice-else-eq.result.now text (codes "variables") c.eq-else-eq.result c.eq-else-eq.ensures c.if-eq-2.false name.ensures c.as_slice-else-eq.ensures)
     (other_text name.result.now c.as_slice-else-eq-2.result.now text (codes "variable_selection_strategy") c.eq-else-eq-2.result c.eq-else-eq-2.ensures c.if-eq-3.false name.ensures c.as_slice-else-eq-2.ensures)
     (other_text name.result.now c.as_slice-else-eq-3.result.now text (codes "domain_reduction_strategy") c.eq-else-eq-3.result c.eq-else-eq-3.ensures c.if-eq-4.false name.ensures c.as_slice-else-eq-3.ensures) in
-    rw c.not_read.ensures (not_read_stops w strategy_message f other before)
+    rw c.refused_field.ensures (refused_stops w strategy_message f other before)

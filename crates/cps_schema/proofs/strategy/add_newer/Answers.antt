@@ -1,6 +1,6 @@
 use Rattle.std.proofs.Common.{◌≡◌, true, false, ◌∙◌}
 use Rattle.cps_schema.specs.declared.form.Form.TheVariants.{Newer}
-use Rattle.cps_schema.specs.Sources.{written_of}
+use Rattle.cps_schema.specs.Inputs.{written_of}
 use Rattle.cps_schema.specs.Tables.{message, expression_message}
 use Rattle.cps_schema.specs.Parts.{is_other}
 use Rattle.cps_schema.proofs.Forms.{formed_ok, formed_err, mixed_stops}
@@ -9,14 +9,14 @@ use Rattle.cps_schema.proofs.strategy.add_newer.Goals as goal
 pub returns-in-Ok-clause-passes : goal.returns-in-Ok-clause-passes
 returns-in-Ok-clause-passes c =
     let alone : is_other c.args.form.now Newer ≡ false = c.in-Ok.ensures.same in
-    formed_ok (written_of c.args.source.now) c.args.field.now Newer (message expression_message) (is_other c.args.form.now Newer) c.add_messages.result alone c.add_messages.ensures.fault
+    formed_ok (written_of c.args.input.now) c.args.field.now Newer (message expression_message) (is_other c.args.form.now Newer) c.add_messages.result alone c.add_messages.ensures.fault
 
 pub returns-in-Ok-clause-err : goal.returns-in-Ok-clause-err
 returns-in-Ok-clause-err c =
     let alone : is_other c.args.form.now Newer ≡ false = c.in-Ok.ensures.same in
-    formed_err (written_of c.args.source.now) c.args.field.now Newer (message expression_message) (is_other c.args.form.now Newer) c.add_messages.result alone c.add_messages.ensures.err
+    formed_err (written_of c.args.input.now) c.args.field.now Newer (message expression_message) (is_other c.args.form.now Newer) c.add_messages.result alone c.add_messages.ensures.err
 
 pub returns-in-Err-clause-err : goal.returns-in-Err-clause-err
 returns-in-Err-clause-err c = λ m before takes is.
     let mixed : is_other c.args.form.now Newer ≡ true = c.in-Err.ensures.other in
-    rw c.in-Err.ensures.err (mixed_stops (written_of c.args.source.now) m before c.args.field.now Newer (message expression_message) takes (is ∙ mixed))
+    rw c.in-Err.ensures.err (mixed_stops (written_of c.args.input.now) m before c.args.field.now Newer (message expression_message) takes (is ∙ mixed))

@@ -1,7 +1,7 @@
 use Rattle.std.proofs.Common.{◌≡◌, ◌+◌, [], arith, drop, refl, sym, ap, ◌∙◌}
 use Rattle.std.proofs.lemmas.Grind.{common_steps}
 use Rattle.cps_textproto.specs.Trees.{field_list, no_fields}
-use Rattle.cps_schema.specs.Sources.{written_of}
+use Rattle.cps_schema.specs.Inputs.{written_of}
 use Rattle.cps_schema.specs.Readings.{read_strategy}
 use Rattle.cps_schema.specs.Parts.{strategy_from}
 use Rattle.cps_schema.specs.Tables.{is_given}
@@ -19,7 +19,7 @@ returns-in_err-add_field-clause-err c =
 
 pub returns-clause-reading : goal.returns-clause-reading
 returns-clause-reading c =
-    let w = written_of c.args.source.now in
+    let w = written_of c.args.input.now in
     let items = c.fields_of-field-items.result.now in
     let past : drop c.loop-field.field-index items ≡ [] = grind (arith, common_steps) in
     let read : read_strategy w (field_list items) ≡ strategy_from w c.loop-field.parts no_fields =

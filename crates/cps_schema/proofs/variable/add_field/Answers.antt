@@ -3,19 +3,19 @@ use Rattle.std.proofs.Common.{◌≡◌, ◌++◌, List, ℕ, codes, None, true,
 use Rattle.std.proofs.lemmas.Result.{on_ok_weaker}
 use Rattle.cps_textproto.specs.Trees.{values_of}
 use Rattle.cps_schema.specs.declared.number.Number.TheVariants.{Int64}
-use Rattle.cps_schema.specs.Sources.{written_of}
+use Rattle.cps_schema.specs.Inputs.{written_of}
 use Rattle.cps_schema.specs.Written.{token_text}
 use Rattle.cps_schema.specs.Tables.{variable_message, number, text, use_in, table_of}
 use Rattle.cps_schema.specs.Readings.{value_numbers, value_texts}
 use Rattle.cps_schema.specs.Parts.{variable_slots}
-use Rattle.cps_schema.proofs.Steps.{same_name, table_use, repeated_passes, repeated_stops, not_read_stops, if_passes, if_stops}
+use Rattle.cps_schema.proofs.Steps.{same_name, table_use, repeated_passes, repeated_stops, refused_stops, if_passes, if_stops}
 use Rattle.cps_schema.specs.Slots.{AreGivenSlots}
 use Rattle.cps_schema.proofs.Slots.{given_after, slot_passes, slot_stops}
 use Rattle.cps_schema.proofs.variable.add_field.Goals as goal
 
 pub returns-then-eq-clause-passes : goal.returns-then-eq-clause-passes
 returns-then-eq-clause-passes c =
-    let w = written_of c.args.source.now in
+    let w = written_of c.args.input.now in
     let f = c.args.field.now in
     let name : token_text w f.name ≡ codes "name" = same_name _ _ _ _ c.eq.result c.eq.ensures c.if-eq.true c.token_text-name.ensures c.as_slice.ensures in
     slot_passes w variable_message f (text) c.set_name.result (λ (before : List (List ℕ)). AreGivenSlots (variable_slots c.args.parts.now) before) (λ (before : List (List ℕ)). AreGivenSlots (variable_slots (record c.args.parts.now { name = c.set_name.new.slot })) before)
@@ -28,7 +28,7 @@ returns-then-eq-clause-passes c =
 
 pub returns-then-eq-clause-read : goal.returns-then-eq-clause-read
 returns-then-eq-clause-read c =
-    let w = written_of c.args.source.now in
+    let w = written_of c.args.input.now in
     let f = c.args.field.now in
     let name : token_text w f.name ≡ codes "name" = same_name _ _ _ _ c.eq.result c.eq.ensures c.if-eq.true c.token_text-name.ensures c.as_slice.ensures in
     on_ok_weaker c.set_name.result
@@ -38,7 +38,7 @@ returns-then-eq-clause-read c =
 
 pub returns-then-eq-clause-err : goal.returns-then-eq-clause-err
 returns-then-eq-clause-err c =
-    let w = written_of c.args.source.now in
+    let w = written_of c.args.input.now in
     let f = c.args.field.now in
     let name : token_text w f.name ≡ codes "name" = same_name _ _ _ _ c.eq.result c.eq.ensures c.if-eq.true c.token_text-name.ensures c.as_slice.ensures in
     slot_stops w variable_message f (text) c.set_name.result (λ (before : List (List ℕ)). AreGivenSlots (variable_slots c.args.parts.now) before)
@@ -46,7 +46,7 @@ returns-then-eq-clause-err c =
 
 pub returns-then-eq-2-clause-passes : goal.returns-then-eq-2-clause-passes
 returns-then-eq-2-clause-passes c =
-    let w = written_of c.args.source.now in
+    let w = written_of c.args.input.now in
     let f = c.args.field.now in
     let name : token_text w f.name ≡ codes "domain" = same_name _ _ _ _ c.eq-else-eq.result c.eq-else-eq.ensures c.if-eq-2.true c.token_text-name.ensures c.as_slice-else-eq.ensures in
     if_passes w variable_message f (λ (before : List (List ℕ)). AreGivenSlots (variable_slots c.args.parts.now) before) (λ (before : List (List ℕ)). AreGivenSlots (variable_slots c.args.parts.now) before) c.add_ints.result
@@ -55,7 +55,7 @@ returns-then-eq-2-clause-passes c =
 
 pub returns-then-eq-2-clause-read : goal.returns-then-eq-2-clause-read
 returns-then-eq-2-clause-read c =
-    let w = written_of c.args.source.now in
+    let w = written_of c.args.input.now in
     let f = c.args.field.now in
     let name : token_text w f.name ≡ codes "domain" = same_name _ _ _ _ c.eq-else-eq.result c.eq-else-eq.ensures c.if-eq-2.true c.token_text-name.ensures c.as_slice-else-eq.ensures in
     on_ok_weaker c.add_ints.result
@@ -65,7 +65,7 @@ returns-then-eq-2-clause-read c =
 
 pub returns-then-eq-2-clause-err : goal.returns-then-eq-2-clause-err
 returns-then-eq-2-clause-err c =
-    let w = written_of c.args.source.now in
+    let w = written_of c.args.input.now in
     let f = c.args.field.now in
     let name : token_text w f.name ≡ codes "domain" = same_name _ _ _ _ c.eq-else-eq.result c.eq-else-eq.ensures c.if-eq-2.true c.token_text-name.ensures c.as_slice-else-eq.ensures in
     if_stops w variable_message f (λ (before : List (List ℕ)). AreGivenSlots (variable_slots c.args.parts.now) before) c.add_ints.result
@@ -73,7 +73,7 @@ returns-then-eq-2-clause-err c =
 
 pub returns-else-eq-2-clause-err : goal.returns-else-eq-2-clause-err
 returns-else-eq-2-clause-err c = λ before given.
-    let w = written_of c.args.source.now in
+    let w = written_of c.args.input.now in
     let f = c.args.field.now in
     let other : use_in (table_of variable_message) (token_text w f.name) ≡ None = grind (arith) in
-    rw c.not_read.ensures (not_read_stops w variable_message f other before)
+    rw c.refused_field.ensures (refused_stops w variable_message f other before)

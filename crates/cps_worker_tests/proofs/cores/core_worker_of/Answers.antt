@@ -7,12 +7,12 @@ use Rattle.cps_instance.specs.declared.task.Task.{Task}
 use Rattle.cps_instance.specs.Strategies.{model_sums}
 use Rattle.cps_kinds.specs.Kinds.{has_propagator}
 use Rattle.cps_kinds.proofs.Having.{first_tasks-have}
-use Rattle.cps_search.specs.declared.end.Said.{Said}
+use Rattle.cps_search.specs.declared.end.Phase.{Phase}
 use Rattle.cps_search.specs.Ends.{IsOver}
 use Rattle.cps_search.specs.Searches.{Search}
 use Rattle.cps_core_guided.specs.CoreTurns.{BeginsCore}
 use Rattle.cps_core_guided.specs.Reforming.{CoreSearch, whole}
-use Rattle.cps_core_guided.proofs.CoreTurning.{said-search}
+use Rattle.cps_core_guided.proofs.CoreTurning.{phase-search}
 use Rattle.cps_portfolio.proofs.Room.{few_subjects}
 use Rattle.cps_worker_tests.proofs.cores.core_worker_of.Goals as goal
 
@@ -33,8 +33,8 @@ returns-clause-model c =
 pub returns-clause-running : goal.returns-clause-running
 returns-clause-running c =
     IfOk-weaker c.new.result (λ (w : CoreSearch × ByActivity). BeginsCore c.in_ok-instance.instance 0 10000 w.0)
-    (λ (w : CoreSearch × ByActivity). IsOver (whole w.0).said → ⊥)
-    (λ w b over. subst (λ (x : Said). IsOver x) (said-search w.0 b.ended ∙ ap (λ (x : Search). x.said) b.search) over) c.new.ensures.begins
+    (λ (w : CoreSearch × ByActivity). IsOver (whole w.0).phase → ⊥)
+    (λ w b over. subst (λ (x : Phase). IsOver x) (phase-search w.0 b.ended ∙ ap (λ (x : Search). x.phase) b.search) over) c.new.ensures.begins
 
 pub returns-clause-imported : goal.returns-clause-imported
 returns-clause-imported c =

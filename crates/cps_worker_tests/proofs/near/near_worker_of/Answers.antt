@@ -22,8 +22,8 @@ returns-clause-model c =
 
 pub returns-clause-running : goal.returns-clause-running
 returns-clause-running c =
-    IfOk-weaker c.new.result (λ (w : Near). BeginsNear c.in_ok-instance.instance 0 c.args.conflicts (draws_of 1 (16 + 3)) w) (λ (w : Near). IsOver w.search.said → ⊥)
-    (λ w b over. subst (λ (x : Search). IsOver x.said) b.search over) c.new.ensures.begins
+    IfOk-weaker c.new.result (λ (w : Near). BeginsNear c.in_ok-instance.instance 0 c.args.conflicts (draws_of 1 (16 + 3)) w) (λ (w : Near). IsOver w.search.phase → ⊥)
+    (λ w b over. subst (λ (x : Search). IsOver x.phase) b.search over) c.new.ensures.begins
 
 pub returns-clause-imported : goal.returns-clause-imported
 returns-clause-imported c =

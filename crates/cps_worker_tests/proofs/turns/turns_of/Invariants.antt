@@ -6,7 +6,7 @@ use Rattle.cps_worker_tests.proofs.turns.turns_of.Given as goal
 
 abbrev pub invariant-loop : goal.invariant-loop
 invariant-loop g l = record {
-  running : IsOver l.worker.0.said → ⊥;
+  running : IsOver l.worker.0.phase → ⊥;
   model : g.Q.Port.model l.port ≡ l.worker.0.instance.model;
   imported : l.worker.0.imported ≤ length (g.Q.Port.part l.port).board.taken;
   keeps : Keeps g.Q.Port.model g.Q.Port.rows g.Q.Port.stays l.fn.port l.port;

@@ -11,4 +11,4 @@ returns-in-Ok c =
 
 pub returns-in-Err : goal.returns-in-Err
 returns-in-Err c =
-    refuses IsModelText Prints c.args.bytes.now c.in-Err.unread c.unread_answer.result c.in-Err.ensures.err c.unread_answer.ensures
+    refuses IsModelText Prints c.args.bytes.now c.in-Err.input_error c.input_error_answer.result c.in-Err.ensures.err c.input_error_answer.ensures

@@ -10,4 +10,4 @@ returns-in-Ok g c =
 
 pub returns-in-Err : goal.returns-in-Err
 returns-in-Err g c =
-    refuses IsInput (Solves c.args.options.now) c.args.bytes.now c.in-Err.unread c.unread_answer.result c.in-Err.ensures.err c.unread_answer.ensures
+    refuses IsInput (Solves c.args.options.now) c.args.bytes.now c.in-Err.input_error c.input_error_answer.result c.in-Err.ensures.err c.input_error_answer.ensures

@@ -7,7 +7,7 @@ use Rattle.cps_model.specs.Validity.{IsValid}
 use Rattle.cps_model.proofs.Start.{objective_start-small}
 use Rattle.cps_port.specs.Words.{top, word_of}
 use Rattle.cps_port.proofs.InOrder.{has_word_at}
-use Rattle.cps_port.proofs.SoundCore.{start_floor}
+use Rattle.cps_port.proofs.SoundShared.{start_floor}
 use Rattle.cps_bounds.specs.Rule.{Kept, first_view}
 use Rattle.cps_bounds.proofs.Keeps.{opens}
 use Rattle.cps_bounds.proofs.seats.Bounds.new.Goals as goal

@@ -1,7 +1,7 @@
 use Rattle.std.proofs.Common.{ℕ, List, [], ◌∷◌, ◌++◌, map, sym, ◌∙◌, ap, subst}
 use Rattle.cps_literal.specs.declared.atom.Atom.{Atom}
 use Rattle.cps_literal.specs.Table.{Numbers}
-use Rattle.cps_clauses.specs.Spans.{atom_in}
+use Rattle.cps_clauses.specs.AtomRanges.{atom_in}
 use Rattle.cps_clauses.proofs.Numbered.{AreIn, atoms_kept, atoms_pushed, numbers_pushed}
 use Rattle.cps_clauses.proofs.atoms.AtomList.push.Goals as goal
 

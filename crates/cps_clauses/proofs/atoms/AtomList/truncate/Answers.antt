@@ -1,7 +1,7 @@
 use Rattle.std.proofs.Common.{ℕ, List, map, take, sym, ◌∙◌, ap}
 use Rattle.std.proofs.lemmas.List.{take-map}
 use Rattle.cps_literal.specs.declared.atom.Atom.{Atom}
-use Rattle.cps_clauses.specs.Spans.{atom_in}
+use Rattle.cps_clauses.specs.AtomRanges.{atom_in}
 use Rattle.cps_clauses.proofs.atoms.AtomList.truncate.Goals as goal
 
 pub returns : goal.returns

@@ -1,4 +1,3 @@
-
 use Rattle.cps_core_guided.proofs.guided.Guided.raise.Goals as goal
 
 pub returns-clause-keeps : goal.returns-clause-keeps

@@ -23,8 +23,8 @@ pub returns-clause-is : goal.returns-clause-is
 returns-clause-is g c =
     let x = c.self.inside.guided in
     let s = with_refused (core_search_of x) c.self.inside.refused in
-    let e : Ending = c.finish_as_said.result in
-    let is : e ≡ ending CoreGuided None e.end x.frame = c.finish_as_said.ensures.is in
+    let e : Ending = c.finish_ended.result in
+    let is : e ≡ ending CoreGuided None e.end x.frame = c.finish_ended.ensures.is in
     ap (λ (y : Ending). record y { raised = greater_of y.raised x.raised }) is
     ∙ ap (λ (core : List ℤ). record (core_ending e.end s) { core = core }) (sym (core-of-frame s c.if-ended.false))
     ∙ ap (λ (v : _). core_ending e.end v.0) c.self.view_is

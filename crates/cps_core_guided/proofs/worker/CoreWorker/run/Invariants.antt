@@ -9,7 +9,7 @@ use Rattle.cps_core_guided.proofs.worker.CoreWorker.run.Given as goal
 
 abbrev pub invariant-turns : goal.invariant-turns
 invariant-turns g l = record {
-  running : IsOver (whole l.self.0).said → ⊥;
+  running : IsOver (whole l.self.0).phase → ⊥;
   run : HasCoreRun l.fn.self.0 l.self.0 (g.Q.Port.part l.fn.port) (g.Q.Port.part l.port);
   turns : TakesCoreTurns g.B.Brancher.chooses g.B.Brancher.hears g.B.Brancher.stays (g.Q.Port.rows l.fn.port) l.fn.self (g.Q.Port.part l.fn.port) l.self (g.Q.Port.part l.port);
   keeps : Keeps g.Q.Port.model g.Q.Port.rows g.Q.Port.stays l.fn.port l.port;

@@ -9,7 +9,7 @@ use Rattle.cps_neighbourhood.proofs.near.NearWorker.run.Given as goal
 
 abbrev pub invariant-turns : goal.invariant-turns
 invariant-turns g l = record {
-  running : IsOver l.self.search.said → ⊥;
+  running : IsOver l.self.search.phase → ⊥;
   run : HasNearRun l.fn.self l.self (g.Q.Port.part l.fn.port) (g.Q.Port.part l.port);
   turns : TakesNearTurns (g.Q.Port.rows l.fn.port) l.fn.self (g.Q.Port.part l.fn.port) l.self (g.Q.Port.part l.port);
   keeps : Keeps g.Q.Port.model g.Q.Port.rows g.Q.Port.stays l.fn.port l.port;

@@ -3,7 +3,7 @@ use mir.Facts.{to_z-of_z}
 use Rattle.cps_model.specs.declared.bound.Bound.TheVariants.{At}
 use Rattle.cps_port.specs.declared.event.Event.TheVariants.{Offer}
 use Rattle.cps_port.specs.Order.{lesser}
-use Rattle.cps_port.specs.Cores.{after}
+use Rattle.cps_port.specs.Shared.{after}
 use Rattle.cps_port.proofs.Porting.{offer_part}
 use Rattle.cps_port.proofs.Acting.{acts}
 use Rattle.cps_port.proofs.plain_port.PlainPortPort.offer.Goals as goal

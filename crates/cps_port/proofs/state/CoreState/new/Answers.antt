@@ -2,7 +2,7 @@
 use Rattle.std.proofs.Common.{◌≡◌, ◌∙◌, ◌<◌, ◌^◌, subst, arith, to_z, of_z, w64, unsigned_abs, ℤ}
 use Rattle.std.proofs.lemmas.Int.{ints}
 use Rattle.cps_model.specs.Validity.{IsValid}
-use Rattle.cps_port.proofs.SoundCore.{sound_of, stays_sound}
+use Rattle.cps_port.proofs.SoundShared.{sound_of, stays_sound}
 use Rattle.cps_port.proofs.Storing.{begins, begins_whole}
 use Rattle.cps_port.proofs.state.CoreState.new.Goals as goal
 

@@ -8,7 +8,7 @@ use Rattle.cps_portfolio.proofs.worker.AnyWorker.run.Given as goal
 
 abbrev pub invariant-turns : goal.invariant-turns
 invariant-turns g l = record {
-  running : IsOver (worker_search l.self).said → ⊥;
+  running : IsOver (worker_search l.self).phase → ⊥;
   turns : TakesTurnsAs (g.Q.Port.rows l.fn.port) (known_of l.fn.self) (known_of l.self) (g.Q.Port.part l.fn.port) (g.Q.Port.part l.port);
   kind : kind_of l.self ≡ kind_of l.fn.self;
   keeps : Keeps g.Q.Port.model g.Q.Port.rows g.Q.Port.stays l.fn.port l.port;

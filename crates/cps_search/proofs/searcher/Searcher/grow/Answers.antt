@@ -8,7 +8,7 @@ use Rattle.cps_instance.specs.Sums.{DefinedSum}
 use Rattle.cps_instance.specs.Terms.{Domains, terms_reach}
 use Rattle.cps_trail.specs.Trail.{IsSound}
 use Rattle.cps_propagate.specs.Agenda.{Agenda}
-use Rattle.cps_search.specs.declared.end.Said.TheVariants.{Nothing}
+use Rattle.cps_search.specs.declared.end.Phase.TheVariants.{Stepping}
 use Rattle.cps_search.specs.Growing.{GrewBy}
 use Rattle.cps_search.specs.Searches.{Search, IsSoundSearch}
 use Rattle.cps_search.specs.Searching.{search_of}
@@ -44,7 +44,7 @@ returns-clause-grew g c =
     let defines : Defines s.instance c.define.new.self sum subject = subst (λ (x : ℤ). Defines s.instance c.define.new.self (record { terms = c.args.terms.now; offset = x }) subject) same c.in_ok-subject.ensures.ok in
     let tasks : c.add_sum.new.self.tasks ≡ s.tasks ++ sum_task subject sum ∷ [] =
     ap (λ (e : Agenda). e.tasks) c.in_ok-add_sum.ensures.adds ∙ ap (λ (x : ℤ). s.tasks ++ sum_task subject (record { terms = c.args.terms.now; offset = x }) ∷ []) same in
-    let t : Search = record s { instance = c.define.new.self; store = c.add.new.self; tasks = c.add_sum.new.self.tasks; rested = record s.rested { tasks = None }; said = Nothing } in
+    let t : Search = record s { instance = c.define.new.self; store = c.add.new.self; tasks = c.add_sum.new.self.tasks; rested = record s.rested { tasks = None }; phase = Stepping } in
     let grew : GrewBy s t sum subject = record {
       defines = defines;
       is = grown_is s c.define.new.self sum subject (intervals c.in_ok-domain.domain) c.add.new.self c.add_sum.new.self.tasks defines sound c.in_ok-domain.ensures c.in_ok-add.ensures.adds tasks;

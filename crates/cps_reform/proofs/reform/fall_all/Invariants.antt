@@ -1,6 +1,0 @@
-use Rattle.std.proofs.Common.{◌≡◌, ◌++◌, take, drop, map}
-use Rattle.cps_reform.specs.Cores.{fallen}
-use Rattle.cps_reform.proofs.reform.fall_all.Given as goal
-
-abbrev pub invariant-loop-term : goal.invariant-loop-term
-invariant-loop-term l = l.terms ≡ map (fallen l.weight) (take l.term-index l.initial.terms) ++ drop l.term-index l.initial.terms

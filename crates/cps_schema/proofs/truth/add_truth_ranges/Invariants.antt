@@ -1,0 +1,14 @@
+use Rattle.std.specs.Prelude.{◌≡◌, ◌++◌, Some, drop}
+use Rattle.cps_textproto.specs.Trees.{range_values}
+use Rattle.cps_schema.specs.Inputs.{written_of}
+use Rattle.cps_schema.specs.Tables.{truth}
+use Rattle.cps_schema.specs.Faults.{values_fault}
+use Rattle.cps_schema.specs.Readings.{value_truths}
+use Rattle.cps_schema.proofs.truth.add_truth_ranges.Given as goal
+
+abbrev pub invariant-loop-token_range : goal.invariant-loop-token_range
+invariant-loop-token_range l =
+    (values_fault (written_of l.input) (Some truth) (range_values l.token_ranges)
+    ≡ values_fault (written_of l.input) (Some truth) (range_values (drop l.token_range-index l.token_ranges)))
+    × (l.initial.list.items ++ value_truths (written_of l.input) (range_values l.token_ranges)
+    ≡ l.list.items ++ value_truths (written_of l.input) (range_values (drop l.token_range-index l.token_ranges)))
