@@ -3,13 +3,15 @@
 //! The type carries the proof: whoever has a `ValidModel` knows that its model is valid, and nothing is tested twice.
 //! `validate` takes the model by value, since a model that is refused is of no further use. Faults are looked for part
 //! by part in the order in which they are named, and the first one ends the search.
-ghost use Rattle.std.specs.Prelude.{◌≡◌, ◌≤◌, ◌<◌, ◌^◌, IfOk, IfErr, length};
+ghost use Rattle.std.specs.Prelude.{◌≡◌, ◌≤◌, ◌<◌, ◌^◌, IfOk, IfErr, length, option_map};
 ghost use Rattle.cps_model.specs.Validity.{most_items, variable_fault, constraint_fault, strategy_fault, assumption_fault, first_faulty, first_invalid, IsValid};
+ghost use Rattle.cps_validate.specs.Numbers.{with_number};
 ghost use Rattle.cps_validate.specs.Refusals.{IsRefusalOf};
 
 use crate::places::{
     assumption_fault, constraint_fault, hint_fault, objective_fault, strategy_fault, variable_fault,
 };
+use crate::rule::Rule;
 use crate::size::size_fault;
 use cps_model::{Constraint, CpModel, Place, Strategy, Variable};
 use std::alloc::{AllocError, Global};
@@ -65,9 +67,9 @@ impl From<AllocError> for ValidateError {
 }
 
 /// The first variable that breaks a rule.
-fn variables_fault(variables: &[Variable]) -> Option<(u8, Place)>
+fn variables_fault(variables: &[Variable]) -> Option<(Rule, Place)>
     requires { length variables.now ≤ most_items }
-    ensures { result ≡ first_faulty variable_fault Place.Variable 0 variables.now }
+    ensures { option_map with_number result ≡ first_faulty variable_fault Place.Variable 0 variables.now }
 {
     for (i, variable) in variables.iter().enumerate() {
         if let Some(rule) = variable_fault(variable) {
@@ -82,9 +84,9 @@ fn constraints_fault(
     alloc: Global,
     variables: &[Variable],
     constraints: &[Constraint],
-) -> Result<Option<(u8, Place)>, AllocError>
+) -> Result<Option<(Rule, Place)>, AllocError>
     requires { length constraints.now ≤ most_items }
-    ensures { IfOk result (λ fault. fault
+    ensures { IfOk result (λ fault. option_map with_number fault
         ≡ first_faulty (constraint_fault variables.now constraints.now) Place.Constraint 0 constraints.now) }
 {
     for (i, constraint) in constraints.iter().enumerate() {
@@ -96,9 +98,9 @@ fn constraints_fault(
 }
 
 /// The first strategy that breaks a rule.
-fn strategies_fault(variables: &[Variable], strategies: &[Strategy]) -> Option<(u8, Place)>
+fn strategies_fault(variables: &[Variable], strategies: &[Strategy]) -> Option<(Rule, Place)>
     requires { length strategies.now < 2 ^ 32 }
-    ensures { result ≡ first_faulty (strategy_fault variables.now) Place.Strategy 0 strategies.now }
+    ensures { option_map with_number result ≡ first_faulty (strategy_fault variables.now) Place.Strategy 0 strategies.now }
 {
     for (i, strategy) in strategies.iter().enumerate() {
         if let Some(rule) = strategy_fault(variables, strategy) {
@@ -109,9 +111,9 @@ fn strategies_fault(variables: &[Variable], strategies: &[Strategy]) -> Option<(
 }
 
 /// The first assumption that breaks a rule.
-fn assumptions_fault(variables: &[Variable], assumptions: &[i32]) -> Option<(u8, Place)>
+fn assumptions_fault(variables: &[Variable], assumptions: &[i32]) -> Option<(Rule, Place)>
     requires { length assumptions.now < 2 ^ 32 }
-    ensures { result ≡ first_faulty (assumption_fault variables.now) Place.Assumption 0 assumptions.now }
+    ensures { option_map with_number result ≡ first_faulty (assumption_fault variables.now) Place.Assumption 0 assumptions.now }
 {
     for (i, literal) in assumptions.iter().enumerate() {
         if let Some(rule) = assumption_fault(variables, *literal) {
@@ -122,8 +124,8 @@ fn assumptions_fault(variables: &[Variable], assumptions: &[i32]) -> Option<(u8,
 }
 
 /// The rule that is broken first, with its place.
-fn first_invalid(alloc: Global, model: &CpModel) -> Result<Option<(u8, Place)>, AllocError>
-    ensures { IfOk result (λ fault. fault ≡ first_invalid model.now) }
+fn first_invalid(alloc: Global, model: &CpModel) -> Result<Option<(Rule, Place)>, AllocError>
+    ensures { IfOk result (λ fault. option_map with_number fault ≡ first_invalid model.now) }
 {
     if let Some(rule) = size_fault(model) {
         return Ok(Some((rule, Place::Model)));
@@ -155,6 +157,9 @@ pub fn validate(alloc: Global, model: CpModel) -> Result<ValidModel, ValidateErr
 {
     match first_invalid(alloc, &model)? {
         None => Ok(ValidModel { model }),
-        Some((rule, place)) => Err(ValidateError::Invalid { rule, place }),
+        Some((rule, place)) => Err(ValidateError::Invalid {
+            rule: rule.number(),
+            place,
+        }),
     }
 }
