@@ -1,6 +1,6 @@
 -- Clauses that deny facts: conflicts and reasons.
-use Rattle.std.proofs.Common.{ℕ, ◌+◌, ◌<◌, ℤ, ◌≡◌, ◌≢◌, ◌⊎◌, Bool, true, false, not, ◌||◌, ◌&&◌, List, [], ◌∷◌, ◌++◌, length, take, get_or, refl, sym, ◌∙◌, ap, subst, inl, inr, arith, true≢false}
-use Rattle.std.specs.List.{All, Contains}
+use Rattle.std.proofs.Common.{ℕ, ◌+◌, ◌<◌, ℤ, ◌≡◌, Bool, true, false, not, ◌||◌, List, [], ◌∷◌, ◌++◌, length, take, get_or, refl, sym, ◌∙◌, ap, subst, inl, inr, arith, true≢false}
+use Rattle.std.specs.List.{Contains}
 use Rattle.std.proofs.lemmas.List.Folds.{list_any-append}
 use Rattle.std.proofs.lemmas.List.Elements.{All-nil, All-push, All-append, All-more, All-weaker, All-contains_itself, Contains-push_cases, Contains-push}
 use Rattle.cps_literal.specs.declared.atom.Atom.{Atom}

@@ -1,18 +1,16 @@
 -- Enforcement atoms: which are true, and what follows where one is left.
 use Rattle.std.specs.Prelude.{◌&&◌, not, is_some, All, Option, Some, None}
 use Rattle.std.specs.List.{list_all}
-use Rattle.std.proofs.Common.{◌≡◌, ◌≢◌, ◌⊎◌, inl, inr, ℕ, ◌+◌, ◌<◌, ◌≤◌, ℤ, pos, arith, Bool, true, false, ap, refl, sym, ◌∙◌, List, [], ◌∷◌, ◌++◌, length, take, drop, get_or, subst}
+use Rattle.std.proofs.Common.{◌≡◌, ◌≢◌, ◌⊎◌, inl, inr, ℕ, ◌+◌, ◌<◌, ◌≤◌, ℤ, arith, Bool, true, false, ap, refl, sym, ◌∙◌, List, [], ◌∷◌, ◌++◌, length, take, drop, get_or, subst}
 use Rattle.std.proofs.lemmas.List.{get_or_default, length-take-le, get_or-take, get_or-drop, length-drop, take-append-drop, drop_more}
 use Rattle.std.proofs.lemmas.List.Folds.{list_all-append}
 use Rattle.std.proofs.lemmas.List.Elements.{All-append, All-nil, All-cons, All-head, All-tail}
 use Rattle.std.proofs.lemmas.List.Sums.{list_all-from_AllPass}
 use Rattle.cps_literal.specs.declared.atom.Atom.{Atom}
-use Rattle.cps_literal.specs.declared.atom.Op.TheVariants.{Le}
 use Rattle.cps_literal.specs.Truth.{meets, value_at, atom_holds}
 use Rattle.cps_instance.specs.Tasks.{atom_subjects}
-use Rattle.cps_trail.specs.Trail.{Trail, admits, IsTrueNow, IsFalseNow, IsWithin}
+use Rattle.cps_trail.specs.Trail.{Trail, admits, IsTrueNow, IsFalseNow}
 use Rattle.cps_propagate.specs.Now.{IsFixedNow, IsOpenTo, AreOpen}
-use Rattle.cps_propagate.specs.Strength.{OthersAre}
 use Rattle.cps_rule.specs.Rules.{IsFact, AreFacts, AllTrueAt}
 use Rattle.cps_enforce.specs.Force.{IsOpenAt, IsBarred, AreNegatable, but}
 

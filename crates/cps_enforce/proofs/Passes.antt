@@ -1,6 +1,6 @@
 -- One pass over what a look found.
 use Rattle.std.specs.Prelude.{All}
-use Rattle.std.proofs.Common.{ℕ, ◌+◌, ◌<◌, ◌≡◌, List, [], ◌∷◌, length, take, get_or, sym, subst}
+use Rattle.std.proofs.Common.{ℕ, ◌+◌, ◌<◌, List, [], length, take, get_or}
 use Rattle.std.proofs.lemmas.List.Elements.{All-nil, All-more, All-weaker}
 use Rattle.cps_literal.specs.declared.atom.Atom.{Atom}
 use Rattle.cps_instance.specs.declared.task.Body.{Body}

@@ -1,6 +1,6 @@
 -- The conflict that names all that was narrowed of what a task reads.
 use Rattle.std.specs.Prelude.{All}
-use Rattle.std.proofs.Common.{ℕ, zero, suc, ◌<◌, ℤ, ◌≡◌, ◌⊎◌, Bool, true, false, List, [], ◌∷◌, length, take, get_or, refl, sym, ◌∙◌, ap, subst, inl, inr, arith, true≢false, le_refl, take_all}
+use Rattle.std.proofs.Common.{ℕ, zero, suc, ◌<◌, ℤ, ◌≡◌, true, false, List, [], ◌∷◌, length, take, get_or, refl, sym, ◌∙◌, ap, subst, inl, inr, arith, true≢false, le_refl, take_all}
 use Rattle.std.specs.List.{Contains}
 use Rattle.std.proofs.lemmas.List.Elements.{All-nil, All-weaker, All-contains_itself}
 use Rattle.cps_literal.specs.declared.atom.Atom.{Atom}

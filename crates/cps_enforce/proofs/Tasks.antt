@@ -1,7 +1,7 @@
 -- A task in force: what its body gives, what it fits, and what it is when it is settled.
 use Rattle.std.specs.Prelude.{not, All, map}
 use Rattle.std.proofs.lemmas.List.{get_or_default}
-use Rattle.std.proofs.Common.{◌≡◌, ◌≢◌, ◌⊎◌, inl, inr, ℕ, ◌<◌, ℤ, pos, ◌++◌, arith, true, false, ap, refl, sym, ◌∙◌, List, [], ◌∷◌, length, take, get_or, subst}
+use Rattle.std.proofs.Common.{◌≡◌, ◌≢◌, ◌⊎◌, inl, inr, ℕ, ◌<◌, ℤ, pos, ◌++◌, arith, true, false, sym, ◌∙◌, List, [], ◌∷◌, length, take, get_or, subst}
 use Rattle.std.proofs.lemmas.Int.{ints}
 use Rattle.std.proofs.lemmas.List.Sums.{list_all-from_AllPass}
 use Rattle.std.proofs.lemmas.List.Elements.{All-nil, All-cons, All-head, All-tail, All-weaker}
@@ -15,7 +15,7 @@ use Rattle.cps_instance.specs.Tasks.{HoldsTask, HoldsBody, atom_subjects, subjec
 use Rattle.cps_instance.specs.Fitting.{IsLiteral, IsFitting}
 use Rattle.cps_instance.proofs.Agreeing.{All-append_left, All-append_right}
 use Rattle.cps_trail.specs.Notes.{IsReason}
-use Rattle.cps_trail.specs.Trail.{Entry, Trail, Explains, first_entries, admits, IsInside, IsTrueNow, IsFalseNow, IsAdmitted, IsWithin}
+use Rattle.cps_trail.specs.Trail.{Entry, Trail, Explains, first_entries, admits, IsInside, IsTrueNow, IsFalseNow, IsAdmitted}
 use Rattle.cps_trail.specs.Adds.{Grounds, Infers, IsForced, IsConflict}
 use Rattle.cps_trail.proofs.Laws.{admits-append}
 use Rattle.cps_trail.proofs.Inferring.{Infers-refl, same_midway, stays_true}
@@ -23,13 +23,13 @@ use Rattle.cps_propagate.specs.Now.{IsFixedNow, IsOpenTo}
 use Rattle.cps_propagate.specs.Laws.{IsDecided}
 use Rattle.cps_propagate.specs.Strength.{OthersAre, IsStrong, IsExcludedBody}
 use Rattle.cps_rule.specs.declared.rule.Look.{Look}
-use Rattle.cps_rule.specs.declared.rule.Look.TheVariants.{Possible, Impossible}
-use Rattle.cps_rule.specs.Rules.{IsFittingRule, IsGiven, IsImpossible, IsFact, AreFacts, AllTrueAt, IsExplained, IsRefuted, IsSeen, IsAtRest}
+use Rattle.cps_rule.specs.declared.rule.Look.TheVariants.{Possible}
+use Rattle.cps_rule.specs.Rules.{IsFittingRule, IsGiven, IsImpossible, AreFacts, AllTrueAt, IsExplained, IsRefuted, IsSeen, IsAtRest}
 use Rattle.cps_enforce.specs.Force.{AreNegatable, IsOpenAt, IsBarred, but}
 use Rattle.cps_enforce.specs.Reasons.{task_of, Denies, IsReasonFor}
 use Rattle.cps_enforce.specs.Settling.{IsInForce, IsAside, IsResting, IsBodySettled}
 use Rattle.cps_enforce.proofs.Denials.{conflict_denied, reason_denied}
-use Rattle.cps_enforce.proofs.Forces.{but_all, but_facts, negation_given, negation_made, false_not_true, fixed_true}
+use Rattle.cps_enforce.proofs.Forces.{but_all, negation_given, false_not_true, fixed_true}
 
 abbrev pub no_atom : Atom
 no_atom = record { subject = 0; op = Le; value = pos 0 }

@@ -1,5 +1,5 @@
 -- Whether a task is in force.
-use Rattle.std.specs.Prelude.{◌≡◌, ◌≢◌, ℕ, ◌+◌, ◌<◌, List, ◌++◌, length, take, drop, slice_index_or, All}
+use Rattle.std.specs.Prelude.{ℕ, ◌+◌, ◌<◌, List, ◌++◌, length, take, drop, slice_index_or, All}
 use Rattle.cps_literal.specs.declared.atom.Atom.{Atom}
 use Rattle.cps_trail.specs.Trail.{Domains, Trail, IsInside, IsTrueNow, IsFalseNow}
 use Rattle.cps_propagate.specs.Strength.{OthersAre}

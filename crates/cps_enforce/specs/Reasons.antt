@@ -1,7 +1,7 @@
 -- Reasons of what a task gives, made of facts.
 use Rattle.std.specs.Prelude.{◌≡◌, ◌⊎◌, ◌<◌, ℤ, true, false, List, length, All, Contains}
 use Rattle.cps_literal.specs.declared.atom.Atom.{Atom}
-use Rattle.cps_literal.specs.Truth.{atom_holds, clause_holds}
+use Rattle.cps_literal.specs.Truth.{clause_holds}
 use Rattle.cps_instance.specs.declared.task.Task.{Task}
 use Rattle.cps_instance.specs.declared.task.Body.{Body}
 use Rattle.cps_trail.specs.Trail.{Trail, IsFalseNow, IsWithin, Explains}

@@ -5,11 +5,12 @@ use crate::narrow::{Header, Room};
 use crate::reasons::push_all_subjects;
 use crate::settle::run;
 use cps_literal::Atom;
-use cps_propagate::{Propagator, Wake};
+use cps_propagate::{Answer, Propagator, Wake};
 use cps_rule::{Narrowing, Rule};
-use cps_trail::{Step, Store};
+use cps_trail::Store;
 use std::alloc::{AllocError, Global};
 use std::marker::Model;
+use std::mem::swap;
 
 /// A task that a rule looks at, in force where its enforcement literals are true. Contracts see the task.
 #[derive(Drop)]
@@ -59,18 +60,29 @@ impl<R: Rule> Enforced<R> {
 impl<R: Rule> Propagator for Enforced<R> {
     ghost task = { λ t. t };
 
-    fn propagate(&mut self, number: u32, store: &mut Store) -> Result<Step, AllocError> {
+    fn propagate(
+        &mut self,
+        number: u32,
+        store: &mut Store,
+        conflict: &mut Vec<Atom>,
+    ) -> Result<Answer, AllocError> {
         let header = Header {
             number,
             enforcement: self.enforcement.as_slice(),
         };
-        run(
+        match run(
             &header,
             &mut self.rule,
             &mut self.found,
             &mut self.room,
             store,
-        )
+        )? {
+            Answer::Settled => Ok(Answer::Settled),
+            Answer::Conflict => {
+                swap(&mut self.room.conflict, conflict);
+                Ok(Answer::Conflict)
+            }
+        }
     }
 
     fn explain_into(

@@ -10,15 +10,16 @@ ghost use Rattle.cps_instance.specs.Tasks.{HoldsTask};
 ghost use Rattle.cps_trail.specs.Trail.{IsTrueNow, IsFalseNow};
 ghost use Rattle.cps_trail.specs.Adds.{Infers, Answers, IsConflict};
 ghost use Rattle.cps_trail.specs.Notes.{ByTask};
+ghost use Rattle.cps_propagate.specs.Conflicts.{as_step};
 ghost use Rattle.cps_rule.specs.Rules.{IsGiven, IsImpossible};
 ghost use Rattle.cps_enforce.specs.Reasons.{task_of};
 ghost use Rattle.cps_enforce.specs.Settling.{IsInForce, IsResting};
 
 use crate::reasons::{deny_all, give_by, push_all_subjects, refuse_by};
-use cps_literal::{Atom, Clause};
-use cps_propagate::narrow_later;
+use cps_literal::Atom;
+use cps_propagate::{Answer, narrow_later};
 use cps_rule::{Hint, Look, Narrowing, Rule};
-use cps_trail::{Note, Step, Store};
+use cps_trail::{Note, Store};
 use std::alloc::{AllocError, Global};
 
 /// A task's number, and its enforcement atoms.
@@ -31,9 +32,9 @@ pub(crate) struct Header<'a> {
 /// Room for a conflict that is being made, which is kept for the next one.
 #[derive(Drop)]
 pub(crate) struct Room {
-    alloc: Global,
     facts: Vec<Atom>,
-    reason: Vec<Atom>,
+    /// The clause of the conflict.
+    pub(crate) conflict: Vec<Atom>,
     subjects: Vec<u32>,
 }
 
@@ -41,18 +42,10 @@ impl Room {
     /// Room for a conflict.
     pub(crate) fn new(alloc: Global) -> Self {
         Room {
-            alloc,
             facts: Vec::new(alloc),
-            reason: Vec::new(alloc),
+            conflict: Vec::new(alloc),
             subjects: Vec::new(alloc),
         }
-    }
-
-    /// The conflict whose clause was made in the room.
-    fn conflict(&self) -> Result<Step, AllocError>
-        ensures { IfOk result (λ step. step ≡ Step.Conflict self.now.reason.items) }
-    {
-        Ok(Step::Conflict(Clause::from_slice(self.alloc, self.reason.as_slice())?))
     }
 }
 
@@ -66,12 +59,12 @@ fn refuse_by_past<R: Rule>(
     requires force { IsInForce store.now enforcement.now (R.body rule.now) }
     requires impossible { IsImpossible (R.body rule.now) store.now }
     ensures { OnOk result (IsConflict
-        (HoldsTask (task_of enforcement.now (R.body rule.now))) store.now room.new.reason.items) }
+        (HoldsTask (task_of enforcement.now (R.body rule.now))) store.now room.new.conflict.items) }
 {
     room.subjects.clear();
     push_all_subjects(enforcement, rule, &mut room.subjects)?;
     let place = store.entries().len();
-    deny_all(store, place, room.subjects.as_slice(), &mut room.reason)?;
+    deny_all(store, place, room.subjects.as_slice(), &mut room.conflict)?;
     Ok(())
 }
 
@@ -86,13 +79,13 @@ fn refuse<R: Rule>(
     requires force { IsInForce store.now enforcement.now (R.body rule.now) }
     requires impossible { IsImpossible (R.body rule.now) store.now }
     ensures { OnOk result (IsConflict
-        (HoldsTask (task_of enforcement.now (R.body rule.now))) store.now room.new.reason.items) }
+        (HoldsTask (task_of enforcement.now (R.body rule.now))) store.now room.new.conflict.items) }
 {
     let past = store.present();
     let is_refuted = rule.refute(&past, hint, &mut room.facts)?;
     if is_refuted {
         let facts = room.facts.as_slice();
-        refuse_by(&past, enforcement, facts, &mut room.reason)?;
+        refuse_by(&past, enforcement, facts, &mut room.conflict)?;
         return Ok(());
     }
     refuse_by_past(enforcement, rule, room, store)?;
@@ -111,14 +104,14 @@ fn contradict<R: Rule>(
     requires given { IsGiven (R.body rule.now) store.now narrowing.now.target }
     requires false_now { IsFalseNow store.now narrowing.now.target }
     ensures { OnOk result (IsConflict
-        (HoldsTask (task_of enforcement.now (R.body rule.now))) store.now room.new.reason.items) }
+        (HoldsTask (task_of enforcement.now (R.body rule.now))) store.now room.new.conflict.items) }
 {
     let past = store.present();
     let target = narrowing.target;
     let is_explained = rule.explain(&past, target, narrowing.hint, &mut room.facts)?;
     if is_explained {
         let facts = room.facts.as_slice();
-        give_by(&past, enforcement, facts, target, &mut room.reason)?;
+        give_by(&past, enforcement, facts, target, &mut room.conflict)?;
         return Ok(());
     }
     refuse_by_past(enforcement, rule, room, store)?;
@@ -132,15 +125,16 @@ fn narrow<R: Rule>(
     narrowing: &Narrowing,
     room: &mut Room,
     store: &mut Store,
-) -> Result<Step, AllocError>
+) -> Result<Answer, AllocError>
     requires force { IsInForce store.old header.now.enforcement.now (R.body rule.now) }
     requires given { IsGiven (R.body rule.now) store.old narrowing.now.target }
     ensures infers { OnOk result (Infers
         (ByTask header.now.number (HoldsTask
         (task_of header.now.enforcement.now (R.body rule.now)))) store.old store.new) }
-    ensures answers { IfOk result
-        (Answers (HoldsTask (task_of header.now.enforcement.now (R.body rule.now))) store.new) }
-    ensures made { result ≡ Ok Step.Settled → IsTrueNow store.new narrowing.now.target }
+    ensures answers { IfOk result (λ answer. Answers
+        (HoldsTask (task_of header.now.enforcement.now (R.body rule.now)))
+        store.new (as_step answer room.new.conflict.items)) }
+    ensures made { result ≡ Ok Answer.Settled → IsTrueNow store.new narrowing.now.target }
 {
     let note = Note::Task {
         task: header.number,
@@ -149,11 +143,10 @@ fn narrow<R: Rule>(
     };
     let is_made = narrow_later(store, narrowing.target, note)?;
     if is_made {
-        return Ok(Step::Settled);
+        return Ok(Answer::Settled);
     }
     contradict(header.enforcement, rule, narrowing, room, store)?;
-    let step = room.conflict()?;
-    Ok(step)
+    Ok(Answer::Conflict)
 }
 
 /// Makes true all that the body gives.
@@ -163,23 +156,24 @@ fn narrow_all<R: Rule>(
     found: &[Narrowing],
     room: &mut Room,
     store: &mut Store,
-) -> Result<Step, AllocError>
+) -> Result<Answer, AllocError>
     requires force { IsInForce store.old header.now.enforcement.now (R.body rule.now) }
     requires given { All (λ n. IsGiven (R.body rule.now) store.old n.target) found.now }
     ensures infers { OnOk result (Infers
         (ByTask header.now.number (HoldsTask
         (task_of header.now.enforcement.now (R.body rule.now)))) store.old store.new) }
-    ensures answers { IfOk result
-        (Answers (HoldsTask (task_of header.now.enforcement.now (R.body rule.now))) store.new) }
-    ensures made { result ≡ Ok Step.Settled → All (λ n. IsTrueNow store.new n.target) found.now }
+    ensures answers { IfOk result (λ answer. Answers
+        (HoldsTask (task_of header.now.enforcement.now (R.body rule.now)))
+        store.new (as_step answer room.new.conflict.items)) }
+    ensures made { result ≡ Ok Answer.Settled → All (λ n. IsTrueNow store.new n.target) found.now }
 {
     for narrowing in found {
         match narrow(header, rule, narrowing, room, store)? {
-            Step::Settled => {}
-            Step::Conflict(clause) => return Ok(Step::Conflict(clause)),
+            Answer::Settled => {}
+            Answer::Conflict => return Ok(Answer::Conflict),
         }
     }
-    Ok(Step::Settled)
+    Ok(Answer::Settled)
 }
 
 /// Looks once, and makes true what the body gives.
@@ -189,26 +183,26 @@ pub(crate) fn pass<R: Rule>(
     found: &mut Vec<Narrowing>,
     room: &mut Room,
     store: &mut Store,
-) -> Result<Step, AllocError>
+) -> Result<Answer, AllocError>
     requires force { IsInForce store.old header.now.enforcement.now (R.body rule.old) }
     ensures keeps { R.body rule.new ≡ R.body rule.old }
     ensures infers { OnOk result (Infers
         (ByTask header.now.number (HoldsTask
         (task_of header.now.enforcement.now (R.body rule.old)))) store.old store.new) }
-    ensures answers { IfOk result
-        (Answers (HoldsTask (task_of header.now.enforcement.now (R.body rule.old))) store.new) }
-    ensures rest { result ≡ Ok Step.Settled → store.new.entries ≡ store.old.entries
+    ensures answers { IfOk result (λ answer. Answers
+        (HoldsTask (task_of header.now.enforcement.now (R.body rule.old)))
+        store.new (as_step answer room.new.conflict.items)) }
+    ensures rest { result ≡ Ok Answer.Settled → store.new.entries ≡ store.old.entries
         → IsResting (R.body rule.old) store.new }
 {
     match rule.look(store, found)? {
         Look::Possible => {
-            let step = narrow_all(header, rule, found.as_slice(), room, store)?;
-            Ok(step)
+            let answer = narrow_all(header, rule, found.as_slice(), room, store)?;
+            Ok(answer)
         }
         Look::Impossible(hint) => {
             refuse(header.enforcement, rule, hint, room, store)?;
-            let step = room.conflict()?;
-            Ok(step)
+            Ok(Answer::Conflict)
         }
     }
 }

@@ -5,15 +5,16 @@ ghost use Rattle.cps_instance.specs.Tasks.{HoldsTask};
 ghost use Rattle.cps_instance.specs.Fitting.{IsFitting};
 ghost use Rattle.cps_trail.specs.Adds.{Infers, Answers};
 ghost use Rattle.cps_trail.specs.Notes.{ByTask};
+ghost use Rattle.cps_propagate.specs.Conflicts.{as_step};
 ghost use Rattle.cps_enforce.specs.Force.{IsOpenAt};
 ghost use Rattle.cps_enforce.specs.Reasons.{task_of};
 ghost use Rattle.cps_enforce.specs.Settling.{IsInForce, IsAside, IsResting, IsBodySettled};
 
 use crate::force::{Force, force_of};
 use crate::narrow::{Header, Room, pass};
-use cps_propagate::narrow_later;
+use cps_propagate::{Answer, narrow_later};
 use cps_rule::{Look, Narrowing, Rule};
-use cps_trail::{Note, Step, Store};
+use cps_trail::{Note, Store};
 use std::alloc::AllocError;
 
 /// Looks, and makes true what the body gives, until that narrows nothing.
@@ -23,24 +24,25 @@ fn settle<R: Rule>(
     found: &mut Vec<Narrowing>,
     room: &mut Room,
     store: &mut Store,
-) -> Result<Step, AllocError>
+) -> Result<Answer, AllocError>
     requires force { IsInForce store.old header.now.enforcement.now (R.body rule.old) }
     ensures keeps { R.body rule.new ≡ R.body rule.old }
     ensures infers { OnOk result (Infers
         (ByTask header.now.number (HoldsTask
         (task_of header.now.enforcement.now (R.body rule.old)))) store.old store.new) }
-    ensures answers { IfOk result
-        (Answers (HoldsTask (task_of header.now.enforcement.now (R.body rule.old))) store.new) }
-    ensures rest { result ≡ Ok Step.Settled → IsResting (R.body rule.old) store.new }
+    ensures answers { IfOk result (λ answer. Answers
+        (HoldsTask (task_of header.now.enforcement.now (R.body rule.old)))
+        store.new (as_step answer room.new.conflict.items)) }
+    ensures rest { result ≡ Ok Answer.Settled → IsResting (R.body rule.old) store.new }
 {
     loop {
         let before = store.entries().len();
         match pass(header, rule, found, room, store)? {
-            Step::Settled => {}
-            Step::Conflict(clause) => return Ok(Step::Conflict(clause)),
+            Answer::Settled => {}
+            Answer::Conflict => return Ok(Answer::Conflict),
         }
         if store.entries().len() == before {
-            return Ok(Step::Settled);
+            return Ok(Answer::Settled);
         }
     }
 }
@@ -52,19 +54,17 @@ fn disable<R: Rule>(
     rule: &mut R,
     found: &mut Vec<Narrowing>,
     store: &mut Store,
-) -> Result<Step, AllocError>
+) -> Result<(), AllocError>
     requires fits { IsFitting store.old.first (task_of header.now.enforcement.now (R.body rule.old)) }
     requires open { IsOpenAt store.old header.now.enforcement.now place }
     ensures keeps { R.body rule.new ≡ R.body rule.old }
     ensures infers { OnOk result (Infers
         (ByTask header.now.number (HoldsTask
         (task_of header.now.enforcement.now (R.body rule.old)))) store.old store.new) }
-    ensures answers { IfOk result
-        (Answers (HoldsTask (task_of header.now.enforcement.now (R.body rule.old))) store.new) }
-    ensures aside { result ≡ Ok Step.Settled → IsAside store.new header.now.enforcement.now place (R.body rule.old) }
+    ensures aside { OnOk result (IsAside store.new header.now.enforcement.now place (R.body rule.old)) }
 {
     let hint = match rule.look(store, found)? {
-        Look::Possible => return Ok(Step::Settled),
+        Look::Possible => return Ok(()),
         Look::Impossible(hint) => hint,
     };
     let negation = header.enforcement[place].negate();
@@ -81,7 +81,7 @@ fn disable<R: Rule>(
     // Reading the entries gives the proof the store's invariant: each subject has a value left, so an atom that is
     // false is not true.
     let _entries = store.entries();
-    Ok(Step::Settled)
+    Ok(())
 }
 
 /// Does what a task does to a store, by its enforcement atoms.
@@ -91,25 +91,26 @@ pub(crate) fn run<R: Rule>(
     found: &mut Vec<Narrowing>,
     room: &mut Room,
     store: &mut Store,
-) -> Result<Step, AllocError>
+) -> Result<Answer, AllocError>
     requires fits { IsFitting store.old.first (task_of header.now.enforcement.now (R.body rule.old)) }
     ensures keeps { R.body rule.new ≡ R.body rule.old }
     ensures infers { OnOk result (Infers
         (ByTask header.now.number (HoldsTask
         (task_of header.now.enforcement.now (R.body rule.old)))) store.old store.new) }
-    ensures answers { IfOk result
-        (Answers (HoldsTask (task_of header.now.enforcement.now (R.body rule.old))) store.new) }
-    ensures settled { result ≡ Ok Step.Settled → IsBodySettled store.new header.now.enforcement.now (R.body rule.old) }
+    ensures answers { IfOk result (λ answer. Answers
+        (HoldsTask (task_of header.now.enforcement.now (R.body rule.old)))
+        store.new (as_step answer room.new.conflict.items)) }
+    ensures settled { result ≡ Ok Answer.Settled → IsBodySettled store.new header.now.enforcement.now (R.body rule.old) }
 {
     match force_of(&store.present(), header.enforcement) {
-        Force::Idle => Ok(Step::Settled),
+        Force::Idle => Ok(Answer::Settled),
         Force::Open(place) => {
-            let step = disable(header, place, rule, found, store)?;
-            Ok(step)
+            disable(header, place, rule, found, store)?;
+            Ok(Answer::Settled)
         }
         Force::On => {
-            let step = settle(header, rule, found, room, store)?;
-            Ok(step)
+            let answer = settle(header, rule, found, room, store)?;
+            Ok(answer)
         }
     }
 }

@@ -27,9 +27,9 @@ use Rattle.cps_p_bool.specs.Bodies.{body_of}
 use Rattle.cps_p_bool.specs.Denying.{IsFit, AreLiterals, task_of}
 use Rattle.cps_p_bool.specs.Normal.{IsBitValue, AreBits, IsReduced}
 use Rattle.cps_p_bool.specs.Rules.{IsBoolean}
-use Rattle.cps_p_bool.specs.Seeking.{IsIdle, IsOff}
+use Rattle.cps_p_bool.specs.Seeking.{IsIdle}
 use Rattle.cps_p_bool.specs.Taking.{AreApart}
-use Rattle.cps_p_bool.specs.Waking.{Favours, IsFavoured, IsDisabled, IsEased, IsSpared}
+use Rattle.cps_p_bool.specs.Waking.{IsFavoured, IsDisabled, IsEased, IsSpared}
 use Rattle.cps_p_bool.proofs.Bodies.{IsBoolean-kind, fits_enforcement, fits_kind, fits_about, not_cut}
 use Rattle.cps_p_bool.proofs.Counting.{bit, any_at}
 use Rattle.cps_p_bool.proofs.Placing.{same_or_not}

@@ -30,9 +30,8 @@ pub struct Watches {
 /// What a propagator keeps from visit to visit.
 #[derive(Drop)]
 pub struct Scratch {
-    pub alloc: Global,
-    /// The reason in work. Its memory is kept for the next.
-    pub reason: Vec<Atom>,
+    /// The clause of the conflict, where one was met. Its memory is kept for the next.
+    pub conflict: Vec<Atom>,
     pub watches: Watches,
 }
 
@@ -40,8 +39,7 @@ impl Scratch {
     /// Nothing was looked for yet.
     pub fn new(alloc: Global) -> Self {
         Scratch {
-            alloc,
-            reason: Vec::new(alloc),
+            conflict: Vec::new(alloc),
             watches: Watches {
                 first: 0,
                 second: 0,

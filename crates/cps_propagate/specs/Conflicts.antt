@@ -7,6 +7,13 @@ use Rattle.cps_trail.specs.Trail.{Trail}
 use Rattle.cps_trail.specs.Adds.{IsConflict}
 use Rattle.cps_trail.specs.declared.step.Step.{Step}
 use Rattle.cps_trail.specs.declared.step.Step.TheVariants.{Settled, Conflict}
+use Rattle.cps_propagate.specs.declared.propagator.Answer.{Answer}
+use Rattle.cps_propagate.specs.declared.propagator.Answer.TheVariants as answers
+
+-- an answer with the clause that was left
+abbrev pub as_step : Answer → List Atom → Step
+as_step answers.Settled clause = Settled
+as_step answers.Conflict clause = Conflict clause
 
 -- one of the tasks gives a conflict by itself
 pub record IsConflictOfTask (tasks : List Task) (s : Trail) (clause : List Atom) : Type 0 where

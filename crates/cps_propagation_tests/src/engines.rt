@@ -19,7 +19,9 @@ use cps_instance::Term;
 use cps_literal::Atom;
 use cps_p_bool::Boolean;
 use cps_p_linear::Linear;
-use cps_propagate::{Engine, Propagator, Wake, conclude, push_atom_subjects, push_term_subjects};
+use cps_propagate::{
+    Answer, Engine, Propagator, Wake, conclude, push_atom_subjects, push_term_subjects,
+};
 use cps_trail::{Explain, Step, Store};
 use std::alloc::{AllocError, Global};
 use std::test::Fail;
@@ -34,8 +36,13 @@ impl Propagator for Idle {
 
     ghost task = { λ _. record { enforcement = []; body = Empty } };
 
-    fn propagate(&mut self, _number: u32, _store: &mut Store) -> Result<Step, AllocError> {
-        Ok(Step::Settled)
+    fn propagate(
+        &mut self,
+        _number: u32,
+        _store: &mut Store,
+        _conflict: &mut Vec<Atom>,
+    ) -> Result<Answer, AllocError> {
+        Ok(Answer::Settled)
     }
 
     fn explain_into(
@@ -240,14 +247,21 @@ fn entries_at_rest(
     Ok(0)
 }
 
+/// The same of an engine of one propagator.
+fn entries_with(alloc: Global, propagator: Boolean, decision: Atom) -> Result<usize, AllocError>
+    requires { IsFitting four_bits propagator }
+{
+    let mut engine = engine_of(alloc, propagator)?;
+    entries_at_rest(alloc, &mut engine, decision)
+}
+
 /// The same of a kind over literals of the four subjects.
 fn entries_of(alloc: Global, kind: Kind, atoms: &[Atom], decision: Atom) -> Option<usize> {
     if !are_bits(0, 4, atoms) {
         return None;
     }
     let propagator = boolean(alloc, kind, &[], atoms).ok()?;
-    let mut engine = engine_of(alloc, propagator).ok()?;
-    entries_at_rest(alloc, &mut engine, decision).ok()
+    entries_with(alloc, propagator, decision).ok()
 }
 
 /// A kind over two literals, what is decided, and how many entries there are at rest: one more than the decision where

@@ -6,8 +6,8 @@ ghost use Rattle.cps_propagation_tests.specs.Noted.{AreNotesOf};
 
 use crate::stores::has_note;
 use cps_literal::Atom;
-use cps_propagate::Propagator;
-use cps_trail::{Step, Store};
+use cps_propagate::{Answer, Propagator};
+use cps_trail::Store;
 use std::alloc::{AllocError, Global};
 
 /// The reason of the last entry, which ends with what it made true; no atom for a decision.
@@ -39,11 +39,12 @@ pub fn run<P: Propagator>(
     ensures first { OnOk result (store.new.first ≡ store.old.first) }
     ensures notes { OnOk result (AreNotesOf 7 (P.task propagator.old) store.new) }
 {
-    match propagator.propagate(7, store)? {
-        Step::Settled => {
+    let mut conflict = Vec::new(alloc);
+    match propagator.propagate(7, store, &mut conflict)? {
+        Answer::Settled => {
             let reason = last_reason(alloc, propagator, store)?;
             Ok((true, reason))
         }
-        Step::Conflict(clause) => Ok((false, Vec::from_slice(alloc, clause.as_slice())?)),
+        Answer::Conflict => Ok((false, conflict)),
     }
 }

@@ -11,8 +11,8 @@ ghost use Rattle.cps_rule_tests.specs.Ready.{IsFresh, IsPlain, IsReady};
 
 use crate::stores::{Ends, decide_all, has_note, store_of};
 use cps_literal::Atom;
-use cps_propagate::Propagator;
-use cps_trail::{Step, Store};
+use cps_propagate::{Answer, Propagator};
+use cps_trail::Store;
 use std::alloc::{AllocError, Global};
 
 /// A subject, and the ends of one of the intervals that are left to it.
@@ -88,23 +88,28 @@ fn settle<P: Propagator>(
     ensures task { P.task propagator.new ≡ P.task propagator.old }
     ensures first { OnOk result (store.new.first ≡ store.old.first) }
 {
-    match propagator.propagate(7, store)? {
-        Step::Settled => {
+    let mut conflict = Vec::new(alloc);
+    match propagator.propagate(7, store, &mut conflict)? {
+        Answer::Settled => {
             let reason = last_reason(alloc, propagator, store)?;
             Ok((true, reason))
         }
-        Step::Conflict(clause) => Ok((false, Vec::from_slice(alloc, clause.as_slice())?)),
+        Answer::Conflict => Ok((false, conflict)),
     }
 }
 
 /// Whether a further run changes nothing.
-fn is_at_rest<P: Propagator>(propagator: &mut P, store: &mut Store) -> Result<bool, AllocError>
+fn is_at_rest<P: Propagator>(
+    alloc: Global,
+    propagator: &mut P,
+    store: &mut Store,
+) -> Result<bool, AllocError>
     requires { IsFitting store.old.first (P.task propagator.old) }
 {
     let count = store.entries().len();
-    match propagator.propagate(7, store)? {
-        Step::Settled => Ok(store.entries().len() == count),
-        Step::Conflict(_) => Ok(false),
+    match propagator.propagate(7, store, &mut Vec::new(alloc))? {
+        Answer::Settled => Ok(store.entries().len() == count),
+        Answer::Conflict => Ok(false),
     }
 }
 
@@ -141,7 +146,7 @@ pub fn run<P: Propagator>(
     let (is_settled, clause) = settle(alloc, propagator, store)?;
     let left = left_by(alloc, store)?;
     if is_settled {
-        let stays = is_at_rest(propagator, store)?;
+        let stays = is_at_rest(alloc, propagator, store)?;
         if !stays {
             return Ok(None);
         }

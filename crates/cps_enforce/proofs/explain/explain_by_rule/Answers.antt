@@ -1,8 +1,8 @@
-use Rattle.std.proofs.Common.{◌<◌, ◌≡◌, ◌∙◌, ◌++◌, List, [], length, get_or, sym, subst, ap, Ok}
+use Rattle.std.proofs.Common.{◌<◌, ◌∙◌, ◌++◌, List, length, get_or, sym, subst, ap, Ok}
 use Rattle.cps_literal.specs.declared.atom.Atom.{Atom}
 use Rattle.cps_instance.specs.Tasks.{HoldsTask}
 use Rattle.cps_instance.specs.Fitting.{IsFitting}
-use Rattle.cps_trail.specs.Trail.{Trail, first_entries}
+use Rattle.cps_trail.specs.Trail.{Trail}
 use Rattle.cps_propagate.proofs.Past.{none_view, read, subject_inside}
 use Rattle.cps_enforce.specs.Reasons.{IsReasonFor, task_of}
 use Rattle.cps_enforce.proofs.Tasks.{reason_at}

@@ -1,8 +1,4 @@
-use Rattle.std.proofs.Common.{Ok, ap, sym, subst}
-use Rattle.cps_trail.specs.Trail.{Trail}
 use Rattle.cps_instance.specs.Tasks.{HoldsTask}
-use Rattle.cps_trail.specs.Adds.{IsConflict, Answers}
-use Rattle.cps_trail.specs.declared.step.Step.{Step}
 use Rattle.cps_propagate.proofs.Noting.{Infers-noted}
 use Rattle.cps_enforce.specs.Reasons.{task_of}
 use Rattle.cps_enforce.proofs.Tasks.{forced_given}

@@ -1,4 +1,4 @@
-use Rattle.std.proofs.Common.{◌+◌, get_or}
+use Rattle.std.proofs.Common.{get_or}
 use Rattle.std.proofs.lemmas.List.{get_or_default}
 use Rattle.cps_enforce.proofs.Tasks.{no_atom}
 use Rattle.cps_enforce.proofs.Denials.{Denies-skip, Denies-more}

@@ -12,7 +12,7 @@ pub look-requires : goal.look-requires
 look-requires g c = record { fits = fits_rule c.args.store.now.first c.args.header.now.enforcement.now (g.R.Rule.body c.args.rule.now) c.requires.fits }
 
 pub returns-in-Possible-clause-aside : goal.returns-in-Possible-clause-aside
-returns-in-Possible-clause-aside g c e =
+returns-in-Possible-clause-aside g c =
     let b = g.R.Rule.body c.args.rule.now in
     aside_possible c.args.store.now c.args.header.now.enforcement.now c.args.place b c.requires.open (seen_possible b c.args.store.now _ c.in-Possible.is c.in_ok-look.ensures.seen)
 
@@ -32,7 +32,7 @@ returns-clause-infers g c =
     (subst (λ (l : Look). IsSeen b s l) c.in-Impossible.is c.in_ok-look.ensures.seen))
 
 pub returns-clause-aside : goal.returns-clause-aside
-returns-clause-aside g c = λ _.
+returns-clause-aside g c =
     let b = g.R.Rule.body c.args.rule.now in
     let us = c.args.header.now.enforcement.now in
     let w = c.narrow_later.new.store in

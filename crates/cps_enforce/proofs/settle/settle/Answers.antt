@@ -1,11 +1,11 @@
-use Rattle.std.proofs.Common.{◌∙◌, Ok, ap, sym, subst}
+use Rattle.std.proofs.Common.{◌∙◌, sym, subst}
 use Rattle.cps_instance.specs.declared.task.Body.{Body}
 use Rattle.cps_instance.specs.Tasks.{HoldsTask}
 use Rattle.cps_trail.specs.Adds.{Infers}
 use Rattle.cps_trail.specs.Notes.{ByTask}
 use Rattle.cps_trail.proofs.Inferring.{Infers-trans}
 use Rattle.cps_enforce.specs.Reasons.{task_of}
-use Rattle.cps_enforce.specs.Settling.{IsInForce, IsResting}
+use Rattle.cps_enforce.specs.Settling.{IsInForce}
 use Rattle.cps_enforce.proofs.Tasks.{force_later}
 use Rattle.cps_enforce.proofs.settle.settle.Goals as goal
 
@@ -13,22 +13,22 @@ pub pass-requires : goal.pass-requires
 pass-requires g c =
     let h = c.args.header.now in
     let b = g.R.Rule.body c.args.rule.now in
-    let later = force_later (ByTask h.number (HoldsTask (task_of h.enforcement.now b))) c.args.store.now c.loop-clause.store h.enforcement.now b c.loop-clause.invariant.infers c.requires.force in
-    record { force = subst (λ (x : Body). IsInForce c.loop-clause.store c.args.header.now.enforcement.now x) (sym c.loop-clause.invariant.keeps) later }
+    let later = force_later (ByTask h.number (HoldsTask (task_of h.enforcement.now b))) c.args.store.now c.loop-store.store h.enforcement.now b c.loop-store.invariant.infers c.requires.force in
+    record { force = subst (λ (x : Body). IsInForce c.loop-store.store c.args.header.now.enforcement.now x) (sym c.loop-store.invariant.keeps) later }
 
 pub returns-in-Conflict-clause-infers : goal.returns-in-Conflict-clause-infers
 returns-in-Conflict-clause-infers g c =
     let h = c.args.header.now in
     let b = g.R.Rule.body c.args.rule.now in
-    Infers-trans (ByTask h.number (HoldsTask (task_of h.enforcement.now b))) c.args.store.now c.loop-clause.store c.pass.new.store c.loop-clause.invariant.infers
-    (subst (λ (x : Body). Infers (ByTask c.args.header.now.number (HoldsTask (task_of c.args.header.now.enforcement.now x))) c.loop-clause.store c.pass.new.store) c.loop-clause.invariant.keeps c.in_ok-pass.ensures.infers)
+    Infers-trans (ByTask h.number (HoldsTask (task_of h.enforcement.now b))) c.args.store.now c.loop-store.store c.pass.new.store c.loop-store.invariant.infers
+    (subst (λ (x : Body). Infers (ByTask c.args.header.now.number (HoldsTask (task_of c.args.header.now.enforcement.now x))) c.loop-store.store c.pass.new.store) c.loop-store.invariant.keeps c.in_ok-pass.ensures.infers)
 
-pub loop-clause-preserved : goal.loop-clause-preserved
-loop-clause-preserved g c =
+pub loop-store-preserved : goal.loop-store-preserved
+loop-store-preserved g c =
     let h = c.args.header.now in
     let b = g.R.Rule.body c.args.rule.now in
     record {
-      keeps = c.in_ok-pass.ensures.keeps ∙ c.loop-clause.invariant.keeps;
-      infers = Infers-trans (ByTask h.number (HoldsTask (task_of h.enforcement.now b))) c.args.store.now c.loop-clause.store c.pass.new.store c.loop-clause.invariant.infers
-          (subst (λ (x : Body). Infers (ByTask c.args.header.now.number (HoldsTask (task_of c.args.header.now.enforcement.now x))) c.loop-clause.store c.pass.new.store) c.loop-clause.invariant.keeps c.in_ok-pass.ensures.infers);
+      keeps = c.in_ok-pass.ensures.keeps ∙ c.loop-store.invariant.keeps;
+      infers = Infers-trans (ByTask h.number (HoldsTask (task_of h.enforcement.now b))) c.args.store.now c.loop-store.store c.pass.new.store c.loop-store.invariant.infers
+          (subst (λ (x : Body). Infers (ByTask c.args.header.now.number (HoldsTask (task_of c.args.header.now.enforcement.now x))) c.loop-store.store c.pass.new.store) c.loop-store.invariant.keeps c.in_ok-pass.ensures.infers);
     }

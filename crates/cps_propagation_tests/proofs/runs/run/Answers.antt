@@ -17,6 +17,6 @@ pub returns-in_ok-reason-in-Settled-clause-notes : goal.returns-in_ok-reason-in-
 returns-in_ok-reason-in-Settled-clause-notes g c =
     inferred_fit (ByTask 7 (HoldsTask (g.P.Propagator.task c.args.propagator.now))) c.args.store.now c.propagate.new.store c.in_ok-propagate.ensures.infers c.requires.notes
 
-pub returns-in_ok-from_slice-in-Conflict-clause-notes : goal.returns-in_ok-from_slice-in-Conflict-clause-notes
-returns-in_ok-from_slice-in-Conflict-clause-notes g c =
+pub returns-in-Conflict-clause-notes : goal.returns-in-Conflict-clause-notes
+returns-in-Conflict-clause-notes g c =
     inferred_fit (ByTask 7 (HoldsTask (g.P.Propagator.task c.args.propagator.now))) c.args.store.now c.propagate.new.store c.in_ok-propagate.ensures.infers c.requires.notes

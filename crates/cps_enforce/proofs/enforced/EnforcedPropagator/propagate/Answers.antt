@@ -1,20 +1,31 @@
-use Rattle.std.proofs.Common.{◌∙◌, List, ap, subst}
+use Rattle.std.proofs.Common.{◌∙◌, List, Ok, ap, sym, subst}
 use Rattle.cps_literal.specs.declared.atom.Atom.{Atom}
 use Rattle.cps_instance.specs.declared.task.Task.{Task}
+use Rattle.cps_instance.specs.Tasks.{HoldsTask}
+use Rattle.cps_trail.specs.Adds.{IsConflict, Answers}
+use Rattle.cps_propagate.specs.declared.propagator.Answer.{Answer}
+use Rattle.cps_propagate.specs.Conflicts.{as_step}
 use Rattle.cps_propagate.specs.Laws.{IsDecided}
 use Rattle.cps_propagate.specs.Strength.{IsStrong}
 use Rattle.cps_enforce.specs.Reasons.{task_of}
 use Rattle.cps_enforce.proofs.Tasks.{settled_decided, settled_strong}
 use Rattle.cps_enforce.proofs.enforced.EnforcedPropagator.propagate.Goals as goal
 
-pub returns-clause-decided : goal.returns-clause-decided
-returns-clause-decided g c e =
+pub returns-in-Settled-clause-decided : goal.returns-in-Settled-clause-decided
+returns-in-Settled-clause-decided g c e =
     let b = g.R.Rule.body c.self.inside.rule in
     subst (λ (t : Task). IsDecided t c.run.new.store) (ap (λ (us : List Atom). task_of us b) c.as_slice.ensures.value ∙ c.self.view_is)
-    (settled_decided c.run.new.store c.as_slice.result.now b (c.run.ensures.settled e))
+    (settled_decided c.run.new.store c.as_slice.result.now b (c.in_ok-run.ensures.settled (ap Ok c.in-Settled.is)))
 
-pub returns-clause-strong : goal.returns-clause-strong
-returns-clause-strong g c e same =
+pub returns-in-Settled-clause-strong : goal.returns-in-Settled-clause-strong
+returns-in-Settled-clause-strong g c e same =
     let b = g.R.Rule.body c.self.inside.rule in
     subst (λ (t : Task). IsStrong t c.run.new.store) (ap (λ (us : List Atom). task_of us b) c.as_slice.ensures.value ∙ c.self.view_is)
-    (settled_strong c.run.new.store c.as_slice.result.now b (c.run.ensures.settled e))
+    (settled_strong c.run.new.store c.as_slice.result.now b (c.in_ok-run.ensures.settled (ap Ok c.in-Settled.is)))
+
+pub returns-in-Conflict-clause-answers : goal.returns-in-Conflict-clause-answers
+returns-in-Conflict-clause-answers g c =
+    let b = g.R.Rule.body c.self.inside.rule in
+    let met = subst (λ (a : Answer). Answers (HoldsTask (task_of c.as_slice.result.now b)) c.run.new.store (as_step a c.run.new.room.conflict.items)) c.in-Conflict.is c.in_ok-run.ensures.answers in
+    let handed = subst (λ (l : List Atom). IsConflict (HoldsTask (task_of c.as_slice.result.now b)) c.run.new.store l) (sym (ap (λ (v : _). v.items) c.swap.ensures.y_after)) met in
+    subst (λ (t : Task). IsConflict (HoldsTask t) c.run.new.store c.swap.new.y.items) (ap (λ (us : List Atom). task_of us b) c.as_slice.ensures.value ∙ c.self.view_is) handed
