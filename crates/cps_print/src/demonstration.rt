@@ -7,7 +7,7 @@ use crate::response::{put_line, put_objective_value, status_name};
 use cps_model::{CpModel, Ints, Objective, Status};
 use std::alloc::{AllocError, Global};
 
-/// The last line where there is no objective of a solution.
+/// The last line if there is no solution or no objective.
 const NO_VALUE: &str = "objective_value: none\n";
 
 /// Appends the line of the objective at a solution.

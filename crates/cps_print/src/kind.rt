@@ -2,7 +2,8 @@
 //!
 //! A function for each message, and one match over the kinds that chooses it. Every function appends to one text, and
 //! leaves out what says nothing, as the layout states it; kinds with one message (`BoolOr` to `BoolXor`, the arithmetic
-//! ones) share a function and differ in the field's name.
+//! ones) share a function and differ in the field's name. Fields of an older form are never written: what they say is
+//! written in the newer one.
 ghost use Rattle.std.specs.Prelude.{◌≡◌, ◌++◌, OnOk, codes, string_bytes};
 ghost use Rattle.cps_print.specs.Layout.{text_of};
 ghost use Rattle.cps_print.specs.Fields.{message_field};

@@ -52,7 +52,7 @@ fn put_value_line(
     text.push_str("\n")
 }
 
-/// Appends the line of a number, none where it is 0.
+/// Appends the line of a number, unless the number is 0.
 #[tactic(auto, using(crate::proofs::Lines::number_lines))]
 pub fn put_number_field(
     text: &mut String,
@@ -87,7 +87,7 @@ pub fn put_word_field(
     put_value_line(text, level, name, word)
 }
 
-/// Appends numbers, each behind a comma.
+/// Appends numbers, each after a comma.
 fn put_behind_commas<N: Integer>(text: &mut String, values: &[N]) -> Result<(), AllocError>
     ensures { OnOk result (string_bytes text.new ≡ string_bytes text.old ++ flat_map (behind_comma N.text) values.now) }
 {
@@ -98,7 +98,7 @@ fn put_behind_commas<N: Integer>(text: &mut String, values: &[N]) -> Result<(), 
     Ok(())
 }
 
-/// Appends the line of a list of numbers, none where it is empty.
+/// Appends the line of a list of numbers, unless the list is empty.
 #[tactic(auto, unfolding(crate::specs::Layout::value_line))]
 pub fn put_list_field<N: Integer>(
     text: &mut String,

@@ -1,8 +1,8 @@
 //! The canonical text of a model.
 //!
 //! A function for each message, in the order of the fields of the format. Each appends to one text, so that no part is
-//! copied and the text is written in the end with no memory to take. Values that the format leaves out are left out
-//! here, by the same words by which the specification lays a message out.
+//! copied, and writing the finished text takes no further memory. Values that the format leaves out are left out here,
+//! by the same words by which the specification lays a message out.
 ghost use Rattle.std.specs.Prelude.{◌≡◌, ℕ, List, ◌++◌, IfOk, OnOk, codes, string_bytes};
 ghost use Rattle.std.specs.List.{flat_map};
 ghost use Rattle.cps_print.specs.Layout.{text_of};
@@ -92,7 +92,7 @@ fn put_objective(text: &mut String, objective: &Objective) -> Result<(), AllocEr
     close_message(text, 0)
 }
 
-/// The word for a choice of variables; the empty word for the one that is meant without a word.
+/// The word for a choice of variables. It is empty for the default, which is not written.
 fn choose_name(choose: Choose) -> &'static str
     ensures { result.now ≡ choose_name choose }
 {
@@ -105,7 +105,7 @@ fn choose_name(choose: Choose) -> &'static str
     }
 }
 
-/// The word for a choice of values; the empty word for the one that is meant without a word.
+/// The word for a choice of values. It is empty for the default, which is not written.
 fn select_name(select: Select) -> &'static str
     ensures { result.now ≡ select_name select }
 {

@@ -9,7 +9,7 @@ ghost use Rattle.cps_print.specs.Responses.{HasLimits};
 
 use cps_model::{Objective, variable_of};
 
-/// The value of a reference, also where the value negated is no `i64`.
+/// The value of a reference, even if the negation of the value is not an `i64`.
 fn reference_value(reference: i32, values: &[i64]) -> i128
     requires { IsTrue (names (length values.now) reference) }
     ensures { result ≡ reference_value values.now reference }

@@ -30,7 +30,7 @@ fn put_escaped(text: &mut String, byte: u8) -> Result<(), AllocError>
         b'"' => text.push_str("\\\""),
         b'\'' => text.push_str("\\'"),
         b'\\' => text.push_str("\\\\"),
-        32..=126 => text.push(char::from(byte)),
+        b' '..=b'~' => text.push(char::from(byte)),
         _ => put_octal(text, byte),
     }
 }
@@ -59,7 +59,7 @@ fn put_text_line(text: &mut String, level: usize, name: &str, value: &str) -> Re
     text.push_str("\n")
 }
 
-/// Appends the line of a text, none where it is empty.
+/// Appends the line of a text, unless the text is empty.
 #[tactic(auto, using(crate::proofs::Lines::text_lines))]
 pub fn put_text_field(
     text: &mut String,

@@ -2,7 +2,8 @@
 //!
 //! The status comes first, then a solution value by value, then what is said of the objective, and for an infeasible
 //! model the assumptions that are to blame. Values of the objective are shown with offset and scaling factor, in 128
-//! bits, since both are known only to be below 2^53.
+//! bits, since each of both may be as far as 2^53 from 0. Names and order of the lines are those of the fields of
+//! CP-SAT's response; its statistics of the search are left out, as no part of a response knows them.
 ghost use Rattle.std.specs.Prelude.{◌≡◌, ◌++◌, IsTrue, OnOk, IfOk, codes, string_bytes};
 ghost use Rattle.std.specs.List.{flat_map};
 ghost use Rattle.std.specs.Fmt.{signed_decimal};
@@ -22,7 +23,7 @@ pub struct Response {
     pub solution: Option<Ints>,
     /// A bound on the objective's sum from below.
     pub lower: Bound,
-    /// Assumptions that no free assignment makes all true, where the model is infeasible because of them.
+    /// Assumptions that no free assignment makes all true, if the model is infeasible because of them.
     pub core: Refs,
 }
 
@@ -128,7 +129,7 @@ fn put_solution(
     put_lower(text, objective, lower)
 }
 
-/// Appends what is said of the objective where there is no solution.
+/// Appends what is said of the objective if there is no solution.
 fn put_bound(
     text: &mut String,
     objective: &Option<Objective>,

@@ -85,7 +85,7 @@ pub(crate) fn read_int_prod(alloc: Global, input: &Input, node: &Node) -> Result
     Ok(Kind::IntProd { target, exprs })
 }
 
-/// The greatest that a message gives.
+/// The maximum that a message gives.
 pub(crate) fn read_lin_max(alloc: Global, input: &Input, node: &Node) -> Result<Kind, SchemaError>
     ensures accepted { IfOk result
         (λ _. fields_fault (written_of input.now) linear_argument_message [] (tree_of node.now) ≡ None) }

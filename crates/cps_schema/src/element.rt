@@ -29,7 +29,7 @@ const FIELDS: [Line; 6] = [
     Line(b"vars", ManyOf(Older, References)),
 ];
 
-/// The number of a single field, 0 where it is not given.
+/// The reference of a single field, 0 if the field is not given.
 fn the_reference(references: &Listed<i32>) -> i32
     ensures { result ≡ first_or (pos 0) references.now }
 {

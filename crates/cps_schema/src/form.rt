@@ -6,14 +6,14 @@ use super::error::SchemaError;
 use cps_model::FaultName;
 use cps_textproto::Field;
 
-/// The form to which a field belongs. Fields of both do not stand in one message.
+/// The form to which a field belongs. No message may have fields of both.
 #[derive(Clone, Copy)]
 pub enum Form {
     Older,
     Newer,
 }
 
-/// A form is known, and it is the other one.
+/// Whether the form of the earlier fields is known, and is the other one.
 pub(crate) fn is_other(given: Option<Form>, form: Form) -> bool
     ensures { result ≡ is_other given form }
 {

@@ -3,6 +3,7 @@
 //! A message of many fields states them as lines: a name, and what it takes. One function walks the fields of the text
 //! and fills a slot per line, with every refusal in one place, and it is proved once for every list of lines. Messages
 //! with few fields or with nested ones of their own are read by hand, field by field, as each then needs no list.
+//! A name is looked up by comparing it with each line in turn: there are at most seven, too few for a table to pay.
 ghost use Rattle.std.specs.Prelude.{◌≡◌, ◌<◌, ◌++◌, ◌&&◌, ℕ, List, [], ◌∷◌, true, false, None, Some, map, length, OnOk, IfOk, IfErr, IfSome};
 ghost use Rattle.cps_textproto.specs.Trees.{Tree, tree_of, values_of};
 ghost use Rattle.cps_schema.specs.Written.{token_text};
@@ -56,7 +57,7 @@ pub struct Line(pub &'static [u8], pub Takes);
 #[derive(Drop)]
 pub struct Slot {
     pub line: Line,
-    /// There was such a field.
+    /// Whether there was such a field.
     pub given: bool,
     pub references: Vec<i32>,
     pub numbers: Vec<i64>,
@@ -68,11 +69,11 @@ pub struct Slot {
 #[derive(Drop)]
 pub struct Gathered {
     pub slots: Vec<Slot>,
-    /// The form of the fields that there were, where the message has two.
+    /// The form of the fields so far, if the message has two forms. `None` before the first of them.
     pub form: Option<Form>,
 }
 
-/// What the values are.
+/// What the values of a field are.
 fn contents_of(takes: Takes) -> Contents
     ensures { result ≡ contents_of takes }
 {
@@ -84,7 +85,7 @@ fn contents_of(takes: Takes) -> Contents
     }
 }
 
-/// One value is taken.
+/// Whether a field takes one value only.
 fn takes_one(takes: Takes) -> bool
     ensures { result ≡ takes_one takes }
 {
@@ -96,7 +97,7 @@ fn takes_one(takes: Takes) -> bool
     }
 }
 
-/// A field of the other form was read.
+/// Whether a field of the other form was read before.
 fn is_mixed(given: Option<Form>, takes: Takes) -> bool
     ensures { result ≡ is_mixed given (form_taken takes) }
 {
@@ -108,7 +109,7 @@ fn is_mixed(given: Option<Form>, takes: Takes) -> bool
     }
 }
 
-/// The form that was read behind a field.
+/// The form that is known after a field.
 fn form_behind(given: Option<Form>, takes: Takes) -> Option<Form>
     ensures { result ≡ form_behind given takes }
 {
@@ -120,7 +121,7 @@ fn form_behind(given: Option<Form>, takes: Takes) -> Option<Form>
     }
 }
 
-/// Refuses a second field where one value is taken, and a field of the other form.
+/// Refuses a second field if only one value is taken, and a field of the other form.
 fn check_again(again: bool, mixed: bool, field: &Field) -> Result<(), SchemaError>
     ensures ok { OnOk result (again_fault again mixed ≡ None) }
     ensures err { IfErr result (Refuses (refused_at field.now.name (again_fault again mixed))) }
@@ -141,7 +142,7 @@ fn check_again(again: bool, mixed: bool, field: &Field) -> Result<(), SchemaErro
     Ok(())
 }
 
-/// Refuses a list where one value is taken.
+/// Refuses a list if only one value is taken.
 fn check_alone(input: &Input, one: bool, field: &Field) -> Result<(), SchemaError>
     ensures ok { OnOk result (many_fault (written_of input.now) one field.now ≡ None) }
     ensures err { IfErr result (Refuses (many_fault (written_of input.now) one field.now)) }
@@ -210,7 +211,7 @@ fn add_to(
     Ok(())
 }
 
-/// The place of the line of a name.
+/// The place of the line with this name. `None` if there is no such line.
 fn place_of(slots: &[Slot], name: &[u8]) -> Option<usize>
     ensures { result ≡ line_place 0 slots.now name.now }
 {
@@ -268,7 +269,7 @@ fn empty_slots(alloc: Global, lines: &[Line]) -> Result<Vec<Slot>, AllocError>
     Ok(slots)
 }
 
-/// What the fields of a message give, which are those of these lines: a slot for each line.
+/// Reads a message whose fields are those of these lines: a slot for each line, with what its fields give.
 pub(crate) fn gather(
     alloc: Global,
     input: &Input,

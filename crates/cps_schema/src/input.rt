@@ -13,7 +13,7 @@ pub struct Input<'a> {
     pub closed: &'a [&'a [u8]],
 }
 
-/// The text of a token, empty where there is no token of this number.
+/// The text of a token, empty if there is no token of this number.
 #[tactic(auto, unfolding(crate::specs::Written::token_text))]
 pub(crate) fn token_text<'a>(input: &Input<'a>, token: usize) -> &'a [u8]
     ensures { result.now ≡ token_text (written_of input.now) token }
@@ -32,6 +32,7 @@ pub(crate) fn span_text(bytes: &[u8], start: usize, end: usize) -> &[u8]
     &rest[..end.saturating_sub(start).min(rest.len())]
 }
 
+/// The kind of a token. `None` if there is no token of this number.
 #[tactic(auto, unfolding(crate::specs::Written::token_kind))]
 pub(crate) fn token_kind(input: &Input, token: usize) -> Option<TokenKind>
     ensures { result ≡ token_kind (written_of input.now) token }
@@ -39,7 +40,7 @@ pub(crate) fn token_kind(input: &Input, token: usize) -> Option<TokenKind>
     input.tokens.get(token).map(|found| found.kind)
 }
 
-/// The first `n` bytes, or all where there are fewer.
+/// The first `n` bytes, or all if there are fewer.
 #[tactic(auto, using(std::proofs::lemmas::List::take_min))]
 pub(crate) fn front(text: &[u8], n: u64) -> &[u8]
     ensures { result.now ≡ take n text.now }
@@ -47,7 +48,7 @@ pub(crate) fn front(text: &[u8], n: u64) -> &[u8]
     &text[..(n as usize).min(text.len())]
 }
 
-/// The bytes behind these.
+/// The bytes after the first `n`.
 #[tactic(auto, using(std::proofs::lemmas::List::take_rest, std::proofs::lemmas::List::drop_min))]
 pub(crate) fn behind(text: &[u8], n: u64) -> &[u8]
     ensures { result.now ≡ drop n text.now }

@@ -1,7 +1,8 @@
 //! The kinds of constraints: which field of a constraint gives which kind.
 //!
 //! A kind that is read has a name (`KindName`), from which its field's name, its message and its reading follow. So a
-//! further kind adds a line to each match and no path of its own.
+//! further kind adds a line to each match and no path of its own. A field's name is compared with that of each kind in
+//! turn: a constraint has one such field, so a table of names would save little.
 ghost use Rattle.std.specs.Prelude.{◌≡◌, ◌++◌, [], ◌∷◌, false, true, Some, None, map, is_some, OnOk, IfOk, IfErr};
 ghost use Rattle.std.specs.Option.{option_or};
 ghost use Rattle.std.specs.List.{find};
@@ -125,7 +126,7 @@ fn field_name(kind: KindName) -> &'static [u8]
     }
 }
 
-/// The first of these kinds that a field of this name gives.
+/// The first of these kinds that a field of this name gives. `None` if none of them has it.
 fn find_named(kinds: &[KindName], name: &[u8]) -> Option<KindName>
     ensures { result ≡ find (λ kind. bytes_eq name.now (field_name kind)) kinds.now }
 {
@@ -137,14 +138,14 @@ fn find_named(kinds: &[KindName], name: &[u8]) -> Option<KindName>
     None
 }
 
-/// The kind that a field of this name gives.
+/// The kind that a field of this name gives. `None` if no kind has this name.
 pub(crate) fn kind_named(name: &[u8]) -> Option<KindName>
     ensures { result ≡ kind_named name.now }
 {
     find_named(&KINDS, name)
 }
 
-/// The field of this kind is the one that was read.
+/// Whether the kind that was read before is of this name.
 fn is_given_as(given: &Option<GivenKind>, name: KindName) -> bool
     ensures { result ≡ is_given_as given.now name }
 {
@@ -154,7 +155,7 @@ fn is_given_as(given: &Option<GivenKind>, name: KindName) -> bool
     }
 }
 
-/// The message of a field of a kind, which must be the first.
+/// The message of a field of a kind, which must be the first such field of its constraint.
 #[tactic(auto, using(crate::proofs::Steps::closed_stops, crate::proofs::Steps::kind_again, crate::proofs::Steps::second_kind, crate::proofs::Steps::kind_stops))]
 fn kind_message<'a>(
     input: &Input,
@@ -227,7 +228,7 @@ fn read_kind(alloc: Global, input: &Input, name: KindName, node: &Node) -> Resul
     }
 }
 
-/// Reads a field of a kind, which must be the first.
+/// Reads a field of a kind, which must be the first such field of its constraint.
 #[tactic(auto, using(crate::proofs::Steps::kind_passes, crate::proofs::Steps::kind_stops))]
 pub(crate) fn set_kind(
     alloc: Global,

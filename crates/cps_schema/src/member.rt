@@ -1,8 +1,8 @@
 //! The members of enums, by name or by number.
 //!
 //! The names of each enum stand in a list in the order of their numbers, so both ways of writing a member come to a
-//! number, from which the member is made. One name that the source defines is known and not taken, and is refused as
-//! unsupported; every other unknown name is of the wrong kind.
+//! number, from which the member is made. CP-SAT's `SELECT_RANDOM_HALF` is known but not taken, since it would leave a
+//! choice to chance, and is refused as unsupported; every other unknown name is of the wrong kind.
 ghost use Rattle.std.specs.Prelude.{◌≡◌, ◌++◌, [], ◌∷◌, true, Some, None, is_some, map, OnOk, IfOk, IfErr, option_to_list};
 ghost use Rattle.cps_textproto.specs.Trees.{values_of};
 ghost use Rattle.cps_schema.specs.Inputs.{written_of, single_fault, names_of};
@@ -45,7 +45,10 @@ const SELECT_NAMES: [&[u8]; 5] = [
     b"SELECT_MEDIAN_VALUE",
 ];
 
-/// The place of a name among names.
+/// The number of the last member, of either enum.
+const LAST_MEMBER: i64 = 4;
+
+/// The place of a name among names. `None` if it is not one of them.
 fn place_of(names: &[&[u8]], name: &[u8]) -> Option<usize>
     ensures { result ≡ place_from 0 (names_of names.now) name.now }
 {
@@ -57,7 +60,7 @@ fn place_of(names: &[&[u8]], name: &[u8]) -> Option<usize>
     None
 }
 
-/// The place of a name among those of an enum's members.
+/// The place of a name among those of an enum's members. `None` if no member has it.
 fn member_place(kind: Enum, name: &[u8]) -> Option<usize>
     ensures { result ≡ place_from 0 (member_names kind) name.now }
 {
@@ -67,7 +70,7 @@ fn member_place(kind: Enum, name: &[u8]) -> Option<usize>
     }
 }
 
-/// The name is that of a member which is known, and not taken.
+/// Whether the name is that of a member that is known but not taken.
 fn is_known_member(kind: Enum, name: &[u8]) -> bool
     ensures { result ≡ is_known_member kind name.now }
 {
@@ -107,7 +110,7 @@ fn member_numbered(number: Option<i64>) -> Result<usize, FaultName>
 {
     match number {
         Some(n) => {
-            if n < 0 || n > 4 {
+            if n < 0 || n > LAST_MEMBER {
                 Err(FaultName::OutOfRange)
             } else {
                 Ok(n as usize)

@@ -2,7 +2,8 @@
 //!
 //! `model_with` takes the table of closed fields as an argument, so that what is printed can be proved to read back
 //! whatever is closed; `model_of` uses the table `CLOSED`. The parts that are read so far stand in one struct, from
-//! which the model is made in the end.
+//! which the model is made in the end. Nothing is judged here but the form of the fields: whether references name
+//! variables, and every other rule of a valid model, is asked of the model as a whole.
 ghost use Rattle.std.specs.Prelude.{◌≡◌, ◌++◌, ℕ, List, [], ◌∷◌, true, Some, None, map, is_some, OnOk, IfOk, IfErr, option_to_list};
 ghost use Rattle.cps_textproto.specs.Trees.{Tree, no_fields, tree_of, values_of};
 ghost use Rattle.cps_model.specs.declared.model.CpModel.{CpModel};

@@ -8,7 +8,7 @@ use super::error::SchemaError;
 use super::input::{Input, token_text};
 use cps_model::FaultName;
 
-/// The name is one of these.
+/// Whether the name is one of these.
 #[tactic(auto, unfolding(crate::specs::Tables::is_given))]
 pub(crate) fn is_given(names: &[&[u8]], name: &[u8]) -> bool
     ensures { result ≡ is_given (names_of names.now) name.now }

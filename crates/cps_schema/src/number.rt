@@ -1,9 +1,9 @@
 //! The numbers that scalars are worth.
 //!
 //! A token is read as a size of 64 bits, which stops at the greatest, and the sign and the type then decide whether it
-//! fits: so no length of digits overflows. Numbers that are doubles in the source take floats too, as far as these are
-//! whole (`floats`), and no octal or hexadecimal ones. What is wrong with a token is told apart: the wrong kind of
-//! token, a number out of its range, a number that is not whole.
+//! fits: so no length of digits overflows. Numbers that are doubles in CP-SAT's messages take floats too, as far as
+//! these are whole (`float`), and no octal or hexadecimal numbers. What is wrong with a token is told apart: the wrong
+//! kind of token, a number out of its range, a number that is not whole.
 ghost use Rattle.std.specs.Prelude.{◌≡◌, ◌^◌, ◌≤◌, pos, neg_ℤ, Some, IsTrue, IfOk, IfErr};
 ghost use Rattle.std.specs.Option.{option_map};
 ghost use Rattle.cps_schema.specs.Digits.{capped};
@@ -17,6 +17,12 @@ use super::input::{Input, behind, token_kind, token_text};
 use cps_lex::TokenKind;
 use cps_model::FaultName;
 
+/// Up to this magnitude a double counts by ones.
+const EXACT_LIMIT: u64 = 1 << 53;
+
+/// How many bytes `0x` has, which stand in front of a hexadecimal number's digits.
+const HEXADECIMAL_PREFIX: u64 = 2;
+
 /// A type of numbers.
 #[derive(Clone, Copy)]
 pub enum Number {
@@ -26,14 +32,14 @@ pub enum Number {
     Exact,
 }
 
-/// The greatest size of a number of the type, below 0 or from 0 on.
+/// The greatest magnitude of a number of the type, among those below 0 or the others.
 fn limit(number: Number, negative: bool) -> u64
     ensures { result ≡ limit number negative }
 {
     match number {
         Number::Int64 => i64::MAX as u64 + negative as u64,
         Number::Int32 => i32::MAX as u64 + negative as u64,
-        Number::Exact => 1 << 53,
+        Number::Exact => EXACT_LIMIT,
     }
 }
 
@@ -45,7 +51,7 @@ fn negated(size: u64) -> i64
     if size == 0 { 0 } else { -1 - (size - 1) as i64 }
 }
 
-/// The number of this size and sign, if the type has it.
+/// The number of this size and sign. `None` if the type does not have it.
 #[tactic(auto, using(crate::proofs::Decimals::fits_signed))]
 fn in_type(number: Number, negative: bool, size: u64) -> Option<i64>
     ensures { result ≡ fitted number negative (Some size) }
@@ -59,6 +65,7 @@ fn in_type(number: Number, negative: bool, size: u64) -> Option<i64>
     }
 }
 
+/// Whether a `-` stands in front of the scalar at token `first`.
 #[tactic(auto, unfolding(crate::specs::Written::is_negative))]
 pub(crate) fn is_negative(input: &Input, first: u32) -> bool
     ensures { result ≡ is_negative (written_of input.now) first }
@@ -73,7 +80,7 @@ pub(crate) fn size_of(kind: TokenKind, text: &[u8]) -> Option<u64>
     match kind {
         TokenKind::Decimal => Some(decimal_value(text)),
         TokenKind::Octal => Some(digits_after(8, 0, text)),
-        TokenKind::Hexadecimal => Some(digits_after(16, 0, behind(text, 2))),
+        TokenKind::Hexadecimal => Some(digits_after(16, 0, behind(text, HEXADECIMAL_PREFIX))),
         TokenKind::Float => float_value(text),
         TokenKind::Identifier | TokenKind::Text | TokenKind::Sign => None,
     }
@@ -94,7 +101,7 @@ pub(crate) fn whole_number(
     }
 }
 
-/// What is wrong with a token of this kind, whatever it writes.
+/// What is wrong with a token of this kind, whatever it writes. `None` if its kind is right.
 fn token_fault(number: Number, kind: TokenKind) -> Option<FaultName>
     ensures { result ≡ token_fault number kind }
 {

@@ -2,7 +2,7 @@
 //!
 //! A field holds scalars or messages, in a list or not, and what a table wants of it is asked here in one place: a list
 //! where one value is taken is refused at its bracket, messages where scalars are taken at the first of them, and the
-//! other way round.
+//! other way round. A single field that stands twice is refused as repeated: it is not read as the last of the two.
 ghost use Rattle.std.specs.Prelude.{◌≡◌, ◌++◌, [], ◌∷◌, true, false, Some, None, is_some, OnOk, IfOk, IfErr, IfSome, IfNone, option_to_list};
 ghost use Rattle.std.specs.Option.{option_or};
 ghost use Rattle.cps_textproto.specs.declared.tree.Items.TheVariants as Items;
@@ -60,7 +60,7 @@ pub(crate) enum Value<'a> {
     Message(u32, &'a Node),
 }
 
-/// The scalar of a list that has one.
+/// The scalar of a list of one. `None` if the list has another length.
 #[tactic(auto, using(crate::proofs::Values::not_alone))]
 fn only(token_ranges: &[TokenRange]) -> Option<TokenRange>
     ensures none { IfNone result (is_alone false (range_values token_ranges.now) ≡ false) }
@@ -74,7 +74,7 @@ fn only(token_ranges: &[TokenRange]) -> Option<TokenRange>
     }
 }
 
-/// The message of a list that has one.
+/// The message of a list of one. `None` if the list has another length.
 #[tactic(auto, using(cps_textproto::proofs::Views::values_of_messages, crate::proofs::Values::no_lone_message))]
 fn only_message(list: &Vec<Nested>) -> Option<&Nested>
     ensures none { IfNone result (is_alone false (values_of (Items.Messages list.now)) ≡ false) }
@@ -87,7 +87,7 @@ fn only_message(list: &Vec<Nested>) -> Option<&Nested>
     }
 }
 
-/// The value of a field that has one, in no list.
+/// The one value of a field. `None` if the field has a list.
 #[tactic(auto, using(cps_textproto::proofs::Views::nested_parts))]
 pub(crate) fn alone(field: &Field) -> Option<Value<'_>>
     ensures none { IfNone result (is_alone field.now.list (values_of field.now.items) ≡ false) }
@@ -177,7 +177,7 @@ pub(crate) fn single_message<'a>(input: &Input, field: &'a Field) -> Result<&'a 
     }
 }
 
-/// Messages where scalars are taken: none is wrong where there is none.
+/// Refuses the first of these messages, where scalars are taken. An empty list is not wrong.
 #[tactic(auto, using(cps_textproto::proofs::Views::values_of_messages, crate::proofs::Values::first_message))]
 pub(crate) fn no_messages(messages: &Vec<Nested>) -> Result<(), SchemaError>
     ensures none { OnOk result (values_of (Items.Messages messages.now) ≡ no_values) }
@@ -198,7 +198,7 @@ pub(crate) enum Messages<'a> {
     List(&'a [Nested]),
 }
 
-/// Scalars where messages are taken: none is wrong where there is none.
+/// Refuses the first of these scalars, where messages are taken. An empty list is not wrong.
 fn no_scalars(token_ranges: &[TokenRange]) -> Result<(), SchemaError>
     ensures none { OnOk result (range_values token_ranges.now ≡ no_values) }
     ensures err { IfErr result (λ e. (w : Written) (m : Message)

@@ -1,7 +1,8 @@
 //! Strategies: expressions in one of two forms, and two enums.
 //!
 //! The older form gives references, which stand for the expressions that they are; a field of the one form after one
-//! of the other is refused. The parts read so far keep both lists and which form came.
+//! of the other is refused. The parts read so far keep both lists and which form came. References are kept as they are
+//! and not made into expressions, which would take many times the memory.
 ghost use Rattle.std.specs.Prelude.{◌≡◌, ◌++◌, ℕ, List, [], ◌∷◌, true, false, None, Some, map, OnOk, IfOk, IfErr};
 ghost use Rattle.cps_textproto.specs.Trees.{Tree, no_fields, tree_of, values_of};
 ghost use Rattle.cps_schema.specs.Written.{Written, token_text};
@@ -35,7 +36,7 @@ const UNSUPPORTED: [&[u8]; 0] = [];
 pub struct StrategyParts {
     pub exprs: Vec<LinearExpr>,
     pub variables: Vec<i32>,
-    /// The form of the fields of expressions that there were.
+    /// The form of the fields of expressions so far. `None` before the first of them.
     pub form: Option<Form>,
     pub choose: Option<Choose>,
     pub select: Option<Select>,

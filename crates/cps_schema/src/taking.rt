@@ -13,7 +13,7 @@ use cps_model::{Exprs, LinearExpr, Listed};
 use std::alloc::Global;
 use std::vec::IntoIter;
 
-/// What the next field gives, if there is one.
+/// What the next field gives. `None` after the last.
 fn next_slot(slots: &mut IntoIter<Slot>) -> Option<Slot>
     ensures none { IfNone result (left slots.old ≡ []) }
     ensures last { IfNone result (left slots.new ≡ []) }
@@ -64,7 +64,7 @@ pub(crate) fn next_expressions(alloc: Global, slots: &mut IntoIter<Slot>) -> Lis
     }
 }
 
-/// The number of the next field, 0 where it is not given.
+/// The number of the next field, 0 if it is not given.
 pub(crate) fn next_number(slots: &mut IntoIter<Slot>) -> i64
     ensures value { result ≡ first_or (pos 0) (next (left slots.old)).numbers }
     ensures rest { left slots.new ≡ behind_first (left slots.old) }
@@ -78,7 +78,7 @@ pub(crate) fn next_number(slots: &mut IntoIter<Slot>) -> i64
     }
 }
 
-/// The truth value of the next field, false where it is not given.
+/// The truth value of the next field, false if it is not given.
 pub(crate) fn next_truth(slots: &mut IntoIter<Slot>) -> bool
     ensures value { result ≡ first_or false (next (left slots.old)).truths }
     ensures rest { left slots.new ≡ behind_first (left slots.old) }
@@ -92,7 +92,7 @@ pub(crate) fn next_truth(slots: &mut IntoIter<Slot>) -> bool
     }
 }
 
-/// The first expression of a list, and one that is 0 where there is none.
+/// The first expression of a list, or one that is 0 if the list is empty.
 fn first_expression(alloc: Global, expressions: Vec<LinearExpr>) -> LinearExpr
     ensures { result ≡ first_or no_expression expressions.items }
 {
@@ -106,7 +106,7 @@ fn first_expression(alloc: Global, expressions: Vec<LinearExpr>) -> LinearExpr
     }
 }
 
-/// The expression of the next field, 0 where it is not given.
+/// The expression of the next field, 0 if it is not given.
 pub(crate) fn next_expression(alloc: Global, slots: &mut IntoIter<Slot>) -> LinearExpr
     ensures value { result ≡ first_or no_expression (next (left slots.old)).expressions }
     ensures rest { left slots.new ≡ behind_first (left slots.old) }

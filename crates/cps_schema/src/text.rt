@@ -63,7 +63,7 @@ fn joined(alloc: Global, bytes: &[u8], tokens: &[Token]) -> Result<Vec<u8>, Allo
     Ok(value)
 }
 
-/// The text of these bytes, if they are UTF-8.
+/// These bytes as a text. `None` if they are not UTF-8.
 fn utf8_text(bytes: Vec<u8>) -> Option<Text>
     ensures same { IfSome result (λ t. t ≡ bytes.items) }
     ensures good { IfSome result (λ t. is_utf8 bytes.items ≡ true) }
@@ -135,7 +135,7 @@ pub(crate) fn set_name(
     }
 }
 
-/// The name that was read, and else the empty one.
+/// The name that was read, or the empty one if there was none.
 pub(crate) fn name_or_empty(alloc: Global, name: Option<Text>) -> Text
     ensures { result ≡ first_or [] (option_to_list name ++ []) }
 {

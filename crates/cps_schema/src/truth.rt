@@ -16,7 +16,7 @@ use super::single::{no_messages, wrong_kind};
 use cps_lex::TokenKind;
 use cps_textproto::{Field, Item, Items, TokenRange};
 
-/// The truth value that a word names, if it names one.
+/// The truth value that a word names. `None` if it names none.
 fn truth_named(name: &[u8]) -> Option<bool>
     ensures { result ≡ truth_named name.now }
 {
@@ -32,7 +32,7 @@ fn truth_named(name: &[u8]) -> Option<bool>
     }
 }
 
-/// 1 is true and 0 is false.
+/// The truth value of a number: 1 is true, 0 is false, and no other number is one.
 fn truth_numbered(size: Option<u64>) -> Option<bool>
     ensures { result ≡ truth_numbered size }
 {

@@ -1,9 +1,10 @@
 //! The tree under construction: what each token adds to it.
 //!
-//! The machine has already said that the token can stand there, so nothing is refused here but memory. What a token
-//! does is told from the mode alone (`Action`), apart from doing it. Open messages stand on a list, so nesting takes no
-//! recursion. Finished lists are moved into the tree in exactly the memory that they take, since trees of long texts
-//! fill most of the memory that a run has.
+//! The machine has already said that the token can stand there, so only running out of memory can fail here. What a
+//! token does is told from the mode alone (`Action`), apart from doing it. Open messages stand on a list, so nesting
+//! takes no recursion. Finished lists are moved into the tree in exactly the memory that they take, since trees of long
+//! texts fill most of the memory that a run has. A scalar is kept as its tokens and not as its value: what a value is
+//! depends on its field, which is not known here.
 ghost use Rattle.std.specs.Prelude.{◌≡◌, ◌+◌, ◌<◌, ◌^◌, false, true, OnOk, IfOk, [], ◌∷◌};
 ghost use Rattle.cps_textproto.specs.declared.tree.Field.{Field};
 ghost use Rattle.cps_textproto.specs.Trees.{tree_of, field_list, values_of, range_values, nested_value, nested_values, then_fields, then_values, without_last, field, scalar_value, message_value, no_fields, no_values};
@@ -321,7 +322,7 @@ fn end_messages(builder: &mut Builder, alloc: Global) -> Result<(), AllocError>
     )
 }
 
-/// Puts the fields and the messages so far aside.
+/// Sets the fields and the messages so far aside, and begins those of a new message.
 #[tactic(auto, using(crate::proofs::Pushes::outer_onto_more))]
 fn open_message(
     builder: &mut Builder,
@@ -370,7 +371,7 @@ fn close_message(builder: &mut Builder) -> Result<(), AllocError>
     }
 }
 
-/// Adds what a token adds.
+/// Carries out what a token adds.
 pub(crate) fn act(
     builder: &mut Builder,
     alloc: Global,

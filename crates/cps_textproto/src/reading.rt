@@ -18,8 +18,8 @@ use thiserror::Error;
 /// Why tokens are no document.
 #[derive(Debug, Drop, Error)]
 pub enum TextError {
-    /// The first token behind which no document goes on; the number of tokens where all of them begin
-    /// one but are none.
+    /// The first token with which no document continues. It is the number of tokens if they begin a document but are
+    /// none themselves.
     #[error("no document at token {token}")]
     NotADocument { token: usize },
     #[error("out of memory")]
