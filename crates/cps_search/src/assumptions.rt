@@ -4,7 +4,7 @@
 //! it, with it, are sufficient for infeasibility: the analysis of a final conflict by Eén and Sörensson, "Temporal
 //! Induction by Incremental SAT Solving" (2003), section 3.
 
-ghost use Rattle.std.specs.Prelude.{ℤ, ◌≡◌, ◌≢◌, ◌↔◌, ◌⊎◌, ◌<◌, ◌^◌, length, slice_index_or, pos, true, false, IfOk, IfSome, IsNone, IsTrue};
+ghost use Rattle.std.specs.Prelude.{ℤ, ◌≡◌, ◌≢◌, ◌↔◌, ◌⊎◌, ◌<◌, ◌^◌, length, true, false, IfOk, IfSome, IsNone, IsTrue};
 ghost use Rattle.std.specs.List.{All, Contains};
 ghost use Rattle.cps_instance.specs.Posting.{atom_of};
 ghost use Rattle.cps_trail.specs.Trail.{IsFalseNow};

@@ -4,9 +4,8 @@
 //! ones come back in the order in which it shared them, and only the next of them has to be compared. The clause of an
 //! own row is in force already: added once more, it would be stored and watched twice.
 
-ghost use Rattle.std.specs.Prelude.{◌≡◌, ◌≤◌, ◌<◌, length, IsTrue};
+ghost use Rattle.std.specs.Prelude.{◌≤◌, IsTrue};
 ghost use Rattle.cps_port.specs.Entries.{entry_clause, most_atoms};
-ghost use Rattle.cps_clauses.specs.Watches.{clause_of};
 ghost use Rattle.cps_search.specs.Shelves.{shelf_of, StandsIn};
 
 use cps_clauses::ClauseBase;
@@ -56,9 +55,7 @@ impl OwnRows {
         if own.row != entry.row {
             return false;
         }
-        if self.taken < self.rows.len() {
-            self.taken += 1;
-        }
+        self.taken += 1;
         stands_at(base, own.clause, entry.clause())
     }
 }

@@ -1,4 +1,4 @@
-use Rattle.std.proofs.Common.{◌≡◌, ◌+◌, []}
+use Rattle.std.proofs.Common.{◌+◌, []}
 use Rattle.cps_trail.specs.Trail.{open_values}
 use Rattle.cps_search.specs.Ends.{IsOver}
 use Rattle.cps_search.specs.Keeps.{Keeps}

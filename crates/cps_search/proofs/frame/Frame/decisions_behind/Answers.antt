@@ -1,4 +1,4 @@
-use Rattle.std.proofs.Common.{◌≡◌, ◌∙◌, false, ap, refl, subst, sym}
+use Rattle.std.proofs.Common.{◌≡◌, ◌∙◌, false, refl, subst, sym}
 use Rattle.cps_search.specs.Growing.{AreBehindIn}
 use Rattle.cps_search.specs.Searches.{Search}
 use Rattle.cps_search.proofs.Viewing.{as_running}

@@ -1,11 +1,11 @@
-use Rattle.std.specs.Prelude.{None, unsigned_abs}
+use Rattle.std.specs.Prelude.{None}
 use Rattle.std.specs.List.{All}
 use mir.Facts.{to_z-of_z}
-use Rattle.std.proofs.Common.{◌≡◌, ◌+◌, ◌∙◌, ◌<◌, ◌^◌, ℤ, [], ◌∷◌, ◌++◌, length, sym, subst, ap}
+use Rattle.std.proofs.Common.{◌≡◌, ◌∙◌, ◌<◌, ◌^◌, ℤ, [], ◌∷◌, ◌++◌, length, sym, subst, ap}
 use Rattle.cps_domain.specs.Window.{intervals}
 use Rattle.cps_instance.specs.Problem.{Defines, sum_task}
 use Rattle.cps_instance.specs.Sums.{DefinedSum}
-use Rattle.cps_instance.specs.Terms.{Domains, terms_reach}
+use Rattle.cps_instance.specs.Terms.{Domains}
 use Rattle.cps_trail.specs.Trail.{IsSound}
 use Rattle.cps_propagate.specs.Agenda.{Agenda}
 use Rattle.cps_search.specs.declared.end.Phase.TheVariants.{Stepping}
