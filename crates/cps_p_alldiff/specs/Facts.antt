@@ -19,7 +19,8 @@ abbrev pub is_held : List ℤ → Option ℕ → Interval → ℕ → Bool
 is_held xs apart h i = is_other apart i && lies_in h (value_at xs i)
 
 -- with the facts, so many positions of other subjects have their values in an interval
-pub record AreHolding (s : Trail) (is : List ℕ) (apart : Option ℕ) (h : Interval) (n : ℕ) (us : List Atom) : Type 0 where
+pub record AreHolding (s : Trail) (is : List ℕ) (apart : Option ℕ) (h : Interval) (n : ℕ)
+    (us : List Atom) : Type 0 where
   pub facts : AreFacts s us
   pub held : (xs : List ℤ) → AllTrueAt xs us → n ≤ count_by (is_held xs apart h) is
 

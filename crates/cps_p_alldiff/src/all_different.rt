@@ -1,4 +1,9 @@
 //! The rule of all-different.
+//!
+//! A look measures the ends of all subjects and asks whether an interval is crowded (`judge`). Where none is, the
+//! values of fixed positions leave the others, and then those of full intervals (`bars`). A hint is the ends of an
+//! interval, so an explanation counts again, in the domains as they were: for a narrowing as many positions as the
+//! interval has numbers, apart from the narrowed one; for a conflict one more.
 ghost use Rattle.std.specs.Prelude.{◌≡◌, IfOk, IfSome, IsTrue, Contains};
 ghost use Rattle.cps_p_alldiff.specs.Intervals.{AreEnds};
 

@@ -36,8 +36,8 @@ pub(crate) struct Crowd {
     pub(crate) needed: u64,
 }
 
-/// Puts facts in the place of what a list holds by which there is a crowd. Answers whether there is one. Each fact is as
-/// weak as that needs.
+/// Puts facts in the place of what a list holds by which there is a crowd. Answers whether there is one. Each fact is
+/// as weak as that needs.
 pub(crate) fn hold(
     past: &Before,
     subjects: &[u32],

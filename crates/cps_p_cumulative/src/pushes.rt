@@ -1,5 +1,9 @@
 //! What the level at a time leaves to single events.
 //!
+//! The room of an event is what the least level leaves up to the limit without the event's own share. An event whose
+//! least change passes its room comes later or not at all. Where the room is below 0 the event is needed: it takes
+//! place by the time, with a change no greater than the room.
+//!
 //! Nothing is claimed here: what is found is certified before it is used.
 ghost use Rattle.std.specs.Prelude.{◌≡◌, ◌<◌, length, IfSome};
 ghost use Rattle.cps_p_cumulative.specs.Levels.{IsMoveOf};

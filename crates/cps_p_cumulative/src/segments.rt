@@ -1,5 +1,9 @@
 //! Where a span has no room beside the compulsory parts of others.
 //!
+//! The starts and ends of the parts, in order, cut the times into segments at each of which the parts demand the same.
+//! A span starts after the last time of a full segment that it would run in at its earliest, and so for its end. The
+//! span's own part is taken off where it is among the parts.
+//!
 //! Nothing is claimed here: what is found is certified before it is used.
 ghost use Rattle.std.specs.Prelude.{◌<◌, length};
 ghost use Rattle.cps_p_cumulative.specs.Running.{IsSpanOf};

@@ -47,8 +47,8 @@ fn give(
     requires target { case.now.target < length past.now.first }
     requires expr { case.now.expr < length past.now.first }
     requires place { case.now.place < 2 ^ 62 }
-    ensures yes { result ≡ Ok true
-        → Closes past.now case.now.index case.now.target case.now.expr case.now.place goal facts.old.items facts.new.items }
+    ensures yes { result ≡ Ok true → Closes past.now
+        case.now.index case.now.target case.now.expr case.now.place goal facts.old.items facts.new.items }
     ensures no { result ≡ Ok false → facts.new.items ≡ facts.old.items }
 {
     let Some(atom) = goal else {
@@ -90,7 +90,8 @@ fn close(
     requires target { case.now.target < length past.now.first }
     requires expr { case.now.expr < length past.now.first }
     requires place { case.now.place < 2 ^ 62 }
-    ensures { result ≡ Ok true → Closes past.now case.now.index case.now.target case.now.expr case.now.place goal facts.old.items facts.new.items }
+    ensures { result ≡ Ok true → Closes past.now
+        case.now.index case.now.target case.now.expr case.now.place goal facts.old.items facts.new.items }
 {
     if give(past, goal, case, facts)? {
         return Ok(true);

@@ -127,7 +127,8 @@ fn visit(
     requires given { All (λ n. IsGiven
         (Element lookup.now.index lookup.now.target lookup.now.exprs.now) store.now n.target) found.old.items }
     ensures given { OnOk result (All
-        (λ n. IsGiven (Element lookup.now.index lookup.now.target lookup.now.exprs.now) store.now n.target) found.new.items) }
+        (λ n. IsGiven (Element lookup.now.index lookup.now.target lookup.now.exprs.now) store.now n.target)
+        found.new.items) }
     ensures visited { IfOk result
         (IsVisited store.now lookup.now.index lookup.now.target lookup.now.exprs.now place scan) }
 {
@@ -184,7 +185,8 @@ pub(crate) fn scan_places(
 ) -> Result<Scan, AllocError>
     requires fits { IsFit store.now.first lookup.now.index lookup.now.target lookup.now.exprs.now }
     ensures given { OnOk result (All
-        (λ n. IsGiven (Element lookup.now.index lookup.now.target lookup.now.exprs.now) store.now n.target) found.new.items) }
+        (λ n. IsGiven (Element lookup.now.index lookup.now.target lookup.now.exprs.now) store.now n.target)
+        found.new.items) }
     ensures scanned { IfOk result (IsScanned store.now lookup.now.index lookup.now.target lookup.now.exprs.now) }
 {
     found.clear();
@@ -266,7 +268,8 @@ fn list_value(
     requires fits { IsFit store.now.first lookup.now.index lookup.now.target lookup.now.exprs.now }
     requires place { place < length lookup.now.exprs.now }
     requires small { place < 2 ^ 62 }
-    ensures { result ≡ Ok true → Lists store.now lookup.now.index lookup.now.target lookup.now.exprs.now place values.old.items values.new.items }
+    ensures { result ≡ Ok true → Lists store.now
+        lookup.now.index lookup.now.target lookup.now.exprs.now place values.old.items values.new.items }
 {
     let index = store.domain(lookup.index);
     if !index.contains(place as i64) {
@@ -285,7 +288,8 @@ fn list_value(
 /// Makes a list that of the values at the open places. Answers false where one of them has several.
 fn list_values(store: &Store, lookup: &Lookup, values: &mut Vec<i64>) -> Result<bool, AllocError>
     requires fits { IsFit store.now.first lookup.now.index lookup.now.target lookup.now.exprs.now }
-    ensures { result ≡ Ok true → AreListed store.now lookup.now.index lookup.now.target lookup.now.exprs.now values.new.items }
+    ensures { result ≡ Ok true → AreListed store.now
+        lookup.now.index lookup.now.target lookup.now.exprs.now values.new.items }
 {
     values.clear();
     let places = lookup.exprs.len();
@@ -333,7 +337,8 @@ pub(crate) fn look_up(
 ) -> Result<Look, AllocError>
     requires fits { IsFit store.now.first lookup.now.index lookup.now.target lookup.now.exprs.now }
     ensures given { OnOk result (All
-        (λ n. IsGiven (Element lookup.now.index lookup.now.target lookup.now.exprs.now) store.now n.target) found.new.items) }
+        (λ n. IsGiven (Element lookup.now.index lookup.now.target lookup.now.exprs.now) store.now n.target)
+        found.new.items) }
     ensures seen { IfOk result (IsSeen (Element lookup.now.index lookup.now.target lookup.now.exprs.now) store.now) }
     ensures rest { result ≡ Ok Look.Possible
         → IsAtRest (Element lookup.now.index lookup.now.target lookup.now.exprs.now) store.now }

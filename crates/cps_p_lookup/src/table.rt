@@ -1,4 +1,8 @@
 //! A table: the values are a row, or none where it is negated.
+//!
+//! The sign chooses between two rules. A table keeps each subject to the rows that are left (`rows`), and needs a fact
+//! against each other row; a negated one takes a row's value from the only column that is open (`bans`), and needs the
+//! values of that one row. A table without columns holds, whatever its rows and its sign, and gives nothing.
 
 ghost use Rattle.std.specs.Prelude.{◌≡◌, ◌<◌, length, All, OnOk, IfOk, Ok, true, IsTrue};
 ghost use Rattle.cps_rule.specs.Rules.{IsGiven, IsSeen, IsAtRest};
