@@ -39,13 +39,15 @@ pub record IsReady (m : CpModel) (c : Seated) : Type 0 where
 
 -- a worker took its turns up to its end, or ran out of memory
 pub record Worked (a b : Seated) : Type 0 where
-  pub seats : SeatsStay a.port.board.now b.port.board.now a.port.bounds.now b.port.bounds.now a.port.board_seat b.port.board_seat a.port.bounds_seat b.port.bounds_seat
+  pub seats : SeatsStay a.port.board.now b.port.board.now a.port.bounds.now b.port.bounds.now
+      a.port.board_seat b.port.board_seat a.port.bounds_seat b.port.bounds_seat
   pub kind : kind_of b.worker ≡ kind_of a.worker
   pub ended : b.refused ≡ false
       → HasEnded (boards.rows_of a.port.board.now) (known_of a.worker) (known_of b.worker) (part_at a) (part_at b)
 
 -- the worker of this number, which knows nothing yet, with seats of the two tables that have offered and raised nothing
-pub record IsSeated (m : CpModel) (gap conflicts : ℕ) (board : Board) (bounds : Bounds) (number : ℕ) (c : Seated) : Type 0 where
+pub record IsSeated (m : CpModel) (gap conflicts : ℕ) (board : Board) (bounds : Bounds) (number : ℕ)
+    (c : Seated) : Type 0 where
   pub begins : BeginsAs m gap conflicts (known_of c.worker)
   pub kind : kind_of c.worker ≡ worker_kind number
   pub board_is : c.port.board.now ≡ board
@@ -54,7 +56,8 @@ pub record IsSeated (m : CpModel) (gap conflicts : ℕ) (board : Board) (bounds 
   pub raised : (words_part c).raised ≡ None
 
 -- so many workers, by number
-pub record IsCrew (m : CpModel) (gap conflicts : ℕ) (board : Board) (bounds : Bounds) (crew : List Seated) : Type 0 where
+pub record IsCrew (m : CpModel) (gap conflicts : ℕ) (board : Board) (bounds : Bounds) (crew : List Seated)
+    : Type 0 where
   pub each : (i : ℕ) (d : Seated) → i < length crew → IsSeated m gap conflicts board bounds i (slice_index_or crew i d)
 
 -- a worker that ended honestly, by its guidance, its cores or its rounds
@@ -66,13 +69,15 @@ pub record IsDone (m : CpModel) (gap conflicts : ℕ) (q : BoundsPart) (s : AnyS
   pub goes : GoesByModel m gap conflicts (ending_in s end)
 
 -- the worker of this number has ended honestly, or ran out of memory
-pub record HasReturned (m : CpModel) (gap conflicts : ℕ) (board : Board) (bounds : Bounds) (number : ℕ) (c : Seated) : Type 0 where
+pub record HasReturned (m : CpModel) (gap conflicts : ℕ) (board : Board) (bounds : Bounds) (number : ℕ)
+    (c : Seated) : Type 0 where
   pub kind : kind_of c.worker ≡ worker_kind number
   pub board_is : c.port.board.now ≡ board
   pub bounds_is : c.port.bounds.now ≡ bounds
   pub done : c.refused ≡ false → IsDone m gap conflicts (words_part c) (known_of c.worker)
 
-pub record HaveReturned (m : CpModel) (gap conflicts : ℕ) (board : Board) (bounds : Bounds) (crew : List Seated) : Type 0 where
+pub record HaveReturned (m : CpModel) (gap conflicts : ℕ) (board : Board) (bounds : Bounds) (crew : List Seated)
+    : Type 0 where
   pub each : (i : ℕ) (d : Seated) → i < length crew
       → HasReturned m gap conflicts board bounds i (slice_index_or crew i d)
 
@@ -86,7 +91,8 @@ pub record EndedSeen (m : CpModel) (gap conflicts : ℕ) (k : BoundsPart) (e : E
   pub below : (b : Bound) → IsNoLower k.saw_lower b → IsNoLower part.saw_lower b
 
 -- the ends of so many workers, from one number on, whose seats were joined to one that had offered and raised nothing
-pub record AreGathered (m : CpModel) (gap conflicts first count : ℕ) (k : BoundsPart) (ends : List Ending) : Type 0 where
+pub record AreGathered (m : CpModel) (gap conflicts first count : ℕ) (k : BoundsPart) (ends : List Ending)
+    : Type 0 where
   pub kinds : map (λ (e : Ending). e.kind) ends ≡ map worker_kind (range_with_len first count)
   pub offered : k.offered ≡ best_bound m (best_of m ends)
   pub raised : (start : Bound) → raised_above k.raised start ≡ greatest_raised start ends

@@ -89,7 +89,8 @@ pub record TakesTurnAt (place rows : ℕ) (c d : Shared) (crew : List Turning) (
       (part_at c place) (part_at d place) next.over
 
 -- turns one after another, each of the worker that was drawn
-pub data TakesDrawnTurns (rows : ℕ) (c : Shared) (crew : List Turning) (words : Lcg) : Shared → List Turning → Lcg → Type 0 where
+pub data TakesDrawnTurns (rows : ℕ) (c : Shared) (crew : List Turning) (words : Lcg)
+    : Shared → List Turning → Lcg → Type 0 where
   none_yet : TakesDrawnTurns rows c crew words c crew words
   one_more : (d e : Shared) (later : List Turning) (next : Turning) (left : Lcg)
       → TakesDrawnTurns rows c crew words d later left → TakesTurnAt (drawn_place later left) rows d e later next

@@ -96,7 +96,8 @@ pub record Begins (m : CpModel) (gap conflicts : ℕ) (s : Search) : Type 0 wher
   pub is : s ≡ fresh instance gap (Some conflicts)
 
 -- one of a kind that goes by a guidance, which is what the model says
-pub record BeginsGuided (m : CpModel) (gap conflicts : ℕ) (kind : WorkerKind) (guidance : Guidance) (s : Search) : Type 0 where
+pub record BeginsGuided (m : CpModel) (gap conflicts : ℕ) (kind : WorkerKind) (guidance : Guidance) (s : Search)
+    : Type 0 where
   pub begins : Begins m gap conflicts s
   pub guided : GoesByGuidance kind
   pub guide : IsGuidedBy kind s.instance (Some guidance)

@@ -80,7 +80,8 @@ pub fn outcome_of(
     options: &Options,
     reached: Reached,
 ) -> Result<Outcome, AllocError>
-    requires { CameTo model.now options.now.gap options.now.conflicts options.now.workers reached.upper reached.lower reached.ends.items }
+    requires { CameTo model.now options.now.gap options.now.conflicts options.now.workers
+        reached.upper reached.lower reached.ends.items }
     ensures good { IfOk result (IsGoodOutcome model.now options.now) }
     ensures ends { IfOk result (λ o. o.ends ≡ reached.ends.items) }
 {

@@ -51,7 +51,8 @@ fn crew_of<'a>(
     requires range { AreInRange options.now }
     requires kinds { AreAllPropagated model.now }
     ensures count { IfOk result (λ crew. vec_len crew ≡ options.now.workers) }
-    ensures each { IfOk result (λ crew. AreFresh model.entry.now options.now.gap options.now.conflicts options.now.seed crew.items) }
+    ensures each { IfOk result (λ crew.
+        AreFresh model.entry.now options.now.gap options.now.conflicts options.now.seed crew.items) }
 {
     let mut crew = Vec::new(alloc);
     for number in 0..options.workers {

@@ -85,7 +85,8 @@ impl Port for TablePort<'_> {
 
     ghost part = { λ p. part_of p.board_seat p.bounds_seat };
 
-    ghost stays = { λ p q. SeatsStay p.board.now q.board.now p.bounds.now q.bounds.now p.board_seat q.board_seat p.bounds_seat q.bounds_seat };
+    ghost stays = { λ p q. SeatsStay p.board.now q.board.now p.bounds.now q.bounds.now
+        p.board_seat q.board_seat p.bounds_seat q.bounds_seat };
 
     ghost few = { λ p. p.board.now.few };
 
@@ -93,7 +94,9 @@ impl Port for TablePort<'_> {
 
     ghost unmoved = { λ p. stays_unmoved p.board.now p.bounds.now p.board_seat p.bounds_seat };
 
-    ghost moved_on = { λ p q r. stays_moved_on p.board.now q.board.now r.board.now p.bounds.now q.bounds.now r.bounds.now p.board_seat q.board_seat r.board_seat p.bounds_seat q.bounds_seat r.bounds_seat };
+    ghost moved_on = { λ p q r. stays_moved_on p.board.now q.board.now r.board.now
+        p.bounds.now q.bounds.now r.bounds.now p.board_seat q.board_seat r.board_seat
+        p.bounds_seat q.bounds_seat r.bounds_seat };
 
     fn upper(&mut self) -> Bound {
         self.bounds.upper(&mut self.bounds_seat)

@@ -54,7 +54,8 @@ fn seat_one<'a>(
     ensures splits { OnOk result (words.splits_of kept.new.bounds_seat
         ≡ words.splits_of kept.old.bounds_seat - words.splits_of kept.old.bounds_seat / 2) }
     ensures given { IfOk result (λ c. words_splits c ≡ words.splits_of kept.old.bounds_seat / 2) }
-    ensures seated { IfOk result (IsSeated model.entry.now options.now.gap options.now.conflicts kept.old.board.now kept.old.bounds.now number) }
+    ensures seated { IfOk result (IsSeated model.entry.now options.now.gap options.now.conflicts
+        kept.old.board.now kept.old.bounds.now number) }
 {
     let worker = AnyWorker::of(alloc, model, options, number)?;
     Ok(Seated {
@@ -82,7 +83,8 @@ fn seat_all<'a>(
     ensures splits { IfOk result (λ crew. words.splits_of kept.new.bounds_seat + total words_splits crew.items
         ≡ all_splits) }
     ensures count { IfOk result (λ crew. vec_len crew ≡ options.now.workers) }
-    ensures crew { IfOk result (λ crew. IsCrew model.entry.now options.now.gap options.now.conflicts kept.old.board.now kept.old.bounds.now crew.items) }
+    ensures crew { IfOk result (λ crew. IsCrew model.entry.now options.now.gap options.now.conflicts
+        kept.old.board.now kept.old.bounds.now crew.items) }
 {
     let mut crew = Vec::new(alloc);
     for number in 0..options.workers {
@@ -115,7 +117,8 @@ fn gather<'a>(
     requires idle { ((words.part_of kept.old.bounds_seat).offered ≡ Bound.Infinite)
         × ((words.part_of kept.old.bounds_seat).raised ≡ None) }
     requires splits { words.splits_of kept.old.bounds_seat + total words_splits crew.items ≡ all_splits }
-    requires crew { HaveReturned model.now options.now.gap options.now.conflicts kept.old.board.now kept.old.bounds.now crew.items }
+    requires crew { HaveReturned model.now options.now.gap options.now.conflicts
+        kept.old.board.now kept.old.bounds.now crew.items }
     ensures tables { (kept.new.board.now ≡ kept.old.board.now) × (kept.new.bounds.now ≡ kept.old.bounds.now) }
     ensures splits { OnOk result (words.splits_of kept.new.bounds_seat ≡ all_splits) }
     ensures gathered { IfOk result

@@ -111,7 +111,8 @@ fn near_worker<'a>(
 ) -> Result<AimedWorker<'a>, AllocError>
     requires range { AreInRange options.now }
     requires kinds { AreAllPropagated model.now }
-    ensures begins { IfOk result (λ near. BeginsRounds model.entry.now options.now.gap options.now.conflicts near.worker) }
+    ensures begins { IfOk result (λ near.
+        BeginsRounds model.entry.now options.now.gap options.now.conflicts near.worker) }
     ensures draws { IfOk result (λ near. near.worker.draws ≡ draws_of options.now.seed (16 + number)) }
 {
     let Options {

@@ -94,7 +94,8 @@ IsFaultText (input_error.Fault fault) answer = IsText 1 (fault_text fault) answe
 IsFaultText input_error.OutOfMemory answer = ⊥
 
 -- a command that reads a model: what it does with the one that the input is the text of, and else why there is none
-pub data AnswersInput (is_input : List ℕ → CpModel → Type 0) (does : CpModel → Answer → Type 0) (bytes : List ℕ) (answer : Answer) : Type 0 where
+pub data AnswersInput (is_input : List ℕ → CpModel → Type 0) (does : CpModel → Answer → Type 0) (bytes : List ℕ)
+    (answer : Answer) : Type 0 where
   taken : (m : CpModel) → is_input bytes m → does m answer → AnswersInput is_input does bytes answer
   refused : (fault : Fault) → HasFault bytes fault → HasNo is_input bytes → IsText 1 (fault_text fault) answer
       → AnswersInput is_input does bytes answer
