@@ -321,21 +321,25 @@ def slow_texts():
 
 
 def slow_runs(runs, program):
-    """How long `validate` takes for each, and how much memory it has beside its text."""
+    """How long `validate` takes for each, and the most memory that it has, over the size of the text."""
     for what, text in slow_texts():
-        with tempfile.NamedTemporaryFile() as file:
-            file.write(text)
-            file.flush()
+        with tempfile.TemporaryFile() as source, tempfile.TemporaryFile() as out, tempfile.TemporaryFile() as error:
+            source.write(text)
+            source.seek(0)
             begun = time.monotonic()
-            with open(file.name, "rb") as source:
-                process = subprocess.Popen([program, "validate"], stdin=source, stdout=subprocess.PIPE, stderr=subprocess.PIPE)
-                out, error = process.communicate(timeout=300)
-            # the greatest of all children so far, so that texts come in rising order of what they take only by chance
-            used = resource.getrusage(resource.RUSAGE_CHILDREN).ru_maxrss * 1024
-        ran = (process.returncode, out, error)
+            limit = lambda: resource.setrlimit(resource.RLIMIT_CPU, (300, 300))
+            process = subprocess.Popen([program, "validate"], stdin=source, stdout=out, stderr=error, preexec_fn=limit)
+            # (the use of this child alone, and not the most of all)
+            _, status, usage = os.wait4(process.pid, 0)
+            process.returncode = os.waitstatus_to_exitcode(status)
+            taken = time.monotonic() - begun
+            out.seek(0)
+            error.seek(0)
+            ran = (process.returncode, out.read(), error.read())
         runs.note("slow text", is_answer(["validate"], ran), "%s: %s" % (what, show(ran)))
-        print("faults: %s: %.1f MB of text, %.2f s, %s, most memory so far %.1f MB (%.1f times this text)" % (
-            what, len(text) / 1e6, time.monotonic() - begun, out.split(b"\n")[-2].decode(), used / 1e6, used / len(text)))
+        used = usage.ru_maxrss * 1024
+        print("faults: %s: %.1f MB of text, %.2f s, %s, %.1f MB (%.1f times the text)" % (
+            what, len(text) / 1e6, taken, ran[1].split(b"\n")[-2].decode(), used / 1e6, used / len(text)))
 
 
 def main():
