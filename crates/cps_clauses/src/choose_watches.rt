@@ -105,7 +105,8 @@ pub(crate) fn choose_watches(
     }
     let two = last_two(store, &atoms);
     rewatch(watching, clauses, clause, two.place, two.other)?;
-    if two.second > store.entries().len() {
+    if two.other_fell > store.entries().len() {
+        // Two atoms are not false: nothing to do.
         return Ok(false);
     }
     settle_last(store, number, &atoms, two.place)

@@ -16,7 +16,7 @@ pub(crate) struct ListWalk {
 impl ListWalk {
     ghost use Rattle.std.specs.Prelude.{◌≡◌};
 
-    /// The atom with this number.
+    /// The atom of the walk, by the value that the atom compares with.
     pub(crate) fn atom(self, value: i64) -> Atom
         ensures { result ≡ record { subject = self.subject; op = self.op; value = value } }
     {

@@ -466,8 +466,8 @@ impl Minimiser {
         requires fits { AllFit (E.fits explain.now) store.now }
         requires nodes { self.old.nodes.items ≡ [] }
         ensures { IfOk result (Collects
-            (AreTrueReasons (E.makes explain.now store.now) store.now) store.now resolvent.now.start resolvent.now.earlier
-            self.old.assert resolvent.now.earlier atoms.new.items) }
+            (AreTrueReasons (E.makes explain.now store.now) store.now) store.now
+            resolvent.now.start resolvent.now.earlier self.old.assert resolvent.now.earlier atoms.new.items) }
     {
         atoms.clear();
         let mut latest = 0;

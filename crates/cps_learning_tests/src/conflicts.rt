@@ -13,7 +13,7 @@ ghost use Rattle.cps_learning_tests.specs.Resting.{IsAtRest};
 use crate::resting::{settle, settle_more};
 use crate::small::{bits, decide, one, zero};
 use cps_clauses::ClauseBase;
-use cps_conflict::{Analyser, conflict_level};
+use cps_conflict::{Analyser, Learnt, conflict_level};
 use cps_domain::Domain;
 use cps_literal::{Atom, Clause, Op, Truth};
 use cps_trail::{Explain, Store};
@@ -140,6 +140,28 @@ struct Lesson {
     assert: Atom,
 }
 
+/// A clause of this atom alone.
+fn unit(atom: Atom) -> Lesson {
+    Lesson {
+        count: 1,
+        first: atom,
+        back_level: 0,
+        assert: atom,
+    }
+}
+
+/// What is looked at of a learnt clause; `None` if it has no atom.
+fn lesson_in(learnt: &Learnt) -> Option<Lesson> {
+    let atoms = learnt.clause.as_slice();
+    let first = atoms.first()?;
+    Some(Lesson {
+        count: atoms.len(),
+        first: *first,
+        back_level: learnt.back_level,
+        assert: learnt.assert,
+    })
+}
+
 /// What a conflict of the present level teaches.
 fn taught<E: Explain>(
     alloc: Global,
@@ -158,16 +180,7 @@ fn taught<E: Explain>(
     }
     let mut analyser = Analyser::new(alloc);
     let learnt = analyser.analyse(store, conflict, explain)?;
-    let atoms = learnt.clause.as_slice();
-    let Some(first) = atoms.first() else {
-        return Ok(None);
-    };
-    Ok(Some(Lesson {
-        count: atoms.len(),
-        first: *first,
-        back_level: learnt.back_level,
-        assert: learnt.assert,
-    }))
+    Ok(lesson_in(&learnt))
 }
 
 /// What a conflict teaches in a store of three subjects with the values 0 and 1, and one with 1, 3 and 5.
@@ -190,8 +203,13 @@ struct Row<'a> {
     lesson: Lesson,
 }
 
+/// Whether the conflict of a row teaches the row's lesson.
+fn teaches(alloc: Global, row: Row) -> Result<bool, AllocError> {
+    Ok(lesson_of(alloc, row.steps, row.conflict)? == Some(row.lesson))
+}
+
 #[test]
-fn conflicts_teach(rt: HostRuntime) -> Result<(), Fail> {
+fn the_first_point_through_which_all_goes_is_asserted(rt: HostRuntime) -> Result<(), Fail> {
     let rows = [
         Row {
             name: "the decision is asserted",
@@ -201,12 +219,7 @@ fn conflicts_teach(rt: HostRuntime) -> Result<(), Fail> {
                 Step::Imply(at_least(0, 1), at_least(2, 1)),
             ],
             conflict: &[at_most(1, 0), at_most(2, 0)],
-            lesson: Lesson {
-                count: 1,
-                first: at_least(0, 1),
-                back_level: 0,
-                assert: at_least(0, 1),
-            },
+            lesson: unit(at_least(0, 1)),
         },
         Row {
             name: "the first point through which all goes is not the decision",
@@ -217,13 +230,24 @@ fn conflicts_teach(rt: HostRuntime) -> Result<(), Fail> {
                 Step::Imply(at_most(1, 0), other_than(3, 3)),
             ],
             conflict: &[at_most(2, 0), equal(3, 3)],
-            lesson: Lesson {
-                count: 1,
-                first: at_most(1, 0),
-                back_level: 0,
-                assert: at_most(1, 0),
-            },
+            lesson: unit(at_most(1, 0)),
         },
+        Row {
+            name: "two sides are united",
+            steps: &[Step::Decide(equal(3, 3))],
+            conflict: &[at_most(3, 2), at_least(3, 4)],
+            lesson: unit(other_than(3, 3)),
+        },
+    ];
+    for row in rows {
+        assert!(rt; teaches(rt.alloc(), row)?, "{}", row.name);
+    }
+    Ok(())
+}
+
+#[test]
+fn what_fell_at_earlier_levels_is_named_unless_redundant(rt: HostRuntime) -> Result<(), Fail> {
+    let rows = [
         Row {
             name: "what closes a gap is named",
             steps: &[
@@ -238,17 +262,6 @@ fn conflicts_teach(rt: HostRuntime) -> Result<(), Fail> {
                 first: at_least(1, 1),
                 back_level: 1,
                 assert: at_least(1, 1),
-            },
-        },
-        Row {
-            name: "two sides are united",
-            steps: &[Step::Decide(equal(3, 3))],
-            conflict: &[at_most(3, 2), at_least(3, 4)],
-            lesson: Lesson {
-                count: 1,
-                first: other_than(3, 3),
-                back_level: 0,
-                assert: other_than(3, 3),
             },
         },
         Row {
@@ -269,8 +282,7 @@ fn conflicts_teach(rt: HostRuntime) -> Result<(), Fail> {
         },
     ];
     for row in rows {
-        let answer = lesson_of(rt.alloc(), row.steps, row.conflict)?;
-        assert!(rt; answer == Some(row.lesson), "{}", row.name);
+        assert!(rt; teaches(rt.alloc(), row)?, "{}", row.name);
     }
     Ok(())
 }
@@ -302,12 +314,6 @@ fn lesson_by_notes(alloc: Global) -> Result<Option<Lesson>, AllocError> {
 
 #[test]
 fn notes_of_clauses_teach_the_same(rt: HostRuntime) -> Result<(), Fail> {
-    let wanted = Lesson {
-        count: 1,
-        first: one(0),
-        back_level: 0,
-        assert: one(0),
-    };
-    assert!(rt; lesson_by_notes(rt.alloc())? == Some(wanted));
+    assert!(rt; lesson_by_notes(rt.alloc())? == Some(unit(one(0))));
     Ok(())
 }

@@ -8,6 +8,7 @@ use crate::small::{bits, one, zero};
 use cps_clauses::{ClauseBase, JournalItem, Origin};
 use cps_literal::{Atom, normal_clause};
 use cps_model::Bound;
+use cps_trail::Store;
 use std::alloc::{AllocError, Global};
 use std::test::Fail;
 
@@ -56,12 +57,22 @@ fn looked_at(alloc: Global, base: &ClauseBase, count: u32) -> Result<Left, Alloc
     })
 }
 
+/// Learns three clauses, and forgets all but so many of those that may go. How many went.
+fn learn_and_forget(
+    alloc: Global,
+    base: &mut ClauseBase,
+    store: &Store,
+    keep: u32,
+) -> Result<u32, AllocError> {
+    learn_three(alloc, base)?;
+    base.forget(store, keep)
+}
+
 /// What is left of three learnt clauses where no note names one.
 fn left_of_three(alloc: Global, keep: u32) -> Result<Left, AllocError> {
     let store = bits(alloc)?;
     let mut base = ClauseBase::new(alloc);
-    learn_three(alloc, &mut base)?;
-    let count = base.forget(&store, keep)?;
+    let count = learn_and_forget(alloc, &mut base, &store, keep)?;
     looked_at(alloc, &base, count)
 }
 
@@ -110,6 +121,16 @@ fn the_longest_goes_first(rt: HostRuntime) -> Result<(), Fail> {
     Ok(())
 }
 
+/// Learns a clause of two atoms, and forgets all that may go. How many went.
+fn learn_short_and_forget(
+    alloc: Global,
+    base: &mut ClauseBase,
+    store: &Store,
+) -> Result<u32, AllocError> {
+    learn(alloc, base, &[one(1), one(2)])?;
+    base.forget(store, 0)
+}
+
 /// What is left where the longest clause made an atom true, and a short one that did nothing was learnt last.
 fn left_of_named(alloc: Global) -> Result<Left, AllocError> {
     let mut store = bits(alloc)?;
@@ -117,8 +138,7 @@ fn left_of_named(alloc: Global) -> Result<Left, AllocError> {
     settle_more(alloc, &mut base, &mut store, &[one(0), one(1), one(2)])?;
     settle_more(alloc, &mut base, &mut store, &[zero(0)])?;
     settle_more(alloc, &mut base, &mut store, &[zero(1)])?;
-    learn(alloc, &mut base, &[one(1), one(2)])?;
-    let count = base.forget(&store, 0)?;
+    let count = learn_short_and_forget(alloc, &mut base, &store)?;
     looked_at(alloc, &base, count)
 }
 
@@ -138,8 +158,7 @@ fn a_clause_that_a_note_names_stays(rt: HostRuntime) -> Result<(), Fail> {
 fn told_after_drops(alloc: Global) -> Result<[bool; 3], AllocError> {
     let store = bits(alloc)?;
     let mut base = ClauseBase::new(alloc);
-    learn_three(alloc, &mut base)?;
-    base.forget(&store, 1)?;
+    learn_and_forget(alloc, &mut base, &store, 1)?;
     learn(alloc, &mut base, &[one(1), zero(3)])?;
     Ok([
         has_clause(&base, 1, &[one(0), one(1)]),

@@ -46,9 +46,7 @@ fn learn_two(alloc: Global, base: &mut ClauseBase) -> Result<(), AllocError> {
 }
 
 /// What is read of them in the journal.
-fn two_read(alloc: Global) -> Result<[bool; 4], AllocError> {
-    let mut base = ClauseBase::new(alloc);
-    learn_two(alloc, &mut base)?;
+fn read(alloc: Global, base: &ClauseBase) -> Result<[bool; 4], AllocError> {
     let journal = base.journal();
     Ok([
         says(alloc, journal, 0, &[one(0), one(1)], Bound::Infinite)?,
@@ -57,6 +55,13 @@ fn two_read(alloc: Global) -> Result<[bool; 4], AllocError> {
         // Five atoms of four bytes, at least.
         journal.room() >= 20,
     ])
+}
+
+/// The same once they are learnt.
+fn two_read(alloc: Global) -> Result<[bool; 4], AllocError> {
+    let mut base = ClauseBase::new(alloc);
+    learn_two(alloc, &mut base)?;
+    read(alloc, &base)
 }
 
 #[test]

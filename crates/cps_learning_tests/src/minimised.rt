@@ -3,11 +3,9 @@
 //! The clauses that are wanted were found by hand, by following reasons. Contracts say only that a minimised clause
 //! follows; that these atoms go, and those stay, is seen here.
 
-ghost use Rattle.std.specs.Prelude.{ℕ, ◌≡◌, ◌<◌, length, IsTrue};
-
 use crate::conflicts::{Nobody, Step, all_false, at_least, at_most, lead};
 use crate::small::{one, zero};
-use cps_conflict::{Analyser, conflict_level};
+use cps_conflict::{Analyser, Learnt, conflict_level};
 use cps_domain::Domain;
 use cps_literal::Atom;
 use cps_trail::Store;
@@ -43,6 +41,13 @@ struct Row<'a> {
     assert: Atom,
 }
 
+/// Whether a learnt clause is that of a row.
+fn is_of(learnt: &Learnt, row: Row) -> bool {
+    learnt.clause.as_slice() == row.clause
+        && learnt.back_level == row.back_level
+        && learnt.assert == row.assert
+}
+
 /// Whether the conflict of a row, at the present level, teaches the row's clause.
 fn teaches(alloc: Global, store: &Store, row: Row) -> Result<bool, AllocError> {
     if !all_false(store, row.conflict) {
@@ -54,11 +59,7 @@ fn teaches(alloc: Global, store: &Store, row: Row) -> Result<bool, AllocError> {
     }
     let mut analyser = Analyser::new(alloc);
     let learnt = analyser.analyse(store, row.conflict, &Nobody)?;
-    Ok(
-        learnt.clause.as_slice() == row.clause
-            && learnt.back_level == row.back_level
-            && learnt.assert == row.assert,
-    )
+    Ok(is_of(&learnt, row))
 }
 
 fn check(alloc: Global, row: Row) -> Result<bool, AllocError> {
@@ -97,6 +98,16 @@ fn what_the_others_imply_goes(rt: HostRuntime) -> Result<(), Fail> {
             back_level: 1,
             assert: zero(3),
         },
+    ];
+    for row in rows {
+        assert!(rt; check(rt.alloc(), row)?, "{}", row.name);
+    }
+    Ok(())
+}
+
+#[test]
+fn what_level_0_or_the_assertion_implies_goes(rt: HostRuntime) -> Result<(), Fail> {
+    let rows = [
         Row {
             name: "through two that level 0 gives",
             steps: &[
