@@ -1,8 +1,9 @@
-//! A brancher that takes the variables of recent learnt clauses first.
+//! A brancher that takes the variable of which most learnt clauses spoke first.
 //!
-//! Activities are counts of learnt clauses, as in Chaff, and are halved only when one reaches 2^40: whole numbers make
-//! the choice a function of what was learnt, with no rounding. The ranking (`ranking`) finds the greatest without a
-//! look at each variable. Values do not go by activity: the hint's value is tried first, and without one the least.
+//! Activities are counts of learnt clauses, and are halved only when one reaches 2^40, which no worker of the program
+//! comes to: so nothing decays. Whole numbers make the choice a function of what was learnt, with no rounding. The
+//! ranking (`ranking`) finds the greatest without a look at each variable. Values do not go by activity: the hint's
+//! value is tried first, and without one the least.
 ghost use Rattle.std.specs.Prelude.{ℕ, ◌≡◌, ◌≤◌, ◌^◌, length, IfOk};
 
 use crate::brancher::Brancher;
@@ -45,9 +46,21 @@ impl Model for ActivityBrancher {
 
     ghost Value = { ByActivity };
 
-    ghost view = { λ b. record { activities = b.activities.items; pace = b.restarts; hints = b.hints.items; aside = aside_of b.ranking } };
+    ghost view = { λ b. record {
+      activities = b.activities.items;
+      pace = b.restarts;
+      hints = b.hints.items;
+      aside = aside_of b.ranking;
+    } };
 
-    ghost invariant = { λ b. (length b.activities.items ≤ 2 ^ 31) × (length b.marks.items ≡ length b.activities.items) × (length b.hints.items ≡ length b.activities.items) × (AreSmall b.activities.items) × (NoneMarked b.marks.items) × (IsRanking b.ranking) × (size_of b.ranking ≡ length b.activities.items) × (HaveActivities b.activities.items b.ranking.nodes.items) };
+    ghost invariant = { λ b. (length b.activities.items ≤ 2 ^ 31)
+        × (length b.marks.items ≡ length b.activities.items)
+        × (length b.hints.items ≡ length b.activities.items)
+        × (AreSmall b.activities.items)
+        × (NoneMarked b.marks.items)
+        × (IsRanking b.ranking)
+        × (size_of b.ranking ≡ length b.activities.items)
+        × (HaveActivities b.activities.items b.ranking.nodes.items) };
 }
 
 impl ActivityBrancher {
@@ -124,7 +137,9 @@ impl Brancher for ActivityBrancher {
 
     ghost chooses = { λ b s atom. (length b.activities ≡ length b.hints) × ChoosesHinted b.activities b.hints s atom };
 
-    ghost hears = { λ b clause restart c. AreBumped clause b.activities c.activities × CountsConflict b.pace c.pace restart × (c.hints ≡ b.hints) };
+    ghost hears = { λ b clause restart c. AreBumped clause b.activities c.activities
+        × CountsConflict b.pace c.pace restart
+        × (c.hints ≡ b.hints) };
 
     ghost stays = { λ b c. (c.activities ≡ b.activities) × (c.pace ≡ b.pace) × (c.hints ≡ b.hints) };
 

@@ -37,7 +37,8 @@ impl Model for FixedBrancher {
 
     ghost view = { λ b. record { plan = b.plan; fixed_after = take b.known b.fixed_after.items } };
 
-    ghost invariant = { λ b. (b.known ≤ length b.fixed_after.items) × (length b.fixed_after.items ≡ length (order_in b.plan)) };
+    ghost invariant = { λ b. (b.known ≤ length b.fixed_after.items)
+        × (length b.fixed_after.items ≡ length (order_in b.plan)) };
 }
 
 impl FixedBrancher {
@@ -139,7 +140,8 @@ impl Brancher for FixedBrancher {
 
     ghost none_kept = { λ b s. none_kept (order_in b.plan) b.plan.subjects b.fixed_after s };
 
-    ghost kept_on = { λ b s t k n l same agrees. kept_on (order_in b.plan) b.plan.subjects b.fixed_after s t k n l same agrees };
+    ghost kept_on = { λ b s t k n l same agrees. kept_on
+        (order_in b.plan) b.plan.subjects b.fixed_after s t k n l same agrees };
 
     fn choose(&mut self, store: &Store) -> Option<Atom> {
         self.choose_from(store, 0)

@@ -6,7 +6,7 @@ ghost use Rattle.cps_branch.specs.Choice.{IsUndecided};
 ghost use Rattle.cps_branch.specs.Strategies.{Admits};
 ghost use Rattle.cps_branch.specs.Hints.{hinted_value, hinted_in, hint_for, TakesHinted};
 
-use crate::scan::at_least_value;
+use crate::scan::take_least;
 use cps_literal::{Atom, Op};
 use cps_model::{Hint, variable_of};
 use cps_trail::Store;
@@ -97,9 +97,9 @@ pub(crate) fn at_hint(store: &Store, subject: u32, hint: Option<i64>) -> Atom
                     value,
                 }
             } else {
-                at_least_value(store, subject)
+                take_least(store, subject)
             }
         }
-        None => at_least_value(store, subject),
+        None => take_least(store, subject),
     }
 }

@@ -9,7 +9,7 @@ ghost use Rattle.cps_branch.specs.Fixed.{IsFixed};
 ghost use Rattle.cps_branch.specs.Choice.{IsUndecided};
 ghost use Rattle.cps_branch.specs.Strategies.{AreWithin, ChoosesSteered, IsOpenPlace, listed, order_in, order_of};
 
-use crate::scan::{at_least_value, first_open_place};
+use crate::scan::{first_open_place, take_least};
 use crate::strategy::decided_at;
 use cps_instance::{Instance, Steering};
 use cps_literal::Atom;
@@ -36,7 +36,9 @@ impl Model for Plan {
 
     ghost view = { λ p. record { strategies = p.strategies.items; variables = p.variables; subjects = p.subjects } };
 
-    ghost invariant = { λ p. (AreWithin p.subjects p.strategies.items) × (p.variables ≤ p.subjects) × (p.order.items ≡ order_of p.strategies.items p.variables) };
+    ghost invariant = { λ p. (AreWithin p.subjects p.strategies.items)
+        × (p.variables ≤ p.subjects)
+        × (p.order.items ≡ order_of p.strategies.items p.variables) };
 }
 
 /// A copy of a strategy.
@@ -157,7 +159,7 @@ impl Plan {
     {
         match decided_at(store, &self.strategies, place) {
             Some(atom) => atom,
-            None => at_least_value(store, self.order[place]),
+            None => take_least(store, self.order[place]),
         }
     }
 }

@@ -69,7 +69,7 @@ pub fn any_open(store: &Store, from: usize, count: usize) -> usize
 }
 
 /// The atom that gives a subject its least value.
-pub(crate) fn at_least_value(store: &Store, subject: u32) -> Atom
+pub(crate) fn take_least(store: &Store, subject: u32) -> Atom
     requires subject { subject < length store.now.first }
     requires open_now { IsFixed store.now subject → ⊥ }
     ensures subject { result.subject ≡ subject }

@@ -43,7 +43,8 @@ fn play(nodes: &mut [Contender], node: usize)
     nodes[node] = winner(nodes[2 * node], nodes[2 * node + 1]);
 }
 
-/// Plays the matches on the way from a node to the top once more, after the contender at the node has changed.
+/// Plays the matches on the way from a node to the top once more, after the contender at the node has changed. `count`
+/// is there for the contract alone.
 fn play_up(nodes: &mut [Contender], count: usize, from: usize)
     requires size { length nodes.old ≡ 2 * count }
     requires low { 1 ≤ from }

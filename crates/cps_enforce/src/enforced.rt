@@ -3,7 +3,7 @@
 use crate::explain::{Asked, explain_by_past, explain_by_rule};
 use crate::narrow::{Header, Room};
 use crate::reasons::push_all_subjects;
-use crate::settle::run;
+use crate::settle::visit;
 use cps_literal::Atom;
 use cps_propagate::{Answer, Propagator, Wake};
 use cps_rule::{Narrowing, Rule};
@@ -70,7 +70,7 @@ impl<R: Rule> Propagator for Enforced<R> {
             number,
             enforcement: self.enforcement.as_slice(),
         };
-        match run(
+        match visit(
             &header,
             &mut self.rule,
             &mut self.found,

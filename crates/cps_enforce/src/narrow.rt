@@ -15,9 +15,10 @@ ghost use Rattle.cps_rule.specs.Rules.{IsGiven, IsImpossible};
 ghost use Rattle.cps_enforce.specs.Reasons.{task_of};
 ghost use Rattle.cps_enforce.specs.Settling.{IsInForce, IsResting};
 
-use crate::reasons::{deny_all, give_by, push_all_subjects, refuse_by};
+use crate::reasons::{conflict_by, deny_all, give_by, push_all_subjects};
+use cps_domain::Cut;
 use cps_literal::Atom;
-use cps_propagate::{Answer, narrow_later};
+use cps_propagate::Answer;
 use cps_rule::{Hint, Look, Narrowing, Rule};
 use cps_trail::{Note, Store};
 use std::alloc::{AllocError, Global};
@@ -50,7 +51,7 @@ impl Room {
 }
 
 /// Makes the conflict that names every earlier narrowing of what the task reads.
-fn refuse_by_past<R: Rule>(
+fn conflict_by_past<R: Rule>(
     enforcement: &[Atom],
     rule: &R,
     room: &mut Room,
@@ -69,7 +70,7 @@ fn refuse_by_past<R: Rule>(
 }
 
 /// Makes the conflict of a body that cannot hold.
-fn refuse<R: Rule>(
+fn conflict_of<R: Rule>(
     enforcement: &[Atom],
     rule: &R,
     hint: Hint,
@@ -85,10 +86,10 @@ fn refuse<R: Rule>(
     let is_refuted = rule.refute(&past, hint, &mut room.facts)?;
     if is_refuted {
         let facts = room.facts.as_slice();
-        refuse_by(&past, enforcement, facts, &mut room.conflict)?;
+        conflict_by(&past, enforcement, facts, &mut room.conflict)?;
         return Ok(());
     }
-    refuse_by_past(enforcement, rule, room, store)?;
+    conflict_by_past(enforcement, rule, room, store)?;
     Ok(())
 }
 
@@ -114,7 +115,7 @@ fn contradict<R: Rule>(
         give_by(&past, enforcement, facts, target, &mut room.conflict)?;
         return Ok(());
     }
-    refuse_by_past(enforcement, rule, room, store)?;
+    conflict_by_past(enforcement, rule, room, store)?;
     Ok(())
 }
 
@@ -141,9 +142,9 @@ fn narrow<R: Rule>(
         a: narrowing.hint.a,
         b: narrowing.hint.b,
     };
-    let is_made = narrow_later(store, narrowing.target, note)?;
-    if is_made {
-        return Ok(Answer::Settled);
+    match store.imply_later(narrowing.target, note)? {
+        Cut::Narrowed | Cut::NoChange => return Ok(Answer::Settled),
+        Cut::Wiped => {}
     }
     contradict(header.enforcement, rule, narrowing, room, store)?;
     Ok(Answer::Conflict)
@@ -201,7 +202,7 @@ pub(crate) fn pass<R: Rule>(
             Ok(answer)
         }
         Look::Impossible(hint) => {
-            refuse(header.enforcement, rule, hint, room, store)?;
+            conflict_of(header.enforcement, rule, hint, room, store)?;
             Ok(Answer::Conflict)
         }
     }

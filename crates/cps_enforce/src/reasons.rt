@@ -47,7 +47,7 @@ fn deny_both(
 }
 
 /// Makes the conflict of a body that cannot hold beside facts, in force.
-pub(crate) fn refuse_by(
+pub(crate) fn conflict_by(
     past: &Before,
     enforcement: &[Atom],
     facts: &[Atom],

@@ -12,7 +12,8 @@ ghost use Rattle.cps_enforce.specs.Settling.{IsInForce, IsAside, IsResting, IsBo
 
 use crate::force::{Force, force_of};
 use crate::narrow::{Header, Room, pass};
-use cps_propagate::{Answer, narrow_later};
+use cps_domain::Cut;
+use cps_propagate::Answer;
 use cps_rule::{Look, Narrowing, Rule};
 use cps_trail::{Note, Store};
 use std::alloc::AllocError;
@@ -73,10 +74,10 @@ fn disable<R: Rule>(
         a: hint.a,
         b: hint.b,
     };
-    let is_made = narrow_later(store, negation, note)?;
-    // The enforcement atom is open, so its negation is not false.
-    if !is_made {
-        unreachable!();
+    match store.imply_later(negation, note)? {
+        Cut::Narrowed | Cut::NoChange => {}
+        // The enforcement atom is open, so its negation is not false.
+        Cut::Wiped => unreachable!(),
     }
     // Reading the entries gives the proof the store's invariant: each subject has a value left, so an atom that is
     // false is not true.
@@ -85,7 +86,7 @@ fn disable<R: Rule>(
 }
 
 /// Does what a task does to a store, by its enforcement atoms.
-pub(crate) fn run<R: Rule>(
+pub(crate) fn visit<R: Rule>(
     header: &Header,
     rule: &mut R,
     found: &mut Vec<Narrowing>,
@@ -100,7 +101,8 @@ pub(crate) fn run<R: Rule>(
     ensures answers { IfOk result (λ answer. Answers
         (HoldsTask (task_of header.now.enforcement.now (R.body rule.old)))
         store.new (as_step answer room.new.conflict.items)) }
-    ensures settled { result ≡ Ok Answer.Settled → IsBodySettled store.new header.now.enforcement.now (R.body rule.old) }
+    ensures settled { result ≡ Ok Answer.Settled
+        → IsBodySettled store.new header.now.enforcement.now (R.body rule.old) }
 {
     match force_of(&store.present(), header.enforcement) {
         Force::Idle => Ok(Answer::Settled),

@@ -1,7 +1,8 @@
 -- Reasons that are made when they are asked for.
-use Rattle.std.proofs.Common.{◌≡◌, ℕ, ◌<◌, false, List, [], ◌∷◌, ◌++◌, length, take, get_or, sym, subst, inl, inr}
+use Rattle.std.proofs.Common.{◌≡◌, ℕ, zero, suc, ◌+◌, ◌<◌, ℤ, Bool, true, false, ◌||◌, List, [], ◌∷◌, ◌++◌, length, take, drop, get_or, refl, sym, subst, arith}
 use Rattle.std.specs.List.{list_any, All}
-use Rattle.std.proofs.lemmas.List.{get_or_default}
+use Rattle.std.proofs.lemmas.List.{take_more}
+use Rattle.std.proofs.lemmas.List.Elements.{All-nil, All-push}
 use Rattle.std.proofs.lemmas.List.Folds.{list_any_none}
 use Rattle.cps_literal.specs.declared.atom.Atom.{Atom}
 use Rattle.cps_literal.specs.Truth.{atom_holds}
@@ -9,22 +10,35 @@ use Rattle.cps_instance.specs.declared.task.Task.{Task}
 use Rattle.cps_instance.specs.declared.task.Body.{Body}
 use Rattle.cps_instance.specs.declared.task.Body.TheVariants.{BoolOr, BoolAnd, ExactlyOne}
 use Rattle.cps_instance.specs.Tasks.{HoldsTask}
+use Rattle.cps_instance.proofs.Agreeing.{All-append_left, All-append_right}
 use Rattle.cps_trail.specs.Trail.{Entry, Trail, IsTrueNow, IsFalseNow, Explains, first_entries}
 use Rattle.cps_trail.specs.Notes.{IsReason}
-use Rattle.cps_propagate.specs.Strength.{OthersAre}
 use Rattle.cps_p_bool.specs.declared.boolean.Kind.{Kind}
 use Rattle.cps_p_bool.specs.Bodies.{body_of}
 use Rattle.cps_p_bool.specs.Seeking.{IsInForce}
-use Rattle.cps_p_bool.specs.Denying.{IsReasonFor, Gives, Excludes, AreLiterals, task_of}
+use Rattle.cps_p_bool.specs.Denying.{Agrees, Denies, IsReasonFor, Gives, Excludes, AreLiterals, task_of}
 use Rattle.cps_p_bool.specs.Explaining.{IsExplanation, IsRuledOut, AsksForOne}
 use Rattle.cps_p_bool.specs.Normal.{IsNormalForm}
 use Rattle.cps_p_bool.proofs.Composing.{within_bits}
 use Rattle.cps_p_bool.proofs.Counting.{any_of_count}
-use Rattle.cps_p_bool.proofs.Denials.{IsOpposite}
+use Rattle.cps_p_bool.proofs.Denials.{IsOpposite, or_left, or_right, Denies-none, Denies-more}
 use Rattle.cps_p_bool.proofs.Giving.{explains, follows, by_bool, not_both, IsReasonFor-made, Gives-last}
 use Rattle.cps_p_bool.proofs.Limiting.{enforced_all}
-use Rattle.cps_p_bool.proofs.Placing.{same_or_not}
 use Rattle.cps_p_bool.proofs.Propagating.{gives_rest, gives_sure}
+
+-- a list of atoms that were all false, and that a clause gained
+pub record IsDeniedSoFar (s : Trail) (old new us : List Atom) : Type 0 where
+  pub denies : Denies s old new us
+  pub all_false : All (IsFalseNow s) us
+
+pub denied_none : (s : Trail) (c : List Atom) → IsDeniedSoFar s c c []
+denied_none s c = record { denies = Denies-none s c; all_false = All-nil (IsFalseNow s) }
+
+pub denied_more : (s : Trail) (a b c us : List Atom) (i : ℕ) (z : Atom) → i < length us → IsDeniedSoFar s a b (take i us) → Denies s b c (get_or us i z ∷ []) → IsFalseNow s (get_or us i z) → IsDeniedSoFar s a c (take (i + 1) us)
+denied_more s a b c us i z l h d f = record {
+  denies = Denies-more s a b c us i z l h.denies d;
+  all_false = subst (λ (vs : List Atom). All (IsFalseNow s) vs) (sym (take_more us i z l)) (All-push (IsFalseNow s) (take i us) (get_or us i z) h.all_false f);
+}
 
 -- the atom that the used literals give is explained by what is denied of them
 pub IsExplanation-given : (s : Trail) (e used : List Atom) (b : Body) (given t : Atom) (clause : List Atom) → given ≡ t → given.subject < length s.first → IsReasonFor s (e ++ used) t clause → Gives s (task_of e b) used given → IsExplanation s (task_of e b) t clause
@@ -72,6 +86,15 @@ AsksForOne-or us = record { some = λ xs h. h }
 pub AsksForOne-exactly : (us : List Atom) → AsksForOne (ExactlyOne us) us
 AsksForOne-exactly us = record { some = λ xs h. any_of_count (atom_holds xs) us h }
 
+or_both : (a b : Bool) → a ≡ false → b ≡ false → (a || b) ≡ false
+or_both true b e f = cc
+or_both false b e f = f
+
+any_split : (f : Atom → Bool) (us : List Atom) (p : ℕ) (z : Atom) → p < length us → list_any f (take p us) ≡ false → f (get_or us p z) ≡ false → list_any f (drop (suc p) us) ≡ false → list_any f us ≡ false
+any_split f [] p z l a b c = refl
+any_split f (u ∷ us) zero z l a b c = or_both (f u) (list_any f us) b c
+any_split f (u ∷ us) (suc p) z l a b c = or_both (f u) (list_any f us) (or_left (f u) (list_any f (take p us)) a) (any_split f us p z (omega (arith, l)) (or_right (f u) (list_any f (take p us)) a) b c)
+
 module _ (s : Trail) (b : Body) (us : List Atom) (n : AsksForOne b us) where
   pub Excludes-none : All (IsFalseNow s) us → Excludes s b us
   Excludes-none h = record {
@@ -79,12 +102,14 @@ module _ (s : Trail) (b : Body) (us : List Atom) (n : AsksForOne b us) where
         not_both (list_any (atom_holds xs) us) (n.some xs holds) (list_any_none (atom_holds xs) us (λ k d l. (agrees k d l).if_false (h k d l)));
   }
 
-  pub Gives-only : (p : ℕ) → p < length us → OthersAre (IsFalseNow s) us p → (e : List Atom) (z : Atom) → All (IsTrueNow s) e → Gives s (task_of e b) us (get_or us p z)
-  Gives-only p l others e z trues = record {
+  -- all but one were false, which stand before it and after it
+  pub Gives-but : (p : ℕ) (z : Atom) → p < length us → All (IsFalseNow s) (take p us) → All (IsFalseNow s) (drop (p + 1) us) → (e : List Atom) → All (IsTrueNow s) e → Gives s (task_of e b) (take p us ++ drop (p + 1) us) (get_or us p z)
+  Gives-but p z l before after e trues = record {
     at = λ xs within holds agrees-e agrees. by_bool (atom_holds xs (get_or us p z)) (λ no.
-        not_both (list_any (atom_holds xs) us) (n.some xs (holds (enforced_all s e xs trues agrees-e)))
-        (list_any_none (atom_holds xs) us (λ k d m. elim (same_or_not k p) [
-          | inl same ↦ subst (λ (i : ℕ). atom_holds xs (get_or us i d) ≡ false) (sym same) (subst (λ (u : Atom). atom_holds xs u ≡ false) (get_or_default us p z d l) no)
-          | inr ne ↦ (agrees k d m).if_false (others k d m ne)
-        ])));
+        let first : list_any (atom_holds xs) (take p us) ≡ false = none_holds xs (take p us) (All-append_left (Agrees s xs) (take p us) (drop (p + 1) us) agrees) before in
+        let rest : list_any (atom_holds xs) (drop (p + 1) us) ≡ false = none_holds xs (drop (p + 1) us) (All-append_right (Agrees s xs) (take p us) (drop (p + 1) us) agrees) after in
+        not_both (list_any (atom_holds xs) us) (n.some xs (holds (enforced_all s e xs trues agrees-e))) (any_split (atom_holds xs) us p z l first no (subst (λ (k : ℕ). list_any (atom_holds xs) (drop k us) ≡ false) (let e : p + 1 ≡ suc p = omega arith in e) rest)));
   }
+    where
+      none_holds : (xs : List ℤ) (vs : List Atom) → All (Agrees s xs) vs → All (IsFalseNow s) vs → list_any (atom_holds xs) vs ≡ false
+      none_holds xs vs agrees h = list_any_none (atom_holds xs) vs (λ k d m. (agrees k d m).if_false (h k d m))

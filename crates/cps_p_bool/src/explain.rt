@@ -2,7 +2,7 @@
 //! says at which places the literals stand that gave the narrowing. What it says is tested: where the kind's rule does
 //! not give the atom, no reason is made here.
 
-ghost use Rattle.std.specs.Prelude.{◌≡◌, ◌<◌, true, Ok, IsTrue, All, List, length};
+ghost use Rattle.std.specs.Prelude.{◌≡◌, ◌<◌, ◌≤◌, [], ◌∷◌, true, Ok, IsTrue, All, List, length, slice_index_or};
 ghost use Rattle.cps_literal.specs.declared.atom.Atom.{Atom as AtomOf};
 ghost use Rattle.cps_instance.specs.declared.task.Body.{Body};
 ghost use Rattle.cps_instance.specs.declared.task.Body.TheVariants.{BoolAnd, ExactlyOne, BoolXor};
@@ -10,7 +10,7 @@ ghost use Rattle.cps_instance.specs.Tasks.{HoldsTask};
 ghost use Rattle.cps_trail.specs.Trail.{IsTrueNow, IsFalseNow};
 ghost use Rattle.cps_trail.specs.Notes.{IsReason};
 ghost use Rattle.cps_p_bool.specs.Seeking.{IsInForce};
-ghost use Rattle.cps_p_bool.specs.Denying.{AreLiterals, Gives, task_of};
+ghost use Rattle.cps_p_bool.specs.Denying.{IsFit, AreLiterals, Denies, Gives, task_of};
 ghost use Rattle.cps_p_bool.specs.Explaining.{IsExplanation, IsRuledOut, AsksForOne};
 ghost use Rattle.cps_p_bool.specs.Rules.{LimitsToOne};
 ghost use Rattle.cps_p_bool.specs.Normal.{IsNormalForm};
@@ -18,7 +18,7 @@ ghost use Rattle.cps_p_bool.specs.Bodies.{body_of};
 
 use crate::boolean::Kind;
 use crate::odd::count_true;
-use crate::reasons::{deny_antecedents, explain};
+use crate::reasons::{deny_all, deny_antecedents, explain};
 use crate::seek::{Sought, in_force, seek};
 use cps_literal::{Atom, Truth};
 use cps_trail::{Before, Store};
@@ -117,6 +117,49 @@ fn explain_each(
     explain_as(past, &from, atoms[noted.place], noted.atom, reason)
 }
 
+/// The first place of an atom in a list; the list's length where it is not there.
+fn place_of(atoms: &[Atom], atom: Atom) -> usize
+    ensures within { result ≤ length atoms.now }
+    ensures found { (d : AtomOf) → result < length atoms.now → slice_index_or atoms.now result d ≡ atom }
+{
+    for place in 0..atoms.len() {
+        if atoms[place] == atom {
+            return place;
+        }
+    }
+    atoms.len()
+}
+
+/// Adds an atom to a reason if it was false, and answers whether it was.
+fn deny_if_false(past: &Before, atom: Atom, reason: &mut Vec<Atom>) -> Result<bool, AllocError>
+    requires { IsFit past.now.first atom }
+    ensures denies { result ≡ Ok true → Denies past.now reason.old.items reason.new.items (atom ∷ []) }
+    ensures false_then { result ≡ Ok true → IsFalseNow past.now atom }
+{
+    match past.truth(atom) {
+        Truth::No => {
+            reason.push(atom)?;
+            Ok(true)
+        }
+        _ => Ok(false),
+    }
+}
+
+/// Adds the atoms of a list to a reason, as long as they were false, and answers whether all were. So the test that
+/// they were and the reason are one walk.
+fn deny_false(past: &Before, atoms: &[Atom], reason: &mut Vec<Atom>) -> Result<bool, AllocError>
+    requires { AreLiterals past.now.first atoms.now }
+    ensures denies { result ≡ Ok true → Denies past.now reason.old.items reason.new.items atoms.now }
+    ensures all_false { result ≡ Ok true → All (IsFalseNow past.now) atoms.now }
+{
+    for atom in atoms {
+        if !deny_if_false(past, *atom, reason)? {
+            return Ok(false);
+        }
+    }
+    Ok(true)
+}
+
 /// The reason of the one literal that was not false, where one is to be true.
 fn explain_last(
     past: &Before,
@@ -131,19 +174,20 @@ fn explain_last(
     ensures { result ≡ Ok true → (body : Body) → AsksForOne body atoms.now
         → IsExplanation past.now (task_of enforcement.now body) atom reason.new.items }
 {
-    let live = seek(past, atoms, 0, Sought::NotFalse);
-    if live == atoms.len() {
+    let place = place_of(atoms, atom);
+    if place == atoms.len() {
         return Ok(false);
     }
-    let second = seek(past, atoms, live + 1, Sought::NotFalse);
-    if second < atoms.len() {
+    reason.clear();
+    deny_all(reason, past, enforcement)?;
+    if !deny_false(past, &atoms[..place], reason)? {
         return Ok(false);
     }
-    let from = Antecedents {
-        enforcement,
-        used: atoms,
-    };
-    explain_as(past, &from, atoms[live], atom, reason)
+    if !deny_false(past, &atoms[place + 1..], reason)? {
+        return Ok(false);
+    }
+    reason.push(atom)?;
+    Ok(true)
 }
 
 /// The reason of the opposite of a literal beside one that was true, where one may be.
@@ -298,11 +342,9 @@ fn deny_none(
     ensures { result ≡ Ok true → (body : Body) → AsksForOne body atoms.now
         → IsRuledOut past.now enforcement.now body reason.new.items }
 {
-    if seek(past, atoms, 0, Sought::NotFalse) < atoms.len() {
-        return Ok(false);
-    }
-    deny_antecedents(reason, past, enforcement, atoms)?;
-    Ok(true)
+    reason.clear();
+    deny_all(reason, past, enforcement)?;
+    deny_false(past, atoms, reason)
 }
 
 /// Denies two literals that were true, where one may be.

@@ -20,14 +20,14 @@ fn put_in_order(numbers: &mut Vec<u32>, is_rising: bool)
 
 /// Numbers that are taken out in sweeps, in which they rise and fall by turns. One that comes while a sweep is on waits
 /// for the next. So a chain of sums is gone along in both directions within two sweeps, where in the order in which
-/// they come each link may take a round.
+/// they come each link may take a sweep.
 #[derive(Drop)]
 pub(crate) struct Sweeps {
-    /// What is left of this round: the last is taken first.
+    /// What is left of this sweep: the last is taken first.
     sweep: Vec<u32>,
-    /// What waits for the next round.
+    /// What waits for the next sweep.
     next: Vec<u32>,
-    /// Whether the numbers of the next round rise.
+    /// Whether the numbers of the next sweep rise.
     is_rising: bool,
 }
 
@@ -40,7 +40,7 @@ impl Model for Sweeps {
 }
 
 impl Sweeps {
-    /// No number. The first round rises.
+    /// No number. The first sweep rises.
     pub(crate) fn new(alloc: Global) -> Self
         ensures { result ≡ [] }
     {
@@ -59,7 +59,7 @@ impl Sweeps {
         self.next.reserve(count)
     }
 
-    /// Adds a number to the next round.
+    /// Adds a number to the next sweep.
     pub(crate) fn push(&mut self, number: u32) -> Result<(), AllocError>
         ensures adds { OnOk result (self.new ≡ self.old ++ number ∷ []) }
         ensures err { OnErr result (self.new ≡ self.old) }

@@ -31,14 +31,17 @@ pub enum Kind {
     Xor,
 }
 
+/// That a literal is true.
 pub fn yes(subject: u32) -> Atom {
     at_least(subject, 1)
 }
 
+/// That a literal is false.
 pub fn no(subject: u32) -> Atom {
     at_most(subject, 0)
 }
 
+/// A store of four subjects with the values 0 and 1.
 pub fn store_of_bits(alloc: Global) -> Result<Store, AllocError>
     ensures first { IfOk result (λ store. store.first ≡ four_bits) }
     ensures none { IfOk result (λ store. store.entries ≡ []) }
@@ -120,15 +123,32 @@ fn explained_trial(
     ran(alloc, &mut propagator, decisions).ok()
 }
 
-/// What a run came to.
-fn trial(
-    alloc: Global,
+/// A kind over literals, and what has to be true for it to be in force.
+#[derive(Clone, Copy)]
+struct Posted<'a> {
     kind: Kind,
-    enforcement: &[Atom],
-    atoms: &[Atom],
-    decisions: &[Atom],
-) -> Option<Came> {
-    match explained_trial(alloc, kind, enforcement, atoms, decisions) {
+    enforcement: &'a [Atom],
+    atoms: &'a [Atom],
+}
+
+/// A kind that these literals put in force, over those.
+fn over<'a>(kind: Kind, enforcement: &'a [Atom], atoms: &'a [Atom]) -> Posted<'a> {
+    Posted {
+        kind,
+        enforcement,
+        atoms,
+    }
+}
+
+/// What a run came to.
+fn trial(alloc: Global, posted: Posted, decisions: &[Atom]) -> Option<Came> {
+    match explained_trial(
+        alloc,
+        posted.kind,
+        posted.enforcement,
+        posted.atoms,
+        decisions,
+    ) {
         Some((came, _)) => Some(came),
         None => None,
     }
@@ -216,139 +236,296 @@ fn a_reason_of_a_repeated_literal_names_no_other(rt: HostRuntime) -> Result<(), 
     Ok(())
 }
 
+/// A constraint, what is decided before its run, and what the run comes to.
+#[derive(Clone, Copy)]
+struct Row<'a> {
+    name: &'a str,
+    posted: Posted<'a>,
+    decisions: &'a [Atom],
+    came: Came,
+}
+
+/// A run that ends at rest, with so many entries, the last of which has this atom.
+fn rests(entries: usize, last: Atom) -> Came {
+    (None, entries, last)
+}
+
+/// A run that ends with a conflict of so many atoms.
+fn fails(atoms: usize, entries: usize, last: Atom) -> Came {
+    (Some(atoms), entries, last)
+}
+
 #[test]
 fn some_atom_is_true(rt: HostRuntime) {
-    let alloc = rt.alloc();
-    let atoms = [yes(0), yes(1)];
-    let narrowed = trial(alloc, Kind::Or, &[yes(3)], &atoms, &[yes(3), no(0)]);
-    assert_eq!(rt; narrowed, Some((None, 3, yes(1))));
-    let conflict = trial(alloc, Kind::Or, &[yes(3)], &atoms, &[yes(3), no(0), no(1)]);
-    assert_eq!(rt; conflict, Some((Some(3), 3, no(1))));
-    let refused = trial(alloc, Kind::Or, &[yes(3)], &atoms, &[no(0), no(1)]);
-    assert_eq!(rt; refused, Some((None, 3, no(3))));
+    let posted = Posted {
+        kind: Kind::Or,
+        enforcement: &[yes(3)],
+        atoms: &[yes(0), yes(1)],
+    };
+    let rows = [
+        Row {
+            name: "the last open atom is true",
+            posted,
+            decisions: &[yes(3), no(0)],
+            came: rests(3, yes(1)),
+        },
+        Row {
+            name: "no atom is open",
+            posted,
+            decisions: &[yes(3), no(0), no(1)],
+            came: fails(3, 3, no(1)),
+        },
+        Row {
+            name: "what no atom meets is not in force",
+            posted,
+            decisions: &[no(0), no(1)],
+            came: rests(3, no(3)),
+        },
+    ];
+    for row in rows {
+        let came = trial(rt.alloc(), row.posted, row.decisions);
+        assert!(rt; came == Some(row.came), "{}", row.name);
+    }
 }
 
 #[test]
 fn all_atoms_are_true(rt: HostRuntime) {
-    let alloc = rt.alloc();
-    let atoms = [yes(0), yes(1)];
-    let narrowed = trial(alloc, Kind::And, &[yes(3)], &atoms, &[yes(3), yes(0)]);
-    assert_eq!(rt; narrowed, Some((None, 3, yes(1))));
-    let conflict = trial(alloc, Kind::And, &[yes(3)], &atoms, &[yes(3), no(1)]);
-    assert_eq!(rt; conflict, Some((Some(2), 3, yes(0))));
-    let refused = trial(alloc, Kind::And, &[yes(3)], &atoms, &[no(1)]);
-    assert_eq!(rt; refused, Some((None, 2, no(3))));
+    let posted = Posted {
+        kind: Kind::And,
+        enforcement: &[yes(3)],
+        atoms: &[yes(0), yes(1)],
+    };
+    let rows = [
+        Row {
+            name: "each open atom is true",
+            posted,
+            decisions: &[yes(3), yes(0)],
+            came: rests(3, yes(1)),
+        },
+        Row {
+            name: "an atom is false",
+            posted,
+            decisions: &[yes(3), no(1)],
+            came: fails(2, 3, yes(0)),
+        },
+        Row {
+            name: "what an atom denies is not in force",
+            posted,
+            decisions: &[no(1)],
+            came: rests(2, no(3)),
+        },
+    ];
+    for row in rows {
+        let came = trial(rt.alloc(), row.posted, row.decisions);
+        assert!(rt; came == Some(row.came), "{}", row.name);
+    }
 }
 
 #[test]
 fn one_atom_is_true_at_most(rt: HostRuntime) {
-    let alloc = rt.alloc();
-    let atoms = [yes(0), yes(1), yes(2)];
-    let narrowed = trial(alloc, Kind::AtMostOne, &[yes(3)], &atoms, &[yes(3), yes(1)]);
-    assert_eq!(rt; narrowed, Some((None, 4, no(2))));
-    let conflict = trial(
-        alloc,
-        Kind::AtMostOne,
-        &[yes(3)],
-        &atoms,
-        &[yes(3), yes(0), yes(1)],
-    );
-    assert_eq!(rt; conflict, Some((Some(3), 3, yes(1))));
-    let refused = trial(alloc, Kind::AtMostOne, &[yes(3)], &atoms, &[yes(0), yes(2)]);
-    assert_eq!(rt; refused, Some((None, 3, no(3))));
-    let opposite = trial(
-        alloc,
-        Kind::AtMostOne,
-        &[],
-        &[yes(0), no(0), yes(1)],
-        &[yes(0)],
-    );
-    assert_eq!(rt; opposite, Some((None, 2, no(1))));
-    let repeated = trial(alloc, Kind::AtMostOne, &[], &[yes(0), yes(0)], &[yes(0)]);
-    assert_eq!(rt; repeated, Some((Some(1), 1, yes(0))));
+    let opposite = [yes(0), no(0), yes(1)];
+    let repeated = [yes(0), yes(0)];
+    let posted = Posted {
+        kind: Kind::AtMostOne,
+        enforcement: &[yes(3)],
+        atoms: &[yes(0), yes(1), yes(2)],
+    };
+    let rows = [
+        Row {
+            name: "the others are false",
+            posted,
+            decisions: &[yes(3), yes(1)],
+            came: rests(4, no(2)),
+        },
+        Row {
+            name: "two atoms are true",
+            posted,
+            decisions: &[yes(3), yes(0), yes(1)],
+            came: fails(3, 3, yes(1)),
+        },
+        Row {
+            name: "what two atoms deny is not in force",
+            posted,
+            decisions: &[yes(0), yes(2)],
+            came: rests(3, no(3)),
+        },
+        Row {
+            name: "one of opposite atoms is true",
+            posted: over(Kind::AtMostOne, &[], &opposite),
+            decisions: &[yes(0)],
+            came: rests(2, no(1)),
+        },
+        Row {
+            name: "a repeated atom is true",
+            posted: over(Kind::AtMostOne, &[], &repeated),
+            decisions: &[yes(0)],
+            came: fails(1, 1, yes(0)),
+        },
+    ];
+    for row in rows {
+        let came = trial(rt.alloc(), row.posted, row.decisions);
+        assert!(rt; came == Some(row.came), "{}", row.name);
+    }
 }
 
 #[test]
 fn one_atom_is_true_and_no_other(rt: HostRuntime) {
-    let alloc = rt.alloc();
-    let atoms = [yes(0), yes(1)];
-    let last = trial(alloc, Kind::ExactlyOne, &[yes(3)], &atoms, &[yes(3), no(0)]);
-    assert_eq!(rt; last, Some((None, 3, yes(1))));
-    let other = trial(
-        alloc,
-        Kind::ExactlyOne,
-        &[yes(3)],
-        &atoms,
-        &[yes(3), yes(0)],
-    );
-    assert_eq!(rt; other, Some((None, 3, no(1))));
-    let conflict = trial(
-        alloc,
-        Kind::ExactlyOne,
-        &[yes(3)],
-        &atoms,
-        &[yes(3), no(0), no(1)],
-    );
-    assert_eq!(rt; conflict, Some((Some(3), 3, no(1))));
-    let refused = trial(
-        alloc,
-        Kind::ExactlyOne,
-        &[yes(3)],
-        &atoms,
-        &[yes(0), yes(1)],
-    );
-    assert_eq!(rt; refused, Some((None, 3, no(3))));
+    let posted = Posted {
+        kind: Kind::ExactlyOne,
+        enforcement: &[yes(3)],
+        atoms: &[yes(0), yes(1)],
+    };
+    let rows = [
+        Row {
+            name: "the last open atom is true",
+            posted,
+            decisions: &[yes(3), no(0)],
+            came: rests(3, yes(1)),
+        },
+        Row {
+            name: "the other is false",
+            posted,
+            decisions: &[yes(3), yes(0)],
+            came: rests(3, no(1)),
+        },
+        Row {
+            name: "no atom is open",
+            posted,
+            decisions: &[yes(3), no(0), no(1)],
+            came: fails(3, 3, no(1)),
+        },
+        Row {
+            name: "what two atoms deny is not in force",
+            posted,
+            decisions: &[yes(0), yes(1)],
+            came: rests(3, no(3)),
+        },
+    ];
+    for row in rows {
+        let came = trial(rt.alloc(), row.posted, row.decisions);
+        assert!(rt; came == Some(row.came), "{}", row.name);
+    }
 }
 
 #[test]
 fn an_odd_number_is_true(rt: HostRuntime) {
-    let alloc = rt.alloc();
-    let atoms = [yes(0), yes(1), yes(2)];
-    let even = trial(alloc, Kind::Xor, &[yes(3)], &atoms, &[yes(3), no(0), no(1)]);
-    assert_eq!(rt; even, Some((None, 4, yes(2))));
-    let odd = trial(
-        alloc,
-        Kind::Xor,
-        &[yes(3)],
-        &atoms,
-        &[yes(3), yes(0), no(1)],
-    );
-    assert_eq!(rt; odd, Some((None, 4, no(2))));
-    let all = [yes(3), yes(0), yes(1), no(2)];
-    let conflict = trial(alloc, Kind::Xor, &[yes(3)], &atoms, &all);
-    assert_eq!(rt; conflict, Some((Some(4), 4, no(2))));
-    let refused = trial(alloc, Kind::Xor, &[yes(3)], &atoms, &[no(0), no(1), no(2)]);
-    assert_eq!(rt; refused, Some((None, 4, no(3))));
+    let posted = Posted {
+        kind: Kind::Xor,
+        enforcement: &[yes(3)],
+        atoms: &[yes(0), yes(1), yes(2)],
+    };
+    let rows = [
+        Row {
+            name: "the last atom makes an even number odd",
+            posted,
+            decisions: &[yes(3), no(0), no(1)],
+            came: rests(4, yes(2)),
+        },
+        Row {
+            name: "the last atom leaves an odd number odd",
+            posted,
+            decisions: &[yes(3), yes(0), no(1)],
+            came: rests(4, no(2)),
+        },
+        Row {
+            name: "an even number of all",
+            posted,
+            decisions: &[yes(3), yes(0), yes(1), no(2)],
+            came: fails(4, 4, no(2)),
+        },
+        Row {
+            name: "what an even number denies is not in force",
+            posted,
+            decisions: &[no(0), no(1), no(2)],
+            came: rests(4, no(3)),
+        },
+    ];
+    for row in rows {
+        let came = trial(rt.alloc(), row.posted, row.decisions);
+        assert!(rt; came == Some(row.came), "{}", row.name);
+    }
 }
 
 #[test]
 fn repeated_atoms_are_one(rt: HostRuntime) {
-    let alloc = rt.alloc();
+    let on = [yes(3)];
     let twice = [yes(0), yes(0), yes(1)];
-    let or = trial(alloc, Kind::Or, &[], &twice, &[no(1)]);
-    assert_eq!(rt; or, Some((None, 2, yes(0))));
-    let most = trial(alloc, Kind::AtMostOne, &[], &twice, &[]);
-    assert_eq!(rt; most, Some((None, 1, no(0))));
-    let refused = trial(alloc, Kind::AtMostOne, &[yes(3)], &twice, &[yes(0)]);
-    assert_eq!(rt; refused, Some((None, 2, no(3))));
-    let one = trial(alloc, Kind::ExactlyOne, &[], &twice, &[]);
-    assert_eq!(rt; one, Some((None, 2, yes(1))));
-    let odd = trial(alloc, Kind::Xor, &[], &twice, &[]);
-    assert_eq!(rt; odd, Some((None, 1, yes(1))));
+    let rows = [
+        Row {
+            name: "the only atom that is open is true",
+            posted: over(Kind::Or, &[], &twice),
+            decisions: &[no(1)],
+            came: rests(2, yes(0)),
+        },
+        Row {
+            name: "it cannot be true beside itself",
+            posted: over(Kind::AtMostOne, &[], &twice),
+            decisions: &[],
+            came: rests(1, no(0)),
+        },
+        Row {
+            name: "what it denies is not in force",
+            posted: over(Kind::AtMostOne, &on, &twice),
+            decisions: &[yes(0)],
+            came: rests(2, no(3)),
+        },
+        Row {
+            name: "the other is the one",
+            posted: over(Kind::ExactlyOne, &[], &twice),
+            decisions: &[],
+            came: rests(2, yes(1)),
+        },
+        Row {
+            name: "it does not count",
+            posted: over(Kind::Xor, &[], &twice),
+            decisions: &[],
+            came: rests(1, yes(1)),
+        },
+    ];
+    for row in rows {
+        let came = trial(rt.alloc(), row.posted, row.decisions);
+        assert!(rt; came == Some(row.came), "{}", row.name);
+    }
 }
 
 #[test]
 fn one_of_opposite_atoms_is_true(rt: HostRuntime) {
-    let alloc = rt.alloc();
+    let on = [yes(3)];
     let both = [yes(0), no(0), yes(1)];
-    let or = trial(alloc, Kind::Or, &[], &both, &[no(1)]);
-    assert_eq!(rt; or, Some((None, 1, no(1))));
-    let and = trial(alloc, Kind::And, &[yes(3)], &both, &[]);
-    assert_eq!(rt; and, Some((None, 1, no(3))));
-    let most = trial(alloc, Kind::AtMostOne, &[], &both, &[]);
-    assert_eq!(rt; most, Some((None, 1, no(1))));
-    let one = trial(alloc, Kind::ExactlyOne, &[yes(3)], &both, &[yes(1)]);
-    assert_eq!(rt; one, Some((None, 2, no(3))));
-    let odd = trial(alloc, Kind::Xor, &[], &both, &[]);
-    assert_eq!(rt; odd, Some((None, 1, no(1))));
+    let rows = [
+        Row {
+            name: "some atom is true as it is",
+            posted: over(Kind::Or, &[], &both),
+            decisions: &[no(1)],
+            came: rests(1, no(1)),
+        },
+        Row {
+            name: "not all can be true",
+            posted: over(Kind::And, &on, &both),
+            decisions: &[],
+            came: rests(1, no(3)),
+        },
+        Row {
+            name: "no other is true",
+            posted: over(Kind::AtMostOne, &[], &both),
+            decisions: &[],
+            came: rests(1, no(1)),
+        },
+        Row {
+            name: "another cannot be the one",
+            posted: over(Kind::ExactlyOne, &on, &both),
+            decisions: &[yes(1)],
+            came: rests(2, no(3)),
+        },
+        Row {
+            name: "they count as one",
+            posted: over(Kind::Xor, &[], &both),
+            decisions: &[],
+            came: rests(1, no(1)),
+        },
+    ];
+    for row in rows {
+        let came = trial(rt.alloc(), row.posted, row.decisions);
+        assert!(rt; came == Some(row.came), "{}", row.name);
+    }
 }

@@ -1,4 +1,4 @@
-//! Engines: one of propagators that have nothing to narrow, one of a defined sum after a decision, and some of literals.
+//! Engines: one of propagators that have nothing to narrow, one of a defined sum after a decision, some of literals.
 //!
 //! The first shows that an engine is generic over propagators, by an idle one that is made here; the second that a run
 //! goes on from the entry at which the last one came to rest; the others that one comes to rest where a subject is
@@ -154,7 +154,7 @@ fn run_on<P: Propagator>(
     let from = store.entries().len();
     let was_open = decide(store, atom)?;
     if was_open {
-        match engine.run_from(store, from)? {
+        match engine.run_from(store, Some(from))? {
             Step::Settled => Ok(true),
             Step::Conflict(_) => Ok(false),
         }

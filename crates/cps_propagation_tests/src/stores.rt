@@ -10,6 +10,7 @@ use cps_literal::{Atom, Op, Truth};
 use cps_trail::Store;
 use std::alloc::AllocError;
 
+/// That a subject has this value or a greater one.
 pub fn at_least(subject: u32, value: i64) -> Atom {
     Atom {
         subject,
@@ -18,6 +19,7 @@ pub fn at_least(subject: u32, value: i64) -> Atom {
     }
 }
 
+/// That a subject has this value or a lesser one.
 pub fn at_most(subject: u32, value: i64) -> Atom {
     Atom {
         subject,

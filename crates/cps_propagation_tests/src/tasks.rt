@@ -20,7 +20,15 @@ fn ints(alloc: Global, items: &[i64]) -> Result<Listed<i64>, AllocError> {
     Ok(Listed::from_vec(Vec::from_slice(alloc, items)?))
 }
 
-/// A variable, so many times, and an offset.
+/// An expression of one variable, or of none.
+#[derive(Clone, Copy)]
+enum Written {
+    Variable(i32),
+    /// A variable, so many times, and an offset.
+    Times(i32, i64, i64),
+    Number(i64),
+}
+
 fn times(alloc: Global, reference: i32, coeff: i64, offset: i64) -> Result<LinearExpr, AllocError> {
     Ok(LinearExpr {
         vars: refs(alloc, &[reference])?,
@@ -29,77 +37,68 @@ fn times(alloc: Global, reference: i32, coeff: i64, offset: i64) -> Result<Linea
     })
 }
 
-fn value(alloc: Global, reference: i32) -> Result<LinearExpr, AllocError> {
-    times(alloc, reference, 1, 0)
-}
-
-fn number(alloc: Global, offset: i64) -> LinearExpr {
-    LinearExpr {
-        vars: Listed::new(alloc),
-        coeffs: Listed::new(alloc),
-        offset,
+fn expr(alloc: Global, written: Written) -> Result<LinearExpr, AllocError> {
+    match written {
+        Written::Variable(reference) => times(alloc, reference, 1, 0),
+        Written::Times(reference, coeff, offset) => times(alloc, reference, coeff, offset),
+        Written::Number(offset) => Ok(LinearExpr {
+            vars: Listed::new(alloc),
+            coeffs: Listed::new(alloc),
+            offset,
+        }),
     }
 }
 
-fn one(alloc: Global, expr: LinearExpr) -> Result<Listed<LinearExpr>, AllocError> {
+fn exprs(alloc: Global, list: &[Written]) -> Result<Listed<LinearExpr>, AllocError> {
     let mut exprs = Vec::new(alloc);
-    exprs.push(expr)?;
-    Ok(Listed::from_vec(exprs))
-}
-
-fn two(
-    alloc: Global,
-    first: LinearExpr,
-    second: LinearExpr,
-) -> Result<Listed<LinearExpr>, AllocError> {
-    let mut exprs = Vec::new(alloc);
-    exprs.push(first)?;
-    exprs.push(second)?;
+    for written in list {
+        exprs.push(expr(alloc, *written)?)?;
+    }
     Ok(Listed::from_vec(exprs))
 }
 
 /// Expressions that are written out.
-fn written(alloc: Global, exprs: Listed<LinearExpr>) -> Exprs {
-    Exprs::of(exprs.into_vec(), Vec::new(alloc))
+fn written_out(alloc: Global, list: &[Written]) -> Result<Exprs, AllocError> {
+    let exprs = exprs(alloc, list)?;
+    Ok(Exprs::of(exprs.into_vec(), Vec::new(alloc)))
 }
 
-/// Kinds that compute a number or look it up.
-fn computed(alloc: Global, place: usize) -> Result<Kind, AllocError> {
-    let target = value(alloc, 2)?;
+/// The operands of the kinds that compute a number.
+fn operands(place: usize) -> &'static [Written] {
     match place {
-        0 => Ok(Kind::IntDiv {
-            target,
-            exprs: two(alloc, value(alloc, 2)?, value(alloc, 3)?)?,
-        }),
-        1 => Ok(Kind::IntMod {
-            target,
-            exprs: two(alloc, times(alloc, 2, 2, 0)?, value(alloc, 3)?)?,
-        }),
-        2 => Ok(Kind::IntProd {
-            target,
-            exprs: Listed::new(alloc),
-        }),
-        3 => Ok(Kind::LinMax {
-            target,
-            exprs: one(alloc, times(alloc, 2, 1, 1)?)?,
-        }),
-        _ => Ok(Kind::Element {
-            index: value(alloc, 0)?,
-            target,
-            exprs: written(alloc, two(alloc, value(alloc, 3)?, number(alloc, 7))?),
-        }),
+        0 => &[Written::Variable(2), Written::Variable(3)],
+        1 => &[Written::Times(2, 2, 0), Written::Variable(3)],
+        2 => &[],
+        _ => &[Written::Times(2, 1, 1)],
+    }
+}
+
+/// Kinds that compute a number.
+fn computed(alloc: Global, place: usize) -> Result<Kind, AllocError> {
+    let target = expr(alloc, Written::Variable(2))?;
+    let exprs = exprs(alloc, operands(place))?;
+    match place {
+        0 => Ok(Kind::IntDiv { target, exprs }),
+        1 => Ok(Kind::IntMod { target, exprs }),
+        2 => Ok(Kind::IntProd { target, exprs }),
+        _ => Ok(Kind::LinMax { target, exprs }),
     }
 }
 
 /// Kinds over lists.
 fn listed(alloc: Global, place: usize) -> Result<Kind, AllocError> {
     match place {
+        4 => Ok(Kind::Element {
+            index: expr(alloc, Written::Variable(0))?,
+            target: expr(alloc, Written::Variable(2))?,
+            exprs: written_out(alloc, &[Written::Variable(3), Written::Number(7)])?,
+        }),
         5 => Ok(Kind::Table {
             exprs: Exprs::of(Vec::new(alloc), Vec::from_slice(alloc, &[2, 3])?),
             values: ints(alloc, &[1, 2])?,
             negated: false,
         }),
-        6 => Ok(Kind::AllDiff(two(alloc, value(alloc, 2)?, value(alloc, 3)?)?)),
+        6 => Ok(Kind::AllDiff(exprs(alloc, &[Written::Variable(2), Written::Variable(3)])?)),
         7 => Ok(Kind::Circuit {
             tails: refs(alloc, &[0])?,
             heads: refs(alloc, &[0])?,
@@ -115,7 +114,7 @@ fn listed(alloc: Global, place: usize) -> Result<Kind, AllocError> {
             tails: ints(alloc, &[0])?,
             heads: ints(alloc, &[0])?,
             labels: ints(alloc, &[1])?,
-            exprs: written(alloc, one(alloc, value(alloc, 2)?)?),
+            exprs: written_out(alloc, &[Written::Variable(2)])?,
         }),
     }
 }
@@ -125,20 +124,20 @@ fn timed(alloc: Global, place: usize) -> Result<Kind, AllocError> {
     match place {
         10 => Ok(Kind::NoOverlap(refs(alloc, &[11])?)),
         11 => Ok(Kind::Interval {
-            start: value(alloc, 2)?,
-            end: times(alloc, 2, 1, 7)?,
-            size: number(alloc, 7),
+            start: expr(alloc, Written::Variable(2))?,
+            end: expr(alloc, Written::Times(2, 1, 7))?,
+            size: expr(alloc, Written::Number(7))?,
         }),
         12 => Ok(Kind::Cumulative {
-            capacity: value(alloc, 3)?,
+            capacity: expr(alloc, Written::Variable(3))?,
             intervals: refs(alloc, &[11])?,
-            demands: one(alloc, value(alloc, 0)?)?,
+            demands: exprs(alloc, &[Written::Variable(0)])?,
         }),
         13 => Ok(Kind::Reservoir {
             min: 0,
             max: 5,
-            times: one(alloc, value(alloc, 2)?)?,
-            changes: one(alloc, value(alloc, 3)?)?,
+            times: exprs(alloc, &[Written::Variable(2)])?,
+            changes: exprs(alloc, &[Written::Variable(3)])?,
             active: refs(alloc, &[0])?,
         }),
         _ => Ok(Kind::NoOverlap2d {
@@ -149,7 +148,7 @@ fn timed(alloc: Global, place: usize) -> Result<Kind, AllocError> {
 }
 
 fn kind_at(alloc: Global, place: usize) -> Result<Kind, AllocError> {
-    if place < 5 {
+    if place < 4 {
         computed(alloc, place)
     } else if place < 10 {
         listed(alloc, place)
@@ -232,6 +231,38 @@ fn push_spans(subjects: &mut Vec<i64>, spans: &[Span]) -> Result<(), AllocError>
     Ok(())
 }
 
+/// The subjects of a kind over time.
+fn push_timed(subjects: &mut Vec<i64>, body: &Body) -> Result<(), AllocError> {
+    match body {
+        Body::Interval { start, end, size } => push_all(subjects, &[*start, *end, *size]),
+        Body::NoOverlap(spans) => push_spans(subjects, spans.as_slice()),
+        Body::Cumulative {
+            capacity,
+            intervals,
+            demands,
+        } => {
+            push_all(subjects, &[*capacity])?;
+            push_spans(subjects, intervals.as_slice())?;
+            push_all(subjects, demands.as_slice())
+        }
+        Body::Reservoir {
+            times,
+            changes,
+            active,
+            ..
+        } => {
+            push_all(subjects, times.as_slice())?;
+            push_all(subjects, changes.as_slice())?;
+            push_atoms(subjects, active.as_slice())
+        }
+        Body::NoOverlap2d { x, y } => {
+            push_spans(subjects, x.as_slice())?;
+            push_spans(subjects, y.as_slice())
+        }
+        _ => Ok(()),
+    }
+}
+
 /// A body's subjects, in the order of its fields.
 fn push_body(subjects: &mut Vec<i64>, body: &Body) -> Result<(), AllocError> {
     match body {
@@ -254,36 +285,11 @@ fn push_body(subjects: &mut Vec<i64>, body: &Body) -> Result<(), AllocError> {
             push_all(subjects, exprs.as_slice())
         }
         Body::Circuit { literals, .. } => push_atoms(subjects, literals.as_slice()),
-        Body::Interval { start, end, size } => push_all(subjects, &[*start, *end, *size]),
-        Body::NoOverlap(spans) => push_spans(subjects, spans.as_slice()),
-        Body::Cumulative {
-            capacity,
-            intervals,
-            demands,
-        } => {
-            push_all(subjects, &[*capacity])?;
-            push_spans(subjects, intervals.as_slice())?;
-            push_all(subjects, demands.as_slice())
-        }
         Body::Inverse { direct, inverse } => {
             push_all(subjects, direct.as_slice())?;
             push_all(subjects, inverse.as_slice())
         }
-        Body::Reservoir {
-            times,
-            changes,
-            active,
-            ..
-        } => {
-            push_all(subjects, times.as_slice())?;
-            push_all(subjects, changes.as_slice())?;
-            push_atoms(subjects, active.as_slice())
-        }
-        Body::NoOverlap2d { x, y } => {
-            push_spans(subjects, x.as_slice())?;
-            push_spans(subjects, y.as_slice())
-        }
-        _ => Ok(()),
+        _ => push_timed(subjects, body),
     }
 }
 

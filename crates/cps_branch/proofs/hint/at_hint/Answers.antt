@@ -24,10 +24,10 @@ returns-else-may_have-clause-takes c =
     let v = c.in-Some.value in
     let s = c.args.store.now in
     let f : FitsSigned w64 v = search rules in
-    subst (λ (o : Option ℤ). TakesHinted o s c.at_least_value.result) (sym c.in-Some.is)
+    subst (λ (o : Option ℤ). TakesHinted o s c.take_least.result) (sym c.in-Some.is)
     (inr (
       (λ a.
-          let at : Admits s c.args.subject v = subst (λ (i : ℕ). Admits s i v) c.at_least_value.ensures.subject a in
+          let at : Admits s c.args.subject v = subst (λ (i : ℕ). Admits s i v) c.take_least.ensures.subject a in
           true≢false (sym (c.may_have.ensures.1 (subst (λ (x : ℤ). Admits s c.args.subject x) (sym (to_z-of_z w64 v f)) at)) ∙ c.if-may_have.false)),
-      c.at_least_value.ensures.least,
+      c.take_least.ensures.least,
     ))

@@ -32,5 +32,5 @@ returns-then-is_explained g c =
     let reason = subst (λ (s : Trail). IsReasonFor (HoldsTask (task_of c.args.enforcement.now b)) s c.args.narrowing.now.target c.give_by.new.reason.items) c.present-past.ensures (c.in_ok-give_by.ensures b explained) in
     conflict_of_reason (HoldsTask (task_of c.args.enforcement.now b)) c.args.store.now t c.give_by.new.reason.items reason c.requires.false_now
 
-pub refuse_by_past-requires-clause-impossible : goal.refuse_by_past-requires-clause-impossible
-refuse_by_past-requires-clause-impossible g c = given_false c.args.store.now (g.R.Rule.body c.args.rule.now) c.args.narrowing.now.target c.requires.given c.requires.false_now
+pub conflict_by_past-requires-clause-impossible : goal.conflict_by_past-requires-clause-impossible
+conflict_by_past-requires-clause-impossible g c = given_false c.args.store.now (g.R.Rule.body c.args.rule.now) c.args.narrowing.now.target c.requires.given c.requires.false_now

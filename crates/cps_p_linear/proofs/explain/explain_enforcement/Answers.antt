@@ -24,6 +24,6 @@ returns c _ =
     let others = c.are_true_but.ensures c.if-not-are_true_but.false in
     let follows = c.implies.ensures.0 c.if-not-implies.false in
     let inside : c.args.target.subject < length c.args.past.now.first = subst (λ (i : ℕ). i < length c.args.past.now.first) (sym c.negate-negation.ensures.subject ∙ follows.subject) (c.requires.negatable.subjects c.args.place no_atom others.inside) in
-    reason_for (Asks m.task) s c.args.target c.explain_none.new.facts.atoms.items c.refute_facts.new.facts.atoms.items c.refute_facts.new.facts.reason.items c.push.new.self.items
-    c.in_ok-refute_facts.ensures.atoms c.in_ok-refute_facts.ensures.reason c.in_ok-push.ensures.items c.in_ok-explain_none.ensures.extends.facts inside
+    reason_for (Asks m.task) s c.args.target c.explain_none.new.facts.atoms.items c.deny_facts.new.facts.atoms.items c.deny_facts.new.facts.reason.items c.push.new.self.items
+    c.in_ok-deny_facts.ensures.atoms c.in_ok-deny_facts.ensures.reason c.in_ok-push.ensures.items c.in_ok-explain_none.ensures.extends.facts inside
     (λ xs within passing all. holds_too n c.args.target xs follows (negation_given s m.task.enforcement.now c.args.place no_atom n m.task.terms.now m.task.admitted.now c.begin_without.new.facts c.explain_none.new.facts others.inside c.negate-negation.ensures.subject c.negate-negation.ensures.negated c.in_ok-begin_without.ensures c.in_ok-explain_none.ensures xs within passing all))

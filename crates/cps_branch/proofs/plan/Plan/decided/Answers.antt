@@ -8,8 +8,8 @@ use Rattle.cps_branch.specs.Strategies.{ChoosesSteered, IsDone, IsOpenPlace, Pla
 use Rattle.cps_branch.proofs.Planning.{chooses_variable, order_within}
 use Rattle.cps_branch.proofs.plan.Plan.decided.Goals as goal
 
-pub at_least_value-requires-clause-subject : goal.at_least_value-requires-clause-subject
-at_least_value-requires-clause-subject c =
+pub take_least-requires-clause-subject : goal.take_least-requires-clause-subject
+take_least-requires-clause-subject c =
     let i = c.self.inside in
     let v = c.self.invariant in
     let order = order_of i.strategies.items i.variables in
@@ -28,5 +28,5 @@ returns-in-None-clause-choice c =
     let place : IsOpenPlace s order c.args.place = subst (λ (p : Planned). IsOpenPlace s (order_in p) c.args.place) (sym c.self.view_is) c.requires.place in
     let at : c.index.result.now ≡ get_or order c.args.place 0 = c.index.ensures ∙ ap (λ (xs : List ℕ). get_or xs c.args.place c.index.result.now) v.2 ∙ get_or_default order c.args.place c.index.result.now 0 place.within in
     let past = subst (λ (gs : List Steering). (length (listed gs) ≤ c.args.place) × All (IsDone s) gs) c.deref.ensures.value c.in-None.ensures.choice in
-    subst (λ (p : Planned). ChoosesSteered p.strategies p.variables s (Some c.at_least_value.result)) c.self.view_is
-    (chooses_variable s i.strategies.items i.variables c.args.place c.at_least_value.result place past.0 past.1 (c.at_least_value.ensures.subject ∙ at) c.at_least_value.ensures.least)
+    subst (λ (p : Planned). ChoosesSteered p.strategies p.variables s (Some c.take_least.result)) c.self.view_is
+    (chooses_variable s i.strategies.items i.variables c.args.place c.take_least.result place past.0 past.1 (c.take_least.ensures.subject ∙ at) c.take_least.ensures.least)

@@ -14,18 +14,18 @@ use Rattle.cps_enforce.proofs.enforced.EnforcedPropagator.propagate.Goals as goa
 pub returns-in-Settled-clause-decided : goal.returns-in-Settled-clause-decided
 returns-in-Settled-clause-decided g c e =
     let b = g.R.Rule.body c.self.inside.rule in
-    subst (λ (t : Task). IsDecided t c.run.new.store) (ap (λ (us : List Atom). task_of us b) c.as_slice.ensures.value ∙ c.self.view_is)
-    (settled_decided c.run.new.store c.as_slice.result.now b (c.in_ok-run.ensures.settled (ap Ok c.in-Settled.is)))
+    subst (λ (t : Task). IsDecided t c.visit.new.store) (ap (λ (us : List Atom). task_of us b) c.as_slice.ensures.value ∙ c.self.view_is)
+    (settled_decided c.visit.new.store c.as_slice.result.now b (c.in_ok-visit.ensures.settled (ap Ok c.in-Settled.is)))
 
 pub returns-in-Settled-clause-strong : goal.returns-in-Settled-clause-strong
 returns-in-Settled-clause-strong g c e same =
     let b = g.R.Rule.body c.self.inside.rule in
-    subst (λ (t : Task). IsStrong t c.run.new.store) (ap (λ (us : List Atom). task_of us b) c.as_slice.ensures.value ∙ c.self.view_is)
-    (settled_strong c.run.new.store c.as_slice.result.now b (c.in_ok-run.ensures.settled (ap Ok c.in-Settled.is)))
+    subst (λ (t : Task). IsStrong t c.visit.new.store) (ap (λ (us : List Atom). task_of us b) c.as_slice.ensures.value ∙ c.self.view_is)
+    (settled_strong c.visit.new.store c.as_slice.result.now b (c.in_ok-visit.ensures.settled (ap Ok c.in-Settled.is)))
 
 pub returns-in-Conflict-clause-answers : goal.returns-in-Conflict-clause-answers
 returns-in-Conflict-clause-answers g c =
     let b = g.R.Rule.body c.self.inside.rule in
-    let met = subst (λ (a : Answer). Answers (HoldsTask (task_of c.as_slice.result.now b)) c.run.new.store (as_step a c.run.new.room.conflict.items)) c.in-Conflict.is c.in_ok-run.ensures.answers in
-    let handed = subst (λ (l : List Atom). IsConflict (HoldsTask (task_of c.as_slice.result.now b)) c.run.new.store l) (sym (ap (λ (v : _). v.items) c.swap.ensures.y_after)) met in
-    subst (λ (t : Task). IsConflict (HoldsTask t) c.run.new.store c.swap.new.y.items) (ap (λ (us : List Atom). task_of us b) c.as_slice.ensures.value ∙ c.self.view_is) handed
+    let met = subst (λ (a : Answer). Answers (HoldsTask (task_of c.as_slice.result.now b)) c.visit.new.store (as_step a c.visit.new.room.conflict.items)) c.in-Conflict.is c.in_ok-visit.ensures.answers in
+    let handed = subst (λ (l : List Atom). IsConflict (HoldsTask (task_of c.as_slice.result.now b)) c.visit.new.store l) (sym (ap (λ (v : _). v.items) c.swap.ensures.y_after)) met in
+    subst (λ (t : Task). IsConflict (HoldsTask t) c.visit.new.store c.swap.new.y.items) (ap (λ (us : List Atom). task_of us b) c.as_slice.ensures.value ∙ c.self.view_is) handed

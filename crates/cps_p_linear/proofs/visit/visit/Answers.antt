@@ -1,0 +1,21 @@
+use Rattle.cps_trail.proofs.Inferring.{Infers-trans}
+use Rattle.std.proofs.Common.{subst}
+use Rattle.cps_trail.specs.Notes.{ByTask}
+use Rattle.cps_trail.specs.Adds.{Answers}
+use Rattle.cps_propagate.specs.declared.propagator.Answer.{Answer}
+use Rattle.cps_propagate.specs.Conflicts.{as_step}
+use Rattle.cps_p_linear.specs.Measuring.{Asks}
+use Rattle.cps_p_linear.proofs.Explained.{facts_later}
+use Rattle.cps_p_linear.proofs.visit.visit.Goals as goal
+
+pub pass-requires-clause-enforced : goal.pass-requires-clause-enforced
+pass-requires-clause-enforced c = facts_later (ByTask c.args.number (Asks c.args.task.now)) c.args.store.now c.loop-store.store c.args.task.now.enforcement.now c.loop-store.invariant (record { true_now = c.in-On.ensures; negatable = c.requires.negatable.negatable; subjects = c.requires.negatable.subjects })
+
+pub returns-in-Conflict-clause-infers : goal.returns-in-Conflict-clause-infers
+returns-in-Conflict-clause-infers c = Infers-trans (ByTask c.args.number (Asks c.args.task.now)) c.args.store.now c.loop-store.store c.pass.new.store c.loop-store.invariant c.in_ok-pass.ensures.infers
+
+pub returns-in-Conflict-clause-answers : goal.returns-in-Conflict-clause-answers
+returns-in-Conflict-clause-answers c = subst (λ (a : Answer). Answers (Asks c.args.task.now) c.pass.new.store (as_step a c.pass.new.scratch.facts.reason.items)) c.in-Conflict.is c.in_ok-pass.ensures.answers
+
+pub loop-store-preserved : goal.loop-store-preserved
+loop-store-preserved c = Infers-trans (ByTask c.args.number (Asks c.args.task.now)) c.args.store.now c.loop-store.store c.pass.new.store c.loop-store.invariant c.in_ok-pass.ensures.infers
