@@ -7,14 +7,14 @@ use crate::interval::Interval;
 use std::alloc::{AllocError, Global};
 
 /// From which side the positions are swept. From above they are mirrored at 0.
-#[derive(Clone, Copy, PartialEq, Eq)]
+#[derive(Clone, Copy)]
 enum Side {
     Below,
     Above,
 }
 
 /// A position's ends, and the slot of the least number that it may have.
-#[derive(Clone, Copy, Debug, Default)]
+#[derive(Clone, Copy)]
 struct Job {
     low: i64,
     high: i64,
@@ -152,6 +152,7 @@ impl Slots {
 fn interval_at(full: &[Interval], number: i64) -> Option<Interval> {
     let mut low: usize = 0;
     let mut high = full.len();
+    // 64 halvings are enough for any length.
     for _ in 0..64 {
         if high <= low {
             break;

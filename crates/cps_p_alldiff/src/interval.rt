@@ -6,7 +6,7 @@ use cps_trail::Store;
 use std::alloc::AllocError;
 
 /// An interval, with its least and its greatest number.
-#[derive(Clone, Copy, Debug, Default, PartialEq, Eq)]
+#[derive(Clone, Copy, PartialEq, Eq)]
 pub(crate) struct Interval {
     pub(crate) low: i64,
     pub(crate) high: i64,

@@ -25,7 +25,7 @@ impl Settled {
         }
     }
 
-    /// Begins a look at `positions` positions. If entries were undone since the last look, none counts as settled.
+    /// Begins a look at `positions` positions. Where the last entry seen is not where it was, none counts as settled.
     pub(crate) fn begin(
         &mut self,
         entries: &[EntryView],

@@ -1,7 +1,7 @@
 //! What a value lies between.
 
 /// The least and the greatest that a subject's value may be.
-#[derive(Clone, Copy, Debug, PartialEq, Eq)]
+#[derive(Clone, Copy)]
 pub(crate) struct Ends {
     pub(crate) low: i64,
     pub(crate) high: i64,

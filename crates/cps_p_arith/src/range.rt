@@ -5,7 +5,7 @@ ghost use Rattle.cps_p_arith.specs.Ranges.{IsBetween, IsBoth, IsIn, IsAt, IsSmal
 use crate::ends::Ends;
 
 /// The least and the greatest that a number may be.
-#[derive(Clone, Copy, Debug, PartialEq, Eq)]
+#[derive(Clone, Copy)]
 pub(crate) struct Range {
     pub(crate) low: i128,
     pub(crate) high: i128,

@@ -10,7 +10,7 @@ use crate::quotient::excludes_quotient;
 use crate::remainder::excludes_remainder;
 
 /// What the target is of its members.
-#[derive(Clone, Copy, Debug, PartialEq, Eq)]
+#[derive(Clone, Copy)]
 pub(crate) enum Relation {
     /// The first of two divided by the second, rounded towards zero.
     Quotient,

@@ -1,17 +1,17 @@
 -- The taken arcs by their indices.
-use Rattle.std.specs.Prelude.{All, Contains, count_by, slice_index}
+use Rattle.std.specs.Prelude.{Contains, count_by, slice_index}
 use Rattle.std.specs.List.{filter}
 use Rattle.std.specs.Ordering.{int_eq}
-use Rattle.std.proofs.Common.{◌≡◌, ◌≢◌, ◌⊎◌, inl, inr, ℕ, zero, suc, ◌+◌, ◌<◌, ◌≤◌, ℤ, pos, Bool, true, false, not, cond, List, [], ◌∷◌, ◌++◌, map, length, get_or, refl, sym, ◌∙◌, ap, subst, arith}
-use Rattle.std.proofs.lemmas.List.Elements.{All-contains, Contains-append_left, Contains-append_right, Contains-get_or}
+use Rattle.std.proofs.Common.{◌≡◌, ◌≢◌, inl, inr, ℕ, zero, suc, ◌+◌, ◌<◌, ◌≤◌, ℤ, Bool, true, false, cond, List, [], ◌∷◌, ◌++◌, map, length, get_or, refl, sym, ◌∙◌, ap, subst, arith}
+use Rattle.std.proofs.lemmas.List.Elements.{All-contains, Contains-append_left, Contains-append_right}
 use Rattle.std.proofs.lemmas.List.{get_or-map}
 use Rattle.std.proofs.lemmas.Bool.{cases_lt}
 use Rattle.std.proofs.lemmas.List.Sums.{sum_by-cons}
 use Rattle.std.proofs.Math.ListN.{length-map}
 use Rattle.std.proofs.lemmas.Bool.Decides.{Decides-int_eq}
 use Rattle.cps_model.specs.declared.parts.Arc.{Arc}
-use Rattle.cps_model.specs.Circuits.{IsCircuit, leaves, enters, is_loop, moves}
-use Rattle.cps_p_circuit.specs.Graphs.{number, arc_at, arcs_by, IsRound, IsNumbering}
+use Rattle.cps_model.specs.Circuits.{IsCircuit, leaves, enters}
+use Rattle.cps_p_circuit.specs.Graphs.{number, arc_at, arcs_by}
 
 pub not_both : (b : Bool) → b ≡ true → b ≡ false → ⊥
 not_both b p q = cc

@@ -1,15 +1,14 @@
 -- Signs that leave no circuit.
-use Rattle.std.specs.Prelude.{All, Contains, count_by, slice_index, min}
-use Rattle.std.specs.Ordering.{int_eq}
-use Rattle.std.proofs.Common.{◌≡◌, ◌≢◌, ◌⊎◌, inl, inr, ℕ, zero, suc, ◌+◌, ◌-◌, ◌<◌, ◌≤◌, ℤ, pos, Bool, true, false, not, cond, List, [], ◌∷◌, ◌++◌, map, length, get_or, refl, sym, ◌∙◌, ap, subst, arith}
+use Rattle.std.specs.Prelude.{All, Contains, slice_index, min}
+use Rattle.std.proofs.Common.{◌≡◌, ◌≢◌, inl, inr, ℕ, ◌+◌, ◌-◌, ◌<◌, ◌≤◌, ℤ, Bool, true, false, not, List, [], ◌∷◌, ◌++◌, length, get_or, refl, sym, ◌∙◌, ap, subst, arith}
 use Rattle.std.proofs.lemmas.List.Elements.{All-contains, Contains-append_left, Contains-push}
-use Rattle.std.proofs.lemmas.Bool.{cases_lt, cases_eq}
+use Rattle.std.proofs.lemmas.Bool.{cases_lt}
 use Rattle.cps_model.specs.declared.parts.Arc.{Arc}
 use Rattle.cps_model.specs.Circuits.{IsCircuit, Leads, here, along, leaves, enters, is_loop, moves}
 use Rattle.cps_p_circuit.specs.declared.clash.Sign.{Sign}
 use Rattle.cps_p_circuit.specs.Graphs.{number, arc_at, arcs_by, IsRound, IsNumbering}
 use Rattle.cps_p_circuit.specs.Clashes.{taking, leaving, IsMet, IsClash, IsPair, IsDeserted, IsOnTour, IsChosen, AreChosen, AreLeft, Grows}
-use Rattle.cps_p_circuit.proofs.Arcs.{not_both, member, StandsAt, found, one_of, two_of, some_of, kept_in, kept_from, tail_once, head_once, eq_itself, eq_is, eq_at, ne_at}
+use Rattle.cps_p_circuit.proofs.Arcs.{not_both, member, found, two_of, some_of, kept_in, kept_from, tail_once, head_once, eq_itself, eq_is, eq_at, ne_at}
 
 abbrev pub least : List ℕ → List ℕ → ℕ
 least from to = min (length from) (length to)

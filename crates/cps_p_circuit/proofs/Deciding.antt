@@ -1,7 +1,7 @@
 -- Reading which arcs are taken.
-use Rattle.std.specs.Prelude.{All, Contains, count_by, slice_index, min, if◌then◌else◌, ◌↔◌, IsTrue}
-use Rattle.std.proofs.Common.{◌≡◌, ◌≢◌, ◌⊎◌, inl, inr, ℕ, zero, suc, ◌+◌, ◌<◌, ◌≤◌, ℤ, pos, Bool, true, false, not, cond, List, [], ◌∷◌, ◌++◌, map, length, get_or, take, refl, sym, ◌∙◌, ap, subst, arith, add-one, ◌<ℤ◌}
-use Rattle.std.proofs.lemmas.List.Elements.{All-contains, All-from_get_or, All-append, Contains-append_left, Contains-append_right, Contains-get_or}
+use Rattle.std.specs.Prelude.{All, Contains, slice_index, min, if◌then◌else◌}
+use Rattle.std.proofs.Common.{◌≡◌, inl, inr, ℕ, zero, suc, ◌+◌, ◌<◌, ◌≤◌, ℤ, pos, Bool, true, false, List, [], ◌∷◌, ◌++◌, map, length, get_or, take, refl, sym, ◌∙◌, ap, subst, arith, add-one}
+use Rattle.std.proofs.lemmas.List.Elements.{Contains-append_left, Contains-append_right, Contains-get_or}
 use Rattle.std.proofs.lemmas.List.{get_or-map, map_more, take_more, map-append}
 use Rattle.std.proofs.lemmas.Int.{ints}
 use Rattle.std.proofs.lemmas.Bool.{cases_lt, cases_eq}
@@ -12,11 +12,11 @@ use Rattle.cps_literal.specs.declared.atom.Atom.{Atom}
 use Rattle.cps_literal.specs.Truth.{value_at, atom_holds, meets}
 use Rattle.cps_instance.specs.Tasks.{HoldsBody, atom_subjects}
 use Rattle.cps_instance.specs.Parts.{true_arcs}
-use Rattle.cps_trail.specs.Trail.{Trail, IsTrueNow, IsFalseNow, IsAdmitted}
+use Rattle.cps_trail.specs.Trail.{Trail, IsTrueNow, IsFalseNow}
 use Rattle.cps_propagate.specs.Now.{IsFixedNow, AreOpen, IsOpenTo}
 use Rattle.cps_p_circuit.specs.Graphs.{number, arc_at, arcs_by, IsRound, IsNumbering}
-use Rattle.cps_p_circuit.specs.Showing.{taken_at, AreTaken, IsOpenStill, body_by}
-use Rattle.cps_p_circuit.proofs.Arcs.{StandsAt, found, mapped}
+use Rattle.cps_p_circuit.specs.Showing.{taken_at, body_by}
+use Rattle.cps_p_circuit.proofs.Arcs.{found, mapped}
 
 none_taken : (nodes : List ℤ) (from to : List ℕ) → arcs_by nodes from to [] ≡ []
 none_taken nodes [] to = refl

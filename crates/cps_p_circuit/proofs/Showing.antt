@@ -1,21 +1,20 @@
 -- Facts that show what a body gives.
-use Rattle.std.specs.Prelude.{All, Contains, IfSome, Option, Some, None, slice_index, slice_index_or, IsTrue, not}
-use Rattle.std.proofs.Common.{◌≡◌, ◌≢◌, ℕ, zero, suc, ◌+◌, ◌<◌, ◌≤◌, ℤ, pos, negsuc, ◌≤ℤ◌, Bool, true, false, cond, List, [], ◌∷◌, ◌++◌, map, length, get_or, take, refl, sym, ◌∙◌, ap, subst, arith, length-append}
-use Rattle.std.proofs.lemmas.Int.{ints}
+use Rattle.std.specs.Prelude.{All, IfSome, Option, Some, None, not}
+use Rattle.std.proofs.Common.{◌≡◌, ℕ, ◌+◌, ◌<◌, ℤ, Bool, true, false, List, [], ◌∷◌, ◌++◌, length, get_or, take, refl, sym, ◌∙◌, ap, subst, arith, length-append}
 use Rattle.std.proofs.lemmas.List.{get_or-map, get_or_append_left}
 use Rattle.std.proofs.lemmas.List.Elements.{All-contains, All-more, All-push, Contains-push}
 use Rattle.cps_literal.specs.declared.atom.Atom.{Atom}
 use Rattle.cps_literal.specs.Truth.{value_at, atom_holds, meets, Implies}
 use Rattle.cps_instance.specs.declared.task.Body.{Body}
-use Rattle.cps_instance.specs.Tasks.{HoldsBody, atom_subjects}
-use Rattle.cps_trail.specs.Trail.{Trail, IsTrueNow, IsAdmitted, IsWithin, IsInside, admits}
+use Rattle.cps_instance.specs.Tasks.{atom_subjects}
+use Rattle.cps_trail.specs.Trail.{Trail, IsTrueNow, IsAdmitted, IsWithin}
 use Rattle.cps_rule.specs.Rules.{IsFact, AreFacts, AllTrueAt, IsExplained, IsRefuted, IsGiven, IsImpossible, IsAtRest}
-use Rattle.cps_propagate.specs.Now.{AreOpen, IsFixedNow}
+use Rattle.cps_propagate.specs.Now.{AreOpen}
 use Rattle.cps_p_circuit.specs.declared.clash.Sign.{Sign}
-use Rattle.cps_p_circuit.specs.Graphs.{number, IsRound}
+use Rattle.cps_p_circuit.specs.Graphs.{IsRound}
 use Rattle.cps_p_circuit.specs.Clashes.{IsMet, IsClash}
 use Rattle.cps_p_circuit.specs.Showing.{body_by, taken_at, IsAtomOf, AreKept, IsShown, AreTaken, IsOpenStill}
-use Rattle.cps_p_circuit.proofs.Deciding.{round_from_body, body_from_round, subject_holds, subjects_long}
+use Rattle.cps_p_circuit.proofs.Deciding.{round_from_body, body_from_round, subject_holds}
 
 -- what a sign's atom says of the literal
 pub met_by : (literals : List Atom) (p : Sign) (d u : Atom) → p.arc < length literals → ((xs : List ℤ) → atom_holds xs u ≡ true → atom_holds xs (get_or literals p.arc d) ≡ p.holds) → (xs : List ℤ) → atom_holds xs u ≡ true → IsMet (taken_at xs literals) p

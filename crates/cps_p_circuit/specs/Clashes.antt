@@ -1,6 +1,6 @@
 -- What some arcs being taken and others not leaves no circuit.
-use Rattle.std.specs.Prelude.{◌≡◌, ◌≢◌, ◌⊎◌, ℕ, ◌+◌, ◌-◌, ◌≤◌, ◌<◌, ℤ, Bool, true, false}
-use Rattle.std.specs.Prelude.{List, [], ◌∷◌, length, slice_index, slice_index_or, All, Contains}
+use Rattle.std.specs.Prelude.{◌≡◌, ◌≢◌, ◌⊎◌, ℕ, ◌-◌, ◌≤◌, ◌<◌, ℤ, Bool, true, false}
+use Rattle.std.specs.Prelude.{List, slice_index, slice_index_or, All, Contains}
 use Rattle.cps_p_circuit.specs.declared.clash.Sign.{Sign}
 use Rattle.cps_p_circuit.specs.declared.graph.Graph.{Graph}
 use Rattle.cps_p_circuit.specs.Graphs.{IsRound}

@@ -1,6 +1,6 @@
 -- What a body and atoms that are true show.
 use Rattle.std.specs.Prelude.{◌≡◌, ℕ, ◌<◌, ℤ, Bool, true, false, Option, IfSome}
-use Rattle.std.specs.Prelude.{List, map, length, slice_index_or, All, ◌++◌}
+use Rattle.std.specs.Prelude.{List, map, length, slice_index_or, All}
 use Rattle.cps_literal.specs.declared.atom.Atom.{Atom}
 use Rattle.cps_literal.specs.Truth.{atom_holds}
 use Rattle.cps_instance.specs.declared.task.Body.{Body}
@@ -11,7 +11,7 @@ use Rattle.cps_propagate.specs.Now.{IsFixedNow, AreOpen}
 use Rattle.cps_rule.specs.Rules.{AreFacts, AllTrueAt}
 use Rattle.cps_p_circuit.specs.declared.clash.Sign.{Sign}
 use Rattle.cps_p_circuit.specs.declared.graph.Graph.{Graph}
-use Rattle.cps_p_circuit.specs.Graphs.{number, IsRound}
+use Rattle.cps_p_circuit.specs.Graphs.{number}
 use Rattle.cps_p_circuit.specs.Clashes.{IsMet}
 
 -- the body of arcs between nodes

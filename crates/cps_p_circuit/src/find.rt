@@ -6,12 +6,12 @@
 //! proposes what degrees and chains exclude. Numbers are kept one higher, so that 0 stands for none, and reads past the
 //! end give 0.
 
-ghost use Rattle.std.specs.Prelude.{◌<◌, ◌≤◌, All, length};
+ghost use Rattle.std.specs.Prelude.{◌<◌, All, length};
 ghost use Rattle.cps_instance.specs.Tasks.{atom_subjects};
 
 use crate::clash::{Sign, Witness};
 use crate::graph::Graph;
-use crate::hints::{Claim, Parting, Way, hint_of};
+use crate::hints::{Claim, Parting, Subtour, Way, hint_of};
 use crate::reach::{Links, Reach};
 use crate::tour::{clear_slots, head_of, set_slot, slot_at, tail_of};
 use cps_literal::{Atom, Truth};
@@ -306,7 +306,7 @@ impl Finder {
                 continue;
             }
             if let Some(outer) = self.outside(own) {
-                self.conflict = Some(hint_of(Claim::Tour(by - 1, outer)));
+                self.conflict = Some(hint_of(Claim::Tour(Subtour { arc: by - 1, outer })));
             }
         }
     }
@@ -327,7 +327,7 @@ impl Finder {
                 arc: k,
                 holds: false,
             },
-            hint: hint_of(Claim::Tour(by - 1, outer)),
+            hint: hint_of(Claim::Tour(Subtour { arc: by - 1, outer })),
         })?;
         Ok(())
     }

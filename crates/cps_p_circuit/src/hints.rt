@@ -24,6 +24,13 @@ pub struct Parting {
     pub other: Witness,
 }
 
+/// Taken arcs that come back to the tail of the first of them, and a node elsewhere that is on the circuit.
+#[derive(Clone, Copy)]
+pub struct Subtour {
+    pub arc: usize,
+    pub outer: Witness,
+}
+
 /// Why arcs cannot be a circuit.
 #[derive(Clone, Copy)]
 pub enum Claim {
@@ -35,9 +42,8 @@ pub enum Claim {
     NoneOut(usize),
     /// No arc is taken that enters this arc's head.
     NoneIn(usize),
-    /// The taken arcs from the tail of the first arc on come back there, and the tail of the other arc is elsewhere
-    /// and on the circuit, since the arc is taken or since no loop is taken there.
-    Tour(usize, Witness),
+    /// Taken arcs come back to where they began, and another node is on the circuit too.
+    Tour(Subtour),
     /// No arcs that may be taken lead from one node that is on the circuit to another.
     Parted(Parting),
     /// Something else.
@@ -123,9 +129,9 @@ pub fn hint_of(claim: Claim) -> Hint {
             a: packed(k),
             b: NONE_IN,
         },
-        Claim::Tour(k, outer) => Hint {
-            a: packed(k),
-            b: packed_witness(outer) * CODES + TOUR,
+        Claim::Tour(subtour) => Hint {
+            a: packed(subtour.arc),
+            b: packed_witness(subtour.outer) * CODES + TOUR,
         },
         Claim::Parted(parting) => Hint {
             a: packed_witness(parting.root),
@@ -148,7 +154,10 @@ pub fn claim_of(hint: Hint) -> Claim {
         TWO_IN => Claim::TwoIn(first, second),
         NONE_OUT => Claim::NoneOut(first),
         NONE_IN => Claim::NoneIn(first),
-        TOUR => Claim::Tour(first, witness_of(second)),
+        TOUR => Claim::Tour(Subtour {
+            arc: first,
+            outer: witness_of(second),
+        }),
         PARTED_FORWARD => Claim::Parted(parting_of(Way::Forward, first, second)),
         PARTED_BACK => Claim::Parted(parting_of(Way::Back, first, second)),
         _ => Claim::Other,

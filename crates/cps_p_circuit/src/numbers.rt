@@ -1,5 +1,5 @@
 //! Lists of plain numbers that are sorted.
-ghost use Rattle.std.specs.Prelude.{◌≡◌, ℕ, ◌<◌, ℤ, pos, Contains, length, slice_index_or};
+ghost use Rattle.std.specs.Prelude.{◌≡◌, ◌<◌, ℤ, pos, Contains, length, slice_index_or};
 ghost use Rattle.cps_model.specs.Rising.{IsRising};
 
 /// Sorts numbers, and drops each that equals the one before it.

@@ -5,17 +5,16 @@
 //! and these become facts that were true. A candidate that is not confirmed is dropped, which costs strength and not
 //! truth. If all literals are known, a walk over the taken arcs decides.
 
-ghost use Rattle.std.specs.Prelude.{◌≡◌, ◌<◌, ◌++◌, Ok, OnOk, IfOk, All, IfSome, true, map, length, Option};
+ghost use Rattle.std.specs.Prelude.{◌≡◌, ◌<◌, Ok, OnOk, IfOk, All, true, length, Option};
 ghost use Rattle.cps_instance.specs.declared.task.Body.TheVariants.{Circuit as CircuitOf};
 ghost use Rattle.cps_instance.specs.Tasks.{atom_subjects};
-ghost use Rattle.cps_p_circuit.specs.Graphs.{number};
 
 use crate::build::graph_of;
 use crate::clash::{Sign, Witness};
 use crate::decided::{is_round, read_taken};
 use crate::find::{Candidate, Finder};
 use crate::graph::Graph;
-use crate::hints::{Claim, Parting, Way, claim_of, hint_of};
+use crate::hints::{Claim, Parting, Subtour, Way, claim_of, hint_of};
 use crate::reach::{Links, Outset, closed_nodes};
 use crate::shown::{FARTHEST, atom_of, keep};
 use crate::tour::{Arcs, marks_from, tail_of};
@@ -39,10 +38,10 @@ pub struct Circuit {
 }
 
 impl Circuit {
-    ghost use Rattle.std.specs.Prelude.{◌≡◌, ◌<◌, Ok, OnOk, IfOk, IsTrue, All, IfSome, true, None, length};
+    ghost use Rattle.std.specs.Prelude.{◌≡◌, ◌<◌, Ok, OnOk, IfOk, IsTrue, All, true, None, length};
     ghost use Rattle.cps_instance.specs.Tasks.{atom_subjects};
     ghost use Rattle.cps_instance.specs.declared.task.Body.TheVariants.{Circuit as CircuitOf};
-    ghost use Rattle.cps_rule.specs.Rules.{IsExplained, IsRefuted, IsGiven, IsImpossible};
+    ghost use Rattle.cps_rule.specs.Rules.{IsExplained, IsGiven, IsImpossible};
     ghost use Rattle.cps_p_circuit.specs.Clashes.{IsClashOf};
     ghost use Rattle.cps_p_circuit.specs.Showing.{IsShown, body_of, is_circuit_body};
 
@@ -102,8 +101,7 @@ impl Circuit {
         &self,
         past: &Before,
         denied: Option<Atom>,
-        arc: usize,
-        outer: Witness,
+        subtour: Subtour,
         used: &mut Vec<Sign>,
     ) -> Result<bool, AllocError>
         requires { All (λ i. i < length past.now.first) (atom_subjects self.now.literals.items) }
@@ -113,9 +111,12 @@ impl Circuit {
             graph: &self.graph,
             literals: self.literals.as_slice(),
         };
-        let marks = marks_from(self.alloc, &arcs, past, denied, arc)?;
-        let inner = Witness { arc, moves: true };
-        self.graph.cut(marks.as_slice(), inner, outer, used)
+        let marks = marks_from(self.alloc, &arcs, past, denied, subtour.arc)?;
+        let inner = Witness {
+            arc: subtour.arc,
+            moves: true,
+        };
+        self.graph.cut(marks.as_slice(), inner, subtour.outer, used)
     }
 
     /// Nodes that no arc leaves which may be taken, between two nodes that are on the circuit.
@@ -157,7 +158,7 @@ impl Circuit {
             Claim::TwoIn(i, j) => self.graph.two_in((i, j), used),
             Claim::NoneOut(k) => self.graph.none_out(k, used),
             Claim::NoneIn(k) => self.graph.none_in(k, used),
-            Claim::Tour(k, outer) => self.tour(past, denied, k, outer, used),
+            Claim::Tour(subtour) => self.tour(past, denied, subtour, used),
             Claim::Parted(parting) => self.parted(past, &parting, used),
             Claim::Other => Ok(false),
         }
@@ -265,7 +266,6 @@ impl Circuit {
 }
 
 impl Rule for Circuit {
-    ghost use Rattle.std.specs.Prelude.{map};
     ghost use Rattle.cps_instance.specs.declared.task.Body.{Body};
     ghost use Rattle.cps_p_circuit.specs.Showing.{body_of};
 

@@ -126,9 +126,9 @@ pub one_fact : (old pushed : List Atom) (u : Atom) → old ≡ [] → pushed ≡
 one_fact old pushed u e f = f ∙ ap (λ (us : List Atom). us ++ u ∷ []) e
 
 -- an atom that is a span's later end
-pub later-some : (first : Domains) (t far : ℤ) (p : Span) (u : Atom) → p.length ≡ Some far → p.start < length first → IsBound p.start ((t +ℤ pos 1) -ℤ far) u → IsLater first t p u
-later-some first t far p u e l h = record {
-  subject = subst (λ (v : Atom). v.subject < length first) (sym h.is) l;
+pub later-some : (t far : ℤ) (p : Span) (u : Atom) → p.length ≡ Some far → IsBound p.start ((t +ℤ pos 1) -ℤ far) u → IsLater t p u
+later-some t far p u e h = record {
+  subject = inl (ap (λ (v : Atom). v.subject) h.is);
   inside = subst (λ (v : Atom). IsInside v.value) (sym h.is) h.inside;
   after = λ xs holds.
       let a = true_le ((t +ℤ pos 1) -ℤ far) (value_at xs p.start) (subst (λ (v : Atom). atom_holds xs v ≡ true) h.is holds) in
@@ -138,9 +138,9 @@ later-some first t far p u e l h = record {
     by : (x : ℤ) → ((t +ℤ pos 1) -ℤ far) ≤ℤ x → t <ℤ (x +ℤ far)
     by x a = omega (arith, ints)
 
-pub later-none : (first : Domains) (t : ℤ) (p : Span) (u : Atom) → p.length ≡ None → p.end < length first → IsBound p.end (t +ℤ pos 1) u → IsLater first t p u
-later-none first t p u e l h = record {
-  subject = subst (λ (v : Atom). v.subject < length first) (sym h.is) l;
+pub later-none : (t : ℤ) (p : Span) (u : Atom) → p.length ≡ None → IsBound p.end (t +ℤ pos 1) u → IsLater t p u
+later-none t p u e h = record {
+  subject = inr (ap (λ (v : Atom). v.subject) h.is);
   inside = subst (λ (v : Atom). IsInside v.value) (sym h.is) h.inside;
   after = λ xs holds.
       let a = true_le (t +ℤ pos 1) (value_at xs p.end) (subst (λ (v : Atom). atom_holds xs v ≡ true) h.is holds) in
@@ -150,16 +150,16 @@ later-none first t p u e l h = record {
     by : (x : ℤ) → (t +ℤ pos 1) ≤ℤ x → t <ℤ x
     by x a = omega (arith, ints)
 
-pub later-some-of : (first : Domains) (t far : ℤ) (p : Span) (r : Option Atom) (v : ℤ) → p.length ≡ Some far → p.start < length first → IfSome r (IsBound p.start v) → v ≡ (t +ℤ pos 1) -ℤ far → IfSome r (IsLater first t p)
-later-some-of first t far p None v e l h same = h
-later-some-of first t far p (Some u) v e l h same = later-some first t far p u e l (subst (λ (x : ℤ). IsBound p.start x u) same h)
+pub later-some-of : (t far : ℤ) (p : Span) (r : Option Atom) (v : ℤ) → p.length ≡ Some far → IfSome r (IsBound p.start v) → v ≡ (t +ℤ pos 1) -ℤ far → IfSome r (IsLater t p)
+later-some-of t far p None v e h same = h
+later-some-of t far p (Some u) v e h same = later-some t far p u e (subst (λ (x : ℤ). IsBound p.start x u) same h)
 
-pub later-none-of : (first : Domains) (t : ℤ) (p : Span) (r : Option Atom) (v : ℤ) → p.length ≡ None → p.end < length first → IfSome r (IsBound p.end v) → v ≡ t +ℤ pos 1 → IfSome r (IsLater first t p)
-later-none-of first t p None v e l h same = h
-later-none-of first t p (Some u) v e l h same = later-none first t p u e l (subst (λ (x : ℤ). IsBound p.end x u) same h)
+pub later-none-of : (t : ℤ) (p : Span) (r : Option Atom) (v : ℤ) → p.length ≡ None → IfSome r (IsBound p.end v) → v ≡ t +ℤ pos 1 → IfSome r (IsLater t p)
+later-none-of t p None v e h same = h
+later-none-of t p (Some u) v e h same = later-none t p u e (subst (λ (x : ℤ). IsBound p.end x u) same h)
 
 -- that a span is present, starts by one time and ends after another
-pub run-relied : (s : Trail) (a : Atom) (latest after : ℤ) (p : Span) (atoms : List Atom) (u last : Atom) (old one two new : List Atom) → atoms ≡ p.presence → u ≡ record { subject = p.start; op = Le; value = latest } → IsLater s.first after p last
+pub run-relied : (s : Trail) (a : Atom) (latest after : ℤ) (p : Span) (atoms : List Atom) (u last : Atom) (old one two new : List Atom) → atoms ≡ p.presence → u ≡ record { subject = p.start; op = Le; value = latest } → IsLater after p last
     → Relies s a (λ xs. All (λ v. atom_holds xs v ≡ true) atoms) old one → Relies s a (λ xs. atom_holds xs u ≡ true) one two → Relies s a (λ xs. atom_holds xs last ≡ true) two new → Relies s a (IsBetween latest after p) old new
 run-relied s a latest after p atoms u last old one two new is starts later h i j =
     Relies-then s a (λ xs. All (λ v. atom_holds xs v ≡ true) atoms × (atom_holds xs u ≡ true)) (λ xs. atom_holds xs last ≡ true) (IsBetween latest after p) old two new

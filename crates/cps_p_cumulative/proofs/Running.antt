@@ -1,6 +1,6 @@
 -- What spans demand at a time, one by one.
-use Rattle.std.proofs.Common.{ℕ, zero, suc, take, get_or, append_assoc, append-nil, ◌+◌, ◌<◌, ℤ, pos, ◌+ℤ◌, ◌≤ℤ◌, ◌<ℤ◌, ◌≡◌, Bool, true, false, cond, ◌&&◌, List, [], ◌∷◌, ◌++◌, length, refl, sym, ◌∙◌, ap, subst, arith}
-use Rattle.std.specs.Prelude.{int_le, int_lt, Some, None}
+use Rattle.std.proofs.Common.{ℕ, zero, suc, inl, inr, take, get_or, append_assoc, append-nil, ◌+◌, ◌<◌, ℤ, pos, ◌+ℤ◌, ◌≤ℤ◌, ◌<ℤ◌, ◌≡◌, Bool, true, false, cond, ◌&&◌, List, [], ◌∷◌, ◌++◌, length, refl, sym, ◌∙◌, ap, subst, arith}
+use Rattle.std.specs.Prelude.{int_le, int_lt, Option, Some, None, IfSome}
 use Rattle.std.specs.List.{list_all, cons_option, All}
 use Rattle.std.proofs.lemmas.Int.{ints}
 use Rattle.std.proofs.lemmas.List.Elements.{All-head, All-tail, All-nil, All-cons}
@@ -13,10 +13,11 @@ use Rattle.cps_instance.specs.declared.task.Span.{Span}
 use Rattle.cps_instance.specs.Tasks.{atom_subjects, subjects_of_span, span_subjects}
 use Rattle.cps_instance.proofs.Agreeing.{All-append_left, All-append_right}
 use Rattle.cps_trail.specs.Trail.{Domains}
+use Rattle.cps_rule.specs.declared.rule.Narrowing.{Narrowing}
 use Rattle.cps_rule.specs.Rules.{IsFittingRule}
 use Rattle.cps_p_cumulative.specs.declared.resource.Resource.{Resource}
 use Rattle.cps_instance.specs.Parts.{span_end, span_uses}
-use Rattle.cps_p_cumulative.specs.Running.{is_running, demand_of, demands_at, IsSpanOf, IsResourceOf, body_of}
+use Rattle.cps_p_cumulative.specs.Running.{is_running, demand_of, demands_at, IsSpanOf, IsTimeOf, IsResourceOf, body_of}
 
 -- one span more
 pub demands-cons : (xs : List ℤ) (t : ℤ) (p : Span) (d : ℕ) (ps : List Span) (ds : List ℕ) → demands_at xs t (p ∷ ps) (d ∷ ds) ≡ demand_of xs t p d +ℤ demands_at xs t ps ds
@@ -95,6 +96,10 @@ start-inside first p h = All-head (λ i. i < length first) p.start (p.end ∷ at
 pub end-inside : (first : Domains) (p : Span) → IsSpanOf first p → p.end < length first
 end-inside first p h = All-head (λ i. i < length first) p.end (atom_subjects p.presence) (All-tail (λ i. i < length first) p.start (p.end ∷ atom_subjects p.presence) h)
 
+pub time-inside : (first : Domains) (p : Span) (i : ℕ) → IsSpanOf first p → IsTimeOf p i → i < length first
+time-inside first p i h (inl e) = subst (λ (j : ℕ). j < length first) (sym e) (start-inside first p h)
+time-inside first p i h (inr e) = subst (λ (j : ℕ). j < length first) (sym e) (end-inside first p h)
+
 pub presence-inside : (first : Domains) (p : Span) → IsSpanOf first p → All (λ u. u.subject < length first) p.presence
 presence-inside first p h = atoms-inside (length first) p.presence (All-tail (λ i. i < length first) p.end (atom_subjects p.presence) (All-tail (λ i. i < length first) p.start (p.end ∷ atom_subjects p.presence) h))
 
@@ -123,3 +128,16 @@ subjects-more ps k d l = ap span_subjects (take_more ps k d l) ∙ last (take k 
 -- a span that was read
 pub span-read : (first : Domains) (ps qs : List Span) (k : ℕ) (p : Span) → qs ≡ ps → k < length ps → p ≡ get_or qs k p → All (λ i. i < length first) (span_subjects ps) → IsSpanOf first p
 span-read first ps qs k p same l is h = subst (λ (q : Span). IsSpanOf first q) (sym is) (subst (λ (rs : List Span). IsSpanOf first (get_or rs k p)) (sym same) (span-inside first ps k p l h))
+
+-- what is proposed of a span's start, of its start or end, and of a demand, is on a subject of the store
+pub start-proposed : (first : Domains) (p : Span) (r : Option Narrowing) → IsSpanOf first p → IfSome r (λ n. n.target.subject ≡ p.start) → IfSome r (λ n. n.target.subject < length first)
+start-proposed first p None h is = is
+start-proposed first p (Some n) h is = subst (λ (i : ℕ). i < length first) (sym is) (start-inside first p h)
+
+pub time-proposed : (first : Domains) (p : Span) (r : Option Narrowing) → IsSpanOf first p → IfSome r (λ n. IsTimeOf p n.target.subject) → IfSome r (λ n. n.target.subject < length first)
+time-proposed first p None h is = is
+time-proposed first p (Some n) h is = time-inside first p n.target.subject h is
+
+pub demand-proposed : (first : Domains) (d : ℕ) (r : Option Narrowing) → IfSome r (λ n. n.target.subject ≡ d) → d < length first → IfSome r (λ n. n.target.subject < length first)
+demand-proposed first d None is l = is
+demand-proposed first d (Some n) is l = subst (λ (i : ℕ). i < length first) (sym is) l

@@ -6,11 +6,11 @@ use Rattle.cps_literal.specs.declared.atom.Op.TheVariants.{Ge}
 use Rattle.cps_literal.specs.Truth.{value_at, atom_holds}
 use Rattle.cps_instance.specs.declared.task.Span.{Span}
 use Rattle.cps_instance.specs.Parts.{span_end}
-use Rattle.cps_trail.specs.Trail.{Trail, Domains, IsWithin, IsInside}
+use Rattle.cps_trail.specs.Trail.{Trail, IsWithin, IsInside}
 use Rattle.cps_rule.specs.Rules.{AreFacts, AllTrueAt}
 use Rattle.cps_p_cumulative.specs.declared.charge.Claim.{Claim}
 use Rattle.cps_p_cumulative.specs.declared.charge.Stay.{Stay}
-use Rattle.cps_p_cumulative.specs.Running.{energy_of, energies}
+use Rattle.cps_p_cumulative.specs.Running.{IsTimeOf, energy_of, energies}
 
 -- A list of facts grew by what gives a thing where the assumed atom is true too.
 pub record Relies (s : Trail) (assumed : Atom) (P : List ℤ → Type 0) (old new : List Atom) : Type 0 where
@@ -23,9 +23,9 @@ pub record IsBound (i : ℕ) (v : ℤ) (u : Atom) : Type 0 where
   pub is : u ≡ record { subject = i; op = Ge; value = v }
   pub inside : IsInside v
 
--- an atom that says that a span runs after a time, wherever it starts
-pub record IsLater (first : Domains) (t : ℤ) (p : Span) (u : Atom) : Type 0 where
-  pub subject : u.subject < length first
+-- an atom on a span's start or end that says that the span runs after a time, wherever it starts
+pub record IsLater (t : ℤ) (p : Span) (u : Atom) : Type 0 where
+  pub subject : IsTimeOf p u.subject
   pub inside : IsInside u.value
   pub after : (xs : List ℤ) → atom_holds xs u ≡ true → t <ℤ span_end xs p.start p.end p.length
 

@@ -1,5 +1,5 @@
 -- What spans demand at a time and a list of values.
-use Rattle.std.specs.Prelude.{ℕ, zero, suc, ◌<◌, ℤ, pos, ◌+ℤ◌, ◌≤ℤ◌, Bool, ◌&&◌, int_le, int_lt, if◌then◌else◌, List, length, All}
+use Rattle.std.specs.Prelude.{◌≡◌, ◌⊎◌, ℕ, zero, suc, ◌<◌, ℤ, pos, ◌+ℤ◌, ◌≤ℤ◌, Bool, ◌&&◌, int_le, int_lt, if◌then◌else◌, List, length, All}
 use Rattle.std.specs.List.{list_all}
 use Rattle.cps_model.specs.Scheduling.{load_at}
 use Rattle.cps_literal.specs.Truth.{value_at, atom_holds}
@@ -40,6 +40,10 @@ AreSome xs ds = All (λ d. pos 0 ≤ℤ value_at xs d) ds
 -- a span over the subjects of a store
 abbrev pub IsSpanOf : Domains → Span → Type 0
 IsSpanOf first p = All (λ i. i < length first) (subjects_of_span p)
+
+-- a subject is that of a span's start or of its end
+abbrev pub IsTimeOf : Span → ℕ → Type 0
+IsTimeOf p i = (i ≡ p.start) ⊎ (i ≡ p.end)
 
 -- what a resource asks
 abbrev pub body_of : Resource → Body

@@ -7,7 +7,7 @@
 //! its that the denial gives are no facts. A span counts for no more times than are needed, so its bounds are as loose
 //! as may be. In the time table the window is one time; a span then counts where it surely runs.
 ghost use Rattle.std.specs.Prelude.{◌≡◌, ◌<◌, ◌*ℤ◌, ◌-ℤ◌, ◌≤ℤ◌, ℤ, pos, unsigned_abs, true, IsTrue, All, length, IfSome, Ok, Some};
-ghost use Rattle.cps_literal.specs.Truth.{atom_holds, value_at};
+ghost use Rattle.cps_literal.specs.Truth.{atom_holds};
 ghost use Rattle.cps_trail.specs.Trail.{IsInside};
 ghost use Rattle.cps_instance.specs.Tasks.{HoldsBody};
 ghost use Rattle.cps_rule.specs.Rules.{AreFacts};
@@ -135,9 +135,8 @@ fn bound(subject: u32, value: i128) -> Option<Atom>
 }
 
 /// That a span ends after a time, as an atom.
-fn later(_past: &Before, time: i64, span: &Span) -> Option<Atom>
-    requires span { IsSpanOf _past.now.first span.now }
-    ensures { IfSome result (IsLater _past.now.first time span.now) }
+fn later(time: i64, span: &Span) -> Option<Atom>
+    ensures { IfSome result (IsLater time span.now) }
 {
     match span.length {
         Some(length) => bound(span.start, i128::from(time) + 1 - i128::from(length)),
@@ -158,7 +157,7 @@ fn rely_run(
     ensures { result ≡ Ok true → Relies past.now case.assumed
         (IsBetween stay.latest stay.after span.now) facts.old.items facts.new.items }
 {
-    let Some(last) = later(past, stay.after, span) else {
+    let Some(last) = later(stay.after, span) else {
         return Ok(false);
     };
     if !rely_all(past, case, span.presence.as_slice(), facts)? {

@@ -6,8 +6,8 @@
 //! again.
 ghost use Rattle.std.specs.Prelude.{◌≡◌, true, All, IfOk, IfSome, OnOk, Ok};
 ghost use Rattle.cps_instance.specs.Fitting.{IsNeverNegative};
-ghost use Rattle.cps_propagate.specs.Strength.{HasCapacity, IsExcludedBody};
-ghost use Rattle.cps_rule.specs.Rules.{IsFittingRule, IsGiven, IsImpossible, IsSeen, IsExplained, IsRefuted};
+ghost use Rattle.cps_propagate.specs.Strength.{HasCapacity};
+ghost use Rattle.cps_rule.specs.Rules.{IsGiven, IsImpossible, IsRefuted};
 ghost use Rattle.cps_p_cumulative.specs.Running.{IsResourceOf, body_of};
 
 use crate::charge::{Case, at_most, charge, is_inside};

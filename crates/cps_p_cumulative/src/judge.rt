@@ -4,7 +4,7 @@
 //! overloaded is proved of the sweep itself: what began and what ended are sums over two orders of the same list. Where
 //! the sweep names a time, the demands at it are summed again before it is used; should that not confirm it, each start
 //! is tried.
-ghost use Rattle.std.specs.Prelude.{◌≡◌, ◌<◌, ◌≤◌, ◌^◌, None, MatchOption, IfOk, IsTrue, false, length};
+ghost use Rattle.std.specs.Prelude.{◌≡◌, ◌<◌, ◌≤◌, ◌^◌, None, MatchOption, IfOk, IsTrue, false};
 ghost use Rattle.cps_p_cumulative.specs.Profile.{height, AreParts, IsRoomy, IsOver, IsEndedBy, Passes, IsSwept};
 
 use crate::part::{Part, demand_at};

@@ -5,7 +5,6 @@
 //! that adds counts where it is seen to take place by the time, one that takes away is left out where it is seen not
 //! to, and of any other the change alone is bounded.
 ghost use Rattle.std.specs.Prelude.{◌≡◌, ◌<◌, ◌+ℤ◌, true, false, ℤ, length, IfSome, Ok, Some};
-ghost use Rattle.cps_literal.specs.Truth.{atom_holds};
 ghost use Rattle.cps_instance.specs.Tasks.{HoldsBody};
 ghost use Rattle.cps_rule.specs.Rules.{AreFacts};
 ghost use Rattle.cps_p_cumulative.specs.Levels.{IsMoveOf, IsTankOf, IsTowardBound, IsAdded, AreAdded, IsRest, is_active, has_acted, moves_of, tank_body};

@@ -5,7 +5,7 @@
 //! greater capacity, and the absence of a span that has no room.
 ghost use Rattle.std.specs.Prelude.{◌≡◌, ◌<◌, All, length, OnOk, IfSome};
 ghost use Rattle.cps_rule.specs.Rules.{IsGiven};
-ghost use Rattle.cps_p_cumulative.specs.Running.{IsSpanOf, IsResourceOf, body_of};
+ghost use Rattle.cps_p_cumulative.specs.Running.{IsTimeOf, IsResourceOf, body_of};
 
 use crate::charge::{Case, at_least, at_most, charge, is_inside};
 use crate::measure::are_true;
@@ -95,14 +95,8 @@ fn offer_some(
 }
 
 /// That a span starts after the first time at which it has no room.
-fn start_later(
-    _past: &Before,
-    span: &Span,
-    place: &Place,
-    segments: &[Segment],
-) -> Option<Narrowing>
-    requires { span.now.start < length _past.now.first }
-    ensures { IfSome result (λ n. n.target.subject < length _past.now.first) }
+fn start_later(span: &Span, place: &Place, segments: &[Segment]) -> Option<Narrowing>
+    ensures { IfSome result (λ n. n.target.subject ≡ span.now.start) }
 {
     match first_full(place, segments) {
         Some(time) => Some(narrowing(at_least(span.start, time.wrapping_add(1)), time)),
@@ -110,38 +104,32 @@ fn start_later(
     }
 }
 
-/// That a span ends before the last time at which it has no room.
-fn end_earlier(
-    _past: &Before,
-    span: &Span,
-    place: &Place,
-    segments: &[Segment],
-) -> Option<Narrowing>
-    requires start { span.now.start < length _past.now.first }
-    requires end { span.now.end < length _past.now.first }
-    ensures { IfSome result (λ n. n.target.subject < length _past.now.first) }
+/// That a span ends by a time.
+fn end_by(span: &Span, time: i64) -> Narrowing
+    ensures { IsTimeOf span.now result.target.subject }
 {
-    let Some(time) = last_full(place, segments) else {
-        return None;
-    };
     match span.length {
         Some(length) => {
             let last = time_of(i128::from(time) - i128::from(length));
-            Some(narrowing(at_most(span.start, last), time))
+            narrowing(at_most(span.start, last), time)
         }
-        None => Some(narrowing(at_most(span.end, time), time)),
+        None => narrowing(at_most(span.end, time), time),
+    }
+}
+
+/// That a span ends before the last time at which it has no room.
+fn end_earlier(span: &Span, place: &Place, segments: &[Segment]) -> Option<Narrowing>
+    ensures { IfSome result (λ n. IsTimeOf span.now n.target.subject) }
+{
+    match last_full(place, segments) {
+        Some(time) => Some(end_by(span, time)),
+        None => None,
     }
 }
 
 /// That a demand is at most what others leave.
-fn demand_less(
-    _past: &Before,
-    demand: u32,
-    place: &Place,
-    segments: &[Segment],
-) -> Option<Narrowing>
-    requires { demand < length _past.now.first }
-    ensures { IfSome result (λ n. n.target.subject < length _past.now.first) }
+fn demand_less(demand: u32, place: &Place, segments: &[Segment]) -> Option<Narrowing>
+    ensures { IfSome result (λ n. n.target.subject ≡ demand) }
 {
     match fullest(place, segments) {
         Some((time, room)) => {
@@ -215,9 +203,9 @@ fn propose_span(
         return offer_some(past, resource, proposed, &mut scratch.facts, found);
     }
     place.is_present = true;
-    let later = start_later(past, span, &place, segments);
-    let earlier = end_earlier(past, span, &place, segments);
-    let less = demand_less(past, demand, &place, segments);
+    let later = start_later(span, &place, segments);
+    let earlier = end_earlier(span, &place, segments);
+    let less = demand_less(demand, &place, segments);
     offer_some(past, resource, later, &mut scratch.facts, found)?;
     offer_some(past, resource, earlier, &mut scratch.facts, found)?;
     offer_some(past, resource, less, &mut scratch.facts, found)

@@ -4,7 +4,7 @@
 //! becomes sure; proposals look just before its least time too. A proposal is an atom whose denial is seen to make the
 //! level pass a limit, as those of a resource are. The two limits are one rule with a side.
 ghost use Rattle.std.specs.Prelude.{◌≡◌, ◌<◌, All, IfOk, IfSome, OnOk, Ok, length};
-ghost use Rattle.cps_rule.specs.Rules.{IsFittingRule, IsGiven, IsImpossible, IsAtRest, IsSeen, IsExplained, IsRefuted};
+ghost use Rattle.cps_rule.specs.Rules.{IsGiven, IsImpossible, IsAtRest};
 ghost use Rattle.cps_p_cumulative.specs.Levels.{IsTankOf, AllowsZero, moves_of, tank_body};
 
 use crate::charge::{Case, at_most, is_inside};

@@ -12,7 +12,7 @@
 //! span and window.
 //!
 //! Nothing is claimed here: what is found is certified before it is used.
-ghost use Rattle.std.specs.Prelude.{◌<◌, length, All};
+ghost use Rattle.std.specs.Prelude.{◌<◌, length};
 ghost use Rattle.cps_p_cumulative.specs.Running.{IsSpanOf, IsResourceOf};
 
 use crate::measure::{are_true, least_end};

@@ -11,15 +11,16 @@ use Rattle.cps_literal.specs.declared.atom.Op.TheVariants.{Ge, Le}
 use Rattle.std.specs.Prelude.{int_le}
 use Rattle.cps_literal.specs.Truth.{value_at, atom_holds, meets}
 use Rattle.cps_instance.specs.declared.task.Body.{Body}
+use Rattle.cps_instance.specs.Terms.{Domains}
 use Rattle.cps_trail.specs.Trail.{Trail, IsTrueNow, IsInside, IsAdmitted}
 use Rattle.cps_rule.specs.declared.rule.Narrowing.{Narrowing}
 use Rattle.cps_propagate.specs.Strength.{MayBeInterval}
-use Rattle.cps_rule.specs.Rules.{IsFact, IsGiven, IsImpossible, IsAtRest}
+use Rattle.cps_rule.specs.Rules.{IsFact, IsGiven, IsImpossible, IsAtRest, IsFittingRule}
 use Rattle.cps_p_nooverlap.specs.declared.interval.Places.{Places}
 use Rattle.cps_p_nooverlap.specs.declared.interval.Hulls.{Hulls}
 use Rattle.cps_p_nooverlap.specs.Citing.{Cites, GivesMore}
 use Rattle.cps_p_nooverlap.specs.Hulls.{OffersAtom}
-use Rattle.cps_p_nooverlap.specs.Intervals.{body_of, ArePlaces, AreInterval, IsMeasured, IsPossible}
+use Rattle.cps_p_nooverlap.specs.Intervals.{body_of, ArePlaces, AreInside, AreInterval, IsMeasured, IsPossible}
 
 pub Cites-push : (s : Trail) (old : List Atom) (u : Atom) → u.subject < length s.first → IsInside u.value → IsTrueNow s u → Cites s old (old ++ u ∷ []) (λ xs. atom_holds xs u ≡ true)
 Cites-push s old u l i t = record {
@@ -32,6 +33,21 @@ pub gives_offered : (body : Body) (s : Trail) (t : Atom) (old new : List Narrowi
 gives_offered body s t old new g (inl e) h = subst (λ (ns : List Narrowing). All (λ n. IsGiven body s n.target) ns) (sym e) h
 gives_offered body s t old new g (inr (hint, e)) h =
     subst (λ (ns : List Narrowing). All (λ n. IsGiven body s n.target) ns) (sym e) (All-push (λ (n : Narrowing). IsGiven body s n.target) old (record { target = t; hint = hint }) h g)
+
+-- what fits has its subjects
+pub places_of : (first : Domains) (p : Places) → IsFittingRule first (body_of p) → ArePlaces (length first) p
+places_of first p h = record { start = h.subjects 0 0 (omega arith); end = h.subjects 1 0 (omega arith); size = h.subjects 2 0 (omega arith) }
+
+-- measured ends are inside
+pub inside_of : (s : Trail) (p : Places) (h : Hulls) → IsMeasured s p h → AreInside h
+inside_of s p h m = record {
+  start_low = m.start.low_inside;
+  start_high = m.start.high_inside;
+  end_low = m.end.low_inside;
+  end_high = m.end.high_inside;
+  size_low = m.size.low_inside;
+  size_high = m.size.high_inside;
+}
 
 -- values of an interval's subjects between the ends
 pub record AreWithin (p : Places) (h : Hulls) (xs : List ℤ) : Type 0 where

@@ -1,7 +1,7 @@
 -- What two boxes give.
 use Rattle.std.specs.Prelude.{not, IsTrue, IfSome}
 use Rattle.std.specs.List.{All, AllZip}
-use Rattle.std.proofs.Common.{◌≡◌, ◌≢◌, ℕ, zero, suc, ◌<◌, ◌≤ℤ◌, ◌<ℤ◌, ◌⊎◌, inl, inr, ℤ, true, Option, None, List, [], ◌++◌, ◌+◌, length, get_or, refl, sym, ◌∙◌, ap, subst, arith}
+use Rattle.std.proofs.Common.{◌≡◌, ◌≢◌, ℕ, zero, suc, ◌<◌, ◌<ℤ◌, ◌⊎◌, inl, inr, ℤ, true, Option, None, List, [], ◌++◌, ◌+◌, length, get_or, refl, sym, ◌∙◌, ap, subst, arith}
 use Rattle.std.proofs.lemmas.Int.{ints}
 use Rattle.std.proofs.lemmas.List.{get_or_default}
 use Rattle.std.proofs.lemmas.List.Elements.{All-nil}
@@ -16,18 +16,18 @@ use Rattle.cps_instance.proofs.Agreeing.{All-append_left, All-append_right}
 use Rattle.cps_trail.specs.Trail.{Trail, IsAdmitted}
 use Rattle.cps_propagate.specs.Now.{IsOpenTo, IsFixedNow, AreOpen}
 use Rattle.cps_rule.specs.declared.rule.Narrowing.{Narrowing}
-use Rattle.cps_rule.specs.Rules.{IsGiven, IsAtRest, IsFittingRule}
+use Rattle.cps_rule.specs.Rules.{IsGiven, IsImpossible, IsAtRest, IsFittingRule}
 use Rattle.cps_p_nooverlap.specs.declared.pairs.Pair.{Pair}
 use Rattle.cps_p_nooverlap.specs.declared.seen.Seen.{Seen}
 use Rattle.cps_p_nooverlap.specs.declared.box_pairs.Direction.{Direction}
 use Rattle.cps_p_nooverlap.specs.Hulls.{Proposes}
-use Rattle.cps_p_nooverlap.specs.Spans.{start_at, end_at, is_present, IsBefore, AreSpans, IsSeen, Says, IsPair, IsSmallAtom, ClashesAt, no_seen}
-use Rattle.cps_p_nooverlap.specs.Boxes.{IsDirection, AreBoxes, ArePresent, AreDisjoint, KeepsApart, AddsGiven, LeavesNone, BoxComesBefore, IsBoxAbsent, IsLate, Overlap, MayBeApart, IsSureBox, AreBoxesAllowed, AllowsBoxes, AreAllAllowed, MakesPresent, MakesBoxPresent, IsCount, pair_of_places}
+use Rattle.cps_p_nooverlap.specs.Spans.{start_at, end_at, is_present, IsBefore, AreSpans, IsSeen, IsPair, IsSmallAtom, ClashesAt, AddsOrdered, no_seen}
+use Rattle.cps_p_nooverlap.specs.Boxes.{IsDirection, IsKnown, AreBoxes, ArePresent, AreDisjoint, KeepsApart, AddsGiven, LacksBox, IsLate, Overlap, MayBeApart, IsSureBox, AreBoxesAllowed, AllowsBoxes, AreAllAllowed, MakesPresent, MakesBoxPresent, IsCount, pair_of_places}
 use Rattle.cps_propagate.specs.Strength.{MayBeOrdered, IsPresentBox, HasSeparateBoxes}
-use Rattle.cps_p_nooverlap.proofs.Timing.{zip_at, zip_length}
-use Rattle.cps_p_nooverlap.proofs.Pairing.{all_hold, less_or, swapped_pair, start_most, end_least, surely, gives_proposed}
+use Rattle.cps_p_nooverlap.proofs.Timing.{zip_at}
+use Rattle.cps_p_nooverlap.proofs.Pairing.{all_hold, less_or, below_or_same, are_known, swapped_pair, start_most, end_least, surely, gives_proposed}
 use Rattle.cps_p_nooverlap.proofs.Ordering.{may_be_ordered, turned_order, sure_at}
-use Rattle.cps_p_nooverlap.proofs.Citing.{denies, says_within, literals_small}
+use Rattle.cps_p_nooverlap.proofs.Citing.{denies, literals_small}
 use Rattle.cps_p_nooverlap.proofs.Resting.{are_spans, start_fixed, end_fixed, sure}
 use Rattle.cps_p_nooverlap.proofs.Disjoint.{Either, AllDisjoint, disjoint_of, no_overlap_2d}
 
@@ -45,16 +45,16 @@ pub kept_of : (x y ps qs : List Span) → ps ≡ x → qs ≡ y → KeepsApart (
 kept_of x y ps qs e f = subst (λ (ts : List Span). KeepsApart (NoOverlap2d x y) ts qs) (sym e) (subst (λ (ts : List Span). KeepsApart (NoOverlap2d x y) x ts) (sym f) (kept_apart x y))
 
 -- so what is added to nothing is given by the body
-pub given_of : (s : Trail) (x y ps qs : List Span) → ps ≡ x → qs ≡ y → (old new : List Narrowing) → old ≡ [] → AddsGiven s ps qs old new → All (λ n. IsGiven (NoOverlap2d x y) s n.target) new
-given_of s x y ps qs e f old new none h =
-    h (NoOverlap2d x y) (kept_of x y ps qs e f) (subst (λ (ns : List Narrowing). All (λ n. IsGiven (NoOverlap2d x y) s n.target) ns) (sym none) (All-nil (λ (n : Narrowing). IsGiven (NoOverlap2d x y) s n.target)))
+pub given_of : (s : Trail) (v w : Direction) → IsDirection s v → IsDirection s w → (x y : List Span) → v.spans ≡ x → w.spans ≡ y → (old new : List Narrowing) → old ≡ [] → AddsGiven v w old new → All (λ n. IsGiven (NoOverlap2d x y) s n.target) new
+given_of s v w is has x y e f old new none h =
+    h s is has (NoOverlap2d x y) (kept_of x y v.spans w.spans e f) (subst (λ (ns : List Narrowing). All (λ n. IsGiven (NoOverlap2d x y) s n.target) ns) (sym none) (All-nil (λ (n : Narrowing). IsGiven (NoOverlap2d x y) s n.target)))
 
 -- so the other way round
 pub swapped_disjoint : (xs : List ℤ) (ps qs : List Span) → AreDisjoint xs ps qs → AreDisjoint xs qs ps
 swapped_disjoint xs ps qs h = λ pair d p a b. elim (h pair d (record { along = p.across; across = p.along }) b a) [ inl e ↦ inr e | inr e ↦ inl e ]
 
-pub adds_swapped : (s : Trail) (ps qs : List Span) (old new : List Narrowing) → AddsGiven s qs ps old new → AddsGiven s ps qs old new
-adds_swapped s ps qs old new h = λ b k. h b (λ xs o. swapped_disjoint xs ps qs (k xs o))
+pub adds_swapped : (v w : Direction) (old new : List Narrowing) → AddsGiven w v old new → AddsGiven v w old new
+adds_swapped v w old new h = λ s is has b k. h s has is b (λ xs o. swapped_disjoint xs v.spans w.spans (k xs o))
 
 pub swapped_boxes : (ps qs : List Span) (pair : Pair) → AreBoxes ps qs pair → AreBoxes ps qs (record { before = pair.after; after = pair.before })
 swapped_boxes ps qs pair p = record { along = swapped_pair (length ps) pair p.along; across = swapped_pair (length qs) pair p.across }
@@ -85,14 +85,15 @@ none_of xs ps qs pair d p a b c e h =
       | inr f ↦ elim f [ inl k ↦ omega (arith, ints) | inr k ↦ omega (arith, ints) ]
     ]
 
+-- where boxes are apart, at values that a store leaves, one comes before another in the first direction
+abbrev pub BoxComesBefore : Trail → List Span → List Span → Pair → Type 0
+BoxComesBefore s ps qs pair = (xs : List ℤ) (d : Span) → IsAdmitted s.first s.entries xs → AreDisjoint xs ps qs → IsBefore xs (get_or ps pair.before d) (get_or ps pair.after d)
+
 pub no_span : Span
 no_span = record { start = 0; end = 0; size = 0; presence = []; length = None }
 
 -- what was seen of one direction
 module _ (s : Trail) (v : Direction) (is : IsDirection s v) where
-  pub seen_at : (k : ℕ) → k < length v.spans → k < length v.seen.items
-  seen_at k l = let same = zip_length (IsSeen s) v.spans v.seen.items is.seen in omega arith
-
   pub clashes_seen : (pair : Pair) → IsPair (length v.spans) pair → Overlap v.seen.items pair → (xs : List ℤ) → IsAdmitted s.first s.entries xs → ClashesAt xs v.spans pair
   clashes_seen pair p o xs a = λ d.
       let m = start_most s v.spans v.seen.items is.spans is.seen xs a pair.before d p.before in
@@ -111,21 +112,6 @@ module _ (s : Trail) (v : Direction) (is : IsDirection s v) where
 
   present_seen : (k : ℕ) → k < length v.spans → IsTrue (get_or v.seen.items k no_seen).presence.sure → (xs : List ℤ) (d : Span) → IsAdmitted s.first s.entries xs → is_present xs (get_or v.spans k d) ≡ true
   present_seen k l t xs d a = surely s v.spans v.seen.items is.spans is.seen xs a k d l t
-
-  -- what orders two boxes bounds the later one's start and the earlier one's end
-  pub start_given : (qs : List Span) (pair : Pair) (d : Span) (u : Atom) (b : Body) → IsPair (length v.spans) pair → BoxComesBefore s v.spans qs pair → KeepsApart b v.spans qs
-      → Says (get_or v.spans pair.after d) u (λ xs. (get_or v.seen.items pair.before no_seen).times.end_low ≤ℤ start_at xs (get_or v.spans pair.after d)) → IsGiven b s u
-  start_given qs pair d u b p order keeps h = record {
-    subject = says_within s.first (get_or v.spans pair.after d) u (λ xs. (get_or v.seen.items pair.before no_seen).times.end_low ≤ℤ start_at xs (get_or v.spans pair.after d)) (is.spans pair.after d p.after) h;
-    at = λ xs a o. h.said xs (let f = order xs a d (keeps xs o) in let e = end_least s v.spans v.seen.items is.spans is.seen xs a pair.before d p.before in omega (arith, ints));
-  }
-
-  pub end_given : (qs : List Span) (pair : Pair) (d : Span) (u : Atom) (b : Body) → IsPair (length v.spans) pair → BoxComesBefore s v.spans qs pair → KeepsApart b v.spans qs
-      → Says (get_or v.spans pair.before d) u (λ xs. end_at xs (get_or v.spans pair.before d) ≤ℤ (get_or v.seen.items pair.after no_seen).times.start_high) → IsGiven b s u
-  end_given qs pair d u b p order keeps h = record {
-    subject = says_within s.first (get_or v.spans pair.before d) u (λ xs. end_at xs (get_or v.spans pair.before d) ≤ℤ (get_or v.seen.items pair.after no_seen).times.start_high) (is.spans pair.before d p.before) h;
-    at = λ xs a o. h.said xs (let f = order xs a d (keeps xs o) in let e = start_most s v.spans v.seen.items is.spans is.seen xs a pair.after d p.after in omega (arith, ints));
-  }
 
   -- the one atom of a span that may be false makes it present
   pub last_makes : (k m : ℕ) (d : Span) (e : Atom) (us : List Atom) (u : Atom) → k < length v.spans → us ≡ (get_or v.spans k d).presence → m < length us → m ≡ (get_or v.seen.items k no_seen).presence.last → u ≡ get_or us m e → MakesPresent s v.spans k u
@@ -167,14 +153,14 @@ module _ (s : Trail) (v w : Direction) (is : IsDirection s v) (has : IsDirection
   present_across e f xs d a = record { before = present_seen s w has pair.before p.across.before e.across xs d a; after = present_seen s w has pair.after p.across.after f.across xs d a }
 
   pub box_comes : Overlap w.seen.items pair → IsSureBox v.seen.items w.seen.items pair.before → IsSureBox v.seen.items w.seen.items pair.after → IsLate v.seen.items pair → BoxComesBefore s v.spans w.spans pair
-  box_comes o e f late = λ xs a d h. first_of xs v.spans w.spans pair d p (present_along e f xs d a) (present_across e f xs d a) (clashes_seen s w has pair p.across o xs a) (late_seen s v is pair p.along late xs d a) h
+  box_comes o e f late = λ xs d a h. first_of xs v.spans w.spans pair d p (present_along e f xs d a) (present_across e f xs d a) (clashes_seen s w has pair p.across o xs a) (late_seen s v is pair p.along late xs d a) h
 
-  pub leaves_none : Overlap v.seen.items pair → Overlap w.seen.items pair → IsSureBox v.seen.items w.seen.items pair.before → IsSureBox v.seen.items w.seen.items pair.after → LeavesNone s v.spans w.spans
+  pub leaves_none : Overlap v.seen.items pair → Overlap w.seen.items pair → IsSureBox v.seen.items w.seen.items pair.before → IsSureBox v.seen.items w.seen.items pair.after → (b : Body) → KeepsApart b v.spans w.spans → IsImpossible b s
   leaves_none m n e f = λ b keeps. record {
     at = λ xs a o. none_of xs v.spans w.spans pair no_span p (present_along e f xs no_span a) (present_across e f xs no_span a) (clashes_seen s v is pair p.along m xs a) (clashes_seen s w has pair p.across n xs a) (keeps xs o);
   }
 
-  pub box_absent : Overlap v.seen.items pair → Overlap w.seen.items pair → IsSureBox v.seen.items w.seen.items pair.after → IsBoxAbsent s v.spans w.spans pair.before
+  pub box_absent : Overlap v.seen.items pair → Overlap w.seen.items pair → IsSureBox v.seen.items w.seen.items pair.after → LacksBox s v.spans w.spans pair.before
   box_absent m n f = λ xs d a h e g.
       none_of xs v.spans w.spans pair d p
       (record { before = e; after = present_seen s v is pair.after p.along.after f.along xs d a })
@@ -188,33 +174,31 @@ comes_swapped s v w is has pair turn same p o e f late =
     (λ l. box_comes s v w is has (record { before = pair.after; after = pair.before }) (swapped_boxes v.spans w.spans pair p) (swapped_overlap w.seen.items pair o) f e l) late
 
 pub absent_swapped : (s : Trail) (v w : Direction) (is : IsDirection s v) (has : IsDirection s w) (pair turn : Pair) → turn ≡ record { before = pair.after; after = pair.before } → AreBoxes v.spans w.spans pair → Overlap v.seen.items pair → Overlap w.seen.items pair
-    → IsSureBox v.seen.items w.seen.items pair.before → IsBoxAbsent s v.spans w.spans turn.before
+    → IsSureBox v.seen.items w.seen.items pair.before → LacksBox s v.spans w.spans turn.before
 absent_swapped s v w is has pair turn same p m n e =
-    subst (λ (q : Pair). IsBoxAbsent s v.spans w.spans q.before) (sym same)
+    subst (λ (q : Pair). LacksBox s v.spans w.spans q.before) (sym same)
     (box_absent s v w is has (record { before = pair.after; after = pair.before }) (swapped_boxes v.spans w.spans pair p) (swapped_overlap v.seen.items pair m) (swapped_overlap w.seen.items pair n) e)
 
 -- a box that cannot be present makes the one atom false that may be so
-pub box_denied : (s : Trail) (ps qs : List Span) (k : ℕ) (u target : Atom) (b : Body) → MakesBoxPresent s ps qs k u → IsBoxAbsent s ps qs k → target.subject ≡ u.subject → ((x : ℤ) → meets target.op target.value x ≡ not (meets u.op u.value x)) → KeepsApart b ps qs → IsGiven b s target
+pub box_denied : (s : Trail) (ps qs : List Span) (k : ℕ) (u target : Atom) (b : Body) → MakesBoxPresent s ps qs k u → LacksBox s ps qs k → target.subject ≡ u.subject → ((x : ℤ) → meets target.op target.value x ≡ not (meets u.op u.value x)) → KeepsApart b ps qs → IsGiven b s target
 box_denied s ps qs k u target b makes absent about negated keeps = record {
   subject = subst (λ (i : ℕ). i < length s.first) (sym about) makes.along.subject;
   at = λ xs a o. denies (atom_holds xs target) (atom_holds xs u) (ap (λ (i : ℕ). meets target.op target.value (value_at xs i)) about ∙ negated (value_at xs u.subject))
       (λ t. absent xs no_span a (keeps xs o) (makes.along.present xs no_span a t) (makes.across.present xs no_span a t));
 }
 
-pub adds_nothing : (s : Trail) (ps qs : List Span) (old : List Narrowing) → AddsGiven s ps qs old old
-adds_nothing s ps qs old = λ b k h. h
+pub adds_then : (v w : Direction) (old mid new : List Narrowing) → AddsGiven v w old mid → AddsGiven v w mid new → AddsGiven v w old new
+adds_then v w old mid new f g = λ s is has b k h. g s is has b k (f s is has b k h)
 
-pub adds_then : (s : Trail) (ps qs : List Span) (old mid new : List Narrowing) → AddsGiven s ps qs old mid → AddsGiven s ps qs mid new → AddsGiven s ps qs old new
-adds_then s ps qs old mid new f g = λ b k h. g b k (f b k h)
+pub adds_proposed : (v w : Direction) (t : Option Atom) (old new : List Narrowing) → ((s : Trail) → IsDirection s v → IsDirection s w → (b : Body) → KeepsApart b v.spans w.spans → IfSome t (IsGiven b s)) → Proposes t old new → AddsGiven v w old new
+adds_proposed v w t old new g e = λ s is has b k. gives_proposed b s t old new (g s is has b k) e
 
-pub adds_proposed : (s : Trail) (ps qs : List Span) (t : Option Atom) (old new : List Narrowing) → ((b : Body) → KeepsApart b ps qs → IfSome t (IsGiven b s)) → Proposes t old new → AddsGiven s ps qs old new
-adds_proposed s ps qs t old new g e = λ b k. gives_proposed b s t old new (g b k) e
+pub adds_ordered : (v w : Direction) (pair : Pair) (old new : List Narrowing) → ((s : Trail) → IsDirection s v → IsDirection s w → BoxComesBefore s v.spans w.spans pair) → AddsOrdered v.spans v.seen.items pair old new → AddsGiven v w old new
+adds_ordered v w pair old new order h = λ s is has b keeps. h s is b (λ xs d a o. order s is has xs d a (keeps xs o))
 
-below_or_same : (i n : ℕ) → i < n + 1 → (i < n) ⊎ (i ≡ n)
-below_or_same zero zero l = inr refl
-below_or_same zero (suc n) l = inl (omega arith)
-below_or_same (suc i) zero l = absurd (omega arith)
-below_or_same (suc i) (suc n) l = elim (below_or_same i n (omega arith)) [ inl k ↦ inl (omega arith) | inr k ↦ inr (ap (λ (m : ℕ). suc m) k) ]
+-- what is as it was seen is known
+pub direction_known : (s : Trail) (v : Direction) → IsDirection s v → IsKnown v
+direction_known s v is = are_known s v.spans v.seen.items is
 
 pub allows_more : (vs ws : List Seen) (j n : ℕ) → AllowsBoxes vs ws j n → AreBoxesAllowed vs ws (pair_of_places j n) → AllowsBoxes vs ws j (n + 1)
 allows_more vs ws j n h g = λ i l. elim (below_or_same i n l) [

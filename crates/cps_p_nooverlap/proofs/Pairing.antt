@@ -1,7 +1,7 @@
 -- What two spans give.
 use Rattle.std.specs.Prelude.{not, IfSome}
 use Rattle.std.specs.List.{All, AllZip, list_all}
-use Rattle.std.proofs.Common.{◌≡◌, ◌≢◌, ℕ, zero, suc, ◌<◌, ◌≤ℤ◌, ◌<ℤ◌, ◌⊎◌, inl, inr, ℤ, Bool, true, false, Option, Some, None, List, [], ◌∷◌, length, get_or, refl, sym, ◌∙◌, ap, subst, arith}
+use Rattle.std.proofs.Common.{◌≡◌, ◌≢◌, ℕ, zero, suc, ◌+◌, ◌<◌, ◌≤ℤ◌, ◌<ℤ◌, ◌⊎◌, inl, inr, ℤ, Bool, true, false, Option, Some, None, List, [], ◌∷◌, length, get_or, refl, sym, ◌∙◌, ap, subst, arith}
 use Rattle.std.proofs.lemmas.Int.{ints}
 use Rattle.std.proofs.lemmas.List.{get_or_default}
 use Rattle.std.proofs.lemmas.List.Elements.{All-head, All-tail, All-push}
@@ -21,7 +21,7 @@ use Rattle.cps_p_nooverlap.specs.declared.pairs.Pair.{Pair}
 use Rattle.cps_p_nooverlap.specs.declared.seen.Seen.{Seen}
 use Rattle.cps_p_nooverlap.specs.Citing.{GivesMore}
 use Rattle.cps_p_nooverlap.specs.Hulls.{Proposes}
-use Rattle.cps_p_nooverlap.specs.Spans.{start_at, end_at, is_present, IsBefore, AreSpans, IsSeen, Says, IsPair, ComesBefore, IsAbsent, no_seen}
+use Rattle.cps_p_nooverlap.specs.Spans.{start_at, end_at, is_present, IsBefore, AreSpans, IsSeen, Says, IsPair, AreKnown, AreSeen, AddsApart, IsAllowed, AreAllowed, AllowsFirst, Orders, LacksSpan, no_seen}
 use Rattle.cps_p_nooverlap.proofs.Apart.{apart_of}
 use Rattle.cps_p_nooverlap.proofs.Timing.{zip_at, zip_length}
 
@@ -75,7 +75,7 @@ module _ (s : Trail) (ps : List Span) (vs : List Seen) (are : AreSpans s.first p
     surely e = present_at s (get_or ps k d).presence xs (are k d l).presence ((at k d l).presence.sure e) o
 
   pub comes : (pair : Pair) → IsPair (length ps) pair → (get_or vs pair.before no_seen).times.start_high <ℤ (get_or vs pair.after no_seen).times.end_low
-      → (get_or vs pair.before no_seen).presence.sure ≡ true → (get_or vs pair.after no_seen).presence.sure ≡ true → ComesBefore s ps pair
+      → (get_or vs pair.before no_seen).presence.sure ≡ true → (get_or vs pair.after no_seen).presence.sure ≡ true → Orders (NoOverlap ps) s ps pair
   comes pair p late e f = λ xs d o h.
       elim (pair_apart xs ps pair.before pair.after d p.apart p.before p.after (surely xs o pair.before d p.before e) (surely xs o pair.after d p.after f) h) [
         | inl b ↦ b
@@ -99,11 +99,11 @@ module _ (s : Trail) (ps : List Span) (vs : List Seen) (are : AreSpans s.first p
   neither pair p forth back e f = record { at = λ xs o h. clashing pair p forth back xs no_span o h (surely xs o pair.before no_span p.before e) (surely xs o pair.after no_span p.after f) }
 
   pub absent_before : (pair : Pair) → IsPair (length ps) pair → (get_or vs pair.after no_seen).times.start_high <ℤ (get_or vs pair.before no_seen).times.end_low → (get_or vs pair.before no_seen).times.start_high <ℤ (get_or vs pair.after no_seen).times.end_low
-      → (get_or vs pair.after no_seen).presence.sure ≡ true → IsAbsent s ps pair.before
+      → (get_or vs pair.after no_seen).presence.sure ≡ true → LacksSpan s ps pair.before
   absent_before pair p forth back f = λ xs d o h e. clashing pair p forth back xs d o h e (surely xs o pair.after d p.after f)
 
   pub absent_after : (pair : Pair) → IsPair (length ps) pair → (get_or vs pair.after no_seen).times.start_high <ℤ (get_or vs pair.before no_seen).times.end_low → (get_or vs pair.before no_seen).times.start_high <ℤ (get_or vs pair.after no_seen).times.end_low
-      → (get_or vs pair.before no_seen).presence.sure ≡ true → IsAbsent s ps pair.after
+      → (get_or vs pair.before no_seen).presence.sure ≡ true → LacksSpan s ps pair.after
   absent_after pair p forth back e = λ xs d o h f. clashing pair p forth back xs d o h (surely xs o pair.before d p.before e) f
 
   says_about : (k : ℕ) (d : Span) (u : Atom) (P : List ℤ → Type 0) → k < length ps → Says (get_or ps k d) u P → u.subject < length s.first
@@ -112,20 +112,20 @@ module _ (s : Trail) (ps : List Span) (vs : List Seen) (are : AreSpans s.first p
     | inr e ↦ (let i = (are k d l).end in omega (arith, e))
   ]
 
-  pub start_given : (pair : Pair) (d : Span) (u : Atom) → IsPair (length ps) pair → ComesBefore s ps pair → Says (get_or ps pair.after d) u (λ xs. (get_or vs pair.before no_seen).times.end_low ≤ℤ start_at xs (get_or ps pair.after d)) → IsGiven (NoOverlap ps) s u
-  start_given pair d u p order h = record {
+  pub start_given : (b : Body) (pair : Pair) (d : Span) (u : Atom) → IsPair (length ps) pair → Orders b s ps pair → Says (get_or ps pair.after d) u (λ xs. (get_or vs pair.before no_seen).times.end_low ≤ℤ start_at xs (get_or ps pair.after d)) → IsGiven b s u
+  start_given b pair d u p order h = record {
     subject = says_about pair.after d u (λ xs. (get_or vs pair.before no_seen).times.end_low ≤ℤ start_at xs (get_or ps pair.after d)) p.after h;
-    at = λ xs o b. h.said xs (let a = order xs d o b in let e = end_least xs o pair.before d p.before in omega (arith, ints));
+    at = λ xs o holds. h.said xs (let a = order xs d o holds in let e = end_least xs o pair.before d p.before in omega (arith, ints));
   }
 
-  pub end_given : (pair : Pair) (d : Span) (u : Atom) → IsPair (length ps) pair → ComesBefore s ps pair → Says (get_or ps pair.before d) u (λ xs. end_at xs (get_or ps pair.before d) ≤ℤ (get_or vs pair.after no_seen).times.start_high) → IsGiven (NoOverlap ps) s u
-  end_given pair d u p order h = record {
+  pub end_given : (b : Body) (pair : Pair) (d : Span) (u : Atom) → IsPair (length ps) pair → Orders b s ps pair → Says (get_or ps pair.before d) u (λ xs. end_at xs (get_or ps pair.before d) ≤ℤ (get_or vs pair.after no_seen).times.start_high) → IsGiven b s u
+  end_given b pair d u p order h = record {
     subject = says_about pair.before d u (λ xs. end_at xs (get_or ps pair.before d) ≤ℤ (get_or vs pair.after no_seen).times.start_high) p.before h;
-    at = λ xs o b. h.said xs (let a = order xs d o b in let e = start_most xs o pair.after d p.after in omega (arith, ints));
+    at = λ xs o holds. h.said xs (let a = order xs d o holds in let e = start_most xs o pair.after d p.after in omega (arith, ints));
   }
 
   -- where an atom is open and all others are true, a span that cannot be present makes it false
-  pub denied : (k m : ℕ) (d : Span) (e : Atom) (u : Atom) → k < length ps → IsAbsent s ps k → m < length (get_or ps k d).presence → m ≡ (get_or vs k no_seen).presence.last → u.subject ≡ (get_or (get_or ps k d).presence m e).subject
+  pub denied : (k m : ℕ) (d : Span) (e : Atom) (u : Atom) → k < length ps → LacksSpan s ps k → m < length (get_or ps k d).presence → m ≡ (get_or vs k no_seen).presence.last → u.subject ≡ (get_or (get_or ps k d).presence m e).subject
       → ((x : ℤ) → meets u.op u.value x ≡ not (meets (get_or (get_or ps k d).presence m e).op (get_or (get_or ps k d).presence m e).value x)) → IsGiven (NoOverlap ps) s u
   denied k m d e u l absent n same about negated = record {
     subject = (let i = (are k d l).presence m e n in omega (arith, about));
@@ -152,14 +152,11 @@ module _ (s : Trail) (ps : List Span) (vs : List Seen) (are : AreSpans s.first p
           let p = (at k d l).presence.others (omega (arith, same)) j f q (λ i. g (i ∙ sym same)) in
           p (value_at xs (get_or (get_or ps k d).presence j f).subject) (o (get_or (get_or ps k d).presence j f).subject ((are k d l).presence j f q))
 
-  pub denied_in : (k m : ℕ) (d : Span) (e : Atom) (u : Atom) (us : List Atom) → us ≡ (get_or ps k d).presence → k < length ps → IsAbsent s ps k → m < length us → m ≡ (get_or vs k no_seen).presence.last → u.subject ≡ (get_or us m e).subject
+  pub denied_in : (k m : ℕ) (d : Span) (e : Atom) (u : Atom) (us : List Atom) → us ≡ (get_or ps k d).presence → k < length ps → LacksSpan s ps k → m < length us → m ≡ (get_or vs k no_seen).presence.last → u.subject ≡ (get_or us m e).subject
       → ((x : ℤ) → meets u.op u.value x ≡ not (meets (get_or us m e).op (get_or us m e).value x)) → IsGiven (NoOverlap ps) s u
   denied_in k m d e u us same l absent n last about negated =
       subst (λ (bs : List Atom). m < length bs → u.subject ≡ (get_or bs m e).subject → ((x : ℤ) → meets u.op u.value x ≡ not (meets (get_or bs m e).op (get_or bs m e).value x)) → IsGiven (NoOverlap ps) s u) (sym same)
       (λ n' about' negated'. denied k m d e u l absent n' last about' negated') n about negated
-
-  pub seen_length : (k : ℕ) → k < length ps → k < length vs
-  seen_length k l = let same = zip_length (IsSeen s) ps vs seen in omega arith
 
 pub swapped_pair : (n : ℕ) (p : Pair) → IsPair n p → IsPair n (record { before = p.after; after = p.before })
 swapped_pair n p h = record { before = h.after; after = h.before; apart = λ e. h.apart (sym e) }
@@ -168,3 +165,28 @@ pub gives_proposed : (body : Body) (s : Trail) (t : Option Atom) (old new : List
 gives_proposed body s None old new g e h = subst (λ (ns : List Narrowing). All (λ n. IsGiven body s n.target) ns) (sym e) h
 gives_proposed body s (Some t) old new g (hint, e) h =
     subst (λ (ns : List Narrowing). All (λ n. IsGiven body s n.target) ns) (sym e) (All-push (λ (n : Narrowing). IsGiven body s n.target) old (record { target = t; hint = hint }) h g)
+
+-- what is as it was seen is known
+pub are_known : (s : Trail) (ps : List Span) (vs : List Seen) → AreSeen s ps vs → AreKnown ps vs
+are_known s ps vs are = record { each = zip_length (IsSeen s) ps vs are.seen; small = λ k d l i e m. record { low = ((are.spans k d l).literals i e m).low; high = ((are.spans k d l).literals i e m).high } }
+
+pub adds_then : (ps : List Span) (vs : List Seen) (old mid new : List Narrowing) → AddsApart ps vs old mid → AddsApart ps vs mid new → AddsApart ps vs old new
+adds_then ps vs old mid new f g = λ s are h. g s are (f s are h)
+
+pub below_or_same : (i n : ℕ) → i < n + 1 → (i < n) ⊎ (i ≡ n)
+below_or_same zero zero l = inr refl
+below_or_same zero (suc n) l = inl (omega arith)
+below_or_same (suc i) zero l = absurd (omega arith)
+below_or_same (suc i) (suc n) l = elim (below_or_same i n (omega arith)) [ inl k ↦ inl (omega arith) | inr k ↦ inr (ap (λ (m : ℕ). suc m) k) ]
+
+pub first_more : (vs : List Seen) (j n : ℕ) → AllowsFirst vs j n → IsAllowed (get_or vs j no_seen) (get_or vs n no_seen) → AllowsFirst vs j (n + 1)
+first_more vs j n h g = λ i l. elim (below_or_same i n l) [
+  | inl k ↦ h i k
+  | inr k ↦ subst (λ (m : ℕ). IsAllowed (get_or vs j no_seen) (get_or vs m no_seen)) (sym k) g
+]
+
+pub allowed_more : (vs : List Seen) (n : ℕ) → AreAllowed vs n → AllowsFirst vs n n → AreAllowed vs (n + 1)
+allowed_more vs n h g = λ i j l m. elim (below_or_same j n m) [
+  | inl k ↦ h i j l k
+  | inr k ↦ subst (λ (q : ℕ). IsAllowed (get_or vs q no_seen) (get_or vs i no_seen)) (sym k) (g i (subst (λ (q : ℕ). i < q) k l))
+]

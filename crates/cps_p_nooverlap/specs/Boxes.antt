@@ -1,6 +1,5 @@
 -- Boxes, each with a span in two directions, and what a store leaves to them.
 use Rattle.std.specs.Prelude.{◌≡◌, ◌<◌, ◌≤ℤ◌, ◌<ℤ◌, ◌⊎◌, ℕ, ℤ, Bool, true, false, IsTrue, List, length, slice_index_or}
-use Rattle.std.specs.List.{AllZip}
 use Rattle.cps_literal.specs.declared.atom.Atom.{Atom}
 use Rattle.cps_literal.specs.Truth.{atom_holds}
 use Rattle.cps_instance.specs.declared.task.Span.{Span}
@@ -14,17 +13,20 @@ use Rattle.cps_p_nooverlap.specs.declared.pairs.Pair.{Pair}
 use Rattle.cps_p_nooverlap.specs.declared.seen.Seen.{Seen}
 use Rattle.cps_p_nooverlap.specs.declared.box_pairs.Direction.{Direction}
 use Rattle.cps_p_nooverlap.specs.Citing.{GivesMore}
-use Rattle.cps_p_nooverlap.specs.Spans.{is_present, IsBefore, AreSpans, IsSeen, IsPair, IsSmallAtom, no_seen}
+use Rattle.cps_p_nooverlap.specs.Spans.{is_present, IsBefore, AreKnown, AreSeen, IsPair, IsSmallAtom, no_seen}
 
 -- whether a body asks that boxes do not overlap
 abbrev pub is_no_overlap_2d : Body → Bool
 is_no_overlap_2d (NoOverlap2d x y) = true
 is_no_overlap_2d body = false
 
--- the spans of a direction have domains, and what was seen of them is so
-pub record IsDirection (s : Trail) (v : Direction) : Type 0 where
-  pub spans : AreSpans s.first v.spans
-  pub seen : AllZip (IsSeen s) v.spans v.seen.items
+-- of each span of a direction something was seen
+abbrev pub IsKnown : Direction → Type 0
+IsKnown v = AreKnown v.spans v.seen.items
+
+-- in a store the spans of a direction are as they were seen
+abbrev pub IsDirection : Trail → Direction → Type 0
+IsDirection s v = AreSeen s v.spans v.seen.items
 
 -- two places in each of two lists
 pub record AreBoxes (ps qs : List Span) (pair : Pair) : Type 0 where
@@ -50,27 +52,30 @@ AreDisjoint xs ps qs = (pair : Pair) (d : Span) → AreBoxes ps qs pair → AreP
 abbrev pub KeepsApart : Body → List Span → List Span → Type 0
 KeepsApart b ps qs = (xs : List ℤ) → HoldsBody b xs → AreDisjoint xs ps qs
 
--- where each atom of an older list is given by such a body, each of a newer one is
-abbrev pub AddsGiven : Trail → List Span → List Span → List Narrowing → List Narrowing → Type 0
-AddsGiven s ps qs old new = (b : Body) → KeepsApart b ps qs → GivesMore b s old new
+-- in each store in which two directions are as they were seen: where each atom of an older list is given by such a
+-- body, each of a newer one is
+abbrev pub AddsGiven : Direction → Direction → List Narrowing → List Narrowing → Type 0
+AddsGiven v w old new = (s : Trail) → IsDirection s v → IsDirection s w → (b : Body) → KeepsApart b v.spans w.spans
+    → GivesMore b s old new
 
--- no such body can hold
-abbrev pub LeavesNone : Trail → List Span → List Span → Type 0
-LeavesNone s ps qs = (b : Body) → KeepsApart b ps qs → IsImpossible b s
+-- in each no such body can hold
+abbrev pub LeavesNone : Direction → Direction → Type 0
+LeavesNone v w = (s : Trail) → IsDirection s v → IsDirection s w → (b : Body) → KeepsApart b v.spans w.spans
+    → IsImpossible b s
 
 -- where boxes are apart, one comes before another in the first direction
 abbrev pub OrdersBoxes : List ℤ → List Span → List Span → Pair → Type 0
 OrdersBoxes xs ps qs pair = (d : Span) → AreDisjoint xs ps qs
     → IsBefore xs (slice_index_or ps pair.before d) (slice_index_or ps pair.after d)
 
--- so at all values that the store leaves
-abbrev pub BoxComesBefore : Trail → List Span → List Span → Pair → Type 0
-BoxComesBefore s ps qs pair = (xs : List ℤ) → IsAdmitted s.first s.entries xs → OrdersBoxes xs ps qs pair
-
--- there a box is not present
-abbrev pub IsBoxAbsent : Trail → List Span → List Span → ℕ → Type 0
-IsBoxAbsent s ps qs k = (xs : List ℤ) (d : Span) → IsAdmitted s.first s.entries xs → AreDisjoint xs ps qs
+-- at values that a store leaves, a box is not present where boxes are apart
+abbrev pub LacksBox : Trail → List Span → List Span → ℕ → Type 0
+LacksBox s ps qs k = (xs : List ℤ) (d : Span) → IsAdmitted s.first s.entries xs → AreDisjoint xs ps qs
     → is_present xs (slice_index_or ps k d) ≡ true → is_present xs (slice_index_or qs k d) ≡ true → ⊥
+
+-- so in each store in which two directions are as they were seen
+abbrev pub IsBoxAbsent : Direction → Direction → ℕ → Type 0
+IsBoxAbsent v w k = (s : Trail) → IsDirection s v → IsDirection s w → LacksBox s v.spans w.spans k
 
 -- of two spans the first cannot come after the second
 abbrev pub IsLate : List Seen → Pair → Type 0
@@ -127,6 +132,14 @@ pub record MakesPresent (s : Trail) (ps : List Span) (k : ℕ) (u : Atom) : Type
 pub record MakesBoxPresent (s : Trail) (ps qs : List Span) (k : ℕ) (u : Atom) : Type 0 where
   pub along : MakesPresent s ps k u
   pub across : MakesPresent s qs k u
+
+-- in each store in which a direction is as it was seen, an atom makes a span present
+abbrev pub IsLastAtom : Direction → ℕ → Atom → Type 0
+IsLastAtom v k u = (s : Trail) → IsDirection s v → MakesPresent s v.spans k u
+
+-- so for both directions of a box
+abbrev pub IsLastOfBox : Direction → Direction → ℕ → Atom → Type 0
+IsLastOfBox v w k u = (s : Trail) → IsDirection s v → IsDirection s w → MakesBoxPresent s v.spans w.spans k u
 
 -- so many boxes have both spans
 pub record IsCount (n m count : ℕ) : Type 0 where

@@ -1,14 +1,17 @@
 -- An interval's bounds.
-use Rattle.std.specs.Prelude.{◌≡◌, ◌<◌, ◌≤ℤ◌, ◌+ℤ◌, ℕ, ℤ, pos, List, Bool, true, false}
+use Rattle.std.specs.Prelude.{◌≡◌, ◌<◌, ◌≤ℤ◌, ◌+ℤ◌, ℕ, ℤ, pos, List, length, Bool, true, false}
 use Rattle.cps_model.specs.Scheduling.{IsInterval}
 use Rattle.cps_literal.specs.declared.atom.Atom.{Atom}
 use Rattle.cps_literal.specs.Truth.{value_at, atom_holds}
 use Rattle.cps_instance.specs.declared.task.Body.{Body}
 use Rattle.cps_instance.specs.declared.task.Body.TheVariants.{Interval, NoOverlap}
-use Rattle.cps_trail.specs.Trail.{Trail}
+use Rattle.cps_trail.specs.Trail.{Trail, IsInside}
+use Rattle.cps_rule.specs.declared.rule.Narrowing.{Narrowing}
+use Rattle.cps_rule.specs.Rules.{IsImpossible}
 use Rattle.cps_p_nooverlap.specs.declared.interval.Places.{Places}
 use Rattle.cps_p_nooverlap.specs.declared.interval.Hulls.{Hulls}
 use Rattle.cps_p_nooverlap.specs.declared.interval.Support.{Support}
+use Rattle.cps_p_nooverlap.specs.Citing.{GivesMore}
 use Rattle.cps_p_nooverlap.specs.Hulls.{IsHullNow}
 
 abbrev pub body_of : Places → Body
@@ -34,6 +37,26 @@ pub record IsMeasured (s : Trail) (p : Places) (h : Hulls) : Type 0 where
   pub start : IsHullNow s p.start h.start
   pub end : IsHullNow s p.end h.end
   pub size : IsHullNow s p.size h.size
+
+-- all ends are such as a subject may have
+pub record AreInside (h : Hulls) : Type 0 where
+  pub start_low : IsInside h.start.low
+  pub start_high : IsInside h.start.high
+  pub end_low : IsInside h.end.low
+  pub end_high : IsInside h.end.high
+  pub size_low : IsInside h.size.low
+  pub size_high : IsInside h.size.high
+
+-- in each store in which these are the ends of an interval's subjects there is no interval
+abbrev pub LeavesNoInterval : Hulls → Type 0
+LeavesNoInterval h = (s : Trail) (p : Places) → ArePlaces (length s.first) p → IsMeasured s p h
+    → IsImpossible (body_of p) s
+
+-- in each store in which these are the ends of the subjects: where each atom of an older list is given by the
+-- interval, each of a newer one is
+abbrev pub AddsBounds : Places → Hulls → List Narrowing → List Narrowing → Type 0
+AddsBounds p h old new = (s : Trail) → ArePlaces (length s.first) p → IsMeasured s p h
+    → GivesMore (body_of p) s old new
 
 -- the ends leave room for an interval
 pub record IsPossible (h : Hulls) : Type 0 where

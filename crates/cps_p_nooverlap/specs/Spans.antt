@@ -1,20 +1,26 @@
 -- Spans at a list of values, and what a store leaves to them.
 use Rattle.std.specs.Prelude.{pos, ◌≡◌, ◌≢◌, ◌<◌, ◌≤ℤ◌, ◌<ℤ◌, ◌+ℤ◌, ◌⊎◌, ℕ, ℤ, Bool, true, false, IsTrue, Option, Some, None, List, length, slice_index_or, All}
-use Rattle.std.specs.List.{list_all}
+use Rattle.std.specs.List.{AllZip, list_all}
 use Rattle.cps_literal.specs.declared.atom.Atom.{Atom}
 use Rattle.cps_literal.specs.Truth.{value_at, atom_holds}
 use Rattle.cps_instance.specs.declared.task.Span.{Span}
+use Rattle.cps_instance.specs.declared.task.Body.{Body}
+use Rattle.cps_instance.specs.declared.task.Body.TheVariants.{NoOverlap}
+use Rattle.cps_instance.specs.Tasks.{HoldsBody}
 use Rattle.cps_model.specs.Scheduling.{IsNoOverlap}
 use Rattle.cps_instance.specs.Parts.{span_runs}
 use Rattle.cps_instance.specs.Terms.{Domains}
 use Rattle.cps_instance.specs.Fitting.{IsLiteral}
 use Rattle.cps_trail.specs.Trail.{Trail, IsTrueNow, IsAdmitted}
+use Rattle.cps_rule.specs.declared.rule.Narrowing.{Narrowing}
+use Rattle.cps_rule.specs.Rules.{IsImpossible}
 use Rattle.cps_propagate.specs.Now.{IsOpenTo, IsFixedNow}
 use Rattle.cps_propagate.specs.Strength.{MayEndAt}
 use Rattle.cps_p_nooverlap.specs.declared.seen.Times.{Times}
 use Rattle.cps_p_nooverlap.specs.declared.seen.Presence.{Presence}
 use Rattle.cps_p_nooverlap.specs.declared.seen.Seen.{Seen}
 use Rattle.cps_p_nooverlap.specs.declared.pairs.Pair.{Pair}
+use Rattle.cps_p_nooverlap.specs.Citing.{GivesMore}
 
 abbrev pub start_at : List ℤ → Span → ℤ
 start_at xs p = value_at xs p.start
@@ -79,15 +85,47 @@ pub record IsPair (n : ℕ) (pair : Pair) : Type 0 where
   pub after : pair.after < n
   pub apart : pair.before ≢ pair.after
 
--- wherever the spans do not overlap at values that the store leaves, one comes before another
-abbrev pub ComesBefore : Trail → List Span → Pair → Type 0
-ComesBefore s ps pair = (xs : List ℤ) (d : Span) → IsAdmitted s.first s.entries xs → IsNoOverlap (span_runs xs ps)
+-- an atom that compares with 0 or 1
+pub record IsSmallAtom (u : Atom) : Type 0 where
+  pub low : pos 0 ≤ℤ u.value
+  pub high : u.value ≤ℤ pos 1
+
+-- of each span something was seen, and its presence atoms are such
+pub record AreKnown (ps : List Span) (vs : List Seen) : Type 0 where
+  pub each : length ps ≡ length vs
+  pub small : All (λ p. All IsSmallAtom p.presence) ps
+
+-- in a store spans have domains, and what was seen of them is so
+pub record AreSeen (s : Trail) (ps : List Span) (vs : List Seen) : Type 0 where
+  pub spans : AreSpans s.first ps
+  pub seen : AllZip (IsSeen s) ps vs
+
+-- wherever a body holds at values that a store leaves, one span comes before another
+abbrev pub Orders : Body → Trail → List Span → Pair → Type 0
+Orders b s ps pair = (xs : List ℤ) (d : Span) → IsAdmitted s.first s.entries xs → HoldsBody b xs
     → IsBefore xs (slice_index_or ps pair.before d) (slice_index_or ps pair.after d)
 
--- there a span is not present
-abbrev pub IsAbsent : Trail → List Span → ℕ → Type 0
-IsAbsent s ps k = (xs : List ℤ) (d : Span) → IsAdmitted s.first s.entries xs → IsNoOverlap (span_runs xs ps)
+-- in each store in which spans are as they were seen: where a body orders two of them and gives each atom of an older
+-- list, it gives each of a newer one
+abbrev pub AddsOrdered : List Span → List Seen → Pair → List Narrowing → List Narrowing → Type 0
+AddsOrdered ps vs pair old new = (s : Trail) → AreSeen s ps vs → (b : Body) → Orders b s ps pair → GivesMore b s old new
+
+-- in each, where each atom of an older list is given by that the spans do not overlap, each of a newer one is
+abbrev pub AddsApart : List Span → List Seen → List Narrowing → List Narrowing → Type 0
+AddsApart ps vs old new = (s : Trail) → AreSeen s ps vs → GivesMore (NoOverlap ps) s old new
+
+-- in each they overlap
+abbrev pub LeavesNoOrder : List Span → List Seen → Type 0
+LeavesNoOrder ps vs = (s : Trail) → AreSeen s ps vs → IsImpossible (NoOverlap ps) s
+
+-- at values that a store leaves, a span is not present where the spans do not overlap
+abbrev pub LacksSpan : Trail → List Span → ℕ → Type 0
+LacksSpan s ps k = (xs : List ℤ) (d : Span) → IsAdmitted s.first s.entries xs → IsNoOverlap (span_runs xs ps)
     → is_present xs (slice_index_or ps k d) ≡ true → ⊥
+
+-- so in each store in which the spans are as they were seen
+abbrev pub IsAbsent : List Span → List Seen → ℕ → Type 0
+IsAbsent ps vs k = (s : Trail) → AreSeen s ps vs → LacksSpan s ps k
 
 -- two spans may be one before the other, as far as their ends tell, or one is not surely present
 abbrev pub IsAllowed : Seen → Seen → Type 0
@@ -121,8 +159,3 @@ abbrev pub ClashesAt : List ℤ → List Span → Pair → Type 0
 ClashesAt xs ps pair = (d : Span)
     → (start_at xs (slice_index_or ps pair.before d) <ℤ end_at xs (slice_index_or ps pair.after d))
     × (start_at xs (slice_index_or ps pair.after d) <ℤ end_at xs (slice_index_or ps pair.before d))
-
--- an atom that compares with 0 or 1
-pub record IsSmallAtom (u : Atom) : Type 0 where
-  pub low : pos 0 ≤ℤ u.value
-  pub high : u.value ≤ℤ pos 1

@@ -5,10 +5,10 @@
 //! absent, or the body cannot hold. Each step is written for a direction `along` which boxes are ordered and one
 //! `across` it, and serves both ways.
 ghost use Rattle.std.specs.Prelude.{◌≡◌, ◌<◌, length, slice_index_or, true, false, OnOk, IfOk, IfSome, IsTrue, ◌↔◌};
-ghost use Rattle.cps_p_nooverlap.specs.Spans.{IsPair, no_seen};
-ghost use Rattle.cps_p_nooverlap.specs.Boxes.{IsDirection, AreBoxes, AddsGiven, LeavesNone, BoxComesBefore, IsBoxAbsent, IsLate, IsOpenOrder, Overlap, MayBeApart, IsSureBox, AreBoxesAllowed, AllowsBoxes, AreAllAllowed, MakesPresent, MakesBoxPresent, IsCount};
+ghost use Rattle.cps_p_nooverlap.specs.Spans.{IsPair, IsSmallAtom, no_seen};
+ghost use Rattle.cps_p_nooverlap.specs.Boxes.{IsKnown, AreBoxes, AddsGiven, LeavesNone, IsBoxAbsent, IsLate, IsOpenOrder, Overlap, MayBeApart, IsSureBox, AreBoxesAllowed, AllowsBoxes, AreAllAllowed, IsLastAtom, IsLastOfBox, IsCount};
 
-use crate::pairs::{Pair, earlier_end, later_start, propose};
+use crate::pairs::{Pair, follow};
 use crate::seen::{Seen, see};
 use cps_instance::Span;
 use cps_literal::Atom;
@@ -25,9 +25,9 @@ pub(crate) struct Direction {
 }
 
 impl Direction {
-    ghost use Rattle.std.specs.Prelude.{◌≡◌, OnOk};
-    ghost use Rattle.cps_p_nooverlap.specs.Spans.{AreSpans};
-    ghost use Rattle.cps_p_nooverlap.specs.Boxes.{IsDirection};
+    ghost use Rattle.std.specs.Prelude.{◌≡◌, length, OnOk};
+    ghost use Rattle.cps_p_nooverlap.specs.Spans.{AreSpans, AddsOrdered, IsPair};
+    ghost use Rattle.cps_p_nooverlap.specs.Boxes.{IsDirection, IsKnown};
 
     /// Looks at what a store leaves to the spans.
     pub(crate) fn look(&mut self, store: &Store) -> Result<(), AllocError>
@@ -36,6 +36,15 @@ impl Direction {
         ensures seen { OnOk result (IsDirection store.now self.new) }
     {
         see(store, self.spans.as_slice(), &mut self.seen)
+    }
+
+    /// Adds what follows if one box comes before another in this direction.
+    fn follow(&self, pair: Pair, found: &mut Vec<Narrowing>) -> Result<(), AllocError>
+        requires known { IsKnown self.now }
+        requires pair { IsPair (length self.now.spans) pair }
+        ensures { OnOk result (AddsOrdered self.now.spans self.now.seen.items pair found.old.items found.new.items) }
+    {
+        follow(self.spans.as_slice(), self.seen.as_slice(), pair, found)
     }
 }
 
@@ -55,8 +64,8 @@ fn read(seen: &[Seen], place: usize) -> Seen
 }
 
 /// What was seen of a span.
-fn seen_of(_store: &Store, direction: &Direction, place: usize) -> Seen
-    requires direction { IsDirection _store.now direction.now }
+fn seen_of(direction: &Direction, place: usize) -> Seen
+    requires direction { IsKnown direction.now }
     requires place { place < length direction.now.spans }
     ensures { result ≡ slice_index_or direction.now.seen.items place no_seen }
 {
@@ -64,101 +73,78 @@ fn seen_of(_store: &Store, direction: &Direction, place: usize) -> Seen
 }
 
 /// Whether the first of two boxes cannot come after the second one in a direction.
-fn is_late(_store: &Store, direction: &Direction, pair: Pair) -> bool
-    requires direction { IsDirection _store.now direction.now }
+fn is_late(direction: &Direction, pair: Pair) -> bool
+    requires direction { IsKnown direction.now }
     requires pair { IsPair (length direction.now.spans) pair }
     ensures late { IsTrue result → IsLate direction.now.seen.items pair }
     ensures open { result ≡ false → IsOpenOrder direction.now.seen.items pair }
 {
-    let before = seen_of(_store, direction, pair.before);
-    let after = seen_of(_store, direction, pair.after);
+    let before = seen_of(direction, pair.before);
+    let after = seen_of(direction, pair.after);
     before.times.start_high < after.times.end_low
 }
 
 /// Whether neither of two boxes can come first in a direction.
-fn overlap(_store: &Store, direction: &Direction, pair: Pair) -> bool
-    requires direction { IsDirection _store.now direction.now }
+fn overlap(direction: &Direction, pair: Pair) -> bool
+    requires direction { IsKnown direction.now }
     requires pair { IsPair (length direction.now.spans) pair }
     ensures yes { IsTrue result → Overlap direction.now.seen.items pair }
     ensures no { result ≡ false → MayBeApart direction.now.seen.items pair }
 {
-    is_late(_store, direction, pair) && is_late(_store, direction, pair.swapped())
+    is_late(direction, pair) && is_late(direction, pair.swapped())
 }
 
 /// Whether a box is surely present.
-fn is_sure(_store: &Store, along: &Direction, across: &Direction, place: usize) -> bool
-    requires along { IsDirection _store.now along.now }
-    requires across { IsDirection _store.now across.now }
+fn is_sure(along: &Direction, across: &Direction, place: usize) -> bool
+    requires along { IsKnown along.now }
+    requires across { IsKnown across.now }
     requires in_along { place < length along.now.spans }
     requires in_across { place < length across.now.spans }
     ensures { IsTrue result ↔ IsSureBox along.now.seen.items across.now.seen.items place }
 {
-    let one = seen_of(_store, along, place);
-    let other = seen_of(_store, across, place);
+    let one = seen_of(along, place);
+    let other = seen_of(across, place);
     one.presence.sure && other.presence.sure
-}
-
-/// Adds what follows if one box comes before another in a direction.
-fn follow(
-    _store: &Store,
-    along: &Direction,
-    _across: &Direction,
-    pair: Pair,
-    found: &mut Vec<Narrowing>,
-) -> Result<(), AllocError>
-    requires along { IsDirection _store.now along.now }
-    requires pair { IsPair (length along.now.spans) pair }
-    requires order { BoxComesBefore _store.now along.now.spans _across.now.spans pair }
-    ensures { OnOk result (AddsGiven _store.now along.now.spans _across.now.spans found.old.items found.new.items) }
-{
-    let spans = along.spans.as_slice();
-    let before = seen_of(_store, along, pair.before).times;
-    let after = seen_of(_store, along, pair.after).times;
-    let start = later_start(&spans[pair.after], &after, before.end_low);
-    propose(start, pair.hint(), found)?;
-    let end = earlier_end(&spans[pair.before], &before, after.start_high);
-    propose(end, pair.hint(), found)?;
-    Ok(())
 }
 
 /// Adds what two boxes give in a direction, which overlap across it.
 fn order(
-    _store: &Store,
     along: &Direction,
     across: &Direction,
     pair: Pair,
     found: &mut Vec<Narrowing>,
 ) -> Result<(), AllocError>
-    requires along { IsDirection _store.now along.now }
-    requires across { IsDirection _store.now across.now }
+    requires along { IsKnown along.now }
+    requires across { IsKnown across.now }
     requires pair { AreBoxes along.now.spans across.now.spans pair }
     requires overlap { Overlap across.now.seen.items pair }
-    ensures { OnOk result (AddsGiven _store.now along.now.spans across.now.spans found.old.items found.new.items) }
+    ensures { OnOk result (AddsGiven along.now across.now found.old.items found.new.items) }
 {
-    let before = is_sure(_store, along, across, pair.before);
-    let after = is_sure(_store, along, across, pair.after);
+    let before = is_sure(along, across, pair.before);
+    let after = is_sure(along, across, pair.after);
     if !before || !after {
         return Ok(());
     }
-    if is_late(_store, along, pair) {
-        return follow(_store, along, across, pair, found);
+    if is_late(along, pair) {
+        return along.follow(pair, found);
     }
     let turned = pair.swapped();
-    if is_late(_store, along, turned) {
-        return follow(_store, along, across, turned, found);
+    if is_late(along, turned) {
+        return along.follow(turned, found);
     }
     Ok(())
 }
 
 /// The only atom of a span that may be false, if there is exactly one.
-fn last_atom(_store: &Store, direction: &Direction, place: usize) -> Option<Atom>
-    requires direction { IsDirection _store.now direction.now }
+fn last_atom(direction: &Direction, place: usize) -> Option<Atom>
+    requires direction { IsKnown direction.now }
     requires place { place < length direction.now.spans }
-    ensures { IfSome result (MakesPresent _store.now direction.now.spans place) }
+    ensures small { IfSome result IsSmallAtom }
+    ensures present { IfSome result (IsLastAtom direction.now place) }
 {
     let span = &direction.spans.as_slice()[place];
     let atoms = span.presence.as_slice();
-    let last = seen_of(_store, direction, place).presence.last;
+    let last = seen_of(direction, place).presence.last;
     if last < atoms.len() {
         return Some(atoms[last]);
     }
@@ -166,15 +152,16 @@ fn last_atom(_store: &Store, direction: &Direction, place: usize) -> Option<Atom
 }
 
 /// The only atom of two spans that may be false, if both have it and neither has another.
-fn common_atom(_store: &Store, along: &Direction, across: &Direction, place: usize) -> Option<Atom>
-    requires along { IsDirection _store.now along.now }
-    requires across { IsDirection _store.now across.now }
+fn common_atom(along: &Direction, across: &Direction, place: usize) -> Option<Atom>
+    requires along { IsKnown along.now }
+    requires across { IsKnown across.now }
     requires in_along { place < length along.now.spans }
     requires in_across { place < length across.now.spans }
-    ensures { IfSome result (MakesBoxPresent _store.now along.now.spans across.now.spans place) }
+    ensures small { IfSome result IsSmallAtom }
+    ensures present { IfSome result (IsLastOfBox along.now across.now place) }
 {
-    let one = last_atom(_store, along, place)?;
-    let other = last_atom(_store, across, place)?;
+    let one = last_atom(along, place)?;
+    let other = last_atom(across, place)?;
     if one == other {
         return Some(one);
     }
@@ -182,38 +169,38 @@ fn common_atom(_store: &Store, along: &Direction, across: &Direction, place: usi
 }
 
 /// The only atom of a box that may be false, if there is exactly one.
-fn last_of_box(_store: &Store, along: &Direction, across: &Direction, place: usize) -> Option<Atom>
-    requires along { IsDirection _store.now along.now }
-    requires across { IsDirection _store.now across.now }
+fn last_of_box(along: &Direction, across: &Direction, place: usize) -> Option<Atom>
+    requires along { IsKnown along.now }
+    requires across { IsKnown across.now }
     requires in_along { place < length along.now.spans }
     requires in_across { place < length across.now.spans }
-    ensures { IfSome result (MakesBoxPresent _store.now along.now.spans across.now.spans place) }
+    ensures small { IfSome result IsSmallAtom }
+    ensures present { IfSome result (IsLastOfBox along.now across.now place) }
 {
-    if seen_of(_store, along, place).presence.sure {
-        return last_atom(_store, across, place);
+    if seen_of(along, place).presence.sure {
+        return last_atom(across, place);
     }
-    if seen_of(_store, across, place).presence.sure {
-        return last_atom(_store, along, place);
+    if seen_of(across, place).presence.sure {
+        return last_atom(along, place);
     }
-    common_atom(_store, along, across, place)
+    common_atom(along, across, place)
 }
 
 /// Adds that a box is absent, if exactly one of its atoms is open.
 fn exclude(
-    _store: &Store,
     x: &Direction,
     y: &Direction,
     pair: Pair,
     found: &mut Vec<Narrowing>,
 ) -> Result<(), AllocError>
-    requires x { IsDirection _store.now x.now }
-    requires y { IsDirection _store.now y.now }
+    requires x { IsKnown x.now }
+    requires y { IsKnown y.now }
     requires in_x { pair.before < length x.now.spans }
     requires in_y { pair.before < length y.now.spans }
-    requires absent { IsBoxAbsent _store.now x.now.spans y.now.spans pair.before }
-    ensures { OnOk result (AddsGiven _store.now x.now.spans y.now.spans found.old.items found.new.items) }
+    requires absent { IsBoxAbsent x.now y.now pair.before }
+    ensures { OnOk result (AddsGiven x.now y.now found.old.items found.new.items) }
 {
-    if let Some(atom) = last_of_box(_store, x, y, pair.before) {
+    if let Some(atom) = last_of_box(x, y, pair.before) {
         found.push(Narrowing {
             target: atom.negate(),
             hint: pair.hint(),
@@ -224,76 +211,73 @@ fn exclude(
 
 /// Adds what two boxes give that overlap in both directions. Answers true where both are surely present.
 fn clash(
-    _store: &Store,
     x: &Direction,
     y: &Direction,
     pair: Pair,
     found: &mut Vec<Narrowing>,
 ) -> Result<bool, AllocError>
-    requires x { IsDirection _store.now x.now }
-    requires y { IsDirection _store.now y.now }
+    requires x { IsKnown x.now }
+    requires y { IsKnown y.now }
     requires pair { AreBoxes x.now.spans y.now.spans pair }
     requires in_x { Overlap x.now.seen.items pair }
     requires in_y { Overlap y.now.seen.items pair }
-    ensures given { OnOk result (AddsGiven _store.now x.now.spans y.now.spans found.old.items found.new.items) }
-    ensures impossible { result ≡ Ok true → LeavesNone _store.now x.now.spans y.now.spans }
+    ensures given { OnOk result (AddsGiven x.now y.now found.old.items found.new.items) }
+    ensures impossible { result ≡ Ok true → LeavesNone x.now y.now }
     ensures allowed { result ≡ Ok false → AreBoxesAllowed x.now.seen.items y.now.seen.items pair }
 {
-    let before = is_sure(_store, x, y, pair.before);
-    let after = is_sure(_store, x, y, pair.after);
+    let before = is_sure(x, y, pair.before);
+    let after = is_sure(x, y, pair.after);
     if before && after {
         return Ok(true);
     }
     if after {
-        exclude(_store, x, y, pair, found)?;
+        exclude(x, y, pair, found)?;
     } else if before {
-        exclude(_store, x, y, pair.swapped(), found)?;
+        exclude(x, y, pair.swapped(), found)?;
     }
     Ok(false)
 }
 
 /// Adds what two boxes give. Answers true if they leave no way.
 fn meet(
-    _store: &Store,
     x: &Direction,
     y: &Direction,
     pair: Pair,
     found: &mut Vec<Narrowing>,
 ) -> Result<bool, AllocError>
-    requires x { IsDirection _store.now x.now }
-    requires y { IsDirection _store.now y.now }
+    requires x { IsKnown x.now }
+    requires y { IsKnown y.now }
     requires pair { AreBoxes x.now.spans y.now.spans pair }
-    ensures given { OnOk result (AddsGiven _store.now x.now.spans y.now.spans found.old.items found.new.items) }
-    ensures impossible { result ≡ Ok true → LeavesNone _store.now x.now.spans y.now.spans }
+    ensures given { OnOk result (AddsGiven x.now y.now found.old.items found.new.items) }
+    ensures impossible { result ≡ Ok true → LeavesNone x.now y.now }
     ensures allowed { result ≡ Ok false → AreBoxesAllowed x.now.seen.items y.now.seen.items pair }
 {
-    let in_x = overlap(_store, x, pair);
-    let in_y = overlap(_store, y, pair);
+    let in_x = overlap(x, pair);
+    let in_y = overlap(y, pair);
     if in_x && in_y {
-        return clash(_store, x, y, pair, found);
+        return clash(x, y, pair, found);
     }
     if in_y {
-        order(_store, x, y, pair, found)?;
+        order(x, y, pair, found)?;
     } else if in_x {
-        order(_store, y, x, pair, found)?;
+        order(y, x, pair, found)?;
     }
     Ok(false)
 }
 
 /// Adds what one box gives with each that stands before it, or finds one with which it leaves no way.
 fn meet_below(
-    _store: &Store,
     x: &Direction,
     y: &Direction,
     place: usize,
     found: &mut Vec<Narrowing>,
 ) -> Result<Option<Pair>, AllocError>
-    requires x { IsDirection _store.now x.now }
-    requires y { IsDirection _store.now y.now }
+    requires x { IsKnown x.now }
+    requires y { IsKnown y.now }
     requires place_x { place < length x.now.spans }
     requires place_y { place < length y.now.spans }
-    ensures given { OnOk result (AddsGiven _store.now x.now.spans y.now.spans found.old.items found.new.items) }
-    ensures impossible { IfOk result (λ answer. IfSome answer (λ pair. LeavesNone _store.now x.now.spans y.now.spans)) }
+    ensures given { OnOk result (AddsGiven x.now y.now found.old.items found.new.items) }
+    ensures impossible { IfOk result (λ answer. IfSome answer (λ pair. LeavesNone x.now y.now)) }
     ensures allowed { result ≡ Ok None → AllowsBoxes x.now.seen.items y.now.seen.items place place }
 {
     for other in 0..place {
@@ -301,7 +285,7 @@ fn meet_below(
             before: place,
             after: other,
         };
-        if meet(_store, x, y, pair, found)? {
+        if meet(x, y, pair, found)? {
             return Ok(Some(pair));
         }
     }
@@ -310,21 +294,20 @@ fn meet_below(
 
 /// Adds what each two boxes give, or finds two that leave no way.
 pub(crate) fn meet_all(
-    _store: &Store,
     x: &Direction,
     y: &Direction,
     count: usize,
     found: &mut Vec<Narrowing>,
 ) -> Result<Option<Pair>, AllocError>
-    requires x { IsDirection _store.now x.now }
-    requires y { IsDirection _store.now y.now }
+    requires x { IsKnown x.now }
+    requires y { IsKnown y.now }
     requires count { IsCount (length x.now.spans) (length y.now.spans) count }
-    ensures given { OnOk result (AddsGiven _store.now x.now.spans y.now.spans found.old.items found.new.items) }
-    ensures impossible { IfOk result (λ answer. IfSome answer (λ pair. LeavesNone _store.now x.now.spans y.now.spans)) }
+    ensures given { OnOk result (AddsGiven x.now y.now found.old.items found.new.items) }
+    ensures impossible { IfOk result (λ answer. IfSome answer (λ pair. LeavesNone x.now y.now)) }
     ensures allowed { result ≡ Ok None → AreAllAllowed x.now.seen.items y.now.seen.items count }
 {
     for place in 0..count {
-        if let Some(pair) = meet_below(_store, x, y, place, found)? {
+        if let Some(pair) = meet_below(x, y, place, found)? {
             return Ok(Some(pair));
         }
     }

@@ -1,5 +1,5 @@
 //! Boxes that do not overlap.
-ghost use Rattle.std.specs.Prelude.{◌≡◌, length, IfOk, IfSome};
+ghost use Rattle.std.specs.Prelude.{◌≡◌, IfOk, IfSome};
 ghost use Rattle.cps_p_nooverlap.specs.Boxes.{AreBoxes};
 
 use crate::box_pairs::{Direction, count_of, meet_all};
@@ -75,7 +75,7 @@ impl Rule for Boxes {
         self.x.look(store)?;
         self.y.look(store)?;
         let count = count_of(self.x.spans.as_slice(), self.y.spans.as_slice());
-        match meet_all(store, &self.x, &self.y, count, found)? {
+        match meet_all(&self.x, &self.y, count, found)? {
             Some(pair) => Ok(Look::Impossible(pair.hint())),
             None => Ok(Look::Possible),
         }

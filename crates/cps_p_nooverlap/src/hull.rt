@@ -1,5 +1,5 @@
 //! The ends of what a store leaves to a subject.
-ghost use Rattle.std.specs.Prelude.{◌≡◌, ◌<◌, ◌∷◌, ◌++◌, ◌⊎◌, [], length, OnOk};
+ghost use Rattle.std.specs.Prelude.{◌<◌, length, OnOk};
 ghost use Rattle.cps_p_nooverlap.specs.Hulls.{IsHullNow, OffersAtom};
 
 use crate::facts::is_inside;

@@ -4,10 +4,9 @@
 //! that is explained, one of the two facts is the bound that was there, and the other is loosened to what is needed
 //! beside it.
 ghost use Rattle.std.specs.Prelude.{◌≡◌, ◌<◌, length, IfSome, OnOk, true};
-ghost use Rattle.cps_rule.specs.Rules.{IsImpossible};
 ghost use Rattle.cps_literal.specs.Truth.{atom_holds};
-ghost use Rattle.cps_p_nooverlap.specs.Citing.{Cites, GivesMore};
-ghost use Rattle.cps_p_nooverlap.specs.Intervals.{body_of, ArePlaces, IsSupport, IsOpposition, IsMeasured, IsPossible};
+ghost use Rattle.cps_p_nooverlap.specs.Citing.{Cites};
+ghost use Rattle.cps_p_nooverlap.specs.Intervals.{ArePlaces, AreInside, IsSupport, IsOpposition, IsMeasured, IsPossible, LeavesNoInterval, AddsBounds};
 
 use crate::facts::cite;
 use crate::hull::{Hull, hull_of, offer};
@@ -82,10 +81,9 @@ fn measure(store: &Store, places: Places) -> Hulls
 }
 
 /// By which of three tests, if any, no values between these ends make an interval.
-fn contradiction(_store: &Store, places: Places, hulls: Hulls) -> Option<i64>
-    requires within { ArePlaces (length _store.now.first) places }
-    requires measured { IsMeasured _store.now places hulls }
-    ensures some { IfSome result (λ k. IsImpossible (body_of places) _store.now) }
+fn contradiction(hulls: Hulls) -> Option<i64>
+    requires { AreInside hulls }
+    ensures some { IfSome result (λ k. LeavesNoInterval hulls) }
     ensures none { result ≡ None → IsPossible hulls }
 {
     if hulls.size.high < 0 {
@@ -101,15 +99,9 @@ fn contradiction(_store: &Store, places: Places, hulls: Hulls) -> Option<i64>
 }
 
 /// Offers the bounds of the size.
-fn offer_size(
-    _store: &Store,
-    places: Places,
-    hulls: Hulls,
-    found: &mut Vec<Narrowing>,
-) -> Result<(), AllocError>
-    requires within { ArePlaces (length _store.now.first) places }
-    requires measured { IsMeasured _store.now places hulls }
-    ensures { OnOk result (GivesMore (body_of places) _store.now found.old.items found.new.items) }
+fn offer_size(places: Places, hulls: Hulls, found: &mut Vec<Narrowing>) -> Result<(), AllocError>
+    requires { AreInside hulls }
+    ensures { OnOk result (AddsBounds places hulls found.old.items found.new.items) }
 {
     let least = (hulls.end.low - hulls.start.high).max(0);
     let most = hulls.end.high - hulls.start.low;
@@ -129,15 +121,9 @@ fn offer_size(
 }
 
 /// Offers the bounds of the end.
-fn offer_end(
-    _store: &Store,
-    places: Places,
-    hulls: Hulls,
-    found: &mut Vec<Narrowing>,
-) -> Result<(), AllocError>
-    requires within { ArePlaces (length _store.now.first) places }
-    requires measured { IsMeasured _store.now places hulls }
-    ensures { OnOk result (GivesMore (body_of places) _store.now found.old.items found.new.items) }
+fn offer_end(places: Places, hulls: Hulls, found: &mut Vec<Narrowing>) -> Result<(), AllocError>
+    requires { AreInside hulls }
+    ensures { OnOk result (AddsBounds places hulls found.old.items found.new.items) }
 {
     let least = hulls.start.low + hulls.size.low.max(0);
     let most = hulls.start.high + hulls.size.high;
@@ -157,15 +143,9 @@ fn offer_end(
 }
 
 /// Offers the bounds of the start.
-fn offer_start(
-    _store: &Store,
-    places: Places,
-    hulls: Hulls,
-    found: &mut Vec<Narrowing>,
-) -> Result<(), AllocError>
-    requires within { ArePlaces (length _store.now.first) places }
-    requires measured { IsMeasured _store.now places hulls }
-    ensures { OnOk result (GivesMore (body_of places) _store.now found.old.items found.new.items) }
+fn offer_start(places: Places, hulls: Hulls, found: &mut Vec<Narrowing>) -> Result<(), AllocError>
+    requires { AreInside hulls }
+    ensures { OnOk result (AddsBounds places hulls found.old.items found.new.items) }
 {
     let least = hulls.end.low - hulls.size.high;
     let most = hulls.end.high - hulls.size.low.max(0);
@@ -353,10 +333,6 @@ impl Interval {
 }
 
 impl Rule for Interval {
-    ghost use Rattle.std.specs.Prelude.{◌≡◌, ◌++◌, OnOk, All, IfOk};
-    ghost use Rattle.cps_instance.specs.Tasks.{subjects_of_body};
-    ghost use Rattle.cps_trail.specs.Trail.{IsTrueNow};
-    ghost use Rattle.cps_rule.specs.Rules.{IsFittingRule, IsGiven, IsSeen, IsAtRest, IsExplained, IsRefuted};
     ghost use Rattle.cps_p_nooverlap.specs.Intervals.{body_of};
 
     ghost body = { λ r. body_of r.places };
@@ -365,12 +341,12 @@ impl Rule for Interval {
         found.clear();
         let places = self.places;
         let hulls = measure(store, places);
-        if let Some(kind) = contradiction(store, places, hulls) {
+        if let Some(kind) = contradiction(hulls) {
             return Ok(Look::Impossible(Hint { a: kind, b: 0 }));
         }
-        offer_size(store, places, hulls, found)?;
-        offer_end(store, places, hulls, found)?;
-        offer_start(store, places, hulls, found)?;
+        offer_size(places, hulls, found)?;
+        offer_end(places, hulls, found)?;
+        offer_start(places, hulls, found)?;
         Ok(Look::Possible)
     }
 

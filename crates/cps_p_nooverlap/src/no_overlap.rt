@@ -2,8 +2,9 @@
 ghost use Rattle.std.specs.Prelude.{◌≡◌, ◌++◌, length, OnOk, IfOk};
 ghost use Rattle.cps_instance.specs.Tasks.{span_subjects};
 
+use crate::desk::Desk;
 use crate::seen::{Seen, see};
-use crate::sets::{Desk, explain_both, meet_both, refute_both};
+use crate::sets::{explain_both, meet_both, refute_both};
 use cps_enforce::Enforced;
 use cps_instance::{Body, Span, Task};
 use cps_literal::Atom;

@@ -3,19 +3,14 @@
 //! Where one cannot end before the other starts, it comes after the other: it starts when the other ends or later, and
 //! the other ends when it starts or sooner. Where neither can come first, they cannot both be present.
 ghost use Rattle.std.specs.Prelude.{◌≡◌, ◌<◌, ◌<ℤ◌, ◌≤ℤ◌, length, slice_index_or, true, false, OnOk, IfOk, IfSome};
-ghost use Rattle.std.specs.List.{AllZip};
-ghost use Rattle.cps_instance.specs.declared.task.Body.{Body as BodyOf};
-ghost use Rattle.cps_rule.specs.Rules.{IsImpossible};
-ghost use Rattle.cps_p_nooverlap.specs.Citing.{GivesMore};
 ghost use Rattle.cps_p_nooverlap.specs.Hulls.{Proposes};
-ghost use Rattle.cps_p_nooverlap.specs.Spans.{start_at, end_at, Says, AreSpans, IsSeen, IsPair, ComesBefore, IsAbsent, IsAllowed, AreAllowed, AllowsFirst, no_seen};
+ghost use Rattle.cps_p_nooverlap.specs.Spans.{start_at, end_at, Says, AreKnown, AddsApart, AddsOrdered, IsPair, LeavesNoOrder, IsAbsent, IsAllowed, AreAllowed, AllowsFirst, no_seen};
 
 use crate::edges::{end_up_to, start_from};
 use crate::seen::{Seen, Times};
 use cps_instance::Span;
 use cps_literal::Atom;
 use cps_rule::{Hint, Narrowing};
-use cps_trail::Store;
 use std::alloc::AllocError;
 
 /// Two places in a list of spans.
@@ -60,7 +55,7 @@ pub(crate) fn propose(
 }
 
 /// That a span starts at a time or later, unless that is so.
-pub(crate) fn later_start(span: &Span, times: &Times, time: i128) -> Option<Atom>
+fn later_start(span: &Span, times: &Times, time: i128) -> Option<Atom>
     ensures { IfSome result (λ u. Says span.now u (λ xs. time ≤ℤ start_at xs span.now)) }
 {
     if time <= times.start_low {
@@ -70,7 +65,7 @@ pub(crate) fn later_start(span: &Span, times: &Times, time: i128) -> Option<Atom
 }
 
 /// That a span ends at a time or earlier, unless that is so.
-pub(crate) fn earlier_end(span: &Span, times: &Times, time: i128) -> Option<Atom>
+fn earlier_end(span: &Span, times: &Times, time: i128) -> Option<Atom>
     ensures { IfSome result (λ u. Says span.now u (λ xs. end_at xs span.now ≤ℤ time)) }
 {
     if times.end_high <= time {
@@ -80,18 +75,15 @@ pub(crate) fn earlier_end(span: &Span, times: &Times, time: i128) -> Option<Atom
 }
 
 /// Adds what follows if one span comes before another.
-fn follow(
-    _store: &Store,
+pub(crate) fn follow(
     spans: &[Span],
     seen: &[Seen],
     pair: Pair,
     found: &mut Vec<Narrowing>,
 ) -> Result<(), AllocError>
-    requires spans { AreSpans _store.now.first spans.now }
-    requires seen { AllZip (IsSeen _store.now) spans.now seen.now }
+    requires known { AreKnown spans.now seen.now }
     requires pair { IsPair (length spans.now) pair }
-    requires order { ComesBefore _store.now spans.now pair }
-    ensures { OnOk result (GivesMore (BodyOf.NoOverlap spans.now) _store.now found.old.items found.new.items) }
+    ensures { OnOk result (AddsOrdered spans.now seen.now pair found.old.items found.new.items) }
 {
     let before = seen[pair.before].times;
     let after = seen[pair.after].times;
@@ -104,17 +96,15 @@ fn follow(
 
 /// Adds that a span is absent, if exactly one of its atoms is open.
 fn exclude(
-    _store: &Store,
     spans: &[Span],
     seen: &[Seen],
     pair: Pair,
     found: &mut Vec<Narrowing>,
 ) -> Result<(), AllocError>
-    requires spans { AreSpans _store.now.first spans.now }
-    requires seen { AllZip (IsSeen _store.now) spans.now seen.now }
+    requires known { AreKnown spans.now seen.now }
     requires pair { IsPair (length spans.now) pair }
-    requires absent { IsAbsent _store.now spans.now pair.before }
-    ensures { OnOk result (GivesMore (BodyOf.NoOverlap spans.now) _store.now found.old.items found.new.items) }
+    requires absent { IsAbsent spans.now seen.now pair.before }
+    ensures { OnOk result (AddsApart spans.now seen.now found.old.items found.new.items) }
 {
     let atoms = spans[pair.before].presence.as_slice();
     let open = seen[pair.before].presence.last;
@@ -129,21 +119,19 @@ fn exclude(
 
 /// Adds what two spans give of which neither can come before the other. Answers true where both are surely present.
 fn clash(
-    _store: &Store,
     spans: &[Span],
     seen: &[Seen],
     pair: Pair,
     found: &mut Vec<Narrowing>,
 ) -> Result<bool, AllocError>
-    requires spans { AreSpans _store.now.first spans.now }
-    requires seen { AllZip (IsSeen _store.now) spans.now seen.now }
+    requires known { AreKnown spans.now seen.now }
     requires pair { IsPair (length spans.now) pair }
     requires forth { (slice_index_or seen.now pair.after no_seen).times.start_high <ℤ
         (slice_index_or seen.now pair.before no_seen).times.end_low }
     requires back { (slice_index_or seen.now pair.before no_seen).times.start_high <ℤ
         (slice_index_or seen.now pair.after no_seen).times.end_low }
-    ensures given { OnOk result (GivesMore (BodyOf.NoOverlap spans.now) _store.now found.old.items found.new.items) }
-    ensures impossible { result ≡ Ok true → IsImpossible (BodyOf.NoOverlap spans.now) _store.now }
+    ensures given { OnOk result (AddsApart spans.now seen.now found.old.items found.new.items) }
+    ensures impossible { result ≡ Ok true → LeavesNoOrder spans.now seen.now }
     ensures allowed { result ≡ Ok false
         → IsAllowed (slice_index_or seen.now pair.before no_seen) (slice_index_or seen.now pair.after no_seen) }
 {
@@ -153,26 +141,24 @@ fn clash(
         return Ok(true);
     }
     if after {
-        exclude(_store, spans, seen, pair, found)?;
+        exclude(spans, seen, pair, found)?;
     } else if before {
-        exclude(_store, spans, seen, pair.swapped(), found)?;
+        exclude(spans, seen, pair.swapped(), found)?;
     }
     Ok(false)
 }
 
 /// Adds what two spans give. Answers true if they leave no way.
 fn meet(
-    _store: &Store,
     spans: &[Span],
     seen: &[Seen],
     pair: Pair,
     found: &mut Vec<Narrowing>,
 ) -> Result<bool, AllocError>
-    requires spans { AreSpans _store.now.first spans.now }
-    requires seen { AllZip (IsSeen _store.now) spans.now seen.now }
+    requires known { AreKnown spans.now seen.now }
     requires pair { IsPair (length spans.now) pair }
-    ensures given { OnOk result (GivesMore (BodyOf.NoOverlap spans.now) _store.now found.old.items found.new.items) }
-    ensures impossible { result ≡ Ok true → IsImpossible (BodyOf.NoOverlap spans.now) _store.now }
+    ensures given { OnOk result (AddsApart spans.now seen.now found.old.items found.new.items) }
+    ensures impossible { result ≡ Ok true → LeavesNoOrder spans.now seen.now }
     ensures allowed { result ≡ Ok false
         → IsAllowed (slice_index_or seen.now pair.before no_seen) (slice_index_or seen.now pair.after no_seen) }
 {
@@ -181,13 +167,13 @@ fn meet(
     let forth = before.times.end_low <= after.times.start_high;
     let back = after.times.end_low <= before.times.start_high;
     if !forth && !back {
-        return clash(_store, spans, seen, pair, found);
+        return clash(spans, seen, pair, found);
     }
     if before.presence.sure && after.presence.sure {
         if !back {
-            follow(_store, spans, seen, pair, found)?;
+            follow(spans, seen, pair, found)?;
         } else if !forth {
-            follow(_store, spans, seen, pair.swapped(), found)?;
+            follow(spans, seen, pair.swapped(), found)?;
         }
     }
     Ok(false)
@@ -195,18 +181,15 @@ fn meet(
 
 /// Adds what one span gives with each that stands before it, or finds one with which it leaves no way.
 fn meet_below(
-    _store: &Store,
     spans: &[Span],
     seen: &[Seen],
     place: usize,
     found: &mut Vec<Narrowing>,
 ) -> Result<Option<Pair>, AllocError>
-    requires spans { AreSpans _store.now.first spans.now }
-    requires seen { AllZip (IsSeen _store.now) spans.now seen.now }
+    requires known { AreKnown spans.now seen.now }
     requires place { place < length spans.now }
-    ensures given { OnOk result (GivesMore (BodyOf.NoOverlap spans.now) _store.now found.old.items found.new.items) }
-    ensures impossible { IfOk result
-        (λ answer. IfSome answer (λ pair. IsImpossible (BodyOf.NoOverlap spans.now) _store.now)) }
+    ensures given { OnOk result (AddsApart spans.now seen.now found.old.items found.new.items) }
+    ensures impossible { IfOk result (λ answer. IfSome answer (λ pair. LeavesNoOrder spans.now seen.now)) }
     ensures allowed { result ≡ Ok None → AllowsFirst seen.now place place }
 {
     for other in 0..place {
@@ -214,7 +197,7 @@ fn meet_below(
             before: place,
             after: other,
         };
-        if meet(_store, spans, seen, pair, found)? {
+        if meet(spans, seen, pair, found)? {
             return Ok(Some(pair));
         }
     }
@@ -223,20 +206,17 @@ fn meet_below(
 
 /// Adds what each two spans give, or finds two that leave no way.
 pub(crate) fn meet_all(
-    _store: &Store,
     spans: &[Span],
     seen: &[Seen],
     found: &mut Vec<Narrowing>,
 ) -> Result<Option<Pair>, AllocError>
-    requires spans { AreSpans _store.now.first spans.now }
-    requires seen { AllZip (IsSeen _store.now) spans.now seen.now }
-    ensures given { OnOk result (GivesMore (BodyOf.NoOverlap spans.now) _store.now found.old.items found.new.items) }
-    ensures impossible { IfOk result
-        (λ answer. IfSome answer (λ pair. IsImpossible (BodyOf.NoOverlap spans.now) _store.now)) }
+    requires { AreKnown spans.now seen.now }
+    ensures given { OnOk result (AddsApart spans.now seen.now found.old.items found.new.items) }
+    ensures impossible { IfOk result (λ answer. IfSome answer (λ pair. LeavesNoOrder spans.now seen.now)) }
     ensures allowed { result ≡ Ok None → AreAllowed seen.now (length spans.now) }
 {
     for place in 0..spans.len() {
-        if let Some(pair) = meet_below(_store, spans, seen, place, found)? {
+        if let Some(pair) = meet_below(spans, seen, place, found)? {
             return Ok(Some(pair));
         }
     }

@@ -1,5 +1,5 @@
 //! What a store leaves to spans.
-ghost use Rattle.std.specs.Prelude.{◌≡◌, ◌<◌, ◌≤◌, ℕ, length, IsTrue, ◌↔◌, OnOk, All, slice_index_or};
+ghost use Rattle.std.specs.Prelude.{◌<◌, ◌≤◌, ℕ, length, IsTrue, ◌↔◌, OnOk, All, slice_index_or};
 ghost use Rattle.std.specs.List.{AllZip};
 ghost use Rattle.cps_literal.specs.declared.atom.Atom.{Atom as AtomOf};
 ghost use Rattle.cps_trail.specs.Trail.{IsTrueNow};

@@ -3,20 +3,20 @@
 ghost use Rattle.std.specs.Prelude.{IfOk};
 ghost use Rattle.cps_rule_tests.specs.Ready.{IsPlain};
 
-use crate::runs::{Left, Outcome, leaves, trial};
+use crate::runs::{Left, Outcome, assert_row, leaves, trial};
 use crate::stores::Ends;
 use cps_enforce::Enforced;
 use cps_instance::{Body, Task};
 use cps_model::Listed;
 use cps_p_alldiff::AllDifferent;
 use std::alloc::{AllocError, Global};
+use std::process::Abort;
 use std::test::Fail;
 
 /// What is left of these ends of all subjects; empty if the constraint cannot hold.
-#[derive(Clone, Copy)]
-struct Row<'a> {
-    ends: &'a [Ends],
-    left: &'a [Left],
+struct Row {
+    ends: &'static [Ends],
+    left: &'static [Left],
 }
 
 /// The propagator of three subjects that all differ.
@@ -37,37 +37,42 @@ fn differing(alloc: Global, ends: &[Ends]) -> Result<Option<Outcome>, AllocError
     trial(alloc, &mut propagator, ends, &[])
 }
 
-#[test]
-fn full_intervals_are_left_to_their_positions(rt: HostRuntime) -> Result<(), Fail> {
-    let rows = [
-        // two have 1 and 2 to themselves
-        Row {
-            ends: &[(1, 2), (1, 2), (1, 3)],
-            left: &[(0, 1, 2), (1, 1, 2), (2, 3, 3)],
-        },
-        Row {
-            ends: &[(3, 4), (1, 4), (3, 4)],
-            left: &[(0, 3, 4), (1, 1, 2), (2, 3, 4)],
-        },
-        // one after another
-        Row {
-            ends: &[(1, 3), (1, 2), (1, 1)],
-            left: &[(0, 3, 3), (1, 2, 2), (2, 1, 1)],
-        },
-        // any two leave the third a value at each end
-        Row {
-            ends: &[(1, 3), (1, 3), (1, 3)],
-            left: &[(0, 1, 3), (1, 1, 3), (2, 1, 3)],
-        },
-        // three do not fit into two
-        Row {
-            ends: &[(1, 2), (1, 2), (1, 2)],
-            left: &[],
-        },
-    ];
-    for row in rows {
-        let is_held = leaves(differing(rt.alloc(), row.ends)?, row.left);
-        assert!(rt; is_held);
+fn assert_left(rt: &impl Abort, alloc: Global, rows: &[Row]) -> Result<(), Fail> {
+    for (place, row) in rows.iter().enumerate() {
+        let found = differing(alloc, row.ends)?;
+        assert_row(rt, place, leaves(found, row.left));
     }
     Ok(())
+}
+
+static FULL: [Row; 5] = [
+    // two have 1 and 2 to themselves
+    Row {
+        ends: &[(1, 2), (1, 2), (1, 3)],
+        left: &[(0, 1, 2), (1, 1, 2), (2, 3, 3)],
+    },
+    Row {
+        ends: &[(3, 4), (1, 4), (3, 4)],
+        left: &[(0, 3, 4), (1, 1, 2), (2, 3, 4)],
+    },
+    // one after another
+    Row {
+        ends: &[(1, 3), (1, 2), (1, 1)],
+        left: &[(0, 3, 3), (1, 2, 2), (2, 1, 1)],
+    },
+    // any two leave the third a value at each end
+    Row {
+        ends: &[(1, 3), (1, 3), (1, 3)],
+        left: &[(0, 1, 3), (1, 1, 3), (2, 1, 3)],
+    },
+    // three do not fit into two
+    Row {
+        ends: &[(1, 2), (1, 2), (1, 2)],
+        left: &[],
+    },
+];
+
+#[test]
+fn full_intervals_are_left_to_their_positions(rt: HostRuntime) -> Result<(), Fail> {
+    assert_left(&rt, rt.alloc(), &FULL)
 }

@@ -1,7 +1,8 @@
 //! A run of one propagator to rest, what it leaves, and the reason of what it did last.
 //!
-//! The helpers of the other files. A propagator is run until it settles and then once more, which must change nothing,
-//! so each row also tests that rest is reached in one run.
+//! The helpers of the other files. Their tables are statics, which a test refers to and does not build, so that its
+//! proof is short. A propagator is run until it settles and then once more, which must change nothing, so each row also
+//! tests that rest is reached in one run.
 
 ghost use Rattle.std.specs.Prelude.{◌≡◌, ◌<◌, Some, true, IsTrue, All, OnOk, length};
 ghost use Rattle.cps_instance.specs.Tasks.{subjects_of};
@@ -9,11 +10,12 @@ ghost use Rattle.cps_instance.specs.Fitting.{IsFitting};
 ghost use Rattle.cps_rule_tests.specs.Noted.{AreNotesOf};
 ghost use Rattle.cps_rule_tests.specs.Ready.{IsFresh, IsPlain, IsReady};
 
-use crate::stores::{Ends, decide_all, has_note, store_of};
+use crate::stores::{Comparison, Ends, atom_of, decide_all, has_note, store_of};
 use cps_literal::Atom;
 use cps_propagate::{Answer, Propagator};
 use cps_trail::Store;
 use std::alloc::{AllocError, Global};
+use std::process::Abort;
 
 /// A subject, and the ends of one of the intervals that are left to it.
 pub type Left = (u32, i64, i64);
@@ -133,7 +135,7 @@ pub fn run<P: Propagator>(
     alloc: Global,
     propagator: &mut P,
     store: &mut Store,
-    decided: &[Atom],
+    decided: &[Comparison],
 ) -> Result<Option<Outcome>, AllocError>
     requires fresh { IsFresh store.old }
     requires ready { IsReady store.old.first (P.task propagator.old) }
@@ -163,7 +165,7 @@ pub fn trial<P: Propagator>(
     alloc: Global,
     propagator: &mut P,
     ends: &[Ends],
-    decided: &[Atom],
+    decided: &[Comparison],
 ) -> Result<Option<Outcome>, AllocError>
     requires { IsPlain (P.task propagator.old) }
 {
@@ -185,18 +187,36 @@ pub fn leaves(outcome: Option<Outcome>, left: &[Left]) -> bool {
     }
 }
 
+/// Whether a clause has these atoms, in this order.
+fn is_clause(clause: &[Atom], wanted: &[Comparison]) -> bool {
+    if clause.len() != wanted.len() {
+        return false;
+    }
+    for (atom, comparison) in clause.iter().zip(wanted.iter()) {
+        if *atom != atom_of(*comparison) {
+            return false;
+        }
+    }
+    true
+}
+
 /// Whether a run settled, with this reason of the last entry.
-pub fn ends_by(outcome: Option<Outcome>, reason: &[Atom]) -> bool {
+pub fn ends_by(outcome: Option<Outcome>, reason: &[Comparison]) -> bool {
     match outcome {
-        Some(found) => found.is_settled && found.clause.as_slice() == reason,
+        Some(found) => found.is_settled && is_clause(found.clause.as_slice(), reason),
         None => false,
     }
 }
 
 /// Whether a run met this conflict.
-pub fn refuses(outcome: Option<Outcome>, conflict: &[Atom]) -> bool {
+pub fn refuses(outcome: Option<Outcome>, conflict: &[Comparison]) -> bool {
     match outcome {
-        Some(found) => !found.is_settled && found.clause.as_slice() == conflict,
+        Some(found) => !found.is_settled && is_clause(found.clause.as_slice(), conflict),
         None => false,
     }
+}
+
+/// Asserts that a row of a table is as it says.
+pub fn assert_row(rt: &impl Abort, place: usize, is_held: bool) {
+    assert!(rt; is_held, "row {place}");
 }

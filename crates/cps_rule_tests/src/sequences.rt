@@ -6,21 +6,21 @@
 ghost use Rattle.std.specs.Prelude.{IfOk};
 ghost use Rattle.cps_rule_tests.specs.Ready.{IsPlain};
 
-use crate::runs::{Left, Outcome, ends_by, leaves, trial};
-use crate::stores::{Ends, at_least, at_most};
+use crate::runs::{Left, Outcome, assert_row, ends_by, leaves, trial};
+use crate::stores::{Comparison, Ends};
 use cps_enforce::Enforced;
 use cps_instance::{Body, Task};
-use cps_literal::{Atom, Op};
+use cps_literal::Op::{Ge, Le, Ne};
 use cps_model::Listed;
 use cps_p_sequence::{Automaton, Inverse};
 use std::alloc::{AllocError, Global};
+use std::process::Abort;
 use std::test::Fail;
 
 /// What is left of these ends of all subjects; empty if the constraint cannot hold.
-#[derive(Clone, Copy)]
-struct Row<'a> {
-    ends: &'a [Ends],
-    left: &'a [Left],
+struct Row {
+    ends: &'static [Ends],
+    left: &'static [Left],
 }
 
 /// The propagator of subjects 0 to 3, whose inverse is 4 to 7.
@@ -42,123 +42,125 @@ fn inverted(alloc: Global, ends: &[Ends]) -> Result<Option<Outcome>, AllocError>
     trial(alloc, &mut propagator, ends, &[])
 }
 
-#[test]
-fn positions_and_places_say_the_same(rt: HostRuntime) -> Result<(), Fail> {
-    let rows = [
-        // there are four places
-        Row {
-            ends: &[
-                (-1, 5),
-                (0, 9),
-                (0, 3),
-                (0, 3),
-                (0, 3),
-                (0, 4),
-                (-4, 3),
-                (-1, 3),
-            ],
-            left: &[
-                (0, 0, 3),
-                (1, 0, 3),
-                (2, 0, 3),
-                (3, 0, 3),
-                (4, 0, 3),
-                (5, 0, 3),
-                (6, 0, 3),
-                (7, 0, 3),
-            ],
-        },
-        // the first is at place 0, and so no other is there, and it is at no other
-        Row {
-            ends: &[
-                (0, 0),
-                (0, 3),
-                (0, 3),
-                (0, 3),
-                (0, 3),
-                (0, 3),
-                (0, 3),
-                (0, 3),
-            ],
-            left: &[
-                (0, 0, 0),
-                (1, 1, 3),
-                (2, 1, 3),
-                (3, 1, 3),
-                (4, 0, 0),
-                (5, 1, 3),
-                (6, 1, 3),
-                (7, 1, 3),
-            ],
-        },
-    ];
-    for row in rows {
-        let is_held = leaves(inverted(rt.alloc(), row.ends)?, row.left);
-        assert!(rt; is_held);
+fn assert_inverted(rt: &impl Abort, alloc: Global, rows: &[Row]) -> Result<(), Fail> {
+    for (place, row) in rows.iter().enumerate() {
+        let found = inverted(alloc, row.ends)?;
+        assert_row(rt, place, leaves(found, row.left));
     }
     Ok(())
 }
 
+static MIRRORED: [Row; 2] = [
+    // there are four places
+    Row {
+        ends: &[
+            (-1, 5),
+            (0, 9),
+            (0, 3),
+            (0, 3),
+            (0, 3),
+            (0, 4),
+            (-4, 3),
+            (-1, 3),
+        ],
+        left: &[
+            (0, 0, 3),
+            (1, 0, 3),
+            (2, 0, 3),
+            (3, 0, 3),
+            (4, 0, 3),
+            (5, 0, 3),
+            (6, 0, 3),
+            (7, 0, 3),
+        ],
+    },
+    // the first is at place 0, and so no other is there, and it is at no other
+    Row {
+        ends: &[
+            (0, 0),
+            (0, 3),
+            (0, 3),
+            (0, 3),
+            (0, 3),
+            (0, 3),
+            (0, 3),
+            (0, 3),
+        ],
+        left: &[
+            (0, 0, 0),
+            (1, 1, 3),
+            (2, 1, 3),
+            (3, 1, 3),
+            (4, 0, 0),
+            (5, 1, 3),
+            (6, 1, 3),
+            (7, 1, 3),
+        ],
+    },
+];
+
+#[test]
+fn positions_and_places_say_the_same(rt: HostRuntime) -> Result<(), Fail> {
+    assert_inverted(&rt, rt.alloc(), &MIRRORED)
+}
+
+static FILLED: [Row; 3] = [
+    // two have places 0 and 1 to themselves, and so the others 2 and 3; the mirror alone leaves these 0 to 3
+    Row {
+        ends: &[
+            (0, 1),
+            (0, 1),
+            (0, 3),
+            (0, 3),
+            (0, 3),
+            (0, 3),
+            (0, 3),
+            (0, 3),
+        ],
+        left: &[
+            (0, 0, 1),
+            (1, 0, 1),
+            (2, 2, 3),
+            (3, 2, 3),
+            (4, 0, 1),
+            (5, 0, 1),
+            (6, 2, 3),
+            (7, 2, 3),
+        ],
+    },
+    // three do not fit into two places, which the mirror alone does not see
+    Row {
+        ends: &[
+            (0, 1),
+            (0, 1),
+            (0, 1),
+            (0, 3),
+            (0, 3),
+            (0, 3),
+            (0, 3),
+            (0, 3),
+        ],
+        left: &[],
+    },
+    // nor do three places share two positions
+    Row {
+        ends: &[
+            (0, 3),
+            (0, 3),
+            (0, 3),
+            (0, 3),
+            (2, 3),
+            (2, 3),
+            (2, 3),
+            (0, 3),
+        ],
+        left: &[],
+    },
+];
+
 #[test]
 fn places_that_positions_fill_are_left_to_them(rt: HostRuntime) -> Result<(), Fail> {
-    let rows = [
-        // two have places 0 and 1 to themselves, and so the others 2 and 3; the mirror alone leaves these 0 to 3
-        Row {
-            ends: &[
-                (0, 1),
-                (0, 1),
-                (0, 3),
-                (0, 3),
-                (0, 3),
-                (0, 3),
-                (0, 3),
-                (0, 3),
-            ],
-            left: &[
-                (0, 0, 1),
-                (1, 0, 1),
-                (2, 2, 3),
-                (3, 2, 3),
-                (4, 0, 1),
-                (5, 0, 1),
-                (6, 2, 3),
-                (7, 2, 3),
-            ],
-        },
-        // three do not fit into two places, which the mirror alone does not see
-        Row {
-            ends: &[
-                (0, 1),
-                (0, 1),
-                (0, 1),
-                (0, 3),
-                (0, 3),
-                (0, 3),
-                (0, 3),
-                (0, 3),
-            ],
-            left: &[],
-        },
-        // nor do three places share two positions
-        Row {
-            ends: &[
-                (0, 3),
-                (0, 3),
-                (0, 3),
-                (0, 3),
-                (2, 3),
-                (2, 3),
-                (2, 3),
-                (0, 3),
-            ],
-            left: &[],
-        },
-    ];
-    for row in rows {
-        let is_held = leaves(inverted(rt.alloc(), row.ends)?, row.left);
-        assert!(rt; is_held);
-    }
-    Ok(())
+    assert_inverted(&rt, rt.alloc(), &FILLED)
 }
 
 /// The propagator of subjects 0 to 2, which are to be 1 2 1, 1 3 1 or 7 7 7: from 10 label 1 leads to 20, 2 or 3 to 30,
@@ -186,62 +188,86 @@ fn automaton(alloc: Global) -> Result<Enforced<Automaton>, AllocError>
     Ok(propagator)
 }
 
-fn read(alloc: Global, ends: &[Ends], decided: &[Atom]) -> Result<Option<Outcome>, AllocError> {
+fn read(
+    alloc: Global,
+    ends: &[Ends],
+    decided: &[Comparison],
+) -> Result<Option<Outcome>, AllocError> {
     let mut propagator = automaton(alloc)?;
     trial(alloc, &mut propagator, ends, decided)
 }
 
+fn assert_read(rt: &impl Abort, alloc: Global, rows: &[Row]) -> Result<(), Fail> {
+    for (place, row) in rows.iter().enumerate() {
+        let found = read(alloc, row.ends, &[])?;
+        assert_row(rt, place, leaves(found, row.left));
+    }
+    Ok(())
+}
+
+static RUNS: [Row; 4] = [
+    // 2 and 3 are labels, but of no run there; 4, 5 and 6 are none at all
+    Row {
+        ends: &[(0, 9), (0, 9), (0, 9)],
+        left: &[
+            (0, 1, 1),
+            (0, 7, 7),
+            (1, 2, 3),
+            (1, 7, 7),
+            (2, 1, 1),
+            (2, 7, 7),
+        ],
+    },
+    // without a last 7 there is no first one
+    Row {
+        ends: &[(0, 9), (0, 9), (0, 6)],
+        left: &[(0, 1, 1), (1, 2, 3), (2, 1, 1)],
+    },
+    // no run begins with these
+    Row {
+        ends: &[(2, 6), (0, 9), (0, 9)],
+        left: &[],
+    },
+    // a run of label 9 does not end
+    Row {
+        ends: &[(0, 9), (9, 9), (0, 9)],
+        left: &[],
+    },
+];
+
 #[test]
 fn labels_of_runs_stay_alone(rt: HostRuntime) -> Result<(), Fail> {
-    let rows = [
-        // 2 and 3 are labels, but of no run there; 4, 5 and 6 are none at all
-        Row {
-            ends: &[(0, 9), (0, 9), (0, 9)],
-            left: &[
-                (0, 1, 1),
-                (0, 7, 7),
-                (1, 2, 3),
-                (1, 7, 7),
-                (2, 1, 1),
-                (2, 7, 7),
-            ],
-        },
-        // without a last 7 there is no first one
-        Row {
-            ends: &[(0, 9), (0, 9), (0, 6)],
-            left: &[(0, 1, 1), (1, 2, 3), (2, 1, 1)],
-        },
-        // no run begins with these
-        Row {
-            ends: &[(2, 6), (0, 9), (0, 9)],
-            left: &[],
-        },
-        // a run of label 9 does not end
-        Row {
-            ends: &[(0, 9), (9, 9), (0, 9)],
-            left: &[],
-        },
-    ];
-    for row in rows {
-        let is_held = leaves(read(rt.alloc(), row.ends, &[])?, row.left);
-        assert!(rt; is_held);
+    assert_read(&rt, rt.alloc(), &RUNS)
+}
+
+/// Decisions of three subjects between 0 and 9, and the reason of what is narrowed last.
+struct Told {
+    decided: &'static [Comparison],
+    reason: &'static [Comparison],
+}
+
+static REASONS: [Told; 2] = [
+    // the last is 1, since it is not 7
+    Told {
+        decided: &[(2, Le, 3)],
+        reason: &[(2, Ge, 7), (2, Le, 1)],
+    },
+    // the last is not 6, whatever holds: no label is
+    Told {
+        decided: &[],
+        reason: &[(2, Ne, 6)],
+    },
+];
+
+fn assert_reasons(rt: &impl Abort, alloc: Global, rows: &[Told]) -> Result<(), Fail> {
+    for (place, row) in rows.iter().enumerate() {
+        let found = read(alloc, &[(0, 9), (0, 9), (0, 9)], row.decided)?;
+        assert_row(rt, place, ends_by(found, row.reason));
     }
     Ok(())
 }
 
 #[test]
 fn reasons_name_what_is_gone_along_a_cut(rt: HostRuntime) -> Result<(), Fail> {
-    let ends = [(0, 9), (0, 9), (0, 9)];
-    // the last is 1, since it is not 7
-    let at_end = read(rt.alloc(), &ends, &[at_most(2, 3)])?;
-    assert!(rt; ends_by(at_end, &[at_least(2, 7), at_most(2, 1)]));
-    // the last is not 6, whatever holds: no label is
-    let stray = Atom {
-        subject: 2,
-        op: Op::Ne,
-        value: 6,
-    };
-    let at_stray = read(rt.alloc(), &ends, &[])?;
-    assert!(rt; ends_by(at_stray, &[stray]));
-    Ok(())
+    assert_reasons(&rt, rt.alloc(), &REASONS)
 }

@@ -10,43 +10,24 @@ use cps_model::Listed;
 use cps_trail::Store;
 use std::alloc::{AllocError, Global};
 
-/// A span: the subjects of its start and of its end, how long it is where that is fixed, and the subject that is 1
-/// where it is present, if it may be absent.
+/// A span, as rows write it.
 #[derive(Clone, Copy)]
-pub struct Shape {
-    start: u32,
-    end: u32,
-    length: Option<i64>,
-    literal: Option<u32>,
+pub enum Shape {
+    /// The subject of the start, and how long the span is.
+    Fixed(u32, i64),
+    /// The same of a span that may be absent, and the subject that is 1 where it is present.
+    Optional(u32, i64, u32),
+    /// The subjects of the start and of the end.
+    Varying(u32, u32),
 }
 
-/// A span of a fixed length.
-pub fn fixed(start: u32, length: i64) -> Shape {
-    Shape {
-        start,
-        end: start,
-        length: Some(length),
-        literal: None,
-    }
-}
-
-/// A span of a fixed length that may be absent.
-pub fn optional(start: u32, length: i64, literal: u32) -> Shape {
-    Shape {
-        start,
-        end: start,
-        length: Some(length),
-        literal: Some(literal),
-    }
-}
-
-/// A span whose end is another subject.
-pub fn varying(start: u32, end: u32) -> Shape {
-    Shape {
-        start,
-        end,
-        length: None,
-        literal: None,
+/// The subjects of a span's start and end, and how long it is where that is fixed.
+fn times(shape: Shape) -> (u32, u32, Option<i64>) {
+    match shape {
+        Shape::Fixed(start, length) | Shape::Optional(start, length, _) => {
+            (start, start, Some(length))
+        }
+        Shape::Varying(start, end) => (start, end, None),
     }
 }
 
@@ -77,7 +58,7 @@ fn presence(alloc: Global, store: &Store, shape: Shape) -> Result<Vec<Atom>, All
     ensures { IfOk result (λ atoms. All (IsLiteral store.now.first) atoms.items) }
 {
     let mut atoms = Vec::new(alloc);
-    if let Some(subject) = shape.literal {
+    if let Shape::Optional(_, _, subject) = shape {
         let atom = literal(store, subject)?;
         atoms.push(atom)?;
     }
@@ -90,12 +71,13 @@ fn span(alloc: Global, store: &Store, shape: Shape) -> Result<Span, AllocError>
     ensures { IfOk result (IsFittingSpan store.now.first) }
 {
     let atoms = presence(alloc, store, shape)?;
+    let (start, end, length) = times(shape);
     Ok(Span {
-        start: shape.start,
-        end: shape.end,
+        start,
+        end,
         size: 0,
         presence: Listed::from_vec(atoms),
-        length: shape.length,
+        length,
     })
 }
 

@@ -1,4 +1,4 @@
-//! Atoms, and stores of intervals with decisions.
+//! Stores of intervals with decisions, and atoms as rows write them.
 
 ghost use Rattle.std.specs.Prelude.{◌≡◌, ◌<◌, IsTrue, IfOk, OnOk, length};
 ghost use Rattle.cps_domain.specs.Window.{intervals};
@@ -15,31 +15,16 @@ use std::alloc::{AllocError, Global};
 /// The least and the greatest value of a subject.
 pub type Ends = (i64, i64);
 
+/// An atom as rows write it: a subject, how its value compares, and with what.
+pub type Comparison = (u32, Op, i64);
+
 /// No end is further from 0.
 const FAR: i64 = 1000;
 
-pub fn at_least(subject: u32, value: i64) -> Atom {
-    Atom {
-        subject,
-        op: Op::Ge,
-        value,
-    }
-}
-
-pub fn at_most(subject: u32, value: i64) -> Atom {
-    Atom {
-        subject,
-        op: Op::Le,
-        value,
-    }
-}
-
-pub fn other_than(subject: u32, value: i64) -> Atom {
-    Atom {
-        subject,
-        op: Op::Ne,
-        value,
-    }
+/// The atom of a comparison.
+pub fn atom_of(comparison: Comparison) -> Atom {
+    let (subject, op, value) = comparison;
+    Atom { subject, op, value }
 }
 
 /// The numbers between two ends; an error where there are none, or one end is far from 0.
@@ -88,13 +73,13 @@ fn decide(store: &mut Store, atom: Atom) -> Result<(), AllocError>
     }
 }
 
-/// Decides each atom that is open.
-pub fn decide_all(store: &mut Store, atoms: &[Atom]) -> Result<(), AllocError>
+/// Decides each comparison that is open.
+pub fn decide_all(store: &mut Store, comparisons: &[Comparison]) -> Result<(), AllocError>
     ensures first { OnOk result (store.new.first ≡ store.old.first) }
     ensures notes { OnOk result (HasNoNotes store.old → HasNoNotes store.new) }
 {
-    for atom in atoms {
-        decide(store, *atom)?;
+    for comparison in comparisons {
+        decide(store, atom_of(*comparison))?;
     }
     Ok(())
 }

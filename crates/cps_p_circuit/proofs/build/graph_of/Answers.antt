@@ -1,5 +1,4 @@
-use Rattle.std.proofs.Common.{◌≡◌, ◌++◌, ◌<◌, ◌∙◌, ap, rules, List, ℤ, length, subst}
-use Rattle.std.specs.Prelude.{All}
+use Rattle.std.proofs.Common.{◌≡◌, ◌++◌, ◌∙◌, ap, List, ℤ}
 use Rattle.cps_p_circuit.proofs.Deciding.{all_left, all_right, numbering}
 use Rattle.cps_p_circuit.proofs.build.graph_of.Goals as goal
 

@@ -1,4 +1,4 @@
-use Rattle.std.proofs.Common.{arith, ℕ, ◌<◌, length, pos}
+use Rattle.std.proofs.Common.{arith, ◌<◌, length, pos}
 use Rattle.cps_literal.specs.declared.atom.Op.TheVariants.{Le}
 use Rattle.cps_propagate.specs.Now.{IsFixedNow}
 use Rattle.cps_p_circuit.proofs.Deciding.{subject_holds, taken_more}

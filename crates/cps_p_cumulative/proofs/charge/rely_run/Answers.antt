@@ -3,7 +3,7 @@ use Rattle.std.specs.List.{All}
 use Rattle.std.specs.Prelude.{Ok}
 use Rattle.std.proofs.lemmas.Int.{to_z-of_z}
 use Rattle.cps_literal.specs.declared.atom.Atom.{Atom}
-use Rattle.cps_p_cumulative.proofs.Running.{start-inside, presence-inside}
+use Rattle.cps_p_cumulative.proofs.Running.{start-inside, time-inside, presence-inside}
 use Rattle.cps_p_cumulative.proofs.Relied.{run-relied}
 use Rattle.cps_p_cumulative.proofs.charge.rely_run.Goals as goal
 
@@ -12,6 +12,9 @@ rely_all-requires-clause-subjects c = subst (λ (us : List Atom). All (λ u. u.s
 
 pub rely-requires-clause-subject : goal.rely-requires-clause-subject
 rely-requires-clause-subject c = let l = start-inside c.args.past.now.first c.args.span.now c.requires.span in rw c.at_most.ensures l
+
+pub rely-requires-2-clause-subject : goal.rely-requires-2-clause-subject
+rely-requires-2-clause-subject c = time-inside c.args.past.now.first c.args.span.now c.in-Some.last.subject c.requires.span c.in-Some.ensures.subject
 
 pub returns : goal.returns
 returns c = λ ok.

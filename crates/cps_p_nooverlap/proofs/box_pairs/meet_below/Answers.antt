@@ -3,12 +3,12 @@ use Rattle.cps_p_nooverlap.proofs.Boxing.{adds_then, allows_more}
 use Rattle.cps_p_nooverlap.proofs.box_pairs.meet_below.Goals as goal
 
 pub returns-then-branch-clause-given : goal.returns-then-branch-clause-given
-returns-then-branch-clause-given c = adds_then c.args._store.now c.args.x.now.spans c.args.y.now.spans c.args.found.now.items c.loop-other.found.items c.meet.new.found.items c.loop-other.invariant.given c.in_ok-meet.ensures.given
+returns-then-branch-clause-given c = adds_then c.args.x.now c.args.y.now c.args.found.now.items c.loop-other.found.items c.meet.new.found.items c.loop-other.invariant.given c.in_ok-meet.ensures.given
 
 pub loop-other-preserved : goal.loop-other-preserved
 loop-other-preserved c =
     let none : c.meet.result ≡ Ok false = search rules in
     record {
-      given = adds_then c.args._store.now c.args.x.now.spans c.args.y.now.spans c.args.found.now.items c.loop-other.found.items c.meet.new.found.items c.loop-other.invariant.given c.in_ok-meet.ensures.given;
+      given = adds_then c.args.x.now c.args.y.now c.args.found.now.items c.loop-other.found.items c.meet.new.found.items c.loop-other.invariant.given c.in_ok-meet.ensures.given;
       allowed = allows_more c.args.x.now.seen.items c.args.y.now.seen.items c.args.place c.loop-other.other c.loop-other.invariant.allowed (c.meet.ensures.allowed none);
     }

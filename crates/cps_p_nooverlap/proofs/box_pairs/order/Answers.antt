@@ -1,11 +1,18 @@
-use Rattle.cps_p_nooverlap.proofs.Boxing.{box_comes, comes_swapped}
+use Rattle.std.proofs.lemmas.Result.{on_ok_weaker}
+use Rattle.cps_p_nooverlap.proofs.Boxing.{box_comes, comes_swapped, adds_ordered}
 use Rattle.cps_p_nooverlap.proofs.box_pairs.order.Goals as goal
 
-pub follow-requires-clause-order : goal.follow-requires-clause-order
-follow-requires-clause-order c =
-    box_comes c.args._store.now c.args.along.now c.args.across.now c.requires.along c.requires.across c.args.pair c.requires.pair c.requires.overlap (c.is_sure-before.ensures.0 c.if-not-before.false) (c.is_sure-after.ensures.0 c.if-not-after.false) (c.is_late.ensures.late c.if-is_late.true)
+pub returns-then-is_late : goal.returns-then-is_late
+returns-then-is_late c = on_ok_weaker c.follow.result
+    (adds_ordered c.args.along.now c.args.across.now c.args.pair c.args.found.now.items c.follow.new.found.items
+    (λ s is has.
+    box_comes s c.args.along.now c.args.across.now is has c.args.pair c.requires.pair c.requires.overlap (c.is_sure-before.ensures.0 c.if-not-before.false) (c.is_sure-after.ensures.0 c.if-not-after.false) (c.is_late.ensures.late c.if-is_late.true)))
+    c.follow.ensures
 
-pub follow-requires-then-is_late-2-clause-order : goal.follow-requires-then-is_late-2-clause-order
-follow-requires-then-is_late-2-clause-order c =
-    comes_swapped c.args._store.now c.args.along.now c.args.across.now c.requires.along c.requires.across c.args.pair c.swapped-turned.result c.swapped-turned.ensures c.requires.pair c.requires.overlap (c.is_sure-before.ensures.0 c.if-not-before.false) (c.is_sure-after.ensures.0 c.if-not-after.false)
-    (c.is_late-2.ensures.late c.if-is_late-2.true)
+pub returns-then-is_late-2 : goal.returns-then-is_late-2
+returns-then-is_late-2 c = on_ok_weaker c.follow-then-is_late-2.result
+    (adds_ordered c.args.along.now c.args.across.now c.swapped-turned.result c.args.found.now.items c.follow-then-is_late-2.new.found.items
+    (λ s is has.
+    comes_swapped s c.args.along.now c.args.across.now is has c.args.pair c.swapped-turned.result c.swapped-turned.ensures c.requires.pair c.requires.overlap (c.is_sure-before.ensures.0 c.if-not-before.false) (c.is_sure-after.ensures.0 c.if-not-after.false)
+    (c.is_late-2.ensures.late c.if-is_late-2.true)))
+    c.follow-then-is_late-2.ensures

@@ -1,12 +1,18 @@
-use Rattle.std.proofs.Common.{inl, inr, rules}
+use Rattle.std.proofs.Common.{◌<ℤ◌, ◌+ℤ◌, pos, inl, inr, rules}
 use Rattle.cps_p_nooverlap.proofs.Bounding.{impossible}
 use Rattle.cps_p_nooverlap.proofs.interval.contradiction.Goals as goal
 
 pub returns-then-hulls-lt0-clause-some : goal.returns-then-hulls-lt0-clause-some
-returns-then-hulls-lt0-clause-some c = impossible c.args._store.now c.args.places c.args.hulls c.requires.within c.requires.measured (inl (search rules))
+returns-then-hulls-lt0-clause-some c =
+    let less : c.args.hulls.size.high <ℤ pos 0 = search rules in
+    λ s p l m. impossible s p c.args.hulls l m (inl less)
 
 pub returns-then-hulls-clause-some : goal.returns-then-hulls-clause-some
-returns-then-hulls-clause-some c = impossible c.args._store.now c.args.places c.args.hulls c.requires.within c.requires.measured (inr (inl (search rules)))
+returns-then-hulls-clause-some c =
+    let less : c.args.hulls.end.high <ℤ (c.args.hulls.start.low +ℤ c.args.hulls.size.low) = search rules in
+    λ s p l m. impossible s p c.args.hulls l m (inr (inl less))
 
 pub returns-then-hulls-2-clause-some : goal.returns-then-hulls-2-clause-some
-returns-then-hulls-2-clause-some c = impossible c.args._store.now c.args.places c.args.hulls c.requires.within c.requires.measured (inr (inr (search rules)))
+returns-then-hulls-2-clause-some c =
+    let less : (c.args.hulls.start.high +ℤ c.args.hulls.size.high) <ℤ c.args.hulls.end.low = search rules in
+    λ s p l m. impossible s p c.args.hulls l m (inr (inr less))

@@ -1,18 +1,23 @@
-use Rattle.std.proofs.Common.{sym, subst, rules}
+use Rattle.std.proofs.Common.{ℕ, ◌<◌, ◌<ℤ◌, get_or, sym, subst, rules}
+use Rattle.cps_instance.specs.declared.task.Body.TheVariants.{NoOverlap}
 use Rattle.cps_p_nooverlap.specs.declared.pairs.Pair.{Pair}
-use Rattle.cps_p_nooverlap.specs.Spans.{ComesBefore}
-use Rattle.cps_p_nooverlap.proofs.Pairing.{seen_length, comes, swapped_pair}
+use Rattle.cps_p_nooverlap.specs.Spans.{Orders, no_seen}
+use Rattle.cps_p_nooverlap.proofs.Pairing.{comes, swapped_pair}
 use Rattle.cps_p_nooverlap.proofs.pairs.meet.Goals as goal
 
 pub bounds-seen-pair : goal.bounds-seen-pair
-bounds-seen-pair c = seen_length c.args._store.now c.args.spans.now c.args.seen.now c.requires.spans c.requires.seen c.args.pair.before c.requires.pair.before
+bounds-seen-pair c = subst (λ (n : ℕ). c.args.pair.before < n) c.requires.known.each c.requires.pair.before
 
 pub bounds-seen-pair-2 : goal.bounds-seen-pair-2
-bounds-seen-pair-2 c = seen_length c.args._store.now c.args.spans.now c.args.seen.now c.requires.spans c.requires.seen c.args.pair.after c.requires.pair.after
+bounds-seen-pair-2 c = subst (λ (n : ℕ). c.args.pair.after < n) c.requires.known.each c.requires.pair.after
 
-pub follow-requires-clause-order : goal.follow-requires-clause-order
-follow-requires-clause-order c = comes c.args._store.now c.args.spans.now c.args.seen.now c.requires.spans c.requires.seen c.args.pair c.requires.pair (search rules) c.if-before.true c.if-after.true
+pub returns-in_ok-follow-clause-given : goal.returns-in_ok-follow-clause-given
+returns-in_ok-follow-clause-given c =
+    let late : (get_or c.args.seen.now c.args.pair.before no_seen).times.start_high <ℤ (get_or c.args.seen.now c.args.pair.after no_seen).times.end_low = search rules in
+    λ s are. c.in_ok-follow.ensures s are (NoOverlap c.args.spans.now) (comes s c.args.spans.now c.args.seen.now are.spans are.seen c.args.pair c.requires.pair late c.if-before.true c.if-after.true)
 
-pub follow-requires-then-not-forth-2-clause-order : goal.follow-requires-then-not-forth-2-clause-order
-follow-requires-then-not-forth-2-clause-order c = subst (λ (q : Pair). ComesBefore c.args._store.now c.args.spans.now q) (sym c.swapped.ensures)
-    (comes c.args._store.now c.args.spans.now c.args.seen.now c.requires.spans c.requires.seen (record { before = c.args.pair.after; after = c.args.pair.before }) (swapped_pair _ c.args.pair c.requires.pair) (search rules) c.if-after.true c.if-before.true)
+pub returns-in_ok-follow-2-clause-given : goal.returns-in_ok-follow-2-clause-given
+returns-in_ok-follow-2-clause-given c =
+    let late : (get_or c.args.seen.now c.args.pair.after no_seen).times.start_high <ℤ (get_or c.args.seen.now c.args.pair.before no_seen).times.end_low = search rules in
+    λ s are. c.in_ok-follow-2.ensures s are (NoOverlap c.args.spans.now) (subst (λ (q : Pair). Orders (NoOverlap c.args.spans.now) s c.args.spans.now q) (sym c.swapped.ensures)
+    (comes s c.args.spans.now c.args.seen.now are.spans are.seen (record { before = c.args.pair.after; after = c.args.pair.before }) (swapped_pair _ c.args.pair c.requires.pair) late c.if-after.true c.if-before.true))

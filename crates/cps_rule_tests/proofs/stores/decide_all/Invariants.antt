@@ -2,5 +2,5 @@ use Rattle.std.proofs.Common.{◌≡◌}
 use Rattle.cps_rule_tests.specs.Noted.{HasNoNotes}
 use Rattle.cps_rule_tests.proofs.stores.decide_all.Given as goal
 
-abbrev pub invariant-loop-atom : goal.invariant-loop-atom
-invariant-loop-atom l = (l.store.first ≡ l.fn.store.first) × (HasNoNotes l.fn.store → HasNoNotes l.store)
+abbrev pub invariant-loop-comparison : goal.invariant-loop-comparison
+invariant-loop-comparison l = (l.store.first ≡ l.fn.store.first) × (HasNoNotes l.fn.store → HasNoNotes l.store)

@@ -1,4 +1,4 @@
-use Rattle.std.proofs.Common.{arith, Ok, ap, sym, subst, ◌∙◌, ◌≡◌, ◌≢◌, ℕ, List, slice_index}
+use Rattle.std.proofs.Common.{arith, Ok, ap, sym, subst, ◌∙◌, ◌≡◌, ◌≢◌, ℕ, slice_index}
 use Rattle.cps_p_circuit.specs.Clashes.{AreChosen}
 use Rattle.cps_p_circuit.proofs.Clashing.{cut_clash, tour_grows, chosen_grows, least}
 use Rattle.cps_p_circuit.proofs.graph.Graph.cut.Goals as goal

@@ -1,4 +1,4 @@
-use Rattle.std.proofs.Common.{arith, ap, sym, ◌∙◌, length, ◌-◌, ◌≡◌, ◌<◌, ◌≤◌, slice_index, refl}
+use Rattle.std.proofs.Common.{arith, ap, sym, ◌∙◌, ◌-◌, ◌≡◌, ◌<◌, ◌≤◌, slice_index, refl}
 use Rattle.cps_p_circuit.specs.Clashes.{taking}
 use Rattle.cps_p_circuit.proofs.Clashing.{lifted, chosen_more, least}
 use Rattle.cps_p_circuit.proofs.graph.Graph.push_chosen.Goals as goal

@@ -1,4 +1,3 @@
-use Rattle.std.proofs.Common.{arith}
 use Rattle.cps_p_circuit.specs.Clashes.{leaving}
 use Rattle.cps_p_circuit.proofs.Clashing.{lifted, stay_more}
 use Rattle.cps_p_circuit.proofs.graph.Graph.push_stay.Goals as goal

@@ -1,6 +1,5 @@
-use Rattle.std.proofs.Common.{subst, List}
+use Rattle.std.proofs.Common.{subst}
 use Rattle.std.specs.Prelude.{None}
-use Rattle.cps_literal.specs.declared.atom.Atom.{Atom}
 use Rattle.cps_trail.specs.Trail.{Trail}
 use Rattle.cps_p_circuit.specs.Showing.{IsShown, body_by}
 use Rattle.cps_p_circuit.proofs.Showing.{impossible}

@@ -6,7 +6,7 @@ use Rattle.cps_propagate.specs.Strength.{HasSeparateBoxes}
 use Rattle.cps_rule.specs.Rules.{IsAtRest}
 use Rattle.cps_p_nooverlap.specs.declared.pairs.Pair.{Pair}
 use Rattle.cps_p_nooverlap.specs.Boxes.{LeavesNone, IsCount}
-use Rattle.cps_p_nooverlap.proofs.Boxing.{kept_of, given_of, separate, boxes_at_rest, are_along, are_across}
+use Rattle.cps_p_nooverlap.proofs.Boxing.{kept_of, given_of, direction_known, separate, boxes_at_rest, are_along, are_across}
 use Rattle.cps_p_nooverlap.proofs.boxes.BoxesRule.look.Goals as goal
 
 pub look-requires : goal.look-requires
@@ -15,19 +15,25 @@ look-requires c = are_along c.args.store.now.first c.args.self.now.x.spans c.arg
 pub look-requires-2 : goal.look-requires-2
 look-requires-2 c = are_across c.args.store.now.first c.args.self.now.x.spans c.args.self.now.y.spans c.requires.fits
 
+pub meet_all-requires-clause-x : goal.meet_all-requires-clause-x
+meet_all-requires-clause-x c = direction_known c.args.store.now c.look.new.self c.in_ok-look.ensures.seen
+
+pub meet_all-requires-clause-y : goal.meet_all-requires-clause-y
+meet_all-requires-clause-y c = direction_known c.args.store.now c.look-2.new.self c.in_ok-look-2.ensures.seen
+
 pub returns-in-Some-clause-given : goal.returns-in-Some-clause-given
 returns-in-Some-clause-given c =
-    given_of c.args.store.now c.args.self.now.x.spans c.args.self.now.y.spans c.look.new.self.spans c.look-2.new.self.spans c.look.ensures.spans c.look-2.ensures.spans c.clear.new.self.items c.meet_all.new.found.items c.clear.ensures.items c.in_ok-pair.ensures.given
+    given_of c.args.store.now c.look.new.self c.look-2.new.self c.in_ok-look.ensures.seen c.in_ok-look-2.ensures.seen c.args.self.now.x.spans c.args.self.now.y.spans c.look.ensures.spans c.look-2.ensures.spans c.clear.new.self.items c.meet_all.new.found.items c.clear.ensures.items c.in_ok-pair.ensures.given
 
 pub returns-in-Some-clause-seen : goal.returns-in-Some-clause-seen
 returns-in-Some-clause-seen c =
     let s = c.args.store.now in
-    let leaves = subst (λ (o : Option Pair). IfSome o (λ p. LeavesNone c.args.store.now c.look.new.self.spans c.look-2.new.self.spans)) c.in-Some.is c.in_ok-pair.ensures.impossible in
-    leaves (NoOverlap2d c.args.self.now.x.spans c.args.self.now.y.spans) (kept_of c.args.self.now.x.spans c.args.self.now.y.spans c.look.new.self.spans c.look-2.new.self.spans c.look.ensures.spans c.look-2.ensures.spans)
+    let leaves = subst (λ (o : Option Pair). IfSome o (λ p. LeavesNone c.look.new.self c.look-2.new.self)) c.in-Some.is c.in_ok-pair.ensures.impossible in
+    leaves s c.in_ok-look.ensures.seen c.in_ok-look-2.ensures.seen (NoOverlap2d c.args.self.now.x.spans c.args.self.now.y.spans) (kept_of c.args.self.now.x.spans c.args.self.now.y.spans c.look.new.self.spans c.look-2.new.self.spans c.look.ensures.spans c.look-2.ensures.spans)
 
 pub returns-in-None-clause-given : goal.returns-in-None-clause-given
 returns-in-None-clause-given c =
-    given_of c.args.store.now c.args.self.now.x.spans c.args.self.now.y.spans c.look.new.self.spans c.look-2.new.self.spans c.look.ensures.spans c.look-2.ensures.spans c.clear.new.self.items c.meet_all.new.found.items c.clear.ensures.items c.in_ok-pair.ensures.given
+    given_of c.args.store.now c.look.new.self c.look-2.new.self c.in_ok-look.ensures.seen c.in_ok-look-2.ensures.seen c.args.self.now.x.spans c.args.self.now.y.spans c.look.ensures.spans c.look-2.ensures.spans c.clear.new.self.items c.meet_all.new.found.items c.clear.ensures.items c.in_ok-pair.ensures.given
 
 pub returns-in-None-clause-rest : goal.returns-in-None-clause-rest
 returns-in-None-clause-rest c e all =

@@ -2,7 +2,7 @@ use Rattle.std.proofs.Common.{◌≡◌, Ok, None, List, length, sym, subst, rul
 use Rattle.std.specs.List.{AllZip}
 use Rattle.cps_instance.specs.declared.task.Span.{Span}
 use Rattle.cps_p_nooverlap.specs.declared.seen.Seen.{Seen}
-use Rattle.cps_p_nooverlap.specs.Spans.{AreSpans, IsSeen, AreAllowed}
+use Rattle.cps_p_nooverlap.specs.Spans.{AreSpans, AreSeen, IsSeen, AreAllowed}
 use Rattle.cps_p_nooverlap.proofs.Ordering.{has_orders}
 use Rattle.cps_p_nooverlap.proofs.Resting.{are_spans, at_rest}
 use Rattle.cps_p_nooverlap.proofs.no_overlap.NoOverlapRule.look.Goals as goal
@@ -10,8 +10,13 @@ use Rattle.cps_p_nooverlap.proofs.no_overlap.NoOverlapRule.look.Goals as goal
 pub see-requires : goal.see-requires
 see-requires c = subst (λ (ps : List Span). AreSpans c.args.store.now.first ps) (sym c.as_slice.ensures) (are_spans c.args.store.now.first c.args.self.now.spans c.requires.fits)
 
-pub meet_both-requires-clause-spans : goal.meet_both-requires-clause-spans
-meet_both-requires-clause-spans c = subst (λ (ps : List Span). AreSpans c.args.store.now.first ps) (sym c.as_slice-spans.ensures) (are_spans c.args.store.now.first c.args.self.now.spans c.requires.fits)
+pub meet_both-requires : goal.meet_both-requires
+meet_both-requires c =
+    let s = c.args.store.now in
+    let are = are_spans c.args.store.now.first c.args.self.now.spans c.requires.fits in
+    let seen = subst (λ (qs : List Span). AllZip (IsSeen s) qs c.see.new.seen.items) c.as_slice.ensures c.in_ok-see.ensures in
+    subst (λ (qs : List Span). AreSeen s qs c.as_slice-seen.result.now) (sym c.as_slice-spans.ensures)
+    (subst (λ (vs : List Seen). AreSeen s c.args.self.now.spans vs) (sym c.as_slice-seen.ensures.value) (record { spans = are; seen = seen }))
 
 pub returns-in-None-clause-rest : goal.returns-in-None-clause-rest
 returns-in-None-clause-rest c e all =

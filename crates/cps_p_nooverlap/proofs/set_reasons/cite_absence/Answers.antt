@@ -8,7 +8,7 @@ use Rattle.cps_p_nooverlap.specs.Citing.{Cites}
 use Rattle.cps_p_nooverlap.specs.Spans.{is_present}
 use Rattle.cps_p_nooverlap.specs.Crowds.{near_at, StartsBeforeUnless}
 use Rattle.cps_p_nooverlap.proofs.Citing.{cites_as, cites_then}
-use Rattle.cps_p_nooverlap.proofs.sets.cite_absence.Goals as goal
+use Rattle.cps_p_nooverlap.proofs.set_reasons.cite_absence.Goals as goal
 
 pub returns : goal.returns
 returns c e =

@@ -6,7 +6,7 @@ use Rattle.cps_literal.specs.declared.atom.Atom.{Atom}
 use Rattle.cps_literal.specs.Truth.{atom_holds}
 use Rattle.cps_p_nooverlap.specs.Citing.{Cites}
 use Rattle.cps_p_nooverlap.proofs.Claims.{reasoned_bound}
-use Rattle.cps_p_nooverlap.proofs.sets.give_bound.Goals as goal
+use Rattle.cps_p_nooverlap.proofs.set_reasons.give_bound.Goals as goal
 
 pub returns-in-Some : goal.returns-in-Some
 returns-in-Some c =

@@ -1,6 +1,6 @@
 use Rattle.std.proofs.Common.{Ok, ◌≡◌, ◌<◌, true, [], length, rules}
 use Rattle.cps_p_nooverlap.proofs.Claims.{reasoned_absence}
-use Rattle.cps_p_nooverlap.proofs.sets.give_absence.Goals as goal
+use Rattle.cps_p_nooverlap.proofs.set_reasons.give_absence.Goals as goal
 
 pub returns-else-not-branch-2 : goal.returns-else-not-branch-2
 returns-else-not-branch-2 c =

@@ -1,0 +1,14 @@
+use Rattle.std.proofs.Common.{Ok, ◌≡◌, None, rules}
+use Rattle.cps_p_nooverlap.proofs.Pairing.{adds_then, allowed_more}
+use Rattle.cps_p_nooverlap.proofs.pairs.meet_all.Goals as goal
+
+pub returns-in-Some-clause-given : goal.returns-in-Some-clause-given
+returns-in-Some-clause-given c = adds_then c.args.spans.now c.args.seen.now c.args.found.now.items c.loop-place.found.items c.meet_below.new.found.items c.loop-place.invariant.given c.in_ok-pair.ensures.given
+
+pub loop-place-preserved : goal.loop-place-preserved
+loop-place-preserved c =
+    let none : c.meet_below.result ≡ Ok None = search rules in
+    record {
+      given = adds_then c.args.spans.now c.args.seen.now c.args.found.now.items c.loop-place.found.items c.meet_below.new.found.items c.loop-place.invariant.given c.in_ok-pair.ensures.given;
+      allowed = allowed_more c.args.seen.now c.loop-place.place c.loop-place.invariant.allowed (c.meet_below.ensures.allowed none);
+    }

@@ -1,0 +1,88 @@
+//! Pushes and full windows as hints.
+//!
+//! The hint of a push has a number below 0 for the span, the rule and the direction of time, and by edge finding the end
+//! of the window that the span is pushed past. The hint of a full window has its two ends.
+ghost use Rattle.std.specs.Prelude.{◌≡◌, IfSome};
+
+use crate::crowd::{Argument, Crowd};
+use crate::jobs::Push;
+use cps_literal::Atom;
+use cps_rule::{Hint, Narrowing};
+
+/// How many pushes there are of a span: by each rule in both directions.
+const PUSHES: i64 = 6;
+
+/// An atom to be explained, the span that it speaks of, and the push that gives it.
+#[derive(Clone, Copy)]
+pub(crate) struct Question {
+    pub(crate) place: usize,
+    pub(crate) push: Push,
+    pub(crate) is_reversed: bool,
+    pub(crate) target: Atom,
+}
+
+/// The number of a rule.
+fn number_of(argument: Argument) -> i64 {
+    match argument {
+        Argument::Precedences => 0,
+        Argument::NotFirst => 1,
+        Argument::EdgeFinding => 2,
+    }
+}
+
+/// The rule of a number.
+fn argument_of(number: i64) -> Argument {
+    match number {
+        0 => Argument::Precedences,
+        1 => Argument::NotFirst,
+        _ => Argument::EdgeFinding,
+    }
+}
+
+/// The push of a crowd as a hint.
+pub(crate) fn hint_of(crowd: Crowd) -> Hint {
+    let place = i64::try_from(crowd.place).unwrap_or(-1);
+    let direction = if crowd.is_reversed { 1 } else { 0 };
+    let number = number_of(crowd.argument)
+        .wrapping_mul(2)
+        .wrapping_add(direction);
+    Hint {
+        a: place
+            .wrapping_mul(PUSHES)
+            .wrapping_add(number)
+            .wrapping_add(1)
+            .wrapping_neg(),
+        b: crowd.to,
+    }
+}
+
+/// The question of what gave a target, where a hint names a push.
+pub(crate) fn question_of(wanted: Narrowing) -> Option<Question>
+    ensures { IfSome result (λ question. question.target ≡ wanted.target) }
+{
+    let hint = wanted.hint;
+    if hint.a >= 0 {
+        return None;
+    }
+    let number = hint.a.wrapping_add(1).wrapping_neg();
+    let place = usize::try_from(number / PUSHES).ok()?;
+    let rest = number % PUSHES;
+    Some(Question {
+        place,
+        push: Push {
+            argument: argument_of(rest / 2),
+            time: wanted.target.value,
+            to: hint.b,
+        },
+        is_reversed: rest % 2 == 1,
+        target: wanted.target,
+    })
+}
+
+/// The window as a hint.
+pub(crate) fn window_hint(crowd: Crowd) -> Hint {
+    Hint {
+        a: crowd.from,
+        b: crowd.to,
+    }
+}

@@ -1,0 +1,158 @@
+//! Why a crowd pushes a span, or a window holds too much.
+//!
+//! The facts are put into a list anew: what surely runs in the window, and of the span that is pushed its presence, or
+//! the start that it cannot have.
+ghost use Rattle.std.specs.Prelude.{[], ◌≡◌, true, IfOk, IfSome, All};
+ghost use Rattle.cps_instance.specs.Parts.{span_runs};
+ghost use Rattle.cps_model.specs.Scheduling.{IsNoOverlap};
+ghost use Rattle.cps_p_nooverlap.specs.Citing.{Cites};
+ghost use Rattle.cps_p_nooverlap.specs.Crowds.{IsReasoned, IsAboutOne, StartsBeforeUnless};
+ghost use Rattle.cps_p_nooverlap.specs.Spans.{AreSpans, IsSmallAtom, IsSpan};
+
+use crate::box_reasons::cite_others;
+use crate::crowd::{Crowd, Ends, Marks, Window};
+use crate::desk::Desk;
+use crate::explain::cite_all;
+use crate::sides::{cite_high, low_atom};
+use crate::windows::{cite_push, refute_window};
+use cps_instance::Span;
+use cps_literal::Atom;
+use cps_trail::Before;
+use std::alloc::AllocError;
+
+/// Fills a list anew with the facts by which a window holds too much.
+pub(crate) fn refute_anew(
+    past: &Before,
+    spans: &[Span],
+    weights: &[u64],
+    crowd: Crowd,
+    facts: &mut Vec<Atom>,
+) -> Result<bool, AllocError>
+    requires { AreSpans past.now.first spans.now }
+    ensures { result ≡ Ok true → Cites past.now [] facts.new.items (λ xs. IsNoOverlap (span_runs xs spans.now) → ⊥) }
+{
+    facts.clear();
+    refute_window(past, spans, weights, crowd, facts)
+}
+
+/// Fills a list anew with the facts by which a surely present span starts at a time or later, and answers that it does.
+fn give_bound(
+    past: &Before,
+    spans: &[Span],
+    marks: &Marks,
+    crowd: Crowd,
+    facts: &mut Vec<Atom>,
+) -> Result<Option<Atom>, AllocError>
+    requires { AreSpans past.now.first spans.now }
+    ensures { IfOk result (λ answer. IfSome answer (λ u. IsReasoned past.now spans.now facts.new.items u)) }
+{
+    facts.clear();
+    if crowd.place >= spans.len() {
+        return Ok(None);
+    }
+    let span = &spans[crowd.place];
+    if !cite_push(past, spans, marks, crowd, facts)? {
+        return Ok(None);
+    }
+    if !cite_all(past, span.presence.as_slice(), facts)? {
+        return Ok(None);
+    }
+    let time = Window {
+        ends: Ends::Start,
+        is_reversed: crowd.is_reversed,
+        from: crowd.time,
+        to: crowd.time,
+    };
+    match low_atom(span, time) {
+        Some(target) => Ok(Some(target)),
+        None => Ok(None),
+    }
+}
+
+/// That the atom of a span's presence is false which a crowd says is open.
+fn denied_atom(span: &Span, crowd: Crowd) -> Option<Atom>
+    requires { All IsSmallAtom span.now.presence }
+    ensures { IfSome result (IsAboutOne span.now.presence) }
+{
+    let atoms = span.presence.as_slice();
+    let open = crowd.open?;
+    if open < atoms.len() {
+        return Some(atoms[open].negate());
+    }
+    None
+}
+
+/// Adds that a span is present and starts before it is pushed to, if an atom is false.
+fn cite_absence(
+    past: &Before,
+    span: &Span,
+    crowd: Crowd,
+    target: Atom,
+    facts: &mut Vec<Atom>,
+) -> Result<bool, AllocError>
+    requires { IsSpan past.now.first span.now }
+    ensures { result ≡ Ok true → Cites past.now facts.old.items facts.new.items
+        (λ xs. StartsBeforeUnless crowd.is_reversed xs span.now crowd.time target) }
+{
+    let sooner = crowd.time.saturating_sub(1);
+    if crowd.time <= sooner {
+        return Ok(false);
+    }
+    if !cite_others(past, span.presence.as_slice(), target, facts)? {
+        return Ok(false);
+    }
+    let time = Window {
+        ends: Ends::Start,
+        is_reversed: crowd.is_reversed,
+        from: sooner,
+        to: sooner,
+    };
+    cite_high(past, span, time, facts)
+}
+
+/// Puts why a span cannot be present that would start too late in the place of what a list holds, and answers that one
+/// of its atoms is false.
+fn give_absence(
+    past: &Before,
+    spans: &[Span],
+    marks: &Marks,
+    crowd: Crowd,
+    facts: &mut Vec<Atom>,
+) -> Result<Option<Atom>, AllocError>
+    requires { AreSpans past.now.first spans.now }
+    ensures { IfOk result (λ answer. IfSome answer (λ u. IsReasoned past.now spans.now facts.new.items u)) }
+{
+    facts.clear();
+    if crowd.place >= spans.len() {
+        return Ok(None);
+    }
+    let span = &spans[crowd.place];
+    match denied_atom(span, crowd) {
+        Some(target) => {
+            if !cite_push(past, spans, marks, crowd, facts)? {
+                return Ok(None);
+            }
+            if !cite_absence(past, span, crowd, target, facts)? {
+                return Ok(None);
+            }
+            Ok(Some(target))
+        }
+        None => Ok(None),
+    }
+}
+
+/// Fills the desk's list anew with the facts by which a crowd pushes a span, and answers what follows.
+pub(crate) fn give(
+    past: &Before,
+    spans: &[Span],
+    desk: &mut Desk,
+    crowd: Crowd,
+) -> Result<Option<Atom>, AllocError>
+    requires { AreSpans past.now.first spans.now }
+    ensures { IfOk result (λ answer. IfSome answer (λ u. IsReasoned past.now spans.now desk.new.facts.items u)) }
+{
+    if crowd.open.is_some() {
+        return give_absence(past, spans, &desk.marks, crowd, &mut desk.facts);
+    }
+    give_bound(past, spans, &desk.marks, crowd, &mut desk.facts)
+}
