@@ -23,7 +23,7 @@ use cps_port::{Share, Taken};
 use cps_validate::ValidModel;
 use std::alloc::{AllocError, Global};
 
-/// The splits of a whole table.
+/// The splits of a whole table: 2^32, which can be halved for 32 workers.
 const ALL_SPLITS: u64 = 4294967296;
 
 /// Whether one of two is true.

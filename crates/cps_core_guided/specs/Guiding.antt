@@ -2,7 +2,9 @@
 use Rattle.std.specs.Prelude.{◌≡◌, ℕ, ℤ, Option, Some, None, ◌+◌, ◌<◌, ◌≤◌, ◌<ℤ◌, Bool, true, false, List, length}
 use Rattle.cps_literal.specs.declared.atom.Atom.{Atom}
 use Rattle.cps_branch.specs.Fixed.{AreFixed}
+use Rattle.cps_branch.specs.Scope.{Scope}
 use Rattle.cps_instance.specs.Problem.{variable_count}
+use Rattle.cps_trail.specs.Trail.{Trail}
 use Rattle.cps_search.specs.declared.end.Phase.TheVariants.{Deciding, Stepping}
 use Rattle.cps_search.specs.Searches.{Search, IsSettled, NoneBelow}
 use Rattle.cps_search.specs.Turns.{SameBest, SameCore, SameImported, SameLearnt, SameRaised}
@@ -17,7 +19,7 @@ use Rattle.cps_reform.specs.Marks.{assumed}
 use Rattle.cps_core_guided.specs.Assuming.{IsSomeAssumption}
 use Rattle.cps_reform.specs.Floors.{IsPast}
 use Rattle.cps_core_guided.specs.Reforming.{CoreSearch, ReformsTo, most_sums}
-use Rattle.cps_core_guided.specs.CoreTurns.{SameCoreSetting}
+use Rattle.cps_core_guided.specs.CoreTurns.{IsCoreWorking, SameCoreSetting}
 
 -- the core-guided search that a worker stands for, as long as no allocation failed
 abbrev pub core_search_of : {P B : Type 0} → Guided P B → CoreSearch
@@ -30,6 +32,11 @@ core_search_of {P} {B} g = record {
   ended = g.ended;
   core = g.core;
 }
+
+-- between two turns: the search, with what its brancher keeps and saw of it
+abbrev pub Works : {P B : Type 0} → (B → Scope) → (B → Trail → ℕ → Type 0) → Guided P B → Type 0
+Works {P} {B} scope agrees g =
+    IsCoreWorking (core_search_of g) (scope g.brancher) (agrees g.brancher g.frame.store) g.kept
 
 -- a decision is due, and not all variables are fixed
 pub record IsDue (s : Search) : Type 0 where

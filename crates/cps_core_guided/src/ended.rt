@@ -27,7 +27,10 @@ impl Model for CoreEnded {
     ghost use Rattle.cps_port.specs.Order.{greater_of};
     ghost use Rattle.cps_core_guided.specs.Guiding.{core_or};
 
-    ghost view = { λ e. record e.ended { raised = greater_of e.ended.raised e.raised; core = core_or e.own e.ended.core } };
+    ghost view = { λ e. record e.ended {
+      raised = greater_of e.ended.raised e.raised;
+      core = core_or e.own e.ended.core;
+    } };
 }
 
 impl CoreEnded {

@@ -15,7 +15,7 @@ use cps_search::Frame;
 use std::alloc::AllocError;
 
 /// Defines the sum of a form's core in a search at level 0, and answers its subject. What is known of the form stays
-/// true.
+/// true; `reform` is there for the contract alone.
 pub(crate) fn grow_core<P: Defining>(
     frame: &mut Frame<'_, P>,
     reform: &Reform,

@@ -25,8 +25,8 @@ ghost use Rattle.cps_reform.specs.Marks.{assumed};
 ghost use Rattle.cps_core_guided.specs.Assuming.{AreAssumed, IsFailed, IsFirstOpen, NoneFails};
 ghost use Rattle.cps_reform.specs.Floors.{IsPast};
 ghost use Rattle.cps_core_guided.specs.Reforming.{IsSoundCore, most_sums, whole, whole_core};
-ghost use Rattle.cps_core_guided.specs.CoreTurns.{GoesOn, IsCoreWorking, RaisesTo, TakesCoreTurn};
-ghost use Rattle.cps_core_guided.specs.Guiding.{core_search_of, HasFailed, IsDue, Splits, Tried};
+ghost use Rattle.cps_core_guided.specs.CoreTurns.{GoesOn, RaisesTo, TakesCoreTurn};
+ghost use Rattle.cps_core_guided.specs.Guiding.{core_search_of, HasFailed, IsDue, Splits, Tried, Works};
 
 use crate::assume::{first_failed, first_open};
 use crate::grow::grow_core;
@@ -41,6 +41,7 @@ use cps_search::{Frame, Turn, decide_next, hear_turn, still_kept};
 use std::alloc::{AllocError, Global};
 
 /// The most sums that are defined for cores; after them nothing is assumed any more, and the brancher decides alone.
+/// With them there are at most 2^31 subjects.
 const MOST_SUMS: u32 = 1 << 24;
 
 /// A core-guided worker as long as every allocation succeeds.
@@ -67,21 +68,21 @@ pub(crate) struct Guided<'a, P: Defining, B: Brancher + Drop> {
 impl<'a, P: Defining, B: Brancher + Drop> Guided<'a, P, B> {
     /// Takes one turn.
     pub fn turn<Q: Port>(&mut self, port: &mut Q) -> Result<Turn, AllocError>
-        requires works { IsCoreWorking (core_search_of self.old) (B.scope self.old.brancher) (B.agrees self.old.brancher
-            self.old.frame.store) self.old.kept }
+        requires works { Works B.scope B.agrees self.old }
         requires running { IsOver (whole (core_search_of self.old)).phase → ⊥ }
         requires model { Q.model port.old ≡ self.old.frame.instance.model }
         requires imported { self.old.frame.imported ≤ length (Q.part port.old).board.taken }
         ensures keeps { Keeps Q.model Q.rows Q.stays port.old port.new }
-        ensures turn { IfOk result (λ turn. TakesCoreTurn (B.chooses self.old.brancher) (core_search_of self.old)
-            (core_search_of
-            self.new) (Q.rows port.old) (Q.part port.old) (Q.part port.new) turn) }
-        ensures brancher { IfOk result (λ turn. BrancherTurn turn (HeardOne (λ clause restart. B.hears self.old.brancher
-            clause restart self.new.brancher) self.old.frame self.new.frame) (DecidedBy (B.stays self.old.brancher
-            self.new.brancher) (self.new.brancher ≡ self.old.brancher)) (self.new.brancher ≡ self.old.brancher)) }
+        ensures turn { IfOk result (λ turn. TakesCoreTurn (B.chooses self.old.brancher)
+            (core_search_of self.old) (core_search_of self.new)
+            (Q.rows port.old) (Q.part port.old) (Q.part port.new) turn) }
+        ensures brancher { IfOk result (λ turn. BrancherTurn turn
+            (HeardOne (λ clause restart. B.hears self.old.brancher clause restart self.new.brancher)
+            self.old.frame self.new.frame)
+            (DecidedBy (B.stays self.old.brancher self.new.brancher) (self.new.brancher ≡ self.old.brancher))
+            (self.new.brancher ≡ self.old.brancher)) }
         ensures guidance { B.guidance self.new.brancher ≡ B.guidance self.old.brancher }
-        ensures works { OnOk result (IsCoreWorking (core_search_of self.new) (B.scope self.new.brancher) (B.agrees
-            self.new.brancher self.new.frame.store) self.new.kept) }
+        ensures works { OnOk result (Works B.scope B.agrees self.new) }
     {
         match self.frame.steps(port)? {
             Some(turn) => {
@@ -96,8 +97,7 @@ impl<'a, P: Defining, B: Brancher + Drop> Guided<'a, P, B> {
     /// Goes on where a decision is due: reforms where the assumption of a term is false; decides an assumption that is
     /// undecided, one of the model first; or decides what the brancher chooses.
     fn go_on<Q: Port>(&mut self, port: &mut Q) -> Result<Turn, AllocError>
-        requires works { IsCoreWorking (core_search_of self.old) (B.scope self.old.brancher) (B.agrees self.old.brancher
-            self.old.frame.store) self.old.kept }
+        requires works { Works B.scope B.agrees self.old }
         requires due { IsDue self.old.frame }
         requires running { self.old.ended ≡ false }
         requires model { Q.model port.old ≡ self.old.frame.instance.model }
@@ -105,11 +105,11 @@ impl<'a, P: Defining, B: Brancher + Drop> Guided<'a, P, B> {
         ensures goes_on { IfOk result
             (GoesOn (B.chooses self.old.brancher) (core_search_of self.old) (core_search_of self.new)
             (Q.part port.old) (Q.part port.new)) }
-        ensures brancher { IfOk result (λ turn. BrancherTurn turn ⊥ (DecidedBy (B.stays self.old.brancher
-            self.new.brancher) (self.new.brancher ≡ self.old.brancher)) (self.new.brancher ≡ self.old.brancher)) }
+        ensures brancher { IfOk result (λ turn. BrancherTurn turn ⊥
+            (DecidedBy (B.stays self.old.brancher self.new.brancher) (self.new.brancher ≡ self.old.brancher))
+            (self.new.brancher ≡ self.old.brancher)) }
         ensures guidance { B.guidance self.new.brancher ≡ B.guidance self.old.brancher }
-        ensures works { OnOk result (IsCoreWorking (core_search_of self.new) (B.scope self.new.brancher) (B.agrees
-            self.new.brancher self.new.frame.store) self.new.kept) }
+        ensures works { OnOk result (Works B.scope B.agrees self.new) }
     {
         match self.failed_term() {
             Some(place) => self.reform_at(port, place),
@@ -141,8 +141,7 @@ impl<'a, P: Defining, B: Brancher + Drop> Guided<'a, P, B> {
     /// Decides where no assumption of a term is false: an assumption of the model, one of a term, or what the brancher
     /// chooses.
     fn decide(&mut self) -> Result<Turn, AllocError>
-        requires works { IsCoreWorking (core_search_of self.old) (B.scope self.old.brancher) (B.agrees self.old.brancher
-            self.old.frame.store) self.old.kept }
+        requires works { Works B.scope B.agrees self.old }
         requires due { IsDue self.old.frame }
         requires running { self.old.ended ≡ false }
         requires none_fails { self.old.sums < most_sums → NoneFails self.old.frame.store self.old.reform.terms }
@@ -150,11 +149,10 @@ impl<'a, P: Defining, B: Brancher + Drop> Guided<'a, P, B> {
             (λ turn. (part : Part) → GoesOn (B.chooses self.old.brancher) (core_search_of self.old)
             (core_search_of self.new) part part turn) }
         ensures decided { IfOk result (λ turn. turn ≡ Turn.Decided) }
-        ensures brancher { OnOk result (DecidedBy (B.stays self.old.brancher self.new.brancher) (self.new.brancher
-            ≡ self.old.brancher)) }
+        ensures brancher { OnOk result (DecidedBy (B.stays self.old.brancher self.new.brancher)
+            (self.new.brancher ≡ self.old.brancher)) }
         ensures guidance { B.guidance self.new.brancher ≡ B.guidance self.old.brancher }
-        ensures works { OnOk result (IsCoreWorking (core_search_of self.new) (B.scope self.new.brancher) (B.agrees
-            self.new.brancher self.new.frame.store) self.new.kept) }
+        ensures works { OnOk result (Works B.scope B.agrees self.new) }
     {
         if self.frame.is_refused() {
             return Err(AllocError);
@@ -167,8 +165,7 @@ impl<'a, P: Defining, B: Brancher + Drop> Guided<'a, P, B> {
 
     /// Decides the first assumption of the model that is undecided.
     fn assume_next(&mut self, atom: Atom) -> Result<Turn, AllocError>
-        requires works { IsCoreWorking (core_search_of self.old) (B.scope self.old.brancher) (B.agrees self.old.brancher
-            self.old.frame.store) self.old.kept }
+        requires works { Works B.scope B.agrees self.old }
         requires due { IsDue self.old.frame }
         requires running { self.old.ended ≡ false }
         requires next { IsAssumedNext self.old.frame.instance.model.assumptions self.old.frame.store atom }
@@ -178,8 +175,7 @@ impl<'a, P: Defining, B: Brancher + Drop> Guided<'a, P, B> {
             (core_search_of self.new) part part turn) }
         ensures decided { IfOk result (λ turn. turn ≡ Turn.Decided) }
         ensures brancher { self.new.brancher ≡ self.old.brancher }
-        ensures works { OnOk result (IsCoreWorking (core_search_of self.new) (B.scope self.new.brancher) (B.agrees
-            self.new.brancher self.new.frame.store) self.new.kept) }
+        ensures works { OnOk result (Works B.scope B.agrees self.new) }
     {
         self.frame.decide(atom)?;
         Ok(Turn::Decided)
@@ -187,8 +183,7 @@ impl<'a, P: Defining, B: Brancher + Drop> Guided<'a, P, B> {
 
     /// Decides where no assumption of the model is undecided: the assumption of a term, or what the brancher chooses.
     fn decide_by_terms(&mut self) -> Result<Turn, AllocError>
-        requires works { IsCoreWorking (core_search_of self.old) (B.scope self.old.brancher) (B.agrees self.old.brancher
-            self.old.frame.store) self.old.kept }
+        requires works { Works B.scope B.agrees self.old }
         requires due { IsDue self.old.frame }
         requires running { self.old.ended ≡ false }
         requires none_open { NoneIsOpen self.old.frame.instance.model.assumptions self.old.frame.store }
@@ -197,11 +192,10 @@ impl<'a, P: Defining, B: Brancher + Drop> Guided<'a, P, B> {
             (λ turn. (part : Part) → GoesOn (B.chooses self.old.brancher) (core_search_of self.old)
             (core_search_of self.new) part part turn) }
         ensures decided { IfOk result (λ turn. turn ≡ Turn.Decided) }
-        ensures brancher { OnOk result (DecidedBy (B.stays self.old.brancher self.new.brancher) (self.new.brancher
-            ≡ self.old.brancher)) }
+        ensures brancher { OnOk result (DecidedBy (B.stays self.old.brancher self.new.brancher)
+            (self.new.brancher ≡ self.old.brancher)) }
         ensures guidance { B.guidance self.new.brancher ≡ B.guidance self.old.brancher }
-        ensures works { OnOk result (IsCoreWorking (core_search_of self.new) (B.scope self.new.brancher) (B.agrees
-            self.new.brancher self.new.frame.store) self.new.kept) }
+        ensures works { OnOk result (Works B.scope B.agrees self.new) }
     {
         if !self.assumes_terms() {
             return self.choose();
@@ -214,8 +208,7 @@ impl<'a, P: Defining, B: Brancher + Drop> Guided<'a, P, B> {
 
     /// Decides the assumption of a term.
     fn assume(&mut self, place: usize) -> Result<Turn, AllocError>
-        requires works { IsCoreWorking (core_search_of self.old) (B.scope self.old.brancher) (B.agrees self.old.brancher
-            self.old.frame.store) self.old.kept }
+        requires works { Works B.scope B.agrees self.old }
         requires due { IsDue self.old.frame }
         requires running { self.old.ended ≡ false }
         requires none_open { NoneIsOpen self.old.frame.instance.model.assumptions self.old.frame.store }
@@ -227,8 +220,7 @@ impl<'a, P: Defining, B: Brancher + Drop> Guided<'a, P, B> {
             (core_search_of self.new) part part turn) }
         ensures decided { IfOk result (λ turn. turn ≡ Turn.Decided) }
         ensures brancher { self.new.brancher ≡ self.old.brancher }
-        ensures works { OnOk result (IsCoreWorking (core_search_of self.new) (B.scope self.new.brancher) (B.agrees
-            self.new.brancher self.new.frame.store) self.new.kept) }
+        ensures works { OnOk result (Works B.scope B.agrees self.new) }
     {
         let atom = assumption(&self.reform.terms()[place]);
         self.frame.decide(atom)?;
@@ -237,21 +229,19 @@ impl<'a, P: Defining, B: Brancher + Drop> Guided<'a, P, B> {
 
     /// Decides what the brancher chooses.
     fn choose(&mut self) -> Result<Turn, AllocError>
-        requires works { IsCoreWorking (core_search_of self.old) (B.scope self.old.brancher) (B.agrees self.old.brancher
-            self.old.frame.store) self.old.kept }
+        requires works { Works B.scope B.agrees self.old }
         requires due { IsDue self.old.frame }
         requires running { self.old.ended ≡ false }
         requires none_open { NoneIsOpen self.old.frame.instance.model.assumptions self.old.frame.store }
-        requires assumed { self.old.sums < most_sums → AreAssumed self.old.frame.store.first
-            self.old.frame.store.entries self.old.reform.terms }
+        requires assumed { self.old.sums < most_sums
+            → AreAssumed self.old.frame.store.first self.old.frame.store.entries self.old.reform.terms }
         ensures goes_on { IfOk result
             (λ turn. (part : Part) → GoesOn (B.chooses self.old.brancher) (core_search_of self.old)
             (core_search_of self.new) part part turn) }
         ensures decided { IfOk result (λ turn. turn ≡ Turn.Decided) }
         ensures brancher { B.stays self.old.brancher self.new.brancher }
         ensures guidance { B.guidance self.new.brancher ≡ B.guidance self.old.brancher }
-        ensures works { OnOk result (IsCoreWorking (core_search_of self.new) (B.scope self.new.brancher) (B.agrees
-            self.new.brancher self.new.frame.store) self.new.kept) }
+        ensures works { OnOk result (Works B.scope B.agrees self.new) }
     {
         let seen = self.frame.store().entries().len();
         decide_next(&mut self.frame, &mut self.brancher, self.kept)?;
@@ -261,8 +251,7 @@ impl<'a, P: Defining, B: Brancher + Drop> Guided<'a, P, B> {
 
     /// Reforms the objective for a failed term, or ends if no solution below z can have the new form.
     fn reform_at<Q: Port>(&mut self, port: &mut Q, place: usize) -> Result<Turn, AllocError>
-        requires works { IsCoreWorking (core_search_of self.old) (B.scope self.old.brancher) (B.agrees self.old.brancher
-            self.old.frame.store) self.old.kept }
+        requires works { Works B.scope B.agrees self.old }
         requires due { IsDue self.old.frame }
         requires running { self.old.ended ≡ false }
         requires few { self.old.sums < most_sums }
@@ -273,8 +262,7 @@ impl<'a, P: Defining, B: Brancher + Drop> Guided<'a, P, B> {
             (GoesOn (B.chooses self.old.brancher) (core_search_of self.old) (core_search_of self.new)
             (Q.part port.old) (Q.part port.new)) }
         ensures brancher { self.new.brancher ≡ self.old.brancher }
-        ensures works { OnOk result (IsCoreWorking (core_search_of self.new) (B.scope self.new.brancher) (B.agrees
-            self.new.brancher self.new.frame.store) self.new.kept) }
+        ensures works { OnOk result (Works B.scope B.agrees self.new) }
     {
         let atom = assumption(&self.reform.terms()[place]);
         // Reading the entries gives the proof the store's invariant.
@@ -285,6 +273,7 @@ impl<'a, P: Defining, B: Brancher + Drop> Guided<'a, P, B> {
         let _ = self.frame.store().entries();
         self.kept = still_kept(self.frame.store(), self.kept);
         let is_reformed = self.reform_by(place, atom, decisions.as_slice())?;
+        // Made here, since `conclude` cannot fail; only a worker that is exhausted keeps it.
         let core = self.whole_core()?;
         Ok(self.conclude(port, is_reformed, core))
     }
@@ -310,16 +299,14 @@ impl<'a, P: Defining, B: Brancher + Drop> Guided<'a, P, B> {
         atom: Atom,
         decisions: &[Atom],
     ) -> Result<bool, AllocError>
-        requires works { IsCoreWorking (core_search_of self.old) (B.scope self.old.brancher) (B.agrees self.old.brancher
-            self.old.frame.store) self.old.kept }
+        requires works { Works B.scope B.agrees self.old }
         requires bottom { IsFalseBelow self.old.frame }
         requires running { self.old.ended ≡ false }
         requires failed { HasFailed (core_search_of self.old) place decisions.now }
         requires atom { atom ≡ assumed (term_at self.old.reform.terms place) }
         ensures tried { IfOk result (Tried (core_search_of self.old) (core_search_of self.new) place decisions.now) }
         ensures brancher { self.new.brancher ≡ self.old.brancher }
-        ensures works { OnOk result (IsCoreWorking (core_search_of self.new) (B.scope self.new.brancher) (B.agrees
-            self.new.brancher self.new.frame.store) self.new.kept) }
+        ensures works { OnOk result (Works B.scope B.agrees self.new) }
     {
         match self.frame.store().truth(atom) {
             Truth::No => {
@@ -337,16 +324,14 @@ impl<'a, P: Defining, B: Brancher + Drop> Guided<'a, P, B> {
         atom: Atom,
         decisions: &[Atom],
     ) -> Result<bool, AllocError>
-        requires works { IsCoreWorking (core_search_of self.old) (B.scope self.old.brancher) (B.agrees self.old.brancher
-            self.old.frame.store) self.old.kept }
+        requires works { Works B.scope B.agrees self.old }
         requires not_false { IsFalseNow self.old.frame.store atom → ⊥ }
         requires running { self.old.ended ≡ false }
         requires failed { HasFailed (core_search_of self.old) place decisions.now }
         requires atom { atom ≡ assumed (term_at self.old.reform.terms place) }
         ensures tried { IfOk result (Tried (core_search_of self.old) (core_search_of self.new) place decisions.now) }
         ensures brancher { self.new.brancher ≡ self.old.brancher }
-        ensures works { OnOk result (IsCoreWorking (core_search_of self.new) (B.scope self.new.brancher) (B.agrees
-            self.new.brancher self.new.frame.store) self.new.kept) }
+        ensures works { OnOk result (Works B.scope B.agrees self.new) }
     {
         // Reading the entries gives the proof the store's invariant.
         let _ = self.frame.store().entries();
@@ -365,18 +350,16 @@ impl<'a, P: Defining, B: Brancher + Drop> Guided<'a, P, B> {
         requires bottom { self.old.frame.store.level ≡ 0 }
         requires place { place < length self.old.reform.terms }
         requires rises { (term_at self.old.reform.terms place).bound ≤ℤ bound }
-        requires risen { OfEachBelow self.old.frame.instance self.old.frame.z (λ xs. bound ≤ℤ value_at xs (term_at
-            self.old.reform.terms place).subject) }
+        requires risen { OfEachBelow self.old.frame.instance self.old.frame.z
+            (λ xs. bound ≤ℤ value_at xs (term_at self.old.reform.terms place).subject) }
         ensures lifts { result ≡ true → core_search_of self.new ≡ record (core_search_of self.old) {
-          form = lifted self.old.reform
-              place bound;
+          form = lifted self.old.reform place bound;
         } }
         ensures stays { result ≡ false → core_search_of self.new ≡ core_search_of self.old }
-        ensures not_past { result ≡ true → IsPast self.old.frame.z self.old.greatest self.old.frame.instance.domains
-            self.new.reform → ⊥ }
-        ensures past { result ≡ false
-            → IsPast self.old.frame.z self.old.greatest self.old.frame.instance.domains (lifted
-            self.old.reform place bound) }
+        ensures not_past { result ≡ true
+            → IsPast self.old.frame.z self.old.greatest self.old.frame.instance.domains self.new.reform → ⊥ }
+        ensures past { result ≡ false → IsPast self.old.frame.z self.old.greatest self.old.frame.instance.domains
+            (lifted self.old.reform place bound) }
         ensures none { result ≡ false → NoneBelow self.old.frame.instance.model self.old.frame.z }
         ensures sound { IsSoundCore (core_search_of self.new) }
         ensures kept { (self.new.brancher ≡ self.old.brancher) × (self.new.kept ≡ self.old.kept) }
@@ -395,19 +378,17 @@ impl<'a, P: Defining, B: Brancher + Drop> Guided<'a, P, B> {
     /// Splits a core of several terms: each solution below z has one of their subjects above its bound. Answers false
     /// if no solution below z can have the new form.
     fn split(&mut self, core: &[Term]) -> Result<bool, AllocError>
-        requires works { IsCoreWorking (core_search_of self.old) (B.scope self.old.brancher) (B.agrees self.old.brancher
-            self.old.frame.store) self.old.kept }
+        requires works { Works B.scope B.agrees self.old }
         requires bottom { self.old.frame.store.level ≡ 0 }
         requires running { self.old.ended ≡ false }
         requires few { self.old.sums < most_sums }
         requires core { core.now ≡ core_terms self.old.reform.terms }
         requires weights { WeighAtLeast 1 self.old.reform.terms }
-        requires above { OfEachBelow self.old.frame.instance self.old.frame.z (λ xs. IsSomeAbove xs
-            self.old.reform.terms) }
+        requires above { OfEachBelow self.old.frame.instance self.old.frame.z
+            (λ xs. IsSomeAbove xs self.old.reform.terms) }
         ensures splits { IfOk result (Splits (core_search_of self.old) (core_search_of self.new)) }
         ensures brancher { self.new.brancher ≡ self.old.brancher }
-        ensures works { OnOk result (IsCoreWorking (core_search_of self.new) (B.scope self.new.brancher) (B.agrees
-            self.new.brancher self.new.frame.store) self.new.kept) }
+        ensures works { OnOk result (Works B.scope B.agrees self.new) }
     {
         let subject = grow_core(&mut self.frame, &self.reform, core)?;
         // Reading the entries gives the proof the store's invariant.
@@ -430,13 +411,14 @@ impl<'a, P: Defining, B: Brancher + Drop> Guided<'a, P, B> {
         requires none { is_reformed ≡ false → NoneBelow self.old.frame.instance.model self.old.frame.z }
         requires core { core ≡ whole_core self.old.frame.instance.model self.old.frame.z }
         ensures keeps { Keeps Q.model Q.rows Q.stays port.old port.new }
-        ensures reformed { is_reformed ≡ true → (result ≡ Turn.Reformed self.old.reform.base) × RaisesTo (Bound.At
-            self.old.reform.base) (core_search_of self.old) (core_search_of self.new) (Q.part port.old)
-            (Q.part port.new) ×
-            (self.new.ended ≡ self.old.ended) }
-        ensures exhausted { is_reformed ≡ false → (result ≡ Turn.Exhausted) × RaisesTo self.old.frame.z (core_search_of
-            self.old) (core_search_of self.new) (Q.part port.old) (Q.part port.new) × (self.new.ended ≡ true)
-            × (self.new.core ≡ core) }
+        ensures reformed { is_reformed ≡ true → (result ≡ Turn.Reformed self.old.reform.base)
+            × RaisesTo (Bound.At self.old.reform.base) (core_search_of self.old) (core_search_of self.new)
+            (Q.part port.old) (Q.part port.new)
+            × (self.new.ended ≡ self.old.ended) }
+        ensures exhausted { is_reformed ≡ false → (result ≡ Turn.Exhausted)
+            × RaisesTo self.old.frame.z (core_search_of self.old) (core_search_of self.new)
+            (Q.part port.old) (Q.part port.new)
+            × (self.new.ended ≡ true) × (self.new.core ≡ core) }
         ensures rest { self.new ≡ record self.old {
           raised = self.new.raised;
           ended = self.new.ended;

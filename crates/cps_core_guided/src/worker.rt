@@ -1,8 +1,9 @@
 //! `CoreWorker`: a worker that raises the lower bound core by core.
 //!
-//! It is `Guided` with a word on memory, as `Frame` is `Searcher` with one. It makes its first form when it begins, and
-//! defines a sum for each term with a negative coefficient, so that every weight is at least 0. The brancher goes by
-//! activity; it sees the model's variables alone, so the sums that are defined later do not concern it.
+//! It is `Guided` with a flag that says whether memory ran out, as `Frame` is `Searcher` with one. It makes its first
+//! form when it begins, and defines a sum for each term with a negative coefficient, so that every weight is at least
+//! 0. The brancher goes by activity; it sees the model's variables alone, so the sums that are defined later do not
+//! concern it.
 
 ghost use Rattle.std.specs.Prelude.{◌≡◌, ◌≤◌, ◌<◌, ◌^◌, length, None, OnOk, OnErr, IfOk, IfSome, IsErr, IsNone, IsTrue, Some};
 ghost use Rattle.cps_branch.specs.Guidances.{AreHintsOf};
@@ -40,12 +41,12 @@ impl<'a, P: Defining, B: Brancher + Drop> Model for CoreWorker<'a, P, B> {
     ghost Value = { CoreSearch × B };
 
     ghost use Rattle.std.specs.Prelude.{◌≡◌, false};
-    ghost use Rattle.cps_core_guided.specs.CoreTurns.{IsCoreWorking};
-    ghost use Rattle.cps_core_guided.specs.Guiding.{core_search_of, with_refused};
+    ghost use Rattle.cps_core_guided.specs.Guiding.{core_search_of, with_refused, Works};
 
     ghost view = { λ w. (with_refused (core_search_of w.guided) w.refused, w.guided.brancher) };
 
-    ghost invariant = { λ w. w.refused ≡ false → (w.guided.frame.refused ≡ false) × IsCoreWorking (core_search_of w.guided) (B.scope w.guided.brancher) (B.agrees w.guided.brancher w.guided.frame.store) w.guided.kept };
+    ghost invariant = { λ w. w.refused ≡ false → (w.guided.frame.refused ≡ false)
+        × Works B.scope B.agrees w.guided };
 }
 
 impl<'a, P: Defining> CoreWorker<'a, P, ActivityBrancher> {
@@ -98,11 +99,12 @@ impl<'a, P: Defining, B: Brancher + Drop> CoreWorker<'a, P, B> {
         requires model { Q.model port.old ≡ self.old.0.search.instance.model }
         requires imported { self.old.0.search.imported ≤ length (Q.part port.old).board.taken }
         ensures keeps { Keeps Q.model Q.rows Q.stays port.old port.new }
-        ensures turn { IfOk result (λ turn. TakesCoreTurn (B.chooses self.old.1) self.old.0 self.new.0 (Q.rows port.old)
-            (Q.part port.old) (Q.part port.new) turn) }
-        ensures brancher { IfOk result (λ turn. BrancherTurn turn (HeardOne (λ clause restart. B.hears self.old.1 clause
-            restart self.new.1) self.old.0.search self.new.0.search) (DecidedBy (B.stays self.old.1 self.new.1)
-            (self.new.1 ≡ self.old.1)) (self.new.1 ≡ self.old.1)) }
+        ensures turn { IfOk result (λ turn. TakesCoreTurn (B.chooses self.old.1) self.old.0 self.new.0
+            (Q.rows port.old) (Q.part port.old) (Q.part port.new) turn) }
+        ensures brancher { IfOk result (λ turn. BrancherTurn turn
+            (HeardOne (λ clause restart. B.hears self.old.1 clause restart self.new.1)
+            self.old.0.search self.new.0.search)
+            (DecidedBy (B.stays self.old.1 self.new.1) (self.new.1 ≡ self.old.1)) (self.new.1 ≡ self.old.1)) }
         ensures guidance { B.guidance self.new.1 ≡ B.guidance self.old.1 }
         ensures sound { OnOk result (IsSoundCore self.old.0 × IsSoundCore self.new.0) }
         ensures refused { OnErr result (IsTrue self.new.0.search.refused) }
@@ -124,8 +126,8 @@ impl<'a, P: Defining, B: Brancher + Drop> CoreWorker<'a, P, B> {
         requires imported { self.old.0.search.imported ≤ length (Q.part port.old).board.taken }
         ensures keeps { Keeps Q.model Q.rows Q.stays port.old port.new }
         ensures runs { IfOk result (λ end. RunsCoreTo self.old.0 self.new.0 (Q.part port.old) (Q.part port.new) end) }
-        ensures turns { IfOk result (λ end. RunsInCoreTurns B.chooses B.hears B.stays (Q.rows port.old) self.old
-            self.new (Q.part port.old) (Q.part port.new) end) }
+        ensures turns { IfOk result (λ end. RunsInCoreTurns B.chooses B.hears B.stays
+            (Q.rows port.old) self.old self.new (Q.part port.old) (Q.part port.new) end) }
         ensures guidance { B.guidance self.new.1 ≡ B.guidance self.old.1 }
         ensures sound { OnOk result (IsSoundCore self.new.0) }
         ensures refused { OnErr result (IsTrue self.new.0.search.refused) }

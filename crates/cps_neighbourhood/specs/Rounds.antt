@@ -79,12 +79,12 @@ pub record IsLastLevel (decisions : List Atom) (s : Trail) (level : ℕ) : Type 
   pub here : Any (λ e. IsOfRound decisions e × (e.level ≡ level)) s.entries
   pub last : All (λ e. IsOfRound decisions e → e.level ≤ level) s.entries
 
--- A neighbourhood is refuted: a learnt clause sends the search back below the last of the round's decisions.
-pub record IsRefuted (decisions : List Atom) (s : Trail) (back : ℕ) : Type 0 where
+-- A round is left: a learnt clause sends the search back below the last of its decisions.
+pub record IsLeft (decisions : List Atom) (s : Trail) (back : ℕ) : Type 0 where
   pub level : ℕ
   pub last : IsLastLevel decisions s level
   pub below : back < level
 
--- a round ends with a learnt clause that is its last or that refutes it
+-- a round ends with a learnt clause that is its last, or by which it is left
 abbrev pub EndsRound : Round → Trail → ℕ → Type 0
-EndsRound r s back = (r.learnt + 1 ≡ round_conflicts) ⊎ IsRefuted r.decisions s back
+EndsRound r s back = (r.learnt + 1 ≡ round_conflicts) ⊎ IsLeft r.decisions s back

@@ -1,8 +1,8 @@
 //! Rounds: what each is to decide, and how far it has come.
 //!
 //! The first levels of the trail began with assumptions of the model, as many as `assumed` says, and those after them
-//! up to `held` with the round's own decisions; a clause that sends the search back below `held` refutes the
-//! neighbourhood. A decision of the round that inference made true already begins no level, and one that it made false
+//! up to `held` with the round's own decisions; the round is left with a clause that sends the search back below
+//! `held`. A decision of the round that inference made true already begins no level, and one that it made false
 //! is passed over: the round then searches where the aim cannot be followed. Decisions are looked for from `place` on,
 //! which goes back to 0 whenever entries may have gone.
 
@@ -22,7 +22,7 @@ use cps_trail::Store;
 use rand_pcg::Lcg64Xsh32;
 use std::alloc::{AllocError, Global};
 
-/// After how many conflicts a round ends if it was not refuted before.
+/// After how many conflicts a round ends if it was not left before, so that the next draws others to free.
 pub(crate) const ROUND_CONFLICTS: u64 = 100;
 
 /// A round, and how far it has come.
@@ -40,7 +40,7 @@ pub(crate) struct Progress {
     pub place: usize,
 }
 
-/// How many of `n` variables a round frees.
+/// How many of `n` variables a round frees: a fifth and one more, so at least one where there are any.
 fn free_count(n: u32) -> u32
     ensures is { result ≡ free_count n }
     ensures most { result ≤ n }

@@ -30,7 +30,7 @@ use rand_core::utils::NextWord;
 use rand_pcg::Lcg64Xsh32;
 use std::alloc::{AllocError, Global};
 
-/// How many rows the board has.
+/// How many rows the board has, as many as with threads. After the last nothing more is shared.
 const ROWS: u32 = 4096;
 
 /// A worker, and whether it has ended.
@@ -222,6 +222,7 @@ pub fn solve_interleaved(
     };
     let mut pool = PlainPool::new(alloc, model, reads_pool(options.workers));
     let turns = take_turns(&mut port, crew.as_mut_slice(), &mut pool, options);
+    // A port is not `Drop`, so it is taken apart.
     let PlainPort {
         core: shared,
         actor: _actor,

@@ -32,6 +32,7 @@ fn work<R: Wait, G: Gate>(rt: &R, pool: &SharedPool<'_>, gate: &G, seated: &mut 
     gate.arrive(seated.number);
     let mut found = PoolHandle { rt, pool };
     seated.refused = seated.worker.run(&mut seated.port, &mut found).is_err();
+    // A handle is not `Drop`, so it is taken apart.
     let PoolHandle {
         rt: _rt,
         pool: _pool,

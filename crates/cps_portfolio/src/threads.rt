@@ -31,7 +31,7 @@ use std::alloc::{AllocError, Global};
 use std::sync::Wait;
 use std::thread::Threads;
 
-/// How many rows the board has.
+/// How many rows the board has. After the last nothing more is shared.
 const ROWS: u32 = 4096;
 
 /// A worker with seats of its own, which take half of the splits that a port has left.
@@ -105,8 +105,8 @@ fn is_any_refused(crew: &[Seated<'_>]) -> bool
     false
 }
 
-/// Joins the seats of all workers to those of one port, and answers the workers' ends by number. The model and the
-/// options are those of the search.
+/// Joins the seats of all workers to those of one port, and answers the workers' ends by number. `model` and
+/// `options` are there for the contract alone.
 fn gather<'a>(
     alloc: Global,
     model: &ValidModel,
@@ -162,6 +162,7 @@ pub fn solve<R: Threads + Wait + Sync, G: Gate + Sync>(
     let mut crew = seat_all(alloc, model, options, &mut kept)?;
     work_all(rt, crew.as_mut_slice(), &pool, gate);
     let ends = gather(alloc, model, options, &mut kept, crew)?;
+    // Taken apart for its seats, with which the tables are closed.
     let TablePort {
         board: _,
         board_seat,

@@ -31,7 +31,7 @@ use std::alloc::{AllocError, Global};
 pub enum AnyWorker<'a> {
     /// Follows the model's strategies, and then takes the variables in order.
     Fixed(Worker<'a, AnyPropagator, FixedBrancher>),
-    /// Takes the variables of recent conflicts first, at the values of the model's hint.
+    /// Takes the variable of which most learnt clauses spoke first, at the value of the model's hint.
     Activity(Worker<'a, AnyPropagator, ActivityBrancher>),
     /// Assumes that each part of the objective stays at its bound, and raises the lower bound by each core.
     Core(CoreWorker<'a, AnyPropagator, ActivityBrancher>),
@@ -66,7 +66,7 @@ fn fixed_worker<'a>(
     Worker::new(alloc, instance, engine, brancher, conflicts, gap)
 }
 
-/// A worker that takes the variables of recent conflicts first.
+/// A worker that takes the variable of which most learnt clauses spoke first.
 fn activity_worker<'a>(
     alloc: Global,
     model: &'a ValidModel,

@@ -2,7 +2,7 @@
 
 /// A weight, a subject and the bound at which the subject is assumed: the term is worth the weight times what the
 /// subject's value is above the bound.
-#[derive(Clone, Copy, Debug, Default, PartialEq, Eq)]
+#[derive(Clone, Copy, Default, PartialEq, Eq)]
 pub struct Held {
     pub weight: u64,
     pub subject: u32,
