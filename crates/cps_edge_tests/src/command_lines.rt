@@ -183,12 +183,16 @@ fn words_of(alloc: Global, texts: &[&str]) -> Result<Vec<String>, AllocError> {
     Ok(words)
 }
 
+/// The command that words are.
+fn command_in(alloc: Global, texts: &[&str]) -> Result<Option<Command>, AllocError> {
+    let words = words_of(alloc, texts)?;
+    command_of(alloc, &words)
+}
+
 #[test]
 fn words_are_their_commands(rt: HostRuntime) -> Result<(), Fail> {
-    let alloc = rt.alloc();
     for (texts, command) in LINES.iter() {
-        let words = words_of(alloc, texts)?;
-        assert_eq!(rt; command_of(alloc, &words)?, *command);
+        assert_eq!(rt; command_in(rt.alloc(), texts)?, *command);
     }
     Ok(())
 }

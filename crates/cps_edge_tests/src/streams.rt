@@ -1,5 +1,7 @@
 //! Readers and writers of std that fail in mid-stream: the answer is a fault, and never what came before it.
+use crate::transfers::is_answer;
 use cps_outer::{ReadError, ReaderSource, WriteFault, WriterSink, read_all, write_all};
+use std::alloc::Global;
 use std::io::{self, ErrorKind, Read, Write};
 use std::test::Fail;
 
@@ -34,23 +36,22 @@ const READS: [(Option<u32>, Result<&[u8], ReadError>); 5] = [
     (Some(4), Ok(b"abcdef")),
 ];
 
+/// What is read of "abcdef" where this call fails.
+fn read_of(alloc: Global, failing: Option<u32>) -> Result<Vec<u8>, ReadError> {
+    let mut source = ReaderSource::new(Stumbling {
+        left: b"abcdef",
+        failing,
+        calls: 0,
+    });
+    read_all(alloc, &mut source, 6)
+}
+
 #[test]
-fn a_failed_read_is_not_the_end(rt: HostRuntime) -> Result<(), Fail> {
-    let alloc = rt.alloc();
+fn a_failed_read_is_not_the_end(rt: HostRuntime) {
     for (failing, expected) in READS.iter() {
-        let mut source = ReaderSource::new(Stumbling {
-            left: b"abcdef",
-            failing: *failing,
-            calls: 0,
-        });
-        let read = read_all(alloc, &mut source, 6);
-        match (&read, expected) {
-            (Ok(bytes), Ok(text)) => assert!(rt; bytes.as_slice() == *text),
-            (Err(error), Err(cause)) => assert_eq!(rt; error, cause),
-            _ => assert!(rt; false, "another kind of answer"),
-        }
+        let read = read_of(rt.alloc(), *failing);
+        assert!(rt; is_answer(&read, expected), "{failing:?}");
     }
-    Ok(())
 }
 
 /// Takes two bytes at a time. The call `failing`, from 0 on, fails, and the call `idle` takes nothing.
@@ -91,21 +92,30 @@ const WRITES: [(Option<u32>, Option<u32>, Result<(), WriteFault>, &[u8]); 5] = [
     (Some(3), Some(4), Ok(()), b"abcdef"),
 ];
 
+/// What is answered to "abcdef", and what is taken of it, where one call fails and one takes nothing.
+fn written(
+    alloc: Global,
+    failing: Option<u32>,
+    idle: Option<u32>,
+) -> (Result<(), WriteFault>, Vec<u8>) {
+    let mut writer = Choosy {
+        taken: Vec::new(alloc),
+        failing,
+        idle,
+        calls: 0,
+    };
+    let answer = write_all(&mut WriterSink::new(&mut writer), b"abcdef");
+    let Choosy { taken, .. } = writer;
+    (answer, taken)
+}
+
 #[test]
-fn a_write_that_takes_nothing_has_failed(rt: HostRuntime) -> Result<(), Fail> {
-    let alloc = rt.alloc();
+fn a_write_that_takes_nothing_has_failed(rt: HostRuntime) {
     for (failing, idle, expected, taken) in WRITES.iter() {
-        let mut writer = Choosy {
-            taken: Vec::new(alloc),
-            failing: *failing,
-            idle: *idle,
-            calls: 0,
-        };
-        let written = write_all(&mut WriterSink::new(&mut writer), b"abcdef");
-        assert_eq!(rt; &written, expected);
-        assert!(rt; writer.taken.as_slice() == *taken);
+        let (answer, bytes) = written(rt.alloc(), *failing, *idle);
+        assert_eq!(rt; &answer, expected);
+        assert!(rt; bytes.as_slice() == *taken);
     }
-    Ok(())
 }
 
 #[test]

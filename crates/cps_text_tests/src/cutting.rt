@@ -26,29 +26,31 @@ fn assert_tokens(rt: &impl Abort, alloc: Global, text: &[u8], wanted: &str) -> R
     Ok(())
 }
 
+/// Texts, each with its tokens.
+const CUT: [(&str, &str); 6] = [
+    ("", ""),
+    (" \t\n\u{b}\u{c}\r# all of it", ""),
+    (
+        "variables { domain: 0",
+        "Identifier 0..9;Sign 10..11;Identifier 12..18;Sign 18..19;Decimal 20..21;",
+    ),
+    (
+        "_a1<-90#;\n c2",
+        "Identifier 0..3;Sign 3..4;Sign 4..5;Decimal 5..7;Identifier 11..13;",
+    ),
+    (
+        "1e-2-0xe-1",
+        "Float 0..4;Sign 4..5;Hexadecimal 5..8;Sign 8..9;Decimal 9..10;",
+    ),
+    (
+        "'a'\"\\142\"c''",
+        "Text 0..3;Text 3..9;Identifier 9..10;Text 10..12;",
+    ),
+];
+
 #[test]
 fn cuts_texts(rt: HostRuntime) -> Result<(), Fail> {
-    let texts = [
-        ("", ""),
-        (" \t\n\u{b}\u{c}\r# all of it", ""),
-        (
-            "variables { domain: 0",
-            "Identifier 0..9;Sign 10..11;Identifier 12..18;Sign 18..19;Decimal 20..21;",
-        ),
-        (
-            "_a1<-90#;\n c2",
-            "Identifier 0..3;Sign 3..4;Sign 4..5;Decimal 5..7;Identifier 11..13;",
-        ),
-        (
-            "1e-2-0xe-1",
-            "Float 0..4;Sign 4..5;Hexadecimal 5..8;Sign 8..9;Decimal 9..10;",
-        ),
-        (
-            "'a'\"\\142\"c''",
-            "Text 0..3;Text 3..9;Identifier 9..10;Text 10..12;",
-        ),
-    ];
-    for (text, wanted) in texts {
+    for (text, wanted) in CUT {
         assert_tokens(&rt, rt.alloc(), text.as_bytes(), wanted)?;
     }
     Ok(())
@@ -67,18 +69,20 @@ fn assert_one(rt: &impl Abort, alloc: Global, text: &[u8], kind: TokenKind) -> R
     Ok(())
 }
 
+/// Words that are one token each, with its kind.
+const NUMBERS: [(&str, TokenKind); 4] = [
+    ("0 90", TokenKind::Decimal),
+    ("00 0777", TokenKind::Octal),
+    ("0x0 0XaF9 0x1f 0x1e5", TokenKind::Hexadecimal),
+    (
+        "1.5 10.25 0. 7. .5 .05e1 1e5 0E+5 12e-07 1.5e10 1.e5f .5e3F 1f 0F 9.F 1e5f",
+        TokenKind::Float,
+    ),
+];
+
 #[test]
 fn cuts_numbers(rt: HostRuntime) -> Result<(), Fail> {
-    let numbers = [
-        ("0 90", TokenKind::Decimal),
-        ("00 0777", TokenKind::Octal),
-        ("0x0 0XaF9 0x1f 0x1e5", TokenKind::Hexadecimal),
-        (
-            "1.5 10.25 0. 7. .5 .05e1 1e5 0E+5 12e-07 1.5e10 1.e5f .5e3F 1f 0F 9.F 1e5f",
-            TokenKind::Float,
-        ),
-    ];
-    for (words, kind) in numbers {
+    for (words, kind) in NUMBERS {
         for word in words.split(' ') {
             assert_one(&rt, rt.alloc(), word.as_bytes(), kind)?;
         }
@@ -96,75 +100,77 @@ fn assert_refused(rt: &impl Abort, alloc: Global, text: &[u8], byte: usize) {
 }
 
 /// Each line is a byte and a text that is refused there.
+const REFUSED: &str = "\
+    21 variables { domain: [089, 90] }\n\
+    3 a: 1b\n\
+    3 a: 1_\n\
+    3 a: 08\n\
+    3 a: 07a\n\
+    3 a: 01f\n\
+    3 a: 00.5\n\
+    3 a: 0x\n\
+    3 a: 0xg\n\
+    3 a: 0x1g\n\
+    3 a: 0x1.5\n\
+    3 a: 1..2\n\
+    3 a: 1.5.2\n\
+    3 a: 1.5x\n\
+    3 a: 1e\n\
+    3 a: 1e+\n\
+    3 a: 1e5e5\n\
+    3 a: 1e5.\n\
+    3 a: 1ff\n\
+    3 a: 0f1\n\
+    3 a: .\n\
+    3 a: .e5\n\
+    3 a: .f\n\
+    6 a: 1-2+3\n\
+    6 a: 0xe+1\n\
+    1 a/b\n\
+    3 a: '\n\
+    3 a: 'b\n\
+    3 a: \"b'\n\
+    3 a: 'b\"\n\
+    3 a: '\\\n\
+    3 a: '\\'\n\
+    7 a: 'b' 'c\n\
+    3 a: '\\q'\n\
+    3 a: '\\8'\n\
+    3 a: '\\400'\n\
+    3 a: '\\777'\n\
+    3 a: '\\x'\n\
+    3 a: '\\xg'\n\
+    3 a: '\\u004'\n\
+    3 a: '\\u004g'\n\
+    3 a: '\\U0001F60'\n\
+    3 a: '\\uD800'\n\
+    3 a: '\\uDFFF'\n\
+    3 a: '\\U0000D800'\n\
+    3 a: '\\U00110000'\n\
+    3 a: '\\U00200041'\n\
+    3 a: '\\UFFFFFFFF'\n\
+";
+
 #[test]
 fn refuses_texts(rt: HostRuntime) -> Result<(), Fail> {
-    let texts = "\
-        21 variables { domain: [089, 90] }\n\
-        3 a: 1b\n\
-        3 a: 1_\n\
-        3 a: 08\n\
-        3 a: 07a\n\
-        3 a: 01f\n\
-        3 a: 00.5\n\
-        3 a: 0x\n\
-        3 a: 0xg\n\
-        3 a: 0x1g\n\
-        3 a: 0x1.5\n\
-        3 a: 1..2\n\
-        3 a: 1.5.2\n\
-        3 a: 1.5x\n\
-        3 a: 1e\n\
-        3 a: 1e+\n\
-        3 a: 1e5e5\n\
-        3 a: 1e5.\n\
-        3 a: 1ff\n\
-        3 a: 0f1\n\
-        3 a: .\n\
-        3 a: .e5\n\
-        3 a: .f\n\
-        6 a: 1-2+3\n\
-        6 a: 0xe+1\n\
-        1 a/b\n\
-        3 a: '\n\
-        3 a: 'b\n\
-        3 a: \"b'\n\
-        3 a: 'b\"\n\
-        3 a: '\\\n\
-        3 a: '\\'\n\
-        7 a: 'b' 'c\n\
-        3 a: '\\q'\n\
-        3 a: '\\8'\n\
-        3 a: '\\400'\n\
-        3 a: '\\777'\n\
-        3 a: '\\x'\n\
-        3 a: '\\xg'\n\
-        3 a: '\\u004'\n\
-        3 a: '\\u004g'\n\
-        3 a: '\\U0001F60'\n\
-        3 a: '\\uD800'\n\
-        3 a: '\\uDFFF'\n\
-        3 a: '\\U0000D800'\n\
-        3 a: '\\U00110000'\n\
-        3 a: '\\U00200041'\n\
-        3 a: '\\UFFFFFFFF'\n\
-    ";
-    for line in texts.lines() {
+    for line in REFUSED.lines() {
         let (byte, text) = line.split_once(' ').ok_or("no text")?;
         assert_refused(&rt, rt.alloc(), text.as_bytes(), byte.parse::<usize>()?);
     }
     Ok(())
 }
 
-/// Texts with bytes that no line of a table can have.
+/// Texts with bytes that no line of a table can have, each with the byte at which it is refused.
+const UNREADABLE: [(&[u8], usize); 4] = [
+    (b"a \x80", 2),
+    (b"a \x00", 2),
+    (b"a: 'b\x0ac'", 3),
+    (b"a: '\\\x0a'", 3),
+];
+
 #[test]
 fn refuses_bytes(rt: HostRuntime) {
-    let texts: [(&[u8], usize); 4] = [
-        (b"a \x80", 2),
-        (b"a \x00", 2),
-        (b"a: 'b\x0ac'", 3),
-        (b"a: '\\\x0a'", 3),
-    ];
-    for (text, byte) in texts {
+    for (text, byte) in UNREADABLE {
         assert_refused(&rt, rt.alloc(), text, byte);
     }
 }
@@ -191,44 +197,45 @@ fn assert_string(rt: &impl Abort, alloc: Global, text: &[u8], wanted: &str) -> R
 }
 
 /// Each line is a string and the bytes that it denotes.
+const STRINGS: &str = "\
+    '' \n\
+    \"x_1\" 785f31\n\
+    \"it's\" 69742773\n\
+    '\"#' 2223\n\
+    '\\a\\b\\f\\n' 07080c0a\n\
+    '\\r\\t\\v\\?' 0d090b3f\n\
+    '\\\\\\'\\\"' 5c2722\n\
+    '\\0' 00\n\
+    '\\7' 07\n\
+    '\\78' 0738\n\
+    '\\12' 0a\n\
+    '\\128' 0a38\n\
+    '\\101' 41\n\
+    '\\1013' 4133\n\
+    '\\377' ff\n\
+    '\\1\\22\\3' 011203\n\
+    '\\x4' 04\n\
+    '\\xfg' 0f67\n\
+    '\\x41' 41\n\
+    '\\X4a1' 4a31\n\
+    '\\xFF\\x0' ff00\n\
+    '\\u0041' 41\n\
+    '\\u00411' 4131\n\
+    '\\u007f\\u0080' 7fc280\n\
+    '\\u00e9' c3a9\n\
+    '\\u07ff\\u0800' dfbfe0a080\n\
+    '\\u20AC' e282ac\n\
+    '\\uD7FF\\uE000' ed9fbfee8080\n\
+    '\\uffff' efbfbf\n\
+    '\\U00000041' 41\n\
+    '\\U00010000' f0908080\n\
+    '\\U0001F600' f09f9880\n\
+    '\\U0010FFFF' f48fbfbf\n\
+";
+
 #[test]
 fn reads_strings(rt: HostRuntime) -> Result<(), Fail> {
-    let strings = "\
-        '' \n\
-        \"x_1\" 785f31\n\
-        \"it's\" 69742773\n\
-        '\"#' 2223\n\
-        '\\a\\b\\f\\n' 07080c0a\n\
-        '\\r\\t\\v\\?' 0d090b3f\n\
-        '\\\\\\'\\\"' 5c2722\n\
-        '\\0' 00\n\
-        '\\7' 07\n\
-        '\\78' 0738\n\
-        '\\12' 0a\n\
-        '\\128' 0a38\n\
-        '\\101' 41\n\
-        '\\1013' 4133\n\
-        '\\377' ff\n\
-        '\\1\\22\\3' 011203\n\
-        '\\x4' 04\n\
-        '\\xfg' 0f67\n\
-        '\\x41' 41\n\
-        '\\X4a1' 4a31\n\
-        '\\xFF\\x0' ff00\n\
-        '\\u0041' 41\n\
-        '\\u00411' 4131\n\
-        '\\u007f\\u0080' 7fc280\n\
-        '\\u00e9' c3a9\n\
-        '\\u07ff\\u0800' dfbfe0a080\n\
-        '\\u20AC' e282ac\n\
-        '\\uD7FF\\uE000' ed9fbfee8080\n\
-        '\\uffff' efbfbf\n\
-        '\\U00000041' 41\n\
-        '\\U00010000' f0908080\n\
-        '\\U0001F600' f09f9880\n\
-        '\\U0010FFFF' f48fbfbf\n\
-    ";
-    for line in strings.lines() {
+    for line in STRINGS.lines() {
         let (text, wanted) = line.split_once(' ').ok_or("no bytes")?;
         assert_string(&rt, rt.alloc(), text.as_bytes(), wanted)?;
     }

@@ -61,61 +61,62 @@ fn assert_fault(rt: &impl Abort, alloc: Global, text: &str, wanted: &str) -> Res
 }
 
 /// Each line is the token behind which no document goes on, or `-`, and a text whose bytes are its tokens.
+const TEXTS: &str = "\
+    - a<>\n\
+    - a:<>\n\
+    - a{b<>}c<d{}>\n\
+    - a[{b:0},<>]\n\
+    - a:[{},{}];b[]\n\
+    - a:\"\"\n\
+    - a:\"\"b:\"c{d:\"}\n\
+    - a:[\"\",\",0,-3,x]\n\
+    - a:0a:1,a:2;a:-3\n\
+    - a[]a:[]\n\
+    2 a{>\n\
+    2 a<}\n\
+    3 a[{>\n\
+    4 a:<b>\n\
+    6 a:[{},0]\n\
+    5 a:[0,{}]\n\
+    4 a:[\"{}]\n\
+    3 a:[,]\n\
+    2 a[,]\n\
+    5 a[{},]\n\
+    5 a:[\",]\n\
+    5 a:[0,]\n\
+    4 a[{}{}]\n\
+    4 a[{};{}]\n\
+    4 a[{}}\n\
+    2 a[0]\n\
+    2 a[\"]\n\
+    1 a\"\n\
+    1 a0\n\
+    3 a:-\"\n\
+    4 a:[-\"]\n\
+    3 a:--0\n\
+    3 a:\"0\n\
+    3 a:0\"\n\
+    3 a:\"-\n\
+    5 a:[\"\"-]\n\
+    0 [a]:0\n\
+    0 ,a:0\n\
+    4 a:0,;\n\
+    2 a{,}\n\
+    2 a::0\n\
+    4 a:{}{}\n\
+    1 a\n\
+    2 a:\n\
+    3 a:-\n\
+    2 a[\n\
+    4 a[{}\n\
+    4 a:[\"\n\
+    5 a:[0,\n\
+    5 a<b:\"\n\
+";
+
 #[test]
 fn refuses_tokens(rt: HostRuntime) -> Result<(), Fail> {
-    let texts = "\
-        - a<>\n\
-        - a:<>\n\
-        - a{b<>}c<d{}>\n\
-        - a[{b:0},<>]\n\
-        - a:[{},{}];b[]\n\
-        - a:\"\"\n\
-        - a:\"\"b:\"c{d:\"}\n\
-        - a:[\"\",\",0,-3,x]\n\
-        - a:0a:1,a:2;a:-3\n\
-        - a[]a:[]\n\
-        2 a{>\n\
-        2 a<}\n\
-        3 a[{>\n\
-        4 a:<b>\n\
-        6 a:[{},0]\n\
-        5 a:[0,{}]\n\
-        4 a:[\"{}]\n\
-        3 a:[,]\n\
-        2 a[,]\n\
-        5 a[{},]\n\
-        5 a:[\",]\n\
-        5 a:[0,]\n\
-        4 a[{}{}]\n\
-        4 a[{};{}]\n\
-        4 a[{}}\n\
-        2 a[0]\n\
-        2 a[\"]\n\
-        1 a\"\n\
-        1 a0\n\
-        3 a:-\"\n\
-        4 a:[-\"]\n\
-        3 a:--0\n\
-        3 a:\"0\n\
-        3 a:0\"\n\
-        3 a:\"-\n\
-        5 a:[\"\"-]\n\
-        0 [a]:0\n\
-        0 ,a:0\n\
-        4 a:0,;\n\
-        2 a{,}\n\
-        2 a::0\n\
-        4 a:{}{}\n\
-        1 a\n\
-        2 a:\n\
-        3 a:-\n\
-        2 a[\n\
-        4 a[{}\n\
-        4 a:[\"\n\
-        5 a:[0,\n\
-        5 a<b:\"\n\
-    ";
-    for line in texts.lines() {
+    for line in TEXTS.lines() {
         let (wanted, text) = line.split_once(' ').ok_or("no text")?;
         assert_fault(&rt, rt.alloc(), text, wanted)?;
     }
@@ -123,27 +124,28 @@ fn refuses_tokens(rt: HostRuntime) -> Result<(), Fail> {
 }
 
 /// Messages in each other, 32 and 33, in lists too.
+const NESTED: [(&str, &str); 4] = [
+    (
+        "-",
+        "a{a<a{a<a{a<a{a<a{a<a{a<a{a<a{a<a{a<a{a<a{a<a{a<a{a<a{a<a{a<a{a<a[]>}>}>}>}>}>}>}>}>}>}>}>}>}>}>}>}",
+    ),
+    (
+        "65",
+        "a{a<a{a<a{a<a{a<a{a<a{a<a{a<a{a<a{a<a{a<a{a<a{a<a{a<a{a<a{a<a{a<a{",
+    ),
+    (
+        "-",
+        "a[{a:<a[{a:<a[{a:<a[{a:<a[{a:<a[{a:<a[{a:<a[{a:<a[{a:<a[{a:<a[{a:<a[{a:<a[{a:<a[{a:<a[{a:<a[{a:<a:0>}]>}]>}]>}]>}]>}]>}]>}]>}]>}]>}]>}]>}]>}]>}]>}]",
+    ),
+    (
+        "98",
+        "a[{a:<a[{a:<a[{a:<a[{a:<a[{a:<a[{a:<a[{a:<a[{a:<a[{a:<a[{a:<a[{a:<a[{a:<a[{a:<a[{a:<a[{a:<a[{a:<a[{",
+    ),
+];
+
 #[test]
 fn refuses_deep_messages(rt: HostRuntime) -> Result<(), Fail> {
-    let texts = [
-        (
-            "-",
-            "a{a<a{a<a{a<a{a<a{a<a{a<a{a<a{a<a{a<a{a<a{a<a{a<a{a<a{a<a{a<a{a<a[]>}>}>}>}>}>}>}>}>}>}>}>}>}>}>}>}",
-        ),
-        (
-            "65",
-            "a{a<a{a<a{a<a{a<a{a<a{a<a{a<a{a<a{a<a{a<a{a<a{a<a{a<a{a<a{a<a{a<a{",
-        ),
-        (
-            "-",
-            "a[{a:<a[{a:<a[{a:<a[{a:<a[{a:<a[{a:<a[{a:<a[{a:<a[{a:<a[{a:<a[{a:<a[{a:<a[{a:<a[{a:<a[{a:<a[{a:<a:0>}]>}]>}]>}]>}]>}]>}]>}]>}]>}]>}]>}]>}]>}]>}]>}]",
-        ),
-        (
-            "98",
-            "a[{a:<a[{a:<a[{a:<a[{a:<a[{a:<a[{a:<a[{a:<a[{a:<a[{a:<a[{a:<a[{a:<a[{a:<a[{a:<a[{a:<a[{a:<a[{a:<a[{",
-        ),
-    ];
-    for (wanted, text) in texts {
+    for (wanted, text) in NESTED {
         assert_fault(&rt, rt.alloc(), text, wanted)?;
     }
     Ok(())
@@ -163,22 +165,24 @@ fn assert_cut_fault(
     Ok(())
 }
 
+/// Texts, each with the token at which it is refused; `None` if it is a document.
+const CUT: [(&str, Option<usize>); 11] = [
+    ("", None),
+    ("variables { domain: [0, -1] } # a", None),
+    ("variables { domian: 0 }", None),
+    ("a: < b: - 2 >", None),
+    ("a: \"x\" 'y' # z\n b: [\"x\" \"y\", 'z']", None),
+    ("a: 017 b: 0x1F c: - .5e3f", None),
+    ("a: - \"x\"", Some(3)),
+    ("a: [\"x\" \"y\", 'z',]", Some(8)),
+    ("variables { domain: 0", Some(5)),
+    ("a: [1 2]", Some(4)),
+    ("a < b: 1 }", Some(5)),
+];
+
 #[test]
 fn refuses_cut_texts(rt: HostRuntime) -> Result<(), Fail> {
-    let texts: [(&str, Option<usize>); 11] = [
-        ("", None),
-        ("variables { domain: [0, -1] } # a", None),
-        ("variables { domian: 0 }", None),
-        ("a: < b: - 2 >", None),
-        ("a: \"x\" 'y' # z\n b: [\"x\" \"y\", 'z']", None),
-        ("a: 017 b: 0x1F c: - .5e3f", None),
-        ("a: - \"x\"", Some(3)),
-        ("a: [\"x\" \"y\", 'z',]", Some(8)),
-        ("variables { domain: 0", Some(5)),
-        ("a: [1 2]", Some(4)),
-        ("a < b: 1 }", Some(5)),
-    ];
-    for (text, wanted) in texts {
+    for (text, wanted) in CUT {
         assert_cut_fault(&rt, rt.alloc(), text, wanted)?;
     }
     Ok(())
@@ -195,45 +199,47 @@ fn assert_tree(rt: &impl Abort, alloc: Global, text: &str, wanted: &str) -> Resu
     Ok(())
 }
 
+/// Texts whose bytes are their tokens, each with its tree.
+const TREES: [(&str, &str); 8] = [
+    ("", "Node { fields: [] }"),
+    (
+        "a:-0",
+        "Node { fields: [Field { name: 0, list: false, items: One(Scalar { first: 2, end: 4 }) }] }",
+    ),
+    (
+        "a:\"\"\",b<>",
+        "Node { fields: [Field { name: 0, list: false, items: One(Scalar { first: 2, end: 5 }) }, \
+         Field { name: 6, list: false, items: One(Message { first: 7, node: Node { fields: [] } }) }] }",
+    ),
+    (
+        "a:[\"\",\",-0]",
+        "Node { fields: [Field { name: 0, list: true, items: Scalars([\
+         TokenRange { first: 3, end: 5 }, TokenRange { first: 6, end: 7 }, TokenRange { first: 8, end: 10 }]) }] }",
+    ),
+    (
+        "a:[\"\"]",
+        "Node { fields: [Field { name: 0, list: true, items: One(Scalar { first: 3, end: 5 }) }] }",
+    ),
+    (
+        "a[{b[<>]},<>]",
+        "Node { fields: [Field { name: 0, list: true, items: Messages([\
+         Nested { first: 2, node: Node { fields: [Field { name: 3, list: true, \
+         items: One(Message { first: 5, node: Node { fields: [] } }) }] } }, \
+         Nested { first: 10, node: Node { fields: [] } }]) }] }",
+    ),
+    (
+        "a[{}]",
+        "Node { fields: [Field { name: 0, list: true, items: One(Message { first: 2, node: Node { fields: [] } }) }] }",
+    ),
+    (
+        "a:[]",
+        "Node { fields: [Field { name: 0, list: true, items: Messages([]) }] }",
+    ),
+];
+
 #[test]
 fn reads_trees(rt: HostRuntime) -> Result<(), Fail> {
-    let trees = [
-        ("", "Node { fields: [] }"),
-        (
-            "a:-0",
-            "Node { fields: [Field { name: 0, list: false, items: One(Scalar { first: 2, end: 4 }) }] }",
-        ),
-        (
-            "a:\"\"\",b<>",
-            "Node { fields: [Field { name: 0, list: false, items: One(Scalar { first: 2, end: 5 }) }, \
-             Field { name: 6, list: false, items: One(Message { first: 7, node: Node { fields: [] } }) }] }",
-        ),
-        (
-            "a:[\"\",\",-0]",
-            "Node { fields: [Field { name: 0, list: true, items: Scalars([\
-             TokenRange { first: 3, end: 5 }, TokenRange { first: 6, end: 7 }, TokenRange { first: 8, end: 10 }]) }] }",
-        ),
-        (
-            "a:[\"\"]",
-            "Node { fields: [Field { name: 0, list: true, items: One(Scalar { first: 3, end: 5 }) }] }",
-        ),
-        (
-            "a[{b[<>]},<>]",
-            "Node { fields: [Field { name: 0, list: true, items: Messages([\
-             Nested { first: 2, node: Node { fields: [Field { name: 3, list: true, \
-             items: One(Message { first: 5, node: Node { fields: [] } }) }] } }, \
-             Nested { first: 10, node: Node { fields: [] } }]) }] }",
-        ),
-        (
-            "a[{}]",
-            "Node { fields: [Field { name: 0, list: true, items: One(Message { first: 2, node: Node { fields: [] } }) }] }",
-        ),
-        (
-            "a:[]",
-            "Node { fields: [Field { name: 0, list: true, items: Messages([]) }] }",
-        ),
-    ];
-    for (text, wanted) in trees {
+    for (text, wanted) in TREES {
         assert_tree(&rt, rt.alloc(), text, wanted)?;
     }
     Ok(())

@@ -1,9 +1,8 @@
 //! Models against the rules that single kinds have, and against those rules of all kinds that their lists and literals
 //! keep. Each line of a table is the rule that a constraint breaks first, or `-`, the domains of the variables, and the
 //! constraint, which is the first of its model.
-use crate::reading::model_of_all;
+use crate::rules::broken;
 use cps_model::Place;
-use cps_validate::{ValidateError, validate};
 use std::alloc::{AllocError, Global};
 use std::process::Abort;
 use std::test::Fail;
@@ -141,30 +140,16 @@ fn text_of(alloc: Global, domains: &str, constraint: &str) -> Result<String, All
     Ok(text)
 }
 
-/// The rule that the first constraint of a model breaks; `None` if the model is valid.
-fn broken(rt: &impl Abort, alloc: Global, text: &str) -> Result<Option<u8>, Fail> {
-    match validate(alloc, model_of_all(rt, alloc, text)?) {
-        Ok(_) => Ok(None),
-        Err(
-            ValidateError::Invalid {
-                rule,
-                place: Place::Constraint(0),
-            },
-        ) => Ok(Some(rule)),
-        Err(error) => Err(Fail::from(error)),
-    }
-}
-
 /// Asserts that the constraint of a line breaks its rule.
 fn assert_line(rt: &impl Abort, alloc: Global, line: &str) -> Result<(), Fail> {
     let (rule, rest) = line.split_once(" | ").ok_or("no domains")?;
     let (domains, constraint) = rest.split_once(" | ").ok_or("no constraint")?;
     let text = text_of(alloc, domains, constraint)?;
-    assert_eq!(rt;
-        broken(rt, alloc, &text)?,
-        rule.parse::<u8>().ok(),
-        "{line}"
-    );
+    let wanted = rule
+        .parse::<u8>()
+        .ok()
+        .map(|rule| (rule, Place::Constraint(0)));
+    assert_eq!(rt; broken(rt, alloc, &text)?, wanted, "{line}");
     Ok(())
 }
 

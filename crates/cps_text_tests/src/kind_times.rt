@@ -3,7 +3,7 @@
 //! A row has intervals, one constraint on them, and for each choice of presence literals whether it is a solution. The
 //! answers follow from the definition of the constraint, interval by interval.
 use crate::kind_values::is_solution;
-use std::alloc::{AllocError, Global};
+use std::alloc::Global;
 use std::fmt::Write;
 use std::process::Abort;
 use std::test::Fail;

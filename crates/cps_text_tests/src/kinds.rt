@@ -1,10 +1,9 @@
-//! Documents with each kind of constraint and with assumptions, read as models when no field is closed, and those that
-//! are refused even then.
+//! Documents with each kind of constraint and with assumptions that are read as models, and those that are refused.
 //!
 //! What was read is shown in a notation of its own, and not by the printer, which would make the same mistakes; a row
 //! has the text and what it is to be.
-use crate::reading::{model_of_all, refusal_of_all};
-use cps_model::{CpModel, Exprs, Kind, LinearExpr, Listed};
+use crate::reading::{model_of_kind, refusal};
+use cps_model::{Exprs, Kind, LinearExpr, Listed};
 use std::alloc::Global;
 use std::fmt::Write;
 use std::process::Abort;
@@ -204,12 +203,6 @@ const TIMES: &str = "\
 [0, 1][2, 3]: no_overlap_2d { x_intervals: [0, 1] y_intervals: 2 y_intervals: 3 }
 ";
 
-/// The model of one constraint that a field of a kind gives.
-fn model_of_kind(rt: &impl Abort, alloc: Global, field: &str) -> Result<CpModel, Fail> {
-    let text = format!(in alloc; "constraints {{ {field} }}")?;
-    model_of_all(rt, alloc, text.as_str())
-}
-
 /// What the kind that a field gives holds.
 fn held(rt: &impl Abort, alloc: Global, field: &str) -> Result<String, Fail> {
     let model = model_of_kind(rt, alloc, field)?;
@@ -270,12 +263,12 @@ OutOfRange at 13: assumptions: 2147483648
 Unsupported at 0: symmetry { }
 ";
 
-/// Each line is a fault with its byte, and a text that is refused so where no field is closed.
+/// Each line is a fault with its byte, and a text that is refused so.
 #[test]
 fn refuses_fields_of_kinds(rt: HostRuntime) -> Result<(), Fail> {
     for line in FAULTS.lines() {
         let (wanted, text) = line.split_once(": ").ok_or("no text")?;
-        let (name, byte) = refusal_of_all(&rt, rt.alloc(), text)?;
+        let (name, byte) = refusal(&rt, rt.alloc(), text)?;
         let held = format!(in rt.alloc(); "{name:?} at {byte}")?;
         assert_eq!(rt; held.as_str(), wanted, "{text}");
     }

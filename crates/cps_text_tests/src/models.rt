@@ -176,103 +176,109 @@ fn assert_shape(rt: &impl Abort, alloc: Global, text: &str, shape: Shape) -> Res
     Ok(())
 }
 
+/// Texts, each with what its model is.
+const MODELS: [(&str, Shape); 6] = [
+    (
+        "variables { domain: [0, - 1] domain: 9223372036854775807; domain: [ ] } variables { } variables: [ ]",
+        Shape::Variables,
+    ),
+    (
+        "constraints { enforcement_literal: [0, -2147483648] bool_or { literals: 2147483647 } } constraints { } \
+         constraints { linear: { vars: 0 vars: [1], coeffs: -3, domain: -9223372036854775808 } } \
+         constraints { bool_and { literals: [1, -2] } } constraints { at_most_one { literals: 3 } } \
+         constraints { exactly_one { literals: [4, 4] } } constraints { bool_xor { } }",
+        Shape::Constraints,
+    ),
+    (
+        "objective { coeffs: 7 offset: -9007199254740992 scaling_factor: 0 domain: [2, 3] vars: 5 }",
+        Shape::Scaled,
+    ),
+    (
+        "variables { domain: [017, 0x1F, 0X1f, -0x10, -017, 00, 0x7fffffffffffffff, -0x8000000000000000] }",
+        Shape::WholeNumbers,
+    ),
+    (
+        "variables { name: 'x' \"\\303\" \"\\244\" } name: \"m\\n\" constraints { name: \"\" }",
+        Shape::Names,
+    ),
+    (
+        "search_strategy { variables: -3 domain_reduction_strategy: SELECT_MAX_VALUE } \
+         search_strategy { variable_selection_strategy: 0x4 exprs { vars: 1 coeffs: 2 offset: -017 } domain_reduction_strategy: -0 } \
+         solution_hint { values: [4, -5] vars: 0 vars: 1 }",
+        Shape::Steered,
+    ),
+];
+
 #[test]
 fn reads_models(rt: HostRuntime) -> Result<(), Fail> {
-    let texts = [
-        (
-            "variables { domain: [0, - 1] domain: 9223372036854775807; domain: [ ] } variables { } variables: [ ]",
-            Shape::Variables,
-        ),
-        (
-            "constraints { enforcement_literal: [0, -2147483648] bool_or { literals: 2147483647 } } constraints { } \
-             constraints { linear: { vars: 0 vars: [1], coeffs: -3, domain: -9223372036854775808 } } \
-             constraints { bool_and { literals: [1, -2] } } constraints { at_most_one { literals: 3 } } \
-             constraints { exactly_one { literals: [4, 4] } } constraints { bool_xor { } }",
-            Shape::Constraints,
-        ),
-        (
-            "objective { coeffs: 7 offset: -9007199254740992 scaling_factor: 0 domain: [2, 3] vars: 5 }",
-            Shape::Scaled,
-        ),
-        (
-            "variables { domain: [017, 0x1F, 0X1f, -0x10, -017, 00, 0x7fffffffffffffff, -0x8000000000000000] }",
-            Shape::WholeNumbers,
-        ),
-        (
-            "variables { name: 'x' \"\\303\" \"\\244\" } name: \"m\\n\" constraints { name: \"\" }",
-            Shape::Names,
-        ),
-        (
-            "search_strategy { variables: -3 domain_reduction_strategy: SELECT_MAX_VALUE } \
-             search_strategy { variable_selection_strategy: 0x4 exprs { vars: 1 coeffs: 2 offset: -017 } domain_reduction_strategy: -0 } \
-             solution_hint { values: [4, -5] vars: 0 vars: 1 }",
-            Shape::Steered,
-        ),
-    ];
-    for (text, shape) in texts {
+    for (text, shape) in MODELS {
         assert_shape(&rt, rt.alloc(), text, shape)?;
     }
     Ok(())
 }
 
+/// Strategies that are written by names, each with what it chooses and selects.
+const MEMBERS: [(&str, Choose, Select); 5] = [
+    (
+        "search_strategy { exprs { } variable_selection_strategy: CHOOSE_FIRST domain_reduction_strategy: SELECT_MIN_VALUE }",
+        Choose::First,
+        Select::MinValue,
+    ),
+    (
+        "search_strategy { exprs { } variable_selection_strategy: CHOOSE_LOWEST_MIN domain_reduction_strategy: SELECT_MAX_VALUE }",
+        Choose::LowestMin,
+        Select::MaxValue,
+    ),
+    (
+        "search_strategy { exprs { } variable_selection_strategy: CHOOSE_HIGHEST_MAX domain_reduction_strategy: SELECT_LOWER_HALF }",
+        Choose::HighestMax,
+        Select::LowerHalf,
+    ),
+    (
+        "search_strategy { exprs { } variable_selection_strategy: CHOOSE_MIN_DOMAIN_SIZE domain_reduction_strategy: SELECT_UPPER_HALF }",
+        Choose::MinDomainSize,
+        Select::UpperHalf,
+    ),
+    (
+        "search_strategy { exprs { } variable_selection_strategy: CHOOSE_MAX_DOMAIN_SIZE domain_reduction_strategy: SELECT_MEDIAN_VALUE }",
+        Choose::MaxDomainSize,
+        Select::MedianValue,
+    ),
+];
+
 #[test]
 fn reads_members(rt: HostRuntime) -> Result<(), Fail> {
-    let texts: [(&str, Choose, Select); 5] = [
-        (
-            "search_strategy { exprs { } variable_selection_strategy: CHOOSE_FIRST domain_reduction_strategy: SELECT_MIN_VALUE }",
-            Choose::First,
-            Select::MinValue,
-        ),
-        (
-            "search_strategy { exprs { } variable_selection_strategy: CHOOSE_LOWEST_MIN domain_reduction_strategy: SELECT_MAX_VALUE }",
-            Choose::LowestMin,
-            Select::MaxValue,
-        ),
-        (
-            "search_strategy { exprs { } variable_selection_strategy: CHOOSE_HIGHEST_MAX domain_reduction_strategy: SELECT_LOWER_HALF }",
-            Choose::HighestMax,
-            Select::LowerHalf,
-        ),
-        (
-            "search_strategy { exprs { } variable_selection_strategy: CHOOSE_MIN_DOMAIN_SIZE domain_reduction_strategy: SELECT_UPPER_HALF }",
-            Choose::MinDomainSize,
-            Select::UpperHalf,
-        ),
-        (
-            "search_strategy { exprs { } variable_selection_strategy: CHOOSE_MAX_DOMAIN_SIZE domain_reduction_strategy: SELECT_MEDIAN_VALUE }",
-            Choose::MaxDomainSize,
-            Select::MedianValue,
-        ),
-    ];
-    for (text, choose, select) in texts {
+    for (text, choose, select) in MEMBERS {
         assert_shape(&rt, rt.alloc(), text, Shape::Members(choose, select))?;
     }
     Ok(())
 }
 
+/// Objectives, each with its offset.
+const OFFSETS: [(&str, i64); 12] = [
+    ("objective { offset: 1e5 }", 100000),
+    ("objective { offset: 1500e-2 }", 15),
+    ("objective { offset: 0.10e1f }", 1),
+    ("objective { offset: 0e99999999999 }", 0),
+    ("objective { offset: -0.0 }", 0),
+    ("objective { offset: 0.0e-99999999999999999999 }", 0),
+    ("objective { offset: 9007199254740992.0 }", 9007199254740992),
+    (
+        "objective { offset: -9.007199254740992E+15 }",
+        -9007199254740992,
+    ),
+    (
+        "objective { offset: 9007199254740992000e-3 }",
+        9007199254740992,
+    ),
+    ("objective { offset: 7f }", 7),
+    ("objective { offset: .5e1 }", 5),
+    ("objective { offset: - 12.F }", -12),
+];
+
 #[test]
 fn reads_objectives(rt: HostRuntime) -> Result<(), Fail> {
-    let floats: [(&str, i64); 12] = [
-        ("objective { offset: 1e5 }", 100000),
-        ("objective { offset: 1500e-2 }", 15),
-        ("objective { offset: 0.10e1f }", 1),
-        ("objective { offset: 0e99999999999 }", 0),
-        ("objective { offset: -0.0 }", 0),
-        ("objective { offset: 0.0e-99999999999999999999 }", 0),
-        ("objective { offset: 9007199254740992.0 }", 9007199254740992),
-        (
-            "objective { offset: -9.007199254740992E+15 }",
-            -9007199254740992,
-        ),
-        (
-            "objective { offset: 9007199254740992000e-3 }",
-            9007199254740992,
-        ),
-        ("objective { offset: 7f }", 7),
-        ("objective { offset: .5e1 }", 5),
-        ("objective { offset: - 12.F }", -12),
-    ];
-    for (text, offset) in floats {
+    for (text, offset) in OFFSETS {
         assert_shape(&rt, rt.alloc(), text, Shape::Offset(offset))?;
     }
     Ok(())

@@ -2,18 +2,11 @@
 //!
 //! The canonical text of each row follows from the printed form: newer fields, in the format's order, and nothing that
 //! says nothing.
-use crate::reading::model_of_all;
-use cps_model::CpModel;
+use crate::reading::model_of_kind;
 use cps_print::model_text;
 use std::alloc::Global;
 use std::process::Abort;
 use std::test::Fail;
-
-/// The model of one constraint that a field of this kind gives.
-fn model_of_kind(rt: &impl Abort, alloc: Global, kind: &str) -> Result<CpModel, Fail> {
-    let text = format!(in alloc; "constraints {{ {kind} }}")?;
-    model_of_all(rt, alloc, text.as_str())
-}
 
 /// What is written of the model of one kind.
 fn printed(rt: &impl Abort, alloc: Global, kind: &str) -> Result<String, Fail> {

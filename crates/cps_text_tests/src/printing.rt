@@ -1,13 +1,13 @@
 //! Models in canonical form.
-use crate::reading::model_of_all;
+use crate::reading::model;
 use cps_print::model_text;
 use std::alloc::Global;
 use std::process::Abort;
 use std::test::Fail;
 
-/// Asserts that this is the canonical text of the model that a text is read as where no field is closed.
+/// Asserts that this is the canonical text of the model that a text is read as.
 fn assert_printed(rt: &impl Abort, alloc: Global, text: &str, wanted: &str) -> Result<(), Fail> {
-    let model = model_of_all(rt, alloc, text)?;
+    let model = model(rt, alloc, text)?;
     let printed = model_text(alloc, &model)?;
     assert_eq!(rt; printed.as_str(), wanted, "{text}");
     Ok(())

@@ -1,5 +1,5 @@
 //! Models against the rules of a valid model.
-use crate::reading::model_of_all;
+use crate::reading::model;
 use cps_model::Place;
 use cps_validate::{ValidateError, validate};
 use std::alloc::Global;
@@ -7,64 +7,65 @@ use std::process::Abort;
 use std::test::Fail;
 
 /// The rule that a model breaks first, with its place; `None` if it is valid.
-fn broken(rt: &impl Abort, alloc: Global, text: &str) -> Result<Option<(u8, Place)>, Fail> {
-    match validate(alloc, model_of_all(rt, alloc, text)?) {
+pub fn broken(rt: &impl Abort, alloc: Global, text: &str) -> Result<Option<(u8, Place)>, Fail> {
+    match validate(alloc, model(rt, alloc, text)?) {
         Ok(_) => Ok(None),
         Err(ValidateError::Invalid { rule, place }) => Ok(Some((rule, place))),
         Err(error) => Err(Fail::from(error)),
     }
 }
 
-/// One variable, one clause and assumptions.
+/// Models of one or two variables, one clause and assumptions, each with the rule that it breaks first.
+const MODELS: [(&str, Option<(u8, Place)>); 11] = [
+    (
+        "variables { domain: [0, -1] } constraints { bool_or { literals: 0 } } assumptions: 0",
+        Some((1, Place::Variable(0))),
+    ),
+    (
+        "variables { domain: [0, 4611686018427387904] } constraints { bool_or { literals: 0 } } assumptions: 0",
+        Some((2, Place::Variable(0))),
+    ),
+    (
+        "variables { domain: [0, 1] } constraints { bool_or { literals: 5 } } assumptions: 0",
+        Some((3, Place::Constraint(0))),
+    ),
+    (
+        "variables { domain: [0, 2] } constraints { bool_or { literals: 0 } } assumptions: 0",
+        Some((4, Place::Constraint(0))),
+    ),
+    (
+        "variables { domain: [0, 1] } constraints { bool_or { literals: 0 } } assumptions: 9",
+        Some((3, Place::Assumption(0))),
+    ),
+    (
+        "variables { domain: [0, 1] } variables { domain: [0, 2] } assumptions: [0, -2]",
+        Some((4, Place::Assumption(1))),
+    ),
+    (
+        "variables { domain: [0, 1] } constraints { bool_or { literals: 0 } } assumptions: -1",
+        None,
+    ),
+    (
+        "variables { domain: [0, 1] } variables { domain: [0, 2] } assumptions: 0",
+        None,
+    ),
+    (
+        "variables { domain: [0, 1] } variables { domain: [0, 2] } assumptions: -1",
+        None,
+    ),
+    (
+        "variables { domain: [0, 1] } variables { domain: [0, 2] } assumptions: 1",
+        Some((4, Place::Assumption(0))),
+    ),
+    (
+        "variables { domain: [0, 1] } variables { domain: [0, 2] } assumptions: 2",
+        Some((3, Place::Assumption(0))),
+    ),
+];
+
 #[test]
 fn variables_and_literals(rt: HostRuntime) -> Result<(), Fail> {
-    let rows: [(&str, Option<(u8, Place)>); 11] = [
-        (
-            "variables { domain: [0, -1] } constraints { bool_or { literals: 0 } } assumptions: 0",
-            Some((1, Place::Variable(0))),
-        ),
-        (
-            "variables { domain: [0, 4611686018427387904] } constraints { bool_or { literals: 0 } } assumptions: 0",
-            Some((2, Place::Variable(0))),
-        ),
-        (
-            "variables { domain: [0, 1] } constraints { bool_or { literals: 5 } } assumptions: 0",
-            Some((3, Place::Constraint(0))),
-        ),
-        (
-            "variables { domain: [0, 2] } constraints { bool_or { literals: 0 } } assumptions: 0",
-            Some((4, Place::Constraint(0))),
-        ),
-        (
-            "variables { domain: [0, 1] } constraints { bool_or { literals: 0 } } assumptions: 9",
-            Some((3, Place::Assumption(0))),
-        ),
-        (
-            "variables { domain: [0, 1] } variables { domain: [0, 2] } assumptions: [0, -2]",
-            Some((4, Place::Assumption(1))),
-        ),
-        (
-            "variables { domain: [0, 1] } constraints { bool_or { literals: 0 } } assumptions: -1",
-            None,
-        ),
-        (
-            "variables { domain: [0, 1] } variables { domain: [0, 2] } assumptions: 0",
-            None,
-        ),
-        (
-            "variables { domain: [0, 1] } variables { domain: [0, 2] } assumptions: -1",
-            None,
-        ),
-        (
-            "variables { domain: [0, 1] } variables { domain: [0, 2] } assumptions: 1",
-            Some((4, Place::Assumption(0))),
-        ),
-        (
-            "variables { domain: [0, 1] } variables { domain: [0, 2] } assumptions: 2",
-            Some((3, Place::Assumption(0))),
-        ),
-    ];
-    for (text, wanted) in rows {
+    for (text, wanted) in MODELS {
         assert_eq!(rt; broken(&rt, rt.alloc(), text)?, wanted, "{text}");
     }
     Ok(())

@@ -78,7 +78,7 @@ fn input_error_answer(alloc: Global, input_error: InputError) -> Result<Answer, 
 }
 
 /// The outcome of workers that search a model in threads, or in turns if the options say so.
-fn outcome_of<R: Threads + Wait + Sync, G: Gate + Sync>(
+fn search_outcome<R: Threads + Wait + Sync, G: Gate + Sync>(
     rt: &R,
     alloc: Global,
     model: &ValidModel,
@@ -118,7 +118,7 @@ fn solve_answer<R: Threads + Wait + Sync, G: Gate + Sync>(
         lower,
         core,
         ends,
-    } = outcome_of(rt, alloc, model, options, gate)?;
+    } = search_outcome(rt, alloc, model, options, gate)?;
     let response = Response {
         status,
         solution,

@@ -13,15 +13,12 @@ use cps_schema::{SchemaError, model_of};
 use cps_textproto::{Node, TextError, document};
 use cps_validate::{ValidModel, ValidateError, validate};
 use std::alloc::Global;
-use thiserror::Error;
 
 /// Why an input could not be read as a model, or as a valid one.
-#[derive(Debug, Drop, Error)]
+#[derive(Drop)]
 pub enum InputError {
     /// It is no model, or no valid one.
-    #[error("the input is no valid model: {0:?}")]
     Fault(Fault),
-    #[error("out of memory")]
     OutOfMemory,
 }
 

@@ -27,6 +27,7 @@ pub struct Seen {
 }
 
 impl Seen {
+    /// Whether the run ended with this exit, had an outcome or none, and wrote this text.
     pub fn is(&self, exit: u8, has_outcome: bool, text: &str) -> bool {
         self.exit == exit
             && self.has_outcome == has_outcome

@@ -17,17 +17,14 @@ use cps_print::Fault;
 use std::alloc::{AllocError, Global};
 use std::sync::Wait;
 use std::thread::Threads;
-use thiserror::Error;
 
 /// The most bytes that an input may have.
 const MOST_BYTES: usize = 67_108_864;
 
 /// Why a run has no answer.
-#[derive(Debug, Drop, Error)]
+#[derive(Drop)]
 enum Unanswered {
-    #[error("a read failed")]
     ReadFault,
-    #[error("out of memory")]
     OutOfMemory,
 }
 
