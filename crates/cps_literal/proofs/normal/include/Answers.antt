@@ -1,5 +1,5 @@
-use Rattle.std.proofs.Common.{arith, refl, ◌-◌, ◌<◌, length, get_or}
-use Rattle.cps_literal.proofs.Normalizing.{none, read_is, included_already, included_remove, included_push, free_below, free_all}
+use Rattle.std.proofs.Common.{arith, refl, sym, true≢false, ◌-◌, ◌<◌, length, get_or}
+use Rattle.cps_literal.proofs.Normalizing.{none, read_is, included_none, included_pass, included_already, included_remove, included_push, free_below, free_all}
 use Rattle.cps_literal.proofs.normal.include.Goals as goal
 use Rattle.cps_literal.proofs.normal.include.Goals.{else-loop-place-test, then-loop-place-test+then-other-atom}
 
@@ -35,3 +35,21 @@ returns-clause-includes c =
           w.if-other-atom.true c.requires.sorted s)
     ])
     c.requires.sorted c.in_ok-push.ensures.ok c.loop-place.place s
+
+pub loop-place-init : goal.loop-place-init
+loop-place-init c = record {
+  so_far = included_none c.args.kept.now.items c.args.atom c.len-place.result (omega (arith, c.len-place.ensures)) c.requires.normal;
+  len = omega arith;
+  capacity = omega arith;
+}
+
+pub loop-place-preserved : goal.loop-place-preserved
+loop-place-preserved c =
+    let s = c.loop-place.invariant.so_far in
+    let p : c.loop-place.place - 1 < length c.loop-place.kept.items = omega (arith, s.inside) in
+    record {
+      so_far = included_pass c.args.kept.now.items c.loop-place.kept.items c.args.atom (get_or c.as_slice.result.now (c.loop-place.place - 1) none) c.loop-place.place (c.loop-place.place - 1) (omega arith)
+          (read_is c.as_slice.result.now c.loop-place.kept.items (c.loop-place.place - 1) c.as_slice.ensures p) (λ i. true≢false (sym (c.if-implies.ensures.1 i))) (λ i. true≢false (sym (c.if-implies-2.ensures.1 i))) s;
+      len = c.loop-place.invariant.len;
+      capacity = c.loop-place.invariant.capacity;
+    }

@@ -1,0 +1,18 @@
+use Rattle.std.proofs.Common.{rules, sym, ◌∙◌, true≢false, w64, FitsSigned}
+use Rattle.std.specs.Prelude.{int_le}
+use Rattle.cps_domain.specs.Window.{contains}
+use Rattle.cps_literal.proofs.Implying.{code_le, code_lt}
+use Rattle.cps_literal.proofs.Deciding.{only_not, only_test, as_coded}
+use Rattle.cps_literal.proofs.atom.is_only.Goals as goal
+
+pub returns-then-value-max : goal.returns-then-value-max
+returns-then-value-max c =
+    let f : FitsSigned w64 c.max.result = search rules in
+    (λ e. absurd (true≢false (sym e)), λ h. absurd (only_not (contains c.args.domain.now) c.args.value c.max.result c.max.ensures.within (sym (code_lt c.args.value c.max.result c.ranges.value f) ∙ c.if-value-max.true) h))
+
+pub returns : goal.returns
+returns c =
+    let f : FitsSigned w64 c.max.result = search rules in
+    let g : FitsSigned w64 c.min.result = search rules in
+    as_coded _ (int_le c.args.value c.min.result) _ (code_le c.args.value c.min.result c.ranges.value g)
+    (only_test (contains c.args.domain.now) c.args.value c.min.result c.max.result c.min.ensures.within c.min.ensures.least c.max.ensures.greatest (sym (code_lt c.args.value c.max.result c.ranges.value f) ∙ c.if-value-max.false))
