@@ -1,6 +1,7 @@
 //! The token at the front of some bytes.
 //!
-//! What can stand there is known by the first byte, so a scan never goes back.
+//! What can stand there is known by the first byte, so no other token is tried; a number's bytes are read once more for
+//! each of its forms.
 ghost use Rattle.std.specs.Prelude.{◌≡◌, ◌≤◌, false, length, MatchOption};
 ghost use Rattle.std.specs.List.{prefix_len};
 ghost use Rattle.cps_lex.specs.Bytes.{is_word};

@@ -6,7 +6,7 @@ use cps_model::{FaultName, Place};
 use std::alloc::{AllocError, Global};
 
 /// Why an input is no valid model. Bytes are counted from 0.
-#[derive(Debug, Clone, Copy, PartialEq, Eq)]
+#[derive(Clone, Copy)]
 pub enum Fault {
     /// The bytes are no document.
     Text { byte: usize },

@@ -178,7 +178,8 @@ const ARITHMETIC: &str = "\
 ";
 
 const LISTS: &str = "\
-[0][1]0 [1][1]0 of [][]5;[2][1]0;: element { linear_index { vars: 0 coeffs: 1 } linear_target { vars: 1 coeffs: 1 } exprs { offset: 5 } exprs { vars: 2 coeffs: 1 } }
+[0][1]0 [1][1]0 of [][]5;[2][1]0;: element { linear_index { vars: 0 coeffs: 1 } \
+linear_target { vars: 1 coeffs: 1 } exprs { offset: 5 } exprs { vars: 2 coeffs: 1 } }
 [][]0 [][]0 of : element { }
 [4][1]0 [5][1]0 of [6][1]0;[-8][1]0;: element { vars: 6 target: 5 vars: [-8] index: 4 }
 [0][1]0 [0][1]0 of [1][1]0;: element { vars: [1] }

@@ -34,7 +34,7 @@ pub enum Item {
 }
 
 /// The scalar on the tokens `first..end`.
-#[derive(Clone, Copy, Debug, PartialEq, Eq)]
+#[derive(Clone, Copy, Debug)]
 pub struct TokenRange {
     pub first: u32,
     pub end: u32,
