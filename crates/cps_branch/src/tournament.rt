@@ -43,18 +43,16 @@ fn play(nodes: &mut [Contender], node: usize)
     nodes[node] = winner(nodes[2 * node], nodes[2 * node + 1]);
 }
 
-/// Plays the matches on the way from a node to the top once more, after the contender at the node has changed. `count`
-/// is there for the contract alone.
-fn play_up(nodes: &mut [Contender], count: usize, from: usize)
+/// Plays the matches on the way from a variable to the top once more, after its contender has changed.
+fn play_up(nodes: &mut [Contender], count: usize, variable: usize)
     requires size { length nodes.old ≡ 2 * count }
-    requires low { 1 ≤ from }
-    requires high { from < 2 * count }
-    requires below { AreWonBut count nodes.old (from / 2) }
+    requires variable { variable < count }
+    requires below { AreWonBut count nodes.old ((count + variable) / 2) }
     ensures same_length { length nodes.new ≡ length nodes.old }
     ensures won { AreWon count nodes.new }
     ensures variables { SameVariables count nodes.old nodes.new }
 {
-    let mut node = from;
+    let mut node = count + variable;
     while node > 1 {
         node /= 2;
         play(nodes, node);
@@ -72,7 +70,7 @@ pub(crate) fn enter(nodes: &mut [Contender], count: usize, contender: Contender)
     ensures others { (i : ℕ) → (i ≡ contender.variable → ⊥)
         → stands_at nodes.new (count + i) ≡ stands_at nodes.old (count + i) }
 {
-    let node = count + contender.variable as usize;
-    nodes[node] = contender;
-    play_up(nodes, count, node);
+    let variable = contender.variable as usize;
+    nodes[count + variable] = contender;
+    play_up(nodes, count, variable);
 }
