@@ -36,7 +36,7 @@ use cps_literal::{Atom, Truth};
 use cps_model::{Bound, Refs};
 use cps_port::{Port, raised_to};
 use cps_propagate::Defining;
-use cps_reform::{Reform, assumption};
+use cps_reform::{Ceiling, Reform, assumption};
 use cps_search::{Frame, Turn, decide_next, hear_turn, still_kept};
 use std::alloc::{AllocError, Global};
 
@@ -343,6 +343,17 @@ impl<'a, P: Defining, B: Brancher + Drop> Guided<'a, P, B> {
         self.split(core.as_slice())
     }
 
+    /// What bounds the objective of each solution that is looked for from above.
+    fn ceiling(&self) -> Ceiling
+        ensures z { result.z ≡ self.now.frame.z }
+        ensures greatest { result.greatest ≡ self.now.greatest }
+    {
+        Ceiling {
+            z: self.frame.z(),
+            greatest: self.greatest,
+        }
+    }
+
     /// Raises the bound of a term: no solution below z has its subject below the new bound. Answers false, and changes
     /// nothing, if no solution below z can have the new form.
     fn lift(&mut self, place: usize, bound: i64) -> bool
@@ -366,13 +377,9 @@ impl<'a, P: Defining, B: Brancher + Drop> Guided<'a, P, B> {
     {
         // Reading the entries gives the proof the store's invariant.
         let _ = self.frame.store().entries();
-        self.reform.lift_below(
-            self.frame.instance(),
-            place,
-            bound,
-            self.frame.z(),
-            self.greatest,
-        )
+        let ceiling = self.ceiling();
+        self.reform
+            .lift_below(self.frame.instance(), place, bound, ceiling)
     }
 
     /// Splits a core of several terms: each solution below z has one of their subjects above its bound. Answers false
@@ -394,12 +401,9 @@ impl<'a, P: Defining, B: Brancher + Drop> Guided<'a, P, B> {
         // Reading the entries gives the proof the store's invariant.
         let _ = self.frame.store().entries();
         self.sums += 1;
-        self.reform.split_below(
-            self.frame.instance(),
-            subject,
-            self.frame.z(),
-            self.greatest,
-        )
+        let ceiling = self.ceiling();
+        self.reform
+            .split_below(self.frame.instance(), subject, ceiling)
     }
 
     /// Raises the lower bound: to the new base, or to z where the worker is exhausted.

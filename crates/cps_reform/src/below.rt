@@ -14,51 +14,58 @@ use cps_instance::Instance;
 use cps_model::Bound;
 use std::alloc::AllocError;
 
-/// The greatest objective that a solution below z can have, by z and by the domains.
-fn limit(z: Bound, greatest: i64) -> i64
-    requires z { IsSmallBound z }
-    ensures all { (v : ℤ) → IsBelow v z → v ≤ℤ greatest → v ≤ℤ result }
-    ensures below { IsBelow result z }
-    ensures most { result ≤ℤ greatest }
+/// What bounds the objective of each solution that is looked for from above.
+#[derive(Clone, Copy)]
+pub struct Ceiling {
+    /// The bound below which solutions are looked for.
+    pub z: Bound,
+    /// The greatest objective by the domains.
+    pub greatest: i64,
+}
+
+/// The greatest objective that a solution below a ceiling can have.
+fn limit(ceiling: Ceiling) -> i64
+    requires z { IsSmallBound ceiling.z }
+    ensures all { (v : ℤ) → IsBelow v ceiling.z → v ≤ℤ ceiling.greatest → v ≤ℤ result }
+    ensures below { IsBelow result ceiling.z }
+    ensures most { result ≤ℤ ceiling.greatest }
 {
-    match z {
-        Bound::At(value) => greatest.min(value - 1),
-        Bound::Infinite => greatest,
+    match ceiling.z {
+        Bound::At(value) => ceiling.greatest.min(value - 1),
+        Bound::Infinite => ceiling.greatest,
     }
 }
 
 impl Reform {
     /// Raises the bound of a term that no solution below z is below. Where it answers false, no solution is below z,
-    /// and nothing changes; else the new base is below z, and at most the objective of each solution. `greatest` is the
-    /// greatest objective by the domains.
+    /// and nothing changes; else the new base is below z, and at most the objective of each solution.
     pub fn lift_below(
         &mut self,
         instance: &Instance<'_>,
         place: usize,
         bound: i64,
-        z: Bound,
-        greatest: i64,
+        ceiling: Ceiling,
     ) -> bool
-        requires reform { IsReform instance.now z self.old }
+        requires reform { IsReform instance.now ceiling.z self.old }
         requires place { place < length self.old.terms }
         requires rises { (term_at self.old.terms place).bound ≤ℤ bound }
-        requires risen { OfEachBelow instance.now z
+        requires risen { OfEachBelow instance.now ceiling.z
             (λ xs. bound ≤ℤ value_at xs (term_at self.old.terms place).subject) }
-        requires z { IsSmallBound z }
-        requires greatest { IsGreatest instance.now.model greatest }
-        requires small { unsigned_abs greatest < 2 ^ 62 }
+        requires z { IsSmallBound ceiling.z }
+        requires greatest { IsGreatest instance.now.model ceiling.greatest }
+        requires small { unsigned_abs ceiling.greatest < 2 ^ 62 }
         requires base { unsigned_abs self.old.base < 2 ^ 62 }
-        ensures reform { IsReform instance.now z self.new }
+        ensures reform { IsReform instance.now ceiling.z self.new }
         ensures base { unsigned_abs self.new.base < 2 ^ 62 }
         ensures lifts { result ≡ true → self.new ≡ lifted self.old place bound }
-        ensures below { result ≡ true → IsBelow self.new.base z }
-        ensures not_past { result ≡ true → IsPast z greatest instance.now.domains self.new → ⊥ }
+        ensures below { result ≡ true → IsBelow self.new.base ceiling.z }
+        ensures not_past { result ≡ true → IsPast ceiling.z ceiling.greatest instance.now.domains self.new → ⊥ }
         ensures bounds { result ≡ true → IsLowerBound instance.now.model (Bound.At self.new.base) }
-        ensures past { result ≡ false → IsPast z greatest instance.now.domains (lifted self.old place bound) }
+        ensures past { result ≡ false → IsPast ceiling.z ceiling.greatest instance.now.domains (lifted self.old place bound) }
         ensures stays { result ≡ false → self.new ≡ self.old }
-        ensures none { result ≡ false → NoneIsBelow instance.now z }
+        ensures none { result ≡ false → NoneIsBelow instance.now ceiling.z }
     {
-        let limit = limit(z, greatest);
+        let limit = limit(ceiling);
         if limit < self.base() {
             return false;
         }
@@ -72,30 +79,29 @@ impl Reform {
         &mut self,
         instance: &Instance<'_>,
         subject: u32,
-        z: Bound,
-        greatest: i64,
+        ceiling: Ceiling,
     ) -> Result<bool, AllocError>
-        requires reform { IsReform instance.now z self.old }
+        requires reform { IsReform instance.now ceiling.z self.old }
         requires weights { WeighAtLeast 1 self.old.terms }
         requires sum { IsCoreSum instance.now self.old.terms subject }
-        requires core { OfEachBelow instance.now z (λ xs. IsSomeAbove xs self.old.terms) }
-        requires z { IsSmallBound z }
-        requires greatest { IsGreatest instance.now.model greatest }
-        requires small { unsigned_abs greatest < 2 ^ 62 }
+        requires core { OfEachBelow instance.now ceiling.z (λ xs. IsSomeAbove xs self.old.terms) }
+        requires z { IsSmallBound ceiling.z }
+        requires greatest { IsGreatest instance.now.model ceiling.greatest }
+        requires small { unsigned_abs ceiling.greatest < 2 ^ 62 }
         requires base { unsigned_abs self.old.base < 2 ^ 62 }
-        ensures reform { IsReform instance.now z self.new }
+        ensures reform { IsReform instance.now ceiling.z self.new }
         ensures base { unsigned_abs self.new.base < 2 ^ 62 }
         ensures splits { result ≡ Ok true → self.new ≡ split self.old (least_weight self.old.terms) subject }
-        ensures below { result ≡ Ok true → IsBelow self.new.base z }
-        ensures not_past { result ≡ Ok true → IsPast z greatest instance.now.domains self.new → ⊥ }
+        ensures below { result ≡ Ok true → IsBelow self.new.base ceiling.z }
+        ensures not_past { result ≡ Ok true → IsPast ceiling.z ceiling.greatest instance.now.domains self.new → ⊥ }
         ensures bounds { result ≡ Ok true → IsLowerBound instance.now.model (Bound.At self.new.base) }
-        ensures past { result ≡ Ok false → IsPast z greatest instance.now.domains (split self.old (least_weight
+        ensures past { result ≡ Ok false → IsPast ceiling.z ceiling.greatest instance.now.domains (split self.old (least_weight
             self.old.terms) subject) }
         ensures stays { result ≡ Ok false → self.new ≡ self.old }
         ensures err { OnErr result (self.new ≡ self.old) }
-        ensures none { result ≡ Ok false → NoneIsBelow instance.now z }
+        ensures none { result ≡ Ok false → NoneIsBelow instance.now ceiling.z }
     {
-        let limit = limit(z, greatest);
+        let limit = limit(ceiling);
         if limit < self.base() {
             return Ok(false);
         }

@@ -20,6 +20,7 @@ mod mark;
 mod objective;
 mod reform;
 
+pub use below::Ceiling;
 pub use held::Held;
 pub use mark::assumption;
 pub use objective::{greatest_sum, objective_terms};

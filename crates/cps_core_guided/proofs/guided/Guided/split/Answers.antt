@@ -1,5 +1,5 @@
 use Rattle.std.specs.Prelude.{Ok}
-use Rattle.std.proofs.Common.{◌≡◌, ◌∙◌, ◌<◌, ◌^◌, ◌+◌, ℤ, Bool, ap, arith, of_z, refl, subst, sym, to_z, unsigned_abs, w64}
+use Rattle.std.proofs.Common.{◌≡◌, ◌∙◌, ◌<◌, ◌^◌, ◌+◌, ℤ, Bool, ap, arith, refl, subst, sym, unsigned_abs}
 use Rattle.cps_model.specs.declared.bound.Bound.{Bound}
 use Rattle.cps_model.specs.declared.model.CpModel.{CpModel}
 use Rattle.cps_instance.specs.Problem.{Problem}
@@ -14,7 +14,7 @@ use Rattle.cps_core_guided.specs.CoreTurns.{IsCoreWorking}
 use Rattle.cps_core_guided.specs.Guiding.{Splits, core_search_of}
 use Rattle.cps_core_guided.specs.Reforming.{CoreSearch}
 use Rattle.cps_core_guided.proofs.CoreWorking.{works-grown}
-use Rattle.cps_core_guided.proofs.Reforming.{most-greatest, read_back, small-greatest, z-small}
+use Rattle.cps_core_guided.proofs.Reforming.{most-greatest, small-greatest, z-small}
 use Rattle.cps_core_guided.proofs.Results.{if_ok_of}
 use Rattle.cps_core_guided.proofs.guided.Guided.split.Goals as goal
 
@@ -23,23 +23,23 @@ split_below-requires-clause-reform g c =
     let s = core_search_of c.args.self.now in
     let t = c.grow_core.new.frame in
     let z : t.z ≡ s.search.z = ap (λ (x : Search). x.z) c.in_ok-subject.ensures.grew.is in
-    subst (λ (p : Problem). IsReform p c.z.result s.form) (sym c.instance.ensures) (subst (λ (b : Bound). IsReform t.instance b s.form) (sym (c.z.ensures ∙ z)) (c.in_ok-subject.ensures.reform s.search.z c.requires.works.sound.form))
+    subst (λ (p : Problem). IsReform p c.ceiling-ceiling.result.z s.form) (sym c.instance.ensures) (subst (λ (b : Bound). IsReform t.instance b s.form) (sym (c.ceiling-ceiling.ensures.z ∙ z)) (c.in_ok-subject.ensures.reform s.search.z c.requires.works.sound.form))
 
 pub split_below-requires-clause-z : goal.split_below-requires-clause-z
-split_below-requires-clause-z g c = subst (λ (z : Bound). IsSmallBound z) (sym c.z.ensures) (z-small c.grow_core.new.frame c.in_ok-subject.ensures.sound)
+split_below-requires-clause-z g c = subst (λ (z : Bound). IsSmallBound z) (sym c.ceiling-ceiling.ensures.z) (z-small c.grow_core.new.frame c.in_ok-subject.ensures.sound)
 
 pub split_below-requires-clause-greatest : goal.split_below-requires-clause-greatest
 split_below-requires-clause-greatest g c =
     let s = core_search_of c.args.self.now in
     let t = c.grow_core.new.frame in
     let model : c.instance.result.now.model ≡ s.search.instance.model = ap (λ (p : Problem). p.model) c.instance.ensures ∙ c.in_ok-subject.ensures.grew.defines.model in
-    subst (λ (m : CpModel). IsGreatest m (to_z w64 (of_z w64 s.greatest))) (sym model)
-    (subst (λ (v : ℤ). IsGreatest s.search.instance.model v) (sym (read_back s.greatest (small-greatest s c.requires.works.sound))) (most-greatest s c.requires.works.sound))
+    subst (λ (m : CpModel). IsGreatest m c.ceiling-ceiling.result.greatest) (sym model)
+    (subst (λ (v : ℤ). IsGreatest s.search.instance.model v) (sym c.ceiling-ceiling.ensures.greatest) (most-greatest s c.requires.works.sound))
 
 pub split_below-requires-clause-small : goal.split_below-requires-clause-small
 split_below-requires-clause-small g c =
     let s = core_search_of c.args.self.now in
-    subst (λ (v : ℤ). unsigned_abs v < 2 ^ 62) (sym (read_back s.greatest (small-greatest s c.requires.works.sound))) (small-greatest s c.requires.works.sound)
+    subst (λ (v : ℤ). unsigned_abs v < 2 ^ 62) (sym c.ceiling-ceiling.ensures.greatest) (small-greatest s c.requires.works.sound)
 
 pub returns-clause-splits : goal.returns-clause-splits
 returns-clause-splits g c =
@@ -48,7 +48,6 @@ returns-clause-splits g c =
     let f : Form = c.split_below.new.self in
     let n = c.in_ok-subject.subject in
     let grew = c.in_ok-subject.ensures.grew in
-    let back = read_back s.greatest (small-greatest s c.requires.works.sound) in
     let u : CoreSearch = record s { search = t; form = f; sums = s.sums + 1 } in
     let z : t.z ≡ s.search.z = ap (λ (x : Search). x.z) grew.is in
     if_ok_of c.split_below.result (Splits s u) (λ done e. record {
@@ -58,13 +57,13 @@ returns-clause-splits g c =
       is = λ on. c.split_below.ensures.splits (e ∙ ap (λ (b : Bool). Ok b) on);
       stays = λ off. c.split_below.ensures.stays (e ∙ ap (λ (b : Bool). Ok b) off);
       not_past = λ on. subst (λ (p : Problem). IsPast t.z s.greatest p.domains f → ⊥) c.instance.ensures
-          (subst (λ (v : ℤ). IsPast t.z v c.instance.result.now.domains f → ⊥) back
-          (subst (λ (b : Bound). IsPast b (to_z w64 (of_z w64 s.greatest)) c.instance.result.now.domains f → ⊥) c.z.ensures (c.split_below.ensures.not_past (e ∙ ap (λ (b : Bool). Ok b) on))));
+          (subst (λ (v : ℤ). IsPast t.z v c.instance.result.now.domains f → ⊥) c.ceiling-ceiling.ensures.greatest
+          (subst (λ (b : Bound). IsPast b c.ceiling-ceiling.result.greatest c.instance.result.now.domains f → ⊥) c.ceiling-ceiling.ensures.z (c.split_below.ensures.not_past (e ∙ ap (λ (b : Bool). Ok b) on))));
       past = λ off. subst (λ (p : Problem). IsPast t.z s.greatest p.domains (split s.form (least_weight s.form.terms) n)) c.instance.ensures
-          (subst (λ (v : ℤ). IsPast t.z v c.instance.result.now.domains (split s.form (least_weight s.form.terms) n)) back
-          (subst (λ (b : Bound). IsPast b (to_z w64 (of_z w64 s.greatest)) c.instance.result.now.domains (split s.form (least_weight s.form.terms) n)) c.z.ensures (c.split_below.ensures.past (e ∙ ap (λ (b : Bool). Ok b) off))));
+          (subst (λ (v : ℤ). IsPast t.z v c.instance.result.now.domains (split s.form (least_weight s.form.terms) n)) c.ceiling-ceiling.ensures.greatest
+          (subst (λ (b : Bound). IsPast b c.ceiling-ceiling.result.greatest c.instance.result.now.domains (split s.form (least_weight s.form.terms) n)) c.ceiling-ceiling.ensures.z (c.split_below.ensures.past (e ∙ ap (λ (b : Bool). Ok b) off))));
       none_below = λ off. subst (λ (m : CpModel). NoneBelow m s.search.z) grew.defines.model (subst (λ (b : Bound). NoneBelow t.instance.model b) z
-          (subst (λ (b : Bound). NoneIsBelow t.instance b) c.z.ensures (subst (λ (p : Problem). NoneIsBelow p c.z.result) c.instance.ensures (c.split_below.ensures.none (e ∙ ap (λ (b : Bool). Ok b) off)))));
+          (subst (λ (b : Bound). NoneIsBelow t.instance b) c.ceiling-ceiling.ensures.z (subst (λ (p : Problem). NoneIsBelow p c.ceiling-ceiling.result.z) c.instance.ensures (c.split_below.ensures.none (e ∙ ap (λ (b : Bool). Ok b) off)))));
       raised = refl;
       greatest = refl;
       ended = refl;
@@ -79,7 +78,7 @@ returns-clause-works g c =
     let b = c.args.self.now.brancher in
     let kept = c.args.self.now.kept in
     let grew = c.in_ok-subject.ensures.grew in
-    let reform : IsReform t.instance t.z f = subst (λ (p : Problem). IsReform p t.z f) c.instance.ensures (subst (λ (z : Bound). IsReform c.instance.result.now z f) c.z.ensures c.split_below.ensures.reform) in
+    let reform : IsReform t.instance t.z f = subst (λ (p : Problem). IsReform p t.z f) c.instance.ensures (subst (λ (z : Bound). IsReform c.instance.result.now z f) c.ceiling-ceiling.ensures.z c.split_below.ensures.reform) in
     let level : t.store.level ≡ 0 = ap (λ (x : Search). x.store.level) grew.is ∙ c.requires.bottom in
     let scope = g.B.Brancher.scope b in
     let agrees = g.B.Brancher.agrees b in
