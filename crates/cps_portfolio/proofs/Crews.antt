@@ -30,7 +30,7 @@ use Rattle.cps_portfolio.specs.Workers.{AnySearch, search_in, kind_in, ending_in
 use Rattle.cps_model.specs.Start.{objective_start}
 use Rattle.cps_port.specs.Incumbents.{IsLowerBound}
 use Rattle.cps_portfolio.specs.Outcomes.{CameTo, EndedWithin, GoesByModel, HasSums, better, best_of}
-use Rattle.cps_portfolio.specs.Crews.{part_at, words_splits, IsReady, Worked, IsSeated, IsCrew, IsDone, HasReturned, HaveReturned, EndedSeen, AreGathered}
+use Rattle.cps_portfolio.specs.Crews.{part_at, words_splits, IsAt, IsReady, Worked, IsSeated, IsCrew, IsDone, HasReturned, HaveReturned, EndedSeen, AreGathered}
 use Rattle.cps_portfolio.proofs.Going.{has_begun, done_from}
 
 -- ---- lists that grow and shrink at their end
@@ -238,6 +238,19 @@ all_ready m gap conflicts board bounds crew model h i d l = is_ready m gap confl
 pub all_back : (m : CpModel) (gap conflicts : ℕ) (board : Board) (bounds : Bounds) (crew after : List Seated) → length after ≡ length crew → IsCrew m gap conflicts board bounds crew
     → ((i : ℕ) (d : Seated) → i < length crew → Worked (slice_index_or crew i d) (slice_index_or after i d)) → HaveReturned m gap conflicts board bounds after
 all_back m gap conflicts board bounds crew after len h w = record { each = λ i d l. let k : i < length crew = omega (arith, l, len) in has_returned m gap conflicts board bounds i _ _ (h.each i d k) (w i d k) }
+
+-- the workers that were written over the crew after they searched
+pub written_back : (m : CpModel) (gap conflicts : ℕ) (board board' : Board) (bounds bounds' : Bounds) (n : ℕ) (crew before after : List Seated) → n ≡ length crew → before ≡ crew → length after ≡ length before → board ≡ board' → bounds ≡ bounds'
+    → IsCrew m gap conflicts board' bounds' crew → ((i : ℕ) (d : Seated) → i < length before → Worked (slice_index_or before i d) (slice_index_or after i d))
+    → HaveReturned m gap conflicts board bounds (take n (after ++ drop (length after) crew))
+written_back m gap conflicts board board' bounds bounds' n crew before after full same len at_board at_bounds h w =
+    let long : length after ≡ length crew = len ∙ ap (λ (l : List Seated). length l) same in
+    let there = subst (λ (b : Bounds). IsCrew m gap conflicts board b crew) (sym at_bounds) (subst (λ (b : Board). IsCrew m gap conflicts b bounds' crew) (sym at_board) h) in
+    let seated = subst (λ (l : List Seated). IsCrew m gap conflicts board bounds l) (sym same) there in
+    subst (λ (l : List Seated). HaveReturned m gap conflicts board bounds l) (sym (written n crew after full long)) (all_back m gap conflicts board bounds before after len seated w)
+
+pub all_at : (m : CpModel) (gap conflicts : ℕ) (board : Board) (bounds : Bounds) (crew : List Seated) → HaveReturned m gap conflicts board bounds crew → All (IsAt board bounds) crew
+all_at m gap conflicts board bounds crew h i d l = let back = h.each i d l in (back.board_is, back.bounds_is)
 
 pub splits_back : (crew after : List Seated) → length after ≡ length crew → ((i : ℕ) (d : Seated) → i < length crew → Worked (slice_index_or crew i d) (slice_index_or after i d)) → total words_splits after ≡ total words_splits crew
 splits_back crew after len w = total_same words_splits crew after len (λ i d l. (w i d l).seats.bounds_splits)

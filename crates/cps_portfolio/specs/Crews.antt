@@ -29,6 +29,10 @@ words_part c = words.part_of c.port.bounds_seat
 abbrev pub words_splits : Seated → ℕ
 words_splits c = words.splits_of c.port.bounds_seat
 
+-- a worker has its seats at these tables
+abbrev pub IsAt : Board → Bounds → Seated → Type 0
+IsAt board bounds c = (c.port.board.now ≡ board) × (c.port.bounds.now ≡ bounds)
+
 -- a worker of a model that may begin
 pub record IsReady (m : CpModel) (c : Seated) : Type 0 where
   pub of_model : (worker_search c.worker).instance.model ≡ m

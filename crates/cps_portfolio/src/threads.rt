@@ -4,7 +4,8 @@
 //! split back knows that the final bounds are exactly what the workers offered and raised, so the outcome is made from
 //! that pair. A worker that ran out of memory ends the run without an outcome, since nothing is known of how its search
 //! ended.
-ghost use Rattle.std.specs.Prelude.{◌≡◌, ◌+◌, ◌-◌, ◌/◌, ◌≤◌, vec_len, false, All, IfOk, OnOk, None};
+ghost use Rattle.std.specs.Prelude.{ℕ, ◌≡◌, ◌+◌, ◌-◌, ◌/◌, ◌≤◌, vec_len, false, All, IfOk, OnOk, None};
+ghost use Rattle.cps_model.specs.declared.model.CpModel.{CpModel};
 ghost use Rattle.cps_port.specs.Totals.{total};
 ghost use Rattle.cps_board.specs.Seats as boards;
 ghost use Rattle.cps_bounds.specs.Seats as words;
@@ -12,7 +13,7 @@ ghost use Rattle.cps_bounds.specs.Rule.{all_splits};
 ghost use Rattle.cps_options.specs.Ranges.{AreInRange};
 ghost use Rattle.cps_kinds.specs.Kinds.{AreAllPropagated};
 ghost use Rattle.cps_portfolio.specs.Outcomes.{IsGoodOutcome};
-ghost use Rattle.cps_portfolio.specs.Crews.{words_splits, IsSeated, IsCrew, HaveReturned, AreGathered};
+ghost use Rattle.cps_portfolio.specs.Crews.{words_splits, IsAt, IsSeated, IsCrew, HaveReturned, AreGathered};
 
 use crate::conclusion::outcome_of;
 use crate::ended::AnyEnded;
@@ -105,25 +106,22 @@ fn is_any_refused(crew: &[Seated<'_>]) -> bool
     false
 }
 
-/// Joins the seats of all workers to those of one port, and answers the workers' ends by number. `model` and
-/// `options` are there for the contract alone.
+/// Joins the seats of all workers to those of one port, and answers the workers' ends by number. Of whichever model and
+/// options they are that the workers have returned, the ends are gathered.
 fn gather<'a>(
     alloc: Global,
-    model: &ValidModel,
-    options: &Options,
     kept: &mut TablePort<'a>,
     mut crew: Vec<Seated<'a>>,
 ) -> Result<Vec<AnyEnded>, AllocError>
     requires idle { ((words.part_of kept.old.bounds_seat).offered ≡ Bound.Infinite)
         × ((words.part_of kept.old.bounds_seat).raised ≡ None) }
     requires splits { words.splits_of kept.old.bounds_seat + total words_splits crew.items ≡ all_splits }
-    requires crew { HaveReturned model.now options.now.gap options.now.conflicts
-        kept.old.board.now kept.old.bounds.now crew.items }
+    requires crew { All (IsAt kept.old.board.now kept.old.bounds.now) crew.items }
     ensures tables { (kept.new.board.now ≡ kept.old.board.now) × (kept.new.bounds.now ≡ kept.old.bounds.now) }
     ensures splits { OnOk result (words.splits_of kept.new.bounds_seat ≡ all_splits) }
-    ensures gathered { IfOk result
-        (λ ends. AreGathered model.now options.now.gap options.now.conflicts 0 (vec_len crew.entry)
-        (words.part_of kept.new.bounds_seat) ends.items) }
+    ensures gathered { IfOk result (λ ends. (m : CpModel) (gap conflicts : ℕ)
+        → HaveReturned m gap conflicts kept.old.board.now kept.old.bounds.now crew.entry.items
+        → AreGathered m gap conflicts 0 (vec_len crew.entry) (words.part_of kept.new.bounds_seat) ends.items) }
 {
     if is_any_refused(crew.as_slice()) {
         return Err(AllocError);
@@ -161,7 +159,7 @@ pub fn solve<R: Threads + Wait + Sync, G: Gate + Sync>(
     };
     let mut crew = seat_all(alloc, model, options, &mut kept)?;
     work_all(rt, crew.as_mut_slice(), &pool, gate);
-    let ends = gather(alloc, model, options, &mut kept, crew)?;
+    let ends = gather(alloc, &mut kept, crew)?;
     // Taken apart for its seats, with which the tables are closed.
     let TablePort {
         board: _,

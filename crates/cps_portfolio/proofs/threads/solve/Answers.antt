@@ -10,8 +10,8 @@ use Rattle.cps_port.specs.Order.{raised_above}
 use Rattle.cps_port.specs.Totals.{total}
 use Rattle.cps_bounds.specs.Seats as words
 use Rattle.cps_portfolio.specs.declared.seats.Seated.{Seated}
-use Rattle.cps_portfolio.specs.Crews.{words_splits, IsCrew, IsReady, HaveReturned, AreGathered}
-use Rattle.cps_portfolio.proofs.Crews.{written, all_ready, all_back, splits_back, came_to}
+use Rattle.cps_portfolio.specs.Crews.{words_splits, IsReady, AreGathered}
+use Rattle.cps_portfolio.proofs.Crews.{written, written_back, all_at, all_ready, splits_back, came_to}
 use Rattle.cps_portfolio.proofs.threads.solve.Goals as goal
 
 pub work_all-requires-clause-ready : goal.work_all-requires-clause-ready
@@ -40,16 +40,12 @@ gather-requires-clause-crew g c =
     let board : Board = c.seat_all.new.kept.board.now in
     let bounds : Bounds = c.seat_all.new.kept.bounds.now in
     let xs : List Seated = c.in_ok-crew.crew.items in
-    let ys : List Seated = c.work_all.new.crew in
     let same : c.as_mut_slice.result.now ≡ xs = c.as_mut_slice.ensures.value in
-    let len : length ys ≡ length xs = c.work_all.ensures.len ∙ ap (λ (l : List Seated). length l) same in
     let full : c.in_ok-crew.crew.len ≡ length xs = search rules in
-    let w = written c.in_ok-crew.crew.len xs ys full len in
     let tables = c.in_ok-crew.ensures.tables in
-    let crew = subst (λ (b : Bounds). IsCrew m o.gap o.conflicts board b xs) (sym tables.1) (subst (λ (b : Board). IsCrew m o.gap o.conflicts b c.in_ok-bounds.bounds xs) (sym tables.0) c.in_ok-crew.ensures.crew) in
-    let here = subst (λ (l : List Seated). IsCrew m o.gap o.conflicts board bounds l) (sym same) crew in
-    subst (λ (l : List Seated). HaveReturned m o.gap o.conflicts board bounds l) (sym w)
-    (all_back m o.gap o.conflicts board bounds c.as_mut_slice.result.now ys c.work_all.ensures.len here c.work_all.ensures.each)
+    all_at m o.gap o.conflicts board bounds _
+    (written_back m o.gap o.conflicts board c.in_ok-board.board bounds c.in_ok-bounds.bounds c.in_ok-crew.crew.len xs c.as_mut_slice.result.now c.work_all.new.crew full same c.work_all.ensures.len tables.0 tables.1
+    c.in_ok-crew.ensures.crew c.work_all.ensures.each)
 
 pub outcome_of-requires : goal.outcome_of-requires
 outcome_of-requires g c =
@@ -59,7 +55,15 @@ outcome_of-requires g c =
     let seat = c.gather.new.kept.bounds_seat in
     let model : words.model_of c.in_ok-bounds.bounds ≡ m = c.in_ok-bounds.ensures.model in
     let all = c.in_ok-ends.ensures.splits in
-    let came = subst (λ (n : ℕ). AreGathered m o.gap o.conflicts 0 n (words.part_of seat) c.in_ok-ends.ends.items) c.in_ok-crew.ensures.count c.in_ok-ends.ensures.gathered in
+    let board : Board = c.seat_all.new.kept.board.now in
+    let bounds : Bounds = c.seat_all.new.kept.bounds.now in
+    let xs : List Seated = c.in_ok-crew.crew.items in
+    let same : c.as_mut_slice.result.now ≡ xs = c.as_mut_slice.ensures.value in
+    let full : c.in_ok-crew.crew.len ≡ length xs = search rules in
+    let tables = c.in_ok-crew.ensures.tables in
+    let back = written_back m o.gap o.conflicts board c.in_ok-board.board bounds c.in_ok-bounds.bounds c.in_ok-crew.crew.len xs c.as_mut_slice.result.now c.work_all.new.crew full same c.work_all.ensures.len tables.0 tables.1
+    c.in_ok-crew.ensures.crew c.work_all.ensures.each in
+    let came = subst (λ (n : ℕ). AreGathered m o.gap o.conflicts 0 n (words.part_of seat) c.in_ok-ends.ends.items) c.in_ok-crew.ensures.count (c.in_ok-ends.ensures.gathered m o.gap o.conflicts back) in
     came_to m o.gap o.conflicts o.workers (words.part_of seat) c.close-upper.result.0 c.close-upper.result.1 c.in_ok-ends.ends.items came (k.whole_upper all)
     (k.whole_lower all ∙ ap (λ (x : CpModel). raised_above (words.part_of seat).raised (At (objective_start x))) model)
     (subst (λ (x : CpModel). IsLowerBound x c.close-upper.result.1) model k.lower) k.no_worse.0 k.no_worse.1
