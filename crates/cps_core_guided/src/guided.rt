@@ -29,7 +29,6 @@ ghost use Rattle.cps_core_guided.specs.CoreTurns.{GoesOn, RaisesTo, TakesCoreTur
 ghost use Rattle.cps_core_guided.specs.Guiding.{core_search_of, HasFailed, IsDue, Splits, Tried, Works};
 
 use crate::assume::{first_failed, first_open};
-use crate::grow::grow_core;
 use cps_branch::Brancher;
 use cps_instance::Term;
 use cps_literal::{Atom, Truth};
@@ -397,7 +396,7 @@ impl<'a, P: Defining, B: Brancher + Drop> Guided<'a, P, B> {
         ensures brancher { self.new.brancher ≡ self.old.brancher }
         ensures works { OnOk result (Works B.scope B.agrees self.new) }
     {
-        let subject = grow_core(&mut self.frame, &self.reform, core)?;
+        let subject = self.frame.grow(core, 0)?;
         // Reading the entries gives the proof the store's invariant.
         let _ = self.frame.store().entries();
         self.sums += 1;

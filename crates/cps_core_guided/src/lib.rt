@@ -17,7 +17,6 @@
 mod assume;
 mod ended;
 mod first;
-mod grow;
 mod guided;
 mod laws;
 mod worker;

@@ -1,15 +1,19 @@
 use Rattle.std.specs.Prelude.{Ok}
-use Rattle.std.proofs.Common.{◌≡◌, ◌∙◌, ◌<◌, ◌^◌, ◌+◌, ℤ, Bool, ap, arith, refl, subst, sym, unsigned_abs}
+use Rattle.std.proofs.Common.{◌≡◌, ◌∙◌, ◌<◌, ◌^◌, ◌+◌, ℕ, ℤ, Bool, List, ap, arith, pos, refl, subst, sym, unsigned_abs}
 use Rattle.cps_model.specs.declared.bound.Bound.{Bound}
 use Rattle.cps_model.specs.declared.model.CpModel.{CpModel}
+use Rattle.cps_instance.specs.declared.term.Term.{Term}
 use Rattle.cps_instance.specs.Problem.{Problem}
+use Rattle.cps_instance.specs.Sums.{DefinedSum}
 use Rattle.cps_trail.specs.Trail.{IsSound, Trail}
 use Rattle.cps_port.specs.Order.{IsSmallBound}
+use Rattle.cps_search.specs.Growing.{GrewBy}
 use Rattle.cps_search.specs.Searches.{NoneBelow, Search}
 use Rattle.cps_search.proofs.Results.{ok_if}
-use Rattle.cps_reform.specs.Cores.{core_sum, least_weight, split}
-use Rattle.cps_reform.specs.Floors.{IsGreatest, IsPast, IsReform, NoneIsBelow}
+use Rattle.cps_reform.specs.Cores.{core_sum, core_terms, least_weight, split, IsSomeAbove}
+use Rattle.cps_reform.specs.Floors.{IsCoreSum, IsGreatest, IsPast, IsReform, NoneIsBelow, OfEachBelow}
 use Rattle.cps_reform.specs.Forms.{Form}
+use Rattle.cps_reform.proofs.Growing.{core-reach, core-subjects, grown-core, grown-reform, grown-sum}
 use Rattle.cps_core_guided.specs.CoreTurns.{IsCoreWorking}
 use Rattle.cps_core_guided.specs.Guiding.{Splits, core_search_of}
 use Rattle.cps_core_guided.specs.Reforming.{CoreSearch}
@@ -18,21 +22,61 @@ use Rattle.cps_core_guided.proofs.Reforming.{most-greatest, small-greatest, z-sm
 use Rattle.cps_core_guided.proofs.Results.{if_ok_of}
 use Rattle.cps_core_guided.proofs.guided.Guided.split.Goals as goal
 
+-- the sum that was defined is that of the core
+of_core : (s t : Search) (terms core : List Term) (subject : ℕ) → terms ≡ core → GrewBy s t (record { terms = terms; offset = pos 0 }) subject → GrewBy s t (record { terms = core; offset = pos 0 }) subject
+of_core s t terms core subject same grew = subst (λ (us : List Term). GrewBy s t (record { terms = us; offset = pos 0 }) subject) same grew
+
+same_z : (s t : Search) (sum : DefinedSum) (subject : ℕ) → GrewBy s t sum subject → t.z ≡ s.z
+same_z s t sum subject grew = ap (λ (x : Search). x.z) grew.is
+
+pub grow-requires-clause-subjects : goal.grow-requires-clause-subjects
+grow-requires-clause-subjects g c =
+    let s = core_search_of c.args.self.now in
+    rw c.requires.core (core-subjects s.search.instance.domains s.form.terms c.requires.works.sound.form.roomy.terms)
+
+pub grow-requires-clause-small : goal.grow-requires-clause-small
+grow-requires-clause-small g c =
+    let s = core_search_of c.args.self.now in
+    rw c.requires.core (core-reach s.search.instance.domains s.form c.requires.works.sound.form.roomy c.requires.weights)
+
 pub split_below-requires-clause-reform : goal.split_below-requires-clause-reform
 split_below-requires-clause-reform g c =
     let s = core_search_of c.args.self.now in
-    let t = c.grow_core.new.frame in
-    let z : t.z ≡ s.search.z = ap (λ (x : Search). x.z) c.in_ok-subject.ensures.grew.is in
-    subst (λ (p : Problem). IsReform p c.ceiling-ceiling.result.z s.form) (sym c.instance.ensures) (subst (λ (b : Bound). IsReform t.instance b s.form) (sym (c.ceiling-ceiling.ensures.z ∙ z)) (c.in_ok-subject.ensures.reform s.search.z c.requires.works.sound.form))
+    let t = c.grow.new.self in
+    let n = c.in_ok-subject.subject in
+    let grew = of_core s.search t c.args.core.now (core_terms s.form.terms) n c.requires.core c.in_ok-subject.ensures.grew in
+    let z = same_z s.search t (core_sum s.form.terms) n grew in
+    subst (λ (p : Problem). IsReform p c.ceiling-ceiling.result.z s.form) (sym c.instance.ensures) (subst (λ (b : Bound). IsReform t.instance b s.form) (sym (c.ceiling-ceiling.ensures.z ∙ z))
+    (grown-reform s.search.instance t.instance s.form n grew.defines c.in_ok-subject.ensures.sound.instance s.search.z c.requires.works.sound.form))
+
+pub split_below-requires-clause-sum : goal.split_below-requires-clause-sum
+split_below-requires-clause-sum g c =
+    let s = core_search_of c.args.self.now in
+    let t = c.grow.new.self in
+    let n = c.in_ok-subject.subject in
+    let grew = of_core s.search t c.args.core.now (core_terms s.form.terms) n c.requires.core c.in_ok-subject.ensures.grew in
+    subst (λ (p : Problem). IsCoreSum p s.form.terms n) (sym c.instance.ensures)
+    (grown-sum s.search.instance t.instance s.form n grew.defines c.in_ok-subject.ensures.sound.instance c.requires.works.sound.form.roomy)
+
+pub split_below-requires-clause-core : goal.split_below-requires-clause-core
+split_below-requires-clause-core g c =
+    let s = core_search_of c.args.self.now in
+    let t = c.grow.new.self in
+    let n = c.in_ok-subject.subject in
+    let grew = of_core s.search t c.args.core.now (core_terms s.form.terms) n c.requires.core c.in_ok-subject.ensures.grew in
+    let z = same_z s.search t (core_sum s.form.terms) n grew in
+    subst (λ (p : Problem). OfEachBelow p c.ceiling-ceiling.result.z (λ xs. IsSomeAbove xs s.form.terms)) (sym c.instance.ensures) (subst (λ (b : Bound). OfEachBelow t.instance b (λ xs. IsSomeAbove xs s.form.terms)) (sym (c.ceiling-ceiling.ensures.z ∙ z))
+    (grown-core s.search.instance t.instance s.form n grew.defines c.in_ok-subject.ensures.sound.instance c.requires.works.sound.form.roomy s.search.z c.requires.above))
 
 pub split_below-requires-clause-z : goal.split_below-requires-clause-z
-split_below-requires-clause-z g c = subst (λ (z : Bound). IsSmallBound z) (sym c.ceiling-ceiling.ensures.z) (z-small c.grow_core.new.frame c.in_ok-subject.ensures.sound)
+split_below-requires-clause-z g c = subst (λ (z : Bound). IsSmallBound z) (sym c.ceiling-ceiling.ensures.z) (z-small c.grow.new.self c.in_ok-subject.ensures.sound)
 
 pub split_below-requires-clause-greatest : goal.split_below-requires-clause-greatest
 split_below-requires-clause-greatest g c =
     let s = core_search_of c.args.self.now in
-    let t = c.grow_core.new.frame in
-    let model : c.instance.result.now.model ≡ s.search.instance.model = ap (λ (p : Problem). p.model) c.instance.ensures ∙ c.in_ok-subject.ensures.grew.defines.model in
+    let t = c.grow.new.self in
+    let grew = c.in_ok-subject.ensures.grew in
+    let model : c.instance.result.now.model ≡ s.search.instance.model = ap (λ (p : Problem). p.model) c.instance.ensures ∙ grew.defines.model in
     subst (λ (m : CpModel). IsGreatest m c.ceiling-ceiling.result.greatest) (sym model)
     (subst (λ (v : ℤ). IsGreatest s.search.instance.model v) (sym c.ceiling-ceiling.ensures.greatest) (most-greatest s c.requires.works.sound))
 
@@ -44,12 +88,12 @@ split_below-requires-clause-small g c =
 pub returns-clause-splits : goal.returns-clause-splits
 returns-clause-splits g c =
     let s = core_search_of c.args.self.now in
-    let t = c.grow_core.new.frame in
+    let t = c.grow.new.self in
     let f : Form = c.split_below.new.self in
     let n = c.in_ok-subject.subject in
-    let grew = c.in_ok-subject.ensures.grew in
+    let grew = of_core s.search t c.args.core.now (core_terms s.form.terms) n c.requires.core c.in_ok-subject.ensures.grew in
     let u : CoreSearch = record s { search = t; form = f; sums = s.sums + 1 } in
-    let z : t.z ≡ s.search.z = ap (λ (x : Search). x.z) grew.is in
+    let z = same_z s.search t (core_sum s.form.terms) n grew in
     if_ok_of c.split_below.result (Splits s u) (λ done e. record {
       subject = n;
       grew = grew;
@@ -73,11 +117,11 @@ returns-clause-splits g c =
 pub returns-clause-works : goal.returns-clause-works
 returns-clause-works g c =
     let s = core_search_of c.args.self.now in
-    let t = c.grow_core.new.frame in
+    let t = c.grow.new.self in
     let f : Form = c.split_below.new.self in
     let b = c.args.self.now.brancher in
     let kept = c.args.self.now.kept in
-    let grew = c.in_ok-subject.ensures.grew in
+    let grew = of_core s.search t c.args.core.now (core_terms s.form.terms) c.in_ok-subject.subject c.requires.core c.in_ok-subject.ensures.grew in
     let reform : IsReform t.instance t.z f = subst (λ (p : Problem). IsReform p t.z f) c.instance.ensures (subst (λ (z : Bound). IsReform c.instance.result.now z f) c.ceiling-ceiling.ensures.z c.split_below.ensures.reform) in
     let level : t.store.level ≡ 0 = ap (λ (x : Search). x.store.level) grew.is ∙ c.requires.bottom in
     let scope = g.B.Brancher.scope b in
