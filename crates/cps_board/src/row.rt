@@ -3,7 +3,7 @@ ghost use Rattle.std.specs.Prelude.{◌≡◌, ℕ, ◌+◌, ◌*◌, ◌<◌, �
 ghost use lib.ListN.{get_elem?};
 ghost use mathlib.Core.Option.{some};
 ghost use Rattle.cps_port.specs.declared.entry.Entry.{Entry as EntryOf};
-ghost use Rattle.cps_port.specs.Entries.{entry_of, IsSoundEntry};
+ghost use Rattle.cps_port.specs.Entries.{entry_of, most_rows, IsSoundEntry};
 ghost use Rattle.cps_port.specs.Parts.{with_mine};
 ghost use Rattle.cps_board.specs.Coding.{entry_words, IsCoded, IsCodedEntry};
 ghost use Rattle.cps_board.specs.Rows.{with_part, filling};
@@ -39,7 +39,7 @@ pub fn fill(
     clause: &[Atom],
 )
     requires own { seat.old.table_id ≡ shared.now.table_id }
-    requires inside { (row < shared.now.table_id.slots) × (shared.now.table_id.slots ≤ 4096)
+    requires inside { (row < shared.now.table_id.slots) × (shared.now.table_id.slots ≤ most_rows)
         × (shared.now.table_id.words ≡ 35 * shared.now.table_id.slots + 1) }
     requires part { 0 < seat.old.me.0.splits }
     requires drawn { (seat.old.me.0.part.drawn ≡ Some row) × (seat.old.me.0.written ≡ []) }
@@ -69,7 +69,7 @@ pub fn read_row(
     row: u32,
 ) -> Entry
     requires own { seat.old.table_id ≡ shared.now.table_id }
-    requires inside { (row < shared.now.table_id.slots) × (shared.now.table_id.slots ≤ 4096)
+    requires inside { (row < shared.now.table_id.slots) × (shared.now.table_id.slots ≤ most_rows)
         × (shared.now.table_id.words ≡ 35 * shared.now.table_id.slots + 1) }
     requires part { 0 < seat.old.me.0.splits }
     requires taken { (e : EntryOf) × (get_elem? seat.old.me.0.part.taken row ≡ some e) × (e.row ≡ row)

@@ -1,6 +1,7 @@
 //! The board and its seats.
 ghost use Rattle.std.specs.Prelude.{◌≡◌, ◌+◌, ◌*◌, ◌<◌, ◌≤◌, [], length, None};
 ghost use Rattle.cps_model.specs.Validity.{IsValid};
+ghost use Rattle.cps_port.specs.Entries.{most_rows};
 
 use crate::rule::OpenRows;
 use crate::view::View;
@@ -15,7 +16,7 @@ pub struct Board {
     pub(crate) rows: u32,
     ghost wide: { table.shared.table_id.words ≡ 35 * rows + 1 },
     ghost slots: { table.shared.table_id.slots ≡ rows },
-    ghost few: { rows ≤ 4096 },
+    ghost few: { rows ≤ most_rows },
     ghost valid: { IsValid table.shared.key },
 }
 

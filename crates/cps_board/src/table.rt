@@ -7,7 +7,7 @@
 //! cannot wrap.
 ghost use Rattle.std.specs.Prelude.{◌≡◌, ℕ, ◌+◌, ◌-◌, ◌/◌, ◌<◌, ◌≤◌, length, min, true, if◌then◌else◌, IfOk};
 ghost use Rattle.cps_port.specs.Incumbents.{HoldsBelow, IsIncumbent};
-ghost use Rattle.cps_port.specs.Entries.{IsShareable};
+ghost use Rattle.cps_port.specs.Entries.{most_rows, IsShareable};
 ghost use Rattle.cps_port.specs.Parts.{no_rows};
 ghost use Rattle.cps_port.specs.Says.{ShareSays, TakeSays};
 ghost use Rattle.cps_board.specs.Rows.{all_splits, newly, both_parts};
@@ -40,7 +40,7 @@ impl Board {
         model: &ValidModel,
         rows: u32,
     ) -> Result<(Board, BoardSeat), AllocError>
-        requires { (1 ≤ rows) × (rows ≤ 4096) }
+        requires { (1 ≤ rows) × (rows ≤ most_rows) }
         ensures board { IfOk result (λ t. (model_of t.0 ≡ model.now) × (rows_of t.0 ≡ rows)) }
         ensures seat { IfOk result (λ t. IsSeatOf t.0 t.1 × (part_of t.1 ≡ no_rows)) }
         ensures splits { IfOk result (λ t. (splits_of t.1 ≡ all_splits) × (draws_of t.1 ≡ 0)) }

@@ -10,6 +10,7 @@ use Rattle.cps_branch.specs.Choice.{IsUndecided}
 use Rattle.cps_branch.specs.Scope.{Scope, IsScopeOf}
 use Rattle.cps_port.specs.declared.part.BoardPart.{BoardPart}
 use Rattle.cps_port.specs.declared.part.Part.{Part}
+use Rattle.cps_port.specs.Entries.{most_rows}
 use Rattle.cps_port.specs.Order.{BoundLe, raised_to}
 use Rattle.cps_port.specs.Parts.{after_raise}
 use Rattle.cps_search.specs.declared.end.End.{End}
@@ -251,6 +252,6 @@ pub record IsCoreWorking (s : CoreSearch) (scope : Scope) (agrees : ℕ → Type
   pub of_problem : IsScopeOf s.search.instance scope
   pub budget : IfSome s.search.budget (λ budget. budget ≤ 10 ^ 9)
   pub has_budget : IsSome s.search.budget
-  pub few : s.search.imported ≤ 4096
+  pub few : s.search.imported ≤ most_rows
   pub within : kept ≤ length s.search.store.entries
   pub agreed : agrees kept

@@ -1,6 +1,7 @@
 -- What a worker that has not ended keeps between two turns, and what a learnt clause does to it.
 use Rattle.std.specs.Prelude.{◌≡◌, ◌+◌, ◌*◌, min, ◌^◌, ◌≤◌, Bool, true, false, None, length}
 use Rattle.cps_instance.specs.Problem.{variable_count}
+use Rattle.cps_port.specs.Entries.{most_rows}
 use Rattle.cps_branch.specs.Scope.{IsScopeOf}
 use Rattle.cps_branch.specs.SetAside.{AreFixedAside}
 use Rattle.cps_search.specs.Lessons.{GoesBack}
@@ -35,7 +36,7 @@ pub record IsExploring {P : Type 0} (x : Explorer P) : Type 0 where
       (record { variables = length x.brancher.activities; subjects = length x.brancher.activities })
   pub budget : x.frame.budget ≡ None
   pub conflicts : x.conflicts ≤ 10 ^ 9
-  pub imported : x.frame.imported ≤ 4096
+  pub imported : x.frame.imported ≤ most_rows
   pub within : x.kept ≤ length x.frame.store.entries
   pub agreed : AreFixedAside (length x.brancher.activities) x.brancher.aside x.frame.store x.kept
   pub variables : length x.aim.values.items ≡ variable_count x.frame.instance

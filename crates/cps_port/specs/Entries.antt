@@ -11,6 +11,10 @@ use Rattle.cps_port.specs.Incumbents.{HoldsBelow, IsIncumbent}
 abbrev pub most_atoms : ℕ
 most_atoms = 16
 
+-- the most rows of a board
+abbrev pub most_rows : ℕ
+most_rows = 4096
+
 -- what stands in the places that an entry's clause leaves free
 abbrev pub blank : Atom
 blank = record { subject = 0; op = Le; value = pos 0 }

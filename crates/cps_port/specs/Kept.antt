@@ -4,6 +4,7 @@ use Rattle.cps_model.specs.declared.model.CpModel.{CpModel}
 use Rattle.cps_model.specs.Validity.{IsValid}
 use Rattle.cps_port.specs.declared.entry.Entry.{Entry}
 use Rattle.cps_port.specs.declared.part.BoardPart.{BoardPart}
+use Rattle.cps_port.specs.Entries.{most_rows}
 use Rattle.cps_port.specs.Totals.{total, one_if}
 use Rattle.cps_port.specs.Shared.{BoardState, Shared, board_part, row_at}
 use Rattle.cps_port.specs.Sound.{IsSoundBoard, IsSoundBounds}
@@ -27,7 +28,7 @@ pub record BoardKept (m : CpModel) (b : BoardState) : Type 0 where
 
 pub record IsKept (c : Shared) : Type 0 where
   pub valid : IsValid c.model
-  pub few : length c.board.rows ≤ 4096
+  pub few : length c.board.rows ≤ most_rows
   pub both : length c.bounds.parts ≡ length c.board.parts
   pub board : BoardKept c.model c.board
   pub bounds : IsSoundBounds c.model c.bounds

@@ -10,7 +10,7 @@ use Rattle.cps_port.specs.declared.part.BoardPart.{BoardPart}
 use Rattle.cps_port.specs.declared.part.BoundsPart.{BoundsPart}
 use Rattle.cps_port.specs.Order.{BoundLe, IsNoLower, lesser, raised_above}
 use Rattle.cps_port.specs.Incumbents.{IsIncumbent, IsLowerBound}
-use Rattle.cps_port.specs.Entries.{IsSoundEntry}
+use Rattle.cps_port.specs.Entries.{most_rows, IsSoundEntry}
 use Rattle.cps_port.specs.Totals.{total, times}
 use Rattle.cps_port.specs.Shared.{BoardState, BoundsState, Shared, board_part, bounds_part, row_at, actor_count, after, IsLawful}
 
@@ -49,7 +49,7 @@ pub record IsSoundBounds (m : CpModel) (s : BoundsState) : Type 0 where
   pub saw_lower : (i : ℕ) → IsNoLower (bounds_part s i).saw_lower s.lower
 
 pub record IsSoundShared (c : Shared) : Type 0 where
-  pub few : length c.board.rows ≤ 4096
+  pub few : length c.board.rows ≤ most_rows
   pub both : length c.bounds.parts ≡ length c.board.parts
   pub board : IsSoundBoard c.model c.board
   pub bounds : IsSoundBounds c.model c.bounds

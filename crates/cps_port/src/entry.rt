@@ -7,6 +7,9 @@ use cps_model::Bound;
 /// The most atoms of a clause that is shared.
 pub const MOST_ATOMS: usize = 16;
 
+/// The most rows of a board. After the last nothing more is shared.
+pub const MOST_ROWS: u32 = 4096;
+
 /// Fills the places of an entry that its clause leaves free.
 pub(crate) const BLANK: Atom = Atom {
     subject: 0,

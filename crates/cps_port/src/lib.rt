@@ -19,7 +19,7 @@ mod seat;
 pub mod state;
 pub mod word;
 
-pub use entry::{Entry, MOST_ATOMS, Share, Taken};
+pub use entry::{Entry, MOST_ATOMS, MOST_ROWS, Share, Taken};
 pub use event::{Event, Seen};
 pub use order::{greater, is_closed, lesser, raised_to};
 pub use part::{BoardPart, BoundsPart, Part};

@@ -1,5 +1,6 @@
 //! A port of one actor over the shared state.
 ghost use Rattle.std.specs.Prelude.{◌≡◌, ◌<◌, ◌≤◌, length, None};
+ghost use Rattle.cps_port.specs.Entries.{most_rows};
 ghost use Rattle.cps_port.specs.Shared.{actor_count, board_part};
 
 use crate::entry::{Entry, Share, Taken};
@@ -17,7 +18,7 @@ pub struct PlainPort<'a, 'm> {
     pub actor: u32,
     ghost known: { actor < actor_count core.now },
     ghost idle: { (board_part core.now.board actor).drawn ≡ None },
-    ghost few: { length core.now.board.rows ≤ 4096 },
+    ghost few: { length core.now.board.rows ≤ most_rows },
 }
 
 impl Port for PlainPort<'_, '_> {

@@ -4,7 +4,7 @@ ghost use Rattle.cps_model.specs.declared.model.CpModel.{CpModel as CpModelOf};
 ghost use Rattle.cps_port.specs.declared.part.Part.{Part as PartOf};
 ghost use Rattle.cps_port.specs.Order.{BoundLe, IsNoLower, Rises, IsSmallBound};
 ghost use Rattle.cps_port.specs.Incumbents.{HoldsBelow, IsAttained, IsIncumbent, IsLowerBound};
-ghost use Rattle.cps_port.specs.Entries.{IsShareable};
+ghost use Rattle.cps_port.specs.Entries.{most_rows, IsShareable};
 ghost use Rattle.cps_port.specs.Parts.{after_upper, after_lower, after_offer, after_raise};
 ghost use Rattle.cps_port.specs.Says.{ShareSays, TakeSays, AnswersOffer, AnswersRaise};
 
@@ -86,8 +86,8 @@ pub trait Port {
         ensures bounds { (part self.new).bounds ≡ (part self.old).bounds }
         ensures said { TakeSays (model self.old) (rows self.old) (part self.old).board (part self.new).board result };
 
-    // the board has at most 4,096 rows, and between two calls no row is drawn and unpublished
-    ghost few: { (p : Self) → rows p ≤ 4096 };
+    // a board has few rows, and between two calls no row is drawn and unpublished
+    ghost few: { (p : Self) → rows p ≤ most_rows };
 
     ghost none_drawn: { (p : Self) → (part p).board.drawn ≡ None };
 

@@ -6,6 +6,7 @@
 //! still at their type's last value, since a count that wraps would tell of a look that did not take place.
 ghost use Rattle.std.specs.Prelude.{◌≡◌, ◌<◌, ◌≤◌, ◌^◌, ◌↔◌, IfOk, IsTrue, length};
 ghost use Rattle.cps_model.specs.Start.{objective_start};
+ghost use Rattle.cps_port.specs.Entries.{most_rows};
 ghost use Rattle.cps_port.specs.Shared.{first_shared, actor_count, board_part, next_row, row_drawn, after, seen, counted, IsLawful};
 ghost use Rattle.cps_port.specs.Sound.{IsSoundShared, StaysSound};
 ghost use Rattle.cps_port.specs.Order.{lesser, greater};
@@ -62,7 +63,7 @@ impl<'a> CoreState<'a> {
         actors: u32,
         rows: u32,
     ) -> Result<CoreState<'a>, AllocError>
-        requires { (1 ≤ rows) × (rows ≤ 4096) }
+        requires { (1 ≤ rows) × (rows ≤ most_rows) }
         ensures first { IfOk result (λ core. core ≡ first_shared model.now actors rows) }
         ensures sound { IfOk result IsSoundShared }
         ensures lasting { IfOk result StaysSound }

@@ -7,6 +7,7 @@
 ghost use Rattle.std.specs.Prelude.{◌≡◌, ℕ, ◌<◌, ◌≤◌, length, vec_len, All, IfOk, OnOk, map, false, None, slice_index_or};
 ghost use Rattle.rand_pcg.specs.Lcg.{Lcg};
 ghost use Rattle.cps_options.specs.Ranges.{AreInRange};
+ghost use Rattle.cps_port.specs.Entries.{most_rows};
 ghost use Rattle.cps_port.specs.Shared.{actor_count, board_part, part_at, after};
 ghost use Rattle.cps_port.specs.Others.{ActsAlone};
 ghost use Rattle.cps_port.specs.Sound.{IsSoundShared};
@@ -24,14 +25,11 @@ use crate::worker::{AnyWorker, reads_pool};
 use cps_model::Bound;
 use cps_options::Options;
 use cps_pool::PlainPool;
-use cps_port::{CoreState, Event, PlainPort, Seen};
+use cps_port::{CoreState, Event, MOST_ROWS, PlainPort, Seen};
 use cps_validate::ValidModel;
 use rand_core::utils::NextWord;
 use rand_pcg::Lcg64Xsh32;
 use std::alloc::{AllocError, Global};
-
-/// How many rows the board has, as many as with threads. After the last nothing more is shared.
-const ROWS: u32 = 4096;
 
 /// A worker, and whether it has ended.
 #[derive(Drop)]
@@ -212,9 +210,9 @@ pub fn solve_interleaved(
     requires range { AreInRange options.now }
     requires kinds { AreAllPropagated model.now }
     ensures good { IfOk result (IsGoodOutcome model.now options.now) }
-    ensures drawn { IfOk result (λ o. IsDrawnRun model.now options.now 4096 o.ends) }
+    ensures drawn { IfOk result (λ o. IsDrawnRun model.now options.now most_rows o.ends) }
 {
-    let mut core = CoreState::new(alloc, model, options.workers, ROWS)?;
+    let mut core = CoreState::new(alloc, model, options.workers, MOST_ROWS)?;
     let mut crew = crew_of(alloc, model, options)?;
     let mut port = PlainPort {
         core: &mut core,

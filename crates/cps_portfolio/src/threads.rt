@@ -27,13 +27,11 @@ use cps_model::Bound;
 use cps_options::Options;
 use cps_outer::Gate;
 use cps_pool::SharedPool;
+use cps_port::MOST_ROWS;
 use cps_validate::ValidModel;
 use std::alloc::{AllocError, Global};
 use std::sync::Wait;
 use std::thread::Threads;
-
-/// How many rows the board has. After the last nothing more is shared.
-const ROWS: u32 = 4096;
 
 /// A worker with seats of its own, which take half of the splits that a port has left.
 fn seat_one<'a>(
@@ -149,7 +147,7 @@ pub fn solve<R: Threads + Wait + Sync, G: Gate + Sync>(
     ensures { IfOk result (IsGoodOutcome model.now options.now) }
 {
     let (bounds, bounds_seat) = Bounds::new(alloc, model)?;
-    let (board, board_seat) = Board::new(alloc, model, ROWS)?;
+    let (board, board_seat) = Board::new(alloc, model, MOST_ROWS)?;
     let pool = SharedPool::new(alloc, model, reads_pool(options.workers))?;
     let mut kept = TablePort {
         board: &board,
