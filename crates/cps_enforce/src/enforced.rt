@@ -109,7 +109,6 @@ impl<R: Rule> Propagator for Enforced<R> {
     }
 
     fn wakes_on(&self, _subject: u32, _place: usize) -> Wake {
-        let _ = &self.rule;
         Wake::Any
     }
 
