@@ -53,15 +53,6 @@ always_holds : (s : Trail) (u : Atom) (xs : List ℤ) → u.subject < length s.f
 unfolding admits
 always_holds s u xs l h w = h (value_at xs u.subject) (and_both _ true (w u.subject l) refl)
 
--- no fact
-pub Denies-none : (s : Trail) (old : List Atom) → Denies s [] old old
-Denies-none s old = record {
-  kept = λ xs h. h;
-  false_now = λ u h. inl h;
-  known = λ h. h;
-  facts = λ xs w f. All-nil (λ u. atom_holds xs u ≡ true);
-}
-
 -- one more fact
 module _ (s : Trail) (us old now : List Atom) (i : ℕ) (t : Atom) (l : i < length us) (is : t ≡ get_or us i t) (fact : IsFact s t) (h : Denies s (take i us) old now) where
   with_this : (xs : List ℤ) → AllTrueAt xs (take i us) → atom_holds xs t ≡ true → AllTrueAt xs (take (i + 1) us)

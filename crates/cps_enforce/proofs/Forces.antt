@@ -1,7 +1,7 @@
 -- Enforcement atoms: which are true, and what follows where one is left.
 use Rattle.std.specs.Prelude.{◌&&◌, not, is_some, All, Option, Some, None}
 use Rattle.std.specs.List.{list_all}
-use Rattle.std.proofs.Common.{◌≡◌, ◌≢◌, ◌⊎◌, inl, inr, ℕ, ◌+◌, ◌<◌, ◌≤◌, ℤ, arith, Bool, true, false, ap, refl, sym, ◌∙◌, List, [], ◌∷◌, ◌++◌, length, take, drop, get_or, subst}
+use Rattle.std.proofs.Common.{◌≡◌, ◌≢◌, ◌⊎◌, inl, inr, ℕ, ◌+◌, ◌<◌, ℤ, arith, Bool, true, false, ap, refl, sym, ◌∙◌, List, [], ◌∷◌, ◌++◌, length, take, drop, get_or, subst}
 use Rattle.std.proofs.lemmas.List.{get_or_default, length-take-le, get_or-take, get_or-drop, length-drop, take-append-drop, drop_more}
 use Rattle.std.proofs.lemmas.List.Folds.{list_all-append}
 use Rattle.std.proofs.lemmas.List.Elements.{All-append, All-nil, All-cons, All-head, All-tail}
@@ -52,13 +52,6 @@ module _ (s : Trail) (us : List Atom) (n : ℕ) (u : Atom) (l : n < length us) (
     not_false = λ d t. nf (subst (λ (v : Atom). IsFalseNow s v) (sym (is d)) t);
   }
 
-  pub force_false : (IsTrueNow s u → ⊥) → IsFalseNow s u → IsBarred s us n
-  force_false nt f = record {
-    inside = l;
-    not_true = λ d t. nt (subst (λ (v : Atom). IsTrueNow s v) (sym (is d)) t);
-    last = λ others d. subst (λ (v : Atom). IsFalseNow s v) (is d) f;
-  }
-
   pub force_twice : (place : ℕ) → (IsTrueNow s u → ⊥) → OpenSoFar s us n place → IsBarred s us n
   force_twice place nt h = record {
     inside = l;
@@ -73,14 +66,6 @@ module _ (s : Trail) (us : List Atom) (n : ℕ) (u : Atom) (l : n < length us) (
   pub force_none : (found : Option ℕ) → is_some found ≡ false → (IsTrueNow s u → ⊥) → (IsFalseNow s u → ⊥) → IsForceSoFar s us n found → IsForceSoFar s us (n + 1) (Some n)
   force_none None none nt nf h = force_open nt nf h
   force_none (Some place) none nt nf h = absurd (let bad : true ≡ false = none in cc)
-
-pub open_whole : (s : Trail) (us : List Atom) (n place : ℕ) → length us ≤ n → n ≤ length us → OpenSoFar s us n place → IsOpenAt s us place
-open_whole s us n place p q h = record {
-  inside = (let i = h.inside in omega arith);
-  others = λ k d b ne. h.others k d (omega arith) ne;
-  not_true = h.not_true;
-  not_false = h.not_false;
-}
 
 -- what holds of all atoms but one
 pub but_all : (P : Atom → Type 0) (us : List Atom) (place : ℕ) → place < length us → ((k : ℕ) (d : Atom) → k < length us → k ≢ place → P (get_or us k d)) → All P (but us place)

@@ -1,14 +1,14 @@
 -- One pass over what a look found.
 use Rattle.std.specs.Prelude.{All}
-use Rattle.std.proofs.Common.{ℕ, ◌+◌, ◌<◌, List, [], length, take, get_or}
-use Rattle.std.proofs.lemmas.List.Elements.{All-nil, All-more, All-weaker}
+use Rattle.std.proofs.Common.{ℕ, ◌+◌, ◌<◌, List, length, take, get_or}
+use Rattle.std.proofs.lemmas.List.Elements.{All-more, All-weaker}
 use Rattle.cps_literal.specs.declared.atom.Atom.{Atom}
 use Rattle.cps_instance.specs.declared.task.Body.{Body}
 use Rattle.cps_instance.specs.Tasks.{HoldsTask}
 use Rattle.cps_trail.specs.Trail.{Trail, IsTrueNow}
 use Rattle.cps_trail.specs.Adds.{Infers}
 use Rattle.cps_trail.specs.Notes.{ByTask}
-use Rattle.cps_trail.proofs.Inferring.{Infers-refl, Infers-trans, stays_true}
+use Rattle.cps_trail.proofs.Inferring.{Infers-trans, stays_true}
 use Rattle.cps_rule.specs.declared.rule.Narrowing.{Narrowing}
 use Rattle.cps_enforce.specs.Reasons.{task_of}
 
@@ -16,12 +16,6 @@ use Rattle.cps_enforce.specs.Reasons.{task_of}
 pub record Narrows (number : ℕ) (us : List Atom) (b : Body) (s u : Trail) (found : List Narrowing) : Type 0 where
   pub infers : Infers (ByTask number (HoldsTask (task_of us b))) s u
   pub made : All (λ n. IsTrueNow u n.target) found
-
-pub Narrows-none : (number : ℕ) (us : List Atom) (b : Body) (s : Trail) → Narrows number us b s s []
-Narrows-none number us b s = record {
-  infers = Infers-refl (ByTask number (HoldsTask (task_of us b))) s;
-  made = All-nil (λ (n : Narrowing). IsTrueNow s n.target);
-}
 
 pub Narrows-more : (number : ℕ) (us : List Atom) (b : Body) (s u v : Trail) (found : List Narrowing) (i : ℕ) (d : Narrowing) → i < length found → Narrows number us b s u (take i found)
     → Infers (ByTask number (HoldsTask (task_of us b))) u v → IsTrueNow v (get_or found i d).target → Narrows number us b s v (take (i + 1) found)

@@ -5,7 +5,7 @@ use Rattle.std.specs.declared.alloc.AllocError.{AllocError}
 use Rattle.std.specs.List.{All}
 use Rattle.std.proofs.lemmas.Int.{ints}
 use Rattle.std.proofs.lemmas.List.{take_more, take_all}
-use Rattle.std.proofs.lemmas.List.Elements.{All-head, All-tail, All-nil, All-more}
+use Rattle.std.proofs.lemmas.List.Elements.{All-head, All-tail, All-more}
 use Rattle.cps_domain.proofs.Tests.{true_le, le_true, le_false, both}
 use Rattle.cps_model.proofs.Inside.{unsigned_abs-neg}
 use Rattle.cps_model.proofs.Sums.{unsigned_abs-add}
@@ -218,9 +218,6 @@ least-under s side i high v is e open' above fits = subst (λ (d : Side). v ≡ 
 }) e
 
 -- what events add
-pub level_none : (s : Trail) (t : ℤ) (side : Side) → IsLevel s t side [] (pos 0)
-level_none s t side = record { sound = λ xs o. omega (arith, ints); exact = λ xs o f. omega (arith, ints); may = λ u after stays. refl }
-
 may_add_last : (side : Side) (s : Trail) (u : ℤ) (ms : List Move) (m : Move) (v w x : ℤ) → MayAddUp side s u ms v → IsShareToward side s u m w → x ≡ v +ℤ w → MayAddUp side s u (ms ++ m ∷ []) x
 may_add_last side s u [] m v w x h i e = (w, pos 0, i, refl, (let a : v ≡ pos 0 = h in omega (arith, ints)))
 may_add_last side s u (n ∷ ms) m v w x h i e =
@@ -254,12 +251,6 @@ level_more s t side ms k m v w x l is h i e =
     subst (λ (ns : List Move). IsLevel s t side ns x) (sym (take_more ms k m l))
     (level_last s t side (take k ms) (get_or ms k m) v w x h (subst (λ (n : Move). IsShare s t side n w) is i) e)
 
-pub level_step : (s : Trail) (t u : ℤ) (side : Side) (ms : List Move) (k : ℕ) (m : Move) (v w x : ℤ) → k < length ms → m ≡ get_or ms k m → IsLevel s t side (take k ms) v → IsShare s u side m w → u ≡ t → x ≡ v +ℤ w → IsLevel s t side (take (k + 1) ms) x
-level_step s t u side ms k m v w x l is h i same e = level_more s t side ms k m v w x l is h (subst (λ (y : ℤ). IsShare s y side m w) same i) e
-
-pub level_all : (s : Trail) (t : ℤ) (side : Side) (ms : List Move) (k : ℕ) (v : ℤ) → length ms ≤ k → IsLevel s t side (take k ms) v → IsLevel s t side ms v
-level_all s t side ms k v l h = subst (λ (ns : List Move). IsLevel s t side ns v) (take_all k ms l) h
-
 -- the tank's events over the subjects of a store
 pub tank_inside : (first : Domains) (k : Tank) → IsFittingRule first (tank_body k) → IsTankOf first k
 tank_inside first k h = moves_all (λ i. i < length first) k h.subjects
@@ -284,9 +275,6 @@ room_after s k side t v lim m same under level reached last = record {
   last = last;
   room = record { sum = v; level = level; below = omega (arith, ints) };
 }
-
-pub room_none : (s : Trail) (k : Tank) → HasRoomTo s k 0
-room_none s k = record { over = All-nil (HasRoomAfter s k Over); under = All-nil (HasRoomAfter s k Under) }
 
 pub room_more : (s : Trail) (k : Tank) (n : ℕ) (m : Move) → n < length (moves_of k) → m ≡ get_or (moves_of k) n m → HasRoomTo s k n → HasRoomAfter s k Over m → HasRoomAfter s k Under m → HasRoomTo s k (n + 1)
 room_more s k n m l is h over under = record {
@@ -348,13 +336,6 @@ rest-absent first t m u n inside e same denies = record {
     unnot true h = cc
     unnot false h = refl
 
-pub rest-later : (first : Domains) (t v : ℤ) (m : Move) (u : Atom) → IsMoveOf first m → u ≡ record { subject = m.time; op = Ge; value = v } → v ≡ t +ℤ pos 1 → IsRest first t m u
-rest-later first t v m u inside is e = record {
-  subject = subst (λ (a : Atom). a.subject < length first) (sym is) (on_time (λ i. i < length first) m inside);
-  gives = λ xs holds. (let a = true_le v (value_at xs m.time) (subst (λ (b : Atom). atom_holds xs b ≡ true) is holds) in
-      and_false (is_active xs m.active) (int_le (value_at xs m.time) t) (le_false (value_at xs m.time) t (omega (arith, ints))));
-}
-
 -- that an event has taken place
 pub acted-relied : (s : Trail) (a : Atom) (t : ℤ) (m : Move) (u : Atom) (old mid new : List Atom) → u ≡ record { subject = m.time; op = Le; value = t } → Relies s a (λ xs. is_active xs m.active ≡ true) old mid → Relies s a (λ xs. atom_holds xs u ≡ true) mid new
     → Relies s a (λ xs. has_acted xs t m ≡ true) old new
@@ -362,10 +343,6 @@ acted-relied s a t m u old mid new is h i = Relies-then s a (λ xs. is_active xs
     (λ xs w b c. both (is_active xs m.active) (int_le (value_at xs m.time) t) b (subst (λ (v : Atom). atom_holds xs v ≡ true) is c))
 
 -- what one event adds
-pub added-rest : (s : Trail) (a : Atom) (side : Side) (t v : ℤ) (m : Move) (u : Atom) (old new : List Atom) → pos 0 ≡ v → IsRest s.first t m u → Relies s a (λ xs. atom_holds xs u ≡ true) old new → Relies s a (IsAdded side t m v) old new
-added-rest s a side t v m u old new e rest h = Relies-so s a (λ xs. atom_holds xs u ≡ true) (IsAdded side t m v) old new h
-    (λ xs w b. record { added = (let f = share_rests side xs t m (rest.gives xs b) in omega (arith, ints)) })
-
 pub added-least : (s : Trail) (a : Atom) (side : Side) (t v had : ℤ) (m : Move) (u : Atom) (old new : List Atom) → had ≡ v → had ≤ℤ pos 0 → IsTowardBound side m.change had u → Relies s a (λ xs. atom_holds xs u ≡ true) old new
     → Relies s a (IsAdded side t m v) old new
 added-least s a side t v had m u old new e low bound h = Relies-so s a (λ xs. atom_holds xs u ≡ true) (IsAdded side t m v) old new h
@@ -381,9 +358,6 @@ pub some_number : (x v : ℤ) → ◌≡◌ {A = Result (Option ℤ) AllocError}
 some_number x v e = cc
 
 -- what events add
-pub added-none : (s : Trail) (a : Atom) (side : Side) (t : ℤ) (us : List Atom) → AreFacts s us → Relies s a (AreAdded side t [] (pos 0)) us us
-added-none s a side t us f = Relies-none s a (AreAdded side t [] (pos 0)) us f (λ xs w b. record { added = omega (arith, ints) })
-
 pub added-more : (s : Trail) (a : Atom) (side : Side) (t : ℤ) (ms : List Move) (k : ℕ) (m : Move) (v w x : ℤ) (old mid new : List Atom) → k < length ms → m ≡ get_or ms k m
     → Relies s a (AreAdded side t (take k ms) v) old mid → Relies s a (IsAdded side t m w) mid new → x ≡ v +ℤ w → Relies s a (AreAdded side t (take (k + 1) ms) x) old new
 added-more s a side t ms k m v w x old mid new l is h i e = Relies-then s a (AreAdded side t (take k ms) v) (IsAdded side t m w) (AreAdded side t (take (k + 1) ms) x) old mid new h i

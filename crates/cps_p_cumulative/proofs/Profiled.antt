@@ -4,7 +4,7 @@ use Rattle.std.specs.Prelude.{int_le, int_lt, Option, Some, None}
 use Rattle.std.specs.List.{list_all, All}
 use Rattle.std.proofs.lemmas.Int.{ints}
 use Rattle.std.proofs.lemmas.List.{drop_more, drop_all}
-use Rattle.std.proofs.lemmas.List.Elements.{All-nil, All-push, All-head, All-tail}
+use Rattle.std.proofs.lemmas.List.Elements.{All-push, All-head, All-tail}
 use Rattle.std.proofs.lemmas.List.Sums.{sum_by_push}
 use Rattle.cps_domain.proofs.Tests.{true_le, le_true, first_of_both, second_of_both, both}
 use Rattle.cps_literal.specs.declared.atom.Atom.{Atom}
@@ -108,13 +108,6 @@ pub record IsProfileTo (s : Trail) (ps : List Span) (ds : List ℕ) (k : ℕ) (p
   pub whole : (t load : ℤ) → IsLoadOfSome s t ps ds load → (rest : ℤ) × IsLoadOfSome s t (drop k ps) (drop k ds) rest × (load ≤ℤ (pos (height t parts) +ℤ rest))
   pub sound : (t : ℤ) (xs : List ℤ) → IsAdmitted s.first s.entries xs → AreSome xs ds → (pos (height t parts) +ℤ demands_at xs t (drop k ps) (drop k ds)) ≤ℤ demands_at xs t ps ds
   pub good : AreParts parts
-
-pub profile-none : (s : Trail) (ps : List Span) (ds : List ℕ) (parts : List Part) → parts ≡ [] → IsProfileTo s ps ds 0 parts
-profile-none s ps ds parts is = subst (λ (qs : List Part). IsProfileTo s ps ds 0 qs) (sym is) (record {
-  whole = λ t load h. (load, h, omega (arith, ints));
-  sound = λ t xs o some. omega (arith, ints);
-  good = record { ordered = All-nil (λ p. p.from ≤ℤ p.to); small = All-nil (λ p. p.demand < 2 ^ 63) };
-})
 
 one_load : (s : Trail) (t load : ℤ) (p : Span) (d : ℕ) (ps : List Span) (ds : List ℕ) (part : Part) → IsMeasured s p d part → IsLoadOfSome s t (p ∷ ps) (d ∷ ds) load → (rest : ℤ) × IsLoadOfSome s t ps ds rest × (load ≤ℤ (pos (at t part) +ℤ rest))
 one_load s t load p d ps ds part m (inl h) = (h.2, h.4, (let a = m.whole t h.1 h.0 h.3 in let e = h.5 in omega (arith, ints)))

@@ -10,7 +10,7 @@ use Rattle.cps_domain.proofs.Tests.{first_of_both, true_le, le_true}
 use Rattle.cps_domain.proofs.Products.{times_grows}
 use Rattle.cps_literal.specs.declared.atom.Atom.{Atom}
 use Rattle.cps_literal.specs.declared.atom.Op.TheVariants.{Le, Ge}
-use Rattle.cps_literal.specs.Truth.{meets, value_at, atom_holds, Implies}
+use Rattle.cps_literal.specs.Truth.{meets, value_at, atom_holds}
 use Rattle.cps_instance.specs.declared.task.Body.{Body}
 use Rattle.cps_instance.specs.declared.task.Span.{Span}
 use Rattle.cps_instance.specs.Parts.{span_end}
@@ -40,10 +40,6 @@ Relies-then s a P Q R old mid new p q r = record {
 pub Relies-so : (s : Trail) (a : Atom) (P Q : List ℤ → Type 0) (old new : List Atom) → Relies s a P old new → ((xs : List ℤ) → IsWithin s.first xs → P xs → Q xs) → Relies s a Q old new
 Relies-so s a P Q old new p r = record { facts = p.facts; kept = p.kept; gives = λ xs w all b. r xs w (p.gives xs w all b) }
 
--- what the assumed atom gives
-pub Relies-implied : (s : Trail) (a u : Atom) (us : List Atom) → AreFacts s us → Implies a u → Relies s a (λ xs. atom_holds xs u ≡ true) us us
-Relies-implied s a u us f i = Relies-none s a (λ xs. atom_holds xs u ≡ true) us f (λ xs w b. subst (λ (k : ℕ). meets u.op u.value (value_at xs k) ≡ true) i.subject (i.follows (value_at xs a.subject) b))
-
 first_admits : (first : Domains) (i : ℕ) (x : ℤ) → is_among (first_of first i) x ≡ true → admits first [] i x ≡ true
 unfolding admits
 first_admits first i x h = with_true (is_among (first_of first i) x) h
@@ -68,10 +64,6 @@ pub Relies-more : (s : Trail) (a : Atom) (atoms : List Atom) (k : ℕ) (d : Atom
     → Relies s a (λ xs. All (λ u. atom_holds xs u ≡ true) (take k atoms)) old mid → Relies s a (λ xs. atom_holds xs (get_or atoms k d) ≡ true) mid new → Relies s a (λ xs. All (λ u. atom_holds xs u ≡ true) (take (k + 1) atoms)) old new
 Relies-more s a atoms k d old mid new l p q = Relies-then s a (λ xs. All (λ u. atom_holds xs u ≡ true) (take k atoms)) (λ xs. atom_holds xs (get_or atoms k d) ≡ true) (λ xs. All (λ u. atom_holds xs u ≡ true) (take (k + 1) atoms)) old mid new p q
     (λ xs w here this. All-more (λ u. atom_holds xs u ≡ true) atoms k d l here this)
-
--- nothing charged
-pub charged-none : (t w : ℤ) (ps : List Span) (ds : List ℕ) (need : ℤ) (xs : List ℤ) → IsCharged t w ps ds need 0 need xs
-charged-none t w ps ds need xs = record { used = omega (arith, ints) }
 
 -- one span more
 pub charged-more : (t w : ℤ) (ps : List Span) (ds : List ℕ) (need : ℤ) (k : ℕ) (p : Span) (d : ℕ) (left after : ℤ) (xs : List ℤ) → k < length ps → k < length ds
@@ -183,9 +175,6 @@ charge-run s a t w p d left after claim u old mid new of taken is h i = Relies-t
     (λ xs x b c. (let e = energy-stay xs t w p d claim.demand claim.stay of.stay b of.some (true_le claim.demand (value_at xs d) (subst (λ (v : Atom). atom_holds xs v ≡ true) is c)) in record { used = omega (arith, ints) }))
 
 -- a loop over the spans
-pub charge-none : (s : Trail) (a : Atom) (t w : ℤ) (ps : List Span) (ds : List ℕ) (need : ℤ) (us : List Atom) → AreFacts s us → Relies s a (IsCharged t w ps ds need 0 need) us us
-charge-none s a t w ps ds need us f = Relies-none s a (IsCharged t w ps ds need 0 need) us f (λ xs b c. charged-none t w ps ds need xs)
-
 pub charge-more : (s : Trail) (a : Atom) (t w : ℤ) (ps : List Span) (ds : List ℕ) (need : ℤ) (k : ℕ) (p : Span) (d : ℕ) (left after : ℤ) (old mid new : List Atom) → k < length ps → k < length ds
     → Relies s a (IsCharged t w ps ds need k left) old mid → Relies s a (IsTaken t w (get_or ps k p) (get_or ds k d) left after) mid new → Relies s a (IsCharged t w ps ds need (k + 1) after) old new
 charge-more s a t w ps ds need k p d left after old mid new l m h i =
@@ -204,11 +193,6 @@ over-capacity s a t w r most need u old mid new some same is h i = Relies-then s
     let j = ap (λ (z : ℤ). z *ℤ cap) wide in
     absurd (omega (arith, ints))
     ))
-
-pub no-capacity : (s : Trail) (a : Atom) (r : Resource) (most : ℤ) (u : Atom) (old new : List Atom) → most <ℤ pos 0 → u ≡ record { subject = r.capacity; op = Le; value = most }
-    → Relies s a (λ xs. atom_holds xs u ≡ true) old new → Relies s a (λ xs. HoldsBody (body_of r) xs → ⊥) old new
-no-capacity s a r most u old new below is h = Relies-so s a (λ xs. atom_holds xs u ≡ true) (λ xs. HoldsBody (body_of r) xs → ⊥) old new h
-    (λ xs w b holds. (let e = true_le (value_at xs r.capacity) most (subst (λ (v : Atom). atom_holds xs v ≡ true) is b) in let f = holds.some_room in absurd (omega (arith, ints))))
 
 -- the same, by what the code reads
 pub charge-step : (s : Trail) (a : Atom) (t w : ℤ) (ps rs : List Span) (ds es : List ℕ) (need known : ℤ) (k : ℕ) (p : Span) (d : ℕ) (left had after got : ℤ) (old mid new : List Atom) → k < length rs → k < length es → rs ≡ ps → es ≡ ds → p ≡ get_or rs k p → d ≡ get_or es k 0

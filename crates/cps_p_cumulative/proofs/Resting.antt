@@ -133,17 +133,7 @@ some_of s ds inside fit xs admitted = λ k d l.
     let i = get_or ds k d in
     fit k d l (value_at xs i) (admits-within s.first s.entries i (value_at xs i) (admitted i (inside k d l)))
 
--- parts that leave room
-pub has_capacity : (s : Trail) (r : Resource) (parts : List Part) (most : ℕ) → IsProfile s r.spans r.demands parts → IsRoomy parts most → IsOpenTo s r.capacity (pos most) → HasCapacity s r.capacity r.spans r.demands
-has_capacity s r parts most profile roomy reached = record {
-  enough = λ t load end some up.
-      let a = profile.whole t load some in
-      let b = roomy.room t in
-      let c = up (pos most) reached in
-      omega (arith, ints);
-}
-
--- and that do not
+-- parts that leave no room
 pub impossible : (s : Trail) (r : Resource) (parts : List Part) (most : ℕ) (t : ℤ) → IsResourceOf s.first r → IsProfile s r.spans r.demands parts → IsOver parts most t → ((x : ℤ) → IsOpenTo s r.capacity x → x ≤ℤ pos most)
     → All (IsNeverNegative s.first) r.demands → IsImpossible (body_of r) s
 impossible s r parts most t inside profile over greatest fit = record {
@@ -152,14 +142,6 @@ impossible s r parts most t inside profile over greatest fit = record {
       let b = over.over in
       let c = greatest (value_at xs r.capacity) (admitted r.capacity inside.capacity) in
       let d = holds.enough t in
-      absurd (omega (arith, ints));
-}
-
-pub never : (s : Trail) (r : Resource) (most : ℤ) → r.capacity < length s.first → ((x : ℤ) → IsOpenTo s r.capacity x → x ≤ℤ most) → most <ℤ pos 0 → IsImpossible (body_of r) s
-never s r most inside greatest below = record {
-  at = λ xs admitted holds.
-      let c = greatest (value_at xs r.capacity) (admitted r.capacity inside) in
-      let d = holds.some_room in
       absurd (omega (arith, ints));
 }
 

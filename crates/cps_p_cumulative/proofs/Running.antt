@@ -34,11 +34,6 @@ demands-cons xs t p d ps ds = by (list_all (atom_holds xs) p.presence)
     by true = refl
     by false = none (load_at t (span_uses xs ps ds))
 
--- no span or no demand
-pub demands-none : (xs : List ℤ) (t : ℤ) (ps : List Span) → demands_at xs t ps [] ≡ pos 0
-demands-none xs t [] = refl
-demands-none xs t (p ∷ ps) = refl
-
 pub lt_true : (a b : ℤ) → a <ℤ b → int_lt a b ≡ true
 lt_true a b h = grind (arith, ints)
 

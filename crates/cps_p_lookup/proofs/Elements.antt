@@ -1,25 +1,22 @@
 -- What an element says of its places.
 use Rattle.std.specs.Prelude.{slice_get}
-use Rattle.std.proofs.Common.{◌≡◌, ℕ, zero, suc, ℤ, pos, negsuc, ◌+◌, ◌<◌, ◌≤◌, ◌≤ℤ◌, Bool, true, false, List, [], ◌∷◌, length, get_or, refl, sym, ap, subst, ◌∙◌, Option, Some, None, arith, ⊎_elim, inl, inr}
-use Rattle.std.proofs.lemmas.Int.{ints}
-use Rattle.std.proofs.lemmas.Bool.{cases_lt}
+use Rattle.std.proofs.Common.{◌≡◌, ℕ, zero, suc, ℤ, pos, negsuc, ◌<◌, ◌≤◌, ◌≤ℤ◌, true, List, [], ◌∷◌, length, get_or, refl, sym, ap, subst, ◌∙◌, Option, Some, arith}
 use Rattle.std.specs.List.{All}
 use Rattle.std.proofs.lemmas.List.Elements.{All-head, All-tail, All-get_or}
-use Rattle.cps_domain.proofs.Tests.{true_le, le_true}
-use Rattle.cps_model.specs.Lookups.{item_at, IsElement}
+use Rattle.cps_domain.proofs.Tests.{le_true}
+use Rattle.cps_model.specs.Lookups.{item_at}
 use Rattle.cps_literal.specs.declared.atom.Atom.{Atom}
-use Rattle.cps_literal.specs.declared.atom.Op.TheVariants.{Le, Ge, Eq, Ne}
+use Rattle.cps_literal.specs.declared.atom.Op.TheVariants.{Le, Ge}
 use Rattle.cps_literal.specs.Truth.{value_at, atom_holds, meets}
-use Rattle.cps_instance.specs.declared.task.Body.{Body}
 use Rattle.cps_instance.specs.declared.task.Body.TheVariants.{Element}
-use Rattle.cps_instance.specs.Tasks.{HoldsBody, subjects_of_body}
+use Rattle.cps_instance.specs.Tasks.{HoldsBody}
 use Rattle.cps_instance.specs.Parts.{values_at}
-use Rattle.cps_trail.specs.Trail.{Trail, Domains, IsAdmitted, IsWithin, admits}
+use Rattle.cps_trail.specs.Trail.{Trail, Domains, IsAdmitted}
 use Rattle.cps_propagate.specs.Now.{IsOpenTo, IsFixedNow, AreOpen}
 use Rattle.cps_rule.specs.Rules.{IsFittingRule, IsGiven, IsImpossible, IsAtRest, AllTrueAt, AreFacts}
 use Rattle.cps_p_lookup.specs.declared.places.Scan.{Scan}
 use Rattle.cps_rule.specs.Facts.{Gives, Denied}
-use Rattle.cps_p_lookup.specs.Elements.{IsFit, IsChosen, IsCovered, IsSeenAt, IsLastOpen, IsScanned, IsClosed, MayMeet}
+use Rattle.cps_p_lookup.specs.Elements.{IsFit, IsChosen, IsScanned}
 
 item_place : (v x : ℤ) (ns : List ℤ) → item_at ns v ≡ Some x → (k : ℕ) × (v ≡ pos k) × (slice_get ns k ≡ Some x)
 item_place (pos k) x ns e = (k, refl, e)

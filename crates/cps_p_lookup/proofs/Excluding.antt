@@ -1,41 +1,20 @@
 -- How facts rule the rows of a table out.
-use Rattle.std.specs.Prelude.{not}
-use Rattle.std.proofs.Common.{◌≡◌, ◌≢◌, ℕ, ℤ, pos, ◌+◌, ◌*◌, ◌/◌, ◌<◌, ◌≤◌, Bool, true, false, List, [], ◌∷◌, ◌++◌, length, get_or, refl, sym, ap, subst, ◌∙◌, Option, Some, None, arith, inl, inr}
+use Rattle.std.proofs.Common.{◌≡◌, ℕ, ℤ, pos, ◌+◌, ◌*◌, ◌/◌, ◌<◌, ◌≤◌, true, false, List, [], length, get_or, refl, sym, ap, subst, ◌∙◌, Option, Some, arith, inl, inr}
 use Rattle.std.proofs.lemmas.Int.{ints}
 use Rattle.std.proofs.lemmas.Bool.{cases_lt}
-use Rattle.std.proofs.lemmas.List.Elements.{All-get_or}
 use Rattle.cps_domain.specs.Window.{equals}
 use Rattle.cps_literal.specs.declared.atom.Atom.{Atom}
-use Rattle.cps_literal.specs.declared.atom.Op.TheVariants.{Le, Ge, Eq, Ne}
+use Rattle.cps_literal.specs.declared.atom.Op.TheVariants.{Eq}
 use Rattle.cps_literal.specs.Truth.{value_at, atom_holds, meets}
 use Rattle.cps_model.specs.Lookups.{row_at}
 use Rattle.cps_instance.specs.declared.task.Body.TheVariants.{Table}
 use Rattle.cps_instance.specs.Parts.{values_at}
 use Rattle.cps_trail.specs.Trail.{Trail}
-use Rattle.cps_rule.specs.Rules.{AllTrueAt, AreFacts}
+use Rattle.cps_rule.specs.Rules.{AllTrueAt}
 use Rattle.cps_rule.specs.Facts.{Adds, Grows, Denied, Gives}
-use Rattle.cps_p_lookup.specs.Tabling.{ClosesRow, IsMetAt, IsAgainst, IsBarred, IsOffBy, IsSure, Holds, AreSure}
+use Rattle.cps_p_lookup.specs.Tabling.{ClosesRow, IsOffBy, IsSure, Holds, AreSure}
 use Rattle.cps_p_lookup.proofs.Growing.{adds_grows, adds_holds, grows_same, grows_trans, no_facts}
 use Rattle.cps_p_lookup.proofs.Tables.{row_value, same_row, in_table, not_in, row_before}
-
-both_not : (b : Bool) → b ≡ true → b ≡ false → ⊥
-both_not b p q = let e : true ≡ false = sym p ∙ q in cc
-
-pub met_closes : (s : Trail) (es : List ℕ) (row : List ℤ) (u : Atom) (old : List Atom) → IsMetAt es row u → ClosesRow s es row (Some u) old old
-met_closes s es row u old m = record {
-  grows = grows_same s old old refl;
-  closed = λ xs all e deny. both_not (atom_holds xs u) (ap (λ j. meets u.op u.value (value_at xs j)) (sym m.subject) ∙ ap (λ v. meets u.op u.value v) (row_value xs es row m.column m.within e) ∙ m.met) deny;
-}
-
-pub barred_closes : (s : Trail) (es : List ℕ) (row : List ℤ) (goal : Option Atom) (old : List Atom) → IsBarred es row old → ClosesRow s es row goal old old
-barred_closes s es row goal old b = record { grows = grows_same s old old refl; closed = λ xs all e deny. b.at xs all e }
-
-pub against_bars : (es : List ℕ) (row : List ℤ) (facts : List Atom) (k : ℕ) (d : Atom) → k < length facts → IsAgainst es row (get_or facts k d) → IsBarred es row facts
-against_bars es row facts k d l m = record {
-  at = λ xs all e.
-      let u = get_or facts k d in
-      both_not (atom_holds xs u) (All-get_or (λ w. atom_holds xs w ≡ true) facts k d l all) (ap (λ j. meets u.op u.value (value_at xs j)) (sym m.subject) ∙ ap (λ v. meets u.op u.value v) (row_value xs es row m.column m.within e) ∙ m.unmet);
-}
 
 pub off_closes : (s : Trail) (es : List ℕ) (row : List ℤ) (k : ℕ) (goal : Option Atom) (u : Atom) (old mid new : List Atom) → k < length es → IsOffBy (get_or es k 0) (get_or row k (pos 0)) u → mid ≡ old → Adds s u mid new → ClosesRow s es row goal old new
 off_closes s es row k goal u old mid new l o same a = record {
@@ -59,17 +38,6 @@ excluded_all s es values n goal none new p empty grows past h = record {
 
 equals_is : (a b : ℤ) → equals a b ≡ true → a ≡ b
 equals_is a b e = grind (arith, ints)
-
-not_false : (b : Bool) → not b ≡ false → b ≡ true
-not_false true h = refl
-not_false false h = sym h
-
-pub off_sure : (u : Atom) (i : ℕ) (v : ℤ) → u.subject ≡ i → u.value ≡ v → u.op ≡ Ne → (facts : List Atom) → IsSure i v (Some u) facts
-off_sure u i v at is op facts = record {
-  at = λ xs all deny.
-      let a : not (equals (value_at xs i) v) ≡ false = ap (λ j. not (equals (value_at xs j) v)) (sym at) ∙ ap (λ w. not (equals (value_at xs u.subject) w)) (sym is) ∙ ap (λ o. meets o u.value (value_at xs u.subject)) (sym op) ∙ deny in
-      equals_is (value_at xs i) v (not_false (equals (value_at xs i) v) a);
-}
 
 pub holds_off : (s : Trail) (i : ℕ) (v : ℤ) (goal : Option Atom) (u : Atom) (old : List Atom) → goal ≡ Some u → IsSure i v (Some u) old → Holds s i v goal old old
 holds_off s i v goal u old is h = record { grows = grows_same s old old refl; sure = subst (λ g. IsSure i v g old) (sym is) h }

@@ -1,15 +1,13 @@
 -- How facts grow, and what they give.
-use Rattle.std.proofs.Common.{◌≡◌, ℕ, ℤ, ◌+◌, ◌<◌, Bool, true, false, List, [], ◌∷◌, ◌++◌, length, refl, sym, subst, ◌∙◌, Option, Some, None, arith}
-use Rattle.std.specs.List.{All, Contains}
+use Rattle.std.proofs.Common.{◌≡◌, ℤ, Bool, true, List, [], ◌∷◌, sym, subst}
+use Rattle.std.specs.List.{Contains}
 use Rattle.std.proofs.lemmas.List.Elements.{All-nil, All-weaker, All-push, All-contains, All-contains_itself, Contains-push, Contains-append_left}
 use Rattle.cps_literal.specs.declared.atom.Atom.{Atom}
 use Rattle.cps_literal.specs.Truth.{atom_holds}
-use Rattle.cps_instance.specs.declared.task.Body.{Body}
-use Rattle.cps_instance.specs.Tasks.{HoldsBody}
-use Rattle.cps_trail.specs.Trail.{Trail, IsWithin}
-use Rattle.cps_rule.specs.Rules.{IsFact, AreFacts, AllTrueAt, IsExplained, IsRefuted}
+use Rattle.cps_trail.specs.Trail.{Trail}
+use Rattle.cps_rule.specs.Rules.{IsFact, AreFacts, AllTrueAt}
 use Rattle.cps_p_lookup.specs.Facts.{AddsBoth, AddsWhere}
-use Rattle.cps_rule.specs.Facts.{Adds, Grows, Denied, Gives}
+use Rattle.cps_rule.specs.Facts.{Adds, Grows}
 
 pub adds_grows : (s : Trail) (u : Atom) (old new : List Atom) → Adds s u old new → Grows s old new
 adds_grows s u old new h = record {
@@ -36,21 +34,5 @@ adds_both s u v a b c h k = record {
 pub adds_needed : (s : Trail) (needed : Bool) (u : Atom) (old new : List Atom) → Adds s u old new → AddsWhere s needed u old new
 adds_needed s needed u old new h = record { grows = adds_grows s u old new h; holds = λ n. adds_holds s u old new h }
 
-pub adds_none : (s : Trail) (needed : Bool) (u : Atom) (old new : List Atom) → needed ≡ false → new ≡ old → AddsWhere s needed u old new
-adds_none s needed u old new off e = record { grows = grows_same s old new e; holds = λ n. absurd (not_both needed n off) }
-  where
-    not_both : (b : Bool) → b ≡ true → b ≡ false → ⊥
-    not_both b p q = let e : true ≡ false = sym p ∙ q in cc
-
 pub no_facts : (s : Trail) (us : List Atom) → us ≡ [] → AreFacts s us
 no_facts s us e = subst (λ vs. AreFacts s vs) (sym e) (All-nil (IsFact s))
-
-bool_cases : (b : Bool) → (b ≡ false → ⊥) → b ≡ true
-bool_cases true h = refl
-bool_cases false h = absurd (h refl)
-
-pub explained_by : (body : Body) (s : Trail) (u : Atom) (facts : List Atom) → Gives body s (Some u) facts → IsExplained body s u facts
-explained_by body s u facts g = record { facts = g.facts; gives = λ xs within all holds. bool_cases (atom_holds xs u) (λ deny. g.excludes xs within all holds deny) }
-
-pub refuted_by : (body : Body) (s : Trail) (facts : List Atom) → Gives body s None facts → IsRefuted body s facts
-refuted_by body s facts g = record { facts = g.facts; excludes = λ xs within all holds. g.excludes xs within all holds tt }

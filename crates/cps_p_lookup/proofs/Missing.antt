@@ -2,25 +2,24 @@
 use Rattle.std.specs.Prelude.{Contains, IsSorted, IsTrue, ◌↔◌, is_ok, not}
 use Rattle.std.specs.List.Sorted.{IsBinarySearchResult, IsSearchInRange}
 use Rattle.std.specs.Ordering.{int_cmp}
-use Rattle.std.proofs.Common.{◌≡◌, ◌<◌, ◌≤◌, ◌≤ℤ◌, ◌+◌, ◌++◌, ℕ, ℤ, pos, Bool, true, false, List, [], ◌∷◌, length, get_or, take, refl, sym, ap, subst, ◌∙◌, arith, inl, inr, Less, Equal, Greater, Result, Ok, Err}
+use Rattle.std.proofs.Common.{◌≡◌, ◌<◌, ◌≤◌, ◌≤ℤ◌, ◌+◌, ◌++◌, ℕ, ℤ, pos, Bool, true, false, List, [], ◌∷◌, length, get_or, take, sym, ap, subst, ◌∙◌, arith, inl, inr, Less, Equal, Greater, Result, Ok, Err}
 use Rattle.std.proofs.lemmas.Int.{ints}
 use Rattle.std.proofs.lemmas.Bool.{cases_lt}
 use Rattle.std.proofs.lemmas.Cmp.{int_cmp_total}
 use Rattle.std.proofs.lemmas.List.Sorted.{searchable_from_sorted}
 use Rattle.std.specs.List.{All}
-use Rattle.std.proofs.lemmas.List.Elements.{All-contains, All-get_or, All-more, All-weaker, Contains-push, Contains-append_left}
+use Rattle.std.proofs.lemmas.List.Elements.{All-get_or, All-more, All-weaker, Contains-push, Contains-append_left}
 use Rattle.cps_domain.specs.Window.{Window, contains, equals}
 use Rattle.cps_literal.specs.declared.atom.Atom.{Atom}
 use Rattle.cps_literal.specs.declared.atom.Op.TheVariants.{Ne}
 use Rattle.cps_literal.specs.Truth.{value_at, atom_holds, meets}
 use Rattle.cps_model.specs.Lookups.{row_at}
-use Rattle.cps_instance.specs.declared.task.Body.{Body}
 use Rattle.cps_instance.specs.declared.task.Body.TheVariants.{Element, Table}
-use Rattle.cps_trail.specs.Trail.{Trail, IsAdmitted, admits}
+use Rattle.cps_trail.specs.Trail.{Trail, admits}
 use Rattle.cps_rule.specs.declared.rule.Narrowing.{Narrowing}
 use Rattle.cps_rule.specs.Rules.{IsGiven}
 use Rattle.cps_p_lookup.specs.declared.places.Scan.{Scan}
-use Rattle.cps_p_lookup.specs.Elements.{IsFit, IsChosen, IsScanned}
+use Rattle.cps_p_lookup.specs.Elements.{IsFit, IsScanned}
 use Rattle.cps_p_lookup.specs.Tabling.{AreLive}
 use Rattle.cps_p_lookup.specs.Gaps.{Excludes, IsListedAt, AreListed, Lists}
 use Rattle.cps_p_lookup.proofs.Elements.{given_by, same_value}
@@ -51,9 +50,6 @@ listed_by_search ns x (Err i) b sorted is bound found =
   where
     no_test : IsTrue b → ⊥
     no_test t = cc
-
-pub excludes_none : (subject : ℕ) (kept : ℤ → Type 0) (old new : List Narrowing) → new ≡ old → Excludes subject kept old new
-excludes_none subject kept old new is = record { at = λ body s given all. subst (λ (ns : List Narrowing). All (λ n. IsGiven body s n.target) ns) (sym is) all }
 
 pub excludes_more : (subject : ℕ) (kept : ℤ → Type 0) (old mid new : List Narrowing) (n : Narrowing) (v : ℤ) → Excludes subject kept old mid → new ≡ mid ++ n ∷ [] → n.target ≡ record { subject = subject; op = Ne; value = v } → (kept v → ⊥) → Excludes subject kept old new
 excludes_more subject kept old mid new n v h is at off = record { at = λ body s given all. more_given body s mid new n is (given n.target v at off) (h.at body s given all) }

@@ -1,28 +1,27 @@
 -- What a look at the places of an index says.
 use Rattle.std.specs.Prelude.{not}
-use Rattle.std.proofs.Common.{◌≡◌, ℕ, zero, suc, ℤ, pos, ◌+◌, ◌-◌, ◌^◌, ◌<◌, ◌≤◌, ◌≤ℤ◌, Bool, true, false, List, [], ◌∷◌, ◌++◌, length, get_or, refl, sym, ap, subst, ◌∙◌, Option, arith, inl, inr}
+use Rattle.std.proofs.Common.{◌≡◌, ℕ, ℤ, pos, ◌+◌, ◌-◌, ◌^◌, ◌<◌, ◌≤◌, ◌≤ℤ◌, Bool, true, false, List, [], ◌∷◌, ◌++◌, length, get_or, refl, sym, ap, subst, ◌∙◌, Option, arith, inl, inr}
 use Rattle.std.proofs.lemmas.Int.{ints}
 use Rattle.std.proofs.lemmas.Bool.{cases_lt}
 use Rattle.std.specs.List.{All}
 use Rattle.std.proofs.lemmas.List.Elements.{All-get_or, All-push}
 use Rattle.cps_domain.specs.Window.{Window, contains, equals}
-use Rattle.cps_domain.proofs.Tests.{true_le, le_true}
+use Rattle.cps_domain.proofs.Tests.{true_le}
 use Rattle.cps_literal.specs.declared.atom.Atom.{Atom}
-use Rattle.cps_literal.specs.declared.atom.Op.TheVariants.{Le, Ge, Eq, Ne}
+use Rattle.cps_literal.specs.declared.atom.Op.TheVariants.{Le, Ge, Ne}
 use Rattle.cps_literal.specs.Truth.{value_at, atom_holds, meets}
 use Rattle.cps_instance.specs.declared.task.Body.{Body}
 use Rattle.cps_instance.specs.declared.task.Body.TheVariants.{Element}
-use Rattle.cps_instance.specs.Tasks.{HoldsBody}
 use Rattle.cps_trail.specs.Trail.{Trail, Domains, IsAdmitted, admits}
 use Rattle.cps_propagate.specs.Now.{IsOpenTo}
 use Rattle.cps_rule.specs.declared.rule.Narrowing.{Narrowing}
 use Rattle.cps_rule.specs.Rules.{IsFittingRule, IsGiven, AllTrueAt, AreFacts}
 use Rattle.cps_p_lookup.specs.declared.places.Scan.{Scan}
 use Rattle.cps_p_lookup.specs.Facts.{AddsWhere}
-use Rattle.cps_rule.specs.Facts.{Grows, Denied, Gives}
-use Rattle.cps_p_lookup.specs.Elements.{IsFit, IsChosen, IsCovered, IsSeenAt, IsLastOpen, IsVisited, IsScanned, IsClosed, Closes, IsLeft, MayMeet}
+use Rattle.cps_rule.specs.Facts.{Grows, Gives}
+use Rattle.cps_p_lookup.specs.Elements.{IsFit, IsChosen, IsCovered, IsSeenAt, IsLastOpen, IsVisited, IsClosed, Closes, IsLeft, MayMeet}
 use Rattle.cps_p_lookup.proofs.Growing.{grows_trans}
-use Rattle.cps_p_lookup.proofs.Elements.{chosen, fit_of, given_by, gives_by, ge_holds, le_holds}
+use Rattle.cps_p_lookup.proofs.Elements.{fit_of, given_by, gives_by, ge_holds, le_holds}
 
 pub more_given : (body : Body) (s : Trail) (old new : List Narrowing) (n : Narrowing) → new ≡ old ++ n ∷ [] → IsGiven body s n.target → All (λ m. IsGiven body s m.target) old → All (λ m. IsGiven body s m.target) new
 more_given body s old new n is g h = subst (λ (ns : List Narrowing). All (λ m. IsGiven body s m.target) ns) (sym is) (All-push (λ m. IsGiven body s m.target) old n h g)

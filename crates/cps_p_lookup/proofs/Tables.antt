@@ -1,27 +1,25 @@
 -- What a table says of its rows.
 use Rattle.std.specs.Prelude.{not}
-use Rattle.std.proofs.Common.{◌≡◌, ◌≢◌, ℕ, zero, suc, ℤ, pos, ◌+◌, ◌*◌, ◌/◌, ◌<◌, ◌≤◌, Bool, true, false, List, [], ◌∷◌, ◌++◌, length, get_or, take, drop, map, refl, sym, ap, ap₂, subst, ◌∙◌, Option, Some, None, arith, inl, inr}
+use Rattle.std.proofs.Common.{◌≡◌, ◌≢◌, ℕ, zero, suc, ℤ, pos, ◌+◌, ◌*◌, ◌/◌, ◌<◌, ◌≤◌, Bool, true, false, List, [], ◌∷◌, ◌++◌, length, get_or, refl, sym, ap, ap₂, subst, ◌∙◌, arith, inl, inr}
 use Rattle.std.proofs.Math.Nat.{le-div_iff_mul-le}
 use Rattle.std.proofs.lemmas.Int.{ints}
 use Rattle.std.proofs.lemmas.Bool.{cases_lt}
-use Rattle.std.proofs.lemmas.List.{length-map, get_or_default, length-take, length-drop}
+use Rattle.std.proofs.lemmas.List.{length-map, length-take, length-drop}
 use Rattle.std.specs.List.{All, Contains}
-use Rattle.std.proofs.lemmas.List.Elements.{All-nil, All-get_or, All-push, All-weaker, All-contains, Contains-push, Contains-append_left, Contains-get_or}
+use Rattle.std.proofs.lemmas.List.Elements.{All-nil, All-get_or, All-weaker, All-contains, Contains-push, Contains-append_left}
 use Rattle.cps_domain.specs.Window.{equals}
 use Rattle.cps_literal.specs.declared.atom.Atom.{Atom}
-use Rattle.cps_literal.specs.declared.atom.Op.TheVariants.{Le, Ge, Eq, Ne}
+use Rattle.cps_literal.specs.declared.atom.Op.TheVariants.{Ne}
 use Rattle.cps_literal.specs.Truth.{value_at, atom_holds, meets}
-use Rattle.cps_model.specs.Lookups.{row_at, HasRow, IsInTable}
-use Rattle.cps_instance.specs.declared.task.Body.{Body}
+use Rattle.cps_model.specs.Lookups.{row_at, HasRow}
 use Rattle.cps_instance.specs.declared.task.Body.TheVariants.{Table}
 use Rattle.cps_instance.specs.Tasks.{HoldsBody}
 use Rattle.cps_instance.specs.Parts.{values_at}
-use Rattle.cps_trail.specs.Trail.{Trail, Domains, IsAdmitted, admits}
+use Rattle.cps_trail.specs.Trail.{Trail, IsAdmitted, admits}
 use Rattle.cps_propagate.specs.Now.{IsOpenTo, IsFixedNow, AreOpen}
 use Rattle.cps_propagate.specs.Strength.{HasOpenRow, IsExcludedBody}
-use Rattle.cps_rule.specs.Rules.{IsFittingRule, IsGiven, IsImpossible, IsAtRest, AllTrueAt, AreFacts}
-use Rattle.cps_rule.specs.Facts.{Grows, Denied, Gives}
-use Rattle.cps_p_lookup.specs.Tabling.{IsOpenRow, IsDeadRow, IsLive, AreLive, ClosesRow, IsSingle, IsOff, IsBanned, IsMissed, IsSure}
+use Rattle.cps_rule.specs.Rules.{IsGiven, IsImpossible, IsAtRest}
+use Rattle.cps_p_lookup.specs.Tabling.{IsOpenRow, IsDeadRow, IsLive, AreLive, IsSingle, IsOff, IsBanned, IsMissed}
 
 both_not : (b : Bool) → b ≡ true → b ≡ false → ⊥
 both_not b p q = let e : true ≡ false = sym p ∙ q in cc
@@ -85,9 +83,6 @@ pub row_before : (n w row : ℕ) → 0 < w → (row + 1) * w ≤ n → row < n /
 row_before n w row p l = let h = (le-div_iff_mul-le {k = w} {x = row + 1} {y = n} p).1 l in omega arith
 
 -- the rows that are left, one row more
-LiveBelow : Trail → List ℕ → List ℤ → ℕ → List ℕ → Type 0
-LiveBelow s es values n rows = (r : ℕ) → r < n → IsLive s es values r → Contains rows r
-
 pub live_push : (s : Trail) (es : List ℕ) (values : List ℤ) (n : ℕ) (old new : List ℕ) → new ≡ old ++ n ∷ [] → ((r : ℕ) → r < n → IsLive s es values r → Contains old r) → (r : ℕ) → r < n + 1 → IsLive s es values r → Contains new r
 live_push s es values n old new is h r l live = subst (λ (rs : List ℕ). Contains rs r) (sym is) (elim (cases_lt r n) [
   | inl before ↦ Contains-append_left old (n ∷ []) r (h r before live)
@@ -141,20 +136,6 @@ pub live_seen : (s : Trail) (es : List ℕ) (values : List ℤ) (rows : List ℕ
 live_seen s es values [] live some = absurd (some refl)
 live_seen s es values (r ∷ rows) live some = λ excluded. excluded (live_open s es values r rows live)
 
--- without columns each table has every row
-no_column : (s : Trail) (values : List ℤ) → HasOpenRow s [] values
-no_column s values = record { row = 0; within = omega arith; possible = λ k l. absurd (omega arith) }
-
-pub no_column_rest : (s : Trail) (es : List ℕ) (values : List ℤ) (negated : Bool) → es ≡ [] → IsAtRest (Table es values negated) s
-no_column_rest s [] values true e = record { decided = λ fixed xs left. tt; strong = tt }
-no_column_rest s [] values false e = record { decided = λ fixed xs left. tt; strong = no_column s values }
-no_column_rest s (i ∷ es) values negated e = cc
-
-pub no_column_seen : (s : Trail) (es : List ℕ) (values : List ℤ) (negated : Bool) → es ≡ [] → IsExcludedBody (Table es values negated) s → ⊥
-no_column_seen s [] values true e = λ excluded. excluded
-no_column_seen s [] values false e = λ excluded. excluded (no_column s values)
-no_column_seen s (i ∷ es) values negated e = cc
-
 -- a live row is that of all values where they are fixed
 pub live_rest : (s : Trail) (es : List ℕ) (values : List ℤ) (rows : List ℕ) → AreLive s es values rows → length rows ≢ 0 → IsAtRest (Table es values false) s
 live_rest s es values [] live some = absurd (some refl)
@@ -180,9 +161,6 @@ missed_by s es row c l off = record {
 
 equals_is : (a b : ℤ) → equals a b ≡ true → a ≡ b
 equals_is a b e = grind (arith, ints)
-
-equals_self : (v : ℤ) → equals v v ≡ true
-equals_self v = grind (arith, ints)
 
 not_off : (b : Bool) → (b ≡ true → ⊥) → not b ≡ true
 not_off true h = absurd (h refl)

@@ -1,5 +1,5 @@
 -- Values that a subject is to be kept off: single ones, and those beyond two ends.
-use Rattle.std.specs.Prelude.{◌≡◌, ◌<◌, ◌+◌, ℕ, ℤ, pos, List, length, slice_index_or, All, Contains}
+use Rattle.std.specs.Prelude.{◌≡◌, ◌<◌, ℕ, ℤ, List, length, slice_index_or, All, Contains}
 use Rattle.cps_literal.specs.declared.atom.Atom.{Atom}
 use Rattle.cps_literal.specs.declared.atom.Op.TheVariants.{Ne, Ge, Le}
 use Rattle.cps_literal.specs.Truth.{value_at}

@@ -4,9 +4,8 @@
 //! bound if the value lies past an end, and a fact that is there already may rule out further rows. A negated table
 //! needs the values of one row in all columns but that of the atom.
 
-ghost use Rattle.std.specs.Prelude.{ℕ, ℤ, pos, ◌≡◌, ◌≢◌, ◌<◌, ◌≤◌, ◌+◌, ◌*◌, [], length, All, true, false, Ok, slice_index_or, List, Some, IfSome};
+ghost use Rattle.std.specs.Prelude.{◌≡◌, ◌<◌, ◌≤◌, ◌+◌, ◌*◌, length, All, true, false, Ok, List, Some, IfSome};
 ghost use Rattle.cps_literal.specs.declared.atom.Atom.{Atom as AtomOf};
-ghost use Rattle.cps_literal.specs.Truth.{meets};
 ghost use Rattle.cps_model.specs.Lookups.{row_at};
 ghost use Rattle.cps_instance.specs.declared.task.Body.TheVariants.{Table};
 ghost use Rattle.cps_rule.specs.Facts.{Gives};

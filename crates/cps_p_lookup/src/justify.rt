@@ -4,7 +4,7 @@
 //! value. For each case one or two facts close it (the index is elsewhere, or two ends keep expression and target
 //! apart), or make the atom true in it. The index's two bounds come first, since each closes many cases.
 
-ghost use Rattle.std.specs.Prelude.{ℕ, ◌≡◌, ◌<◌, ◌≤◌, ◌^◌, ◌≤ℤ◌, length, Ok, true, false, IfSome, IfOk, IsTrue};
+ghost use Rattle.std.specs.Prelude.{ℕ, ◌≡◌, ◌<◌, ◌^◌, length, Ok, true, false, IfSome};
 ghost use Rattle.cps_instance.specs.declared.task.Body.TheVariants.{Element};
 ghost use Rattle.cps_rule.specs.Facts.{Gives};
 ghost use Rattle.cps_p_lookup.specs.Elements.{IsFit, Closes, IsMoved, ArePart, IsLeft};

@@ -5,17 +5,17 @@
 //! them has a single one: a full comparison would cost more than it finds. If one place is left, expression and target
 //! are made equal.
 
-ghost use Rattle.std.specs.Prelude.{ℕ, ℤ, pos, negsuc, ◌≡◌, ◌<◌, ◌≤◌, ◌≤ℤ◌, ◌^◌, ◌-◌, length, All, IfOk, OnOk, IsTrue, true, false, slice_index_or};
+ghost use Rattle.std.specs.Prelude.{ℕ, ℤ, pos, ◌≡◌, ◌<◌, ◌≤◌, ◌≤ℤ◌, ◌^◌, ◌-◌, length, All, IfOk, OnOk, true, false};
 ghost use Rattle.cps_domain.specs.Window.{contains};
 ghost use Rattle.cps_instance.specs.declared.task.Body.TheVariants.{Element};
 ghost use Rattle.cps_rule.specs.Rules.{IsGiven, IsSeen, IsAtRest};
-ghost use Rattle.cps_p_lookup.specs.Elements.{IsFit, IsCovered, IsSeenAt, IsLastOpen, MayMeet, IsVisited, IsScanned};
+ghost use Rattle.cps_p_lookup.specs.Elements.{IsFit, IsCovered, IsVisited, IsScanned};
 ghost use Rattle.cps_p_lookup.specs.Gaps.{KeepsBetween, AreListed, Lists};
 
 use crate::facts::{LIMIT, atom};
 use crate::gaps::{Gaps, copy_holes, exclude_missing, is_worth};
 use cps_domain::Domain;
-use cps_literal::{Atom, Op};
+use cps_literal::Op;
 use cps_rule::{Hint, Look, Narrowing};
 use cps_trail::Store;
 use std::alloc::AllocError;

@@ -4,13 +4,13 @@
 //! between the ends of its values there, and off the values inside that no row has. No list of rows is kept between
 //! looks: the plain scan needs nothing undone, and is what the proof is about.
 
-ghost use Rattle.std.specs.Prelude.{ℕ, ℤ, pos, ◌≡◌, ◌<◌, ◌≤◌, ◌+◌, ◌*◌, List, [], length, All, IfOk, OnOk, IsTrue, true, false, slice_index_or, Contains};
+ghost use Rattle.std.specs.Prelude.{ℕ, ℤ, pos, ◌≡◌, ◌<◌, ◌≤◌, ◌+◌, ◌*◌, List, length, All, IfOk, OnOk, true, false, slice_index_or, Contains};
 ghost use Rattle.cps_literal.specs.Truth.{meets};
 ghost use Rattle.cps_model.specs.Lookups.{row_at};
 ghost use Rattle.cps_instance.specs.declared.task.Body.TheVariants.{Table};
 ghost use Rattle.cps_rule.specs.Rules.{IsGiven, IsSeen, IsAtRest};
 ghost use Rattle.cps_trail.specs.Trail.{Trail};
-ghost use Rattle.cps_p_lookup.specs.Tabling.{IsOpenRow, IsDeadRow, IsLive, AreLive};
+ghost use Rattle.cps_p_lookup.specs.Tabling.{IsOpenRow, IsDeadRow, AreLive};
 ghost use Rattle.cps_p_lookup.specs.Columns.{IsColumnIn};
 
 use crate::facts::{atom, is_met};

@@ -80,12 +80,6 @@ module _ (ps : List Span) (pair : Pair) (p : IsPair (length ps) pair) (x y : Spa
       orders xs ps pair f p (subst (λ (q : Span). is_present xs q ≡ true) (before_is f) a) (subst (λ (q : Span). is_present xs q ≡ true) (after_is f) b)
       (subst (λ (q : Span). start_at xs q <ℤ end_at xs (get_or ps pair.after f)) (before_is f) (subst (λ (q : Span). start_at xs x <ℤ end_at xs q) (after_is f) l)) h
 
-  clashes_at : (xs : List ℤ) → start_at xs x <ℤ end_at xs y → start_at xs y <ℤ end_at xs x → ClashesAt xs ps pair
-  clashes_at xs a b = λ f. (
-    subst (λ (q : Span). start_at xs q <ℤ end_at xs (get_or ps pair.after f)) (before_is f) (subst (λ (q : Span). start_at xs x <ℤ end_at xs q) (after_is f) a),
-    subst (λ (q : Span). start_at xs (get_or ps pair.after f) <ℤ end_at xs q) (before_is f) (subst (λ (q : Span). start_at xs q <ℤ end_at xs x) (after_is f) b),
-  )
-
   refutes : (xs : List ℤ) → is_present xs x ≡ true → is_present xs y ≡ true → ClashesAt xs ps pair → IsNoOverlap (span_runs xs ps) → ⊥
   refutes xs a b c h = clashes xs ps pair x p (subst (λ (q : Span). is_present xs q ≡ true) (before_is x) a) (subst (λ (q : Span). is_present xs q ≡ true) (after_is x) b) c h
 
@@ -94,9 +88,6 @@ module _ (ps : List Span) (pair : Pair) (p : IsPair (length ps) pair) (x y : Spa
 
   pub cites_order : (s : Trail) (a b c : List Atom) → Cites s a b (λ xs. (is_present xs x ≡ true) × (is_present xs y ≡ true)) → Cites s b c (λ xs. start_at xs x <ℤ end_at xs y) → Cites s a c (λ xs. OrdersAt xs ps pair)
   cites_order s a b c f g = record { facts = λ h. g.facts (f.facts h); kept = λ xs h. f.kept xs (g.kept xs h); gives = λ xs h. (let k = f.gives xs (g.kept xs h) in orders_at xs k.0 k.1 (g.gives xs h)) }
-
-  pub cites_clash : (s : Trail) (a b c : List Atom) → Cites s a b (λ xs. start_at xs x <ℤ end_at xs y) → Cites s b c (λ xs. start_at xs y <ℤ end_at xs x) → Cites s a c (λ xs. ClashesAt xs ps pair)
-  cites_clash s a b c f g = record { facts = λ h. g.facts (f.facts h); kept = λ xs h. f.kept xs (g.kept xs h); gives = λ xs h. clashes_at xs (f.gives xs (g.kept xs h)) (g.gives xs h) }
 
   pub cites_refuted : (s : Trail) (a b c : List Atom) → Cites s a b (λ xs. (is_present xs x ≡ true) × (is_present xs y ≡ true)) → Cites s b c (λ xs. ClashesAt xs ps pair) → Cites s a c (λ xs. IsNoOverlap (span_runs xs ps) → ⊥)
   cites_refuted s a b c f g = record { facts = λ h. g.facts (f.facts h); kept = λ xs h. f.kept xs (g.kept xs h); gives = λ xs h. (let k = f.gives xs (g.kept xs h) in refutes xs k.0 k.1 (g.gives xs h)) }

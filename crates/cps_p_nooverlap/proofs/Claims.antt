@@ -1,6 +1,6 @@
 -- What was cited of spans in a window gives.
 use Rattle.std.specs.List.{sum}
-use Rattle.std.proofs.Common.{◌≡◌, ◌<◌, ◌≤ℤ◌, ◌<ℤ◌, ◌+ℤ◌, ℕ, ℤ, pos, Bool, true, false, List, [], length, get_or, refl, sym, ◌∙◌, ap, subst, arith}
+use Rattle.std.proofs.Common.{◌≡◌, ◌<◌, ◌≤ℤ◌, ◌<ℤ◌, ◌+ℤ◌, ℕ, ℤ, pos, Bool, true, false, List, [], length, get_or, refl, sym, ◌∙◌, subst, arith}
 use Rattle.std.proofs.lemmas.Int.{ints}
 use Rattle.std.proofs.lemmas.List.{get_or_default}
 use Rattle.std.proofs.lemmas.List.Elements.{All-nil}
@@ -77,10 +77,6 @@ reasoned_bound s ps old mid us k r time q u are l is none c present says = recor
     gives = λ xs h o. says.said xs (subst (λ (p : Span). time ≤ℤ near_at r xs p) (sym is) (c.gives xs (present.kept xs h) q o (subst (λ (p : Span). is_present xs p ≡ true) is (present.gives xs h))));
   });
 }
-
--- an atom about the subject of one that is read in a list
-pub about_one : (us : List Atom) (k : ℕ) (v u : Atom) → k < length us → v ≡ get_or us k v → u.subject ≡ v.subject → IsAboutOne us u
-about_one us k v u l is e = record { place = k; inside = l; about = λ d. e ∙ ap (λ (w : Atom). w.subject) (is ∙ get_or_default us k v d l) }
 
 holds_or : (t : Bool) → (t ≡ false → ⊥) → t ≡ true
 holds_or true h = refl

@@ -1,5 +1,5 @@
 -- Between which times a span starts and ends.
-use Rattle.std.proofs.Common.{◌≡◌, ◌+ℤ◌, ◌-ℤ◌, ◌≤ℤ◌, inl, inr, ℤ, ℕ, zero, suc, ◌<◌, length, get_or, refl, Option, Some, None, List, [], ◌∷◌, ◌++◌, ap, sym, subst, arith}
+use Rattle.std.proofs.Common.{◌≡◌, ◌+ℤ◌, ◌-ℤ◌, ◌≤ℤ◌, inl, ℤ, ℕ, zero, suc, ◌<◌, length, get_or, refl, Option, Some, None, List, [], ◌∷◌, ◌++◌, ap, sym, subst, arith}
 use Rattle.std.specs.Prelude.{IfSome}
 use Rattle.std.specs.List.{AllZip}
 use Rattle.std.proofs.lemmas.Int.{ints}
@@ -85,20 +85,6 @@ says_start_up_to p time v e = record {
   place = inl refl;
   says = λ xs a. (let k = true_le (value_at xs p.start) v a in omega (arith, ints));
   said = λ xs a. le_true (value_at xs p.start) v (omega (arith, ints));
-}
-
-pub says_end_at_least : (p : Span) (time v : ℤ) → p.length ≡ None → v ≡ time → Says p (record { subject = p.end; op = Ge; value = v }) (λ xs. time ≤ℤ end_at xs p)
-says_end_at_least p time v f e = record {
-  place = inr refl;
-  says = λ xs a. (let k = true_le v (value_at xs p.end) a in let i = ap (λ (l : Option ℤ). end_of l (value_at xs p.start) (value_at xs p.end)) f in omega (arith, ints));
-  said = λ xs a. le_true v (value_at xs p.end) (let i = ap (λ (l : Option ℤ). end_of l (value_at xs p.start) (value_at xs p.end)) f in omega (arith, ints));
-}
-
-pub says_end_at_most : (p : Span) (time v : ℤ) → p.length ≡ None → v ≡ time → Says p (record { subject = p.end; op = Le; value = v }) (λ xs. end_at xs p ≤ℤ time)
-says_end_at_most p time v f e = record {
-  place = inr refl;
-  says = λ xs a. (let k = true_le (value_at xs p.end) v a in let i = ap (λ (l : Option ℤ). end_of l (value_at xs p.start) (value_at xs p.end)) f in omega (arith, ints));
-  said = λ xs a. le_true (value_at xs p.end) v (let i = ap (λ (l : Option ℤ). end_of l (value_at xs p.start) (value_at xs p.end)) f in omega (arith, ints));
 }
 
 pub IfSome-map : {A : Type 0} (o : Option A) {P Q : A → Type 0} → ((x : A) → P x → Q x) → IfSome o P → IfSome o Q

@@ -50,9 +50,6 @@ high_out goal us i limits v off h = record { at = λ xs all deny e. off (value_a
 pub hole_out : (goal : Option Atom) (us : List Atom) (i : ℕ) (v : ℤ) (u : Atom) → u ≡ record { subject = i; op = Ne; value = v } → ((xs : List ℤ) → AllTrueAt xs us → atom_holds xs u ≡ true) → IsOut goal us i v
 hole_out goal us i v u same h = record { at = λ xs all deny e. off_it v (value_at xs i) (ap (λ (w : Atom). atom_holds xs w) (sym same) ∙ h xs all) e }
 
-pub out_at : (goal : Option Atom) (us us' : List Atom) (i : ℕ) (v : ℤ) → us' ≡ us → IsOut goal us i v → IsOut goal us' i v
-out_at goal us us' i v e h = subst (λ (ws : List Atom). IsOut goal ws i v) (sym e) h
-
 pub limited_still : (s : Trail) (old new : List Atom) (i : ℕ) (limits : Limits) → Grows s old new → IsLimited old i limits → IsLimited new i limits
 limited_still s old new i limits g h = record { low = λ xs all. h.low xs (g.kept xs all); high = λ xs all. h.high xs (g.kept xs all) }
 

@@ -177,10 +177,6 @@ mirrors_more s direct inverse n old mid new i v l is-i is-v given kept mirrored 
 pub at_subject : (b : Body) (own others : List ℕ) (k i : ℕ) (m : ℤ) → k < length own → get_or own k 0 ≡ i → m ≡ pos k → AllPaired b own others → ArePaired b i m others
 at_subject b own others k i m l is-i is-m paired = subst (λ (u : ℕ). ArePaired b u m others) is-i (subst (λ (z : ℤ). ArePaired b (get_or own k 0) z others) (sym is-m) (paired.at k l))
 
--- at the start
-pub within_begun : (s : Trail) (is : List ℕ) (count : ℤ) (old : List Narrowing) → KeptWithin s is count 0 old old
-within_begun s is count old = record { given = λ b places gs. gs; kept = λ all. all; within = λ all k d l inside. absurd (omega arith) }
-
 value_of : Result Bool AllocError → Bool
 value_of (Ok b) = b
 value_of (Err e) = false

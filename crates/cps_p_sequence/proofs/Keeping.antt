@@ -32,9 +32,6 @@ whole_more s i labels from v before here x l m o = elim (last_value x v m) [
 pub record AreWhole (s : Trail) (i : ℕ) (labels : List ℤ) (first last : ℤ) (parts : List (ℤ × ℤ)) (n : ℕ) : Type 0 where
   pub at : (k : ℕ) (d : ℤ × ℤ) → k < n → k < length parts → (x : ℤ) → within x (get_or parts k d) ≡ true → first ≤ℤ x → x <ℤ last → IsOpenTo s i x → Contains labels x
 
-pub wholes_none : (s : Trail) (i : ℕ) (labels : List ℤ) (first last : ℤ) (parts : List (ℤ × ℤ)) → AreWhole s i labels first last parts 0
-wholes_none s i labels first last parts = record { at = λ k d l m x w a b o. absurd (omega arith) }
-
 pub wholes_more : (s : Trail) (i : ℕ) (labels : List ℤ) (first last : ℤ) (parts : List (ℤ × ℤ)) (n : ℕ) (part : ℤ × ℤ) (from to : ℤ) → n < length parts → part ≡ get_or parts n part
     → ((x : ℤ) → first ≤ℤ x → part.0 ≤ℤ x → from ≤ℤ x) → ((x : ℤ) → x <ℤ last → x ≤ℤ part.1 → x <ℤ to)
     → ((x : ℤ) → from ≤ℤ x → x <ℤ to → IsOpenTo s i x → Contains labels x) → AreWhole s i labels first last parts n → AreWhole s i labels first last parts (n + 1)

@@ -1,5 +1,5 @@
 -- Facts of a store, and what a body and they exclude.
-use Rattle.std.specs.Prelude.{◌≡◌, ℤ, true, Option, Some, None, [], ◌∷◌, ◌++◌}
+use Rattle.std.specs.Prelude.{◌≡◌, ℤ, true, Option, Some, None}
 use Rattle.cps_literal.specs.declared.atom.Op.{Op}
 use Rattle.cps_literal.specs.Truth.{meets}
 

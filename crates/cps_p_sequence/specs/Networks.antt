@@ -1,5 +1,5 @@
 -- An automaton whose states have numbers: its steps, and which states are marked.
-use Rattle.std.specs.Prelude.{◌≡◌, ℕ, ◌<◌, ℤ, pos, ◌<ℤ◌, Bool, true, false, List, length, slice_index_or, All, Contains}
+use Rattle.std.specs.Prelude.{◌≡◌, ℕ, ◌<◌, ℤ, pos, Bool, true, false, List, length, slice_index_or, All, Contains}
 use Rattle.cps_model.specs.declared.parts.Transition.{Transition}
 use Rattle.cps_instance.specs.declared.task.Body.{Body}
 use Rattle.cps_instance.specs.declared.task.Body.TheVariants.{Automaton}

@@ -6,7 +6,7 @@
 //! fact; each other one from a marked state is ruled out by a fact about its label: below or above what its position
 //! could have, by one end for all such labels, or off it. Where no final state is marked in the end, no values beside
 //! the facts are labels of a run.
-ghost use Rattle.std.specs.Prelude.{◌≡◌, ◌≤◌, ◌<◌, ℕ, ℤ, true, Option, List, length, slice_index_or, All, Ok, OnOk, IfOk, IsTrue};
+ghost use Rattle.std.specs.Prelude.{◌≡◌, ◌<◌, ℕ, ℤ, true, Option, List, length, All, Ok, OnOk, IfOk, IsTrue};
 ghost use Rattle.cps_literal.specs.Truth.{value_at};
 ghost use Rattle.cps_literal.specs.declared.atom.Op.TheVariants.{Le, Ge};
 ghost use Rattle.cps_rule.specs.Rules.{AllTrueAt};

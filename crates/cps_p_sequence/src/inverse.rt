@@ -3,10 +3,9 @@
 //! Value by value: a position may have a number exactly where that number's position in the other list may have its
 //! own. So both lists mirror each other. Beside that the values of each list differ, and the intervals that they fill
 //! are left to them (`Sides`); that says more than the mirror where several positions share several numbers.
-ghost use Rattle.std.specs.Prelude.{◌≡◌, ◌<◌, ℤ, pos, ◌≤ℤ◌, ◌<ℤ◌, true, List, length, Contains, All, OnOk, IfOk, IsTrue};
+ghost use Rattle.std.specs.Prelude.{◌≡◌, ◌<◌, ℤ, pos, ◌≤ℤ◌, ◌<ℤ◌, true, length, Contains, All, OnOk, IfOk, IsTrue};
 ghost use Rattle.cps_literal.specs.Truth.{meets};
 ghost use Rattle.cps_instance.specs.declared.task.Body.{Body as BodyOf};
-ghost use Rattle.cps_trail.specs.Trail.{IsInside};
 ghost use Rattle.cps_propagate.specs.Now.{IsOpenTo};
 ghost use Rattle.cps_rule.specs.Rules.{IsExplained};
 ghost use Rattle.cps_p_sequence.specs.Inverses.{AreGivenPlaces, AreTrue, HasPlace, IsMatched, ArePaired, AllPaired, IsWithinPlaces, AreMirroredAt, AreMirrored};

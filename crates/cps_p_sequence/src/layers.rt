@@ -6,7 +6,7 @@
 ghost use Rattle.std.specs.Prelude.{◌≡◌, ◌↔◌, ◌-◌, ◌<◌, ◌≤◌, ℕ, false, length, drop, slice_index_or, Contains, All, OnOk, IfOk, IsTrue};
 ghost use Rattle.cps_p_sequence.specs.Networks.{IsStepWithin, IsMarked};
 ghost use Rattle.cps_model.specs.Rising.{IsRising};
-ghost use Rattle.cps_p_sequence.specs.Runs.{AreTails, AreHeads, AreLabels, AreEnding, AreReached, AreRows, HasLabelsOf, IsNarrowed, IsLooked};
+ghost use Rattle.cps_p_sequence.specs.Runs.{AreTails, AreHeads, AreLabels, AreEnding, AreRows, HasLabelsOf, IsNarrowed, IsLooked};
 
 use crate::keep::{is_open, keep_labels};
 use crate::states::{Step, blank, make_distinct};

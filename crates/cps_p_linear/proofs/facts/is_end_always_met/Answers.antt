@@ -12,7 +12,7 @@ returns-then-is_upper c = λ yes.
     let up : is_upper c.args.side t.coeff ≡ true = sym c.is_upper.ensures ∙ c.if-is_upper.true in
     let high = c.args.values.now.high in
     let fits : FitsSigned w64 high = search rules in
-    high_always c.args.past.now c.args.side t c.args.values.now c.requires.bounded up
+    high_always c.args.past.now c.args.side t c.args.values.now up
     (subst (λ (z : ℤ). IsTrueAfter c.args.past.now.first [] (record { subject = t.subject; op = Le; value = z })) (to_z-of_z w64 high fits) (c.was_always.ensures yes))
 
 pub returns-else-is_upper : goal.returns-else-is_upper
@@ -21,5 +21,5 @@ returns-else-is_upper c = λ yes.
     let up : is_upper c.args.side t.coeff ≡ false = sym c.is_upper.ensures ∙ c.if-is_upper.false in
     let low = c.args.values.now.low in
     let fits : FitsSigned w64 low = search rules in
-    low_always c.args.past.now c.args.side t c.args.values.now c.requires.bounded up
+    low_always c.args.past.now c.args.side t c.args.values.now up
     (subst (λ (z : ℤ). IsTrueAfter c.args.past.now.first [] (record { subject = t.subject; op = Ge; value = z })) (to_z-of_z w64 low fits) (c.was_always-else-is_upper.ensures yes))

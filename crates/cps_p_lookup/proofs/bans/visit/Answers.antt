@@ -1,4 +1,4 @@
-use Rattle.std.proofs.Common.{◌≡◌, ◌<◌, ◌≤◌, ℕ, ℤ, true, pos, ap, sym, subst, List, get_or, arith, rules, FitsSigned, w64, length}
+use Rattle.std.proofs.Common.{◌<◌, ℤ, true, pos, subst, List, get_or, arith, rules, FitsSigned, w64, length}
 use Rattle.std.proofs.lemmas.Int.{to_z-of_z}
 use Rattle.cps_instance.specs.declared.task.Body.TheVariants.{Table}
 use Rattle.cps_model.specs.Lookups.{row_at}

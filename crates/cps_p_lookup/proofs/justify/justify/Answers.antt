@@ -1,4 +1,4 @@
-use Rattle.std.proofs.Common.{Ok, ap, refl, arith, get_or, ◌<◌, length}
+use Rattle.std.proofs.Common.{Ok, ap}
 use Rattle.cps_p_lookup.proofs.Growing.{grows_trans, no_facts}
 use Rattle.cps_p_lookup.proofs.Placing.{closed_more, gives_all}
 use Rattle.cps_p_lookup.proofs.justify.justify.Goals as goal

@@ -1,4 +1,4 @@
-use Rattle.std.proofs.Common.{ℕ, ◌≤◌, ◌<◌, length, get_or}
+use Rattle.std.proofs.Common.{ℕ, ◌≤◌, ◌<◌, get_or}
 use Rattle.cps_rule.specs.Facts.{Grows}
 use Rattle.cps_p_lookup.specs.Elements.{IsClosed}
 use Rattle.cps_p_lookup.proofs.justify.justify.Given as goal

@@ -1,4 +1,4 @@
-use Rattle.std.proofs.Common.{◌≡◌, ◌<◌, ℕ, true, Ok, Some, ap, subst, arith, ltb, length, rules, FitsSigned, w64}
+use Rattle.std.proofs.Common.{◌≡◌, ◌<◌, ℕ, true, Ok, ap, subst, arith, ltb, length}
 use Rattle.std.proofs.lemmas.Bool.Decides.{nat_tests}
 use Rattle.cps_p_lookup.specs.Elements.{IsLeft}
 use Rattle.cps_p_lookup.proofs.Placing.{left_by}

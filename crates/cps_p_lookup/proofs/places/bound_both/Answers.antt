@@ -1,4 +1,4 @@
-use Rattle.std.proofs.Common.{◌≡◌, ◌<◌, ◌≤ℤ◌, ℤ, ◌∙◌, sym, arith, rules, FitsSigned, w64, length, get_or}
+use Rattle.std.proofs.Common.{◌<◌, ◌≤ℤ◌, ℤ, ◌∙◌, rules, FitsSigned, w64, length}
 use Rattle.std.proofs.lemmas.Int.{to_z-of_z}
 use Rattle.std.specs.List.{All}
 use Rattle.cps_instance.specs.declared.task.Body.TheVariants.{Element}

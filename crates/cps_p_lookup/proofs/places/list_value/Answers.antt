@@ -1,4 +1,4 @@
-use Rattle.std.proofs.Common.{◌≡◌, ◌<◌, ◌^◌, ◌∙◌, ℕ, ℤ, pos, true, false, ap, to_z, sym, arith, rules, get_or, FitsSigned, w64}
+use Rattle.std.proofs.Common.{◌≡◌, ◌<◌, ◌^◌, ◌∙◌, ℕ, pos, false, ap, to_z, sym, arith, rules, FitsSigned, w64}
 use Rattle.std.proofs.lemmas.Int.{to_z-of_z, to_z_pos}
 use Rattle.cps_domain.specs.Window.{contains}
 use Rattle.cps_p_lookup.proofs.Missing.{lists_none, lists_one, single_between}

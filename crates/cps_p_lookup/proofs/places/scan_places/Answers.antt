@@ -1,4 +1,4 @@
-use Rattle.std.proofs.Common.{◌≡◌, ◌≤ℤ◌, ◌∙◌, ap, refl, sym, subst, List, [], pos, arith, rules, FitsSigned, w64, length}
+use Rattle.std.proofs.Common.{◌∙◌, ap, refl, sym, subst, List, pos, arith, rules, FitsSigned, w64}
 use Rattle.std.proofs.lemmas.Int.{to_z-of_z}
 use Rattle.std.specs.List.{All}
 use Rattle.std.proofs.lemmas.List.Elements.{All-nil}

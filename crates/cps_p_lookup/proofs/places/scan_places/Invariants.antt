@@ -1,4 +1,4 @@
-use Rattle.std.proofs.Common.{ℕ, ◌≤◌, ◌<◌, ◌≤ℤ◌, pos, length, get_or}
+use Rattle.std.proofs.Common.{ℕ, ◌≤◌, ◌<◌, length, get_or}
 use Rattle.std.specs.List.{All}
 use Rattle.cps_instance.specs.declared.task.Body.TheVariants.{Element}
 use Rattle.cps_rule.specs.Rules.{IsGiven}

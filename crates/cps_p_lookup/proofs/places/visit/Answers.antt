@@ -1,4 +1,4 @@
-use Rattle.std.proofs.Common.{◌≡◌, ◌<◌, ◌^◌, ℤ, ℕ, List, pos, true, sym, ap, refl, get_or, rules, arith, FitsSigned, w64, ◌∙◌}
+use Rattle.std.proofs.Common.{◌≡◌, ◌<◌, ◌^◌, ℤ, ℕ, List, pos, true, sym, get_or, rules, arith, FitsSigned, w64}
 use Rattle.std.proofs.lemmas.Int.{to_z-of_z, to_z_pos}
 use Rattle.cps_domain.specs.Window.{contains}
 use Rattle.cps_instance.specs.declared.task.Body.TheVariants.{Element}

@@ -1,4 +1,4 @@
-use Rattle.std.proofs.Common.{ℕ, ◌∷◌, [], ◌∙◌, List, sym, ap, subst, length, refl}
+use Rattle.std.proofs.Common.{ℕ, ◌∙◌, List, sym, ap, subst, length}
 use Rattle.std.specs.List.{All, Contains}
 use Rattle.std.proofs.lemmas.List.Elements.{All-push}
 use Rattle.cps_p_lookup.specs.Tabling.{IsLive}

@@ -1,4 +1,4 @@
-use Rattle.std.proofs.Common.{ℕ, ◌<◌, length}
+use Rattle.std.proofs.Common.{ℕ, ◌<◌}
 use Rattle.std.specs.List.{All, Contains}
 use Rattle.cps_p_lookup.specs.Tabling.{IsLive}
 use Rattle.cps_p_lookup.proofs.rows.collect.Given as goal

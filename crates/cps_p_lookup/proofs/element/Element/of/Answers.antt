@@ -1,5 +1,4 @@
-use Rattle.std.proofs.Common.{refl}
-use Rattle.cps_p_lookup.specs.Bodies.{element_of, table_of}
+use Rattle.cps_p_lookup.specs.Bodies.{element_of}
 use Rattle.cps_p_lookup.proofs.Tasks.{whole}
 use Rattle.cps_p_lookup.proofs.element.Element.of.Goals as goal
 
