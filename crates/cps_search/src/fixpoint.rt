@@ -1,5 +1,10 @@
 //! What a search does where inference came to rest: it ends where an assumption is false, offers a solution where all
 //! variables are fixed, and else a decision is due.
+//!
+//! Inference comes to rest where neither clauses nor tasks, settled in turn (`settle_all`), narrow anything more. Only
+//! there is a store without open variables known to hold a solution, since a task that is at rest over fixed subjects
+//! is satisfied. Assumptions are looked at first: where one is false no solution is left below z, whatever is still
+//! open, and values that make one false are no solution of the model.
 
 ghost use Rattle.std.specs.Prelude.{◌≡◌, OnOk, IfOk, IfSome, IsNone, Some, Ok};
 ghost use Rattle.cps_model.specs.Solutions.{objective_value, IsSolution};

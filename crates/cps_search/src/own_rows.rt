@@ -1,8 +1,9 @@
-//! The rows of the board that a worker filled itself, and has not taken back yet.
+//! The rows of the board that a worker filled itself, and how many of them it has taken back.
 //!
 //! A worker takes each row of the board once, its own too. Rows are taken in the order of their numbers, so its own
-//! ones come back in the order in which it shared them, and only the next of them has to be compared. The clause of an
-//! own row is in force already: added once more, it would be stored and watched twice.
+//! ones come back in the order in which it shared them, and only the next of them has to be compared. Those that came
+//! back stay in the list. The clause of an own row is in force already: added once more, it would be stored and watched
+//! twice.
 
 ghost use Rattle.std.specs.Prelude.{◌≤◌, IsTrue};
 ghost use Rattle.cps_port.specs.Entries.{entry_clause, most_atoms};
@@ -20,7 +21,7 @@ struct OwnRow {
     clause: u32,
 }
 
-/// The own rows in their order, and how many of them were taken.
+/// The own rows in their order, and how many of them were taken back.
 #[derive(Drop)]
 pub(crate) struct OwnRows {
     rows: Vec<OwnRow>,
