@@ -39,8 +39,8 @@ use cps_reform::{Ceiling, Reform, assumption};
 use cps_search::{Frame, Turn, decide_next, hear_turn, still_kept};
 use std::alloc::{AllocError, Global};
 
-/// The most sums that are defined for cores; after them nothing is assumed any more, and the brancher decides alone.
-/// With them there are at most 2^31 subjects.
+/// The most sums that are defined for cores; after them no term is assumed any more: the model's assumptions are decided
+/// first, and then the brancher chooses. With them there are at most 2^31 subjects.
 const MOST_SUMS: u32 = 1 << 24;
 
 /// A core-guided worker as long as every allocation succeeds.

@@ -42,7 +42,7 @@ impl<R: Rule> Enforced<R> {
     ghost use Rattle.cps_enforce.specs.Tasks.{IsCostly};
 
     /// The propagator of a rule's body, in force where these atoms are true. The body is neither an objective's cut nor
-    /// one of literals alone.
+    /// of a cheap kind.
     pub fn new(alloc: Global, enforcement: &[Atom], rule: R) -> Result<Self, AllocError>
         requires { IsCostly (R.body rule) }
         ensures { IfOk result (λ propagator. propagator ≡ task_of enforcement.now (R.body rule)) }
@@ -100,7 +100,7 @@ impl<R: Rule> Propagator for Enforced<R> {
     }
 
     fn lower(&mut self, _upper: i64) {
-        // Reading the rule gives the proof the invariant: the body is no cut and not of literals alone.
+        // Reading the rule gives the proof the invariant: the body is no cut and not of a cheap kind.
         let _ = &self.rule;
     }
 
@@ -113,13 +113,13 @@ impl<R: Rule> Propagator for Enforced<R> {
     }
 
     fn is_cut(&self) -> bool {
-        // Reading the rule gives the proof the invariant: the body is no cut and not of literals alone.
+        // Reading the rule gives the proof the invariant: the body is no cut and not of a cheap kind.
         let _ = &self.rule;
         false
     }
 
     fn is_cheap(&self) -> bool {
-        // Reading the rule gives the proof the invariant: the body is no cut and not of literals alone.
+        // Reading the rule gives the proof the invariant: the body is no cut and not of a cheap kind.
         let _ = &self.rule;
         false
     }

@@ -3,7 +3,7 @@
 //! One pass over the places between the index's ends takes the index off those where expression and target cannot meet,
 //! and keeps the hull of the values at the others. Domains are compared by their ends, and by values only where one of
 //! them has a single one: a full comparison would cost more than it finds. If one place is left, expression and target
-//! are made equal.
+//! get the same ends, and small domains the same values.
 
 ghost use Rattle.std.specs.Prelude.{ℕ, ℤ, pos, ◌≡◌, ◌<◌, ◌≤◌, ◌≤ℤ◌, ◌^◌, ◌-◌, length, All, IfOk, OnOk, true, false};
 ghost use Rattle.cps_domain.specs.Window.{contains};

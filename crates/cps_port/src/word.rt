@@ -1,4 +1,5 @@
-//! A bound as a word: its value plus 2^63, and 2^64 - 1 for `Infinite`, so that words keep the order of bounds.
+//! A bound as a word: its value plus 2^63, and 2^64 - 1 for `Infinite`, so that words keep the order of bounds. The
+//! greatest `i64` has the word of `Infinite`; no bound is so great, since objectives stay below 2^62.
 ghost use Rattle.std.specs.Prelude.{◌≡◌};
 ghost use Rattle.cps_port.specs.Words.{value_of, word_of, bound_of};
 

@@ -12,8 +12,8 @@ pub struct Outcome {
     pub upper: Bound,
     /// At most the objective of each solution, infinite where there is none.
     pub lower: Bound,
-    /// Assumptions that are sufficient for infeasibility, if they are what makes the model infeasible: those of the
-    /// first worker that left no solution at all.
+    /// Of an infeasible model assumptions that cannot all be true, those of the first worker that left no solution at
+    /// all; there may be none where it is infeasible without them.
     pub core: Refs,
     /// How each worker ended, by number.
     pub ends: Listed<AnyEnded>,

@@ -23,7 +23,8 @@ pub struct Response {
     pub solution: Option<Ints>,
     /// A bound on the objective's sum from below.
     pub lower: Bound,
-    /// Assumptions that no free assignment makes all true, if the model is infeasible because of them.
+    /// Of an infeasible model assumptions that no free assignment makes all true; there may be none where it is
+    /// infeasible without them.
     pub core: Refs,
 }
 

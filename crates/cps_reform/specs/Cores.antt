@@ -7,7 +7,7 @@ use Rattle.cps_instance.specs.Terms.{Domains, domain_at, greatest_of}
 use Rattle.cps_reform.specs.declared.held.Held.{Held}
 use Rattle.cps_reform.specs.Forms.{Form}
 
--- the subjects of the core, each once
+-- the subject of each term of the core, with coefficient 1
 abbrev pub core_terms : List Held → List Term
 core_terms [] = []
 core_terms (t ∷ ts) = if t.in_core then record { coeff = pos 1; subject = t.subject } ∷ core_terms ts else core_terms ts
