@@ -6,40 +6,107 @@
 use cps_gen::{Family, generate};
 use cps_model::{Constraint, CpModel, Kind};
 use std::alloc::{AllocError, Global};
+use std::process::Abort;
 use std::test::Fail;
 
-/// A knapsack's size and seed, and its weights, coefficients of the objective, and greatest load.
-const KNAPSACKS: [(u32, u64, &[i64], &[i64], i64); 4] = [
-    (1, 7, &[51], &[-47], 25),
-    (3, 0, &[18, 93, 18], &[-82, -26, -8], 64),
-    (3, 7, &[51, 13, 38], &[-47, -32, -92], 51),
-    (3, u64::MAX, &[38, 70, 46], &[-51, -88, -90], 77),
+/// A knapsack's size and seed, and what its model is to have.
+struct Knapsack {
+    size: u32,
+    seed: u64,
+    weights: &'static [i64],
+    /// The coefficients of the objective.
+    losses: &'static [i64],
+    /// The greatest load.
+    most: i64,
+}
+
+static KNAPSACK_ROWS: [Knapsack; 4] = [
+    Knapsack {
+        size: 1,
+        seed: 7,
+        weights: &[51],
+        losses: &[-47],
+        most: 25,
+    },
+    Knapsack {
+        size: 3,
+        seed: 0,
+        weights: &[18, 93, 18],
+        losses: &[-82, -26, -8],
+        most: 64,
+    },
+    Knapsack {
+        size: 3,
+        seed: 7,
+        weights: &[51, 13, 38],
+        losses: &[-47, -32, -92],
+        most: 51,
+    },
+    Knapsack {
+        size: 3,
+        seed: u64::MAX,
+        weights: &[38, 70, 46],
+        losses: &[-51, -88, -90],
+        most: 77,
+    },
 ];
 
 /// A job shop's size and seed, and how long each task runs.
-const JOBSHOPS: [(u32, u64, &[i64]); 3] = [
-    (1, 7, &[13]),
-    (2, 1, &[18, 20, 16, 2]),
-    (2, u64::MAX, &[10, 7, 20, 12]),
+struct Jobshop {
+    size: u32,
+    seed: u64,
+    durations: &'static [i64],
+}
+
+static JOBSHOP_ROWS: [Jobshop; 3] = [
+    Jobshop {
+        size: 1,
+        seed: 7,
+        durations: &[13],
+    },
+    Jobshop {
+        size: 2,
+        seed: 1,
+        durations: &[18, 20, 16, 2],
+    },
+    Jobshop {
+        size: 2,
+        seed: u64::MAX,
+        durations: &[10, 7, 20, 12],
+    },
 ];
 
 /// A tour's size and seed, and the tails, heads and costs of its arcs.
-const TOURS: [(u32, u64, &[i32], &[i32], &[i64]); 3] = [
-    (2, 7, &[0, 1], &[1, 0], &[52, 9]),
-    (
-        3,
-        7,
-        &[0, 0, 1, 1, 2, 2],
-        &[1, 2, 0, 2, 0, 1],
-        &[52, 9, 73, 31, 100, 68],
-    ),
-    (
-        3,
-        u64::MAX,
-        &[0, 0, 1, 1, 2, 2],
-        &[1, 2, 0, 2, 0, 1],
-        &[18, 98, 79, 93, 82, 40],
-    ),
+struct Tour {
+    size: u32,
+    seed: u64,
+    tails: &'static [i32],
+    heads: &'static [i32],
+    costs: &'static [i64],
+}
+
+static TOUR_ROWS: [Tour; 3] = [
+    Tour {
+        size: 2,
+        seed: 7,
+        tails: &[0, 1],
+        heads: &[1, 0],
+        costs: &[52, 9],
+    },
+    Tour {
+        size: 3,
+        seed: 7,
+        tails: &[0, 0, 1, 1, 2, 2],
+        heads: &[1, 2, 0, 2, 0, 1],
+        costs: &[52, 9, 73, 31, 100, 68],
+    },
+    Tour {
+        size: 3,
+        seed: u64::MAX,
+        tails: &[0, 0, 1, 1, 2, 2],
+        heads: &[1, 2, 0, 2, 0, 1],
+        costs: &[18, 98, 79, 93, 82, 40],
+    },
 ];
 
 /// Whether the objective of a model has these coefficients and this scaling.
@@ -90,117 +157,144 @@ fn runs_are(model: &CpModel, durations: &[i64]) -> bool {
     true
 }
 
-/// The generated model, none where the family has none of this size.
-fn model_of(
-    alloc: Global,
-    family: Family,
-    size: u32,
-    seed: u64,
-) -> Result<Option<CpModel>, AllocError> {
+/// The generated model; an error where the family has none of this size.
+fn model_of(alloc: Global, family: Family, size: u32, seed: u64) -> Result<CpModel, AllocError> {
     if !family.is_in_range(size) {
-        return Ok(None);
+        return Err(AllocError);
     }
-    Ok(Some(generate(alloc, family, size, seed)?))
+    generate(alloc, family, size, seed)
 }
 
-/// Whether a knapsack has these numbers.
-fn knapsack_is(
-    alloc: Global,
-    (size, seed): (u32, u64),
-    weights: &[i64],
-    losses: &[i64],
-    most: i64,
-) -> Result<bool, AllocError> {
-    let Some(model) = model_of(alloc, Family::Knapsack, size, seed)? else {
-        return Ok(false);
-    };
-    let [load] = model.constraints.as_slice() else {
-        return Ok(false);
-    };
-    Ok(has_objective(&model, losses, -1) && is_load(load, weights, most))
+fn is_knapsack(model: &CpModel, row: &Knapsack) -> bool {
+    match model.constraints.as_slice() {
+        [load] => has_objective(model, row.losses, -1) && is_load(load, row.weights, row.most),
+        _ => false,
+    }
 }
 
-/// Whether the tasks of a job shop run so long.
-fn jobshop_is(alloc: Global, size: u32, seed: u64, durations: &[i64]) -> Result<bool, AllocError> {
-    let Some(model) = model_of(alloc, Family::Jobshop, size, seed)? else {
-        return Ok(false);
-    };
-    Ok(has_objective(&model, &[1], 1) && runs_are(&model, durations))
+fn is_jobshop(model: &CpModel, row: &Jobshop) -> bool {
+    has_objective(model, &[1], 1) && runs_are(model, row.durations)
 }
 
-/// Whether a tour has these arcs and costs.
-fn tour_is(
-    alloc: Global,
-    (size, seed): (u32, u64),
-    tails: &[i32],
-    heads: &[i32],
-    costs: &[i64],
-) -> Result<bool, AllocError> {
-    let Some(model) = model_of(alloc, Family::Tour, size, seed)? else {
-        return Ok(false);
-    };
-    let [circuit] = model.constraints.as_slice() else {
-        return Ok(false);
-    };
-    Ok(has_objective(&model, costs, 1) && is_circuit(circuit, tails, heads))
+fn is_tour(model: &CpModel, row: &Tour) -> bool {
+    match model.constraints.as_slice() {
+        [circuit] => {
+            has_objective(model, row.costs, 1) && is_circuit(circuit, row.tails, row.heads)
+        }
+        _ => false,
+    }
 }
 
-/// How many variables and constraints a model has.
-fn counts_of(
-    alloc: Global,
+/// Whether the model of a row has the numbers of the row.
+fn draws_knapsack(alloc: Global, row: &Knapsack) -> Result<bool, AllocError> {
+    let model = model_of(alloc, Family::Knapsack, row.size, row.seed)?;
+    Ok(is_knapsack(&model, row))
+}
+
+fn draws_jobshop(alloc: Global, row: &Jobshop) -> Result<bool, AllocError> {
+    let model = model_of(alloc, Family::Jobshop, row.size, row.seed)?;
+    Ok(is_jobshop(&model, row))
+}
+
+fn draws_tour(alloc: Global, row: &Tour) -> Result<bool, AllocError> {
+    let model = model_of(alloc, Family::Tour, row.size, row.seed)?;
+    Ok(is_tour(&model, row))
+}
+
+fn assert_knapsacks(rt: &impl Abort, alloc: Global, rows: &[Knapsack]) -> Result<(), Fail> {
+    for row in rows {
+        let is_drawn = draws_knapsack(alloc, row)?;
+        assert!(rt; is_drawn, "{} {}", row.size, row.seed);
+    }
+    Ok(())
+}
+
+fn assert_jobshops(rt: &impl Abort, alloc: Global, rows: &[Jobshop]) -> Result<(), Fail> {
+    for row in rows {
+        let is_drawn = draws_jobshop(alloc, row)?;
+        assert!(rt; is_drawn, "{} {}", row.size, row.seed);
+    }
+    Ok(())
+}
+
+fn assert_tours(rt: &impl Abort, alloc: Global, rows: &[Tour]) -> Result<(), Fail> {
+    for row in rows {
+        let is_drawn = draws_tour(alloc, row)?;
+        assert!(rt; is_drawn, "{} {}", row.size, row.seed);
+    }
+    Ok(())
+}
+
+/// A family, a size, and how many variables and constraints its models have.
+struct Counted {
     family: Family,
     size: u32,
-) -> Result<Option<(usize, usize)>, AllocError> {
-    let Some(model) = model_of(alloc, family, size, 1)? else {
-        return Ok(None);
-    };
-    Ok(Some((model.variables.len(), model.constraints.len())))
+    variables: usize,
+    constraints: usize,
+}
+
+static COUNT_ROWS: [Counted; 5] = [
+    Counted {
+        family: Family::Knapsack,
+        size: 10_000,
+        variables: 10_000,
+        constraints: 1,
+    },
+    Counted {
+        family: Family::Jobshop,
+        size: 1,
+        variables: 2,
+        constraints: 3,
+    },
+    Counted {
+        family: Family::Jobshop,
+        size: 16,
+        variables: 257,
+        constraints: 528,
+    },
+    Counted {
+        family: Family::Tour,
+        size: 2,
+        variables: 2,
+        constraints: 1,
+    },
+    Counted {
+        family: Family::Tour,
+        size: 60,
+        variables: 3540,
+        constraints: 1,
+    },
+];
+
+fn is_counted(alloc: Global, row: &Counted) -> Result<bool, AllocError> {
+    let model = model_of(alloc, row.family, row.size, 1)?;
+    Ok(model.variables.len() == row.variables && model.constraints.len() == row.constraints)
+}
+
+fn assert_counts(rt: &impl Abort, alloc: Global, rows: &[Counted]) -> Result<(), Fail> {
+    for row in rows {
+        let is_counted = is_counted(alloc, row)?;
+        assert!(rt; is_counted, "{} {}", row.family.name(), row.size);
+    }
+    Ok(())
 }
 
 #[test]
 fn knapsacks(rt: HostRuntime) -> Result<(), Fail> {
-    let alloc = rt.alloc();
-    for (size, seed, weights, losses, most) in KNAPSACKS {
-        assert!(rt;
-            knapsack_is(alloc, (size, seed), weights, losses, most)?,
-            "{size} {seed}"
-        );
-    }
-    Ok(())
+    assert_knapsacks(&rt, rt.alloc(), &KNAPSACK_ROWS)
 }
 
 #[test]
 fn jobshops(rt: HostRuntime) -> Result<(), Fail> {
-    let alloc = rt.alloc();
-    for (size, seed, durations) in JOBSHOPS {
-        assert!(rt; jobshop_is(alloc, size, seed, durations)?, "{size} {seed}");
-    }
-    Ok(())
+    assert_jobshops(&rt, rt.alloc(), &JOBSHOP_ROWS)
 }
 
 #[test]
 fn tours(rt: HostRuntime) -> Result<(), Fail> {
-    let alloc = rt.alloc();
-    for (size, seed, tails, heads, costs) in TOURS {
-        assert!(rt;
-            tour_is(alloc, (size, seed), tails, heads, costs)?,
-            "{size} {seed}"
-        );
-    }
-    Ok(())
+    assert_tours(&rt, rt.alloc(), &TOUR_ROWS)
 }
 
 #[test]
 fn counts(rt: HostRuntime) -> Result<(), Fail> {
-    let alloc = rt.alloc();
-    for (family, size, counts) in [
-        (Family::Knapsack, 10_000, (10_000, 1)),
-        (Family::Jobshop, 1, (2, 3)),
-        (Family::Jobshop, 16, (257, 528)),
-        (Family::Tour, 2, (2, 1)),
-        (Family::Tour, 60, (3540, 1)),
-    ] {
-        assert!(rt; counts_of(alloc, family, size)? == Some(counts), "{size}");
-    }
-    Ok(())
+    assert_counts(&rt, rt.alloc(), &COUNT_ROWS)
 }

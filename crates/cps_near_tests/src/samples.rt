@@ -3,10 +3,11 @@ use cps_neighbourhood::choose_free;
 use rand_core::utils::NextWord;
 use rand_pcg::Lcg64Xsh32;
 use std::alloc::{AllocError, Global};
+use std::process::Abort;
+use std::test::Fail;
 
 /// A seed and a stream, below which number and how many are drawn, the first and the second sample, and the word after
 /// them.
-#[derive(Clone, Copy)]
 struct Row {
     seed: u64,
     stream: u64,
@@ -17,7 +18,7 @@ struct Row {
     word: u32,
 }
 
-const ROWS: [Row; 9] = [
+static ROWS: [Row; 9] = [
     Row {
         seed: 1,
         stream: 19,
@@ -115,14 +116,24 @@ fn draws_as(
     Ok(drawn.as_slice() == sample)
 }
 
-#[test]
-fn samples(rt: HostRuntime) {
-    for row in ROWS {
-        let mut draws = Lcg64Xsh32::new(row.seed, row.stream);
-        assert!(rt; row.first.len() == row.count as usize);
-        assert!(rt; draws_as(rt.alloc(), &mut draws, row.limit, row.first).expect(&rt, "memory"));
-        assert!(rt; draws_as(rt.alloc(), &mut draws, row.limit, row.second).expect(&rt, "memory"));
-        let word: u32 = draws.next_word();
-        assert!(rt; word == row.word);
+fn assert_drawn(rt: &impl Abort, alloc: Global, row: &Row) -> Result<(), Fail> {
+    let mut draws = Lcg64Xsh32::new(row.seed, row.stream);
+    assert!(rt; row.first.len() == row.count as usize);
+    assert!(rt; draws_as(alloc, &mut draws, row.limit, row.first)?);
+    assert!(rt; draws_as(alloc, &mut draws, row.limit, row.second)?);
+    let word: u32 = draws.next_word();
+    assert!(rt; word == row.word);
+    Ok(())
+}
+
+fn assert_all_drawn(rt: &impl Abort, alloc: Global, rows: &[Row]) -> Result<(), Fail> {
+    for row in rows {
+        assert_drawn(rt, alloc, row)?;
     }
+    Ok(())
+}
+
+#[test]
+fn samples(rt: HostRuntime) -> Result<(), Fail> {
+    assert_all_drawn(&rt, rt.alloc(), &ROWS)
 }

@@ -2,19 +2,50 @@
 
 use cps_literal::{Atom, Clause, LiteralTable, Op, normal_clause};
 use std::alloc::Global;
+use std::process::Abort;
 use std::test::Fail;
 
 fn atom(subject: u32, op: Op, value: i64) -> Atom {
     Atom { subject, op, value }
 }
 
+/// An atom about subject 0, and the number that it is given after those before it.
+struct Row {
+    op: Op,
+    value: i64,
+    number: usize,
+}
+
+static NUMBERED: [Row; 3] = [
+    Row {
+        op: Op::Le,
+        value: 3,
+        number: 0,
+    },
+    Row {
+        op: Op::Ge,
+        value: 4,
+        number: 1,
+    },
+    Row {
+        op: Op::Le,
+        value: 3,
+        number: 0,
+    },
+];
+
+fn assert_numbers(rt: &impl Abort, table: &mut LiteralTable, rows: &[Row]) -> Result<(), Fail> {
+    for (place, row) in rows.iter().enumerate() {
+        let number = table.number(atom(0, row.op, row.value))?;
+        assert!(rt; number == row.number, "row {place}");
+    }
+    Ok(())
+}
+
 #[test]
 fn an_atom_keeps_its_number(rt: HostRuntime) -> Result<(), Fail> {
     let mut table = LiteralTable::new(rt.alloc());
-    for (value, op, number) in [(3, Op::Le, 0), (4, Op::Ge, 1), (3, Op::Le, 0)] {
-        assert!(rt; table.number(atom(0, op, value))? == number);
-    }
-    Ok(())
+    assert_numbers(&rt, &mut table, &NUMBERED)
 }
 
 #[test]
@@ -35,30 +66,113 @@ fn has_normal_form(alloc: Global, atoms: &[Atom], wanted: &[Atom]) -> Result<boo
     Ok(is_kept && clause.as_slice() == wanted)
 }
 
+static SHORT: [Atom; 3] = [
+    Atom {
+        subject: 0,
+        op: Op::Le,
+        value: 3,
+    },
+    Atom {
+        subject: 0,
+        op: Op::Le,
+        value: 1,
+    },
+    Atom {
+        subject: 0,
+        op: Op::Le,
+        value: 3,
+    },
+];
+
+static LONG: [Atom; 10] = [
+    Atom {
+        subject: 2,
+        op: Op::Ne,
+        value: 5,
+    },
+    Atom {
+        subject: 1,
+        op: Op::Ge,
+        value: 7,
+    },
+    Atom {
+        subject: 2,
+        op: Op::Eq,
+        value: 5,
+    },
+    Atom {
+        subject: 1,
+        op: Op::Ge,
+        value: 6,
+    },
+    Atom {
+        subject: 2,
+        op: Op::Le,
+        value: 4,
+    },
+    Atom {
+        subject: 0,
+        op: Op::Eq,
+        value: 1,
+    },
+    Atom {
+        subject: 2,
+        op: Op::Eq,
+        value: 6,
+    },
+    Atom {
+        subject: 1,
+        op: Op::Le,
+        value: 2,
+    },
+    Atom {
+        subject: 0,
+        op: Op::Eq,
+        value: 0,
+    },
+    Atom {
+        subject: 1,
+        op: Op::Le,
+        value: 3,
+    },
+];
+
+static SORTED: [Atom; 6] = [
+    Atom {
+        subject: 0,
+        op: Op::Eq,
+        value: 0,
+    },
+    Atom {
+        subject: 0,
+        op: Op::Eq,
+        value: 1,
+    },
+    Atom {
+        subject: 1,
+        op: Op::Le,
+        value: 3,
+    },
+    Atom {
+        subject: 1,
+        op: Op::Ge,
+        value: 6,
+    },
+    Atom {
+        subject: 2,
+        op: Op::Eq,
+        value: 5,
+    },
+    Atom {
+        subject: 2,
+        op: Op::Ne,
+        value: 5,
+    },
+];
+
 #[test]
 fn normal_forms_are_sorted_with_no_atom_that_implies_another(rt: HostRuntime) -> Result<(), Fail> {
-    let short = [atom(0, Op::Le, 3), atom(0, Op::Le, 1), atom(0, Op::Le, 3)];
-    assert!(rt; has_normal_form(rt.alloc(), &short, &[atom(0, Op::Le, 3)])?);
-    let long = [
-        atom(2, Op::Ne, 5),
-        atom(1, Op::Ge, 7),
-        atom(2, Op::Eq, 5),
-        atom(1, Op::Ge, 6),
-        atom(2, Op::Le, 4),
-        atom(0, Op::Eq, 1),
-        atom(2, Op::Eq, 6),
-        atom(1, Op::Le, 2),
-        atom(0, Op::Eq, 0),
-        atom(1, Op::Le, 3),
-    ];
-    let expected = [
-        atom(0, Op::Eq, 0),
-        atom(0, Op::Eq, 1),
-        atom(1, Op::Le, 3),
-        atom(1, Op::Ge, 6),
-        atom(2, Op::Eq, 5),
-        atom(2, Op::Ne, 5),
-    ];
-    assert!(rt; has_normal_form(rt.alloc(), &long, &expected)?);
+    assert!(rt; has_normal_form(rt.alloc(), &SHORT, &[atom(0, Op::Le, 3)])?);
+    assert!(rt; has_normal_form(rt.alloc(), &LONG, &SORTED)?);
     Ok(())
 }

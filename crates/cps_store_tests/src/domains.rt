@@ -2,6 +2,7 @@
 
 use cps_domain::{Cut, Domain, ceil_div, floor_div};
 use std::alloc::AllocError;
+use std::process::Abort;
 use std::test::Fail;
 
 /// What a domain is asked to keep.
@@ -14,11 +15,10 @@ enum Keep {
 }
 
 /// One cut, what it answers, and the intervals that it leaves, with the number of their values.
-#[derive(Clone, Copy)]
-struct Row<'a> {
+struct Row {
     keep: Keep,
     cut: Cut,
-    left: &'a [(i64, i64)],
+    left: &'static [(i64, i64)],
     size: u64,
 }
 
@@ -31,50 +31,63 @@ fn cut(domain: &mut Domain, keep: Keep) -> Result<Cut, AllocError> {
     }
 }
 
+/// Whether these intervals are left, and so many values.
+fn has_left(domain: &Domain, intervals: &[(i64, i64)], size: u64) -> bool {
+    domain.intervals() == intervals && domain.size() == size
+}
+
 /// Makes the cut of a row; whether all is as the row says.
-fn cuts_as(domain: &mut Domain, row: Row) -> Result<bool, AllocError> {
+fn cuts_as(domain: &mut Domain, row: &Row) -> Result<bool, AllocError> {
     let is_answer = cut(domain, row.keep)? == row.cut;
-    Ok(is_answer && domain.intervals() == row.left && domain.size() == row.size)
+    Ok(is_answer && has_left(domain, row.left, row.size))
+}
+
+/// Cuts of 0 to 10, one after the other.
+static CUTS: [Row; 5] = [
+    Row {
+        keep: Keep::AllBut(5),
+        cut: Cut::Narrowed,
+        left: &[(0, 4), (6, 10)],
+        size: 10,
+    },
+    Row {
+        keep: Keep::AtMost(5),
+        cut: Cut::Narrowed,
+        left: &[(0, 4)],
+        size: 5,
+    },
+    Row {
+        keep: Keep::AtLeast(5),
+        cut: Cut::Wiped,
+        left: &[(0, 4)],
+        size: 5,
+    },
+    Row {
+        keep: Keep::AtMost(4),
+        cut: Cut::NoChange,
+        left: &[(0, 4)],
+        size: 5,
+    },
+    Row {
+        keep: Keep::Only(3),
+        cut: Cut::Narrowed,
+        left: &[(3, 3)],
+        size: 1,
+    },
+];
+
+fn assert_cuts(rt: &impl Abort, domain: &mut Domain, rows: &[Row]) -> Result<(), Fail> {
+    for (place, row) in rows.iter().enumerate() {
+        let is_as_said = cuts_as(domain, row)?;
+        assert!(rt; is_as_said, "row {place}");
+    }
+    Ok(())
 }
 
 #[test]
 fn cuts_keep_the_values_that_pass(rt: HostRuntime) -> Result<(), Fail> {
     let mut domain = Domain::of_bounds(rt.alloc(), &[0, 10])?;
-    let rows = [
-        Row {
-            keep: Keep::AllBut(5),
-            cut: Cut::Narrowed,
-            left: &[(0, 4), (6, 10)],
-            size: 10,
-        },
-        Row {
-            keep: Keep::AtMost(5),
-            cut: Cut::Narrowed,
-            left: &[(0, 4)],
-            size: 5,
-        },
-        Row {
-            keep: Keep::AtLeast(5),
-            cut: Cut::Wiped,
-            left: &[(0, 4)],
-            size: 5,
-        },
-        Row {
-            keep: Keep::AtMost(4),
-            cut: Cut::NoChange,
-            left: &[(0, 4)],
-            size: 5,
-        },
-        Row {
-            keep: Keep::Only(3),
-            cut: Cut::Narrowed,
-            left: &[(3, 3)],
-            size: 1,
-        },
-    ];
-    for row in rows {
-        assert!(rt; cuts_as(&mut domain, row)?);
-    }
+    assert_cuts(&rt, &mut domain, &CUTS)?;
     assert!(rt; domain.is_fixed() && domain.contains(3) && !domain.contains(4));
     Ok(())
 }
@@ -82,30 +95,33 @@ fn cuts_keep_the_values_that_pass(rt: HostRuntime) -> Result<(), Fail> {
 /// Keeps the values that another domain has too; whether the answer and what is left are as wanted.
 fn intersects(
     domain: &mut Domain,
-    other: &Domain,
+    other: Domain,
     cut: Cut,
     left: &[(i64, i64)],
 ) -> Result<bool, AllocError> {
-    Ok(domain.intersect(other)? == cut && domain.intervals() == left)
+    Ok(domain.intersect(&other)? == cut && domain.intervals() == left)
 }
 
 #[test]
 fn one_interval_is_intersected(rt: HostRuntime) -> Result<(), Fail> {
     let mut domain = Domain::of_bounds(rt.alloc(), &[0, 4])?;
     let other = Domain::of_bounds(rt.alloc(), &[3, 9])?;
-    assert!(rt; intersects(&mut domain, &other, Cut::Narrowed, &[(3, 4)])?);
+    assert!(rt; intersects(&mut domain, other, Cut::Narrowed, &[(3, 4)])?);
     Ok(())
 }
+
+/// What 0 to 3, 5 to 8 and 11 to 12 share with 2 to 6 and 8 to 20.
+static SHARED: [(i64, i64); 4] = [(2, 3), (5, 6), (8, 8), (11, 12)];
 
 #[test]
 fn lists_of_intervals_are_intersected(rt: HostRuntime) -> Result<(), Fail> {
     let mut domain = Domain::of_bounds(rt.alloc(), &[0, 3, 5, 8, 11, 12])?;
     let other = Domain::of_bounds(rt.alloc(), &[2, 6, 8, 20])?;
-    let shared = [(2, 3), (5, 6), (8, 8), (11, 12)];
-    assert!(rt; intersects(&mut domain, &other, Cut::Narrowed, &shared)?);
-    assert!(rt; intersects(&mut domain, &other, Cut::NoChange, &shared)?);
+    assert!(rt; intersects(&mut domain, other, Cut::Narrowed, &SHARED)?);
+    let other = Domain::of_bounds(rt.alloc(), &[2, 6, 8, 20])?;
+    assert!(rt; intersects(&mut domain, other, Cut::NoChange, &SHARED)?);
     let apart = Domain::of_bounds(rt.alloc(), &[4, 4, 13, 14])?;
-    assert!(rt; intersects(&mut domain, &apart, Cut::Wiped, &shared)?);
+    assert!(rt; intersects(&mut domain, apart, Cut::Wiped, &SHARED)?);
     Ok(())
 }
 

@@ -22,33 +22,33 @@ fn at_least(subject: u32, value: i64) -> Atom {
     }
 }
 
-/// Decides an atom where it is undecided.
-fn decided(store: &mut Store, atom: Atom) -> Result<bool, AllocError> {
+/// Decides an atom; an error where it is true or false already.
+fn decide(store: &mut Store, atom: Atom) -> Result<(), AllocError> {
     if store.len() <= atom.subject as usize {
-        return Ok(false);
+        return Err(AllocError);
     }
     match store.truth(atom) {
-        Truth::Undecided => {
-            store.decide(atom)?;
-            Ok(true)
-        }
-        _ => Ok(false),
+        Truth::Undecided => store.decide(atom),
+        _ => Err(AllocError),
     }
 }
 
-/// Makes an atom true because another is false; where it is, how many entries made it so.
+/// Makes an atom true because another is false; how many entries made the other so. An error where it is not.
 fn implied(
     alloc: Global,
     store: &mut Store,
     other: Atom,
     atom: Atom,
 ) -> Result<(usize, Cut), AllocError> {
-    if store.len() <= atom.subject as usize || store.len() <= other.subject as usize {
-        return Ok((0, Cut::Wiped));
+    if store.len() <= other.subject as usize {
+        return Err(AllocError);
+    }
+    if store.len() <= atom.subject as usize {
+        return Err(AllocError);
     }
     match store.truth(other) {
         Truth::No => {}
-        _ => return Ok((0, Cut::Wiped)),
+        _ => return Err(AllocError),
     }
     let place = store.falsified(other);
     let mut reason = Clause::new(alloc);
@@ -67,24 +67,43 @@ fn bits(alloc: Global) -> Result<Store, AllocError> {
     Store::new(alloc, domains.as_slice())
 }
 
-/// What is answered by two implications after a decision, and how many entries stand then, and at
-/// level 0.
-fn run(alloc: Global, store: &mut Store) -> Result<(usize, Cut, usize, usize), AllocError> {
-    if !decided(store, at_most(0, 0))? {
-        return Ok((0, Cut::Wiped, 0, 0));
-    }
-    let (place, _) = implied(alloc, store, at_least(0, 1), at_least(1, 1))?;
+/// What two implications after a decision come to.
+#[derive(Clone, Copy, PartialEq, Eq)]
+struct Came {
+    /// How many entries made the first one's reason false.
+    falsified: usize,
+    /// What the second one does.
+    cut: Cut,
+    /// How many entries there are.
+    entries: usize,
+    /// And at level 0.
+    at_level_0: usize,
+}
+
+fn run(alloc: Global, store: &mut Store) -> Result<Came, AllocError> {
+    decide(store, at_most(0, 0))?;
+    let (falsified, _) = implied(alloc, store, at_least(0, 1), at_least(1, 1))?;
     let (_, cut) = implied(alloc, store, at_least(0, 1), at_least(2, 1))?;
-    let count = store.entries().len();
+    let entries = store.entries().len();
     store.backjump(0);
-    Ok((place, cut, count, store.entries().len()))
+    Ok(Came {
+        falsified,
+        cut,
+        entries,
+        at_level_0: store.entries().len(),
+    })
 }
 
 #[test]
 fn decides_implies_and_goes_back(rt: HostRuntime) -> Result<(), Fail> {
     let mut store = bits(rt.alloc())?;
-    let answers = run(rt.alloc(), &mut store)?;
-    assert_eq!(rt; answers, (1, Cut::Narrowed, 3, 0));
+    let wanted = Came {
+        falsified: 1,
+        cut: Cut::Narrowed,
+        entries: 3,
+        at_level_0: 0,
+    };
+    assert!(rt; run(rt.alloc(), &mut store)? == wanted);
     Ok(())
 }
 
