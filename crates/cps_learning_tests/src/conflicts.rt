@@ -18,39 +18,8 @@ use cps_domain::Domain;
 use cps_literal::{Atom, Clause, Op, Truth};
 use cps_trail::{Explain, Store};
 use std::alloc::{AllocError, Global};
+use std::process::Abort;
 use std::test::Fail;
-
-pub(crate) fn at_most(subject: u32, value: i64) -> Atom {
-    Atom {
-        subject,
-        op: Op::Le,
-        value,
-    }
-}
-
-pub(crate) fn at_least(subject: u32, value: i64) -> Atom {
-    Atom {
-        subject,
-        op: Op::Ge,
-        value,
-    }
-}
-
-fn equal(subject: u32, value: i64) -> Atom {
-    Atom {
-        subject,
-        op: Op::Eq,
-        value,
-    }
-}
-
-pub(crate) fn other_than(subject: u32, value: i64) -> Atom {
-    Atom {
-        subject,
-        op: Op::Ne,
-        value,
-    }
-}
 
 /// Makes an atom true because another is false.
 fn implied(alloc: Global, store: &mut Store, other: Atom, atom: Atom) -> Result<(), AllocError> {
@@ -195,96 +164,119 @@ fn lesson_of(
     taught(alloc, &store, conflict, &Nobody)
 }
 
-#[derive(Clone, Copy)]
-struct Row<'a> {
-    name: &'a str,
-    steps: &'a [Step],
-    conflict: &'a [Atom],
+struct Row {
+    name: &'static str,
+    steps: &'static [Step],
+    conflict: &'static [Atom],
     lesson: Lesson,
 }
 
 /// Whether the conflict of a row teaches the row's lesson.
-fn teaches(alloc: Global, row: Row) -> Result<bool, AllocError> {
+fn teaches(alloc: Global, row: &Row) -> Result<bool, AllocError> {
     Ok(lesson_of(alloc, row.steps, row.conflict)? == Some(row.lesson))
 }
 
-#[test]
-fn the_first_point_through_which_all_goes_is_asserted(rt: HostRuntime) -> Result<(), Fail> {
-    let rows = [
-        Row {
-            name: "the decision is asserted",
-            steps: &[
-                Step::Decide(at_most(0, 0)),
-                Step::Imply(at_least(0, 1), at_least(1, 1)),
-                Step::Imply(at_least(0, 1), at_least(2, 1)),
-            ],
-            conflict: &[at_most(1, 0), at_most(2, 0)],
-            lesson: unit(at_least(0, 1)),
-        },
-        Row {
-            name: "the first point through which all goes is not the decision",
-            steps: &[
-                Step::Decide(at_most(0, 0)),
-                Step::Imply(at_least(0, 1), at_least(1, 1)),
-                Step::Imply(at_most(1, 0), at_least(2, 1)),
-                Step::Imply(at_most(1, 0), other_than(3, 3)),
-            ],
-            conflict: &[at_most(2, 0), equal(3, 3)],
-            lesson: unit(at_most(1, 0)),
-        },
-        Row {
-            name: "two sides are united",
-            steps: &[Step::Decide(equal(3, 3))],
-            conflict: &[at_most(3, 2), at_least(3, 4)],
-            lesson: unit(other_than(3, 3)),
-        },
-    ];
+fn assert_taught(rt: &impl Abort, alloc: Global, rows: &[Row]) -> Result<(), Fail> {
     for row in rows {
-        assert!(rt; teaches(rt.alloc(), row)?, "{}", row.name);
+        let is_taught = teaches(alloc, row)?;
+        assert!(rt; is_taught, "{}", row.name);
     }
     Ok(())
 }
 
+static FIRST_POINTS: [Row; 3] = [
+    Row {
+        name: "the decision is asserted",
+        steps: &[
+            Step::Decide(atom!(0, Le, 0)),
+            Step::Imply(atom!(0, Ge, 1), atom!(1, Ge, 1)),
+            Step::Imply(atom!(0, Ge, 1), atom!(2, Ge, 1)),
+        ],
+        conflict: &[atom!(1, Le, 0), atom!(2, Le, 0)],
+        lesson: Lesson {
+            count: 1,
+            first: atom!(0, Ge, 1),
+            back_level: 0,
+            assert: atom!(0, Ge, 1),
+        },
+    },
+    Row {
+        name: "the first point through which all goes is not the decision",
+        steps: &[
+            Step::Decide(atom!(0, Le, 0)),
+            Step::Imply(atom!(0, Ge, 1), atom!(1, Ge, 1)),
+            Step::Imply(atom!(1, Le, 0), atom!(2, Ge, 1)),
+            Step::Imply(atom!(1, Le, 0), atom!(3, Ne, 3)),
+        ],
+        conflict: &[atom!(2, Le, 0), atom!(3, Eq, 3)],
+        lesson: Lesson {
+            count: 1,
+            first: atom!(1, Le, 0),
+            back_level: 0,
+            assert: atom!(1, Le, 0),
+        },
+    },
+    Row {
+        name: "two sides are united",
+        steps: &[Step::Decide(atom!(3, Eq, 3))],
+        conflict: &[atom!(3, Le, 2), atom!(3, Ge, 4)],
+        lesson: Lesson {
+            count: 1,
+            first: atom!(3, Ne, 3),
+            back_level: 0,
+            assert: atom!(3, Ne, 3),
+        },
+    },
+];
+
+#[test]
+fn the_first_point_through_which_all_goes_is_asserted(rt: HostRuntime) -> Result<(), Fail> {
+    assert_taught(&rt, rt.alloc(), &FIRST_POINTS)
+}
+
+static EARLIER_LEVELS: [Row; 2] = [
+    Row {
+        name: "what closes a gap is named",
+        steps: &[
+            Step::Decide(atom!(0, Le, 0)),
+            Step::Imply(atom!(0, Ge, 1), atom!(3, Ne, 3)),
+            Step::Decide(atom!(1, Le, 0)),
+            Step::Imply(atom!(1, Ge, 1), atom!(3, Ge, 2)),
+        ],
+        conflict: &[atom!(1, Ge, 1), atom!(3, Le, 4)],
+        lesson: Lesson {
+            count: 2,
+            first: atom!(1, Ge, 1),
+            back_level: 1,
+            assert: atom!(1, Ge, 1),
+        },
+    },
+    Row {
+        name: "what is redundant is left out",
+        steps: &[
+            Step::Imply(atom!(3, Le, 0), atom!(3, Ne, 5)),
+            Step::Decide(atom!(0, Le, 0)),
+            Step::Imply(atom!(0, Ge, 1), atom!(1, Ge, 1)),
+            Step::Decide(atom!(2, Le, 0)),
+        ],
+        conflict: &[
+            atom!(0, Ge, 1),
+            atom!(1, Le, 0),
+            atom!(2, Ge, 1),
+            atom!(3, Eq, 5),
+        ],
+        lesson: Lesson {
+            count: 2,
+            first: atom!(0, Ge, 1),
+            back_level: 1,
+            assert: atom!(2, Ge, 1),
+        },
+    },
+];
+
 #[test]
 fn what_fell_at_earlier_levels_is_named_unless_redundant(rt: HostRuntime) -> Result<(), Fail> {
-    let rows = [
-        Row {
-            name: "what closes a gap is named",
-            steps: &[
-                Step::Decide(at_most(0, 0)),
-                Step::Imply(at_least(0, 1), other_than(3, 3)),
-                Step::Decide(at_most(1, 0)),
-                Step::Imply(at_least(1, 1), at_least(3, 2)),
-            ],
-            conflict: &[at_least(1, 1), at_most(3, 4)],
-            lesson: Lesson {
-                count: 2,
-                first: at_least(1, 1),
-                back_level: 1,
-                assert: at_least(1, 1),
-            },
-        },
-        Row {
-            name: "what is redundant is left out",
-            steps: &[
-                Step::Imply(at_most(3, 0), other_than(3, 5)),
-                Step::Decide(at_most(0, 0)),
-                Step::Imply(at_least(0, 1), at_least(1, 1)),
-                Step::Decide(at_most(2, 0)),
-            ],
-            conflict: &[at_least(0, 1), at_most(1, 0), at_least(2, 1), equal(3, 5)],
-            lesson: Lesson {
-                count: 2,
-                first: at_least(0, 1),
-                back_level: 1,
-                assert: at_least(2, 1),
-            },
-        },
-    ];
-    for row in rows {
-        assert!(rt; teaches(rt.alloc(), row)?, "{}", row.name);
-    }
-    Ok(())
+    assert_taught(&rt, rt.alloc(), &EARLIER_LEVELS)
 }
 
 /// Decides that the first subject is 0; by one clause each the second and the third are 1 then.

@@ -10,6 +10,7 @@ use cps_literal::{Atom, normal_clause};
 use cps_model::Bound;
 use cps_trail::Store;
 use std::alloc::{AllocError, Global};
+use std::process::Abort;
 use std::test::Fail;
 
 /// Adds a learnt clause, which is not settled.
@@ -76,49 +77,53 @@ fn left_of_three(alloc: Global, keep: u32) -> Result<Left, AllocError> {
     looked_at(alloc, &base, count)
 }
 
-#[derive(Clone, Copy)]
-struct Row<'a> {
-    name: &'a str,
+struct Row {
+    name: &'static str,
     keep: u32,
     left: Left,
 }
 
-#[test]
-fn the_longest_goes_first(rt: HostRuntime) -> Result<(), Fail> {
-    let rows = [
-        Row {
-            name: "none goes where as many stand as are to be kept",
-            keep: 3,
-            left: Left {
-                count: 0,
-                last: None,
-                stand: [true, true, true],
-            },
-        },
-        Row {
-            name: "the one of five atoms goes",
-            keep: 2,
-            left: Left {
-                count: 1,
-                last: Some(2),
-                stand: [true, true, false],
-            },
-        },
-        Row {
-            name: "then the one of three",
-            keep: 1,
-            left: Left {
-                count: 2,
-                last: Some(0),
-                stand: [false, true, false],
-            },
-        },
-    ];
+fn assert_left(rt: &impl Abort, alloc: Global, rows: &[Row]) -> Result<(), Fail> {
     for row in rows {
-        let left = left_of_three(rt.alloc(), row.keep)?;
+        let left = left_of_three(alloc, row.keep)?;
         assert!(rt; left == row.left, "{}", row.name);
     }
     Ok(())
+}
+
+static LONGEST_FIRST: [Row; 3] = [
+    Row {
+        name: "none goes where as many stand as are to be kept",
+        keep: 3,
+        left: Left {
+            count: 0,
+            last: None,
+            stand: [true, true, true],
+        },
+    },
+    Row {
+        name: "the one of five atoms goes",
+        keep: 2,
+        left: Left {
+            count: 1,
+            last: Some(2),
+            stand: [true, true, false],
+        },
+    },
+    Row {
+        name: "then the one of three",
+        keep: 1,
+        left: Left {
+            count: 2,
+            last: Some(0),
+            stand: [false, true, false],
+        },
+    },
+];
+
+#[test]
+fn the_longest_goes_first(rt: HostRuntime) -> Result<(), Fail> {
+    assert_left(&rt, rt.alloc(), &LONGEST_FIRST)
 }
 
 /// Learns a clause of two atoms, and forgets all that may go. How many went.

@@ -5,6 +5,31 @@
 //! twice.
 #![tactic(auto)]
 
+/// An atom; a table, which may call no function, is written by it and the next two.
+macro_rules! atom {
+    ($subject:expr, $op:ident, $value:expr) => {
+        Atom {
+            subject: $subject,
+            op: Op::$op,
+            value: $value,
+        }
+    };
+}
+
+/// That a subject is 1 or more.
+macro_rules! one {
+    ($subject:expr) => {
+        atom!($subject, Ge, 1)
+    };
+}
+
+/// That a subject is 0 or less.
+macro_rules! zero {
+    ($subject:expr) => {
+        atom!($subject, Le, 0)
+    };
+}
+
 #[cfg(test)]
 mod bases;
 #[cfg(test)]

@@ -33,17 +33,21 @@ pub(crate) fn zero(subject: u32) -> Atom
     }
 }
 
+/// The values 0 and 1.
+pub(crate) fn zero_or_one(alloc: Global) -> Result<Domain, AllocError> {
+    Domain::of_bounds(alloc, &[0, 1])
+}
+
 /// A store of three subjects with the values 0 and 1.
 pub(crate) fn bits(alloc: Global) -> Result<Store, AllocError>
     ensures subjects { IfOk result (λ store. length store.first ≡ 3) }
     ensures level { IfOk result (λ store. store.level ≡ 0) }
     ensures entries { IfOk result (λ store. store.entries ≡ []) }
 {
-    let mut domains = Vec::new(alloc);
-    domains.push(Domain::of_bounds(alloc, &[0, 1])?)?;
-    domains.push(Domain::of_bounds(alloc, &[0, 1])?)?;
-    domains.push(Domain::of_bounds(alloc, &[0, 1])?)?;
-    Store::new(alloc, domains.as_slice())
+    let first = zero_or_one(alloc)?;
+    let second = zero_or_one(alloc)?;
+    let third = zero_or_one(alloc)?;
+    Store::new(alloc, &[first, second, third])
 }
 
 /// Decides an atom; an error where it is true or false already.

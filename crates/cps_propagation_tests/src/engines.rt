@@ -12,11 +12,11 @@ ghost use Rattle.cps_propagate.specs.Notes.{ByTasks};
 ghost use Rattle.cps_propagation_tests.specs.Bits.{four_bits};
 ghost use Rattle.cps_propagation_tests.specs.Sums.{idle_task, sum_domains, tripled_sum};
 
-use crate::booleans::{Kind, boolean, no, store_of_bits, yes};
+use crate::booleans::{Kind, boolean, store_of_bits};
 use crate::stores::{are_bits, at_least, at_most, decide, has_note};
 use cps_domain::Domain;
 use cps_instance::Term;
-use cps_literal::Atom;
+use cps_literal::{Atom, Op};
 use cps_p_bool::Boolean;
 use cps_p_linear::Linear;
 use cps_propagate::{
@@ -24,6 +24,7 @@ use cps_propagate::{
 };
 use cps_trail::{Explain, Step, Store};
 use std::alloc::{AllocError, Global};
+use std::process::Abort;
 use std::test::Fail;
 
 /// A task that demands nothing.
@@ -97,29 +98,39 @@ fn settles(alloc: Global, engine: &mut Engine<Idle>) -> Result<bool, AllocError>
     }
 }
 
+/// Whether a run of that engine settles.
+fn idle_settles(alloc: Global) -> Result<bool, AllocError> {
+    let mut engine = idle_engine(alloc)?;
+    settles(alloc, &mut engine)
+}
+
 #[test]
 fn idle_propagators_settle(rt: HostRuntime) -> Result<(), Fail> {
-    let mut engine = idle_engine(rt.alloc())?;
-    let is_settled = settles(rt.alloc(), &mut engine)?;
-    assert!(rt; is_settled);
+    assert!(rt; idle_settles(rt.alloc())?);
     Ok(())
+}
+
+static TERMS: [Term; 2] = [
+    Term {
+        coeff: 2,
+        subject: 5,
+    },
+    Term {
+        coeff: -1,
+        subject: 7,
+    },
+];
+
+/// Adds the subjects of an atom and of terms to a list.
+fn push_subjects(subjects: &mut Vec<u32>, terms: &[Term]) -> Result<(), AllocError> {
+    push_atom_subjects(&[at_least(7, 1)], subjects)?;
+    push_term_subjects(terms, subjects)
 }
 
 #[test]
 fn subjects_in_order(rt: HostRuntime) -> Result<(), Fail> {
     let mut subjects = Vec::new(rt.alloc());
-    push_atom_subjects(&[at_least(7, 1)], &mut subjects)?;
-    let terms = [
-        Term {
-            coeff: 2,
-            subject: 5,
-        },
-        Term {
-            coeff: -1,
-            subject: 7,
-        },
-    ];
-    push_term_subjects(&terms, &mut subjects)?;
+    push_subjects(&mut subjects, &TERMS)?;
     assert_eq!(rt; subjects.as_slice(), [7u32, 5, 7].as_slice());
     Ok(())
 }
@@ -130,10 +141,9 @@ fn tripled(alloc: Global) -> Result<Store, AllocError>
     ensures none { IfOk result (λ store. store.entries ≡ []) }
     ensures level { IfOk result (λ store. store.level ≡ 0) }
 {
-    let mut domains = Vec::new(alloc);
-    domains.push(Domain::of_bounds(alloc, &[0, 2])?)?;
-    domains.push(Domain::of_bounds(alloc, &[5, 11])?)?;
-    Store::new(alloc, domains.as_slice())
+    let first = Domain::of_bounds(alloc, &[0, 2])?;
+    let second = Domain::of_bounds(alloc, &[5, 11])?;
+    Store::new(alloc, &[first, second])
 }
 
 /// Runs an engine, decides an atom, and runs the engine on from there. Whether all settled.
@@ -208,11 +218,16 @@ fn explain_sum(
     Ok(is_settled)
 }
 
+/// The same of a new engine.
+fn explain_tripled(alloc: Global, reason: &mut Vec<Atom>) -> Result<bool, AllocError> {
+    let mut engine = tripling_engine(alloc)?;
+    explain_sum(alloc, &mut engine, reason)
+}
+
 #[test]
 fn an_engine_runs_on_after_a_decision(rt: HostRuntime) -> Result<(), Fail> {
     let mut reason = Vec::new(rt.alloc());
-    let mut engine = tripling_engine(rt.alloc())?;
-    let is_settled = explain_sum(rt.alloc(), &mut engine, &mut reason)?;
+    let is_settled = explain_tripled(rt.alloc(), &mut reason)?;
     assert!(rt; is_settled);
     assert_eq!(rt;
         reason.as_slice(),
@@ -266,44 +281,48 @@ fn entries_of(alloc: Global, kind: Kind, atoms: &[Atom], decision: Atom) -> Opti
 
 /// A kind over two literals, what is decided, and how many entries there are at rest: one more than the decision where
 /// something follows.
-#[derive(Clone, Copy)]
-struct Decided<'a> {
+struct Decided {
     kind: Kind,
-    atoms: &'a [Atom],
+    atoms: &'static [Atom],
     decision: Atom,
     entries: usize,
 }
 
+static SIDES: [Decided; 4] = [
+    Decided {
+        kind: Kind::Or,
+        atoms: &[yes!(0), no!(1)],
+        decision: yes!(0),
+        entries: 1,
+    },
+    Decided {
+        kind: Kind::Or,
+        atoms: &[yes!(0), no!(1)],
+        decision: yes!(1),
+        entries: 2,
+    },
+    Decided {
+        kind: Kind::AtMostOne,
+        atoms: &[yes!(0), no!(1)],
+        decision: yes!(1),
+        entries: 1,
+    },
+    Decided {
+        kind: Kind::AtMostOne,
+        atoms: &[yes!(0), no!(1)],
+        decision: yes!(0),
+        entries: 2,
+    },
+];
+
+fn assert_at_rest(rt: &impl Abort, alloc: Global, rows: &[Decided]) {
+    for (place, row) in rows.iter().enumerate() {
+        let found = entries_of(alloc, row.kind, row.atoms, row.decision);
+        assert!(rt; found == Some(row.entries), "row {place}");
+    }
+}
+
 #[test]
 fn a_narrowing_on_the_other_side_leaves_all_at_rest(rt: HostRuntime) {
-    let rows = [
-        Decided {
-            kind: Kind::Or,
-            atoms: &[yes(0), no(1)],
-            decision: yes(0),
-            entries: 1,
-        },
-        Decided {
-            kind: Kind::Or,
-            atoms: &[yes(0), no(1)],
-            decision: yes(1),
-            entries: 2,
-        },
-        Decided {
-            kind: Kind::AtMostOne,
-            atoms: &[yes(0), no(1)],
-            decision: yes(1),
-            entries: 1,
-        },
-        Decided {
-            kind: Kind::AtMostOne,
-            atoms: &[yes(0), no(1)],
-            decision: yes(0),
-            entries: 2,
-        },
-    ];
-    for row in rows {
-        let found = entries_of(rt.alloc(), row.kind, row.atoms, row.decision);
-        assert_eq!(rt; found, Some(row.entries));
-    }
+    assert_at_rest(&rt, rt.alloc(), &SIDES);
 }

@@ -15,13 +15,14 @@ fn model_of(
     alloc: Global,
     variables: Listed<Variable>,
     constraints: Listed<Constraint>,
+    strategies: Listed<Strategy>,
 ) -> CpModel {
     CpModel {
         name: Text::new(alloc),
         variables,
         constraints,
         objective: None,
-        strategies: Listed::new(alloc),
+        strategies,
         hint: None,
         assumptions: Listed::new(alloc),
     }
@@ -37,13 +38,12 @@ fn one_variable(alloc: Global) -> Result<Listed<Variable>, AllocError> {
 /// The clause that the variable is not 1.
 fn one_clause(alloc: Global) -> Result<Listed<Constraint>, AllocError> {
     let literals = Vec::from_slice(alloc, &[-1])?;
-    let mut constraints = Vec::new(alloc);
-    constraints.push(Constraint {
+    let clause = Constraint {
         name: Text::new(alloc),
         enforcement: Listed::new(alloc),
         kind: Kind::BoolOr(Listed::from_vec(literals)),
-    })?;
-    Ok(Listed::from_vec(constraints))
+    };
+    Ok(Listed::from_vec(vec![in alloc; clause]?))
 }
 
 /// How many of each an instance has, whether its first task is the clause, and whether it is of a model without
@@ -84,7 +84,12 @@ fn posted(alloc: Global, model: &ValidModel) -> Result<(Sizes, Option<u32>, Size
 }
 
 fn posted_empty(alloc: Global) -> Option<(Sizes, Option<u32>, Sizes)> {
-    let model = model_of(alloc, Listed::new(alloc), Listed::new(alloc));
+    let model = model_of(
+        alloc,
+        Listed::new(alloc),
+        Listed::new(alloc),
+        Listed::new(alloc),
+    );
     let valid = validate(alloc, model).ok()?;
     posted(alloc, &valid).ok()
 }
@@ -115,7 +120,7 @@ fn begins_with_the_clause(instance: &Instance) -> bool {
 fn clause_model(alloc: Global) -> Result<CpModel, AllocError> {
     let variables = one_variable(alloc)?;
     let constraints = one_clause(alloc)?;
-    Ok(model_of(alloc, variables, constraints))
+    Ok(model_of(alloc, variables, constraints, Listed::new(alloc)))
 }
 
 fn posted_clause(alloc: Global) -> Option<(Sizes, Option<u32>, Sizes)> {
@@ -148,56 +153,91 @@ fn push_variable(
     Ok(())
 }
 
-/// Adds an expression.
-fn push_expr(
-    alloc: Global,
-    exprs: &mut Vec<LinearExpr>,
-    vars: &[i32],
-    coeffs: &[i64],
+/// A sum of variables with these references and coefficients.
+struct Sum {
+    vars: &'static [i32],
+    coeffs: &'static [i64],
     offset: i64,
-) -> Result<(), AllocError> {
-    exprs.push(LinearExpr {
-        vars: Listed::from_vec(Vec::from_slice(alloc, vars)?),
-        coeffs: Listed::from_vec(Vec::from_slice(alloc, coeffs)?),
-        offset,
-    })?;
-    Ok(())
+}
+
+fn expr_of(alloc: Global, sum: &Sum) -> Result<LinearExpr, AllocError> {
+    let vars = Vec::from_slice(alloc, sum.vars)?;
+    let coeffs = Vec::from_slice(alloc, sum.coeffs)?;
+    Ok(LinearExpr {
+        vars: Listed::from_vec(vars),
+        coeffs: Listed::from_vec(coeffs),
+        offset: sum.offset,
+    })
+}
+
+fn exprs_of(alloc: Global, sums: &[Sum]) -> Result<Vec<LinearExpr>, AllocError> {
+    let mut exprs = Vec::new(alloc);
+    for sum in sums {
+        let expr = expr_of(alloc, sum)?;
+        exprs.push(expr)?;
+    }
+    Ok(exprs)
 }
 
 /// Over two variables: one of them, the opposite of the other, its double, it with an offset, and both; behind them
 /// come references to it alone and to the opposite of the first.
-const EXPRESSIONS: [(&[i32], &[i64], i64); 5] = [
-    (&[1], &[1], 0),
-    (&[-1], &[1], 0),
-    (&[0], &[2], 0),
-    (&[0], &[1], 5),
-    (&[0, 1], &[1, 1], 0),
+static EXPRESSIONS: [Sum; 5] = [
+    Sum {
+        vars: &[1],
+        coeffs: &[1],
+        offset: 0,
+    },
+    Sum {
+        vars: &[-1],
+        coeffs: &[1],
+        offset: 0,
+    },
+    Sum {
+        vars: &[0],
+        coeffs: &[2],
+        offset: 0,
+    },
+    Sum {
+        vars: &[0],
+        coeffs: &[1],
+        offset: 5,
+    },
+    Sum {
+        vars: &[0, 1],
+        coeffs: &[1, 1],
+        offset: 0,
+    },
 ];
 
 /// A strategy over these.
-fn one_strategy(alloc: Global) -> Result<Listed<Strategy>, AllocError> {
-    let mut exprs = Vec::new(alloc);
-    for (vars, coeffs, offset) in EXPRESSIONS.iter() {
-        push_expr(alloc, &mut exprs, vars, coeffs, *offset)?;
-    }
-    let mut strategies = Vec::new(alloc);
-    strategies.push(Strategy {
-        exprs: Exprs::of(exprs, Vec::from_slice(alloc, &[0, -2])?),
+fn strategy(alloc: Global) -> Result<Strategy, AllocError> {
+    let references = Vec::from_slice(alloc, &[0, -2])?;
+    let exprs = exprs_of(alloc, &EXPRESSIONS)?;
+    Ok(Strategy {
+        exprs: Exprs::of(exprs, references),
         choose: Choose::LowestMin,
         select: Select::MaxValue,
-    })?;
-    Ok(Listed::from_vec(strategies))
+    })
 }
 
-/// Variables with the values 0 to 1 and 2 to 5, and the strategy.
-fn steered_model(alloc: Global) -> Result<CpModel, AllocError> {
+fn one_strategy(alloc: Global) -> Result<Listed<Strategy>, AllocError> {
+    let strategy = strategy(alloc)?;
+    Ok(Listed::from_vec(vec![in alloc; strategy]?))
+}
+
+/// Variables with the values 0 to 1 and 2 to 5.
+fn two_variables(alloc: Global) -> Result<Listed<Variable>, AllocError> {
     let mut variables = Vec::new(alloc);
     push_variable(alloc, &mut variables, 0, 1)?;
     push_variable(alloc, &mut variables, 2, 5)?;
+    Ok(Listed::from_vec(variables))
+}
+
+/// These variables and the strategy.
+fn steered_model(alloc: Global) -> Result<CpModel, AllocError> {
+    let variables = two_variables(alloc)?;
     let strategies = one_strategy(alloc)?;
-    let mut model = model_of(alloc, Listed::from_vec(variables), Listed::new(alloc));
-    model.strategies = strategies;
-    Ok(model)
+    Ok(model_of(alloc, variables, Listed::new(alloc), strategies))
 }
 
 /// The least and the greatest value of each subject.
@@ -227,13 +267,16 @@ fn is_steered_over(instance: &Instance, subjects: &[u32]) -> bool {
     }
 }
 
+static STEERED_SUBJECTS: [u32; 7] = [1, 2, 3, 4, 5, 0, 6];
+
+static ENDS: [(i64, i64); 7] = [(0, 1), (2, 5), (-1, 0), (0, 2), (5, 6), (2, 6), (-5, -2)];
+
 /// Whether the strategy is over sums of its own where an expression is no variable, whether these have the ends that
 /// they are to have, and how many tasks there are.
 fn steered(alloc: Global, model: &ValidModel) -> Result<(bool, bool, usize), AllocError> {
     let instance = Instance::of(alloc, model)?;
-    let is_steered = is_steered_over(&instance, &[1, 2, 3, 4, 5, 0, 6]);
-    let ends = [(0, 1), (2, 5), (-1, 0), (0, 2), (5, 6), (2, 6), (-5, -2)];
-    let has_ends = has_ends(alloc, &instance, &ends)?;
+    let has_ends = has_ends(alloc, &instance, &ENDS)?;
+    let is_steered = is_steered_over(&instance, &STEERED_SUBJECTS);
     Ok((is_steered, has_ends, instance.tasks().len()))
 }
 

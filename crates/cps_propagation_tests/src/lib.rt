@@ -4,6 +4,28 @@
 //! and a run's reasons are those that are made when they are asked for.
 #![tactic(auto)]
 
+/// That a literal is true; a table, which may call no function, is written by it.
+macro_rules! yes {
+    ($subject:expr) => {
+        Atom {
+            subject: $subject,
+            op: Op::Ge,
+            value: 1,
+        }
+    };
+}
+
+/// That a literal is false.
+macro_rules! no {
+    ($subject:expr) => {
+        Atom {
+            subject: $subject,
+            op: Op::Le,
+            value: 0,
+        }
+    };
+}
+
 #[cfg(test)]
 mod booleans;
 #[cfg(test)]

@@ -5,10 +5,12 @@
 
 ghost use Rattle.std.specs.Prelude.{◌≡◌, [], pos, IsTrue, All, IfOk};
 ghost use Rattle.cps_model.specs.Within.{is_well_shaped};
+ghost use Rattle.cps_domain.specs.Window.{intervals};
 ghost use Rattle.cps_instance.specs.Fitting.{IsFitting};
 ghost use Rattle.cps_propagation_tests.specs.Bits.{IsBit};
-ghost use Rattle.cps_propagation_tests.specs.Sums.{five_domains, cut_task, IsSmallTerm, AreSmallTerms};
+ghost use Rattle.cps_propagation_tests.specs.Sums.{up_to_ten, five_domains, cut_task, IsSmallTerm, AreSmallTerms};
 
+use crate::booleans::zero_or_one;
 use crate::runs::run;
 use crate::stores::{are_bits, at_least, at_most, decide_all};
 use cps_domain::Domain;
@@ -47,18 +49,24 @@ fn are_small(terms: &[Term]) -> bool
     true
 }
 
+/// The values 0 to 10.
+fn up_to_ten(alloc: Global) -> Result<Domain, AllocError>
+    ensures { IfOk result (λ domain. intervals domain ≡ up_to_ten) }
+{
+    Domain::of_bounds(alloc, &[0, 10])
+}
+
 /// Three subjects of the values 0 to 10, and two of the values 0 and 1.
 fn five(alloc: Global) -> Result<Store, AllocError>
     ensures first { IfOk result (λ store. store.first ≡ five_domains) }
     ensures none { IfOk result (λ store. store.entries ≡ []) }
 {
-    let mut domains = Vec::new(alloc);
-    domains.push(Domain::of_bounds(alloc, &[0, 10])?)?;
-    domains.push(Domain::of_bounds(alloc, &[0, 10])?)?;
-    domains.push(Domain::of_bounds(alloc, &[0, 10])?)?;
-    domains.push(Domain::of_bounds(alloc, &[0, 1])?)?;
-    domains.push(Domain::of_bounds(alloc, &[0, 1])?)?;
-    Store::new(alloc, domains.as_slice())
+    let first = up_to_ten(alloc)?;
+    let second = up_to_ten(alloc)?;
+    let third = up_to_ten(alloc)?;
+    let fourth = zero_or_one(alloc)?;
+    let fifth = zero_or_one(alloc)?;
+    Store::new(alloc, &[first, second, third, fourth, fifth])
 }
 
 /// The propagator of a sum that is to lie in one of the intervals.

@@ -10,7 +10,7 @@ use cps_validate::{ValidModel, validate};
 use std::alloc::{AllocError, Global};
 
 /// The bounds of four variables. Sums have the subjects from 4 on.
-const BOUNDS: [[i64; 2]; 4] = [[0, 1], [0, 1], [0, 9], [1, 9]];
+static BOUNDS: [[i64; 2]; 4] = [[0, 1], [0, 1], [0, 9], [1, 9]];
 
 fn refs(alloc: Global, items: &[i32]) -> Result<Listed<i32>, AllocError> {
     Ok(Listed::from_vec(Vec::from_slice(alloc, items)?))
@@ -52,7 +52,8 @@ fn expr(alloc: Global, written: Written) -> Result<LinearExpr, AllocError> {
 fn exprs(alloc: Global, list: &[Written]) -> Result<Listed<LinearExpr>, AllocError> {
     let mut exprs = Vec::new(alloc);
     for written in list {
-        exprs.push(expr(alloc, *written)?)?;
+        let expr = expr(alloc, *written)?;
+        exprs.push(expr)?;
     }
     Ok(Listed::from_vec(exprs))
 }
@@ -181,9 +182,9 @@ fn constraints_of(alloc: Global) -> Result<Listed<Constraint>, AllocError> {
     Ok(Listed::from_vec(constraints))
 }
 
-fn variables_of(alloc: Global) -> Result<Listed<Variable>, AllocError> {
+fn variables_of(alloc: Global, rows: &[[i64; 2]]) -> Result<Listed<Variable>, AllocError> {
     let mut variables = Vec::new(alloc);
-    for bounds in BOUNDS.iter() {
+    for bounds in rows {
         let domain = ints(alloc, bounds)?;
         variables.push(Variable {
             name: Text::new(alloc),
@@ -194,7 +195,7 @@ fn variables_of(alloc: Global) -> Result<Listed<Variable>, AllocError> {
 }
 
 fn model_of(alloc: Global) -> Result<CpModel, AllocError> {
-    let variables = variables_of(alloc)?;
+    let variables = variables_of(alloc, &BOUNDS)?;
     let constraints = constraints_of(alloc)?;
     Ok(CpModel {
         name: Text::new(alloc),
@@ -295,7 +296,7 @@ fn push_body(subjects: &mut Vec<i64>, body: &Body) -> Result<(), AllocError> {
 
 /// The subjects of each task. Its sums are: twice variable 2 is 4, it with 1 is 5, 7 is 6, its opposite is 7, it with 7
 /// is 8, and 7 again is 9.
-const SUBJECTS: [&[i64]; 15] = [
+static SUBJECTS: [&[i64]; 15] = [
     &[2, 2, 3],
     &[2, 4, 3],
     &[2],
@@ -328,9 +329,13 @@ fn is_over(
     Ok(subjects.as_slice() == expected)
 }
 
-/// The first constraint whose task is not as it should be.
-fn first_wrong(alloc: Global, instance: &Instance) -> Result<Option<usize>, AllocError> {
-    for (place, expected) in SUBJECTS.iter().enumerate() {
+/// The first constraint whose task is not over the subjects of its row.
+fn first_wrong(
+    alloc: Global,
+    instance: &Instance,
+    rows: &[&[i64]],
+) -> Result<Option<usize>, AllocError> {
+    for (place, expected) in rows.iter().enumerate() {
         if !is_over(alloc, instance, place, expected)? {
             return Ok(Some(place));
         }
@@ -341,7 +346,7 @@ fn first_wrong(alloc: Global, instance: &Instance) -> Result<Option<usize>, Allo
 /// That, and how many subjects there are.
 fn posted(alloc: Global, model: &ValidModel) -> Result<(Option<usize>, usize), AllocError> {
     let instance = Instance::of(alloc, model)?;
-    let wrong = first_wrong(alloc, &instance)?;
+    let wrong = first_wrong(alloc, &instance, &SUBJECTS)?;
     Ok((wrong, instance.domains().len()))
 }
 

@@ -166,11 +166,13 @@ fn box_that_must_overlap_is_absent(rt: HostRuntime) -> Result<(), Fail> {
 /// first's starts by 0.
 static REASON: [Comparison; 5] = [(2, Le, 0), (0, Ge, 3), (2, Ge, 4), (1, Ge, 3), (3, Ge, 4)];
 
+static WIDE: [Ends; 4] = [(0, 20), (0, 20), (0, 20), (0, 20)];
+
+static DECIDED: [Comparison; 4] = [(0, Le, 0), (1, Le, 0), (2, Ge, 1), (2, Le, 3)];
+
 #[test]
 fn reasons_name_the_overlap_and_the_order(rt: HostRuntime) -> Result<(), Fail> {
-    let ends = [(0, 20), (0, 20), (0, 20), (0, 20)];
-    let decided = [(0, Le, 0), (1, Le, 0), (2, Ge, 1), (2, Le, 3)];
-    let found = placed(rt.alloc(), (Fixed(2, 2), Fixed(3, 3)), &ends, &decided)?;
+    let found = placed(rt.alloc(), (Fixed(2, 2), Fixed(3, 3)), &WIDE, &DECIDED)?;
     assert!(rt; ends_by(found, &REASON));
     Ok(())
 }

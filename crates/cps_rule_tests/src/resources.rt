@@ -322,15 +322,18 @@ fn spans_that_may_run_anywhere_use_up_a_window(rt: HostRuntime) -> Result<(), Fa
 /// after 0 anyhow, and starts by 5.
 static CONFLICT: [Comparison; 5] = [(2, Ge, 4), (3, Ge, 4), (4, Ge, 4), (5, Ge, 4), (6, Ge, 6)];
 
+static CROWD: Use = Use {
+    shapes: &FIVE,
+    demands: &[1, 1, 1, 1, 1],
+};
+
+static WIDE: [Ends; 7] = [(2, 2), (1, 1), (0, 50), (0, 50), (0, 50), (0, 50), (0, 50)];
+
+static DECIDED: [Comparison; 5] = [(2, Le, 3), (3, Le, 3), (4, Le, 3), (5, Le, 3), (6, Le, 3)];
+
 #[test]
 fn conflicts_ask_no_more_than_is_needed(rt: HostRuntime) -> Result<(), Fail> {
-    let shared = Use {
-        shapes: &FIVE,
-        demands: &[1, 1, 1, 1, 1],
-    };
-    let ends = [(2, 2), (1, 1), (0, 50), (0, 50), (0, 50), (0, 50), (0, 50)];
-    let decided = [(2, Le, 3), (3, Le, 3), (4, Le, 3), (5, Le, 3), (6, Le, 3)];
-    let found = scheduled(rt.alloc(), shared, &ends, &decided)?;
+    let found = scheduled(rt.alloc(), CROWD, &WIDE, &DECIDED)?;
     assert!(rt; refuses(found, &CONFLICT));
     Ok(())
 }

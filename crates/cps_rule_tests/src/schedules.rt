@@ -200,11 +200,15 @@ fn one_of_varying_length_takes_what_it_takes_at_least(rt: HostRuntime) -> Result
 /// The third ends at 19 or later, so it is enough that the others start by 18.
 static REASON: [Comparison; 4] = [(2, Le, 13), (0, Ge, 19), (1, Ge, 19), (2, Ge, 21)];
 
+static ENDS: [Ends; 3] = [(0, 100), (0, 100), (0, 100)];
+
+static DECIDED: [Comparison; 4] = [(0, Le, 14), (1, Ge, 1), (1, Le, 17), (2, Ge, 14)];
+
+static THREE_SPANS: [Shape; 3] = THREE;
+
 #[test]
 fn reasons_ask_no_more_than_is_needed(rt: HostRuntime) -> Result<(), Fail> {
-    let ends = [(0, 100), (0, 100), (0, 100)];
-    let decided = [(0, Le, 14), (1, Ge, 1), (1, Le, 17), (2, Ge, 14)];
-    let found = scheduled(rt.alloc(), &THREE, &ends, &decided)?;
+    let found = scheduled(rt.alloc(), &THREE_SPANS, &ENDS, &DECIDED)?;
     assert!(rt; ends_by(found, &REASON));
     Ok(())
 }

@@ -196,35 +196,69 @@ fn nine_taken(alloc: Global, model: &ValidModel) -> Result<(Share, Taken), Alloc
     Ok((shared, board.take(&mut b)))
 }
 
+/// What is shared and taken first; an error where 7 is the objective of no solution.
+fn each_takes(alloc: Global, model: &ValidModel) -> Result<(Share, [Taken; 4]), AllocError>
+    requires { IsMinimised model.now }
+{
+    if !is_attained(alloc, model, 7)? {
+        return Err(AllocError);
+    }
+    taken_by_each(alloc, model)
+}
+
 #[test]
 fn a_clause_is_taken_once_by_each_seat(rt: HostRuntime) -> Result<(), Fail> {
     let alloc = rt.alloc();
     let model = validate(alloc, minimised(alloc)?)?;
-    assert!(rt; is_attained(alloc, &model, 7)?);
-    let (shared, taken) = taken_by_each(alloc, &model)?;
+    let (shared, taken) = each_takes(alloc, &model)?;
     assert!(rt; shared == Share::Row(0));
     assert!(rt; taken == [Taken::NotYet, six_in(0), Taken::NotYet, six_in(0)]);
     Ok(())
+}
+
+/// What comes of a board of one row; an error where 7 is the objective of no solution.
+fn draws_past_the_end(
+    alloc: Global,
+    model: &ValidModel,
+) -> Result<([Share; 2], [Taken; 2], [u64; 2]), AllocError>
+    requires { IsMinimised model.now }
+{
+    if !is_attained(alloc, model, 7)? {
+        return Err(AllocError);
+    }
+    drawn_past_the_end(alloc, model)
 }
 
 #[test]
 fn a_full_board_takes_no_more(rt: HostRuntime) -> Result<(), Fail> {
     let alloc = rt.alloc();
     let model = validate(alloc, minimised(alloc)?)?;
-    assert!(rt; is_attained(alloc, &model, 7)?);
-    let (shared, taken, counts) = drawn_past_the_end(alloc, &model)?;
+    let (shared, taken, counts) = draws_past_the_end(alloc, &model)?;
     assert!(rt; shared == [Share::Row(0), Share::Full]);
     assert!(rt; taken == [six_in(0), Taken::End]);
     assert!(rt; counts == [4294967296, 2]);
     Ok(())
 }
 
+/// What two threads leave; an error where 7 is the objective of no solution.
+fn races<R: Threads + Sync>(
+    rt: &R,
+    alloc: Global,
+    model: &ValidModel,
+) -> Result<([Taken; 3], u64), AllocError>
+    requires { IsMinimised model.now }
+{
+    if !is_attained(alloc, model, 7)? {
+        return Err(AllocError);
+    }
+    raced(rt, alloc, model)
+}
+
 #[test]
 fn threads_share_in_rows_of_their_own(rt: HostRuntime) -> Result<(), Fail> {
     let alloc = rt.alloc();
     let model = validate(alloc, minimised(alloc)?)?;
-    assert!(rt; is_attained(alloc, &model, 7)?);
-    let (taken, draws) = raced(&rt, alloc, &model)?;
+    let (taken, draws) = races(&rt, alloc, &model)?;
     assert!(rt; taken == [six_in(0), six_in(1), Taken::End]);
     assert!(rt; draws == 2);
     Ok(())

@@ -33,7 +33,8 @@ fn variables(alloc: Global, greatest: &[i64]) -> Result<Listed<Variable>, AllocE
 {
     let mut variables = Vec::new(alloc);
     for high in greatest {
-        variables.push(variable(alloc, *high)?)?;
+        let variable = variable(alloc, *high)?;
+        variables.push(variable)?;
     }
     Ok(Listed::from_vec(variables))
 }

@@ -58,13 +58,17 @@ fn implied(
     Ok((place, cut))
 }
 
+/// The values 0 and 1.
+fn zero_or_one(alloc: Global) -> Result<Domain, AllocError> {
+    Domain::of_bounds(alloc, &[0, 1])
+}
+
 /// A store of three subjects with the values 0 and 1.
 fn bits(alloc: Global) -> Result<Store, AllocError> {
-    let mut domains = Vec::new(alloc);
-    domains.push(Domain::of_bounds(alloc, &[0, 1])?)?;
-    domains.push(Domain::of_bounds(alloc, &[0, 1])?)?;
-    domains.push(Domain::of_bounds(alloc, &[0, 1])?)?;
-    Store::new(alloc, domains.as_slice())
+    let first = zero_or_one(alloc)?;
+    let second = zero_or_one(alloc)?;
+    let third = zero_or_one(alloc)?;
+    Store::new(alloc, &[first, second, third])
 }
 
 /// What two implications after a decision come to.

@@ -25,7 +25,8 @@ fn variable(alloc: Global, greatest: i64) -> Result<Variable, AllocError> {
 fn variables(alloc: Global, greatest: i64) -> Result<Listed<Variable>, AllocError> {
     let mut variables = Vec::new(alloc);
     for _ in 0..3 {
-        variables.push(variable(alloc, greatest)?)?;
+        let variable = variable(alloc, greatest)?;
+        variables.push(variable)?;
     }
     Ok(Listed::from_vec(variables))
 }
@@ -76,9 +77,10 @@ pub fn three(
     ensures kinds { IfOk result AreAllPropagated }
 {
     let constraints = all_differ(alloc, greatest)?;
+    let variables = variables(alloc, greatest)?;
     let model = CpModel {
         name: Text::new(alloc),
-        variables: variables(alloc, greatest)?,
+        variables,
         constraints,
         objective,
         strategies: Listed::new(alloc),
@@ -117,11 +119,13 @@ pub fn pair(alloc: Global) -> Result<ValidModel, ValidateError>
     ensures kinds { IfOk result AreAllPropagated }
 {
     let constraints = one_of_two(alloc)?;
+    let variables = variables(alloc, 1)?;
+    let objective = sum_of_two(alloc)?;
     let model = CpModel {
         name: Text::new(alloc),
-        variables: variables(alloc, 1)?,
+        variables,
         constraints,
-        objective: Some(sum_of_two(alloc)?),
+        objective: Some(objective),
         strategies: Listed::new(alloc),
         hint: None,
         assumptions: Refs::new(alloc),
