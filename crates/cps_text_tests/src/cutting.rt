@@ -27,7 +27,7 @@ fn assert_tokens(rt: &impl Abort, alloc: Global, text: &[u8], wanted: &str) -> R
 }
 
 /// Texts, each with its tokens.
-const CUT: [(&str, &str); 6] = [
+static CUT: [(&str, &str); 6] = [
     ("", ""),
     (" \t\n\u{b}\u{c}\r# all of it", ""),
     (
@@ -48,12 +48,16 @@ const CUT: [(&str, &str); 6] = [
     ),
 ];
 
-#[test]
-fn cuts_texts(rt: HostRuntime) -> Result<(), Fail> {
-    for (text, wanted) in CUT {
-        assert_tokens(&rt, rt.alloc(), text.as_bytes(), wanted)?;
+fn assert_cut(rt: &impl Abort, alloc: Global, rows: &[(&str, &str)]) -> Result<(), Fail> {
+    for (text, wanted) in rows {
+        assert_tokens(rt, alloc, text.as_bytes(), wanted)?;
     }
     Ok(())
+}
+
+#[test]
+fn cuts_texts(rt: HostRuntime) -> Result<(), Fail> {
+    assert_cut(&rt, rt.alloc(), &CUT)
 }
 
 /// Asserts that the whole text is one token of this kind.
@@ -70,7 +74,7 @@ fn assert_one(rt: &impl Abort, alloc: Global, text: &[u8], kind: TokenKind) -> R
 }
 
 /// Words that are one token each, with its kind.
-const NUMBERS: [(&str, TokenKind); 4] = [
+static NUMBERS: [(&str, TokenKind); 4] = [
     ("0 90", TokenKind::Decimal),
     ("00 0777", TokenKind::Octal),
     ("0x0 0XaF9 0x1f 0x1e5", TokenKind::Hexadecimal),
@@ -80,14 +84,23 @@ const NUMBERS: [(&str, TokenKind); 4] = [
     ),
 ];
 
-#[test]
-fn cuts_numbers(rt: HostRuntime) -> Result<(), Fail> {
-    for (words, kind) in NUMBERS {
-        for word in words.split(' ') {
-            assert_one(&rt, rt.alloc(), word.as_bytes(), kind)?;
-        }
+fn assert_words(rt: &impl Abort, alloc: Global, words: &str, kind: TokenKind) -> Result<(), Fail> {
+    for word in words.split(' ') {
+        assert_one(rt, alloc, word.as_bytes(), kind)?;
     }
     Ok(())
+}
+
+fn assert_kinds(rt: &impl Abort, alloc: Global, rows: &[(&str, TokenKind)]) -> Result<(), Fail> {
+    for (words, kind) in rows {
+        assert_words(rt, alloc, words, *kind)?;
+    }
+    Ok(())
+}
+
+#[test]
+fn cuts_numbers(rt: HostRuntime) -> Result<(), Fail> {
+    assert_kinds(&rt, rt.alloc(), &NUMBERS)
 }
 
 /// Asserts that no token can stand at this byte, and that one can at each earlier place.
@@ -100,7 +113,7 @@ fn assert_refused(rt: &impl Abort, alloc: Global, text: &[u8], byte: usize) {
 }
 
 /// Each line is a byte and a text that is refused there.
-const REFUSED: &str = "\
+static REFUSED: &str = "\
     21 variables { domain: [089, 90] }\n\
     3 a: 1b\n\
     3 a: 1_\n\
@@ -151,28 +164,36 @@ const REFUSED: &str = "\
     3 a: '\\UFFFFFFFF'\n\
 ";
 
-#[test]
-fn refuses_texts(rt: HostRuntime) -> Result<(), Fail> {
-    for line in REFUSED.lines() {
+fn assert_lines_refused(rt: &impl Abort, alloc: Global, lines: &str) -> Result<(), Fail> {
+    for line in lines.lines() {
         let (byte, text) = line.split_once(' ').ok_or("no text")?;
-        assert_refused(&rt, rt.alloc(), text.as_bytes(), byte.parse::<usize>()?);
+        assert_refused(rt, alloc, text.as_bytes(), byte.parse::<usize>()?);
     }
     Ok(())
 }
 
+#[test]
+fn refuses_texts(rt: HostRuntime) -> Result<(), Fail> {
+    assert_lines_refused(&rt, rt.alloc(), REFUSED)
+}
+
 /// Texts with bytes that no line of a table can have, each with the byte at which it is refused.
-const UNREADABLE: [(&[u8], usize); 4] = [
+static UNREADABLE: [(&[u8], usize); 4] = [
     (b"a \x80", 2),
     (b"a \x00", 2),
     (b"a: 'b\x0ac'", 3),
     (b"a: '\\\x0a'", 3),
 ];
 
+fn assert_all_refused(rt: &impl Abort, alloc: Global, rows: &[(&[u8], usize)]) {
+    for (text, byte) in rows {
+        assert_refused(rt, alloc, text, *byte);
+    }
+}
+
 #[test]
 fn refuses_bytes(rt: HostRuntime) {
-    for (text, byte) in UNREADABLE {
-        assert_refused(&rt, rt.alloc(), text, byte);
-    }
+    assert_all_refused(&rt, rt.alloc(), &UNREADABLE)
 }
 
 /// The bytes that strings behind one another denote together, as hexadecimal digits.
@@ -197,7 +218,7 @@ fn assert_string(rt: &impl Abort, alloc: Global, text: &[u8], wanted: &str) -> R
 }
 
 /// Each line is a string and the bytes that it denotes.
-const STRINGS: &str = "\
+static STRINGS: &str = "\
     '' \n\
     \"x_1\" 785f31\n\
     \"it's\" 69742773\n\
@@ -233,12 +254,17 @@ const STRINGS: &str = "\
     '\\U0010FFFF' f48fbfbf\n\
 ";
 
+fn assert_strings(rt: &impl Abort, alloc: Global, lines: &str) -> Result<(), Fail> {
+    for line in lines.lines() {
+        let (text, wanted) = line.split_once(' ').ok_or("no bytes")?;
+        assert_string(rt, alloc, text.as_bytes(), wanted)?;
+    }
+    Ok(())
+}
+
 #[test]
 fn reads_strings(rt: HostRuntime) -> Result<(), Fail> {
-    for line in STRINGS.lines() {
-        let (text, wanted) = line.split_once(' ').ok_or("no bytes")?;
-        assert_string(&rt, rt.alloc(), text.as_bytes(), wanted)?;
-    }
+    assert_strings(&rt, rt.alloc(), STRINGS)?;
     assert_string(&rt, rt.alloc(), b"'\x00\t\x80\xff'", "000980ff")
 }
 

@@ -61,7 +61,7 @@ fn assert_fault(rt: &impl Abort, alloc: Global, text: &str, wanted: &str) -> Res
 }
 
 /// Each line is the token behind which no document goes on, or `-`, and a text whose bytes are its tokens.
-const TEXTS: &str = "\
+static TEXTS: &str = "\
     - a<>\n\
     - a:<>\n\
     - a{b<>}c<d{}>\n\
@@ -114,17 +114,21 @@ const TEXTS: &str = "\
     5 a<b:\"\n\
 ";
 
-#[test]
-fn refuses_tokens(rt: HostRuntime) -> Result<(), Fail> {
-    for line in TEXTS.lines() {
+fn assert_line_faults(rt: &impl Abort, alloc: Global, lines: &str) -> Result<(), Fail> {
+    for line in lines.lines() {
         let (wanted, text) = line.split_once(' ').ok_or("no text")?;
-        assert_fault(&rt, rt.alloc(), text, wanted)?;
+        assert_fault(rt, alloc, text, wanted)?;
     }
     Ok(())
 }
 
+#[test]
+fn refuses_tokens(rt: HostRuntime) -> Result<(), Fail> {
+    assert_line_faults(&rt, rt.alloc(), TEXTS)
+}
+
 /// Messages in each other, 32 and 33, in lists too.
-const NESTED: [(&str, &str); 4] = [
+static NESTED: [(&str, &str); 4] = [
     (
         "-",
         "a{a<a{a<a{a<a{a<a{a<a{a<a{a<a{a<a{a<a{a<a{a<a{a<a{a<a{a<a{a<a{a<a[]>}>}>}>}>}>}>}>}>}>}>}>}>}>}>}>}",
@@ -143,12 +147,16 @@ const NESTED: [(&str, &str); 4] = [
     ),
 ];
 
-#[test]
-fn refuses_deep_messages(rt: HostRuntime) -> Result<(), Fail> {
-    for (wanted, text) in NESTED {
-        assert_fault(&rt, rt.alloc(), text, wanted)?;
+fn assert_faults(rt: &impl Abort, alloc: Global, rows: &[(&str, &str)]) -> Result<(), Fail> {
+    for (wanted, text) in rows {
+        assert_fault(rt, alloc, text, wanted)?;
     }
     Ok(())
+}
+
+#[test]
+fn refuses_deep_messages(rt: HostRuntime) -> Result<(), Fail> {
+    assert_faults(&rt, rt.alloc(), &NESTED)
 }
 
 /// Asserts that a text, cut into its tokens, is refused at this token, or is a document where it is `None`.
@@ -166,7 +174,7 @@ fn assert_cut_fault(
 }
 
 /// Texts, each with the token at which it is refused; `None` if it is a document.
-const CUT: [(&str, Option<usize>); 11] = [
+static CUT: [(&str, Option<usize>); 11] = [
     ("", None),
     ("variables { domain: [0, -1] } # a", None),
     ("variables { domian: 0 }", None),
@@ -180,12 +188,20 @@ const CUT: [(&str, Option<usize>); 11] = [
     ("a < b: 1 }", Some(5)),
 ];
 
-#[test]
-fn refuses_cut_texts(rt: HostRuntime) -> Result<(), Fail> {
-    for (text, wanted) in CUT {
-        assert_cut_fault(&rt, rt.alloc(), text, wanted)?;
+fn assert_cut_faults(
+    rt: &impl Abort,
+    alloc: Global,
+    rows: &[(&str, Option<usize>)],
+) -> Result<(), Fail> {
+    for (text, wanted) in rows {
+        assert_cut_fault(rt, alloc, text, *wanted)?;
     }
     Ok(())
+}
+
+#[test]
+fn refuses_cut_texts(rt: HostRuntime) -> Result<(), Fail> {
+    assert_cut_faults(&rt, rt.alloc(), &CUT)
 }
 
 /// Asserts that this is the tree of a text whose bytes are its tokens.
@@ -200,7 +216,7 @@ fn assert_tree(rt: &impl Abort, alloc: Global, text: &str, wanted: &str) -> Resu
 }
 
 /// Texts whose bytes are their tokens, each with its tree.
-const TREES: [(&str, &str); 8] = [
+static TREES: [(&str, &str); 8] = [
     ("", "Node { fields: [] }"),
     (
         "a:-0",
@@ -237,10 +253,14 @@ const TREES: [(&str, &str); 8] = [
     ),
 ];
 
-#[test]
-fn reads_trees(rt: HostRuntime) -> Result<(), Fail> {
-    for (text, wanted) in TREES {
-        assert_tree(&rt, rt.alloc(), text, wanted)?;
+fn assert_trees(rt: &impl Abort, alloc: Global, rows: &[(&str, &str)]) -> Result<(), Fail> {
+    for (text, wanted) in rows {
+        assert_tree(rt, alloc, text, wanted)?;
     }
     Ok(())
+}
+
+#[test]
+fn reads_trees(rt: HostRuntime) -> Result<(), Fail> {
+    assert_trees(&rt, rt.alloc(), &TREES)
 }

@@ -124,6 +124,10 @@ const ORDERED: &str = "\
 3 |  | enforcement_literal: 7 table { values: 1 }
 ";
 
+static TABLES: [&str; 8] = [
+    DIVISORS, FACTORS, OPERANDS, INTERVALS, ARCS, LEVELS, LISTS, ORDERED,
+];
+
 /// The text of a model with variables of these domains, a constraint, an interval and a constraint of no kind.
 fn text_of(alloc: Global, domains: &str, constraint: &str) -> Result<String, AllocError> {
     let mut text = String::new(alloc);
@@ -153,15 +157,21 @@ fn assert_line(rt: &impl Abort, alloc: Global, line: &str) -> Result<(), Fail> {
     Ok(())
 }
 
-#[test]
-fn kinds_keep_their_rules(rt: HostRuntime) -> Result<(), Fail> {
-    let tables = [
-        DIVISORS, FACTORS, OPERANDS, INTERVALS, ARCS, LEVELS, LISTS, ORDERED,
-    ];
-    for table in tables {
-        for line in table.lines() {
-            assert_line(&rt, rt.alloc(), line)?;
-        }
+fn assert_lines(rt: &impl Abort, alloc: Global, lines: &str) -> Result<(), Fail> {
+    for line in lines.lines() {
+        assert_line(rt, alloc, line)?;
     }
     Ok(())
+}
+
+fn assert_tables(rt: &impl Abort, alloc: Global, tables: &[&str]) -> Result<(), Fail> {
+    for table in tables {
+        assert_lines(rt, alloc, table)?;
+    }
+    Ok(())
+}
+
+#[test]
+fn kinds_keep_their_rules(rt: HostRuntime) -> Result<(), Fail> {
+    assert_tables(&rt, rt.alloc(), &TABLES)
 }

@@ -18,7 +18,7 @@ struct Row {
 }
 
 /// An interval that is present has no size below 0.
-const SIZES: [Row; 3] = [
+static SIZES: [Row; 3] = [
     Row {
         intervals: &[[1, 3, 2]],
         constraint: "",
@@ -40,7 +40,7 @@ const SIZES: [Row; 3] = [
 ];
 
 /// Intervals do not overlap: with others inside them, of size 0 at an edge and inside, and one that is named twice.
-const APART: [Row; 6] = [
+static APART: [Row; 6] = [
     Row {
         intervals: &[[0, 5, 5], [5, 7, 2], [3, 3, 0]],
         constraint: "no_overlap { intervals: [0, 1, 2] }",
@@ -83,7 +83,7 @@ const APART: [Row; 6] = [
 const LOADED: &[[i64; 3]] = &[[0, 3, 3], [2, 4, 2], [4, 5, 1]];
 
 /// Loads stay within the capacity.
-const LOADS: [Row; 4] = [
+static LOADS: [Row; 4] = [
     Row {
         intervals: LOADED,
         constraint: "cumulative { capacity { offset: 3 } intervals: [0, 1, 2] \
@@ -115,7 +115,7 @@ const LOADS: [Row; 4] = [
 ];
 
 /// Boxes are apart one way, also one inside another, with and without area, unless an interval of it is absent.
-const BOXES: [Row; 4] = [
+static BOXES: [Row; 4] = [
     Row {
         intervals: &[[0, 2, 2], [0, 2, 2], [1, 3, 2], [1, 3, 2]],
         constraint: "no_overlap_2d { x_intervals: [0, 2] y_intervals: [1, 3] }",

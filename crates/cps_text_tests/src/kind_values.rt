@@ -23,7 +23,7 @@ const BITS: &str = "[0, 1]";
 
 /// Kinds that compute a number of others. Quotients are rounded towards zero, and a remainder has the sign of what is
 /// divided.
-const NUMBERS: [Row; 6] = [
+static NUMBERS: [Row; 6] = [
     Row {
         domain: WIDE,
         constraints: "constraints { int_div { target { vars: 0 coeffs: 1 } exprs { vars: 1 coeffs: 1 } exprs { offset: 3 } } }",
@@ -63,7 +63,7 @@ const NUMBERS: [Row; 6] = [
 ];
 
 /// Kinds that look a number up, and values that all differ. A reference below 0 has its variable's value negated.
-const LOOKUPS: [Row; 9] = [
+static LOOKUPS: [Row; 9] = [
     Row {
         domain: WIDE,
         constraints: "constraints { element { linear_index { vars: 0 coeffs: 1 } linear_target { vars: 1 coeffs: 1 } \
@@ -124,7 +124,7 @@ const LOOKUPS: [Row; 9] = [
 
 /// Circuits: a triangle with a loop on each node, two pairs of arcs there and back with a way round all four nodes, two
 /// arcs from node 0 to node 1 and one back, and no arcs. Then lists that invert each other.
-const CIRCUITS: [Row; 6] = [
+static CIRCUITS: [Row; 6] = [
     Row {
         domain: BITS,
         constraints: "constraints { circuit { tails: [0, 1, 2, 0, 1, 2] heads: [1, 2, 0, 0, 1, 2] literals: [0, 1, 2, 3, 4, 5] } }",
@@ -173,7 +173,7 @@ const CIRCUITS: [Row; 6] = [
 
 /// An automaton goes from 0 by 5 to 1 or to 2, from 1 by 6 to 0, and from 2 by 7 to 1, which is final. Without
 /// positions it ends where it starts.
-const AUTOMATA: [Row; 4] = [
+static AUTOMATA: [Row; 4] = [
     Row {
         domain: WIDE,
         constraints: "constraints { automaton { final_states: 1 transition_tail: [0, 1, 0, 2] transition_head: [1, 0, 2, 1] \
@@ -205,7 +205,7 @@ const AUTOMATA: [Row; 4] = [
 
 /// The level of a reservoir is kept at each time; changes of one time add up; and where literals are listed, an event
 /// whose literal is false changes nothing.
-const LEVELS: [Row; 6] = [
+static LEVELS: [Row; 6] = [
     Row {
         domain: WIDE,
         constraints: "constraints { reservoir { max_level: 1 time_exprs { } time_exprs { vars: 0 coeffs: 1 } \
@@ -307,7 +307,7 @@ fn kinds_have_their_solutions(rt: HostRuntime) -> Result<(), Fail> {
 }
 
 /// Kinds at numbers where they fail. Variable 1 is 1, and constraint 1 is an interval of size 1.
-const FAILING: [&str; 14] = [
+static FAILING: [&str; 14] = [
     "int_div { target { offset: 1 } exprs { offset: 4 } exprs { offset: 2 } }",
     "int_mod { target { offset: 1 } exprs { offset: 4 } exprs { offset: 2 } }",
     "int_prod { target { offset: 1 } exprs { offset: 4 } exprs { offset: 2 } }",
@@ -335,10 +335,14 @@ fn assert_free_out_of_force(rt: &impl Abort, alloc: Global, kind: &str) -> Resul
     Ok(())
 }
 
-#[test]
-fn kinds_are_free_out_of_force(rt: HostRuntime) -> Result<(), Fail> {
-    for kind in FAILING {
-        assert_free_out_of_force(&rt, rt.alloc(), kind)?;
+fn assert_all_free(rt: &impl Abort, alloc: Global, kinds: &[&str]) -> Result<(), Fail> {
+    for kind in kinds {
+        assert_free_out_of_force(rt, alloc, kind)?;
     }
     Ok(())
+}
+
+#[test]
+fn kinds_are_free_out_of_force(rt: HostRuntime) -> Result<(), Fail> {
+    assert_all_free(&rt, rt.alloc(), &FAILING)
 }

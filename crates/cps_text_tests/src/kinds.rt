@@ -2,7 +2,8 @@
 //!
 //! What was read is shown in a notation of its own, and not by the printer, which would make the same mistakes; a row
 //! has the text and what it is to be.
-use crate::reading::{model_of_kind, refusal};
+use crate::reading::model_of_kind;
+use crate::refusals::assert_refusals;
 use cps_model::{Exprs, Kind, LinearExpr, Listed};
 use std::alloc::Global;
 use std::fmt::Write;
@@ -169,7 +170,7 @@ fn put_kind(text: &mut String, kind: &Kind) -> Result<(), Fail> {
     }
 }
 
-const ARITHMETIC: &str = "\
+static ARITHMETIC: &str = "\
 [0][1]0 of [1][2]3;[][]-4;: int_div { exprs { vars: 1 coeffs: 2 offset: 3 } target { vars: 0 coeffs: 1 } exprs { offset: -4 } }
 [][]7 of : int_mod { target { offset: 7 } }
 [][]0 of [2][1]0;: int_prod { exprs { vars: 2 coeffs: 1 } }
@@ -177,7 +178,7 @@ const ARITHMETIC: &str = "\
 [3][1]0;[][]5;: all_diff { exprs { vars: 3 coeffs: 1 } exprs { offset: 5 } }
 ";
 
-const LISTS: &str = "\
+static LISTS: &str = "\
 [0][1]0 [1][1]0 of [][]5;[2][1]0;: element { linear_index { vars: 0 coeffs: 1 } \
 linear_target { vars: 1 coeffs: 1 } exprs { offset: 5 } exprs { vars: 2 coeffs: 1 } }
 [][]0 [][]0 of : element { }
@@ -195,7 +196,7 @@ linear_target { vars: 1 coeffs: 1 } exprs { offset: 5 } exprs { vars: 2 coeffs: 
 0 [][][][] [][]6;: automaton { exprs { offset: 6 } }
 ";
 
-const TIMES: &str = "\
+static TIMES: &str = "\
 [0][1]0 [0][1]3 [][]3: interval { start { vars: 0 coeffs: 1 } end { vars: 0 coeffs: 1 offset: 3 } size { offset: 3 } }
 [][]0 [][]0 [][]0: interval { }
 [0, 2]: no_overlap { intervals: [0, 2] }
@@ -214,20 +215,29 @@ fn held(rt: &impl Abort, alloc: Global, field: &str) -> Result<String, Fail> {
     Ok(text)
 }
 
-/// Each line is what a kind holds, and the field that gives it.
-#[test]
-fn reads_kinds(rt: HostRuntime) -> Result<(), Fail> {
-    for lines in [ARITHMETIC, LISTS, TIMES] {
-        for line in lines.lines() {
-            let (wanted, field) = line.split_once(": ").ok_or("no field")?;
-            let held = held(&rt, rt.alloc(), field)?;
-            assert_eq!(rt; held.as_str(), wanted, "{field}");
-        }
+/// Asserts that a line is what a kind holds, and the field that gives it.
+fn assert_held(rt: &impl Abort, alloc: Global, line: &str) -> Result<(), Fail> {
+    let (wanted, field) = line.split_once(": ").ok_or("no field")?;
+    let held = held(rt, alloc, field)?;
+    assert_eq!(rt; held.as_str(), wanted, "{field}");
+    Ok(())
+}
+
+fn assert_lines_held(rt: &impl Abort, alloc: Global, lines: &str) -> Result<(), Fail> {
+    for line in lines.lines() {
+        assert_held(rt, alloc, line)?;
     }
     Ok(())
 }
 
-const FAULTS: &str = "\
+#[test]
+fn reads_kinds(rt: HostRuntime) -> Result<(), Fail> {
+    assert_lines_held(&rt, rt.alloc(), ARITHMETIC)?;
+    assert_lines_held(&rt, rt.alloc(), LISTS)?;
+    assert_lines_held(&rt, rt.alloc(), TIMES)
+}
+
+static FAULTS: &str = "\
 MixedForms at 41: constraints { element { linear_index { } vars: 0 } }
 MixedForms at 33: constraints { element { index: 0 exprs { } } }
 MixedForms at 34: constraints { element { vars: [ ] linear_target { } } }
@@ -264,14 +274,7 @@ OutOfRange at 13: assumptions: 2147483648
 Unsupported at 0: symmetry { }
 ";
 
-/// Each line is a fault with its byte, and a text that is refused so.
 #[test]
 fn refuses_fields_of_kinds(rt: HostRuntime) -> Result<(), Fail> {
-    for line in FAULTS.lines() {
-        let (wanted, text) = line.split_once(": ").ok_or("no text")?;
-        let (name, byte) = refusal(&rt, rt.alloc(), text)?;
-        let held = format!(in rt.alloc(); "{name:?} at {byte}")?;
-        assert_eq!(rt; held.as_str(), wanted, "{text}");
-    }
-    Ok(())
+    assert_refusals(&rt, rt.alloc(), FAULTS)
 }

@@ -177,7 +177,7 @@ fn assert_shape(rt: &impl Abort, alloc: Global, text: &str, shape: Shape) -> Res
 }
 
 /// Texts, each with what its model is.
-const MODELS: [(&str, Shape); 6] = [
+static MODELS: [(&str, Shape); 6] = [
     (
         "variables { domain: [0, - 1] domain: 9223372036854775807; domain: [ ] } variables { } variables: [ ]",
         Shape::Variables,
@@ -209,16 +209,20 @@ const MODELS: [(&str, Shape); 6] = [
     ),
 ];
 
-#[test]
-fn reads_models(rt: HostRuntime) -> Result<(), Fail> {
-    for (text, shape) in MODELS {
-        assert_shape(&rt, rt.alloc(), text, shape)?;
+fn assert_models(rt: &impl Abort, alloc: Global, rows: &[(&str, Shape)]) -> Result<(), Fail> {
+    for (text, shape) in rows {
+        assert_shape(rt, alloc, text, *shape)?;
     }
     Ok(())
 }
 
+#[test]
+fn reads_models(rt: HostRuntime) -> Result<(), Fail> {
+    assert_models(&rt, rt.alloc(), &MODELS)
+}
+
 /// Strategies that are written by names, each with what it chooses and selects.
-const MEMBERS: [(&str, Choose, Select); 5] = [
+static MEMBERS: [(&str, Choose, Select); 5] = [
     (
         "search_strategy { exprs { } variable_selection_strategy: CHOOSE_FIRST domain_reduction_strategy: SELECT_MIN_VALUE }",
         Choose::First,
@@ -246,16 +250,24 @@ const MEMBERS: [(&str, Choose, Select); 5] = [
     ),
 ];
 
-#[test]
-fn reads_members(rt: HostRuntime) -> Result<(), Fail> {
-    for (text, choose, select) in MEMBERS {
-        assert_shape(&rt, rt.alloc(), text, Shape::Members(choose, select))?;
+fn assert_members(
+    rt: &impl Abort,
+    alloc: Global,
+    rows: &[(&str, Choose, Select)],
+) -> Result<(), Fail> {
+    for (text, choose, select) in rows {
+        assert_shape(rt, alloc, text, Shape::Members(*choose, *select))?;
     }
     Ok(())
 }
 
+#[test]
+fn reads_members(rt: HostRuntime) -> Result<(), Fail> {
+    assert_members(&rt, rt.alloc(), &MEMBERS)
+}
+
 /// Objectives, each with its offset.
-const OFFSETS: [(&str, i64); 12] = [
+static OFFSETS: [(&str, i64); 12] = [
     ("objective { offset: 1e5 }", 100000),
     ("objective { offset: 1500e-2 }", 15),
     ("objective { offset: 0.10e1f }", 1),
@@ -276,10 +288,14 @@ const OFFSETS: [(&str, i64); 12] = [
     ("objective { offset: - 12.F }", -12),
 ];
 
-#[test]
-fn reads_objectives(rt: HostRuntime) -> Result<(), Fail> {
-    for (text, offset) in OFFSETS {
-        assert_shape(&rt, rt.alloc(), text, Shape::Offset(offset))?;
+fn assert_offsets(rt: &impl Abort, alloc: Global, rows: &[(&str, i64)]) -> Result<(), Fail> {
+    for (text, offset) in rows {
+        assert_shape(rt, alloc, text, Shape::Offset(*offset))?;
     }
     Ok(())
+}
+
+#[test]
+fn reads_objectives(rt: HostRuntime) -> Result<(), Fail> {
+    assert_offsets(&rt, rt.alloc(), &OFFSETS)
 }

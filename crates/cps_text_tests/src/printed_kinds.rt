@@ -23,7 +23,7 @@ fn assert_kind(rt: &impl Abort, alloc: Global, kind: &str, wanted: &str) -> Resu
 }
 
 /// Kinds, and what is written of each.
-const KINDS: [(&str, &str); 25] = [
+static KINDS: [(&str, &str); 25] = [
     ("", ""),
     ("bool_or { }", "  bool_or {\n  }\n"),
     (
@@ -140,10 +140,14 @@ const KINDS: [(&str, &str); 25] = [
     ),
 ];
 
-#[test]
-fn kinds(rt: HostRuntime) -> Result<(), Fail> {
-    for (kind, wanted) in KINDS {
-        assert_kind(&rt, rt.alloc(), kind, wanted)?;
+fn assert_kinds(rt: &impl Abort, alloc: Global, rows: &[(&str, &str)]) -> Result<(), Fail> {
+    for (kind, wanted) in rows {
+        assert_kind(rt, alloc, kind, wanted)?;
     }
     Ok(())
+}
+
+#[test]
+fn kinds(rt: HostRuntime) -> Result<(), Fail> {
+    assert_kinds(&rt, rt.alloc(), &KINDS)
 }

@@ -23,7 +23,7 @@ const STEERED_TEXT: &str =
      variable_selection_strategy: CHOOSE_MIN_DOMAIN_SIZE\n}\nsolution_hint {\n  vars: [0]\n  values: [1]\n}\nassumptions: [0, -1]\n";
 
 /// Texts, each with its canonical form.
-const TEXTS: [(&str, &str); 7] = [
+static TEXTS: [(&str, &str); 7] = [
     ("variables { }", "variables {\n}\n"),
     (
         "variables { domain: [0, 10] } constraints { linear { domain: [-5, 10] coeffs: 10 vars: 0 } }",
@@ -50,10 +50,14 @@ const TEXTS: [(&str, &str); 7] = [
     (STEERED, STEERED_TEXT),
 ];
 
-#[test]
-fn models(rt: HostRuntime) -> Result<(), Fail> {
-    for (text, wanted) in TEXTS {
-        assert_printed(&rt, rt.alloc(), text, wanted)?;
+fn assert_all_printed(rt: &impl Abort, alloc: Global, rows: &[(&str, &str)]) -> Result<(), Fail> {
+    for (text, wanted) in rows {
+        assert_printed(rt, alloc, text, wanted)?;
     }
     Ok(())
+}
+
+#[test]
+fn models(rt: HostRuntime) -> Result<(), Fail> {
+    assert_all_printed(&rt, rt.alloc(), &TEXTS)
 }

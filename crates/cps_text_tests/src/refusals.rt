@@ -13,7 +13,7 @@ fn assert_refusal(rt: &impl Abort, alloc: Global, text: &str, wanted: &str) -> R
 }
 
 /// Asserts that each line is a refusal and a text that is refused so.
-fn assert_refusals(rt: &impl Abort, alloc: Global, lines: &str) -> Result<(), Fail> {
+pub fn assert_refusals(rt: &impl Abort, alloc: Global, lines: &str) -> Result<(), Fail> {
     for line in lines.lines() {
         let (wanted, text) = line.split_once(": ").ok_or("no text")?;
         assert_refusal(rt, alloc, text, wanted)?;
@@ -89,10 +89,16 @@ OutOfRange at 47: search_strategy { variable_selection_strategy: 0x100000000 }
 WrongKind at 34: search_strategy { exprs { offset: 1f } }
 ";
 
-#[test]
-fn refuses_fields(rt: HostRuntime) -> Result<(), Fail> {
-    for lines in [NAMES, FORMS, NUMBERS, MEMBERS] {
-        assert_refusals(&rt, rt.alloc(), lines)?;
+static TABLES: [&str; 4] = [NAMES, FORMS, NUMBERS, MEMBERS];
+
+fn assert_tables(rt: &impl Abort, alloc: Global, tables: &[&str]) -> Result<(), Fail> {
+    for lines in tables {
+        assert_refusals(rt, alloc, lines)?;
     }
     Ok(())
+}
+
+#[test]
+fn refuses_fields(rt: HostRuntime) -> Result<(), Fail> {
+    assert_tables(&rt, rt.alloc(), &TABLES)
 }

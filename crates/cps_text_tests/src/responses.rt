@@ -176,67 +176,98 @@ fn assert_infeasible(
     assert_response(rt, alloc, &model, &infeasible, wanted)
 }
 
-#[test]
-fn infeasible(rt: HostRuntime) -> Result<(), Fail> {
-    let rows: [(&[i32], &str); 2] = [
-        (&[], "status: INFEASIBLE\n"),
-        (
-            &[0, -1],
-            "status: INFEASIBLE\nsufficient_assumptions_for_infeasibility: 0\n\
-             sufficient_assumptions_for_infeasibility: -1\n",
-        ),
-    ];
+/// Assumptions, each with what is written of a model that is infeasible because of them.
+static CORES: [(&[i32], &str); 2] = [
+    (&[], "status: INFEASIBLE\n"),
+    (
+        &[0, -1],
+        "status: INFEASIBLE\nsufficient_assumptions_for_infeasibility: 0\n\
+         sufficient_assumptions_for_infeasibility: -1\n",
+    ),
+];
+
+fn assert_cores(rt: &impl Abort, alloc: Global, rows: &[(&[i32], &str)]) -> Result<(), Fail> {
     for (core, wanted) in rows {
-        assert_infeasible(&rt, rt.alloc(), core, wanted)?;
+        assert_infeasible(rt, alloc, core, wanted)?;
     }
     Ok(())
 }
 
+#[test]
+fn infeasible(rt: HostRuntime) -> Result<(), Fail> {
+    assert_cores(&rt, rt.alloc(), &CORES)
+}
+
 /// Asserts that this is the second line for a fault.
-fn assert_fault(rt: &impl Abort, alloc: Global, fault: Fault, cause: &str) -> Result<(), Fail> {
-    let text = fault_text(alloc, &fault)?;
+fn assert_fault(rt: &impl Abort, alloc: Global, fault: &Fault, cause: &str) -> Result<(), Fail> {
+    let text = fault_text(alloc, fault)?;
     let wanted = format!(in alloc; "status: MODEL_INVALID\n# {cause}\n")?;
     assert_eq!(rt; text.as_str(), wanted.as_str());
     Ok(())
 }
 
+/// Faults, each with its cause.
+static FAULTS: [(Fault, &str); 5] = [
+    (Fault::Text { byte: 21 }, "text fault at byte 21"),
+    (
+        Fault::Field {
+            name: FaultName::UnknownField,
+            byte: 12,
+        },
+        "field fault UnknownField at byte 12",
+    ),
+    (
+        Fault::Field {
+            name: FaultName::Repeated,
+            byte: 22,
+        },
+        "field fault Repeated at byte 22",
+    ),
+    (
+        Fault::Field {
+            name: FaultName::NotWhole,
+            byte: 20,
+        },
+        "field fault NotWhole at byte 20",
+    ),
+    (Fault::TooLong, "input longer than 67108864 bytes"),
+];
+
+fn assert_faults(rt: &impl Abort, alloc: Global, rows: &[(Fault, &str)]) -> Result<(), Fail> {
+    for (fault, cause) in rows {
+        assert_fault(rt, alloc, fault, cause)?;
+    }
+    Ok(())
+}
+
 #[test]
 fn faults(rt: HostRuntime) -> Result<(), Fail> {
-    let alloc = rt.alloc();
-    let text = Fault::Text { byte: 21 };
-    assert_fault(&rt, alloc, text, "text fault at byte 21")?;
-    for (name, byte, cause) in [
-        (
-            FaultName::UnknownField,
-            12,
-            "field fault UnknownField at byte 12",
-        ),
-        (FaultName::Repeated, 22, "field fault Repeated at byte 22"),
-        (FaultName::NotWhole, 20, "field fault NotWhole at byte 20"),
-    ] {
-        assert_fault(&rt, alloc, Fault::Field { name, byte }, cause)?;
+    assert_faults(&rt, rt.alloc(), &FAULTS)
+}
+
+/// Rules and places where they are broken, each with its cause.
+static PLACES: [(u8, Place, &str); 7] = [
+    (2, Place::Variable(0), "invalid V2 at variable 0"),
+    (15, Place::Constraint(0), "invalid V15 at constraint 0"),
+    (18, Place::Model, "invalid V18 at model"),
+    (3, Place::Objective, "invalid V3 at objective"),
+    (5, Place::Strategy(2), "invalid V5 at strategy 2"),
+    (17, Place::Hint, "invalid V17 at hint"),
+    (4, Place::Assumption(1), "invalid V4 at assumption 1"),
+];
+
+fn assert_places(rt: &impl Abort, alloc: Global, rows: &[(u8, Place, &str)]) -> Result<(), Fail> {
+    for (rule, place, cause) in rows {
+        let fault = Fault::Rule {
+            rule: *rule,
+            place: *place,
+        };
+        assert_fault(rt, alloc, &fault, cause)?;
     }
-    assert_fault(
-        &rt,
-        alloc,
-        Fault::TooLong,
-        "input longer than 67108864 bytes",
-    )
+    Ok(())
 }
 
 #[test]
 fn places(rt: HostRuntime) -> Result<(), Fail> {
-    let alloc = rt.alloc();
-    for (rule, place, cause) in [
-        (2, Place::Variable(0), "invalid V2 at variable 0"),
-        (15, Place::Constraint(0), "invalid V15 at constraint 0"),
-        (18, Place::Model, "invalid V18 at model"),
-        (3, Place::Objective, "invalid V3 at objective"),
-        (5, Place::Strategy(2), "invalid V5 at strategy 2"),
-        (17, Place::Hint, "invalid V17 at hint"),
-        (4, Place::Assumption(1), "invalid V4 at assumption 1"),
-    ] {
-        assert_fault(&rt, alloc, Fault::Rule { rule, place }, cause)?;
-    }
-    Ok(())
+    assert_places(&rt, rt.alloc(), &PLACES)
 }

@@ -16,7 +16,7 @@ pub fn broken(rt: &impl Abort, alloc: Global, text: &str) -> Result<Option<(u8, 
 }
 
 /// Models of one or two variables, one clause and assumptions, each with the rule that it breaks first.
-const MODELS: [(&str, Option<(u8, Place)>); 11] = [
+static MODELS: [(&str, Option<(u8, Place)>); 11] = [
     (
         "variables { domain: [0, -1] } constraints { bool_or { literals: 0 } } assumptions: 0",
         Some((1, Place::Variable(0))),
@@ -63,33 +63,57 @@ const MODELS: [(&str, Option<(u8, Place)>); 11] = [
     ),
 ];
 
-#[test]
-fn variables_and_literals(rt: HostRuntime) -> Result<(), Fail> {
-    for (text, wanted) in MODELS {
-        assert_eq!(rt; broken(&rt, rt.alloc(), text)?, wanted, "{text}");
+fn assert_broken(
+    rt: &impl Abort,
+    alloc: Global,
+    text: &str,
+    wanted: Option<(u8, Place)>,
+) -> Result<(), Fail> {
+    assert_eq!(rt; broken(rt, alloc, text)?, wanted, "{text}");
+    Ok(())
+}
+
+fn assert_models(
+    rt: &impl Abort,
+    alloc: Global,
+    rows: &[(&str, Option<(u8, Place)>)],
+) -> Result<(), Fail> {
+    for (text, wanted) in rows {
+        assert_broken(rt, alloc, text, *wanted)?;
     }
     Ok(())
+}
+
+#[test]
+fn variables_and_literals(rt: HostRuntime) -> Result<(), Fail> {
+    assert_models(&rt, rt.alloc(), &MODELS)
 }
 
 /// Two variables 0..2^31.
 const WIDE: &str = "variables { domain: [0, 2147483648] } variables { domain: [0, 2147483648] }";
 
-/// A sum of two variables 0..2^31: its coefficients and its domain.
-#[test]
-fn sums(rt: HostRuntime) -> Result<(), Fail> {
-    let alloc = rt.alloc();
-    let rows: [(&str, Option<u8>); 4] = [
-        ("coeffs: [1] domain: [0, 0]", Some(5)),
-        ("coeffs: [1073741824, 1073741824] domain: [0, 0]", Some(6)),
-        ("coeffs: [1073741824, 1073741823] domain: [1, 0]", Some(7)),
-        ("coeffs: [1073741824, 1073741823] domain: [0, 0]", None),
-    ];
+/// Sums of two variables 0..2^31, by their coefficients and domain, each with the rule that it breaks first.
+static SUMS: [(&str, Option<u8>); 4] = [
+    ("coeffs: [1] domain: [0, 0]", Some(5)),
+    ("coeffs: [1073741824, 1073741824] domain: [0, 0]", Some(6)),
+    ("coeffs: [1073741824, 1073741823] domain: [1, 0]", Some(7)),
+    ("coeffs: [1073741824, 1073741823] domain: [0, 0]", None),
+];
+
+fn assert_sum(rt: &impl Abort, alloc: Global, fields: &str, rule: Option<u8>) -> Result<(), Fail> {
+    let text = format!(in alloc; "{WIDE} constraints {{ linear {{ vars: [0, 1] {fields} }} }}")?;
+    let wanted = rule.map(|rule| (rule, Place::Constraint(0)));
+    assert_broken(rt, alloc, text.as_str(), wanted)
+}
+
+fn assert_sums(rt: &impl Abort, alloc: Global, rows: &[(&str, Option<u8>)]) -> Result<(), Fail> {
     for (fields, rule) in rows {
-        let text = format!(in alloc;
-            "{WIDE} constraints {{ linear {{ vars: [0, 1] {fields} }} }}"
-        )?;
-        let wanted = rule.map(|rule| (rule, Place::Constraint(0)));
-        assert_eq!(rt; broken(&rt, alloc, text.as_str())?, wanted, "{fields}");
+        assert_sum(rt, alloc, fields, *rule)?;
     }
     Ok(())
+}
+
+#[test]
+fn sums(rt: HostRuntime) -> Result<(), Fail> {
+    assert_sums(&rt, rt.alloc(), &SUMS)
 }
