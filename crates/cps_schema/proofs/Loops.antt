@@ -1,10 +1,64 @@
--- One field more of a message.
-use Rattle.std.proofs.Common.{◌≡◌, ℕ, ◌+◌, ◌<◌, List, length, get_or, drop, arith}
+-- One field more of a message, and one value more of a list.
+use Rattle.std.specs.Option.{option_or}
+use Rattle.std.proofs.Common.{◌≡◌, ℕ, ◌+◌, ◌<◌, ◌≤◌, List, [], ◌∷◌, Option, None, length, get_or, drop, refl, sym, ap, ◌∙◌, arith}
 use Rattle.std.proofs.lemmas.Grind.{common_steps}
+use Rattle.std.proofs.lemmas.List.{drop_all}
 use Rattle.cps_textproto.specs.declared.tree.Field.{Field}
-use Rattle.cps_textproto.specs.Trees.{field_list}
-use Rattle.cps_schema.specs.Steps.{field_then}
+use Rattle.cps_textproto.specs.declared.tree.Nested.{Nested, out-Nested}
+use Rattle.cps_textproto.specs.Trees.{Tree, no_fields, tree_of, field_list}
+use Rattle.cps_model.specs.declared.fault.FaultName.{FaultName}
+use Rattle.cps_schema.specs.declared.error.SchemaError.{SchemaError}
+use Rattle.cps_schema.specs.declared.error.SchemaError.TheVariants.{Fault, OutOfMemory}
+use Rattle.cps_schema.specs.Written.{Written, token_text}
+use Rattle.cps_schema.specs.Tables.{Message}
+use Rattle.cps_schema.specs.Faults.{fields_fault}
+use Rattle.cps_schema.specs.Values.{nested_trees, trees_fault}
+use Rattle.cps_schema.specs.Answers.{Refuses}
+use Rattle.cps_schema.specs.Steps.{field_then, Passes, Stops}
+use Rattle.cps_schema.proofs.Values.{tree_of_nested}
 
 pub cut_field : {m : Field} (list : List Field) (i : ℕ) → i < length list → m ≡ get_or list i m
     → field_list (drop i list) ≡ field_then m (field_list (drop (i + 1) list))
 cut_field list i h e = grind (arith, common_steps)
+
+-- fields that pass, up to this one
+pub field_passed : {f : Field} (w : Written) (m : Message) (before : List (List ℕ)) (items : List Field) (i : ℕ) → i < length items → f ≡ get_or items i f
+    → fields_fault w m [] (field_list items) ≡ fields_fault w m before (field_list (drop i items)) → Passes w m before f
+    → fields_fault w m [] (field_list items) ≡ fields_fault w m (token_text w f.name ∷ before) (field_list (drop (i + 1) items))
+field_passed w m before items i h is kept passes =
+    kept ∙ ap (λ (t : Tree). fields_fault w m before t) (cut_field items i h is) ∙ passes (field_list (drop (i + 1) items))
+
+-- and this one, which is refused
+pub field_refused : {f : Field} (w : Written) (m : Message) (before : List (List ℕ)) (items : List Field) (tree : Tree) (i : ℕ) → i < length items → f ≡ get_or items i f
+    → field_list items ≡ tree → fields_fault w m [] (field_list items) ≡ fields_fault w m before (field_list (drop i items))
+    → (e : SchemaError) → Stops w m before f e → Refuses (fields_fault w m [] tree) e
+field_refused w m before items tree i h is same kept e stops =
+    rw (sym (ap (λ (t : Tree). fields_fault w m [] t) same) ∙ kept ∙ ap (λ (t : Tree). fields_fault w m before t) (cut_field items i h is))
+    (stops (field_list (drop (i + 1) items)))
+
+-- what all fields give, behind the last of them
+pub all_read : {V : Type 0} (read from : Tree → V) (items : List Field) (tree : Tree) (i : ℕ) → length items ≤ i → field_list items ≡ tree
+    → read (field_list items) ≡ from (field_list (drop i items)) → read tree ≡ from no_fields
+all_read read from items tree i past same kept =
+    ap read (sym same) ∙ kept ∙ ap (λ (fs : List Field). from (field_list fs)) (drop_all i items past)
+
+-- the first of several faults
+first_refused : (a b whole : Option (FaultName × ℕ)) → whole ≡ option_or a b → (e : SchemaError) → Refuses a e → Refuses whole e
+first_refused a b whole same (Fault name token) refused = same ∙ rw refused refl
+first_refused a b whole same OutOfMemory refused = tt
+
+-- messages of a list: one that is refused, and all that pass
+cut_nested : {m : Nested} (list : List Nested) (i : ℕ) → i < length list → m ≡ get_or list i m
+    → nested_trees (drop i list) ≡ tree_of (out-Nested m).node ∷ nested_trees (drop (i + 1) list)
+cut_nested list i h e = grind (arith, common_steps, tree_of_nested)
+
+pub nested_refused : {m : Nested} (w : Written) (k : Message) (list : List Nested) (i : ℕ) → i < length list → m ≡ get_or list i m
+    → trees_fault w k (nested_trees list) ≡ trees_fault w k (nested_trees (drop i list))
+    → (e : SchemaError) → Refuses (fields_fault w k [] (tree_of (out-Nested m).node)) e → Refuses (trees_fault w k (nested_trees list)) e
+nested_refused {m} w k list i h is kept e refused =
+    first_refused (fields_fault w k [] (tree_of (out-Nested m).node)) (trees_fault w k (nested_trees (drop (i + 1) list))) (trees_fault w k (nested_trees list))
+    (kept ∙ ap (λ (ts : List Tree). trees_fault w k ts) (cut_nested list i h is)) e refused
+
+pub nested_passed : (w : Written) (k : Message) (list : List Nested) (i : ℕ) → length list ≤ i
+    → trees_fault w k (nested_trees list) ≡ trees_fault w k (nested_trees (drop i list)) → trees_fault w k (nested_trees list) ≡ None
+nested_passed w k list i past kept = kept ∙ ap (λ (ms : List Nested). trees_fault w k (nested_trees ms)) (drop_all i list past)

@@ -156,7 +156,6 @@ fn is_given_as(given: &Option<GivenKind>, name: KindName) -> bool
 }
 
 /// The message of a field of a kind, which must be the first such field of its constraint.
-#[tactic(auto, using(crate::proofs::Steps::closed_stops, crate::proofs::Steps::kind_again, crate::proofs::Steps::second_kind, crate::proofs::Steps::kind_stops))]
 fn kind_message<'a>(
     input: &Input,
     given: &Option<GivenKind>,

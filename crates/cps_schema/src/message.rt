@@ -54,7 +54,6 @@ fn add_message<M: Message>(
 }
 
 /// Adds what the messages of a list give.
-#[tactic(auto, using(crate::proofs::Values::tree_of_nested))]
 fn add_listed<M: Message>(
     alloc: Global,
     input: &Input,

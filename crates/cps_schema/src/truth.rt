@@ -1,6 +1,7 @@
 //! Truth values.
-ghost use Rattle.std.specs.Prelude.{◌≡◌, ◌++◌, [], ◌∷◌, false, Some, None, OnOk, IfErr};
+ghost use Rattle.std.specs.Prelude.{◌≡◌, ◌++◌, [], ◌∷◌, ◌||◌, false, Some, None, OnOk, IfErr, codes};
 ghost use Rattle.std.specs.Option.{unwrap_or};
+ghost use Rattle.std.specs.Str.{bytes_eq};
 ghost use Rattle.cps_textproto.specs.Trees.{range_values, values_of};
 ghost use Rattle.cps_schema.specs.Inputs.{written_of};
 ghost use Rattle.cps_schema.specs.Truths.{truth_named, truth_numbered, truth_of, truth_at};
@@ -16,16 +17,29 @@ use super::single::{no_messages, wrong_kind};
 use cps_lex::TokenKind;
 use cps_textproto::{Field, Item, Items, TokenRange};
 
+/// Whether a word names what is true.
+fn names_true(name: &[u8]) -> bool
+    ensures { result ≡ (bytes_eq name.now (codes "true") || bytes_eq name.now (codes "True")
+        || bytes_eq name.now (codes "t")) }
+{
+    name == b"true".as_slice() || name == b"True".as_slice() || name == b"t".as_slice()
+}
+
+/// Whether a word names what is false.
+fn names_false(name: &[u8]) -> bool
+    ensures { result ≡ (bytes_eq name.now (codes "false") || bytes_eq name.now (codes "False")
+        || bytes_eq name.now (codes "f")) }
+{
+    name == b"false".as_slice() || name == b"False".as_slice() || name == b"f".as_slice()
+}
+
 /// The truth value that a word names. `None` if it names none.
 fn truth_named(name: &[u8]) -> Option<bool>
     ensures { result ≡ truth_named name.now }
 {
-    if name == b"true".as_slice() || name == b"True".as_slice() || name == b"t".as_slice() {
+    if names_true(name) {
         Some(true)
-    } else if name == b"false".as_slice()
-        || name == b"False".as_slice()
-        || name == b"f".as_slice()
-    {
+    } else if names_false(name) {
         Some(false)
     } else {
         None
