@@ -17,7 +17,7 @@ use Rattle.cps_port.specs.Says.{OwnEntry, TookEntry, FoundClosed}
 use Rattle.cps_port.specs.Words.{value_word}
 use Rattle.cps_board.specs.declared.view.View.{View}
 use Rattle.cps_board.specs.Coding.{head_word, atom_words, entry_words, atom_of, entry_from, IsCoded, IsCodedEntry}
-use Rattle.cps_board.specs.Rows.{row_words, data_words, Kept, Took, with_part, filling, word_put, row_opened}
+use Rattle.cps_board.specs.Rows.{row_words, data_words, KeptRows, Took, with_part, filling, word_put, row_opened}
 use Rattle.cps_board.proofs.Coded.{op_small, entry_back, length-atom_words, head_at, number_at, atom_back_at}
 use Rattle.cps_board.proofs.Keeps.{puts, publishes}
 
@@ -29,8 +29,8 @@ abbrev pub Fills : Token → Token → List ℕ → Type 0
 Fills old now words = now ≡ (filling old.0 words, old.1)
 
 pub puts_more : (m : CpModel) (slots id : ℕ) (old now : Token) (words : List ℕ) (row j x place : ℕ) → Fills old now words → 0 < old.0.splits → old.0.part.drawn ≡ Some row → length words ≡ j → j < data_words → place ≡ row_words * row + (j + 2)
-    → Allows (Kept {S = Unit {0}} m) slots id now place (λ _. x) (λ _. word_put (step slots place x 0 none) now x)
-puts_more m slots id old now words row j x place e part drawn long less at = subst (λ (z : Token). Allows (Kept {S = Unit {0}} m) slots id z place (λ _. x) (λ _. word_put (step slots place x 0 none) z x)) (sym e) (puts m slots id (filling old.0 words, old.1) part row j x place at drawn long less)
+    → Allows (KeptRows {S = Unit {0}} m) slots id now place (λ _. x) (λ _. word_put (step slots place x 0 none) now x)
+puts_more m slots id old now words row j x place e part drawn long less at = subst (λ (z : Token). Allows (KeptRows {S = Unit {0}} m) slots id z place (λ _. x) (λ _. word_put (step slots place x 0 none) z x)) (sym e) (puts m slots id (filling old.0 words, old.1) part row j x place at drawn long less)
 
 pub put_more : (old now next : Token) (words : List ℕ) (x : ℕ) → Fills old now words → next ≡ (filling now.0 (now.0.written ++ x ∷ []), now.1) → Fills old next (words ++ x ∷ [])
 put_more old now next words x e n = n ∙ ap (λ (z : Token). (filling z.0 (z.0.written ++ x ∷ []), z.1)) e
@@ -49,10 +49,10 @@ pub length-atom_words-take : (c : List Atom) (i : ℕ) → i ≤ length c → le
 length-atom_words-take c i h = let a = length-atom_words (take i c) in let b = length-take-le i c h in omega arith
 
 pub publishes_row : (m : CpModel) (slots id : ℕ) (old now : Token) (row place : ℕ) (below : Bound) (c : List Atom) → Fills old now (entry_words below c) → 0 < old.0.splits → old.0.part.drawn ≡ Some row → IsCoded below c → IsSoundEntry m (entry_of row below c) → place ≡ row_words * row + 1
-    → Allows (Kept {S = Unit {0}} m) slots id now place (λ _. 1) (λ _. row_opened (step slots place 1 0 none) now 1)
+    → Allows (KeptRows {S = Unit {0}} m) slots id now place (λ _. 1) (λ _. row_opened (step slots place 1 0 none) now 1)
 publishes_row m slots id old now row place below c e part drawn coded sound at =
-    subst (λ (p : ℕ). Allows (Kept {S = Unit {0}} m) slots id now p (λ _. 1) (λ _. row_opened (step slots p 1 0 none) now 1)) (sym at)
-    (subst (λ (z : Token). Allows (Kept {S = Unit {0}} m) slots id z (row_words * row + 1) (λ _. 1) (λ _. row_opened (step slots (row_words * row + 1) 1 0 none) z 1)) (sym e) (publishes m slots id (filling old.0 (entry_words below c), old.1) part row below c drawn refl coded sound))
+    subst (λ (p : ℕ). Allows (KeptRows {S = Unit {0}} m) slots id now p (λ _. 1) (λ _. row_opened (step slots p 1 0 none) now 1)) (sym at)
+    (subst (λ (z : Token). Allows (KeptRows {S = Unit {0}} m) slots id z (row_words * row + 1) (λ _. 1) (λ _. row_opened (step slots (row_words * row + 1) 1 0 none) z 1)) (sym e) (publishes m slots id (filling old.0 (entry_words below c), old.1) part row below c drawn refl coded sound))
 
 pub published : (old now next : Token) (row : ℕ) (below : Bound) (c : List Atom) → Fills old now (entry_words below c) → old.0.part.drawn ≡ Some row → IsCoded below c
     → ((r : ℕ) → now.0.part.drawn ≡ Some r → next ≡ (with_part now.0 (with_mine now.0.part (entry_from r now.0.written)), now.1))

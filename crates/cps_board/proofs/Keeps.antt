@@ -20,7 +20,7 @@ use Rattle.cps_port.proofs.Lists.{one_if-same, times-append}
 use Rattle.cps_port.proofs.Places.{total_set, total_snoc, total_at, total_two}
 use Rattle.cps_board.specs.declared.view.View.{View}
 use Rattle.cps_board.specs.Coding.{entry_words, entry_from, IsCoded, IsCodedEntry}
-use Rattle.cps_board.specs.Rows.{all_splits, row_words, data_words, gate, datum, HasData, IsOpen, IsFilling, owns, past, FitsWords, HasSound, Kept, first_view, spent, kept_half, given_half, joined, with_part, drawing, filling, OfModel, row_drawn, word_put, row_opened, row_looked_at, word_read}
+use Rattle.cps_board.specs.Rows.{all_splits, row_words, data_words, gate, datum, HasData, IsOpen, IsFilling, owns, past, FitsRowWords, HasSound, KeptRows, first_view, spent, kept_half, given_half, joined, with_part, drawing, filling, OfBoardModel, row_drawn, word_put, row_opened, row_looked_at, word_read}
 use Rattle.cps_board.proofs.Basics.{at_below, at_end, at_append, at_longer_of, total_le, alone, one_below, one_not_below, one_more, at_most_one, below_of_one, beyond, zeros, early, last, long_snoc, same_list, Away, away_gate, away_word, away_claim}
 use Rattle.cps_board.proofs.Coded.{entry_back, coded_entry, words_of_entry, length-entry_words, same_entry}
 
@@ -87,7 +87,7 @@ one_entry n ws row d e a b =
     same_entry d e row a.named b.named a.coded b.coded (one_list ws row (entry_words d.below (entry_clause d)) (entry_words e.below (entry_clause e)) (omega arith) a.words b.words)
 
 module _ (m : CpModel) (n : ℕ) where
-  fits_kept : (ws ws' : List ℕ) (r0 : ℕ) (v : View) → Away r0 ws ws' → gate ws r0 ≡ 0 → ¬ (v.part.drawn ≡ Some r0) → FitsWords m n ws v → FitsWords m n ws' v
+  fits_kept : (ws ws' : List ℕ) (r0 : ℕ) (v : View) → Away r0 ws ws' → gate ws r0 ≡ 0 → ¬ (v.part.drawn ≡ Some r0) → FitsRowWords m n ws v → FitsRowWords m n ws' v
   fits_kept ws ws' r0 v a closed apart f = record {
     model = f.model;
     idle = f.idle;
@@ -96,14 +96,14 @@ module _ (m : CpModel) (n : ℕ) where
     taken = λ row e g. open_kept n ws ws' r0 row e a closed (f.taken row e g);
   }
 
-  all_fit : (vs : List View) (id : ℕ) (w : View) (ws ws' : List ℕ) → FitsWords m n ws' w → ((i : ℕ) (v : View) → i ≢ id → get_elem? vs i ≡ some v → FitsWords m n ws' v) → (i : ℕ) (v : View) → get_elem? (set vs id w) i ≡ some v → FitsWords m n ws' v
-  all_fit vs id w ws ws' mine others i v e = ⊎_elim (λ (t : (i ≡ id) × (w ≡ v)). subst (λ (z : View). FitsWords m n ws' z) t.1 mine) (λ (t : (i ≢ id) × (get_elem? vs i ≡ some v)). others i v t.0 t.1) (at_set vs id i w v e)
+  all_fit : (vs : List View) (id : ℕ) (w : View) (ws ws' : List ℕ) → FitsRowWords m n ws' w → ((i : ℕ) (v : View) → i ≢ id → get_elem? vs i ≡ some v → FitsRowWords m n ws' v) → (i : ℕ) (v : View) → get_elem? (set vs id w) i ≡ some v → FitsRowWords m n ws' v
+  all_fit vs id w ws ws' mine others i v e = ⊎_elim (λ (t : (i ≡ id) × (w ≡ v)). subst (λ (z : View). FitsRowWords m n ws' z) t.1 mine) (λ (t : (i ≢ id) × (get_elem? vs i ≡ some v)). others i v t.0 t.1) (at_set vs id i w v e)
 
-of_model : (m : CpModel) (v : View) → v.model ≡ Some m → (P : CpModel → Type 0) → P m → OfModel v P
+of_model : (m : CpModel) (v : View) → v.model ≡ Some m → (P : CpModel → Type 0) → P m → OfBoardModel v P
 of_model m v e P h q d = let same : m ≡ q = cc in subst P same h
 
 -- an entry of a view's own is in its row
-own_open : (m : CpModel) (n : ℕ) (ws : List ℕ) (v : View) (row : ℕ) (x : Entry) → FitsWords m n ws v → Contains v.part.mine x → x.row ≡ row → IsOpen n ws row x
+own_open : (m : CpModel) (n : ℕ) (ws : List ℕ) (v : View) (row : ℕ) (x : Entry) → FitsRowWords m n ws v → Contains v.part.mine x → x.row ≡ row → IsOpen n ws row x
 own_open m n ws v row x f c e = subst (λ (r : ℕ). IsOpen n ws r x) e (f.mine c.0 x (at_index v.part.mine c.0 x c.1 (sym c.2)))
 
 sound_kept : (m : CpModel) (n : ℕ) (ws ws' : List ℕ) (r0 row : ℕ) → Away r0 ws ws' → gate ws r0 ≡ 0 → row ≢ r0 → HasSound m n ws row → HasSound m n ws' row
@@ -111,7 +111,7 @@ sound_kept m n ws ws' r0 row a closed other o = (o.0, open_kept n ws ws' r0 row 
 
 module _ {S : Type 0} (m : CpModel) where
   abbrev Rule : State S View → Type 0
-  Rule = Kept m
+  Rule = KeptRows m
 
   abbrev rows_of : State S View → ℕ
   rows_of s = length s.homes
@@ -124,11 +124,11 @@ module _ {S : Type 0} (m : CpModel) where
   drawn_apart s k id i row v u at e other inside mine his = let t = total_two (owns row) s.views id i v u at e other in let o = k.owned row inside in let h = at_most_one (nat_lt row (claim_of s)) in
       let a = drawn_some row row v mine in let b = drawn_some row row u his in let c = one_if-same row in absurd (omega arith)
 
-  others_fit : (s : State S View) (k : Rule s) (ws' : List ℕ) (id row : ℕ) (v : View) → Away row s.words ws' → get_elem? s.views id ≡ some v → v.part.drawn ≡ Some row → (i : ℕ) (u : View) → i ≢ id → get_elem? s.views i ≡ some u → FitsWords m (rows_of s) ws' u
+  others_fit : (s : State S View) (k : Rule s) (ws' : List ℕ) (id row : ℕ) (v : View) → Away row s.words ws' → get_elem? s.views id ≡ some v → v.part.drawn ≡ Some row → (i : ℕ) (u : View) → i ≢ id → get_elem? s.views i ≡ some u → FitsRowWords m (rows_of s) ws' u
   others_fit s k ws' id row v a at mine i u other e = let f = (k.each id v at).drawn row mine in fits_kept m (rows_of s) s.words ws' row u a f.closed (drawn_apart s k id i row v u at e other f.within mine) (k.each i u e)
 
   -- a step that changes no word, and nothing of the view that counts rows
-  unmoved : (s : State S View) (k : Rule s) (i id : ℕ) (cs : List (ℕ × S)) (v w : View) → get_elem? s.views id ≡ some v → w.splits ≡ v.splits → w.draws ≡ v.draws → w.part.drawn ≡ v.part.drawn → w.part.mine ≡ v.part.mine → w.part.full ≡ v.part.full → FitsWords m (rows_of s) s.words w
+  unmoved : (s : State S View) (k : Rule s) (i id : ℕ) (cs : List (ℕ × S)) (v w : View) → get_elem? s.views id ≡ some v → w.splits ≡ v.splits → w.draws ≡ v.draws → w.part.drawn ≡ v.part.drawn → w.part.mine ≡ v.part.mine → w.part.full ≡ v.part.full → FitsRowWords m (rows_of s) s.words w
       → Rule (stepped s i (get_or s.words i 0) id cs w keeps)
   unmoved s k i id cs v w at splits draws_ drawn mine full fits = subst (λ (ws : List ℕ). Rule record { words = ws; homes = s.homes; views = set s.views id w }) (sym (set-get_or s.words i 0)) record {
     wide = k.wide;
@@ -150,7 +150,7 @@ module _ {S : Type 0} (m : CpModel) where
         let now : get_or ws' 0 0 ≡ c + 1 = get_or-set_same s.words 0 ((c + 1) % 2 ^ 64) 0 (omega arith) ∙ up in
         let a : Away n s.words ws' = away_claim s.words n ((c + 1) % 2 ^ 64) in
         let past_end : gate s.words n ≡ 0 = beyond s.words (row_words * n + 1) (omega arith) in
-        let others : (i : ℕ) (u : View) → i ≢ id → get_elem? s.views i ≡ some u → FitsWords m n ws' u = λ i u _ e. let g = k.each i u e in fits_kept m n s.words ws' n u a past_end (λ q. let h = (g.drawn n q).within in absurd (omega arith)) g in
+        let others : (i : ℕ) (u : View) → i ≢ id → get_elem? s.views i ≡ some u → FitsRowWords m n ws' u = λ i u _ e. let g = k.each i u e in fits_kept m n s.words ws' n u a past_end (λ q. let h = (g.drawn n q).within in absurd (omega arith)) g in
         let open_ : (row : ℕ) → row < n → gate ws' row ≢ 0 → gate s.words row ≢ 0 = λ row l g. let q = a.gates row (λ e. absurd (omega arith)) in λ z. g (q ∙ z) in
         let sound : (row : ℕ) → row < n → gate ws' row ≢ 0 → HasSound m n ws' row = λ row l g. sound_kept m n s.words ws' n row a past_end (λ e. absurd (omega arith)) (k.sound row l (open_ row l g)) in
         let claimed : (row : ℕ) → row < n → gate ws' row ≢ 0 → row < get_or ws' 0 0 = λ row l g. let h = k.claimed row l (open_ row l g) in omega arith in
@@ -338,7 +338,7 @@ module _ {S : Type 0} (m : CpModel) where
         sound = k.sound;
         claimed = k.claimed;
         each = λ i u e. ⊎_elim (all_fit m (rows_of s) s.views id a s.words s.words (record { model = λ _. q; idle = λ z. absurd (omega arith); drawn = f.drawn; mine = f.mine; taken = f.taken }) (λ j x _ h. k.each j x h) i u)
-            (λ (t : b ≡ u). subst (λ (z : View). FitsWords m (rows_of s) s.words z) t (record { model = λ _. q; idle = λ z. absurd (omega arith); drawn = λ row h. absurd (not_none row h); mine = λ j x h. absurd (some-ne-none x (sym h)); taken = f.taken })) (at_snoc vs b u i e);
+            (λ (t : b ≡ u). subst (λ (z : View). FitsRowWords m (rows_of s) s.words z) t (record { model = λ _. q; idle = λ z. absurd (omega arith); drawn = λ row h. absurd (not_none row h); mine = λ j x h. absurd (some-ne-none x (sym h)); taken = f.taken })) (at_snoc vs b u i e);
       }
 
   pub joins : (id : ℕ) (v : View) (other : ℕ) (w : View) → 0 < v.splits → w.part.drawn ≡ None → Joins Rule id v other w (joined v w) spent
@@ -374,7 +374,7 @@ module _ {S : Type 0} (m : CpModel) where
     owned = λ row l. let z = zeros (row_words * rows + 1) 0 in let e = one_not_below row (get_or {A = ℕ} (replicate (row_words * rows + 1) 0) 0 0) (omega arith) in omega arith;
     sound = λ row l g. absurd (g (zeros (row_words * rows + 1) (row_words * row + 1)));
     claimed = λ row l g. absurd (g (zeros (row_words * rows + 1) (row_words * row + 1)));
-    each = λ i v e. ⊎_elim (λ h. absurd (some-ne-none v (sym h))) (λ (t : first_view m ≡ v). subst (λ (z : View). FitsWords m (length (map some xs)) (replicate (row_words * rows + 1) 0) z) t
+    each = λ i v e. ⊎_elim (λ h. absurd (some-ne-none v (sym h))) (λ (t : first_view m ≡ v). subst (λ (z : View). FitsRowWords m (length (map some xs)) (replicate (row_words * rows + 1) 0) z) t
         (record { model = λ _. refl; idle = λ _. refl; drawn = λ row h. absurd (not_none row h); mine = λ j x h. absurd (some-ne-none x (sym h)); taken = λ row x h. absurd (some-ne-none x (sym h)) })) (at_snoc [] (first_view m) v i e);
   }
 

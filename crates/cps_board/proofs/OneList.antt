@@ -7,7 +7,7 @@ use Rattle.cps_model.specs.declared.model.CpModel.{CpModel}
 use Rattle.cps_port.specs.declared.entry.Entry.{Entry}
 use Rattle.cps_port.specs.Entries.{IsSoundEntry}
 use Rattle.cps_board.specs.declared.view.View.{View}
-use Rattle.cps_board.specs.Rows.{IsOpen, Kept}
+use Rattle.cps_board.specs.Rows.{IsOpen, KeptRows}
 use Rattle.cps_board.specs.OneList.{TakesOneList, TakesSoundEntries}
 use Rattle.cps_board.proofs.Keeps.{one_entry}
 
@@ -20,7 +20,7 @@ beginning (x ∷ xs) (y ∷ ys) agree l =
     ∙ ap (λ (zs : List Entry). x ∷ zs) (beginning xs ys (λ row a b g h. agree (suc row) a b g h) (omega arith))
 
 -- what a seat took stands in an open row
-taken_open : (m : CpModel) (s : State (Unit {0}) View) (i row : ℕ) (v : View) (e : Entry) → Kept m s → get_elem? s.views i ≡ some v → get_elem? v.part.taken row ≡ some e → IsOpen (length s.homes) s.words row e
+taken_open : (m : CpModel) (s : State (Unit {0}) View) (i row : ℕ) (v : View) (e : Entry) → KeptRows m s → get_elem? s.views i ≡ some v → get_elem? v.part.taken row ≡ some e → IsOpen (length s.homes) s.words row e
 taken_open m s i row v e k at g = let f = k.each i v at in f.taken row e g
 
 pub takes_one_list : TakesOneList

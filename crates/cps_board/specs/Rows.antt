@@ -60,7 +60,7 @@ abbrev pub past : View → ℕ
 past v = if v.part.full then v.splits else 0
 
 -- what a seat knows of the words, of n rows
-pub record FitsWords (m : CpModel) (n : ℕ) (ws : List ℕ) (v : View) : Type 0 where
+pub record FitsRowWords (m : CpModel) (n : ℕ) (ws : List ℕ) (v : View) : Type 0 where
   pub model : 0 < v.splits → v.model ≡ Some m
   -- a seat without splits has drawn nothing
   pub idle : v.splits ≡ 0 → v.draws ≡ 0
@@ -73,7 +73,7 @@ pub record FitsWords (m : CpModel) (n : ℕ) (ws : List ℕ) (v : View) : Type 0
 abbrev pub HasSound : CpModel → ℕ → List ℕ → ℕ → Type 0
 HasSound m n ws row = (e : Entry) × IsOpen n ws row e × IsSoundEntry m e
 
-pub record Kept {S : Type 0} (m : CpModel) (s : State S View) : Type 0 where
+pub record KeptRows {S : Type 0} (m : CpModel) (s : State S View) : Type 0 where
   pub wide : length s.words ≡ row_words * length s.homes + 1
   pub splits : total (λ (v : View). v.splits) s.views ≡ all_splits
   -- each seat draws at most once past the last row
@@ -83,7 +83,7 @@ pub record Kept {S : Type 0} (m : CpModel) (s : State S View) : Type 0 where
   pub owned : (row : ℕ) → row < length s.homes → total (owns row) s.views ≡ one_if (nat_lt row (slice_index s.words 0))
   pub sound : (row : ℕ) → row < length s.homes → gate s.words row ≢ 0 → HasSound m (length s.homes) s.words row
   pub claimed : (row : ℕ) → row < length s.homes → gate s.words row ≢ 0 → row < slice_index s.words 0
-  pub each : (i : ℕ) (v : View) → get_elem? s.views i ≡ some v → FitsWords m (length s.homes) s.words v
+  pub each : (i : ℕ) (v : View) → get_elem? s.views i ≡ some v → FitsRowWords m (length s.homes) s.words v
 
 abbrev pub first_view : CpModel → View
 first_view m = record { model = Some m; splits = all_splits; draws = 0; written = []; part = no_rows }
@@ -135,15 +135,15 @@ drawing v p = record v { draws = v.draws + 1; written = []; part = p }
 abbrev pub filling : View → List ℕ → View
 filling v words = record v { written = words }
 
-abbrev pub OfModel : View → (CpModel → Type 0) → Type 0
-OfModel v fact = (m : CpModel) → v.model ≡ Some m → fact m
+abbrev pub OfBoardModel : View → (CpModel → Type 0) → Type 0
+OfBoardModel v fact = (m : CpModel) → v.model ≡ Some m → fact m
 
 -- what a look at an open row tells of its entry
 pub record Took (v : View) (e : Entry) : Type 0 where
   pub next : e.row ≡ length v.part.taken
   pub coded : IsCodedEntry e
   pub own : OwnEntry v.part (length v.part.taken) (λ d. d ≡ e)
-  pub sound : OfModel v (λ m. IsSoundEntry m e)
+  pub sound : OfBoardModel v (λ m. IsSoundEntry m e)
 
 module _ {S : Type 0} where
   -- there are as many rows as slots

@@ -25,6 +25,6 @@ abbrev pub draws_of : BoardSeat → ℕ
 draws_of s = s.seat.me.0.draws
 
 -- a seat of this board, and so of its model
-abbrev pub IsSeatOf : Board → BoardSeat → Type 0
-IsSeatOf b s = (s.seat.table_id ≡ b.table.shared.table_id) × (s.seat.me.0.model ≡ Some b.table.shared.key)
+abbrev pub IsBoardSeatOf : Board → BoardSeat → Type 0
+IsBoardSeatOf b s = (s.seat.table_id ≡ b.table.shared.table_id) × (s.seat.me.0.model ≡ Some b.table.shared.key)
     × (length s.seat.me.0.part.taken ≤ b.rows)

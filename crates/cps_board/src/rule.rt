@@ -7,9 +7,9 @@ use cps_validate::ValidModel;
 pub struct OpenRows;
 
 impl TableRule<(), View, ValidModel> for OpenRows {
-    ghost use Rattle.cps_board.specs.Rows.{Kept, first_view};
+    ghost use Rattle.cps_board.specs.Rows.{KeptRows, first_view};
 
-    ghost holds = { Kept };
+    ghost holds = { KeptRows };
 
     ghost first = { first_view };
 }

@@ -11,7 +11,7 @@ ghost use Rattle.cps_port.specs.Entries.{most_rows, IsShareable};
 ghost use Rattle.cps_port.specs.Parts.{no_rows};
 ghost use Rattle.cps_port.specs.Says.{ShareSays, TakeSays};
 ghost use Rattle.cps_board.specs.Rows.{all_splits, newly, both_parts};
-ghost use Rattle.cps_board.specs.Seats.{model_of, rows_of, part_of, splits_of, draws_of, IsSeatOf};
+ghost use Rattle.cps_board.specs.Seats.{model_of, rows_of, part_of, splits_of, draws_of, IsBoardSeatOf};
 
 use crate::plays::{Both, Draw, Halves, Look};
 use crate::row::{ROW_WORDS, fill, read_row};
@@ -42,7 +42,7 @@ impl Board {
     ) -> Result<(Board, BoardSeat), AllocError>
         requires { (1 ≤ rows) × (rows ≤ most_rows) }
         ensures board { IfOk result (λ t. (model_of t.0 ≡ model.now) × (rows_of t.0 ≡ rows)) }
-        ensures seat { IfOk result (λ t. IsSeatOf t.0 t.1 × (part_of t.1 ≡ no_rows)) }
+        ensures seat { IfOk result (λ t. IsBoardSeatOf t.0 t.1 × (part_of t.1 ≡ no_rows)) }
         ensures splits { IfOk result (λ t. (splits_of t.1 ≡ all_splits) × (draws_of t.1 ≡ 0)) }
     {
         // Reading the model gives the proof its invariant: the model keeps every rule.
@@ -65,11 +65,11 @@ impl Board {
 
     /// Puts a clause into a row of its own, and opens the row. `Full` if no row is left, now or at an earlier call.
     pub fn share(&self, seat: &mut BoardSeat, below: Bound, clause: &[Atom]) -> Share
-        requires own { IsSeatOf self.now seat.old }
+        requires own { IsBoardSeatOf self.now seat.old }
         requires clause { IsShareable (model_of self.now) clause.now }
         requires holds { HoldsBelow (model_of self.now) below clause.now }
         requires incumbent { IsIncumbent (model_of self.now) below }
-        ensures own { IsSeatOf self.now seat.new × (splits_of seat.new ≡ splits_of seat.old) }
+        ensures own { IsBoardSeatOf self.now seat.new × (splits_of seat.new ≡ splits_of seat.old) }
         ensures said { ShareSays (rows_of self.now) below clause.now (part_of seat.old) (part_of seat.new) result }
         ensures draws { draws_of seat.new
             ≡ (if (part_of seat.old).full then draws_of seat.old else draws_of seat.old + 1) }
@@ -89,8 +89,8 @@ impl Board {
 
     /// The entry of the first row that this seat has not taken, its own rows among them.
     pub fn take(&self, seat: &mut BoardSeat) -> Taken
-        requires { IsSeatOf self.now seat.old }
-        ensures own { IsSeatOf self.now seat.new × (splits_of seat.new ≡ splits_of seat.old)
+        requires { IsBoardSeatOf self.now seat.old }
+        ensures own { IsBoardSeatOf self.now seat.new × (splits_of seat.new ≡ splits_of seat.old)
             × (draws_of seat.new ≡ draws_of seat.old) }
         ensures said { TakeSays (model_of self.now) (rows_of self.now) (part_of seat.old) (part_of seat.new) result }
         ensures misses { result ≡ Taken.NotYet → (part_of seat.new).misses ≡ (part_of seat.old).misses + 1 }
@@ -111,11 +111,11 @@ impl Board {
 
     /// Gives half of the splits to a new seat, which took what this one took, and has published nothing.
     pub fn split(&self, seat: &mut BoardSeat) -> BoardSeat
-        requires own { IsSeatOf self.now seat.old }
+        requires own { IsBoardSeatOf self.now seat.old }
         requires room { 2 ≤ splits_of seat.old }
-        ensures kept { IsSeatOf self.now seat.new × (part_of seat.new ≡ part_of seat.old)
+        ensures kept { IsBoardSeatOf self.now seat.new × (part_of seat.new ≡ part_of seat.old)
             × (draws_of seat.new ≡ draws_of seat.old) }
-        ensures given { IsSeatOf self.now result × (part_of result ≡ newly (part_of seat.old)) × (draws_of result ≡ 0) }
+        ensures given { IsBoardSeatOf self.now result × (part_of result ≡ newly (part_of seat.old)) × (draws_of result ≡ 0) }
         ensures splits { (splits_of result ≡ splits_of seat.old / 2)
             × (splits_of seat.new ≡ splits_of seat.old - splits_of seat.old / 2) }
     {
@@ -132,9 +132,9 @@ impl Board {
 
     /// Takes over what another seat has and knows; the other seat is gone.
     pub fn join(&self, seat: &mut BoardSeat, other: BoardSeat)
-        requires own { IsSeatOf self.now seat.old }
-        requires other { IsSeatOf self.now other }
-        ensures own { IsSeatOf self.now seat.new }
+        requires own { IsBoardSeatOf self.now seat.old }
+        requires other { IsBoardSeatOf self.now other }
+        ensures own { IsBoardSeatOf self.now seat.new }
         ensures part { part_of seat.new ≡ both_parts (part_of seat.old) (part_of other) }
         ensures splits { splits_of seat.new ≡ min (splits_of seat.old + splits_of other) all_splits }
         ensures draws { draws_of seat.new ≡ draws_of seat.old + draws_of other }
@@ -154,7 +154,7 @@ impl Board {
     /// How many rows were drawn, with the draws past the last row, no fewer than the seat drew or took. A seat with all
     /// splits knows it.
     pub fn close(self, seat: BoardSeat) -> u64
-        requires { IsSeatOf self seat }
+        requires { IsBoardSeatOf self seat }
         ensures at_most { result ≤ rows_of self + all_splits }
         ensures drawn { draws_of seat ≤ result }
         ensures taken { length (part_of seat).taken ≤ result }

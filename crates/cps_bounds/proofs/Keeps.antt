@@ -18,7 +18,7 @@ use Rattle.cps_port.proofs.Bounding.{BoundLe-refl, BoundLe-trans, IsNoLower-tran
 use Rattle.cps_port.proofs.Places.{here, one_there, nothing, total_set, total_snoc, total_two}
 use Rattle.cps_bounds.specs.declared.view.View.{View}
 use Rattle.cps_port.specs.Words.{top, value_word, word_of, raise_word, bound_of, HasWord, HasWords}
-use Rattle.cps_bounds.specs.Rule.{all_splits, least, greatest, FitsWords, Kept, first_view, spent, kept_half, given_half, joined, with_part, OfModel, upper_seen, lower_seen, value_offered, bound_raised}
+use Rattle.cps_bounds.specs.Rule.{all_splits, least, greatest, FitsWords, KeptWords, first_view, spent, kept_half, given_half, joined, with_part, OfModel, upper_seen, lower_seen, value_offered, bound_raised}
 use Rattle.cps_port.proofs.InOrder.{word_of-bound_of, word_of-lesser, word_of-raised_above, raise_word-raised_to, raise_word-greater_of, raise_fits, has_word_infinite, has_word_of, has_words-raised_to, has_words-greater_of, has_word-raised_above, no_lower-greater_of, bound_of-grows}
 use Rattle.cps_bounds.proofs.Folds.{least_top, least_at, below_least, least_set, least_snoc, least_spent, greatest_base, greatest_at, greatest_below, greatest_set, greatest_snoc, greatest_spent}
 
@@ -80,7 +80,7 @@ module _ (m : CpModel) where
 
 module _ {S : Type 0} (m : CpModel) where
   abbrev Rule : State S View → Type 0
-  Rule = Kept m
+  Rule = KeptWords m
 
   -- a step of one seat, after which the upper word is the lesser of itself and k, and the lower word the greater of itself and j
   moved : (s : State S View) (r : Rule s) (id i n : ℕ) (cs : List (ℕ × S)) (v w : View) (u l k j : ℕ) → set s.words i n ≡ u ∷ l ∷ [] → get_elem? s.views id ≡ some v → w.model ≡ v.model → w.splits ≡ v.splits

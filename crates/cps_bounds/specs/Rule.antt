@@ -39,7 +39,7 @@ pub record FitsWords (m : CpModel) (u l : ℕ) (v : View) : Type 0 where
   pub upper : BoundLe (bound_of u) v.part.saw_upper
   pub lower : IsNoLower v.part.saw_lower (bound_of l)
 
-pub record Kept {S : Type 0} (m : CpModel) (s : State S View) : Type 0 where
+pub record KeptWords {S : Type 0} (m : CpModel) (s : State S View) : Type 0 where
   pub upper : ℕ
   pub lower : ℕ
   pub words : s.words ≡ upper ∷ lower ∷ []

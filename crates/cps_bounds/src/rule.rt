@@ -7,9 +7,9 @@ use cps_validate::ValidModel;
 pub struct TwoBounds;
 
 impl TableRule<(), View, ValidModel> for TwoBounds {
-    ghost use Rattle.cps_bounds.specs.Rule.{Kept, first_view};
+    ghost use Rattle.cps_bounds.specs.Rule.{KeptWords, first_view};
 
-    ghost holds = { Kept };
+    ghost holds = { KeptWords };
 
     ghost first = { first_view };
 }

@@ -12,7 +12,7 @@ use Rattle.cps_branch.specs.Luby.{Pace}
 use Rattle.cps_branch.specs.Fixed.{IsFixedAfter, IsFixed, AreFixed}
 use Rattle.cps_branch.specs.Choice.{IsMostActive}
 use Rattle.cps_branch.specs.Tournament.{AreWon, HaveActivities, IsAheadOf, stands_at}
-use Rattle.cps_branch.specs.SetAside.{AreAllFixed, AreFixedAside, IsAside, IsMostActiveIn, IsRanking, IsTournament, Leads, NonePlays, PutsBack, SameActivities, SameAside, SetsAside, aside_at, aside_of, size_of}
+use Rattle.cps_branch.specs.SetAside.{AreAllFixed, AreFixedAside, IsAside, IsMostActiveIn, IsRanking, IsTournament, LeadsInPlay, NonePlays, PutsBack, SameActivities, SameAside, SetsAside, aside_at, aside_of, size_of}
 use Rattle.cps_branch.proofs.Fixing.{fixed-later, fixed-more, fixed-whole}
 use Rattle.cps_branch.proofs.Leading.{most_active}
 use Rattle.cps_branch.proofs.Playing.{count_fewer, count_less, count_more, count_same, stands_for, top_leads}
@@ -128,10 +128,10 @@ begun n nodes aside none size won each = record {
 }
 
 -- there is room for one more aside where a variable is in play
-pub room_aside : (n v : ℕ) (nodes : List Contender) (aside : List Aside) → IsTournament n nodes aside → Leads n nodes v → length aside < n
+pub room_aside : (n v : ℕ) (nodes : List Contender) (aside : List Aside) → IsTournament n nodes aside → LeadsInPlay n nodes v → length aside < n
 room_aside n v nodes aside h leads = omega (arith, h.room, count_less (λ i. (stands_at nodes (n + i)).in_play) n v leads.within leads.plays)
 
-pub top_room : (r : Ranking) (v : ℕ) → IsRanking r → Leads (size_of r) r.nodes.items v → r.out < size_of r
+pub top_room : (r : Ranking) (v : ℕ) → IsRanking r → LeadsInPlay (size_of r) r.nodes.items v → r.out < size_of r
 top_room r v h leads = omega (arith, room_aside (size_of r) v r.nodes.items (aside_of r) h.tournament leads, length-take-le r.out r.aside.items h.within)
 
 -- one more is aside
@@ -160,7 +160,7 @@ module _ (old new : Ranking) (v : ℕ) (h : IsRanking old) (same_length : length
             (refreshed (size_of old) v old.nodes.items new.nodes.items same_length won others (aside_of old) activity h.tournament here));
       }
 
-  pub one_aside_more : (after activity : ℕ) → Leads (size_of old) old.nodes.items v → new.aside.items ≡ set old.aside.items old.out (record { variable = v; after = after }) → new.out ≡ old.out + 1
+  pub one_aside_more : (after activity : ℕ) → LeadsInPlay (size_of old) old.nodes.items v → new.aside.items ≡ set old.aside.items old.out (record { variable = v; after = after }) → new.out ≡ old.out + 1
       → stands_at new.nodes.items (size_of old + v) ≡ record { variable = v; activity = activity; in_play = false } → IsRanking new
   one_aside_more after activity leads aside out here =
       let count : size_of new ≡ size_of old = ap (λ (xs : List Aside). length xs) aside ∙ length-set old.aside.items old.out (one_of v after) in
@@ -194,11 +194,11 @@ none_plays n nodes aside some h off i l = elim (bool_cases (stands_at nodes (n +
 ]
 
 -- else it is ahead of all
-pub top_is_first : (n : ℕ) (nodes : List Contender) (aside : List Aside) → 1 ≤ n → IsTournament n nodes aside → (stands_at nodes 1).in_play ≡ true → Leads n nodes (stands_at nodes 1).variable
+pub top_is_first : (n : ℕ) (nodes : List Contender) (aside : List Aside) → 1 ≤ n → IsTournament n nodes aside → (stands_at nodes 1).in_play ≡ true → LeadsInPlay n nodes (stands_at nodes 1).variable
 top_is_first n nodes aside some h on =
     let top = stands_for n nodes 1 h.won (omega arith) (omega arith) in
     let e : (stands_at nodes 1).variable ≡ top.variable = ap (λ (c : Contender). c.variable) top.is ∙ h.variables top.variable top.within in
-    subst (λ (v : ℕ). Leads n nodes v) (sym e) (record {
+    subst (λ (v : ℕ). LeadsInPlay n nodes v) (sym e) (record {
       within = top.within;
       plays = ap (λ (c : Contender). c.in_play) (sym top.is) ∙ on;
       ahead = λ i l. subst (λ (c : Contender). IsAheadOf c (stands_at nodes (n + i))) top.is (top_leads n nodes (n + i) h.won (omega arith) (omega arith));
@@ -213,7 +213,7 @@ out_fixed n nodes aside s i h fixed l off =
 pub none_open : (n : ℕ) (nodes : List Contender) (aside : List Aside) (s : Trail) → IsTournament n nodes aside → AreAllFixed s aside → NonePlays n nodes → AreFixed s n
 none_open n nodes aside s h fixed none i l = out_fixed n nodes aside s i h fixed l (none i l)
 
-pub leader_most : (n v : ℕ) (nodes : List Contender) (aside : List Aside) (s : Trail) (activities : List ℕ) → IsTournament n nodes aside → AreAllFixed s aside → Leads n nodes v → (IsFixed s v → ⊥) → length activities ≡ n → HaveActivities activities nodes
+pub leader_most : (n v : ℕ) (nodes : List Contender) (aside : List Aside) (s : Trail) (activities : List ℕ) → IsTournament n nodes aside → AreAllFixed s aside → LeadsInPlay n nodes v → (IsFixed s v → ⊥) → length activities ≡ n → HaveActivities activities nodes
     → IsMostActive activities s v
 leader_most n v nodes aside s activities h fixed leads open_now count have =
     most_active activities s v (omega (arith, leads.within, count)) open_now (λ j l.

@@ -5,7 +5,7 @@ use Rattle.cps_trail.specs.Trail.{Domains, Entry, Trail, admits}
 use Rattle.cps_trail.proofs.Laws.{admits-append}
 use Rattle.cps_branch.specs.Fixed.{IsFixedAfter, IsFixed}
 use Rattle.cps_branch.specs.Scope.{AreFixedAfter}
-use Rattle.cps_branch.specs.Noting.{Forgets, Notes}
+use Rattle.cps_branch.specs.Noting.{ForgetsCounts, Notes}
 
 -- what is admitted after more entries is so after fewer
 pub admits-fewer : (first : Domains) (es : List Entry) (n i : ℕ) (x : ℤ) → admits first es i x ≡ true → admits first (take n es) i x ≡ true
@@ -21,7 +21,7 @@ pub fixed-whole : (first : Domains) (es : List Entry) (i : ℕ) → IsFixedAfter
 fixed-whole first es i f = subst (λ fs. IsFixedAfter first fs i) (sym (take_all (length es) es (omega arith))) f
 
 -- what is seen after a scan up to a place
-pub seen_after : (order : List ℕ) (n kept place : ℕ) (olds keeps news : List ℕ) (s : Trail) → Forgets kept olds keeps → Notes place (length s.entries) keeps news → AreFixedAfter order n olds s kept
+pub seen_after : (order : List ℕ) (n kept place : ℕ) (olds keeps news : List ℕ) (s : Trail) → ForgetsCounts kept olds keeps → Notes place (length s.entries) keeps news → AreFixedAfter order n olds s kept
     → ((j : ℕ) → j < place → IsFixed s (get_or order j 0)) → AreFixedAfter order n news s (length s.entries)
 seen_after order n kept place olds keeps news s forgets notes agrees fixed pos i j li c lj jn = elim (nat_cases i (length keeps)) [
   | inl l ↦ elim (nat_cases kept (get_or olds i 0)) [
@@ -50,7 +50,7 @@ nat_cases a b = grind arith
 
 -- a scan from the places that are known on
 pub all_before : (order : List ℕ) (n kept place known : ℕ) (olds keeps items : List ℕ) (s : Trail)
-    → Forgets kept olds keeps → AreFixedAfter order n olds s kept → keeps ≡ take known items → known ≤ length items → ((i : ℕ) → i < place → get_or order i 0 < n)
+    → ForgetsCounts kept olds keeps → AreFixedAfter order n olds s kept → keeps ≡ take known items → known ≤ length items → ((i : ℕ) → i < place → get_or order i 0 < n)
     → ((i : ℕ) → known ≤ i → i < place → IsFixed s (get_or order i 0)) → (i : ℕ) → i < place → IsFixed s (get_or order i 0)
 all_before order n kept place known olds keeps items s forgets agrees e within high scan i l = elim (nat_cases i known) [
   | inl below ↦ fixed-later s.first s.entries kept (get_or order i 0)
@@ -60,7 +60,7 @@ all_before order n kept place known olds keeps items s forgets agrees e within h
 
 -- counts up to one that is at most `kept`
 pub forgets_to : (kept known r : ℕ) (olds items : List ℕ) → olds ≡ take known items → known ≤ length items → r ≤ known
-    → (0 < r → 0 < kept) → (0 < r → get_or items (r - 1) 0 ≤ kept) → Forgets kept olds (take r items)
+    → (0 < r → 0 < kept) → (0 < r → get_or items (r - 1) 0 ≤ kept) → ForgetsCounts kept olds (take r items)
 forgets_to kept known r olds items e within fewer some last = record {
   front = sym (ap (λ k. take k olds) length_is ∙ ap (take r) e ∙ take-take r known items fewer);
   fixed = λ order n s agrees j l jn.

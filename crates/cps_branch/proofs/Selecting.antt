@@ -14,10 +14,10 @@ use Rattle.cps_literal.specs.declared.atom.Op.TheVariants.{Le, Ge, Eq}
 use Rattle.cps_trail.specs.Trail.{Trail}
 use Rattle.cps_branch.specs.Fixed.{IsFixed}
 use Rattle.cps_branch.specs.Choice.{IsUndecided}
-use Rattle.cps_branch.specs.Strategies.{Admits, IsLeast, IsGreatest, IsMedian, Selects}
+use Rattle.cps_branch.specs.Strategies.{Admits, IsLeast, IsGreatestValue, IsMedian, Selects}
 
 -- the ends of a subject that is not fixed lie apart
-pub apart : (s : Trail) (i : ℕ) (low high : ℤ) → IsLeast s i low → IsGreatest s i high → (IsFixed s i → ⊥) → low <ℤ high
+pub apart : (s : Trail) (i : ℕ) (low high : ℤ) → IsLeast s i low → IsGreatestValue s i high → (IsFixed s i → ⊥) → low <ℤ high
 apart s i low high l h open_now = by_lt_z low high (λ a. a) (λ b. absurd (open_now (λ x y p q. let a = l.least x p in let c = l.least y q in let d = h.greatest x p in let e = h.greatest y q in omega (arith, ints))))
 
 -- the floor of the middle between two numbers
@@ -40,14 +40,14 @@ middle_low low high m h f = let b = (f.positive (omega (arith, ints))).1 in omeg
 middle_high : (low high m : ℤ) → low <ℤ high → IsFloor (low +ℤ high) (pos 2) m → m <ℤ high
 middle_high low high m h f = let b = (f.positive (omega (arith, ints))).0 in omega (arith, ints)
 
-undecided_le : (s : Trail) (i : ℕ) (low high v : ℤ) → i < length s.first → IsLeast s i low → IsGreatest s i high → low ≤ℤ v → v <ℤ high → IsUndecided s (record { subject = i; op = Le; value = v })
+undecided_le : (s : Trail) (i : ℕ) (low high v : ℤ) → i < length s.first → IsLeast s i low → IsGreatestValue s i high → low ≤ℤ v → v <ℤ high → IsUndecided s (record { subject = i; op = Le; value = v })
 undecided_le s i low high v l p q a b = record {
   subject = l;
   not_true = λ h. true≢false (sym (h high q.value) ∙ le_false high v b);
   not_false = λ h. true≢false (sym (le_true low v a) ∙ h low p.value);
 }
 
-undecided_ge : (s : Trail) (i : ℕ) (low high v : ℤ) → i < length s.first → IsLeast s i low → IsGreatest s i high → low <ℤ v → v ≤ℤ high → IsUndecided s (record { subject = i; op = Ge; value = v })
+undecided_ge : (s : Trail) (i : ℕ) (low high v : ℤ) → i < length s.first → IsLeast s i low → IsGreatestValue s i high → low <ℤ v → v ≤ℤ high → IsUndecided s (record { subject = i; op = Ge; value = v })
 undecided_ge s i low high v l p q a b = record {
   subject = l;
   not_true = λ h. true≢false (sym (h low p.value) ∙ le_false v low a);
@@ -69,7 +69,7 @@ pub record HasEnds (s : Trail) (i : ℕ) : Type 0 where
   pub low : ℤ
   pub high : ℤ
   pub is_low : IsLeast s i low
-  pub is_high : IsGreatest s i high
+  pub is_high : IsGreatestValue s i high
 
 median_value : (s : Trail) (i : ℕ) (v : ℤ) (e : HasEnds s i) → IsMedian s i v → Admits s i v
 median_value s i v e m =

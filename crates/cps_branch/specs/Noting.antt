@@ -5,7 +5,7 @@ use Rattle.cps_branch.specs.Fixed.{IsFixedAfter}
 use Rattle.cps_branch.specs.Scope.{AreFixedAfter}
 
 -- the first counts stay, and the first entries fix the subjects at their places, whatever the order
-pub record Forgets (kept : ℕ) (old new : List ℕ) : Type 0 where
+pub record ForgetsCounts (kept : ℕ) (old new : List ℕ) : Type 0 where
   pub front : new ≡ take (length new) old
   pub fixed : (order : List ℕ) (n : ℕ) (s : Trail) → AreFixedAfter order n old s kept → (j : ℕ) → j < length new
       → slice_index order j < n → IsFixedAfter s.first (take kept s.entries) (slice_index order j)

@@ -74,7 +74,7 @@ SameActivities n old new = (i : ℕ) → i < n
     → (stands_at new.nodes.items (n + i)).activity ≡ (stands_at old.nodes.items (n + i)).activity
 
 -- of n variables this one is in play, and ahead of each
-pub record Leads (n : ℕ) (nodes : List Contender) (variable : ℕ) : Type 0 where
+pub record LeadsInPlay (n : ℕ) (nodes : List Contender) (variable : ℕ) : Type 0 where
   pub within : variable < n
   pub plays : (stands_at nodes (n + variable)).in_play ≡ true
   pub ahead : (i : ℕ) → i < n → IsAheadOf (stands_at nodes (n + variable)) (stands_at nodes (n + i))

@@ -23,7 +23,7 @@ pub record IsLeast (s : Trail) (i : ℕ) (v : ℤ) : Type 0 where
   pub value : Admits s i v
   pub least : (x : ℤ) → Admits s i x → v ≤ℤ x
 
-pub record IsGreatest (s : Trail) (i : ℕ) (v : ℤ) : Type 0 where
+pub record IsGreatestValue (s : Trail) (i : ℕ) (v : ℤ) : Type 0 where
   pub value : Admits s i v
   pub greatest : (x : ℤ) → Admits s i x → x ≤ℤ v
 
@@ -49,7 +49,7 @@ pub record IsMiddle (s : Trail) (i : ℕ) (m : ℤ) : Type 0 where
   pub low : ℤ
   pub high : ℤ
   pub is_low : IsLeast s i low
-  pub is_high : IsGreatest s i high
+  pub is_high : IsGreatestValue s i high
   pub floor : IsFloor (low +ℤ high) (pos 2) m
 
 -- of the values in rising order, numbered from 0, the one at half of the last number
@@ -63,7 +63,7 @@ pub record IsMedian (s : Trail) (i : ℕ) (v : ℤ) : Type 0 where
 abbrev pub IsRank : Choose → Trail → ℕ → ℤ → Type 0
 IsRank First s i r = r ≡ pos 0
 IsRank LowestMin s i r = IsLeast s i r
-IsRank HighestMax s i r = (v : ℤ) × (IsGreatest s i v × (r ≡ neg_ℤ v))
+IsRank HighestMax s i r = (v : ℤ) × (IsGreatestValue s i v × (r ≡ neg_ℤ v))
 IsRank MinDomainSize s i r = (n : ℕ) × (HasSize s i n × (r ≡ pos n))
 IsRank MaxDomainSize s i r = (n : ℕ) × (HasSize s i n × (r ≡ neg_ℤ (pos n)))
 
@@ -91,7 +91,7 @@ better_of best next = if int_le best.rank next.rank then best else next
 -- what is decided of a subject that was taken
 abbrev pub Selects : Select → Trail → Atom → Type 0
 Selects MinValue s t = (t.op ≡ Le) × IsLeast s t.subject t.value
-Selects MaxValue s t = (t.op ≡ Ge) × IsGreatest s t.subject t.value
+Selects MaxValue s t = (t.op ≡ Ge) × IsGreatestValue s t.subject t.value
 Selects LowerHalf s t = (t.op ≡ Le) × IsMiddle s t.subject t.value
 Selects UpperHalf s t = (t.op ≡ Ge) × ((m : ℤ) × (IsMiddle s t.subject m × (t.value ≡ m +ℤ pos 1)))
 Selects MedianValue s t = (t.op ≡ Eq) × IsMedian s t.subject t.value

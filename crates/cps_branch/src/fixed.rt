@@ -45,7 +45,7 @@ impl FixedBrancher {
     ghost use Rattle.std.specs.Prelude.{[]};
     ghost use Rattle.cps_branch.specs.Strategies.{order_in};
     ghost use Rattle.cps_branch.specs.Scope.{IsScopeOf};
-    ghost use Rattle.cps_branch.specs.Noting.{Forgets, Notes};
+    ghost use Rattle.cps_branch.specs.Noting.{ForgetsCounts, Notes};
 
     /// A brancher over the variables of an instance, with its strategies.
     pub fn of(alloc: Global, instance: &Instance) -> Result<Self, AllocError>
@@ -70,10 +70,10 @@ impl FixedBrancher {
         })
     }
 
-    /// Forgets the places that more than the first `kept` entries fixed.
+    /// ForgetsCounts the places that more than the first `kept` entries fixed.
     fn forget(&mut self, kept: usize)
         ensures plan { self.new.plan ≡ self.old.plan }
-        ensures forgets { Forgets kept self.old.fixed_after self.new.fixed_after }
+        ensures forgets { ForgetsCounts kept self.old.fixed_after self.new.fixed_after }
     {
         self.known = still_known(&self.fixed_after, self.known, kept);
     }

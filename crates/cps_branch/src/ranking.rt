@@ -9,7 +9,7 @@ ghost use Rattle.std.specs.Prelude.{ℕ, ◌≡◌, ◌↔◌, ◌⊎◌, ◌+�
 ghost use Rattle.cps_branch.specs.Activities.{speaks_of};
 ghost use Rattle.cps_branch.specs.Fixed.{AreFixed};
 ghost use Rattle.cps_branch.specs.Tournament.{AreWon, HaveActivities, nobody, stands_at};
-ghost use Rattle.cps_branch.specs.SetAside.{AreAllFixed, IsMostActiveIn, IsRanking, Leads, NonePlays, PutsBack, SameActivities, SameAside, SetsAside, aside_at, aside_of, size_of};
+ghost use Rattle.cps_branch.specs.SetAside.{AreAllFixed, IsMostActiveIn, IsRanking, LeadsInPlay, NonePlays, PutsBack, SameActivities, SameAside, SetsAside, aside_at, aside_of, size_of};
 
 use crate::scan::is_fixed;
 use crate::tournament::{Contender, enter};
@@ -185,7 +185,7 @@ impl Ranking {
     fn top(&self) -> Option<u32>
         requires { IsRanking self.now }
         ensures none { IsNone result → NonePlays (size_of self.now) self.now.nodes.items }
-        ensures some { IfSome result (λ variable. Leads (size_of self.now) self.now.nodes.items variable) }
+        ensures some { IfSome result (λ variable. LeadsInPlay (size_of self.now) self.now.nodes.items variable) }
         ensures room { IfSome result (λ _. self.now.out < size_of self.now) }
     {
         let count = self.aside.len();
@@ -203,7 +203,7 @@ impl Ranking {
     /// Sets aside a variable that is in play and that was found fixed after `after` entries.
     fn set_aside(&mut self, variable: u32, after: usize)
         requires ranking { IsRanking self.old }
-        requires leads { Leads (size_of self.old) self.old.nodes.items variable }
+        requires leads { LeadsInPlay (size_of self.old) self.old.nodes.items variable }
         requires room { self.old.out < size_of self.old }
         ensures ranking { IsRanking self.new }
         ensures same { SameActivities (size_of self.old) self.old self.new }

@@ -8,7 +8,7 @@ ghost use Rattle.cps_domain.specs.Window.{IsRising, IsInterval, intervals, size_
 ghost use Rattle.cps_domain.specs.Division.{IsFloor};
 ghost use Rattle.cps_branch.specs.Fixed.{IsFixed};
 ghost use Rattle.cps_branch.specs.Choice.{IsUndecided};
-ghost use Rattle.cps_branch.specs.Strategies.{IsLeast, IsGreatest, HasSize, IsMiddle, IsMedian, IsRank, IsTaken, better_of, Selects, IsDone, FollowsStrategies, AreWithin, DecidesBy, listed, values_of};
+ghost use Rattle.cps_branch.specs.Strategies.{IsLeast, IsGreatestValue, HasSize, IsMiddle, IsMedian, IsRank, IsTaken, better_of, Selects, IsDone, FollowsStrategies, AreWithin, DecidesBy, listed, values_of};
 
 use crate::scan::is_fixed;
 use cps_domain::Domain;
@@ -36,7 +36,7 @@ fn least(store: &Store, subject: u32) -> i64
 /// The greatest value of a subject.
 fn greatest(store: &Store, subject: u32) -> i64
     requires { subject < length store.now.first }
-    ensures greatest { IsGreatest store.now subject result }
+    ensures greatest { IsGreatestValue store.now subject result }
     ensures high { result ≤ℤ pos (2 ^ 62 - 1) }
 {
     store.domain(subject).max()

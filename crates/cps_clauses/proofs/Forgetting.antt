@@ -14,9 +14,9 @@ use Rattle.cps_clauses.specs.declared.watch.Watcher.{Watcher}
 use Rattle.cps_clauses.specs.InForce.{is_dropped, IsNumberInForce, blanked, marked, emptied}
 use Rattle.cps_clauses.specs.Journals.{count_standing, standing_in, drops, IsHonest, IsStanding}
 use Rattle.cps_clauses.specs.Quiet.{IsQuiet, IsQuietAfter}
-use Rattle.cps_clauses.specs.Watches.{clause_of, slot_of, IsWatching, HasRoom, list_at}
+use Rattle.cps_clauses.specs.Watches.{clause_of, slot_of, IsWatching, HasWatchLists, list_at}
 use Rattle.cps_clauses.specs.Bases.{Base, IsSoundBase, IsStored, in_force_of, number_at}
-use Rattle.cps_clauses.specs.Forgets.{MayGo, GoesFirst, AreInTurn, Forgets, HasForgotten, IsNamed, without, learnt_clause, learnt_in_force}
+use Rattle.cps_clauses.specs.Forgets.{MayGo, GoesFirst, GoInOrder, Forgets, HasForgotten, IsNamed, without, learnt_clause, learnt_in_force}
 use Rattle.cps_clauses.proofs.Honesty.{IsHonest-push, standing_in-push}
 use Rattle.cps_clauses.proofs.Dropping.{all_held, at_held, blanked_dropped, blanked_kept, length-blanked, length-marked, marked_below, marked_keeps, marked_only}
 use Rattle.cps_clauses.proofs.Numbering.{unset, standing_in-drops, count_unset, numbered_in_force, numbered_dropped, number_of_some, emptied_is}
@@ -45,7 +45,7 @@ AllPairs-take R k xs h i j d l m =
     (subst (λ (y : ℕ). R (get_or xs i d) y) (sym (get_or-take k xs j d (omega (arith, m, short)))) (h i j d l (omega (arith, m, long))))
 
 -- of the clauses that may go, in turn, the first go until enough are left
-pub forgets_first : (b : Base) (s : Trail) (keep : ℕ) (order : List ℕ) → AreInTurn b.clauses b.dropped b.learnt s order → Forgets b s keep (take (learnt_in_force b - keep) order)
+pub forgets_first : (b : Base) (s : Trail) (keep : ℕ) (order : List ℕ) → GoInOrder b.clauses b.dropped b.learnt s order → Forgets b s keep (take (learnt_in_force b - keep) order)
 forgets_first b s keep order h =
     let k = learnt_in_force b - keep in
     let short = take_length (learnt_in_force b - keep) order in
@@ -130,7 +130,7 @@ stored_dropped b s keep which lists lists' attached standing h forgets watching 
     record {
       sound = IsSoundBase-dropped b s keep which h.sound forgets;
       watching = subst (λ (ks : List (List Atom)). IsWatching ks b.watched.watches attached (list_at lists')) (sym cs) watching;
-      room = subst (λ (ks : List (List Atom)). HasRoom ks (length lists')) (sym cs) (record {
+      room = subst (λ (ks : List (List Atom)). HasWatchLists ks (length lists')) (sym cs) (record {
         each = all_blanked (λ c. All (λ t. slot_of t < length lists') c) b.clauses (marked b.dropped (map (number_at b.learnt) which)) (λ i d l. absurd (omega (arith, l)))
             (All-weaker (λ c. All (λ t. slot_of t < length lists) c) (λ c. All (λ t. slot_of t < length lists') c) (λ c g. All-weaker (λ t. slot_of t < length lists) (λ t. slot_of t < length lists') (λ t l. omega (arith, l, room)) c g) b.clauses h.room.each);
       });

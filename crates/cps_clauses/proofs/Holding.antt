@@ -3,14 +3,14 @@ use Rattle.std.proofs.Common.{ℕ, ◌≤◌, ◌<◌, ◌≡◌, ◌⊎◌, Boo
 use Rattle.std.specs.List.{All}
 use Rattle.std.proofs.lemmas.List.{get_or_default}
 use Rattle.cps_literal.specs.declared.atom.Atom.{Atom}
-use Rattle.cps_trail.specs.Trail.{Domains, Entry, Trail, IsFalseNow, IsSound, up_to}
+use Rattle.cps_trail.specs.Trail.{Domains, Entry, Trail, IsFalseNow, IsSoundTrail, up_to}
 use Rattle.cps_trail.proofs.Marks.{up_to-all}
 use Rattle.cps_clauses.specs.declared.watch.Watch.{Watch}
 use Rattle.cps_clauses.specs.InForce.{is_dropped, in_force, IsNumberInForce}
 use Rattle.cps_clauses.specs.Conflicts.{IsConflictInForce}
 use Rattle.cps_clauses.specs.Quiet.{IsQuiet, IsQuietAfter, Fits}
-use Rattle.cps_clauses.specs.Watches.{clause_of, watch_of, IsGuarded, IsPair}
-use Rattle.cps_clauses.specs.Bases.{Base, IsInStep}
+use Rattle.cps_clauses.specs.Watches.{clause_of, watch_of, IsGuarded, IsWatchPair}
+use Rattle.cps_clauses.specs.Bases.{Base, IsBaseInStep}
 use Rattle.cps_clauses.specs.Settles.{AreGuarded, AreQuiet}
 use Rattle.cps_clauses.proofs.Guarding.{quiet_by_guard}
 use Rattle.cps_clauses.proofs.Dropping.{at_held, all_held, held_in}
@@ -33,7 +33,7 @@ quiet_by_number cs ds s below blank quiet = record {
 }
 
 -- and guarded where the base is in step
-pub guarded_by_step : (b : Base) (first : Domains) (es : List Entry) → ((j : ℕ) → is_dropped b.dropped j ≡ true → clause_of b.clauses j ≡ []) → IsInStep b first es → AreGuarded first es b.clauses b.watched.watches b.watched.settled
+pub guarded_by_step : (b : Base) (first : Domains) (es : List Entry) → ((j : ℕ) → is_dropped b.dropped j ≡ true → clause_of b.clauses j ≡ []) → IsBaseInStep b first es → AreGuarded first es b.clauses b.watched.watches b.watched.settled
 guarded_by_step b first es blank h level i l some = h.at level i l (some_held b.clauses b.dropped i blank (let w = h.within in omega (arith, l, w)) some)
 
 -- a guarded clause has an atom
@@ -49,14 +49,14 @@ below_or : (m n : ℕ) → (m < n) ⊎ (n ≤ m)
 below_or m n = grind arith
 
 -- each clause in force has an atom, where the base was in step and no clause added since is without
-pub all_some : (b : Base) (first : Domains) (es : List Entry) → IsInStep b first es → ((i : ℕ) → b.watched.settled ≤ i → IsNumberInForce b.clauses b.dropped i → 1 ≤ length (clause_of b.clauses i)) → (i : ℕ) → IsNumberInForce b.clauses b.dropped i → 1 ≤ length (clause_of b.clauses i)
+pub all_some : (b : Base) (first : Domains) (es : List Entry) → IsBaseInStep b first es → ((i : ℕ) → b.watched.settled ≤ i → IsNumberInForce b.clauses b.dropped i → 1 ≤ length (clause_of b.clauses i)) → (i : ℕ) → IsNumberInForce b.clauses b.dropped i → 1 ≤ length (clause_of b.clauses i)
 all_some b first es h later i held = elim (below_or i b.watched.settled) [
   | inl before ↦ guarded_some first (up_to 0 es) (clause_of b.clauses i) (watch_of b.watched.watches i) (h.at 0 i before held)
   | inr after ↦ later i after held
 ]
 
 -- once all clauses with atoms are guarded, those in force are quiet now
-pub quiet_now : (cs : List (List Atom)) (ds : List Bool) (ws : List Watch) (s : Trail) → IsSound s → All (Fits s.first) cs → ((i : ℕ) → i < length cs → IsPair (length (clause_of cs i)) (watch_of ws i)) → AreGuarded s.first s.entries cs ws (length cs)
+pub quiet_now : (cs : List (List Atom)) (ds : List Bool) (ws : List Watch) (s : Trail) → IsSoundTrail s → All (Fits s.first) cs → ((i : ℕ) → i < length cs → IsWatchPair (length (clause_of cs i)) (watch_of ws i)) → AreGuarded s.first s.entries cs ws (length cs)
     → ((i : ℕ) → IsNumberInForce cs ds i → 1 ≤ length (clause_of cs i)) → All (IsQuietAfter s.first s.entries) (in_force cs ds)
 quiet_now cs ds ws s sound fits pairs guarded some = all_held (IsQuietAfter s.first s.entries) cs ds (λ i held.
     quiet_by_guard s (clause_of cs i) (watch_of ws i) sound (fits i [] held.within) (pairs i held.within)

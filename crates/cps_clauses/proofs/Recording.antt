@@ -12,7 +12,7 @@ use Rattle.cps_clauses.specs.declared.journal.Line.{Line}
 use Rattle.cps_clauses.specs.declared.journal.Line.TheVariants as lines
 use Rattle.cps_clauses.specs.declared.atom_range.AtomRange.{AtomRange}
 use Rattle.cps_clauses.specs.Journals.{drops}
-use Rattle.cps_clauses.specs.Lines.{item_of, drop_lines, IsKept, IsLatest, IsLine}
+use Rattle.cps_clauses.specs.Lines.{item_of, drop_lines, IsJournalKept, IsLatest, IsLine}
 use Rattle.cps_clauses.specs.AtomRanges.{IsAppended}
 
 -- each of the lines lies within so many atoms
@@ -89,14 +89,14 @@ IsLatest-drops journal (n ∷ ns) latest h =
     (IsLatest-drops (journal ++ items.Drop n ∷ []) ns latest (λ earlier c b is. absurd (no_drop n c b (last_item journal earlier (items.Drop n) (items.Learnt c b) is))))
 
 -- what is kept, after one more clause, and after drops
-pub IsKept-learnt : (old new clause latest : List Atom) (ls : List Line) (atom_range : AtomRange) (below : Bound) → IsAppended old new clause atom_range → IsKept old ls latest → IsKept new (ls ++ lines.Learnt atom_range below ∷ []) clause
-IsKept-learnt old new clause latest ls atom_range below h kept = record {
+pub IsJournalKept-learnt : (old new clause latest : List Atom) (ls : List Line) (atom_range : AtomRange) (below : Bound) → IsAppended old new clause atom_range → IsJournalKept old ls latest → IsJournalKept new (ls ++ lines.Learnt atom_range below ∷ []) clause
+IsJournalKept-learnt old new clause latest ls atom_range below h kept = record {
   within = lines_learnt old new clause ls atom_range below h kept.within;
   last = subst (λ (es : List JournalItem). IsLatest es clause) (sym (items_learnt old new clause ls atom_range below h kept.within)) (IsLatest-learnt (map (item_of old) ls) clause below);
 }
 
-pub IsKept-dropped : (atoms latest : List Atom) (ls : List Line) (which : List ℕ) → IsKept atoms ls latest → IsKept atoms (ls ++ drop_lines which) latest
-IsKept-dropped atoms latest ls which kept = record {
+pub IsJournalKept-dropped : (atoms latest : List Atom) (ls : List Line) (which : List ℕ) → IsJournalKept atoms ls latest → IsJournalKept atoms (ls ++ drop_lines which) latest
+IsJournalKept-dropped atoms latest ls which kept = record {
   within = lines_dropped (length atoms) ls which kept.within;
   last = subst (λ (es : List JournalItem). IsLatest es latest) (sym (items_dropped atoms ls which)) (IsLatest-drops (map (item_of atoms) ls) which latest kept.last);
 }

@@ -8,14 +8,14 @@ use Rattle.cps_clauses.specs.declared.watch.Watch.{Watch}
 use Rattle.cps_clauses.specs.declared.watch.Watcher.{Watcher}
 use Rattle.cps_clauses.specs.InForce.{is_dropped, blanked}
 use Rattle.cps_clauses.specs.Moves.{IsReleased}
-use Rattle.cps_clauses.specs.Watches.{no_watcher, clause_of, watch_of, slot_of, IsPair, IsWatcher, IsWatching, Stands, list_at, removed}
+use Rattle.cps_clauses.specs.Watches.{no_watcher, clause_of, watch_of, slot_of, IsWatchPair, IsWatcher, IsWatching, StandsInList, list_at, removed}
 use Rattle.cps_clauses.proofs.Dropping.{length-blanked, blanked_dropped, blanked_kept, blanked_some}
 use Rattle.cps_clauses.proofs.Lists.{All-removed, length-removed, list_set_other, list_set_same, stands_removed}
 
 -- so far: up to a place no watcher is of a clause that was dropped
 pub record IsReleasedTo (dropped : List Bool) (old new : List Watcher) (n : ℕ) : Type 0 where
   pub within : n ≤ length new
-  pub kept : (clause place : ℕ) → is_dropped dropped clause ≡ false → Stands old 0 clause place → Stands new 0 clause place
+  pub kept : (clause place : ℕ) → is_dropped dropped clause ≡ false → StandsInList old 0 clause place → StandsInList new 0 clause place
   pub left : (k : ℕ) → k < n → is_dropped dropped (get_or new k no_watcher).clause ≡ false
   pub origin : All (Contains old) new
 
@@ -60,7 +60,7 @@ pub released_empty : (dropped : List Bool) (old new : List Watcher) → old ≡ 
 released_empty dropped old new none same =
     let empty : length new ≡ 0 = ap (λ (xs : List Watcher). length xs) (same ∙ none) in
     record {
-      kept = λ clause place keeps s. subst (λ (xs : List Watcher). Stands xs 0 clause place) (sym same) s;
+      kept = λ clause place keeps s. subst (λ (xs : List Watcher). StandsInList xs 0 clause place) (sym same) s;
       left = λ k d l. absurd (omega (arith, l, empty));
       origin = λ k d l. absurd (omega (arith, l, empty));
     }
@@ -79,15 +79,15 @@ watching_released clauses dropped watches count on on' released h =
       listed = λ i p d b two watched.
           let keeps = blanked_some clauses dropped i (omega (arith, two)) in
           let same = blanked_kept clauses dropped i keeps in
-          subst (λ (c : List Atom). Stands (on' (slot_of (get_or c p d))) 0 i p) (sym same)
+          subst (λ (c : List Atom). StandsInList (on' (slot_of (get_or c p d))) 0 i p) (sym same)
           ((released (slot_of (get_or (clause_of clauses i) p d))).kept i p keeps (h.listed i p d b (omega (arith, two, ap (λ (c : List Atom). length c) same)) watched));
     }
   where
-    pair : (i : ℕ) (b : Bool) → is_dropped dropped i ≡ b → IsPair (length (clause_of clauses i)) (watch_of watches i) → IsPair (length (clause_of (blanked clauses dropped) i)) (watch_of watches i)
+    pair : (i : ℕ) (b : Bool) → is_dropped dropped i ≡ b → IsWatchPair (length (clause_of clauses i)) (watch_of watches i) → IsWatchPair (length (clause_of (blanked clauses dropped) i)) (watch_of watches i)
     pair i true e old =
         let none : length (clause_of (blanked clauses dropped) i) ≡ 0 = ap (λ (c : List Atom). length c) (blanked_dropped clauses dropped i e) in
         record { apart = old.apart; inside = λ two p watched. absurd (omega (arith, two, none)) }
-    pair i false e old = subst (λ (c : List Atom). IsPair (length c) (watch_of watches i)) (sym (blanked_kept clauses dropped i e)) old
+    pair i false e old = subst (λ (c : List Atom). IsWatchPair (length c) (watch_of watches i)) (sym (blanked_kept clauses dropped i e)) old
 
     watcher : (k : ℕ) (w : Watcher) → is_dropped dropped w.clause ≡ false → IsWatcher clauses k w → IsWatcher (blanked clauses dropped) k w
     watcher k w keeps g =

@@ -7,7 +7,7 @@ use Rattle.std.specs.Cmp.{nat_cmp_is}
 use Rattle.std.proofs.lemmas.List.{get_or_default}
 use Rattle.cps_model.proofs.Permuted.{AllPairs-permuted}
 use Rattle.cps_clauses.specs.declared.forget.Candidate.{Candidate}
-use Rattle.cps_clauses.specs.Candidates.{AreSortedCandidates, ComesFirst}
+use Rattle.cps_clauses.specs.Candidates.{AreSortedCandidates, GoesBefore}
 use Rattle.cps_clauses.proofs.Weighing.{no_candidate}
 
 abbrev Sorted : List Candidate → Type 0
@@ -58,10 +58,10 @@ sorted_by_turn old new moved h rising = record {
       let apart = AllPairs-permuted (λ (c d : Candidate). c.place ≢ d.place) (λ c d ne e. ne (sym e)) old new moved (λ i j d l m e. (let b = rising i j d l m in omega (arith, b, e))) in
       let e : i + (j - i) ≡ j = omega (arith, l) in
       let here = subst (λ (k : ℕ). NotAfter (get_or new i no_candidate).rank (get_or new i no_candidate).place (get_or new k no_candidate).rank (get_or new k no_candidate).place) e (far new i (j - i) h (omega (arith, l, m))) in
-      subst (λ (x : Candidate). ComesFirst x (get_or new j d)) (get_or_default new i no_candidate d (omega (arith, l, m)))
-      (subst (λ (y : Candidate). ComesFirst (get_or new i no_candidate) y) (get_or_default new j no_candidate d m) (strict (get_or new i no_candidate) (get_or new j no_candidate) (apart i j no_candidate l m) here));
+      subst (λ (x : Candidate). GoesBefore x (get_or new j d)) (get_or_default new i no_candidate d (omega (arith, l, m)))
+      (subst (λ (y : Candidate). GoesBefore (get_or new i no_candidate) y) (get_or_default new j no_candidate d m) (strict (get_or new i no_candidate) (get_or new j no_candidate) (apart i j no_candidate l m) here));
 }
   where
-    strict : (c d : Candidate) → c.place ≢ d.place → NotAfter c.rank c.place d.rank d.place → ComesFirst c d
+    strict : (c d : Candidate) → c.place ≢ d.place → NotAfter c.rank c.place d.rank d.place → GoesBefore c d
     strict c d ne (inl less) = inl less
     strict c d ne (inr same) = (let k = same.1 in inr (same.0, omega (arith, k, ne)))

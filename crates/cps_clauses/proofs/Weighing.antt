@@ -8,8 +8,8 @@ use Rattle.std.proofs.lemmas.List.Sorted.{All-permutation, Contains-permutation}
 use Rattle.cps_literal.specs.declared.atom.Atom.{Atom}
 use Rattle.cps_trail.specs.Trail.{Trail}
 use Rattle.cps_clauses.specs.declared.forget.Candidate.{Candidate}
-use Rattle.cps_clauses.specs.Forgets.{MayGo, GoesFirst, AreInTurn}
-use Rattle.cps_clauses.specs.Candidates.{IsCandidate, AreCandidates, AreSortedCandidates, ComesFirst}
+use Rattle.cps_clauses.specs.Forgets.{MayGo, GoesFirst, GoInOrder}
+use Rattle.cps_clauses.specs.Candidates.{IsCandidate, AreCandidates, AreSortedCandidates, GoesBefore}
 use Rattle.cps_clauses.proofs.Naming.{AreCandidatesTo}
 
 pub no_candidate : Candidate
@@ -68,7 +68,7 @@ place_in : (cs : List Candidate) (c : Candidate) → Contains cs c → Contains 
 place_in cs c has = (has.0, (let e = length-map cs (λ (d : Candidate). d.place) in let b = has.1 in omega (arith, e, b)), get_or-map (λ (d : Candidate). d.place) cs has.0 c c.place has.1 ∙ ap (λ (d : Candidate). d.place) has.2)
 
 -- sorted candidates are the clauses that may go, in turn
-pub in_turn_of : (clauses : List (List Atom)) (dropped : List Bool) (learnt : List ℕ) (s : Trail) (found sorted : List Candidate) → AreCandidates clauses dropped learnt s found → AreSortedCandidates found sorted → AreInTurn clauses dropped learnt s (map (λ c. c.place) sorted)
+pub in_turn_of : (clauses : List (List Atom)) (dropped : List Bool) (learnt : List ℕ) (s : Trail) (found sorted : List Candidate) → AreCandidates clauses dropped learnt s found → AreSortedCandidates found sorted → GoInOrder clauses dropped learnt s (map (λ c. c.place) sorted)
 in_turn_of clauses dropped learnt s found sorted h order =
     let sound = All-permutation (IsCandidate clauses dropped learnt s) found sorted order.moved h.sound in
     record {
@@ -85,7 +85,7 @@ in_turn_of clauses dropped learnt s found sorted h order =
           (goes (get_or sorted i no_candidate) (get_or sorted j no_candidate) (sound i no_candidate a) (sound j no_candidate b) (order.in_turn i j no_candidate l b)));
     }
   where
-    goes : (c d : Candidate) → IsCandidate clauses dropped learnt s c → IsCandidate clauses dropped learnt s d → ComesFirst c d → GoesFirst clauses learnt c.place d.place
+    goes : (c d : Candidate) → IsCandidate clauses dropped learnt s c → IsCandidate clauses dropped learnt s d → GoesBefore c d → GoesFirst clauses learnt c.place d.place
     goes c d p q first = elim first [
       | inl longer ↦ inl (omega (arith, longer, p.rank_is, q.rank_is))
       | inr older ↦ (let same = older.0 in inr (omega (arith, same, p.rank_is, q.rank_is), older.1))

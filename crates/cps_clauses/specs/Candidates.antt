@@ -19,10 +19,10 @@ pub record AreCandidates (clauses : List (List Atom)) (dropped : List Bool) (lea
   pub rising : AllPairs (λ c d. c.place < d.place) found
 
 -- of two candidates the first goes first
-abbrev pub ComesFirst : Candidate → Candidate → Type 0
-ComesFirst c d = (c.rank < d.rank) ⊎ ((c.rank ≡ d.rank) × (c.place < d.place))
+abbrev pub GoesBefore : Candidate → Candidate → Type 0
+GoesBefore c d = (c.rank < d.rank) ⊎ ((c.rank ≡ d.rank) × (c.place < d.place))
 
 -- the same candidates, in the order in which they go
 pub record AreSortedCandidates (old new : List Candidate) : Type 0 where
   pub moved : IsPermutation old new
-  pub in_turn : AllPairs ComesFirst new
+  pub in_turn : AllPairs GoesBefore new

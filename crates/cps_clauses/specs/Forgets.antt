@@ -37,7 +37,7 @@ GoesFirst clauses learnt n m =
     ⊎ ((length (learnt_clause clauses learnt m) ≡ length (learnt_clause clauses learnt n)) × (n < m))
 
 -- these are the learnt clauses that may go, in the order in which they go
-pub record AreInTurn (clauses : List (List Atom)) (dropped : List Bool) (learnt : List ℕ) (s : Trail) (order : List ℕ) : Type 0 where
+pub record GoInOrder (clauses : List (List Atom)) (dropped : List Bool) (learnt : List ℕ) (s : Trail) (order : List ℕ) : Type 0 where
   pub may_go : All (MayGo clauses dropped learnt s) order
   pub all : (n : ℕ) → MayGo clauses dropped learnt s n → Contains order n
   pub in_turn : AllPairs (GoesFirst clauses learnt) order

@@ -29,6 +29,6 @@ IsLatest journal latest = (earlier : List JournalItem) (clause : List Atom) (bel
     → journal ≡ earlier ++ items.Learnt clause below ∷ [] → latest ≡ clause
 
 -- the lines of a journal lie within its atoms, and what was learnt last is kept beside them
-pub record IsKept (atoms : List Atom) (ls : List Line) (latest : List Atom) : Type 0 where
+pub record IsJournalKept (atoms : List Atom) (ls : List Line) (latest : List Atom) : Type 0 where
   pub within : All (IsLine (length atoms)) ls
   pub last : IsLatest (map (item_of atoms) ls) latest

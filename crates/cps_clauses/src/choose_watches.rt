@@ -12,7 +12,7 @@ ghost use Rattle.cps_trail.specs.Trail.{IsFalseNow};
 ghost use Rattle.cps_trail.specs.Adds.{Infers};
 ghost use Rattle.cps_clauses.specs.Notes.{ByClause};
 ghost use Rattle.cps_clauses.specs.Quiet.{Fits, AreFalseBut};
-ghost use Rattle.cps_clauses.specs.Watches.{IsWatching, IsWatched, IsPair, HasRoom, Stands, IsGuarded, clause_of, watch_of, slot_of, list_at};
+ghost use Rattle.cps_clauses.specs.Watches.{IsWatching, IsWatched, IsWatchPair, HasWatchLists, StandsInList, IsGuarded, clause_of, watch_of, slot_of, list_at};
 ghost use Rattle.cps_clauses.specs.Looks.{IsLooked, IsLastSettled, IsShortSettled, IsAttached, IsRewatched};
 
 use crate::clauses::Clauses;
@@ -46,12 +46,12 @@ fn attach(
     requires room { (d : AtomOf) → slot_of
         (slice_index_or atoms.now watched.place d) < length watching.old.lists.items }
     requires stands { IsTrue stands → (d : AtomOf)
-        → Stands (list_at watching.old.lists.items (slot_of (slice_index_or atoms.now watched.place d))) 0
+        → StandsInList (list_at watching.old.lists.items (slot_of (slice_index_or atoms.now watched.place d))) 0
         watched.clause watched.place }
     ensures attached { IsAttached watching.old.lists.items watching.new.lists.items watched.clause atoms.now
         watched.place watched.blocker }
     ensures stands { OnOk result ((d : AtomOf)
-        → Stands (list_at watching.new.lists.items (slot_of (slice_index_or atoms.now watched.place d))) 0
+        → StandsInList (list_at watching.new.lists.items (slot_of (slice_index_or atoms.now watched.place d))) 0
         watched.clause watched.place) }
     ensures same { watching.new ≡ record watching.old { lists = watching.new.lists } }
 {
@@ -83,7 +83,7 @@ pub(crate) fn choose_watches(
     requires fits { All (Fits store.old.first) clauses.now }
     requires clause { clause < length clauses.now }
     requires within { clause ≤ watching.old.attached }
-    requires room { HasRoom clauses.now (length watching.old.lists.items) }
+    requires room { HasWatchLists clauses.now (length watching.old.lists.items) }
     requires watching { IsWatching clauses.now watching.old.watches.items watching.old.attached (list_at
         watching.old.lists.items) }
     ensures infers { OnOk result (Infers (ByClause clause (clause_of clauses.now clause)) store.old store.new) }
@@ -162,7 +162,7 @@ fn rewatch(
     requires one { one < length (clause_of clauses.now clause) }
     requires other { other < length (clause_of clauses.now clause) }
     requires apart { one ≢ other }
-    requires room { HasRoom clauses.now (length watching.old.lists.items) }
+    requires room { HasWatchLists clauses.now (length watching.old.lists.items) }
     requires watching { IsWatching clauses.now watching.old.watches.items watching.old.attached (list_at
         watching.old.lists.items) }
     ensures watches { OnOk result (watching.new.watches.items

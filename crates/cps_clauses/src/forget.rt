@@ -7,7 +7,7 @@ ghost use Rattle.std.specs.Prelude.{ℕ, ◌↔◌, ◌≡◌, ◌<◌, true, fa
 ghost use Rattle.std.specs.List.{All};
 ghost use Rattle.cps_clauses.specs.InForce.{marked};
 ghost use Rattle.cps_clauses.specs.Bases.{number_at};
-ghost use Rattle.cps_clauses.specs.Forgets.{AreInTurn, IsNamed};
+ghost use Rattle.cps_clauses.specs.Forgets.{GoInOrder, IsNamed};
 ghost use Rattle.cps_clauses.specs.Candidates.{AreCandidates, AreSortedCandidates};
 
 use crate::clauses::Clauses;
@@ -99,7 +99,7 @@ pub(crate) fn in_turn(
 ) -> Result<Vec<u32>, AllocError>
     requires sizes { length dropped.now ≡ length clauses.now }
     requires within { All (λ i. i < length clauses.now) learnt.now }
-    ensures { IfOk result (λ order. AreInTurn clauses.now dropped.now learnt.now store.now order.items) }
+    ensures { IfOk result (λ order. GoInOrder clauses.now dropped.now learnt.now store.now order.items) }
 {
     let mut found = candidates(alloc, store, clauses, dropped, learnt)?;
     sort_by_turn(&mut found);

@@ -13,7 +13,7 @@ use Rattle.cps_conflict.specs.declared.resolvent.Fallen.{Fallen}
 use Rattle.cps_conflict.specs.declared.minimiser.Node.{Node}
 use Rattle.cps_conflict.specs.declared.minimiser.Minimiser.{Minimiser}
 use Rattle.cps_conflict.specs.Drafts.{IsBacked, IsDraft, IsImpliedFrom, IsRedundant, Draft}
-use Rattle.cps_conflict.specs.Nodes.{IsBack, IsOpenAt, IsNodeAt, AreNodesAt, AreNodes, Carries, Passes, Grows, IsTraced, Traces, TraceSoFar}
+use Rattle.cps_conflict.specs.Nodes.{IsBack, IsPendingAt, IsNodeAt, AreNodesAt, AreNodes, Carries, PassesAtoms, ExtendsPending, IsTraced, Traces, TraceSoFar}
 use Rattle.cps_conflict.proofs.Bottom.{false_at_bottom}
 use Rattle.cps_conflict.proofs.Uniting.{none}
 use Rattle.cps_conflict.proofs.Drafting.{not_together}
@@ -33,8 +33,8 @@ IsBack-later a earlier t m n l h = record {
   ];
 }
 
-pub IsOpenAt-grows : (a : List ℤ) (old new : List Fallen) (next end end' : ℕ) → Grows old new → end ≤ end' → IsOpenAt a old next end → IsOpenAt a new next end'
-IsOpenAt-grows a old new next end end' g l o = record {
+pub IsPendingAt-grows : (a : List ℤ) (old new : List Fallen) (next end end' : ℕ) → ExtendsPending old new → end ≤ end' → IsPendingAt a old next end → IsPendingAt a new next end'
+IsPendingAt-grows a old new next end end' g l o = record {
   place = o.place;
   from = o.from;
   below = omega (arith, o.below, l);
@@ -42,11 +42,11 @@ IsOpenAt-grows a old new next end end' g l o = record {
   holds = λ d. ap (λ (f : Fallen). atom_holds a f.atom) (g.same o.place d o.within) ∙ o.holds d;
 }
 
-pub Grows-refl : (old : List Fallen) → Grows old old
-Grows-refl old = record { longer = omega arith; same = λ k d l. refl }
+pub ExtendsPending-refl : (old : List Fallen) → ExtendsPending old old
+ExtendsPending-refl old = record { longer = omega arith; same = λ k d l. refl }
 
-pub Grows-push : (old new : List Fallen) (f : Fallen) → Grows old new → Grows old (new ++ f ∷ [])
-Grows-push old new f g = record {
+pub ExtendsPending-push : (old new : List Fallen) (f : Fallen) → ExtendsPending old new → ExtendsPending old (new ++ f ∷ [])
+ExtendsPending-push old new f g = record {
   longer = omega (arith, g.longer, length_push new f);
   same = λ k d l. get_or_append_left new (f ∷ []) d k (omega (arith, l, g.longer)) ∙ g.same k d l;
 }
@@ -59,16 +59,16 @@ led_back earlier a m n u has fine done i nodes on = elim (All-contains (IsNodeAt
 ]
 
 -- one more atom of a node
-pub Passes-none : (m : Minimiser) (n : Node) → n.next ≤ n.end → Passes m n (n.next, n.latest)
-Passes-none m n l = record {
+pub PassesAtoms-none : (m : Minimiser) (n : Node) → n.next ≤ n.end → PassesAtoms m n (n.next, n.latest)
+PassesAtoms-none m n l = record {
   within = l;
   later = omega arith;
   at = λ earlier a nodes o. absurd (omega (arith, o.from, o.below));
 }
 
-pub Passes-more : (m : Minimiser) (n : Node) (k latest other latest' : ℕ) (f : Fallen) → k < n.end → ((d : Fallen) → get_or m.pending.items k d ≡ f)
-    → ((earlier : List Fallen) (a : List ℤ) → AreNodesAt earlier a m → atom_holds a f.atom ≡ true → IsBack a earlier m.assert other) → latest ≤ latest' → other ≤ latest' → Passes m n (k, latest) → Passes m n (k + 1, latest')
-Passes-more m n k latest other latest' f l is leads one two h = record {
+pub PassesAtoms-more : (m : Minimiser) (n : Node) (k latest other latest' : ℕ) (f : Fallen) → k < n.end → ((d : Fallen) → get_or m.pending.items k d ≡ f)
+    → ((earlier : List Fallen) (a : List ℤ) → AreNodesAt earlier a m → atom_holds a f.atom ≡ true → IsBack a earlier m.assert other) → latest ≤ latest' → other ≤ latest' → PassesAtoms m n (k, latest) → PassesAtoms m n (k + 1, latest')
+PassesAtoms-more m n k latest other latest' f l is leads one two h = record {
   within = omega (arith, l);
   later = omega (arith, one, h.later);
   at = λ earlier a nodes o. elim (nat_order o.place k) [
@@ -91,7 +91,7 @@ Carries-set m new top n assert opens nodes made = record {
 }
 
 -- a node was passed over as far as it was found to lead back
-pub node_passed : (m : Minimiser) (n n' : Node) → Contains m.nodes.items n → Passes m n (n'.next, n'.latest) → n'.failed ≡ n.failed → n'.denied ≡ n.denied → n'.end ≡ n.end
+pub node_passed : (m : Minimiser) (n n' : Node) → Contains m.nodes.items n → PassesAtoms m n (n'.next, n'.latest) → n'.failed ≡ n.failed → n'.denied ≡ n.denied → n'.end ≡ n.end
     → (earlier : List Fallen) (a : List ℤ) → AreNodesAt earlier a m → IsNodeAt a earlier m.assert m.pending.items n'
 node_passed m n n' has passes failed denied end earlier a nodes fine on =
     elim (All-contains (IsNodeAt a earlier m.assert m.pending.items) m.nodes.items n nodes has (sym failed ∙ fine) (ap (atom_holds a) (sym denied) ∙ on)) [
@@ -103,7 +103,7 @@ node_passed m n n' has passes failed denied end earlier a nodes fine on =
     ]
 
 -- the same, where the node is what was read
-pub Carries-passed : (m new : Minimiser) (nodes : List Node) (top : ℕ) (n' : Node) → nodes ≡ m.nodes.items → top < length nodes → new.assert ≡ m.assert → new.pending ≡ m.pending → new.nodes.items ≡ set m.nodes.items top n' → Passes m (get_or nodes top none_node) (n'.next, n'.latest)
+pub Carries-passed : (m new : Minimiser) (nodes : List Node) (top : ℕ) (n' : Node) → nodes ≡ m.nodes.items → top < length nodes → new.assert ≡ m.assert → new.pending ≡ m.pending → new.nodes.items ≡ set m.nodes.items top n' → PassesAtoms m (get_or nodes top none_node) (n'.next, n'.latest)
     → n'.failed ≡ (get_or nodes top none_node).failed → n'.denied ≡ (get_or nodes top none_node).denied → n'.end ≡ (get_or nodes top none_node).end → Carries m new
 Carries-passed m new nodes top n' same l assert pending set' passes failed denied end =
     Carries-set m new top n' assert pending set' (node_passed m (get_or nodes top none_node) n' (subst (λ (xs : List Node). Contains xs (get_or nodes top none_node)) same (Contains-get_or nodes top none_node l)) passes failed denied end)
@@ -118,13 +118,13 @@ pub AreNodes-carried : (C : List ℤ → Type 0) (s : Trail) (earlier : List Fal
 AreNodes-carried C s earlier m n carries h = record { at = λ a c b. carries.at earlier a (h.at a c b) }
 
 -- more atoms leave the nodes
-IsNodeAt-grows : (a : List ℤ) (earlier : List Fallen) (t : Atom) (old new : List Fallen) (n : Node) → Grows old new → IsNodeAt a earlier t old n → IsNodeAt a earlier t new n
+IsNodeAt-grows : (a : List ℤ) (earlier : List Fallen) (t : Atom) (old new : List Fallen) (n : Node) → ExtendsPending old new → IsNodeAt a earlier t old n → IsNodeAt a earlier t new n
 IsNodeAt-grows a earlier t old new n g h fine on = elim (h fine on) [
-  | inl o ↦ inl (IsOpenAt-grows a old new n.next n.end n.end g (omega arith) o)
+  | inl o ↦ inl (IsPendingAt-grows a old new n.next n.end n.end g (omega arith) o)
   | inr x ↦ inr x
 ]
 
-pub AreNodes-kept : (C : List ℤ → Type 0) (s : Trail) (earlier : List Fallen) (m new : Minimiser) → new.assert ≡ m.assert → new.nodes ≡ m.nodes → Grows m.pending.items new.pending.items → AreNodes C s earlier m → AreNodes C s earlier new
+pub AreNodes-kept : (C : List ℤ → Type 0) (s : Trail) (earlier : List Fallen) (m new : Minimiser) → new.assert ≡ m.assert → new.nodes ≡ m.nodes → ExtendsPending m.pending.items new.pending.items → AreNodes C s earlier m → AreNodes C s earlier new
 AreNodes-kept C s earlier m new assert nodes grows h = record {
   at = λ a c b.
       subst (λ t. All (IsNodeAt a earlier t new.pending.items) new.nodes.items) (sym assert)
@@ -148,7 +148,7 @@ AreNodes-added C s earlier m new n assert opens nodes made h = record {
 -- a reason whose atoms were traced
 pub node_made : (C : List ℤ → Type 0) (s : Trail) (earlier : List Fallen) (m : Minimiser) (entry denied : Atom) (reason : List Atom) (new : List Fallen) (latest : ℕ) → ((a : List ℤ) → C a → IsBacked s a → clause_holds reason a ≡ true)
     → denied.subject ≡ entry.subject → ((x : ℤ) → meets denied.op denied.value x ≡ not (meets entry.op entry.value x)) → Traces s earlier m entry new latest reason
-    → (a : List ℤ) → C a → IsBacked s a → atom_holds a denied ≡ true → IsOpenAt a new (length m.pending.items) (length new) ⊎ IsBack a earlier m.assert latest
+    → (a : List ℤ) → C a → IsBacked s a → atom_holds a denied ≡ true → IsPendingAt a new (length m.pending.items) (length new) ⊎ IsBack a earlier m.assert latest
 node_made C s earlier m entry denied reason new latest given same negated traces a c b on =
     let why = Any-from_list_any (atom_holds a) reason (given a c b) in
     elim (All-contains (IsTraced s earlier m entry new latest) reason why.1 traces.each (why.0, why.2, why.3)) [
@@ -157,11 +157,11 @@ node_made C s earlier m entry denied reason new latest given same negated traces
     ]
 
 -- one more atom of a reason
-pub IsTraced-more : (s : Trail) (earlier : List Fallen) (m : Minimiser) (entry : Atom) (new new' : List Fallen) (latest latest' : ℕ) → Grows new new' → latest ≤ latest' → (u : Atom) → IsTraced s earlier m entry new latest u → IsTraced s earlier m entry new' latest' u
+pub IsTraced-more : (s : Trail) (earlier : List Fallen) (m : Minimiser) (entry : Atom) (new new' : List Fallen) (latest latest' : ℕ) → ExtendsPending new new' → latest ≤ latest' → (u : Atom) → IsTraced s earlier m entry new latest u → IsTraced s earlier m entry new' latest' u
 IsTraced-more s earlier m entry new new' latest latest' g l u h = elim h [
   | inl q ↦ inl q
   | inr leads ↦ inr (λ a b on. elim (leads a b on) [
-    | inl o ↦ inl (IsOpenAt-grows a new new' (length m.pending.items) (length new) (length new') g (g.longer) o)
+    | inl o ↦ inl (IsPendingAt-grows a new new' (length m.pending.items) (length new) (length new') g (g.longer) o)
     | inr x ↦ inr (IsBack-later a earlier m.assert latest latest' l x)
   ])
 ]
@@ -173,7 +173,7 @@ Traces-none s earlier m entry new latest reason = record { each = subst (λ (l :
     take_none [] = refl
     take_none (x ∷ xs) = refl
 
-pub Traces-more : (s : Trail) (earlier : List Fallen) (m : Minimiser) (entry : Atom) (new new' : List Fallen) (latest latest' : ℕ) (reason : List Atom) (i : ℕ) (d : Atom) → i < length reason → Grows new new' → latest ≤ latest'
+pub Traces-more : (s : Trail) (earlier : List Fallen) (m : Minimiser) (entry : Atom) (new new' : List Fallen) (latest latest' : ℕ) (reason : List Atom) (i : ℕ) (d : Atom) → i < length reason → ExtendsPending new new' → latest ≤ latest'
     → IsTraced s earlier m entry new' latest' (get_or reason i d) → Traces s earlier m entry new latest (take i reason) → Traces s earlier m entry new' latest' (take (i + 1) reason)
 Traces-more s earlier m entry new new' latest latest' reason i d l g one here h = record {
   each = All-more (IsTraced s earlier m entry new' latest') reason i d l
@@ -215,7 +215,7 @@ TraceSoFar-back s earlier entry old m latest latest' i u l is one traced h = rec
   nodes = h.nodes;
   reason = h.reason;
   grows = h.grows;
-  traces = Traces-more s earlier old entry m.pending.items m.pending.items latest latest' old.reason.items i u l (Grows-refl m.pending.items) one (subst (λ (v : Atom). IsTraced s earlier old entry m.pending.items latest' v) is traced) h.traces;
+  traces = Traces-more s earlier old entry m.pending.items m.pending.items latest latest' old.reason.items i u l (ExtendsPending-refl m.pending.items) one (subst (λ (v : Atom). IsTraced s earlier old entry m.pending.items latest' v) is traced) h.traces;
 }
 
 -- and one that is to be looked at
@@ -225,9 +225,9 @@ TraceSoFar-on s earlier entry old m new latest i f l is assert nodes reason push
   assert = assert ∙ h.assert;
   nodes = nodes ∙ h.nodes;
   reason = reason ∙ h.reason;
-  grows = subst (λ (xs : List Fallen). Grows old.pending.items xs) (sym pushed) (Grows-push old.pending.items m.pending.items f h.grows);
+  grows = subst (λ (xs : List Fallen). ExtendsPending old.pending.items xs) (sym pushed) (ExtendsPending-push old.pending.items m.pending.items f h.grows);
   traces = subst (λ (xs : List Fallen). Traces s earlier old entry xs latest (take (i + 1) old.reason.items)) (sym pushed)
-      (Traces-more s earlier old entry m.pending.items (m.pending.items ++ f ∷ []) latest latest old.reason.items i f.atom l (Grows-push m.pending.items m.pending.items f (Grows-refl m.pending.items)) (omega arith)
+      (Traces-more s earlier old entry m.pending.items (m.pending.items ++ f ∷ []) latest latest old.reason.items i f.atom l (ExtendsPending-push m.pending.items m.pending.items f (ExtendsPending-refl m.pending.items)) (omega arith)
       (subst (λ (v : Atom). IsTraced s earlier old entry (m.pending.items ++ f ∷ []) latest v) is (traced_open s earlier old entry m.pending.items latest f h.grows.longer)) h.traces);
 }
 

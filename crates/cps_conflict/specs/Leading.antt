@@ -4,7 +4,7 @@ use Rattle.std.specs.List.{All, Contains}
 use Rattle.cps_literal.specs.declared.atom.Atom.{Atom}
 use Rattle.cps_literal.specs.Truth.{meets, atom_holds, clause_holds}
 use Rattle.cps_trail.specs.Trail.{Domains, Trail, Entry, Decision, Because, Explains, IsFalseAfter, IsFalseFrom}
-use Rattle.cps_trail.specs.Changes.{IsOn}
+use Rattle.cps_trail.specs.Changes.{IsEntryOn}
 use Rattle.cps_conflict.specs.Conflicts.{Reasons}
 use Rattle.cps_conflict.specs.Drafts.{IsBacked}
 
@@ -102,7 +102,7 @@ pub record MarksReason (s : Trail) (reason : List Atom) (implied : Atom) (old ne
 -- marked
 pub record MarkedSoFar (s : Trail) (subject count found : ℕ) (old new : List Bool) : Type 0 where
   pub within : found ≤ count
-  pub here : IsOn s.entries subject found
+  pub here : IsEntryOn s.entries subject found
   pub same_length : length new ≡ length old
   pub more : (k : ℕ) → is_marked old k ≡ true → is_marked new k ≡ true
   pub only : (k : ℕ) → is_marked new k ≡ true
@@ -134,8 +134,8 @@ pub record FollowedSoFar (reasons : Reasons) (constraint : List ℤ → Type 0) 
   pub falls : IsMarkedFalse s t marks
 
 -- a walk from one place to an earlier one keeps that for each atom
-abbrev pub GoesBack : Reasons → (List ℤ → Type 0) → Trail → ℕ → ℕ → List Bool → List Bool → Type 0
-GoesBack reasons constraint s from to old new =
+abbrev pub WalksBack : Reasons → (List ℤ → Type 0) → Trail → ℕ → ℕ → List Bool → List Bool → Type 0
+WalksBack reasons constraint s from to old new =
     (t : Atom) → FollowedSoFar reasons constraint s t from old → FollowedSoFar reasons constraint s t to new
 
 -- an atom is that of a decision among the first so many entries, which is marked

@@ -21,7 +21,7 @@ pub record IsBack (a : List ℤ) (earlier : List Fallen) (t : Atom) (latest : �
   pub some : (atom_holds a t ≡ true) ⊎ Any (IsTrueBy a latest) earlier
 
 -- or one is from a place to another of those that are still to look at
-pub record IsOpenAt (a : List ℤ) (pending : List Fallen) (next end : ℕ) : Type 0 where
+pub record IsPendingAt (a : List ℤ) (pending : List Fallen) (next end : ℕ) : Type 0 where
   pub place : ℕ
   pub from : next ≤ place
   pub below : place < end
@@ -31,7 +31,7 @@ pub record IsOpenAt (a : List ℤ) (pending : List Fallen) (next end : ℕ) : Ty
 -- where an entry's atom is not true at a list of values, that is so
 abbrev pub IsNodeAt : List ℤ → List Fallen → Atom → List Fallen → Node → Type 0
 IsNodeAt a earlier t pending n = n.failed ≡ false → atom_holds a n.denied ≡ true
-    → IsOpenAt a pending n.next n.end ⊎ IsBack a earlier t n.latest
+    → IsPendingAt a pending n.next n.end ⊎ IsBack a earlier t n.latest
 
 abbrev pub AreNodesAt : List Fallen → List ℤ → Minimiser → Type 0
 AreNodesAt earlier a m = All (IsNodeAt a earlier m.assert m.pending.items) m.nodes.items
@@ -46,14 +46,14 @@ pub record Carries (old new : Minimiser) : Type 0 where
   pub at : (earlier : List Fallen) (a : List ℤ) → AreNodesAt earlier a old → AreNodesAt earlier a new
 
 -- the atoms of a node up to a place lead back
-pub record Passes (m : Minimiser) (n : Node) (to : ℕ × ℕ) : Type 0 where
+pub record PassesAtoms (m : Minimiser) (n : Node) (to : ℕ × ℕ) : Type 0 where
   pub within : to.0 ≤ n.end
   pub later : n.latest ≤ to.1
-  pub at : (earlier : List Fallen) (a : List ℤ) → AreNodesAt earlier a m → IsOpenAt a m.pending.items n.next to.0
+  pub at : (earlier : List Fallen) (a : List ℤ) → AreNodesAt earlier a m → IsPendingAt a m.pending.items n.next to.0
       → IsBack a earlier m.assert to.1
 
 -- a list has more at its end
-pub record Grows (old new : List Fallen) : Type 0 where
+pub record ExtendsPending (old new : List Fallen) : Type 0 where
   pub longer : length old ≤ length new
   pub same : (k : ℕ) (d : Fallen) → k < length old → slice_index_or new k d ≡ slice_index_or old k d
 
@@ -67,7 +67,7 @@ IsLook s earlier t u Away = Unit {0}
 abbrev pub IsTraced : Trail → List Fallen → Minimiser → Atom → List Fallen → ℕ → Atom → Type 0
 IsTraced s earlier m entry new latest u = (u ≡ entry)
     ⊎ ((a : List ℤ) → IsBacked s a → atom_holds a u ≡ true
-    → IsOpenAt a new (length m.pending.items) (length new) ⊎ IsBack a earlier m.assert latest)
+    → IsPendingAt a new (length m.pending.items) (length new) ⊎ IsBack a earlier m.assert latest)
 
 pub record Traces (s : Trail) (earlier : List Fallen) (m : Minimiser) (entry : Atom) (new : List Fallen) (latest : ℕ) (reason : List Atom) : Type 0 where
   pub each : All (IsTraced s earlier m entry new latest) reason
@@ -77,5 +77,5 @@ pub record TraceSoFar (s : Trail) (earlier : List Fallen) (entry : Atom) (old m 
   pub assert : m.assert ≡ old.assert
   pub nodes : m.nodes ≡ old.nodes
   pub reason : m.reason ≡ old.reason
-  pub grows : Grows old.pending.items m.pending.items
+  pub grows : ExtendsPending old.pending.items m.pending.items
   pub traces : Traces s earlier old entry m.pending.items latest (take i old.reason.items)

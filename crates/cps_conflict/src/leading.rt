@@ -17,7 +17,7 @@ ghost use Rattle.cps_trail.specs.Trail.{IsFalseNow, IsInside};
 ghost use Rattle.cps_trail.specs.Notes.{AllFit};
 ghost use Rattle.cps_conflict.specs.Conflicts.{AreTrueReasons};
 ghost use Rattle.cps_conflict.specs.Leading.{RulesOut, IsRuledOutAt, IsFetched, AreBehind, IsMarkedFalse, MarksBehind};
-ghost use Rattle.cps_conflict.specs.Leading.{MarksUnless, MarksReason, MarkedSoFar, FollowedSoFar, GoesBack, ArePicked};
+ghost use Rattle.cps_conflict.specs.Leading.{MarksUnless, MarksReason, MarkedSoFar, FollowedSoFar, WalksBack, ArePicked};
 ghost use Rattle.cps_conflict.specs.Leading.{is_marked};
 
 use crate::reason::fetch;
@@ -119,7 +119,7 @@ fn follow_one<E: Explain>(
     requires within { place < length store.now.entries }
     requires fits { AllFit (E.fits explain.now) store.now }
     requires marks { length marks.old ≡ length store.now.entries }
-    ensures followed { OnOk result (GoesBack (IsFetched (E.makes explain.now store.now) store.now)
+    ensures followed { OnOk result (WalksBack (IsFetched (E.makes explain.now store.now) store.now)
         (AreTrueReasons (E.makes explain.now store.now) store.now) store.now (place + 1) place marks.old marks.new) }
     ensures same_length { OnOk result (length marks.new ≡ length marks.old) }
 {
@@ -143,7 +143,7 @@ fn follow<E: Explain>(
 ) -> Result<(), AllocError>
     requires fits { AllFit (E.fits explain.now) store.now }
     requires marks { length marks.old ≡ length store.now.entries }
-    ensures followed { OnOk result (GoesBack (IsFetched (E.makes explain.now store.now) store.now)
+    ensures followed { OnOk result (WalksBack (IsFetched (E.makes explain.now store.now) store.now)
         (AreTrueReasons (E.makes explain.now store.now) store.now) store.now
         (length store.now.entries) 0 marks.old marks.new) }
     ensures same_length { OnOk result (length marks.new ≡ length marks.old) }

@@ -99,7 +99,7 @@ impl Minimiser {
     ghost use Rattle.cps_literal.specs.Truth.{atom_holds};
     ghost use Rattle.cps_conflict.specs.Conflicts.{AreTrueReasons};
     ghost use Rattle.cps_conflict.specs.Drafts.{IsDraft, IsRedundant, Collects};
-    ghost use Rattle.cps_conflict.specs.Nodes.{AreNodes, AreNodesAt, Carries, Passes, Traces, Grows, IsBack, IsLook};
+    ghost use Rattle.cps_conflict.specs.Nodes.{AreNodes, AreNodesAt, Carries, PassesAtoms, Traces, ExtendsPending, IsBack, IsLook};
     ghost use Rattle.cps_conflict.specs.declared.resolvent.Fallen.{Fallen as FallenOf};
 
     /// A search with no room yet.
@@ -171,7 +171,7 @@ impl Minimiser {
     /// How far a node's atoms are known to lead back, and after how many entries all were false to which they lead.
     fn passed(&self, node: Node) -> (usize, usize)
         requires { node.next ≤ node.end }
-        ensures { Passes self.now node result }
+        ensures { PassesAtoms self.now node result }
     {
         let pending = self.pending.as_slice();
         let mut latest = node.latest;
@@ -187,7 +187,7 @@ impl Minimiser {
         (node.end, latest)
     }
 
-    /// Passes over the atoms of a node that are known to lead back, and answers the next.
+    /// PassesAtoms over the atoms of a node that are known to lead back, and answers the next.
     fn pass(&mut self, top: usize) -> Option<Fallen>
         ensures { Carries self.old self.new }
     {
@@ -277,7 +277,7 @@ impl Minimiser {
         requires false_now { All (λ t. t ≢ entry → IsFalseNow store.now t) self.old.reason.items }
         ensures assert { OnOk result (self.new.assert ≡ self.old.assert) }
         ensures nodes { OnOk result (self.new.nodes ≡ self.old.nodes) }
-        ensures grows { OnOk result (Grows self.old.pending.items self.new.pending.items) }
+        ensures grows { OnOk result (ExtendsPending self.old.pending.items self.new.pending.items) }
         ensures traces { IfOk result (λ traced. IfSome traced (λ latest. Traces store.now resolvent.now.earlier
             self.old entry self.new.pending.items latest self.old.reason.items)) }
     {

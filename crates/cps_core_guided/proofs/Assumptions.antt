@@ -4,11 +4,11 @@ use Rattle.std.proofs.lemmas.List.{get_or_append_left, get_or-append-add, get_or
 use Rattle.cps_model.specs.declared.bound.Bound.{Bound}
 use Rattle.cps_model.specs.Solutions.{objective_value}
 use Rattle.cps_literal.specs.declared.atom.Atom.{Atom}
-use Rattle.cps_trail.specs.Trail.{Domains, Trail, Entry, Decision, IsSound}
+use Rattle.cps_trail.specs.Trail.{Domains, Trail, Entry, Decision, IsSoundTrail}
 use Rattle.cps_port.specs.Order.{BoundLe}
 use Rattle.cps_instance.specs.Problem.{Problem}
 use Rattle.cps_search.specs.Assumptions.{NoneIsOpen}
-use Rattle.cps_search.specs.Ends.{IsNext}
+use Rattle.cps_search.specs.Ends.{IsDecidedNext}
 use Rattle.cps_search.specs.Moves.{decided}
 use Rattle.cps_search.specs.Searches.{Search}
 use Rattle.cps_search.specs.Turns.{IsOnward, GoesOnAndBack}
@@ -100,7 +100,7 @@ assumes-decided rs s t ts h new = record {
     front_of (e ∷ es) fs = ap (λ (gs : List Entry). e ∷ gs) (front_of es fs)
 
 -- at level 0 nothing is decided
-pub assumes-bottom : (rs : List ℤ) (s : Trail) (ts : List Held) → IsSound s → s.level ≡ 0 → AssumesFirst rs s ts
+pub assumes-bottom : (rs : List ℤ) (s : Trail) (ts : List Held) → IsSoundTrail s → s.level ≡ 0 → AssumesFirst rs s ts
 assumes-bottom rs s ts sound bottom = record {
   each = λ k d l is.
       let begins = sound.decisions k d l is in
@@ -114,7 +114,7 @@ pub reform-falls : (p : Problem) (y z : Bound) (f : Form) → BoundLe y z → Is
 reform-falls p y z f h r = record { is = r.is; floor = λ a solution below. r.floor a solution (below_less (objective_value p.model a) y z h below); roomy = r.roomy }
 
 -- where no assumption is undecided, what is next is what is chosen
-pub chosen_where_none_open : (chooses : Trail → Option Atom → Type 0) (s : Search) (t : Atom) → NoneIsOpen s.instance.model.assumptions s.store → IsNext chooses s t → chooses s.store (Some t)
+pub chosen_where_none_open : (chooses : Trail → Option Atom → Type 0) (s : Search) (t : Atom) → NoneIsOpen s.instance.model.assumptions s.store → IsDecidedNext chooses s t → chooses s.store (Some t)
 chosen_where_none_open chooses s t none next = elim next [
   | inl assumed ↦ absurd (none assumed.number assumed.is_open.within assumed.is_open.left_open)
   | inr chosen ↦ chosen.1

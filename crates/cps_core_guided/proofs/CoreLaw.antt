@@ -9,7 +9,7 @@ use Rattle.cps_literal.specs.declared.atom.Atom.{Atom}
 use Rattle.cps_literal.specs.Truth.{atom_holds, value_at}
 use Rattle.cps_instance.specs.Sums.{extended}
 use Rattle.cps_instance.specs.declared.term.Term.{Term}
-use Rattle.cps_trail.specs.Trail.{Trail, Entry, IsSound}
+use Rattle.cps_trail.specs.Trail.{Trail, Entry, IsSoundTrail}
 use Rattle.cps_trail.proofs.Falls.{bool_cases, not_both}
 use Rattle.cps_trail.proofs.Times.{IsTrueAfter-all}
 use Rattle.cps_conflict.specs.Conflicts.{Reasons}
@@ -18,7 +18,7 @@ use Rattle.cps_reform.specs.declared.held.Held.{Held}
 use Rattle.cps_reform.specs.Forms.{Form, term_at, no_term}
 use Rattle.cps_reform.specs.Cores.{core_terms, IsSomeAbove, WeighAtLeast}
 use Rattle.cps_reform.specs.Floors.{OfEachBelow}
-use Rattle.cps_reform.specs.Marks.{assumed, IsMarked}
+use Rattle.cps_reform.specs.Marks.{assumed, IsCoreMarked}
 use Rattle.cps_core_guided.specs.Assuming.{AssumesFirst, IsAssumption, IsFailed, IsSomeAssumption}
 use Rattle.cps_search.specs.Searches.{IsSoundSearch}
 use Rattle.cps_search.proofs.Cores.{assumed_holds}
@@ -30,7 +30,7 @@ entry_at [] k l = absurd (omega (arith, l))
 entry_at (e ∷ es) k l = e
 
 -- the decisions behind a failed assumption are assumptions: after any other decision all of them were true
-pub assumptions-behind : (R : Reasons) (rs : List ℤ) (s : Trail) (ts : List Held) (place : ℕ) (t : Atom) (decisions : List Atom) → IsSound s → AssumesFirst rs s ts → IsFailed s ts place → (term_at ts place).subject < length s.first
+pub assumptions-behind : (R : Reasons) (rs : List ℤ) (s : Trail) (ts : List Held) (place : ℕ) (t : Atom) (decisions : List Atom) → IsSoundTrail s → AssumesFirst rs s ts → IsFailed s ts place → (term_at ts place).subject < length s.first
     → All (IsDecisionBehind R s t) decisions → All (IsSomeAssumption rs ts) decisions
 assumptions-behind R rs s ts place t decisions sound first failed inside all = All-weaker (IsDecisionBehind R s t) (IsSomeAssumption rs ts) (λ u b.
     let d = entry_at s.entries b.place b.within in
@@ -72,10 +72,10 @@ assumed-true xs ts i none has core = elim (bool_cases (int_le (value_at xs (term
 ]
 
 -- a form with its core marked assumes the same
-same-assumed : (f g : Form) (place : ℕ) (decisions : List Atom) (i : ℕ) → IsMarked f g place decisions → i < length f.terms → assumed (term_at g.terms i) ≡ assumed (term_at f.terms i)
+same-assumed : (f g : Form) (place : ℕ) (decisions : List Atom) (i : ℕ) → IsCoreMarked f g place decisions → i < length f.terms → assumed (term_at g.terms i) ≡ assumed (term_at f.terms i)
 same-assumed f g place decisions i m l = ap (λ (t : Held). assumed t) (m.terms.same i l)
 
-module _ (s : CoreSearch) (g : Form) (place : ℕ) (decisions : List Atom) (search : IsSoundSearch s.search) (h : HasFailed s place decisions) (m : IsMarked s.form g place decisions) where
+module _ (s : CoreSearch) (g : Form) (place : ℕ) (decisions : List Atom) (search : IsSoundSearch s.search) (h : HasFailed s place decisions) (m : IsCoreMarked s.form g place decisions) where
   -- where no term of the core is above its bound, each term of it has a true assumption
   core-true : (xs : List ℤ) → (IsSomeAbove xs g.terms → ⊥) → (i : ℕ) → i < length s.form.terms → (term_at g.terms i).in_core ≡ true → atom_holds xs (assumed (term_at s.form.terms i)) ≡ true
   core-true xs none i l core = ap (atom_holds xs) (sym (same-assumed s.form g place decisions i m l)) ∙ assumed-true xs g.terms i none (let e = m.terms.same_length in omega (arith, e, l)) core
@@ -151,7 +151,7 @@ only-above xs (t ∷ ts) (suc i) l core one h =
     ] refl one
 
 -- so its bound can rise by 1
-pub risen-alone : (s : CoreSearch) (g : Form) (place : ℕ) (decisions : List Atom) → IsSoundSearch s.search → HasFailed s place decisions → IsMarked s.form g place decisions → length (core_terms g.terms) ≡ 1
+pub risen-alone : (s : CoreSearch) (g : Form) (place : ℕ) (decisions : List Atom) → IsSoundSearch s.search → HasFailed s place decisions → IsCoreMarked s.form g place decisions → length (core_terms g.terms) ≡ 1
     → OfEachBelow s.search.instance s.search.z (λ xs. ((term_at g.terms place).bound +ℤ pos 1) ≤ℤ value_at xs (term_at g.terms place).subject)
 risen-alone s g place decisions search h m one a solution below =
     let e = m.terms.same_length in

@@ -17,7 +17,7 @@ use Rattle.cps_search.specs.declared.end.Phase.{Phase}
 use Rattle.cps_search.specs.declared.end.Phase.TheVariants.{Over}
 use Rattle.cps_search.specs.declared.turn.Turn.{Turn}
 use Rattle.cps_search.specs.declared.turn.Turn.TheVariants as turns
-use Rattle.cps_search.specs.Ends.{Decides, EndsAs, IsNext, IsOver, Lowers, TakesTurn, TurnCaused, end_of, fewer_conflicts, lesser_z, fewer_rows, fewer_values}
+use Rattle.cps_search.specs.Ends.{Decides, EndsAs, IsDecidedNext, IsOver, Lowers, TakesTurn, TurnCaused, end_of, fewer_conflicts, lesser_z, fewer_rows, fewer_values}
 use Rattle.cps_search.specs.Following.{MovesWith}
 use Rattle.cps_search.specs.Moves.{moved, decided}
 use Rattle.cps_search.specs.Searches.{Search, IsSoundSearch}
@@ -90,7 +90,7 @@ same-but : (s m t : CoreSearch) (x : Search) → m ≡ record s { search = m.sea
 same-but s m t x ms is = is ∙ ap (λ (c : CoreSearch). record c { search = x }) ms ∙ ap (λ (y : Search). record s { search = y }) (sym (ap (λ (c : CoreSearch). c.search) is))
 
 -- what is decided next
-next-of : (chooses : Trail → Option Atom → Type 0) (m : CoreSearch) (t : Atom) → DecidesOf chooses m m.search.store t → IsNext (λ c a. a ≡ Some t) m.search t
+next-of : (chooses : Trail → Option Atom → Type 0) (m : CoreSearch) (t : Atom) → DecidesOf chooses m m.search.store t → IsDecidedNext (λ c a. a ≡ Some t) m.search t
 next-of chooses m t (of_the_model none_fails next) = inl next
 next-of chooses m t (of_a_term none few none_fails place first is) = inr (none, refl)
 next-of chooses m t (a_choice none assumed chosen) = inr (none, refl)

@@ -9,7 +9,7 @@ use Rattle.cps_instance.specs.Terms.{Domains}
 use Rattle.cps_literal.specs.declared.atom.Atom.{Atom}
 use Rattle.cps_reform.specs.Forms.{Form}
 use Rattle.cps_reform.specs.Floors.{IsReform}
-use Rattle.cps_trail.specs.Trail.{IsSound, Trail, Entry, Decision, first_of}
+use Rattle.cps_trail.specs.Trail.{IsSoundTrail, Trail, Entry, Decision, first_of}
 use Rattle.cps_branch.specs.Scope.{Scope, IsScopeOf, AreSameUpTo}
 use Rattle.cps_search.specs.Ends.{IsWorking}
 use Rattle.cps_search.specs.Growing.{GrewBy}
@@ -71,7 +71,7 @@ works-decided s t a scope scope' agrees agrees' kept kept' h sound is running ne
 
 -- a sum more at level 0, with a form over it
 pub works-grown : (s : CoreSearch) (t : Search) (f : Form) (sum : DefinedSum) (subject : ℕ) (scope : Scope) (agrees : Trail → ℕ → Type 0) (kept : ℕ) → IsCoreWorking s scope (agrees s.search.store) kept → s.sums < most_sums → IsSoundSearch t → GrewBy s.search t sum subject
-    → IsReform t.instance t.z f → unsigned_abs f.base < 2 ^ 62 → IsSound t.store → t.store.level ≡ 0 → s.ended ≡ false → (AreSameUpTo scope.subjects kept s.search.store t.store → agrees s.search.store kept → agrees t.store kept)
+    → IsReform t.instance t.z f → unsigned_abs f.base < 2 ^ 62 → IsSoundTrail t.store → t.store.level ≡ 0 → s.ended ≡ false → (AreSameUpTo scope.subjects kept s.search.store t.store → agrees s.search.store kept → agrees t.store kept)
     → IsCoreWorking (record s { search = t; form = f; sums = s.sums + 1 }) scope (agrees t.store) kept
 works-grown s t f sum subject scope agrees kept h few sound grew reform small store bottom running on =
     let d = grew.defines in

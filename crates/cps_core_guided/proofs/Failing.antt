@@ -5,7 +5,7 @@ use Rattle.cps_model.specs.declared.bound.Bound.TheVariants.{At}
 use Rattle.cps_model.specs.declared.model.CpModel.{CpModel}
 use Rattle.cps_literal.specs.declared.atom.Atom.{Atom}
 use Rattle.cps_instance.specs.Terms.{Domains}
-use Rattle.cps_trail.specs.Trail.{IsSound, Trail}
+use Rattle.cps_trail.specs.Trail.{IsSoundTrail, Trail}
 use Rattle.cps_port.specs.declared.part.Part.{Part}
 use Rattle.cps_port.specs.Incumbents.{IsLowerBound}
 use Rattle.cps_port.specs.Order.{raised_to}
@@ -16,7 +16,7 @@ use Rattle.cps_search.specs.Moves.{moved}
 use Rattle.cps_search.specs.Resting.{Rest}
 use Rattle.cps_search.specs.Searches.{IsSoundSearch, NoneBelow}
 use Rattle.cps_reform.specs.Forms.{Form, no_term, term_at}
-use Rattle.cps_reform.specs.Floors.{IsPast}
+use Rattle.cps_reform.specs.Floors.{IsFormPast}
 use Rattle.cps_reform.specs.Marks.{assumed}
 use Rattle.cps_core_guided.specs.Assuming.{IsFailed}
 use Rattle.cps_core_guided.specs.CoreTurns.{ExhaustsFrom, FailsFrom, RaisesTo, ReformsFrom}
@@ -28,11 +28,11 @@ use Rattle.cps_core_guided.proofs.Keeping.{sound-search}
 use Rattle.cps_core_guided.proofs.Reforming.{base-bound}
 
 -- a search that went back to level 0 is sound
-pub sound-bottom : (s : CoreSearch) (bottom : Trail) (rest : Rest) → IsSoundCore s → IsSoundSearch (moved s.search bottom rest) → IsSound bottom → bottom.level ≡ 0 → s.ended ≡ false → IsSoundCore (record s { search = moved s.search bottom rest })
+pub sound-bottom : (s : CoreSearch) (bottom : Trail) (rest : Rest) → IsSoundCore s → IsSoundSearch (moved s.search bottom rest) → IsSoundTrail bottom → bottom.level ≡ 0 → s.ended ≡ false → IsSoundCore (record s { search = moved s.search bottom rest })
 sound-bottom s bottom rest h sound store level running = sound-search s (moved s.search bottom rest) h sound refl (BoundLe-refl s.search.z) running (λ few. assumes-bottom s.search.instance.model.assumptions bottom s.form.terms store level)
 
 -- the decisions behind the assumption that failed are assumptions
-pub has-failed : (s : CoreSearch) (bottom : Trail) (rest : Rest) (place : ℕ) (decisions : List Atom) → IsSoundCore s → IsSound s.search.store → s.sums < most_sums → IsFailed s.search.store s.form.terms place → bottom.level ≡ 0
+pub has-failed : (s : CoreSearch) (bottom : Trail) (rest : Rest) (place : ℕ) (decisions : List Atom) → IsSoundCore s → IsSoundTrail s.search.store → s.sums < most_sums → IsFailed s.search.store s.form.terms place → bottom.level ≡ 0
     → AreBehindIn s.search (assumed (term_at s.form.terms place)) decisions → HasFailed (record s { search = moved s.search bottom rest }) place decisions
 has-failed s bottom rest place decisions h store few failed level behind =
     let inside : (term_at s.form.terms place).subject < length s.search.store.first = subst (λ (ds : Domains). (term_at s.form.terms place).subject < length ds) (sym h.search.domains) (h.form.roomy.terms place no_term failed.within).subject in
@@ -76,7 +76,7 @@ module _ (m v : CoreSearch) (bottom : Trail) (rest : Rest) (place : ℕ) (decisi
 
   -- the form that a reform came to has a base that is a lower bound
   pub tried-bound : IsSoundCore v → done ≡ true → IsLowerBound v.search.instance.model (At v.form.base)
-  tried-bound sound on = base-bound v sound (subst (λ (f : Form). IsPast v.search.z v.greatest v.search.instance.domains f → ⊥) (sym (h.is on)) (h.not_past on))
+  tried-bound sound on = base-bound v sound (subst (λ (f : Form). IsFormPast v.search.z v.greatest v.search.instance.domains f → ⊥) (sym (h.is on)) (h.not_past on))
 
   pub tried-none : done ≡ false → NoneBelow v.search.instance.model v.search.z
   tried-none off = subst (λ (b : Bound). NoneBelow v.search.instance.model b) (sym h.z) (subst (λ (k : CpModel). NoneBelow k m.search.z) (sym h.setting.model) (h.none_below off))
@@ -88,7 +88,7 @@ module _ (m v : CoreSearch) (bottom : Trail) (rest : Rest) (place : ℕ) (decisi
     fails = subst (λ (f : Form). FailsFrom m (record v { raised = r; ended = e; core = c }) f h.more) (sym (h.is on)) (failed-from r e c few failed behind back);
     is = refl;
     rises = subst (λ (f : Form). m.form.base <ℤ f.base) (sym (h.is on)) (h.rises on);
-    not_past = subst (λ (f : Form). IsPast v.search.z v.greatest v.search.instance.domains f → ⊥) (sym (h.is on)) (h.not_past on);
+    not_past = subst (λ (f : Form). IsFormPast v.search.z v.greatest v.search.instance.domains f → ⊥) (sym (h.is on)) (h.not_past on);
     raises = raises-from m v (record v { raised = r; ended = e; core = c }) p q (At v.form.base) h.raised raises;
     ended = off;
   }

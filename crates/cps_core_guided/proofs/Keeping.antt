@@ -8,7 +8,7 @@ use Rattle.cps_instance.specs.Posting.{objective_terms}
 use Rattle.cps_instance.specs.Problem.{Problem, Defines, IsInstance}
 use Rattle.cps_instance.specs.Sums.{DefinedSum}
 use Rattle.cps_instance.specs.Terms.{Domains, greatest_of_terms}
-use Rattle.cps_trail.specs.Trail.{IsSound}
+use Rattle.cps_trail.specs.Trail.{IsSoundTrail}
 use Rattle.cps_port.specs.Order.{BoundLe, raised_to}
 use Rattle.cps_port.specs.Incumbents.{IsLowerBound}
 use Rattle.cps_port.proofs.Bounding.{BoundLe-refl, greater_is}
@@ -50,7 +50,7 @@ sound-decided s t a h sound is running new =
     (λ few. subst (λ (x : Search). AssumesFirst x.instance.model.assumptions x.store s.form.terms) (sym is) (assumes-decided s.search.instance.model.assumptions s.search.store a s.form.terms (h.assumes few) (new few)))
 
 -- a new form at level 0
-pub sound-form : (s : CoreSearch) (f : Form) → IsSoundCore s → IsReform s.search.instance s.search.z f → unsigned_abs f.base < 2 ^ 62 → IsSound s.search.store → s.search.store.level ≡ 0 → IsSoundCore (record s { form = f })
+pub sound-form : (s : CoreSearch) (f : Form) → IsSoundCore s → IsReform s.search.instance s.search.z f → unsigned_abs f.base < 2 ^ 62 → IsSoundTrail s.search.store → s.search.store.level ≡ 0 → IsSoundCore (record s { form = f })
 sound-form s f h reform small sound bottom = record {
   search = h.search;
   form = reform;
@@ -71,7 +71,7 @@ greatest-grown p q sum subject i d =
     ∙ sym (greatest-longer p (d.added ∷ []) i)
 
 -- a sum more at level 0, with a form over it
-pub sound-grown : (s : CoreSearch) (t : Search) (f : Form) (sum : DefinedSum) (subject : ℕ) → IsSoundCore s → s.sums < most_sums → IsSoundSearch t → GrewBy s.search t sum subject → IsReform t.instance t.z f → unsigned_abs f.base < 2 ^ 62 → IsSound t.store
+pub sound-grown : (s : CoreSearch) (t : Search) (f : Form) (sum : DefinedSum) (subject : ℕ) → IsSoundCore s → s.sums < most_sums → IsSoundSearch t → GrewBy s.search t sum subject → IsReform t.instance t.z f → unsigned_abs f.base < 2 ^ 62 → IsSoundTrail t.store
     → t.store.level ≡ 0 → s.ended ≡ false → IsSoundCore (record s { search = t; form = f; sums = s.sums + 1 })
 sound-grown s t f sum subject h few sound grew reform small store bottom running =
     let d = grew.defines in

@@ -3,17 +3,17 @@ use Rattle.std.specs.Prelude.{unsigned_abs}
 use Rattle.std.proofs.Common.{◌≡◌, inl, inr, ℕ, ◌<◌, ◌≤◌, ◌^◌, Bool, true, false, List, length, sym, ◌∙◌, ap, subst, arith, ℤ, pos, ◌+ℤ◌, ◌<ℤ◌, to_z, of_z, w64}
 use Rattle.std.proofs.lemmas.Int.{ints}
 use Rattle.cps_literal.specs.declared.atom.Atom.{Atom}
-use Rattle.cps_trail.specs.Trail.{IsFalseNow, IsSound}
+use Rattle.cps_trail.specs.Trail.{IsFalseNow, IsSoundTrail}
 use Rattle.cps_trail.proofs.Falls.{bool_cases}
 use Rattle.cps_branch.specs.Scope.{Scope}
 use Rattle.cps_search.specs.Searches.{NoneBelow, Search}
 use Rattle.cps_reform.specs.Forms.{Form, lifted, term_at}
 use Rattle.cps_reform.specs.Cores.{WeighAtLeast, core_terms, least_weight, split}
-use Rattle.cps_reform.specs.Floors.{IsPast}
-use Rattle.cps_reform.specs.Marks.{IsMarked, assumed}
+use Rattle.cps_reform.specs.Floors.{IsFormPast}
+use Rattle.cps_reform.specs.Marks.{IsCoreMarked, assumed}
 use Rattle.cps_reform.proofs.Rooms.{least-some}
 use Rattle.cps_core_guided.specs.CoreTurns.{IsCoreWorking}
-use Rattle.cps_core_guided.specs.Guiding.{HasFailed, Splits, Tried}
+use Rattle.cps_core_guided.specs.Guiding.{HasFailed, SplitsCore, Tried}
 use Rattle.cps_core_guided.specs.Reforming.{CoreSearch, IsSoundCore, ReformsTo, several}
 use Rattle.cps_core_guided.proofs.CoreWorking.{works-core}
 use Rattle.cps_core_guided.proofs.Keeping.{sound-form}
@@ -41,14 +41,14 @@ works-form s t scope scope' agrees agrees' kept kept' h sound is same count agre
     (omega (arith, longer)) same (omega (arith, few, imported)) (omega (arith, within, size, count)) agreed
 
 -- a sound search whose core was marked
-pub marked-sound : (s : CoreSearch) (g : Form) (place : ℕ) (decisions : List Atom) → IsSoundCore s → s.search.store.level ≡ 0 → IsSound s.search.store → IsMarked s.form g place decisions → IsSoundCore (record s { form = g })
+pub marked-sound : (s : CoreSearch) (g : Form) (place : ℕ) (decisions : List Atom) → IsSoundCore s → s.search.store.level ≡ 0 → IsSoundTrail s.search.store → IsCoreMarked s.form g place decisions → IsSoundCore (record s { form = g })
 marked-sound s g place decisions h bottom sound m =
     sound-form s g h (marked-reform s.search.instance s.search.z s.form g place decisions m h.form) (subst (λ (b : ℤ). unsigned_abs b < 2 ^ 62) (sym m.base) h.base) sound bottom
 
 -- a term was lifted, or no solution is below z
 pub tried-lifted : (s t : CoreSearch) (g : Form) (place : ℕ) (bound : ℤ) (decisions : List Atom) (done : Bool) → HasFailed s place decisions → ReformsTo s.search.store s.search.instance s.form place decisions s.search.instance (lifted g place bound) 0
     → s.form.base <ℤ (lifted g place bound).base → (done ≡ true → t ≡ record s { form = lifted g place bound }) → (done ≡ false → t ≡ record s { form = g })
-    → (done ≡ true → IsPast s.search.z s.greatest s.search.instance.domains t.form → ⊥) → (done ≡ false → IsPast s.search.z s.greatest s.search.instance.domains (lifted g place bound)) → (done ≡ false → NoneBelow s.search.instance.model s.search.z)
+    → (done ≡ true → IsFormPast s.search.z s.greatest s.search.instance.domains t.form → ⊥) → (done ≡ false → IsFormPast s.search.z s.greatest s.search.instance.domains (lifted g place bound)) → (done ≡ false → NoneBelow s.search.instance.model s.search.z)
     → Tried s t place decisions done
 tried-lifted s t g place bound decisions done h reforms rises yes' no' not_past past none =
     let f = lifted g place bound in
@@ -63,9 +63,9 @@ tried-lifted s t g place bound decisions done h reforms rises yes' no' not_past 
       sums = (let e = ap (λ (c : CoreSearch). c.sums) same in omega (arith, e));
       is = is;
       rises = λ on. rises;
-      not_past = λ on. subst (λ (x : Search). IsPast x.z t.greatest x.instance.domains f → ⊥) (sym search) (subst (λ (v : ℤ). IsPast s.search.z v s.search.instance.domains f → ⊥) (sym greatest)
-          (subst (λ (x : Form). IsPast s.search.z s.greatest s.search.instance.domains x → ⊥) (is on) (not_past on)));
-      past = λ off. subst (λ (x : Search). IsPast x.z t.greatest x.instance.domains f) (sym search) (subst (λ (v : ℤ). IsPast s.search.z v s.search.instance.domains f) (sym greatest) (past off));
+      not_past = λ on. subst (λ (x : Search). IsFormPast x.z t.greatest x.instance.domains f → ⊥) (sym search) (subst (λ (v : ℤ). IsFormPast s.search.z v s.search.instance.domains f → ⊥) (sym greatest)
+          (subst (λ (x : Form). IsFormPast s.search.z s.greatest s.search.instance.domains x → ⊥) (is on) (not_past on)));
+      past = λ off. subst (λ (x : Search). IsFormPast x.z t.greatest x.instance.domains f) (sym search) (subst (λ (v : ℤ). IsFormPast s.search.z v s.search.instance.domains f) (sym greatest) (past off));
       none_below = none;
       setting = record { model = ap (λ (x : Search). x.instance.model) search; gap = ap (λ (x : Search). x.gap) search; budget = ap (λ (x : Search). x.budget) search; refused = ap (λ (x : Search). x.refused) search; greatest = greatest };
       entries = ap (λ (x : Search). x.store.entries) search;
@@ -83,8 +83,8 @@ tried-lifted s t g place bound decisions done h reforms rises yes' no' not_past 
     }
 
 -- a core of several terms was split, or no solution is below z
-pub tried-split : (s t : CoreSearch) (g : Form) (place : ℕ) (decisions : List Atom) (done : Bool) → HasFailed s place decisions → (IsFalseNow s.search.store (assumed (term_at s.form.terms place)) → ⊥) → IsMarked s.form g place decisions
-    → 2 ≤ length (core_terms g.terms) → WeighAtLeast 1 g.terms → Splits (record s { form = g }) t done → Tried s t place decisions done
+pub tried-split : (s t : CoreSearch) (g : Form) (place : ℕ) (decisions : List Atom) (done : Bool) → HasFailed s place decisions → (IsFalseNow s.search.store (assumed (term_at s.form.terms place)) → ⊥) → IsCoreMarked s.form g place decisions
+    → 2 ≤ length (core_terms g.terms) → WeighAtLeast 1 g.terms → SplitsCore (record s { form = g }) t done → Tried s t place decisions done
 tried-split s t g place decisions done h not_false m two weighs sp =
     let is = sp.grew.is in
     let some = least-some g.terms weighs in
@@ -96,7 +96,7 @@ tried-split s t g place decisions done h not_false m two weighs sp =
       sums = sp.sums;
       is = sp.is;
       rises = λ on. omega (arith, ints, some, base);
-      not_past = λ on. subst (λ (x : Form). IsPast t.search.z t.greatest t.search.instance.domains x → ⊥) (sp.is on) (sp.not_past on);
+      not_past = λ on. subst (λ (x : Form). IsFormPast t.search.z t.greatest t.search.instance.domains x → ⊥) (sp.is on) (sp.not_past on);
       past = sp.past;
       none_below = sp.none_below;
       setting = record { model = sp.grew.defines.model; gap = ap (λ (x : Search). x.gap) is; budget = ap (λ (x : Search). x.budget) is; refused = ap (λ (x : Search). x.refused) is; greatest = sp.greatest };

@@ -10,7 +10,7 @@ use Rattle.cps_instance.specs.Problem.{Problem, Defines, IsAssignment, IsInstanc
 use Rattle.cps_instance.specs.Sums.{AreSumsFrom, DefinedSum, extended, sum_value}
 use Rattle.cps_instance.specs.Terms.{Intervals, domain_at, greatest_of, least_of, magnitude}
 use Rattle.cps_instance.proofs.Extending.{agree-append, length-extended}
-use Rattle.cps_reform.specs.Beginning.{Holds}
+use Rattle.cps_reform.specs.Beginning.{StandsForTerm}
 use Rattle.cps_reform.proofs.Floors.{defined-values}
 use Rattle.cps_reform.proofs.Growing.{counts, last_sum}
 use Rattle.cps_core_guided.specs.Beginning.{opposite}
@@ -22,7 +22,7 @@ turned (negsuc n) v w h e = (let f : w ≡ negsuc 0 *ℤ v = omega (arith, ints,
 same_size : (l h : ℤ) → max (unsigned_abs ((int_min (negsuc 0 *ℤ l) (negsuc 0 *ℤ h) +ℤ pos 0) +ℤ pos 0)) (unsigned_abs ((int_max (negsuc 0 *ℤ l) (negsuc 0 *ℤ h) +ℤ pos 0) +ℤ pos 0)) ≡ max (unsigned_abs l) (unsigned_abs h)
 same_size l h = grind (arith, ints)
 
-pub opposite-holds : (p q : Problem) (t : Term) (subject : ℕ) → Defines p q (opposite t.subject) subject → IsInstance q → t.subject < variable_count p → t.coeff <ℤ pos 0 → Holds q t subject
+pub opposite-holds : (p q : Problem) (t : Term) (subject : ℕ) → Defines p q (opposite t.subject) subject → IsInstance q → t.subject < variable_count p → t.coeff <ℤ pos 0 → StandsForTerm q t subject
 opposite-holds p q t subject d i l under =
     let s = opposite t.subject in
     let k = counts p q s subject d i in

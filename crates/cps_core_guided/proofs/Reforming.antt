@@ -17,19 +17,19 @@ use Rattle.cps_search.specs.Growing.{IsFalseBelow}
 use Rattle.cps_search.proofs.Teaching.{small_of}
 use Rattle.cps_reform.specs.declared.held.Held.{Held}
 use Rattle.cps_reform.specs.Forms.{Form, lifted, term_at}
-use Rattle.cps_reform.specs.Floors.{IsGreatest, IsPast, IsReform, OfEachBelow, past_z}
-use Rattle.cps_reform.specs.Marks.{IsMarked, assumed}
+use Rattle.cps_reform.specs.Floors.{IsGreatestObjective, IsFormPast, IsReform, OfEachBelow, past_z}
+use Rattle.cps_reform.specs.Marks.{IsCoreMarked, assumed}
 use Rattle.cps_reform.proofs.Marked.{above-marked, roomy-marked, worth-marked}
 use Rattle.cps_reform.proofs.Objectives.{greatest-small, objective-most}
 use Rattle.cps_reform.proofs.Steps.{reform-bounds}
-use Rattle.cps_core_guided.specs.Reforming.{CoreSearch, IsLeastNow, IsSoundCore}
+use Rattle.cps_core_guided.specs.Reforming.{CoreSearch, IsLeastAdmitted, IsSoundCore}
 
 -- ---- of a sound search
 pub z-small : (s : Search) → IsSoundSearch s → IsSmallBound s.z
 z-small s h = small_of s.instance.model s.z h.instance.valid h.incumbent
 
-pub most-greatest : (s : CoreSearch) → IsSoundCore s → IsGreatest s.search.instance.model s.greatest
-most-greatest s h = subst (λ (v : ℤ). IsGreatest s.search.instance.model v) (sym h.greatest) (objective-most s.search.instance h.search.instance)
+pub most-greatest : (s : CoreSearch) → IsSoundCore s → IsGreatestObjective s.search.instance.model s.greatest
+most-greatest s h = subst (λ (v : ℤ). IsGreatestObjective s.search.instance.model v) (sym h.greatest) (objective-most s.search.instance h.search.instance)
 
 pub small-greatest : (s : CoreSearch) → IsSoundCore s → unsigned_abs s.greatest < 2 ^ 62
 small-greatest s h = subst (λ (v : ℤ). unsigned_abs v < 2 ^ 62) (sym h.greatest) (greatest-small s.search.instance h.search.instance)
@@ -42,14 +42,14 @@ below_or_at v (At y) = at_or_less v y
     at_or_less v y = grind (arith, ints)
 
 -- a form that is not past what solutions below z have has a base that is a lower bound
-pub base-bound : (s : CoreSearch) → IsSoundCore s → (IsPast s.search.z s.greatest s.search.instance.domains s.form → ⊥) → IsLowerBound s.search.instance.model (At s.form.base)
+pub base-bound : (s : CoreSearch) → IsSoundCore s → (IsFormPast s.search.z s.greatest s.search.instance.domains s.form → ⊥) → IsLowerBound s.search.instance.model (At s.form.base)
 base-bound s h not_past = elim (below_or_at s.form.base s.search.z) [
   | inl less ↦ reform-bounds s.search.instance s.search.z s.form h.form less
   | inr past ↦ absurd (not_past (past_z past))
 ]
 
 -- ---- of a marked form
-pub marked-reform : (p : Problem) (z : Bound) (f g : Form) (place : ℕ) (decisions : List Atom) → IsMarked f g place decisions → IsReform p z f → IsReform p z g
+pub marked-reform : (p : Problem) (z : Bound) (f g : Form) (place : ℕ) (decisions : List Atom) → IsCoreMarked f g place decisions → IsReform p z f → IsReform p z g
 marked-reform p z f g place decisions m h = record {
   is = λ a is. h.is a is ∙ sym (worth-marked f g place decisions m (extended p.defs a));
   floor = λ a solution below. above-marked f g place decisions m (extended p.defs a) (h.floor a solution below);
@@ -64,7 +64,7 @@ less_fails : (v b : ℤ) → b <ℤ v → int_le v b ≡ false
 less_fails v b h = grind (arith, ints)
 
 -- where the assumption of a term is false, its subject's least value is above the bound
-pub least-above : (s : Trail) (t : Held) (v : ℤ) → IsFalseNow s (assumed t) → IsLeastNow s t.subject v → t.bound <ℤ v
+pub least-above : (s : Trail) (t : Held) (v : ℤ) → IsFalseNow s (assumed t) → IsLeastAdmitted s t.subject v → t.bound <ℤ v
 least-above s t v not h = more v t.bound (not v h.has)
 
 below_one : (v b : ℤ) → v ≤ℤ b → (v -ℤ pos 1) <ℤ b
@@ -74,7 +74,7 @@ at_least : (v w : ℤ) → int_le w (v -ℤ pos 1) ≡ false → v ≤ℤ w
 at_least v w e = (let h = more w (v -ℤ pos 1) e in omega (arith, ints, h))
 
 -- at level 0 no solution below z is below the least value
-pub risen-least : (s : Search) (subject : ℕ) (v : ℤ) → IsFalseBelow s → subject < length s.store.first → IsLeastNow s.store subject v → OfEachBelow s.instance s.z (λ xs. v ≤ℤ value_at xs subject)
+pub risen-least : (s : Search) (subject : ℕ) (v : ℤ) → IsFalseBelow s → subject < length s.store.first → IsLeastAdmitted s.store subject v → OfEachBelow s.instance s.z (λ xs. v ≤ℤ value_at xs subject)
 risen-least s subject v bottom inside h a solution below =
     let atom : Atom = record { subject = subject; op = Le; value = v -ℤ pos 1 } in
     at_least v (value_at (extended s.instance.defs a) subject) (bottom atom inside (λ x has. less_fails x (v -ℤ pos 1) (below_one v x (h.least x has))) a solution.free below)
@@ -97,5 +97,5 @@ pub read_back : (x : ℤ) → unsigned_abs x < 2 ^ 62 → to_z w64 (of_z w64 x) 
 read_back x near = omega (arith, ints)
 
 -- the least value of a domain is the subject's least value now
-pub least-now : (x s : Trail) (subject : ℕ) (v : ℤ) (has : ℤ → Bool) → x ≡ s → ((y : ℤ) → has y ≡ admits x.first x.entries subject y) → has v ≡ true → ((y : ℤ) → has y ≡ true → v ≤ℤ y) → IsLeastNow s subject v
-least-now x s subject v has same is within least = subst (λ (t : Trail). IsLeastNow t subject v) same (record { has = sym (is v) ∙ within; least = λ y h. least y (is y ∙ h) })
+pub least-now : (x s : Trail) (subject : ℕ) (v : ℤ) (has : ℤ → Bool) → x ≡ s → ((y : ℤ) → has y ≡ admits x.first x.entries subject y) → has v ≡ true → ((y : ℤ) → has y ≡ true → v ≤ℤ y) → IsLeastAdmitted s subject v
+least-now x s subject v has same is within least = subst (λ (t : Trail). IsLeastAdmitted t subject v) same (record { has = sym (is v) ∙ within; least = λ y h. least y (is y ∙ h) })

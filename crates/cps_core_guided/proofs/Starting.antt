@@ -16,8 +16,8 @@ use Rattle.cps_instance.proofs.Intervals.{greatest_among, least_of-least, magnit
 use Rattle.cps_search.specs.Growing.{grown}
 use Rattle.cps_search.specs.Moves.{fresh}
 use Rattle.cps_search.specs.Searches.{IsSoundSearch, Search}
-use Rattle.cps_reform.specs.Beginning.{Holds}
-use Rattle.cps_reform.specs.Forms.{Form, IsRoomy, form_value, held_reach, with_held}
+use Rattle.cps_reform.specs.Beginning.{StandsForTerm}
+use Rattle.cps_reform.specs.Forms.{Form, FitsTypes, form_value, held_reach, with_held}
 use Rattle.cps_reform.proofs.Firsts.{FirstSoFar, first-more, first-none, first-room, first-stays}
 use Rattle.cps_core_guided.specs.Beginning.{MayHaveOpposite, OnlyGrew, opposite}
 
@@ -27,7 +27,7 @@ size_of (pos n) h = refl
 size_of (negsuc n) h = absurd (omega (arith, ints, h))
 
 -- a term with no negative coefficient is held by its own subject
-pub itself-holds : (p : Problem) (t : Term) → IsInstance p → t.subject < variable_count p → pos 0 ≤ℤ t.coeff → Holds p t t.subject
+pub itself-holds : (p : Problem) (t : Term) → IsInstance p → t.subject < variable_count p → pos 0 ≤ℤ t.coeff → StandsForTerm p t t.subject
 itself-holds p t i l up =
     let count = i.domains.count in
     record {
@@ -167,23 +167,23 @@ parts terms k t l is =
     sym (take-append-drop (k + 1) terms) ∙ ap (λ (us : List Term). us ++ drop (k + 1) terms) (take_more terms k t l ∙ ap (λ (u : Term). take k terms ++ u ∷ []) (sym is))
 
 -- what holding the next term needs
-pub next-within : (p : Problem) (ds : Domains) (subject : ℕ) (t : Term) → ds ≡ p.domains → IsInstance p → Holds p t subject → magnitude (domain_at ds subject) < 2 ^ 62
+pub next-within : (p : Problem) (ds : Domains) (subject : ℕ) (t : Term) → ds ≡ p.domains → IsInstance p → StandsForTerm p t subject → magnitude (domain_at ds subject) < 2 ^ 62
 next-within p ds subject t same i h = subst (λ (es : Domains). magnitude (domain_at es subject) < 2 ^ 62) (sym same) (domain-small p subject i h.within)
 
-pub next-ordered : (p : Problem) (ds : Domains) (subject : ℕ) (t : Term) → ds ≡ p.domains → IsInstance p → Holds p t subject → least_of (domain_at ds subject) ≤ℤ greatest_of (domain_at ds subject)
+pub next-ordered : (p : Problem) (ds : Domains) (subject : ℕ) (t : Term) → ds ≡ p.domains → IsInstance p → StandsForTerm p t subject → least_of (domain_at ds subject) ≤ℤ greatest_of (domain_at ds subject)
 next-ordered p ds subject t same i h =
     let ps = domain_at p.domains subject in
     let are : AreIntervals ps = All-get_or AreIntervals p.domains subject [] h.within i.domains.sound in
     subst (λ (es : Domains). least_of (domain_at es subject) ≤ℤ greatest_of (domain_at es subject)) (sym same) (least_of-least ps (greatest_of ps) are (greatest_among ps are))
 
-pub next-roomy : (p : Problem) (ds : Domains) (ts : List Term) (f : Form) → ds ≡ p.domains → FirstSoFar p ts f → IsRoomy ds f
-next-roomy p ds ts f same h = subst (λ (es : Domains). IsRoomy es f) (sym same) h.first.roomy
+pub next-roomy : (p : Problem) (ds : Domains) (ts : List Term) (f : Form) → ds ≡ p.domains → FirstSoFar p ts f → FitsTypes ds f
+next-roomy p ds ts f same h = subst (λ (es : Domains). FitsTypes es f) (sym same) h.first.roomy
 
 pub next-base : (p : Problem) (ds : Domains) (ts : List Term) (f : Form) → ds ≡ p.domains → FirstSoFar p ts f → unsigned_abs f.base ≤ held_reach ds f.terms
 next-base p ds ts f same h = subst (λ (es : Domains). unsigned_abs f.base ≤ held_reach es f.terms) (sym same) h.base
 
 pub next-room : (of : ℕ) (s t u : Search) (ds : Domains) (terms : List Term) (k : ℕ) (f : Form) (v : Term) (subject : ℕ) → All (λ t. t.subject < variable_count s.instance) terms → FormSoFar s t terms k f → MayHaveOpposite of t u subject → ds ≡ u.instance.domains
-    → k < length terms → v ≡ get_or terms k v → Holds u.instance v subject → held_reach ds f.terms + unsigned_abs v.coeff * magnitude (domain_at ds subject) < 2 ^ 62
+    → k < length terms → v ≡ get_or terms k v → StandsForTerm u.instance v subject → held_reach ds f.terms + unsigned_abs v.coeff * magnitude (domain_at ds subject) < 2 ^ 62
 next-room of s t u ds terms k f v subject all h grew same l is holds =
     subst (λ (es : Domains). held_reach es f.terms + unsigned_abs v.coeff * magnitude (domain_at es subject) < 2 ^ 62) (sym same)
     (first-room u.instance (take k terms) (drop (k + 1) terms) v subject f (form-stays of s t u terms k f subject all h grew) holds
@@ -191,7 +191,7 @@ next-room of s t u ds terms k f v subject all h grew same l is holds =
 
 -- one more term is held
 pub form-more : (of : ℕ) (s t u : Search) (ds : Domains) (terms : List Term) (k : ℕ) (f g : Form) (v : Term) (subject : ℕ) → All (λ t. t.subject < variable_count s.instance) terms → FormSoFar s t terms k f → MayHaveOpposite of t u subject → IsSoundSearch u
-    → ds ≡ u.instance.domains → k < length terms → v ≡ get_or terms k v → Holds u.instance v subject → g ≡ with_held ds f (unsigned_abs v.coeff) subject → IsRoomy ds g → unsigned_abs g.base ≤ held_reach ds g.terms
+    → ds ≡ u.instance.domains → k < length terms → v ≡ get_or terms k v → StandsForTerm u.instance v subject → g ≡ with_held ds f (unsigned_abs v.coeff) subject → FitsTypes ds g → unsigned_abs g.base ≤ held_reach ds g.terms
     → ((xs : List ℤ) → form_value xs g ≡ form_value xs f +ℤ pos (unsigned_abs v.coeff) *ℤ value_at xs subject) → FormSoFar s u terms (k + 1) g
 form-more of s t u ds terms k f g v subject all h grew sound same l is holds made roomy base worth =
     let p = u.instance in
@@ -199,7 +199,7 @@ form-more of s t u ds terms k f g v subject all h grew sound same l is holds mad
     let made' : g ≡ with_held p.domains f n subject = made ∙ ap (λ (es : Domains). with_held es f n subject) same in
     let more : FirstSoFar p (take k terms ++ v ∷ []) (with_held p.domains f n subject) =
     first-more p (take k terms) v subject f (form-stays of s t u terms k f subject all h grew) holds
-    (subst (λ (x : Form). IsRoomy p.domains x) made' (subst (λ (es : Domains). IsRoomy es g) same roomy))
+    (subst (λ (x : Form). FitsTypes p.domains x) made' (subst (λ (es : Domains). FitsTypes es g) same roomy))
     (subst (λ (x : Form). unsigned_abs x.base ≤ held_reach p.domains x.terms) made' (subst (λ (es : Domains). unsigned_abs g.base ≤ held_reach es g.terms) same base))
     (subst (λ (x : Form). (xs : List ℤ) → form_value xs x ≡ form_value xs f +ℤ pos n *ℤ value_at xs subject) made' worth) in
     record {

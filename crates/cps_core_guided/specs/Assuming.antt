@@ -36,11 +36,11 @@ pub record IsFailed (s : Trail) (ts : List Held) (place : ℕ) : Type 0 where
   pub false_now : IsFalseNow s (assumed (term_at ts place))
   pub first : (i : ℕ) → i < place → 1 ≤ (term_at ts i).weight → IsFalseNow s (assumed (term_at ts i)) → ⊥
 
-abbrev pub NoneFails : Trail → List Held → Type 0
-NoneFails s ts = All (λ t. 1 ≤ t.weight → IsFalseNow s (assumed t) → ⊥) ts
+abbrev pub NoTermFails : Trail → List Held → Type 0
+NoTermFails s ts = All (λ t. 1 ≤ t.weight → IsFalseNow s (assumed t) → ⊥) ts
 
 -- the first term with a weight above 0 whose assumption is undecided
-pub record IsFirstOpen (s : Trail) (ts : List Held) (place : ℕ) : Type 0 where
+pub record IsFirstOpenTerm (s : Trail) (ts : List Held) (place : ℕ) : Type 0 where
   pub within : place < length ts
   pub weighs : 1 ≤ (term_at ts place).weight
   pub left_open : IsUndecided s (assumed (term_at ts place))

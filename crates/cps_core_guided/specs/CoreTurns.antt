@@ -30,8 +30,8 @@ use Rattle.cps_search.specs.Turns.{DecisionDue, ExhaustedAll, FoundOne, GoesOnAn
 use Rattle.cps_reform.specs.Forms.{Form, term_at}
 use Rattle.cps_reform.specs.Beginning.{IsFirstForm}
 use Rattle.cps_reform.specs.Marks.{assumed}
-use Rattle.cps_core_guided.specs.Assuming.{AreAssumed, IsFailed, IsFirstOpen, NoneFails}
-use Rattle.cps_reform.specs.Floors.{IsPast}
+use Rattle.cps_core_guided.specs.Assuming.{AreAssumed, IsFailed, IsFirstOpenTerm, NoTermFails}
+use Rattle.cps_reform.specs.Floors.{IsFormPast}
 use Rattle.cps_core_guided.specs.Reforming.{CoreSearch, IsSoundCore, ReformsTo, most_sums, whole, whole_core}
 
 -- what no turn changes: the problem gains sums alone, in a reform
@@ -46,10 +46,10 @@ pub record SameCoreSetting (s t : CoreSearch) : Type 0 where
 -- is undecided; where none is, the first of a term that is; and what the brancher chooses where all of them are true,
 -- or nothing is assumed of terms any more.
 pub data DecidesOf (chooses : Trail → Option Atom → Type 0) (s : CoreSearch) (m : Trail) (t : Atom) : Type 0 where
-  of_the_model : (s.sums < most_sums → NoneFails m s.form.terms)
+  of_the_model : (s.sums < most_sums → NoTermFails m s.form.terms)
       → IsAssumedNext s.search.instance.model.assumptions m t → DecidesOf chooses s m t
-  of_a_term : NoneIsOpen s.search.instance.model.assumptions m → s.sums < most_sums → NoneFails m s.form.terms
-      → (place : ℕ) → IsFirstOpen m s.form.terms place → t ≡ assumed (term_at s.form.terms place)
+  of_a_term : NoneIsOpen s.search.instance.model.assumptions m → s.sums < most_sums → NoTermFails m s.form.terms
+      → (place : ℕ) → IsFirstOpenTerm m s.form.terms place → t ≡ assumed (term_at s.form.terms place)
       → DecidesOf chooses s m t
   a_choice : NoneIsOpen s.search.instance.model.assumptions m
       → (s.sums < most_sums → AreAssumed m.first m.entries s.form.terms) → chooses m (Some t) → DecidesOf chooses s m t
@@ -99,7 +99,7 @@ pub record ReformsFrom (m t : CoreSearch) (p q : Part) (base : ℤ) : Type 0 whe
   pub fails : FailsFrom m t t.form more
   pub is : t.form.base ≡ base
   pub rises : m.form.base <ℤ base
-  pub not_past : IsPast t.search.z t.greatest t.search.instance.domains t.form → ⊥
+  pub not_past : IsFormPast t.search.z t.greatest t.search.instance.domains t.form → ⊥
   pub raises : RaisesTo (At base) m t p q
   pub ended : t.ended ≡ false
 
@@ -109,7 +109,7 @@ pub record ExhaustsFrom (m t : CoreSearch) (p q : Part) : Type 0 where
   pub form : Form
   pub more : ℕ
   pub fails : FailsFrom m t form more
-  pub past : IsPast t.search.z t.greatest t.search.instance.domains form
+  pub past : IsFormPast t.search.z t.greatest t.search.instance.domains form
   pub none_below : NoneBelow m.search.instance.model t.search.z
   pub raises : RaisesTo t.search.z m t p q
   pub ended : t.ended ≡ true

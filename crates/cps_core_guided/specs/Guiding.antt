@@ -17,7 +17,7 @@ use Rattle.cps_literal.specs.Truth.{atom_holds}
 use Rattle.std.specs.List.{All}
 use Rattle.cps_reform.specs.Marks.{assumed}
 use Rattle.cps_core_guided.specs.Assuming.{IsSomeAssumption}
-use Rattle.cps_reform.specs.Floors.{IsPast}
+use Rattle.cps_reform.specs.Floors.{IsFormPast}
 use Rattle.cps_core_guided.specs.Reforming.{CoreSearch, ReformsTo, most_sums}
 use Rattle.cps_core_guided.specs.CoreTurns.{IsCoreWorking, SameCoreSetting}
 
@@ -65,8 +65,8 @@ pub record Tried (s t : CoreSearch) (place : ℕ) (decisions : List Atom) (done 
   pub sums : t.sums ≡ s.sums + more
   pub is : done ≡ true → t.form ≡ form
   pub rises : done ≡ true → s.form.base <ℤ form.base
-  pub not_past : done ≡ true → IsPast t.search.z t.greatest t.search.instance.domains form → ⊥
-  pub past : done ≡ false → IsPast t.search.z t.greatest t.search.instance.domains form
+  pub not_past : done ≡ true → IsFormPast t.search.z t.greatest t.search.instance.domains form → ⊥
+  pub past : done ≡ false → IsFormPast t.search.z t.greatest t.search.instance.domains form
   pub none_below : done ≡ false → NoneBelow s.search.instance.model s.search.z
   pub setting : SameCoreSetting s t
   pub entries : t.search.store.entries ≡ s.search.store.entries
@@ -84,14 +84,14 @@ pub record Tried (s t : CoreSearch) (place : ℕ) (decisions : List Atom) (done 
 
 -- A core of several terms was split by its sum, which was defined. Where that went through, the form is the split one;
 -- else it stays, and no solution is below z.
-pub record Splits (s t : CoreSearch) (done : Bool) : Type 0 where
+pub record SplitsCore (s t : CoreSearch) (done : Bool) : Type 0 where
   pub subject : ℕ
   pub grew : GrewBy s.search t.search (core_sum s.form.terms) subject
   pub sums : t.sums ≡ s.sums + 1
   pub is : done ≡ true → t.form ≡ split s.form (least_weight s.form.terms) subject
   pub stays : done ≡ false → t.form ≡ s.form
-  pub not_past : done ≡ true → IsPast t.search.z t.greatest t.search.instance.domains t.form → ⊥
-  pub past : done ≡ false → IsPast t.search.z t.greatest t.search.instance.domains
+  pub not_past : done ≡ true → IsFormPast t.search.z t.greatest t.search.instance.domains t.form → ⊥
+  pub past : done ≡ false → IsFormPast t.search.z t.greatest t.search.instance.domains
       (split s.form (least_weight s.form.terms) subject)
   pub none_below : done ≡ false → NoneBelow s.search.instance.model s.search.z
   pub raised : t.raised ≡ s.raised

@@ -17,7 +17,7 @@ use Rattle.cps_search.specs.Searches.{Search, IsSoundSearch, NoneBelow}
 use Rattle.cps_reform.specs.Forms.{Form, term_at, lifted}
 use Rattle.cps_reform.specs.Cores.{core_terms, core_sum, least_weight, split}
 use Rattle.cps_reform.specs.Floors.{IsReform}
-use Rattle.cps_reform.specs.Marks.{assumed, IsMarked}
+use Rattle.cps_reform.specs.Marks.{assumed, IsCoreMarked}
 use Rattle.cps_core_guided.specs.Assuming.{AssumesFirst}
 
 -- A search with the objective's form; how many sums it defined for cores; the greatest objective by the domains; the
@@ -41,7 +41,7 @@ abbrev pub greatest_objective : Problem → ℤ
 greatest_objective p = greatest_of_terms p.domains (objective_terms p.model.objective)
 
 -- the least value that a subject has now
-pub record IsLeastNow (s : Trail) (subject : ℕ) (v : ℤ) : Type 0 where
+pub record IsLeastAdmitted (s : Trail) (subject : ℕ) (v : ℤ) : Type 0 where
   pub has : admits s.first s.entries subject v ≡ true
   pub least : (x : ℤ) → admits s.first s.entries subject x ≡ true → v ≤ℤ x
 
@@ -50,15 +50,15 @@ pub record IsLeastNow (s : Trail) (subject : ℕ) (v : ℤ) : Type 0 where
 pub data ReformsTo (bottom : Trail) (p : Problem) (f : Form) (place : ℕ) (decisions : List Atom) : Problem → Form → ℕ → Type 0 where
   -- the assumption is false at level 0: the bound rises to the subject's least value there
   at_bottom : (v : ℤ) → IsFalseNow bottom (assumed (term_at f.terms place))
-      → IsLeastNow bottom (term_at f.terms place).subject v
+      → IsLeastAdmitted bottom (term_at f.terms place).subject v
       → ReformsTo bottom p f place decisions p (lifted f place v) 0
   -- it is not, and the core is that term alone: the bound rises by 1
-  alone : (g : Form) → (IsFalseNow bottom (assumed (term_at f.terms place)) → ⊥) → IsMarked f g place decisions
+  alone : (g : Form) → (IsFalseNow bottom (assumed (term_at f.terms place)) → ⊥) → IsCoreMarked f g place decisions
       → length (core_terms g.terms) ≡ 1
       → ReformsTo bottom p f place decisions p (lifted g place ((term_at f.terms place).bound +ℤ pos 1)) 0
   -- it is not, and the core has several terms: their weights fall by the least of them, which their sum takes over
   several : (g : Form) (q : Problem) (subject : ℕ) → (IsFalseNow bottom (assumed (term_at f.terms place)) → ⊥)
-      → IsMarked f g place decisions → 2 ≤ length (core_terms g.terms) → Defines p q (core_sum g.terms) subject
+      → IsCoreMarked f g place decisions → 2 ≤ length (core_terms g.terms) → Defines p q (core_sum g.terms) subject
       → ReformsTo bottom p f place decisions q (split g (least_weight g.terms) subject) 1
 
 -- a worker's phase: it is exhausted, where it ended in place of a reform

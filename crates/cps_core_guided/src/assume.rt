@@ -4,7 +4,7 @@ ghost use Rattle.std.specs.Prelude.{◌↔◌, ◌<◌, ◌≤◌, length, All, 
 ghost use Rattle.cps_trail.specs.Trail.{IsFalseNow};
 ghost use Rattle.cps_branch.specs.Choice.{IsUndecided};
 ghost use Rattle.cps_reform.specs.Marks.{assumed};
-ghost use Rattle.cps_core_guided.specs.Assuming.{AreAssumed, IsFailed, IsFirstOpen, NoneFails};
+ghost use Rattle.cps_core_guided.specs.Assuming.{AreAssumed, IsFailed, IsFirstOpenTerm, NoTermFails};
 
 use cps_literal::Truth;
 use cps_reform::{Held, assumption};
@@ -42,7 +42,7 @@ fn is_open(store: &Store, term: &Held) -> bool
 pub(crate) fn first_failed(store: &Store, terms: &[Held]) -> Option<usize>
     requires { All (λ t. t.subject < length store.now.first) terms.now }
     ensures some { IfSome result (IsFailed store.now terms.now) }
-    ensures none { IsNone result → NoneFails store.now terms.now }
+    ensures none { IsNone result → NoTermFails store.now terms.now }
 {
     for (place, term) in terms.iter().enumerate() {
         if fails(store, term) {
@@ -55,8 +55,8 @@ pub(crate) fn first_failed(store: &Store, terms: &[Held]) -> Option<usize>
 /// The place of the first term with a weight above 0 whose assumption is undecided.
 pub(crate) fn first_open(store: &Store, terms: &[Held]) -> Option<usize>
     requires { All (λ t. t.subject < length store.now.first) terms.now }
-    ensures some { IfSome result (IsFirstOpen store.now terms.now) }
-    ensures none { IsNone result → NoneFails store.now terms.now → AreAssumed store.now.first store.now.entries
+    ensures some { IfSome result (IsFirstOpenTerm store.now terms.now) }
+    ensures none { IsNone result → NoTermFails store.now terms.now → AreAssumed store.now.first store.now.entries
         terms.now }
 {
     for (place, term) in terms.iter().enumerate() {

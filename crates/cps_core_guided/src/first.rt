@@ -4,7 +4,7 @@ ghost use Rattle.std.specs.Prelude.{◌≡◌, ◌+◌, ◌<◌, ◌≤◌, ◌^
 ghost use Rattle.cps_instance.specs.Problem.{variable_count};
 ghost use Rattle.cps_instance.specs.Terms.{terms_reach};
 ghost use Rattle.cps_search.specs.Searches.{IsSoundSearch};
-ghost use Rattle.cps_reform.specs.Beginning.{Holds, IsFirstForm};
+ghost use Rattle.cps_reform.specs.Beginning.{StandsForTerm, IsFirstForm};
 ghost use Rattle.cps_core_guided.specs.Beginning.{MayHaveOpposite, OnlyGrew};
 
 use cps_instance::Term;
@@ -20,7 +20,7 @@ fn held_subject<P: Defining>(frame: &mut Frame<'_, P>, term: Term) -> Result<u32
     requires bottom { frame.old.store.level ≡ 0 }
     requires subject { term.subject < variable_count frame.old.instance }
     requires room { length frame.old.instance.domains < 2 ^ 31 }
-    ensures holds { IfOk result (Holds frame.new.instance term) }
+    ensures holds { IfOk result (StandsForTerm frame.new.instance term) }
     ensures grew { IfOk result (MayHaveOpposite term.subject frame.old frame.new) }
     ensures sound { OnOk result (IsSoundSearch frame.new) }
     ensures refused { OnErr result (IsTrue frame.new.refused) }

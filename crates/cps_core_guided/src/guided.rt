@@ -22,11 +22,11 @@ ghost use Rattle.cps_reform.specs.Forms.{lifted, term_at};
 ghost use Rattle.cps_reform.specs.Cores.{core_terms, WeighAtLeast, IsSomeAbove};
 ghost use Rattle.cps_reform.specs.Floors.{OfEachBelow};
 ghost use Rattle.cps_reform.specs.Marks.{assumed};
-ghost use Rattle.cps_core_guided.specs.Assuming.{AreAssumed, IsFailed, IsFirstOpen, NoneFails};
-ghost use Rattle.cps_reform.specs.Floors.{IsPast};
+ghost use Rattle.cps_core_guided.specs.Assuming.{AreAssumed, IsFailed, IsFirstOpenTerm, NoTermFails};
+ghost use Rattle.cps_reform.specs.Floors.{IsFormPast};
 ghost use Rattle.cps_core_guided.specs.Reforming.{IsSoundCore, most_sums, whole, whole_core};
 ghost use Rattle.cps_core_guided.specs.CoreTurns.{GoesOn, RaisesTo, TakesCoreTurn};
-ghost use Rattle.cps_core_guided.specs.Guiding.{core_search_of, HasFailed, IsDue, Splits, Tried, Works};
+ghost use Rattle.cps_core_guided.specs.Guiding.{core_search_of, HasFailed, IsDue, SplitsCore, Tried, Works};
 
 use crate::assume::{first_failed, first_open};
 use cps_branch::Brancher;
@@ -129,7 +129,7 @@ impl<'a, P: Defining, B: Brancher + Drop> Guided<'a, P, B> {
         ensures some { IfSome result (λ place. (self.now.sums < most_sums)
             × IsFailed self.now.frame.store self.now.reform.terms place) }
         ensures none { IsNone result → self.now.sums < most_sums
-            → NoneFails self.now.frame.store self.now.reform.terms }
+            → NoTermFails self.now.frame.store self.now.reform.terms }
     {
         if !self.assumes_terms() {
             return None;
@@ -143,7 +143,7 @@ impl<'a, P: Defining, B: Brancher + Drop> Guided<'a, P, B> {
         requires works { Works B.scope B.agrees self.old }
         requires due { IsDue self.old.frame }
         requires running { self.old.ended ≡ false }
-        requires none_fails { self.old.sums < most_sums → NoneFails self.old.frame.store self.old.reform.terms }
+        requires none_fails { self.old.sums < most_sums → NoTermFails self.old.frame.store self.old.reform.terms }
         ensures goes_on { IfOk result
             (λ turn. (part : Part) → GoesOn (B.chooses self.old.brancher) (core_search_of self.old)
             (core_search_of self.new) part part turn) }
@@ -168,7 +168,7 @@ impl<'a, P: Defining, B: Brancher + Drop> Guided<'a, P, B> {
         requires due { IsDue self.old.frame }
         requires running { self.old.ended ≡ false }
         requires next { IsAssumedNext self.old.frame.instance.model.assumptions self.old.frame.store atom }
-        requires none_fails { self.old.sums < most_sums → NoneFails self.old.frame.store self.old.reform.terms }
+        requires none_fails { self.old.sums < most_sums → NoTermFails self.old.frame.store self.old.reform.terms }
         ensures goes_on { IfOk result
             (λ turn. (part : Part) → GoesOn (B.chooses self.old.brancher) (core_search_of self.old)
             (core_search_of self.new) part part turn) }
@@ -186,7 +186,7 @@ impl<'a, P: Defining, B: Brancher + Drop> Guided<'a, P, B> {
         requires due { IsDue self.old.frame }
         requires running { self.old.ended ≡ false }
         requires none_open { NoneIsOpen self.old.frame.instance.model.assumptions self.old.frame.store }
-        requires none_fails { self.old.sums < most_sums → NoneFails self.old.frame.store self.old.reform.terms }
+        requires none_fails { self.old.sums < most_sums → NoTermFails self.old.frame.store self.old.reform.terms }
         ensures goes_on { IfOk result
             (λ turn. (part : Part) → GoesOn (B.chooses self.old.brancher) (core_search_of self.old)
             (core_search_of self.new) part part turn) }
@@ -212,8 +212,8 @@ impl<'a, P: Defining, B: Brancher + Drop> Guided<'a, P, B> {
         requires running { self.old.ended ≡ false }
         requires none_open { NoneIsOpen self.old.frame.instance.model.assumptions self.old.frame.store }
         requires few { self.old.sums < most_sums }
-        requires none_fails { NoneFails self.old.frame.store self.old.reform.terms }
-        requires open_now { IsFirstOpen self.old.frame.store self.old.reform.terms place }
+        requires none_fails { NoTermFails self.old.frame.store self.old.reform.terms }
+        requires open_now { IsFirstOpenTerm self.old.frame.store self.old.reform.terms place }
         ensures goes_on { IfOk result
             (λ turn. (part : Part) → GoesOn (B.chooses self.old.brancher) (core_search_of self.old)
             (core_search_of self.new) part part turn) }
@@ -367,8 +367,8 @@ impl<'a, P: Defining, B: Brancher + Drop> Guided<'a, P, B> {
         } }
         ensures stays { result ≡ false → core_search_of self.new ≡ core_search_of self.old }
         ensures not_past { result ≡ true
-            → IsPast self.old.frame.z self.old.greatest self.old.frame.instance.domains self.new.reform → ⊥ }
-        ensures past { result ≡ false → IsPast self.old.frame.z self.old.greatest self.old.frame.instance.domains
+            → IsFormPast self.old.frame.z self.old.greatest self.old.frame.instance.domains self.new.reform → ⊥ }
+        ensures past { result ≡ false → IsFormPast self.old.frame.z self.old.greatest self.old.frame.instance.domains
             (lifted self.old.reform place bound) }
         ensures none { result ≡ false → NoneBelow self.old.frame.instance.model self.old.frame.z }
         ensures sound { IsSoundCore (core_search_of self.new) }
@@ -381,7 +381,7 @@ impl<'a, P: Defining, B: Brancher + Drop> Guided<'a, P, B> {
             .lift_below(self.frame.instance(), place, bound, ceiling)
     }
 
-    /// Splits a core of several terms: each solution below z has one of their subjects above its bound. Answers false
+    /// SplitsCore a core of several terms: each solution below z has one of their subjects above its bound. Answers false
     /// if no solution below z can have the new form.
     fn split(&mut self, core: &[Term]) -> Result<bool, AllocError>
         requires works { Works B.scope B.agrees self.old }
@@ -392,7 +392,7 @@ impl<'a, P: Defining, B: Brancher + Drop> Guided<'a, P, B> {
         requires weights { WeighAtLeast 1 self.old.reform.terms }
         requires above { OfEachBelow self.old.frame.instance self.old.frame.z
             (λ xs. IsSomeAbove xs self.old.reform.terms) }
-        ensures splits { IfOk result (Splits (core_search_of self.old) (core_search_of self.new)) }
+        ensures splits { IfOk result (SplitsCore (core_search_of self.old) (core_search_of self.new)) }
         ensures brancher { self.new.brancher ≡ self.old.brancher }
         ensures works { OnOk result (Works B.scope B.agrees self.new) }
     {

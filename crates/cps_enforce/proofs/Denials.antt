@@ -11,7 +11,7 @@ use Rattle.cps_trail.proofs.Falls.{bool_cases}
 use Rattle.cps_trail.proofs.Times.{and_both}
 use Rattle.cps_propagate.proofs.Explaining.{false_where_explained}
 use Rattle.cps_rule.specs.Rules.{IsFact, AllTrueAt}
-use Rattle.cps_enforce.specs.Reasons.{Denies, IsReasonFor}
+use Rattle.cps_enforce.specs.Reasons.{DeniesFacts, IsReasonFor}
 
 or_none : (b : Bool) → (b || false) ≡ b
 or_none true = refl
@@ -54,11 +54,11 @@ unfolding admits
 always_holds s u xs l h w = h (value_at xs u.subject) (and_both _ true (w u.subject l) refl)
 
 -- one more fact
-module _ (s : Trail) (us old now : List Atom) (i : ℕ) (t : Atom) (l : i < length us) (is : t ≡ get_or us i t) (fact : IsFact s t) (h : Denies s (take i us) old now) where
+module _ (s : Trail) (us old now : List Atom) (i : ℕ) (t : Atom) (l : i < length us) (is : t ≡ get_or us i t) (fact : IsFact s t) (h : DeniesFacts s (take i us) old now) where
   with_this : (xs : List ℤ) → AllTrueAt xs (take i us) → atom_holds xs t ≡ true → AllTrueAt xs (take (i + 1) us)
   with_this xs all this = All-more (λ u. atom_holds xs u ≡ true) us i t l all (subst (λ (u : Atom). atom_holds xs u ≡ true) is this)
 
-  pub Denies-skip : IsTrueAfter s.first [] t → Denies s (take (i + 1) us) old now
+  pub Denies-skip : IsTrueAfter s.first [] t → DeniesFacts s (take (i + 1) us) old now
   Denies-skip always = record {
     kept = h.kept;
     false_now = h.false_now;
@@ -66,7 +66,7 @@ module _ (s : Trail) (us old now : List Atom) (i : ℕ) (t : Atom) (l : i < leng
     facts = λ xs w f. with_this xs (h.facts xs w f) (always_holds s t xs fact.subject always w);
   }
 
-  pub Denies-more : (n : Atom) → n.subject ≡ t.subject → ((x : ℤ) → meets n.op n.value x ≡ not (meets t.op t.value x)) → Denies s (take (i + 1) us) old (now ++ n ∷ [])
+  pub Denies-more : (n : Atom) → n.subject ≡ t.subject → ((x : ℤ) → meets n.op n.value x ≡ not (meets t.op t.value x)) → DeniesFacts s (take (i + 1) us) old (now ++ n ∷ [])
   Denies-more n same negated = record {
     kept = λ xs k. push_holds now n xs ∙ or_yes (clause_holds now xs) (atom_holds xs n) (h.kept xs k);
     false_now = λ u has. elim (Contains-push_cases now n u has) [
@@ -82,8 +82,8 @@ module _ (s : Trail) (us old now : List Atom) (i : ℕ) (t : Atom) (l : i < leng
   }
 
 -- facts of two lists
-pub Denies-append : (s : Trail) (us vs a b c : List Atom) → Denies s us a b → Denies s vs b c → Denies s (us ++ vs) a c
-Denies-append s us vs a b c h g = record {
+pub DeniesFacts-append : (s : Trail) (us vs a b c : List Atom) → DeniesFacts s us a b → DeniesFacts s vs b c → DeniesFacts s (us ++ vs) a c
+DeniesFacts-append s us vs a b c h g = record {
   kept = λ xs t. g.kept xs (h.kept xs t);
   false_now = λ u has. elim (g.false_now u has) [ inl mid ↦ h.false_now u mid | inr f ↦ inr f ];
   known = λ t. g.known (h.known t);
@@ -93,7 +93,7 @@ Denies-append s us vs a b c h g = record {
     earlier : (xs : List ℤ) → clause_holds c xs ≡ false → clause_holds b xs ≡ false
     earlier xs f = elim (bool_cases (clause_holds b xs)) [ inl y ↦ absurd (true≢false (sym (g.kept xs y) ∙ f)) | inr n ↦ n ]
 
-module _ (C : List ℤ → Type 0) (s : Trail) (us c : List Atom) (denies : Denies s us [] c) where
+module _ (C : List ℤ → Type 0) (s : Trail) (us c : List Atom) (denies : DeniesFacts s us [] c) where
   -- facts that cannot be true together are a conflict
   pub conflict_denied : ((xs : List ℤ) → IsWithin s.first xs → C xs → AllTrueAt xs us → ⊥) → IsConflict C s c
   conflict_denied none = record {

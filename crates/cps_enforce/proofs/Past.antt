@@ -8,14 +8,14 @@ use Rattle.cps_literal.specs.Truth.{value_at, clause_holds}
 use Rattle.cps_instance.specs.declared.task.Body.{Body}
 use Rattle.cps_instance.specs.Tasks.{HoldsTask, subjects_of}
 use Rattle.cps_instance.proofs.Agreeing.{AgreeAt, HoldsTask-agree}
-use Rattle.cps_trail.specs.Trail.{Entry, Trail, admits, IsFalseNow, IsWithin, IsAdmitted, IsSound}
+use Rattle.cps_trail.specs.Trail.{Entry, Trail, admits, IsFalseNow, IsWithin, IsAdmitted, IsSoundTrail}
 use Rattle.cps_trail.specs.Adds.{IsConflict}
 use Rattle.cps_trail.proofs.Falls.{bool_cases}
 use Rattle.cps_trail.proofs.Times.{IsFalseAfter-all}
 use Rattle.cps_propagate.specs.Notes.{DeniesPast}
 use Rattle.cps_rule.specs.Rules.{IsImpossible}
 use Rattle.cps_enforce.specs.Reasons.{task_of}
-use Rattle.cps_enforce.specs.Settling.{IsInForce}
+use Rattle.cps_enforce.specs.Settling.{IsTaskInForce}
 use Rattle.cps_enforce.proofs.Tasks.{body_admitted}
 
 -- a list of values, each with what is asked of it
@@ -36,7 +36,7 @@ nothing_in u h = omega (arith, h.1)
 abbrev Fills : Trail → List ℤ → ℕ → ℤ → Type 0
 Fills s xs i x = (admits s.first s.entries i x ≡ true) × (admits s.first s.entries i (value_at xs i) ≡ true → value_at xs i ≡ x)
 
-pub past_conflict : (s : Trail) (us : List Atom) (b : Body) (n : ℕ) (c : List Atom) → IsSound s → n ≡ length s.entries → DeniesPast s n (subjects_of (task_of us b)) [] c → IsInForce s us b → IsImpossible b s → IsConflict (HoldsTask (task_of us b)) s c
+pub past_conflict : (s : Trail) (us : List Atom) (b : Body) (n : ℕ) (c : List Atom) → IsSoundTrail s → n ≡ length s.entries → DeniesPast s n (subjects_of (task_of us b)) [] c → IsTaskInForce s us b → IsImpossible b s → IsConflict (HoldsTask (task_of us b)) s c
 past_conflict s us b n c sound whole denies force none = record {
   follows = record { at = λ xs w holds. elim (bool_cases (clause_holds c xs)) [ inl y ↦ y | inr f ↦ absurd (fails xs w holds f) ] };
   false_now = All-weaker (Contains c) (IsFalseNow s)

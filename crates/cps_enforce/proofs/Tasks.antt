@@ -26,8 +26,8 @@ use Rattle.cps_rule.specs.declared.rule.Look.{Look}
 use Rattle.cps_rule.specs.declared.rule.Look.TheVariants.{Possible}
 use Rattle.cps_rule.specs.Rules.{IsFittingRule, IsGiven, IsImpossible, AreFacts, AllTrueAt, IsExplained, IsRefuted, IsSeen, IsAtRest}
 use Rattle.cps_enforce.specs.Force.{AreNegatable, IsOpenAt, IsBarred, but}
-use Rattle.cps_enforce.specs.Reasons.{task_of, Denies, IsReasonFor}
-use Rattle.cps_enforce.specs.Settling.{IsInForce, IsAside, IsResting, IsBodySettled}
+use Rattle.cps_enforce.specs.Reasons.{task_of, DeniesFacts, IsReasonFor}
+use Rattle.cps_enforce.specs.Settling.{IsTaskInForce, IsBlocked, IsRestingBody, IsBodySettled}
 use Rattle.cps_enforce.proofs.Denials.{conflict_denied, reason_denied}
 use Rattle.cps_enforce.proofs.Forces.{but_all, negation_given, false_not_true, fixed_true}
 
@@ -53,14 +53,14 @@ module _ (first : Domains) (us : List Atom) (b : Body) (fits : IsFitting first (
     subjects = unmap (λ (u : Atom). u.subject) (λ i. i < length first) us (All-append_left (λ i. i < length first) (atom_subjects us) (subjects_of_body b) fits.subjects);
   }
 
-pub force_facts : (s : Trail) (us : List Atom) (b : Body) → IsInForce s us b → AreFacts s us
+pub force_facts : (s : Trail) (us : List Atom) (b : Body) → IsTaskInForce s us b → AreFacts s us
 force_facts s us b f = let n = fits_negatable s.first us b f.fits in λ k d l. record { subject = n.subjects k d l; inside = n.inside k d l; true_now = f.on k d l }
 
-pub force_rule : (s : Trail) (us : List Atom) (b : Body) → IsInForce s us b → IsFittingRule s.first b
+pub force_rule : (s : Trail) (us : List Atom) (b : Body) → IsTaskInForce s us b → IsFittingRule s.first b
 force_rule s us b f = fits_rule s.first us b f.fits
 
 -- later stores have fewer values
-pub force_later : (G : Grounds) (s u : Trail) (us : List Atom) (b : Body) → Infers G s u → IsInForce s us b → IsInForce u us b
+pub force_later : (G : Grounds) (s u : Trail) (us : List Atom) (b : Body) → Infers G s u → IsTaskInForce s us b → IsTaskInForce u us b
 force_later G s u us b h f = record {
   fits = subst (λ ds. IsFitting ds (task_of us b)) (sym h.first) f.fits;
   on = All-weaker (IsTrueNow s) (IsTrueNow u) (stays_true G s u h) us f.on;
@@ -86,10 +86,10 @@ true_at s us xs on known a j u l = on j u l (value_at xs (get_or us j u).subject
 pub body_holds : (us : List Atom) (b : Body) (xs : List ℤ) → HoldsTask (task_of us b) xs → AllTrueAt xs us → HoldsBody b xs
 body_holds us b xs holds on = holds (list_all-from_AllPass (atom_holds xs) us on)
 
-pub body_admitted : (s : Trail) (us : List Atom) (b : Body) (xs : List ℤ) → IsInForce s us b → IsAdmitted s.first s.entries xs → HoldsTask (task_of us b) xs → HoldsBody b xs
+pub body_admitted : (s : Trail) (us : List Atom) (b : Body) (xs : List ℤ) → IsTaskInForce s us b → IsAdmitted s.first s.entries xs → HoldsTask (task_of us b) xs → HoldsBody b xs
 body_admitted s us b xs f a holds = body_holds us b xs holds (true_at s us xs f.on (fits_negatable s.first us b f.fits).subjects a)
 
-pub forced_given : (s : Trail) (us : List Atom) (b : Body) (t : Atom) → IsInForce s us b → IsGiven b s t → IsForced (HoldsTask (task_of us b)) s.first s.entries t
+pub forced_given : (s : Trail) (us : List Atom) (b : Body) (t : Atom) → IsTaskInForce s us b → IsGiven b s t → IsForced (HoldsTask (task_of us b)) s.first s.entries t
 forced_given s us b t f g = record { at = λ xs a holds. g.at xs a (body_admitted s us b xs f a holds) }
 
 -- what a body gives and is false makes it impossible
@@ -97,16 +97,16 @@ pub given_false : (s : Trail) (b : Body) (t : Atom) → IsGiven b s t → IsFals
 given_false s b t g f = record { at = λ xs a holds. (let bad : true ≡ false = sym (g.at xs a holds) ∙ f (value_at xs t.subject) (a t.subject g.subject) in cc) }
 
 -- conflicts and reasons of a task by facts
-pub refuted_conflict : (s : Trail) (us facts c : List Atom) (b : Body) → Denies s (us ++ facts) [] c → IsRefuted b s facts → IsConflict (HoldsTask (task_of us b)) s c
+pub refuted_conflict : (s : Trail) (us facts c : List Atom) (b : Body) → DeniesFacts s (us ++ facts) [] c → IsRefuted b s facts → IsConflict (HoldsTask (task_of us b)) s c
 refuted_conflict s us facts c b denies refuted = conflict_denied (HoldsTask (task_of us b)) s (us ++ facts) c denies
     (λ xs w holds all. refuted.excludes xs w (All-append_right (λ u. atom_holds xs u ≡ true) us facts all) (body_holds us b xs holds (All-append_left (λ u. atom_holds xs u ≡ true) us facts all)))
 
-pub explained_reason : (s : Trail) (us facts c : List Atom) (t : Atom) (b : Body) → Denies s (us ++ facts) [] c → t.subject < length s.first → IsExplained b s t facts → IsReasonFor (HoldsTask (task_of us b)) s t (c ++ t ∷ [])
+pub explained_reason : (s : Trail) (us facts c : List Atom) (t : Atom) (b : Body) → DeniesFacts s (us ++ facts) [] c → t.subject < length s.first → IsExplained b s t facts → IsReasonFor (HoldsTask (task_of us b)) s t (c ++ t ∷ [])
 explained_reason s us facts c t b denies at explained = reason_denied (HoldsTask (task_of us b)) s (us ++ facts) c denies t at
     (λ xs w holds all. explained.gives xs w (All-append_right (λ u. atom_holds xs u ≡ true) us facts all) (body_holds us b xs holds (All-append_left (λ u. atom_holds xs u ≡ true) us facts all)))
 
 module _ (s : Trail) (us : List Atom) (place : ℕ) (n : Atom) (b : Body) (inside : place < length us) (subject : n.subject ≡ (get_or us place no_atom).subject) (negated : (x : ℤ) → meets n.op n.value x ≡ not (meets (get_or us place no_atom).op (get_or us place no_atom).value x)) where
-  pub off_reason : (facts c : List Atom) (t : Atom) → Denies s (but us place ++ facts) [] c → t.subject < length s.first → Implies n t → IsRefuted b s facts → IsReasonFor (HoldsTask (task_of us b)) s t (c ++ t ∷ [])
+  pub off_reason : (facts c : List Atom) (t : Atom) → DeniesFacts s (but us place ++ facts) [] c → t.subject < length s.first → Implies n t → IsRefuted b s facts → IsReasonFor (HoldsTask (task_of us b)) s t (c ++ t ∷ [])
   off_reason facts c t denies at implies refuted = reason_denied (HoldsTask (task_of us b)) s (but us place ++ facts) c denies t at
       (λ xs w holds all. holds_too n t xs implies (negation_given us place no_atom n xs inside subject negated (All-append_left (λ u. atom_holds xs u ≡ true) (but us place) facts all)
       (λ on. refuted.excludes xs w (All-append_right (λ u. atom_holds xs u ≡ true) (but us place) facts all) (holds on))))
@@ -120,13 +120,13 @@ module _ (s : Trail) (us : List Atom) (place : ℕ) (n : Atom) (b : Body) (insid
   }
 
 -- an atom that is barred bars the task, and so does an open one where the body may hold, and one that became false
-pub aside_barred : (s : Trail) (us : List Atom) (place : ℕ) (b : Body) → IsBarred s us place → IsAside s us place b
+pub aside_barred : (s : Trail) (us : List Atom) (place : ℕ) (b : Body) → IsBarred s us place → IsBlocked s us place b
 aside_barred s us place b h = record { inside = h.inside; not_true = h.not_true; last = λ others none. h.last others }
 
-pub aside_possible : (s : Trail) (us : List Atom) (place : ℕ) (b : Body) → IsOpenAt s us place → (IsExcludedBody b s → ⊥) → IsAside s us place b
+pub aside_possible : (s : Trail) (us : List Atom) (place : ℕ) (b : Body) → IsOpenAt s us place → (IsExcludedBody b s → ⊥) → IsBlocked s us place b
 aside_possible s us place b o p = record { inside = o.inside; not_true = o.not_true; last = λ others none. absurd (p none) }
 
-pub aside_false : (s : Trail) (us : List Atom) (place : ℕ) (b : Body) → place < length us → ((x : ℤ) × (admits s.first s.entries (get_or us place no_atom).subject x ≡ true)) → IsFalseNow s (get_or us place no_atom) → IsAside s us place b
+pub aside_false : (s : Trail) (us : List Atom) (place : ℕ) (b : Body) → place < length us → ((x : ℤ) × (admits s.first s.entries (get_or us place no_atom).subject x ≡ true)) → IsFalseNow s (get_or us place no_atom) → IsBlocked s us place b
 aside_false s us place b l some f = record {
   inside = l;
   not_true = λ d t. false_not_true s (get_or us place no_atom) some f (subst (λ (v : Atom). IsTrueNow s v) (sym (get_or_default us place no_atom d l)) t);
@@ -134,10 +134,10 @@ aside_false s us place b l some f = record {
 }
 
 -- where no entry was added, what a look said of the store before still stands
-pub resting_same : (G : Grounds) (s u : Trail) (b : Body) → Infers G s u → u.entries ≡ s.entries → (u ≡ s → IsAtRest b s) → (IsExcludedBody b s → ⊥) → IsResting b u
+pub resting_same : (G : Grounds) (s u : Trail) (b : Body) → Infers G s u → u.entries ≡ s.entries → (u ≡ s → IsAtRest b s) → (IsExcludedBody b s → ⊥) → IsRestingBody b u
 resting_same G s u b h e rest possible =
     let is : u ≡ s = (same_midway G G s u u h (Infers-refl G u) e).0 in
-    subst (λ (v : Trail). IsResting b v) (sym is) (record { rest = rest is; possible = possible })
+    subst (λ (v : Trail). IsRestingBody b v) (sym is) (record { rest = rest is; possible = possible })
 
 pub seen_possible : (b : Body) (s : Trail) (look : Look) → look ≡ Possible → IsSeen b s look → IsExcludedBody b s → ⊥
 seen_possible b s look e h = subst (λ (l : Look). IsSeen b s l) e h
@@ -153,7 +153,7 @@ settled_decided s us b (inr h) = record {
       h.rest.decided (All-append_right (IsFixedNow s) (atom_subjects us) (subjects_of_body b) fixed) xs (All-append_right (λ i. IsOpenTo s i (value_at xs i)) (atom_subjects us) (subjects_of_body b) opens);
 }
 
-aside_last : (s : Trail) (us : List Atom) (place : ℕ) (b : Body) → IsAside s us place b → (k : ℕ) (d : Atom) → k < length us → OthersAre (IsTrueNow s) us k → IsExcludedBody b s → IsFalseNow s (get_or us k d)
+aside_last : (s : Trail) (us : List Atom) (place : ℕ) (b : Body) → IsBlocked s us place b → (k : ℕ) (d : Atom) → k < length us → OthersAre (IsTrueNow s) us k → IsExcludedBody b s → IsFalseNow s (get_or us k d)
 aside_last s us place b h k d l others none = elim (same_or place k) [
   | inl e ↦ subst (λ (n : ℕ). IsFalseNow s (get_or us n d)) e (h.last (subst (λ (n : ℕ). OthersAre (IsTrueNow s) us n) (sym e) others) none d)
   | inr e ↦ absurd (h.not_true d (others place d h.inside e))

@@ -13,7 +13,7 @@ task_of enforcement body = record { enforcement = enforcement; body = body }
 
 -- A clause gains atoms that are false in a store, and that are all false at values within the first domains only where
 -- facts are true.
-pub record Denies (s : Trail) (us old new : List Atom) : Type 0 where
+pub record DeniesFacts (s : Trail) (us old new : List Atom) : Type 0 where
   pub kept : (xs : List ℤ) → clause_holds old xs ≡ true → clause_holds new xs ≡ true
   pub false_now : (u : Atom) → Contains new u → Contains old u ⊎ IsFalseNow s u
   pub known : All (λ u. u.subject < length s.first) old → All (λ u. u.subject < length s.first) new

@@ -9,21 +9,21 @@ use Rattle.cps_rule.specs.Rules.{IsAtRest}
 use Rattle.cps_enforce.specs.Reasons.{task_of}
 
 -- an enforcement atom is not true, and false where all others are true and the body has no way to hold
-pub record IsAside (s : Trail) (us : List Atom) (place : ℕ) (body : Body) : Type 0 where
+pub record IsBlocked (s : Trail) (us : List Atom) (place : ℕ) (body : Body) : Type 0 where
   pub inside : place < length us
   pub not_true : (d : Atom) → IsTrueNow s (slice_index_or us place d) → ⊥
   pub last : OthersAre (IsTrueNow s) us place → IsExcludedBody body s → (d : Atom)
       → IsFalseNow s (slice_index_or us place d)
 
 -- a body is at rest, and its rule does not tell that it cannot hold
-pub record IsResting (body : Body) (s : Trail) : Type 0 where
+pub record IsRestingBody (body : Body) (s : Trail) : Type 0 where
   pub rest : IsAtRest body s
   pub possible : IsExcludedBody body s → ⊥
 
 abbrev pub IsBodySettled : Trail → List Atom → Body → Type 0
-IsBodySettled s us body = ((place : ℕ) × IsAside s us place body) ⊎ IsResting body s
+IsBodySettled s us body = ((place : ℕ) × IsBlocked s us place body) ⊎ IsRestingBody body s
 
 -- a task that fits is in force
-pub record IsInForce (s : Trail) (us : List Atom) (body : Body) : Type 0 where
+pub record IsTaskInForce (s : Trail) (us : List Atom) (body : Body) : Type 0 where
   pub fits : IsFitting s.first (task_of us body)
   pub on : All (IsTrueNow s) us

@@ -12,7 +12,7 @@ ghost use Rattle.cps_instance.specs.Fitting.{IsFitting};
 ghost use Rattle.cps_trail.specs.Notes.{IsForcedAt, IsReason};
 ghost use Rattle.cps_enforce.specs.Force.{IsOpenAt};
 ghost use Rattle.cps_enforce.specs.Reasons.{task_of, IsReasonFor};
-ghost use Rattle.cps_enforce.specs.Settling.{IsInForce};
+ghost use Rattle.cps_enforce.specs.Settling.{IsTaskInForce};
 
 use crate::force::{Force, force_of};
 use crate::reasons::{deny_all, deny_others, give_by, push_all_subjects};
@@ -51,7 +51,7 @@ fn explain_given<R: Rule>(
     narrowing: &Narrowing,
     draft: &mut Draft,
 ) -> Result<bool, AllocError>
-    requires force { IsInForce past.now enforcement.now (R.body rule.now) }
+    requires force { IsTaskInForce past.now enforcement.now (R.body rule.now) }
     requires subject { narrowing.now.target.subject < length past.now.first }
     ensures { result ≡ Ok true → IsReasonFor
         (HoldsTask (task_of enforcement.now (R.body rule.now))) past.now narrowing.now.target draft.new.reason.items }

@@ -13,7 +13,7 @@ ghost use Rattle.cps_trail.specs.Notes.{ByTask};
 ghost use Rattle.cps_propagate.specs.Conflicts.{as_step};
 ghost use Rattle.cps_rule.specs.Rules.{IsGiven, IsImpossible};
 ghost use Rattle.cps_enforce.specs.Reasons.{task_of};
-ghost use Rattle.cps_enforce.specs.Settling.{IsInForce, IsResting};
+ghost use Rattle.cps_enforce.specs.Settling.{IsTaskInForce, IsRestingBody};
 
 use crate::reasons::{conflict_by, deny_all, give_by, push_all_subjects};
 use cps_domain::Cut;
@@ -57,7 +57,7 @@ fn conflict_by_past<R: Rule>(
     room: &mut Room,
     store: &Store,
 ) -> Result<(), AllocError>
-    requires force { IsInForce store.now enforcement.now (R.body rule.now) }
+    requires force { IsTaskInForce store.now enforcement.now (R.body rule.now) }
     requires impossible { IsImpossible (R.body rule.now) store.now }
     ensures { OnOk result (IsConflict
         (HoldsTask (task_of enforcement.now (R.body rule.now))) store.now room.new.conflict.items) }
@@ -77,7 +77,7 @@ fn conflict_of<R: Rule>(
     room: &mut Room,
     store: &Store,
 ) -> Result<(), AllocError>
-    requires force { IsInForce store.now enforcement.now (R.body rule.now) }
+    requires force { IsTaskInForce store.now enforcement.now (R.body rule.now) }
     requires impossible { IsImpossible (R.body rule.now) store.now }
     ensures { OnOk result (IsConflict
         (HoldsTask (task_of enforcement.now (R.body rule.now))) store.now room.new.conflict.items) }
@@ -101,7 +101,7 @@ fn contradict<R: Rule>(
     room: &mut Room,
     store: &Store,
 ) -> Result<(), AllocError>
-    requires force { IsInForce store.now enforcement.now (R.body rule.now) }
+    requires force { IsTaskInForce store.now enforcement.now (R.body rule.now) }
     requires given { IsGiven (R.body rule.now) store.now narrowing.now.target }
     requires false_now { IsFalseNow store.now narrowing.now.target }
     ensures { OnOk result (IsConflict
@@ -127,7 +127,7 @@ fn narrow<R: Rule>(
     room: &mut Room,
     store: &mut Store,
 ) -> Result<Answer, AllocError>
-    requires force { IsInForce store.old header.now.enforcement.now (R.body rule.now) }
+    requires force { IsTaskInForce store.old header.now.enforcement.now (R.body rule.now) }
     requires given { IsGiven (R.body rule.now) store.old narrowing.now.target }
     ensures infers { OnOk result (Infers
         (ByTask header.now.number (HoldsTask
@@ -158,7 +158,7 @@ fn narrow_all<R: Rule>(
     room: &mut Room,
     store: &mut Store,
 ) -> Result<Answer, AllocError>
-    requires force { IsInForce store.old header.now.enforcement.now (R.body rule.now) }
+    requires force { IsTaskInForce store.old header.now.enforcement.now (R.body rule.now) }
     requires given { All (λ n. IsGiven (R.body rule.now) store.old n.target) found.now }
     ensures infers { OnOk result (Infers
         (ByTask header.now.number (HoldsTask
@@ -185,7 +185,7 @@ pub(crate) fn pass<R: Rule>(
     room: &mut Room,
     store: &mut Store,
 ) -> Result<Answer, AllocError>
-    requires force { IsInForce store.old header.now.enforcement.now (R.body rule.old) }
+    requires force { IsTaskInForce store.old header.now.enforcement.now (R.body rule.old) }
     ensures keeps { R.body rule.new ≡ R.body rule.old }
     ensures infers { OnOk result (Infers
         (ByTask header.now.number (HoldsTask
@@ -194,7 +194,7 @@ pub(crate) fn pass<R: Rule>(
         (HoldsTask (task_of header.now.enforcement.now (R.body rule.old)))
         store.new (as_step answer room.new.conflict.items)) }
     ensures rest { result ≡ Ok Answer.Settled → store.new.entries ≡ store.old.entries
-        → IsResting (R.body rule.old) store.new }
+        → IsRestingBody (R.body rule.old) store.new }
 {
     match rule.look(store, found)? {
         Look::Possible => {

@@ -7,7 +7,7 @@ ghost use Rattle.cps_instance.specs.Tasks.{HoldsTask, subjects_of};
 ghost use Rattle.cps_propagate.specs.Notes.{DeniesPast};
 ghost use Rattle.cps_rule.specs.Rules.{AreFacts, IsExplained, IsRefuted};
 ghost use Rattle.cps_enforce.specs.Force.{but};
-ghost use Rattle.cps_enforce.specs.Reasons.{Denies, IsReasonFor, task_of};
+ghost use Rattle.cps_enforce.specs.Reasons.{DeniesFacts, IsReasonFor, task_of};
 ghost use Rattle.cps_trail.specs.Adds.{IsConflict};
 
 use cps_literal::Atom;
@@ -19,7 +19,7 @@ use std::alloc::AllocError;
 /// Adds the negation of each fact at the end of a reason.
 fn deny(past: &Before, facts: &[Atom], reason: &mut Vec<Atom>) -> Result<(), AllocError>
     requires { AreFacts past.now facts.now }
-    ensures { OnOk result (Denies past.now facts.now reason.old.items reason.new.items) }
+    ensures { OnOk result (DeniesFacts past.now facts.now reason.old.items reason.new.items) }
 {
     for fact in facts {
         if !past.was_always(*fact) {
@@ -38,7 +38,7 @@ fn deny_both(
 ) -> Result<(), AllocError>
     requires enforcement { AreFacts past.now enforcement.now }
     requires facts { AreFacts past.now facts.now }
-    ensures { OnOk result (Denies past.now (enforcement.now ++ facts.now) [] reason.new.items) }
+    ensures { OnOk result (DeniesFacts past.now (enforcement.now ++ facts.now) [] reason.new.items) }
 {
     reason.clear();
     deny(past, enforcement, reason)?;
@@ -92,7 +92,7 @@ pub(crate) fn deny_others(
     requires place { place < length enforcement.now }
     requires enforcement { AreFacts past.now (but enforcement.now place) }
     requires facts { AreFacts past.now facts.now }
-    ensures { OnOk result (Denies past.now (but enforcement.now place ++ facts.now) [] reason.new.items) }
+    ensures { OnOk result (DeniesFacts past.now (but enforcement.now place ++ facts.now) [] reason.new.items) }
 {
     reason.clear();
     deny(past, &enforcement[..place], reason)?;

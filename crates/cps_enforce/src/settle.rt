@@ -8,7 +8,7 @@ ghost use Rattle.cps_trail.specs.Notes.{ByTask};
 ghost use Rattle.cps_propagate.specs.Conflicts.{as_step};
 ghost use Rattle.cps_enforce.specs.Force.{IsOpenAt};
 ghost use Rattle.cps_enforce.specs.Reasons.{task_of};
-ghost use Rattle.cps_enforce.specs.Settling.{IsInForce, IsAside, IsResting, IsBodySettled};
+ghost use Rattle.cps_enforce.specs.Settling.{IsTaskInForce, IsBlocked, IsRestingBody, IsBodySettled};
 
 use crate::force::{Force, force_of};
 use crate::narrow::{Header, Room, pass};
@@ -26,7 +26,7 @@ fn settle<R: Rule>(
     room: &mut Room,
     store: &mut Store,
 ) -> Result<Answer, AllocError>
-    requires force { IsInForce store.old header.now.enforcement.now (R.body rule.old) }
+    requires force { IsTaskInForce store.old header.now.enforcement.now (R.body rule.old) }
     ensures keeps { R.body rule.new ≡ R.body rule.old }
     ensures infers { OnOk result (Infers
         (ByTask header.now.number (HoldsTask
@@ -34,7 +34,7 @@ fn settle<R: Rule>(
     ensures answers { IfOk result (λ answer. Answers
         (HoldsTask (task_of header.now.enforcement.now (R.body rule.old)))
         store.new (as_step answer room.new.conflict.items)) }
-    ensures rest { result ≡ Ok Answer.Settled → IsResting (R.body rule.old) store.new }
+    ensures rest { result ≡ Ok Answer.Settled → IsRestingBody (R.body rule.old) store.new }
 {
     loop {
         let before = store.entries().len();
@@ -62,7 +62,7 @@ fn disable<R: Rule>(
     ensures infers { OnOk result (Infers
         (ByTask header.now.number (HoldsTask
         (task_of header.now.enforcement.now (R.body rule.old)))) store.old store.new) }
-    ensures aside { OnOk result (IsAside store.new header.now.enforcement.now place (R.body rule.old)) }
+    ensures aside { OnOk result (IsBlocked store.new header.now.enforcement.now place (R.body rule.old)) }
 {
     let hint = match rule.look(store, found)? {
         Look::Possible => return Ok(()),

@@ -23,7 +23,7 @@ use Rattle.cps_instance.specs.declared.task.Body.TheVariants.{Empty, BoolOr, Boo
 use Rattle.cps_instance.specs.Terms.{terms_value, term_subjects}
 use Rattle.cps_instance.specs.declared.task.Span.{Span}
 use Rattle.cps_instance.specs.Parts.{values_at, true_arcs, span_end, span_run, span_runs, span_uses, span_areas, all_changes, true_changes, changes_at}
-use Rattle.cps_instance.specs.Tasks.{HoldsBody, HoldsTask, IsUpTo, true_atoms, atom_subjects, subjects_of_span, span_subjects, subjects_of, subjects_of_body}
+use Rattle.cps_instance.specs.Tasks.{HoldsBody, HoldsTask, IsSumUpTo, true_atoms, atom_subjects, subjects_of_span, span_subjects, subjects_of, subjects_of_body}
 
 pub All-append_left : {X : Type 0} (P : X → Type 0) (xs ys : List X) → All P (xs ++ ys) → All P xs
 All-append_left P [] ys h = All-nil P
@@ -228,7 +228,7 @@ HoldsBody-agree xs ys (Sum subject terms offset) h k =
     sym (All-head (AgreeAt xs ys) subject (term_subjects terms) h) ∙ k
     ∙ ap (λ (v : ℤ). v +ℤ offset) (terms_value-agree xs ys terms (All-tail (AgreeAt xs ys) subject (term_subjects terms) h))
 HoldsBody-agree xs ys (ObjectiveList terms domain) h k = ap (λ (v : ℤ). is_allowed domain v) (sym (terms_value-agree xs ys terms h)) ∙ k
-HoldsBody-agree xs ys (Cut terms upper) h k = subst (λ (v : ℤ). IsUpTo upper v) (terms_value-agree xs ys terms h) k
+HoldsBody-agree xs ys (Cut terms upper) h k = subst (λ (v : ℤ). IsSumUpTo upper v) (terms_value-agree xs ys terms h) k
 
 -- a task that holds at one list holds at each that has the same values for the task's subjects
 pub HoldsTask-agree : (xs ys : List ℤ) (t : Task) → All (AgreeAt xs ys) (subjects_of t) → HoldsTask t xs → HoldsTask t ys

@@ -8,7 +8,7 @@ use Rattle.cps_instance.specs.declared.task.Task.{Task}
 use Rattle.cps_instance.specs.declared.task.Body.{Body}
 use Rattle.cps_instance.specs.declared.task.Body.TheVariants.{Cut}
 use Rattle.cps_instance.specs.Terms.{Domains, terms_value}
-use Rattle.cps_instance.specs.Tasks.{HoldsBody, HoldsTask, HoldAll, IsUpTo, atom_subjects, subjects_of, subjects_of_body, lowered, lowered_body, lowered_end, IsBodyUpTo}
+use Rattle.cps_instance.specs.Tasks.{HoldsBody, HoldsTask, HoldAll, IsSumUpTo, atom_subjects, subjects_of, subjects_of_body, lowered, lowered_body, lowered_end, IsBodyUpTo}
 use Rattle.cps_instance.specs.Fitting.{IsFitting, IsFittingBody}
 
 lesser : (a b v : ℤ) → v ≤ℤ int_min a b → (v ≤ℤ a) × (v ≤ℤ b)
@@ -17,11 +17,11 @@ lesser a b v h = (grind (arith, ints), grind (arith, ints))
 least_of_both : (a b v : ℤ) → v ≤ℤ a → v ≤ℤ b → v ≤ℤ int_min a b
 least_of_both a b v p q = grind (arith, ints)
 
-end_said : (upper : ℤ) (old : Option ℤ) (v : ℤ) → v ≤ℤ lowered_end upper old → IsUpTo old v × (v ≤ℤ upper)
+end_said : (upper : ℤ) (old : Option ℤ) (v : ℤ) → v ≤ℤ lowered_end upper old → IsSumUpTo old v × (v ≤ℤ upper)
 end_said upper None v h = (tt, h)
 end_said upper (Some old) v h = lesser old upper v h
 
-end_from : (upper : ℤ) (old : Option ℤ) (v : ℤ) → IsUpTo old v → v ≤ℤ upper → v ≤ℤ lowered_end upper old
+end_from : (upper : ℤ) (old : Option ℤ) (v : ℤ) → IsSumUpTo old v → v ≤ℤ upper → v ≤ℤ lowered_end upper old
 end_from upper None v h k = k
 end_from upper (Some old) v h k = least_of_both old upper v h k
 

@@ -20,7 +20,7 @@ pub record IsLiteral (domains : Domains) (u : Atom) : Type 0 where
   pub greatest : (x : ℤ) → is_among (domain_at domains u.subject) x ≡ true → x ≤ℤ pos 1
 
 -- terms whose sum stays below 2 ^ 62 in magnitude
-pub record AreSmall (domains : Domains) (terms : List Term) : Type 0 where
+pub record HaveSmallSum (domains : Domains) (terms : List Term) : Type 0 where
   pub small : terms_reach domains terms < 2 ^ 62
 
 -- such terms, and a list of bounds in order for their sum
@@ -92,7 +92,7 @@ IsFittingBody domains (Reservoir min max times changes active) = AreFittingLevel
 IsFittingBody domains (NoOverlap2d x y) = AreFittingSpans domains x y
 IsFittingBody domains (Sum subject terms offset) = IsSumOf domains subject (record { terms = terms; offset = offset })
 IsFittingBody domains (ObjectiveList terms bounds) = AreSmallWithin domains terms bounds
-IsFittingBody domains (Cut terms upper) = AreSmall domains terms
+IsFittingBody domains (Cut terms upper) = HaveSmallSum domains terms
 
 -- the task's subjects are among those with these domains, whose intervals rise, and it fits them
 pub record IsFitting (domains : Domains) (t : Task) : Type 0 where

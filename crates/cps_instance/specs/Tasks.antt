@@ -23,9 +23,9 @@ abbrev pub true_atoms : List ℤ → List Atom → ℕ
 true_atoms xs atoms = count_by (atom_holds xs) atoms
 
 -- a sum is at most an end, where there is one
-abbrev pub IsUpTo : Option ℤ → ℤ → Type 0
-IsUpTo None v = Unit {0}
-IsUpTo (Some upper) v = v ≤ℤ upper
+abbrev pub IsSumUpTo : Option ℤ → ℤ → Type 0
+IsSumUpTo None v = Unit {0}
+IsSumUpTo (Some upper) v = v ≤ℤ upper
 
 -- what each kind of task demands
 abbrev pub HoldsBody : Body → List ℤ → Type 0
@@ -54,7 +54,7 @@ HoldsBody (Reservoir min max times changes active) xs = IsReservoir min max (cha
 HoldsBody (NoOverlap2d x y) xs = IsNoOverlap2d (span_areas xs x y)
 HoldsBody (Sum subject terms offset) xs = value_at xs subject ≡ terms_value xs terms +ℤ offset
 HoldsBody (ObjectiveList terms domain) xs = IsTrue (is_allowed domain (terms_value xs terms))
-HoldsBody (Cut terms upper) xs = IsUpTo upper (terms_value xs terms)
+HoldsBody (Cut terms upper) xs = IsSumUpTo upper (terms_value xs terms)
 
 -- a task holds where an enforcement atom is false, or where what its kind demands holds
 abbrev pub HoldsTask : Task → List ℤ → Type 0

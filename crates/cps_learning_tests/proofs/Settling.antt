@@ -12,12 +12,12 @@ use Rattle.cps_trail.specs.Notes.{AllFit, HasNote, IsGivenAt, ByClauses}
 use Rattle.cps_trail.proofs.Giving.{IsGivenAt-added, IsGivenAt-kept, IsGivenAt-weaker}
 use Rattle.cps_clauses.specs.declared.origin.Origin.{Origin}
 use Rattle.cps_clauses.specs.Quiet.{Fits, IsQuiet}
-use Rattle.cps_clauses.specs.Bases.{Base, IsInStep, in_force_of, with_clause}
+use Rattle.cps_clauses.specs.Bases.{Base, IsBaseInStep, in_force_of, with_clause}
 use Rattle.cps_clauses.proofs.Fitting.{Fits-more, Fits-none}
 use Rattle.cps_clauses.proofs.Noting.{ByClauses-more}
 use Rattle.cps_clauses.proofs.Quieting.{IsQuiet-none, IsQuiet-decide}
-use Rattle.cps_clauses.proofs.Stepping.{IsInStep-none, IsInStep-added, IsInStep-front}
-use Rattle.cps_learning_tests.specs.Resting.{IsReady, IsAtRest}
+use Rattle.cps_clauses.proofs.Stepping.{IsBaseInStep-none, IsBaseInStep-added, IsBaseInStep-front}
+use Rattle.cps_learning_tests.specs.Resting.{IsBaseReady, IsBaseAtRest}
 
 -- what holds where a call succeeded, and it did
 pub at_ok : {T E P : Type 0} (r : Result T E) (v : T) → r ≡ Ok v → OnOk r P → P
@@ -62,43 +62,43 @@ fit_added : (clauses added : List (List Atom)) (s : Trail) → AllFit (IsGivenAt
 fit_added clauses added s given k l has = IsGivenAt-weaker (ByClauses clauses) (ByClauses (clauses ++ added)) (ByClauses-more clauses added) s k (given k l has)
 
 -- no clause, and no entry
-pub IsAtRest-none : (b : Base) (s : Trail) → b ≡ record { clauses = []; dropped = []; learnt = []; journal = []; refused = false; watched = record { watches = []; settled = 0; visits = 0 } } → s.entries ≡ [] → IsAtRest b s
-IsAtRest-none b s new none =
+pub IsBaseAtRest-none : (b : Base) (s : Trail) → b ≡ record { clauses = []; dropped = []; learnt = []; journal = []; refused = false; watched = record { watches = []; settled = 0; visits = 0 } } → s.entries ≡ [] → IsBaseAtRest b s
+IsBaseAtRest-none b s new none =
     let clauses = ap (λ (x : Base). x.clauses) new in
     record {
       fits = Fits-none s.first b clauses;
       sizes = ap (λ (x : Base). length x.dropped) new ∙ sym (ap (λ (x : Base). length x.clauses) new);
       quiet = subst (λ (cs : List (List Atom)). IsQuiet cs s (s.level + 1)) (sym (ap (λ (x : Base). in_force_of x) new)) (record { at = λ level less. All-nil _ });
-      in_step = IsInStep-none b s.first s.entries clauses (ap (λ (x : Base). x.watched.watches) new) (ap (λ (x : Base). x.watched.settled) new);
+      in_step = IsBaseInStep-none b s.first s.entries clauses (ap (λ (x : Base). x.watched.watches) new) (ap (λ (x : Base). x.watched.settled) new);
       given = λ k l has. absurd (omega (arith, l, ap (λ (es : List Entry). length es) none));
     }
 
 -- what is at rest at level 0 may be settled from its last entry on
-pub IsReady-rest : (b : Base) (s : Trail) (from : ℕ) → from ≡ length s.entries → s.level ≡ 0 → IsAtRest b s → IsReady b s from
-IsReady-rest b s from all bottom rest = record {
+pub IsBaseReady-rest : (b : Base) (s : Trail) (from : ℕ) → from ≡ length s.entries → s.level ≡ 0 → IsBaseAtRest b s → IsBaseReady b s from
+IsBaseReady-rest b s from all bottom rest = record {
   fits = rest.fits;
   sizes = rest.sizes;
   quiet = IsQuiet-none _ _ _ bottom;
   within = omega (arith, all);
-  in_step = subst (λ (es : List Entry). IsInStep b s.first es) (sym (take_all from s.entries (omega (arith, all)))) rest.in_step;
+  in_step = subst (λ (es : List Entry). IsBaseInStep b s.first es) (sym (take_all from s.entries (omega (arith, all)))) rest.in_step;
   given = rest.given;
 }
 
 -- one more clause, at level 0
-pub IsReady-added : (b new : Base) (s : Trail) (clause : List Atom) (below : Bound) (origin : Origin) (from : ℕ) → new ≡ with_clause b clause below origin → s.level ≡ 0 → Fits s.first clause → IsReady b s from → IsReady new s from
-IsReady-added b new s clause below origin from e bottom here ready =
-    subst (λ (x : Base). IsReady x s from) (sym e) (record {
+pub IsBaseReady-added : (b new : Base) (s : Trail) (clause : List Atom) (below : Bound) (origin : Origin) (from : ℕ) → new ≡ with_clause b clause below origin → s.level ≡ 0 → Fits s.first clause → IsBaseReady b s from → IsBaseReady new s from
+IsBaseReady-added b new s clause below origin from e bottom here ready =
+    subst (λ (x : Base). IsBaseReady x s from) (sym e) (record {
       fits = Fits-more s.first b (with_clause b clause below origin) clause below origin refl ready.fits here;
       sizes = omega (arith, ready.sizes, length-append b.dropped (false ∷ []), length-append b.clauses (clause ∷ []));
       quiet = IsQuiet-none _ _ _ bottom;
       within = ready.within;
-      in_step = IsInStep-added b s.first (take from s.entries) clause below origin ready.sizes ready.in_step;
+      in_step = IsBaseInStep-added b s.first (take from s.entries) clause below origin ready.sizes ready.in_step;
       given = fit_added b.clauses (clause ∷ []) s ready.given;
     })
 
 -- a decision
-pub IsReady-decided : (b : Base) (s t : Trail) (atom : Atom) (from : ℕ) → t ≡ record s { entries = s.entries ++ record { atom = atom; level = s.level + 1; reason = Decision } ∷ []; level = s.level + 1 } → from ≡ length s.entries → IsAtRest b s → IsReady b t from
-IsReady-decided b s t atom from e all rest =
+pub IsBaseReady-decided : (b : Base) (s t : Trail) (atom : Atom) (from : ℕ) → t ≡ record s { entries = s.entries ++ record { atom = atom; level = s.level + 1; reason = Decision } ∷ []; level = s.level + 1 } → from ≡ length s.entries → IsBaseAtRest b s → IsBaseReady b t from
+IsBaseReady-decided b s t atom from e all rest =
     let entry : Entry = record { atom = atom; level = s.level + 1; reason = Decision } in
     let first : t.first ≡ s.first = ap (λ (x : Trail). x.first) e in
     let entries : t.entries ≡ s.entries ++ entry ∷ [] = ap (λ (x : Trail). x.entries) e in
@@ -107,15 +107,15 @@ IsReady-decided b s t atom from e all rest =
       sizes = rest.sizes;
       quiet = IsQuiet-decide (in_force_of b) s t entry refl e rest.quiet;
       within = omega (arith, all, ap (λ (es : List Entry). length es) entries, length-append s.entries (entry ∷ []));
-      in_step = subst (λ (n : ℕ). IsInStep b t.first (take n t.entries)) (sym all)
-          (subst (λ (f : Domains). IsInStep b f (take (length s.entries) t.entries)) (sym first)
-          (subst (λ (es : List Entry). IsInStep b s.first (take (length s.entries) es)) (sym entries) (IsInStep-front b s.first s.entries (entry ∷ []) rest.in_step)));
+      in_step = subst (λ (n : ℕ). IsBaseInStep b t.first (take n t.entries)) (sym all)
+          (subst (λ (f : Domains). IsBaseInStep b f (take (length s.entries) t.entries)) (sym first)
+          (subst (λ (es : List Entry). IsBaseInStep b s.first (take (length s.entries) es)) (sym entries) (IsBaseInStep-front b s.first s.entries (entry ∷ []) rest.in_step)));
       given = fit_decided b.clauses s t entry first entries refl rest.given;
     }
 
 -- settling brings to rest
-pub IsAtRest-settled : (b new : Base) (s t : Trail) (from : ℕ) → IsReady b s from → new ≡ record b { watched = new.watched } → Infers (ByClauses b.clauses) s t → IsQuiet (in_force_of b) t (t.level + 1) → IsInStep new t.first t.entries → IsAtRest new t
-IsAtRest-settled b new s t from ready keeps infers quiet step =
+pub IsBaseAtRest-settled : (b new : Base) (s t : Trail) (from : ℕ) → IsBaseReady b s from → new ≡ record b { watched = new.watched } → Infers (ByClauses b.clauses) s t → IsQuiet (in_force_of b) t (t.level + 1) → IsBaseInStep new t.first t.entries → IsBaseAtRest new t
+IsBaseAtRest-settled b new s t from ready keeps infers quiet step =
     let clauses : b.clauses ≡ new.clauses = sym (ap (λ (x : Base). x.clauses) keeps) in
     record {
       fits = subst (λ (cs : List (List Atom)). All (Fits t.first) cs) clauses (subst (λ (f : Domains). All (Fits f) b.clauses) (sym infers.first) ready.fits);

@@ -4,21 +4,21 @@ use Rattle.std.specs.List.{All}
 use Rattle.cps_trail.specs.Trail.{Trail}
 use Rattle.cps_trail.specs.Notes.{AllFit, IsGivenAt, ByClauses}
 use Rattle.cps_clauses.specs.Quiet.{Fits, IsQuiet}
-use Rattle.cps_clauses.specs.Bases.{Base, IsInStep, in_force_of}
+use Rattle.cps_clauses.specs.Bases.{Base, IsBaseInStep, in_force_of}
 
 -- a base may settle a store from an entry number on, and its clauses give each entry that has a note
-pub record IsReady (b : Base) (s : Trail) (from : ℕ) : Type 0 where
+pub record IsBaseReady (b : Base) (s : Trail) (from : ℕ) : Type 0 where
   pub fits : All (Fits s.first) b.clauses
   pub sizes : length b.dropped ≡ length b.clauses
   pub quiet : IsQuiet (in_force_of b) s s.level
   pub within : from ≤ length s.entries
-  pub in_step : IsInStep b s.first (take from s.entries)
+  pub in_step : IsBaseInStep b s.first (take from s.entries)
   pub given : AllFit (IsGivenAt (ByClauses b.clauses)) s
 
 -- all was settled
-pub record IsAtRest (b : Base) (s : Trail) : Type 0 where
+pub record IsBaseAtRest (b : Base) (s : Trail) : Type 0 where
   pub fits : All (Fits s.first) b.clauses
   pub sizes : length b.dropped ≡ length b.clauses
   pub quiet : IsQuiet (in_force_of b) s (s.level + 1)
-  pub in_step : IsInStep b s.first s.entries
+  pub in_step : IsBaseInStep b s.first s.entries
   pub given : AllFit (IsGivenAt (ByClauses b.clauses)) s

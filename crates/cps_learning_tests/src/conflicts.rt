@@ -8,7 +8,7 @@ ghost use Rattle.std.specs.Prelude.{ℕ, ℤ, ◌≡◌, ◌<◌, length, IsTrue
 ghost use Rattle.std.specs.List.{All};
 ghost use Rattle.cps_trail.specs.Trail.{IsFalseNow};
 ghost use Rattle.cps_trail.specs.Notes.{AllFit};
-ghost use Rattle.cps_learning_tests.specs.Resting.{IsAtRest};
+ghost use Rattle.cps_learning_tests.specs.Resting.{IsBaseAtRest};
 
 use crate::resting::{settle, settle_more};
 use crate::small::{bits, decide, one, zero};
@@ -285,9 +285,9 @@ fn lead_by_clauses(
     base: &mut ClauseBase,
     store: &mut Store,
 ) -> Result<(), AllocError>
-    requires rest { IsAtRest base.old store.old }
+    requires rest { IsBaseAtRest base.old store.old }
     requires level { store.old.level ≡ 0 }
-    ensures { OnOk result (IsAtRest base.new store.new) }
+    ensures { OnOk result (IsBaseAtRest base.new store.new) }
 {
     settle_more(alloc, base, store, &[one(0), one(1)])?;
     settle_more(alloc, base, store, &[one(0), one(2)])?;

@@ -2,7 +2,7 @@
 
 ghost use Rattle.std.specs.Prelude.{ℕ, ◌≡◌, OnOk, Ok, IsTrue};
 ghost use Rattle.cps_clauses.specs.Quiet.{Fits};
-ghost use Rattle.cps_learning_tests.specs.Resting.{IsReady, IsAtRest};
+ghost use Rattle.cps_learning_tests.specs.Resting.{IsBaseReady, IsBaseAtRest};
 
 use cps_clauses::{ClauseBase, Origin};
 use cps_literal::{Atom, normal_clause};
@@ -36,7 +36,7 @@ pub(crate) fn add(
     origin: Origin,
 ) -> Result<(), AllocError>
     requires { store.now.level ≡ 0 }
-    ensures { OnOk result ((from : ℕ) → IsReady base.old store.now from → IsReady base.new store.now from) }
+    ensures { OnOk result ((from : ℕ) → IsBaseReady base.old store.now from → IsBaseReady base.new store.now from) }
 {
     if base.len() >= u32::MAX as usize {
         return Err(AllocError);
@@ -55,8 +55,8 @@ pub(crate) fn settle_from(
     store: &mut Store,
     from: usize,
 ) -> Result<Step, AllocError>
-    requires { IsReady base.old store.old from }
-    ensures rest { result ≡ Ok Step.Settled → IsAtRest base.new store.new }
+    requires { IsBaseReady base.old store.old from }
+    ensures rest { result ≡ Ok Step.Settled → IsBaseAtRest base.new store.new }
     ensures level { OnOk result (store.new.level ≡ store.old.level) }
 {
     base.settle(store, from)
@@ -68,8 +68,8 @@ pub(crate) fn settle(
     store: &mut Store,
     from: usize,
 ) -> Result<(), AllocError>
-    requires { IsReady base.old store.old from }
-    ensures rest { OnOk result (IsAtRest base.new store.new) }
+    requires { IsBaseReady base.old store.old from }
+    ensures rest { OnOk result (IsBaseAtRest base.new store.new) }
     ensures level { OnOk result (store.new.level ≡ store.old.level) }
 {
     match settle_from(base, store, from)? {
@@ -85,9 +85,9 @@ pub(crate) fn settle_more(
     store: &mut Store,
     atoms: &[Atom],
 ) -> Result<u64, AllocError>
-    requires rest { IsAtRest base.old store.old }
+    requires rest { IsBaseAtRest base.old store.old }
     requires level { store.old.level ≡ 0 }
-    ensures rest { OnOk result (IsAtRest base.new store.new) }
+    ensures rest { OnOk result (IsBaseAtRest base.new store.new) }
     ensures level { OnOk result (store.new.level ≡ 0) }
 {
     add(alloc, base, store, atoms, Origin::Learnt)?;

@@ -6,7 +6,7 @@ use Rattle.cps_literal.specs.declared.atom.Atom.{Atom}
 use Rattle.cps_literal.specs.declared.atom.Op.TheVariants.{Eq, Ge, Le}
 use Rattle.cps_instance.specs.Posting.{atom_of}
 use Rattle.cps_instance.specs.Problem.{Problem, variable_count}
-use Rattle.cps_trail.specs.Trail.{Domains, Trail, Entry, Decision, IsSound}
+use Rattle.cps_trail.specs.Trail.{Domains, Trail, Entry, Decision, IsSoundTrail}
 use Rattle.cps_trail.proofs.Times.{IsTrueAfter-all}
 use Rattle.cps_branch.specs.Agreeing.{aside_kept_on}
 use Rattle.cps_branch.specs.Hints.{ChoosesHinted}
@@ -27,7 +27,7 @@ use Rattle.cps_neighbourhood.specs.declared.round.Progress.{Progress}
 use Rattle.cps_neighbourhood.specs.Exploring.{IsExploring, near_of}
 use Rattle.cps_branch.specs.Choice.{IsUndecided}
 use Rattle.cps_neighbourhood.specs.Nears.{DecidesInRound, Near, SameButDecided, draws_now, draws_or_after, learnt_in, round_now, round_or_first}
-use Rattle.cps_neighbourhood.specs.Rounds.{IsFirstOpen, NoneOpen, Round, fixed_from, has_value, is_on, to_decide}
+use Rattle.cps_neighbourhood.specs.Rounds.{IsFirstOpenDecision, NoneOpen, Round, fixed_from, has_value, is_on, to_decide}
 use Rattle.cps_neighbourhood.specs.Standing.{IsUnderWay, begun, round_if, round_of, solution_of}
 use Rattle.cps_neighbourhood.proofs.Keeping.{held_or_not, none_of_round, way_assumed, way_begins, way_chosen, way_decided}
 
@@ -83,7 +83,7 @@ learnt_same false true r u e l = absurd (cc e)
 learnt_same false false r u e l = refl
 
 -- the round made its next decision
-pub open_decided : {P : Type 0} (x y : Explorer P) (a : Atom) → IsExploring x → x.frame.phase ≡ Deciding → x.in_round ≡ true → IsFirstOpen x.round.decisions.items x.frame.store a → begun x.round ≡ x.frame.store.level → y.frame ≡ moved x.frame (decided x.frame.store a) x.frame.rested → IsSoundSearch y.frame
+pub open_decided : {P : Type 0} (x y : Explorer P) (a : Atom) → IsExploring x → x.frame.phase ≡ Deciding → x.in_round ≡ true → IsFirstOpenDecision x.round.decisions.items x.frame.store a → begun x.round ≡ x.frame.store.level → y.frame ≡ moved x.frame (decided x.frame.store a) x.frame.rested → IsSoundSearch y.frame
     → y.brancher ≡ x.brancher → y.kept ≡ x.kept → y.conflicts ≡ x.conflicts → y.aim ≡ x.aim → y.rounds ≡ x.rounds → y.in_round ≡ x.in_round → y.round.decisions.items ≡ x.round.decisions.items → y.round.learnt ≡ x.round.learnt → y.round.assumed ≡ x.round.assumed
     → y.round.held ≡ y.frame.store.level → y.round.place ≡ x.round.place → IsExploring y
 open_decided x y a h due on first held is sound brancher kept conflicts aim rounds in_round decisions learnt assumed held_now place =
@@ -178,12 +178,12 @@ assumed_in x n on d is = record {
 }
 
 -- and so is what the round has open
-pub open_in : {P : Type 0} (x : Explorer P) (n : Near) (a : Atom) → x.in_round ≡ true → NoneIsOpen x.frame.instance.model.assumptions x.frame.store → IsFirstOpen x.round.decisions.items x.frame.store a → n ≡ record (near_of x) { search = moved x.frame (decided x.frame.store a) x.frame.rested }
+pub open_in : {P : Type 0} (x : Explorer P) (n : Near) (a : Atom) → x.in_round ≡ true → NoneIsOpen x.frame.instance.model.assumptions x.frame.store → IsFirstOpenDecision x.round.decisions.items x.frame.store a → n ≡ record (near_of x) { search = moved x.frame (decided x.frame.store a) x.frame.rested }
     → DecidesInRound (near_of x) n
 open_in x n a on none first is =
     let search : n.search ≡ moved x.frame (decided x.frame.store a) x.frame.rested = ap (λ (m : Near). m.search) is in
     record {
-      one = record { atom = a; undecided = first.left_open; next = inr (none, inl (subst (λ (r : Round). IsFirstOpen r.decisions x.frame.store a) (sym (round_now_in x on)) first)); is = search };
+      one = record { atom = a; undecided = first.left_open; next = inr (none, inl (subst (λ (r : Round). IsFirstOpenDecision r.decisions x.frame.store a) (sym (round_now_in x on)) first)); is = search };
       rest = kept_in x n on (is ∙ ap (λ (s : Search). record (near_of x) { search = s }) (sym search));
     }
 
@@ -294,7 +294,7 @@ values_aim true values free = values_from 0 values free
 values_aim false values free = All-nil (λ (t : Atom). t.op ≡ Eq)
 
 -- a round begins where none was under way
-pub begins : {P : Type 0} (x y : Explorer P) (free : List ℕ) → IsExploring x → x.in_round ≡ false → IsSound x.frame.store → y.frame ≡ x.frame → y.brancher ≡ x.brancher → y.kept ≡ x.kept → y.conflicts ≡ x.conflicts → y.aim ≡ x.aim → y.rounds ≡ x.rounds
+pub begins : {P : Type 0} (x y : Explorer P) (free : List ℕ) → IsExploring x → x.in_round ≡ false → IsSoundTrail x.frame.store → y.frame ≡ x.frame → y.brancher ≡ x.brancher → y.kept ≡ x.kept → y.conflicts ≡ x.conflicts → y.aim ≡ x.aim → y.rounds ≡ x.rounds
     → y.in_round ≡ true → round_of y.round ≡ record { decisions = to_decide (solution_of x.aim) free; learnt = 0 } → y.round.assumed ≡ 0 → y.round.held ≡ 0 → y.round.place ≡ 0 → IsExploring y
 begins x y free h off store frame brancher kept conflicts aim rounds on round assumed held place =
     let none : y.round.learnt ≡ 0 = ap (λ (r : Round). r.learnt) round in

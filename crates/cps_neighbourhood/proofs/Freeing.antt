@@ -6,7 +6,7 @@ use Rattle.std.proofs.lemmas.List.Folds.{list_any_at, list_any_none}
 use Rattle.std.proofs.lemmas.List.Elements.{All-from_get_or}
 use Rattle.std.proofs.lemmas.Grind.{common_steps}
 use Rattle.cps_literal.specs.declared.atom.Atom.{Atom}
-use Rattle.cps_neighbourhood.specs.Drawing.{IsRising}
+use Rattle.cps_neighbourhood.specs.Drawing.{AscendsStrictly}
 use Rattle.cps_neighbourhood.specs.Rounds.{fixed_from, has_value, is_on}
 
 not_equal : (a b : ℕ) → (a ≡ b → ⊥) → nat_eq a b ≡ false
@@ -16,7 +16,7 @@ not_equal a b ne = by_test (nat_eq a b) refl
     by_test true e = absurd (ne (eqb-true a b e))
     by_test false e = refl
 
-module _ (free : List ℕ) (place v : ℕ) (rising : IsRising free) (before : (k : ℕ) → k < place → k < length free → get_or free k 0 < v) (after : (k : ℕ) → place ≤ k → k < length free → v ≤ get_or free k 0) where
+module _ (free : List ℕ) (place v : ℕ) (rising : AscendsStrictly free) (before : (k : ℕ) → k < place → k < length free → get_or free k 0 < v) (after : (k : ℕ) → place ≤ k → k < length free → v ≤ get_or free k 0) where
   off : (place < length free → get_or free place 0 ≡ v → ⊥) → is_on free v ≡ false
   off other = list_any_none (λ x. nat_eq x v) free (All-from_get_or (λ x. nat_eq x v ≡ false) free 0 (λ k l. not_equal (get_or free k 0) v (at k l)))
     where
@@ -85,10 +85,10 @@ before_next free place i before here k l m = elim (cases k l) [
     cases : (k : ℕ) → k < place + 1 → (k < place) ⊎ (k ≡ place)
     cases k l = grind arith
 
-pub after_next : (free : List ℕ) (place i : ℕ) → IsRising free → get_or free place 0 ≡ i → (k : ℕ) → place + 1 ≤ k → k < length free → i + 1 ≤ get_or free k 0
+pub after_next : (free : List ℕ) (place i : ℕ) → AscendsStrictly free → get_or free place 0 ≡ i → (k : ℕ) → place + 1 ≤ k → k < length free → i + 1 ≤ get_or free k 0
 after_next free place i rising here k l m = let h = rising place k (omega (arith, l)) m in omega (arith, h, here)
 
-pub after_other : (free : List ℕ) (place i : ℕ) → IsRising free → ((k : ℕ) → place ≤ k → k < length free → i ≤ get_or free k 0) → (place < length free → get_or free place 0 ≡ i → ⊥) → (k : ℕ) → place ≤ k → k < length free → i + 1 ≤ get_or free k 0
+pub after_other : (free : List ℕ) (place i : ℕ) → AscendsStrictly free → ((k : ℕ) → place ≤ k → k < length free → i ≤ get_or free k 0) → (place < length free → get_or free place 0 ≡ i → ⊥) → (k : ℕ) → place ≤ k → k < length free → i + 1 ≤ get_or free k 0
 after_other free place i rising after other k l m = elim (cases k l) [
   | inl same ↦
       let within : place < length free = subst (λ (n : ℕ). n < length free) same m in

@@ -8,7 +8,7 @@ use Rattle.std.proofs.Math.Seq.{get_or-append_seam}
 use Rattle.std.proofs.lemmas.List.Elements.{All-append, All-cons, All-nil, All-filter, All-weaker, filter_passes}
 use Rattle.cps_literal.specs.declared.atom.Atom.{Atom}
 use Rattle.cps_literal.specs.declared.atom.Op.TheVariants.{Eq}
-use Rattle.cps_trail.specs.Trail.{Domains, Trail, Entry, Decision, IsSound, admits, up_to}
+use Rattle.cps_trail.specs.Trail.{Domains, Trail, Entry, Decision, IsSoundTrail, admits, up_to}
 use Rattle.cps_trail.proofs.Falls.{bool_cases}
 use Rattle.cps_trail.proofs.Laws.{admits-append}
 use Rattle.cps_trail.proofs.Marks.{up_to-all, up_to-append_above, up_to-up_to}
@@ -16,7 +16,7 @@ use Rattle.cps_branch.specs.Choice.{IsUndecided}
 use Rattle.cps_search.specs.Ends.{round_conflicts}
 use Rattle.cps_neighbourhood.specs.declared.round.Progress.{Progress}
 use Rattle.cps_neighbourhood.specs.Rounds.{EndsRound, IsOfRound, NoneOpen}
-use Rattle.cps_neighbourhood.specs.Standing.{EndsAt, IsUnderWay, at_end_of, begun, held_to, round_of}
+use Rattle.cps_neighbourhood.specs.Standing.{IsRoundEnd, IsUnderWay, at_end_of, begun, held_to, round_of}
 
 -- what a store leaves undecided an earlier one did that left at least its values
 pub undecided_before : (s t : Trail) (u : Atom) → t.first ≡ s.first → ((x : ℤ) → admits t.first t.entries u.subject x ≡ true → admits s.first s.entries u.subject x ≡ true) → IsUndecided t u → IsUndecided s u
@@ -35,11 +35,11 @@ fewer_added s t added first entries i x h =
     admits-append s.first s.entries added i x (subst (λ (ds : Domains). admits ds (s.entries ++ added) i x ≡ true) first (subst (λ (es : List Entry). admits t.first es i x ≡ true) entries h))
 
 -- the entries of the first levels, and those after them
-split_at : (s : Trail) (level : ℕ) → IsSound s → s.entries ≡ up_to level s.entries ++ drop (length (up_to level s.entries)) s.entries
+split_at : (s : Trail) (level : ℕ) → IsSoundTrail s → s.entries ≡ up_to level s.entries ++ drop (length (up_to level s.entries)) s.entries
 split_at s level sound = sym (take-append-drop (length (up_to level s.entries)) s.entries) ∙ ap (λ (es : List Entry). es ++ drop (length (up_to level s.entries)) s.entries) (sound.fronts level)
 
 -- what was not open at the end of a level is not open now
-pub none_open_now : (decisions : List Atom) (s : Trail) (level : ℕ) → IsSound s → NoneOpen decisions (at_end_of s level) → NoneOpen decisions s
+pub none_open_now : (decisions : List Atom) (s : Trail) (level : ℕ) → IsSoundTrail s → NoneOpen decisions (at_end_of s level) → NoneOpen decisions s
 none_open_now decisions s level sound none = none_open_later decisions (at_end_of s level) s refl (fewer_added (at_end_of s level) s (drop (length (up_to level s.entries)) s.entries) refl (split_at s level sound)) none
 
 any_added : (P : Entry → Type 0) (es fs : List Entry) → Any P es → Any P (es ++ fs)
@@ -292,7 +292,7 @@ way_begins r s few subjects values assumed held place level none = record {
 }
 
 -- at level 0 nothing was decided
-pub none_of_round : (decisions : List Atom) (s : Trail) → IsSound s → s.level ≡ 0 → All (λ e. IsOfRound decisions e → ⊥) s.entries
+pub none_of_round : (decisions : List Atom) (s : Trail) → IsSoundTrail s → s.level ≡ 0 → All (λ e. IsOfRound decisions e → ⊥) s.entries
 none_of_round decisions s sound bottom k d l of =
     let begins = sound.decisions k d l of.decided in
     let most = sound.levels k d l in
@@ -317,13 +317,13 @@ way_placed r u s decisions learnt assumed held passed h =
     }
 
 -- a clause ends the round exactly where the level says so
-pub ends_by_level : (r : Progress) (s : Trail) (back : ℕ) → IsUnderWay r s → EndsAt r back → EndsRound (round_of r) s back
+pub ends_by_level : (r : Progress) (s : Trail) (back : ℕ) → IsUnderWay r s → IsRoundEnd r back → EndsRound (round_of r) s back
 ends_by_level r s back h (inl last) = inl last
 ends_by_level r s back h (inr below) =
     let up = h.above (omega (arith, below)) in
     inr (record { level = r.held; last = record { here = h.each r.held up (omega arith); last = λ k d l of. (h.between k d l of).1 }; below = below })
 
-pub level_by_ends : (r : Progress) (s : Trail) (back : ℕ) → IsUnderWay r s → EndsRound (round_of r) s back → EndsAt r back
+pub level_by_ends : (r : Progress) (s : Trail) (back : ℕ) → IsUnderWay r s → EndsRound (round_of r) s back → IsRoundEnd r back
 level_by_ends r s back h (inl last) = inl last
 level_by_ends r s back h (inr refuted) =
     let here = refuted.last.here in

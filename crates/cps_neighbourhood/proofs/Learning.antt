@@ -14,7 +14,7 @@ use Rattle.cps_search.specs.Lessons.{GoesBack}
 use Rattle.cps_search.specs.Searches.{IsSoundSearch, Search}
 use Rattle.cps_search.specs.Shelves.{HasLearnt, Shelf}
 use Rattle.cps_search.specs.Turns.{BackAsLearnt, BackToBottom, LearntOne, Steps}
-use Rattle.cps_search.specs.Ends.{IsOver, Stands, round_conflicts, round_count}
+use Rattle.cps_search.specs.Ends.{IsOver, StaysOrGoesBack, round_conflicts, round_count}
 use Rattle.cps_search.proofs.Moving.{turn_moves}
 use Rattle.cps_search.proofs.Turning.{setting_trans}
 use Rattle.cps_search.proofs.Working.{learnt_stands, same_back, setting_stands, stands_back, stands_imported}
@@ -24,7 +24,7 @@ use Rattle.cps_neighbourhood.specs.declared.round.Progress.{Progress}
 use Rattle.cps_neighbourhood.specs.Exploring.{IsExploring, KeepsRest, RoundEnds, RoundGoesOn, near_of}
 use Rattle.cps_neighbourhood.specs.Nears.{EndedRound, HeardClause, LearntInRound, NearLowers, TakesNearTurn, WentOnInRound, fewer_conflicts, fewer_rounds, learnt_in}
 use Rattle.cps_neighbourhood.specs.Rounds.{Round}
-use Rattle.cps_neighbourhood.specs.Standing.{EndsAt, IsUnderWay, round_if, round_of, solution_of}
+use Rattle.cps_neighbourhood.specs.Standing.{IsRoundEnd, IsUnderWay, round_if, round_of, solution_of}
 use Rattle.cps_neighbourhood.proofs.Exploring.{explores_on, not_over, round_in, round_out}
 use Rattle.cps_neighbourhood.proofs.Keeping.{ends_by_level, level_by_ends, way_back}
 
@@ -38,7 +38,7 @@ to_bottom s m t learnt back = record {
   entries = ap (λ (x : Trail). x.entries) back.is ∙ ap (λ (es : List Entry). up_to 0 es) learnt.entries ∙ up_to-up_to 0 m.store.level s.store.entries (omega arith);
 }
 
-ends_or_not : (r : Progress) (back : ℕ) → EndsAt r back ⊎ (EndsAt r back → ⊥)
+ends_or_not : (r : Progress) (back : ℕ) → IsRoundEnd r back ⊎ (IsRoundEnd r back → ⊥)
 ends_or_not r back = by_cases (last (r.learnt + 1)) (below back r.held)
   where
     last : (n : ℕ) → (n ≡ round_conflicts) ⊎ (n ≡ round_conflicts → ⊥)
@@ -47,7 +47,7 @@ ends_or_not r back = by_cases (last (r.learnt + 1)) (below back r.held)
     below : (a b : ℕ) → (a < b) ⊎ (a < b → ⊥)
     below a b = grind arith
 
-    by_cases : (r.learnt + 1 ≡ round_conflicts) ⊎ (r.learnt + 1 ≡ round_conflicts → ⊥) → (back < r.held) ⊎ (back < r.held → ⊥) → EndsAt r back ⊎ (EndsAt r back → ⊥)
+    by_cases : (r.learnt + 1 ≡ round_conflicts) ⊎ (r.learnt + 1 ≡ round_conflicts → ⊥) → (back < r.held) ⊎ (back < r.held → ⊥) → IsRoundEnd r back ⊎ (IsRoundEnd r back → ⊥)
     by_cases (inl ending) m = inl (inl ending)
     by_cases (inr going) (inl ending) = inl (inr ending)
     by_cases (inr going) (inr not) = inr (λ h. elim h [ inl e ↦ going e | inr l ↦ not l ])
@@ -65,7 +65,7 @@ few_learnt x f rows p q h running one = (h.under_way running (was_in x h (omega 
 
 -- What was heard: the worker x before the turn, its search f after the steps, and the worker y after the turn.
 module _ {P : Type 0} (x y : Explorer P) (f : Search) (rows : ℕ) (p q : Part) (h : IsExploring x) (running : IsOver x.frame.phase → ⊥) (left : x.rounds < round_count x.conflicts) (steps : Steps x.frame f rows p q (Some turns.Learnt))
-    (ends : EndsAt x.round f.store.level → RoundEnds (record x { frame = f }) y) (goes_on : (EndsAt x.round f.store.level → ⊥) → RoundGoesOn (record x { frame = f }) y) (rest : KeepsRest (record x { frame = f }) y) where
+    (ends : IsRoundEnd x.round f.store.level → RoundEnds (record x { frame = f }) y) (goes_on : (IsRoundEnd x.round f.store.level → ⊥) → RoundGoesOn (record x { frame = f }) y) (rest : KeepsRest (record x { frame = f }) y) where
   one : LearntOne x.frame f rows p q
   one = steps.cause.0
 
@@ -78,7 +78,7 @@ module _ {P : Type 0} (x y : Explorer P) (f : Search) (rows : ℕ) (p q : Part) 
   way : IsUnderWay x.round x.frame.store
   way = h.under_way running on
 
-  stands : Stands f y.frame
+  stands : StaysOrGoesBack f y.frame
   stands = elim (ends_or_not x.round f.store.level) [ inl ending ↦ (let e = ends ending in inr (e.back, e.is)) | inr going ↦ inl (goes_on going).frame ]
 
   base : y.frame.base ≡ f.base
@@ -102,16 +102,16 @@ module _ {P : Type 0} (x y : Explorer P) (f : Search) (rows : ℕ) (p q : Part) 
   in_before : round_if x.in_round x.round ≡ Some (round_of x.round)
   in_before = round_in x.in_round x.round on
 
-  below_last : (EndsAt x.round f.store.level → ⊥) → x.round.learnt + 1 < round_conflicts
+  below_last : (IsRoundEnd x.round f.store.level → ⊥) → x.round.learnt + 1 < round_conflicts
   below_last going = less x.round.learnt way.few (λ e. going (inl e))
     where
       less : (n : ℕ) → n < round_conflicts → (n + 1 ≡ round_conflicts → ⊥) → n + 1 < round_conflicts
       less n l not = grind arith
 
-  ended : EndsAt x.round f.store.level → EndedRound (near_of x) (near_of y)
+  ended : IsRoundEnd x.round f.store.level → EndedRound (near_of x) (near_of y)
   ended ending = (let e = ends ending in record { rounds = e.rounds; round = round_out y.in_round y.round e.round; back = to_bottom x.frame f y.frame learnt e.back })
 
-  went_on : (EndsAt x.round f.store.level → ⊥) → WentOnInRound (near_of x) (near_of y) (round_of x.round)
+  went_on : (IsRoundEnd x.round f.store.level → ⊥) → WentOnInRound (near_of x) (near_of y) (round_of x.round)
   went_on going = (let g = goes_on going in record { rounds = g.rounds; one_more = round_on g; back = subst (λ (s : Search). BackAsLearnt x.frame s) (sym g.frame) learnt })
 
   in_round : ((earlier : List JournalItem) (clause : List Atom) (below : Bound) → f.base.journal ≡ earlier ++ items.Learnt clause below ∷ [] → HeardClause clause x.brancher y.brancher) → LearntInRound (near_of x) (near_of y) rows p q

@@ -4,7 +4,7 @@ use Rattle.std.proofs.Common.{ℕ, zero, suc, ◌+◌, ◌-◌, ◌≤◌, ◌<�
 use Rattle.std.proofs.lemmas.Bool.{ltb-true, ltb-false}
 use Rattle.std.proofs.lemmas.List.Elements.{All-nil, All-cons, All-weaker}
 use Rattle.rand_pcg.specs.Lcg.{Lcg}
-use Rattle.cps_neighbourhood.specs.Drawing.{next_word, after_word, after_words, is_taken, sampled, sample, IsRising}
+use Rattle.cps_neighbourhood.specs.Drawing.{next_word, after_word, after_words, is_taken, sampled, sample, AscendsStrictly}
 
 pub one_of : (b : Bool) → (b ≡ true) ⊎ (b ≡ false)
 one_of true = inl refl
@@ -61,18 +61,18 @@ sampled_below (suc left) first wanted g = elim (one_of (is_taken (suc left) want
 pub sampled_under : (n wanted : ℕ) (g : Lcg) → All (λ i. i < n) (sample n wanted g)
 sampled_under n wanted g = All-weaker (λ (i : ℕ). i < 0 + n) (λ (i : ℕ). i < n) (λ i l. omega (arith, l)) (sample n wanted g) (sampled_below n 0 wanted g)
 
-rising_cons : (x : ℕ) (xs : List ℕ) → All (λ i. x + 1 ≤ i) xs → IsRising xs → IsRising (x ∷ xs)
+rising_cons : (x : ℕ) (xs : List ℕ) → All (λ i. x + 1 ≤ i) xs → AscendsStrictly xs → AscendsStrictly (x ∷ xs)
 rising_cons x xs least rising zero zero l m = absurd (omega arith)
 rising_cons x xs least rising zero (suc j) l m = let h : x + 1 ≤ get_or xs j 0 = least j 0 (omega (arith, m)) in omega (arith, h)
 rising_cons x xs least rising (suc i) zero l m = absurd (omega arith)
 rising_cons x xs least rising (suc i) (suc j) l m = rising i j (omega (arith, l)) (omega (arith, m))
 
-pub sampled_rising : (left first wanted : ℕ) (g : Lcg) → IsRising (sampled left first wanted g)
+pub sampled_rising : (left first wanted : ℕ) (g : Lcg) → AscendsStrictly (sampled left first wanted g)
 sampled_rising zero first wanted g = λ i j l m. absurd (omega arith)
 sampled_rising (suc left) first wanted g = elim (one_of (is_taken (suc left) wanted g)) [
-  | inl e ↦ subst IsRising (sym (taken left first wanted g e))
+  | inl e ↦ subst AscendsStrictly (sym (taken left first wanted g e))
       (rising_cons first (sampled left (first + 1) (wanted - 1) (after_word g)) (sampled_from left (first + 1) (wanted - 1) (after_word g)) (sampled_rising left (first + 1) (wanted - 1) (after_word g)))
-  | inr e ↦ subst IsRising (sym (passed left first wanted g e)) (sampled_rising left (first + 1) wanted (after_word g))
+  | inr e ↦ subst AscendsStrictly (sym (passed left first wanted g e)) (sampled_rising left (first + 1) wanted (after_word g))
 ]
 
 -- a step of the sample where a number is taken, and where it is not

@@ -37,5 +37,5 @@ abbrev pub sample : ℕ → ℕ → Lcg → List ℕ
 sample n wanted draws = sampled n 0 wanted draws
 
 -- each is less than the next
-abbrev pub IsRising : List ℕ → Type 0
-IsRising xs = (i j : ℕ) → i < j → j < length xs → slice_index xs i < slice_index xs j
+abbrev pub AscendsStrictly : List ℕ → Type 0
+AscendsStrictly xs = (i j : ℕ) → i < j → j < length xs → slice_index xs i < slice_index xs j

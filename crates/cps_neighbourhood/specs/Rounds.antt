@@ -51,7 +51,7 @@ first_round n aim draws = record { decisions = to_decide aim (freed n draws); le
 -- ---- what is decided in a round
 
 -- the first of the decisions that the store leaves undecided: those whose value is gone or taken already are left out
-pub record IsFirstOpen (decisions : List Atom) (s : Trail) (t : Atom) : Type 0 where
+pub record IsFirstOpenDecision (decisions : List Atom) (s : Trail) (t : Atom) : Type 0 where
   pub place : ℕ
   pub within : place < length decisions
   pub is : (d : Atom) → slice_index_or decisions place d ≡ t
@@ -64,7 +64,7 @@ NoneOpen decisions s = All (λ t. IsUndecided s t → ⊥) decisions
 -- The round's first open decision, where there is one; then what the brancher chooses, by activity.
 abbrev pub ChoosesInRound : List Atom → ByActivity → Trail → Option Atom → Type 0
 ChoosesInRound decisions b s None = ⊥
-ChoosesInRound decisions b s (Some t) = IsFirstOpen decisions s t
+ChoosesInRound decisions b s (Some t) = IsFirstOpenDecision decisions s t
     ⊎ (NoneOpen decisions s × ChoosesHinted b.activities b.hints s (Some t))
 
 -- ---- when a round ends
@@ -80,11 +80,11 @@ pub record IsLastLevel (decisions : List Atom) (s : Trail) (level : ℕ) : Type 
   pub last : All (λ e. IsOfRound decisions e → e.level ≤ level) s.entries
 
 -- A round is left: a learnt clause sends the search back below the last of its decisions.
-pub record IsLeft (decisions : List Atom) (s : Trail) (back : ℕ) : Type 0 where
+pub record IsRoundLeft (decisions : List Atom) (s : Trail) (back : ℕ) : Type 0 where
   pub level : ℕ
   pub last : IsLastLevel decisions s level
   pub below : back < level
 
 -- a round ends with a learnt clause that is its last, or by which it is left
 abbrev pub EndsRound : Round → Trail → ℕ → Type 0
-EndsRound r s back = (r.learnt + 1 ≡ round_conflicts) ⊎ IsLeft r.decisions s back
+EndsRound r s back = (r.learnt + 1 ≡ round_conflicts) ⊎ IsRoundLeft r.decisions s back

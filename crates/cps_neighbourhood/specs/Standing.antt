@@ -49,5 +49,5 @@ abbrev pub held_to : Progress → ℕ → ℕ
 held_to r level = if nat_le level r.assumed then 0 else min r.held level
 
 -- a learnt clause that sends a search back to a level ends the round
-abbrev pub EndsAt : Progress → ℕ → Type 0
-EndsAt r back = (r.learnt + 1 ≡ round_conflicts) ⊎ (back < r.held)
+abbrev pub IsRoundEnd : Progress → ℕ → Type 0
+IsRoundEnd r back = (r.learnt + 1 ≡ round_conflicts) ⊎ (back < r.held)

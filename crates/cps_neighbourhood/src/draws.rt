@@ -6,7 +6,7 @@
 //! would need fewer words, but a second pass, and another draw whenever two places are the same.
 
 ghost use Rattle.std.specs.Prelude.{◌≡◌, ◌↔◌, ◌<◌, ◌≤◌, ◌%◌, All, IfOk, OnOk, IsTrue, length};
-ghost use Rattle.cps_neighbourhood.specs.Drawing.{draws_of, after_word, after_words, is_taken, sample, IsRising};
+ghost use Rattle.cps_neighbourhood.specs.Drawing.{draws_of, after_word, after_words, is_taken, sample, AscendsStrictly};
 
 use rand_core::utils::NextWord;
 use rand_pcg::Lcg64Xsh32;
@@ -42,7 +42,7 @@ pub fn choose_free(
     ensures drawn { IfOk result (λ chosen. chosen.items ≡ sample n count draws.old) }
     ensures after { OnOk result (draws.new ≡ after_words n draws.old) }
     ensures count { IfOk result (λ chosen. length chosen.items ≡ count) }
-    ensures rising { IfOk result (λ chosen. IsRising chosen.items) }
+    ensures rising { IfOk result (λ chosen. AscendsStrictly chosen.items) }
     ensures below { IfOk result (λ chosen. All (λ i. i < n) chosen.items) }
 {
     let mut chosen = Vec::new(alloc);

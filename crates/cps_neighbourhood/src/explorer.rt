@@ -19,9 +19,9 @@ ghost use Rattle.cps_search.specs.Assumptions.{NoneIsOpen};
 ghost use Rattle.cps_search.specs.Searches.{IsSettled, IsSoundSearch};
 ghost use Rattle.cps_search.specs.Ends.{Decides, IsOver, round_count, round_conflicts};
 ghost use Rattle.cps_search.specs.Moves.{decided, moved};
-ghost use Rattle.cps_neighbourhood.specs.Rounds.{ChoosesInRound, IsFirstOpen, NoneOpen};
+ghost use Rattle.cps_neighbourhood.specs.Rounds.{ChoosesInRound, IsFirstOpenDecision, NoneOpen};
 ghost use Rattle.cps_neighbourhood.specs.Nears.{BeginsNear, DecidesInRound, HeardClause, TakesNearTurn, draws_now, round_now};
-ghost use Rattle.cps_neighbourhood.specs.Standing.{EndsAt, begun, held_to, round_of};
+ghost use Rattle.cps_neighbourhood.specs.Standing.{IsRoundEnd, begun, held_to, round_of};
 ghost use Rattle.cps_neighbourhood.specs.Exploring.{IsExploring, KeepsRest, RoundEnds, RoundGoesOn, near_of};
 
 use crate::aim::Aim;
@@ -130,7 +130,7 @@ impl<'a, P: Propagator> Explorer<'a, P> {
         requires in_round { IsTrue self.old.in_round }
         requires due { self.old.frame.phase ≡ Phase.Deciding }
         requires none_open { NoneIsOpen self.old.frame.instance.model.assumptions self.old.frame.store }
-        requires open { IsFirstOpen self.old.round.decisions.items self.old.frame.store atom }
+        requires open { IsFirstOpenDecision self.old.round.decisions.items self.old.frame.store atom }
         requires begun { begun self.old.round ≡ self.old.frame.store.level }
         ensures near { OnOk result (near_of self.new ≡ record (near_of self.old) {
           search = moved self.old.frame (decided self.old.frame.store atom) self.old.frame.rested;
@@ -225,8 +225,8 @@ impl<'a, P: Propagator> Explorer<'a, P> {
     fn end_or_go_on(&mut self)
         requires few { self.old.rounds < 2 ^ 32 }
         requires learnt { self.old.round.learnt < round_conflicts }
-        ensures ends { EndsAt self.old.round self.old.frame.store.level → RoundEnds self.old self.new }
-        ensures goes_on { (EndsAt self.old.round self.old.frame.store.level → ⊥) → RoundGoesOn self.old self.new }
+        ensures ends { IsRoundEnd self.old.round self.old.frame.store.level → RoundEnds self.old self.new }
+        ensures goes_on { (IsRoundEnd self.old.round self.old.frame.store.level → ⊥) → RoundGoesOn self.old self.new }
         ensures rest { KeepsRest self.old self.new }
         ensures brancher { (self.new.brancher ≡ self.old.brancher) × (self.new.kept ≡ self.old.kept) }
         ensures sound { self.old.frame.refused ≡ false → IsSoundSearch self.old.frame → IsSoundSearch self.new.frame }
@@ -245,8 +245,8 @@ impl<'a, P: Propagator> Explorer<'a, P> {
         ensures heard { (earlier : List JournalItemOf) (clause : List AtomOf) (below : BoundOf)
             → self.old.frame.base.journal ≡ earlier ++ JournalItem.Learnt clause below ∷ []
             → HeardClause clause self.old.brancher self.new.brancher }
-        ensures ends { EndsAt self.old.round self.old.frame.store.level → RoundEnds self.old self.new }
-        ensures goes_on { (EndsAt self.old.round self.old.frame.store.level → ⊥) → RoundGoesOn self.old self.new }
+        ensures ends { IsRoundEnd self.old.round self.old.frame.store.level → RoundEnds self.old self.new }
+        ensures goes_on { (IsRoundEnd self.old.round self.old.frame.store.level → ⊥) → RoundGoesOn self.old self.new }
         ensures rest { KeepsRest self.old self.new }
         ensures kept { self.new.kept ≡ min self.old.kept (length self.new.frame.store.entries) }
         ensures size { length self.new.brancher.activities ≡ length self.old.brancher.activities }

@@ -8,12 +8,12 @@
 
 ghost use Rattle.std.specs.Prelude.{◌≡◌, ◌↔◌, ◌⊎◌, ℕ, ◌+◌, ◌≤◌, ◌<◌, ◌^◌, All, IfOk, IfSome, OnOk, IsNone, IsTrue, length, min, pos, slice_index_or};
 ghost use Rattle.cps_literal.specs.declared.atom.Atom.{Atom as AtomOf};
-ghost use Rattle.cps_trail.specs.Trail.{IsSound};
+ghost use Rattle.cps_trail.specs.Trail.{IsSoundTrail};
 ghost use Rattle.cps_branch.specs.Choice.{IsUndecided};
 ghost use Rattle.cps_search.specs.Ends.{round_conflicts};
-ghost use Rattle.cps_neighbourhood.specs.Drawing.{after_words, IsRising};
-ghost use Rattle.cps_neighbourhood.specs.Rounds.{first_round, fixed_from, free_count, freed, has_value, is_on, to_decide, IsFirstOpen, NoneOpen};
-ghost use Rattle.cps_neighbourhood.specs.Standing.{begun, held_to, round_of, solution_of, EndsAt, IsUnderWay};
+ghost use Rattle.cps_neighbourhood.specs.Drawing.{after_words, AscendsStrictly};
+ghost use Rattle.cps_neighbourhood.specs.Rounds.{first_round, fixed_from, free_count, freed, has_value, is_on, to_decide, IsFirstOpenDecision, NoneOpen};
+ghost use Rattle.cps_neighbourhood.specs.Standing.{begun, held_to, round_of, solution_of, IsRoundEnd, IsUnderWay};
 
 use crate::aim::Aim;
 use crate::draws::choose_free;
@@ -64,7 +64,7 @@ fn has_value(values: &[i64], variable: usize) -> Atom
 /// Whether a variable is free: whether it stands at `place` in the rising list of free ones, of which exactly those
 /// before `place` are less.
 fn is_free(free: &[u32], place: usize, variable: usize) -> bool
-    requires rising { IsRising free.now }
+    requires rising { AscendsStrictly free.now }
     requires before { (k : ℕ) → k < place → k < length free.now → slice_index_or free.now k 0 < variable }
     requires after { (k : ℕ) → place ≤ k → k < length free.now → variable ≤ slice_index_or free.now k 0 }
     ensures is { result ≡ is_on free.now variable }
@@ -76,7 +76,7 @@ fn is_free(free: &[u32], place: usize, variable: usize) -> bool
 /// The decisions that the variables which are not free have these values.
 fn fix_others(alloc: Global, values: &[i64], free: &[u32]) -> Result<Vec<Atom>, AllocError>
     requires few { length values.now ≤ 2 ^ 31 }
-    requires rising { IsRising free.now }
+    requires rising { AscendsStrictly free.now }
     ensures { IfOk result (λ decisions. decisions.items ≡ fixed_from 0 values.now free.now) }
 {
     let mut decisions = Vec::new(alloc);
@@ -94,7 +94,7 @@ fn fix_others(alloc: Global, values: &[i64], free: &[u32]) -> Result<Vec<Atom>, 
 /// The decisions of a round that frees these variables: none without an aim.
 fn to_decide(alloc: Global, aim: &Aim, free: &[u32]) -> Result<Vec<Atom>, AllocError>
     requires few { length aim.now.values.items ≤ 2 ^ 31 }
-    requires rising { IsRising free.now }
+    requires rising { AscendsStrictly free.now }
     ensures { IfOk result (λ decisions. decisions.items ≡ to_decide (solution_of aim.now) free.now) }
 {
     match aim.solution() {
@@ -171,10 +171,10 @@ impl Progress {
         ensures learnt { self.new.learnt ≡ self.old.learnt }
         ensures held { (self.new.assumed ≡ self.old.assumed) × (self.new.held ≡ self.old.held) }
         ensures none { IsNone result → NoneOpen self.old.decisions.items store.now }
-        ensures some { IfSome result (λ t. IsFirstOpen self.old.decisions.items store.now t
+        ensures some { IfSome result (λ t. IsFirstOpenDecision self.old.decisions.items store.now t
             × (begun self.old ≡ store.now.level)) }
         ensures under_way { IsUnderWay self.new store.now }
-        ensures sound { IsSound store.now }
+        ensures sound { IsSoundTrail store.now }
     {
         // Reading the entries gives the proof the store's invariant.
         let _ = store.entries();
@@ -193,7 +193,7 @@ impl Progress {
     /// Whether a learnt clause that sends the search back to level `back` ends the round.
     pub fn is_ended_at(&self, back: usize) -> bool
         requires { self.now.learnt < round_conflicts }
-        ensures { IsTrue result ↔ EndsAt self.now back }
+        ensures { IsTrue result ↔ IsRoundEnd self.now back }
     {
         self.learnt + 1 == ROUND_CONFLICTS || back < self.held
     }

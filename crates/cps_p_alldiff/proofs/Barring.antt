@@ -12,7 +12,7 @@ use Rattle.cps_trail.specs.Trail.{Trail, IsTrueNow}
 use Rattle.cps_p_alldiff.specs.declared.interval.Interval.{Interval}
 use Rattle.cps_p_alldiff.specs.Intervals.{IsInRange}
 use Rattle.cps_p_alldiff.specs.Bars.{IsBar}
-use Rattle.cps_p_alldiff.specs.Facts.{IsBound, IsNear}
+use Rattle.cps_p_alldiff.specs.Facts.{IsNearBound, IsNear}
 use Rattle.cps_p_alldiff.proofs.Counting.{lies, equals_is}
 use Rattle.cps_p_alldiff.proofs.Holding.{at_least, at_most, facts_push, all_before, last_true}
 
@@ -45,7 +45,7 @@ module _ (i : ℕ) (e h : Interval) (v : ℤ) where
 
 -- the two bounds
 module _ (t : Atom) (h : Interval) (range : IsInRange h) where
-  pub bound_low : t.op ≡ Ge → t.value ≤ℤ (h.high +ℤ pos 1) → IsBound t h (at_least t.subject h.low)
+  pub bound_low : t.op ≡ Ge → t.value ≤ℤ (h.high +ℤ pos 1) → IsNearBound t h (at_least t.subject h.low)
   bound_low is-ge in' = record {
     subject = refl;
     inside = range.low;
@@ -56,7 +56,7 @@ module _ (t : Atom) (h : Interval) (range : IsInRange h) where
         lies h x (omega (arith, ints)) (omega (arith, ints));
   }
 
-  pub bound_high : t.op ≡ Le → h.low ≤ℤ (t.value +ℤ pos 1) → IsBound t h (at_most t.subject h.high)
+  pub bound_high : t.op ≡ Le → h.low ≤ℤ (t.value +ℤ pos 1) → IsNearBound t h (at_most t.subject h.high)
   bound_high is-le in' = record {
     subject = refl;
     inside = range.high;
@@ -68,7 +68,7 @@ module _ (t : Atom) (h : Interval) (range : IsInRange h) where
   }
 
 -- facts by which an atom is near
-pub near_by : (s : Trail) (t near : Atom) (h : Interval) (old new : List Atom) → IsBound t h near → IsTrueNow s near → near.subject < length s.first → new ≡ old ++ near ∷ [] → IsNear s t h old new
+pub near_by : (s : Trail) (t near : Atom) (h : Interval) (old new : List Atom) → IsNearBound t h near → IsTrueNow s near → near.subject < length s.first → new ≡ old ++ near ∷ [] → IsNear s t h old new
 near_by s t near h old new bound now inside pushed = subst (λ (us : List Atom). IsNear s t h old us) (sym pushed) (record {
   facts = λ f. facts_push s old near f (record { subject = inside; inside = bound.inside; true_now = now });
   kept = λ xs all. all_before xs old near all;

@@ -13,7 +13,7 @@ use Rattle.cps_rule.specs.Rules.{IsAtRest}
 use Rattle.cps_propagate.specs.Now.{IsFixedNow, AreOpen}
 use Rattle.cps_propagate.specs.Strength.{IsHeld, AreHeld, HasRoom}
 use Rattle.cps_p_alldiff.specs.declared.interval.Interval.{Interval}
-use Rattle.cps_p_alldiff.specs.Intervals.{covers, covered, IsInRange, AreEnds, IsRoomy, IsBounded, IsHull, AreBounded, AreHulls}
+use Rattle.cps_p_alldiff.specs.Intervals.{covers, covered, IsInRange, AreEnds, IsRoomy, IsEnclosed, IsTightInterval, AreEnclosed, AreTightIntervals}
 use Rattle.cps_p_alldiff.proofs.Counting.{is_covered, count_cons}
 use Rattle.cps_p_alldiff.proofs.Bodies.{all_different}
 
@@ -30,29 +30,29 @@ zip_weaker R S w (a ∷ xs) [] h = absurd h
 zip_weaker R S w (a ∷ xs) (b ∷ ys) h = (w a b h.0, zip_weaker R S w xs ys h.1)
 
 -- one more subject was measured
-pub AreHulls-more : (s : Trail) (is : List ℕ) (es : List Interval) (k : ℕ) (w : Window) (low high : ℤ) → k < length is → ((x : ℤ) → contains w x ≡ admits s.first s.entries (get_or is k 0) x)
+pub AreTightIntervals-more : (s : Trail) (is : List ℕ) (es : List Interval) (k : ℕ) (w : Window) (low high : ℤ) → k < length is → ((x : ℤ) → contains w x ≡ admits s.first s.entries (get_or is k 0) x)
     → contains w low ≡ true → ((x : ℤ) → contains w x ≡ true → low ≤ℤ x) → contains w high ≡ true → ((x : ℤ) → contains w x ≡ true → x ≤ℤ high) → IsInRange (record { low = low; high = high })
-    → AreHulls s (take k is) es → AreHulls s (take (k + 1) is) (es ++ record { low = low; high = high } ∷ [])
-AreHulls-more s is es k w low high l shown a least b greatest range h =
-    let one : IsHull s (get_or is k 0) (record { low = low; high = high }) = record {
+    → AreTightIntervals s (take k is) es → AreTightIntervals s (take (k + 1) is) (es ++ record { low = low; high = high } ∷ [])
+AreTightIntervals-more s is es k w low high l shown a least b greatest range h =
+    let one : IsTightInterval s (get_or is k 0) (record { low = low; high = high }) = record {
       bounded = record { least = λ x o. least x (shown x ∙ o); greatest = λ x o. greatest x (shown x ∙ o) };
       low = sym (shown low) ∙ a;
       high = sym (shown high) ∙ b;
       range = range;
     } in
-    subst (λ js. AreHulls s js (es ++ record { low = low; high = high } ∷ [])) (sym (take_more is k 0 l)) (zip_push (IsHull s) (take k is) es (get_or is k 0) (record { low = low; high = high }) h one)
+    subst (λ js. AreTightIntervals s js (es ++ record { low = low; high = high } ∷ [])) (sym (take_more is k 0 l)) (zip_push (IsTightInterval s) (take k is) es (get_or is k 0) (record { low = low; high = high }) h one)
 
-pub hulls_bound : (s : Trail) (is : List ℕ) (es : List Interval) → AreHulls s is es → AreBounded s is es
-hulls_bound s is es h = zip_weaker (IsHull s) (IsBounded s) (λ i e k. k.bounded) is es h
+pub hulls_bound : (s : Trail) (is : List ℕ) (es : List Interval) → AreTightIntervals s is es → AreEnclosed s is es
+hulls_bound s is es h = zip_weaker (IsTightInterval s) (IsEnclosed s) (λ i e k. k.bounded) is es h
 
-pub hulls_ends : (s : Trail) (is : List ℕ) (es : List Interval) → AreHulls s is es → All AreEnds es
+pub hulls_ends : (s : Trail) (is : List ℕ) (es : List Interval) → AreTightIntervals s is es → All AreEnds es
 hulls_ends s [] [] h = All-nil AreEnds
 hulls_ends s [] (e ∷ es) h = absurd h
 hulls_ends s (i ∷ is) [] h = absurd h
 hulls_ends s (i ∷ is) (e ∷ es) h = All-cons AreEnds e es (record { range = h.0.range; ordered = h.0.bounded.least e.high h.0.high }) (hulls_ends s is es h.1)
 
 -- positions that are held have ends that are covered
-held_covered : (s : Trail) (low high : ℤ) (n : ℕ) (is : List ℕ) (es : List Interval) → AreHulls s is es → AreHeld s low high n is → n ≤ covered (record { low = low; high = high }) es
+held_covered : (s : Trail) (low high : ℤ) (n : ℕ) (is : List ℕ) (es : List Interval) → AreTightIntervals s is es → AreHeld s low high n is → n ≤ covered (record { low = low; high = high }) es
 held_covered s low high zero is es h k = omega arith
 held_covered s low high (suc n) [] es h k = absurd k
 held_covered s low high (suc n) (i ∷ is) [] h k = absurd h
@@ -66,7 +66,7 @@ held_covered s low high (suc n) (i ∷ is) (e ∷ es) h (inr k) =
     let rest = held_covered s low high (suc n) is es h.1 k in
     omega (arith, count_cons (covers g) e es)
 
-pub HasRoom-hulls : (s : Trail) (is : List ℕ) (es : List Interval) → AreHulls s is es → IsRoomy es → HasRoom s is
+pub HasRoom-hulls : (s : Trail) (is : List ℕ) (es : List Interval) → AreTightIntervals s is es → IsRoomy es → HasRoom s is
 HasRoom-hulls s is es h r = record {
   room = λ low high n o k.
       let a = held_covered s low high n is es h k in

@@ -13,7 +13,7 @@ use Rattle.cps_trail.specs.Trail.{Trail, IsAdmitted}
 use Rattle.cps_propagate.specs.Strength.{HasRoom, IsExcludedBody}
 use Rattle.cps_rule.specs.Rules.{IsFittingRule, IsGiven, IsImpossible, IsAtRest, IsExplained, IsRefuted}
 use Rattle.cps_p_alldiff.specs.declared.interval.Interval.{Interval}
-use Rattle.cps_p_alldiff.specs.Intervals.{lies_in, covers, AreEnds, IsFull, IsOverfull, IsRoomy, IsBounded, AreBounded, AreHulls}
+use Rattle.cps_p_alldiff.specs.Intervals.{lies_in, covers, AreEnds, IsFull, IsOverfull, IsRoomy, IsEnclosed, AreEnclosed, AreTightIntervals}
 use Rattle.cps_rule.specs.declared.rule.Narrowing.{Narrowing}
 use Rattle.cps_p_alldiff.specs.Bars.{IsBar, AreGivenBars}
 use Rattle.cps_p_alldiff.proofs.Counting.{bool_cases, lies, covers_low, covers_high, pigeonhole, counted, counted_more}
@@ -22,11 +22,11 @@ use Rattle.cps_p_alldiff.proofs.Ends.{hulls_ends, hulls_bound, HasRoom-hulls, re
 use Rattle.cps_p_alldiff.proofs.Bodies.{apart}
 
 -- different values that a store leaves
-module _ (s : Trail) (is : List ℕ) (es : List Interval) (h : Interval) (xs : List ℤ) (subjects : All (λ i. i < length s.first) is) (bounded : AreBounded s is es) (admitted : IsAdmitted s.first s.entries xs)
+module _ (s : Trail) (is : List ℕ) (es : List Interval) (h : Interval) (xs : List ℤ) (subjects : All (λ i. i < length s.first) is) (bounded : AreEnclosed s is es) (admitted : IsAdmitted s.first s.entries xs)
     (different : AllPairs (λ i j. value_at xs i ≢ value_at xs j) is) where
   covered_lies : (k d : ℕ) (e : Interval) → k < length is → covers h (get_or es k e) ≡ true → lies_in h (value_at xs (get_or is k d)) ≡ true
   covered_lies k d e l c =
-      let b : IsBounded s (get_or is k d) (get_or es k e) = zip_at (IsBounded s) is es k d e bounded l in
+      let b : IsEnclosed s (get_or is k d) (get_or es k e) = zip_at (IsEnclosed s) is es k d e bounded l in
       let v = value_at xs (get_or is k d) in
       let o = admitted (get_or is k d) (subjects k d l) in
       let p = covers_low h (get_or es k e) c in
@@ -38,7 +38,7 @@ module _ (s : Trail) (is : List ℕ) (es : List Interval) (h : Interval) (xs : L
   -- crowd no interval
   none_crowded : IsOverfull es h → ⊥
   none_crowded over =
-      let a = counted (λ (i : ℕ). value_at xs i) h is es (zip_length (IsBounded s) is es bounded) covered_lies in
+      let a = counted (λ (i : ℕ). value_at xs i) h is es (zip_length (IsEnclosed s) is es bounded) covered_lies in
       let b = pigeonhole (λ (i : ℕ). value_at xs i) h is over.ends.ordered different in
       let c = over.crowded in
       absurd (omega arith)
@@ -46,23 +46,23 @@ module _ (s : Trail) (is : List ℕ) (es : List Interval) (h : Interval) (xs : L
   -- nor enter one that others fill
   full_left : (k d : ℕ) (e : Interval) → IsFull es h → k < length is → covers h (get_or es k e) ≡ false → lies_in h (value_at xs (get_or is k d)) ≡ true → ⊥
   full_left k d e full l out in' =
-      let a = counted_more (λ (i : ℕ). value_at xs i) h is es k d e (zip_length (IsBounded s) is es bounded) covered_lies l out in' in
+      let a = counted_more (λ (i : ℕ). value_at xs i) h is es k d e (zip_length (IsEnclosed s) is es bounded) covered_lies l out in' in
       let b = pigeonhole (λ (i : ℕ). value_at xs i) h is full.ends.ordered different in
       let c = full.full in
       absurd (omega arith)
 
-pub crowded_impossible : (s : Trail) (is : List ℕ) (es : List Interval) (h : Interval) → All (λ i. i < length s.first) is → AreBounded s is es → IsOverfull es h → IsImpossible (AllDiff is) s
+pub crowded_impossible : (s : Trail) (is : List ℕ) (es : List Interval) (h : Interval) → All (λ i. i < length s.first) is → AreEnclosed s is es → IsOverfull es h → IsImpossible (AllDiff is) s
 crowded_impossible s is es h subjects bounded over = record { at = λ xs admitted body. none_crowded s is es h xs subjects bounded admitted (apart xs is body) over }
 
 -- a bar of a position that does not fill a full interval is given
-pub bar_given : (s : Trail) (is : List ℕ) (es : List Interval) (h : Interval) (k d : ℕ) (e : Interval) (t : Atom) → All (λ i. i < length s.first) is → AreBounded s is es → IsFull es h → k < length is
+pub bar_given : (s : Trail) (is : List ℕ) (es : List Interval) (h : Interval) (k d : ℕ) (e : Interval) (t : Atom) → All (λ i. i < length s.first) is → AreEnclosed s is es → IsFull es h → k < length is
     → covers h (get_or es k e) ≡ false → IsBar (get_or is k d) (get_or es k e) h t → IsGiven (AllDiff is) s t
 bar_given s is es h k d e t subjects bounded full l out bar = record {
   subject = subst (λ i. i < length s.first) (sym bar.subject) (subjects k d l);
   at = λ xs admitted body. elim (bool_cases (atom_holds xs t)) [
     | inl yes' ↦ yes'
     | inr no' ↦
-        let b : IsBounded s (get_or is k d) (get_or es k e) = zip_at (IsBounded s) is es k d e bounded l in
+        let b : IsEnclosed s (get_or is k d) (get_or es k e) = zip_at (IsEnclosed s) is es k d e bounded l in
         let v = value_at xs (get_or is k d) in
         let o = admitted (get_or is k d) (subjects k d l) in
         let not_met : meets t.op t.value v ≡ false = subst (λ (i : ℕ). meets t.op t.value (value_at xs i) ≡ false) bar.subject no' in
@@ -71,12 +71,12 @@ bar_given s is es h k d e t subjects bounded full l out bar = record {
 }
 
 -- what was judged of ends that were measured
-module _ (s : Trail) (is : List ℕ) (es es' : List Interval) (hulls : AreHulls s is es) (same : es' ≡ es) where
+module _ (s : Trail) (is : List ℕ) (es es' : List Interval) (hulls : AreTightIntervals s is es) (same : es' ≡ es) where
   pub ends_read : All AreEnds es'
   ends_read = subst (λ (gs : List Interval). All AreEnds gs) (sym same) (hulls_ends s is es hulls)
 
-  pub bounds_read : AreBounded s is es'
-  bounds_read = subst (λ (gs : List Interval). AreBounded s is gs) (sym same) (hulls_bound s is es hulls)
+  pub bounds_read : AreEnclosed s is es'
+  bounds_read = subst (λ (gs : List Interval). AreEnclosed s is gs) (sym same) (hulls_bound s is es hulls)
 
   pub room_read : IsRoomy es' → HasRoom s is
   room_read roomy = HasRoom-hulls s is es hulls (subst (λ (gs : List Interval). IsRoomy gs) same roomy)

@@ -25,7 +25,7 @@ pub record AreHolding (s : Trail) (is : List ℕ) (apart : Option ℕ) (h : Inte
   pub held : (xs : List ℤ) → AllTrueAt xs us → n ≤ count_by (is_held xs apart h) is
 
 -- where the bound holds and the atom does not, the value lies in the interval
-pub record IsBound (t : Atom) (h : Interval) (near : Atom) : Type 0 where
+pub record IsNearBound (t : Atom) (h : Interval) (near : Atom) : Type 0 where
   pub subject : near.subject ≡ t.subject
   pub inside : IsInside near.value
   pub bounds : (x : ℤ) → meets near.op near.value x ≡ true → meets t.op t.value x ≡ false → lies_in h x ≡ true

@@ -52,19 +52,19 @@ pub record IsRoomyFrom (es : List Interval) (low : ℤ) : Type 0 where
       (record { low = low; high = (slice_index_or es k d).high })
 
 -- each value that a subject may have now lies between these ends
-pub record IsBounded (s : Trail) (i : ℕ) (e : Interval) : Type 0 where
+pub record IsEnclosed (s : Trail) (i : ℕ) (e : Interval) : Type 0 where
   pub least : (x : ℤ) → IsOpenTo s i x → e.low ≤ℤ x
   pub greatest : (x : ℤ) → IsOpenTo s i x → x ≤ℤ e.high
 
 -- and the ends are such values
-pub record IsHull (s : Trail) (i : ℕ) (e : Interval) : Type 0 where
-  pub bounded : IsBounded s i e
+pub record IsTightInterval (s : Trail) (i : ℕ) (e : Interval) : Type 0 where
+  pub bounded : IsEnclosed s i e
   pub low : IsOpenTo s i e.low
   pub high : IsOpenTo s i e.high
   pub range : IsInRange e
 
-abbrev pub AreBounded : Trail → List ℕ → List Interval → Type 0
-AreBounded s is es = AllZip (IsBounded s) is es
+abbrev pub AreEnclosed : Trail → List ℕ → List Interval → Type 0
+AreEnclosed s is es = AllZip (IsEnclosed s) is es
 
-abbrev pub AreHulls : Trail → List ℕ → List Interval → Type 0
-AreHulls s is es = AllZip (IsHull s) is es
+abbrev pub AreTightIntervals : Trail → List ℕ → List Interval → Type 0
+AreTightIntervals s is es = AllZip (IsTightInterval s) is es

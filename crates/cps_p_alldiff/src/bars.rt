@@ -1,6 +1,6 @@
 //! What full intervals give of the other positions.
 ghost use Rattle.std.specs.Prelude.{◌<◌, length, All, OnOk, IfSome};
-ghost use Rattle.cps_p_alldiff.specs.Intervals.{IsInRange, IsFull, AreBounded};
+ghost use Rattle.cps_p_alldiff.specs.Intervals.{IsInRange, IsFull, AreEnclosed};
 ghost use Rattle.cps_p_alldiff.specs.Bars.{IsBar, AreGivenBars};
 
 use crate::interval::{Interval, covers, is_full};
@@ -50,7 +50,7 @@ fn keep_out(
     found: &mut Vec<Narrowing>,
 ) -> Result<(), AllocError>
     requires subjects { All (λ i. i < length store.now.first) subjects.now }
-    requires bounded { AreBounded store.now subjects.now ends.now }
+    requires bounded { AreEnclosed store.now subjects.now ends.now }
     requires full { IsFull ends.now hall.now }
     requires given { AreGivenBars store.now subjects.now found.old.items }
     ensures { OnOk result (AreGivenBars store.now subjects.now found.new.items) }
@@ -79,7 +79,7 @@ pub(crate) fn clear_all(
     found: &mut Vec<Narrowing>,
 ) -> Result<(), AllocError>
     requires subjects { All (λ i. i < length store.now.first) subjects.now }
-    requires bounded { AreBounded store.now subjects.now ends.now }
+    requires bounded { AreEnclosed store.now subjects.now ends.now }
     requires given { AreGivenBars store.now subjects.now found.old.items }
     ensures { OnOk result (AreGivenBars store.now subjects.now found.new.items) }
 {
@@ -100,7 +100,7 @@ pub(crate) fn clear_fixed(
     found: &mut Vec<Narrowing>,
 ) -> Result<(), AllocError>
     requires subjects { All (λ i. i < length store.now.first) subjects.now }
-    requires bounded { AreBounded store.now subjects.now ends.now }
+    requires bounded { AreEnclosed store.now subjects.now ends.now }
     requires given { AreGivenBars store.now subjects.now found.old.items }
     ensures { OnOk result (AreGivenBars store.now subjects.now found.new.items) }
 {

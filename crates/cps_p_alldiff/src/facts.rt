@@ -2,7 +2,7 @@
 ghost use Rattle.std.specs.Prelude.{◌≡◌, ◌<◌, length, All, IfSome, IfOk, IsTrue};
 ghost use Rattle.cps_propagate.specs.Strength.{IsHeld};
 ghost use Rattle.cps_p_alldiff.specs.Intervals.{IsInRange};
-ghost use Rattle.cps_p_alldiff.specs.Facts.{IsBound, IsNear, AreHolding, is_other};
+ghost use Rattle.cps_p_alldiff.specs.Facts.{IsNearBound, IsNear, AreHolding, is_other};
 
 use crate::interval::Interval;
 use cps_literal::{Atom, Op, Truth};
@@ -77,7 +77,7 @@ pub(crate) fn hold(
 /// The bound that, beside an interval that a subject's value is not in, gives an atom.
 fn near_of(target: Atom, hall: &Interval) -> Option<Atom>
     requires { IsInRange hall.now }
-    ensures { IfSome result (IsBound target hall.now) }
+    ensures { IfSome result (IsNearBound target hall.now) }
 {
     if target.op == Op::Ge && target.value <= hall.high + 1 {
         return Some(Atom {

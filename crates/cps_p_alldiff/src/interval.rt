@@ -1,6 +1,6 @@
 //! Intervals of whole numbers, and the ends of what subjects can be now.
 ghost use Rattle.std.specs.Prelude.{◌≡◌, ◌<◌, ◌≤◌, ◌^◌, IsTrue, false, length, All, OnOk};
-ghost use Rattle.cps_p_alldiff.specs.Intervals.{covers, covered, numbers, IsInRange, AreEnds, IsFull, IsOverfull, AreHulls};
+ghost use Rattle.cps_p_alldiff.specs.Intervals.{covers, covered, numbers, IsInRange, AreEnds, IsFull, IsOverfull, AreTightIntervals};
 
 use cps_trail::Store;
 use std::alloc::AllocError;
@@ -74,7 +74,7 @@ pub(crate) fn measure(
     ends: &mut Vec<Interval>,
 ) -> Result<(), AllocError>
     requires { All (λ i. i < length store.now.first) subjects.now }
-    ensures { OnOk result (AreHulls store.now subjects.now ends.new.items) }
+    ensures { OnOk result (AreTightIntervals store.now subjects.now ends.new.items) }
 {
     ends.clear();
     for subject in subjects {

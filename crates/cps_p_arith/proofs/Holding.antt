@@ -23,7 +23,7 @@ use Rattle.cps_p_arith.specs.declared.bounds.Demand.{Demand}
 use Rattle.cps_p_arith.specs.declared.relation.Relation.{Relation}
 use Rattle.cps_p_arith.specs.declared.relation.Relation.TheVariants.{Quotient, Remainder, Product, Greatest}
 use Rattle.cps_p_arith.specs.Ranges.{IsIn, IsAt}
-use Rattle.cps_p_arith.specs.Demands.{Relates, body_by, body_of, IsHullNow, IsHeldIn, AreHeldEach, AreKnown, AreMeasured, AreHeld, AreFixedAt, IsMissed, IsComputedBy, IsPlace, IsImplied, AreImplied, Needs, NeedsWithin, Supports, SupportsEach, RefutesDemand, AreSoundFor, Adds}
+use Rattle.cps_p_arith.specs.Demands.{Relates, body_by, body_of, AreEndsNow, IsHeldIn, AreHeldEach, HasKnownSubjects, AreMeasured, LieWithinBounds, AreFixedAt, IsDemandMissed, IsComputedBy, IsHeldPlace, IsImplied, AreImplied, Needs, NeedsWithin, SupportsEnds, SupportsEach, RefutesDemand, AreSoundFor, AddsNarrowing}
 use Rattle.cps_p_arith.proofs.Zips.{zip_at, zip_both}
 
 met_by : (k : Relation) (t : ℕ) (es : List ℕ) (xs : List ℤ) → Relates k (value_at xs t) (values_at xs es) → HoldsBody (body_by k t es) xs
@@ -60,7 +60,7 @@ pub unseen : (d : Demand) (s : Trail) → IsExcludedBody (body_of d) s → ⊥
 unseen d s = unseen_by d.relation d.target d.exprs.items s
 
 -- the parts of what a body that fits has
-pub known_of : (first : Domains) (d : Demand) → IsFittingRule first (body_of d) → AreKnown first d
+pub known_of : (first : Domains) (d : Demand) → IsFittingRule first (body_of d) → HasKnownSubjects first d
 known_of first d h =
     let all : All (λ i. i < length first) (d.target ∷ d.exprs.items) = subst (All (λ i. i < length first)) (subjects_by d.relation d.target d.exprs.items) h.subjects in
     record { target = All-head (λ i. i < length first) d.target d.exprs.items all; exprs = All-tail (λ i. i < length first) d.target d.exprs.items all }
@@ -70,24 +70,24 @@ sound_of first d h =
     let all : All (λ i. AreIntervals (domain_at first i)) (d.target ∷ d.exprs.items) = subst (All (λ i. AreIntervals (domain_at first i))) (subjects_by d.relation d.target d.exprs.items) h.sound in
     record { target = All-head (λ i. AreIntervals (domain_at first i)) d.target d.exprs.items all; exprs = All-tail (λ i. AreIntervals (domain_at first i)) d.target d.exprs.items all }
 
-all_known : (first : Domains) (d : Demand) → AreKnown first d → All (λ i. i < length first) (d.target ∷ d.exprs.items)
+all_known : (first : Domains) (d : Demand) → HasKnownSubjects first d → All (λ i. i < length first) (d.target ∷ d.exprs.items)
 all_known first d k = All-cons (λ i. i < length first) d.target d.exprs.items k.target k.exprs
 
 -- values that the store leaves lie between the bounds
-in_hull : (s : Trail) (i : ℕ) (e : Ends) (x : ℤ) → IsHullNow s i e → IsOpenTo s i x → IsIn e x
+in_hull : (s : Trail) (i : ℕ) (e : Ends) (x : ℤ) → AreEndsNow s i e → IsOpenTo s i x → IsIn e x
 in_hull s i e x h o = record { from = h.least x o; to = h.greatest x o }
 
-at_hull : (s : Trail) (i : ℕ) (e : Ends) (x : ℤ) → IsHullNow s i e → IsFixedNow s i → IsOpenTo s i x → IsAt e x
+at_hull : (s : Trail) (i : ℕ) (e : Ends) (x : ℤ) → AreEndsNow s i e → IsFixedNow s i → IsOpenTo s i x → IsAt e x
 at_hull s i e x h f o = record { from = f e.low x h.low o; to = f e.high x h.high o }
 
-each_in : (s : Trail) (xs : List ℤ) (is : List ℕ) (es : List Ends) → AllZip (IsHullNow s) is es → All (λ i. IsOpenTo s i (value_at xs i)) is → AreHeldEach xs is es
+each_in : (s : Trail) (xs : List ℤ) (is : List ℕ) (es : List Ends) → AllZip (AreEndsNow s) is es → All (λ i. IsOpenTo s i (value_at xs i)) is → AreHeldEach xs is es
 each_in s xs [] [] h o = tt
 each_in s xs [] (e ∷ es) h o = absurd h
 each_in s xs (i ∷ is) [] h o = absurd h
 each_in s xs (i ∷ is) (e ∷ es) h o =
     (in_hull s i e (value_at xs i) h.0 (All-head (λ i. IsOpenTo s i (value_at xs i)) i is o), each_in s xs is es h.1 (All-tail (λ i. IsOpenTo s i (value_at xs i)) i is o))
 
-each_at : (s : Trail) (xs : List ℤ) (is : List ℕ) (es : List Ends) → AllZip (IsHullNow s) is es → All (IsFixedNow s) is → All (λ i. IsOpenTo s i (value_at xs i)) is → AllZip (λ i e. IsAt e (value_at xs i)) is es
+each_at : (s : Trail) (xs : List ℤ) (is : List ℕ) (es : List Ends) → AllZip (AreEndsNow s) is es → All (IsFixedNow s) is → All (λ i. IsOpenTo s i (value_at xs i)) is → AllZip (λ i e. IsAt e (value_at xs i)) is es
 each_at s xs [] [] h f o = tt
 each_at s xs [] (e ∷ es) h f o = absurd h
 each_at s xs (i ∷ is) [] h f o = absurd h
@@ -96,7 +96,7 @@ each_at s xs (i ∷ is) (e ∷ es) h f o = (
   each_at s xs is es h.1 (All-tail (IsFixedNow s) i is f) (All-tail (λ i. IsOpenTo s i (value_at xs i)) i is o),
 )
 
-pub held_at : (s : Trail) (d : Demand) (b : Bounds) (xs : List ℤ) → AreMeasured s d b → AreOpen s xs (d.target ∷ d.exprs.items) → AreHeld b d xs
+pub held_at : (s : Trail) (d : Demand) (b : Bounds) (xs : List ℤ) → AreMeasured s d b → AreOpen s xs (d.target ∷ d.exprs.items) → LieWithinBounds b d xs
 held_at s d b xs m o = record {
   target = in_hull s d.target b.target (value_at xs d.target) m.target (All-head (λ i. IsOpenTo s i (value_at xs i)) d.target d.exprs.items o);
   members = each_in s xs d.exprs.items b.members.items m.members (All-tail (λ i. IsOpenTo s i (value_at xs i)) d.target d.exprs.items o);
@@ -120,12 +120,12 @@ at_rest s d b m c =
       strong = strong_by d.relation d.target d.exprs.items s;
     }
 
-pub impossible : (s : Trail) (d : Demand) (b : Bounds) → AreMeasured s d b → AreKnown s.first d → IsMissed b d → IsImpossible (body_of d) s
+pub impossible : (s : Trail) (d : Demand) (b : Bounds) → AreMeasured s d b → HasKnownSubjects s.first d → IsDemandMissed b d → IsImpossible (body_of d) s
 impossible s d b m k h = record {
   at = λ xs a holds. h.at xs (held_at s d b xs m (open_admitted s xs (d.target ∷ d.exprs.items) (all_known s.first d k) a)) (holds_by d.relation d.target d.exprs.items xs holds);
 }
 
-pub given : (s : Trail) (d : Demand) (b : Bounds) (ns : List Narrowing) → AreMeasured s d b → AreKnown s.first d → AreImplied b d ns → All (λ n. IsGiven (body_of d) s n.target) ns
+pub given : (s : Trail) (d : Demand) (b : Bounds) (ns : List Narrowing) → AreMeasured s d b → HasKnownSubjects s.first d → AreImplied b d ns → All (λ n. IsGiven (body_of d) s n.target) ns
 given s d b ns m k h j e l = record {
   subject = (h j e l).named (length s.first) (all_known s.first d k);
   at = λ xs a holds. (h j e l).at xs (held_at s d b xs m (open_admitted s xs (d.target ∷ d.exprs.items) (all_known s.first d k) a)) (holds_by d.relation d.target d.exprs.items xs holds);
@@ -133,7 +133,7 @@ given s d b ns m k h j e l = record {
 
 -- the places of a demand
 pub is_member : (b : Bounds) (d : Demand) (k : ℕ) (i : ℕ) (e : Ends) → k < length d.exprs.items → length b.members.items ≡ length d.exprs.items → i ≡ get_or d.exprs.items k i → e ≡ get_or b.members.items k e
-    → IsPlace b d (record { subject = i; ends = e })
+    → IsHeldPlace b d (record { subject = i; ends = e })
 is_member b d k i e l same is es = record {
   named = λ m a. rw is (a (suc k) i (omega arith));
   held = λ xs h. rw (is, es) (zip_at (IsHeldIn xs) d.exprs.items b.members.items k i e h.members l);
@@ -198,7 +198,7 @@ free_high s p u fs h known op sound high = record {
 }
 
 pub supports_more : (s : Trail) (p : Option Atom) (is : List ℕ) (es : List Ends) (k : ℕ) (d : Ends) (old middle new : List Atom) → k < length is → length is ≡ length es
-    → SupportsEach s p (take k is) (take k es) old middle → Supports s p (get_or is k 0) (get_or es k d) middle new → SupportsEach s p (take (k + 1) is) (take (k + 1) es) old new
+    → SupportsEach s p (take k is) (take k es) old middle → SupportsEnds s p (get_or is k 0) (get_or es k d) middle new → SupportsEach s p (take (k + 1) is) (take (k + 1) es) old new
 supports_more s p is es k d old middle new l same h g = record {
   facts = g.facts;
   keeps = λ xs t. h.keeps xs (g.keeps xs t);
@@ -209,7 +209,7 @@ pub supports_none : (s : Trail) (p : Option Atom) (fs : List Atom) → AreFacts 
 supports_none s p fs h = record { facts = h; keeps = λ xs t. t; holds = λ xs w t o. tt }
 
 pub supports_both : (s : Trail) (p : Option Atom) (i : ℕ) (e : Ends) (low high : Atom) (old middle new : List Atom) → low ≡ record { subject = i; op = Ge; value = e.low } → high ≡ record { subject = i; op = Le; value = e.high }
-    → NeedsWithin s p low old middle → NeedsWithin s p high middle new → Supports s p i e old new
+    → NeedsWithin s p low old middle → NeedsWithin s p high middle new → SupportsEnds s p i e old new
 supports_both s p i e low high old middle new el eh a b = record {
   facts = b.facts;
   keeps = λ xs t. a.keeps xs (b.keeps xs t);
@@ -219,7 +219,7 @@ supports_both s p i e low high old middle new el eh a b = record {
   };
 }
 
-pub refutes : (s : Trail) (p : Option Atom) (d : Demand) (b : Bounds) (old middle new : List Atom) → IsMissed b d → Supports s p d.target b.target old middle
+pub refutes : (s : Trail) (p : Option Atom) (d : Demand) (b : Bounds) (old middle new : List Atom) → IsDemandMissed b d → SupportsEnds s p d.target b.target old middle
     → SupportsEach s p d.exprs.items b.members.items middle new → RefutesDemand s d p new
 refutes s p d b old middle new h t m = record {
   true_now = m.facts;
@@ -242,6 +242,6 @@ refuted s d fs r = record {
   excludes = λ xs w t holds. r.excludes xs w t tt (holds_by d.relation d.target d.exprs.items xs holds);
 }
 
-pub implied_more : (b : Bounds) (d : Demand) (best : Option Atom) (old new : List Narrowing) → Adds best old new → AreImplied b d old → IfSome best (λ u. IsImplied b d u) → AreImplied b d new
+pub implied_more : (b : Bounds) (d : Demand) (best : Option Atom) (old new : List Narrowing) → AddsNarrowing best old new → AreImplied b d old → IfSome best (λ u. IsImplied b d u) → AreImplied b d new
 implied_more b d None old new a h i = subst (AreImplied b d) (sym a) h
 implied_more b d (Some u) old new a h i = subst (AreImplied b d) (sym a.2) (All-push (λ n. IsImplied b d n.target) old a.0 h (subst (IsImplied b d) (sym a.1) i))

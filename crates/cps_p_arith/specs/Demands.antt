@@ -45,18 +45,18 @@ abbrev pub IsComputed : Relation → Ends → List Ends → Type 0
 IsComputed k target members = (v : ℤ) (ns : List ℤ) → IsAt target v → AreAt members ns → Relates k v ns
 
 -- a demand's subjects have domains
-pub record AreKnown (first : Domains) (d : Demand) : Type 0 where
+pub record HasKnownSubjects (first : Domains) (d : Demand) : Type 0 where
   pub target : d.target < length first
   pub exprs : All (λ i. i < length first) d.exprs.items
 
 -- the ends of what a subject may be
-abbrev pub IsHullNow : Trail → ℕ → Ends → Type 0
-IsHullNow s i e = IsHull (admits s.first s.entries i) (e.low, e.high)
+abbrev pub AreEndsNow : Trail → ℕ → Ends → Type 0
+AreEndsNow s i e = IsHull (admits s.first s.entries i) (e.low, e.high)
 
 -- bounds that are read off a store
 pub record AreMeasured (s : Trail) (d : Demand) (b : Bounds) : Type 0 where
-  pub target : IsHullNow s d.target b.target
-  pub members : AllZip (IsHullNow s) d.exprs.items b.members.items
+  pub target : AreEndsNow s d.target b.target
+  pub members : AllZip (AreEndsNow s) d.exprs.items b.members.items
 
 -- a subject's value lies between ends
 abbrev pub IsHeldIn : List ℤ → ℕ → Ends → Type 0
@@ -66,7 +66,7 @@ abbrev pub AreHeldEach : List ℤ → List ℕ → List Ends → Type 0
 AreHeldEach xs is es = AllZip (IsHeldIn xs) is es
 
 -- the values of a demand's subjects lie between the bounds
-pub record AreHeld (b : Bounds) (d : Demand) (xs : List ℤ) : Type 0 where
+pub record LieWithinBounds (b : Bounds) (d : Demand) (xs : List ℤ) : Type 0 where
   pub target : IsIn b.target (value_at xs d.target)
   pub members : AreHeldEach xs d.exprs.items b.members.items
 
@@ -75,38 +75,38 @@ pub record AreFixedAt (b : Bounds) (d : Demand) (xs : List ℤ) : Type 0 where
   pub target : IsAt b.target (value_at xs d.target)
   pub members : AllZip (λ i e. IsAt e (value_at xs i)) d.exprs.items b.members.items
 
-abbrev pub IsMet : Demand → List ℤ → Type 0
-IsMet d xs = Relates d.relation (value_at xs d.target) (values_at xs d.exprs.items)
+abbrev pub IsDemandMet : Demand → List ℤ → Type 0
+IsDemandMet d xs = Relates d.relation (value_at xs d.target) (values_at xs d.exprs.items)
 
 -- no values between the bounds meet the demand
-pub record IsMissed (b : Bounds) (d : Demand) : Type 0 where
-  pub at : (xs : List ℤ) → AreHeld b d xs → IsMet d xs → ⊥
+pub record IsDemandMissed (b : Bounds) (d : Demand) : Type 0 where
+  pub at : (xs : List ℤ) → LieWithinBounds b d xs → IsDemandMet d xs → ⊥
 
 -- where all bounds are fixed, they meet it
 pub record IsComputedBy (b : Bounds) (d : Demand) : Type 0 where
-  pub at : (xs : List ℤ) → AreFixedAt b d xs → IsMet d xs
+  pub at : (xs : List ℤ) → AreFixedAt b d xs → IsDemandMet d xs
 
 -- a subject is one of a demand's
-abbrev pub IsNamed : Demand → ℕ → Type 0
-IsNamed d i = (m : ℕ) → All (λ j. j < m) (d.target ∷ d.exprs.items) → i < m
+abbrev pub IsDemandSubject : Demand → ℕ → Type 0
+IsDemandSubject d i = (m : ℕ) → All (λ j. j < m) (d.target ∷ d.exprs.items) → i < m
 
 -- a subject of a demand whose value lies between ends where all lie between the bounds
-pub record IsPlace (b : Bounds) (d : Demand) (p : Place) : Type 0 where
-  pub named : IsNamed d p.subject
-  pub held : (xs : List ℤ) → AreHeld b d xs → IsIn p.ends (value_at xs p.subject)
+pub record IsHeldPlace (b : Bounds) (d : Demand) (p : Place) : Type 0 where
+  pub named : IsDemandSubject d p.subject
+  pub held : (xs : List ℤ) → LieWithinBounds b d xs → IsIn p.ends (value_at xs p.subject)
 
 -- an atom is true wherever values between the bounds meet the demand
 pub record IsImplied (b : Bounds) (d : Demand) (u : Atom) : Type 0 where
-  pub named : IsNamed d u.subject
-  pub at : (xs : List ℤ) → AreHeld b d xs → IsMet d xs → atom_holds xs u ≡ true
+  pub named : IsDemandSubject d u.subject
+  pub at : (xs : List ℤ) → LieWithinBounds b d xs → IsDemandMet d xs → atom_holds xs u ≡ true
 
 abbrev pub AreImplied : Bounds → Demand → List Narrowing → Type 0
 AreImplied b d ns = All (λ n. IsImplied b d n.target) ns
 
 -- a list of narrowings has one more, where there is an atom
-abbrev pub Adds : Option Atom → List Narrowing → List Narrowing → Type 0
-Adds None old new = new ≡ old
-Adds (Some u) old new = (n : Narrowing) × (n.target ≡ u) × (new ≡ old ++ n ∷ [])
+abbrev pub AddsNarrowing : Option Atom → List Narrowing → List Narrowing → Type 0
+AddsNarrowing None old new = new ≡ old
+AddsNarrowing (Some u) old new = (n : Narrowing) × (n.target ≡ u) × (new ≡ old ++ n ∷ [])
 
 -- an atom, where there is one, is true
 abbrev pub IsSupposed : Option Atom → List ℤ → Type 0
@@ -126,7 +126,7 @@ pub record NeedsWithin (s : Trail) (supposed : Option Atom) (u : Atom) (old new 
   pub holds : (xs : List ℤ) → IsWithin s.first xs → AllTrueAt xs new → IsSupposed supposed xs → atom_holds xs u ≡ true
 
 -- after more facts a subject's value lies between ends wherever they are and what is supposed is
-pub record Supports (s : Trail) (supposed : Option Atom) (i : ℕ) (e : Ends) (old new : List Atom) : Type 0 where
+pub record SupportsEnds (s : Trail) (supposed : Option Atom) (i : ℕ) (e : Ends) (old new : List Atom) : Type 0 where
   pub facts : AreFacts s new
   pub keeps : (xs : List ℤ) → AllTrueAt xs new → AllTrueAt xs old
   pub holds : (xs : List ℤ) → IsWithin s.first xs → AllTrueAt xs new → IsSupposed supposed xs → IsHeldIn xs i e
@@ -140,7 +140,7 @@ pub record SupportsEach (s : Trail) (supposed : Option Atom) (is : List ℕ) (es
 -- facts beside which, and beside what is supposed, the demand is not met
 pub record RefutesDemand (s : Trail) (d : Demand) (supposed : Option Atom) (facts : List Atom) : Type 0 where
   pub true_now : AreFacts s facts
-  pub excludes : (xs : List ℤ) → IsWithin s.first xs → AllTrueAt xs facts → IsSupposed supposed xs → IsMet d xs → ⊥
+  pub excludes : (xs : List ℤ) → IsWithin s.first xs → AllTrueAt xs facts → IsSupposed supposed xs → IsDemandMet d xs → ⊥
 
 -- the first domains of a demand's subjects are in order
 pub record AreSoundFor (first : Domains) (d : Demand) : Type 0 where

@@ -4,7 +4,7 @@ ghost use Rattle.std.specs.List.{AllZip};
 ghost use Rattle.cps_literal.specs.Truth.{value_at};
 ghost use Rattle.cps_trail.specs.Trail.{Trail};
 ghost use Rattle.cps_p_arith.specs.Ranges.{IsIn, AreIn};
-ghost use Rattle.cps_p_arith.specs.Demands.{AreHeld, AreHeldEach, AreMeasured, AreKnown, IsHullNow, IsMissed, IsComputedBy};
+ghost use Rattle.cps_p_arith.specs.Demands.{LieWithinBounds, AreHeldEach, AreMeasured, HasKnownSubjects, AreEndsNow, IsDemandMissed, IsComputedBy};
 
 use crate::ends::Ends;
 use crate::relation::Relation;
@@ -36,7 +36,7 @@ pub(crate) struct Place {
 /// The ends of a subject's values.
 fn ends_of(past: &Before, subject: u32) -> Ends
     requires { subject < length past.now.first }
-    ensures { IsHullNow past.now subject result }
+    ensures { AreEndsNow past.now subject result }
 {
     let (low, high) = past.ends(subject);
     Ends { low, high }
@@ -45,7 +45,7 @@ fn ends_of(past: &Before, subject: u32) -> Ends
 /// Adds the ends of each subject's values.
 fn measure_each(past: &Before, exprs: &[u32], ends: &mut Vec<Ends>) -> Result<(), AllocError>
     requires { All (λ i. i < length past.now.first) exprs.now }
-    ensures hulls { OnOk result (AllZip (IsHullNow past.now) exprs.now ends.new.items) }
+    ensures hulls { OnOk result (AllZip (AreEndsNow past.now) exprs.now ends.new.items) }
     ensures len { OnOk result (length ends.new.items ≡ length exprs.now) }
 {
     ends.clear();
@@ -99,7 +99,7 @@ impl Bounds {
 
     /// Reads the ends of each subject of a demand.
     pub(crate) fn measure(&mut self, past: &Before, demand: &Demand) -> Result<(), AllocError>
-        requires { AreKnown past.now.first demand.now }
+        requires { HasKnownSubjects past.now.first demand.now }
         ensures ends { OnOk result (AreMeasured past.now demand.now self.new) }
         ensures len { OnOk result (length self.new.members.items ≡ length demand.now.exprs.items) }
     {
@@ -116,8 +116,8 @@ impl Bounds {
     ) -> Result<(), AllocError>
         requires { length whole.now.members.items ≡ length demand.now.exprs.items }
         ensures len { OnOk result (length self.new.members.items ≡ length demand.now.exprs.items) }
-        ensures held { OnOk result ((xs : List ℤ) → AreHeld whole.now demand.now xs
-            → IsIn piece.ends (value_at xs piece.subject) → AreHeld self.new demand.now xs) }
+        ensures held { OnOk result ((xs : List ℤ) → LieWithinBounds whole.now demand.now xs
+            → IsIn piece.ends (value_at xs piece.subject) → LieWithinBounds self.new demand.now xs) }
     {
         self.target = chosen(demand.target, whole.target, piece);
         cut_each(
@@ -130,7 +130,7 @@ impl Bounds {
 
     /// Whether the demand cannot be met by values between these ends. Where all are fixed it says whether it is met.
     pub(crate) fn exclude(&self, demand: &Demand) -> bool
-        ensures sound { IsTrue result → IsMissed self.now demand.now }
+        ensures sound { IsTrue result → IsDemandMissed self.now demand.now }
         ensures exact { result ≡ false → IsComputedBy self.now demand.now }
     {
         demand

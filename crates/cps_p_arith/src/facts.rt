@@ -7,7 +7,7 @@ ghost use Rattle.std.specs.Prelude.{◌≡◌, ◌<◌, ℤ, List, length, All, 
 ghost use Rattle.cps_literal.specs.Truth.{atom_holds};
 ghost use Rattle.cps_instance.specs.Terms.{AreIntervals, domain_at};
 ghost use Rattle.cps_rule.specs.Rules.{AreFacts};
-ghost use Rattle.cps_p_arith.specs.Demands.{IsSupposed, Needs, NeedsWithin, Supports, SupportsEach, RefutesDemand, AreKnown, AreSoundFor};
+ghost use Rattle.cps_p_arith.specs.Demands.{IsSupposed, Needs, NeedsWithin, SupportsEnds, SupportsEach, RefutesDemand, HasKnownSubjects, AreSoundFor};
 
 use crate::bounds::{Bounds, Demand};
 use crate::ends::Ends;
@@ -103,7 +103,7 @@ fn support(
     requires subject { subject < length past.now.first }
     requires sound { AreIntervals (domain_at past.now.first subject) }
     requires facts { AreFacts past.now facts.old.items }
-    ensures { result ≡ Ok true → Supports past.now supposed subject ends facts.old.items facts.new.items }
+    ensures { result ≡ Ok true → SupportsEnds past.now supposed subject ends facts.old.items facts.new.items }
 {
     let low = Atom {
         subject,
@@ -152,7 +152,7 @@ pub(crate) fn justify(
     bounds: &Bounds,
     facts: &mut Vec<Atom>,
 ) -> Result<bool, AllocError>
-    requires known { AreKnown past.now.first demand.now }
+    requires known { HasKnownSubjects past.now.first demand.now }
     requires sound { AreSoundFor past.now.first demand.now }
     ensures { result ≡ Ok true → RefutesDemand past.now demand.now supposed facts.new.items }
 {

@@ -5,7 +5,7 @@
 ghost use Rattle.std.specs.Prelude.{◌≡◌, ◌<◌, ℤ, length, true, false, IfOk, IfSome, OnOk, Ok, Some};
 ghost use Rattle.cps_literal.specs.Truth.{meets};
 ghost use Rattle.cps_p_arith.specs.Ranges.{IsIn};
-ghost use Rattle.cps_p_arith.specs.Demands.{IsPlace, IsImplied, AreImplied, Adds};
+ghost use Rattle.cps_p_arith.specs.Demands.{IsHeldPlace, IsImplied, AreImplied, AddsNarrowing};
 
 use crate::bounds::{Bounds, Demand, Place};
 use crate::ends::Ends;
@@ -60,7 +60,7 @@ fn gives(
     atom: Atom,
 ) -> Result<bool, AllocError>
     requires len { length bounds.now.members.items ≡ length demand.now.exprs.items }
-    requires place { IsPlace bounds.now demand.now place }
+    requires place { IsHeldPlace bounds.now demand.now place }
     requires subject { atom.subject ≡ place.subject }
     ensures { result ≡ Ok true → IsImplied bounds.now demand.now atom }
 {
@@ -121,7 +121,7 @@ fn furthest(
     side: Side,
 ) -> Result<Option<Atom>, AllocError>
     requires len { length bounds.now.members.items ≡ length demand.now.exprs.items }
-    requires place { IsPlace bounds.now demand.now place }
+    requires place { IsHeldPlace bounds.now demand.now place }
     ensures { IfOk result (λ best. IfSome best (λ u. IsImplied bounds.now demand.now u)) }
 {
     let mut best = None;
@@ -148,9 +148,9 @@ fn furthest(
     Ok(best)
 }
 
-/// Adds an atom, if there is one.
+/// AddsNarrowing an atom, if there is one.
 fn add(best: Option<Atom>, found: &mut Vec<Narrowing>) -> Result<(), AllocError>
-    ensures { OnOk result (Adds best found.old.items found.new.items) }
+    ensures { OnOk result (AddsNarrowing best found.old.items found.new.items) }
 {
     match best {
         Some(target) => {
@@ -162,7 +162,7 @@ fn add(best: Option<Atom>, found: &mut Vec<Narrowing>) -> Result<(), AllocError>
     }
 }
 
-/// Adds the bounds of a place's subject that are found to be given.
+/// AddsNarrowing the bounds of a place's subject that are found to be given.
 fn narrow_place(
     demand: &Demand,
     bounds: &Bounds,
@@ -171,7 +171,7 @@ fn narrow_place(
     found: &mut Vec<Narrowing>,
 ) -> Result<(), AllocError>
     requires len { length bounds.now.members.items ≡ length demand.now.exprs.items }
-    requires place { IsPlace bounds.now demand.now place }
+    requires place { IsHeldPlace bounds.now demand.now place }
     requires given { AreImplied bounds.now demand.now found.old.items }
     ensures { OnOk result (AreImplied bounds.now demand.now found.new.items) }
 {
@@ -186,7 +186,7 @@ fn narrow_place(
 fn member(demand: &Demand, bounds: &Bounds, k: usize) -> Place
     requires place { k < length demand.now.exprs.items }
     requires len { length bounds.now.members.items ≡ length demand.now.exprs.items }
-    ensures { IsPlace bounds.now demand.now result }
+    ensures { IsHeldPlace bounds.now demand.now result }
 {
     Place {
         subject: demand.exprs[k],
@@ -196,7 +196,7 @@ fn member(demand: &Demand, bounds: &Bounds, k: usize) -> Place
 
 /// The place of the target.
 fn target(demand: &Demand, bounds: &Bounds) -> Place
-    ensures { IsPlace bounds.now demand.now result }
+    ensures { IsHeldPlace bounds.now demand.now result }
 {
     Place {
         subject: demand.target,
@@ -224,7 +224,7 @@ fn is_worth_trying(relation: Relation, target: Ends, member: Ends, reaching: usi
     }
 }
 
-/// Adds the bounds that are found to be given.
+/// AddsNarrowing the bounds that are found to be given.
 pub(crate) fn narrow(
     demand: &Demand,
     bounds: &Bounds,

@@ -16,13 +16,13 @@ use Rattle.cps_trail.specs.Notes.{IsReason}
 use Rattle.cps_p_bool.specs.declared.boolean.Kind.{Kind}
 use Rattle.cps_p_bool.specs.Bodies.{body_of}
 use Rattle.cps_p_bool.specs.Seeking.{IsInForce}
-use Rattle.cps_p_bool.specs.Denying.{Agrees, Denies, IsReasonFor, Gives, Excludes, AreLiterals, task_of}
+use Rattle.cps_p_bool.specs.Denying.{Agrees, Denies, IsDenyingReason, GivesAtom, Excludes, AreLiterals, task_of}
 use Rattle.cps_p_bool.specs.Explaining.{IsExplanation, IsRuledOut, AsksForOne}
 use Rattle.cps_p_bool.specs.Normal.{IsNormalForm}
 use Rattle.cps_p_bool.proofs.Composing.{within_bits}
 use Rattle.cps_p_bool.proofs.Counting.{any_of_count}
 use Rattle.cps_p_bool.proofs.Denials.{IsOpposite, or_left, or_right, Denies-none, Denies-more}
-use Rattle.cps_p_bool.proofs.Giving.{explains, follows, by_bool, not_both, IsReasonFor-made, Gives-last}
+use Rattle.cps_p_bool.proofs.Giving.{explains, follows, by_bool, not_both, IsDenyingReason-made, GivesAtom-last}
 use Rattle.cps_p_bool.proofs.Limiting.{enforced_all}
 use Rattle.cps_p_bool.proofs.Propagating.{gives_rest, gives_sure}
 
@@ -41,10 +41,10 @@ denied_more s a b c us i z l h d f = record {
 }
 
 -- the atom that the used literals give is explained by what is denied of them
-pub IsExplanation-given : (s : Trail) (e used : List Atom) (b : Body) (given t : Atom) (clause : List Atom) → given ≡ t → given.subject < length s.first → IsReasonFor s (e ++ used) t clause → Gives s (task_of e b) used given → IsExplanation s (task_of e b) t clause
+pub IsExplanation-given : (s : Trail) (e used : List Atom) (b : Body) (given t : Atom) (clause : List Atom) → given ≡ t → given.subject < length s.first → IsDenyingReason s (e ++ used) t clause → GivesAtom s (task_of e b) used given → IsExplanation s (task_of e b) t clause
 IsExplanation-given s e used b given t clause same l r g = record {
   explained = explains s e used t clause r (subst (λ (u : Atom). u.subject < length s.first) same l);
-  follows = follows s e used t clause r b (subst (λ (u : Atom). Gives s (task_of e b) used u) same g);
+  follows = follows s e used t clause r b (subst (λ (u : Atom). GivesAtom s (task_of e b) used u) same g);
 }
 
 -- where the body is ruled out and all enforcement atoms but one are true, that one's opposite is explained
@@ -52,8 +52,8 @@ pub IsExplanation-off : (s : Trail) (e : List Atom) (last : ℕ) (b : Body) (z o
     → IsExplanation s (task_of e b) t clause
 IsExplanation-off s e last b z o t c clause force l fits opposite same x made =
     IsExplanation-given s e x.used b o t clause same (subst (λ (i : ℕ). i < length s.first) (sym opposite.subject) (fits last z l).subject)
-    (subst (λ (u : Atom). IsReasonFor s (e ++ x.used) u clause) same (IsReasonFor-made s c clause (e ++ x.used) o x.denies made))
-    (Gives-last s e last x.used b z o force l opposite x.excludes)
+    (subst (λ (u : Atom). IsDenyingReason s (e ++ x.used) u clause) same (IsDenyingReason-made s c clause (e ++ x.used) o x.denies made))
+    (GivesAtom-last s e last x.used b z o force l opposite x.excludes)
 
 -- the reason of an entry is an explanation from the domains as they stood before it
 pub IsReason-explained : (s : Trail) (k : ℕ) (t : Task) (u : Atom) (clause : List Atom) → ((d : Entry) → (get_or s.entries k d).atom ≡ u) → IsExplanation (first_entries s k) t u clause → IsReason (HoldsTask t) s k clause
@@ -103,7 +103,7 @@ module _ (s : Trail) (b : Body) (us : List Atom) (n : AsksForOne b us) where
   }
 
   -- all but one were false, which stand before it and after it
-  pub Gives-but : (p : ℕ) (z : Atom) → p < length us → All (IsFalseNow s) (take p us) → All (IsFalseNow s) (drop (p + 1) us) → (e : List Atom) → All (IsTrueNow s) e → Gives s (task_of e b) (take p us ++ drop (p + 1) us) (get_or us p z)
+  pub Gives-but : (p : ℕ) (z : Atom) → p < length us → All (IsFalseNow s) (take p us) → All (IsFalseNow s) (drop (p + 1) us) → (e : List Atom) → All (IsTrueNow s) e → GivesAtom s (task_of e b) (take p us ++ drop (p + 1) us) (get_or us p z)
   Gives-but p z l before after e trues = record {
     at = λ xs within holds agrees-e agrees. by_bool (atom_holds xs (get_or us p z)) (λ no.
         let first : list_any (atom_holds xs) (take p us) ≡ false = none_holds xs (take p us) (All-append_left (Agrees s xs) (take p us) (drop (p + 1) us) agrees) before in

@@ -19,8 +19,8 @@ use Rattle.cps_trail.specs.Trail.{Entry, Trail, admits, IsTrueNow, IsFalseNow}
 use Rattle.cps_trail.proofs.Laws.{admits-push, admits-push_same, admits-push_other, admits-append}
 use Rattle.cps_propagate.specs.Now.{IsOpenTo, IsFixedNow, IsKnownNow, AreOpen, IsSameAt}
 use Rattle.cps_propagate.specs.Strength.{IsUnforced, IsExcluded, IsStrongBody, IsExcludedBody}
-use Rattle.cps_propagate.specs.Laws.{IsAtRest, StaysAtRest, with_entry}
-use Rattle.cps_propagate.proofs.Framing.{IsAtRest-same}
+use Rattle.cps_propagate.specs.Laws.{IsTaskAtRest, StaysAtRest, with_entry}
+use Rattle.cps_propagate.proofs.Framing.{IsTaskAtRest-same}
 use Rattle.cps_p_bool.specs.declared.boolean.Kind.{Kind}
 use Rattle.cps_p_bool.specs.declared.boolean.Kind.TheVariants as kinds
 use Rattle.cps_p_bool.specs.Bodies.{body_of}
@@ -149,8 +149,8 @@ record IsLeft (s u : Trail) (i : ℕ) (x : ℤ) : Type 0 where
   left : IsOpenTo u i x
 
 -- a task is at rest where an enforcement atom is false
-IsAtRest-disabled : (e : List Atom) (b : Body) (s u : Trail) (i : ℕ) (x : ℤ) → IsDisabled e i x → IsLeft s u i x → IsAtRest (task_of e b) u
-IsAtRest-disabled e b s u i x off at = record { decided = IsDecided-off u e b off.has.0 (record { within = off.has.1; false_now = false_now }); strong = IsStrong-idle u e b idle }
+IsTaskAtRest-disabled : (e : List Atom) (b : Body) (s u : Trail) (i : ℕ) (x : ℤ) → IsDisabled e i x → IsLeft s u i x → IsTaskAtRest (task_of e b) u
+IsTaskAtRest-disabled e b s u i x off at = record { decided = IsDecided-off u e b off.has.0 (record { within = off.has.1; false_now = false_now }); strong = IsStrong-idle u e b idle }
   where
     is_atom : (d : Atom) → get_or e off.has.0 d ≡ off.atom
     is_atom d = get_or_default e off.has.0 d off.atom off.has.1 ∙ off.has.2
@@ -185,7 +185,7 @@ same_bit m differs y z (inr a) (inr c) e = a ∙ sym c
 
 -- A task at rest stays so where a subject gets a value that its body favours.
 module _ (e us sure live : List Atom) (k rest : Kind) (h : IsReduced k us sure rest live) (i : ℕ) (x : ℤ) (eased : IsEased e us rest live i x)
-    (s u : Trail) (at : IsLeft s u i x) (fit : IsFitting s.first (task_of e (body_of k us))) (rested : IsAtRest (task_of e (body_of k us)) s) where
+    (s u : Trail) (at : IsLeft s u i x) (fit : IsFitting s.first (task_of e (body_of k us))) (rested : IsTaskAtRest (task_of e (body_of k us)) s) where
   abbrev body : Body
   body = body_of k us
 
@@ -316,7 +316,7 @@ module _ (e us sure live : List Atom) (k rest : Kind) (h : IsReduced k us sure r
       | inr fails ↦ rested.decided.holds (fixed_before fails all) xs (λ m d l. open_before (get_or (atom_subjects e ++ subjects_of_body body) m d) _ (opens m d l)) all
     ]
 
-  IsAtRest-eased : IsAtRest (task_of e (body_of k us)) u
+  IsAtRest-eased : IsTaskAtRest (task_of e (body_of k us)) u
   IsAtRest-eased = record {
     decided = record { holds = λ fixed xs opens all. holds_after fixed xs opens all };
     strong = record {
@@ -380,8 +380,8 @@ module _ (op : Op) (x other : ℤ) (wider : (v : ℤ) → meets op v other ≡ t
     bit_values s fit (inr eased) z a =
         bits s eased.atom (All-contains (IsFit s.first) us eased.atom (fits_kind s.first e us k h.no_atoms fit) eased.has) z (subst (λ (q : ℕ). IsOpenTo s q z) (sym eased.about) a)
 
-    at_rest : (s u : Trail) → IsLeft s u i x → IsFitting s.first (task_of e (body_of k us)) → IsAtRest (task_of e (body_of k us)) s → IsSpared e us rest live i x → IsAtRest (task_of e (body_of k us)) u
-    at_rest s u at fit rested (inl off) = IsAtRest-disabled e (body_of k us) s u i x off at
+    at_rest : (s u : Trail) → IsLeft s u i x → IsFitting s.first (task_of e (body_of k us)) → IsTaskAtRest (task_of e (body_of k us)) s → IsSpared e us rest live i x → IsTaskAtRest (task_of e (body_of k us)) u
+    at_rest s u at fit rested (inl off) = IsTaskAtRest-disabled e (body_of k us) s u i x off at
     at_rest s u at fit rested (inr eased) = IsAtRest-eased e us sure live k rest h i x eased s u at fit rested
 
     StaysAtRest-spared : IsSpared e us rest live i x → StaysAtRest (task_of e (body_of k us)) i op
@@ -390,7 +390,7 @@ module _ (op : Op) (x other : ℤ) (wider : (v : ℤ) → meets op v other ≡ t
       stays = λ s ent y fit rested about is o.
           let values = bit_values s fit spared in
           elim (truth_of (meets op ent.atom.value other)) [
-            | inl passes ↦ IsAtRest-same s (with_entry s ent) (task_of e (body_of k us)) (λ m d l. same_at s ent i y about is o values passes (get_or (subjects_of (task_of e (body_of k us))) m d)) rested
+            | inl passes ↦ IsTaskAtRest-same s (with_entry s ent) (task_of e (body_of k us)) (λ m d l. same_at s ent i y about is o values passes (get_or (subjects_of (task_of e (body_of k us))) m d)) rested
             | inr fails ↦ at_rest s (with_entry s ent) (IsLeft-entry s ent i y about is o values fails) fit rested spared
           ];
     }

@@ -7,7 +7,7 @@ use Rattle.cps_p_bool.specs.Seeking.{IsInForce}
 
 -- literals over subjects that exist, those of the body about different ones; each enforcement atom but the one at the
 -- rule's last place is true
-pub record IsReady (s : Trail) (r : Rule) : Type 0 where
+pub record IsRuleReady (s : Trail) (r : Rule) : Type 0 where
   pub fits : AreLiterals s.first r.enforcement.now
   pub atoms_fit : AreLiterals s.first r.atoms.now
   pub plain : IsPlain s r.atoms.now

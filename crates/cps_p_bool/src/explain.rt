@@ -10,7 +10,7 @@ ghost use Rattle.cps_instance.specs.Tasks.{HoldsTask};
 ghost use Rattle.cps_trail.specs.Trail.{IsTrueNow, IsFalseNow};
 ghost use Rattle.cps_trail.specs.Notes.{IsReason};
 ghost use Rattle.cps_p_bool.specs.Seeking.{IsInForce};
-ghost use Rattle.cps_p_bool.specs.Denying.{IsFit, AreLiterals, Denies, Gives, task_of};
+ghost use Rattle.cps_p_bool.specs.Denying.{IsFit, AreLiterals, Denies, GivesAtom, task_of};
 ghost use Rattle.cps_p_bool.specs.Explaining.{IsExplanation, IsRuledOut, AsksForOne};
 ghost use Rattle.cps_p_bool.specs.Rules.{LimitsToOne};
 ghost use Rattle.cps_p_bool.specs.Normal.{IsNormalForm};
@@ -83,7 +83,7 @@ fn explain_as(
     requires used_fit { AreLiterals past.now.first from.now.used.now }
     requires subject { given.subject < length past.now.first }
     ensures { result ≡ Ok true → (body : Body)
-        → Gives past.now (task_of from.now.enforcement.now body) from.now.used.now given
+        → GivesAtom past.now (task_of from.now.enforcement.now body) from.now.used.now given
         → IsExplanation past.now (task_of from.now.enforcement.now body) atom reason.new.items }
 {
     if given == atom {

@@ -7,7 +7,7 @@ use Rattle.cps_model.specs.declared.parts.Arc.{Arc}
 use Rattle.cps_model.specs.Circuits.{IsCircuit, Leads, here, along, leaves, enters, is_loop, moves}
 use Rattle.cps_p_circuit.specs.declared.clash.Sign.{Sign}
 use Rattle.cps_p_circuit.specs.Graphs.{number, arc_at, arcs_by, IsRound, IsNumbering}
-use Rattle.cps_p_circuit.specs.Clashes.{taking, leaving, IsMet, IsClash, IsPair, IsDeserted, IsOnTour, IsChosen, AreChosen, AreLeft, Grows}
+use Rattle.cps_p_circuit.specs.Clashes.{taking, leaving, IsSignMet, IsClash, IsClashingPair, IsDeserted, IsOnTour, IsArcChosen, AreChosen, NoneLeadsOut, GrowsSigns}
 use Rattle.cps_p_circuit.proofs.Arcs.{not_both, member, found, two_of, some_of, kept_in, kept_from, tail_once, head_once, eq_itself, eq_is, eq_at, ne_at}
 
 abbrev pub least : List ℕ → List ℕ → ℕ
@@ -28,7 +28,7 @@ stay_more from to old new node j e h m l p q = elim (cases_lt m j) [
   | inr more ↦ (let at : j ≡ m = omega arith in subst (λ (i : ℕ). Contains new (leaving i)) at (pushed old new (leaving j) e))
 ]
 
-pub left_more : (from to via : List ℕ) (old new : List Sign) (k : ℕ) → new ≡ old ++ leaving k ∷ [] → AreLeft from to via old k → AreLeft from to via new (k + 1)
+pub left_more : (from to via : List ℕ) (old new : List Sign) (k : ℕ) → new ≡ old ++ leaving k ∷ [] → NoneLeadsOut from to via old k → NoneLeadsOut from to via new (k + 1)
 left_more from to via old new k e h m l p q = elim (cases_lt m k) [
   | inl less ↦ lifted old new (leaving k) (leaving m) e (h m less p q)
   | inr more ↦ (let at : k ≡ m = omega arith in subst (λ (i : ℕ). Contains new (leaving i)) at (pushed old new (leaving k) e))
@@ -42,15 +42,15 @@ chosen_more from to arcs via old new v k e h is within origin target w l high = 
       record { within = was.within; origin = was.origin; goal = was.goal; taken = lifted old new (taking k) _ e was.taken })
   | inr more ↦
       (let at : v ≡ w = omega arith in
-      let here : IsChosen from to arcs via new v (slice_index via v - 2) = subst (λ (i : ℕ). IsChosen from to arcs via new v i) is (record { within = within; origin = origin; goal = target; taken = pushed old new (taking k) e }) in
-      subst (λ (i : ℕ). IsChosen from to arcs via new i (slice_index via i - 2)) at here)
+      let here : IsArcChosen from to arcs via new v (slice_index via v - 2) = subst (λ (i : ℕ). IsArcChosen from to arcs via new v i) is (record { within = within; origin = origin; goal = target; taken = pushed old new (taking k) e }) in
+      subst (λ (i : ℕ). IsArcChosen from to arcs via new i (slice_index via i - 2)) at here)
 ]
 
-met : (taken : List Bool) (used : List Sign) (p : Sign) → All (IsMet taken) used → Contains used p → get_or taken p.arc false ≡ p.holds
-met taken used p h c = All-contains (IsMet taken) used p h c
+met : (taken : List Bool) (used : List Sign) (p : Sign) → All (IsSignMet taken) used → Contains used p → get_or taken p.arc false ≡ p.holds
+met taken used p h c = All-contains (IsSignMet taken) used p h c
 
 -- two taken arcs with one tail, or one head
-pub pair_out : (nodes : List ℤ) (from to : List ℕ) (used : List Sign) (i j : ℕ) → IsPair from (least from to) i j used → IsClash nodes from to used
+pub pair_out : (nodes : List ℤ) (from to : List ℕ) (used : List Sign) (i j : ℕ) → IsClashingPair from (least from to) i j used → IsClash nodes from to used
 pair_out nodes from to used i j h = record {
   none = λ taken signs round.
       (let a = h.first in
@@ -61,7 +61,7 @@ pair_out nodes from to used i j h = record {
       omega arith);
 }
 
-pub pair_in : (nodes : List ℤ) (from to : List ℕ) (used : List Sign) (i j : ℕ) → IsPair to (least from to) i j used → IsClash nodes from to used
+pub pair_in : (nodes : List ℤ) (from to : List ℕ) (used : List Sign) (i j : ℕ) → IsClashingPair to (least from to) i j used → IsClash nodes from to used
 pair_in nodes from to used i j h = record {
   none = λ taken signs round.
       (let a = h.first in
@@ -110,7 +110,7 @@ is_move nodes from to taken k numbered p q t ne =
     kept_in (λ (arc : Arc). not (is_loop arc)) (arcs_by nodes from to taken) (arc_at nodes from to k) (member nodes from to taken k p q t) (ap not apart)
 
 -- a node that is on the circuit is left by a move
-pub leaves_on_tour : (nodes : List ℤ) (from to : List ℕ) (used : List Sign) (k : ℕ) (taken : List Bool) → IsNumbering nodes from to → IsOnTour from to (least from to) k used → All (IsMet taken) used → IsRound nodes from to taken → (arc : Arc) × Contains (moves (arcs_by nodes from to taken)) arc × (arc.tail ≡ number nodes (slice_index from k))
+pub leaves_on_tour : (nodes : List ℤ) (from to : List ℕ) (used : List Sign) (k : ℕ) (taken : List Bool) → IsNumbering nodes from to → IsOnTour from to (least from to) k used → All (IsSignMet taken) used → IsRound nodes from to taken → (arc : Arc) × Contains (moves (arcs_by nodes from to taken)) arc × (arc.tail ≡ number nodes (slice_index from k))
 leaves_on_tour nodes from to used k taken numbered h signs round = let a = h.within in elim h.sure [
   | inl moving ↦ (arc_at nodes from to k, is_move nodes from to taken k numbered (omega arith) (omega arith) (met taken used (taking k) signs moving.1) moving.0, refl)
   | inr staying ↦
@@ -147,10 +147,10 @@ pub record IsCut (nodes : List ℤ) (from to via : List ℕ) (i o : ℕ) (used :
   pub inside : slice_index via (slice_index from i) ≢ 0
   pub outside : slice_index via (slice_index from o) ≡ 0
   pub chosen : AreChosen from to (least from to) via used (length nodes)
-  pub left : AreLeft from to via used (least from to)
+  pub left : NoneLeadsOut from to via used (least from to)
 
 -- an arc that is taken from a marked node leads to a marked node
-stays_marked : (nodes : List ℤ) (from to via : List ℕ) (used : List Sign) (taken : List Bool) (k : ℕ) → IsNumbering nodes from to → AreChosen from to (least from to) via used (length nodes) → AreLeft from to via used (least from to) → All (IsMet taken) used → IsRound nodes from to taken → k < length from → k < length to → get_or taken k false ≡ true → 1 ≤ slice_index via (slice_index from k) → 1 ≤ slice_index via (slice_index to k)
+stays_marked : (nodes : List ℤ) (from to via : List ℕ) (used : List Sign) (taken : List Bool) (k : ℕ) → IsNumbering nodes from to → AreChosen from to (least from to) via used (length nodes) → NoneLeadsOut from to via used (least from to) → All (IsSignMet taken) used → IsRound nodes from to taken → k < length from → k < length to → get_or taken k false ≡ true → 1 ≤ slice_index via (slice_index from k) → 1 ≤ slice_index via (slice_index to k)
 stays_marked nodes from to via used taken k numbered chosen left signs round p q t s = elim (cases_lt 0 (slice_index via (slice_index to k))) [
   | inl some ↦ omega arith
   | inr none ↦ elim (cases_lt (slice_index via (slice_index from k)) 2) [
@@ -193,7 +193,7 @@ cut_clash nodes from to via inner outer used numbered h = record {
 }
 
 -- what was shown by fewer signs
-pub tour_grows : (from to : List ℕ) (arcs k : ℕ) (old new : List Sign) → Grows old new → IsOnTour from to arcs k old → IsOnTour from to arcs k new
+pub tour_grows : (from to : List ℕ) (arcs k : ℕ) (old new : List Sign) → GrowsSigns old new → IsOnTour from to arcs k old → IsOnTour from to arcs k new
 tour_grows from to arcs k old new g h = record {
   within = h.within;
   sure = elim h.sure [
@@ -202,7 +202,7 @@ tour_grows from to arcs k old new g h = record {
   ];
 }
 
-pub chosen_grows : (from to : List ℕ) (arcs : ℕ) (via : List ℕ) (old new : List Sign) (n : ℕ) → Grows old new → AreChosen from to arcs via old n → AreChosen from to arcs via new n
+pub chosen_grows : (from to : List ℕ) (arcs : ℕ) (via : List ℕ) (old new : List Sign) (n : ℕ) → GrowsSigns old new → AreChosen from to arcs via old n → AreChosen from to arcs via new n
 chosen_grows from to arcs via old new n g h v l high =
     let was = h v l high in
     record { within = was.within; origin = was.origin; goal = was.goal; taken = g _ was.taken }

@@ -12,12 +12,12 @@ use Rattle.cps_rule.specs.Rules.{IsFact, AreFacts, AllTrueAt, IsExplained, IsRef
 use Rattle.cps_propagate.specs.Now.{AreOpen}
 use Rattle.cps_p_circuit.specs.declared.clash.Sign.{Sign}
 use Rattle.cps_p_circuit.specs.Graphs.{IsRound}
-use Rattle.cps_p_circuit.specs.Clashes.{IsMet, IsClash}
-use Rattle.cps_p_circuit.specs.Showing.{body_by, taken_at, IsAtomOf, AreKept, IsShown, AreTaken, IsOpenStill}
+use Rattle.cps_p_circuit.specs.Clashes.{IsSignMet, IsClash}
+use Rattle.cps_p_circuit.specs.Showing.{body_by, taken_at, IsAtomOf, MakeSignsTrue, IsShown, AreTaken, IsOpenStill}
 use Rattle.cps_p_circuit.proofs.Deciding.{round_from_body, body_from_round, subject_holds}
 
 -- what a sign's atom says of the literal
-pub met_by : (literals : List Atom) (p : Sign) (d u : Atom) → p.arc < length literals → ((xs : List ℤ) → atom_holds xs u ≡ true → atom_holds xs (get_or literals p.arc d) ≡ p.holds) → (xs : List ℤ) → atom_holds xs u ≡ true → IsMet (taken_at xs literals) p
+pub met_by : (literals : List Atom) (p : Sign) (d u : Atom) → p.arc < length literals → ((xs : List ℤ) → atom_holds xs u ≡ true → atom_holds xs (get_or literals p.arc d) ≡ p.holds) → (xs : List ℤ) → atom_holds xs u ≡ true → IsSignMet (taken_at xs literals) p
 met_by literals p d u l h xs t = get_or-map (atom_holds xs) literals p.arc d false l ∙ h xs t
 
 pub opposite_met : (a u : Atom) (h : Bool) → h ≡ false → u.subject ≡ a.subject → ((x : ℤ) → meets u.op u.value x ≡ not (meets a.op a.value x)) → (xs : List ℤ) → atom_holds xs u ≡ true → atom_holds xs a ≡ h
@@ -39,21 +39,21 @@ all_front P xs x h k d l = subst P (get_or_append_left xs (x ∷ []) d k l) (h k
 
 -- one sign more
 pub kept_more : (s : Trail) (literals : List Atom) (denied : Option Atom) (used : List Sign) (i : ℕ) (d : Sign) (us new : List Atom) (u : Atom) → i < length used → IsAtomOf literals (get_or used i d) u → u.subject < length s.first → IsTrueNow s u → new ≡ us ++ u ∷ []
-    → AreKept s literals denied (take i used) us → AreKept s literals denied (take (i + 1) used) new
+    → MakeSignsTrue s literals denied (take i used) us → MakeSignsTrue s literals denied (take (i + 1) used) new
 kept_more s literals denied used i d us new u l at inside now e h = record {
   facts = rw e (All-push (IsFact s) us u h.facts (record { subject = inside; inside = at.inside; true_now = now }));
   gives = λ xs t o.
       (let all : AllTrueAt xs (us ++ u ∷ []) = subst (AllTrueAt xs) e t in
-      All-more (IsMet (taken_at xs literals)) used i d l (h.gives xs (all_front (λ (v : Atom). atom_holds xs v ≡ true) us u all) o)
+      All-more (IsSignMet (taken_at xs literals)) used i d l (h.gives xs (all_front (λ (v : Atom). atom_holds xs v ≡ true) us u all) o)
       (at.gives xs (All-contains (λ (v : Atom). atom_holds xs v ≡ true) (us ++ u ∷ []) u all (Contains-push us u))));
 }
 
 pub kept_denied : (s : Trail) (literals : List Atom) (denied : Option Atom) (used : List Sign) (i : ℕ) (d : Sign) (us : List Atom) (u : Atom) → i < length used → IsAtomOf literals (get_or used i d) u
     → ((xs : List ℤ) → IfSome denied (λ v. atom_holds xs v ≡ true) → atom_holds xs u ≡ true)
-    → AreKept s literals denied (take i used) us → AreKept s literals denied (take (i + 1) used) us
+    → MakeSignsTrue s literals denied (take i used) us → MakeSignsTrue s literals denied (take (i + 1) used) us
 kept_denied s literals denied used i d us u l at follows h = record {
   facts = h.facts;
-  gives = λ xs t o. All-more (IsMet (taken_at xs literals)) used i d l (h.gives xs t o) (at.gives xs (follows xs o));
+  gives = λ xs t o. All-more (IsSignMet (taken_at xs literals)) used i d l (h.gives xs t o) (at.gives xs (follows xs o));
 }
 
 -- an atom's subject is among those of the literals
@@ -64,7 +64,7 @@ atom_inside s literals p u d at h =
     omega arith
 
 -- a clash and facts that make its signs true
-pub shown : (s : Trail) (nodes : List ℤ) (from to : List ℕ) (literals : List Atom) (denied : Option Atom) (used : List Sign) (us : List Atom) → IsClash nodes from to used → AreKept s literals denied used us → IsShown (body_by nodes from to literals) s denied us
+pub shown : (s : Trail) (nodes : List ℤ) (from to : List ℕ) (literals : List Atom) (denied : Option Atom) (used : List Sign) (us : List Atom) → IsClash nodes from to used → MakeSignsTrue s literals denied used us → IsShown (body_by nodes from to literals) s denied us
 shown s nodes from to literals denied used us clash kept = record {
   facts = kept.facts;
   excludes = λ xs t o h. clash.none (taken_at xs literals) (kept.gives xs t o) (round_from_body xs nodes from to literals h);

@@ -12,7 +12,7 @@ use Rattle.cps_rule.specs.Rules.{AreFacts, AllTrueAt}
 use Rattle.cps_p_circuit.specs.declared.clash.Sign.{Sign}
 use Rattle.cps_p_circuit.specs.declared.graph.Graph.{Graph}
 use Rattle.cps_p_circuit.specs.Graphs.{number}
-use Rattle.cps_p_circuit.specs.Clashes.{IsMet}
+use Rattle.cps_p_circuit.specs.Clashes.{IsSignMet}
 
 -- the body of arcs between nodes
 abbrev pub body_by : List ℤ → List ℕ → List ℕ → List Atom → Body
@@ -30,14 +30,14 @@ pub record IsAtomOf (literals : List Atom) (p : Sign) (u : Atom) : Type 0 where
   pub within : p.arc < length literals
   pub subject : (d : Atom) → u.subject ≡ (slice_index_or literals p.arc d).subject
   pub inside : IsInside u.value
-  pub gives : (xs : List ℤ) → atom_holds xs u ≡ true → IsMet (taken_at xs literals) p
+  pub gives : (xs : List ℤ) → atom_holds xs u ≡ true → IsSignMet (taken_at xs literals) p
 
 -- facts, and an atom beside them, make the signs true
-pub record AreKept (s : Trail) (literals : List Atom) (denied : Option Atom) (used : List Sign)
+pub record MakeSignsTrue (s : Trail) (literals : List Atom) (denied : Option Atom) (used : List Sign)
     (us : List Atom) : Type 0 where
   pub facts : AreFacts s us
   pub gives : (xs : List ℤ) → AllTrueAt xs us → IfSome denied (λ u. atom_holds xs u ≡ true)
-      → All (IsMet (taken_at xs literals)) used
+      → All (IsSignMet (taken_at xs literals)) used
 
 -- a body cannot hold beside facts, and beside an atom
 pub record IsShown (b : Body) (s : Trail) (denied : Option Atom) (us : List Atom) : Type 0 where

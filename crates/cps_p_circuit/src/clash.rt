@@ -6,7 +6,7 @@
 //! signs that pass a test leave no circuit, so the finder may be changed without a proof.
 
 ghost use Rattle.std.specs.Prelude.{◌≡◌, ◌≤◌, ◌<◌, min, length, Ok, IfOk, true};
-ghost use Rattle.cps_p_circuit.specs.Clashes.{IsClashOf, IsPair, IsDeserted, IsOnTour, AreChosen, AreLeft, Grows};
+ghost use Rattle.cps_p_circuit.specs.Clashes.{IsClashOf, IsClashingPair, IsDeserted, IsOnTour, AreChosen, NoneLeadsOut, GrowsSigns};
 
 use crate::graph::Graph;
 use std::alloc::AllocError;
@@ -33,7 +33,7 @@ fn push_two(
     used: &mut Vec<Sign>,
 ) -> Result<bool, AllocError>
     requires { arcs ≤ length ends.now }
-    ensures { result ≡ Ok true → IsPair ends.now arcs pair.0 pair.1 used.new.items }
+    ensures { result ≡ Ok true → IsClashingPair ends.now arcs pair.0 pair.1 used.new.items }
 {
     let (i, j) = pair;
     if i >= arcs || j >= arcs || i == j || ends[i] != ends[j] {
@@ -80,7 +80,7 @@ fn push_none(
 
 impl Graph {
     ghost use Rattle.std.specs.Prelude.{◌≡◌, ◌≤◌, ◌<◌, min, length, Ok, IfOk, true};
-    ghost use Rattle.cps_p_circuit.specs.Clashes.{IsClashOf, IsOnTour, AreChosen, AreLeft, Grows};
+    ghost use Rattle.cps_p_circuit.specs.Clashes.{IsClashOf, IsOnTour, AreChosen, NoneLeadsOut, GrowsSigns};
 
     /// Two arcs are taken that leave one node.
     pub fn two_out(&self, pair: (usize, usize), used: &mut Vec<Sign>) -> Result<bool, AllocError>
@@ -113,7 +113,7 @@ impl Graph {
     /// Adds what no loop at an arc's tail being taken says.
     fn push_stay(&self, k: usize, used: &mut Vec<Sign>) -> Result<(), AllocError>
         requires { k < min (length self.now.from.items) (length self.now.to.items) }
-        ensures grows { IfOk result (λ u. Grows used.old.items used.new.items) }
+        ensures grows { IfOk result (λ u. GrowsSigns used.old.items used.new.items) }
         ensures sure { IfOk result (λ u. IsOnTour self.now.from.items self.now.to.items
             (min (length self.now.from.items) (length self.now.to.items)) k used.new.items) }
     {
@@ -132,7 +132,7 @@ impl Graph {
 
     /// Adds what shows that a node is on the circuit.
     fn push_witness(&self, witness: Witness, used: &mut Vec<Sign>) -> Result<bool, AllocError>
-        ensures grows { IfOk result (λ u. Grows used.old.items used.new.items) }
+        ensures grows { IfOk result (λ u. GrowsSigns used.old.items used.new.items) }
         ensures sure { result ≡ Ok true → IsOnTour self.now.from.items self.now.to.items
             (min (length self.now.from.items) (length self.now.to.items)) witness.arc used.new.items }
     {
@@ -157,7 +157,7 @@ impl Graph {
     /// Adds that the arcs by which nodes are marked are taken.
     fn push_chosen(&self, via: &[usize], used: &mut Vec<Sign>) -> Result<bool, AllocError>
         requires { length via.now ≡ length self.now.nodes.items }
-        ensures grows { IfOk result (λ u. Grows used.old.items used.new.items) }
+        ensures grows { IfOk result (λ u. GrowsSigns used.old.items used.new.items) }
         ensures chosen { result ≡ Ok true → AreChosen self.now.from.items self.now.to.items
             (min (length self.now.from.items) (length self.now.to.items)) via.now used.new.items (length via.now) }
     {
@@ -184,8 +184,8 @@ impl Graph {
     /// Adds that no arc is taken out of the nodes that are marked by 1.
     fn push_left(&self, via: &[usize], used: &mut Vec<Sign>) -> Result<(), AllocError>
         requires { length via.now ≡ length self.now.nodes.items }
-        ensures grows { IfOk result (λ u. Grows used.old.items used.new.items) }
-        ensures left { IfOk result (λ u. AreLeft self.now.from.items self.now.to.items via.now used.new.items
+        ensures grows { IfOk result (λ u. GrowsSigns used.old.items used.new.items) }
+        ensures left { IfOk result (λ u. NoneLeadsOut self.now.from.items self.now.to.items via.now used.new.items
             (min (length self.now.from.items) (length self.now.to.items))) }
     {
         for k in 0..self.arcs() {

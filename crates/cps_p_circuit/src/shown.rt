@@ -4,7 +4,7 @@ ghost use Rattle.std.specs.Prelude.{◌≡◌, ◌<◌, Ok, IfSome, IsTrue, All,
 ghost use Rattle.cps_literal.specs.Truth.{atom_holds};
 ghost use Rattle.cps_instance.specs.Tasks.{atom_subjects};
 ghost use Rattle.cps_trail.specs.Trail.{IsTrueNow};
-ghost use Rattle.cps_p_circuit.specs.Showing.{IsAtomOf, AreKept};
+ghost use Rattle.cps_p_circuit.specs.Showing.{IsAtomOf, MakeSignsTrue};
 
 use crate::clash::Sign;
 use cps_literal::{Atom, Truth};
@@ -66,7 +66,7 @@ pub fn keep(
     facts: &mut Vec<Atom>,
 ) -> Result<bool, AllocError>
     requires { All (λ i. i < length past.now.first) (atom_subjects literals.now) }
-    ensures { result ≡ Ok true → AreKept past.now literals.now denied used.now facts.new.items }
+    ensures { result ≡ Ok true → MakeSignsTrue past.now literals.now denied used.now facts.new.items }
 {
     facts.clear();
     for sign in used {

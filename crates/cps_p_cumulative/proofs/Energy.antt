@@ -12,7 +12,7 @@ use Rattle.cps_instance.specs.declared.task.Span.{Span}
 use Rattle.cps_instance.specs.Parts.{span_end}
 use Rattle.cps_p_cumulative.specs.declared.charge.Stay.{Stay}
 use Rattle.cps_p_cumulative.specs.Running.{demand_of, demands_at, energy_of, energies}
-use Rattle.cps_p_cumulative.specs.Relying.{IsLong, IsStay, IsBetween}
+use Rattle.cps_p_cumulative.specs.Relying.{IsLong, IsStay, IsActiveBetween}
 use Rattle.cps_p_cumulative.proofs.Moves.{le_or_lt}
 use Rattle.cps_p_cumulative.proofs.Running.{demands-cons, running, demand-runs, demand-some}
 use Rattle.cps_p_cumulative.proofs.Profiled.{demands-past}
@@ -134,7 +134,7 @@ long_of xs start end None stay h a b = omega (arith, ints)
 long_of xs start end (Some far) stay h a b = omega (arith, ints)
 
 -- what a span uses that stays so long
-pub energy-stay : (xs : List ℤ) (t w : ℤ) (p : Span) (d : ℕ) (v : ℤ) (stay : Stay) → IsStay t w p.length stay → IsBetween stay.latest stay.after p xs → pos 0 ≤ℤ v → v ≤ℤ value_at xs d → (stay.ticks *ℤ v) ≤ℤ energy_of xs t (unsigned_abs w) p d
+pub energy-stay : (xs : List ℤ) (t w : ℤ) (p : Span) (d : ℕ) (v : ℤ) (stay : Stay) → IsStay t w p.length stay → IsActiveBetween stay.latest stay.after p xs → pos 0 ≤ℤ v → v ≤ℤ value_at xs d → (stay.ticks *ℤ v) ≤ℤ energy_of xs t (unsigned_abs w) p d
 energy-stay xs t w p d v stay of h some low =
     let ticks = stay.ticks in
     let long = long_of xs p.start p.end p.length stay of.long h.started h.later in

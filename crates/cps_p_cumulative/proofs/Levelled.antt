@@ -25,7 +25,7 @@ use Rattle.cps_p_cumulative.specs.declared.tank.Tank.{Tank}
 use Rattle.cps_p_cumulative.specs.declared.tank.Move.{Move}
 use Rattle.cps_p_cumulative.specs.declared.tank.Side.{Side}
 use Rattle.cps_p_cumulative.specs.declared.tank.Side.TheVariants.{Over, Under}
-use Rattle.cps_p_cumulative.specs.Levels.{toward, is_active, has_acted, share_of, total, moves_of, tank_body, limit, active_subjects, move_subjects, IsMoveOf, IsTankOf, IsShareToward, MayAddUp, StaysFrom, IsShare, IsLevel, MayBeActive, IsSure, IsSureFixed, IsLeastToward, AllowsZero, HasRoomAfter, HasRoomTo, IsTowardBound, IsRest, IsAdded, AreAdded, AreMovesOpen, AreMovesFixed}
+use Rattle.cps_p_cumulative.specs.Levels.{toward, is_active, has_acted, share_of, total, moves_of, tank_body, limit, active_subjects, move_subjects, IsMoveOf, IsTankOf, IsShareToward, MayAddUp, StaysFrom, IsShare, IsLevel, MayBeActive, IsMoveSure, IsSureFixed, IsLeastToward, AllowsZero, HasRoomAfter, HasRoomTo, IsTowardBound, IsRest, IsAdded, AreAdded, AreMovesOpen, AreMovesFixed}
 use Rattle.cps_p_cumulative.specs.Relying.{Relies}
 use Rattle.cps_p_cumulative.proofs.Moves.{moves_all, total-last, toward-none, passed, never_passed}
 use Rattle.cps_p_cumulative.proofs.Rising.{zero_limit, has_levels}
@@ -102,21 +102,21 @@ no_and : (a b : Bool) → a ≡ false → (a && b) ≡ false
 no_and a b e = ap (λ c. c && b) e
 
 -- that it has taken place by a time, or has not
-pub sure_acted : (s : Trail) (t late : ℤ) (m : Move) → late ≤ℤ t → IsOpenTo s m.time late → ((x : ℤ) → IsOpenTo s m.time x → x ≤ℤ late) → IsActiveSure s m true → IsSure s t m true
+pub sure_acted : (s : Trail) (t late : ℤ) (m : Move) → late ≤ℤ t → IsOpenTo s m.time late → ((x : ℤ) → IsOpenTo s m.time x → x ≤ℤ late) → IsActiveSure s m true → IsMoveSure s t m true
 sure_acted s t late m l reached up h = record {
   sure = λ xs o. (let a = up (value_at xs m.time) (on_time (λ i. IsOpenTo s i (value_at xs i)) m o) in
       both (is_active xs m.active) (int_le (value_at xs m.time) t) (h.sure xs o) (le_true (value_at xs m.time) t (omega (arith, ints))));
   may = record { possible = h.may; value = late; reached = reached; by = l };
 }
 
-pub sure_later : (s : Trail) (t early : ℤ) (m : Move) → t <ℤ early → IsOpenTo s m.time early → ((x : ℤ) → IsOpenTo s m.time x → early ≤ℤ x) → IsSure s t m false
+pub sure_later : (s : Trail) (t early : ℤ) (m : Move) → t <ℤ early → IsOpenTo s m.time early → ((x : ℤ) → IsOpenTo s m.time x → early ≤ℤ x) → IsMoveSure s t m false
 sure_later s t early m l reached down = record {
   sure = λ xs o. (let a = down (value_at xs m.time) (on_time (λ i. IsOpenTo s i (value_at xs i)) m o) in
       and_false (is_active xs m.active) (int_le (value_at xs m.time) t) (le_false (value_at xs m.time) t (omega (arith, ints))));
   may = inr (early, reached, l);
 }
 
-pub sure_absent : (s : Trail) (t : ℤ) (m : Move) → IsActiveSure s m false → IsSure s t m false
+pub sure_absent : (s : Trail) (t : ℤ) (m : Move) → IsActiveSure s m false → IsMoveSure s t m false
 sure_absent s t m h = record { sure = λ xs o. no_and (is_active xs m.active) (int_le (value_at xs m.time) t) (h.sure xs o); may = inl h.may }
 
 pub fixed_later : (s : Trail) (t late : ℤ) (m : Move) → t <ℤ late → IsOpenTo s m.time late → IsSureFixed s t m false
@@ -165,7 +165,7 @@ share_may_act s t side m v acted l u after stays = (l.attained.0, inl (acted_lat
 share_may_rest : (s : Trail) (t : ℤ) (side : Side) (m : Move) → MayHaveRested s t m.time m.active → (u : ℤ) → t ≤ℤ u → StaysFrom s t u m → IsShareToward side s u m (pos 0)
 share_may_rest s t side m rested u after stays = (pos 0, inr (rested_later s t u m stays rested, refl), toward-none side)
 
-pub share_none : (s : Trail) (t : ℤ) (side : Side) (m : Move) → IsSure s t m false → IsShare s t side m (pos 0)
+pub share_none : (s : Trail) (t : ℤ) (side : Side) (m : Move) → IsMoveSure s t m false → IsShare s t side m (pos 0)
 share_none s t side m h = record {
   sound = λ xs o. (let e = share_rests side xs t m (h.sure xs o) in omega (arith, ints));
   exact = λ xs o f. (let e = share_rests side xs t m (h.sure xs o) in omega (arith, ints));
@@ -173,7 +173,7 @@ share_none s t side m h = record {
   near = omega arith;
 }
 
-pub share_sure : (s : Trail) (t : ℤ) (side : Side) (m : Move) (v : ℤ) → IsSure s t m true → IsLeastToward s side m.change v → IsShare s t side m v
+pub share_sure : (s : Trail) (t : ℤ) (side : Side) (m : Move) (v : ℤ) → IsMoveSure s t m true → IsLeastToward s side m.change v → IsShare s t side m v
 share_sure s t side m v h l = record {
   sound = λ xs o. (let e = share_acted side xs t m (h.sure xs o) in let a = l.least (value_at xs m.change) (on_change (λ i. IsOpenTo s i (value_at xs i)) m o) in omega (arith, ints));
   exact = λ xs o f. (let e = share_acted side xs t m (h.sure xs o) in let a = l.reached (value_at xs m.change) (on_change (λ i. IsOpenTo s i (value_at xs i)) m o) (on_change (IsFixedNow s) m f) in omega (arith, ints));

@@ -17,7 +17,7 @@ use Rattle.cps_propagate.specs.Strength.{EndsAfter, IsCovering, IsLeastNow, IsLo
 use Rattle.cps_p_cumulative.specs.declared.part.Part.{Part}
 use Rattle.cps_p_cumulative.specs.Profile.{covers, at, height, AreParts}
 use Rattle.cps_p_cumulative.specs.Running.{demand_of, demands_at, AreSome}
-use Rattle.cps_p_cumulative.specs.Measuring.{IsMeasured, IsProfile}
+use Rattle.cps_p_cumulative.specs.Measuring.{IsPartMeasured, IsProfile}
 use Rattle.cps_p_cumulative.proofs.Running.{demands-cons, lt_true, true_lt, running, demand-runs, demand-some}
 
 at_zero : (t from : ℤ) → at t (record { from = from; to = from; demand = 0 }) ≡ 0
@@ -28,7 +28,7 @@ at_zero t from = by (covers t (record { from = from; to = from; demand = 0 }))
     by false = refl
 
 -- a span of which nothing is measured, as it surely runs at no time or may demand nothing
-pub measured-none : (s : Trail) (p : Span) (d : ℕ) (from : ℤ) → ((t m : ℤ) → IsCovering s t p → IsLeastNow s d m → m ≤ℤ pos 0) → IsMeasured s p d (record { from = from; to = from; demand = 0 })
+pub measured-none : (s : Trail) (p : Span) (d : ℕ) (from : ℤ) → ((t m : ℤ) → IsCovering s t p → IsLeastNow s d m → m ≤ℤ pos 0) → IsPartMeasured s p d (record { from = from; to = from; demand = 0 })
 measured-none s p d from none = record {
   whole = λ t m c l. (let a = none t m c l in let e = at_zero t from in omega (arith, ints));
   sound = λ t xs open' some. (let a = demand-some xs t p d some in let e = at_zero t from in omega (arith, ints));
@@ -36,8 +36,8 @@ measured-none s p d from none = record {
   small = omega arith;
 }
 
-pub measured-bare : (s : Trail) (p : Span) (d : ℕ) (from to : ℤ) → to ≡ from → ((t m : ℤ) → IsCovering s t p → IsLeastNow s d m → m ≤ℤ pos 0) → IsMeasured s p d (record { from = from; to = to; demand = 0 })
-measured-bare s p d from to e none = subst (λ (x : ℤ). IsMeasured s p d (record { from = from; to = x; demand = 0 })) (sym e) (measured-none s p d from none)
+pub measured-bare : (s : Trail) (p : Span) (d : ℕ) (from to : ℤ) → to ≡ from → ((t m : ℤ) → IsCovering s t p → IsLeastNow s d m → m ≤ℤ pos 0) → IsPartMeasured s p d (record { from = from; to = to; demand = 0 })
+measured-bare s p d from to e none = subst (λ (x : ℤ). IsPartMeasured s p d (record { from = from; to = x; demand = 0 })) (sym e) (measured-none s p d from none)
 
 -- where a span of a length ends at least
 pub ends-some : (s : Trail) (t : ℤ) (start end : ℕ) (length : Option ℤ) (far low v : ℤ) → length ≡ Some far → ((x : ℤ) → IsOpenTo s start x → low ≤ℤ x) → t <ℤ v → v ≡ low +ℤ far → EndsAfter s t start end length
@@ -100,7 +100,7 @@ module _ (s : Trail) (p : Span) (d : ℕ) (part : Part) (sure : IsSure s p d par
           omega (arith, ints)
       by false h = (let e = at_bare t part h in let a = demand-some xs t p d some in omega (arith, ints))
 
-  pub measured-some : IsMeasured s p d part
+  pub measured-some : IsPartMeasured s p d part
   measured-some = record { whole = sure_whole; sound = sure_sound; ordered = sure.ordered; small = sure.small }
 
 -- the parts of the first spans, up to a place
@@ -109,11 +109,11 @@ pub record IsProfileTo (s : Trail) (ps : List Span) (ds : List ℕ) (k : ℕ) (p
   pub sound : (t : ℤ) (xs : List ℤ) → IsAdmitted s.first s.entries xs → AreSome xs ds → (pos (height t parts) +ℤ demands_at xs t (drop k ps) (drop k ds)) ≤ℤ demands_at xs t ps ds
   pub good : AreParts parts
 
-one_load : (s : Trail) (t load : ℤ) (p : Span) (d : ℕ) (ps : List Span) (ds : List ℕ) (part : Part) → IsMeasured s p d part → IsLoadOfSome s t (p ∷ ps) (d ∷ ds) load → (rest : ℤ) × IsLoadOfSome s t ps ds rest × (load ≤ℤ (pos (at t part) +ℤ rest))
+one_load : (s : Trail) (t load : ℤ) (p : Span) (d : ℕ) (ps : List Span) (ds : List ℕ) (part : Part) → IsPartMeasured s p d part → IsLoadOfSome s t (p ∷ ps) (d ∷ ds) load → (rest : ℤ) × IsLoadOfSome s t ps ds rest × (load ≤ℤ (pos (at t part) +ℤ rest))
 one_load s t load p d ps ds part m (inl h) = (h.2, h.4, (let a = m.whole t h.1 h.0 h.3 in let e = h.5 in omega (arith, ints)))
 one_load s t load p d ps ds part m (inr h) = (load, h, omega (arith, ints))
 
-module _ (s : Trail) (ps : List Span) (ds : List ℕ) (k : ℕ) (p : Span) (d : ℕ) (part : Part) (parts more : List Part) (l : k < length ps) (m : k < length ds) (measured : IsMeasured s (get_or ps k p) (get_or ds k d) part)
+module _ (s : Trail) (ps : List Span) (ds : List ℕ) (k : ℕ) (p : Span) (d : ℕ) (part : Part) (parts more : List Part) (l : k < length ps) (m : k < length ds) (measured : IsPartMeasured s (get_or ps k p) (get_or ds k d) part)
     (higher : (t : ℤ) → height t more ≡ height t parts + at t part) (good' : AreParts more) (h : IsProfileTo s ps ds k parts) where
   more_whole : (t load : ℤ) → IsLoadOfSome s t ps ds load → (rest : ℤ) × IsLoadOfSome s t (drop (k + 1) ps) (drop (k + 1) ds) rest × (load ≤ℤ (pos (height t more) +ℤ rest))
   more_whole t load some =
@@ -140,7 +140,7 @@ module _ (s : Trail) (ps : List Span) (ds : List ℕ) (k : ℕ) (p : Span) (d : 
   profile-step = record { whole = more_whole; sound = more_sound; good = good' }
 
 -- one part more
-pub profile-more : (s : Trail) (ps : List Span) (ds : List ℕ) (k : ℕ) (p : Span) (d : ℕ) (part : Part) (parts more : List Part) → k < length ps → k < length ds → IsMeasured s (get_or ps k p) (get_or ds k d) part
+pub profile-more : (s : Trail) (ps : List Span) (ds : List ℕ) (k : ℕ) (p : Span) (d : ℕ) (part : Part) (parts more : List Part) → k < length ps → k < length ds → IsPartMeasured s (get_or ps k p) (get_or ds k d) part
     → more ≡ parts ++ part ∷ [] → IsProfileTo s ps ds k parts → IsProfileTo s ps ds (k + 1) more
 profile-more s ps ds k p d part parts more l m measured is h = profile-step s ps ds k p d part parts more l m measured
     (λ t. ap (height t) is ∙ sum_by_push (at t) parts part)
@@ -151,7 +151,7 @@ profile-more s ps ds k p d part parts more l m measured is h = profile-step s ps
     h
 
 -- none, where there is nothing in it
-pub profile-same : (s : Trail) (ps : List Span) (ds : List ℕ) (k : ℕ) (p : Span) (d : ℕ) (part : Part) (parts : List Part) → k < length ps → k < length ds → IsMeasured s (get_or ps k p) (get_or ds k d) part
+pub profile-same : (s : Trail) (ps : List Span) (ds : List ℕ) (k : ℕ) (p : Span) (d : ℕ) (part : Part) (parts : List Part) → k < length ps → k < length ds → IsPartMeasured s (get_or ps k p) (get_or ds k d) part
     → part.demand ≡ 0 → IsProfileTo s ps ds k parts → IsProfileTo s ps ds (k + 1) parts
 profile-same s ps ds k p d part parts l m measured none h = profile-step s ps ds k p d part parts parts l m measured (λ t. (let e = nothing t in omega arith)) h.good h
   where

@@ -21,7 +21,7 @@ use Rattle.cps_rule.specs.Rules.{IsFact, AreFacts, IsGiven, IsImpossible, IsExpl
 use Rattle.cps_p_cumulative.specs.declared.resource.Resource.{Resource}
 use Rattle.cps_p_cumulative.specs.declared.charge.Claim.{Claim}
 use Rattle.cps_p_cumulative.specs.Running.{energies, body_of}
-use Rattle.cps_p_cumulative.specs.Relying.{Relies, IsTaken, IsCharged, IsBound, IsLater, IsClaim, IsBetween}
+use Rattle.cps_p_cumulative.specs.Relying.{Relies, IsEnergyTaken, IsCharged, IsBound, IsLater, IsClaim, IsActiveBetween}
 use Rattle.cps_p_cumulative.proofs.Running.{all_hold}
 use Rattle.cps_p_cumulative.proofs.Energy.{energies-cons, energies-past, energies-within, energy-some, energy-stay}
 
@@ -67,7 +67,7 @@ Relies-more s a atoms k d old mid new l p q = Relies-then s a (λ xs. All (λ u.
 
 -- one span more
 pub charged-more : (t w : ℤ) (ps : List Span) (ds : List ℕ) (need : ℤ) (k : ℕ) (p : Span) (d : ℕ) (left after : ℤ) (xs : List ℤ) → k < length ps → k < length ds
-    → IsCharged t w ps ds need k left xs → IsTaken t w (get_or ps k p) (get_or ds k d) left after xs → IsCharged t w ps ds need (k + 1) after xs
+    → IsCharged t w ps ds need k left xs → IsEnergyTaken t w (get_or ps k p) (get_or ds k d) left after xs → IsCharged t w ps ds need (k + 1) after xs
 charged-more t w ps ds need k p d left after xs l m h this =
     let n = unsigned_abs w in
     let e : energies xs t n (drop k ps) (drop k ds) ≡ energies xs t n (get_or ps k p ∷ drop (k + 1) ps) (get_or ds k d ∷ drop (k + 1) ds) =
@@ -152,9 +152,9 @@ later-none-of t p (Some u) v e h same = later-none t p u e (subst (λ (x : ℤ).
 
 -- that a span is present, starts by one time and ends after another
 pub run-relied : (s : Trail) (a : Atom) (latest after : ℤ) (p : Span) (atoms : List Atom) (u last : Atom) (old one two new : List Atom) → atoms ≡ p.presence → u ≡ record { subject = p.start; op = Le; value = latest } → IsLater after p last
-    → Relies s a (λ xs. All (λ v. atom_holds xs v ≡ true) atoms) old one → Relies s a (λ xs. atom_holds xs u ≡ true) one two → Relies s a (λ xs. atom_holds xs last ≡ true) two new → Relies s a (IsBetween latest after p) old new
+    → Relies s a (λ xs. All (λ v. atom_holds xs v ≡ true) atoms) old one → Relies s a (λ xs. atom_holds xs u ≡ true) one two → Relies s a (λ xs. atom_holds xs last ≡ true) two new → Relies s a (IsActiveBetween latest after p) old new
 run-relied s a latest after p atoms u last old one two new is starts later h i j =
-    Relies-then s a (λ xs. All (λ v. atom_holds xs v ≡ true) atoms × (atom_holds xs u ≡ true)) (λ xs. atom_holds xs last ≡ true) (IsBetween latest after p) old two new
+    Relies-then s a (λ xs. All (λ v. atom_holds xs v ≡ true) atoms × (atom_holds xs u ≡ true)) (λ xs. atom_holds xs last ≡ true) (IsActiveBetween latest after p) old two new
     (Relies-then s a (λ xs. All (λ v. atom_holds xs v ≡ true) atoms) (λ xs. atom_holds xs u ≡ true) (λ xs. All (λ v. atom_holds xs v ≡ true) atoms × (atom_holds xs u ≡ true)) old one two h i (λ xs w b c. (b, c)))
     j
     (λ xs w b c. record {
@@ -165,20 +165,20 @@ run-relied s a latest after p atoms u last old one two new is starts later h i j
 
 -- a span that is passed over, and one that counts
 pub charge-skip : (s : Trail) (a : Atom) (t w : ℤ) (p : Span) (d : ℕ) (left after : ℤ) (u : Atom) (old new : List Atom) → left ≡ after → u ≡ record { subject = d; op = Ge; value = pos 0 } → Relies s a (λ xs. atom_holds xs u ≡ true) old new
-    → Relies s a (IsTaken t w p d left after) old new
-charge-skip s a t w p d left after u old new same is h = Relies-so s a (λ xs. atom_holds xs u ≡ true) (IsTaken t w p d left after) old new h
+    → Relies s a (IsEnergyTaken t w p d left after) old new
+charge-skip s a t w p d left after u old new same is h = Relies-so s a (λ xs. atom_holds xs u ≡ true) (IsEnergyTaken t w p d left after) old new h
     (λ xs b c. (let e = energy-some xs t (unsigned_abs w) p d (true_le (pos 0) (value_at xs d) (subst (λ (v : Atom). atom_holds xs v ≡ true) is c)) in record { used = omega (arith, ints) }))
 
 pub charge-run : (s : Trail) (a : Atom) (t w : ℤ) (p : Span) (d : ℕ) (left after : ℤ) (claim : Claim) (u : Atom) (old mid new : List Atom) → IsClaim t w p.length claim → (left -ℤ after) ≤ℤ (claim.stay.ticks *ℤ claim.demand) → u ≡ record { subject = d; op = Ge; value = claim.demand }
-    → Relies s a (IsBetween claim.stay.latest claim.stay.after p) old mid → Relies s a (λ xs. atom_holds xs u ≡ true) mid new → Relies s a (IsTaken t w p d left after) old new
-charge-run s a t w p d left after claim u old mid new of taken is h i = Relies-then s a (IsBetween claim.stay.latest claim.stay.after p) (λ xs. atom_holds xs u ≡ true) (IsTaken t w p d left after) old mid new h i
+    → Relies s a (IsActiveBetween claim.stay.latest claim.stay.after p) old mid → Relies s a (λ xs. atom_holds xs u ≡ true) mid new → Relies s a (IsEnergyTaken t w p d left after) old new
+charge-run s a t w p d left after claim u old mid new of taken is h i = Relies-then s a (IsActiveBetween claim.stay.latest claim.stay.after p) (λ xs. atom_holds xs u ≡ true) (IsEnergyTaken t w p d left after) old mid new h i
     (λ xs x b c. (let e = energy-stay xs t w p d claim.demand claim.stay of.stay b of.some (true_le claim.demand (value_at xs d) (subst (λ (v : Atom). atom_holds xs v ≡ true) is c)) in record { used = omega (arith, ints) }))
 
 -- a loop over the spans
 pub charge-more : (s : Trail) (a : Atom) (t w : ℤ) (ps : List Span) (ds : List ℕ) (need : ℤ) (k : ℕ) (p : Span) (d : ℕ) (left after : ℤ) (old mid new : List Atom) → k < length ps → k < length ds
-    → Relies s a (IsCharged t w ps ds need k left) old mid → Relies s a (IsTaken t w (get_or ps k p) (get_or ds k d) left after) mid new → Relies s a (IsCharged t w ps ds need (k + 1) after) old new
+    → Relies s a (IsCharged t w ps ds need k left) old mid → Relies s a (IsEnergyTaken t w (get_or ps k p) (get_or ds k d) left after) mid new → Relies s a (IsCharged t w ps ds need (k + 1) after) old new
 charge-more s a t w ps ds need k p d left after old mid new l m h i =
-    Relies-then s a (IsCharged t w ps ds need k left) (IsTaken t w (get_or ps k p) (get_or ds k d) left after) (IsCharged t w ps ds need (k + 1) after) old mid new h i (λ xs x b c. charged-more t w ps ds need k p d left after xs l m b c)
+    Relies-then s a (IsCharged t w ps ds need k left) (IsEnergyTaken t w (get_or ps k p) (get_or ds k d) left after) (IsCharged t w ps ds need (k + 1) after) old mid new h i (λ xs x b c. charged-more t w ps ds need k p d left after xs l m b c)
 
 -- what passes the greatest capacity
 pub over-capacity : (s : Trail) (a : Atom) (t w : ℤ) (r : Resource) (most need : ℤ) (u : Atom) (old mid new : List Atom) → pos 0 ≤ℤ w → need ≡ (w *ℤ most) +ℤ pos 1 → u ≡ record { subject = r.capacity; op = Le; value = most }
@@ -196,16 +196,16 @@ over-capacity s a t w r most need u old mid new some same is h i = Relies-then s
 
 -- the same, by what the code reads
 pub charge-step : (s : Trail) (a : Atom) (t w : ℤ) (ps rs : List Span) (ds es : List ℕ) (need known : ℤ) (k : ℕ) (p : Span) (d : ℕ) (left had after got : ℤ) (old mid new : List Atom) → k < length rs → k < length es → rs ≡ ps → es ≡ ds → p ≡ get_or rs k p → d ≡ get_or es k 0
-    → Relies s a (IsCharged t w ps ds need k left) old mid → Relies s a (IsTaken t w p d had after) mid new → had ≡ left → known ≡ need → got ≡ after → Relies s a (IsCharged t w ps ds known (k + 1) got) old new
+    → Relies s a (IsCharged t w ps ds need k left) old mid → Relies s a (IsEnergyTaken t w p d had after) mid new → had ≡ left → known ≡ need → got ≡ after → Relies s a (IsCharged t w ps ds known (k + 1) got) old new
 charge-step s a t w ps rs ds es need known k p d left had after got old mid new l m same alike is-p is-d h i e f g =
     let q : get_or ps k p ≡ p = ap (λ (qs : List Span). get_or qs k p) (sym same) ∙ sym is-p in
     let r : get_or ds k 0 ≡ d = ap (λ (qs : List ℕ). get_or qs k 0) (sym alike) ∙ sym is-d in
     let l' : k < length ps = subst (λ (qs : List Span). k < length qs) same l in
     let m' : k < length ds = subst (λ (qs : List ℕ). k < length qs) alike m in
-    let j : Relies s a (IsTaken t w (get_or ps k p) (get_or ds k 0) left after) mid new =
-    subst (λ (x : ℤ). Relies s a (IsTaken t w (get_or ps k p) (get_or ds k 0) x after) mid new) e
-    (subst (λ (n : ℕ). Relies s a (IsTaken t w (get_or ps k p) n had after) mid new) (sym r)
-    (subst (λ (u : Span). Relies s a (IsTaken t w u d had after) mid new) (sym q) i)) in
+    let j : Relies s a (IsEnergyTaken t w (get_or ps k p) (get_or ds k 0) left after) mid new =
+    subst (λ (x : ℤ). Relies s a (IsEnergyTaken t w (get_or ps k p) (get_or ds k 0) x after) mid new) e
+    (subst (λ (n : ℕ). Relies s a (IsEnergyTaken t w (get_or ps k p) n had after) mid new) (sym r)
+    (subst (λ (u : Span). Relies s a (IsEnergyTaken t w u d had after) mid new) (sym q) i)) in
     let b = charge-more s a t w ps ds need k p 0 left after old mid new l' m' h j in
     subst (λ (x : ℤ). Relies s a (IsCharged t w ps ds x (k + 1) got) old new) (sym f) (subst (λ (x : ℤ). Relies s a (IsCharged t w ps ds need (k + 1) x) old new) (sym g) b)
 

@@ -18,7 +18,7 @@ use Rattle.cps_propagate.specs.Strength.{EndsAfter, IsCovering, IsLeastNow, IsLo
 use Rattle.cps_rule.specs.Rules.{IsAtRest, IsImpossible}
 use Rattle.cps_p_cumulative.specs.declared.resource.Resource.{Resource}
 use Rattle.cps_p_cumulative.specs.declared.part.Part.{Part}
-use Rattle.cps_p_cumulative.specs.Profile.{IsRoomy, IsOver}
+use Rattle.cps_p_cumulative.specs.Profile.{FitsCapacity, IsOverCapacity}
 use Rattle.cps_p_cumulative.specs.Running.{is_running, demand_of, demands_at, AreSome, IsResourceOf, body_of}
 use Rattle.cps_p_cumulative.specs.Measuring.{IsProfile}
 use Rattle.cps_p_cumulative.proofs.Running.{demands-cons, demand-runs, demand-rests, runs_of}
@@ -134,7 +134,7 @@ some_of s ds inside fit xs admitted = λ k d l.
     fit k d l (value_at xs i) (admits-within s.first s.entries i (value_at xs i) (admitted i (inside k d l)))
 
 -- parts that leave no room
-pub impossible : (s : Trail) (r : Resource) (parts : List Part) (most : ℕ) (t : ℤ) → IsResourceOf s.first r → IsProfile s r.spans r.demands parts → IsOver parts most t → ((x : ℤ) → IsOpenTo s r.capacity x → x ≤ℤ pos most)
+pub impossible : (s : Trail) (r : Resource) (parts : List Part) (most : ℕ) (t : ℤ) → IsResourceOf s.first r → IsProfile s r.spans r.demands parts → IsOverCapacity parts most t → ((x : ℤ) → IsOpenTo s r.capacity x → x ≤ℤ pos most)
     → All (IsNeverNegative s.first) r.demands → IsImpossible (body_of r) s
 impossible s r parts most t inside profile over greatest fit = record {
   at = λ xs admitted holds.
@@ -147,8 +147,8 @@ impossible s r parts most t inside profile over greatest fit = record {
 
 -- the same, by what the code reads
 pub impossible-of : (s : Trail) (r : Resource) (ps : List Span) (ds : List ℕ) (parts room : List Part) (n : ℕ) (most t : ℤ) (found : Option ℤ) → IsResourceOf s.first r → ps ≡ r.spans → ds ≡ r.demands → parts ≡ room → IsProfile s ps ds room
-    → found ≡ Some t → MatchOption found (IsRoomy parts n) (λ u. IsOver parts n u) → pos n ≡ most → ((x : ℤ) → IsOpenTo s r.capacity x → x ≤ℤ most) → All (IsNeverNegative s.first) r.demands → IsImpossible (body_of r) s
+    → found ≡ Some t → MatchOption found (FitsCapacity parts n) (λ u. IsOverCapacity parts n u) → pos n ≡ most → ((x : ℤ) → IsOpenTo s r.capacity x → x ≤ℤ most) → All (IsNeverNegative s.first) r.demands → IsImpossible (body_of r) s
 impossible-of s r ps ds parts room n most t None inside a b d profile is over low up fit = cc
 impossible-of s r ps ds parts room n most t (Some u) inside a b d profile is over low up fit =
     let q : IsProfile s r.spans r.demands room = subst (λ (es : List ℕ). IsProfile s r.spans es room) b (subst (λ (qs : List Span). IsProfile s qs ds room) a profile) in
-    impossible s r room n u inside q (subst (λ (rs : List Part). IsOver rs n u) d over) (λ x o. (let e = up x o in omega (arith, ints))) fit
+    impossible s r room n u inside q (subst (λ (rs : List Part). IsOverCapacity rs n u) d over) (λ x o. (let e = up x o in omega (arith, ints))) fit

@@ -10,7 +10,7 @@ use Rattle.std.proofs.lemmas.List.Sums.{sum_by-cons, sum_by-take-drop, sum_by-ta
 use Rattle.std.proofs.lemmas.List.Sorted.{sum_by-IsPermutation, All-permutation}
 use Rattle.cps_domain.proofs.Tests.{true_le, le_true, false_le, le_false}
 use Rattle.cps_p_cumulative.specs.declared.part.Part.{Part}
-use Rattle.cps_p_cumulative.specs.Profile.{at, height, AreParts, IsRoomy, Passes, IsSweptAt, IsSwept}
+use Rattle.cps_p_cumulative.specs.Profile.{at, height, AreParts, FitsCapacity, PassesEnds, IsSweptAt, IsSwept}
 use Rattle.cps_p_cumulative.specs.declared.judge.Ended.{Ended}
 
 -- what a part demands if it began by a time, and if it ended by it
@@ -107,8 +107,8 @@ ended_sum t ps d n h =
         let P : Part → Type 0 = λ q. demand q ≤ ended t q in
         subst P (sym (get_or-take n ps k d k')) (has_ended t (get_or ps k d) (h k k'))
 
-pub IsRoomy-swept : (ps starts ends : List Part) (capacity : ℕ) (d : Part) → AreParts ps → IsPermutation ps starts → IsPermutation ps ends → IsSwept starts ends capacity → IsRoomy ps capacity
-IsRoomy-swept ps starts ends capacity d parts s e swept = record {
+pub FitsCapacity-swept : (ps starts ends : List Part) (capacity : ℕ) (d : Part) → AreParts ps → IsPermutation ps starts → IsPermutation ps ends → IsSwept starts ends capacity → FitsCapacity ps capacity
+FitsCapacity-swept ps starts ends capacity d parts s e swept = record {
   room = λ t.
       let a = sum_by-IsPermutation (begun t) ps starts s in
       let b = sum_by-IsPermutation (ended t) ps ends e in
@@ -183,8 +183,8 @@ there_too t u p l h = elim (test (int_le p.from t)) [
     began t u p l b = grind (arith, ints)
 
 -- where each start is tried, no time is overloaded: a time has no more than the greatest start by it
-pub IsRoomy-tried : (ps : List Part) (capacity : ℕ) (d : Part) → ((k : ℕ) → k < length ps → height (get_or ps k d).from ps ≤ capacity) → IsRoomy ps capacity
-IsRoomy-tried ps capacity d tried = record {
+pub FitsCapacity-tried : (ps : List Part) (capacity : ℕ) (d : Part) → ((k : ℕ) → k < length ps → height (get_or ps k d).from ps ≤ capacity) → FitsCapacity ps capacity
+FitsCapacity-tried ps capacity d tried = record {
   room = λ t. elim (greatest_begun t ps d (length ps)) [
     | inr none ↦
         let a = no_more (at t) zero_of ps d (λ k l. not_there t (get_or ps k d) (none k l)) in
@@ -229,7 +229,7 @@ tried_more ps capacity k c l here before j d i = elim (last_or j k i) [
 ]
 
 -- what is demanded after a start, by what began and what ended
-pub carries : (starts ends : List Part) (k : ℕ) (d : Part) (old new : Ended) → k < length starts → old.level + sum_by (λ p. p.demand) (take old.place ends) ≡ sum_by (λ p. p.demand) (take k starts) → Passes ends old new
+pub carries : (starts ends : List Part) (k : ℕ) (d : Part) (old new : Ended) → k < length starts → old.level + sum_by (λ p. p.demand) (take old.place ends) ≡ sum_by (λ p. p.demand) (take k starts) → PassesEnds ends old new
     → (new.level + (get_or starts k d).demand) + sum_by (λ p. p.demand) (take new.place ends) ≡ sum_by (λ p. p.demand) (take (k + 1) starts)
 carries starts ends k d old new l before passes =
     let a = passes.level in

@@ -124,7 +124,7 @@ MayBe s t m true = MayHaveActed s t m.time m.active
 MayBe s t m false = MayHaveRested s t m.time m.active
 
 -- whether an event has taken place by a time, wherever its subjects may be now
-pub record IsSure (s : Trail) (t : ℤ) (m : Move) (v : Bool) : Type 0 where
+pub record IsMoveSure (s : Trail) (t : ℤ) (m : Move) (v : Bool) : Type 0 where
   pub sure : (xs : List ℤ) → AreOpen s xs (move_subjects m) → has_acted xs t m ≡ v
   pub may : MayBe s t m v
 

@@ -10,7 +10,7 @@ use Rattle.cps_p_cumulative.specs.Running.{demand_of, demands_at, AreSome}
 
 -- A part demands at each time what its span surely demands there: no less, and, where the demand is not negative, no
 -- more than the span does at any values that are left.
-pub record IsMeasured (s : Trail) (p : Span) (d : ℕ) (part : Part) : Type 0 where
+pub record IsPartMeasured (s : Trail) (p : Span) (d : ℕ) (part : Part) : Type 0 where
   pub whole : (t m : ℤ) → IsCovering s t p → IsLeastNow s d m → m ≤ℤ pos (at t part)
   pub sound : (t : ℤ) (xs : List ℤ) → IsAdmitted s.first s.entries xs → pos 0 ≤ℤ value_at xs d
       → pos (at t part) ≤ℤ demand_of xs t p d

@@ -22,11 +22,11 @@ pub record AreParts (ps : List Part) : Type 0 where
   pub small : All (λ p. p.demand < 2 ^ 63) ps
 
 -- at no time the parts demand more than the capacity
-pub record IsRoomy (ps : List Part) (capacity : ℕ) : Type 0 where
+pub record FitsCapacity (ps : List Part) (capacity : ℕ) : Type 0 where
   pub room : (t : ℤ) → height t ps ≤ capacity
 
 -- at this time they do
-pub record IsOver (ps : List Part) (capacity : ℕ) (t : ℤ) : Type 0 where
+pub record IsOverCapacity (ps : List Part) (capacity : ℕ) (t : ℤ) : Type 0 where
   pub over : capacity < height t ps
 
 -- the first ends that a sweep passed lie at a time or before
@@ -35,7 +35,7 @@ pub record IsEndedBy (ends : List Part) (e : Ended) (t : ℤ) : Type 0 where
   pub passed : (j : ℕ) (d : Part) → j < e.place → (slice_index_or ends j d).to ≤ℤ t
 
 -- what is demanded falls by what the passed ends demanded
-pub record Passes (ends : List Part) (old new : Ended) : Type 0 where
+pub record PassesEnds (ends : List Part) (old new : Ended) : Type 0 where
   pub level : new.level + sum_by (λ p. p.demand) (take new.place ends)
       ≡ old.level + sum_by (λ p. p.demand) (take old.place ends)
   pub less : new.level ≤ old.level

@@ -49,13 +49,13 @@ pub record IsClaim (t w : ℤ) (far : Option ℤ) (claim : Claim) : Type 0 where
   pub some : pos 0 ≤ℤ claim.demand
 
 -- a span is present, starts by one time and ends after another
-pub record IsBetween (latest after : ℤ) (p : Span) (xs : List ℤ) : Type 0 where
+pub record IsActiveBetween (latest after : ℤ) (p : Span) (xs : List ℤ) : Type 0 where
   pub present : list_all (atom_holds xs) p.presence ≡ true
   pub started : value_at xs p.start ≤ℤ latest
   pub later : after <ℤ span_end xs p.start p.end p.length
 
 -- a span uses of the times what was taken from what is left, or more
-pub record IsTaken (t w : ℤ) (p : Span) (d : ℕ) (left after : ℤ) (xs : List ℤ) : Type 0 where
+pub record IsEnergyTaken (t w : ℤ) (p : Span) (d : ℕ) (left after : ℤ) (xs : List ℤ) : Type 0 where
   pub used : (left -ℤ after) ≤ℤ energy_of xs t (unsigned_abs w) p d
 
 -- what was taken of a need, and what the spans from a place on use of the times, is no more than all use

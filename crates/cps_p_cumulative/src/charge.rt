@@ -12,7 +12,7 @@ ghost use Rattle.cps_trail.specs.Trail.{IsInside};
 ghost use Rattle.cps_instance.specs.Tasks.{HoldsBody};
 ghost use Rattle.cps_rule.specs.Rules.{AreFacts};
 ghost use Rattle.cps_p_cumulative.specs.Running.{IsSpanOf, IsResourceOf, body_of, energies};
-ghost use Rattle.cps_p_cumulative.specs.Relying.{Relies, IsBound, IsLater, IsStay, IsClaim, IsBetween, IsTaken};
+ghost use Rattle.cps_p_cumulative.specs.Relying.{Relies, IsBound, IsLater, IsStay, IsClaim, IsActiveBetween, IsEnergyTaken};
 
 use crate::resource::Resource;
 use crate::segments::time_of;
@@ -155,7 +155,7 @@ fn rely_run(
     requires span { IsSpanOf past.now.first span.now }
     requires facts { AreFacts past.now facts.old.items }
     ensures { result ≡ Ok true → Relies past.now case.assumed
-        (IsBetween stay.latest stay.after span.now) facts.old.items facts.new.items }
+        (IsActiveBetween stay.latest stay.after span.now) facts.old.items facts.new.items }
 {
     let Some(last) = later(stay.after, span) else {
         return Ok(false);
@@ -344,7 +344,7 @@ fn charge_one(
     ensures falls { (after : ℤ) → result ≡ Ok (Some after) → (pos 0 ≤ℤ after) × (after ≤ℤ left) }
     ensures charged { (after : ℤ) → result ≡ Ok (Some after)
         → Relies past.now case.assumed
-        (IsTaken case.time case.width load.now.span.now load.now.demand left after) facts.old.items facts.new.items }
+        (IsEnergyTaken case.time case.width load.now.span.now load.now.demand left after) facts.old.items facts.new.items }
 {
     let span = load.span;
     let demand = load.demand;

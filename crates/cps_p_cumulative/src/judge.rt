@@ -5,7 +5,7 @@
 //! the sweep names a time, the demands at it are summed again before it is used; should that not confirm it, each start
 //! is tried.
 ghost use Rattle.std.specs.Prelude.{◌≡◌, ◌<◌, ◌≤◌, ◌^◌, None, MatchOption, IfOk, IsTrue, false};
-ghost use Rattle.cps_p_cumulative.specs.Profile.{height, AreParts, IsRoomy, IsOver, IsEndedBy, Passes, IsSwept};
+ghost use Rattle.cps_p_cumulative.specs.Profile.{height, AreParts, FitsCapacity, IsOverCapacity, IsEndedBy, PassesEnds, IsSwept};
 
 use crate::part::{Part, demand_at};
 use std::alloc::{AllocError, Global};
@@ -14,7 +14,7 @@ use std::alloc::{AllocError, Global};
 fn is_over(time: i64, parts: &[Part], capacity: u64) -> bool
     requires parts { AreParts parts.now }
     requires capacity { capacity < 2 ^ 63 }
-    ensures over { IsTrue result → IsOver parts.now capacity time }
+    ensures over { IsTrue result → IsOverCapacity parts.now capacity time }
     ensures room { result ≡ false → height time parts.now ≤ capacity }
 {
     let mut sum: u64 = 0;
@@ -31,7 +31,7 @@ fn is_over(time: i64, parts: &[Part], capacity: u64) -> bool
 fn scan(parts: &[Part], capacity: u64) -> Option<i64>
     requires parts { AreParts parts.now }
     requires capacity { capacity < 2 ^ 63 }
-    ensures { MatchOption result (IsRoomy parts.now capacity) (λ time. IsOver parts.now capacity time) }
+    ensures { MatchOption result (FitsCapacity parts.now capacity) (λ time. IsOverCapacity parts.now capacity time) }
 {
     for part in parts {
         let time = part.from;
@@ -49,11 +49,11 @@ pub(crate) struct Ended {
     pub(crate) level: u64,
 }
 
-/// Passes each end at a time or before.
+/// PassesEnds each end at a time or before.
 fn pass_ends(time: i64, ends: &[Part], ended: Ended) -> Ended
     requires before { IsEndedBy ends.now ended time }
     ensures ended { IsEndedBy ends.now result time }
-    ensures passes { Passes ends.now ended result }
+    ensures passes { PassesEnds ends.now ended result }
 {
     let mut place = ended.place;
     let mut level = ended.level;
@@ -117,8 +117,8 @@ pub(crate) fn overload(
 ) -> Result<Option<i64>, AllocError>
     requires parts { AreParts parts.now }
     requires capacity { capacity < 2 ^ 63 }
-    ensures { IfOk result (λ found. MatchOption found (IsRoomy parts.now capacity)
-        (λ time. IsOver parts.now capacity time)) }
+    ensures { IfOk result (λ found. MatchOption found (FitsCapacity parts.now capacity)
+        (λ time. IsOverCapacity parts.now capacity time)) }
 {
     orders.starts.clear();
     orders.starts.extend_from_slice(parts)?;

@@ -6,7 +6,7 @@
 //! every time. Before any event the level is 0, which lies between the limits.
 ghost use Rattle.std.specs.Prelude.{◌≡◌, ◌≤◌, ◌<◌, ◌^◌, ◌-◌, ◌+ℤ◌, unsigned_abs, length, false, true, IsTrue, IfSome, None};
 ghost use Rattle.cps_rule.specs.Rules.{IsImpossible, IsAtRest};
-ghost use Rattle.cps_p_cumulative.specs.Levels.{IsMoveOf, IsTankOf, IsShare, IsLevel, IsSure, IsSureFixed, IsLeastToward, AllowsZero, HasRoomAfter, moves_of, tank_body};
+ghost use Rattle.cps_p_cumulative.specs.Levels.{IsMoveOf, IsTankOf, IsShare, IsLevel, IsMoveSure, IsSureFixed, IsLeastToward, AllowsZero, HasRoomAfter, moves_of, tank_body};
 
 use crate::tank::{Move, Side, Tank, toward};
 use cps_literal::Truth;
@@ -28,7 +28,7 @@ fn least_toward(past: &Before, side: Side, change: u32) -> i128
 /// Whether an event has surely taken place by a time.
 pub(crate) fn has_surely_acted(past: &Before, time: i64, event: &Move) -> bool
     requires { IsMoveOf past.now.first event.now }
-    ensures yes { IsTrue result → IsSure past.now time event.now true }
+    ensures yes { IsTrue result → IsMoveSure past.now time event.now true }
     ensures no { result ≡ false → IsSureFixed past.now time event.now false }
 {
     if time < past.ends(event.time).1 {
@@ -46,7 +46,7 @@ pub(crate) fn has_surely_acted(past: &Before, time: i64, event: &Move) -> bool
 /// Whether an event may have taken place by a time.
 pub(crate) fn may_have_acted(past: &Before, time: i64, event: &Move) -> bool
     requires { IsMoveOf past.now.first event.now }
-    ensures no { result ≡ false → IsSure past.now time event.now false }
+    ensures no { result ≡ false → IsMoveSure past.now time event.now false }
     ensures yes { IsTrue result → IsSureFixed past.now time event.now true }
 {
     if time < past.ends(event.time).0 {

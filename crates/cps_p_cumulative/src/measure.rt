@@ -4,7 +4,7 @@ ghost use Rattle.cps_instance.specs.Tasks.{span_subjects};
 ghost use Rattle.cps_trail.specs.Trail.{IsTrueNow};
 ghost use Rattle.cps_propagate.specs.Strength.{EndsAfter};
 ghost use Rattle.cps_p_cumulative.specs.Running.{IsSpanOf};
-ghost use Rattle.cps_p_cumulative.specs.Measuring.{IsMeasured, IsProfile};
+ghost use Rattle.cps_p_cumulative.specs.Measuring.{IsPartMeasured, IsProfile};
 
 use crate::part::Part;
 use cps_instance::Span;
@@ -43,7 +43,7 @@ pub(crate) fn least_end(past: &Before, span: &Span) -> i128
 fn part_of(past: &Before, span: &Span, demand: u32) -> Part
     requires span { IsSpanOf past.now.first span.now }
     requires demand { demand < length past.now.first }
-    ensures { IsMeasured past.now span.now demand result }
+    ensures { IsPartMeasured past.now span.now demand result }
 {
     let from = past.ends(span.start).1;
     let to = least_end(past, span);

@@ -5,11 +5,11 @@ use Rattle.cps_instance.specs.declared.term.Term.{Term}
 use Rattle.cps_trail.specs.Trail.{Trail}
 use Rattle.cps_p_linear.specs.declared.ends.Ends.{Ends}
 use Rattle.cps_p_linear.specs.declared.ends.Spread.{Spread}
-use Rattle.cps_p_linear.specs.Ends.{AreHulls, AreSumEnds, IsNoWider}
+use Rattle.cps_p_linear.specs.Ends.{AreTightEnds, AreSumEnds, IsNoWider}
 
 -- the ends of the sum, by the ends that the values of each subject reach, and a width that no term goes beyond
 pub record IsSpread (s : Trail) (ts : List Term) (whole : Spread) : Type 0 where
   pub values : List Ends
-  pub hulls : AreHulls s ts values
+  pub hulls : AreTightEnds s ts values
   pub ends : AreSumEnds ts values whole.sum
   pub widths : AllZip (IsNoWider whole.widest) ts values

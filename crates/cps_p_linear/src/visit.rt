@@ -7,8 +7,8 @@ ghost use Rattle.cps_trail.specs.Adds.{Infers, Answers};
 ghost use Rattle.cps_trail.specs.Notes.{ByTask};
 ghost use Rattle.cps_propagate.specs.Conflicts.{as_step};
 ghost use Rattle.cps_p_linear.specs.Measuring.{Asks};
-ghost use Rattle.cps_p_linear.specs.Passing.{IsInRange};
-ghost use Rattle.cps_p_linear.specs.Force.{AreNegatable, IsOpenAt, IsAside, IsSumSettled};
+ghost use Rattle.cps_p_linear.specs.Passing.{IsSumInRange};
+ghost use Rattle.cps_p_linear.specs.Force.{CanNegateEach, IsOneOpen, IsSumBlocked, IsSumSettled};
 
 use crate::ends::spread_now;
 use crate::force::{Force, force_of};
@@ -21,12 +21,12 @@ use std::alloc::AllocError;
 
 /// Makes the one open enforcement atom false if no admitted sum lies between the sum's ends.
 fn disable(number: u32, store: &mut Store, task: &SumTask, place: usize) -> Result<(), AllocError>
-    requires range { IsInRange store.old.first task.now.terms.now task.now.admitted.now }
-    requires negatable { AreNegatable store.old.first task.now.enforcement.now }
-    requires open { IsOpenAt store.old task.now.enforcement.now place }
+    requires range { IsSumInRange store.old.first task.now.terms.now task.now.admitted.now }
+    requires negatable { CanNegateEach store.old.first task.now.enforcement.now }
+    requires open { IsOneOpen store.old task.now.enforcement.now place }
     ensures infers { OnOk result (Infers (ByTask number (Asks task.now)) store.old store.new) }
     ensures aside { OnOk result
-        (IsAside store.new task.now.enforcement.now place task.now.terms.now task.now.admitted.now) }
+        (IsSumBlocked store.new task.now.enforcement.now place task.now.terms.now task.now.admitted.now) }
 {
     let whole = spread_now(store, task.terms);
     match task.admitted.between(&whole.sum) {
@@ -58,8 +58,8 @@ pub(crate) fn visit(
     task: &SumTask,
     scratch: &mut Scratch,
 ) -> Result<Answer, AllocError>
-    requires range { IsInRange store.old.first task.now.terms.now task.now.admitted.now }
-    requires negatable { AreNegatable store.old.first task.now.enforcement.now }
+    requires range { IsSumInRange store.old.first task.now.terms.now task.now.admitted.now }
+    requires negatable { CanNegateEach store.old.first task.now.enforcement.now }
     ensures infers { OnOk result (Infers (ByTask number (Asks task.now)) store.old store.new) }
     ensures answers { IfOk result (λ answer.
         Answers (Asks task.now) store.new (as_step answer scratch.new.facts.reason.items)) }

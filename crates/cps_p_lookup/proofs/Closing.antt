@@ -8,7 +8,7 @@ use Rattle.cps_literal.specs.declared.atom.Op.TheVariants.{Ne}
 use Rattle.cps_literal.specs.Truth.{value_at, atom_holds}
 use Rattle.cps_trail.specs.Trail.{Trail}
 use Rattle.cps_rule.specs.Facts.{Adds}
-use Rattle.cps_p_lookup.specs.Elements.{Closes, IsMoved}
+use Rattle.cps_p_lookup.specs.Elements.{Closes, IsAtomMoved}
 use Rattle.cps_p_lookup.proofs.Growing.{adds_grows, adds_holds}
 
 both_not : (b : Bool) → b ≡ true → b ≡ false → ⊥
@@ -21,7 +21,7 @@ off_not : (a v : ℤ) → not (equals a v) ≡ true → a ≡ v → ⊥
 off_not a v h e = both_not (not (equals a v)) h (ap not (ap (λ w. equals w v) e ∙ equals_self v))
 
 -- an atom of the other side gives it
-pub closes_moved : (s : Trail) (i t e k : ℕ) (goal u : Atom) (old new : List Atom) → IsMoved e t goal u → Adds s u old new → Closes s i t e k (Some goal) old new
+pub closes_moved : (s : Trail) (i t e k : ℕ) (goal u : Atom) (old new : List Atom) → IsAtomMoved e t goal u → Adds s u old new → Closes s i t e k (Some goal) old new
 closes_moved s i t e k goal u old new m a = record {
   grows = adds_grows s u old new a;
   closed = record { at = λ xs all c deny. both_not (atom_holds xs goal) (m.at xs c.same (adds_holds s u old new a xs all)) deny };

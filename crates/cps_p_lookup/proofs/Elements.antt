@@ -15,8 +15,8 @@ use Rattle.cps_trail.specs.Trail.{Trail, Domains, IsAdmitted}
 use Rattle.cps_propagate.specs.Now.{IsOpenTo, IsFixedNow, AreOpen}
 use Rattle.cps_rule.specs.Rules.{IsFittingRule, IsGiven, IsImpossible, IsAtRest, AllTrueAt, AreFacts}
 use Rattle.cps_p_lookup.specs.declared.places.Scan.{Scan}
-use Rattle.cps_rule.specs.Facts.{Gives, Denied}
-use Rattle.cps_p_lookup.specs.Elements.{IsFit, IsChosen, IsScanned}
+use Rattle.cps_rule.specs.Facts.{GivesGoal, Denied}
+use Rattle.cps_p_lookup.specs.Elements.{IsFitElement, IsChosen, IsScanned}
 
 item_place : (v x : ℤ) (ns : List ℤ) → item_at ns v ≡ Some x → (k : ℕ) × (v ≡ pos k) × (slice_get ns k ≡ Some x)
 item_place (pos k) x ns e = (k, refl, e)
@@ -41,7 +41,7 @@ chosen i t es xs holds =
 pub chosen_holds : (i t : ℕ) (es : List ℕ) (xs : List ℤ) (k : ℕ) → k < length es → IsChosen i t (get_or es k 0) k xs → HoldsBody (Element i t es) xs
 chosen_holds i t es xs k l c = subst (λ (v : ℤ). item_at (values_at xs es) v ≡ Some (value_at xs t)) (sym c.index) (gets xs es k (value_at xs t) l c.same)
 
-pub fit_of : (first : Domains) (i t : ℕ) (es : List ℕ) → IsFittingRule first (Element i t es) → IsFit first i t es
+pub fit_of : (first : Domains) (i t : ℕ) (es : List ℕ) → IsFittingRule first (Element i t es) → IsFitElement first i t es
 fit_of first i t es f =
     let P : ℕ → Type 0 = λ e. e < length first in
     record {
@@ -65,22 +65,22 @@ pub le_holds : (xs : List ℤ) (u : Atom) (t : ℕ) (high : ℤ) → u ≡ recor
 le_holds xs u t high e l = subst (λ (w : Atom). atom_holds xs w ≡ true) (sym e) (le_true (value_at xs t) high l)
 
 -- the target lies between the ends of what was counted
-pub target_low : (s : Trail) (i t : ℕ) (es : List ℕ) (scan : Scan) → IsFit s.first i t es → IsScanned s i t es scan → (low : ℤ) → low ≡ scan.least → (u : Atom) → u ≡ record { subject = t; op = Ge; value = low } → IsGiven (Element i t es) s u
+pub target_low : (s : Trail) (i t : ℕ) (es : List ℕ) (scan : Scan) → IsFitElement s.first i t es → IsScanned s i t es scan → (low : ℤ) → low ≡ scan.least → (u : Atom) → u ≡ record { subject = t; op = Ge; value = low } → IsGiven (Element i t es) s u
 target_low s i t es scan f h low is u e = given_by s i t es u (subst (λ n. n < length s.first) (ap (λ (w : Atom). w.subject) (sym e)) f.target) (λ xs k a l c. ge_holds xs u t low e (subst (λ (v : ℤ). v ≤ℤ value_at xs t) (sym is) ((h.seen k l).at xs a c).least))
 
-pub target_high : (s : Trail) (i t : ℕ) (es : List ℕ) (scan : Scan) → IsFit s.first i t es → IsScanned s i t es scan → (high : ℤ) → high ≡ scan.greatest → (u : Atom) → u ≡ record { subject = t; op = Le; value = high } → IsGiven (Element i t es) s u
+pub target_high : (s : Trail) (i t : ℕ) (es : List ℕ) (scan : Scan) → IsFitElement s.first i t es → IsScanned s i t es scan → (high : ℤ) → high ≡ scan.greatest → (u : Atom) → u ≡ record { subject = t; op = Le; value = high } → IsGiven (Element i t es) s u
 target_high s i t es scan f h high is u e = given_by s i t es u (subst (λ n. n < length s.first) (ap (λ (w : Atom). w.subject) (sym e)) f.target) (λ xs k a l c. le_holds xs u t high e (subst (λ (v : ℤ). value_at xs t ≤ℤ v) (sym is) ((h.seen k l).at xs a c).greatest))
 
 -- the expression at the one place that is open has the target's value
 pub same_value : (s : Trail) (i t : ℕ) (es : List ℕ) (scan : Scan) → IsScanned s i t es scan → scan.open ≡ 1 → (xs : List ℤ) (k : ℕ) → IsAdmitted s.first s.entries xs → k < length es → IsChosen i t (get_or es k 0) k xs → value_at xs (get_or es scan.last 0) ≡ value_at xs t
 same_value s i t es scan h one xs k a l c = ap (λ n. value_at xs (get_or es n 0)) (((h.seen k l).at xs a c).alone one) ∙ c.same
 
-pub expr_low : (s : Trail) (i t : ℕ) (es : List ℕ) (scan : Scan) (low : ℤ) → IsFit s.first i t es → IsScanned s i t es scan → scan.open ≡ 1 → scan.last < length es → ((x : ℤ) → IsOpenTo s t x → low ≤ℤ x)
+pub expr_low : (s : Trail) (i t : ℕ) (es : List ℕ) (scan : Scan) (low : ℤ) → IsFitElement s.first i t es → IsScanned s i t es scan → scan.open ≡ 1 → scan.last < length es → ((x : ℤ) → IsOpenTo s t x → low ≤ℤ x)
     → (u : Atom) → u ≡ record { subject = get_or es scan.last 0; op = Ge; value = low } → IsGiven (Element i t es) s u
 expr_low s i t es scan low f h one inside least u e = given_by s i t es u (subst (λ n. n < length s.first) (ap (λ (w : Atom). w.subject) (sym e)) (All-get_or (λ n. n < length s.first) es scan.last 0 inside f.exprs))
     (λ xs k a l c. ge_holds xs u (get_or es scan.last 0) low e (subst (λ (v : ℤ). low ≤ℤ v) (sym (same_value s i t es scan h one xs k a l c)) (least (value_at xs t) (a t f.target))))
 
-pub expr_high : (s : Trail) (i t : ℕ) (es : List ℕ) (scan : Scan) (high : ℤ) → IsFit s.first i t es → IsScanned s i t es scan → scan.open ≡ 1 → scan.last < length es → ((x : ℤ) → IsOpenTo s t x → x ≤ℤ high)
+pub expr_high : (s : Trail) (i t : ℕ) (es : List ℕ) (scan : Scan) (high : ℤ) → IsFitElement s.first i t es → IsScanned s i t es scan → scan.open ≡ 1 → scan.last < length es → ((x : ℤ) → IsOpenTo s t x → x ≤ℤ high)
     → (u : Atom) → u ≡ record { subject = get_or es scan.last 0; op = Le; value = high } → IsGiven (Element i t es) s u
 expr_high s i t es scan high f h one inside most u e = given_by s i t es u (subst (λ n. n < length s.first) (ap (λ (w : Atom). w.subject) (sym e)) (All-get_or (λ n. n < length s.first) es scan.last 0 inside f.exprs))
     (λ xs k a l c. le_holds xs u (get_or es scan.last 0) high e (subst (λ (v : ℤ). v ≤ℤ high) (sym (same_value s i t es scan h one xs k a l c)) (most (value_at xs t) (a t f.target))))
@@ -107,5 +107,5 @@ at_rest s i t es scan h some = record { decided = fixed_holds; strong = tt }
 
 -- facts that close each place
 pub gives_by : (s : Trail) (i t : ℕ) (es : List ℕ) (goal : Option Atom) (facts : List Atom) → AreFacts s facts
-    → ((k : ℕ) → k < length es → (xs : List ℤ) → AllTrueAt xs facts → IsChosen i t (get_or es k 0) k xs → Denied goal xs → ⊥) → Gives (Element i t es) s goal facts
+    → ((k : ℕ) → k < length es → (xs : List ℤ) → AllTrueAt xs facts → IsChosen i t (get_or es k 0) k xs → Denied goal xs → ⊥) → GivesGoal (Element i t es) s goal facts
 gives_by s i t es goal facts are h = record { facts = are; excludes = λ xs within all holds deny. (let c = chosen i t es xs holds in h c.0 c.1 xs all c.2 deny) }

@@ -11,8 +11,8 @@ use Rattle.cps_instance.specs.declared.task.Body.TheVariants.{Table}
 use Rattle.cps_instance.specs.Parts.{values_at}
 use Rattle.cps_trail.specs.Trail.{Trail}
 use Rattle.cps_rule.specs.Rules.{AllTrueAt}
-use Rattle.cps_rule.specs.Facts.{Adds, Grows, Denied, Gives}
-use Rattle.cps_p_lookup.specs.Tabling.{ClosesRow, IsOffBy, IsSure, Holds, AreSure}
+use Rattle.cps_rule.specs.Facts.{Adds, Grows, Denied, GivesGoal}
+use Rattle.cps_p_lookup.specs.Tabling.{ClosesRow, IsOffBy, IsSure, AddsNeededFact, AreSure}
 use Rattle.cps_p_lookup.proofs.Growing.{adds_grows, adds_holds, grows_same, grows_trans, no_facts}
 use Rattle.cps_p_lookup.proofs.Tables.{row_value, same_row, in_table, not_in, row_before}
 
@@ -30,7 +30,7 @@ excluded_more s es values n row goal old new is h c r l xs all e deny = elim (ca
 ]
 
 pub excluded_all : (s : Trail) (es : List ℕ) (values : List ℤ) (n : ℕ) (goal : Option Atom) (none new : List Atom) → 0 < length es → none ≡ [] → Grows s none new → length values / length es ≤ n → ((r : ℕ) → r < n → (xs : List ℤ) → AllTrueAt xs new → values_at xs es ≡ row_at (length es) values r → Denied goal xs → ⊥)
-    → Gives (Table es values false) s goal new
+    → GivesGoal (Table es values false) s goal new
 excluded_all s es values n goal none new p empty grows past h = record {
   facts = grows.facts (no_facts s none empty);
   excludes = λ xs within all holds deny. (let r = in_table xs es values p holds in let b = row_before (length values) (length es) r.0 p r.1 in h r.0 (omega arith) xs all r.2 deny);
@@ -39,16 +39,16 @@ excluded_all s es values n goal none new p empty grows past h = record {
 equals_is : (a b : ℤ) → equals a b ≡ true → a ≡ b
 equals_is a b e = grind (arith, ints)
 
-pub holds_off : (s : Trail) (i : ℕ) (v : ℤ) (goal : Option Atom) (u : Atom) (old : List Atom) → goal ≡ Some u → IsSure i v (Some u) old → Holds s i v goal old old
+pub holds_off : (s : Trail) (i : ℕ) (v : ℤ) (goal : Option Atom) (u : Atom) (old : List Atom) → goal ≡ Some u → IsSure i v (Some u) old → AddsNeededFact s i v goal old old
 holds_off s i v goal u old is h = record { grows = grows_same s old old refl; sure = subst (λ g. IsSure i v g old) (sym is) h }
 
-pub holds_fact : (s : Trail) (i : ℕ) (v : ℤ) (goal : Option Atom) (u : Atom) (old new : List Atom) → u ≡ record { subject = i; op = Eq; value = v } → Adds s u old new → Holds s i v goal old new
+pub holds_fact : (s : Trail) (i : ℕ) (v : ℤ) (goal : Option Atom) (u : Atom) (old new : List Atom) → u ≡ record { subject = i; op = Eq; value = v } → Adds s u old new → AddsNeededFact s i v goal old new
 holds_fact s i v goal u old new is a = record {
   grows = adds_grows s u old new a;
   sure = record { at = λ xs all deny. equals_is (value_at xs i) v (subst (λ (w : Atom). atom_holds xs w ≡ true) is (adds_holds s u old new a xs all)) };
 }
 
-pub sure_more : (s : Trail) (es : List ℕ) (row : List ℤ) (n : ℕ) (goal : Option Atom) (old new : List Atom) → ((k : ℕ) → k < n → IsSure (get_or es k 0) (get_or row k (pos 0)) goal old) → Holds s (get_or es n 0) (get_or row n (pos 0)) goal old new
+pub sure_more : (s : Trail) (es : List ℕ) (row : List ℤ) (n : ℕ) (goal : Option Atom) (old new : List Atom) → ((k : ℕ) → k < n → IsSure (get_or es k 0) (get_or row k (pos 0)) goal old) → AddsNeededFact s (get_or es n 0) (get_or row n (pos 0)) goal old new
     → (k : ℕ) → k < n + 1 → IsSure (get_or es k 0) (get_or row k (pos 0)) goal new
 sure_more s es row n goal old new h a k l = elim (cases_lt k n) [
   | inl before ↦ record { at = λ xs all deny. (h k before).at xs (a.grows.kept xs all) deny }
@@ -56,7 +56,7 @@ sure_more s es row n goal old new h a k l = elim (cases_lt k n) [
 ]
 
 pub sure_gives : (s : Trail) (es : List ℕ) (values : List ℤ) (r : ℕ) (row : List ℤ) (goal : Option Atom) (none new : List Atom) → 0 < length es → (r + 1) * length es ≤ length values → row ≡ row_at (length es) values r → length row ≡ length es → none ≡ [] → AreSure s es row goal none new
-    → Gives (Table es values true) s goal new
+    → GivesGoal (Table es values true) s goal new
 sure_gives s es values r row goal none new p within is long empty h = record {
   facts = h.grows.facts (no_facts s none empty);
   excludes = λ xs in' all holds deny. not_in xs es values r p holds within (same_row xs es row long (λ k l. (h.at k l).at xs all deny) ∙ is);

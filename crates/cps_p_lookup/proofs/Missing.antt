@@ -19,9 +19,9 @@ use Rattle.cps_trail.specs.Trail.{Trail, admits}
 use Rattle.cps_rule.specs.declared.rule.Narrowing.{Narrowing}
 use Rattle.cps_rule.specs.Rules.{IsGiven}
 use Rattle.cps_p_lookup.specs.declared.places.Scan.{Scan}
-use Rattle.cps_p_lookup.specs.Elements.{IsFit, IsScanned}
+use Rattle.cps_p_lookup.specs.Elements.{IsFitElement, IsScanned}
 use Rattle.cps_p_lookup.specs.Tabling.{AreLive}
-use Rattle.cps_p_lookup.specs.Gaps.{Excludes, IsListedAt, AreListed, Lists}
+use Rattle.cps_p_lookup.specs.Gaps.{ExcludesValues, IsListedAt, AreListed, Lists}
 use Rattle.cps_p_lookup.proofs.Elements.{given_by, same_value}
 use Rattle.cps_p_lookup.proofs.Placing.{more_given, not_off, equals_is}
 use Rattle.cps_p_lookup.proofs.Tables.{column_given}
@@ -51,10 +51,10 @@ listed_by_search ns x (Err i) b sorted is bound found =
     no_test : IsTrue b → ⊥
     no_test t = cc
 
-pub excludes_more : (subject : ℕ) (kept : ℤ → Type 0) (old mid new : List Narrowing) (n : Narrowing) (v : ℤ) → Excludes subject kept old mid → new ≡ mid ++ n ∷ [] → n.target ≡ record { subject = subject; op = Ne; value = v } → (kept v → ⊥) → Excludes subject kept old new
+pub excludes_more : (subject : ℕ) (kept : ℤ → Type 0) (old mid new : List Narrowing) (n : Narrowing) (v : ℤ) → ExcludesValues subject kept old mid → new ≡ mid ++ n ∷ [] → n.target ≡ record { subject = subject; op = Ne; value = v } → (kept v → ⊥) → ExcludesValues subject kept old new
 excludes_more subject kept old mid new n v h is at off = record { at = λ body s given all. more_given body s mid new n is (given n.target v at off) (h.at body s given all) }
 
-pub excludes_weaker : (subject : ℕ) (p q : ℤ → Type 0) (old new : List Narrowing) → ((v : ℤ) → q v → p v) → Excludes subject p old new → Excludes subject q old new
+pub excludes_weaker : (subject : ℕ) (p q : ℤ → Type 0) (old new : List Narrowing) → ((v : ℤ) → q v → p v) → ExcludesValues subject p old new → ExcludesValues subject q old new
 excludes_weaker subject p q old new w h = record { at = λ body s given all. h.at body s (λ u v at off. given u v at (λ k. off (w v k))) all }
 
 -- an atom that a subject is not a value holds where the value is another
@@ -81,24 +81,24 @@ column_off s es values rows c listed l f live has u v is off =
     (λ r h. not_off (equals (get_or (row_at (length es) values r) c (pos 0)) v) (λ e. off (subst (λ (x : ℤ). Contains listed x) (equals_is (get_or (row_at (length es) values r) c (pos 0)) v e) h))) rows has))
 
 -- a value that the target has at no place
-pub target_off : (s : Trail) (i t : ℕ) (es : List ℕ) (listed : List ℤ) → IsFit s.first i t es → AreListed s i t es listed → (u : Atom) (v : ℤ) → u ≡ record { subject = t; op = Ne; value = v } → (Contains listed v → ⊥) → IsGiven (Element i t es) s u
+pub target_off : (s : Trail) (i t : ℕ) (es : List ℕ) (listed : List ℤ) → IsFitElement s.first i t es → AreListed s i t es listed → (u : Atom) (v : ℤ) → u ≡ record { subject = t; op = Ne; value = v } → (Contains listed v → ⊥) → IsGiven (Element i t es) s u
 target_off s i t es listed f h u v is off = given_by s i t es u (subst (λ n. n < length s.first) (ap (λ (w : Atom). w.subject) (sym is)) f.target)
     (λ xs k a l c. ne_holds xs u t v is (λ e. off (subst (λ (x : ℤ). Contains listed x) e ((h.at k l).at xs a c))))
 
 -- where one place is open, a value that the expression there has not, or the target
-pub target_beside : (s : Trail) (i t : ℕ) (es : List ℕ) (scan : Scan) (E : Window) → IsFit s.first i t es → IsScanned s i t es scan → scan.open ≡ 1 → scan.last < length es → ((x : ℤ) → contains E x ≡ admits s.first s.entries (get_or es scan.last 0) x)
+pub target_beside : (s : Trail) (i t : ℕ) (es : List ℕ) (scan : Scan) (E : Window) → IsFitElement s.first i t es → IsScanned s i t es scan → scan.open ≡ 1 → scan.last < length es → ((x : ℤ) → contains E x ≡ admits s.first s.entries (get_or es scan.last 0) x)
     → (u : Atom) (v : ℤ) → u ≡ record { subject = t; op = Ne; value = v } → (contains E v ≡ true → ⊥) → IsGiven (Element i t es) s u
 target_beside s i t es scan E f h one inside ofE u v is off = given_by s i t es u (subst (λ n. n < length s.first) (ap (λ (w : Atom). w.subject) (sym is)) f.target)
     (λ xs k a l c. ne_holds xs u t v is (λ e. off (subst (λ (x : ℤ). contains E x ≡ true) (same_value s i t es scan h one xs k a l c ∙ e)
     (ofE (value_at xs (get_or es scan.last 0)) ∙ a (get_or es scan.last 0) (All-get_or (λ n. n < length s.first) es scan.last 0 inside f.exprs)))))
 
-pub expr_beside : (s : Trail) (i t : ℕ) (es : List ℕ) (scan : Scan) (T : Window) → IsFit s.first i t es → IsScanned s i t es scan → scan.open ≡ 1 → scan.last < length es → ((x : ℤ) → contains T x ≡ admits s.first s.entries t x)
+pub expr_beside : (s : Trail) (i t : ℕ) (es : List ℕ) (scan : Scan) (T : Window) → IsFitElement s.first i t es → IsScanned s i t es scan → scan.open ≡ 1 → scan.last < length es → ((x : ℤ) → contains T x ≡ admits s.first s.entries t x)
     → (u : Atom) (v : ℤ) → u ≡ record { subject = get_or es scan.last 0; op = Ne; value = v } → (contains T v ≡ true → ⊥) → IsGiven (Element i t es) s u
 expr_beside s i t es scan T f h one inside ofT u v is off = given_by s i t es u (subst (λ n. n < length s.first) (ap (λ (w : Atom). w.subject) (sym is)) (All-get_or (λ n. n < length s.first) es scan.last 0 inside f.exprs))
     (λ xs k a l c. ne_holds xs u (get_or es scan.last 0) v is (λ e. off (subst (λ (x : ℤ). contains T x ≡ true) (sym (same_value s i t es scan h one xs k a l c) ∙ e) (ofT (value_at xs t) ∙ a t f.target))))
 
 -- the values at places, one place more
-pub lists_none : (s : Trail) (i t : ℕ) (es : List ℕ) (k : ℕ) (I : Window) (values : List ℤ) → IsFit s.first i t es → ((x : ℤ) → contains I x ≡ admits s.first s.entries i x) → contains I (pos k) ≡ false → Lists s i t es k values values
+pub lists_none : (s : Trail) (i t : ℕ) (es : List ℕ) (k : ℕ) (I : Window) (values : List ℤ) → IsFitElement s.first i t es → ((x : ℤ) → contains I x ≡ admits s.first s.entries i x) → contains I (pos k) ≡ false → Lists s i t es k values values
 lists_none s i t es k I values f ofI out = record {
   wider = λ p e h. h;
   here = record {
@@ -112,7 +112,7 @@ lists_none s i t es k I values f ofI out = record {
 pub single_between : (a b x : ℤ) → a ≡ b → a ≤ℤ x → x ≤ℤ b → x ≡ a
 single_between a b x e p q = omega (arith, ints)
 
-pub lists_one : (s : Trail) (i t : ℕ) (es : List ℕ) (k : ℕ) (E : Window) (old new : List ℤ) (v : ℤ) → k < length es → IsFit s.first i t es → ((x : ℤ) → contains E x ≡ admits s.first s.entries (get_or es k 0) x) → ((x : ℤ) → contains E x ≡ true → x ≡ v)
+pub lists_one : (s : Trail) (i t : ℕ) (es : List ℕ) (k : ℕ) (E : Window) (old new : List ℤ) (v : ℤ) → k < length es → IsFitElement s.first i t es → ((x : ℤ) → contains E x ≡ admits s.first s.entries (get_or es k 0) x) → ((x : ℤ) → contains E x ≡ true → x ≡ v)
     → new ≡ old ++ v ∷ [] → Lists s i t es k old new
 lists_one s i t es k E old new v l f ofE one is = record {
   wider = λ p e h. record { at = λ xs a c. subst (λ (ns : List ℤ). Contains ns (value_at xs t)) (sym is) (Contains-append_left old (v ∷ []) (value_at xs t) (h.at xs a c)) };

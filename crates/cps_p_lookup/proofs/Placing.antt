@@ -18,8 +18,8 @@ use Rattle.cps_rule.specs.declared.rule.Narrowing.{Narrowing}
 use Rattle.cps_rule.specs.Rules.{IsFittingRule, IsGiven, AllTrueAt, AreFacts}
 use Rattle.cps_p_lookup.specs.declared.places.Scan.{Scan}
 use Rattle.cps_p_lookup.specs.Facts.{AddsWhere}
-use Rattle.cps_rule.specs.Facts.{Grows, Gives}
-use Rattle.cps_p_lookup.specs.Elements.{IsFit, IsChosen, IsCovered, IsSeenAt, IsLastOpen, IsVisited, IsClosed, Closes, IsLeft, MayMeet}
+use Rattle.cps_rule.specs.Facts.{Grows, GivesGoal}
+use Rattle.cps_p_lookup.specs.Elements.{IsFitElement, IsChosen, IsCovered, IsSeenAt, IsLastOpen, IsPlaceVisited, IsClosed, Closes, IsLeft, MayMeet}
 use Rattle.cps_p_lookup.proofs.Growing.{grows_trans}
 use Rattle.cps_p_lookup.proofs.Elements.{fit_of, given_by, gives_by, ge_holds, le_holds}
 
@@ -27,13 +27,13 @@ pub more_given : (body : Body) (s : Trail) (old new : List Narrowing) (n : Narro
 more_given body s old new n is g h = subst (λ (ns : List Narrowing). All (λ m. IsGiven body s m.target) ns) (sym is) (All-push (λ m. IsGiven body s m.target) old n h g)
 
 -- a place at which the two domains are apart is not chosen
-pub apart_not : (s : Trail) (i t : ℕ) (es : List ℕ) (k : ℕ) (E T : Window) → k < length es → IsFit s.first i t es → ((x : ℤ) → contains E x ≡ admits s.first s.entries (get_or es k 0) x) → ((x : ℤ) → contains T x ≡ admits s.first s.entries t x)
+pub apart_not : (s : Trail) (i t : ℕ) (es : List ℕ) (k : ℕ) (E T : Window) → k < length es → IsFitElement s.first i t es → ((x : ℤ) → contains E x ≡ admits s.first s.entries (get_or es k 0) x) → ((x : ℤ) → contains T x ≡ admits s.first s.entries t x)
     → ((x : ℤ) → contains E x ≡ true → contains T x ≡ true → ⊥) → (xs : List ℤ) → IsAdmitted s.first s.entries xs → IsChosen i t (get_or es k 0) k xs → ⊥
 apart_not s i t es k E T l f ofE ofT apart xs a c =
     let e = get_or es k 0 in
     apart (value_at xs e) (ofE (value_at xs e) ∙ a e (All-get_or (λ n. n < length s.first) es k 0 l f.exprs)) (ofT (value_at xs e) ∙ ap (λ v. admits s.first s.entries t v) c.same ∙ a t f.target)
 
-pub visited_none : (s : Trail) (i t : ℕ) (es : List ℕ) (k : ℕ) (scan : Scan) → ((xs : List ℤ) → IsAdmitted s.first s.entries xs → IsChosen i t (get_or es k 0) k xs → ⊥) → IsVisited s i t es k scan scan
+pub visited_none : (s : Trail) (i t : ℕ) (es : List ℕ) (k : ℕ) (scan : Scan) → ((xs : List ℤ) → IsAdmitted s.first s.entries xs → IsChosen i t (get_or es k 0) k xs → ⊥) → IsPlaceVisited s i t es k scan scan
 visited_none s i t es k scan h = record { wider = λ p v w. w; here = record { at = λ xs a c. absurd (h xs a c) }; last = λ l. l }
 
 pub equals_is : (a b : ℤ) → equals a b ≡ true → a ≡ b
@@ -47,14 +47,14 @@ same_place : (j k : ℕ) (v : ℤ) → v ≡ pos j → v ≡ pos k → j ≡ k
 same_place j k v p q = let e : pos j ≡ pos k = sym p ∙ q in cc
 
 -- the index is off a place that is not chosen
-pub off_given : (s : Trail) (i t : ℕ) (es : List ℕ) (k : ℕ) (u : Atom) → u ≡ record { subject = i; op = Ne; value = pos k } → IsFit s.first i t es
+pub off_given : (s : Trail) (i t : ℕ) (es : List ℕ) (k : ℕ) (u : Atom) → u ≡ record { subject = i; op = Ne; value = pos k } → IsFitElement s.first i t es
     → ((xs : List ℤ) → IsAdmitted s.first s.entries xs → IsChosen i t (get_or es k 0) k xs → ⊥) → IsGiven (Element i t es) s u
 off_given s i t es k u is f h = given_by s i t es u (subst (λ n. n < length s.first) (ap (λ (w : Atom). w.subject) (sym is)) f.index)
     (λ xs j a l c. subst (λ (w : Atom). atom_holds xs w ≡ true) (sym is) (not_off (equals (value_at xs i) (pos k)) (λ e. h xs a
     (subst (λ n. IsChosen i t (get_or es n 0) n xs) (same_place j k (value_at xs i) c.index (equals_is (value_at xs i) (pos k) e)) c))))
 
 -- a place at which the two domains may meet is counted
-pub here_seen : (s : Trail) (i t : ℕ) (es : List ℕ) (k : ℕ) (E : Window) (low high p q : ℤ) (new : Scan) → k < length es → IsFit s.first i t es → ((x : ℤ) → contains E x ≡ admits s.first s.entries (get_or es k 0) x)
+pub here_seen : (s : Trail) (i t : ℕ) (es : List ℕ) (k : ℕ) (E : Window) (low high p q : ℤ) (new : Scan) → k < length es → IsFitElement s.first i t es → ((x : ℤ) → contains E x ≡ admits s.first s.entries (get_or es k 0) x)
     → ((x : ℤ) → contains E x ≡ true → low ≤ℤ x) → ((x : ℤ) → contains E x ≡ true → x ≤ℤ high) → p ≡ low → q ≡ high → ((v : ℤ) → p ≤ℤ v → v ≤ℤ q → IsCovered k new v) → IsSeenAt s i t (get_or es k 0) k new
 here_seen s i t es k E low high p q new l f ofE least greatest isp isq here = record {
   at = λ xs a c.
@@ -72,10 +72,10 @@ open_last s i t es k I E T new l is ofI ofE ofT has meet = record {
 }
 
 -- the index lies among the places
-pub index_low : (s : Trail) (i t : ℕ) (es : List ℕ) → IsFit s.first i t es → (u : Atom) → u ≡ record { subject = i; op = Ge; value = pos 0 } → IsGiven (Element i t es) s u
+pub index_low : (s : Trail) (i t : ℕ) (es : List ℕ) → IsFitElement s.first i t es → (u : Atom) → u ≡ record { subject = i; op = Ge; value = pos 0 } → IsGiven (Element i t es) s u
 index_low s i t es f u e = given_by s i t es u (subst (λ n. n < length s.first) (ap (λ (w : Atom). w.subject) (sym e)) f.index) (λ xs k a l c. ge_holds xs u i (pos 0) e (let is = c.index in omega (arith, ints, is)))
 
-pub index_high : (s : Trail) (i t : ℕ) (es : List ℕ) → IsFit s.first i t es → (high : ℤ) → high ≡ pos (length es - 1) → (u : Atom) → u ≡ record { subject = i; op = Le; value = high } → IsGiven (Element i t es) s u
+pub index_high : (s : Trail) (i t : ℕ) (es : List ℕ) → IsFitElement s.first i t es → (high : ℤ) → high ≡ pos (length es - 1) → (u : Atom) → u ≡ record { subject = i; op = Le; value = high } → IsGiven (Element i t es) s u
 index_high s i t es f high is u e = given_by s i t es u (subst (λ n. n < length s.first) (ap (λ (w : Atom). w.subject) (sym e)) f.index) (λ xs k a l c. le_holds xs u i high e (let at = c.index in omega (arith, ints, at, is)))
 
 pub last_none : (s : Trail) (i t : ℕ) (es : List ℕ) (scan : Scan) → scan.open ≡ 0 → IsLastOpen s i t es scan
@@ -84,7 +84,7 @@ last_none s i t es scan none = record { place = λ z. absurd (omega arith); inde
 pub seen_wider : (s : Trail) (i t e k : ℕ) (old new : Scan) → ((p : ℕ) (v : ℤ) → IsCovered p old v → IsCovered p new v) → IsSeenAt s i t e k old → IsSeenAt s i t e k new
 seen_wider s i t e k old new w h = record { at = λ xs a c. w k (value_at xs t) (h.at xs a c) }
 
-pub seen_more : (s : Trail) (i t : ℕ) (es : List ℕ) (from n : ℕ) (old new : Scan) → ((k : ℕ) → from ≤ k → k < n → k < length es → IsSeenAt s i t (get_or es k 0) k old) → IsVisited s i t es n old new
+pub seen_more : (s : Trail) (i t : ℕ) (es : List ℕ) (from n : ℕ) (old new : Scan) → ((k : ℕ) → from ≤ k → k < n → k < length es → IsSeenAt s i t (get_or es k 0) k old) → IsPlaceVisited s i t es n old new
     → (k : ℕ) → from ≤ k → k < n + 1 → k < length es → IsSeenAt s i t (get_or es k 0) k new
 seen_more s i t es from n old new h v k a b l = elim (cases_lt k n) [
   | inl before ↦ seen_wider s i t (get_or es k 0) k old new v.wider (h k a before l)
@@ -92,7 +92,7 @@ seen_more s i t es from n old new h v k a b l = elim (cases_lt k n) [
 ]
 
 -- a place outside the index's domain is not chosen
-pub seen_all : (s : Trail) (i t : ℕ) (es : List ℕ) (I : Window) (scan : Scan) (low high p q : ℤ) (from to n : ℕ) → IsFit s.first i t es → ((x : ℤ) → contains I x ≡ admits s.first s.entries i x) → ((x : ℤ) → contains I x ≡ true → low ≤ℤ x) → ((x : ℤ) → contains I x ≡ true → x ≤ℤ high)
+pub seen_all : (s : Trail) (i t : ℕ) (es : List ℕ) (I : Window) (scan : Scan) (low high p q : ℤ) (from to n : ℕ) → IsFitElement s.first i t es → ((x : ℤ) → contains I x ≡ admits s.first s.entries i x) → ((x : ℤ) → contains I x ≡ true → low ≤ℤ x) → ((x : ℤ) → contains I x ≡ true → x ≤ℤ high)
     → p ≡ low → q ≡ high → ((k : ℕ) → p ≤ℤ pos k → from ≤ k) → ((k : ℕ) → k < length es → pos k ≤ℤ q → k < to) → to ≤ n → ((k : ℕ) → from ≤ k → k < n → k < length es → IsSeenAt s i t (get_or es k 0) k scan) → (k : ℕ) → k < length es → IsSeenAt s i t (get_or es k 0) k scan
 seen_all s i t es I scan low high p q from to n f ofI least greatest isp isq first end past h k l = record {
   at = λ xs a c.
@@ -134,11 +134,11 @@ closed_more s i t es from n goal old new h v k a b = elim (cases_lt k n) [
 ]
 
 pub gives_all : (s : Trail) (i t : ℕ) (es : List ℕ) (goal : Option Atom) (none old new : List Atom) (window : ℕ × ℕ) (n : ℕ) → AreFacts s none → IsLeft s i es none old window → Grows s old new → window.1 ≤ n
-    → ((k : ℕ) → window.0 ≤ k → k < n → IsClosed i t (get_or es k 0) k goal new) → Gives (Element i t es) s goal new
+    → ((k : ℕ) → window.0 ≤ k → k < n → IsClosed i t (get_or es k 0) k goal new) → GivesGoal (Element i t es) s goal new
 gives_all s i t es goal none old new window n are left grows past closed = gives_by s i t es goal new (grows.facts (left.grows.facts are))
     (λ k l xs all c deny. let w = left.covers k l xs (grows.kept xs all) c.index in let lo = w.0 in let hi = w.1 in (closed k lo (omega arith)).at xs all c deny)
 
-pub fit_seen : (first : Domains) (i t : ℕ) (es : List ℕ) (j u : ℕ) (fs : List ℕ) → IsFittingRule first (Element i t es) → j ≡ i → u ≡ t → fs ≡ es → IsFit first j u fs
+pub fit_seen : (first : Domains) (i t : ℕ) (es : List ℕ) (j u : ℕ) (fs : List ℕ) → IsFittingRule first (Element i t es) → j ≡ i → u ≡ t → fs ≡ es → IsFitElement first j u fs
 fit_seen first i t es j u fs f a b c =
     let h = fit_of first i t es f in
     record {

@@ -19,7 +19,7 @@ use Rattle.cps_trail.specs.Trail.{Trail, IsAdmitted, admits}
 use Rattle.cps_propagate.specs.Now.{IsOpenTo, IsFixedNow, AreOpen}
 use Rattle.cps_propagate.specs.Strength.{HasOpenRow, IsExcludedBody}
 use Rattle.cps_rule.specs.Rules.{IsGiven, IsImpossible, IsAtRest}
-use Rattle.cps_p_lookup.specs.Tabling.{IsOpenRow, IsDeadRow, IsLive, AreLive, IsSingle, IsOff, IsBanned, IsMissed}
+use Rattle.cps_p_lookup.specs.Tabling.{IsOpenRow, IsDeadRow, IsLive, AreLive, IsSingle, HasOtherValue, IsBanned, IsMissed}
 
 both_not : (b : Bool) → b ≡ true → b ≡ false → ⊥
 both_not b p q = let e : true ≡ false = sym p ∙ q in cc
@@ -152,7 +152,7 @@ live_rest s es values (r ∷ rows) live some = record {
 pub banned_by : (s : Trail) (es : List ℕ) (row : List ℤ) → length row ≡ length es → ((k : ℕ) → k < length es → IsSingle s (get_or es k 0) (get_or row k (pos 0))) → IsBanned s es row
 banned_by s es row e h = record { at = λ xs left. same_row xs es row e (λ k l. (h k l).at (value_at xs (get_or es k 0)) (All-get_or (λ i. IsOpenTo s i (value_at xs i)) es k 0 l left)) }
 
-pub missed_by : (s : Trail) (es : List ℕ) (row : List ℤ) (c : ℕ) → c < length es → IsOff s (get_or es c 0) (get_or row c (pos 0)) → IsMissed s es row
+pub missed_by : (s : Trail) (es : List ℕ) (row : List ℤ) (c : ℕ) → c < length es → HasOtherValue s (get_or es c 0) (get_or row c (pos 0)) → IsMissed s es row
 missed_by s es row c l off = record {
   at = λ fixed xs left e.
       let i = get_or es c 0 in

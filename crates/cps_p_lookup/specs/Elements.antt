@@ -9,7 +9,7 @@ use Rattle.cps_p_lookup.specs.declared.places.Scan.{Scan}
 use Rattle.cps_rule.specs.Facts.{Grows, Denied}
 
 -- the index, the target and the expressions have domains
-pub record IsFit (first : Domains) (i t : ℕ) (es : List ℕ) : Type 0 where
+pub record IsFitElement (first : Domains) (i t : ℕ) (es : List ℕ) : Type 0 where
   pub index : i < length first
   pub target : t < length first
   pub exprs : All (λ e. e < length first) es
@@ -50,7 +50,7 @@ pub record IsLastOpen (s : Trail) (i t : ℕ) (es : List ℕ) (scan : Scan) : Ty
   pub meets : 0 < scan.open → MayMeet s (slice_index_or es scan.last 0) t
 
 -- one place more is seen
-pub record IsVisited (s : Trail) (i t : ℕ) (es : List ℕ) (k : ℕ) (old new : Scan) : Type 0 where
+pub record IsPlaceVisited (s : Trail) (i t : ℕ) (es : List ℕ) (k : ℕ) (old new : Scan) : Type 0 where
   pub wider : (p : ℕ) (v : ℤ) → IsCovered p old v → IsCovered p new v
   pub here : IsSeenAt s i t (slice_index_or es k 0) k new
   pub last : IsLastOpen s i t es old → IsLastOpen s i t es new
@@ -61,7 +61,7 @@ pub record IsScanned (s : Trail) (i t : ℕ) (es : List ℕ) (scan : Scan) : Typ
   pub last : IsLastOpen s i t es scan
 
 -- an atom of the one side of an equation in the place of an atom of the other
-pub record IsMoved (e t : ℕ) (goal u : Atom) : Type 0 where
+pub record IsAtomMoved (e t : ℕ) (goal u : Atom) : Type 0 where
   pub subject : (n : ℕ) → e < n → t < n → u.subject < n
   pub at : (xs : List ℤ) → value_at xs e ≡ value_at xs t → atom_holds xs u ≡ true → atom_holds xs goal ≡ true
 

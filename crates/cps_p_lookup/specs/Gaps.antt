@@ -10,7 +10,7 @@ use Rattle.cps_rule.specs.Rules.{IsGiven}
 use Rattle.cps_p_lookup.specs.Elements.{IsChosen}
 
 -- what is added says that a subject lacks values that are not kept, so it is given where these atoms are
-pub record Excludes (subject : ℕ) (kept : ℤ → Type 0) (old new : List Narrowing) : Type 0 where
+pub record ExcludesValues (subject : ℕ) (kept : ℤ → Type 0) (old new : List Narrowing) : Type 0 where
   pub at : (body : Body) (s : Trail)
       → ((u : Atom) (v : ℤ) → u ≡ record { subject = subject; op = Ne; value = v } → (kept v → ⊥) → IsGiven body s u)
       → All (λ n. IsGiven body s n.target) old → All (λ n. IsGiven body s n.target) new

@@ -38,7 +38,7 @@ pub record ClosesRow (s : Trail) (es : List ℕ) (row : List ℤ) (goal : Option
 pub record IsSingle (s : Trail) (i : ℕ) (v : ℤ) : Type 0 where
   pub at : (x : ℤ) → IsOpenTo s i x → x ≡ v
 
-pub record IsOff (s : Trail) (i : ℕ) (v : ℤ) : Type 0 where
+pub record HasOtherValue (s : Trail) (i : ℕ) (v : ℤ) : Type 0 where
   pub value : ℤ
   pub reached : IsOpenTo s i value
   pub other : value ≢ v
@@ -67,7 +67,7 @@ pub record IsAgainst (es : List ℕ) (row : List ℤ) (u : Atom) : Type 0 where
   pub subject : slice_index_or es column 0 ≡ u.subject
   pub unmet : meets u.op u.value (slice_index_or row column (pos 0)) ≡ false
 
-pub record IsBarred (es : List ℕ) (row : List ℤ) (facts : List Atom) : Type 0 where
+pub record IsRowBarred (es : List ℕ) (row : List ℤ) (facts : List Atom) : Type 0 where
   pub at : (xs : List ℤ) → AllTrueAt xs facts → values_at xs es ≡ row → ⊥
 
 -- an atom by which a subject does not have a value
@@ -81,6 +81,6 @@ pub record AreSure (s : Trail) (es : List ℕ) (row : List ℤ) (goal : Option A
   pub at : (k : ℕ) → k < length es → IsSure (slice_index_or es k 0) (slice_index_or row k (pos 0)) goal new
 
 -- one such fact is added, where it is needed
-pub record Holds (s : Trail) (i : ℕ) (v : ℤ) (goal : Option Atom) (old new : List Atom) : Type 0 where
+pub record AddsNeededFact (s : Trail) (i : ℕ) (v : ℤ) (goal : Option Atom) (old new : List Atom) : Type 0 where
   pub grows : Grows s old new
   pub sure : IsSure i v goal new

@@ -4,7 +4,7 @@ ghost use Rattle.std.specs.Prelude.{ℕ, pos, ◌≡◌, ◌<◌, ◌≤◌, ◌
 ghost use Rattle.cps_model.specs.Lookups.{row_at};
 ghost use Rattle.cps_instance.specs.declared.task.Body.TheVariants.{Table};
 ghost use Rattle.cps_rule.specs.Rules.{IsGiven, IsSeen, IsAtRest};
-ghost use Rattle.cps_p_lookup.specs.Tabling.{IsSingle, IsOff, IsBanned, IsMissed};
+ghost use Rattle.cps_p_lookup.specs.Tabling.{IsSingle, HasOtherValue, IsBanned, IsMissed};
 
 use crate::facts::atom;
 use crate::rows::{Grid, row_at};
@@ -17,7 +17,7 @@ use std::alloc::AllocError;
 fn is_single(store: &Store, subject: u32, value: i64) -> bool
     requires { subject < length store.now.first }
     ensures yes { result ≡ true → IsSingle store.now subject value }
-    ensures no { result ≡ false → IsOff store.now subject value }
+    ensures no { result ≡ false → HasOtherValue store.now subject value }
 {
     let domain = store.domain(subject);
     let low = domain.min();
@@ -35,7 +35,7 @@ fn first_open(store: &Store, exprs: &[u32], row: &[i64], from: usize) -> usize
     ensures passed { (k : ℕ) → from ≤ k → k < result
         → IsSingle store.now (slice_index_or exprs.now k 0) (slice_index_or row.now k (pos 0)) }
     ensures open { result < length exprs.now
-        → IsOff store.now (slice_index_or exprs.now result 0) (slice_index_or row.now result (pos 0)) }
+        → HasOtherValue store.now (slice_index_or exprs.now result 0) (slice_index_or row.now result (pos 0)) }
 {
     for k in from..exprs.len() {
         if !is_single(store, exprs[k], row[k]) {

@@ -8,8 +8,8 @@ ghost use Rattle.std.specs.Prelude.{◌≡◌, ◌<◌, ◌≤◌, ◌+◌, ◌*
 ghost use Rattle.cps_literal.specs.declared.atom.Atom.{Atom as AtomOf};
 ghost use Rattle.cps_model.specs.Lookups.{row_at};
 ghost use Rattle.cps_instance.specs.declared.task.Body.TheVariants.{Table};
-ghost use Rattle.cps_rule.specs.Facts.{Gives};
-ghost use Rattle.cps_p_lookup.specs.Tabling.{ClosesRow, IsMetAt, IsAgainst, IsBarred, IsSure, IsOffBy, Holds, AreSure};
+ghost use Rattle.cps_rule.specs.Facts.{GivesGoal};
+ghost use Rattle.cps_p_lookup.specs.Tabling.{ClosesRow, IsMetAt, IsAgainst, IsRowBarred, IsSure, IsOffBy, AddsNeededFact, AreSure};
 
 use crate::facts::{atom, is_met, push_fact};
 use crate::rows::{Grid, row_at};
@@ -46,7 +46,7 @@ fn has_unmet(exprs: &[u32], row: &[i64], atom: Atom) -> bool
 /// Whether a row goes against one of some facts.
 fn is_barred(exprs: &[u32], row: &[i64], facts: &[Atom]) -> bool
     requires { length row.now ≡ length exprs.now }
-    ensures { result ≡ true → IsBarred exprs.now row.now facts.now }
+    ensures { result ≡ true → IsRowBarred exprs.now row.now facts.now }
 {
     for fact in facts {
         if has_unmet(exprs, row, *fact) {
@@ -108,7 +108,7 @@ pub(crate) fn exclude(
 ) -> Result<bool, AllocError>
     requires fits { All (λ e. e < length past.now.first) grid.now.exprs.now }
     requires some { 0 < length grid.now.exprs.now }
-    ensures { result ≡ Ok true → Gives
+    ensures { result ≡ Ok true → GivesGoal
         (Table grid.now.exprs.now grid.now.values.now false) past.now goal facts.new.items }
 {
     facts.clear();
@@ -152,7 +152,7 @@ fn hold(
     facts: &mut Vec<Atom>,
 ) -> Result<bool, AllocError>
     requires { subject < length past.now.first }
-    ensures { result ≡ Ok true → Holds past.now subject value goal facts.old.items facts.new.items }
+    ensures { result ≡ Ok true → AddsNeededFact past.now subject value goal facts.old.items facts.new.items }
 {
     if let Some(target) = goal
         && is_off(target, subject, value)
@@ -205,7 +205,7 @@ pub(crate) fn fix(
 ) -> Result<bool, AllocError>
     requires fits { All (λ e. e < length past.now.first) grid.now.exprs.now }
     requires some { 0 < length grid.now.exprs.now }
-    ensures { result ≡ Ok true → Gives
+    ensures { result ≡ Ok true → GivesGoal
         (Table grid.now.exprs.now grid.now.values.now true) past.now goal facts.new.items }
 {
     facts.clear();

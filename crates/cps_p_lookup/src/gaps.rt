@@ -7,7 +7,7 @@
 ghost use Rattle.std.specs.Prelude.{◌≡◌, ◌↔◌, ℤ, true, OnOk, IsTrue, Contains, IsSorted};
 ghost use Rattle.std.specs.Ordering.{int_cmp};
 ghost use Rattle.cps_domain.specs.Window.{contains};
-ghost use Rattle.cps_p_lookup.specs.Gaps.{Excludes};
+ghost use Rattle.cps_p_lookup.specs.Gaps.{ExcludesValues};
 
 use crate::facts::atom;
 use crate::places::NO_HINT;
@@ -178,7 +178,7 @@ fn exclude_unlisted(
     found: &mut Vec<Narrowing>,
 ) -> Result<(), AllocError>
     requires { IsSorted int_cmp listed.now }
-    ensures { OnOk result (Excludes subject (Contains listed.now) found.old.items found.new.items) }
+    ensures { OnOk result (ExcludesValues subject (Contains listed.now) found.old.items found.new.items) }
 {
     for value in missing {
         if is_listed(listed, *value) {
@@ -200,7 +200,7 @@ fn exclude_outside(
     missing: &[i64],
     found: &mut Vec<Narrowing>,
 ) -> Result<(), AllocError>
-    ensures { OnOk result (Excludes subject (λ v. contains domain.now v ≡ true) found.old.items found.new.items) }
+    ensures { OnOk result (ExcludesValues subject (λ v. contains domain.now v ≡ true) found.old.items found.new.items) }
 {
     for value in missing {
         if domain.contains(*value) {
@@ -239,7 +239,7 @@ pub(crate) fn exclude_missing(
     gaps: &mut Gaps,
     found: &mut Vec<Narrowing>,
 ) -> Result<(), AllocError>
-    ensures { OnOk result (Excludes subject (Contains gaps.old.listed.items) found.old.items found.new.items) }
+    ensures { OnOk result (ExcludesValues subject (Contains gaps.old.listed.items) found.old.items found.new.items) }
 {
     if !may_miss(gaps.listed.as_slice(), domain, &mut gaps.marks)? {
         return Ok(());
@@ -261,7 +261,7 @@ pub(crate) fn copy_holes(
     gaps: &mut Gaps,
     found: &mut Vec<Narrowing>,
 ) -> Result<(), AllocError>
-    ensures { OnOk result (Excludes subject (λ v. contains other.now v ≡ true) found.old.items found.new.items) }
+    ensures { OnOk result (ExcludesValues subject (λ v. contains other.now v ≡ true) found.old.items found.new.items) }
 {
     if !is_worth(domain, 0) {
         return Ok(());

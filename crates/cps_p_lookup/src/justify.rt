@@ -6,8 +6,8 @@
 
 ghost use Rattle.std.specs.Prelude.{ℕ, ◌≡◌, ◌<◌, ◌^◌, length, Ok, true, false, IfSome};
 ghost use Rattle.cps_instance.specs.declared.task.Body.TheVariants.{Element};
-ghost use Rattle.cps_rule.specs.Facts.{Gives};
-ghost use Rattle.cps_p_lookup.specs.Elements.{IsFit, Closes, IsMoved, ArePart, IsLeft};
+ghost use Rattle.cps_rule.specs.Facts.{GivesGoal};
+ghost use Rattle.cps_p_lookup.specs.Elements.{IsFitElement, Closes, IsAtomMoved, ArePart, IsLeft};
 
 use crate::facts::{LIMIT, atom, is_met, push_both, push_fact, push_where};
 use crate::places::{Lookup, end_of_places, first_place};
@@ -26,7 +26,7 @@ struct Case {
 
 /// The atom of the target that gives one of the expression, or the other way round.
 fn moved(case: &Case, goal: Atom) -> Option<Atom>
-    ensures { IfSome result (IsMoved case.now.expr case.now.target goal) }
+    ensures { IfSome result (IsAtomMoved case.now.expr case.now.target goal) }
 {
     if goal.subject == case.target {
         return Some(atom(case.expr, goal.op, goal.value));
@@ -152,8 +152,8 @@ pub(crate) fn justify(
     lookup: &Lookup,
     facts: &mut Vec<Atom>,
 ) -> Result<bool, AllocError>
-    requires { IsFit past.now.first lookup.now.index lookup.now.target lookup.now.exprs.now }
-    ensures { result ≡ Ok true → Gives
+    requires { IsFitElement past.now.first lookup.now.index lookup.now.target lookup.now.exprs.now }
+    ensures { result ≡ Ok true → GivesGoal
         (Element lookup.now.index lookup.now.target lookup.now.exprs.now) past.now goal facts.new.items }
 {
     facts.clear();

@@ -9,7 +9,7 @@ ghost use Rattle.std.specs.Prelude.{ℕ, ℤ, pos, ◌≡◌, ◌<◌, ◌≤◌
 ghost use Rattle.cps_domain.specs.Window.{contains};
 ghost use Rattle.cps_instance.specs.declared.task.Body.TheVariants.{Element};
 ghost use Rattle.cps_rule.specs.Rules.{IsGiven, IsSeen, IsAtRest};
-ghost use Rattle.cps_p_lookup.specs.Elements.{IsFit, IsCovered, IsVisited, IsScanned};
+ghost use Rattle.cps_p_lookup.specs.Elements.{IsFitElement, IsCovered, IsPlaceVisited, IsScanned};
 ghost use Rattle.cps_p_lookup.specs.Gaps.{KeepsBetween, AreListed, Lists};
 
 use crate::facts::{LIMIT, atom};
@@ -121,7 +121,7 @@ fn visit(
     scan: Scan,
     found: &mut Vec<Narrowing>,
 ) -> Result<Scan, AllocError>
-    requires fits { IsFit store.now.first lookup.now.index lookup.now.target lookup.now.exprs.now }
+    requires fits { IsFitElement store.now.first lookup.now.index lookup.now.target lookup.now.exprs.now }
     requires place { place < length lookup.now.exprs.now }
     requires small { place < 2 ^ 62 }
     requires given { All (λ n. IsGiven
@@ -130,7 +130,7 @@ fn visit(
         (λ n. IsGiven (Element lookup.now.index lookup.now.target lookup.now.exprs.now) store.now n.target)
         found.new.items) }
     ensures visited { IfOk result
-        (IsVisited store.now lookup.now.index lookup.now.target lookup.now.exprs.now place scan) }
+        (IsPlaceVisited store.now lookup.now.index lookup.now.target lookup.now.exprs.now place scan) }
 {
     let index = store.domain(lookup.index);
     if !index.contains(place as i64) {
@@ -183,7 +183,7 @@ pub(crate) fn scan_places(
     lookup: &Lookup,
     found: &mut Vec<Narrowing>,
 ) -> Result<Scan, AllocError>
-    requires fits { IsFit store.now.first lookup.now.index lookup.now.target lookup.now.exprs.now }
+    requires fits { IsFitElement store.now.first lookup.now.index lookup.now.target lookup.now.exprs.now }
     ensures given { OnOk result (All
         (λ n. IsGiven (Element lookup.now.index lookup.now.target lookup.now.exprs.now) store.now n.target)
         found.new.items) }
@@ -217,7 +217,7 @@ fn bound_both(
     scan: Scan,
     found: &mut Vec<Narrowing>,
 ) -> Result<(), AllocError>
-    requires fits { IsFit store.now.first lookup.now.index lookup.now.target lookup.now.exprs.now }
+    requires fits { IsFitElement store.now.first lookup.now.index lookup.now.target lookup.now.exprs.now }
     requires scanned { IsScanned store.now lookup.now.index lookup.now.target lookup.now.exprs.now scan }
     requires some { 0 < scan.open }
     requires given { All (λ n. IsGiven
@@ -242,7 +242,7 @@ fn align(
     gaps: &mut Gaps,
     found: &mut Vec<Narrowing>,
 ) -> Result<(), AllocError>
-    requires fits { IsFit store.now.first lookup.now.index lookup.now.target lookup.now.exprs.now }
+    requires fits { IsFitElement store.now.first lookup.now.index lookup.now.target lookup.now.exprs.now }
     requires scanned { IsScanned store.now lookup.now.index lookup.now.target lookup.now.exprs.now scan }
     requires one { scan.open ≡ 1 }
     requires given { All (λ n. IsGiven
@@ -265,7 +265,7 @@ fn list_value(
     place: usize,
     values: &mut Vec<i64>,
 ) -> Result<bool, AllocError>
-    requires fits { IsFit store.now.first lookup.now.index lookup.now.target lookup.now.exprs.now }
+    requires fits { IsFitElement store.now.first lookup.now.index lookup.now.target lookup.now.exprs.now }
     requires place { place < length lookup.now.exprs.now }
     requires small { place < 2 ^ 62 }
     ensures { result ≡ Ok true → Lists store.now
@@ -287,7 +287,7 @@ fn list_value(
 
 /// Makes a list that of the values at the open places. Answers false where one of them has several.
 fn list_values(store: &Store, lookup: &Lookup, values: &mut Vec<i64>) -> Result<bool, AllocError>
-    requires fits { IsFit store.now.first lookup.now.index lookup.now.target lookup.now.exprs.now }
+    requires fits { IsFitElement store.now.first lookup.now.index lookup.now.target lookup.now.exprs.now }
     ensures { result ≡ Ok true → AreListed store.now
         lookup.now.index lookup.now.target lookup.now.exprs.now values.new.items }
 {
@@ -311,7 +311,7 @@ fn narrow_inside(
     gaps: &mut Gaps,
     found: &mut Vec<Narrowing>,
 ) -> Result<(), AllocError>
-    requires fits { IsFit store.now.first lookup.now.index lookup.now.target lookup.now.exprs.now }
+    requires fits { IsFitElement store.now.first lookup.now.index lookup.now.target lookup.now.exprs.now }
     requires given { All (λ n. IsGiven
         (Element lookup.now.index lookup.now.target lookup.now.exprs.now) store.now n.target) found.old.items }
     ensures { OnOk result (All (λ n. IsGiven
@@ -335,7 +335,7 @@ pub(crate) fn look_up(
     gaps: &mut Gaps,
     found: &mut Vec<Narrowing>,
 ) -> Result<Look, AllocError>
-    requires fits { IsFit store.now.first lookup.now.index lookup.now.target lookup.now.exprs.now }
+    requires fits { IsFitElement store.now.first lookup.now.index lookup.now.target lookup.now.exprs.now }
     ensures given { OnOk result (All
         (λ n. IsGiven (Element lookup.now.index lookup.now.target lookup.now.exprs.now) store.now n.target)
         found.new.items) }

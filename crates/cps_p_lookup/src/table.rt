@@ -6,7 +6,7 @@
 
 ghost use Rattle.std.specs.Prelude.{◌≡◌, ◌<◌, length, All, OnOk, IfOk, Ok, true, IsTrue};
 ghost use Rattle.cps_rule.specs.Rules.{IsGiven, IsSeen, IsAtRest};
-ghost use Rattle.cps_rule.specs.Facts.{Gives};
+ghost use Rattle.cps_rule.specs.Facts.{GivesGoal};
 ghost use Rattle.cps_instance.specs.declared.task.Body.TheVariants.{Table as TableOf};
 
 use crate::bans::look_outside;
@@ -107,7 +107,7 @@ fn justify_at(
     facts: &mut Vec<Atom>,
 ) -> Result<bool, AllocError>
     requires fits { All (λ e. e < length past.now.first) table.now.grid.exprs.now }
-    ensures { result ≡ Ok true → Gives
+    ensures { result ≡ Ok true → GivesGoal
         (TableOf table.now.grid.exprs.now table.now.grid.values.now table.now.negated) past.now goal facts.new.items }
 {
     let grid = table.grid;

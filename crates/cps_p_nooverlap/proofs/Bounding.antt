@@ -20,7 +20,7 @@ use Rattle.cps_p_nooverlap.specs.declared.interval.Places.{Places}
 use Rattle.cps_p_nooverlap.specs.declared.interval.Hulls.{Hulls}
 use Rattle.cps_p_nooverlap.specs.Citing.{Cites, GivesMore}
 use Rattle.cps_p_nooverlap.specs.Hulls.{OffersAtom}
-use Rattle.cps_p_nooverlap.specs.Intervals.{body_of, ArePlaces, AreInside, AreInterval, IsMeasured, IsPossible}
+use Rattle.cps_p_nooverlap.specs.Intervals.{body_of, ArePlaces, AreHullsInside, AreInterval, AreHullsMeasured, FitsInterval}
 
 pub Cites-push : (s : Trail) (old : List Atom) (u : Atom) → u.subject < length s.first → IsInside u.value → IsTrueNow s u → Cites s old (old ++ u ∷ []) (λ xs. atom_holds xs u ≡ true)
 Cites-push s old u l i t = record {
@@ -39,7 +39,7 @@ pub places_of : (first : Domains) (p : Places) → IsFittingRule first (body_of 
 places_of first p h = record { start = h.subjects 0 0 (omega arith); end = h.subjects 1 0 (omega arith); size = h.subjects 2 0 (omega arith) }
 
 -- measured ends are inside
-pub inside_of : (s : Trail) (p : Places) (h : Hulls) → IsMeasured s p h → AreInside h
+pub inside_of : (s : Trail) (p : Places) (h : Hulls) → AreHullsMeasured s p h → AreHullsInside h
 inside_of s p h m = record {
   start_low = m.start.low_inside;
   start_high = m.start.high_inside;
@@ -58,7 +58,7 @@ pub record AreWithin (p : Places) (h : Hulls) (xs : List ℤ) : Type 0 where
   pub e : h.size.low ≤ℤ value_at xs p.size
   pub f : value_at xs p.size ≤ℤ h.size.high
 
-within : (s : Trail) (p : Places) (h : Hulls) (xs : List ℤ) → ArePlaces (length s.first) p → IsMeasured s p h → IsAdmitted s.first s.entries xs → AreWithin p h xs
+within : (s : Trail) (p : Places) (h : Hulls) (xs : List ℤ) → ArePlaces (length s.first) p → AreHullsMeasured s p h → IsAdmitted s.first s.entries xs → AreWithin p h xs
 within s p h xs l m o = record {
   a = m.start.least (value_at xs p.start) (o p.start l.start);
   b = m.start.greatest (value_at xs p.start) (o p.start l.start);
@@ -68,10 +68,10 @@ within s p h xs l m o = record {
   f = m.size.greatest (value_at xs p.size) (o p.size l.size);
 }
 
-pub given : (s : Trail) (p : Places) (h : Hulls) (t : Atom) → ArePlaces (length s.first) p → IsMeasured s p h → t.subject < length s.first → ((xs : List ℤ) → AreWithin p h xs → AreInterval p xs → atom_holds xs t ≡ true) → IsGiven (body_of p) s t
+pub given : (s : Trail) (p : Places) (h : Hulls) (t : Atom) → ArePlaces (length s.first) p → AreHullsMeasured s p h → t.subject < length s.first → ((xs : List ℤ) → AreWithin p h xs → AreInterval p xs → atom_holds xs t ≡ true) → IsGiven (body_of p) s t
 given s p h t l m n f = record { subject = n; at = λ xs o i. f xs (within s p h xs l m o) i }
 
-pub impossible : (s : Trail) (p : Places) (h : Hulls) → ArePlaces (length s.first) p → IsMeasured s p h → (h.size.high <ℤ pos 0) ⊎ ((h.end.high <ℤ (h.start.low +ℤ h.size.low)) ⊎ ((h.start.high +ℤ h.size.high) <ℤ h.end.low)) → IsImpossible (body_of p) s
+pub impossible : (s : Trail) (p : Places) (h : Hulls) → ArePlaces (length s.first) p → AreHullsMeasured s p h → (h.size.high <ℤ pos 0) ⊎ ((h.end.high <ℤ (h.start.low +ℤ h.size.low)) ⊎ ((h.start.high +ℤ h.size.high) <ℤ h.end.low)) → IsImpossible (body_of p) s
 impossible s p h l m (inl q) = record { at = λ xs o i. (let w = within s p h xs l m o in let z = i.0 in absurd (omega (arith, ints))) }
 impossible s p h l m (inr (inl q)) = record { at = λ xs o i. (let w = within s p h xs l m o in let z = i.1 in absurd (omega (arith, ints))) }
 impossible s p h l m (inr (inr q)) = record { at = λ xs o i. (let w = within s p h xs l m o in let z = i.1 in absurd (omega (arith, ints))) }
@@ -101,14 +101,14 @@ most_holds xs t i e f h = subst (λ (o : Op). meets o t.value (value_at xs t.sub
 pub gives_three : (body : Body) (s : Trail) (a b d e : List Narrowing) → a ≡ [] → GivesMore body s a b → GivesMore body s b d → GivesMore body s d e → All (λ n. IsGiven body s n.target) e
 gives_three body s a b d e none f g h = h (g (f (subst (λ (ns : List Narrowing). All (λ n. IsGiven body s n.target) ns) (sym none) (All-nil (λ (n : Narrowing). IsGiven body s n.target)))))
 
-pub may_be : (s : Trail) (p : Places) (h : Hulls) → IsMeasured s p h → IsPossible h → MayBeInterval s p.start p.end p.size
+pub may_be : (s : Trail) (p : Places) (h : Hulls) → AreHullsMeasured s p h → FitsInterval h → MayBeInterval s p.start p.end p.size
 may_be s p h m o = record {
   long = (h.size.high, m.size.high, o.some);
   early = (h.start.low, h.end.high, h.size.low, m.start.low, m.end.high, m.size.low, o.not_before);
   late = (h.start.high, h.end.low, h.size.high, m.start.high, m.end.low, m.size.high, o.not_after);
 }
 
-pub at_rest : (s : Trail) (p : Places) (h : Hulls) → IsMeasured s p h → IsPossible h → IsAtRest (body_of p) s
+pub at_rest : (s : Trail) (p : Places) (h : Hulls) → AreHullsMeasured s p h → FitsInterval h → IsAtRest (body_of p) s
 at_rest s p h m o = record {
   decided = λ fixed xs opened.
       let a = fixed 0 0 (omega arith) h.start.low (value_at xs p.start) m.start.low (opened 0 0 (omega arith)) in

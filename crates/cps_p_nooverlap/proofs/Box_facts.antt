@@ -15,7 +15,7 @@ use Rattle.cps_trail.specs.Trail.{Trail}
 use Rattle.cps_rule.specs.Rules.{IsFact, AreFacts, IsExplained, IsRefuted}
 use Rattle.cps_p_nooverlap.specs.declared.pairs.Pair.{Pair}
 use Rattle.cps_p_nooverlap.specs.Citing.{Cites}
-use Rattle.cps_p_nooverlap.specs.Spans.{start_at, end_at, is_present, IsBefore, Says, IsPair, ClashesAt}
+use Rattle.cps_p_nooverlap.specs.Spans.{start_at, end_at, is_present, IsBefore, SaysOfTimes, IsPair, ClashesAt}
 use Rattle.cps_p_nooverlap.specs.Boxes.{AreBoxes, ArePresent, AreDisjoint, OrdersBoxes}
 use Rattle.cps_p_nooverlap.proofs.Citing.{cites_as}
 use Rattle.cps_p_nooverlap.proofs.Boxing.{first_of, none_of, no_span, kept_of}
@@ -47,7 +47,7 @@ module _ (ps : List Span) (pair : Pair) (p : IsPair (length ps) pair) (x y : Spa
         first_of xs ps qs pair d boxes there.0 there.1 (g.gives xs (h.kept xs q)) (late_of xs (h.gives xs q) d) o;
   }
 
-  pub cites_start : (qs : List Span) (s : Trail) (a b c : List Atom) (u target : Atom) (time : ℤ) → u ≡ target → Says y u (λ ys. time ≤ℤ start_at ys y) → Cites s a b (λ xs. OrdersBoxes xs ps qs pair) → Cites s b c (λ xs. time ≤ℤ end_at xs x)
+  pub cites_start : (qs : List Span) (s : Trail) (a b c : List Atom) (u target : Atom) (time : ℤ) → u ≡ target → SaysOfTimes y u (λ ys. time ≤ℤ start_at ys y) → Cites s a b (λ xs. OrdersBoxes xs ps qs pair) → Cites s b c (λ xs. time ≤ℤ end_at xs x)
       → Cites s a c (λ xs. AreDisjoint xs ps qs → atom_holds xs target ≡ true)
   cites_start qs s a b c u target time same says f g = record {
     facts = λ h. g.facts (f.facts h);
@@ -55,7 +55,7 @@ module _ (ps : List Span) (pair : Pair) (p : IsPair (length ps) pair) (x y : Spa
     gives = λ xs h o. (let k = in_order xs (f.gives xs (g.kept xs h) x o) in let l = g.gives xs h in subst (λ (v : Atom). atom_holds xs v ≡ true) same (says.said xs (omega (arith, ints))));
   }
 
-  pub cites_end : (qs : List Span) (s : Trail) (a b c : List Atom) (u target : Atom) (time : ℤ) → u ≡ target → Says x u (λ ys. end_at ys x ≤ℤ time) → Cites s a b (λ xs. OrdersBoxes xs ps qs pair) → Cites s b c (λ xs. start_at xs y ≤ℤ time)
+  pub cites_end : (qs : List Span) (s : Trail) (a b c : List Atom) (u target : Atom) (time : ℤ) → u ≡ target → SaysOfTimes x u (λ ys. end_at ys x ≤ℤ time) → Cites s a b (λ xs. OrdersBoxes xs ps qs pair) → Cites s b c (λ xs. start_at xs y ≤ℤ time)
       → Cites s a c (λ xs. AreDisjoint xs ps qs → atom_holds xs target ≡ true)
   cites_end qs s a b c u target time same says f g = record {
     facts = λ h. g.facts (f.facts h);

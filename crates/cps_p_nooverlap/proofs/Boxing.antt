@@ -21,7 +21,7 @@ use Rattle.cps_p_nooverlap.specs.declared.pairs.Pair.{Pair}
 use Rattle.cps_p_nooverlap.specs.declared.seen.Seen.{Seen}
 use Rattle.cps_p_nooverlap.specs.declared.box_pairs.Direction.{Direction}
 use Rattle.cps_p_nooverlap.specs.Hulls.{Proposes}
-use Rattle.cps_p_nooverlap.specs.Spans.{start_at, end_at, is_present, IsBefore, AreSpans, IsSeen, IsPair, IsSmallAtom, ClashesAt, AddsOrdered, no_seen}
+use Rattle.cps_p_nooverlap.specs.Spans.{start_at, end_at, is_present, IsBefore, AreSpans, IsSpanSeen, IsPair, IsSmallAtom, ClashesAt, AddsOrdered, no_seen}
 use Rattle.cps_p_nooverlap.specs.Boxes.{IsDirection, IsKnown, AreBoxes, ArePresent, AreDisjoint, KeepsApart, AddsGiven, LacksBox, IsLate, Overlap, MayBeApart, IsSureBox, AreBoxesAllowed, AllowsBoxes, AreAllAllowed, MakesPresent, MakesBoxPresent, IsCount, pair_of_places}
 use Rattle.cps_propagate.specs.Strength.{MayBeOrdered, IsPresentBox, HasSeparateBoxes}
 use Rattle.cps_p_nooverlap.proofs.Timing.{zip_at}
@@ -137,7 +137,7 @@ module _ (s : Trail) (v : Direction) (is : IsDirection s v) where
       held : (xs : List ℤ) → IsAdmitted s.first s.entries xs → (j : ℕ) (f : Atom) → j < length (get_or v.spans k d).presence → atom_holds xs (get_or (get_or v.spans k d).presence m e) ≡ true → ((j ≡ m) ⊎ (j ≢ m)) → atom_holds xs (get_or (get_or v.spans k d).presence j f) ≡ true
       held xs a j f q t (inl g) = subst (λ (i : ℕ). atom_holds xs (get_or (get_or v.spans k d).presence i f) ≡ true) (sym g) (subst (λ (w : Atom). atom_holds xs w ≡ true) (get_or_default (get_or v.spans k d).presence m e f inside) t)
       held xs a j f q t (inr g) =
-          let p = (zip_at (IsSeen s) v.spans v.seen.items k d no_seen is.seen l).presence.others (omega (arith, last, inside)) j f q (λ i. g (i ∙ sym last)) in
+          let p = (zip_at (IsSpanSeen s) v.spans v.seen.items k d no_seen is.seen l).presence.others (omega (arith, last, inside)) j f q (λ i. g (i ∙ sym last)) in
           p (value_at xs (get_or (get_or v.spans k d).presence j f).subject) (a (get_or (get_or v.spans k d).presence j f).subject ((is.spans k d l).presence j f q))
 
   -- so does any atom where it is surely present
@@ -220,7 +220,7 @@ boxes_in ps qs count pair n p = record {
 }
 
 -- where all is fixed
-module _ (s : Trail) (ps : List Span) (vs : List Seen) (seen : AllZip (IsSeen s) ps vs) (fixed : All (IsFixedNow s) (span_subjects ps)) (xs : List ℤ) (opened : AreOpen s xs (span_subjects ps)) where
+module _ (s : Trail) (ps : List Span) (vs : List Seen) (seen : AllZip (IsSpanSeen s) ps vs) (fixed : All (IsFixedNow s) (span_subjects ps)) (xs : List ℤ) (opened : AreOpen s xs (span_subjects ps)) where
   apart_fixed : (i j : ℕ) (d : Span) → i < length ps → j < length ps → MayBeApart vs (pair_of_places j i) → Either xs (get_or ps i d) (get_or ps j d)
   apart_fixed i j d l m h =
       let a = start_fixed s ps vs seen fixed xs opened i d l in

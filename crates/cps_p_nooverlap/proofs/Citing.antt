@@ -17,7 +17,7 @@ use Rattle.cps_instance.specs.Parts.{span_runs}
 use Rattle.cps_trail.specs.Trail.{Trail}
 use Rattle.cps_p_nooverlap.specs.declared.pairs.Pair.{Pair}
 use Rattle.cps_p_nooverlap.specs.Citing.{Cites}
-use Rattle.cps_p_nooverlap.specs.Spans.{start_at, end_at, is_present, IsBefore, Says, IsPair, OrdersAt, ClashesAt, IsSmallAtom, IsSpan}
+use Rattle.cps_p_nooverlap.specs.Spans.{start_at, end_at, is_present, IsBefore, SaysOfTimes, IsPair, OrdersAt, ClashesAt, IsSmallAtom, IsSpan}
 use Rattle.cps_p_nooverlap.proofs.Pairing.{pair_apart}
 
 pub cites_none : (s : Trail) (us : List Atom) (P : List ℤ → Type 0) → ((xs : List ℤ) → P xs) → Cites s us us P
@@ -92,14 +92,14 @@ module _ (ps : List Span) (pair : Pair) (p : IsPair (length ps) pair) (x y : Spa
   pub cites_refuted : (s : Trail) (a b c : List Atom) → Cites s a b (λ xs. (is_present xs x ≡ true) × (is_present xs y ≡ true)) → Cites s b c (λ xs. ClashesAt xs ps pair) → Cites s a c (λ xs. IsNoOverlap (span_runs xs ps) → ⊥)
   cites_refuted s a b c f g = record { facts = λ h. g.facts (f.facts h); kept = λ xs h. f.kept xs (g.kept xs h); gives = λ xs h. (let k = f.gives xs (g.kept xs h) in refutes xs k.0 k.1 (g.gives xs h)) }
 
-  pub cites_start : (s : Trail) (a b c : List Atom) (u target : Atom) (time : ℤ) → u ≡ target → Says y u (λ ys. time ≤ℤ start_at ys y) → Cites s a b (λ xs. OrdersAt xs ps pair) → Cites s b c (λ xs. time ≤ℤ end_at xs x) → Cites s a c (λ xs. IsNoOverlap (span_runs xs ps) → atom_holds xs target ≡ true)
+  pub cites_start : (s : Trail) (a b c : List Atom) (u target : Atom) (time : ℤ) → u ≡ target → SaysOfTimes y u (λ ys. time ≤ℤ start_at ys y) → Cites s a b (λ xs. OrdersAt xs ps pair) → Cites s b c (λ xs. time ≤ℤ end_at xs x) → Cites s a c (λ xs. IsNoOverlap (span_runs xs ps) → atom_holds xs target ≡ true)
   cites_start s a b c u target time same says f g = record {
     facts = λ h. g.facts (f.facts h);
     kept = λ xs h. f.kept xs (g.kept xs h);
     gives = λ xs h o. (let k = in_order xs (f.gives xs (g.kept xs h)) o in let l = g.gives xs h in subst (λ (v : Atom). atom_holds xs v ≡ true) same (says.said xs (omega (arith, ints))));
   }
 
-  pub cites_end : (s : Trail) (a b c : List Atom) (u target : Atom) (time : ℤ) → u ≡ target → Says x u (λ ys. end_at ys x ≤ℤ time) → Cites s a b (λ xs. OrdersAt xs ps pair) → Cites s b c (λ xs. start_at xs y ≤ℤ time) → Cites s a c (λ xs. IsNoOverlap (span_runs xs ps) → atom_holds xs target ≡ true)
+  pub cites_end : (s : Trail) (a b c : List Atom) (u target : Atom) (time : ℤ) → u ≡ target → SaysOfTimes x u (λ ys. end_at ys x ≤ℤ time) → Cites s a b (λ xs. OrdersAt xs ps pair) → Cites s b c (λ xs. start_at xs y ≤ℤ time) → Cites s a c (λ xs. IsNoOverlap (span_runs xs ps) → atom_holds xs target ≡ true)
   cites_end s a b c u target time same says f g = record {
     facts = λ h. g.facts (f.facts h);
     kept = λ xs h. f.kept xs (g.kept xs h);
@@ -124,7 +124,7 @@ module _ (ps : List Span) (pair : Pair) (p : IsPair (length ps) pair) (x y : Spa
         (i.gives xs q) o);
   }
 
-pub says_within : (first : Domains) (p : Span) (u : Atom) (P : List ℤ → Type 0) → IsSpan first p → Says p u P → u.subject < length first
+pub says_within : (first : Domains) (p : Span) (u : Atom) (P : List ℤ → Type 0) → IsSpan first p → SaysOfTimes p u P → u.subject < length first
 says_within first p u P h says = elim says.place [
   | inl e ↦ (let i = h.start in omega (arith, e))
   | inr e ↦ (let i = h.end in omega (arith, e))

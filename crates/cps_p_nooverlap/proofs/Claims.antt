@@ -15,8 +15,8 @@ use Rattle.cps_rule.specs.Rules.{IsFact, AreFacts, AllTrueAt, IsGiven, IsImpossi
 use Rattle.cps_p_nooverlap.specs.declared.crowd.Crowd.{Crowd}
 use Rattle.cps_p_nooverlap.specs.declared.crowd.Ends.TheVariants.{Both, Start, End}
 use Rattle.cps_p_nooverlap.specs.Citing.{Cites}
-use Rattle.cps_p_nooverlap.specs.Spans.{is_present, IsSpan, AreSpans, Says}
-use Rattle.cps_p_nooverlap.specs.Crowds.{near_at, far_at, LastsAt, AreRuns, IsAside, IsCrowd, StartsFrom, StartsBeforeUnless, IsAboutOne, IsReasoned}
+use Rattle.cps_p_nooverlap.specs.Spans.{is_present, IsSpan, AreSpans, SaysOfTimes}
+use Rattle.cps_p_nooverlap.specs.Crowds.{near_at, far_at, LastsAt, AreRuns, IsUncounted, IsCrowd, StartsFrom, StartsBeforeUnless, IsAboutOne, IsReasoned}
 use Rattle.cps_p_nooverlap.proofs.Citing.{says_within}
 use Rattle.cps_p_nooverlap.proofs.Crowding.{comes_after_all, comes_after_one, comes_after}
 
@@ -28,7 +28,7 @@ module _ (ps : List Span) (p : ℕ) (l : p < length ps) (q : Span) (is : q ≡ g
   everywhere : (xs : List ℤ) (d : Span) → is_present xs (get_or ps p d) ≡ true → (e : Span) → is_present xs (get_or ps p e) ≡ true
   everywhere xs d h e = subst (λ (u : Span). is_present xs u ≡ true) (get_or_default ps p d e l) h
 
-  module _ (s : Trail) (r : Bool) (a b d : List Atom) (ws : List ℕ) (m : ℕ) (i : IsAside (length ps) ws p m) where
+  module _ (s : Trail) (r : Bool) (a b d : List Atom) (ws : List ℕ) (m : ℕ) (i : IsUncounted (length ps) ws p m) where
     much : 0 < sum ws
     much = let k = i.count.is in let o = i.count.some in omega arith
 
@@ -68,7 +68,7 @@ module _ (ps : List Span) (whole part : List ℕ) (c : Crowd) (m : ℕ) (q : Spa
 
 -- a present span's own atom, of what holds of it
 pub reasoned_bound : (s : Trail) (ps : List Span) (old mid us : List Atom) (k : ℕ) (r : Bool) (time : ℤ) (q : Span) (u : Atom) → AreSpans s.first ps → k < length ps → q ≡ get_or ps k q → old ≡ [] → Cites s old mid (λ xs. StartsFrom r xs ps k time)
-    → Cites s mid us (λ xs. is_present xs q ≡ true) → Says q u (λ xs. time ≤ℤ near_at r xs q) → IsReasoned s ps us u
+    → Cites s mid us (λ xs. is_present xs q ≡ true) → SaysOfTimes q u (λ xs. time ≤ℤ near_at r xs q) → IsReasoned s ps us u
 reasoned_bound s ps old mid us k r time q u are l is none c present says = record {
   subject = says_within s.first q u (λ xs. time ≤ℤ near_at r xs q) (subst (λ (p : Span). IsSpan s.first p) (sym is) (are k q l)) says;
   cites = subst (λ (vs : List Atom). Cites s vs us (λ xs. IsNoOverlap (span_runs xs ps) → atom_holds xs u ≡ true)) none (record {

@@ -8,7 +8,7 @@ use Rattle.cps_model.specs.Scheduling.{IsNoOverlap}
 use Rattle.cps_instance.specs.declared.task.Span.{Span}
 use Rattle.cps_instance.specs.Parts.{span_runs}
 use Rattle.cps_p_nooverlap.specs.Spans.{is_present}
-use Rattle.cps_p_nooverlap.specs.Packing.{Run, LieWithin, AreApart}
+use Rattle.cps_p_nooverlap.specs.Packing.{Run, LieWithin, AreRunsApart}
 use Rattle.cps_p_nooverlap.specs.declared.crowd.Ends.{Ends}
 use Rattle.cps_p_nooverlap.specs.declared.crowd.Ends.TheVariants.{Both, Start, End}
 use Rattle.cps_p_nooverlap.specs.Crowds.{near_at, far_at, low_at, high_at, LastsAt, IsRun, AreRunsUpTo, AreRuns}
@@ -88,7 +88,7 @@ packed r xs ps ws a b same are h some =
         let y = lasts_turned r xs (get_or ps j no_span) (get_or ws j 0) k.lasts in
         elim (turned_apart r xs ps i j no_span (λ e. absurd (omega (arith, e))) m o f.present k.present h) [ inl q ↦ inl (omega (arith, ints)) | inr q ↦ inr (omega (arith, ints)) ]
 
-    apart : AreApart (runs r xs ps ws)
+    apart : AreRunsApart (runs r xs ps ws)
     apart = λ i j d l m.
         subst (λ (z : Run). 0 < z.length → 0 < (get_or (runs r xs ps ws) j d).length → ((z.start +ℤ pos z.length) ≤ℤ (get_or (runs r xs ps ws) j d).start) ⊎ (((get_or (runs r xs ps ws) j d).start +ℤ pos (get_or (runs r xs ps ws) j d).length) ≤ℤ z.start)) (sym (at i d (omega arith)))
         (subst (λ (u : Run). 0 < get_or ws i 0 → 0 < u.length → ((near_at r xs (get_or ps i no_span) +ℤ pos (get_or ws i 0)) ≤ℤ u.start) ⊎ ((u.start +ℤ pos u.length) ≤ℤ near_at r xs (get_or ps i no_span))) (sym (at j d m))

@@ -6,7 +6,7 @@ use Rattle.cps_instance.specs.declared.task.Span.{Span}
 use Rattle.cps_trail.specs.Trail.{Trail}
 use Rattle.cps_propagate.specs.Strength.{MayPrecede, MayBeOrdered, IsPresentAt, HasOrders}
 use Rattle.cps_p_nooverlap.specs.declared.seen.Seen.{Seen}
-use Rattle.cps_p_nooverlap.specs.Spans.{IsSeen, AreAllowed, no_seen}
+use Rattle.cps_p_nooverlap.specs.Spans.{IsSpanSeen, AreAllowed, no_seen}
 use Rattle.cps_p_nooverlap.proofs.Timing.{zip_at}
 use Rattle.cps_p_nooverlap.proofs.Pairing.{less_or}
 
@@ -14,9 +14,9 @@ pub turned_order : (s : Trail) (p q : Span) → MayBeOrdered s p q → MayBeOrde
 turned_order s p q (inl h) = inr h
 turned_order s p q (inr h) = inl h
 
-module _ (s : Trail) (ps : List Span) (vs : List Seen) (seen : AllZip (IsSeen s) ps vs) where
-  seen_at : (k : ℕ) (d : Span) → k < length ps → IsSeen s (get_or ps k d) (get_or vs k no_seen)
-  seen_at k d l = zip_at (IsSeen s) ps vs k d no_seen seen l
+module _ (s : Trail) (ps : List Span) (vs : List Seen) (seen : AllZip (IsSpanSeen s) ps vs) where
+  seen_at : (k : ℕ) (d : Span) → k < length ps → IsSpanSeen s (get_or ps k d) (get_or vs k no_seen)
+  seen_at k d l = zip_at (IsSpanSeen s) ps vs k d no_seen seen l
 
   may_precede : (i j : ℕ) (d : Span) → i < length ps → j < length ps → (get_or vs i no_seen).times.end_low ≤ℤ (get_or vs j no_seen).times.start_high → MayPrecede s (get_or ps i d) (get_or ps j d)
   may_precede i j d l m h = record {

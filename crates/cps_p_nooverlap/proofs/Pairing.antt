@@ -21,7 +21,7 @@ use Rattle.cps_p_nooverlap.specs.declared.pairs.Pair.{Pair}
 use Rattle.cps_p_nooverlap.specs.declared.seen.Seen.{Seen}
 use Rattle.cps_p_nooverlap.specs.Citing.{GivesMore}
 use Rattle.cps_p_nooverlap.specs.Hulls.{Proposes}
-use Rattle.cps_p_nooverlap.specs.Spans.{start_at, end_at, is_present, IsBefore, AreSpans, IsSeen, Says, IsPair, AreKnown, AreSeen, AddsApart, IsAllowed, AreAllowed, AllowsFirst, Orders, LacksSpan, no_seen}
+use Rattle.cps_p_nooverlap.specs.Spans.{start_at, end_at, is_present, IsBefore, AreSpans, IsSpanSeen, SaysOfTimes, IsPair, AreKnown, AreSeen, AddsApart, IsAllowed, AreAllowed, AllowsFirst, Orders, LacksSpan, no_seen}
 use Rattle.cps_p_nooverlap.proofs.Apart.{apart_of}
 use Rattle.cps_p_nooverlap.proofs.Timing.{zip_at, zip_length}
 
@@ -47,9 +47,9 @@ pair_apart xs ps i j d n l m e f h = elim (less_or i j n) [
 ]
 
 -- what was measured of spans
-module _ (s : Trail) (ps : List Span) (vs : List Seen) (are : AreSpans s.first ps) (seen : AllZip (IsSeen s) ps vs) where
-  at : (k : ℕ) (d : Span) → k < length ps → IsSeen s (get_or ps k d) (get_or vs k no_seen)
-  at k d l = zip_at (IsSeen s) ps vs k d no_seen seen l
+module _ (s : Trail) (ps : List Span) (vs : List Seen) (are : AreSpans s.first ps) (seen : AllZip (IsSpanSeen s) ps vs) where
+  at : (k : ℕ) (d : Span) → k < length ps → IsSpanSeen s (get_or ps k d) (get_or vs k no_seen)
+  at k d l = zip_at (IsSpanSeen s) ps vs k d no_seen seen l
 
   -- what a span's ends are between, at values that are left
   module _ (xs : List ℤ) (o : IsAdmitted s.first s.entries xs) (k : ℕ) (d : Span) (l : k < length ps) where
@@ -106,19 +106,19 @@ module _ (s : Trail) (ps : List Span) (vs : List Seen) (are : AreSpans s.first p
       → (get_or vs pair.before no_seen).presence.sure ≡ true → LacksSpan s ps pair.after
   absent_after pair p forth back e = λ xs d o h f. clashing pair p forth back xs d o h (surely xs o pair.before d p.before e) f
 
-  says_about : (k : ℕ) (d : Span) (u : Atom) (P : List ℤ → Type 0) → k < length ps → Says (get_or ps k d) u P → u.subject < length s.first
+  says_about : (k : ℕ) (d : Span) (u : Atom) (P : List ℤ → Type 0) → k < length ps → SaysOfTimes (get_or ps k d) u P → u.subject < length s.first
   says_about k d u P l h = elim h.place [
     | inl e ↦ (let i = (are k d l).start in omega (arith, e))
     | inr e ↦ (let i = (are k d l).end in omega (arith, e))
   ]
 
-  pub start_given : (b : Body) (pair : Pair) (d : Span) (u : Atom) → IsPair (length ps) pair → Orders b s ps pair → Says (get_or ps pair.after d) u (λ xs. (get_or vs pair.before no_seen).times.end_low ≤ℤ start_at xs (get_or ps pair.after d)) → IsGiven b s u
+  pub start_given : (b : Body) (pair : Pair) (d : Span) (u : Atom) → IsPair (length ps) pair → Orders b s ps pair → SaysOfTimes (get_or ps pair.after d) u (λ xs. (get_or vs pair.before no_seen).times.end_low ≤ℤ start_at xs (get_or ps pair.after d)) → IsGiven b s u
   start_given b pair d u p order h = record {
     subject = says_about pair.after d u (λ xs. (get_or vs pair.before no_seen).times.end_low ≤ℤ start_at xs (get_or ps pair.after d)) p.after h;
     at = λ xs o holds. h.said xs (let a = order xs d o holds in let e = end_least xs o pair.before d p.before in omega (arith, ints));
   }
 
-  pub end_given : (b : Body) (pair : Pair) (d : Span) (u : Atom) → IsPair (length ps) pair → Orders b s ps pair → Says (get_or ps pair.before d) u (λ xs. end_at xs (get_or ps pair.before d) ≤ℤ (get_or vs pair.after no_seen).times.start_high) → IsGiven b s u
+  pub end_given : (b : Body) (pair : Pair) (d : Span) (u : Atom) → IsPair (length ps) pair → Orders b s ps pair → SaysOfTimes (get_or ps pair.before d) u (λ xs. end_at xs (get_or ps pair.before d) ≤ℤ (get_or vs pair.after no_seen).times.start_high) → IsGiven b s u
   end_given b pair d u p order h = record {
     subject = says_about pair.before d u (λ xs. end_at xs (get_or ps pair.before d) ≤ℤ (get_or vs pair.after no_seen).times.start_high) p.before h;
     at = λ xs o holds. h.said xs (let a = order xs d o holds in let e = start_most xs o pair.after d p.after in omega (arith, ints));
@@ -168,7 +168,7 @@ gives_proposed body s (Some t) old new g (hint, e) h =
 
 -- what is as it was seen is known
 pub are_known : (s : Trail) (ps : List Span) (vs : List Seen) → AreSeen s ps vs → AreKnown ps vs
-are_known s ps vs are = record { each = zip_length (IsSeen s) ps vs are.seen; small = λ k d l i e m. record { low = ((are.spans k d l).literals i e m).low; high = ((are.spans k d l).literals i e m).high } }
+are_known s ps vs are = record { each = zip_length (IsSpanSeen s) ps vs are.seen; small = λ k d l i e m. record { low = ((are.spans k d l).literals i e m).low; high = ((are.spans k d l).literals i e m).high } }
 
 pub adds_then : (ps : List Span) (vs : List Seen) (old mid new : List Narrowing) → AddsApart ps vs old mid → AddsApart ps vs mid new → AddsApart ps vs old new
 adds_then ps vs old mid new f g = λ s are h. g s are (f s are h)

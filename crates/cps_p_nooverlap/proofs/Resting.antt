@@ -17,7 +17,7 @@ use Rattle.cps_trail.specs.Trail.{Trail, IsTrueNow}
 use Rattle.cps_propagate.specs.Now.{IsOpenTo, IsFixedNow, AreOpen}
 use Rattle.cps_rule.specs.Rules.{IsAtRest, IsFittingRule}
 use Rattle.cps_p_nooverlap.specs.declared.seen.Seen.{Seen}
-use Rattle.cps_p_nooverlap.specs.Spans.{start_at, end_at, is_present, IsBefore, AreSpans, IsSeen, AreAllowed, no_seen}
+use Rattle.cps_p_nooverlap.specs.Spans.{start_at, end_at, is_present, IsBefore, AreSpans, IsSpanSeen, AreAllowed, no_seen}
 use Rattle.cps_p_nooverlap.proofs.Apart.{no_overlap}
 use Rattle.cps_p_nooverlap.proofs.Timing.{zip_at}
 use Rattle.cps_p_nooverlap.proofs.Ordering.{has_orders}
@@ -42,7 +42,7 @@ true_of s xs (u ∷ us) f o h =
     (λ x q. subst (λ (v : ℤ). meets u.op u.value v ≡ true) (All-head (λ w. IsFixedNow s w.subject) u us f (value_at xs u.subject) x (All-head (λ w. IsOpenTo s w.subject (value_at xs w.subject)) u us o) q) (first_of_both (atom_holds xs u) (list_all (atom_holds xs) us) h))
     (true_of s xs us (All-tail (λ w. IsFixedNow s w.subject) u us f) (All-tail (λ w. IsOpenTo s w.subject (value_at xs w.subject)) u us o) (second_of_both (atom_holds xs u) (list_all (atom_holds xs) us) h))
 
-module _ (s : Trail) (ps : List Span) (vs : List Seen) (seen : AllZip (IsSeen s) ps vs) (fixed : All (IsFixedNow s) (span_subjects ps)) (xs : List ℤ) (opened : AreOpen s xs (span_subjects ps)) where
+module _ (s : Trail) (ps : List Span) (vs : List Seen) (seen : AllZip (IsSpanSeen s) ps vs) (fixed : All (IsFixedNow s) (span_subjects ps)) (xs : List ℤ) (opened : AreOpen s xs (span_subjects ps)) where
   module _ (k : ℕ) (d : Span) (l : k < length ps) where
     p : Span
     p = get_or ps k d
@@ -53,8 +53,8 @@ module _ (s : Trail) (ps : List Span) (vs : List Seen) (seen : AllZip (IsSeen s)
     open_here : All (λ i. IsOpenTo s i (value_at xs i)) (subjects_of_span (get_or ps k d))
     open_here = of_span (λ i. IsOpenTo s i (value_at xs i)) ps k d l opened
 
-    here : IsSeen s (get_or ps k d) (get_or vs k no_seen)
-    here = zip_at (IsSeen s) ps vs k d no_seen seen l
+    here : IsSpanSeen s (get_or ps k d) (get_or vs k no_seen)
+    here = zip_at (IsSpanSeen s) ps vs k d no_seen seen l
 
     pub start_fixed : (get_or vs k no_seen).times.start_high ≤ℤ start_at xs (get_or ps k d)
     start_fixed = here.times.start_fixed (fixed_here 0 0 (omega arith)) (start_at xs (get_or ps k d)) (open_here 0 0 (omega arith))
@@ -78,7 +78,7 @@ module _ (s : Trail) (ps : List Span) (vs : List Seen) (seen : AllZip (IsSeen s)
       let h = end_fixed j d m in
       elim (allowed i j l m (sure j d m f) (sure i d li e)) [ inl q ↦ inr (omega (arith, ints)) | inr q ↦ inl (omega (arith, ints)) ]
 
-pub at_rest : (s : Trail) (ps : List Span) (vs : List Seen) → AllZip (IsSeen s) ps vs → AreAllowed vs (length ps) → IsAtRest (NoOverlap ps) s
+pub at_rest : (s : Trail) (ps : List Span) (vs : List Seen) → AllZip (IsSpanSeen s) ps vs → AreAllowed vs (length ps) → IsAtRest (NoOverlap ps) s
 at_rest s ps vs seen allowed = record { decided = λ fixed xs opened. no_overlap xs ps (apart_fixed s ps vs seen fixed xs opened allowed); strong = has_orders s ps vs seen allowed }
 
 -- what fits is a list of spans

@@ -14,7 +14,7 @@ use Rattle.cps_propagate.specs.Strength.{MayEndAt}
 use Rattle.cps_p_nooverlap.specs.declared.hull.Hull.{Hull}
 use Rattle.cps_p_nooverlap.specs.declared.seen.Times.{Times}
 use Rattle.cps_p_nooverlap.specs.Hulls.{IsHullNow}
-use Rattle.cps_p_nooverlap.specs.Spans.{start_at, end_of, end_at, AreTimes, Says}
+use Rattle.cps_p_nooverlap.specs.Spans.{start_at, end_of, end_at, AreTimes, SaysOfTimes}
 
 pub times_some : (s : Trail) (p : Span) (far : ℤ) (h : Hull) (v : Times) → p.length ≡ Some far → IsHullNow s p.start h → v.start_low ≡ h.low → v.start_high ≡ h.high → v.end_low ≡ h.low +ℤ far → v.end_high ≡ h.high +ℤ far → AreTimes s p v
 times_some s p far h v e m a b c d = record {
@@ -59,28 +59,28 @@ zip_at R (x ∷ xs) (y ∷ ys) zero d e h l = h.0
 zip_at R (x ∷ xs) (y ∷ ys) (suc k) d e h l = zip_at R xs ys k d e h.1 (omega arith)
 
 -- what a bound of a start says of the end that is so far from it
-pub says_end_from : (p : Span) (u : Atom) (far time sooner : ℤ) → p.length ≡ Some far → sooner ≡ time -ℤ far → Says p u (λ xs. sooner ≤ℤ start_at xs p) → Says p u (λ xs. time ≤ℤ end_at xs p)
+pub says_end_from : (p : Span) (u : Atom) (far time sooner : ℤ) → p.length ≡ Some far → sooner ≡ time -ℤ far → SaysOfTimes p u (λ xs. sooner ≤ℤ start_at xs p) → SaysOfTimes p u (λ xs. time ≤ℤ end_at xs p)
 says_end_from p u far time sooner e same h = record {
   place = h.place;
   says = λ xs a. (let k = h.says xs a in let i = ap (λ (l : Option ℤ). end_of l (value_at xs p.start) (value_at xs p.end)) e in omega (arith, ints));
   said = λ xs a. h.said xs (let i = ap (λ (l : Option ℤ). end_of l (value_at xs p.start) (value_at xs p.end)) e in omega (arith, ints));
 }
 
-pub says_end_up_to : (p : Span) (u : Atom) (far time sooner : ℤ) → p.length ≡ Some far → sooner ≡ time -ℤ far → Says p u (λ xs. start_at xs p ≤ℤ sooner) → Says p u (λ xs. end_at xs p ≤ℤ time)
+pub says_end_up_to : (p : Span) (u : Atom) (far time sooner : ℤ) → p.length ≡ Some far → sooner ≡ time -ℤ far → SaysOfTimes p u (λ xs. start_at xs p ≤ℤ sooner) → SaysOfTimes p u (λ xs. end_at xs p ≤ℤ time)
 says_end_up_to p u far time sooner e same h = record {
   place = h.place;
   says = λ xs a. (let k = h.says xs a in let i = ap (λ (l : Option ℤ). end_of l (value_at xs p.start) (value_at xs p.end)) e in omega (arith, ints));
   said = λ xs a. h.said xs (let i = ap (λ (l : Option ℤ). end_of l (value_at xs p.start) (value_at xs p.end)) e in omega (arith, ints));
 }
 
-pub says_start_from : (p : Span) (time v : ℤ) → v ≡ time → Says p (record { subject = p.start; op = Ge; value = v }) (λ xs. time ≤ℤ start_at xs p)
+pub says_start_from : (p : Span) (time v : ℤ) → v ≡ time → SaysOfTimes p (record { subject = p.start; op = Ge; value = v }) (λ xs. time ≤ℤ start_at xs p)
 says_start_from p time v e = record {
   place = inl refl;
   says = λ xs a. (let k = true_le v (value_at xs p.start) a in omega (arith, ints));
   said = λ xs a. le_true v (value_at xs p.start) (omega (arith, ints));
 }
 
-pub says_start_up_to : (p : Span) (time v : ℤ) → v ≡ time → Says p (record { subject = p.start; op = Le; value = v }) (λ xs. start_at xs p ≤ℤ time)
+pub says_start_up_to : (p : Span) (time v : ℤ) → v ≡ time → SaysOfTimes p (record { subject = p.start; op = Le; value = v }) (λ xs. start_at xs p ≤ℤ time)
 says_start_up_to p time v e = record {
   place = inl refl;
   says = λ xs a. (let k = true_le (value_at xs p.start) v a in omega (arith, ints));

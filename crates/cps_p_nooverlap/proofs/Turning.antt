@@ -7,7 +7,7 @@ use Rattle.cps_literal.specs.declared.atom.Atom.{Atom}
 use Rattle.cps_instance.specs.declared.task.Span.{Span}
 use Rattle.cps_instance.specs.Parts.{span_runs}
 use Rattle.cps_model.specs.Scheduling.{IsNoOverlap}
-use Rattle.cps_p_nooverlap.specs.Spans.{start_at, end_at, is_present, Says}
+use Rattle.cps_p_nooverlap.specs.Spans.{start_at, end_at, is_present, SaysOfTimes}
 use Rattle.cps_p_nooverlap.specs.Crowds.{near_at, far_at, LastsAt}
 use Rattle.cps_p_nooverlap.proofs.Pairing.{pair_apart}
 
@@ -19,28 +19,28 @@ pub le_or : (x y : ℤ) → (x ≤ℤ y) ⊎ (y <ℤ x)
 le_or x y = elim (test (int_le x y)) [ inl e ↦ inl (true_le x y e) | inr e ↦ inr (false_le x y e) ]
 
 -- a bound of an end, with time reversed
-pub near_from : (p : Span) (u : Atom) (t v : ℤ) → v ≡ pos 0 -ℤ t → Says p u (λ xs. end_at xs p ≤ℤ v) → Says p u (λ xs. t ≤ℤ near_at true xs p)
+pub near_from : (p : Span) (u : Atom) (t v : ℤ) → v ≡ pos 0 -ℤ t → SaysOfTimes p u (λ xs. end_at xs p ≤ℤ v) → SaysOfTimes p u (λ xs. t ≤ℤ near_at true xs p)
 near_from p u t v e h = record {
   place = h.place;
   says = λ xs a. (let k = h.says xs a in omega (arith, ints));
   said = λ xs a. h.said xs (omega (arith, ints));
 }
 
-pub near_up_to : (p : Span) (u : Atom) (t v : ℤ) → v ≡ pos 0 -ℤ t → Says p u (λ xs. v ≤ℤ end_at xs p) → Says p u (λ xs. near_at true xs p ≤ℤ t)
+pub near_up_to : (p : Span) (u : Atom) (t v : ℤ) → v ≡ pos 0 -ℤ t → SaysOfTimes p u (λ xs. v ≤ℤ end_at xs p) → SaysOfTimes p u (λ xs. near_at true xs p ≤ℤ t)
 near_up_to p u t v e h = record {
   place = h.place;
   says = λ xs a. (let k = h.says xs a in omega (arith, ints));
   said = λ xs a. h.said xs (omega (arith, ints));
 }
 
-pub far_from : (p : Span) (u : Atom) (t v : ℤ) → v ≡ pos 0 -ℤ t → Says p u (λ xs. start_at xs p ≤ℤ v) → Says p u (λ xs. t ≤ℤ far_at true xs p)
+pub far_from : (p : Span) (u : Atom) (t v : ℤ) → v ≡ pos 0 -ℤ t → SaysOfTimes p u (λ xs. start_at xs p ≤ℤ v) → SaysOfTimes p u (λ xs. t ≤ℤ far_at true xs p)
 far_from p u t v e h = record {
   place = h.place;
   says = λ xs a. (let k = h.says xs a in omega (arith, ints));
   said = λ xs a. h.said xs (omega (arith, ints));
 }
 
-pub far_up_to : (p : Span) (u : Atom) (t v : ℤ) → v ≡ pos 0 -ℤ t → Says p u (λ xs. v ≤ℤ start_at xs p) → Says p u (λ xs. far_at true xs p ≤ℤ t)
+pub far_up_to : (p : Span) (u : Atom) (t v : ℤ) → v ≡ pos 0 -ℤ t → SaysOfTimes p u (λ xs. v ≤ℤ start_at xs p) → SaysOfTimes p u (λ xs. far_at true xs p ≤ℤ t)
 far_up_to p u t v e h = record {
   place = h.place;
   says = λ xs a. (let k = h.says xs a in omega (arith, ints));

@@ -39,14 +39,14 @@ pub record ArePresent (xs : List ℤ) (ps : List Span) (pair : Pair) (d : Span) 
   pub after : is_present xs (slice_index_or ps pair.after d) ≡ true
 
 -- one of two spans comes before the other
-abbrev pub AreApart : List ℤ → List Span → Pair → Span → Type 0
-AreApart xs ps pair d = IsBefore xs (slice_index_or ps pair.before d) (slice_index_or ps pair.after d)
+abbrev pub AreSpansApart : List ℤ → List Span → Pair → Span → Type 0
+AreSpansApart xs ps pair d = IsBefore xs (slice_index_or ps pair.before d) (slice_index_or ps pair.after d)
     ⊎ IsBefore xs (slice_index_or ps pair.after d) (slice_index_or ps pair.before d)
 
 -- each two present boxes are apart in one of two directions
 abbrev pub AreDisjoint : List ℤ → List Span → List Span → Type 0
 AreDisjoint xs ps qs = (pair : Pair) (d : Span) → AreBoxes ps qs pair → ArePresent xs ps pair d
-    → ArePresent xs qs pair d → AreApart xs ps pair d ⊎ AreApart xs qs pair d
+    → ArePresent xs qs pair d → AreSpansApart xs ps pair d ⊎ AreSpansApart xs qs pair d
 
 -- they are wherever a body holds
 abbrev pub KeepsApart : Body → List Span → List Span → Type 0
@@ -59,8 +59,8 @@ AddsGiven v w old new = (s : Trail) → IsDirection s v → IsDirection s w → 
     → GivesMore b s old new
 
 -- in each no such body can hold
-abbrev pub LeavesNone : Direction → Direction → Type 0
-LeavesNone v w = (s : Trail) → IsDirection s v → IsDirection s w → (b : Body) → KeepsApart b v.spans w.spans
+abbrev pub LeavesNoBody : Direction → Direction → Type 0
+LeavesNoBody v w = (s : Trail) → IsDirection s v → IsDirection s w → (b : Body) → KeepsApart b v.spans w.spans
     → IsImpossible b s
 
 -- where boxes are apart, one comes before another in the first direction

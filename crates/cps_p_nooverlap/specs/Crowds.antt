@@ -55,14 +55,14 @@ abbrev pub AreRuns : Ends → Bool → List ℤ → List Span → List ℕ → �
 AreRuns e r xs ps ws a b = AreRunsUpTo (length ps) e r xs ps ws a b
 
 -- what is counted: something, and a number for each of n spans
-pub record IsCount (n : ℕ) (ws : List ℕ) (m : ℕ) : Type 0 where
+pub record IsSpanCount (n : ℕ) (ws : List ℕ) (m : ℕ) : Type 0 where
   pub each : length ws ≡ n
   pub is : m ≡ sum ws
   pub some : 0 < m
 
 -- and one of the n spans is not counted
-pub record IsAside (n : ℕ) (ws : List ℕ) (k m : ℕ) : Type 0 where
-  pub count : IsCount n ws m
+pub record IsUncounted (n : ℕ) (ws : List ℕ) (k m : ℕ) : Type 0 where
+  pub count : IsSpanCount n ws m
   pub place : k < n
   pub aside : slice_index_or ws k 0 ≡ 0
 
@@ -70,7 +70,7 @@ pub record IsAside (n : ℕ) (ws : List ℕ) (k m : ℕ) : Type 0 where
 pub record IsCrowd (n : ℕ) (whole part : List ℕ) (c : Crowd) (m : ℕ) : Type 0 where
   pub place : c.place < n
   pub every : length whole ≡ n
-  pub late : IsCount n part m
+  pub late : IsSpanCount n part m
   pub aside : slice_index_or whole c.place 0 ≡ 0
   pub aside_too : slice_index_or part c.place 0 ≡ 0
   pub takes : 0 < c.weight

@@ -33,13 +33,13 @@ pub record ArePlaces (n : ℕ) (p : Places) : Type 0 where
   pub end : p.end < n
   pub size : p.size < n
 
-pub record IsMeasured (s : Trail) (p : Places) (h : Hulls) : Type 0 where
+pub record AreHullsMeasured (s : Trail) (p : Places) (h : Hulls) : Type 0 where
   pub start : IsHullNow s p.start h.start
   pub end : IsHullNow s p.end h.end
   pub size : IsHullNow s p.size h.size
 
 -- all ends are such as a subject may have
-pub record AreInside (h : Hulls) : Type 0 where
+pub record AreHullsInside (h : Hulls) : Type 0 where
   pub start_low : IsInside h.start.low
   pub start_high : IsInside h.start.high
   pub end_low : IsInside h.end.low
@@ -49,17 +49,17 @@ pub record AreInside (h : Hulls) : Type 0 where
 
 -- in each store in which these are the ends of an interval's subjects there is no interval
 abbrev pub LeavesNoInterval : Hulls → Type 0
-LeavesNoInterval h = (s : Trail) (p : Places) → ArePlaces (length s.first) p → IsMeasured s p h
+LeavesNoInterval h = (s : Trail) (p : Places) → ArePlaces (length s.first) p → AreHullsMeasured s p h
     → IsImpossible (body_of p) s
 
 -- in each store in which these are the ends of the subjects: where each atom of an older list is given by the
 -- interval, each of a newer one is
 abbrev pub AddsBounds : Places → Hulls → List Narrowing → List Narrowing → Type 0
-AddsBounds p h old new = (s : Trail) → ArePlaces (length s.first) p → IsMeasured s p h
+AddsBounds p h old new = (s : Trail) → ArePlaces (length s.first) p → AreHullsMeasured s p h
     → GivesMore (body_of p) s old new
 
 -- the ends leave room for an interval
-pub record IsPossible (h : Hulls) : Type 0 where
+pub record FitsInterval (h : Hulls) : Type 0 where
   pub some : pos 0 ≤ℤ h.size.high
   pub not_before : (h.start.low +ℤ h.size.low) ≤ℤ h.end.high
   pub not_after : h.end.low ≤ℤ (h.start.high +ℤ h.size.high)

@@ -12,6 +12,6 @@ abbrev pub LieWithin : ℤ → ℕ → List Run → Type 0
 LieWithin a n rs = All (λ r. 0 < r.length → (a ≤ℤ r.start) × ((r.start +ℤ pos r.length) ≤ℤ (a +ℤ pos n))) rs
 
 -- of two runs that take time, one ends before the other starts
-abbrev pub AreApart : List Run → Type 0
-AreApart rs = AllPairs (λ r u. 0 < r.length → 0 < u.length
+abbrev pub AreRunsApart : List Run → Type 0
+AreRunsApart rs = AllPairs (λ r u. 0 < r.length → 0 < u.length
     → ((r.start +ℤ pos r.length) ≤ℤ u.start) ⊎ ((u.start +ℤ pos u.length) ≤ℤ r.start)) rs

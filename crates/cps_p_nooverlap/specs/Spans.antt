@@ -69,12 +69,12 @@ pub record IsPresence (s : Trail) (us : List Atom) (v : Presence) : Type 0 where
   pub others : v.last < length us → (k : ℕ) (d : Atom) → k < length us → k ≢ v.last
       → IsTrueNow s (slice_index_or us k d)
 
-pub record IsSeen (s : Trail) (p : Span) (v : Seen) : Type 0 where
+pub record IsSpanSeen (s : Trail) (p : Span) (v : Seen) : Type 0 where
   pub times : AreTimes s p v.times
   pub presence : IsPresence s p.presence v.presence
 
 -- an atom about a span's start or end says something of its times
-pub record Says (p : Span) (u : Atom) (P : List ℤ → Type 0) : Type 0 where
+pub record SaysOfTimes (p : Span) (u : Atom) (P : List ℤ → Type 0) : Type 0 where
   pub place : (u.subject ≡ p.start) ⊎ (u.subject ≡ p.end)
   pub says : (xs : List ℤ) → atom_holds xs u ≡ true → P xs
   pub said : (xs : List ℤ) → P xs → atom_holds xs u ≡ true
@@ -98,7 +98,7 @@ pub record AreKnown (ps : List Span) (vs : List Seen) : Type 0 where
 -- in a store spans have domains, and what was seen of them is so
 pub record AreSeen (s : Trail) (ps : List Span) (vs : List Seen) : Type 0 where
   pub spans : AreSpans s.first ps
-  pub seen : AllZip (IsSeen s) ps vs
+  pub seen : AllZip (IsSpanSeen s) ps vs
 
 -- wherever a body holds at values that a store leaves, one span comes before another
 abbrev pub Orders : Body → Trail → List Span → Pair → Type 0

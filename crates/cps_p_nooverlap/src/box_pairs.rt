@@ -6,7 +6,7 @@
 //! `across` it, and serves both ways.
 ghost use Rattle.std.specs.Prelude.{◌≡◌, ◌<◌, length, slice_index_or, true, false, OnOk, IfOk, IfSome, IsTrue, ◌↔◌};
 ghost use Rattle.cps_p_nooverlap.specs.Spans.{IsPair, IsSmallAtom, no_seen};
-ghost use Rattle.cps_p_nooverlap.specs.Boxes.{IsKnown, AreBoxes, AddsGiven, LeavesNone, IsBoxAbsent, IsLate, IsOpenOrder, Overlap, MayBeApart, IsSureBox, AreBoxesAllowed, AllowsBoxes, AreAllAllowed, IsLastAtom, IsLastOfBox, IsCount};
+ghost use Rattle.cps_p_nooverlap.specs.Boxes.{IsKnown, AreBoxes, AddsGiven, LeavesNoBody, IsBoxAbsent, IsLate, IsOpenOrder, Overlap, MayBeApart, IsSureBox, AreBoxesAllowed, AllowsBoxes, AreAllAllowed, IsLastAtom, IsLastOfBox, IsCount};
 
 use crate::pairs::{Pair, follow};
 use crate::seen::{Seen, see};
@@ -222,7 +222,7 @@ fn clash(
     requires in_x { Overlap x.now.seen.items pair }
     requires in_y { Overlap y.now.seen.items pair }
     ensures given { OnOk result (AddsGiven x.now y.now found.old.items found.new.items) }
-    ensures impossible { result ≡ Ok true → LeavesNone x.now y.now }
+    ensures impossible { result ≡ Ok true → LeavesNoBody x.now y.now }
     ensures allowed { result ≡ Ok false → AreBoxesAllowed x.now.seen.items y.now.seen.items pair }
 {
     let before = is_sure(x, y, pair.before);
@@ -249,7 +249,7 @@ fn meet(
     requires y { IsKnown y.now }
     requires pair { AreBoxes x.now.spans y.now.spans pair }
     ensures given { OnOk result (AddsGiven x.now y.now found.old.items found.new.items) }
-    ensures impossible { result ≡ Ok true → LeavesNone x.now y.now }
+    ensures impossible { result ≡ Ok true → LeavesNoBody x.now y.now }
     ensures allowed { result ≡ Ok false → AreBoxesAllowed x.now.seen.items y.now.seen.items pair }
 {
     let in_x = overlap(x, pair);
@@ -277,7 +277,7 @@ fn meet_below(
     requires place_x { place < length x.now.spans }
     requires place_y { place < length y.now.spans }
     ensures given { OnOk result (AddsGiven x.now y.now found.old.items found.new.items) }
-    ensures impossible { IfOk result (λ answer. IfSome answer (λ pair. LeavesNone x.now y.now)) }
+    ensures impossible { IfOk result (λ answer. IfSome answer (λ pair. LeavesNoBody x.now y.now)) }
     ensures allowed { result ≡ Ok None → AllowsBoxes x.now.seen.items y.now.seen.items place place }
 {
     for other in 0..place {
@@ -303,7 +303,7 @@ pub(crate) fn meet_all(
     requires y { IsKnown y.now }
     requires count { IsCount (length x.now.spans) (length y.now.spans) count }
     ensures given { OnOk result (AddsGiven x.now y.now found.old.items found.new.items) }
-    ensures impossible { IfOk result (λ answer. IfSome answer (λ pair. LeavesNone x.now y.now)) }
+    ensures impossible { IfOk result (λ answer. IfSome answer (λ pair. LeavesNoBody x.now y.now)) }
     ensures allowed { result ≡ Ok None → AreAllAllowed x.now.seen.items y.now.seen.items count }
 {
     for place in 0..count {

@@ -4,7 +4,7 @@
 //! rule is written once, for spans that push another to a later start.
 ghost use Rattle.std.specs.Prelude.{◌≡◌, ◌+◌, ◌<ℤ◌, ◌≤ℤ◌, ◌+ℤ◌, pos, IfSome, IsTrue};
 ghost use Rattle.std.specs.List.{sum};
-ghost use Rattle.cps_p_nooverlap.specs.Crowds.{IsCount, IsAside, IsCrowd};
+ghost use Rattle.cps_p_nooverlap.specs.Crowds.{IsSpanCount, IsUncounted, IsCrowd};
 
 /// Which ends of a span lie in a window.
 #[derive(Clone, Copy)]
@@ -78,7 +78,7 @@ pub(crate) fn total(weights: &[u64]) -> Option<u64>
 
 /// The sum of weights, if there is one weight for each of `spans` spans and the sum is above 0.
 pub(crate) fn count_of(weights: &[u64], spans: usize) -> Option<u64>
-    ensures { IfSome result (λ all. IsCount spans weights.now all) }
+    ensures { IfSome result (λ all. IsSpanCount spans weights.now all) }
 {
     let all = total(weights)?;
     if weights.len() == spans && all > 0 {
@@ -89,7 +89,7 @@ pub(crate) fn count_of(weights: &[u64], spans: usize) -> Option<u64>
 
 /// The same, if the span at a place is not counted.
 pub(crate) fn count_beside(weights: &[u64], place: usize, spans: usize) -> Option<u64>
-    ensures { IfSome result (λ all. IsAside spans weights.now place all) }
+    ensures { IfSome result (λ all. IsUncounted spans weights.now place all) }
 {
     let all = count_of(weights, spans)?;
     if place < weights.len() && weights[place] == 0 {

@@ -1,6 +1,6 @@
 //! Atoms that say when a span starts or ends.
 ghost use Rattle.std.specs.Prelude.{◌≡◌, ◌≤ℤ◌, IfSome};
-ghost use Rattle.cps_p_nooverlap.specs.Spans.{start_at, end_at, Says};
+ghost use Rattle.cps_p_nooverlap.specs.Spans.{start_at, end_at, SaysOfTimes};
 
 use cps_instance::Span;
 use cps_literal::{Atom, Op};
@@ -20,7 +20,7 @@ fn inside(value: i128) -> Option<i64>
 
 /// That a span starts at a time or later.
 pub(crate) fn start_from(span: &Span, time: i128) -> Option<Atom>
-    ensures { IfSome result (λ u. Says span.now u (λ xs. time ≤ℤ start_at xs span.now)) }
+    ensures { IfSome result (λ u. SaysOfTimes span.now u (λ xs. time ≤ℤ start_at xs span.now)) }
 {
     let value = inside(time)?;
     Some(Atom {
@@ -32,7 +32,7 @@ pub(crate) fn start_from(span: &Span, time: i128) -> Option<Atom>
 
 /// That a span starts at a time or earlier.
 pub(crate) fn start_up_to(span: &Span, time: i128) -> Option<Atom>
-    ensures { IfSome result (λ u. Says span.now u (λ xs. start_at xs span.now ≤ℤ time)) }
+    ensures { IfSome result (λ u. SaysOfTimes span.now u (λ xs. start_at xs span.now ≤ℤ time)) }
 {
     let value = inside(time)?;
     Some(Atom {
@@ -44,7 +44,7 @@ pub(crate) fn start_up_to(span: &Span, time: i128) -> Option<Atom>
 
 /// That a span ends at a time or later.
 pub(crate) fn end_from(span: &Span, time: i128) -> Option<Atom>
-    ensures { IfSome result (λ u. Says span.now u (λ xs. time ≤ℤ end_at xs span.now)) }
+    ensures { IfSome result (λ u. SaysOfTimes span.now u (λ xs. time ≤ℤ end_at xs span.now)) }
 {
     match span.length {
         Some(far) => start_from(span, time.checked_sub(far as i128)?),
@@ -61,7 +61,7 @@ pub(crate) fn end_from(span: &Span, time: i128) -> Option<Atom>
 
 /// That a span ends at a time or earlier.
 pub(crate) fn end_up_to(span: &Span, time: i128) -> Option<Atom>
-    ensures { IfSome result (λ u. Says span.now u (λ xs. end_at xs span.now ≤ℤ time)) }
+    ensures { IfSome result (λ u. SaysOfTimes span.now u (λ xs. end_at xs span.now ≤ℤ time)) }
 {
     match span.length {
         Some(far) => start_up_to(span, time.checked_sub(far as i128)?),

@@ -6,7 +6,7 @@
 ghost use Rattle.std.specs.Prelude.{◌≡◌, ◌<◌, length, IfSome, OnOk, true};
 ghost use Rattle.cps_literal.specs.Truth.{atom_holds};
 ghost use Rattle.cps_p_nooverlap.specs.Citing.{Cites};
-ghost use Rattle.cps_p_nooverlap.specs.Intervals.{ArePlaces, AreInside, IsSupport, IsOpposition, IsMeasured, IsPossible, LeavesNoInterval, AddsBounds};
+ghost use Rattle.cps_p_nooverlap.specs.Intervals.{ArePlaces, AreHullsInside, IsSupport, IsOpposition, AreHullsMeasured, FitsInterval, LeavesNoInterval, AddsBounds};
 
 use crate::facts::cite;
 use crate::hull::{Hull, hull_of, offer};
@@ -71,7 +71,7 @@ fn at_most(subject: u32, value: i64) -> Atom
 /// What the subjects can be now.
 fn measure(store: &Store, places: Places) -> Hulls
     requires { ArePlaces (length store.now.first) places }
-    ensures { IsMeasured store.now places result }
+    ensures { AreHullsMeasured store.now places result }
 {
     Hulls {
         start: hull_of(store, places.start),
@@ -82,9 +82,9 @@ fn measure(store: &Store, places: Places) -> Hulls
 
 /// By which of three tests, if any, no values between these ends make an interval.
 fn contradiction(hulls: Hulls) -> Option<i64>
-    requires { AreInside hulls }
+    requires { AreHullsInside hulls }
     ensures some { IfSome result (λ k. LeavesNoInterval hulls) }
-    ensures none { result ≡ None → IsPossible hulls }
+    ensures none { result ≡ None → FitsInterval hulls }
 {
     if hulls.size.high < 0 {
         return Some(0);
@@ -100,7 +100,7 @@ fn contradiction(hulls: Hulls) -> Option<i64>
 
 /// Offers the bounds of the size.
 fn offer_size(places: Places, hulls: Hulls, found: &mut Vec<Narrowing>) -> Result<(), AllocError>
-    requires { AreInside hulls }
+    requires { AreHullsInside hulls }
     ensures { OnOk result (AddsBounds places hulls found.old.items found.new.items) }
 {
     let least = (hulls.end.low - hulls.start.high).max(0);
@@ -122,7 +122,7 @@ fn offer_size(places: Places, hulls: Hulls, found: &mut Vec<Narrowing>) -> Resul
 
 /// Offers the bounds of the end.
 fn offer_end(places: Places, hulls: Hulls, found: &mut Vec<Narrowing>) -> Result<(), AllocError>
-    requires { AreInside hulls }
+    requires { AreHullsInside hulls }
     ensures { OnOk result (AddsBounds places hulls found.old.items found.new.items) }
 {
     let least = hulls.start.low + hulls.size.low.max(0);
@@ -144,7 +144,7 @@ fn offer_end(places: Places, hulls: Hulls, found: &mut Vec<Narrowing>) -> Result
 
 /// Offers the bounds of the start.
 fn offer_start(places: Places, hulls: Hulls, found: &mut Vec<Narrowing>) -> Result<(), AllocError>
-    requires { AreInside hulls }
+    requires { AreHullsInside hulls }
     ensures { OnOk result (AddsBounds places hulls found.old.items found.new.items) }
 {
     let least = hulls.end.low - hulls.size.high;

@@ -4,7 +4,7 @@
 //! the other ends when it starts or sooner. Where neither can come first, they cannot both be present.
 ghost use Rattle.std.specs.Prelude.{◌≡◌, ◌<◌, ◌<ℤ◌, ◌≤ℤ◌, length, slice_index_or, true, false, OnOk, IfOk, IfSome};
 ghost use Rattle.cps_p_nooverlap.specs.Hulls.{Proposes};
-ghost use Rattle.cps_p_nooverlap.specs.Spans.{start_at, end_at, Says, AreKnown, AddsApart, AddsOrdered, IsPair, LeavesNoOrder, IsAbsent, IsAllowed, AreAllowed, AllowsFirst, no_seen};
+ghost use Rattle.cps_p_nooverlap.specs.Spans.{start_at, end_at, SaysOfTimes, AreKnown, AddsApart, AddsOrdered, IsPair, LeavesNoOrder, IsAbsent, IsAllowed, AreAllowed, AllowsFirst, no_seen};
 
 use crate::edges::{end_up_to, start_from};
 use crate::seen::{Seen, Times};
@@ -56,7 +56,7 @@ pub(crate) fn propose(
 
 /// That a span starts at a time or later, unless that is so.
 fn later_start(span: &Span, times: &Times, time: i128) -> Option<Atom>
-    ensures { IfSome result (λ u. Says span.now u (λ xs. time ≤ℤ start_at xs span.now)) }
+    ensures { IfSome result (λ u. SaysOfTimes span.now u (λ xs. time ≤ℤ start_at xs span.now)) }
 {
     if time <= times.start_low {
         return None;
@@ -66,7 +66,7 @@ fn later_start(span: &Span, times: &Times, time: i128) -> Option<Atom>
 
 /// That a span ends at a time or earlier, unless that is so.
 fn earlier_end(span: &Span, times: &Times, time: i128) -> Option<Atom>
-    ensures { IfSome result (λ u. Says span.now u (λ xs. end_at xs span.now ≤ℤ time)) }
+    ensures { IfSome result (λ u. SaysOfTimes span.now u (λ xs. end_at xs span.now ≤ℤ time)) }
 {
     if times.end_high <= time {
         return None;

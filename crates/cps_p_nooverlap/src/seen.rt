@@ -3,7 +3,7 @@ ghost use Rattle.std.specs.Prelude.{◌<◌, ◌≤◌, ℕ, length, IsTrue, ◌
 ghost use Rattle.std.specs.List.{AllZip};
 ghost use Rattle.cps_literal.specs.declared.atom.Atom.{Atom as AtomOf};
 ghost use Rattle.cps_trail.specs.Trail.{IsTrueNow};
-ghost use Rattle.cps_p_nooverlap.specs.Spans.{IsSpan, AreSpans, AreTimes, IsPresence, IsSeen};
+ghost use Rattle.cps_p_nooverlap.specs.Spans.{IsSpan, AreSpans, AreTimes, IsPresence, IsSpanSeen};
 
 use crate::hull::hull_of;
 use cps_instance::Span;
@@ -114,7 +114,7 @@ fn presence_of(store: &Store, atoms: &[Atom]) -> Presence
 /// What a store leaves to a span.
 fn seen_of(store: &Store, span: &Span) -> Seen
     requires { IsSpan store.now.first span.now }
-    ensures { IsSeen store.now span.now result }
+    ensures { IsSpanSeen store.now span.now result }
 {
     Seen {
         times: times_of(store, span),
@@ -125,7 +125,7 @@ fn seen_of(store: &Store, span: &Span) -> Seen
 /// What a store leaves to each span.
 pub(crate) fn see(store: &Store, spans: &[Span], seen: &mut Vec<Seen>) -> Result<(), AllocError>
     requires { AreSpans store.now.first spans.now }
-    ensures { OnOk result (AllZip (IsSeen store.now) spans.now seen.new.items) }
+    ensures { OnOk result (AllZip (IsSpanSeen store.now) spans.now seen.new.items) }
 {
     seen.clear();
     for span in spans {

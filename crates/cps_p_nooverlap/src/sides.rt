@@ -2,7 +2,7 @@
 ghost use Rattle.std.specs.Prelude.{◌≡◌, ◌≤ℤ◌, ◌-ℤ◌, pos, IfSome, true};
 ghost use Rattle.cps_p_nooverlap.specs.Citing.{Cites};
 ghost use Rattle.cps_p_nooverlap.specs.Crowds.{near_at, far_at, low_at, high_at};
-ghost use Rattle.cps_p_nooverlap.specs.Spans.{Says, IsSpan};
+ghost use Rattle.cps_p_nooverlap.specs.Spans.{SaysOfTimes, IsSpan};
 
 use crate::crowd::{Ends, Window};
 use crate::edges::{end_from, end_up_to, start_from, start_up_to};
@@ -21,7 +21,7 @@ fn opposite(time: i64) -> i128
 
 /// That a span starts at a time or later.
 fn near_from(span: &Span, time: i64, is_reversed: bool) -> Option<Atom>
-    ensures { IfSome result (λ u. Says span.now u (λ xs. time ≤ℤ near_at is_reversed xs span.now)) }
+    ensures { IfSome result (λ u. SaysOfTimes span.now u (λ xs. time ≤ℤ near_at is_reversed xs span.now)) }
 {
     if is_reversed {
         return end_up_to(span, opposite(time));
@@ -31,7 +31,7 @@ fn near_from(span: &Span, time: i64, is_reversed: bool) -> Option<Atom>
 
 /// That a span starts at a time or earlier.
 fn near_up_to(span: &Span, time: i64, is_reversed: bool) -> Option<Atom>
-    ensures { IfSome result (λ u. Says span.now u (λ xs. near_at is_reversed xs span.now ≤ℤ time)) }
+    ensures { IfSome result (λ u. SaysOfTimes span.now u (λ xs. near_at is_reversed xs span.now ≤ℤ time)) }
 {
     if is_reversed {
         return end_from(span, opposite(time));
@@ -41,7 +41,7 @@ fn near_up_to(span: &Span, time: i64, is_reversed: bool) -> Option<Atom>
 
 /// That a span ends at a time or later.
 fn far_from(span: &Span, time: i64, is_reversed: bool) -> Option<Atom>
-    ensures { IfSome result (λ u. Says span.now u (λ xs. time ≤ℤ far_at is_reversed xs span.now)) }
+    ensures { IfSome result (λ u. SaysOfTimes span.now u (λ xs. time ≤ℤ far_at is_reversed xs span.now)) }
 {
     if is_reversed {
         return start_up_to(span, opposite(time));
@@ -51,7 +51,7 @@ fn far_from(span: &Span, time: i64, is_reversed: bool) -> Option<Atom>
 
 /// That a span ends at a time or earlier.
 fn far_up_to(span: &Span, time: i64, is_reversed: bool) -> Option<Atom>
-    ensures { IfSome result (λ u. Says span.now u (λ xs. far_at is_reversed xs span.now ≤ℤ time)) }
+    ensures { IfSome result (λ u. SaysOfTimes span.now u (λ xs. far_at is_reversed xs span.now ≤ℤ time)) }
 {
     if is_reversed {
         return start_from(span, opposite(time));
@@ -61,7 +61,7 @@ fn far_up_to(span: &Span, time: i64, is_reversed: bool) -> Option<Atom>
 
 /// That a span does not lie before a window with the ends of which it speaks.
 pub(crate) fn low_atom(span: &Span, window: Window) -> Option<Atom>
-    ensures { IfSome result (λ u. Says span.now u
+    ensures { IfSome result (λ u. SaysOfTimes span.now u
         (λ xs. window.from ≤ℤ low_at window.ends window.is_reversed xs span.now)) }
 {
     match window.ends {
@@ -73,7 +73,7 @@ pub(crate) fn low_atom(span: &Span, window: Window) -> Option<Atom>
 
 /// That a span does not lie after a window with the ends of which it speaks.
 fn high_atom(span: &Span, window: Window) -> Option<Atom>
-    ensures { IfSome result (λ u. Says span.now u
+    ensures { IfSome result (λ u. SaysOfTimes span.now u
         (λ xs. high_at window.ends window.is_reversed xs span.now ≤ℤ window.to)) }
 {
     match window.ends {

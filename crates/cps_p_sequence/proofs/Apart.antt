@@ -21,7 +21,7 @@ use Rattle.cps_rule.specs.declared.rule.Look.TheVariants.{Possible, Impossible}
 use Rattle.cps_rule.specs.declared.rule.Narrowing.{Narrowing}
 use Rattle.cps_rule.specs.Rules.{IsFittingRule, IsGiven, IsImpossible, IsSeen, IsExplained, IsRefuted}
 use Rattle.cps_p_sequence.specs.Inverses.{AreGivenPlaces, AreTrue}
-use Rattle.cps_p_sequence.specs.Sides.{AreSides, Implies, IsDenied, HasRoomOnEachSide}
+use Rattle.cps_p_sequence.specs.Sides.{AreSides, ImpliesBody, IsSeenImpossible, HasRoomOnEachSide}
 
 places : (v : ℤ) (n : ℕ) → pos 0 ≤ℤ v → v <ℤ pos n → (k : ℕ) × (k < n) × (v ≡ pos k)
 places (pos k) n a b = (k, omega (arith, ints), refl_of (pos k))
@@ -53,14 +53,14 @@ even_values : (xs : List ℤ) (ds js : List ℕ) → length ds ≡ length js →
 even_values xs ds js same = length-map ds (value_at xs) ∙ same ∙ sym (length-map js (value_at xs))
 
 module _ (ds js : List ℕ) (same : length ds ≡ length js) where
-  pub implies_direct : Implies (Inverse ds js) (AllDiff ds)
+  pub implies_direct : ImpliesBody (Inverse ds js) (AllDiff ds)
   implies_direct = record { at = λ xs h. direct_differ (values_at xs ds) (values_at xs js) (even_values xs ds js same) h }
 
-  pub implies_inverse : Implies (Inverse ds js) (AllDiff js)
+  pub implies_inverse : ImpliesBody (Inverse ds js) (AllDiff js)
   implies_inverse = record { at = λ xs h. inverse_differ (values_at xs ds) (values_at xs js) (even_values xs ds js same) h }
 
 -- what one body gives, a body gives that implies it
-module _ (b p : Body) (implies : Implies b p) (s : Trail) where
+module _ (b p : Body) (implies : ImpliesBody b p) (s : Trail) where
   pub implied_given : (found : List Narrowing) → AreGivenPlaces p s found → AreGivenPlaces b s found
   implied_given found gs k d l = let g : IsGiven p s (get_or found k d).target = gs k d l in record { subject = g.subject; at = λ xs admitted h. g.at xs admitted (implies.at xs h) }
 
@@ -73,7 +73,7 @@ module _ (b p : Body) (implies : Implies b p) (s : Trail) where
   pub implied_refuted : (facts : List Atom) → IsRefuted p s facts → IsRefuted b s facts
   implied_refuted facts e = record { facts = e.facts; excludes = λ xs within all h. e.excludes xs within all (implies.at xs h) }
 
-  pub implied_denied : (l : Look) → IsSeen p s l → IsDenied b s l
+  pub implied_denied : (l : Look) → IsSeen p s l → IsSeenImpossible b s l
   implied_denied Possible h = tt
   implied_denied (Impossible hint) h = implied_impossible h
 
@@ -93,11 +93,11 @@ module _ (b : Body) (ds js : List ℕ) (p q : Body) (view : Inverse ds js ≡ b)
   inner : IsFittingRule first (Inverse ds js)
   inner = subst (λ (x : Body). IsFittingRule first x) (sym view) fits
 
-  pub side_direct : Implies b p
-  side_direct = subst (λ (x : Body). Implies x p) view (subst (λ (x : Body). Implies (Inverse ds js) x) (sym sides.direct) (implies_direct ds js inner.body))
+  pub side_direct : ImpliesBody b p
+  side_direct = subst (λ (x : Body). ImpliesBody x p) view (subst (λ (x : Body). ImpliesBody (Inverse ds js) x) (sym sides.direct) (implies_direct ds js inner.body))
 
-  pub side_inverse : Implies b q
-  side_inverse = subst (λ (x : Body). Implies x q) view (subst (λ (x : Body). Implies (Inverse ds js) x) (sym sides.inverse) (implies_inverse ds js inner.body))
+  pub side_inverse : ImpliesBody b q
+  side_inverse = subst (λ (x : Body). ImpliesBody x q) view (subst (λ (x : Body). ImpliesBody (Inverse ds js) x) (sym sides.inverse) (implies_inverse ds js inner.body))
 
   pub fits_direct : IsFittingRule first p
   fits_direct = subst (λ (x : Body). IsFittingRule first x) (sym sides.direct) (record {
@@ -117,7 +117,7 @@ pub sides_room : (b : Body) (ds js : List ℕ) (p q : Body) → Inverse ds js �
 sides_room b ds js p q view sides s one two = subst (λ (x : Body). HasRoomOnEachSide x s) view
     (subst (λ (x : Body). IsStrongBody x s) sides.direct one, subst (λ (x : Body). IsStrongBody x s) sides.inverse two)
 
-pub denied_seen : (b : Body) (s : Trail) (l : Look) → (l ≡ Possible → ⊥) → IsDenied b s l → IsSeen b s l
+pub denied_seen : (b : Body) (s : Trail) (l : Look) → (l ≡ Possible → ⊥) → IsSeenImpossible b s l → IsSeen b s l
 denied_seen b s Possible no' h = absurd (no' cc)
 denied_seen b s (Impossible hint) no' h = h
 

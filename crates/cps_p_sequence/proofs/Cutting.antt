@@ -18,9 +18,9 @@ use Rattle.cps_rule.specs.Rules.{AllTrueAt}
 use Rattle.cps_p_sequence.specs.declared.states.Step.{Step}
 use Rattle.cps_p_sequence.specs.declared.cuts.Limits.{Limits}
 use Rattle.cps_p_sequence.specs.Networks.{IsNetwork, IsMarked, state_at}
-use Rattle.cps_p_sequence.specs.Facts.{IsBounded}
-use Rattle.cps_rule.specs.Facts.{Grows, Denied, Gives}
-use Rattle.cps_p_sequence.specs.Cuts.{IsOut, IsLimited, Leads, Comes, AreCome, IsCut}
+use Rattle.cps_p_sequence.specs.Facts.{MeetsBound}
+use Rattle.cps_rule.specs.Facts.{Grows, Denied, GivesGoal}
+use Rattle.cps_p_sequence.specs.Cuts.{IsOut, IsLimited, LeadsToState, Comes, AreCome, IsCut}
 use Rattle.cps_p_sequence.proofs.Numbering.{marked_here, marked_still, marked_within}
 use Rattle.cps_p_sequence.proofs.Growing.{grows_trans, no_facts}
 use Rattle.cps_p_sequence.proofs.Layering.{last_or, item_at}
@@ -41,10 +41,10 @@ off_it : (v x : ℤ) → not (equals x v) ≡ true → x ≡ v → ⊥
 off_it v x h e = grind (arith, ints)
 
 -- a label that is ruled out by the ends, or by a fact
-pub low_out : (goal : Option Atom) (us : List Atom) (i : ℕ) (limits : Limits) (v : ℤ) → ((x : ℤ) → IsBounded Ge limits.low x → x ≡ v → ⊥) → IsLimited us i limits → IsOut goal us i v
+pub low_out : (goal : Option Atom) (us : List Atom) (i : ℕ) (limits : Limits) (v : ℤ) → ((x : ℤ) → MeetsBound Ge limits.low x → x ≡ v → ⊥) → IsLimited us i limits → IsOut goal us i v
 low_out goal us i limits v off h = record { at = λ xs all deny e. off (value_at xs i) (h.low xs all) e }
 
-pub high_out : (goal : Option Atom) (us : List Atom) (i : ℕ) (limits : Limits) (v : ℤ) → ((x : ℤ) → IsBounded Le limits.high x → x ≡ v → ⊥) → IsLimited us i limits → IsOut goal us i v
+pub high_out : (goal : Option Atom) (us : List Atom) (i : ℕ) (limits : Limits) (v : ℤ) → ((x : ℤ) → MeetsBound Le limits.high x → x ≡ v → ⊥) → IsLimited us i limits → IsOut goal us i v
 high_out goal us i limits v off h = record { at = λ xs all deny e. off (value_at xs i) (h.high xs all) e }
 
 pub hole_out : (goal : Option Atom) (us : List Atom) (i : ℕ) (v : ℤ) (u : Atom) → u ≡ record { subject = i; op = Ne; value = v } → ((xs : List ℤ) → AllTrueAt xs us → atom_holds xs u ≡ true) → IsOut goal us i v
@@ -103,20 +103,20 @@ module _ (s : Trail) (goal : Option Atom) (steps : List Step) (first count : ℕ
   pub come_cut : (n : ℕ) (us : List Atom) (row last : List Bool) → n ≡ length is → ((q : ℕ) → IsMarked row q → IsMarked last q → ⊥) → AreCome s goal steps first count is n us row → IsCut s goal steps first last is us
   come_cut n us row last e off p = record {
     facts = p.facts;
-    none = λ xs all deny q h m. off q (p.all xs all deny q (subst (λ (k : ℕ). Leads xs steps first is k q) (sym e) h)) m;
+    none = λ xs all deny q h m. off q (p.all xs all deny q (subst (λ (k : ℕ). LeadsToState xs steps first is k q) (sym e) h)) m;
   }
 
 -- what a cut gives
 module _ (raw : List Transition) (finals : List ℤ) (start : ℤ) (states : List ℤ) (first : ℕ) (last : List Bool) (steps : List Step) (net : IsNetwork raw finals start states first last steps) (s : Trail) where
   lead_at : (xs : List ℤ) (is : List ℕ) (k : ℕ) → k ≤ length is → Accepts raw finals start (values_at xs is)
-      → (q : ℕ) × (q < length last) × Leads xs steps first is k q × Accepts raw finals (state_at states q) (values_at xs (drop k is))
+      → (q : ℕ) × (q < length last) × LeadsToState xs steps first is k q × Accepts raw finals (state_at states q) (values_at xs (drop k is))
   lead_at xs is zero l acc = (first, net.begin, refl, subst (λ (x : ℤ). Accepts raw finals x (values_at xs is)) (sym net.start_is) acc)
   lead_at xs is (suc k) l acc =
       let before = lead_at xs is k (omega arith) acc in
       let m : k < length is = omega arith in
       let f = step_at raw finals start states first last steps net s xs is k m before.0 before.1 before.3 in
       let w = within_of raw finals start states first last steps net s f.0 f.1 in
-      let from : Leads xs steps first is k f.0.tail = subst (λ (q : ℕ). Leads xs steps first is k q) (sym f.2) before.2 in
+      let from : LeadsToState xs steps first is k f.0.tail = subst (λ (q : ℕ). LeadsToState xs steps first is k q) (sym f.2) before.2 in
       let e : k + 1 ≡ suc k = omega arith in
       (f.0.head, w.head, (f.0, f.1, refl, f.3, from), subst (λ (n : ℕ). Accepts raw finals (state_at states f.0.head) (values_at xs (drop n is))) e f.4)
 
@@ -128,7 +128,7 @@ module _ (raw : List Transition) (finals : List ℤ) (start : ℤ) (states : Lis
       c.none xs all deny r.0 r.2 (net.marked r.0 r.1 end)
 
 pub cut_gives : (start : ℤ) (finals tails heads labels : List ℤ) (states : List ℤ) (first : ℕ) (last : List Bool) (steps : List Step) → IsNetwork (transitions tails heads labels) finals start states first last steps
-    → (s : Trail) (goal : Option Atom) (is : List ℕ) (us : List Atom) → IsCut s goal steps first last is us → Gives (Automaton start finals tails heads labels is) s goal us
+    → (s : Trail) (goal : Option Atom) (is : List ℕ) (us : List Atom) → IsCut s goal steps first last is us → GivesGoal (Automaton start finals tails heads labels is) s goal us
 cut_gives start finals tails heads labels states first last steps net s goal is us c = record {
   facts = c.facts;
   excludes = λ xs within all holds deny. cut_excludes (transitions tails heads labels) finals start states first last steps net s goal is us c xs all holds deny;

@@ -7,7 +7,7 @@ use Rattle.cps_literal.specs.Truth.{atom_holds}
 use Rattle.cps_instance.specs.declared.task.Body.{Body}
 use Rattle.cps_trail.specs.Trail.{Trail}
 use Rattle.cps_rule.specs.Rules.{IsFact, AreFacts, AllTrueAt, IsExplained, IsRefuted}
-use Rattle.cps_rule.specs.Facts.{Adds, Grows, Gives}
+use Rattle.cps_rule.specs.Facts.{Adds, Grows, GivesGoal}
 
 pub adds_grows : (s : Trail) (u : Atom) (old new : List Atom) → Adds s u old new → Grows s old new
 adds_grows s u old new h = record {
@@ -35,8 +35,8 @@ bool_cases : (b : Bool) → (b ≡ false → ⊥) → b ≡ true
 bool_cases true h = refl
 bool_cases false h = absurd (h refl)
 
-pub explained_by : (body : Body) (s : Trail) (u : Atom) (facts : List Atom) → Gives body s (Some u) facts → IsExplained body s u facts
+pub explained_by : (body : Body) (s : Trail) (u : Atom) (facts : List Atom) → GivesGoal body s (Some u) facts → IsExplained body s u facts
 explained_by body s u facts g = record { facts = g.facts; gives = λ xs within all holds. bool_cases (atom_holds xs u) (λ deny. g.excludes xs within all holds deny) }
 
-pub refuted_by : (body : Body) (s : Trail) (facts : List Atom) → Gives body s None facts → IsRefuted body s facts
+pub refuted_by : (body : Body) (s : Trail) (facts : List Atom) → GivesGoal body s None facts → IsRefuted body s facts
 refuted_by body s facts g = record { facts = g.facts; excludes = λ xs within all holds. g.excludes xs within all holds tt }

@@ -19,7 +19,7 @@ use Rattle.cps_rule.specs.Rules.{IsGiven}
 use Rattle.cps_p_sequence.specs.declared.states.Step.{Step}
 use Rattle.cps_p_sequence.specs.Networks.{IsMarked}
 use Rattle.cps_model.specs.Rising.{IsRising}
-use Rattle.cps_p_sequence.specs.Runs.{CanEnd, AreEnding, AreReached, AreRows, AreTails, AreHeads, AreLabels, IsAlive, HasLabels, HasLabelsOf, AreClosed, IsFollowed, AllGiven, AllTrue, AreFound, IsFrom, IsUpTo, IsNarrowAt, IsDead, IsNarrowed, IsLooked}
+use Rattle.cps_p_sequence.specs.Runs.{CanEnd, AreEnding, AreReached, AreRows, AreTails, AreHeads, AreLabels, IsAlive, HasLabels, HasLabelsOf, AreClosed, IsFollowed, AllGiven, AllTargetsTrue, AreFound, IsFrom, IsSubjectUpTo, IsNarrowAt, IsDead, IsNarrowed, IsRunLooked}
 use Rattle.cps_p_sequence.proofs.Finding.{unequal, off_true}
 use Rattle.cps_p_sequence.proofs.Numbering.{unmarked, marked_here, marked_still, marked_before}
 
@@ -236,8 +236,8 @@ module _ (s : Trail) (steps : List Step) (last : List Bool) where
     has_labels b f = record { at = λ xs admitted body. subst (λ (j : ℕ). Contains labels (value_at xs j)) (sym is-i) (alive_labels (value_at xs (get_or is n 0)) (f.at n l xs admitted body)) }
 
     pub found_more : (alphabet : List ℤ) → HasLabelsOf steps alphabet → (old new : List Narrowing)
-        → ((b : Body) → HasLabels b s i labels → AllGiven b s old → AllGiven b s new) → (AllTrue s new → AllTrue s old) → (AllTrue s new → ((v : ℤ) → Contains labels v → IsOpenTo s i v) → (v : ℤ) → IsEndNow s i v → Contains labels v) → (AllTrue s new → AreClosed s i alphabet labels)
-        → (AllTrue s new → ((v : ℤ) → Contains labels v → IsOpenTo s i v) → IsNarrowAt s i → (x : ℤ) → IsOpenTo s i x → Contains labels x)
+        → ((b : Body) → HasLabels b s i labels → AllGiven b s old → AllGiven b s new) → (AllTargetsTrue s new → AllTargetsTrue s old) → (AllTargetsTrue s new → ((v : ℤ) → Contains labels v → IsOpenTo s i v) → (v : ℤ) → IsEndNow s i v → Contains labels v) → (AllTargetsTrue s new → AreClosed s i alphabet labels)
+        → (AllTargetsTrue s new → ((v : ℤ) → Contains labels v → IsOpenTo s i v) → IsNarrowAt s i → (x : ℤ) → IsOpenTo s i x → Contains labels x)
         → AreFound s steps first last is n old → AreFound s steps first last is (n + 1) new
     found_more alphabet covers old new given kept ends closed whole p = record {
       given = λ b f. given b (has_labels b f) (p.given b f);
@@ -287,11 +287,11 @@ same_atom : (t : Atom) (i : ℕ) (o : Op) (v : ℤ) → t.subject ≡ i → t.op
 same_atom t i o v a b c = ap (λ (x : ℕ). atom_of x t.op t.value) a ∙ ap (λ (x : Op). atom_of i x t.value) b ∙ ap (λ (x : ℤ). atom_of i o x) c
 
 module _ (s : Trail) (old new : List Narrowing) (n : Narrowing) (pushed : new ≡ old ++ n ∷ []) where
-  pub more_kept : AllTrue s new → AllTrue s old
-  more_kept all = All-append_left (λ m. IsTrueNow s m.target) old (n ∷ []) (subst (λ (ns : List Narrowing). AllTrue s ns) pushed all)
+  pub more_kept : AllTargetsTrue s new → AllTargetsTrue s old
+  more_kept all = All-append_left (λ m. IsTrueNow s m.target) old (n ∷ []) (subst (λ (ns : List Narrowing). AllTargetsTrue s ns) pushed all)
 
-  more_true : AllTrue s new → IsTrueNow s n.target
-  more_true all = All-head (λ m. IsTrueNow s m.target) n [] (All-append_right (λ m. IsTrueNow s m.target) old (n ∷ []) (subst (λ (ns : List Narrowing). AllTrue s ns) pushed all))
+  more_true : AllTargetsTrue s new → IsTrueNow s n.target
+  more_true all = All-head (λ m. IsTrueNow s m.target) n [] (All-append_right (λ m. IsTrueNow s m.target) old (n ∷ []) (subst (λ (ns : List Narrowing). AllTargetsTrue s ns) pushed all))
 
   more_given : (b : Body) → IsGiven b s n.target → AllGiven b s old → AllGiven b s new
   more_given b g gs = subst (λ (ns : List Narrowing). AllGiven b s ns) (sym pushed) (All-push (λ m. IsGiven b s m.target) old n gs g)
@@ -304,17 +304,17 @@ module _ (s : Trail) (old new : List Narrowing) (n : Narrowing) (pushed : new �
       pub from_given : (b : Body) → i < length s.first → IsFrom b s i v → AllGiven b s old → AllGiven b s new
       from_given b inside h = more_given b (subst (λ (u : Atom). IsGiven b s u) (sym ge) (record { subject = inside; at = λ xs admitted body. le_true v (value_at xs i) (h.at xs admitted body) }))
 
-      pub from_true : AllTrue s new → (x : ℤ) → IsOpenTo s i x → v ≤ℤ x
+      pub from_true : AllTargetsTrue s new → (x : ℤ) → IsOpenTo s i x → v ≤ℤ x
       from_true all x o = true_le v x (subst (λ (u : Atom). IsTrueNow s u) ge (more_true all) x o)
 
     module _ (op : n.target.op ≡ Le) where
       le : n.target ≡ atom_of i Le v
       le = same_atom n.target i Le v subject op value
 
-      pub up_to_given : (b : Body) → i < length s.first → IsUpTo b s i v → AllGiven b s old → AllGiven b s new
+      pub up_to_given : (b : Body) → i < length s.first → IsSubjectUpTo b s i v → AllGiven b s old → AllGiven b s new
       up_to_given b inside h = more_given b (subst (λ (u : Atom). IsGiven b s u) (sym le) (record { subject = inside; at = λ xs admitted body. le_true (value_at xs i) v (h.at xs admitted body) }))
 
-      pub up_to_true : AllTrue s new → (x : ℤ) → IsOpenTo s i x → x ≤ℤ v
+      pub up_to_true : AllTargetsTrue s new → (x : ℤ) → IsOpenTo s i x → x ≤ℤ v
       up_to_true all x o = true_le x v (subst (λ (u : Atom). IsTrueNow s u) le (more_true all) x o)
 
 -- a label that is none of a subject's own
@@ -324,7 +324,7 @@ module _ (s : Trail) (old new : List Narrowing) (n : Narrowing) (pushed : new �
       more_given s old new n pushed b (subst (λ (u : Atom). IsGiven b s u) (sym (same_atom n.target i Ne v subject op value))
       (record { subject = inside; at = λ xs admitted body. unequal (value_at xs i) v (λ e. none (subst (λ (x : ℤ). Contains labels x) e (h.at xs admitted body))) }))
 
-  pub hole_true : AllTrue s new → IsOpenTo s i v → ⊥
+  pub hole_true : AllTargetsTrue s new → IsOpenTo s i v → ⊥
   hole_true all o = off_true s i v (subst (λ (u : Atom). IsTrueNow s u) (same_atom n.target i Ne v subject op value) (more_true s old new n pushed all)) o
 
 -- values of an alphabet that a subject may have, so far
@@ -360,7 +360,7 @@ module _ (s : Trail) (i : ℕ) (labels : List ℤ) (some : 0 < length labels) (r
   pub labels_from : (b : Body) → HasLabels b s i labels → IsFrom b s i (get_or labels 0 (pos 0))
   labels_from b h = record { at = λ xs admitted body. from_first (value_at xs i) (h.at xs admitted body) }
 
-  pub labels_up_to : (b : Body) → HasLabels b s i labels → IsUpTo b s i (get_or labels (length labels - 1) (pos 0))
+  pub labels_up_to : (b : Body) → HasLabels b s i labels → IsSubjectUpTo b s i (get_or labels (length labels - 1) (pos 0))
   labels_up_to b h = record { at = λ xs admitted body. up_to_last (value_at xs i) (h.at xs admitted body) }
 
   pub ends_listed : ((x : ℤ) → IsOpenTo s i x → get_or labels 0 (pos 0) ≤ℤ x) → ((x : ℤ) → IsOpenTo s i x → x ≤ℤ get_or labels (length labels - 1) (pos 0)) → ((v : ℤ) → Contains labels v → IsOpenTo s i v) → (v : ℤ) → IsEndNow s i v → Contains labels v
@@ -394,19 +394,19 @@ heads_at s i steps tails tails' heads e p = subst (λ (xs : List Bool). AreHeads
 pub given_at : (s : Trail) (i : ℕ) (labels labels' : List ℤ) (old new : List Narrowing) → labels' ≡ labels → ((b : Body) → HasLabels b s i labels' → AllGiven b s old → AllGiven b s new) → (b : Body) → HasLabels b s i labels → AllGiven b s old → AllGiven b s new
 given_at s i labels labels' old new e given b h = given b (subst (λ (vs : List ℤ). HasLabels b s i vs) (sym e) h)
 
-pub listed_ends : (s : Trail) (i : ℕ) (labels labels' : List ℤ) (new : List Narrowing) → labels' ≡ labels → (AllTrue s new → ((v : ℤ) → Contains labels' v → IsOpenTo s i v) → (v : ℤ) → IsEndNow s i v → Contains labels' v)
-    → AllTrue s new → ((v : ℤ) → Contains labels v → IsOpenTo s i v) → (v : ℤ) → IsEndNow s i v → Contains labels v
+pub listed_ends : (s : Trail) (i : ℕ) (labels labels' : List ℤ) (new : List Narrowing) → labels' ≡ labels → (AllTargetsTrue s new → ((v : ℤ) → Contains labels' v → IsOpenTo s i v) → (v : ℤ) → IsEndNow s i v → Contains labels' v)
+    → AllTargetsTrue s new → ((v : ℤ) → Contains labels v → IsOpenTo s i v) → (v : ℤ) → IsEndNow s i v → Contains labels v
 listed_ends s i labels labels' new e ends all opens v h =
     subst (λ (vs : List ℤ). Contains vs v) e (ends all (λ x c. opens x (subst (λ (vs : List ℤ). Contains vs x) e c)) v h)
 
-pub whole_at : (s : Trail) (i : ℕ) (labels labels' : List ℤ) (new : List Narrowing) → labels' ≡ labels → (AllTrue s new → ((v : ℤ) → Contains labels' v → IsOpenTo s i v) → IsNarrowAt s i → (x : ℤ) → IsOpenTo s i x → Contains labels' x)
-    → AllTrue s new → ((v : ℤ) → Contains labels v → IsOpenTo s i v) → IsNarrowAt s i → (x : ℤ) → IsOpenTo s i x → Contains labels x
-whole_at s i labels labels' new e whole = subst (λ (vs : List ℤ). AllTrue s new → ((v : ℤ) → Contains vs v → IsOpenTo s i v) → IsNarrowAt s i → (x : ℤ) → IsOpenTo s i x → Contains vs x) e whole
+pub whole_at : (s : Trail) (i : ℕ) (labels labels' : List ℤ) (new : List Narrowing) → labels' ≡ labels → (AllTargetsTrue s new → ((v : ℤ) → Contains labels' v → IsOpenTo s i v) → IsNarrowAt s i → (x : ℤ) → IsOpenTo s i x → Contains labels' x)
+    → AllTargetsTrue s new → ((v : ℤ) → Contains labels v → IsOpenTo s i v) → IsNarrowAt s i → (x : ℤ) → IsOpenTo s i x → Contains labels x
+whole_at s i labels labels' new e whole = subst (λ (vs : List ℤ). AllTargetsTrue s new → ((v : ℤ) → Contains vs v → IsOpenTo s i v) → IsNarrowAt s i → (x : ℤ) → IsOpenTo s i x → Contains vs x) e whole
 
 pub empty_is : (labels : List ℤ) → length labels ≡ 0 → labels ≡ []
 empty_is [] e = refl
 empty_is (v ∷ vs) e = absurd (omega arith)
 
-pub looked_by : (s : Trail) (steps : List Step) (first : ℕ) (last : List Bool) (is : List ℕ) (found : List Narrowing) (r : Bool) → CanEnd s steps last is first → IsNarrowed s steps first last is found r → IsLooked s steps first last is found r
+pub looked_by : (s : Trail) (steps : List Step) (first : ℕ) (last : List Bool) (is : List ℕ) (found : List Narrowing) (r : Bool) → CanEnd s steps last is first → IsNarrowed s steps first last is found r → IsRunLooked s steps first last is found r
 looked_by s steps first last is found true h p = (h, p)
 looked_by s steps first last is found false h p = p

@@ -11,19 +11,19 @@ use Rattle.cps_rule.specs.Rules.{IsAtRest, IsFittingRule}
 use Rattle.cps_p_sequence.specs.declared.states.Step.{Step}
 use Rattle.cps_p_sequence.specs.Networks.{IsNetwork, IsStepWithin}
 use Rattle.cps_rule.specs.declared.rule.Narrowing.{Narrowing}
-use Rattle.cps_p_sequence.specs.Runs.{CanEnd, IsFollowed, AreEndsAlive, AreFound, IsDead, IsLooked, HasRunsOfAll}
+use Rattle.cps_p_sequence.specs.Runs.{CanEnd, IsFollowed, AreEndsAlive, AreFound, IsDead, IsRunLooked, HasRunsOfAll}
 use Rattle.cps_literal.specs.declared.atom.Atom.{Atom}
-use Rattle.cps_rule.specs.Facts.{Gives}
+use Rattle.cps_rule.specs.Facts.{GivesGoal}
 use Rattle.cps_p_sequence.specs.Cuts.{IsCut}
 use Rattle.cps_p_sequence.proofs.Running.{body_followed, body_rests, body_runs, body_possible}
 use Rattle.cps_p_sequence.proofs.Cutting.{cut_gives}
 
 -- what a look's answer says
-pub looked_some : (s : Trail) (steps : List Step) (first : ℕ) (last : List Bool) (is : List ℕ) (found : List Narrowing) (r : Bool) → r ≡ true → IsLooked s steps first last is found r → CanEnd s steps last is first × AreFound s steps first last is (length is) found
-looked_some s steps first last is found r e h = subst (λ (v : Bool). IsLooked s steps first last is found v) e h
+pub looked_some : (s : Trail) (steps : List Step) (first : ℕ) (last : List Bool) (is : List ℕ) (found : List Narrowing) (r : Bool) → r ≡ true → IsRunLooked s steps first last is found r → CanEnd s steps last is first × AreFound s steps first last is (length is) found
+looked_some s steps first last is found r e h = subst (λ (v : Bool). IsRunLooked s steps first last is found v) e h
 
-pub looked_none : (s : Trail) (steps : List Step) (first : ℕ) (last : List Bool) (is : List ℕ) (found : List Narrowing) (r : Bool) → r ≡ false → IsLooked s steps first last is found r → IsDead s steps first last is found
-looked_none s steps first last is found r e h = subst (λ (v : Bool). IsLooked s steps first last is found v) e h
+pub looked_none : (s : Trail) (steps : List Step) (first : ℕ) (last : List Bool) (is : List ℕ) (found : List Narrowing) (r : Bool) → r ≡ false → IsRunLooked s steps first last is found r → IsDead s steps first last is found
+looked_none s steps first last is found r e h = subst (λ (v : Bool). IsRunLooked s steps first last is found v) e h
 
 module _ (b : Body) (start : ℤ) (finals tails heads labels : List ℤ) (is is' : List ℕ) (states : List ℤ) (first : ℕ) (last last' : List Bool) (steps steps' : List Step)
     (view : Automaton start finals tails heads labels is ≡ b) (same-is : is' ≡ is) (same-last : last' ≡ last) (same-steps : steps' ≡ steps)
@@ -57,5 +57,5 @@ module _ (b : Body) (start : ℤ) (finals tails heads labels : List ℤ) (is is'
     pub seen_possible : CanEnd s steps' last' is' first → IsExcludedBody b s → ⊥
     seen_possible h = subst (λ (x : Body). IsExcludedBody x s → ⊥) is_body (body_possible start finals tails heads labels states first last' steps' network s is' h)
 
-    pub seen_gives : (goal : Option Atom) (us : List Atom) → IsCut s goal steps' first last' is' us → Gives b s goal us
-    seen_gives goal us h = subst (λ (x : Body). Gives x s goal us) is_body (cut_gives start finals tails heads labels states first last' steps' network s goal is' us h)
+    pub seen_gives : (goal : Option Atom) (us : List Atom) → IsCut s goal steps' first last' is' us → GivesGoal b s goal us
+    seen_gives goal us h = subst (λ (x : Body). GivesGoal x s goal us) is_body (cut_gives start finals tails heads labels states first last' steps' network s goal is' us h)

@@ -8,7 +8,7 @@ use Rattle.cps_rule.specs.Rules.{AreFacts, AllTrueAt}
 use Rattle.cps_p_sequence.specs.declared.states.Step.{Step}
 use Rattle.cps_p_sequence.specs.declared.cuts.Limits.{Limits}
 use Rattle.cps_p_sequence.specs.Networks.{IsMarked}
-use Rattle.cps_p_sequence.specs.Facts.{IsBounded}
+use Rattle.cps_p_sequence.specs.Facts.{MeetsBound}
 use Rattle.cps_rule.specs.Facts.{Grows, Denied}
 
 -- a subject's value cannot be a label, wherever the facts are true and the atom is false
@@ -17,14 +17,14 @@ pub record IsOut (goal : Option Atom) (us : List Atom) (i : ℕ) (label : ℤ) :
 
 -- a subject's value lies between limits wherever the facts are true
 pub record IsLimited (us : List Atom) (i : ℕ) (limits : Limits) : Type 0 where
-  pub low : (xs : List ℤ) → AllTrueAt xs us → IsBounded Ge limits.low (value_at xs i)
-  pub high : (xs : List ℤ) → AllTrueAt xs us → IsBounded Le limits.high (value_at xs i)
+  pub low : (xs : List ℤ) → AllTrueAt xs us → MeetsBound Ge limits.low (value_at xs i)
+  pub high : (xs : List ℤ) → AllTrueAt xs us → MeetsBound Le limits.high (value_at xs i)
 
 -- the first labels of a list of values lead from the first state to a state
-abbrev pub Leads : List ℤ → List Step → ℕ → List ℕ → ℕ → ℕ → Type 0
-Leads xs steps first is zero q = q ≡ first
-Leads xs steps first is (suc n) q = (t : Step) × Contains steps t × (t.head ≡ q)
-    × (t.label ≡ value_at xs (slice_index_or is n 0)) × Leads xs steps first is n t.tail
+abbrev pub LeadsToState : List ℤ → List Step → ℕ → List ℕ → ℕ → ℕ → Type 0
+LeadsToState xs steps first is zero q = q ≡ first
+LeadsToState xs steps first is (suc n) q = (t : Step) × Contains steps t × (t.head ≡ q)
+    × (t.label ≡ value_at xs (slice_index_or is n 0)) × LeadsToState xs steps first is n t.tail
 
 -- by the first n steps: where the one with a subject's value as its label begins in a marked state, it ends in one; the
 -- facts have grown
@@ -39,10 +39,10 @@ pub record Comes (s : Trail) (goal : Option Atom) (i : ℕ) (steps : List Step) 
 pub record AreCome (s : Trail) (goal : Option Atom) (steps : List Step) (first count : ℕ) (is : List ℕ) (n : ℕ) (us : List Atom) (marks : List Bool) : Type 0 where
   pub size : length marks ≡ count
   pub facts : AreFacts s us
-  pub all : (xs : List ℤ) → AllTrueAt xs us → Denied goal xs → (q : ℕ) → Leads xs steps first is n q → IsMarked marks q
+  pub all : (xs : List ℤ) → AllTrueAt xs us → Denied goal xs → (q : ℕ) → LeadsToState xs steps first is n q → IsMarked marks q
 
 -- no values at which the facts are true and the atom is false lead to a last state
 pub record IsCut (s : Trail) (goal : Option Atom) (steps : List Step) (first : ℕ) (last : List Bool) (is : List ℕ) (us : List Atom) : Type 0 where
   pub facts : AreFacts s us
-  pub none : (xs : List ℤ) → AllTrueAt xs us → Denied goal xs → (q : ℕ) → Leads xs steps first is (length is) q
+  pub none : (xs : List ℤ) → AllTrueAt xs us → Denied goal xs → (q : ℕ) → LeadsToState xs steps first is (length is) q
       → IsMarked last q → ⊥

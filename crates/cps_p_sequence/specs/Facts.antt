@@ -4,6 +4,6 @@ use Rattle.cps_literal.specs.declared.atom.Op.{Op}
 use Rattle.cps_literal.specs.Truth.{meets}
 
 -- a number meets a bound, where there is one
-abbrev pub IsBounded : Op → Option ℤ → ℤ → Type 0
-IsBounded op None x = Unit {0}
-IsBounded op (Some v) x = meets op v x ≡ true
+abbrev pub MeetsBound : Op → Option ℤ → ℤ → Type 0
+MeetsBound op None x = Unit {0}
+MeetsBound op (Some v) x = meets op v x ≡ true

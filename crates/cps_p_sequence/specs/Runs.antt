@@ -60,8 +60,8 @@ pub record AreHeads (s : Trail) (i : ℕ) (steps : List Step) (n : ℕ) (tails h
       → (t : Step) × Contains steps t × (t.head ≡ q) × IsOpenTo s i t.label × IsMarked tails t.tail
 
 -- an open step by a label leads from a marked state to a marked one
-abbrev pub IsLed : Trail → ℕ → List Step → List Bool → List Bool → ℤ → Type 0
-IsLed s i steps tails heads v = (t : Step) × Contains steps t × (t.label ≡ v) × IsOpenTo s i v × IsMarked tails t.tail
+abbrev pub IsLedByLabel : Trail → ℕ → List Step → List Bool → List Bool → ℤ → Type 0
+IsLedByLabel s i steps tails heads v = (t : Step) × Contains steps t × (t.label ≡ v) × IsOpenTo s i v × IsMarked tails t.tail
     × IsMarked heads t.head
 
 -- so far, the labels of such steps
@@ -69,7 +69,7 @@ pub record AreLabels (s : Trail) (i : ℕ) (steps : List Step) (n : ℕ) (tails 
   pub all : (k : ℕ) (d : Step) → k < n → k < length steps → IsOpenTo s i (slice_index_or steps k d).label
       → IsMarked tails (slice_index_or steps k d).tail → IsMarked heads (slice_index_or steps k d).head
       → Contains labels (slice_index_or steps k d).label
-  pub led : (v : ℤ) → Contains labels v → IsLed s i steps tails heads v
+  pub led : (v : ℤ) → Contains labels v → IsLedByLabel s i steps tails heads v
 
 -- a run may have a label at a position
 abbrev pub IsAlive : Trail → List Step → ℕ → List Bool → List ℕ → ℕ → ℤ → Type 0
@@ -95,8 +95,8 @@ pub record IsNarrowAt (s : Trail) (i : ℕ) : Type 0 where
 abbrev pub AllGiven : Body → Trail → List Narrowing → Type 0
 AllGiven b s found = All (λ n. IsGiven b s n.target) found
 
-abbrev pub AllTrue : Trail → List Narrowing → Type 0
-AllTrue s found = All (λ n. IsTrueNow s n.target) found
+abbrev pub AllTargetsTrue : Trail → List Narrowing → Type 0
+AllTargetsTrue s found = All (λ n. IsTrueNow s n.target) found
 
 -- at each of the first n positions the least and the greatest value are labels of a run, and so is each value that is
 -- the label of a step and, where they are among few numbers, each value
@@ -111,7 +111,7 @@ pub record AreEndsAlive (s : Trail) (steps : List Step) (first : ℕ) (last : Li
 -- what is found at the first n positions
 pub record AreFound (s : Trail) (steps : List Step) (first : ℕ) (last : List Bool) (is : List ℕ) (n : ℕ) (found : List Narrowing) : Type 0 where
   pub given : (b : Body) → IsFollowed b s steps first last is → AllGiven b s found
-  pub ends : AllTrue s found → AreEndsAlive s steps first last is n
+  pub ends : AllTargetsTrue s found → AreEndsAlive s steps first last is n
 
 -- a list has the labels of steps
 abbrev pub HasLabelsOf : List Step → List ℤ → Type 0
@@ -125,7 +125,7 @@ AreClosed s i alphabet labels = (v : ℤ) → Contains alphabet v → IsOpenTo s
 pub record IsFrom (b : Body) (s : Trail) (i : ℕ) (least : ℤ) : Type 0 where
   pub at : (xs : List ℤ) → IsAdmitted s.first s.entries xs → HoldsBody b xs → least ≤ℤ value_at xs i
 
-pub record IsUpTo (b : Body) (s : Trail) (i : ℕ) (greatest : ℤ) : Type 0 where
+pub record IsSubjectUpTo (b : Body) (s : Trail) (i : ℕ) (greatest : ℤ) : Type 0 where
   pub at : (xs : List ℤ) → IsAdmitted s.first s.entries xs → HoldsBody b xs → value_at xs i ≤ℤ greatest
 
 -- where the body holds nowhere that the store leaves, and what is found is given by it
@@ -140,10 +140,10 @@ IsNarrowed s steps first last is found true = AreFound s steps first last is (le
 IsNarrowed s steps first last is found false = IsDead s steps first last is found
 
 -- what a look comes to: a run, and what is found, or that there is none
-abbrev pub IsLooked : Trail → List Step → ℕ → List Bool → List ℕ → List Narrowing → Bool → Type 0
-IsLooked s steps first last is found true = CanEnd s steps last is first
+abbrev pub IsRunLooked : Trail → List Step → ℕ → List Bool → List ℕ → List Narrowing → Bool → Type 0
+IsRunLooked s steps first last is found true = CanEnd s steps last is first
     × AreFound s steps first last is (length is) found
-IsLooked s steps first last is found false = IsDead s steps first last is found
+IsRunLooked s steps first last is found false = IsDead s steps first last is found
 
 -- each value of a position whose values are among few numbers is the label there of a run
 abbrev pub HasRunsOfAll : Body → Trail → Type 0

@@ -15,13 +15,13 @@ pub record AreSides (ds js : List ℕ) (one two : Body) : Type 0 where
   pub inverse : two ≡ AllDiff js
 
 -- wherever a body holds, another holds
-pub record Implies (b p : Body) : Type 0 where
+pub record ImpliesBody (b p : Body) : Type 0 where
   pub at : (xs : List ℤ) → HoldsBody b xs → HoldsBody p xs
 
 -- a body holds at no values that the store leaves, where a look says so
-abbrev pub IsDenied : Body → Trail → Look → Type 0
-IsDenied b s Possible = Unit {0}
-IsDenied b s (Impossible hint) = IsImpossible b s
+abbrev pub IsSeenImpossible : Body → Trail → Look → Type 0
+IsSeenImpossible b s Possible = Unit {0}
+IsSeenImpossible b s (Impossible hint) = IsImpossible b s
 
 -- no interval of whole numbers holds the values of more positions of one list of an inverse than it has numbers
 abbrev pub HasRoomOnEachSide : Body → Trail → Type 0

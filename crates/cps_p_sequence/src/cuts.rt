@@ -11,7 +11,7 @@ ghost use Rattle.cps_literal.specs.Truth.{value_at};
 ghost use Rattle.cps_literal.specs.declared.atom.Op.TheVariants.{Le, Ge};
 ghost use Rattle.cps_rule.specs.Rules.{AllTrueAt};
 ghost use Rattle.cps_p_sequence.specs.Networks.{IsStepWithin, IsMarked};
-ghost use Rattle.cps_p_sequence.specs.Facts.{IsBounded};
+ghost use Rattle.cps_p_sequence.specs.Facts.{MeetsBound};
 ghost use Rattle.cps_rule.specs.Facts.{Grows, Denied};
 ghost use Rattle.cps_p_sequence.specs.Cuts.{IsOut, IsLimited, Comes, IsCut};
 
@@ -58,7 +58,7 @@ fn is_denied(goal: Option<Atom>, subject: u32, label: i64) -> bool
 
 /// Whether a number does not meet a bound.
 fn is_beyond(op: Op, bound: Option<i64>, number: i64) -> bool
-    ensures { IsTrue result → (x : ℤ) → IsBounded op bound x → x ≡ number → ⊥ }
+    ensures { IsTrue result → (x : ℤ) → MeetsBound op bound x → x ≡ number → ⊥ }
 {
     match bound {
         Some(value) => !is_met(atom(0, op, value), number),
@@ -189,7 +189,7 @@ fn push_bound(
     requires { subject < length past.now.first }
     ensures grows { OnOk result (Grows past.now facts.old.items facts.new.items) }
     ensures bounded { IfOk result (λ kept. (xs : List ℤ) → AllTrueAt xs facts.new.items →
-        IsBounded op kept (value_at xs subject)) }
+        MeetsBound op kept (value_at xs subject)) }
 {
     match bound {
         Some(value) => {

@@ -8,7 +8,7 @@ ghost use Rattle.cps_instance.specs.declared.task.Body.{Body as BodyOf};
 ghost use Rattle.cps_propagate.specs.Now.{IsOpenTo};
 ghost use Rattle.cps_propagate.specs.Strength.{IsEndNow};
 ghost use Rattle.cps_model.specs.Rising.{IsRising};
-ghost use Rattle.cps_p_sequence.specs.Runs.{HasLabels, AreClosed, IsFrom, IsUpTo, IsNarrowAt, AllGiven, AllTrue};
+ghost use Rattle.cps_p_sequence.specs.Runs.{HasLabels, AreClosed, IsFrom, IsSubjectUpTo, IsNarrowAt, AllGiven, AllTargetsTrue};
 
 use crate::states::is_listed;
 use cps_literal::{Atom, Op};
@@ -49,8 +49,8 @@ fn keep_from(
     requires { subject < length store.now.first }
     ensures given { OnOk result ((b : BodyOf) → IsFrom b store.now subject least →
         AllGiven b store.now found.old.items → AllGiven b store.now found.new.items) }
-    ensures kept { OnOk result (AllTrue store.now found.new.items → AllTrue store.now found.old.items) }
-    ensures from { OnOk result (AllTrue store.now found.new.items → (x : ℤ) →
+    ensures kept { OnOk result (AllTargetsTrue store.now found.new.items → AllTargetsTrue store.now found.old.items) }
+    ensures from { OnOk result (AllTargetsTrue store.now found.new.items → (x : ℤ) →
         IsOpenTo store.now subject x → least ≤ℤ x) }
 {
     if least <= store.domain(subject).min() {
@@ -68,10 +68,10 @@ fn keep_up_to(
     found: &mut Vec<Narrowing>,
 ) -> Result<(), AllocError>
     requires { subject < length store.now.first }
-    ensures given { OnOk result ((b : BodyOf) → IsUpTo b store.now subject greatest →
+    ensures given { OnOk result ((b : BodyOf) → IsSubjectUpTo b store.now subject greatest →
         AllGiven b store.now found.old.items → AllGiven b store.now found.new.items) }
-    ensures kept { OnOk result (AllTrue store.now found.new.items → AllTrue store.now found.old.items) }
-    ensures up_to { OnOk result (AllTrue store.now found.new.items → (x : ℤ) →
+    ensures kept { OnOk result (AllTargetsTrue store.now found.new.items → AllTargetsTrue store.now found.old.items) }
+    ensures up_to { OnOk result (AllTargetsTrue store.now found.new.items → (x : ℤ) →
         IsOpenTo store.now subject x → x ≤ℤ greatest) }
 {
     if store.domain(subject).max() <= greatest {
@@ -93,10 +93,10 @@ fn keep_ends(
     requires rising { IsRising labels.now }
     ensures given { OnOk result ((b : BodyOf) → HasLabels b store.now subject labels.now →
         AllGiven b store.now found.old.items → AllGiven b store.now found.new.items) }
-    ensures kept { OnOk result (AllTrue store.now found.new.items → AllTrue store.now found.old.items) }
-    ensures ends { OnOk result (AllTrue store.now found.new.items → ((v : ℤ) → Contains labels.now v →
+    ensures kept { OnOk result (AllTargetsTrue store.now found.new.items → AllTargetsTrue store.now found.old.items) }
+    ensures ends { OnOk result (AllTargetsTrue store.now found.new.items → ((v : ℤ) → Contains labels.now v →
         IsOpenTo store.now subject v) → (v : ℤ) → IsEndNow store.now subject v → Contains labels.now v) }
-    ensures within { OnOk result (AllTrue store.now found.new.items → (x : ℤ) → IsOpenTo store.now subject x →
+    ensures within { OnOk result (AllTargetsTrue store.now found.new.items → (x : ℤ) → IsOpenTo store.now subject x →
         (slice_index_or labels.now 0 (pos 0) ≤ℤ x)
         × (x ≤ℤ slice_index_or labels.now (length labels.now - 1) (pos 0))) }
 {
@@ -117,8 +117,8 @@ fn keep_off_others(
     requires rising { IsRising labels.now }
     ensures given { OnOk result ((b : BodyOf) → HasLabels b store.now subject labels.now →
         AllGiven b store.now found.old.items → AllGiven b store.now found.new.items) }
-    ensures kept { OnOk result (AllTrue store.now found.new.items → AllTrue store.now found.old.items) }
-    ensures closed { OnOk result (AllTrue store.now found.new.items →
+    ensures kept { OnOk result (AllTargetsTrue store.now found.new.items → AllTargetsTrue store.now found.old.items) }
+    ensures closed { OnOk result (AllTargetsTrue store.now found.new.items →
         AreClosed store.now subject alphabet.now labels.now) }
 {
     for label in alphabet {
@@ -154,8 +154,8 @@ fn keep_off_run(
     requires rising { IsRising labels.now }
     ensures given { OnOk result ((b : BodyOf) → HasLabels b store.now subject labels.now →
         AllGiven b store.now found.old.items → AllGiven b store.now found.new.items) }
-    ensures kept { OnOk result (AllTrue store.now found.new.items → AllTrue store.now found.old.items) }
-    ensures whole { OnOk result (AllTrue store.now found.new.items → (x : ℤ) → run.0 ≤ℤ x → x <ℤ run.1 →
+    ensures kept { OnOk result (AllTargetsTrue store.now found.new.items → AllTargetsTrue store.now found.old.items) }
+    ensures whole { OnOk result (AllTargetsTrue store.now found.new.items → (x : ℤ) → run.0 ≤ℤ x → x <ℤ run.1 →
         IsOpenTo store.now subject x → Contains labels.now x) }
 {
     for value in run.0..run.1 {
@@ -182,8 +182,8 @@ fn keep_off_strays(
     requires rising { IsRising labels.now }
     ensures given { OnOk result ((b : BodyOf) → HasLabels b store.now subject labels.now →
         AllGiven b store.now found.old.items → AllGiven b store.now found.new.items) }
-    ensures kept { OnOk result (AllTrue store.now found.new.items → AllTrue store.now found.old.items) }
-    ensures whole { OnOk result (AllTrue store.now found.new.items → (x : ℤ) →
+    ensures kept { OnOk result (AllTargetsTrue store.now found.new.items → AllTargetsTrue store.now found.old.items) }
+    ensures whole { OnOk result (AllTargetsTrue store.now found.new.items → (x : ℤ) →
         slice_index_or labels.now 0 (pos 0) ≤ℤ x → x ≤ℤ slice_index_or labels.now (length labels.now - 1) (pos 0) →
         IsOpenTo store.now subject x → Contains labels.now x) }
 {
@@ -221,12 +221,12 @@ pub(crate) fn keep_labels(
     requires rising { IsRising labels.now }
     ensures given { OnOk result ((b : BodyOf) → HasLabels b store.now subject labels.now →
         AllGiven b store.now found.old.items → AllGiven b store.now found.new.items) }
-    ensures kept { OnOk result (AllTrue store.now found.new.items → AllTrue store.now found.old.items) }
-    ensures ends { OnOk result (AllTrue store.now found.new.items → ((v : ℤ) → Contains labels.now v →
+    ensures kept { OnOk result (AllTargetsTrue store.now found.new.items → AllTargetsTrue store.now found.old.items) }
+    ensures ends { OnOk result (AllTargetsTrue store.now found.new.items → ((v : ℤ) → Contains labels.now v →
         IsOpenTo store.now subject v) → (v : ℤ) → IsEndNow store.now subject v → Contains labels.now v) }
-    ensures closed { OnOk result (AllTrue store.now found.new.items →
+    ensures closed { OnOk result (AllTargetsTrue store.now found.new.items →
         AreClosed store.now subject alphabet.now labels.now) }
-    ensures whole { OnOk result (AllTrue store.now found.new.items → ((v : ℤ) → Contains labels.now v →
+    ensures whole { OnOk result (AllTargetsTrue store.now found.new.items → ((v : ℤ) → Contains labels.now v →
         IsOpenTo store.now subject v) → IsNarrowAt store.now subject → (x : ℤ) → IsOpenTo store.now subject x →
         Contains labels.now x) }
 {

@@ -6,7 +6,7 @@
 ghost use Rattle.std.specs.Prelude.{◌≡◌, ◌↔◌, ◌-◌, ◌<◌, ◌≤◌, ℕ, false, length, drop, slice_index_or, Contains, All, OnOk, IfOk, IsTrue};
 ghost use Rattle.cps_p_sequence.specs.Networks.{IsStepWithin, IsMarked};
 ghost use Rattle.cps_model.specs.Rising.{IsRising};
-ghost use Rattle.cps_p_sequence.specs.Runs.{AreTails, AreHeads, AreLabels, AreEnding, AreRows, HasLabelsOf, IsNarrowed, IsLooked};
+ghost use Rattle.cps_p_sequence.specs.Runs.{AreTails, AreHeads, AreLabels, AreEnding, AreRows, HasLabelsOf, IsNarrowed, IsRunLooked};
 
 use crate::keep::{is_open, keep_labels};
 use crate::states::{Step, blank, make_distinct};
@@ -262,7 +262,7 @@ pub(crate) fn look_at(
     requires first { net.now.first < length net.now.last.now }
     requires alphabet { HasLabelsOf net.now.steps.now net.now.alphabet.now }
     ensures { IfOk result
-        (IsLooked store.now net.now.steps.now net.now.first net.now.last.now net.now.subjects.now
+        (IsRunLooked store.now net.now.steps.now net.now.first net.now.last.now net.now.subjects.now
         found.new.items) }
 {
     found.clear();

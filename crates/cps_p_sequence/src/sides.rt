@@ -9,7 +9,7 @@ ghost use Rattle.cps_trail.specs.Trail.{Trail};
 ghost use Rattle.cps_propagate.specs.Strength.{IsStrongBody};
 ghost use Rattle.cps_rule.specs.Rules.{IsFittingRule, IsExplained, IsRefuted};
 ghost use Rattle.cps_p_sequence.specs.Inverses.{AreGivenPlaces, AreTrue};
-ghost use Rattle.cps_p_sequence.specs.Sides.{AreSides, Implies, IsDenied};
+ghost use Rattle.cps_p_sequence.specs.Sides.{AreSides, ImpliesBody, IsSeenImpossible};
 
 use cps_literal::Atom;
 use cps_p_alldiff::AllDifferent;
@@ -40,7 +40,7 @@ pub(crate) fn is_possible(look: &Look) -> bool
 /// The first of two looks, unless it leaves open what the second does not.
 fn surest(one: Look, two: Look) -> Look
     ensures possible { result ≡ Look.Possible → (one ≡ Look.Possible) × (two ≡ Look.Possible) }
-    ensures denied { (b : BodyOf) → (s : Trail) → IsDenied b s one → IsDenied b s two → IsDenied b s result }
+    ensures denied { (b : BodyOf) → (s : Trail) → IsSeenImpossible b s one → IsSeenImpossible b s two → IsSeenImpossible b s result }
 {
     match one {
         Look::Possible => two,
@@ -57,10 +57,10 @@ fn add_apart(
 ) -> Result<Look, AllocError>
     requires fits { IsFittingRule store.now.first side.old }
     ensures keeps { side.new ≡ side.old }
-    ensures given { OnOk result ((b : BodyOf) → Implies b side.old → AreGivenPlaces b store.now found.old.items →
+    ensures given { OnOk result ((b : BodyOf) → ImpliesBody b side.old → AreGivenPlaces b store.now found.old.items →
         AreGivenPlaces b store.now found.new.items) }
     ensures kept { OnOk result (AreTrue store.now found.new.items → AreTrue store.now found.old.items) }
-    ensures denied { IfOk result (λ look. (b : BodyOf) → Implies b side.old → IsDenied b store.now look) }
+    ensures denied { IfOk result (λ look. (b : BodyOf) → ImpliesBody b side.old → IsSeenImpossible b store.now look) }
     ensures strong { result ≡ Ok Look.Possible → AreTrue store.now found.new.items →
         IsStrongBody side.old store.now }
 {
@@ -92,10 +92,10 @@ impl Sides {
         requires fits_inverse { IsFittingRule store.now.first self.old.inverse }
         ensures keeps_direct { self.new.direct ≡ self.old.direct }
         ensures keeps_inverse { self.new.inverse ≡ self.old.inverse }
-        ensures given { OnOk result ((b : BodyOf) → Implies b self.old.direct → Implies b self.old.inverse →
+        ensures given { OnOk result ((b : BodyOf) → ImpliesBody b self.old.direct → ImpliesBody b self.old.inverse →
             AreGivenPlaces b store.now found.new.items) }
-        ensures denied { IfOk result (λ look. (b : BodyOf) → Implies b self.old.direct →
-            Implies b self.old.inverse → IsDenied b store.now look) }
+        ensures denied { IfOk result (λ look. (b : BodyOf) → ImpliesBody b self.old.direct →
+            ImpliesBody b self.old.inverse → IsSeenImpossible b store.now look) }
         ensures strong { result ≡ Ok Look.Possible → AreTrue store.now found.new.items →
             IsStrongBody self.old.direct store.now × IsStrongBody self.old.inverse store.now }
     {
@@ -116,7 +116,7 @@ impl Sides {
     ) -> Result<bool, AllocError>
         requires fits_direct { IsFittingRule past.now.first self.now.direct }
         requires fits_inverse { IsFittingRule past.now.first self.now.inverse }
-        ensures { result ≡ Ok true → (b : BodyOf) → Implies b self.now.direct → Implies b self.now.inverse →
+        ensures { result ≡ Ok true → (b : BodyOf) → ImpliesBody b self.now.direct → ImpliesBody b self.now.inverse →
             IsExplained b past.now target facts.new.items }
     {
         if self.direct.explain(past, target, hint, facts)? {
@@ -135,7 +135,7 @@ impl Sides {
     ) -> Result<bool, AllocError>
         requires fits_direct { IsFittingRule past.now.first self.now.direct }
         requires fits_inverse { IsFittingRule past.now.first self.now.inverse }
-        ensures { result ≡ Ok true → (b : BodyOf) → Implies b self.now.direct → Implies b self.now.inverse →
+        ensures { result ≡ Ok true → (b : BodyOf) → ImpliesBody b self.now.direct → ImpliesBody b self.now.inverse →
             IsRefuted b past.now facts.new.items }
     {
         if self.direct.refute(past, hint, facts)? {

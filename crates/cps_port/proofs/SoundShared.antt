@@ -18,7 +18,7 @@ use Rattle.cps_port.specs.Incumbents.{IsIncumbent, IsLowerBound}
 use Rattle.cps_port.specs.Parts.{no_rows, no_bounds}
 use Rattle.cps_port.specs.Shared.{BoardState, BoundsState, Shared, first_shared, board_part, bounds_part, row_at, actor_count, board_after, bounds_after, after, IsLawful}
 use Rattle.cps_port.specs.Sound.{least_offer, greatest_raise, IsSoundBounds, IsSoundShared, run, AreLawful, StaysSound}
-use Rattle.cps_port.specs.Kept.{BoardKept, IsKept}
+use Rattle.cps_port.specs.Kept.{BoardKept, IsStateKept}
 use Rattle.cps_port.proofs.Bounding.{keeps_offer, keeps_raise, keeps_upper, keeps_lower}
 use Rattle.cps_port.proofs.Boarding.{raise_sound, keeps_draw, keeps_publish, keeps_look}
 
@@ -76,7 +76,7 @@ first_bounds m actors rows valid =
       saw_lower = λ i. subst (λ (p : BoundsPart). IsNoLower p.saw_lower s.lower) (sym (idle i)) tt;
     }
 
-pub starts : (m : CpModel) (actors rows : ℕ) → IsValid m → rows ≤ 4096 → IsKept (first_shared m actors rows)
+pub starts : (m : CpModel) (actors rows : ℕ) → IsValid m → rows ≤ 4096 → IsStateKept (first_shared m actors rows)
 starts m actors rows valid few = let long = length-replicate {A = Option Entry} rows None in record {
   valid = valid;
   few = omega arith;
@@ -85,7 +85,7 @@ starts m actors rows valid few = let long = length-replicate {A = Option Entry} 
   bounds = first_bounds m actors rows valid;
 }
 
-pub keeps_board : (c : Shared) (i : ℕ) (event : Event) → IsKept c → i < actor_count c → IsLawful c i event → BoardKept c.model (board_after c.board i event)
+pub keeps_board : (c : Shared) (i : ℕ) (event : Event) → IsStateKept c → i < actor_count c → IsLawful c i event → BoardKept c.model (board_after c.board i event)
 keeps_board c i Draw k h l = keeps_draw c.model c.board k.board i h l.0 l.1
 keeps_board c i (Publish e) k h l = keeps_publish c.model c.board k.board i h e l
 keeps_board c i Look k h l = keeps_look c.model c.board k.board i h l
@@ -94,10 +94,10 @@ keeps_board c i (Raise b) k h l = k.board
 keeps_board c i SeeUpper k h l = k.board
 keeps_board c i SeeLower k h l = k.board
 
-among : (c : Shared) (i : ℕ) → IsKept c → i < actor_count c → i < length c.bounds.parts
+among : (c : Shared) (i : ℕ) → IsStateKept c → i < actor_count c → i < length c.bounds.parts
 among c i k h = let b = k.both in omega arith
 
-pub keeps_bounds : (c : Shared) (i : ℕ) (event : Event) → IsKept c → i < actor_count c → IsLawful c i event → IsSoundBounds c.model (bounds_after c.bounds i event)
+pub keeps_bounds : (c : Shared) (i : ℕ) (event : Event) → IsStateKept c → i < actor_count c → IsLawful c i event → IsSoundBounds c.model (bounds_after c.bounds i event)
 keeps_bounds c i Draw k h l = k.bounds
 keeps_bounds c i (Publish e) k h l = k.bounds
 keeps_bounds c i Look k h l = k.bounds
@@ -133,7 +133,7 @@ same_parts s i (Raise l) = length-set s.parts i _
 same_parts s i SeeUpper = length-set s.parts i _
 same_parts s i SeeLower = length-set s.parts i _
 
-pub keeps : (c : Shared) (i : ℕ) (event : Event) → IsKept c → i < actor_count c → IsLawful c i event → IsKept (after c i event)
+pub keeps : (c : Shared) (i : ℕ) (event : Event) → IsStateKept c → i < actor_count c → IsLawful c i event → IsStateKept (after c i event)
 keeps c i event k h l = let few = k.few in let long = same_rows c.board i event in record {
   valid = k.valid;
   few = omega arith;
@@ -142,15 +142,15 @@ keeps c i event k h l = let few = k.few in let long = same_rows c.board i event 
   bounds = keeps_bounds c i event k h l;
 }
 
-pub sound_of : (c : Shared) → IsKept c → IsSoundShared c
+pub sound_of : (c : Shared) → IsStateKept c → IsSoundShared c
 sound_of c k = record { few = k.few; both = k.both; board = k.board.sound; bounds = k.bounds }
 
-run_kept : (c : Shared) (events : List (ℕ × Event)) → IsKept c → AreLawful c events → IsKept (run c events)
+run_kept : (c : Shared) (events : List (ℕ × Event)) → IsStateKept c → AreLawful c events → IsStateKept (run c events)
 run_kept c [] k l = k
 run_kept c (e ∷ es) k l = run_kept (after c e.0 e.1) es (keeps c e.0 e.1 k l.0 l.1) l.2
 
 -- After every list of events, each lawful where it comes: each row's entry is sound and names its row; the upper bound is
 -- the least offer; the lower bound is the greatest raise, and no solution's objective is below it; what each actor took
 -- are the first rows in order; and each row is one actor's.
-pub stays_sound : (c : Shared) → IsKept c → StaysSound c
+pub stays_sound : (c : Shared) → IsStateKept c → StaysSound c
 stays_sound c k events lawful = sound_of (run c events) (run_kept c events k lawful)

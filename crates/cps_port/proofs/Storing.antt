@@ -20,8 +20,8 @@ use Rattle.cps_port.specs.Parts.{no_rows, no_bounds, with_row, with_past, with_m
 use Rattle.cps_port.specs.Shared.{Shared, first_shared, board_part, bounds_part, next_row, counted, drawn_by, looked_by, actor_count, after, IsLawful}
 use Rattle.cps_port.specs.Sound.{IsSoundShared}
 use Rattle.cps_port.specs.Totals.{total, one_if}
-use Rattle.cps_port.specs.Kept.{full_count, IsKept}
-use Rattle.cps_port.specs.Views.{no_row, no_seat, row_entry, is_own, own_entries, first_entries, seat_part, seat_parts, shared_of, row_of, seat_of, IsStored, IsWhole}
+use Rattle.cps_port.specs.Kept.{full_count, IsStateKept}
+use Rattle.cps_port.specs.Views.{no_row, no_seat, row_entry, is_own, own_entries, first_entries, seat_part, seat_parts, shared_of, row_of, seat_of, IsStateStored, IsWhole}
 use Rattle.cps_port.proofs.Lists.{at_each}
 use Rattle.cps_port.proofs.Boarding.{taken_before}
 use Rattle.cps_port.proofs.SoundShared.{get_or-replicate, starts, keeps, sound_of}
@@ -168,9 +168,9 @@ module _ (m : CpModel) (rows : List Row) (next : ℕ) (seats : List Seat) (upper
     here : i < actor_count C
     here = subst (λ (x : Shared). i < actor_count x) (sym is) h
 
-    stepped : (event : Event) (c' : Shared) (rows' : List Row) (seats' : List Seat) → IsLawful C i event → c' ≡ after C i event → IsStored rows' seats' → Stepped c c' rows' seats' i event
+    stepped : (event : Event) (c' : Shared) (rows' : List Row) (seats' : List Seat) → IsLawful C i event → c' ≡ after C i event → IsStateStored rows' seats' → Stepped c c' rows' seats' i event
     stepped event c' rows' seats' lawful e stored =
-        let kept : IsKept c' = subst IsKept (sym e) (keeps C i event w.kept here lawful) in
+        let kept : IsStateKept c' = subst IsStateKept (sym e) (keeps C i event w.kept here lawful) in
         record { state = e ∙ ap (λ (x : Shared). after x i event) is; whole = record { kept = kept; stored = stored }; sound = (subst IsSoundShared is (sound_of C w.kept), sound_of c' kept) }
 
     lawful_here : (event : Event) → IsLawful c i event → IsLawful C i event
@@ -207,7 +207,7 @@ module _ (m : CpModel) (rows : List Row) (next : ℕ) (seats : List Seat) (upper
       parts_are : (s : Seat) → seat_parts rows 0 (set seats i s) ≡ set (seat_parts rows 0 seats) i (seat_part rows i s)
       parts_are s = seat_parts-set rows rows 0 seats i s (seat_part rows i s) among (λ n e. ap (λ (k : ℕ). seat_part rows k s) (let q : n ≡ i = omega arith in q)) (λ j n e ne l. refl)
 
-      stored_as : (s : Seat) → s.taken ≤ length rows → ((row k : ℕ) → s.drawn ≡ Some row → row ≤ k → is_own i (row_of rows k) ≡ false) → IsStored rows (set seats i s)
+      stored_as : (s : Seat) → s.taken ≤ length rows → ((row k : ℕ) → s.drawn ≡ Some row → row ≤ k → is_own i (row_of rows k) ≡ false) → IsStateStored rows (set seats i s)
       stored_as s taken ordered = record {
         actors = let l = length-set seats i s in let a = w.stored.actors in omega arith;
         taken = λ j. at_each seats i s no_seat j (λ (q : Seat). q.taken ≤ length rows) among (λ _. taken) (λ _. w.stored.taken j);
@@ -348,7 +348,7 @@ module _ (m : CpModel) (actors n : ℕ) (rows : List Row) (seats : List Seat) (b
   begins_whole valid few small =
       let seat : (i : ℕ) → seat_of seats i ≡ no_seat = λ i. ap (λ (l : List Seat). seat_of l i) s ∙ get_or-replicate actors i no_seat in
       let row : (k : ℕ) → row_of rows k ≡ no_row = λ k. ap (λ (l : List Row). row_of l k) r ∙ get_or-replicate n k no_row in record {
-        kept = subst IsKept (sym begins) (starts m actors n valid few);
+        kept = subst IsStateKept (sym begins) (starts m actors n valid few);
         stored = record {
           actors = let l = ap (λ (l : List Seat). length l) s in let h = length-replicate actors no_seat in omega arith;
           taken = λ i. subst (λ (q : Seat). q.taken ≤ length rows) (sym (seat i)) (omega arith);

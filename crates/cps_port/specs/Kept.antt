@@ -26,7 +26,7 @@ pub record BoardKept (m : CpModel) (b : BoardState) : Type 0 where
   pub drawn : (i row : ℕ) → (board_part b i).drawn ≡ Some row → IsDrawn b row
   pub apart : (i j row : ℕ) → (board_part b i).drawn ≡ Some row → (board_part b j).drawn ≡ Some row → i ≡ j
 
-pub record IsKept (c : Shared) : Type 0 where
+pub record IsStateKept (c : Shared) : Type 0 where
   pub valid : IsValid c.model
   pub few : length c.board.rows ≤ most_rows
   pub both : length c.bounds.parts ≡ length c.board.parts

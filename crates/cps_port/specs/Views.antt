@@ -11,7 +11,7 @@ use Rattle.cps_port.specs.declared.seat.Row.{Row}
 use Rattle.cps_port.specs.declared.seat.Seat.{Seat}
 use Rattle.cps_port.specs.Entries.{entry_of}
 use Rattle.cps_port.specs.Shared.{Shared}
-use Rattle.cps_port.specs.Kept.{IsKept}
+use Rattle.cps_port.specs.Kept.{IsStateKept}
 
 -- a row that is not published, and an actor before its first event
 abbrev pub no_row : Row
@@ -57,12 +57,12 @@ abbrev pub seat_of : List Seat → ℕ → Seat
 seat_of seats actor = slice_index_or seats actor no_seat
 
 -- what holds of the state as it is stored
-pub record IsStored (rows : List Row) (seats : List Seat) : Type 0 where
+pub record IsStateStored (rows : List Row) (seats : List Seat) : Type 0 where
   pub actors : length seats < 2 ^ 32
   pub taken : (i : ℕ) → (seat_of seats i).taken ≤ length rows
   -- an actor's own rows come before the one that it drew
   pub ordered : (i row k : ℕ) → (seat_of seats i).drawn ≡ Some row → row ≤ k → is_own i (row_of rows k) ≡ false
 
 pub record IsWhole (c : Shared) (rows : List Row) (seats : List Seat) : Type 0 where
-  pub kept : IsKept c
-  pub stored : IsStored rows seats
+  pub kept : IsStateKept c
+  pub stored : IsStateStored rows seats

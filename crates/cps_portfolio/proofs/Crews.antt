@@ -30,7 +30,7 @@ use Rattle.cps_portfolio.specs.Workers.{AnySearch, search_in, kind_in, ending_in
 use Rattle.cps_model.specs.Start.{objective_start}
 use Rattle.cps_port.specs.Incumbents.{IsLowerBound}
 use Rattle.cps_portfolio.specs.Outcomes.{CameTo, EndedWithin, GoesByModel, HasSums, better, best_of}
-use Rattle.cps_portfolio.specs.Crews.{part_at, words_splits, IsAt, IsReady, Worked, IsSeated, IsCrew, IsDone, HasReturned, HaveReturned, EndedSeen, AreGathered}
+use Rattle.cps_portfolio.specs.Crews.{part_at, words_splits, IsSeatedAt, IsWorkerReady, Worked, IsSeated, IsCrew, IsHonestlyDone, HasReturned, HaveReturned, EndedSeen, AreGathered}
 use Rattle.cps_portfolio.proofs.Going.{has_begun, done_from}
 
 -- ---- lists that grow and shrink at their end
@@ -179,7 +179,7 @@ pub over_is : (s : Search) (end : End) → s.phase ≡ Over end → IsOver s.pha
 over_is s end e = subst IsOver (sym e) tt
 
 pub one_gathered : (m : CpModel) (gap conflicts first count : ℕ) (k j q : BoundsPart) (s : AnySearch) (e : Ending) (ends : List Ending) → AreGathered m gap conflicts (first + 1) count k ends → kind_in s ≡ worker_kind first
-    → IsDone m gap conflicts q s → (search_in s).phase ≡ Over e.end → e ≡ ending_in s e.end → j ≡ both_parts k q → AreGathered m gap conflicts first (suc count) j (e ∷ ends)
+    → IsHonestlyDone m gap conflicts q s → (search_in s).phase ≡ Over e.end → e ≡ ending_in s e.end → j ≡ both_parts k q → AreGathered m gap conflicts first (suc count) j (e ∷ ends)
 one_gathered m gap conflicts first count k j q s e ends h kind_is done phase is joined =
     let both : Over e.end ≡ Over done.end = sym phase ∙ done.over in
     let same : e.end ≡ done.end = cc in
@@ -213,7 +213,7 @@ one_gathered m gap conflicts first count k j q s e ends h kind_is done phase is 
 
 -- ---- a worker that was seated and then searched is back
 
-pub is_ready : (m : CpModel) (gap conflicts : ℕ) (board : Board) (bounds : Bounds) (number : ℕ) (c : Seated) → words.model_of bounds ≡ m → IsSeated m gap conflicts board bounds number c → IsReady m c
+pub is_ready : (m : CpModel) (gap conflicts : ℕ) (board : Board) (bounds : Bounds) (number : ℕ) (c : Seated) → words.model_of bounds ≡ m → IsSeated m gap conflicts board bounds number c → IsWorkerReady m c
 is_ready m gap conflicts board bounds number c model h =
     let b = has_begun m gap conflicts (known_of c.worker) h.begins in
     record {
@@ -232,7 +232,7 @@ has_returned m gap conflicts board bounds number a b h w = record {
   done = λ fine. done_from m gap conflicts (boards.rows_of a.port.board.now) (known_of a.worker) (known_of b.worker) (part_at a) (part_at b) h.begins h.offered h.raised (w.ended fine);
 }
 
-pub all_ready : (m : CpModel) (gap conflicts : ℕ) (board : Board) (bounds : Bounds) (crew : List Seated) → words.model_of bounds ≡ m → IsCrew m gap conflicts board bounds crew → All (IsReady m) crew
+pub all_ready : (m : CpModel) (gap conflicts : ℕ) (board : Board) (bounds : Bounds) (crew : List Seated) → words.model_of bounds ≡ m → IsCrew m gap conflicts board bounds crew → All (IsWorkerReady m) crew
 all_ready m gap conflicts board bounds crew model h i d l = is_ready m gap conflicts board bounds i _ model (h.each i d l)
 
 pub all_back : (m : CpModel) (gap conflicts : ℕ) (board : Board) (bounds : Bounds) (crew after : List Seated) → length after ≡ length crew → IsCrew m gap conflicts board bounds crew
@@ -249,7 +249,7 @@ written_back m gap conflicts board board' bounds bounds' n crew before after ful
     let seated = subst (λ (l : List Seated). IsCrew m gap conflicts board bounds l) (sym same) there in
     subst (λ (l : List Seated). HaveReturned m gap conflicts board bounds l) (sym (written n crew after full long)) (all_back m gap conflicts board bounds before after len seated w)
 
-pub all_at : (m : CpModel) (gap conflicts : ℕ) (board : Board) (bounds : Bounds) (crew : List Seated) → HaveReturned m gap conflicts board bounds crew → All (IsAt board bounds) crew
+pub all_at : (m : CpModel) (gap conflicts : ℕ) (board : Board) (bounds : Bounds) (crew : List Seated) → HaveReturned m gap conflicts board bounds crew → All (IsSeatedAt board bounds) crew
 all_at m gap conflicts board bounds crew h i d l = let back = h.each i d l in (back.board_is, back.bounds_is)
 
 pub splits_back : (crew after : List Seated) → length after ≡ length crew → ((i : ℕ) (d : Seated) → i < length crew → Worked (slice_index_or crew i d) (slice_index_or after i d)) → total words_splits after ≡ total words_splits crew

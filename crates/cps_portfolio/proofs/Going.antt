@@ -37,7 +37,7 @@ use Rattle.cps_neighbourhood.proofs.Counting.{HasNearRun, near_begins, near_goes
 use Rattle.cps_neighbourhood.proofs.Lasting.{near_left, near_lowered}
 use Rattle.cps_portfolio.specs.Workers.{AnySearch, by_guidance, by_cores, in_rounds, search_in, GoesByGuidance, BeginsGuided, BeginsByCores, BeginsRounds, BeginsAs, IsAimed, TakesTurnsBy, TakesCoreTurnsBy, RunsByCores, TurnedBy, TurnedByCores, TurnedNear, HasTurned, TakesTurnsAs, HasEnded}
 use Rattle.cps_portfolio.specs.Outcomes.{HasSums}
-use Rattle.cps_portfolio.specs.Crews.{IsDone}
+use Rattle.cps_portfolio.specs.Crews.{IsHonestlyDone}
 
 pub none_of : (o : Option End) → false ≡ is_some o → o ≡ None
 none_of None e = refl
@@ -218,7 +218,7 @@ sums_of kinds.Near m defs h = h
 
 -- one that went by a guidance that is what the model says
 guided_done : (m : CpModel) (gap conflicts rows : ℕ) (kind : WorkerKind) (g : Guidance) (s u t : Search) (p n q : Part) → BeginsGuided m gap conflicts kind g s → TakesTurnsBy g rows s u p n → TurnedBy g rows u t n q true
-    → p.bounds.offered ≡ Infinite → p.bounds.raised ≡ None → IsDone m gap conflicts q.bounds (by_guidance kind g t)
+    → p.bounds.offered ≡ Infinite → p.bounds.raised ≡ None → IsHonestlyDone m gap conflicts q.bounds (by_guidance kind g t)
 guided_done m gap conflicts rows kind g s u t p n q begins turns last offered raised =
     let e = some_of (end_of last.turn) last.last in
     let b = begins.begins in
@@ -252,7 +252,7 @@ guided_done m gap conflicts rows kind g s u t p n q begins turns last offered ra
 
 -- one that went by cores
 core_done : (m : CpModel) (gap conflicts rows : ℕ) (g : Guidance) (s u t : CoreSearch) (p n q : Part) → BeginsByCores m gap conflicts g s → TakesCoreTurnsBy g rows s u p n → TurnedByCores g rows u t n q true
-    → p.bounds.offered ≡ Infinite → p.bounds.raised ≡ None → IsDone m gap conflicts q.bounds (by_cores g t)
+    → p.bounds.offered ≡ Infinite → p.bounds.raised ≡ None → IsHonestlyDone m gap conflicts q.bounds (by_cores g t)
 core_done m gap conflicts rows g s u t p n q begins turns last offered raised =
     let e = some_of (end_of last.turn) last.last in
     let b = begins.begins in
@@ -278,7 +278,7 @@ core_done m gap conflicts rows g s u t p n q begins turns last offered raised =
 
 -- one that went in rounds
 near_done : (m : CpModel) (gap conflicts rows : ℕ) (s u t : Near) (p n q : Part) → BeginsRounds m gap conflicts s → TakesNearTurns rows s p u n → TurnedNear rows u t n q true
-    → p.bounds.offered ≡ Infinite → p.bounds.raised ≡ None → IsDone m gap conflicts q.bounds (in_rounds t)
+    → p.bounds.offered ≡ Infinite → p.bounds.raised ≡ None → IsHonestlyDone m gap conflicts q.bounds (in_rounds t)
 near_done m gap conflicts rows s u t p n q begins turns last offered raised =
     let e = some_of (end_of last.turn) last.last in
     let runs : NearRunsInTurns rows s t p q e.0 = record { before = last.aimed; part = n; turns = aimed_turns rows s p u last.aimed n turns last.aims; turn = last.turn; last = last.takes; ended = e.1 } in
@@ -304,13 +304,13 @@ near_done m gap conflicts rows s u t p n q begins turns last offered raised =
     }
 
 done_by : (m : CpModel) (gap conflicts rows : ℕ) (s u t : AnySearch) (p n q : Part) → BeginsAs m gap conflicts s → TakesTurnsAs rows s u p n → HasTurned rows u t n q true → p.bounds.offered ≡ Infinite → p.bounds.raised ≡ None
-    → IsDone m gap conflicts q.bounds t
+    → IsHonestlyDone m gap conflicts q.bounds t
 done_by m gap conflicts rows (by_guidance k g s) (by_guidance l h u) (by_guidance o i t) p n q begins turns last offered raised =
     let done = guided_done m gap conflicts rows k g s u t p n q begins turns.2 (subst (λ (x : Guidance). TurnedBy x rows u t n q true) turns.1 last.2) offered raised in
-    subst (λ (x : WorkerKind). IsDone m gap conflicts q.bounds (by_guidance x i t)) (sym (last.0 ∙ turns.0)) (subst (λ (x : Guidance). IsDone m gap conflicts q.bounds (by_guidance k x t)) (sym (last.1 ∙ turns.1)) done)
+    subst (λ (x : WorkerKind). IsHonestlyDone m gap conflicts q.bounds (by_guidance x i t)) (sym (last.0 ∙ turns.0)) (subst (λ (x : Guidance). IsHonestlyDone m gap conflicts q.bounds (by_guidance k x t)) (sym (last.1 ∙ turns.1)) done)
 done_by m gap conflicts rows (by_cores g s) (by_cores h u) (by_cores i t) p n q begins turns last offered raised =
     let done = core_done m gap conflicts rows g s u t p n q begins turns.1 (subst (λ (x : Guidance). TurnedByCores x rows u t n q true) turns.0 last.1) offered raised in
-    subst (λ (x : Guidance). IsDone m gap conflicts q.bounds (by_cores x t)) (sym (last.0 ∙ turns.0)) done
+    subst (λ (x : Guidance). IsHonestlyDone m gap conflicts q.bounds (by_cores x t)) (sym (last.0 ∙ turns.0)) done
 done_by m gap conflicts rows (in_rounds s) (in_rounds u) (in_rounds t) p n q begins turns last offered raised = near_done m gap conflicts rows s u t p n q begins turns last offered raised
 done_by m gap conflicts rows (by_guidance k g s) (by_guidance l h u) (by_cores i t) p n q begins turns last offered raised = absurd last
 done_by m gap conflicts rows (by_guidance k g s) (by_guidance l h u) (in_rounds t) p n q begins turns last offered raised = absurd last
@@ -325,7 +325,7 @@ done_by m gap conflicts rows (in_rounds s) (in_rounds u) (by_cores i t) p n q be
 done_by m gap conflicts rows (in_rounds s) (by_guidance l h u) t p n q begins turns last offered raised = absurd turns
 done_by m gap conflicts rows (in_rounds s) (by_cores h u) t p n q begins turns last offered raised = absurd turns
 
-pub done_from : (m : CpModel) (gap conflicts rows : ℕ) (s t : AnySearch) (p q : Part) → BeginsAs m gap conflicts s → p.bounds.offered ≡ Infinite → p.bounds.raised ≡ None → HasEnded rows s t p q → IsDone m gap conflicts q.bounds t
+pub done_from : (m : CpModel) (gap conflicts rows : ℕ) (s t : AnySearch) (p q : Part) → BeginsAs m gap conflicts s → p.bounds.offered ≡ Infinite → p.bounds.raised ≡ None → HasEnded rows s t p q → IsHonestlyDone m gap conflicts q.bounds t
 done_from m gap conflicts rows s t p q begins offered raised h = done_by m gap conflicts rows s h.before t p h.part q begins h.turns h.last offered raised
 
 -- ---- what is found

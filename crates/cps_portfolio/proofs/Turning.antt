@@ -27,7 +27,7 @@ use Rattle.cps_search.specs.Following.{best_bound}
 use Rattle.cps_portfolio.specs.declared.interleaved.Turning.{Turning}
 use Rattle.cps_portfolio.specs.Workers.{AnySearch, search_in, ending_in, known_of, worker_search, kind_of, worker_kind, HasTurned, TakesTurnsAs}
 use Rattle.cps_portfolio.specs.Outcomes.{CameTo, EndedWithin, GoesByModel, best_of, greatest_raised}
-use Rattle.cps_portfolio.specs.Crews.{IsDone}
+use Rattle.cps_portfolio.specs.Crews.{IsHonestlyDone}
 use Rattle.cps_portfolio.specs.Turning.{AtWork, IsTurning, AreTurning, IsFresh, AreFresh, one_at_work, count_at_work, end_of_phase, ended_of, place_at_work, drawn_place, TakesTurnAt, TakesDrawnTurns}
 use Rattle.cps_portfolio.specs.Turning.{one_more as one_drawn}
 use Rattle.cps_portfolio.proofs.Going.{has_begun, has_kept, none_taken, turned_on, still_runs, left_in, lighter_in, done_from}
@@ -110,7 +110,7 @@ all_turn_on m gap conflicts rows c d crew k w v h l is still kind turn others =
     let every = each_set (IsTurning m gap conflicts rows c) (IsTurning m gap conflicts rows d) crew k v h.each (turns_on m gap conflicts rows c d k w v here still kind turn) (λ i n y t. record {
       kind = t.kind;
       at_work = λ on. subst (AtWork m gap conflicts rows (known_of y.worker)) (sym (others i n)) (t.at_work on);
-      done = λ stopped. subst (λ (q : Part). IsDone m gap conflicts q.bounds (known_of y.worker)) (sym (others i n)) (t.done stopped);
+      done = λ stopped. subst (λ (q : Part). IsHonestlyDone m gap conflicts q.bounds (known_of y.worker)) (sym (others i n)) (t.done stopped);
     }) in
     record { each = λ i b m. every i b (omega (arith, m, length-set crew k v)) }
 
@@ -239,7 +239,7 @@ all_fresh m gap conflicts seed board actors rows c crew is h = record { each = �
 
 record IsConcluded (m : CpModel) (gap conflicts : ℕ) (upper lower : Bound) (number : ℕ) (q : BoundsPart) (w : Turning) : Type 0 where
   kind : kind_of w.worker ≡ worker_kind number
-  done : IsDone m gap conflicts q (known_of w.worker)
+  done : IsHonestlyDone m gap conflicts q (known_of w.worker)
   above : BoundLe upper q.saw_upper
   below : IsNoLower q.saw_lower lower
 

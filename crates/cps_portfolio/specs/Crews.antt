@@ -30,11 +30,11 @@ abbrev pub words_splits : Seated → ℕ
 words_splits c = words.splits_of c.port.bounds_seat
 
 -- a worker has its seats at these tables
-abbrev pub IsAt : Board → Bounds → Seated → Type 0
-IsAt board bounds c = (c.port.board.now ≡ board) × (c.port.bounds.now ≡ bounds)
+abbrev pub IsSeatedAt : Board → Bounds → Seated → Type 0
+IsSeatedAt board bounds c = (c.port.board.now ≡ board) × (c.port.bounds.now ≡ bounds)
 
 -- a worker of a model that may begin
-pub record IsReady (m : CpModel) (c : Seated) : Type 0 where
+pub record IsWorkerReady (m : CpModel) (c : Seated) : Type 0 where
   pub of_model : (worker_search c.worker).instance.model ≡ m
   pub running : IsOver (worker_search c.worker).phase → ⊥
   pub memory : (worker_search c.worker).refused ≡ false
@@ -65,7 +65,7 @@ pub record IsCrew (m : CpModel) (gap conflicts : ℕ) (board : Board) (bounds : 
   pub each : (i : ℕ) (d : Seated) → i < length crew → IsSeated m gap conflicts board bounds i (slice_index_or crew i d)
 
 -- a worker that ended honestly, by its guidance, its cores or its rounds
-pub record IsDone (m : CpModel) (gap conflicts : ℕ) (q : BoundsPart) (s : AnySearch) : Type 0 where
+pub record IsHonestlyDone (m : CpModel) (gap conflicts : ℕ) (q : BoundsPart) (s : AnySearch) : Type 0 where
   pub end : End
   pub over : (search_in s).phase ≡ Over end
   pub honest : IsHonestEnding m gap conflicts q (ending_in s end)
@@ -78,7 +78,7 @@ pub record HasReturned (m : CpModel) (gap conflicts : ℕ) (board : Board) (boun
   pub kind : kind_of c.worker ≡ worker_kind number
   pub board_is : c.port.board.now ≡ board
   pub bounds_is : c.port.bounds.now ≡ bounds
-  pub done : c.refused ≡ false → IsDone m gap conflicts (words_part c) (known_of c.worker)
+  pub done : c.refused ≡ false → IsHonestlyDone m gap conflicts (words_part c) (known_of c.worker)
 
 pub record HaveReturned (m : CpModel) (gap conflicts : ℕ) (board : Board) (bounds : Bounds) (crew : List Seated)
     : Type 0 where

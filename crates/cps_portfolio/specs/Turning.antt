@@ -16,7 +16,7 @@ use Rattle.cps_search.specs.declared.end.Phase.TheVariants.{Stepping, Deciding, 
 use Rattle.cps_search.specs.Ends.{Ending, IsOver}
 use Rattle.cps_portfolio.specs.declared.interleaved.Turning.{Turning}
 use Rattle.cps_portfolio.specs.Workers.{AnySearch, search_in, ending_in, known_of, worker_search, kind_of, worker_kind, BeginsAs, DrawsBy, TakesTurnsAs, HasTurned}
-use Rattle.cps_portfolio.specs.Crews.{IsDone}
+use Rattle.cps_portfolio.specs.Crews.{IsHonestlyDone}
 
 -- ---- workers that have turns left
 
@@ -31,7 +31,7 @@ pub record AtWork (m : CpModel) (gap conflicts rows : ℕ) (s : AnySearch) (q : 
 pub record IsTurning (m : CpModel) (gap conflicts rows : ℕ) (c : Shared) (number : ℕ) (w : Turning) : Type 0 where
   pub kind : kind_of w.worker ≡ worker_kind number
   pub at_work : w.over ≡ false → AtWork m gap conflicts rows (known_of w.worker) (part_at c number)
-  pub done : w.over ≡ true → IsDone m gap conflicts (part_at c number).bounds (known_of w.worker)
+  pub done : w.over ≡ true → IsHonestlyDone m gap conflicts (part_at c number).bounds (known_of w.worker)
 
 pub record AreTurning (m : CpModel) (gap conflicts rows : ℕ) (c : Shared) (crew : List Turning) : Type 0 where
   pub each : (i : ℕ) (d : Turning) → i < length crew → IsTurning m gap conflicts rows c i (slice_index_or crew i d)

@@ -1,6 +1,6 @@
 //! Workers with their ports over the shared tables.
 ghost use Rattle.std.specs.Prelude.{◌≡◌, ℕ, ◌<◌, length, All, slice_index_or};
-ghost use Rattle.cps_portfolio.specs.Crews.{IsReady, Worked};
+ghost use Rattle.cps_portfolio.specs.Crews.{IsWorkerReady, Worked};
 ghost use Rattle.cps_portfolio.specs.declared.seats.Seated.{Seated as SeatedOf};
 
 use crate::table_port::TablePort;
@@ -26,7 +26,7 @@ pub struct Seated<'a> {
 
 /// Lets a worker pass the gate, and then search to its end.
 fn work<R: Wait, G: Gate>(rt: &R, pool: &SharedPool<'_>, gate: &G, seated: &mut Seated<'_>)
-    requires { IsReady pool.now.model.now seated.old }
+    requires { IsWorkerReady pool.now.model.now seated.old }
     ensures { Worked seated.old seated.new }
 {
     gate.arrive(seated.number);
@@ -48,7 +48,7 @@ pub fn work_all<R: Threads + Wait + Sync, G: Gate + Sync>(
     gate: &G,
 )
     requires some { 0 < length crew.old }
-    requires ready { All (IsReady pool.now.model.now) crew.old }
+    requires ready { All (IsWorkerReady pool.now.model.now) crew.old }
     ensures len { length crew.new ≡ length crew.old }
     ensures each { (i : ℕ) (d : SeatedOf) → i < length crew.old
         → Worked (slice_index_or crew.old i d) (slice_index_or crew.new i d) }

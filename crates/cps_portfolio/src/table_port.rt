@@ -22,7 +22,7 @@ pub struct TablePort<'a> {
     /// This worker's seat at them.
     pub bounds_seat: BoundsSeat,
     ghost one_model: { boards.model_of board.now ≡ words.model_of bounds.now },
-    ghost at_board: { boards.IsSeatOf board.now board_seat },
+    ghost at_board: { boards.IsBoardSeatOf board.now board_seat },
     ghost at_bounds: { words.IsSeatOf bounds.now bounds_seat },
 }
 

@@ -6,7 +6,7 @@ use Rattle.std.proofs.Common.{◌≡◌, ℕ, List, [], ◌∷◌, Option, Some,
 use Rattle.cps_textproto.specs.Trees.{Tree}
 use Rattle.cps_schema.specs.Written.{Written}
 use Rattle.cps_schema.specs.Readings.{first_or, first_of, messages}
-use Rattle.cps_print.specs.Layout.{Message}
+use Rattle.cps_print.specs.Layout.{PrintedMessage}
 use Rattle.cps_print.proofs.Shown.{Shows, printed_messages, messages-shown}
 use Rattle.cps_print.proofs.Readable.{Each}
 use Rattle.cps_print.proofs.Fitting.{text_list, printed}
@@ -16,14 +16,14 @@ each_of P Q h [] p = tt
 each_of P Q h (x ∷ xs) p = (h x p.0, each_of P Q h xs p.1)
 
 -- what is read of each message is what was printed
-each_back : {X : Type 0} (w : Written) (P : X → Type 0) (printed : X → Message) (read : Tree → X) → ((x : X) (t : Tree) → P x → Shows w (printed x) t → read t ≡ x) → (xs : List X) (ts : List Tree) → Each P xs → AllZip (Shows w) (map printed xs) ts → map read ts ≡ xs
+each_back : {X : Type 0} (w : Written) (P : X → Type 0) (printed : X → PrintedMessage) (read : Tree → X) → ((x : X) (t : Tree) → P x → Shows w (printed x) t → read t ≡ x) → (xs : List X) (ts : List Tree) → Each P xs → AllZip (Shows w) (map printed xs) ts → map read ts ≡ xs
 each_back w P printed read back [] [] p s = refl
 each_back w P printed read back [] (t ∷ ts) p s = absurd s
 each_back w P printed read back (x ∷ xs) [] p s = absurd s
 each_back w P printed read back (x ∷ xs) (t ∷ ts) p s = rw (back x t p.0 s.0, each_back w P printed read back xs ts p.1 s.1) refl
 
 -- and so of the messages of a name
-pub messages_back : {X : Type 0} (w : Written) (P : X → Type 0) (printed : X → Message) (read : Tree → X) → ((x : X) (t : Tree) → P x → Shows w (printed x) t → read t ≡ x) → (name : List ℕ) (m : Message) (t : Tree) (xs : List X) → printed_messages name m ≡ map printed xs → Each P xs → Shows w m t → map read (messages w name t) ≡ xs
+pub messages_back : {X : Type 0} (w : Written) (P : X → Type 0) (printed : X → PrintedMessage) (read : Tree → X) → ((x : X) (t : Tree) → P x → Shows w (printed x) t → read t ≡ x) → (name : List ℕ) (m : PrintedMessage) (t : Tree) (xs : List X) → printed_messages name m ≡ map printed xs → Each P xs → Shows w m t → map read (messages w name t) ≡ xs
 messages_back w P printed read back name m t xs is p s =
     each_back w P printed read back xs (messages w name t) p
     (subst (λ ms. AllZip (Shows w) ms (messages w name t)) is (messages-shown w name m t s))

@@ -20,7 +20,7 @@ use Rattle.cps_schema.specs.Faults.{is_kind, has_kind, fields_fault}
 use Rattle.cps_schema.specs.Readings as readings
 use Rattle.cps_schema.specs.Readings.{first_or, read_variable, given_kinds, read_constraint}
 use Rattle.cps_schema.proofs.GivenKinds.{kind_use}
-use Rattle.cps_print.specs.Layout.{Message, empty}
+use Rattle.cps_print.specs.Layout.{PrintedMessage, empty}
 use Rattle.cps_print.specs.Fields.{followed_by, list_field, text_field, message_field}
 use Rattle.cps_print.specs.Kinds.{kind_field}
 use Rattle.cps_print.specs.Models.{printed_variable, printed_constraint}
@@ -119,12 +119,12 @@ kind_back w k t (inl e) s = rw e (empty_back w t (subst (λ x. Shows w (followed
 kind_back w k t (inr f) s = field_back w k f t (subst (λ m. Shows w (followed_by m empty) t) f.message.is s)
 
 -- the kind stands behind the name and the enforcement literals
-record Behind (w : Written) (m : Message) (t : Tree) : Type 0 where
+record Behind (w : Written) (m : PrintedMessage) (t : Tree) : Type 0 where
   rest : Tree
   shows : Shows w m rest
   same : given_kinds w t ≡ given_kinds w rest
 
-behind_literals : (w : Written) (literals : List ℤ) (m : Message) (t : Tree) → Shows w (followed_by (list_field (codes "enforcement_literal") literals) m) t → Behind w m t
+behind_literals : (w : Written) (literals : List ℤ) (m : PrintedMessage) (t : Tree) → Shows w (followed_by (list_field (codes "enforcement_literal") literals) m) t → Behind w m t
 unfolding followed_by list_field
 behind_literals w [] m t s = record { rest = t; shows = s; same = refl }
 behind_literals w (l ∷ ls) m no_fields s = absurd s
@@ -132,7 +132,7 @@ behind_literals w (l ∷ ls) m (field token false values rest) s = absurd s
 behind_literals w (l ∷ ls) m (field token true values rest) s =
     record { rest = rest; shows = s.2; same = rw s.0 refl }
 
-behind_name : (w : Written) (bytes : List ℕ) (m : Message) (t : Tree) → Shows w (followed_by (text_field (codes "name") bytes) m) t → Behind w m t
+behind_name : (w : Written) (bytes : List ℕ) (m : PrintedMessage) (t : Tree) → Shows w (followed_by (text_field (codes "name") bytes) m) t → Behind w m t
 unfolding followed_by text_field
 behind_name w [] m t s = record { rest = t; shows = s; same = refl }
 behind_name w (b ∷ bytes) m (field token false (scalar_value first end no_values) rest) s =

@@ -11,7 +11,7 @@ use Rattle.cps_lex.specs.Scan.{scan, number_run, has_signs, number_at}
 use Rattle.cps_textproto.specs.declared.symbol.Bracket.TheVariants.{Brace}
 use Rattle.cps_textproto.specs.Grammar.{Scalar, minus_number, texts, none, Fields, end, scalar, scalars, scalar_then, others_then, fields_then, Nests}
 use Rattle.cps_textproto.specs.Grammar as grammar
-use Rattle.cps_print.specs.Layout.{Message, empty, number, numbers, word, quoted, message, indent, start_of, value_line, behind_comma, in_brackets, opening, closing, text_of}
+use Rattle.cps_print.specs.Layout.{PrintedMessage, empty, number, numbers, word, quoted, message, indent, start_of, value_line, behind_comma, in_brackets, opening, closing, text_of}
 use Rattle.cps_print.specs.Quoting.{in_quotes}
 use Rattle.cps_print.proofs.Digits.{decimal_text, and_true}
 use Rattle.cps_print.proofs.Pieces.{Piece, blank, lexeme, spelled, symbols_of, IsBlank, IsLexeme, AreSound, take-front}
@@ -26,7 +26,7 @@ abbrev pub AreShort : List ℤ → Type 0
 AreShort [] = Unit {0}
 AreShort (n ∷ ns) = IsShort n × AreShort ns
 
-abbrev pub IsPlain : ℕ → Message → Type 0
+abbrev pub IsPlain : ℕ → PrintedMessage → Type 0
 IsPlain room empty = Unit {0}
 IsPlain room (number name n more) = (is_identifier name ≡ true) × IsShort n × IsPlain room more
 IsPlain room (numbers name n ns more) = (is_identifier name ≡ true) × IsShort n × AreShort ns × IsPlain room more
@@ -53,7 +53,7 @@ abbrev pub indent_pieces : ℕ → List Piece → List Piece
 indent_pieces zero rest = rest
 indent_pieces (suc level) rest = blank 32 ∷ blank 32 ∷ indent_pieces level rest
 
-abbrev pub pieces : ℕ → Message → List Piece → List Piece
+abbrev pub pieces : ℕ → PrintedMessage → List Piece → List Piece
 pieces level empty rest = rest
 pieces level (number name n more) rest =
     indent_pieces level (lexeme Identifier name ∷ sign 58 ∷ blank 32 ∷ number_pieces n (blank 10 ∷ pieces level more rest))
@@ -99,7 +99,7 @@ message_lines level name inner more after = simp append_assoc
 list_value : (first others after : List ℕ) → 91 ∷ (first ++ (others ++ 93 ∷ 10 ∷ after)) ≡ (91 ∷ (first ++ (others ++ 93 ∷ []))) ++ 10 ∷ after
 list_value first others after = ap (λ xs. 91 ∷ xs) (simp append_assoc)
 
-pub spelled-pieces : (room level : ℕ) (m : Message) (rest : List Piece) → IsPlain room m → spelled (pieces level m rest) ≡ text_of level m ++ spelled rest
+pub spelled-pieces : (room level : ℕ) (m : PrintedMessage) (rest : List Piece) → IsPlain room m → spelled (pieces level m rest) ≡ text_of level m ++ spelled rest
 unfolding text_of
 spelled-pieces room level empty rest p = refl
 spelled-pieces room level (number name n more) rest p =
@@ -290,7 +290,7 @@ indent_sound : (level : ℕ) (ps : List Piece) → AreSound ps → AreSound (ind
 indent_sound zero ps s = s
 indent_sound (suc level) ps s = (space, (space, indent_sound level ps s))
 
-pub pieces_sound : (room level : ℕ) (m : Message) (rest : List Piece) → IsPlain room m → AreSound rest → AreSound (pieces level m rest)
+pub pieces_sound : (room level : ℕ) (m : PrintedMessage) (rest : List Piece) → IsPlain room m → AreSound rest → AreSound (pieces level m rest)
 pieces_sound room level empty rest p s = s
 pieces_sound room level (number name n more) rest p s =
     let after = pieces_sound room level more rest p.2 s in
@@ -351,7 +351,7 @@ abbrev pub scalar_of : ℤ → Scalar
 scalar_of (pos n) = grammar.number
 scalar_of (negsuc n) = minus_number
 
-abbrev pub fields_of : Message → Fields
+abbrev pub fields_of : PrintedMessage → Fields
 fields_of empty = end
 fields_of (number name n more) = scalar (scalar_of n) none (fields_of more)
 fields_of (numbers name n ns more) = scalars (scalar_of n) (map scalar_of ns) none (fields_of more)
@@ -371,7 +371,7 @@ symbols-others : (ns : List ℤ) (ps : List Piece) → symbols_of (others_pieces
 symbols-others [] ps = refl
 symbols-others (n ∷ ns) ps = rw (symbols-number n (others_pieces ns ps), symbols-others ns ps) refl
 
-pub symbols-pieces : (room level : ℕ) (m : Message) (rest : List Piece) → IsPlain room m → symbols_of (pieces level m rest) ≡ fields_then (fields_of m) (symbols_of rest)
+pub symbols-pieces : (room level : ℕ) (m : PrintedMessage) (rest : List Piece) → IsPlain room m → symbols_of (pieces level m rest) ≡ fields_then (fields_of m) (symbols_of rest)
 symbols-pieces room level empty rest p = refl
 symbols-pieces room level (number name n more) rest p =
     symbols-indent level _ ∙ rw (symbols-number n (blank 10 ∷ pieces level more rest), symbols-pieces room level more rest p.2) refl
@@ -385,7 +385,7 @@ symbols-pieces (suc room) level (message name fields more) rest p =
     symbols-indent level _
     ∙ rw (symbols-pieces room (suc level) fields (indent_pieces level (sign 125 ∷ blank 10 ∷ pieces level more rest)) p.1, symbols-indent level (sign 125 ∷ blank 10 ∷ pieces level more rest), symbols-pieces (suc room) level more rest p.2) refl
 
-pub fields_nest : (room : ℕ) (m : Message) → IsPlain room m → Nests room (fields_of m)
+pub fields_nest : (room : ℕ) (m : PrintedMessage) → IsPlain room m → Nests room (fields_of m)
 fields_nest room empty p = tt
 fields_nest room (number name n more) p = fields_nest room more p.2
 fields_nest room (numbers name n ns more) p = fields_nest room more p.3

@@ -15,7 +15,7 @@ use Rattle.std.specs.Option.{unwrap_or}
 use Rattle.cps_schema.specs.Readings.{ok_or_zero}
 use Rattle.cps_schema.specs.Tables as tables
 use Rattle.cps_schema.specs.Tables.{use_of, content_of, is_given}
-use Rattle.cps_print.specs.Layout.{Message, empty, number, numbers, word, quoted, message}
+use Rattle.cps_print.specs.Layout.{PrintedMessage, empty, number, numbers, word, quoted, message}
 use Rattle.cps_print.specs.Fields.{followed_by, number_field, list_field, word_field, text_field, message_field, repeated_field}
 use Rattle.cps_print.proofs.Digits.{and_true}
 use Rattle.cps_print.proofs.Cuts.{IsShort, AreShort, IsPlain}
@@ -40,7 +40,7 @@ are_short type (n ∷ ns) e =
 
 -- plain
 
-pub plain-followed_by : (room : ℕ) (a b : Message) → IsPlain room a → IsPlain room b → IsPlain room (followed_by a b)
+pub plain-followed_by : (room : ℕ) (a b : PrintedMessage) → IsPlain room a → IsPlain room b → IsPlain room (followed_by a b)
 unfolding followed_by
 plain-followed_by room empty b p q = q
 plain-followed_by room (number name n more) b p q = (p.0, p.1, plain-followed_by room more b p.2 q)
@@ -76,23 +76,23 @@ unfolding word_field
 plain-word_field room name [] e i = tt
 plain-word_field room name (b ∷ bytes) e i = (e, i, tt)
 
-pub plain-message_field : (room : ℕ) (name : List ℕ) (fields : Message) → is_identifier name ≡ true → IsPlain room fields → IsPlain (suc room) (message_field name fields)
+pub plain-message_field : (room : ℕ) (name : List ℕ) (fields : PrintedMessage) → is_identifier name ≡ true → IsPlain room fields → IsPlain (suc room) (message_field name fields)
 plain-message_field room name fields e p = (e, p, tt)
 
-pub plain-repeated_field : {X : Type 0} (room : ℕ) (name : List ℕ) (printed : X → Message) (xs : List X) → is_identifier name ≡ true → Each (λ x. IsPlain room (printed x)) xs → IsPlain (suc room) (repeated_field name printed xs)
+pub plain-repeated_field : {X : Type 0} (room : ℕ) (name : List ℕ) (printed : X → PrintedMessage) (xs : List X) → is_identifier name ≡ true → Each (λ x. IsPlain room (printed x)) xs → IsPlain (suc room) (repeated_field name printed xs)
 unfolding repeated_field
 plain-repeated_field room name printed [] e p = tt
 plain-repeated_field room name printed (x ∷ xs) e p = (e, p.0, plain-repeated_field room name printed xs e p.1)
 
 -- admitted in front of others, behind fields of these names
 
-pub admitted-list : (closed : List (List ℕ)) (m : tables.Message) (before : List (List ℕ)) (name : List ℕ) (ns : List ℤ) (type : Number) (others : Message) → use_of m name ≡ Some (tables.repeated (tables.number type)) → AreFit type ns → IsAdmitted closed m before others → IsAdmitted closed m (name ∷ before) others → IsAdmitted closed m before (followed_by (list_field name ns) others)
+pub admitted-list : (closed : List (List ℕ)) (m : tables.Message) (before : List (List ℕ)) (name : List ℕ) (ns : List ℤ) (type : Number) (others : PrintedMessage) → use_of m name ≡ Some (tables.repeated (tables.number type)) → AreFit type ns → IsAdmitted closed m before others → IsAdmitted closed m (name ∷ before) others → IsAdmitted closed m before (followed_by (list_field name ns) others)
 unfolding followed_by list_field
 admitted-list closed m before name [] type others takes fit none some = none
 admitted-list closed m before name (n ∷ ns) type others takes fit none some =
     (record { type = type; content = ap content_of takes; clear = rw takes refl; listed = rw takes refl; fit = fit }, some)
 
-pub admitted-number : (closed : List (List ℕ)) (m : tables.Message) (before : List (List ℕ)) (name : List ℕ) (z : ℤ) (type : Number) (others : Message) → use_of m name ≡ Some (tables.single (tables.number type)) → is_given before name ≡ false → fits type z ≡ true → IsAdmitted closed m before others → IsAdmitted closed m (name ∷ before) others → IsAdmitted closed m before (followed_by (number_field name z) others)
+pub admitted-number : (closed : List (List ℕ)) (m : tables.Message) (before : List (List ℕ)) (name : List ℕ) (z : ℤ) (type : Number) (others : PrintedMessage) → use_of m name ≡ Some (tables.single (tables.number type)) → is_given before name ≡ false → fits type z ≡ true → IsAdmitted closed m before others → IsAdmitted closed m (name ∷ before) others → IsAdmitted closed m before (followed_by (number_field name z) others)
 unfolding followed_by number_field
 admitted-number closed m before name (pos zero) type others takes first fit none some = none
 admitted-number closed m before name (pos (suc n)) type others takes first fit none some =
@@ -100,7 +100,7 @@ admitted-number closed m before name (pos (suc n)) type others takes first fit n
 admitted-number closed m before name (negsuc n) type others takes first fit none some =
     (record { type = type; content = ap content_of takes; clear = rw (takes, first) refl; fit = fit }, some)
 
-pub admitted-text : (closed : List (List ℕ)) (m : tables.Message) (before : List (List ℕ)) (name bytes : List ℕ) (others : Message) → use_of m name ≡ Some (tables.single tables.text) → is_given before name ≡ false → IsAdmitted closed m before others → IsAdmitted closed m (name ∷ before) others → IsAdmitted closed m before (followed_by (text_field name bytes) others)
+pub admitted-text : (closed : List (List ℕ)) (m : tables.Message) (before : List (List ℕ)) (name bytes : List ℕ) (others : PrintedMessage) → use_of m name ≡ Some (tables.single tables.text) → is_given before name ≡ false → IsAdmitted closed m before others → IsAdmitted closed m (name ∷ before) others → IsAdmitted closed m before (followed_by (text_field name bytes) others)
 unfolding followed_by text_field
 admitted-text closed m before name [] others takes first none some = none
 admitted-text closed m before name (b ∷ bytes) others takes first none some =
@@ -111,17 +111,17 @@ abbrev pub IsMember : Enum → List ℕ → Type 0
 IsMember enum [] = Unit {0}
 IsMember enum (b ∷ bytes) = (k : ℕ) × (member_named enum false (b ∷ bytes) ≡ Ok k)
 
-pub admitted-word : (closed : List (List ℕ)) (m : tables.Message) (before : List (List ℕ)) (name w : List ℕ) (enum : Enum) (others : Message) → use_of m name ≡ Some (tables.single (tables.member enum)) → is_given before name ≡ false → IsMember enum w → IsAdmitted closed m before others → IsAdmitted closed m (name ∷ before) others → IsAdmitted closed m before (followed_by (word_field name w) others)
+pub admitted-word : (closed : List (List ℕ)) (m : tables.Message) (before : List (List ℕ)) (name w : List ℕ) (enum : Enum) (others : PrintedMessage) → use_of m name ≡ Some (tables.single (tables.member enum)) → is_given before name ≡ false → IsMember enum w → IsAdmitted closed m before others → IsAdmitted closed m (name ∷ before) others → IsAdmitted closed m before (followed_by (word_field name w) others)
 unfolding followed_by word_field
 admitted-word closed m before name [] enum others takes first named none some = none
 admitted-word closed m before name (b ∷ bytes) enum others takes first named none some =
     (record { value = tables.member enum; content = ap content_of takes; clear = rw (takes, first) refl; named = named }, some)
 
-pub admitted-message : (closed : List (List ℕ)) (m : tables.Message) (before : List (List ℕ)) (name : List ℕ) (fields others : Message) → TakesMessage closed m before name (λ k. IsAdmitted closed k [] fields) → IsAdmitted closed m (name ∷ before) others → IsAdmitted closed m before (followed_by (message_field name fields) others)
+pub admitted-message : (closed : List (List ℕ)) (m : tables.Message) (before : List (List ℕ)) (name : List ℕ) (fields others : PrintedMessage) → TakesMessage closed m before name (λ k. IsAdmitted closed k [] fields) → IsAdmitted closed m (name ∷ before) others → IsAdmitted closed m before (followed_by (message_field name fields) others)
 unfolding followed_by
 admitted-message closed m before name fields others takes some = (takes, some)
 
-pub admitted-repeated : (closed : List (List ℕ)) {X : Type 0} (m : tables.Message) (name : List ℕ) (printed : X → Message) (k : tables.Message) (others : Message) (Free : List (List ℕ) → Type 0) → ((before : List (List ℕ)) (fields : Message) → Free before → IsAdmitted closed k [] fields → TakesMessage closed m before name (λ j. IsAdmitted closed j [] fields)) → ((before : List (List ℕ)) → Free before → Free (name ∷ before)) → ((before : List (List ℕ)) → Free before → IsAdmitted closed m before others) → (xs : List X) → Each (λ x. IsAdmitted closed k [] (printed x)) xs → (before : List (List ℕ)) → Free before → IsAdmitted closed m before (followed_by (repeated_field name printed xs) others)
+pub admitted-repeated : (closed : List (List ℕ)) {X : Type 0} (m : tables.Message) (name : List ℕ) (printed : X → PrintedMessage) (k : tables.Message) (others : PrintedMessage) (Free : List (List ℕ) → Type 0) → ((before : List (List ℕ)) (fields : PrintedMessage) → Free before → IsAdmitted closed k [] fields → TakesMessage closed m before name (λ j. IsAdmitted closed j [] fields)) → ((before : List (List ℕ)) → Free before → Free (name ∷ before)) → ((before : List (List ℕ)) → Free before → IsAdmitted closed m before others) → (xs : List X) → Each (λ x. IsAdmitted closed k [] (printed x)) xs → (before : List (List ℕ)) → Free before → IsAdmitted closed m before (followed_by (repeated_field name printed xs) others)
 unfolding followed_by repeated_field
 admitted-repeated closed m name printed k others Free takes kept rest [] a before free = rest before free
 admitted-repeated closed m name printed k others Free takes kept rest (x ∷ xs) a before free =
@@ -133,7 +133,7 @@ given-other before other name apart free = rw (apart, free) refl
 
 -- what stands under a name
 
-pub printed_numbers-followed_by : (name : List ℕ) (a b : Message) → printed_numbers name (followed_by a b) ≡ printed_numbers name a ++ printed_numbers name b
+pub printed_numbers-followed_by : (name : List ℕ) (a b : PrintedMessage) → printed_numbers name (followed_by a b) ≡ printed_numbers name a ++ printed_numbers name b
 unfolding followed_by
 printed_numbers-followed_by name empty b = refl
 printed_numbers-followed_by name (number other n more) b =
@@ -175,12 +175,12 @@ unfolding word_field
 printed_numbers-word_field name other [] = refl
 printed_numbers-word_field name other (b ∷ bytes) = refl
 
-pub printed_numbers-repeated_field : {X : Type 0} (name other : List ℕ) (printed : X → Message) (xs : List X) → printed_numbers name (repeated_field other printed xs) ≡ []
+pub printed_numbers-repeated_field : {X : Type 0} (name other : List ℕ) (printed : X → PrintedMessage) (xs : List X) → printed_numbers name (repeated_field other printed xs) ≡ []
 unfolding repeated_field
 printed_numbers-repeated_field name other printed [] = refl
 printed_numbers-repeated_field name other printed (x ∷ xs) = printed_numbers-repeated_field name other printed xs
 
-pub printed_texts-followed_by : (name : List ℕ) (a b : Message) → printed_texts name (followed_by a b) ≡ printed_texts name a ++ printed_texts name b
+pub printed_texts-followed_by : (name : List ℕ) (a b : PrintedMessage) → printed_texts name (followed_by a b) ≡ printed_texts name a ++ printed_texts name b
 unfolding followed_by
 printed_texts-followed_by name empty b = refl
 printed_texts-followed_by name (number other n more) b = printed_texts-followed_by name more b
@@ -195,7 +195,7 @@ unfolding list_field
 printed_texts-list_field name other [] = refl
 printed_texts-list_field name other (n ∷ ns) = refl
 
-pub printed_texts-repeated_field : {X : Type 0} (name other : List ℕ) (printed : X → Message) (xs : List X) → printed_texts name (repeated_field other printed xs) ≡ []
+pub printed_texts-repeated_field : {X : Type 0} (name other : List ℕ) (printed : X → PrintedMessage) (xs : List X) → printed_texts name (repeated_field other printed xs) ≡ []
 unfolding repeated_field
 printed_texts-repeated_field name other printed [] = refl
 printed_texts-repeated_field name other printed (x ∷ xs) = printed_texts-repeated_field name other printed xs
@@ -210,7 +210,7 @@ unfolding text_field
 printed_texts-text_field name other [] = sym (same_choice {X = List (List ℕ)} (bytes_eq other name) [])
 printed_texts-text_field name other (b ∷ bytes) = append-nil (if bytes_eq other name then (b ∷ bytes) ∷ [] else [])
 
-pub printed_members-followed_by : (enum : Enum) (name : List ℕ) (a b : Message) → printed_members enum name (followed_by a b) ≡ printed_members enum name a ++ printed_members enum name b
+pub printed_members-followed_by : (enum : Enum) (name : List ℕ) (a b : PrintedMessage) → printed_members enum name (followed_by a b) ≡ printed_members enum name a ++ printed_members enum name b
 unfolding followed_by
 printed_members-followed_by enum name empty b = refl
 printed_members-followed_by enum name (number other n more) b = printed_members-followed_by enum name more b
@@ -220,7 +220,7 @@ printed_members-followed_by enum name (word other w more) b =
 printed_members-followed_by enum name (quoted other bytes more) b = printed_members-followed_by enum name more b
 printed_members-followed_by enum name (message other inner more) b = printed_members-followed_by enum name more b
 
-pub printed_members-repeated_field : {X : Type 0} (enum : Enum) (name other : List ℕ) (printed : X → Message) (xs : List X) → printed_members enum name (repeated_field other printed xs) ≡ []
+pub printed_members-repeated_field : {X : Type 0} (enum : Enum) (name other : List ℕ) (printed : X → PrintedMessage) (xs : List X) → printed_members enum name (repeated_field other printed xs) ≡ []
 unfolding repeated_field
 printed_members-repeated_field enum name other printed [] = refl
 printed_members-repeated_field enum name other printed (x ∷ xs) = printed_members-repeated_field enum name other printed xs
@@ -235,7 +235,7 @@ unfolding word_field
 printed_members-word_field enum name other [] = sym (same_choice {X = List ℕ} (bytes_eq other name) [])
 printed_members-word_field enum name other (b ∷ bytes) = append-nil (if bytes_eq other name then ok_or_zero (member_named enum false (b ∷ bytes)) ∷ [] else [])
 
-pub printed_messages-followed_by : (name : List ℕ) (a b : Message) → printed_messages name (followed_by a b) ≡ printed_messages name a ++ printed_messages name b
+pub printed_messages-followed_by : (name : List ℕ) (a b : PrintedMessage) → printed_messages name (followed_by a b) ≡ printed_messages name a ++ printed_messages name b
 unfolding followed_by
 printed_messages-followed_by name empty b = refl
 printed_messages-followed_by name (number other n more) b = printed_messages-followed_by name more b
@@ -266,10 +266,10 @@ unfolding word_field
 printed_messages-word_field name other [] = refl
 printed_messages-word_field name other (b ∷ bytes) = refl
 
-pub printed_messages-message_field : (name other : List ℕ) (fields : Message) → printed_messages name (message_field other fields) ≡ (if bytes_eq other name then fields ∷ [] else [])
+pub printed_messages-message_field : (name other : List ℕ) (fields : PrintedMessage) → printed_messages name (message_field other fields) ≡ (if bytes_eq other name then fields ∷ [] else [])
 printed_messages-message_field name other fields = append-nil (if bytes_eq other name then fields ∷ [] else [])
 
-pub printed_truths-followed_by : (name : List ℕ) (a b : Message) → printed_truths name (followed_by a b) ≡ printed_truths name a ++ printed_truths name b
+pub printed_truths-followed_by : (name : List ℕ) (a b : PrintedMessage) → printed_truths name (followed_by a b) ≡ printed_truths name a ++ printed_truths name b
 unfolding followed_by
 printed_truths-followed_by name empty b = refl
 printed_truths-followed_by name (number other n more) b = printed_truths-followed_by name more b
@@ -290,7 +290,7 @@ printed_truths-number_field name other (pos zero) = refl
 printed_truths-number_field name other (pos (suc n)) = refl
 printed_truths-number_field name other (negsuc n) = refl
 
-pub printed_truths-repeated_field : {X : Type 0} (name other : List ℕ) (printed : X → Message) (xs : List X) → printed_truths name (repeated_field other printed xs) ≡ []
+pub printed_truths-repeated_field : {X : Type 0} (name other : List ℕ) (printed : X → PrintedMessage) (xs : List X) → printed_truths name (repeated_field other printed xs) ≡ []
 unfolding repeated_field
 printed_truths-repeated_field name other printed [] = refl
 printed_truths-repeated_field name other printed (x ∷ xs) = printed_truths-repeated_field name other printed xs
@@ -299,7 +299,7 @@ or_assoc : (a b c : Bool) → (a || (b || c)) ≡ ((a || b) || c)
 or_assoc true b c = refl
 or_assoc false b c = refl
 
-pub is_printed-followed_by : (name : List ℕ) (a b : Message) → is_printed name (followed_by a b) ≡ (is_printed name a || is_printed name b)
+pub is_printed-followed_by : (name : List ℕ) (a b : PrintedMessage) → is_printed name (followed_by a b) ≡ (is_printed name a || is_printed name b)
 unfolding followed_by
 is_printed-followed_by name empty b = refl
 is_printed-followed_by name (number other n more) b = rw (is_printed-followed_by name more b) (or_assoc (bytes_eq other name) (is_printed name more) (is_printed name b))
@@ -312,9 +312,9 @@ choice-cons : {X : Type 0} (b : Bool) (x : X) (xs : List X) → (if b then x ∷
 choice-cons true x xs = refl
 choice-cons false x xs = refl
 
-pub printed_messages-repeated_field : {X : Type 0} (name other : List ℕ) (printed : X → Message) (xs : List X) → printed_messages name (repeated_field other printed xs) ≡ (if bytes_eq other name then map printed xs else [])
+pub printed_messages-repeated_field : {X : Type 0} (name other : List ℕ) (printed : X → PrintedMessage) (xs : List X) → printed_messages name (repeated_field other printed xs) ≡ (if bytes_eq other name then map printed xs else [])
 unfolding repeated_field
-printed_messages-repeated_field name other printed [] = sym (same_choice {X = List Message} (bytes_eq other name) [])
+printed_messages-repeated_field name other printed [] = sym (same_choice {X = List PrintedMessage} (bytes_eq other name) [])
 printed_messages-repeated_field name other printed (x ∷ xs) =
     ap (λ ms. (if bytes_eq other name then printed x ∷ [] else []) ++ ms) (printed_messages-repeated_field name other printed xs) ∙ choice-cons (bytes_eq other name) (printed x) (map printed xs)
 

@@ -3,7 +3,7 @@ use Rattle.std.specs.List.{flat_map}
 use Rattle.std.specs.Fmt.{signed_decimal}
 use Rattle.std.proofs.Common.{◌≡◌, ◌≢◌, ℕ, zero, suc, true, false, ◌+◌, ℤ, pos, negsuc, List, [], ◌∷◌, ◌++◌, refl, sym, ap, ◌∙◌, add-one, append_assoc, append-nil, codes, length, arith, Result, Ok, Err, OnOk}
 use Rattle.cps_print.specs.Quoting.{in_quotes}
-use Rattle.cps_print.specs.Layout.{Message, empty, number, numbers, word, quoted, message, indent, value_line, in_brackets, list_lines, opening, closing, text_of}
+use Rattle.cps_print.specs.Layout.{PrintedMessage, empty, number, numbers, word, quoted, message, indent, value_line, in_brackets, list_lines, opening, closing, text_of}
 use Rattle.cps_print.specs.Fields.{followed_by, number_field, list_field, word_field, text_field, message_field, repeated_field}
 use Rattle.cps_model.specs.declared.model.LinearExpr.{LinearExpr}
 use Rattle.cps_print.specs.Expressions.{printed_expression, is_empty_expression, expression_field}
@@ -98,7 +98,7 @@ pub text_of-empty : (level : ℕ) → text_of level empty ≡ []
 unfolding text_of
 text_of-empty level = refl
 
-pub text_of-message_field : (level : ℕ) (name : List ℕ) (fields : Message) → text_of level (message_field name fields) ≡ opening level name ++ (text_of (suc level) fields ++ closing level)
+pub text_of-message_field : (level : ℕ) (name : List ℕ) (fields : PrintedMessage) → text_of level (message_field name fields) ≡ opening level name ++ (text_of (suc level) fields ++ closing level)
 unfolding text_of
 text_of-message_field level name fields = rw append-nil refl
 
@@ -107,7 +107,7 @@ unfolding text_of list_field
 text_of-list_field level name [] = refl
 text_of-list_field level name (n ∷ ns) = append-nil (value_line level name (in_brackets signed_decimal n ns))
 
-pub text_of-followed_by : (level : ℕ) (fields others : Message) → text_of level (followed_by fields others) ≡ text_of level fields ++ text_of level others
+pub text_of-followed_by : (level : ℕ) (fields others : PrintedMessage) → text_of level (followed_by fields others) ≡ text_of level fields ++ text_of level others
 unfolding text_of followed_by
 text_of-followed_by level empty others = refl
 text_of-followed_by level (number name n more) others =
@@ -122,7 +122,7 @@ text_of-followed_by level (message name inner more) others =
     rw (text_of-followed_by level more others) (simp append_assoc)
 
 -- a message for each item is written item by item
-pub text_of-repeated_field : {X : Type 0} (level : ℕ) (name : List ℕ) (printed : X → Message) (xs : List X) → text_of level (repeated_field name printed xs) ≡ flat_map (λ x. text_of level (message_field name (printed x))) xs
+pub text_of-repeated_field : {X : Type 0} (level : ℕ) (name : List ℕ) (printed : X → PrintedMessage) (xs : List X) → text_of level (repeated_field name printed xs) ≡ flat_map (λ x. text_of level (message_field name (printed x))) xs
 unfolding text_of repeated_field
 text_of-repeated_field level name printed [] = refl
 text_of-repeated_field level name printed (x ∷ xs) =
@@ -143,35 +143,35 @@ pub zero_left : (level : ℕ) (name s : List ℕ) → s ≡ s ++ text_of level (
 unfolding text_of number_field
 zero_left level name s = sym (append-nil s)
 
-pub field_then : (level : ℕ) (field others : Message) (s t u : List ℕ) → t ≡ s ++ text_of level field → u ≡ t ++ text_of level others → u ≡ s ++ text_of level (followed_by field others)
+pub field_then : (level : ℕ) (field others : PrintedMessage) (s t u : List ℕ) → t ≡ s ++ text_of level field → u ≡ t ++ text_of level others → u ≡ s ++ text_of level (followed_by field others)
 field_then level field others s t u p q =
     q ∙ (ap (λ xs. xs ++ text_of level others) p ∙ (append_assoc s (text_of level field) (text_of level others) ∙ ap (λ xs. s ++ xs) (sym (text_of-followed_by level field others))))
 
-pub list_then : (level : ℕ) (name : List ℕ) (ns ks : List ℤ) (others : Message) (s t u : List ℕ) → ns ≡ ks → t ≡ s ++ list_lines signed_decimal level name ns → u ≡ t ++ text_of level others → u ≡ s ++ text_of level (followed_by (list_field name ks) others)
+pub list_then : (level : ℕ) (name : List ℕ) (ns ks : List ℤ) (others : PrintedMessage) (s t u : List ℕ) → ns ≡ ks → t ≡ s ++ list_lines signed_decimal level name ns → u ≡ t ++ text_of level others → u ≡ s ++ text_of level (followed_by (list_field name ks) others)
 list_then level name ns ks others s t u e p q =
     field_then level (list_field name ks) others s t u (p ∙ ap (λ xs. s ++ xs) (ap (λ ms. list_lines signed_decimal level name ms) e ∙ sym (text_of-list_field level name ks))) q
 
-pub number_then : (level : ℕ) (name : List ℕ) (n k : ℤ) (others : Message) (s t u : List ℕ) → n ≡ k → t ≡ s ++ text_of level (number_field name n) → u ≡ t ++ text_of level others → u ≡ s ++ text_of level (followed_by (number_field name k) others)
+pub number_then : (level : ℕ) (name : List ℕ) (n k : ℤ) (others : PrintedMessage) (s t u : List ℕ) → n ≡ k → t ≡ s ++ text_of level (number_field name n) → u ≡ t ++ text_of level others → u ≡ s ++ text_of level (followed_by (number_field name k) others)
 number_then level name n k others s t u e p q =
     field_then level (number_field name k) others s t u (p ∙ ap (λ m. s ++ text_of level (number_field name m)) e) q
 
-pub word_then : (level : ℕ) (name w v : List ℕ) (others : Message) (s t u : List ℕ) → w ≡ v → t ≡ s ++ text_of level (word_field name w) → u ≡ t ++ text_of level others → u ≡ s ++ text_of level (followed_by (word_field name v) others)
+pub word_then : (level : ℕ) (name w v : List ℕ) (others : PrintedMessage) (s t u : List ℕ) → w ≡ v → t ≡ s ++ text_of level (word_field name w) → u ≡ t ++ text_of level others → u ≡ s ++ text_of level (followed_by (word_field name v) others)
 word_then level name w v others s t u e p q =
     field_then level (word_field name v) others s t u (p ∙ ap (λ m. s ++ text_of level (word_field name m)) e) q
 
-pub text_then : (level : ℕ) (name w v : List ℕ) (others : Message) (s t u : List ℕ) → w ≡ v → t ≡ s ++ text_of level (text_field name w) → u ≡ t ++ text_of level others → u ≡ s ++ text_of level (followed_by (text_field name v) others)
+pub text_then : (level : ℕ) (name w v : List ℕ) (others : PrintedMessage) (s t u : List ℕ) → w ≡ v → t ≡ s ++ text_of level (text_field name w) → u ≡ t ++ text_of level others → u ≡ s ++ text_of level (followed_by (text_field name v) others)
 text_then level name w v others s t u e p q =
     field_then level (text_field name v) others s t u (p ∙ ap (λ m. s ++ text_of level (text_field name m)) e) q
 
-pub scaling_then : (level : ℕ) (n k : ℤ) (others : Message) (s t u : List ℕ) → n ≡ k → t ≡ s ++ text_of level (scaling_field n) → u ≡ t ++ text_of level others → u ≡ s ++ text_of level (followed_by (scaling_field k) others)
+pub scaling_then : (level : ℕ) (n k : ℤ) (others : PrintedMessage) (s t u : List ℕ) → n ≡ k → t ≡ s ++ text_of level (scaling_field n) → u ≡ t ++ text_of level others → u ≡ s ++ text_of level (followed_by (scaling_field k) others)
 scaling_then level n k others s t u e p q =
     field_then level (scaling_field k) others s t u (p ∙ ap (λ m. s ++ text_of level (scaling_field m)) e) q
 
-pub repeated_then : {X : Type 0} (level : ℕ) (name : List ℕ) (printed : X → Message) (xs ys : List X) (others : Message) (s t u : List ℕ) → xs ≡ ys → t ≡ s ++ flat_map (λ x. text_of level (message_field name (printed x))) xs → u ≡ t ++ text_of level others → u ≡ s ++ text_of level (followed_by (repeated_field name printed ys) others)
+pub repeated_then : {X : Type 0} (level : ℕ) (name : List ℕ) (printed : X → PrintedMessage) (xs ys : List X) (others : PrintedMessage) (s t u : List ℕ) → xs ≡ ys → t ≡ s ++ flat_map (λ x. text_of level (message_field name (printed x))) xs → u ≡ t ++ text_of level others → u ≡ s ++ text_of level (followed_by (repeated_field name printed ys) others)
 repeated_then level name printed xs ys others s t u e p q =
     field_then level (repeated_field name printed ys) others s t u
     (p ∙ ap (λ zs. s ++ zs) (ap (λ zs. flat_map (λ x. text_of level (message_field name (printed x))) zs) e ∙ sym (text_of-repeated_field level name printed ys))) q
 
-pub message_then : (level : ℕ) (name : List ℕ) (fields : Message) (s t u v : List ℕ) → t ≡ s ++ opening level name → u ≡ t ++ text_of (suc level) fields → v ≡ u ++ closing level → v ≡ s ++ text_of level (message_field name fields)
+pub message_then : (level : ℕ) (name : List ℕ) (fields : PrintedMessage) (s t u v : List ℕ) → t ≡ s ++ opening level name → u ≡ t ++ text_of (suc level) fields → v ≡ u ++ closing level → v ≡ s ++ text_of level (message_field name fields)
 message_then level name fields s t u v p q r =
     r ∙ rw (q, p, text_of-message_field level name fields) (simp append_assoc)

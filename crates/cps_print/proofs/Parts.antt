@@ -18,7 +18,7 @@ use Rattle.cps_schema.specs.Tables.{use_of, content_of, is_given, expression_mes
 use Rattle.cps_schema.specs.Faults.{is_other_form, has_other_form}
 use Rattle.cps_schema.specs.Readings as readings
 use Rattle.cps_schema.specs.Readings.{first_or, read_expression, messages}
-use Rattle.cps_print.specs.Layout.{Message, empty}
+use Rattle.cps_print.specs.Layout.{PrintedMessage, empty}
 use Rattle.cps_print.specs.Fields.{followed_by, number_field, list_field, word_field, message_field, repeated_field}
 use Rattle.cps_print.specs.Expressions.{printed_expression, is_empty_expression, expression_field}
 use Rattle.cps_print.specs.Kinds.{flag_name, expressions_field}
@@ -44,14 +44,14 @@ name_of (flag name b) = name
 name_of (expression name e) = name
 name_of (several name es) = name
 
-abbrev pub part_field : Part → Message
+abbrev pub part_field : Part → PrintedMessage
 part_field (list type name ns) = list_field name ns
 part_field (number type name z) = number_field name z
 part_field (flag name b) = word_field name (flag_name b)
 part_field (expression name e) = expression_field name e
 part_field (several name es) = expressions_field name es
 
-abbrev pub parts_message : List Part → Message
+abbrev pub parts_message : List Part → PrintedMessage
 parts_message [] = empty
 parts_message (p ∷ ps) = followed_by (part_field p) (parts_message ps)
 
@@ -147,13 +147,13 @@ among_again m before seen x w = record {
       ∙ both_false (is_other_form form (use_of m x)) (has_other_form m form before) (or_false (is_other_form form (use_of m x)) (has_other_form m form seen) (sym (next_form m form seen x) ∙ e)).0 (w.other form e);
 }
 
-admitted-flag : (closed : List (List ℕ)) (m : tables.Message) (before : List (List ℕ)) (name : List ℕ) (b : Bool) (others : Message) → use_of m name ≡ Some (tables.single tables.truth) → is_given before name ≡ false → IsAdmitted closed m before others → IsAdmitted closed m (name ∷ before) others → IsAdmitted closed m before (followed_by (word_field name (flag_name b)) others)
+admitted-flag : (closed : List (List ℕ)) (m : tables.Message) (before : List (List ℕ)) (name : List ℕ) (b : Bool) (others : PrintedMessage) → use_of m name ≡ Some (tables.single tables.truth) → is_given before name ≡ false → IsAdmitted closed m before others → IsAdmitted closed m (name ∷ before) others → IsAdmitted closed m before (followed_by (word_field name (flag_name b)) others)
 unfolding word_field followed_by
 admitted-flag closed m before name true others takes first left written =
     (record { value = tables.truth; content = ap content_of takes; clear = rw (takes, first) refl; named = (true, refl) }, written)
 admitted-flag closed m before name false others takes first left written = left
 
-admitted-expression_field : (closed : List (List ℕ)) (m : tables.Message) (before : List (List ℕ)) (name : List ℕ) (e : LinearExpr) (others : Message) → TakesMessage closed m before name (λ k. IsAdmitted closed k [] (printed_expression e)) → IsAdmitted closed m before others → IsAdmitted closed m (name ∷ before) others → IsAdmitted closed m before (followed_by (expression_field name e) others)
+admitted-expression_field : (closed : List (List ℕ)) (m : tables.Message) (before : List (List ℕ)) (name : List ℕ) (e : LinearExpr) (others : PrintedMessage) → TakesMessage closed m before name (λ k. IsAdmitted closed k [] (printed_expression e)) → IsAdmitted closed m before others → IsAdmitted closed m (name ∷ before) others → IsAdmitted closed m before (followed_by (expression_field name e) others)
 unfolding expression_field followed_by
 admitted-expression_field closed m before name e others takes left written = by (is_empty_expression e) where
   by : (left_out : Bool) → IsAdmitted closed m before (followed_by (if left_out then empty else message_field name (printed_expression e)) others)
@@ -163,7 +163,7 @@ admitted-expression_field closed m before name e others takes left written = by 
 formed_apart : (m : tables.Message) (seen : List (List ℕ)) (name : List ℕ) → use_of m name ≡ Some (tables.formed Newer (tables.message expression_message)) → has_other_form m Newer seen ≡ false → has_other_form m Newer (name ∷ seen) ≡ false
 formed_apart m seen name takes apart = next_form m Newer seen name ∙ rw (takes, apart) refl
 
-expressions_admitted : (closed : List (List ℕ)) (m : tables.Message) (seen before : List (List ℕ)) (name : List ℕ) (es : List LinearExpr) (others : Message) → IsAmong m before seen → TakesSome m seen name → Each IsReadableExpression es → ((b : List (List ℕ)) → IsAmong m b (name ∷ seen) → IsAdmitted closed m b others) → IsAdmitted closed m before (followed_by (expressions_field name es) others)
+expressions_admitted : (closed : List (List ℕ)) (m : tables.Message) (seen before : List (List ℕ)) (name : List ℕ) (es : List LinearExpr) (others : PrintedMessage) → IsAmong m before seen → TakesSome m seen name → Each IsReadableExpression es → ((b : List (List ℕ)) → IsAmong m b (name ∷ seen) → IsAdmitted closed m b others) → IsAdmitted closed m before (followed_by (expressions_field name es) others)
 expressions_admitted closed m seen before name es others w takes f rest = by takes where
   inner : Each (λ e. IsAdmitted closed expression_message [] (printed_expression e)) es
   inner = each_of IsReadableExpression (λ e. IsAdmitted closed expression_message [] (printed_expression e)) (expression_admitted closed) es f
@@ -182,7 +182,7 @@ one_taken closed m seen before name e w (once takes first) f = alone expression_
 one_taken closed m seen before name e w (once_formed takes first apart) f =
     alone_formed expression_message Newer takes (w.given name first) (w.other Newer apart) (expression_admitted closed e f)
 
-part_admitted : (closed : List (List ℕ)) (m : tables.Message) (seen before : List (List ℕ)) (p : Part) (others : Message) → IsAmong m before seen → TakesPart m seen p → IsFit p → ((b : List (List ℕ)) → IsAmong m b (name_of p ∷ seen) → IsAdmitted closed m b others) → IsAdmitted closed m before (followed_by (part_field p) others)
+part_admitted : (closed : List (List ℕ)) (m : tables.Message) (seen before : List (List ℕ)) (p : Part) (others : PrintedMessage) → IsAmong m before seen → TakesPart m seen p → IsFit p → ((b : List (List ℕ)) → IsAmong m b (name_of p ∷ seen) → IsAdmitted closed m b others) → IsAdmitted closed m before (followed_by (part_field p) others)
 part_admitted closed m seen before (list type name ns) others w t f rest =
     let one = among_one m before seen name w in
     admitted-list closed m before name ns type others t f (rest before one) (rest (name ∷ before) (among_again m before seen name one))
@@ -258,7 +258,7 @@ printed_messages-expression_field name other e = by (is_empty_expression e) (byt
   by true same = sym (ap (λ es. map printed_expression es) (same_choice {X = List LinearExpr} (bytes_eq other name) []))
   by false same = append-nil (if bytes_eq other name then printed_expression e ∷ [] else []) ∙ map-choice (bytes_eq other name) (e ∷ [])
 
-messages_then : (a b : List Message) (xs ys : List LinearExpr) → a ≡ map printed_expression xs → b ≡ map printed_expression ys → a ++ b ≡ map printed_expression (xs ++ ys)
+messages_then : (a b : List PrintedMessage) (xs ys : List LinearExpr) → a ≡ map printed_expression xs → b ≡ map printed_expression ys → a ++ b ≡ map printed_expression (xs ++ ys)
 messages_then a b xs ys p q = rw (p, q) (sym (map-append printed_expression xs ys))
 
 printed_messages-parts : (name : List ℕ) (ps : List Part) → printed_messages name (parts_message ps) ≡ map printed_expression (part_expressions name ps)

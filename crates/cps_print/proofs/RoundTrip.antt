@@ -16,7 +16,7 @@ use Rattle.cps_schema.specs.Tables.{use_of, is_given, model_message, variable_me
 use Rattle.cps_schema.specs.Faults.{fields_fault}
 use Rattle.cps_schema.specs.Readings as readings
 use Rattle.cps_schema.specs.Readings.{first_of, messages, read_variable, read_constraint, read_objective, read_strategy, read_hint, read_model, ReadsAs}
-use Rattle.cps_print.specs.Layout.{Message, empty, text_of}
+use Rattle.cps_print.specs.Layout.{PrintedMessage, empty, text_of}
 use Rattle.cps_print.specs.Fields.{followed_by, list_field, text_field, repeated_field}
 use Rattle.cps_print.specs.Models.{printed_variable, printed_constraint, printed_objective, objective_field, printed_strategy, printed_hint, hint_field, printed_model, model_text}
 use Rattle.cps_print.specs.ReadBack.{IsReadWith}
@@ -82,17 +82,17 @@ read_is_readable w t m r = subst (IsReadable w.closed) (sym r.reading) (model_re
 
 -- the fields of a model, from some of them on
 
-abbrev assumptions_field : CpModel → Message
+abbrev assumptions_field : CpModel → PrintedMessage
 assumptions_field m = followed_by (list_field (codes "assumptions") m.assumptions) empty
 
-abbrev steering_fields : CpModel → Message
+abbrev steering_fields : CpModel → PrintedMessage
 steering_fields m = followed_by (repeated_field (codes "search_strategy") printed_strategy m.strategies) (followed_by (hint_field m.hint) (assumptions_field m))
 
-abbrev constraint_fields : CpModel → Message
+abbrev constraint_fields : CpModel → PrintedMessage
 constraint_fields m =
     followed_by (repeated_field (codes "constraints") printed_constraint m.constraints) (followed_by (objective_field m.objective) (steering_fields m))
 
-abbrev core : CpModel → Message
+abbrev core : CpModel → PrintedMessage
 core m =
     followed_by (text_field (codes "name") m.name)
     (followed_by (repeated_field (codes "variables") printed_variable m.variables) (constraint_fields m))
@@ -200,7 +200,7 @@ same_choice true x = refl
 same_choice false x = refl
 
 objective_messages : (name : List ℕ) (o : Option Objective) → printed_messages name (objective_field o) ≡ (if bytes_eq (codes "objective") name then map printed_objective (option_to_list o) else [])
-objective_messages name None = sym (same_choice {X = List Message} (bytes_eq (codes "objective") name) [])
+objective_messages name None = sym (same_choice {X = List PrintedMessage} (bytes_eq (codes "objective") name) [])
 objective_messages name (Some o) = append-nil (if bytes_eq (codes "objective") name then printed_objective o ∷ [] else [])
 
 objective_texts : (name : List ℕ) (o : Option Objective) → printed_texts name (objective_field o) ≡ []
@@ -208,7 +208,7 @@ objective_texts name None = refl
 objective_texts name (Some o) = refl
 
 hint_messages : (name : List ℕ) (h : Option Hint) → printed_messages name (hint_field h) ≡ (if bytes_eq (codes "solution_hint") name then map printed_hint (option_to_list h) else [])
-hint_messages name None = sym (same_choice {X = List Message} (bytes_eq (codes "solution_hint") name) [])
+hint_messages name None = sym (same_choice {X = List PrintedMessage} (bytes_eq (codes "solution_hint") name) [])
 hint_messages name (Some h) = append-nil (if bytes_eq (codes "solution_hint") name then printed_hint h ∷ [] else [])
 
 hint_texts : (name : List ℕ) (h : Option Hint) → printed_texts name (hint_field h) ≡ []
@@ -243,10 +243,10 @@ core_back w m t r s =
     rw (name, variables, constraints, objective, strategies, hint, first_text m.name, first_given m.objective, first_given m.hint, assumptions) refl
 
 -- the pieces of a model's text
-abbrev model_pieces : Message → List Piece
+abbrev model_pieces : PrintedMessage → List Piece
 model_pieces p = pieces 0 p []
 
-message_back : (closed : List (List ℕ)) (p : Message) (m : CpModel) → IsPlain 32 p
+message_back : (closed : List (List ℕ)) (p : PrintedMessage) (m : CpModel) → IsPlain 32 p
     → ((bytes : List ℕ) (ts : List Token) (t : Tree) → Shows (written_with closed bytes ts) p t → ReadsAs (written_with closed bytes ts) t m)
     → IsReadWith closed (text_of 0 p) m
 message_back closed p m plain reads =

@@ -28,7 +28,7 @@ use Rattle.cps_schema.specs.Tables.{Content, Use, use_of, content_of, is_given}
 use Rattle.cps_schema.specs.Faults.{refused_at, has_kind, has_other_form, name_fault, list_fault, is_alone, fields_fault, values_fault}
 use Rattle.cps_schema.specs.Readings as readings
 use Rattle.cps_schema.specs.Readings.{ok_or_zero, value_numbers, value_messages, messages}
-use Rattle.cps_print.specs.Layout.{Message, empty, number, numbers, word, quoted, message}
+use Rattle.cps_print.specs.Layout.{PrintedMessage, empty, number, numbers, word, quoted, message}
 use Rattle.cps_print.specs.Quoting.{in_quotes}
 use Rattle.cps_print.proofs.Digits.{decimal_text, decimal_value-decimal, and_true}
 use Rattle.cps_print.proofs.Pieces.{Piece, blank, AreWritten}
@@ -50,7 +50,7 @@ pub record ShowsWord (w : Written) (x : List ℕ) (first : ℕ) : Type 0 where
   pub member : (enum : Enum) → member_at w enum first ≡ member_named enum false x
   pub truth : truth_at w first ≡ truth_named x
 
-abbrev pub Shows : Written → Message → Tree → Type 0
+abbrev pub Shows : Written → PrintedMessage → Tree → Type 0
 Shows w empty no_fields = Unit {0}
 Shows w (number name n more) (field token false values rest) =
     (token_text w token ≡ name) × ShowNumbers w (n ∷ []) values × Shows w more rest
@@ -145,7 +145,7 @@ past_indent : (w : Written) (k level : ℕ) (ps : List Piece) → AreWritten w k
 past_indent w k zero ps s = s
 past_indent w k (suc level) ps s = past_indent w k level ps s
 
-pub tree_shows : (room : ℕ) (w : Written) (k level : ℕ) (m : Message) (rest : List Piece) → IsPlain room m → AreWritten w k (pieces level m rest) → Shows w m (tree_at k (fields_of m)) × AreWritten w (past_fields (fields_of m) k) rest
+pub tree_shows : (room : ℕ) (w : Written) (k level : ℕ) (m : PrintedMessage) (rest : List Piece) → IsPlain room m → AreWritten w k (pieces level m rest) → Shows w m (tree_at k (fields_of m)) × AreWritten w (past_fields (fields_of m) k) rest
 tree_shows room w k level empty rest p s = (tt, s)
 tree_shows room w k level (number name n more) rest p s =
     let line = past_indent w k level _ s in
@@ -180,7 +180,7 @@ tree_shows (suc room) w k level (message name fields more) rest p s =
 
 -- what is printed under a name
 
-abbrev pub printed_numbers : List ℕ → Message → List ℤ
+abbrev pub printed_numbers : List ℕ → PrintedMessage → List ℤ
 printed_numbers name empty = []
 printed_numbers name (number other n more) = (if bytes_eq other name then n ∷ [] else []) ++ printed_numbers name more
 printed_numbers name (numbers other n ns more) = (if bytes_eq other name then n ∷ ns else []) ++ printed_numbers name more
@@ -188,7 +188,7 @@ printed_numbers name (word other w more) = printed_numbers name more
 printed_numbers name (quoted other bytes more) = printed_numbers name more
 printed_numbers name (message other inner more) = printed_numbers name more
 
-abbrev pub printed_texts : List ℕ → Message → List (List ℕ)
+abbrev pub printed_texts : List ℕ → PrintedMessage → List (List ℕ)
 printed_texts name empty = []
 printed_texts name (number other n more) = printed_texts name more
 printed_texts name (numbers other n ns more) = printed_texts name more
@@ -197,7 +197,7 @@ printed_texts name (quoted other bytes more) = (if bytes_eq other name then byte
 printed_texts name (message other inner more) = printed_texts name more
 
 -- the numbers of the members that are printed as words
-abbrev pub printed_members : Enum → List ℕ → Message → List ℕ
+abbrev pub printed_members : Enum → List ℕ → PrintedMessage → List ℕ
 printed_members enum name empty = []
 printed_members enum name (number other n more) = printed_members enum name more
 printed_members enum name (numbers other n ns more) = printed_members enum name more
@@ -207,7 +207,7 @@ printed_members enum name (quoted other bytes more) = printed_members enum name 
 printed_members enum name (message other inner more) = printed_members enum name more
 
 -- the truth values that are printed as words
-abbrev pub printed_truths : List ℕ → Message → List Bool
+abbrev pub printed_truths : List ℕ → PrintedMessage → List Bool
 printed_truths name empty = []
 printed_truths name (number other n more) = printed_truths name more
 printed_truths name (numbers other n ns more) = printed_truths name more
@@ -216,7 +216,7 @@ printed_truths name (quoted other bytes more) = printed_truths name more
 printed_truths name (message other inner more) = printed_truths name more
 
 -- a field of this name is printed
-abbrev pub is_printed : List ℕ → Message → Bool
+abbrev pub is_printed : List ℕ → PrintedMessage → Bool
 is_printed name empty = false
 is_printed name (number other n more) = bytes_eq other name || is_printed name more
 is_printed name (numbers other n ns more) = bytes_eq other name || is_printed name more
@@ -224,7 +224,7 @@ is_printed name (word other w more) = bytes_eq other name || is_printed name mor
 is_printed name (quoted other bytes more) = bytes_eq other name || is_printed name more
 is_printed name (message other inner more) = bytes_eq other name || is_printed name more
 
-abbrev pub printed_messages : List ℕ → Message → List Message
+abbrev pub printed_messages : List ℕ → PrintedMessage → List PrintedMessage
 printed_messages name empty = []
 printed_messages name (number other n more) = printed_messages name more
 printed_messages name (numbers other n ns more) = printed_messages name more
@@ -256,7 +256,7 @@ zip_then : {X Y : Type 0} (R : X → Y → Type 0) (b : Bool) (x : X) (y : Y) (x
 zip_then R true x y xs ys r rs = (r, rs)
 zip_then R false x y xs ys r rs = rs
 
-pub messages-shown : (w : Written) (name : List ℕ) (m : Message) (t : Tree) → Shows w m t → AllZip (Shows w) (printed_messages name m) (messages w name t)
+pub messages-shown : (w : Written) (name : List ℕ) (m : PrintedMessage) (t : Tree) → Shows w m t → AllZip (Shows w) (printed_messages name m) (messages w name t)
 messages-shown w name empty no_fields s = tt
 messages-shown w name (number other n more) (field token false values rest) s =
     rw (value_messages-shown w (n ∷ []) values s.1, same_choice {X = List Tree} (bytes_eq (token_text w token) name) []) (messages-shown w name more rest s.2)
@@ -324,7 +324,7 @@ pub record TakesMessage (closed : List (List ℕ)) (m : tables.Message) (before 
   pub clear : IsClear closed m before name
   pub admits : Admits inner
 
-abbrev pub IsAdmitted : List (List ℕ) → tables.Message → List (List ℕ) → Message → Type 0
+abbrev pub IsAdmitted : List (List ℕ) → tables.Message → List (List ℕ) → PrintedMessage → Type 0
 IsAdmitted closed m before empty = Unit {0}
 IsAdmitted closed m before (number name n more) = TakesNumber closed m before name n × IsAdmitted closed m (name ∷ before) more
 IsAdmitted closed m before (numbers name n ns more) = TakesNumbers closed m before name (n ∷ ns) × IsAdmitted closed m (name ∷ before) more
@@ -406,7 +406,7 @@ field_passed w m before name token list values rest text clear lists inner other
     let whole : option_or (option_or (refused_at token (name_fault w.closed m before name (use_of m name))) (list_fault w (use_of m name) token (is_alone list values))) (option_or (values_fault w (content_of (use_of m name)) values) (fields_fault w m (name ∷ before) rest)) ≡ None = rw (here, inner, others) refl in
     rw text whole
 
-pub no_fault : (w : Written) (m : tables.Message) (before : List (List ℕ)) (p : Message) (t : Tree) → Shows w p t → IsAdmitted w.closed m before p → fields_fault w m before t ≡ None
+pub no_fault : (w : Written) (m : tables.Message) (before : List (List ℕ)) (p : PrintedMessage) (t : Tree) → Shows w p t → IsAdmitted w.closed m before p → fields_fault w m before t ≡ None
 no_fault w m before empty no_fields s a = refl
 no_fault w m before (number name n more) (field token false (scalar_value first end no_values) rest) s a =
     let here : values_fault w (content_of (use_of m name)) (scalar_value first end no_values) ≡ None = rw (a.0.content, number_admitted w a.0.type n first s.1.0 a.0.fit) refl in
@@ -470,7 +470,7 @@ number_no_member type enum = λ e. cc
 member_no_text : (enum : Enum) → tables.member enum ≢ tables.text
 member_no_text enum = λ e. cc
 
-pub numbers-shown : (w : Written) (m : tables.Message) (before : List (List ℕ)) (name : List ℕ) (type : Number) (p : Message) (t : Tree) → content_of (use_of m name) ≡ Some (tables.number type) → IsAdmitted w.closed m before p → Shows w p t → readings.numbers w name t ≡ printed_numbers name p
+pub numbers-shown : (w : Written) (m : tables.Message) (before : List (List ℕ)) (name : List ℕ) (type : Number) (p : PrintedMessage) (t : Tree) → content_of (use_of m name) ≡ Some (tables.number type) → IsAdmitted w.closed m before p → Shows w p t → readings.numbers w name t ≡ printed_numbers name p
 numbers-shown w m before name type empty no_fields takes a s = refl
 numbers-shown w m before name type (number other n more) (field token false values rest) takes a s =
     rw (s.0, value_numbers-shown w (n ∷ []) values s.1, numbers-shown w m (other ∷ before) name type more rest takes a.1 s.2) refl
@@ -486,7 +486,7 @@ numbers-shown w m before name type (message other inner more) (field token false
     rw (same_choice {X = List ℤ} (bytes_eq (token_text w token) name) []) (numbers-shown w m (other ∷ before) name type more rest takes a.1 s.2)
 numbers-shown w m before name type _ _ takes a s = absurd s
 
-pub texts-shown : (w : Written) (m : tables.Message) (before : List (List ℕ)) (name : List ℕ) (p : Message) (t : Tree) → content_of (use_of m name) ≡ Some tables.text → IsAdmitted w.closed m before p → Shows w p t → readings.texts w name t ≡ printed_texts name p
+pub texts-shown : (w : Written) (m : tables.Message) (before : List (List ℕ)) (name : List ℕ) (p : PrintedMessage) (t : Tree) → content_of (use_of m name) ≡ Some tables.text → IsAdmitted w.closed m before p → Shows w p t → readings.texts w name t ≡ printed_texts name p
 texts-shown w m before name empty no_fields takes a s = refl
 texts-shown w m before name (number other n more) (field token false values rest) takes a s =
     let apart = content_clash m other name _ _ a.0.content takes (number_no_text a.0.type) in
@@ -503,7 +503,7 @@ texts-shown w m before name (message other inner more) (field token false (messa
     rw (same_choice {X = List (List ℕ)} (bytes_eq (token_text w token) name) []) (texts-shown w m (other ∷ before) name more rest takes a.1 s.2)
 texts-shown w m before name _ _ takes a s = absurd s
 
-pub members-shown : (w : Written) (m : tables.Message) (before : List (List ℕ)) (enum : Enum) (name : List ℕ) (p : Message) (t : Tree) → content_of (use_of m name) ≡ Some (tables.member enum) → IsAdmitted w.closed m before p → Shows w p t → readings.members w enum name t ≡ printed_members enum name p
+pub members-shown : (w : Written) (m : tables.Message) (before : List (List ℕ)) (enum : Enum) (name : List ℕ) (p : PrintedMessage) (t : Tree) → content_of (use_of m name) ≡ Some (tables.member enum) → IsAdmitted w.closed m before p → Shows w p t → readings.members w enum name t ≡ printed_members enum name p
 members-shown w m before enum name empty no_fields takes a s = refl
 members-shown w m before enum name (number other n more) (field token false values rest) takes a s =
     let apart = content_clash m other name _ _ a.0.content takes (number_no_member a.0.type enum) in
@@ -520,7 +520,7 @@ members-shown w m before enum name (message other inner more) (field token false
     rw (same_choice {X = List ℕ} (bytes_eq (token_text w token) name) []) (members-shown w m (other ∷ before) enum name more rest takes a.1 s.2)
 members-shown w m before enum name _ _ takes a s = absurd s
 
-pub truths-shown : (w : Written) (m : tables.Message) (before : List (List ℕ)) (name : List ℕ) (p : Message) (t : Tree) → content_of (use_of m name) ≡ Some tables.truth → IsAdmitted w.closed m before p → Shows w p t → readings.truths w name t ≡ printed_truths name p
+pub truths-shown : (w : Written) (m : tables.Message) (before : List (List ℕ)) (name : List ℕ) (p : PrintedMessage) (t : Tree) → content_of (use_of m name) ≡ Some tables.truth → IsAdmitted w.closed m before p → Shows w p t → readings.truths w name t ≡ printed_truths name p
 truths-shown w m before name empty no_fields takes a s = refl
 truths-shown w m before name (number other n more) (field token false values rest) takes a s =
     let apart = content_clash m other name _ _ a.0.content takes (number_no_truth a.0.type) in
@@ -537,7 +537,7 @@ truths-shown w m before name (message other inner more) (field token false (mess
     rw (same_choice {X = List Bool} (bytes_eq (token_text w token) name) []) (truths-shown w m (other ∷ before) name more rest takes a.1 s.2)
 truths-shown w m before name _ _ takes a s = absurd s
 
-pub gives-shown : (w : Written) (name : List ℕ) (p : Message) (t : Tree) → Shows w p t → readings.gives w name t ≡ is_printed name p
+pub gives-shown : (w : Written) (name : List ℕ) (p : PrintedMessage) (t : Tree) → Shows w p t → readings.gives w name t ≡ is_printed name p
 gives-shown w name empty no_fields s = refl
 gives-shown w name (number other n more) (field token false values rest) s = rw (s.0, gives-shown w name more rest s.2) refl
 gives-shown w name (numbers other n ns more) (field token true values rest) s = rw (s.0, gives-shown w name more rest s.2) refl

@@ -3,12 +3,12 @@ use Rattle.std.specs.Prelude.{ℕ, Bool, true, false, ℤ, List, [], ◌∷◌, 
 use Rattle.cps_model.specs.declared.model.LinearExpr.{LinearExpr}
 use Rattle.cps_model.specs.declared.constraint.Kind.{Kind}
 use Rattle.cps_model.specs.declared.constraint.Kind.TheVariants.{Empty, BoolOr, BoolAnd, AtMostOne, ExactlyOne, BoolXor, Linear, IntDiv, IntMod, IntProd, LinMax, Element, Table, AllDiff, Circuit, Interval, NoOverlap, Cumulative, Inverse, Automaton, Reservoir, NoOverlap2d}
-use Rattle.cps_print.specs.Layout.{Message, empty}
+use Rattle.cps_print.specs.Layout.{PrintedMessage, empty}
 use Rattle.cps_print.specs.Fields.{fields_of, number_field, list_field, word_field, message_field, repeated_field}
 use Rattle.cps_print.specs.Expressions.{printed_expression, expression_field}
 
 -- expressions, each of which is written
-abbrev pub expressions_field : List ℕ → List LinearExpr → Message
+abbrev pub expressions_field : List ℕ → List LinearExpr → PrintedMessage
 expressions_field name exprs = repeated_field name printed_expression exprs
 
 -- a flag that is false is left out
@@ -16,21 +16,21 @@ abbrev pub flag_name : Bool → List ℕ
 flag_name true = codes "true"
 flag_name false = []
 
-abbrev pub printed_literals : List ℤ → Message
+abbrev pub printed_literals : List ℤ → PrintedMessage
 printed_literals literals = fields_of (list_field (codes "literals") literals ∷ [])
 
-abbrev pub printed_linear : List ℤ → List ℤ → List ℤ → Message
+abbrev pub printed_linear : List ℤ → List ℤ → List ℤ → PrintedMessage
 printed_linear vars coeffs domain =
     fields_of (list_field (codes "vars") vars ∷ list_field (codes "coeffs") coeffs ∷ list_field
     (codes "domain") domain ∷ [])
 
 -- a quotient, a remainder, a product or a greatest value
-abbrev pub printed_arithmetic : LinearExpr → List LinearExpr → Message
+abbrev pub printed_arithmetic : LinearExpr → List LinearExpr → PrintedMessage
 printed_arithmetic target exprs =
     fields_of (expression_field (codes "target") target ∷ expressions_field (codes "exprs") exprs ∷ [])
 
 -- in the newer form, with expressions
-abbrev pub printed_element : LinearExpr → LinearExpr → List LinearExpr → Message
+abbrev pub printed_element : LinearExpr → LinearExpr → List LinearExpr → PrintedMessage
 printed_element index target exprs =
     fields_of
     (expression_field (codes "linear_index") index
@@ -39,7 +39,7 @@ printed_element index target exprs =
     ∷ [])
 
 -- in the newer form, with expressions
-abbrev pub printed_table : List LinearExpr → List ℤ → Bool → Message
+abbrev pub printed_table : List LinearExpr → List ℤ → Bool → PrintedMessage
 printed_table exprs values negated =
     fields_of
     (expressions_field (codes "exprs") exprs
@@ -47,10 +47,10 @@ printed_table exprs values negated =
     ∷ word_field (codes "negated") (flag_name negated)
     ∷ [])
 
-abbrev pub printed_all_diff : List LinearExpr → Message
+abbrev pub printed_all_diff : List LinearExpr → PrintedMessage
 printed_all_diff exprs = fields_of (expressions_field (codes "exprs") exprs ∷ [])
 
-abbrev pub printed_circuit : List ℤ → List ℤ → List ℤ → Message
+abbrev pub printed_circuit : List ℤ → List ℤ → List ℤ → PrintedMessage
 printed_circuit tails heads literals =
     fields_of
     (list_field (codes "tails") tails
@@ -58,7 +58,7 @@ printed_circuit tails heads literals =
     ∷ list_field (codes "literals") literals
     ∷ [])
 
-abbrev pub printed_interval : LinearExpr → LinearExpr → LinearExpr → Message
+abbrev pub printed_interval : LinearExpr → LinearExpr → LinearExpr → PrintedMessage
 printed_interval start end size =
     fields_of
     (expression_field (codes "start") start
@@ -66,10 +66,10 @@ printed_interval start end size =
     ∷ expression_field (codes "size") size
     ∷ [])
 
-abbrev pub printed_no_overlap : List ℤ → Message
+abbrev pub printed_no_overlap : List ℤ → PrintedMessage
 printed_no_overlap intervals = fields_of (list_field (codes "intervals") intervals ∷ [])
 
-abbrev pub printed_cumulative : LinearExpr → List ℤ → List LinearExpr → Message
+abbrev pub printed_cumulative : LinearExpr → List ℤ → List LinearExpr → PrintedMessage
 printed_cumulative capacity intervals demands =
     fields_of
     (expression_field (codes "capacity") capacity
@@ -77,12 +77,12 @@ printed_cumulative capacity intervals demands =
     ∷ expressions_field (codes "demands") demands
     ∷ [])
 
-abbrev pub printed_inverse : List ℤ → List ℤ → Message
+abbrev pub printed_inverse : List ℤ → List ℤ → PrintedMessage
 printed_inverse direct inverse =
     fields_of (list_field (codes "f_direct") direct ∷ list_field (codes "f_inverse") inverse ∷ [])
 
 -- in the newer form, with expressions
-abbrev pub printed_automaton : ℤ → List ℤ → List ℤ → List ℤ → List ℤ → List LinearExpr → Message
+abbrev pub printed_automaton : ℤ → List ℤ → List ℤ → List ℤ → List ℤ → List LinearExpr → PrintedMessage
 printed_automaton start finals tails heads labels exprs =
     fields_of
     (number_field (codes "starting_state") start
@@ -93,7 +93,7 @@ printed_automaton start finals tails heads labels exprs =
     ∷ expressions_field (codes "exprs") exprs
     ∷ [])
 
-abbrev pub printed_reservoir : ℤ → ℤ → List LinearExpr → List LinearExpr → List ℤ → Message
+abbrev pub printed_reservoir : ℤ → ℤ → List LinearExpr → List LinearExpr → List ℤ → PrintedMessage
 printed_reservoir min max times changes active =
     fields_of
     (number_field (codes "min_level") min
@@ -103,11 +103,11 @@ printed_reservoir min max times changes active =
     ∷ list_field (codes "active_literals") active
     ∷ [])
 
-abbrev pub printed_no_overlap_2d : List ℤ → List ℤ → Message
+abbrev pub printed_no_overlap_2d : List ℤ → List ℤ → PrintedMessage
 printed_no_overlap_2d x y = fields_of (list_field (codes "x_intervals") x ∷ list_field (codes "y_intervals") y ∷ [])
 
 -- a kind is a field of its constraint, which is always written
-abbrev pub kind_field : Kind → Message
+abbrev pub kind_field : Kind → PrintedMessage
 kind_field Empty = empty
 kind_field (BoolOr literals) = message_field (codes "bool_or") (printed_literals literals)
 kind_field (BoolAnd literals) = message_field (codes "bool_and") (printed_literals literals)

@@ -5,18 +5,18 @@ use Rattle.std.specs.Fmt.{signed_decimal}
 use Rattle.cps_print.specs.Quoting.{in_quotes}
 
 -- the fields of a message in the order in which they are printed, each with its name
-pub data Message : Type 0 where
-  empty : Message
+pub data PrintedMessage : Type 0 where
+  empty : PrintedMessage
   -- a number
-  number : List ℕ → ℤ → Message → Message
+  number : List ℕ → ℤ → PrintedMessage → PrintedMessage
   -- numbers, of which there is at least one
-  numbers : List ℕ → ℤ → List ℤ → Message → Message
+  numbers : List ℕ → ℤ → List ℤ → PrintedMessage → PrintedMessage
   -- a word, as the name of a member of an enum
-  word : List ℕ → List ℕ → Message → Message
+  word : List ℕ → List ℕ → PrintedMessage → PrintedMessage
   -- a text, which stands in quotes
-  quoted : List ℕ → List ℕ → Message → Message
+  quoted : List ℕ → List ℕ → PrintedMessage → PrintedMessage
   -- a message with its own fields
-  message : List ℕ → Message → Message → Message
+  message : List ℕ → PrintedMessage → PrintedMessage → PrintedMessage
 
 -- the blanks in front of a line: two for each level
 abbrev pub indent : ℕ → List ℕ
@@ -52,7 +52,7 @@ unfoldable pub closing : ℕ → List ℕ
 closing level = indent level ++ codes "}\n"
 
 -- the lines of a message's fields
-unfoldable pub text_of : ℕ → Message → List ℕ
+unfoldable pub text_of : ℕ → PrintedMessage → List ℕ
 text_of level empty = []
 text_of level (number name n more) = value_line level name (signed_decimal n) ++ text_of level more
 text_of level (numbers name n ns more) = value_line level name (in_brackets signed_decimal n ns) ++ text_of level more

@@ -10,27 +10,27 @@ use Rattle.cps_model.specs.declared.steering.Choose.{Choose}
 use Rattle.cps_model.specs.declared.steering.Choose.TheVariants.{First, LowestMin, HighestMax, MinDomainSize, MaxDomainSize}
 use Rattle.cps_model.specs.declared.steering.Select.{Select}
 use Rattle.cps_model.specs.declared.steering.Select.TheVariants.{MinValue, MaxValue, LowerHalf, UpperHalf, MedianValue}
-use Rattle.cps_print.specs.Layout.{Message, empty, number, text_of}
+use Rattle.cps_print.specs.Layout.{PrintedMessage, empty, number, text_of}
 use Rattle.cps_print.specs.Fields.{fields_of, number_field, list_field, word_field, text_field, message_field, repeated_field}
 use Rattle.cps_print.specs.Expressions.{printed_expression}
 use Rattle.cps_print.specs.Kinds.{kind_field}
 
-abbrev pub printed_variable : Variable → Message
+abbrev pub printed_variable : Variable → PrintedMessage
 printed_variable v = fields_of (text_field (codes "name") v.name ∷ list_field (codes "domain") v.domain ∷ [])
 
-abbrev pub printed_constraint : Constraint → Message
+abbrev pub printed_constraint : Constraint → PrintedMessage
 printed_constraint c =
     fields_of (text_field (codes "name") c.name ∷ list_field
     (codes "enforcement_literal") c.enforcement ∷ kind_field c.kind ∷ [])
 
 -- the scaling factor is left out where it is 1, too
-unfoldable pub scaling_field : ℤ → Message
+unfoldable pub scaling_field : ℤ → PrintedMessage
 scaling_field (pos zero) = empty
 scaling_field (pos (suc zero)) = empty
 scaling_field (pos (suc (suc n))) = number (codes "scaling_factor") (pos (suc (suc n))) empty
 scaling_field (negsuc n) = number (codes "scaling_factor") (negsuc n) empty
 
-abbrev pub printed_objective : Objective → Message
+abbrev pub printed_objective : Objective → PrintedMessage
 printed_objective o =
     fields_of
     (list_field (codes "vars") o.vars
@@ -40,7 +40,7 @@ printed_objective o =
     ∷ list_field (codes "domain") o.domain
     ∷ [])
 
-abbrev pub objective_field : Option Objective → Message
+abbrev pub objective_field : Option Objective → PrintedMessage
 objective_field None = empty
 objective_field (Some o) = message_field (codes "objective") (printed_objective o)
 
@@ -59,7 +59,7 @@ select_name LowerHalf = codes "SELECT_LOWER_HALF"
 select_name UpperHalf = codes "SELECT_UPPER_HALF"
 select_name MedianValue = codes "SELECT_MEDIAN_VALUE"
 
-abbrev pub printed_strategy : Strategy → Message
+abbrev pub printed_strategy : Strategy → PrintedMessage
 printed_strategy s =
     fields_of
     (repeated_field (codes "exprs") printed_expression s.exprs
@@ -67,14 +67,14 @@ printed_strategy s =
     ∷ word_field (codes "domain_reduction_strategy") (select_name s.select)
     ∷ [])
 
-abbrev pub printed_hint : Hint → Message
+abbrev pub printed_hint : Hint → PrintedMessage
 printed_hint h = fields_of (list_field (codes "vars") h.vars ∷ list_field (codes "values") h.values ∷ [])
 
-abbrev pub hint_field : Option Hint → Message
+abbrev pub hint_field : Option Hint → PrintedMessage
 hint_field None = empty
 hint_field (Some h) = message_field (codes "solution_hint") (printed_hint h)
 
-abbrev pub printed_model : CpModel → Message
+abbrev pub printed_model : CpModel → PrintedMessage
 printed_model m =
     fields_of
     (text_field (codes "name") m.name

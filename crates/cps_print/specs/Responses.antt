@@ -82,9 +82,9 @@ pub record HasLimits (o : Objective) : Type 0 where
   pub offset : unsigned_abs o.offset ≤ 2 ^ 53
   pub scaling : unsigned_abs o.scaling ≤ 2 ^ 53
 
-abbrev pub IsShowable : Option Objective → Type 0
-IsShowable None = Unit {0}
-IsShowable (Some o) = HasLimits o
+abbrev pub HasShowableLimits : Option Objective → Type 0
+HasShowableLimits None = Unit {0}
+HasShowableLimits (Some o) = HasLimits o
 
 -- a solution at which the objective's references have values, and whose sum is small
 abbrev pub IsSummable : Option Objective → Option (List ℤ) → Type 0
@@ -104,8 +104,8 @@ IsFinite Infinite = ⊥
 IsFinite (At lower) = Unit {0}
 
 -- every response has one but an infeasible one
-abbrev pub IsBounded : Status → Bound → Type 0
-IsBounded Optimal lower = IsFinite lower
-IsBounded Feasible lower = IsFinite lower
-IsBounded Infeasible lower = Unit {0}
-IsBounded Unknown lower = IsFinite lower
+abbrev pub HasFiniteBound : Status → Bound → Type 0
+HasFiniteBound Optimal lower = IsFinite lower
+HasFiniteBound Feasible lower = IsFinite lower
+HasFiniteBound Infeasible lower = Unit {0}
+HasFiniteBound Unknown lower = IsFinite lower

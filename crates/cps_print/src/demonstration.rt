@@ -1,6 +1,6 @@
 //! What is said of a model that was generated and solved.
 ghost use Rattle.std.specs.Prelude.{◌≡◌, ◌++◌, OnOk, IfOk, codes, string_bytes};
-ghost use Rattle.cps_print.specs.Responses.{status_name, line_of, IsShowable};
+ghost use Rattle.cps_print.specs.Responses.{status_name, line_of, HasShowableLimits};
 ghost use Rattle.cps_print.specs.Demonstrations.{best_line, demo_text, IsReadySolution};
 
 use crate::response::{put_line, put_objective_value, status_name};
@@ -16,7 +16,7 @@ fn put_best(
     objective: &Option<Objective>,
     solution: &Option<Ints>,
 ) -> Result<(), AllocError>
-    requires showable { IsShowable objective.now }
+    requires showable { HasShowableLimits objective.now }
     requires ready { IsReadySolution objective.now solution.now }
     ensures { OnOk result (string_bytes text.new ≡ string_bytes text.old ++ best_line objective.now solution.now) }
 {
@@ -47,7 +47,7 @@ pub fn demo_text(
     status: Status,
     solution: &Option<Ints>,
 ) -> Result<String, AllocError>
-    requires showable { IsShowable model.now.objective }
+    requires showable { HasShowableLimits model.now.objective }
     requires ready { IsReadySolution model.now.objective solution.now }
     ensures { IfOk result (λ text. string_bytes text ≡ demo_text model.now status solution.now) }
 {

@@ -8,7 +8,7 @@ ghost use Rattle.std.specs.Prelude.{◌≡◌, ◌++◌, IsTrue, OnOk, IfOk, cod
 ghost use Rattle.std.specs.List.{flat_map};
 ghost use Rattle.std.specs.Fmt.{signed_decimal};
 ghost use Rattle.cps_model.specs.Ready.{is_ready_objective};
-ghost use Rattle.cps_print.specs.Responses.{status_name, line_of, solution_line, solution_lines, shown_solution, shown_lower, value_lines, bound_lines, objective_lines, answer_lines, response_text, HasLimits, IsShowable, IsSummable, IsSolved, IsFinite, IsBounded};
+ghost use Rattle.cps_print.specs.Responses.{status_name, line_of, solution_line, solution_lines, shown_solution, shown_lower, value_lines, bound_lines, objective_lines, answer_lines, response_text, HasLimits, HasShowableLimits, IsSummable, IsSolved, IsFinite, HasFiniteBound};
 
 use crate::layout::put_number;
 use crate::objective::{shown_value, sum_of};
@@ -113,7 +113,7 @@ fn put_solution(
     solution: &Option<Ints>,
     lower: Bound,
 ) -> Result<(), AllocError>
-    requires showable { IsShowable objective.now }
+    requires showable { HasShowableLimits objective.now }
     requires solved { IsSummable objective.now solution.now }
     requires finite { IsFinite lower }
     ensures { OnOk result (string_bytes text.new ≡ string_bytes text.old
@@ -136,7 +136,7 @@ fn put_bound(
     objective: &Option<Objective>,
     lower: Bound,
 ) -> Result<(), AllocError>
-    requires showable { IsShowable objective.now }
+    requires showable { HasShowableLimits objective.now }
     requires finite { IsFinite lower }
     ensures { OnOk result (string_bytes text.new ≡ string_bytes text.old ++ objective_lines objective.now None lower) }
 {
@@ -148,9 +148,9 @@ fn put_bound(
 
 /// Appends all but the status.
 fn put_answer(text: &mut String, model: &CpModel, response: &Response) -> Result<(), AllocError>
-    requires showable { IsShowable model.now.objective }
+    requires showable { HasShowableLimits model.now.objective }
     requires solved { IsSolved model.now.objective response.now.status response.now.solution }
-    requires bounded { IsBounded response.now.status response.now.lower }
+    requires bounded { HasFiniteBound response.now.status response.now.lower }
     ensures { OnOk result (string_bytes text.new ≡ string_bytes text.old ++ answer_lines model.now response.now) }
 {
     match response.status {
@@ -178,9 +178,9 @@ pub fn response_text(
     model: &CpModel,
     response: &Response,
 ) -> Result<String, AllocError>
-    requires showable { IsShowable model.now.objective }
+    requires showable { HasShowableLimits model.now.objective }
     requires solved { IsSolved model.now.objective response.now.status response.now.solution }
-    requires bounded { IsBounded response.now.status response.now.lower }
+    requires bounded { HasFiniteBound response.now.status response.now.lower }
     ensures { IfOk result (λ text. string_bytes text ≡ response_text model.now response.now) }
 {
     let mut text = String::from_str(alloc, "status: ")?;

@@ -14,9 +14,9 @@ use Rattle.cps_instance.specs.Tasks.{atom_subjects}
 use Rattle.cps_instance.specs.Terms.{Domains, AreIntervals, domain_at, magnitude, terms_reach, term_subjects}
 use Rattle.cps_instance.specs.Fitting.{IsLiteral, IsFitting}
 use Rattle.cps_instance.specs.Problem.{sum_task}
-use Rattle.cps_trail.specs.Trail.{Trail, Entry, IsSound}
+use Rattle.cps_trail.specs.Trail.{Trail, Entry, IsSoundTrail}
 use Rattle.cps_trail.specs.Adds.{Grounds, Infers}
-use Rattle.cps_propagate.specs.Laws.{IsAtRest, IsInStep}
+use Rattle.cps_propagate.specs.Laws.{IsTaskAtRest, IsInStep}
 use Rattle.cps_propagate.proofs.Stepping.{IsInStep-first, IsInStep-decided}
 use Rattle.cps_propagation_tests.specs.Bits.{bit, IsBit}
 use Rattle.cps_propagation_tests.specs.Sums.{idle_task, up_to_ten, five_domains, sum_domains, tripled_sum, IsSmallTerm, AreSmallTerms, linear_task, cut_task}
@@ -93,7 +93,7 @@ pub sum_fits : (first : Domains) (tasks : List Task) → first ≡ sum_domains �
 sum_fits first tasks e f = subst (λ (us : List Task). All (IsFitting first) us) (sym f) (subst (λ (ds : Domains). All (IsFitting ds) (sum_task 1 tripled_sum ∷ [])) (sym e) (All-cons (IsFitting sum_domains) (sum_task 1 tripled_sum) [] tripled_fits (All-nil (IsFitting sum_domains))))
 
 -- after a run at level 0 and a decision tasks are in step at the entries that stood before
-pub decided_step : (C : Grounds) (tasks : List Task) (r s t : Trail) (e : Entry) (from : ℕ) → r.level ≡ 0 → Infers C r s → All (λ u. IsAtRest u s) tasks → IsSound s → e.level ≡ s.level + 1 → t ≡ record s { entries = s.entries ++ e ∷ []; level = s.level + 1 } → from ≡ length s.entries → IsInStep tasks t from
+pub decided_step : (C : Grounds) (tasks : List Task) (r s t : Trail) (e : Entry) (from : ℕ) → r.level ≡ 0 → Infers C r s → All (λ u. IsTaskAtRest u s) tasks → IsSoundTrail s → e.level ≡ s.level + 1 → t ≡ record s { entries = s.entries ++ e ∷ []; level = s.level + 1 } → from ≡ length s.entries → IsInStep tasks t from
 decided_step C tasks r s t e from none run rest sound at is here = subst (λ n. IsInStep tasks t n) (sym here)
     (IsInStep-decided tasks s t e sound (ap (λ (u : Trail). u.first) is) (ap (λ (u : Trail). u.level) is) at (ap (λ (u : Trail). u.entries) is) (IsInStep-first tasks s (run.level ∙ none) rest))
 

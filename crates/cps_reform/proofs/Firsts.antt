@@ -19,9 +19,9 @@ use Rattle.cps_instance.proofs.Growing.{same-append}
 use Rattle.cps_instance.proofs.Intervals.{least_of-least}
 use Rattle.cps_instance.proofs.Solving.{extended_within}
 use Rattle.cps_reform.specs.declared.held.Held.{Held}
-use Rattle.cps_reform.specs.Beginning.{Holds, IsFirstForm, IsHeldFirst}
+use Rattle.cps_reform.specs.Beginning.{StandsForTerm, IsFirstForm, IsHeldFirst}
 use Rattle.cps_reform.specs.Floors.{IsReform, OfEachBelow}
-use Rattle.cps_reform.specs.Forms.{Form, IsAbove, IsHeld, IsRoomy, form_value, held_reach, with_held}
+use Rattle.cps_reform.specs.Forms.{Form, IsAbove, IsHeldInDomain, FitsTypes, form_value, held_reach, with_held}
 use Rattle.cps_reform.proofs.Floors.{Reformulates-defined, defined-values, excess-longer}
 use Rattle.cps_reform.proofs.Growing.{counts, held_reach-longer, last_sum, roomy-longer}
 use Rattle.cps_reform.proofs.Objectives.{has-terms}
@@ -53,13 +53,13 @@ pub record FirstSoFar (p : Problem) (ts : List Term) (f : Form) : Type 0 where
 
 pub first-none : (p : Problem) → FirstSoFar p [] (record { base = pos 0; terms = [] })
 first-none p = record {
-  first = record { terms = tt; worth = λ a is. omega (arith, ints); roomy = record { terms = All-nil (IsHeld p.domains); small = omega arith } };
+  first = record { terms = tt; worth = λ a is. omega (arith, ints); roomy = record { terms = All-nil (IsHeldInDomain p.domains); small = omega arith } };
   base = omega arith;
   reach = refl;
 }
 
 -- one more term, of which a subject holds the value
-pub first-more : (p : Problem) (ts : List Term) (t : Term) (subject : ℕ) (f : Form) → FirstSoFar p ts f → Holds p t subject → IsRoomy p.domains (with_held p.domains f (unsigned_abs t.coeff) subject)
+pub first-more : (p : Problem) (ts : List Term) (t : Term) (subject : ℕ) (f : Form) → FirstSoFar p ts f → StandsForTerm p t subject → FitsTypes p.domains (with_held p.domains f (unsigned_abs t.coeff) subject)
     → unsigned_abs (with_held p.domains f (unsigned_abs t.coeff) subject).base ≤ held_reach p.domains (with_held p.domains f (unsigned_abs t.coeff) subject).terms
     → ((xs : List ℤ) → form_value xs (with_held p.domains f (unsigned_abs t.coeff) subject) ≡ form_value xs f +ℤ pos (unsigned_abs t.coeff) *ℤ value_at xs subject)
     → FirstSoFar p (ts ++ t ∷ []) (with_held p.domains f (unsigned_abs t.coeff) subject)
@@ -87,7 +87,7 @@ first-more p ts t subject f h holds roomy base worth =
     }
 
 -- there is room for it
-pub first-room : (p : Problem) (ts us : List Term) (t : Term) (subject : ℕ) (f : Form) → FirstSoFar p ts f → Holds p t subject → terms_reach p.domains ((ts ++ t ∷ []) ++ us) < 2 ^ 62
+pub first-room : (p : Problem) (ts us : List Term) (t : Term) (subject : ℕ) (f : Form) → FirstSoFar p ts f → StandsForTerm p t subject → terms_reach p.domains ((ts ++ t ∷ []) ++ us) < 2 ^ 62
     → held_reach p.domains f.terms + unsigned_abs t.coeff * magnitude (domain_at p.domains subject) < 2 ^ 62
 first-room p ts us t subject f h holds small =
     let r = h.reach in
@@ -132,7 +132,7 @@ module _ (p q : Problem) (sum : DefinedSum) (subject : ℕ) (d : Defines p q sum
       added-length [] added = omega arith
       added-length (e ∷ ds) added = let rest = added-length ds added in omega arith
 
-  pub holds-stays : (t : Term) (s : ℕ) → t.subject < variable_count p → Holds p t s → Holds q t s
+  pub holds-stays : (t : Term) (s : ℕ) → t.subject < variable_count p → StandsForTerm p t s → StandsForTerm q t s
   holds-stays t s l h =
       let count = i.domains.count in
       let within = h.within in
@@ -167,8 +167,8 @@ module _ (p q : Problem) (sum : DefinedSum) (subject : ℕ) (d : Defines p q sum
   pub first-stays : (ts : List Term) (f : Form) → All (λ t. t.subject < variable_count p) ts → FirstSoFar p ts f → FirstSoFar q ts f
   first-stays ts f all h =
       let count = i.domains.count in
-      let inside : All (λ t. t.subject < variable_count p + length p.defs) f.terms = All-weaker (IsHeld p.domains) (λ (t : Held). t.subject < variable_count p + length p.defs) (λ t k. (let s = k.subject in omega (arith, s, count))) f.terms h.first.roomy.terms in
-      let roomy : IsRoomy q.domains f = subst (λ (ds : Domains). IsRoomy ds f) (sym d.domains) (roomy-longer p.domains (d.added ∷ []) f h.first.roomy) in
+      let inside : All (λ t. t.subject < variable_count p + length p.defs) f.terms = All-weaker (IsHeldInDomain p.domains) (λ (t : Held). t.subject < variable_count p + length p.defs) (λ t k. (let s = k.subject in omega (arith, s, count))) f.terms h.first.roomy.terms in
+      let roomy : FitsTypes q.domains f = subst (λ (ds : Domains). FitsTypes ds f) (sym d.domains) (roomy-longer p.domains (d.added ∷ []) f h.first.roomy) in
       let reach : held_reach q.domains f.terms ≡ held_reach p.domains f.terms = ap (λ (ds : Domains). held_reach ds f.terms) d.domains ∙ held_reach-longer p.domains (d.added ∷ []) f.terms h.first.roomy.terms in
       record {
         first = record {

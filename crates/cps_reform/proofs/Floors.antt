@@ -18,7 +18,7 @@ use Rattle.cps_instance.proofs.Extending.{length-extended, extended-push, agree-
 use Rattle.cps_reform.specs.declared.held.Held.{Held}
 use Rattle.cps_reform.specs.Forms.{Form, excess, form_value, IsAbove, Reformulates}
 use Rattle.cps_reform.specs.Cores.{core_terms}
-use Rattle.cps_reform.specs.Floors.{OfEachBelow, IsFloor, NoneIsBelow}
+use Rattle.cps_reform.specs.Floors.{OfEachBelow, HasFloors, NoneIsBelow}
 use Rattle.cps_reform.proofs.Rooms.{excess-above}
 
 -- a form over the first subjects is worth the same where more follow
@@ -69,7 +69,7 @@ Reformulates-same p f g h same a is = h a is ∙ sym (same a is)
 base_below : (base z v : ℤ) → (v <ℤ z → base ≤ℤ v) → base ≤ℤ z → base ≤ℤ v
 base_below base z v h l = grind (arith, ints)
 
-pub base-bounds : (p : Problem) (z : Bound) (f : Form) → ((a : List ℤ) → IsSolution p.model a → IsAssignment p.model a) → Reformulates p f → IsFloor p z f → BoundLe (At f.base) z → IsLowerBound p.model (At f.base)
+pub base-bounds : (p : Problem) (z : Bound) (f : Form) → ((a : List ℤ) → IsSolution p.model a → IsAssignment p.model a) → Reformulates p f → HasFloors p z f → BoundLe (At f.base) z → IsLowerBound p.model (At f.base)
 unfolding IsLowerBound
 base-bounds p (At z) f assigned h floor below a s =
     base_below f.base z (objective_value p.model a) (λ less. (let e = h a (assigned a s) in let m = excess-above (extended p.defs a) f.terms (floor a s less) in omega (arith, ints))) below

@@ -15,27 +15,27 @@ use Rattle.cps_instance.specs.Sums.{extended, sum_value, DefinedSum, IsSumOf, Ar
 use Rattle.cps_instance.proofs.Extending.{length-extended, agree-append}
 use Rattle.cps_instance.proofs.Growing.{same-append}
 use Rattle.cps_reform.specs.declared.held.Held.{Held}
-use Rattle.cps_reform.specs.Forms.{Form, IsAbove, IsHeld, IsRoomy, held_reach}
+use Rattle.cps_reform.specs.Forms.{Form, IsAbove, IsHeldInDomain, FitsTypes, held_reach}
 use Rattle.cps_reform.specs.Cores.{core_terms, core_sum, WeighAtLeast, IsSomeAbove}
 use Rattle.cps_reform.specs.Floors.{IsReform, OfEachBelow, IsCoreSum}
 use Rattle.cps_reform.proofs.Excesses.{reach-lessened}
 use Rattle.cps_reform.proofs.Floors.{Reformulates-defined, above-longer, core-longer, defined-values}
 use Rattle.cps_reform.proofs.Steps.{assigned}
 
-pub core-subjects : (ds : Domains) (ts : List Held) → All (IsHeld ds) ts → All (λ t. t.subject < length ds) (core_terms ts)
+pub core-subjects : (ds : Domains) (ts : List Held) → All (IsHeldInDomain ds) ts → All (λ t. t.subject < length ds) (core_terms ts)
 core-subjects ds [] h = All-nil (λ (t : Term). t.subject < length ds)
 core-subjects ds (t ∷ ts) h =
-    let rest = core-subjects ds ts (All-tail (IsHeld ds) t ts h) in
-    let here = All-head (IsHeld ds) t ts h in
+    let rest = core-subjects ds ts (All-tail (IsHeldInDomain ds) t ts h) in
+    let here = All-head (IsHeldInDomain ds) t ts h in
     elim (t.in_core) as (λ b. All (λ u. u.subject < length ds) (if b then record { coeff = pos 1; subject = t.subject } ∷ core_terms ts else core_terms ts)) [
       | true ↦ All-cons (λ (u : Term). u.subject < length ds) (record { coeff = pos 1; subject = t.subject }) (core_terms ts) here.subject rest
       | false ↦ rest
     ]
 
-pub core-reach : (ds : Domains) (f : Form) → IsRoomy ds f → WeighAtLeast 1 f.terms → terms_reach ds (core_terms f.terms) + 0 < 2 ^ 62
+pub core-reach : (ds : Domains) (f : Form) → FitsTypes ds f → WeighAtLeast 1 f.terms → terms_reach ds (core_terms f.terms) + 0 < 2 ^ 62
 core-reach ds f h w = let a = reach-lessened ds 1 f.terms w in let small = h.small in omega arith
 
-held-longer : (ds es : Domains) (t : Held) → IsHeld ds t → IsHeld (ds ++ es) t
+held-longer : (ds es : Domains) (t : Held) → IsHeldInDomain ds t → IsHeldInDomain (ds ++ es) t
 held-longer ds es t h =
     let e : domain_at ds t.subject ≡ domain_at (ds ++ es) t.subject = same-append ds es t.subject h.subject in
     let long = length-append ds es in
@@ -47,18 +47,18 @@ held-longer ds es t h =
       small = subst (λ d. magnitude d < 2 ^ 62) e h.small;
     }
 
-pub held_reach-longer : (ds es : Domains) (ts : List Held) → All (IsHeld ds) ts → held_reach (ds ++ es) ts ≡ held_reach ds ts
+pub held_reach-longer : (ds es : Domains) (ts : List Held) → All (IsHeldInDomain ds) ts → held_reach (ds ++ es) ts ≡ held_reach ds ts
 held_reach-longer ds es [] h = refl
 held_reach-longer ds es (t ∷ ts) h =
-    let rest = held_reach-longer ds es ts (All-tail (IsHeld ds) t ts h) in
-    let e : domain_at ds t.subject ≡ domain_at (ds ++ es) t.subject = same-append ds es t.subject (All-head (IsHeld ds) t ts h).subject in
+    let rest = held_reach-longer ds es ts (All-tail (IsHeldInDomain ds) t ts h) in
+    let e : domain_at ds t.subject ≡ domain_at (ds ++ es) t.subject = same-append ds es t.subject (All-head (IsHeldInDomain ds) t ts h).subject in
     ap (λ d. t.weight * magnitude d + held_reach (ds ++ es) ts) (sym e) ∙ ap (λ n. t.weight * magnitude (domain_at ds t.subject) + n) rest
 
-pub roomy-longer : (ds es : Domains) (f : Form) → IsRoomy ds f → IsRoomy (ds ++ es) f
+pub roomy-longer : (ds es : Domains) (f : Form) → FitsTypes ds f → FitsTypes (ds ++ es) f
 roomy-longer ds es f h =
     let e = held_reach-longer ds es f.terms h.terms in
     let small = h.small in
-    record { terms = All-weaker (IsHeld ds) (IsHeld (ds ++ es)) (held-longer ds es) f.terms h.terms; small = omega arith }
+    record { terms = All-weaker (IsHeldInDomain ds) (IsHeldInDomain (ds ++ es)) (held-longer ds es) f.terms h.terms; small = omega arith }
 
 pub some_above-longer : (xs ys : List ℤ) (ts : List Held) → All (λ t. t.subject < length xs) ts → IsSomeAbove xs ts → IsSomeAbove (xs ++ ys) ts
 some_above-longer xs ys [] h s = s
@@ -84,10 +84,10 @@ counts p q s subject d h =
     let is = d.subject_is in
     record { before = omega arith; after = e; number = omega arith }
 
-inside : (p q : Problem) (f : Form) (subject : ℕ) → Counts p q subject → IsRoomy p.domains f → All (λ t. t.subject < variable_count p + length p.defs) f.terms
-inside p q f subject k h = All-weaker (IsHeld p.domains) (λ (t : Held). t.subject < variable_count p + length p.defs) (λ t u. let a = u.subject in let b = k.before in omega arith) f.terms h.terms
+inside : (p q : Problem) (f : Form) (subject : ℕ) → Counts p q subject → FitsTypes p.domains f → All (λ t. t.subject < variable_count p + length p.defs) f.terms
+inside p q f subject k h = All-weaker (IsHeldInDomain p.domains) (λ (t : Held). t.subject < variable_count p + length p.defs) (λ t u. let a = u.subject in let b = k.before in omega arith) f.terms h.terms
 
-inside_values : (p q : Problem) (f : Form) (subject : ℕ) (a : List ℤ) → Counts p q subject → IsRoomy p.domains f → IsAssignment p.model a → All (λ t. t.subject < length (extended p.defs a)) f.terms
+inside_values : (p q : Problem) (f : Form) (subject : ℕ) (a : List ℤ) → Counts p q subject → FitsTypes p.domains f → IsAssignment p.model a → All (λ t. t.subject < length (extended p.defs a)) f.terms
 inside_values p q f subject a k h is = let e = length-extended p.defs a in let l : length (extended p.defs a) ≡ variable_count p + length p.defs = omega arith in rw l (inside p q f subject k h)
 
 pub last_sum : (ds : Domains) (n : ℕ) (ss : List DefinedSum) (s : DefinedSum) (m : ℕ) → m ≡ n + length ss → AreSumsFrom ds n (ss ++ s ∷ []) → IsSumOf ds m s
@@ -107,15 +107,15 @@ grown-reform p q f subject d i z h =
     record {
       is = Reformulates-defined p q (core_sum f.terms) subject f d (inside p q f subject k h.roomy) h.is;
       floor = carried p q (core_sum f.terms) subject z (λ xs. IsAbove xs f.terms) d (λ a is above. above-longer (extended p.defs a) _ f.terms (inside_values p q f subject a k h.roomy is) above) h.floor;
-      roomy = subst (λ (ds : Domains). IsRoomy ds f) (sym d.domains) (roomy-longer p.domains (d.added ∷ []) f h.roomy);
+      roomy = subst (λ (ds : Domains). FitsTypes ds f) (sym d.domains) (roomy-longer p.domains (d.added ∷ []) f h.roomy);
     }
 
-pub grown-core : (p q : Problem) (f : Form) (subject : ℕ) → Defines p q (core_sum f.terms) subject → IsInstance q → IsRoomy p.domains f → (z : Bound) → OfEachBelow p z (λ xs. IsSomeAbove xs f.terms) → OfEachBelow q z (λ xs. IsSomeAbove xs f.terms)
+pub grown-core : (p q : Problem) (f : Form) (subject : ℕ) → Defines p q (core_sum f.terms) subject → IsInstance q → FitsTypes p.domains f → (z : Bound) → OfEachBelow p z (λ xs. IsSomeAbove xs f.terms) → OfEachBelow q z (λ xs. IsSomeAbove xs f.terms)
 grown-core p q f subject d i roomy z h =
     let k = counts p q (core_sum f.terms) subject d i in
     carried p q (core_sum f.terms) subject z (λ xs. IsSomeAbove xs f.terms) d (λ a is some. some_above-longer (extended p.defs a) _ f.terms (inside_values p q f subject a k roomy is) some) h
 
-pub grown-sum : (p q : Problem) (f : Form) (subject : ℕ) → Defines p q (core_sum f.terms) subject → IsInstance q → IsRoomy p.domains f → IsCoreSum q f.terms subject
+pub grown-sum : (p q : Problem) (f : Form) (subject : ℕ) → Defines p q (core_sum f.terms) subject → IsInstance q → FitsTypes p.domains f → IsCoreSum q f.terms subject
 grown-sum p q f subject d i roomy =
     let k = counts p q (core_sum f.terms) subject d i in
     let sums : AreSumsFrom q.domains (variable_count q) (p.defs ++ core_sum f.terms ∷ []) = subst (λ (ss : List DefinedSum). AreSumsFrom q.domains (variable_count q) ss) d.sums i.domains.sums in

@@ -5,8 +5,8 @@ use Rattle.cps_literal.specs.declared.atom.Atom.{Atom}
 use Rattle.cps_literal.specs.Truth.{value_at}
 use Rattle.cps_instance.specs.Terms.{Domains, domain_at, magnitude}
 use Rattle.cps_reform.specs.declared.held.Held.{Held}
-use Rattle.cps_reform.specs.Forms.{Form, IsAbove, IsHeld, IsRoomy, excess, form_value, held_reach, no_term, term_at}
-use Rattle.cps_reform.specs.Marks.{IsMarked}
+use Rattle.cps_reform.specs.Forms.{Form, IsAbove, IsHeldInDomain, FitsTypes, excess, form_value, held_reach, no_term, term_at}
+use Rattle.cps_reform.specs.Marks.{IsCoreMarked}
 
 -- terms that differ in their marks alone
 abbrev pub AreAlike : List Held → List Held → Type 0
@@ -32,7 +32,7 @@ reach-alike ds (t ∷ ts) (u ∷ us) e h =
     ap (λ (v : Held). v.weight * magnitude (domain_at ds v.subject) + held_reach ds us) here
     ∙ ap (λ (n : ℕ). t.weight * magnitude (domain_at ds t.subject) + n) rest
 
-module _ (f g : Form) (place : ℕ) (decisions : List Atom) (m : IsMarked f g place decisions) where
+module _ (f g : Form) (place : ℕ) (decisions : List Atom) (m : IsCoreMarked f g place decisions) where
   pub worth-marked : (xs : List ℤ) → form_value xs g ≡ form_value xs f
   worth-marked xs = ap (λ (b : ℤ). b +ℤ excess xs g.terms) m.base ∙ ap (λ (e : ℤ). f.base +ℤ e) (excess-alike xs f.terms g.terms m.terms.same_length m.terms.same)
 
@@ -43,12 +43,12 @@ module _ (f g : Form) (place : ℕ) (decisions : List Atom) (m : IsMarked f g pl
       subst (λ (t : Held). t.bound ≤ℤ value_at xs t.subject) (sym (get_or_default g.terms k d no_term l))
       (subst (λ (t : Held). t.bound ≤ℤ value_at xs t.subject) (sym (m.terms.same k l')) (h k no_term l'))
 
-  pub roomy-marked : (ds : Domains) → IsRoomy ds f → IsRoomy ds g
+  pub roomy-marked : (ds : Domains) → FitsTypes ds f → FitsTypes ds g
   roomy-marked ds h = record {
     terms = λ k d l.
         let n = m.terms.same_length in
         let l' : k < length f.terms = omega (arith, n, l) in
-        let was = subst (λ (t : Held). IsHeld ds t) (sym (m.terms.same k l')) (h.terms k no_term l') in
-        subst (λ (t : Held). IsHeld ds t) (sym (get_or_default g.terms k d no_term l)) (record { subject = was.subject; low = was.low; high = was.high; small = was.small });
+        let was = subst (λ (t : Held). IsHeldInDomain ds t) (sym (m.terms.same k l')) (h.terms k no_term l') in
+        subst (λ (t : Held). IsHeldInDomain ds t) (sym (get_or_default g.terms k d no_term l)) (record { subject = was.subject; low = was.low; high = was.high; small = was.small });
     small = let e = reach-alike ds f.terms g.terms m.terms.same_length m.terms.same in let s = h.small in omega (arith, e, s);
   }

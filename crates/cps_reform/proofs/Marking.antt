@@ -4,13 +4,13 @@ use Rattle.std.specs.List.{Contains}
 use Rattle.cps_literal.specs.declared.atom.Atom.{Atom}
 use Rattle.cps_reform.specs.declared.held.Held.{Held}
 use Rattle.cps_reform.specs.Forms.{no_term, term_at}
-use Rattle.cps_reform.specs.Marks.{IsInCore, assumed}
+use Rattle.cps_reform.specs.Marks.{IsTermInCore, assumed}
 
 -- the first terms are marked, and the others have the marks that they had
 pub record MarkedUpTo (ts us : List Held) (place : ℕ) (decisions : List Atom) (count : ℕ) : Type 0 where
   pub same_length : length us ≡ length ts
   pub same : (i : ℕ) → i < length ts → record (term_at us i) { in_core = (term_at ts i).in_core } ≡ term_at ts i
-  pub core : (i : ℕ) → i < count → ((term_at us i).in_core ≡ true) ↔ IsInCore ts place decisions i
+  pub core : (i : ℕ) → i < count → ((term_at us i).in_core ≡ true) ↔ IsTermInCore ts place decisions i
 
 equal_or_not : (k i : ℕ) → (k ≡ i) ⊎ (k ≢ i)
 equal_or_not k i = grind arith
@@ -35,7 +35,7 @@ module _ (ts us : List Held) (place : ℕ) (decisions : List Atom) (i : ℕ) (b 
   same_assumed : assumed (term_at us i) ≡ assumed (term_at ts i)
   same_assumed = ap (λ (t : Held). assumed t) (m.same i l)
 
-  core_here : ((term_at (set us i (record (term_at us i) { in_core = b })) i).in_core ≡ true) ↔ IsInCore ts place decisions i
+  core_here : ((term_at (set us i (record (term_at us i) { in_core = b })) i).in_core ≡ true) ↔ IsTermInCore ts place decisions i
   core_here = (
     λ is.
         let a = h.0 (sym (ap (λ (t : Held). t.in_core) at_place) ∙ is) in
@@ -71,7 +71,7 @@ module _ (ts us : List Held) (place : ℕ) (decisions : List Atom) (i : ℕ) (b 
       | inr ne ↦ ap (λ (t : Held). record t { in_core = (term_at ts k).in_core }) (elsewhere k ne) ∙ m.same k within
     ];
     core = λ k within. elim (equal_or_not k i) [
-      | inl e ↦ subst (λ (j : ℕ). ((term_at (set us i (record (term_at us i) { in_core = b })) j).in_core ≡ true) ↔ IsInCore ts place decisions j) (sym e) core_here
-      | inr ne ↦ subst (λ (t : Held). (t.in_core ≡ true) ↔ IsInCore ts place decisions k) (sym (elsewhere k ne)) (m.core k (omega (arith, within, ne)))
+      | inl e ↦ subst (λ (j : ℕ). ((term_at (set us i (record (term_at us i) { in_core = b })) j).in_core ≡ true) ↔ IsTermInCore ts place decisions j) (sym e) core_here
+      | inr ne ↦ subst (λ (t : Held). (t.in_core ≡ true) ↔ IsTermInCore ts place decisions k) (sym (elsewhere k ne)) (m.core k (omega (arith, within, ne)))
     ];
   }

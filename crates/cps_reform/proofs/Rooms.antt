@@ -11,7 +11,7 @@ use Rattle.cps_instance.specs.Terms.{Domains, domain_at, magnitude, terms_value,
 use Rattle.cps_instance.specs.Sums.{least_sum_of, greatest_sum_of}
 use Rattle.cps_instance.proofs.Boundings.{least-reach, greatest-reach}
 use Rattle.cps_reform.specs.declared.held.Held.{Held}
-use Rattle.cps_reform.specs.Forms.{Form, excess, form_value, IsAbove, held_reach, IsHeld, IsRoomy, term_at, with_held, lifted, IsPastLift}
+use Rattle.cps_reform.specs.Forms.{Form, excess, form_value, IsAbove, held_reach, IsHeldInDomain, FitsTypes, term_at, with_held, lifted, IsPastLift}
 use Rattle.cps_reform.specs.Cores.{core_terms, core_sum, core_bound, core_size, least_weight, WeighAtLeast, IsSomeAbove, lessened, sum_held, split, IsPastSplit}
 use Rattle.cps_reform.proofs.Excesses.{plus, one_times, excess-lessened, core-some_above, reach-lessened}
 
@@ -69,16 +69,16 @@ all-at P [] i l h = absurd (let f : i < 0 = l in omega arith)
 all-at P (t ∷ ts) zero l h = All-head P t ts h
 all-at P (t ∷ ts) (suc i) l h = all-at P ts i (omega arith) (All-tail P t ts h)
 
-pub all-lessened : (ds : Domains) (m : ℕ) (ts : List Held) → All (IsHeld ds) ts → All (IsHeld ds) (map (lessened m) ts)
-all-lessened ds m [] h = All-nil (IsHeld ds)
+pub all-lessened : (ds : Domains) (m : ℕ) (ts : List Held) → All (IsHeldInDomain ds) ts → All (IsHeldInDomain ds) (map (lessened m) ts)
+all-lessened ds m [] h = All-nil (IsHeldInDomain ds)
 all-lessened ds m (t ∷ ts) h =
-    let rest = all-lessened ds m ts (All-tail (IsHeld ds) t ts h) in
-    let here = All-head (IsHeld ds) t ts h in
-    let first : IsHeld ds (lessened m t) = elim (t.in_core) as (λ b. IsHeld ds (if b then record t { weight = t.weight - m; in_core = false } else t)) [
+    let rest = all-lessened ds m ts (All-tail (IsHeldInDomain ds) t ts h) in
+    let here = All-head (IsHeldInDomain ds) t ts h in
+    let first : IsHeldInDomain ds (lessened m t) = elim (t.in_core) as (λ b. IsHeldInDomain ds (if b then record t { weight = t.weight - m; in_core = false } else t)) [
       | true ↦ record { subject = here.subject; low = here.low; high = here.high; small = here.small }
       | false ↦ here
     ] in
-    All-cons (IsHeld ds) (lessened m t) (map (lessened m) ts) first rest
+    All-cons (IsHeldInDomain ds) (lessened m t) (map (lessened m) ts) first rest
 
 pub above-lessened : (xs : List ℤ) (m : ℕ) (ts : List Held) → IsAbove xs ts → IsAbove xs (map (lessened m) ts)
 above-lessened xs m [] h = All-nil (λ (t : Held). t.bound ≤ℤ value_at xs t.subject)
@@ -161,11 +161,11 @@ least-some (t ∷ ts) h =
     ] refl
 
 -- the core's bounds are between the ends of its sum, and no larger than its reach
-pub core-size : (ds : Domains) (ts : List Held) → All (IsHeld ds) ts → core_size ts ≤ terms_reach ds (core_terms ts)
+pub core-size : (ds : Domains) (ts : List Held) → All (IsHeldInDomain ds) ts → core_size ts ≤ terms_reach ds (core_terms ts)
 core-size ds [] h = omega arith
 core-size ds (t ∷ ts) h =
-    let rest = core-size ds ts (All-tail (IsHeld ds) t ts h) in
-    let here = All-head (IsHeld ds) t ts h in
+    let rest = core-size ds ts (All-tail (IsHeldInDomain ds) t ts h) in
+    let here = All-head (IsHeldInDomain ds) t ts h in
     let low = here.low in
     let high = here.high in
     let size : unsigned_abs t.bound ≤ magnitude (domain_at ds t.subject) = between (least_of (domain_at ds t.subject)) t.bound (greatest_of (domain_at ds t.subject)) low high in
@@ -174,11 +174,11 @@ core-size ds (t ∷ ts) h =
       | false ↦ omega arith
     ]
 
-pub core-least : (ds : Domains) (ts : List Held) → All (IsHeld ds) ts → least_of_terms ds (core_terms ts) ≤ℤ core_bound ts
+pub core-least : (ds : Domains) (ts : List Held) → All (IsHeldInDomain ds) ts → least_of_terms ds (core_terms ts) ≤ℤ core_bound ts
 core-least ds [] h = omega (arith, ints)
 core-least ds (t ∷ ts) h =
-    let rest = core-least ds ts (All-tail (IsHeld ds) t ts h) in
-    let here = All-head (IsHeld ds) t ts h in
+    let rest = core-least ds ts (All-tail (IsHeldInDomain ds) t ts h) in
+    let here = All-head (IsHeldInDomain ds) t ts h in
     let low = here.low in
     let l = one_times (least_of (domain_at ds t.subject)) in
     let g = one_times (greatest_of (domain_at ds t.subject)) in
@@ -198,9 +198,9 @@ sum-magnitude ds ts subject e =
     rw e (greater_within (least_sum_of ds (core_sum ts)) (greatest_sum_of ds (core_sum ts)) (terms_reach ds (core_terms ts)) (rw c a) (rw d b))
 
 -- a form with a core that is split has room where it had, if the new bound is not past the sum's greatest value
-pub roomy-split : (ds : Domains) (f : Form) (m subject : ℕ) → IsRoomy ds f → WeighAtLeast m f.terms → 1 ≤ m → subject < length ds
+pub roomy-split : (ds : Domains) (f : Form) (m subject : ℕ) → FitsTypes ds f → WeighAtLeast m f.terms → 1 ≤ m → subject < length ds
     → domain_at ds subject ≡ (least_sum_of ds (core_sum f.terms), greatest_sum_of ds (core_sum f.terms)) ∷ []
-    → (core_bound f.terms +ℤ pos 1) ≤ℤ greatest_of (domain_at ds subject) → IsRoomy ds (split f m subject)
+    → (core_bound f.terms +ℤ pos 1) ≤ℤ greatest_of (domain_at ds subject) → FitsTypes ds (split f m subject)
 roomy-split ds f m subject h w some l e high =
     let a = reach-lessened ds m f.terms w in
     let b = reach-push ds (map (lessened m) f.terms) (sum_held m subject f.terms) in
@@ -210,18 +210,18 @@ roomy-split ds f m subject h w some l e high =
     let core_small : terms_reach ds (core_terms f.terms) < 2 ^ 62 = at_least_once m (terms_reach ds (core_terms f.terms)) (held_reach ds f.terms) some (omega arith) small in
     let g = core-least ds f.terms h.terms in
     let low : least_of (domain_at ds subject) ≤ℤ (core_bound f.terms +ℤ pos 1) = let k : least_of (domain_at ds subject) ≡ least_of_terms ds (core_terms f.terms) +ℤ pos 0 = ap least_of e in omega (arith, ints) in
-    let held : IsHeld ds (sum_held m subject f.terms) = record { subject = l; low = low; high = high; small = omega arith } in
+    let held : IsHeldInDomain ds (sum_held m subject f.terms) = record { subject = l; low = low; high = high; small = omega arith } in
     record {
-      terms = All-append (IsHeld ds) (map (lessened m) f.terms) (sum_held m subject f.terms ∷ []) (all-lessened ds m f.terms h.terms) (All-cons (IsHeld ds) (sum_held m subject f.terms) [] held (All-nil (IsHeld ds)));
+      terms = All-append (IsHeldInDomain ds) (map (lessened m) f.terms) (sum_held m subject f.terms ∷ []) (all-lessened ds m f.terms h.terms) (All-cons (IsHeldInDomain ds) (sum_held m subject f.terms) [] held (All-nil (IsHeldInDomain ds)));
       small = omega arith;
     }
 
 -- what raises a bound stays within 64 bits
-pub rise-small : (ds : Domains) (f : Form) (i : ℕ) (bound : ℤ) → IsRoomy ds f → i < length f.terms → (term_at f.terms i).bound ≤ℤ bound → bound ≤ℤ greatest_of (domain_at ds (term_at f.terms i).subject)
+pub rise-small : (ds : Domains) (f : Form) (i : ℕ) (bound : ℤ) → FitsTypes ds f → i < length f.terms → (term_at f.terms i).bound ≤ℤ bound → bound ≤ℤ greatest_of (domain_at ds (term_at f.terms i).subject)
     → (term_at f.terms i).weight * (unsigned_abs (term_at f.terms i).bound + unsigned_abs bound) < 2 ^ 63
 rise-small ds f i bound h l rises high =
     let t = term_at f.terms i in
-    let held = all-at (IsHeld ds) f.terms i l h.terms in
+    let held = all-at (IsHeldInDomain ds) f.terms i l h.terms in
     let low = held.low in
     let below = held.high in
     let m = magnitude (domain_at ds t.subject) in
@@ -233,16 +233,16 @@ rise-small ds f i bound h l rises high =
     let small = h.small in
     omega arith
 
-pub bound-small : (ds : Domains) (f : Form) (i : ℕ) → IsRoomy ds f → i < length f.terms → unsigned_abs (term_at f.terms i).bound < 2 ^ 62
+pub bound-small : (ds : Domains) (f : Form) (i : ℕ) → FitsTypes ds f → i < length f.terms → unsigned_abs (term_at f.terms i).bound < 2 ^ 62
 bound-small ds f i h l =
-    let held = all-at (IsHeld ds) f.terms i l h.terms in
+    let held = all-at (IsHeldInDomain ds) f.terms i l h.terms in
     let small = held.small in
     let size = between (least_of (domain_at ds (term_at f.terms i).subject)) (term_at f.terms i).bound (greatest_of (domain_at ds (term_at f.terms i).subject)) held.low held.high in
     omega arith
 
-pub new_bound-small : (ds : Domains) (f : Form) (i : ℕ) (bound : ℤ) → IsRoomy ds f → i < length f.terms → (term_at f.terms i).bound ≤ℤ bound → bound ≤ℤ greatest_of (domain_at ds (term_at f.terms i).subject) → unsigned_abs bound < 2 ^ 62
+pub new_bound-small : (ds : Domains) (f : Form) (i : ℕ) (bound : ℤ) → FitsTypes ds f → i < length f.terms → (term_at f.terms i).bound ≤ℤ bound → bound ≤ℤ greatest_of (domain_at ds (term_at f.terms i).subject) → unsigned_abs bound < 2 ^ 62
 new_bound-small ds f i bound h l rises high =
-    let held = all-at (IsHeld ds) f.terms i l h.terms in
+    let held = all-at (IsHeldInDomain ds) f.terms i l h.terms in
     let small = held.small in
     let low = held.low in
     let size = between (least_of (domain_at ds (term_at f.terms i).subject)) bound (greatest_of (domain_at ds (term_at f.terms i).subject)) (omega (arith, ints)) high in
@@ -251,14 +251,14 @@ new_bound-small ds f i bound h l rises high =
 pub above-lifted : (xs : List ℤ) (f : Form) (i : ℕ) (bound : ℤ) → IsAbove xs f.terms → bound ≤ℤ value_at xs (term_at f.terms i).subject → IsAbove xs (lifted f i bound).terms
 above-lifted xs f i bound h v = all-set (λ (u : Held). u.bound ≤ℤ value_at xs u.subject) f.terms i (record (term_at f.terms i) { bound = bound; in_core = false }) h v
 
-pub roomy-lifted : (ds : Domains) (f : Form) (i : ℕ) (bound : ℤ) → IsRoomy ds f → i < length f.terms → (term_at f.terms i).bound ≤ℤ bound → bound ≤ℤ greatest_of (domain_at ds (term_at f.terms i).subject) → IsRoomy ds (lifted f i bound)
+pub roomy-lifted : (ds : Domains) (f : Form) (i : ℕ) (bound : ℤ) → FitsTypes ds f → i < length f.terms → (term_at f.terms i).bound ≤ℤ bound → bound ≤ℤ greatest_of (domain_at ds (term_at f.terms i).subject) → FitsTypes ds (lifted f i bound)
 roomy-lifted ds f i bound h l rises high =
-    let held = all-at (IsHeld ds) f.terms i l h.terms in
+    let held = all-at (IsHeldInDomain ds) f.terms i l h.terms in
     let e = reach-lifted ds f.terms i bound l in
     let small = h.small in
     let low = held.low in
     record {
-      terms = all-set (IsHeld ds) f.terms i (record (term_at f.terms i) { bound = bound; in_core = false }) h.terms (record { subject = held.subject; low = omega (arith, ints); high = high; small = held.small });
+      terms = all-set (IsHeldInDomain ds) f.terms i (record (term_at f.terms i) { bound = bound; in_core = false }) h.terms (record { subject = held.subject; low = omega (arith, ints); high = high; small = held.small });
       small = omega arith;
     }
 
@@ -278,7 +278,7 @@ none-split ds xs f subject limit p h s e g = elim p as (λ q. limit <ℤ form_va
   | inr b ↦ (let m = least_weight f.terms in past limit (f.base +ℤ pos m) (excess xs (split f m subject).terms) (form_value xs f) b (excess-above xs (split f m subject).terms (above-split xs f m subject h s e)) (worth-split xs f m subject (weigh-least f.terms) e))
 ]
 
-pub core-small : (ds : Domains) (f : Form) → IsRoomy ds f → WeighAtLeast 1 f.terms → core_size f.terms < 2 ^ 62
+pub core-small : (ds : Domains) (f : Form) → FitsTypes ds f → WeighAtLeast 1 f.terms → core_size f.terms < 2 ^ 62
 core-small ds f h w =
     let a = core-size ds f.terms h.terms in
     let b = reach-lessened ds 1 f.terms w in
@@ -307,13 +307,13 @@ above-held xs ds f w subject h v =
     let t : Held = record { weight = w; subject = subject; bound = least_of (domain_at ds subject); in_core = false } in
     All-append (λ (u : Held). u.bound ≤ℤ value_at xs u.subject) f.terms (t ∷ []) h (All-cons (λ (u : Held). u.bound ≤ℤ value_at xs u.subject) t [] v (All-nil (λ (u : Held). u.bound ≤ℤ value_at xs u.subject)))
 
-pub roomy-held : (ds : Domains) (f : Form) (w subject : ℕ) → IsRoomy ds f → subject < length ds → least_of (domain_at ds subject) ≤ℤ greatest_of (domain_at ds subject) → magnitude (domain_at ds subject) < 2 ^ 62
-    → held_reach ds f.terms + w * magnitude (domain_at ds subject) < 2 ^ 62 → IsRoomy ds (with_held ds f w subject)
+pub roomy-held : (ds : Domains) (f : Form) (w subject : ℕ) → FitsTypes ds f → subject < length ds → least_of (domain_at ds subject) ≤ℤ greatest_of (domain_at ds subject) → magnitude (domain_at ds subject) < 2 ^ 62
+    → held_reach ds f.terms + w * magnitude (domain_at ds subject) < 2 ^ 62 → FitsTypes ds (with_held ds f w subject)
 roomy-held ds f w subject h l order within small =
     let t : Held = record { weight = w; subject = subject; bound = least_of (domain_at ds subject); in_core = false } in
     let e = reach-push ds f.terms t in
-    let held : IsHeld ds t = record { subject = l; low = omega (arith, ints); high = order; small = within } in
-    record { terms = All-append (IsHeld ds) f.terms (t ∷ []) h.terms (All-cons (IsHeld ds) t [] held (All-nil (IsHeld ds))); small = omega arith }
+    let held : IsHeldInDomain ds t = record { subject = l; low = omega (arith, ints); high = order; small = within } in
+    record { terms = All-append (IsHeldInDomain ds) f.terms (t ∷ []) h.terms (All-cons (IsHeldInDomain ds) t [] held (All-nil (IsHeldInDomain ds))); small = omega arith }
 
 pub base-held : (ds : Domains) (f : Form) (w subject : ℕ) → unsigned_abs f.base ≤ held_reach ds f.terms → unsigned_abs (with_held ds f w subject).base ≤ held_reach ds (with_held ds f w subject).terms
 base-held ds f w subject h =

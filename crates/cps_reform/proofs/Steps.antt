@@ -19,9 +19,9 @@ use Rattle.cps_instance.specs.Terms.{AreIntervals, domain_at, greatest_of, terms
 use Rattle.cps_instance.specs.Sums.{extended}
 use Rattle.cps_instance.proofs.Intervals.{greatest_of-greatest}
 use Rattle.cps_instance.proofs.Solving.{extended_within}
-use Rattle.cps_reform.specs.Forms.{Form, form_value, IsAbove, IsHeld, IsRoomy, term_at, lifted}
+use Rattle.cps_reform.specs.Forms.{Form, form_value, IsAbove, IsHeldInDomain, FitsTypes, term_at, lifted}
 use Rattle.cps_reform.specs.Cores.{core_terms, least_weight, IsSomeAbove, split}
-use Rattle.cps_reform.specs.Floors.{IsReform, OfEachBelow, IsGreatest, IsCoreSum, NoneIsBelow}
+use Rattle.cps_reform.specs.Floors.{IsReform, OfEachBelow, IsGreatestObjective, IsCoreSum, NoneIsBelow}
 use Rattle.cps_reform.proofs.Rooms.{excess-above, no_less, all-at}
 use Rattle.cps_reform.proofs.Floors.{Reformulates-same, base-bounds, none-below}
 
@@ -45,7 +45,7 @@ pub reform-bounds : (p : Problem) (z : Bound) (f : Form) → IsReform p z f → 
 reform-bounds p z f h b = base-bounds p z f (assigned p) h.is h.floor (below-le f.base z b)
 
 -- where a form's worth passes a limit at each solution below z, and none of these is past it, there is none
-pub reform-none : (p : Problem) (z : Bound) (f : Form) (limit greatest : ℤ) → IsReform p z f → IsGreatest p.model greatest → ((v : ℤ) → IsBelow v z → v ≤ℤ greatest → v ≤ℤ limit) → OfEachBelow p z (λ xs. limit <ℤ form_value xs f) → NoneIsBelow p z
+pub reform-none : (p : Problem) (z : Bound) (f : Form) (limit greatest : ℤ) → IsReform p z f → IsGreatestObjective p.model greatest → ((v : ℤ) → IsBelow v z → v ≤ℤ greatest → v ≤ℤ limit) → OfEachBelow p z (λ xs. limit <ℤ form_value xs f) → NoneIsBelow p z
 reform-none p z f limit greatest h most all past = none-below p z f limit (assigned p) h.is (λ a s b. all (objective_value p.model a) b (most a s)) past
 
 pub below-less : (v l : ℤ) (z : Bound) → v ≤ℤ l → IsBelow l z → IsBelow v z
@@ -53,11 +53,11 @@ below-less v l (At z) h b = omega (arith, ints)
 below-less v l Infinite h b = tt
 
 -- where the base itself is past the limit
-pub reform-past : (p : Problem) (z : Bound) (f : Form) (limit greatest : ℤ) → IsReform p z f → IsGreatest p.model greatest → ((v : ℤ) → IsBelow v z → v ≤ℤ greatest → v ≤ℤ limit) → limit <ℤ f.base → NoneIsBelow p z
+pub reform-past : (p : Problem) (z : Bound) (f : Form) (limit greatest : ℤ) → IsReform p z f → IsGreatestObjective p.model greatest → ((v : ℤ) → IsBelow v z → v ≤ℤ greatest → v ≤ℤ limit) → limit <ℤ f.base → NoneIsBelow p z
 reform-past p z f limit greatest h most all past =
     reform-none p z f limit greatest h most all (λ a s b. let m = excess-above (extended p.defs a) f.terms (h.floor a s b) in omega (arith, ints))
 
-pub reform-lifted : (p : Problem) (z : Bound) (f g : Form) (i : ℕ) (bound : ℤ) → IsReform p z f → IsRoomy p.domains g → ((xs : List ℤ) → form_value xs g ≡ form_value xs f)
+pub reform-lifted : (p : Problem) (z : Bound) (f g : Form) (i : ℕ) (bound : ℤ) → IsReform p z f → FitsTypes p.domains g → ((xs : List ℤ) → form_value xs g ≡ form_value xs f)
     → ((xs : List ℤ) → IsAbove xs f.terms → bound ≤ℤ value_at xs (term_at f.terms i).subject → IsAbove xs g.terms) → OfEachBelow p z (λ xs. bound ≤ℤ value_at xs (term_at f.terms i).subject) → IsReform p z g
 reform-lifted p z f g i bound h roomy worth above risen = record {
   is = Reformulates-same p f g h.is (λ a s. worth (extended p.defs a));
@@ -65,7 +65,7 @@ reform-lifted p z f g i bound h roomy worth above risen = record {
   roomy = roomy;
 }
 
-pub reform-split : (p : Problem) (z : Bound) (f g : Form) (subject : ℕ) → IsReform p z f → IsCoreSum p f.terms subject → IsRoomy p.domains g
+pub reform-split : (p : Problem) (z : Bound) (f g : Form) (subject : ℕ) → IsReform p z f → IsCoreSum p f.terms subject → FitsTypes p.domains g
     → ((xs : List ℤ) → value_at xs subject ≡ terms_value xs (core_terms f.terms) → form_value xs g ≡ form_value xs f)
     → ((xs : List ℤ) → IsAbove xs f.terms → IsSomeAbove xs f.terms → value_at xs subject ≡ terms_value xs (core_terms f.terms) → IsAbove xs g.terms) → OfEachBelow p z (λ xs. IsSomeAbove xs f.terms) → IsReform p z g
 reform-split p z f g subject h sum roomy worth above core = record {
@@ -81,8 +81,8 @@ pub base-small : (old new limit greatest : ℤ) → old ≤ℤ new → new ≤�
 base-small old new limit greatest a b c d e = grind (arith, ints)
 
 -- the subjects of terms are those of the instance
-pub roomy-subject : (p : Problem) (f : Form) (i : ℕ) → IsRoomy p.domains f → i < length f.terms → (term_at f.terms i).subject < length p.domains
-roomy-subject p f i h l = (all-at (IsHeld p.domains) f.terms i l h.terms).subject
+pub roomy-subject : (p : Problem) (f : Form) (i : ℕ) → FitsTypes p.domains f → i < length f.terms → (term_at f.terms i).subject < length p.domains
+roomy-subject p f i h l = (all-at (IsHeldInDomain p.domains) f.terms i l h.terms).subject
 
 -- the base after a core was split, or was not
 pub split_base : (f g : Form) (subject : ℕ) (limit greatest : ℤ) (r : Result Bool AllocError) → (r ≡ Ok true → g ≡ split f (least_weight f.terms) subject) → (r ≡ Ok false → g ≡ f) → OnErr r (g ≡ f)

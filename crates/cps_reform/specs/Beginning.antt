@@ -7,11 +7,11 @@ use Rattle.cps_instance.specs.Problem.{Problem, IsAssignment}
 use Rattle.cps_instance.specs.Sums.{extended}
 use Rattle.cps_instance.specs.Terms.{domain_at, least_of, magnitude, terms_value}
 use Rattle.cps_reform.specs.declared.held.Held.{Held}
-use Rattle.cps_reform.specs.Forms.{Form, IsRoomy, form_value}
+use Rattle.cps_reform.specs.Forms.{Form, FitsTypes, form_value}
 
 -- a subject stands for a term: the coefficient's magnitude times its value is what the term is worth at each
 -- assignment, and it goes as far as the term's subject
-pub record Holds (p : Problem) (t : Term) (subject : ℕ) : Type 0 where
+pub record StandsForTerm (p : Problem) (t : Term) (subject : ℕ) : Type 0 where
   pub within : subject < length p.domains
   pub value : (a : List ℤ) → IsAssignment p.model a
       → pos (unsigned_abs t.coeff) *ℤ value_at (extended p.defs a) subject
@@ -20,7 +20,7 @@ pub record Holds (p : Problem) (t : Term) (subject : ℕ) : Type 0 where
 
 -- a term of a sum is held at its least value
 pub record IsHeldFirst (p : Problem) (t : Term) (h : Held) : Type 0 where
-  pub holds : Holds p t h.subject
+  pub holds : StandsForTerm p t h.subject
   pub weight : h.weight ≡ unsigned_abs t.coeff
   pub bound : h.bound ≡ least_of (domain_at p.domains h.subject)
   pub unmarked : h.in_core ≡ false
@@ -31,4 +31,4 @@ pub record IsFirstForm (p : Problem) (ts : List Term) (f : Form) : Type 0 where
   pub terms : AllZip (IsHeldFirst p) ts f.terms
   pub worth : (a : List ℤ) → IsAssignment p.model a
       → form_value (extended p.defs a) f ≡ terms_value (extended p.defs a) ts
-  pub roomy : IsRoomy p.domains f
+  pub roomy : FitsTypes p.domains f

@@ -11,24 +11,24 @@ use Rattle.cps_instance.specs.Terms.{Domains, domain_at, greatest_of, terms_valu
 use Rattle.cps_instance.specs.Sums.{extended, least_sum_of, greatest_sum_of}
 use Rattle.cps_reform.specs.declared.held.Held.{Held}
 use Rattle.cps_reform.specs.Cores.{core_terms, core_sum}
-use Rattle.cps_reform.specs.Forms.{Form, IsAbove, IsRoomy, Reformulates, term_at}
+use Rattle.cps_reform.specs.Forms.{Form, IsAbove, FitsTypes, Reformulates, term_at}
 
 -- a fact of the values of each solution below a bound, the defined sums' after them
 abbrev pub OfEachBelow : Problem → Bound → (List ℤ → Type 0) → Type 0
 OfEachBelow p z P = (a : List ℤ) → IsSolution p.model a → IsBelow (objective_value p.model a) z → P (extended p.defs a)
 
 -- a solution below a bound has no value below a term's bound
-abbrev pub IsFloor : Problem → Bound → Form → Type 0
-IsFloor p z f = OfEachBelow p z (λ xs. IsAbove xs f.terms)
+abbrev pub HasFloors : Problem → Bound → Form → Type 0
+HasFloors p z f = OfEachBelow p z (λ xs. IsAbove xs f.terms)
 
 -- what a core-guided worker keeps of its form
 pub record IsReform (p : Problem) (z : Bound) (f : Form) : Type 0 where
   pub is : Reformulates p f
-  pub floor : IsFloor p z f
-  pub roomy : IsRoomy p.domains f
+  pub floor : HasFloors p z f
+  pub roomy : FitsTypes p.domains f
 
-abbrev pub IsGreatest : CpModel → ℤ → Type 0
-IsGreatest m greatest = (a : List ℤ) → IsSolution m a → objective_value m a ≤ℤ greatest
+abbrev pub IsGreatestObjective : CpModel → ℤ → Type 0
+IsGreatestObjective m greatest = (a : List ℤ) → IsSolution m a → objective_value m a ≤ℤ greatest
 
 -- A subject that is the sum of a form's core: it has the core's value at each assignment, and its domain runs from the
 -- core's least to the core's greatest value.
@@ -45,8 +45,8 @@ NoneIsBelow p z = OfEachBelow p z (λ xs. ⊥)
 
 -- a form that no solution below z can have: its base is at least z or above the greatest objective by the domains, or a
 -- bound is above its subject's greatest value
-pub data IsPast (z : Bound) (greatest : ℤ) (ds : Domains) (f : Form) : Type 0 where
-  past_z : BoundLe z (At f.base) → IsPast z greatest ds f
-  past_greatest : greatest <ℤ f.base → IsPast z greatest ds f
+pub data IsFormPast (z : Bound) (greatest : ℤ) (ds : Domains) (f : Form) : Type 0 where
+  past_z : BoundLe z (At f.base) → IsFormPast z greatest ds f
+  past_greatest : greatest <ℤ f.base → IsFormPast z greatest ds f
   past_domain : (i : ℕ) → i < length f.terms
-      → greatest_of (domain_at ds (term_at f.terms i).subject) <ℤ (term_at f.terms i).bound → IsPast z greatest ds f
+      → greatest_of (domain_at ds (term_at f.terms i).subject) <ℤ (term_at f.terms i).bound → IsFormPast z greatest ds f

@@ -34,15 +34,15 @@ held_reach ds [] = 0
 held_reach ds (t ∷ ts) = t.weight * magnitude (domain_at ds t.subject) + held_reach ds ts
 
 -- a bound between the ends of its subject's domain
-pub record IsHeld (ds : Domains) (t : Held) : Type 0 where
+pub record IsHeldInDomain (ds : Domains) (t : Held) : Type 0 where
   pub subject : t.subject < length ds
   pub low : least_of (domain_at ds t.subject) ≤ℤ t.bound
   pub high : t.bound ≤ℤ greatest_of (domain_at ds t.subject)
   pub small : magnitude (domain_at ds t.subject) < 2 ^ 62
 
 -- a form in which nothing leaves its type
-pub record IsRoomy (ds : Domains) (f : Form) : Type 0 where
-  pub terms : All (IsHeld ds) f.terms
+pub record FitsTypes (ds : Domains) (f : Form) : Type 0 where
+  pub terms : All (IsHeldInDomain ds) f.terms
   pub small : held_reach ds f.terms < 2 ^ 62
 
 abbrev pub no_term : Held

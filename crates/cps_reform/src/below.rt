@@ -7,7 +7,7 @@ ghost use Rattle.cps_port.specs.Incumbents.{IsLowerBound};
 ghost use Rattle.cps_model.specs.declared.bound.Bound.{Bound};
 ghost use Rattle.cps_reform.specs.Forms.{term_at, lifted};
 ghost use Rattle.cps_reform.specs.Cores.{least_weight, WeighAtLeast, IsSomeAbove, split};
-ghost use Rattle.cps_reform.specs.Floors.{IsReform, OfEachBelow, IsGreatest, IsCoreSum, IsPast, NoneIsBelow};
+ghost use Rattle.cps_reform.specs.Floors.{IsReform, OfEachBelow, IsGreatestObjective, IsCoreSum, IsFormPast, NoneIsBelow};
 
 use crate::reform::Reform;
 use cps_instance::Instance;
@@ -52,16 +52,16 @@ impl Reform {
         requires risen { OfEachBelow instance.now ceiling.z
             (λ xs. bound ≤ℤ value_at xs (term_at self.old.terms place).subject) }
         requires z { IsSmallBound ceiling.z }
-        requires greatest { IsGreatest instance.now.model ceiling.greatest }
+        requires greatest { IsGreatestObjective instance.now.model ceiling.greatest }
         requires small { unsigned_abs ceiling.greatest < 2 ^ 62 }
         requires base { unsigned_abs self.old.base < 2 ^ 62 }
         ensures reform { IsReform instance.now ceiling.z self.new }
         ensures base { unsigned_abs self.new.base < 2 ^ 62 }
         ensures lifts { result ≡ true → self.new ≡ lifted self.old place bound }
         ensures below { result ≡ true → IsBelow self.new.base ceiling.z }
-        ensures not_past { result ≡ true → IsPast ceiling.z ceiling.greatest instance.now.domains self.new → ⊥ }
+        ensures not_past { result ≡ true → IsFormPast ceiling.z ceiling.greatest instance.now.domains self.new → ⊥ }
         ensures bounds { result ≡ true → IsLowerBound instance.now.model (Bound.At self.new.base) }
-        ensures past { result ≡ false → IsPast ceiling.z ceiling.greatest instance.now.domains (lifted self.old place bound) }
+        ensures past { result ≡ false → IsFormPast ceiling.z ceiling.greatest instance.now.domains (lifted self.old place bound) }
         ensures stays { result ≡ false → self.new ≡ self.old }
         ensures none { result ≡ false → NoneIsBelow instance.now ceiling.z }
     {
@@ -86,16 +86,16 @@ impl Reform {
         requires sum { IsCoreSum instance.now self.old.terms subject }
         requires core { OfEachBelow instance.now ceiling.z (λ xs. IsSomeAbove xs self.old.terms) }
         requires z { IsSmallBound ceiling.z }
-        requires greatest { IsGreatest instance.now.model ceiling.greatest }
+        requires greatest { IsGreatestObjective instance.now.model ceiling.greatest }
         requires small { unsigned_abs ceiling.greatest < 2 ^ 62 }
         requires base { unsigned_abs self.old.base < 2 ^ 62 }
         ensures reform { IsReform instance.now ceiling.z self.new }
         ensures base { unsigned_abs self.new.base < 2 ^ 62 }
         ensures splits { result ≡ Ok true → self.new ≡ split self.old (least_weight self.old.terms) subject }
         ensures below { result ≡ Ok true → IsBelow self.new.base ceiling.z }
-        ensures not_past { result ≡ Ok true → IsPast ceiling.z ceiling.greatest instance.now.domains self.new → ⊥ }
+        ensures not_past { result ≡ Ok true → IsFormPast ceiling.z ceiling.greatest instance.now.domains self.new → ⊥ }
         ensures bounds { result ≡ Ok true → IsLowerBound instance.now.model (Bound.At self.new.base) }
-        ensures past { result ≡ Ok false → IsPast ceiling.z ceiling.greatest instance.now.domains (split self.old (least_weight
+        ensures past { result ≡ Ok false → IsFormPast ceiling.z ceiling.greatest instance.now.domains (split self.old (least_weight
             self.old.terms) subject) }
         ensures stays { result ≡ Ok false → self.new ≡ self.old }
         ensures err { OnErr result (self.new ≡ self.old) }

@@ -10,8 +10,8 @@ ghost use Rattle.cps_domain.specs.Window.{intervals};
 ghost use Rattle.cps_literal.specs.Truth.{value_at};
 ghost use Rattle.cps_instance.specs.Terms.{domain_at, least_of, greatest_of, magnitude, terms_value};
 ghost use Rattle.cps_instance.specs.Sums.{least_sum_of, greatest_sum_of};
-ghost use Rattle.cps_reform.specs.Marks.{IsMarked};
-ghost use Rattle.cps_reform.specs.Forms.{form_value, held_reach, with_held, IsAbove, IsRoomy, term_at, lifted, Lifts, IsPastLift};
+ghost use Rattle.cps_reform.specs.Marks.{IsCoreMarked};
+ghost use Rattle.cps_reform.specs.Forms.{form_value, held_reach, with_held, IsAbove, FitsTypes, term_at, lifted, Lifts, IsPastLift};
 ghost use Rattle.cps_reform.specs.Cores.{core_terms, core_sum, core_bound, core_size, least_weight, WeighAtLeast, IsSomeAbove, lessened, sum_held, split, Splits, IsPastSplit};
 
 use crate::held::Held;
@@ -238,7 +238,7 @@ impl Reform {
     /// Adds a weight times a subject, held at its least value.
     pub fn hold(&mut self, domains: &[Domain], weight: u64, subject: u32) -> Result<(), AllocError>
         requires subject { subject < length domains.now }
-        requires roomy { IsRoomy (map intervals domains.now) self.old }
+        requires roomy { FitsTypes (map intervals domains.now) self.old }
         requires ordered { least_of (domain_at (map intervals domains.now) subject) ≤ℤ greatest_of (domain_at (map
             intervals domains.now) subject) }
         requires within { magnitude (domain_at (map intervals domains.now) subject) < 2 ^ 62 }
@@ -247,7 +247,7 @@ impl Reform {
         requires base { unsigned_abs self.old.base ≤ held_reach (map intervals domains.now) self.old.terms }
         ensures holds { OnOk result (self.new ≡ with_held (map intervals domains.now) self.old weight subject) }
         ensures err { OnErr result (self.new ≡ self.old) }
-        ensures roomy { IsRoomy (map intervals domains.now) self.new }
+        ensures roomy { FitsTypes (map intervals domains.now) self.new }
         ensures base { unsigned_abs self.new.base ≤ held_reach (map intervals domains.now) self.new.terms }
         ensures worth { OnOk result ((xs : List ℤ) → form_value xs self.new ≡ form_value xs self.old +ℤ pos weight *ℤ
             value_at xs subject) }
@@ -288,7 +288,7 @@ impl Reform {
     /// the bound its subject's greatest value, it answers false and nothing changes: then no values that have all this
     /// have an objective within the limit.
     pub fn lift(&mut self, domains: &[Domain], place: usize, bound: i64, limit: i64) -> bool
-        requires roomy { IsRoomy (map intervals domains.now) self.old }
+        requires roomy { FitsTypes (map intervals domains.now) self.old }
         requires place { place < length self.old.terms }
         requires rises { (term_at self.old.terms place).bound ≤ℤ bound }
         requires order { self.old.base ≤ℤ limit }
@@ -297,7 +297,7 @@ impl Reform {
         ensures lifts { result ≡ true → self.new ≡ lifted self.old place bound }
         ensures within { result ≡ true → self.new.base ≤ℤ limit }
         ensures stays { result ≡ false → self.new ≡ self.old }
-        ensures roomy { IsRoomy (map intervals domains.now) self.new }
+        ensures roomy { FitsTypes (map intervals domains.now) self.new }
         ensures worth { (xs : List ℤ) → form_value xs self.new ≡ form_value xs self.old }
         ensures above { (xs : List ℤ) → IsAbove xs self.old.terms → bound ≤ℤ value_at xs (term_at self.old.terms
             place).subject → IsAbove xs self.new.terms }
@@ -318,7 +318,7 @@ impl Reform {
     /// By how much the base rises with the bound of one term; `None` if it would pass the limit, or the bound its
     /// subject's greatest value.
     fn lift_by(&self, domains: &[Domain], place: usize, bound: i64, limit: i64) -> Option<u64>
-        requires roomy { IsRoomy (map intervals domains.now) self.now }
+        requires roomy { FitsTypes (map intervals domains.now) self.now }
         requires place { place < length self.now.terms }
         requires rises { (term_at self.now.terms place).bound ≤ℤ bound }
         requires order { self.now.base ≤ℤ limit }
@@ -363,7 +363,7 @@ impl Reform {
     /// Marks the core of a failed term: it, and each term that weighs something and whose assumption is among the
     /// decisions. Other marks go.
     pub fn mark_core(&mut self, place: usize, decisions: &[Atom])
-        ensures { IsMarked self.old self.new place decisions.now }
+        ensures { IsCoreMarked self.old self.new place decisions.now }
     {
         mark_terms(self.terms.as_mut_slice(), place, decisions);
     }
@@ -389,7 +389,7 @@ impl Reform {
         subject: u32,
         limit: i64,
     ) -> Result<bool, AllocError>
-        requires roomy { IsRoomy (map intervals domains.now) self.old }
+        requires roomy { FitsTypes (map intervals domains.now) self.old }
         requires weights { WeighAtLeast 1 self.old.terms }
         requires subject { subject < length domains.now }
         requires sum { domain_at (map intervals domains.now) subject ≡ (
@@ -404,7 +404,7 @@ impl Reform {
         ensures within { result ≡ Ok true → self.new.base ≤ℤ limit }
         ensures stays { result ≡ Ok false → self.new ≡ self.old }
         ensures err { OnErr result (self.new ≡ self.old) }
-        ensures roomy { IsRoomy (map intervals domains.now) self.new }
+        ensures roomy { FitsTypes (map intervals domains.now) self.new }
         ensures worth { (xs : List ℤ) → value_at xs subject ≡ terms_value xs (core_terms self.old.terms) → form_value xs
             self.new ≡ form_value xs self.old }
         ensures above { (xs : List ℤ) → IsAbove xs self.old.terms → IsSomeAbove xs self.old.terms → value_at xs subject

@@ -23,6 +23,6 @@ Denied None xs = Unit {0}
 Denied (Some u) xs = atom_holds xs u ≡ false
 
 -- facts beside which the body does not hold where the atom is false
-pub record Gives (b : Body) (s : Trail) (goal : Option Atom) (us : List Atom) : Type 0 where
+pub record GivesGoal (b : Body) (s : Trail) (goal : Option Atom) (us : List Atom) : Type 0 where
   pub facts : AreFacts s us
   pub excludes : (xs : List ℤ) → IsWithin s.first xs → AllTrueAt xs us → HoldsBody b xs → Denied goal xs → ⊥

@@ -9,12 +9,12 @@ use Rattle.cps_trail.specs.Views.{IsView, IsTaskNote}
 use Rattle.cps_trail.specs.Adds.{Grounds, Infers}
 use Rattle.cps_trail.specs.Notes.{AllFit, HasNote, IsGivenAt}
 use Rattle.cps_trail.proofs.Giving.{IsGivenAt-added, IsGivenAt-kept}
-use Rattle.cps_rule_tests.specs.Noted.{HasNoNotes}
+use Rattle.cps_rule_tests.specs.Noted.{HasNoRuleNotes}
 
-pub none_noted : (s : Trail) → s.entries ≡ [] → HasNoNotes s
+pub none_noted : (s : Trail) → s.entries ≡ [] → HasNoRuleNotes s
 none_noted s none k l has = omega (arith, l, ap (λ (es : List Entry). length es) none)
 
-pub none_fit : (fits : Trail → ℕ → Type 0) (s : Trail) → HasNoNotes s → AllFit fits s
+pub none_fit : (fits : Trail → ℕ → Type 0) (s : Trail) → HasNoRuleNotes s → AllFit fits s
 none_fit fits s none k l has = absurd (none k l has)
 
 old_or_new : (k n : ℕ) → (k < n) ⊎ (n ≤ k)
@@ -41,7 +41,7 @@ decided_last s t e k es decision low high has =
     let is : get_or t.entries k e ≡ e = ap (λ (fs : List Entry). get_or fs k e) es ∙ ap (λ (n : ℕ). get_or (s.entries ++ e ∷ []) n e) at ∙ last_entry s.entries e e in
     decision_is_no_note has.note (sym decision ∙ ap (λ (f : Entry). f.reason) (sym is) ∙ has.is e)
 
-pub decided_noted : (s t : Trail) (e : Entry) → t.entries ≡ s.entries ++ e ∷ [] → e.reason ≡ Decision → HasNoNotes s → HasNoNotes t
+pub decided_noted : (s t : Trail) (e : Entry) → t.entries ≡ s.entries ++ e ∷ [] → e.reason ≡ Decision → HasNoRuleNotes s → HasNoRuleNotes t
 decided_noted s t e es decision none k l has = elim (old_or_new k (length s.entries)) [
   | inl old ↦ none k old (noted_before s t (e ∷ []) k es old has)
   | inr new ↦ decided_last s t e k es decision new l has

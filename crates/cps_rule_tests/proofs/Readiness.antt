@@ -11,9 +11,9 @@ use Rattle.cps_instance.specs.Fitting.{IsLiteral, IsNeverNegative, IsFitting, Is
 use Rattle.cps_domain.specs.Window.{is_among}
 use Rattle.cps_domain.proofs.Tests.{both}
 use Rattle.cps_trail.specs.Trail.{Trail, Entry, admits}
-use Rattle.cps_rule_tests.specs.Ready.{IsPlain, IsReady}
+use Rattle.cps_rule_tests.specs.Ready.{IsPlainTask, IsTaskReady}
 
-pub ready_fits : (first : Domains) (t : Task) → All AreIntervals first → IsReady first t → All (λ i. i < length first) (subjects_of t) → IsFitting first t
+pub ready_fits : (first : Domains) (t : Task) → All AreIntervals first → IsTaskReady first t → All (λ i. i < length first) (subjects_of t) → IsFitting first t
 ready_fits first t sound h within = record {
   subjects = within;
   sound = λ j d l. sound (get_or (subjects_of t) j d) [] (within j d l);
@@ -22,12 +22,12 @@ ready_fits first t sound h within = record {
 }
 
 -- a propagator of a plain task is one of a plain task
-pub plain_by : (t u : Task) → t ≡ u → u.enforcement ≡ [] → ((first : Domains) → IsFittingBody first u.body) → IsPlain t
-plain_by t u e none fits = subst (λ (v : Task). IsPlain v) (sym e) (record { enforcement = none; body = fits })
+pub plain_by : (t u : Task) → t ≡ u → u.enforcement ≡ [] → ((first : Domains) → IsFittingBody first u.body) → IsPlainTask t
+plain_by t u e none fits = subst (λ (v : Task). IsPlainTask v) (sym e) (record { enforcement = none; body = fits })
 
 -- and one of a task that fits these domains
-pub ready_by : (first : Domains) (t u : Task) → t ≡ u → u.enforcement ≡ [] → IsFittingBody first u.body → IsReady first t
-ready_by first t u e none fits = subst (λ (v : Task). IsReady first v) (sym e) (record { enforcement = none; body = fits })
+pub ready_by : (first : Domains) (t u : Task) → t ≡ u → u.enforcement ≡ [] → IsFittingBody first u.body → IsTaskReady first t
+ready_by first t u e none fits = subst (λ (v : Task). IsTaskReady first v) (sym e) (record { enforcement = none; body = fits })
 
 -- what is among the first values is open where nothing was done yet
 admits_first : (s : Trail) (i : ℕ) (x : ℤ) → s.entries ≡ [] → is_among (domain_at s.first i) x ≡ true → admits s.first s.entries i x ≡ true

@@ -5,9 +5,9 @@ use Rattle.cps_instance.specs.Tasks.{HoldsTask}
 use Rattle.cps_trail.specs.Trail.{Trail}
 use Rattle.cps_trail.specs.Notes.{AllFit, ByTask, HasNote, IsGivenAt}
 
-abbrev pub HasNoNotes : Trail → Type 0
-HasNoNotes s = (k : ℕ) → k < length s.entries → HasNote s k → ⊥
+abbrev pub HasNoRuleNotes : Trail → Type 0
+HasNoRuleNotes s = (k : ℕ) → k < length s.entries → HasNote s k → ⊥
 
 -- each note of the store is that of a task with this number, which gives the entry's atom
-abbrev pub AreNotesOf : ℕ → Task → Trail → Type 0
-AreNotesOf number task s = AllFit (IsGivenAt (ByTask number (HoldsTask task))) s
+abbrev pub AreNotesOfRule : ℕ → Task → Trail → Type 0
+AreNotesOfRule number task s = AllFit (IsGivenAt (ByTask number (HoldsTask task))) s

@@ -6,16 +6,16 @@ use Rattle.cps_instance.specs.Fitting.{IsFittingBody}
 use Rattle.cps_trail.specs.Trail.{Trail}
 
 -- a store of domains, on which nothing was done yet
-pub record IsFresh (s : Trail) : Type 0 where
+pub record IsFreshStore (s : Trail) : Type 0 where
   pub none : s.entries ≡ []
   pub sound : All AreIntervals s.first
 
 -- a task that is in force whatever else holds, and fits whatever the domains
-pub record IsPlain (t : Task) : Type 0 where
+pub record IsPlainTask (t : Task) : Type 0 where
   pub enforcement : t.enforcement ≡ []
   pub body : (first : Domains) → IsFittingBody first t.body
 
 -- a task that is in force whatever else holds, and fits the domains, if they are those of its subjects
-pub record IsReady (first : Domains) (t : Task) : Type 0 where
+pub record IsTaskReady (first : Domains) (t : Task) : Type 0 where
   pub enforcement : t.enforcement ≡ []
   pub body : IsFittingBody first t.body

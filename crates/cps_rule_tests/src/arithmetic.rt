@@ -8,7 +8,7 @@ ghost use Rattle.std.specs.Prelude.{IfOk, IsTrue};
 ghost use Rattle.cps_instance.specs.Terms.{Domains};
 ghost use Rattle.cps_instance.specs.Fitting.{IsFittingBody};
 ghost use Rattle.cps_p_arith.specs.Demands.{is_arithmetic};
-ghost use Rattle.cps_rule_tests.specs.Ready.{IsPlain};
+ghost use Rattle.cps_rule_tests.specs.Ready.{IsPlainTask};
 
 use crate::runs::{Left, Outcome, assert_row, ends_by, leaves, refuses, trial};
 use crate::stores::{Comparison, Ends};
@@ -45,7 +45,7 @@ fn body(alloc: Global, kind: Kind) -> Result<Body, AllocError>
 
 /// The propagator of a kind.
 fn arithmetic(alloc: Global, kind: Kind) -> Result<Enforced<Arithmetic>, AllocError>
-    ensures { IfOk result (λ propagator. IsPlain propagator) }
+    ensures { IfOk result (λ propagator. IsPlainTask propagator) }
 {
     let task = Task {
         enforcement: Listed::new(alloc),

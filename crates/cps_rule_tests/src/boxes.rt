@@ -4,7 +4,7 @@
 //! them. A row's comment says how the boxes lie.
 
 ghost use Rattle.std.specs.Prelude.{IfOk};
-ghost use Rattle.cps_rule_tests.specs.Ready.{IsFresh, IsReady};
+ghost use Rattle.cps_rule_tests.specs.Ready.{IsFreshStore, IsTaskReady};
 
 use crate::runs::{Left, Outcome, assert_row, ends_by, leaves, run};
 use crate::spans::Shape::{Fixed, Optional};
@@ -27,8 +27,8 @@ fn boxes(
     store: &Store,
     second: (Shape, Shape),
 ) -> Result<Enforced<Boxes>, AllocError>
-    requires { IsFresh store.now }
-    ensures { IfOk result (λ propagator. IsReady store.now.first propagator) }
+    requires { IsFreshStore store.now }
+    ensures { IfOk result (λ propagator. IsTaskReady store.now.first propagator) }
 {
     let (along, across) = second;
     let x = spans(alloc, store, &[Fixed(0, 4), along])?;

@@ -1,7 +1,7 @@
 //! Lists of values that all differ.
 
 ghost use Rattle.std.specs.Prelude.{IfOk};
-ghost use Rattle.cps_rule_tests.specs.Ready.{IsPlain};
+ghost use Rattle.cps_rule_tests.specs.Ready.{IsPlainTask};
 
 use crate::runs::{Left, Outcome, assert_row, leaves, trial};
 use crate::stores::Ends;
@@ -21,7 +21,7 @@ struct Row {
 
 /// The propagator of three subjects that all differ.
 fn all_different(alloc: Global) -> Result<Enforced<AllDifferent>, AllocError>
-    ensures { IfOk result (λ propagator. IsPlain propagator) }
+    ensures { IfOk result (λ propagator. IsPlainTask propagator) }
 {
     let exprs = Listed::from_vec(Vec::from_slice(alloc, &[0, 1, 2])?);
     let task = Task {

@@ -7,7 +7,7 @@ ghost use Rattle.std.specs.Prelude.{IfOk, IsTrue};
 ghost use Rattle.cps_p_lookup.specs.Bodies.{is_table};
 ghost use Rattle.cps_instance.specs.Terms.{Domains};
 ghost use Rattle.cps_instance.specs.Fitting.{IsFittingBody};
-ghost use Rattle.cps_rule_tests.specs.Ready.{IsPlain};
+ghost use Rattle.cps_rule_tests.specs.Ready.{IsPlainTask};
 
 use crate::runs::{Left, Outcome, assert_row, ends_by, leaves, refuses, trial};
 use crate::stores::{Comparison, Ends};
@@ -22,7 +22,7 @@ use std::test::Fail;
 
 /// The propagator of an element: subject 0 is the index, 1 the target, and 2, 3 and 4 are the expressions.
 fn element(alloc: Global) -> Result<Enforced<Element>, AllocError>
-    ensures { IfOk result (λ propagator. IsPlain propagator) }
+    ensures { IfOk result (λ propagator. IsPlainTask propagator) }
 {
     let exprs = Listed::from_vec(Vec::from_slice(alloc, &[2, 3, 4])?);
     let task = Task {
@@ -67,7 +67,7 @@ fn table_body(alloc: Global, rows: Rows) -> Result<Body, AllocError>
 
 /// The propagator of a table over the subjects 0 and 1.
 fn table(alloc: Global, rows: Rows) -> Result<Enforced<Table>, AllocError>
-    ensures { IfOk result (λ propagator. IsPlain propagator) }
+    ensures { IfOk result (λ propagator. IsPlainTask propagator) }
 {
     let task = Task {
         enforcement: Listed::new(alloc),

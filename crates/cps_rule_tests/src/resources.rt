@@ -5,7 +5,7 @@
 
 ghost use Rattle.std.specs.Prelude.{IfOk, All};
 ghost use Rattle.cps_instance.specs.Fitting.{IsNeverNegative};
-ghost use Rattle.cps_rule_tests.specs.Ready.{IsFresh, IsReady};
+ghost use Rattle.cps_rule_tests.specs.Ready.{IsFreshStore, IsTaskReady};
 
 use crate::runs::{Left, Outcome, assert_row, leaves, refuses, run};
 use crate::spans::Shape::{Fixed, Optional, Varying};
@@ -30,7 +30,7 @@ struct Use {
 
 /// A subject; an error where it has values below 0.
 fn never_negative(store: &Store, subject: u32) -> Result<u32, AllocError>
-    requires { IsFresh store.now }
+    requires { IsFreshStore store.now }
     ensures { IfOk result (IsNeverNegative store.now.first) }
 {
     if store.len() <= subject as usize {
@@ -46,7 +46,7 @@ fn never_negative(store: &Store, subject: u32) -> Result<u32, AllocError>
 
 /// The subjects of demands.
 fn demands_of(alloc: Global, store: &Store, demands: &[u32]) -> Result<Listed<u32>, AllocError>
-    requires { IsFresh store.now }
+    requires { IsFreshStore store.now }
     ensures { IfOk result (λ subjects. All (IsNeverNegative store.now.first) subjects) }
 {
     let mut subjects = Vec::new(alloc);
@@ -59,8 +59,8 @@ fn demands_of(alloc: Global, store: &Store, demands: &[u32]) -> Result<Listed<u3
 
 /// The propagator of spans that share a capacity.
 fn cumulative(alloc: Global, store: &Store, shared: Use) -> Result<Enforced<Cumulative>, AllocError>
-    requires { IsFresh store.now }
-    ensures { IfOk result (λ propagator. IsReady store.now.first propagator) }
+    requires { IsFreshStore store.now }
+    ensures { IfOk result (λ propagator. IsTaskReady store.now.first propagator) }
 {
     let intervals = spans(alloc, store, shared.shapes)?;
     let demands = demands_of(alloc, store, shared.demands)?;

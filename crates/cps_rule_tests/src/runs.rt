@@ -7,8 +7,8 @@
 ghost use Rattle.std.specs.Prelude.{◌≡◌, ◌<◌, Some, true, IsTrue, All, OnOk, length};
 ghost use Rattle.cps_instance.specs.Tasks.{subjects_of};
 ghost use Rattle.cps_instance.specs.Fitting.{IsFitting};
-ghost use Rattle.cps_rule_tests.specs.Noted.{AreNotesOf};
-ghost use Rattle.cps_rule_tests.specs.Ready.{IsFresh, IsPlain, IsReady};
+ghost use Rattle.cps_rule_tests.specs.Noted.{AreNotesOfRule};
+ghost use Rattle.cps_rule_tests.specs.Ready.{IsFreshStore, IsPlainTask, IsTaskReady};
 
 use crate::stores::{Comparison, Ends, atom_of, decide_all, has_note, store_of};
 use cps_literal::Atom;
@@ -69,7 +69,7 @@ fn last_reason<P: Propagator>(
     store: &Store,
 ) -> Result<Vec<Atom>, AllocError>
     requires fits { IsFitting store.now.first (P.task propagator.now) }
-    requires notes { AreNotesOf 7 (P.task propagator.now) store.now }
+    requires notes { AreNotesOfRule 7 (P.task propagator.now) store.now }
 {
     let mut reason = Vec::new(alloc);
     let count = store.entries().len();
@@ -86,7 +86,7 @@ fn settle<P: Propagator>(
     store: &mut Store,
 ) -> Result<(bool, Vec<Atom>), AllocError>
     requires fits { IsFitting store.old.first (P.task propagator.old) }
-    requires notes { AreNotesOf 7 (P.task propagator.old) store.old }
+    requires notes { AreNotesOfRule 7 (P.task propagator.old) store.old }
     ensures task { P.task propagator.new ≡ P.task propagator.old }
     ensures first { OnOk result (store.new.first ≡ store.old.first) }
 {
@@ -137,8 +137,8 @@ pub fn run<P: Propagator>(
     store: &mut Store,
     decided: &[Comparison],
 ) -> Result<Option<Outcome>, AllocError>
-    requires fresh { IsFresh store.old }
-    requires ready { IsReady store.old.first (P.task propagator.old) }
+    requires fresh { IsFreshStore store.old }
+    requires ready { IsTaskReady store.old.first (P.task propagator.old) }
 {
     let is_told = has_subjects(alloc, propagator, store.len())?;
     if !is_told {
@@ -167,7 +167,7 @@ pub fn trial<P: Propagator>(
     ends: &[Ends],
     decided: &[Comparison],
 ) -> Result<Option<Outcome>, AllocError>
-    requires { IsPlain (P.task propagator.old) }
+    requires { IsPlainTask (P.task propagator.old) }
 {
     let mut store = store_of(alloc, ends)?;
     run(alloc, propagator, &mut store, decided)

@@ -4,7 +4,7 @@
 //! asks only for what pairs give. A row's comment says which spans crowd which window.
 
 ghost use Rattle.std.specs.Prelude.{IfOk};
-ghost use Rattle.cps_rule_tests.specs.Ready.{IsFresh, IsReady};
+ghost use Rattle.cps_rule_tests.specs.Ready.{IsFreshStore, IsTaskReady};
 
 use crate::runs::{Left, Outcome, assert_row, ends_by, leaves, run};
 use crate::spans::Shape::{Fixed, Optional, Varying};
@@ -26,8 +26,8 @@ fn no_overlap(
     store: &Store,
     shapes: &[Shape],
 ) -> Result<Enforced<NoOverlap>, AllocError>
-    requires { IsFresh store.now }
-    ensures { IfOk result (λ propagator. IsReady store.now.first propagator) }
+    requires { IsFreshStore store.now }
+    ensures { IfOk result (λ propagator. IsTaskReady store.now.first propagator) }
 {
     let intervals = spans(alloc, store, shapes)?;
     let task = Task {

@@ -4,7 +4,7 @@
 //! compared too, since a cut may be chosen in several ways and only one is wanted.
 
 ghost use Rattle.std.specs.Prelude.{IfOk};
-ghost use Rattle.cps_rule_tests.specs.Ready.{IsPlain};
+ghost use Rattle.cps_rule_tests.specs.Ready.{IsPlainTask};
 
 use crate::runs::{Left, Outcome, assert_row, ends_by, leaves, trial};
 use crate::stores::{Comparison, Ends};
@@ -25,7 +25,7 @@ struct Row {
 
 /// The propagator of subjects 0 to 3, whose inverse is 4 to 7.
 fn inverse(alloc: Global) -> Result<Enforced<Inverse>, AllocError>
-    ensures { IfOk result (λ propagator. IsPlain propagator) }
+    ensures { IfOk result (λ propagator. IsPlainTask propagator) }
 {
     let direct = Listed::from_vec(Vec::from_slice(alloc, &[0, 1, 2, 3])?);
     let inverse = Listed::from_vec(Vec::from_slice(alloc, &[4, 5, 6, 7])?);
@@ -166,7 +166,7 @@ fn places_that_positions_fill_are_left_to_them(rt: HostRuntime) -> Result<(), Fa
 /// The propagator of subjects 0 to 2, which are to be 1 2 1, 1 3 1 or 7 7 7: from 10 label 1 leads to 20, 2 or 3 to 30,
 /// and 1 to the final 40; label 7 leads by 50 and 60. From 20 label 9 leads to 70, and from there nothing leads on.
 fn automaton(alloc: Global) -> Result<Enforced<Automaton>, AllocError>
-    ensures { IfOk result (λ propagator. IsPlain propagator) }
+    ensures { IfOk result (λ propagator. IsPlainTask propagator) }
 {
     let tails = Listed::from_vec(Vec::from_slice(alloc, &[10, 20, 20, 30, 10, 50, 60, 20])?);
     let heads = Listed::from_vec(Vec::from_slice(alloc, &[20, 30, 30, 40, 50, 60, 40, 70])?);

@@ -2,7 +2,7 @@
 
 ghost use Rattle.std.specs.Prelude.{◌≡◌, length, IfOk, All};
 ghost use Rattle.cps_instance.specs.Fitting.{IsFittingSpan, IsLiteral};
-ghost use Rattle.cps_rule_tests.specs.Ready.{IsFresh};
+ghost use Rattle.cps_rule_tests.specs.Ready.{IsFreshStore};
 
 use cps_instance::Span;
 use cps_literal::{Atom, Op};
@@ -33,7 +33,7 @@ fn times(shape: Shape) -> (u32, u32, Option<i64>) {
 
 /// The atom that a subject is 1; an error where it has other values than 0 and 1.
 fn literal(store: &Store, subject: u32) -> Result<Atom, AllocError>
-    requires { IsFresh store.now }
+    requires { IsFreshStore store.now }
     ensures { IfOk result (IsLiteral store.now.first) }
 {
     if store.len() <= subject as usize {
@@ -54,7 +54,7 @@ fn literal(store: &Store, subject: u32) -> Result<Atom, AllocError>
 
 /// The atoms that say that a span is present; empty if it always is.
 fn presence(alloc: Global, store: &Store, shape: Shape) -> Result<Vec<Atom>, AllocError>
-    requires { IsFresh store.now }
+    requires { IsFreshStore store.now }
     ensures { IfOk result (λ atoms. All (IsLiteral store.now.first) atoms.items) }
 {
     let mut atoms = Vec::new(alloc);
@@ -67,7 +67,7 @@ fn presence(alloc: Global, store: &Store, shape: Shape) -> Result<Vec<Atom>, All
 
 /// The span of a shape; an error where its literal is a subject with other values than 0 and 1.
 fn span(alloc: Global, store: &Store, shape: Shape) -> Result<Span, AllocError>
-    requires { IsFresh store.now }
+    requires { IsFreshStore store.now }
     ensures { IfOk result (IsFittingSpan store.now.first) }
 {
     let atoms = presence(alloc, store, shape)?;
@@ -83,7 +83,7 @@ fn span(alloc: Global, store: &Store, shape: Shape) -> Result<Span, AllocError>
 
 /// The spans of shapes.
 pub fn spans(alloc: Global, store: &Store, shapes: &[Shape]) -> Result<Listed<Span>, AllocError>
-    requires { IsFresh store.now }
+    requires { IsFreshStore store.now }
     ensures fit { IfOk result (λ spans. All (IsFittingSpan store.now.first) spans) }
     ensures count { IfOk result (λ spans. length spans ≡ length shapes.now) }
 {

@@ -4,8 +4,8 @@ ghost use Rattle.std.specs.Prelude.{◌≡◌, ◌<◌, IsTrue, IfOk, OnOk, leng
 ghost use Rattle.cps_domain.specs.Window.{intervals};
 ghost use Rattle.cps_instance.specs.Terms.{AreIntervals};
 ghost use Rattle.cps_trail.specs.Notes.{HasNote};
-ghost use Rattle.cps_rule_tests.specs.Noted.{HasNoNotes};
-ghost use Rattle.cps_rule_tests.specs.Ready.{IsFresh};
+ghost use Rattle.cps_rule_tests.specs.Noted.{HasNoRuleNotes};
+ghost use Rattle.cps_rule_tests.specs.Ready.{IsFreshStore};
 
 use cps_domain::Domain;
 use cps_literal::{Atom, Op, Truth};
@@ -42,7 +42,7 @@ fn interval(alloc: Global, ends: Ends) -> Result<Domain, AllocError>
 
 /// A store of the subjects between these ends; an error where ends are no interval.
 pub fn store_of(alloc: Global, ends: &[Ends]) -> Result<Store, AllocError>
-    ensures { IfOk result IsFresh }
+    ensures { IfOk result IsFreshStore }
 {
     let mut domains = Vec::new(alloc);
     for each in ends {
@@ -59,7 +59,7 @@ pub fn store_of(alloc: Global, ends: &[Ends]) -> Result<Store, AllocError>
 /// Decides an atom where it is open.
 fn decide(store: &mut Store, atom: Atom) -> Result<(), AllocError>
     ensures first { OnOk result (store.new.first ≡ store.old.first) }
-    ensures notes { OnOk result (HasNoNotes store.old → HasNoNotes store.new) }
+    ensures notes { OnOk result (HasNoRuleNotes store.old → HasNoRuleNotes store.new) }
 {
     if store.len() <= atom.subject as usize {
         return Ok(());
@@ -76,7 +76,7 @@ fn decide(store: &mut Store, atom: Atom) -> Result<(), AllocError>
 /// Decides each comparison that is open.
 pub fn decide_all(store: &mut Store, comparisons: &[Comparison]) -> Result<(), AllocError>
     ensures first { OnOk result (store.new.first ≡ store.old.first) }
-    ensures notes { OnOk result (HasNoNotes store.old → HasNoNotes store.new) }
+    ensures notes { OnOk result (HasNoRuleNotes store.old → HasNoRuleNotes store.new) }
 {
     for comparison in comparisons {
         decide(store, atom_of(*comparison))?;

@@ -5,7 +5,7 @@ use Rattle.std.specs.List.{All}
 use Rattle.cps_literal.specs.declared.atom.Atom.{Atom}
 use Rattle.cps_literal.specs.Truth.{meets}
 use Rattle.cps_instance.specs.Posting.{atom_of}
-use Rattle.cps_trail.specs.Trail.{Domains, Trail, Entry, Decision, IsSound, IsTrueNow}
+use Rattle.cps_trail.specs.Trail.{Domains, Trail, Entry, Decision, IsSoundTrail, IsTrueNow}
 use Rattle.cps_trail.proofs.Falls.{bool_cases, not_both}
 use Rattle.cps_trail.proofs.Times.{IsTrueAfter-all}
 use Rattle.cps_conflict.specs.Conflicts.{Reasons}
@@ -70,7 +70,7 @@ pub first-none : (rs : List ℤ) (s : Trail) → s.entries ≡ [] → DecidesThe
 first-none rs s none = record { each = λ k d l is. absurd (omega (arith, l, ap (λ (es : List Entry). length es) none)) }
 
 -- at level 0 nothing is decided
-pub first-bottom : (rs : List ℤ) (s : Trail) (first : Domains) → IsSound s → s.level ≡ 0 → DecidesThemFirst rs (record s { first = first })
+pub first-bottom : (rs : List ℤ) (s : Trail) (first : Domains) → IsSoundTrail s → s.level ≡ 0 → DecidesThemFirst rs (record s { first = first })
 first-bottom rs s first sound bottom = record {
   each = λ k d l is.
       let begins = sound.decisions k d l is in
@@ -130,14 +130,14 @@ first-decided rs s t h new = record {
     front_of (e ∷ es) fs = ap (λ (gs : List Entry). e ∷ gs) (front_of es fs)
 
 -- where one fails, only assumptions were decided
-pub only_assumed : (rs : List ℤ) (s : Trail) (failed : ℕ) → All (λ r. (atom_of r).subject < length s.first) rs → IsSound s → DecidesThemFirst rs s → IsFailedAssumption rs s failed → (k : ℕ) (d : Entry) → k < length s.entries → (get_or s.entries k d).reason ≡ Decision → IsAssumed rs (get_or s.entries k d).atom
+pub only_assumed : (rs : List ℤ) (s : Trail) (failed : ℕ) → All (λ r. (atom_of r).subject < length s.first) rs → IsSoundTrail s → DecidesThemFirst rs s → IsFailedAssumption rs s failed → (k : ℕ) (d : Entry) → k < length s.entries → (get_or s.entries k d).reason ≡ Decision → IsAssumed rs (get_or s.entries k d).atom
 only_assumed rs s failed subjects sound h fails k d l is = elim (h.each k d l is) [
   | inl a ↦ a
   | inr all ↦ absurd (not_both s (assumption_at rs failed) (subjects failed (pos 0) fails.within) sound (IsTrueAfter-all s.first s.entries k (assumption_at rs failed) (all failed fails.within)) fails.false_now)
 ]
 
 -- and so only they are behind it
-pub behind_assumed : (makes : Reasons) (rs : List ℤ) (s : Trail) (failed : ℕ) (t : Atom) (decisions : List Atom) → All (λ r. (atom_of r).subject < length s.first) rs → IsSound s → DecidesThemFirst rs s → IsFailedAssumption rs s failed → All (IsDecisionBehind makes s t) decisions → All (IsAssumed rs) decisions
+pub behind_assumed : (makes : Reasons) (rs : List ℤ) (s : Trail) (failed : ℕ) (t : Atom) (decisions : List Atom) → All (λ r. (atom_of r).subject < length s.first) rs → IsSoundTrail s → DecidesThemFirst rs s → IsFailedAssumption rs s failed → All (IsDecisionBehind makes s t) decisions → All (IsAssumed rs) decisions
 behind_assumed makes rs s failed t decisions subjects sound h fails all k u l =
     let here = all k u l in
     let d : Entry = record { atom = u; level = 0; reason = Decision } in

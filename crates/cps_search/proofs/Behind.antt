@@ -5,7 +5,7 @@ use Rattle.cps_model.specs.Solutions.{objective_value, IsFree}
 use Rattle.cps_literal.specs.declared.atom.Atom.{Atom}
 use Rattle.cps_literal.specs.Truth.{atom_holds}
 use Rattle.cps_instance.specs.Sums.{extended}
-use Rattle.cps_trail.specs.Trail.{Entry, IsSound, EndsAt, IsFalseAfter, up_to}
+use Rattle.cps_trail.specs.Trail.{Entry, IsSoundTrail, EndsAt, IsFalseAfter, up_to}
 use Rattle.cps_trail.proofs.Falls.{bool_cases}
 use Rattle.cps_trail.proofs.Marks.{up_to-all}
 use Rattle.cps_port.specs.Order.{IsBelow}
@@ -37,7 +37,7 @@ behind_in s t decisions h behind = record {
 }
 
 -- and what is false at level 0 is false there
-pub false_below : (s : Search) → IsSoundSearch s → IsSound s.store → s.store.level ≡ 0 → IsFalseBelow s
+pub false_below : (s : Search) → IsSoundSearch s → IsSoundTrail s.store → s.store.level ≡ 0 → IsFalseBelow s
 false_below s h sound bottom t known off a free below = elim (bool_cases (atom_holds (extended s.instance.defs a) t)) [
   | inr out ↦ out
   | inl on ↦ absurd (

@@ -4,7 +4,7 @@ use Rattle.std.proofs.Common.{◌<◌, List, [], length, inl, inr, refl, sym, su
 use Rattle.cps_literal.specs.declared.atom.Atom.{Atom}
 use Rattle.cps_instance.specs.declared.task.Task.{Task}
 use Rattle.cps_instance.specs.Tasks.{HoldAll}
-use Rattle.cps_trail.specs.Trail.{Trail, IsFalseNow, IsSound}
+use Rattle.cps_trail.specs.Trail.{Trail, IsFalseNow, IsSoundTrail}
 use Rattle.cps_propagate.proofs.Listing.{IsConflict-weaker, conflict_of_all}
 use Rattle.cps_conflict.specs.Conflicts.{NotFalseAtBottom}
 use Rattle.cps_search.specs.Resting.{AllHold}
@@ -27,7 +27,7 @@ given_false tasks clauses s c h = elim h [
   | inr k ↦ (k.false_now, k.subjects)
 ]
 
-abbrev pub in_conflict : (s : Search) (conflict : List Atom) → IsSoundSearch s → IsSound s.store → IsGivenConflict s.tasks (in_force_on s.base) s.store conflict → Any (NotFalseAtBottom s.store) conflict → IsInConflict s
+abbrev pub in_conflict : (s : Search) (conflict : List Atom) → IsSoundSearch s → IsSoundTrail s.store → IsGivenConflict s.tasks (in_force_on s.base) s.store conflict → Any (NotFalseAtBottom s.store) conflict → IsInConflict s
 in_conflict s conflict h sound by_one bottom = record {
   sound = sound;
   given = h.given;

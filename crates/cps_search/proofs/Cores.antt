@@ -23,7 +23,7 @@ use Rattle.cps_instance.specs.Sums.{extended}
 use Rattle.cps_instance.proofs.Extending.{agree-extended}
 use Rattle.cps_instance.proofs.LiteralAtoms.{atom_holds-at, atom_holds-literal}
 use Rattle.cps_instance.specs.Problem.{Problem, IsInstance, variable_count}
-use Rattle.cps_trail.specs.Trail.{Domains, Trail, IsFalseNow, IsSound}
+use Rattle.cps_trail.specs.Trail.{Domains, Trail, IsFalseNow, IsSoundTrail}
 use Rattle.cps_trail.proofs.Falls.{bool_cases}
 use Rattle.cps_branch.specs.Fixed.{AreFixed, HasValues}
 use Rattle.cps_port.specs.Order.{IsBelow}
@@ -119,7 +119,7 @@ assumed_holds p h a solution t is =
 -- ---- what a failed assumption shows
 
 -- only assumptions are behind it
-pub failed_assumed : (s : Search) (failed : ℕ) (decisions : List Atom) → IsSoundSearch s → IsSound s.store → IsFailedAssumption s.instance.model.assumptions s.store failed → AreBehindIn s (assumption_at s.instance.model.assumptions failed) decisions
+pub failed_assumed : (s : Search) (failed : ℕ) (decisions : List Atom) → IsSoundSearch s → IsSoundTrail s.store → IsFailedAssumption s.instance.model.assumptions s.store failed → AreBehindIn s (assumption_at s.instance.model.assumptions failed) decisions
     → All (IsAssumed s.instance.model.assumptions) decisions
 failed_assumed s failed decisions h sound fails behind =
     behind_assumed _ s.instance.model.assumptions s.store failed (assumption_at s.instance.model.assumptions failed) decisions (assumed_subjects s h) sound h.first fails behind.led.each

@@ -23,7 +23,7 @@ use Rattle.cps_instance.proofs.Extending.{length-extended, extended-push, agree-
 use Rattle.cps_instance.proofs.Growing.{same-append}
 use Rattle.cps_instance.proofs.Intervals.{least_among}
 use Rattle.cps_trail.specs.declared.note.Note.TheVariants as notes
-use Rattle.cps_trail.specs.Trail.{Trail, Entry, Reason, Decision, Because, Later, Explains, IsAdmitted, IsFalseAfter, IsSound, IsTrueAfter, first_of, up_to}
+use Rattle.cps_trail.specs.Trail.{Trail, Entry, Reason, Decision, Because, Later, Explains, IsAdmitted, IsFalseAfter, IsSoundTrail, IsTrueAfter, first_of, up_to}
 use Rattle.cps_trail.proofs.Undoing.{admits-add}
 use Rattle.cps_port.specs.Order.{BoundLe, IsBelow}
 use Rattle.cps_port.specs.Incumbents.{IsIncumbent, IsLowerBound}
@@ -32,7 +32,7 @@ use Rattle.cps_clauses.specs.declared.journal.JournalItem.TheVariants.{Learnt, D
 use Rattle.cps_clauses.specs.Journals.{after_item, AreHonest}
 use Rattle.cps_clauses.specs.Quiet.{Fits}
 use Rattle.cps_clauses.specs.Watches.{clause_of, watch_of, IsGuarded}
-use Rattle.cps_clauses.specs.Bases.{Base, IsInStep as IsBaseInStep}
+use Rattle.cps_clauses.specs.Bases.{Base, IsBaseInStep}
 use Rattle.cps_clauses.proofs.Quieting.{IsQuiet-new_subject}
 use Rattle.cps_clauses.proofs.Dropping.{all_held, at_held}
 use Rattle.cps_search.specs.Shelves.{base_with, in_force_on}
@@ -203,7 +203,7 @@ module _ (p q : Problem) (sum : DefinedSum) (subject : ℕ) (d : Defines p q sum
   honest_new journal h = record { news = AreHonest-weaker (IsWorthy p) (IsWorthy q) worthy_new [] journal h.news; drops = h.drops }
 
 -- a search that gained a sum at level 0 is sound
-module _ (s : Search) (q : Problem) (sum : DefinedSum) (subject : ℕ) (d : Defines s.instance q sum subject) (j : IsInstance q) (h : IsSoundSearch s) (sound : IsSound s.store) (bottom : s.store.level ≡ 0) where
+module _ (s : Search) (q : Problem) (sum : DefinedSum) (subject : ℕ) (d : Defines s.instance q sum subject) (j : IsInstance q) (h : IsSoundSearch s) (sound : IsSoundTrail s.store) (bottom : s.store.level ≡ 0) where
   trail_new : Trail
   trail_new = record s.store { first = q.domains }
 
@@ -265,7 +265,7 @@ module _ (s : Search) (q : Problem) (sum : DefinedSum) (subject : ℕ) (d : Defi
     phase = tt;
   }
 
-pub sound_grew : (s t : Search) (sum : DefinedSum) (subject : ℕ) → GrewBy s t sum subject → IsInstance t.instance → IsSoundSearch s → IsSound s.store → s.store.level ≡ 0 → IsSoundSearch t
+pub sound_grew : (s t : Search) (sum : DefinedSum) (subject : ℕ) → GrewBy s t sum subject → IsInstance t.instance → IsSoundSearch s → IsSoundTrail s.store → s.store.level ≡ 0 → IsSoundSearch t
 sound_grew s t sum subject h j is sound bottom = subst IsSoundSearch (sym h.is) (sound_grown s t.instance sum subject h.defines j is sound bottom)
 
 -- the fields of a search after the sum was defined in its instance, its store and its tasks

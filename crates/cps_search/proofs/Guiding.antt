@@ -9,12 +9,12 @@ use Rattle.cps_branch.specs.declared.guidance.Guidance.{Guidance}
 use Rattle.cps_search.specs.declared.turn.Turn.{Turn}
 use Rattle.cps_search.specs.declared.turn.Turn.TheVariants as turns
 use Rattle.cps_search.specs.Searches.{Search}
-use Rattle.cps_search.specs.Ends.{BrancherTurn, HeardOne, IsNext, OneTurn, RunsInTurns, TakesTurn, TakesTurns, TurnCaused, none_yet, one_more}
+use Rattle.cps_search.specs.Ends.{BrancherTurn, HeardOne, IsDecidedNext, OneTurn, RunsInTurns, TakesTurn, TakesTurns, TurnCaused, none_yet, one_more}
 use Rattle.cps_search.specs.Guided.{RunsBy}
 use Rattle.cps_branch.specs.Guidances.{ChoosesBy}
 
 -- a choice by one rule is one by another that it implies
-next_by : (P Q : Trail → Option Atom → Type 0) → ((s : Trail) (choice : Option Atom) → P s choice → Q s choice) → (s : Search) (t : Atom) → IsNext P s t → IsNext Q s t
+next_by : (P Q : Trail → Option Atom → Type 0) → ((s : Trail) (choice : Option Atom) → P s choice → Q s choice) → (s : Search) (t : Atom) → IsDecidedNext P s t → IsDecidedNext Q s t
 next_by P Q w s t h = elim h [ inl assumed ↦ inl assumed | inr chosen ↦ inr (chosen.0, w s.store (Some t) chosen.1) ]
 
 caused_by : (P Q : Trail → Option Atom → Type 0) → ((s : Trail) (choice : Option Atom) → P s choice → Q s choice) → (s t : Search) (rows : ℕ) (p q : Part) (turn : Turn) → TurnCaused P s t rows p q turn → TurnCaused Q s t rows p q turn

@@ -12,7 +12,7 @@ ghost use Rattle.cps_search.specs.Searches.{IsNewClause, IsSoundSearch, NoFreeBe
 ghost use Rattle.cps_search.specs.Exhausting.{IsConflictAtBottom};
 ghost use Rattle.cps_search.specs.Moves.{moved, with_phase, with_learnt};
 ghost use Rattle.cps_search.specs.Keeps.{Keeps};
-ghost use Rattle.cps_search.specs.Turns.{IsShort, IsShared};
+ghost use Rattle.cps_search.specs.Turns.{IsShort, IsPutOnBoard};
 ghost use Rattle.cps_search.specs.Stepping.{IsAnalysed, IsCausedFrom};
 
 use crate::end::{End, Phase};
@@ -92,7 +92,7 @@ impl<'a, P: Propagator> Searcher<'a, P> {
         ensures keeps { Keeps Q.model Q.rows Q.stays port.old port.new }
         ensures bounds { (Q.part port.new).bounds ≡ (Q.part port.old).bounds }
         ensures shared { IsShort self.old.instance.model learnt.clause
-            → IsShared (Q.rows port.old) self.old.z learnt.clause (Q.part port.old).board (Q.part port.new).board }
+            → IsPutOnBoard (Q.rows port.old) self.old.z learnt.clause (Q.part port.old).board (Q.part port.new).board }
         ensures unshared { (IsShort self.old.instance.model learnt.clause → ⊥)
             → (Q.part port.new).board ≡ (Q.part port.old).board }
         ensures is { OnOk result (self.new

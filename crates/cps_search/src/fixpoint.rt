@@ -8,7 +8,7 @@
 
 ghost use Rattle.std.specs.Prelude.{◌≡◌, OnOk, IfOk, IfSome, IsNone, Some, Ok};
 ghost use Rattle.cps_model.specs.Solutions.{objective_value, IsSolution};
-ghost use Rattle.cps_trail.specs.Trail.{IsSound};
+ghost use Rattle.cps_trail.specs.Trail.{IsSoundTrail};
 ghost use Rattle.cps_port.specs.Order.{IsBelow};
 ghost use Rattle.cps_search.specs.Assumptions.{IsCoreBelow, IsAssumedNext, IsFailedAssumption, NoneFails, NoneIsOpen};
 ghost use Rattle.cps_search.specs.Searches.{IsSettled, IsSoundSearch, NoneBelow};
@@ -117,7 +117,7 @@ impl<'a, P: Propagator> Searcher<'a, P> {
         requires model { Q.model port.old ≡ self.old.instance.model }
         requires settled { IsSettled self.old }
         requires none_fails { NoneFails self.old.instance.model.assumptions self.old.store }
-        requires store { IsSound self.old.store }
+        requires store { IsSoundTrail self.old.store }
         ensures keeps { Keeps Q.model Q.rows Q.stays port.old port.new }
         ensures cause { IfOk result (λ turn. IsCausedFrom self.old self.new (Q.rows port.old) (Q.part port.old)
             (Q.part port.new) turn) }
@@ -142,7 +142,7 @@ impl<'a, P: Propagator> Searcher<'a, P> {
         requires sound { IsSoundSearch self.old }
         requires model { Q.model port.old ≡ self.old.instance.model }
         requires settled { IsSettled self.old }
-        requires store { IsSound self.old.store }
+        requires store { IsSoundTrail self.old.store }
         ensures keeps { Keeps Q.model Q.rows Q.stays port.old port.new }
         ensures cause { IfOk result (λ turn. IsCausedFrom self.old self.new (Q.rows port.old) (Q.part port.old)
             (Q.part port.new) turn) }

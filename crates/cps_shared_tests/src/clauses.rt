@@ -4,7 +4,7 @@
 //! drew may be either, and what is compared holds in both cases.
 ghost use Rattle.std.specs.Prelude.{ℤ, pos};
 ghost use Rattle.cps_port.specs.Incumbents.{IsAttained};
-ghost use Rattle.cps_board.specs.Seats.{model_of, IsSeatOf};
+ghost use Rattle.cps_board.specs.Seats.{model_of, IsBoardSeatOf};
 ghost use Rattle.cps_shared_tests.specs.Worked.{IsMinimised, IsNine};
 
 use crate::models::{is_attained, minimised, nine};
@@ -25,10 +25,10 @@ const AT_MOST_SIX: Atom = Atom {
 
 /// Shares `x <= 6`, which holds below 7.
 fn share_six(board: &Board, seat: &mut BoardSeat) -> Share
-    requires own { IsSeatOf board.now seat.old }
+    requires own { IsBoardSeatOf board.now seat.old }
     requires minimised { IsMinimised (model_of board.now) }
     requires seven { IsAttained (model_of board.now) (pos 7) }
-    ensures { IsSeatOf board.now seat.new }
+    ensures { IsBoardSeatOf board.now seat.new }
 {
     board.share(seat, Bound::At(7), &[AT_MOST_SIX])
 }
@@ -84,9 +84,9 @@ const ONE_OF_NINE: [Atom; 9] = [
 
 /// Shares that one of nine variables is 1.
 fn share_nine(board: &Board, seat: &mut BoardSeat) -> Share
-    requires own { IsSeatOf board.now seat.old }
+    requires own { IsBoardSeatOf board.now seat.old }
     requires nine { IsNine (model_of board.now) }
-    ensures { IsSeatOf board.now seat.new }
+    ensures { IsBoardSeatOf board.now seat.new }
 {
     board.share(seat, Bound::Infinite, &ONE_OF_NINE)
 }
@@ -103,33 +103,33 @@ fn share_twice<R: Threads + Sync>(
     first: BoardSeat,
     second: BoardSeat,
 ) -> (BoardSeat, BoardSeat)
-    requires own { IsSeatOf board.now first × IsSeatOf board.now second }
+    requires own { IsBoardSeatOf board.now first × IsBoardSeatOf board.now second }
     requires minimised { IsMinimised (model_of board.now) }
     requires seven { IsAttained (model_of board.now) (pos 7) }
-    ensures { IsSeatOf board.now result.0 × IsSeatOf board.now result.1 }
+    ensures { IsBoardSeatOf board.now result.0 × IsBoardSeatOf board.now result.1 }
 {
     join(
         rt,
         || -> BoardSeat
-            requires own { IsSeatOf board.now first }
+            requires own { IsBoardSeatOf board.now first }
             requires minimised { IsMinimised (model_of board.now) }
             requires seven { IsAttained (model_of board.now) (pos 7) }
-            ensures { IsSeatOf board.entry.now result }
+            ensures { IsBoardSeatOf board.entry.now result }
         { with_six(board, first) },
         || -> BoardSeat
-            requires own { IsSeatOf board.now second }
+            requires own { IsBoardSeatOf board.now second }
             requires minimised { IsMinimised (model_of board.now) }
             requires seven { IsAttained (model_of board.now) (pos 7) }
-            ensures { IsSeatOf board.entry.now result }
+            ensures { IsBoardSeatOf board.entry.now result }
         { with_six(board, second) },
     )
 }
 
 fn with_six(board: &Board, mut seat: BoardSeat) -> BoardSeat
-    requires own { IsSeatOf board.now seat }
+    requires own { IsBoardSeatOf board.now seat }
     requires minimised { IsMinimised (model_of board.now) }
     requires seven { IsAttained (model_of board.now) (pos 7) }
-    ensures { IsSeatOf board.now result }
+    ensures { IsBoardSeatOf board.now result }
 {
     share_six(board, &mut seat);
     seat

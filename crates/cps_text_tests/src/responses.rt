@@ -3,7 +3,7 @@
 //! A test for each status, with objectives that are scaled and moved, up to the bound whose shown value has the most
 //! digits. Lines and their order follow from the printed form of a response.
 ghost use Rattle.std.specs.Prelude.{◌≡◌, [], IfOk};
-ghost use Rattle.cps_print.specs.Responses.{IsShowable, IsSolved, IsBounded};
+ghost use Rattle.cps_print.specs.Responses.{HasShowableLimits, IsSolved, HasFiniteBound};
 
 use cps_model::{Bound, CpModel, FaultName, Ints, Listed, Objective, Place, Refs, Status, Text};
 use cps_print::{Fault, Response, fault_text, response_text};
@@ -76,9 +76,9 @@ fn assert_response(
     response: &Response,
     wanted: &str,
 ) -> Result<(), Fail>
-    requires showable { IsShowable model.now.objective }
+    requires showable { HasShowableLimits model.now.objective }
     requires solved { IsSolved model.now.objective response.now.status response.now.solution }
-    requires bounded { IsBounded response.now.status response.now.lower }
+    requires bounded { HasFiniteBound response.now.status response.now.lower }
 {
     let text = response_text(alloc, model, response)?;
     assert_eq!(rt; text.as_str(), wanted);

@@ -8,7 +8,7 @@ use Rattle.cpsolve.specs.declared.answer.Answer.{Answer}
 use Rattle.cpsolve.specs.declared.input.InputError.{InputError}
 use Rattle.cpsolve.specs.declared.input.InputError.TheVariants as input_error
 use Rattle.cpsolve.specs.Inputs.{most_bytes, IsModelText}
-use Rattle.cpsolve.specs.Reading.{IsMeant, IsRefusal}
+use Rattle.cpsolve.specs.Reading.{IsMeant, IsInputRefusal}
 use Rattle.cpsolve.specs.Answers.{IsText, IsFaultText, Prints, AnswersInput}
 use Rattle.cpsolve.specs.Answers.AnswersInput.{taken, refused}
 
@@ -20,7 +20,7 @@ takes is_input does bytes m (Err e) input done = tt
 
 -- an input that was refused is answered by its fault
 pub refuses : {E : Type 0} (is_input : List ℕ → CpModel → Type 0) (does : CpModel → Answer → Type 0) (bytes : List ℕ) (u : InputError) (r : Result Answer E)
-    → IsRefusal is_input bytes u → IfOk r (IsFaultText u) → IfOk r (AnswersInput is_input does bytes)
+    → IsInputRefusal is_input bytes u → IfOk r (IsFaultText u) → IfOk r (AnswersInput is_input does bytes)
 refuses is_input does bytes u (Err e) refusal text = tt
 refuses is_input does bytes (input_error.Fault fault) (Ok answer) refusal text = refused fault refusal.0 refusal.1 text
 refuses is_input does bytes input_error.OutOfMemory (Ok answer) refusal text = absurd text

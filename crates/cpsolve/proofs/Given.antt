@@ -12,18 +12,18 @@ use Rattle.cps_command.specs.declared.command.Command.{Command}
 use Rattle.cps_command.specs.declared.command.Command.TheVariants.{Solve, Validate, Print, Gen, Demo}
 use Rattle.cps_command.specs.Lines.{CommandLine, IsUsageFault, ReadsNothing, reads}
 use Rattle.cpsolve.specs.Inputs.{most_bytes, HasNo, IsModelText, IsInput}
-use Rattle.cpsolve.specs.Answers.{usage_text, IsText, IsAnswerTo, Does, IsInRange}
+use Rattle.cpsolve.specs.Answers.{usage_text, IsText, IsAnswerTo, Does, IsCommandInRange}
 use Rattle.cpsolve.specs.Answers.IsAnswerTo.{usage, command}
 use Rattle.cpsolve.specs.Answers.AnswersInput.{refused}
-use Rattle.cpsolve.specs.Runs.{AreLeft}
+use Rattle.cpsolve.specs.Runs.{AreBytesLeft}
 
 -- some bytes are left
-some_left : (left : Option (List ℕ)) → (bytes : List ℕ) × AreLeft left bytes
+some_left : (left : Option (List ℕ)) → (bytes : List ℕ) × AreBytesLeft left bytes
 some_left None = ([], tt)
 some_left (Some left) = (left, refl)
 
 -- the bytes that were read to the end are those that were left
-read_whole : (limit : ℕ) (old new : Option (List ℕ)) (read : Vec ℕ Global) → IfSome old (λ bytes. ReadsAll limit bytes new (Ok read)) → AreLeft old read.items
+read_whole : (limit : ℕ) (old new : Option (List ℕ)) (read : Vec ℕ Global) → IfSome old (λ bytes. ReadsAll limit bytes new (Ok read)) → AreBytesLeft old read.items
 read_whole limit None new read h = tt
 read_whole limit (Some bytes) new read h = sym h.0
 
@@ -43,13 +43,13 @@ long_list zero = (0 ∷ [], omega arith)
 long_list (suc n) = let rest = long_list n in (0 ∷ rest.0, omega (arith, rest.1))
 
 -- more bytes than the limit were left
-long_left : (limit : ℕ) (old new : Option (List ℕ)) → IfSome old (λ bytes. ReadsAll limit bytes new (Err errors.TooLong)) → (bytes : List ℕ) × AreLeft old bytes × (limit < length bytes)
+long_left : (limit : ℕ) (old new : Option (List ℕ)) → IfSome old (λ bytes. ReadsAll limit bytes new (Err errors.TooLong)) → (bytes : List ℕ) × AreBytesLeft old bytes × (limit < length bytes)
 long_left limit None new h = let some = long_list limit in (some.0, tt, some.1)
 long_left limit (Some bytes) new h = (bytes, refl, h.0)
 
 -- an answer of the words to the bytes that were left
 abbrev pub Given : List (List ℕ) → Option (List ℕ) → Answer → Type 0
-Given words left answer = (bytes : List ℕ) × AreLeft left bytes × IsAnswerTo words bytes answer
+Given words left answer = (bytes : List ℕ) × AreBytesLeft left bytes × IsAnswerTo words bytes answer
 
 pub usage_given : (words : List (List ℕ)) (left : Option (List ℕ)) (answer : Answer) → IsUsageFault words → IsText 2 usage_text answer → Given words left answer
 usage_given words left answer fault text = let some = some_left left in (some.0, some.1, usage fault text)
@@ -80,7 +80,7 @@ long_given words old new answer c line reading h text =
     let long = long_left most_bytes old new h in (long.0, long.1, command c line (refuses_long c long.0 answer reading long.2 text))
 
 -- a command of a line has its options in their ranges
-pub line_in_range : (words : List (List ℕ)) (c : Command) → CommandLine words c → IsInRange c
+pub line_in_range : (words : List (List ℕ)) (c : Command) → CommandLine words c → IsCommandInRange c
 line_in_range words (Solve options) line = line.says.1.options.range
 line_in_range words Validate line = tt
 line_in_range words Print line = tt

@@ -16,7 +16,7 @@ use Rattle.cps_schema.specs.Faults.{FirstFault}
 use Rattle.cps_print.specs.declared.fault.Fault.{Fault}
 use Rattle.cps_print.specs.declared.fault.Fault.TheVariants.{Text, Field, Rule}
 use Rattle.cps_print.specs.ReadBack.{IsReadAs}
-use Rattle.cps_print.specs.Responses.{IsShowable}
+use Rattle.cps_print.specs.Responses.{HasShowableLimits}
 use Rattle.cps_schema.proofs.Opened.{model_open}
 use Rattle.cps_kinds.specs.Kinds.{AreAllPropagated}
 use Rattle.cpsolve.proofs.Limits.{showable}
@@ -25,38 +25,38 @@ use Rattle.cpsolve.specs.declared.input.InputError.{InputError}
 use Rattle.cpsolve.specs.declared.input.InputError.TheVariants as input_error
 use Rattle.cpsolve.specs.Inputs.{most_bytes, byte_of, HasNo, IsModelText, IsInput, HasFault}
 use Rattle.cpsolve.specs.Inputs.IsTextFault.{no_document}
-use Rattle.cpsolve.specs.Reading.{IsCut, IsParsed, IsMeant, IsRefusal}
+use Rattle.cpsolve.specs.Reading.{AreOnlyTokens, IsParsed, IsMeant, IsInputRefusal}
 
 -- a fault that is right
 abbrev pub IsRight : (List ℕ → CpModel → Type 0) → List ℕ → Fault → Type 0
 IsRight is_input bytes fault = HasFault bytes fault × HasNo is_input bytes
 
 -- the document that the bytes are the text of is on the only tokens
-same_document : (bytes : List ℕ) (ts : List Token) (m : CpModel) → IsCut bytes ts → (r : IsReadAs bytes m) → HasTree (symbols bytes ts) r.tree
+same_document : (bytes : List ℕ) (ts : List Token) (m : CpModel) → AreOnlyTokens bytes ts → (r : IsReadAs bytes m) → HasTree (symbols bytes ts) r.tree
 same_document bytes ts m cut r =
     let same = cut.alone r.tokens r.cut in
     subst (λ (us : List Token). HasTree (symbols bytes us) r.tree) (sym same) r.parsed
 
 -- and it has the only tree
-same_meaning : (bytes : List ℕ) (ts : List Token) (tree : Tree) (m : CpModel) → IsCut bytes ts → IsParsed bytes ts tree → IsReadAs bytes m → ReadsAs (written bytes ts) tree m
+same_meaning : (bytes : List ℕ) (ts : List Token) (tree : Tree) (m : CpModel) → AreOnlyTokens bytes ts → IsParsed bytes ts tree → IsReadAs bytes m → ReadsAs (written bytes ts) tree m
 same_meaning bytes ts tree m cut parsed r =
     let tokens = cut.alone r.tokens r.cut in
     let trees = parsed.alone r.tree (same_document bytes ts m cut r) in
     subst (λ (t : Tree). ReadsAs (written bytes ts) t m) (sym trees) (subst (λ (us : List Token). ReadsAs (written bytes us) r.tree m) (sym tokens) r.read)
 
-pub no_document_right : (bytes : List ℕ) (ts : List Token) (token byte : ℕ) → length bytes ≤ most_bytes → IsCut bytes ts → IsRefusedAt (symbols bytes ts) token
+pub no_document_right : (bytes : List ℕ) (ts : List Token) (token byte : ℕ) → length bytes ≤ most_bytes → AreOnlyTokens bytes ts → IsRefusedAt (symbols bytes ts) token
     → byte ≡ byte_of bytes ts token → IsRight IsModelText bytes (Text byte)
 no_document_right bytes ts token byte short cut refused place =
     ((short, no_document ts token cut.these refused place), λ m i. let here = same_document bytes ts m cut i.reads in refused.never here.0 here.1)
 
-pub field_right : (bytes : List ℕ) (ts : List Token) (tree : Tree) (name : FaultName) (token byte : ℕ) → length bytes ≤ most_bytes → IsCut bytes ts → IsParsed bytes ts tree
+pub field_right : (bytes : List ℕ) (ts : List Token) (tree : Tree) (name : FaultName) (token byte : ℕ) → length bytes ≤ most_bytes → AreOnlyTokens bytes ts → IsParsed bytes ts tree
     → FirstFault (written bytes ts) tree name token → ((m : CpModel) → ReadsAs (written bytes ts) tree m → ⊥) → byte ≡ byte_of bytes ts token → IsRight IsModelText bytes (Field name byte)
 field_right bytes ts tree name token byte short cut parsed fault none place = (
   (short, record { tokens = ts; tree = tree; cut = cut.these; parsed = parsed.this; token = token; fault = fault; place = place }),
   λ m i. none m (same_meaning bytes ts tree m cut parsed i.reads),
 )
 
-pub meant : (bytes : List ℕ) (ts : List Token) (tree : Tree) (m : CpModel) → IsCut bytes ts → IsParsed bytes ts tree → ReadsAs (written bytes ts) tree m
+pub meant : (bytes : List ℕ) (ts : List Token) (tree : Tree) (m : CpModel) → AreOnlyTokens bytes ts → IsParsed bytes ts tree → ReadsAs (written bytes ts) tree m
     → ((other : CpModel) → ReadsAs (written bytes ts) tree other → m ≡ other) → IsMeant bytes m
 meant bytes ts tree m cut parsed this only =
     record {
@@ -78,12 +78,12 @@ valid_input bytes m v short meant same valid =
     subst (λ (n : CpModel). IsInput bytes n) (sym same) input
 
 -- what is refused as a model is refused as a valid one
-pub refused_too : (bytes : List ℕ) (u : InputError) → IsRefusal IsModelText bytes u → IsRefusal IsInput bytes u
+pub refused_too : (bytes : List ℕ) (u : InputError) → IsInputRefusal IsModelText bytes u → IsInputRefusal IsInput bytes u
 refused_too bytes (input_error.Fault fault) refusal = (refusal.0, λ (m : CpModel) (i : IsInput bytes m). refusal.1 m i.text)
 refused_too bytes input_error.OutOfMemory refusal = tt
 
 -- a model that was read can be shown
-pub meant_showable : (bytes : List ℕ) (m : CpModel) → IsMeant bytes m → IsShowable m.objective
+pub meant_showable : (bytes : List ℕ) (m : CpModel) → IsMeant bytes m → HasShowableLimits m.objective
 meant_showable bytes m meant = showable (written bytes meant.this.tokens) meant.this.tree m meant.this.read
 
 -- and only kinds that have a propagator

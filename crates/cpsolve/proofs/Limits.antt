@@ -13,7 +13,7 @@ use Rattle.cps_schema.specs.Tables.{use_of, model_message, objective_message}
 use Rattle.cps_schema.specs.Faults.{fields_fault}
 use Rattle.cps_schema.specs.Readings.{first_of, messages, read_objective, read_model, ReadsAs}
 use Rattle.cps_textproto.specs.Trees.{Tree}
-use Rattle.cps_print.specs.Responses.{IsShowable}
+use Rattle.cps_print.specs.Responses.{HasShowableLimits}
 use Rattle.cps_print.proofs.Readable.{Each, IsReadableObjective, each_map, messages_sound, objective_readable}
 
 -- a number that fits is small
@@ -25,7 +25,7 @@ small_of z e =
     let high = both.1 in
     grind (arith, ints)
 
-readable_showable : (o : Option Objective) → Each IsReadableObjective (option_to_list o) → IsShowable o
+readable_showable : (o : Option Objective) → Each IsReadableObjective (option_to_list o) → HasShowableLimits o
 readable_showable None r = tt
 readable_showable (Some o) r = record { offset = small_of o.offset r.0.offset; scaling = small_of o.scaling r.0.scaling }
 
@@ -39,7 +39,7 @@ objective_of w t e =
     let objectives = messages_sound w model_message [] (codes "objective") objective_message t refl e in
     first_readable _ (each_map (λ t. fields_fault w objective_message [] t ≡ None) IsReadableObjective (read_objective w) (objective_readable w) (messages w (codes "objective") t) objectives)
 
-pub showable : (w : Written) (tree : Tree) (m : CpModel) → ReadsAs w tree m → IsShowable m.objective
+pub showable : (w : Written) (tree : Tree) (m : CpModel) → ReadsAs w tree m → HasShowableLimits m.objective
 showable w tree m r =
     readable_showable m.objective
     (subst (λ (n : CpModel). Each IsReadableObjective (option_to_list n.objective)) (sym r.reading) (objective_of w tree r.accepted))

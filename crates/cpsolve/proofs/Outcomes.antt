@@ -15,7 +15,7 @@ use Rattle.cps_model.proofs.Inside.{model_ready}
 use Rattle.cps_search.specs.Ends.{Ending}
 use Rattle.cps_search.specs.Following.{best_bound}
 use Rattle.cps_print.specs.Demonstrations.{IsReadySolution}
-use Rattle.cps_print.specs.Responses.{IsBounded, IsFinite, IsSummable, IsSolved}
+use Rattle.cps_print.specs.Responses.{HasFiniteBound, IsFinite, IsSummable, IsSolved}
 use Rattle.cps_options.specs.declared.options.Options.{Options}
 use Rattle.cps_portfolio.specs.declared.outcome.Outcome.{Outcome}
 use Rattle.cps_portfolio.specs.Outcomes.{IsGoodOutcome, DidItsPart, better, best_of}
@@ -157,13 +157,13 @@ unknown_finite upper (At l) gap e = tt
 unknown_finite (At u) Infinite gap e = absurd cc
 unknown_finite Infinite Infinite gap e = absurd cc
 
-pub bounded : (m : CpModel) (options : Options) (o : Outcome) → IsGoodOutcome m options o → IsBounded o.status o.lower
+pub bounded : (m : CpModel) (options : Options) (o : Outcome) → IsGoodOutcome m options o → HasFiniteBound o.status o.lower
 bounded m options o good = go o.status refl
   where
     kept : KeepsPromise m options o
     kept = promise_kept m options o good
 
-    go : (s : Status) → o.status ≡ s → IsBounded s o.lower
+    go : (s : Status) → o.status ≡ s → HasFiniteBound s o.lower
     go Optimal same = let k = kept.optimal same in finite_below o.lower (objective_value m k.0) k.1.below
     go Feasible same = let k = kept.feasible same in finite_below o.lower (objective_value m k.0) k.1.below
     go Infeasible same = tt

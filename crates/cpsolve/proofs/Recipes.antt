@@ -11,7 +11,7 @@ use Rattle.cps_gen.specs.declared.family.Family.{Family}
 use Rattle.cps_gen.specs.declared.family.Family.TheVariants.{Knapsack, Jobshop, Tour}
 use Rattle.cps_gen.specs.Generated.{generated, is_generated}
 use Rattle.cps_kinds.specs.Kinds.{is_propagated, AreAllPropagated}
-use Rattle.cps_print.specs.Responses.{IsShowable}
+use Rattle.cps_print.specs.Responses.{HasShowableLimits}
 use Rattle.cps_print.specs.Demonstrations.{demo_text}
 use Rattle.cps_options.specs.declared.options.Options.{Options}
 use Rattle.cps_options.specs.Ranges.{AreInRange}
@@ -24,7 +24,7 @@ use Rattle.cpsolve.specs.Answers.{model_of, demo_options, Demonstrates}
 use Rattle.cpsolve.proofs.Outcomes.{promise_kept}
 
 -- its objective has no offset, and the scaling 1 or -1
-pub generated_showable : (f : Family) (size seed : ℕ) → IsShowable (generated f size seed).objective
+pub generated_showable : (f : Family) (size seed : ℕ) → HasShowableLimits (generated f size seed).objective
 unfolding generated
 generated_showable Knapsack size seed = record { offset = omega arith; scaling = omega arith }
 generated_showable Jobshop size seed = record { offset = omega arith; scaling = omega arith }

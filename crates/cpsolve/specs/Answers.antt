@@ -110,12 +110,12 @@ Does (Gen r) bytes answer = Generates r answer
 Does (Demo r) bytes answer = Demonstrates r answer
 
 -- a command whose options are in their ranges, or whose model is of a size that its family has
-abbrev pub IsInRange : Command → Type 0
-IsInRange (Solve options) = AreInRange options
-IsInRange Validate = Unit {0}
-IsInRange Print = Unit {0}
-IsInRange (Gen r) = IsTrue (is_in_range r.family r.size)
-IsInRange (Demo r) = IsTrue (is_in_range r.family r.size)
+abbrev pub IsCommandInRange : Command → Type 0
+IsCommandInRange (Solve options) = AreInRange options
+IsCommandInRange Validate = Unit {0}
+IsCommandInRange Print = Unit {0}
+IsCommandInRange (Gen r) = IsTrue (is_in_range r.family r.size)
+IsCommandInRange (Demo r) = IsTrue (is_in_range r.family r.size)
 
 -- the usage line for words that have no command, and else what their command does
 pub data IsAnswerTo (words : List (List ℕ)) (bytes : List ℕ) (answer : Answer) : Type 0 where

@@ -12,7 +12,7 @@ use Rattle.cpsolve.specs.declared.input.InputError.TheVariants.{Fault, OutOfMemo
 use Rattle.cpsolve.specs.Inputs.{HasFault, HasNo}
 
 -- the only tokens of the bytes
-pub record IsCut (bytes : List ℕ) (ts : List Token) : Type 0 where
+pub record AreOnlyTokens (bytes : List ℕ) (ts : List Token) : Type 0 where
   pub these : AreTokens bytes ts
   pub alone : (others : List Token) → AreTokens bytes others → ts ≡ others
   pub few : length ts ≤ length bytes
@@ -28,6 +28,6 @@ pub record IsMeant (bytes : List ℕ) (m : CpModel) : Type 0 where
   pub alone : (other : CpModel) → IsReadAs bytes other → m ≡ other
 
 -- a fault is right, and there is no model of the kind that is wanted then
-abbrev pub IsRefusal : (List ℕ → CpModel → Type 0) → List ℕ → InputError → Type 0
-IsRefusal is_input bytes (Fault fault) = HasFault bytes fault × HasNo is_input bytes
-IsRefusal is_input bytes OutOfMemory = Unit {0}
+abbrev pub IsInputRefusal : (List ℕ → CpModel → Type 0) → List ℕ → InputError → Type 0
+IsInputRefusal is_input bytes (Fault fault) = HasFault bytes fault × HasNo is_input bytes
+IsInputRefusal is_input bytes OutOfMemory = Unit {0}

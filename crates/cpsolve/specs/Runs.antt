@@ -12,9 +12,9 @@ abbrev pub is_silent : ℕ → Bool
 is_silent exit = exit == 3 || exit == 5
 
 -- the bytes are those that were left, where the source tells them
-abbrev pub AreLeft : Option (List ℕ) → List ℕ → Type 0
-AreLeft None bytes = Unit {0}
-AreLeft (Some left) bytes = left ≡ bytes
+abbrev pub AreBytesLeft : Option (List ℕ) → List ℕ → Type 0
+AreBytesLeft None bytes = Unit {0}
+AreBytesLeft (Some left) bytes = left ≡ bytes
 
 -- a source was read to its end, or to one byte more than an input may have
 abbrev pub IsReadThrough : Option (List ℕ) → Option (List ℕ) → Type 0
@@ -24,7 +24,7 @@ IsReadThrough before after = IfSome before (λ bytes. after ≡ Some (drop (most
 pub record GivesOut (words : List (List ℕ)) (left held_before held_after : Option (List ℕ)) (ran : Ran) : Type 0 where
   pub bytes : List ℕ
   pub answer : Answer
-  pub input : AreLeft left bytes
+  pub input : AreBytesLeft left bytes
   pub right : IsAnswerTo words bytes answer
   pub outcome : ran.outcome ≡ answer.outcome
   pub whole : ran.exit ≢ 4 → (ran.exit ≡ answer.exit) × Appends held_before held_after answer.text

@@ -8,13 +8,13 @@ ghost use Rattle.std.specs.Prelude.{◌≡◌, ◌≤◌, ℕ, List, IfOk, IsTru
 ghost use Rattle.cps_print.specs.Faults.{fault_text};
 ghost use Rattle.cps_print.specs.Models.{model_text};
 ghost use Rattle.cps_print.specs.ReadBack.{IsReadAs};
-ghost use Rattle.cps_print.specs.Responses.{IsShowable};
+ghost use Rattle.cps_print.specs.Responses.{HasShowableLimits};
 ghost use Rattle.cps_kinds.specs.Kinds.{AreAllPropagated};
 ghost use Rattle.cps_options.specs.Ranges.{AreInRange};
 ghost use Rattle.cps_portfolio.specs.Outcomes.{IsGoodOutcome};
 ghost use Rattle.cps_portfolio.specs.Turning.{IsDrawnRun};
 ghost use Rattle.cpsolve.specs.Inputs.{most_bytes, IsModelText, IsInput};
-ghost use Rattle.cpsolve.specs.Answers.{usage_text, valid_text, IsText, IsFaultText, Solves, Validates, Prints, AnswersInput, Does, IsInRange};
+ghost use Rattle.cpsolve.specs.Answers.{usage_text, valid_text, IsText, IsFaultText, Solves, Validates, Prints, AnswersInput, Does, IsCommandInRange};
 
 use crate::exits::{BAD_INPUT, BAD_WORDS, DONE};
 use crate::generation::{demo_answer, gen_answer};
@@ -106,7 +106,7 @@ fn solve_answer<R: Threads + Wait + Sync, G: Gate + Sync>(
     options: &Options,
     gate: &G,
 ) -> Result<Answer, AllocError>
-    requires showable { IsShowable model.now.objective }
+    requires showable { HasShowableLimits model.now.objective }
     requires kinds { AreAllPropagated model.now }
     requires range { AreInRange options.now }
     ensures { IfOk result (Solves options.now model.now) }
@@ -207,7 +207,7 @@ pub fn command_answer<R: Threads + Wait + Sync, G: Gate + Sync>(
     gate: &G,
 ) -> Result<Answer, AllocError>
     requires short { length bytes.now ≤ most_bytes }
-    requires range { IsInRange command }
+    requires range { IsCommandInRange command }
     ensures { IfOk result (Does command bytes.now) }
 {
     match command {

@@ -2,7 +2,7 @@
 ghost use Rattle.std.specs.Prelude.{◌≡◌, IfOk, IsTrue};
 ghost use Rattle.cps_gen.specs.Families.{is_in_range};
 ghost use Rattle.cps_kinds.specs.Kinds.{AreAllPropagated};
-ghost use Rattle.cps_print.specs.Responses.{IsShowable};
+ghost use Rattle.cps_print.specs.Responses.{HasShowableLimits};
 ghost use Rattle.cpsolve.specs.Answers.{model_of, demo_options, Generates, Demonstrates};
 
 use crate::answer::{Answer, text_answer};
@@ -30,7 +30,7 @@ pub fn gen_answer(alloc: Global, recipe: &Recipe) -> Result<Answer, AllocError>
 fn valid_model(alloc: Global, recipe: &Recipe) -> Result<ValidModel, AllocError>
     requires { IsTrue (is_in_range recipe.now.family recipe.now.size) }
     ensures stated { IfOk result (λ m. m ≡ model_of recipe.now) }
-    ensures showable { IfOk result (λ m. IsShowable m.objective) }
+    ensures showable { IfOk result (λ m. HasShowableLimits m.objective) }
     ensures kinds { IfOk result AreAllPropagated }
 {
     let model = generate(alloc, recipe.family, recipe.size, recipe.seed)?;

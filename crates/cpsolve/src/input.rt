@@ -1,10 +1,10 @@
 //! An input, from its bytes to a model, and to a valid one.
 ghost use Rattle.std.specs.Prelude.{◌≡◌, ◌≤◌, length, IfOk, IfErr};
 ghost use Rattle.cps_textproto.specs.Trees.{tree_of};
-ghost use Rattle.cps_print.specs.Responses.{IsShowable};
+ghost use Rattle.cps_print.specs.Responses.{HasShowableLimits};
 ghost use Rattle.cps_kinds.specs.Kinds.{AreAllPropagated};
 ghost use Rattle.cpsolve.specs.Inputs.{most_bytes, byte_of, IsModelText, IsInput};
-ghost use Rattle.cpsolve.specs.Reading.{IsCut, IsParsed, IsMeant, IsRefusal};
+ghost use Rattle.cpsolve.specs.Reading.{AreOnlyTokens, IsParsed, IsMeant, IsInputRefusal};
 
 use cps_lex::{LexError, Token, tokens};
 use cps_model::CpModel;
@@ -35,8 +35,8 @@ fn byte_of(bytes: &[u8], tokens: &[Token], token: usize) -> usize
 /// The tokens of the bytes.
 fn tokens_of(alloc: Global, bytes: &[u8]) -> Result<Vec<Token>, InputError>
     requires { length bytes.now ≤ most_bytes }
-    ensures ok { IfOk result (λ tokens. IsCut bytes.now tokens.items) }
-    ensures err { IfErr result (IsRefusal IsModelText bytes.now) }
+    ensures ok { IfOk result (λ tokens. AreOnlyTokens bytes.now tokens.items) }
+    ensures err { IfErr result (IsInputRefusal IsModelText bytes.now) }
 {
     match tokens(alloc, bytes) {
         Ok(tokens) => Ok(tokens),
@@ -48,9 +48,9 @@ fn tokens_of(alloc: Global, bytes: &[u8]) -> Result<Vec<Token>, InputError>
 /// The document that the tokens are.
 fn node_of(alloc: Global, bytes: &[u8], tokens: &[Token]) -> Result<Node, InputError>
     requires short { length bytes.now ≤ most_bytes }
-    requires cut { IsCut bytes.now tokens.now }
+    requires cut { AreOnlyTokens bytes.now tokens.now }
     ensures ok { IfOk result (λ node. IsParsed bytes.now tokens.now (tree_of node)) }
-    ensures err { IfErr result (IsRefusal IsModelText bytes.now) }
+    ensures err { IfErr result (IsInputRefusal IsModelText bytes.now) }
 {
     match document(alloc, bytes, tokens) {
         Ok(node) => Ok(node),
@@ -69,10 +69,10 @@ fn meaning_of(
     node: &Node,
 ) -> Result<CpModel, InputError>
     requires short { length bytes.now ≤ most_bytes }
-    requires cut { IsCut bytes.now tokens.now }
+    requires cut { AreOnlyTokens bytes.now tokens.now }
     requires parsed { IsParsed bytes.now tokens.now (tree_of node.now) }
     ensures ok { IfOk result (IsMeant bytes.now) }
-    ensures err { IfErr result (IsRefusal IsModelText bytes.now) }
+    ensures err { IfErr result (IsInputRefusal IsModelText bytes.now) }
 {
     match model_of(alloc, bytes, tokens, node) {
         Ok(model) => Ok(model),
@@ -89,7 +89,7 @@ fn meaning_of(
 pub fn read_model(alloc: Global, bytes: &[u8]) -> Result<CpModel, InputError>
     requires { length bytes.now ≤ most_bytes }
     ensures ok { IfOk result (IsMeant bytes.now) }
-    ensures err { IfErr result (IsRefusal IsModelText bytes.now) }
+    ensures err { IfErr result (IsInputRefusal IsModelText bytes.now) }
 {
     let tokens = tokens_of(alloc, bytes)?;
     let node = node_of(alloc, bytes, &tokens)?;
@@ -101,9 +101,9 @@ pub fn read_model(alloc: Global, bytes: &[u8]) -> Result<CpModel, InputError>
 pub fn valid_model_of(alloc: Global, bytes: &[u8]) -> Result<ValidModel, InputError>
     requires { length bytes.now ≤ most_bytes }
     ensures ok { IfOk result (IsInput bytes.now) }
-    ensures showable { IfOk result (λ model. IsShowable model.objective) }
+    ensures showable { IfOk result (λ model. HasShowableLimits model.objective) }
     ensures kinds { IfOk result AreAllPropagated }
-    ensures err { IfErr result (IsRefusal IsInput bytes.now) }
+    ensures err { IfErr result (IsInputRefusal IsInput bytes.now) }
 {
     let model = read_model(alloc, bytes)?;
     match validate(alloc, model) {

@@ -5,7 +5,7 @@ ghost use Rattle.cps_outer.specs.Faults.{Rose};
 ghost use Rattle.cps_outer.specs.Transfers.{TakesPrefix};
 ghost use Rattle.cpsolve.specs.Answers.{IsAnswerTo};
 ghost use Rattle.cps_command.specs.Lines.{texts_of, IsReadingLine, ReadsNothing};
-ghost use Rattle.cpsolve.specs.Runs.{is_silent, AreLeft, IsReadThrough, GivesOut};
+ghost use Rattle.cpsolve.specs.Runs.{is_silent, AreBytesLeft, IsReadThrough, GivesOut};
 ghost use Rattle.cpsolve.specs.declared.solve.Unanswered.TheVariants.{OutOfMemory};
 
 use crate::answer::{Answer, command_answer, fault_answer, usage_answer};
@@ -44,7 +44,7 @@ fn answer_of<R: Threads + Wait + Sync, S: Source, G: Gate + Sync>(
     source: &mut S,
     gate: &G,
 ) -> Result<Answer, Unanswered>
-    ensures right { IfOk result (λ answer. (bytes : List ℕ) × AreLeft (S.left source.old) bytes
+    ensures right { IfOk result (λ answer. (bytes : List ℕ) × AreBytesLeft (S.left source.old) bytes
         × IsAnswerTo (texts_of words.now) bytes answer) }
     ensures read { OnOk result (IsReadingLine (texts_of words.now)
         → IsReadThrough (S.left source.old) (S.left source.new)) }

@@ -1,7 +1,7 @@
 use Rattle.std.proofs.Common.{ℕ, ◌≡◌, List, get_or, set, sym, ◌∙◌, ap, subst, arith}
 use Rattle.cps_literal.specs.declared.atom.Atom.{Atom}
 use Rattle.cps_clauses.specs.declared.watching.Watching.{Watching}
-use Rattle.cps_clauses.specs.Watches.{slot_of, clause_of, list_at, Stands, IsWatching}
+use Rattle.cps_clauses.specs.Watches.{slot_of, clause_of, list_at, StandsInList, IsWatching}
 use Rattle.cps_clauses.specs.Looks.{IsAttached}
 use Rattle.cps_clauses.proofs.Attaching.{watching_attached, watching_rewatched}
 use Rattle.cps_clauses.proofs.choose_watches.rewatch.Goals as goal
@@ -38,6 +38,6 @@ returns-clause-watching c =
     (subst (λ (p : ℕ). IsWatching c.args.clauses.now (set c.attach-2.new.watching.watches.items c.args.clause (record { one = c.args.one; other = p })) c.max-watching.result (list_at c.attach-2.new.watching.lists.items)) (sym e2)
     (watching_rewatched c.args.clauses.now ws c.attach-2.new.watching.attached c.max-watching.result (list_at c.attach-2.new.watching.lists.items) c.args.clause c.args.one c.args.other c.requires.clause (omega (arith, same, c.requires.within)) c.max-watching.ensures c.requires.one c.requires.other c.requires.apart
     (λ e. c.attach-2.ensures.attached.kept (slot_of (get_or (clause_of c.args.clauses.now c.args.clause) c.args.one e)) 0 c.args.clause c.args.one
-    (subst (λ (ts : List Atom). Stands (list_at c.attach.new.watching.lists.items (slot_of (get_or ts c.args.one e))) 0 c.args.clause c.args.one) c.clause-atoms.ensures (c.in_ok-attach.ensures.stands e)))
-    (λ e. subst (λ (ts : List Atom). Stands (list_at c.attach-2.new.watching.lists.items (slot_of (get_or ts c.args.other e))) 0 c.args.clause c.args.other) c.clause-atoms.ensures (c.in_ok-attach-2.ensures.stands e))
+    (subst (λ (ts : List Atom). StandsInList (list_at c.attach.new.watching.lists.items (slot_of (get_or ts c.args.one e))) 0 c.args.clause c.args.one) c.clause-atoms.ensures (c.in_ok-attach.ensures.stands e)))
+    (λ e. subst (λ (ts : List Atom). StandsInList (list_at c.attach-2.new.watching.lists.items (slot_of (get_or ts c.args.other e))) 0 c.args.clause c.args.other) c.clause-atoms.ensures (c.in_ok-attach-2.ensures.stands e))
     (second d (first (goal.at.returns-clause-watching c).After-attach))))

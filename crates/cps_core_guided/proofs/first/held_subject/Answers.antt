@@ -2,7 +2,7 @@ use Rattle.std.proofs.Common.{◌<ℤ◌, pos, arith}
 use Rattle.std.proofs.lemmas.Int.{ints}
 use Rattle.cps_search.specs.Growing.{GrewBy}
 use Rattle.cps_search.specs.Searches.{IsSoundSearch}
-use Rattle.cps_reform.specs.Beginning.{Holds}
+use Rattle.cps_reform.specs.Beginning.{StandsForTerm}
 use Rattle.cps_core_guided.specs.Beginning.{opposite}
 use Rattle.cps_core_guided.proofs.Opposites.{opposite-holds}
 use Rattle.cps_core_guided.proofs.Results.{if_ok_both}
@@ -18,6 +18,6 @@ returns-clause-holds g c =
     let t = c.grow.new.self in
     let v = c.args.term in
     let under : v.coeff <ℤ pos 0 = omega (arith, ints, c.if-term-ge0.false) in
-    if_ok_both c.grow.result (λ subject. GrewBy s t (opposite v.subject) subject) (IsSoundSearch t) (Holds t.instance v)
+    if_ok_both c.grow.result (λ subject. GrewBy s t (opposite v.subject) subject) (IsSoundSearch t) (StandsForTerm t.instance v)
     (λ subject grew sound. opposite-holds s.instance t.instance v subject grew.defines sound.instance c.requires.subject under)
     c.grow.ensures.grew c.grow.ensures.sound

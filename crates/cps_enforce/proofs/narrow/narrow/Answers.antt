@@ -7,7 +7,7 @@ use Rattle.cps_trail.proofs.Storing.{kept_by_wiped, not_wiped}
 use Rattle.cps_propagate.proofs.Noting.{Infers-noted}
 use Rattle.cps_rule.specs.Rules.{IsGiven}
 use Rattle.cps_enforce.specs.Reasons.{task_of}
-use Rattle.cps_enforce.specs.Settling.{IsInForce}
+use Rattle.cps_enforce.specs.Settling.{IsTaskInForce}
 use Rattle.cps_enforce.proofs.Tasks.{forced_given}
 use Rattle.cps_enforce.proofs.narrow.narrow.Goals as goal
 
@@ -23,7 +23,7 @@ returns-in-Narrowed-clause-made g c = λ _. c.in_ok-imply_later.ensures.true_now
 
 pub contradict-requires-clause-force : goal.contradict-requires-clause-force
 contradict-requires-clause-force g c =
-    subst (λ (s : Trail). IsInForce s c.args.header.now.enforcement.now (g.R.Rule.body c.args.rule.now)) (sym (kept_by_wiped _ _ _ c.in_ok-imply_later.ensures.kept c.in-Wiped.is)) c.requires.force
+    subst (λ (s : Trail). IsTaskInForce s c.args.header.now.enforcement.now (g.R.Rule.body c.args.rule.now)) (sym (kept_by_wiped _ _ _ c.in_ok-imply_later.ensures.kept c.in-Wiped.is)) c.requires.force
 
 pub contradict-requires-clause-given : goal.contradict-requires-clause-given
 contradict-requires-clause-given g c =

@@ -5,8 +5,8 @@ use Rattle.cps_literal.specs.declared.atom.Atom.{Atom}
 use Rattle.cps_instance.proofs.Agreeing.{All-append_left, All-append_right}
 use Rattle.cps_rule.specs.Rules.{IsFact}
 use Rattle.cps_enforce.specs.Force.{but}
-use Rattle.cps_enforce.specs.Reasons.{Denies}
-use Rattle.cps_enforce.proofs.Denials.{Denies-append}
+use Rattle.cps_enforce.specs.Reasons.{DeniesFacts}
+use Rattle.cps_enforce.proofs.Denials.{DeniesFacts-append}
 use Rattle.cps_enforce.proofs.reasons.deny_others.Goals as goal
 
 pub deny-requires : goal.deny-requires
@@ -22,7 +22,7 @@ pub returns : goal.returns
 returns c =
     let s = c.args.past.now in
     let us = c.args.enforcement.now in
-    let first = subst (λ (l : List Atom). Denies c.args.past.now (take c.args.place c.args.enforcement.now) l c.deny.new.reason.items) c.clear.ensures.items c.in_ok-deny.ensures in
-    let second = subst (λ (vs : List Atom). Denies c.args.past.now vs c.deny.new.reason.items c.deny-2.new.reason.items) (rest c.args.enforcement.now (c.args.place + 1)) c.in_ok-deny-2.ensures in
-    let both = Denies-append s (take c.args.place us) (drop (c.args.place + 1) us) [] c.deny.new.reason.items c.deny-2.new.reason.items first second in
-    Denies-append s (but us c.args.place) c.args.facts.now [] c.deny-2.new.reason.items c.deny-3.new.reason.items both c.in_ok-deny-3.ensures
+    let first = subst (λ (l : List Atom). DeniesFacts c.args.past.now (take c.args.place c.args.enforcement.now) l c.deny.new.reason.items) c.clear.ensures.items c.in_ok-deny.ensures in
+    let second = subst (λ (vs : List Atom). DeniesFacts c.args.past.now vs c.deny.new.reason.items c.deny-2.new.reason.items) (rest c.args.enforcement.now (c.args.place + 1)) c.in_ok-deny-2.ensures in
+    let both = DeniesFacts-append s (take c.args.place us) (drop (c.args.place + 1) us) [] c.deny.new.reason.items c.deny-2.new.reason.items first second in
+    DeniesFacts-append s (but us c.args.place) c.args.facts.now [] c.deny-2.new.reason.items c.deny-3.new.reason.items both c.in_ok-deny-3.ensures

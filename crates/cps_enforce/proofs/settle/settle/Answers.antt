@@ -5,7 +5,7 @@ use Rattle.cps_trail.specs.Adds.{Infers}
 use Rattle.cps_trail.specs.Notes.{ByTask}
 use Rattle.cps_trail.proofs.Inferring.{Infers-trans}
 use Rattle.cps_enforce.specs.Reasons.{task_of}
-use Rattle.cps_enforce.specs.Settling.{IsInForce}
+use Rattle.cps_enforce.specs.Settling.{IsTaskInForce}
 use Rattle.cps_enforce.proofs.Tasks.{force_later}
 use Rattle.cps_enforce.proofs.settle.settle.Goals as goal
 
@@ -14,7 +14,7 @@ pass-requires g c =
     let h = c.args.header.now in
     let b = g.R.Rule.body c.args.rule.now in
     let later = force_later (ByTask h.number (HoldsTask (task_of h.enforcement.now b))) c.args.store.now c.loop-store.store h.enforcement.now b c.loop-store.invariant.infers c.requires.force in
-    record { force = subst (λ (x : Body). IsInForce c.loop-store.store c.args.header.now.enforcement.now x) (sym c.loop-store.invariant.keeps) later }
+    record { force = subst (λ (x : Body). IsTaskInForce c.loop-store.store c.args.header.now.enforcement.now x) (sym c.loop-store.invariant.keeps) later }
 
 pub returns-in-Conflict-clause-infers : goal.returns-in-Conflict-clause-infers
 returns-in-Conflict-clause-infers g c =

@@ -1,6 +1,6 @@
 use Rattle.std.specs.Prelude.{All}
 use Rattle.std.proofs.Common.{ℕ, suc, ◌+◌, ◌++◌, ◌≤◌, ◌-◌, ◌<◌, ◌≡◌, ◌∙◌, List, length, sym, ap, subst, arith}
-use Rattle.cps_neighbourhood.specs.Drawing.{IsRising, sample, sampled}
+use Rattle.cps_neighbourhood.specs.Drawing.{AscendsStrictly, sample, sampled}
 use Rattle.cps_neighbourhood.proofs.Sampling.{none_left, sampled_under, sampled_length, sampled_rising, step_taken, step_passed, wanted_after, room_after, words_after}
 use Rattle.cps_neighbourhood.proofs.draws.choose_free.Goals as goal
 use Rattle.cps_neighbourhood.proofs.draws.choose_free.Goals.{then-is_taken+in_ok-push, else-is_taken}
@@ -39,7 +39,7 @@ returns-clause-count c =
 pub returns-clause-rising : goal.returns-clause-rising
 returns-clause-rising c =
     let i = c.loop-number.invariant in
-    subst IsRising (sym (none_left c.loop-number.chosen.items (sample c.args.n c.args.count c.args.draws.now) _ _ _ _ (omega arith) i.drawn)) (sampled_rising c.args.n 0 c.args.count c.args.draws.now)
+    subst AscendsStrictly (sym (none_left c.loop-number.chosen.items (sample c.args.n c.args.count c.args.draws.now) _ _ _ _ (omega arith) i.drawn)) (sampled_rising c.args.n 0 c.args.count c.args.draws.now)
 
 pub returns-clause-below : goal.returns-clause-below
 returns-clause-below c =

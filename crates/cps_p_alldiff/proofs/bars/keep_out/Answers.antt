@@ -1,7 +1,7 @@
 use Rattle.std.proofs.Common.{◌∙◌, pos, List, arith, sym, ap, subst}
 use Rattle.cps_rule.specs.declared.rule.Narrowing.{Narrowing}
 use Rattle.cps_p_alldiff.specs.declared.interval.Interval.{Interval}
-use Rattle.cps_p_alldiff.specs.Intervals.{IsBounded}
+use Rattle.cps_p_alldiff.specs.Intervals.{IsEnclosed}
 use Rattle.cps_p_alldiff.specs.Bars.{AreGivenBars}
 use Rattle.cps_p_alldiff.proofs.Certifying.{zip_length}
 use Rattle.cps_p_alldiff.proofs.Giving.{bar_given, given_more}
@@ -12,11 +12,11 @@ abbrev no_ends : Interval
 no_ends = record { low = pos 0; high = pos 0 }
 
 pub bounds-subjects-place : goal.bounds-subjects-place
-bounds-subjects-place c = let same = zip_length (IsBounded c.args.store.now) c.args.subjects.now c.args.ends.now c.requires.bounded in let l = c.loop-place-test.true in omega arith
+bounds-subjects-place c = let same = zip_length (IsEnclosed c.args.store.now) c.args.subjects.now c.args.ends.now c.requires.bounded in let l = c.loop-place-test.true in omega arith
 
 pub bar_of-requires-clause-subject : goal.bar_of-requires-clause-subject
 bar_of-requires-clause-subject c =
-    let same = zip_length (IsBounded c.args.store.now) c.args.subjects.now c.args.ends.now c.requires.bounded in
+    let same = zip_length (IsEnclosed c.args.store.now) c.args.subjects.now c.args.ends.now c.requires.bounded in
     let l = c.loop-place-test.true in
     c.requires.subjects c.loop-place.place 0 (omega arith)
 
@@ -26,7 +26,7 @@ loop-place-preserved c =
     let is = c.args.subjects.now in
     let es = c.args.ends.now in
     let k = c.loop-place.place in
-    let same = zip_length (IsBounded s) is es c.requires.bounded in
+    let same = zip_length (IsEnclosed s) is es c.requires.bounded in
     let l = c.loop-place-test.true in
     elim c.if-not-covers.branch [
       | then-not-covers+in-Some+in_ok-push-in-Some w ↦

@@ -5,11 +5,11 @@ use Rattle.cps_trail.specs.Notes.{ByTask}
 use Rattle.cps_trail.proofs.Inferring.{Infers-refl}
 use Rattle.cps_propagate.proofs.Past.{none}
 use Rattle.cps_p_bool.specs.Denying.{task_of}
-use Rattle.cps_p_bool.proofs.Conjoining.{Gives-and}
+use Rattle.cps_p_bool.proofs.Conjoining.{GivesAtom-and}
 use Rattle.cps_p_bool.proofs.explain.explain_each.Goals as goal
 
 pub returns : goal.returns
 returns c = λ is.
     let l : c.args.noted.place < length c.args.atoms.now = omega (arith, c.if-noted-atoms.false) in
     c.explain_as.ensures is (BoolAnd c.args.atoms.now)
-    (Gives-and c.args.past.now c.args.past.now c.args.enforcement.now c.args.atoms.now c.args.noted.place none (Infers-refl (ByTask 0 (HoldsTask (task_of c.args.enforcement.now (BoolAnd c.args.atoms.now)))) c.args.past.now) c.requires.enforced l)
+    (GivesAtom-and c.args.past.now c.args.past.now c.args.enforcement.now c.args.atoms.now c.args.noted.place none (Infers-refl (ByTask 0 (HoldsTask (task_of c.args.enforcement.now (BoolAnd c.args.atoms.now)))) c.args.past.now) c.requires.enforced l)

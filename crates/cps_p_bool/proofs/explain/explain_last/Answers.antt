@@ -4,9 +4,9 @@ use Rattle.std.proofs.lemmas.List.{take_rest}
 use Rattle.cps_literal.specs.declared.atom.Atom.{Atom}
 use Rattle.cps_trail.specs.Trail.{IsFalseNow}
 use Rattle.cps_propagate.proofs.Past.{none}
-use Rattle.cps_p_bool.specs.Denying.{Denies, IsReasonFor}
+use Rattle.cps_p_bool.specs.Denying.{Denies, IsDenyingReason}
 use Rattle.cps_p_bool.proofs.Denials.{Denies-append}
-use Rattle.cps_p_bool.proofs.Giving.{IsReasonFor-made}
+use Rattle.cps_p_bool.proofs.Giving.{IsDenyingReason-made}
 use Rattle.cps_p_bool.proofs.Explaining.{IsExplanation-given, Gives-but}
 use Rattle.cps_p_bool.proofs.explain.explain_last.Goals as goal
 
@@ -25,5 +25,5 @@ returns c = λ _ body n.
     let false_after : All (IsFalseNow s) (drop (p + 1) us) = subst (λ (vs : List Atom). All (IsFalseNow s) vs) (take_rest us (p + 1)) (c.in_ok-deny_false-2.ensures.all_false (ap Ok c.if-not-branch-2.false)) in
     let others : Denies s c.deny_all.new.reason.items c.deny_false-2.new.reason.items (take p us ++ drop (p + 1) us) = Denies-append s c.deny_all.new.reason.items c.deny_false.new.reason.items c.deny_false-2.new.reason.items (take p us) (drop (p + 1) us) before after in
     let all : Denies s [] c.deny_false-2.new.reason.items (e ++ (take p us ++ drop (p + 1) us)) = Denies-append s [] c.deny_all.new.reason.items c.deny_false-2.new.reason.items e (take p us ++ drop (p + 1) us) enforced others in
-    let made : IsReasonFor s (e ++ (take p us ++ drop (p + 1) us)) c.args.atom c.push.new.self.items = IsReasonFor-made s c.deny_false-2.new.reason.items c.push.new.self.items (e ++ (take p us ++ drop (p + 1) us)) c.args.atom all c.in_ok-push.ensures.items in
+    let made : IsDenyingReason s (e ++ (take p us ++ drop (p + 1) us)) c.args.atom c.push.new.self.items = IsDenyingReason-made s c.deny_false-2.new.reason.items c.push.new.self.items (e ++ (take p us ++ drop (p + 1) us)) c.args.atom all c.in_ok-push.ensures.items in
     IsExplanation-given s e (take p us ++ drop (p + 1) us) body (get_or us p none) c.args.atom c.push.new.self.items same (c.requires.atoms_fit p none l).subject made (Gives-but s body us n p none l false_before false_after e c.requires.enforced)

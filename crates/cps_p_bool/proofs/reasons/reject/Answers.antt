@@ -1,18 +1,18 @@
 use Rattle.std.proofs.Common.{arith}
 use Rattle.cps_p_bool.proofs.Results.{IfOk-map}
-use Rattle.cps_p_bool.proofs.Giving.{Gives-last, IsConflict-denied, IsOff-opposite}
+use Rattle.cps_p_bool.proofs.Giving.{GivesAtom-last, IsConflict-denied, IsOff-opposite}
 use Rattle.cps_p_bool.proofs.reasons.reject.Goals as goal
 
 pub returns-then-last-enforcement-clause-infers : goal.returns-then-last-enforcement-clause-infers
 returns-then-last-enforcement-clause-infers c = IfOk-map c.infer.result
     (λ _ h body x. h body
-    (Gives-last _ _ c.args.rule.now.last _ body _ c.negate-target.result c.requires.in_force c.if-last-enforcement.true (record { subject = c.negate-target.ensures.subject; negated = c.negate-target.ensures.negated }) x))
+    (GivesAtom-last _ _ c.args.rule.now.last _ body _ c.negate-target.result c.requires.in_force c.if-last-enforcement.true (record { subject = c.negate-target.ensures.subject; negated = c.negate-target.ensures.negated }) x))
     c.infer.ensures.infers
 
 pub returns-then-last-enforcement-clause-answers : goal.returns-then-last-enforcement-clause-answers
 returns-then-last-enforcement-clause-answers c = IfOk-map c.infer.result
     (λ step h body x. h body
-    (Gives-last _ _ c.args.rule.now.last _ body _ c.negate-target.result c.requires.in_force c.if-last-enforcement.true (record { subject = c.negate-target.ensures.subject; negated = c.negate-target.ensures.negated }) x))
+    (GivesAtom-last _ _ c.args.rule.now.last _ body _ c.negate-target.result c.requires.in_force c.if-last-enforcement.true (record { subject = c.negate-target.ensures.subject; negated = c.negate-target.ensures.negated }) x))
     c.infer.ensures.answers
 
 pub returns-then-last-enforcement-clause-refused : goal.returns-then-last-enforcement-clause-refused

@@ -1,7 +1,7 @@
 use Rattle.std.proofs.Common.{◌≡◌, ◌∙◌, ◌++◌, [], List, pos, ap, sym, subst}
 use Rattle.std.specs.List.Sorted.{IsPermutation}
 use Rattle.cps_p_cumulative.specs.declared.part.Part.{Part}
-use Rattle.cps_p_cumulative.proofs.Summing.{AreParts-permutation, IsRoomy-swept}
+use Rattle.cps_p_cumulative.proofs.Summing.{AreParts-permutation, FitsCapacity-swept}
 use Rattle.cps_p_cumulative.proofs.judge.overload.Goals as goal
 use Rattle.cps_p_cumulative.proofs.judge.overload.Goals.{After-as_slice-2}
 
@@ -27,4 +27,4 @@ sweep-requires-clause-starts c = AreParts-permutation c.args.parts.now c.as_slic
 pub returns-in-None : goal.returns-in-None
 returns-in-None c =
     let at = (goal.at.returns-in-None c).After-as_slice-2 in
-    IsRoomy-swept c.args.parts.now c.as_slice.result.now c.as_slice-2.result.now c.args.capacity no_part c.requires.parts (starts_moved at) (ends_moved at) (c.sweep.ensures c.in-None.is)
+    FitsCapacity-swept c.args.parts.now c.as_slice.result.now c.as_slice-2.result.now c.args.capacity no_part c.requires.parts (starts_moved at) (ends_moved at) (c.sweep.ensures c.in-None.is)

@@ -1,7 +1,7 @@
 use Rattle.std.proofs.Common.{arith, pos, rules, FitsSigned, w64, get_or}
 use Rattle.std.proofs.lemmas.Int.{to_z-of_z}
 use Rattle.cps_p_cumulative.specs.declared.part.Part.{Part}
-use Rattle.cps_p_cumulative.proofs.Summing.{tried_more, IsRoomy-tried}
+use Rattle.cps_p_cumulative.proofs.Summing.{tried_more, FitsCapacity-tried}
 use Rattle.cps_p_cumulative.proofs.judge.scan.Goals as goal
 
 abbrev no_part : Part
@@ -17,4 +17,4 @@ loop-part-preserved c =
     tried_more ps c.args.capacity k no_part c.loop-part-test.true e c.loop-part.invariant
 
 pub returns : goal.returns
-returns c = let past = c.loop-part-test.false in IsRoomy-tried c.args.parts.now c.args.capacity no_part (λ k l. c.loop-part.invariant k no_part (omega arith))
+returns c = let past = c.loop-part-test.false in FitsCapacity-tried c.args.parts.now c.args.capacity no_part (λ k l. c.loop-part.invariant k no_part (omega arith))

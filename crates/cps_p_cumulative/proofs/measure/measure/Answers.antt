@@ -2,7 +2,7 @@ use Rattle.std.proofs.Common.{◌≡◌, ◌+◌, ◌<◌, ap, subst, sym, List,
 use Rattle.cps_instance.specs.declared.task.Span.{Span}
 use Rattle.cps_p_cumulative.specs.declared.part.Part.{Part}
 use Rattle.cps_p_cumulative.specs.Running.{IsSpanOf}
-use Rattle.cps_p_cumulative.specs.Measuring.{IsMeasured}
+use Rattle.cps_p_cumulative.specs.Measuring.{IsPartMeasured}
 use Rattle.cps_p_cumulative.proofs.Running.{span-inside}
 use Rattle.cps_p_cumulative.proofs.Relied.{min_past}
 use Rattle.cps_p_cumulative.proofs.Profiled.{IsProfileTo, profile-more, profile-same, profile-all}
@@ -26,7 +26,7 @@ loop-k-preserved c =
     let part = c.part_of-part.result in
     let l : k < length ps = (let a = c.min-count.ensures in let b = c.loop-k-test.true in omega arith) in
     let m : k < length ds = (let a = c.min-count.ensures in let b = c.loop-k-test.true in omega arith) in
-    let here : IsMeasured s (get_or ps k q) (get_or ds k 0) part = subst (λ (p : Span). IsMeasured s p (get_or ds k 0) part) c.index-spans-k.is c.part_of-part.ensures in
+    let here : IsPartMeasured s (get_or ps k q) (get_or ds k 0) part = subst (λ (p : Span). IsPartMeasured s p (get_or ds k 0) part) c.index-spans-k.is c.part_of-part.ensures in
     elim c.if-part-gt0.branch [
       | then-part-gt0+in_ok-push w ↦ subst (λ (v : List Part). IsProfileTo s ps ds (k + 1) v) (ap (λ v. v.items) (sym w.parts-is)) (profile-more s ps ds k q 0 part c.loop-k.parts.items w.push.new.self.items l m here w.in_ok-push.ensures.items c.loop-k.invariant)
       | else-part-gt0 w ↦

@@ -2,7 +2,7 @@ use Rattle.std.proofs.Common.{◌<◌, ◌∙◌, ℕ, List, pos, sym, subst, le
 use Rattle.cps_literal.specs.declared.atom.Atom.{Atom}
 use Rattle.cps_literal.specs.declared.atom.Op.TheVariants.{Le}
 use Rattle.cps_literal.proofs.Normalizing.{holds_too}
-use Rattle.cps_p_linear.specs.Supporting.{AreFacts}
+use Rattle.cps_p_linear.specs.Supporting.{AreGrounds}
 use Rattle.cps_p_linear.specs.Measuring.{Asks}
 use Rattle.cps_p_linear.proofs.Explained.{reason_for}
 use Rattle.cps_p_linear.proofs.Forces.{but_facts, negation_given}
@@ -13,7 +13,7 @@ no_atom = record { subject = 0; op = Le; value = pos 0 }
 
 pub explain_none-requires-clause-facts : goal.explain_none-requires-clause-facts
 explain_none-requires-clause-facts c =
-    subst (λ (us : List Atom). AreFacts c.args.past.now us) (sym c.in_ok-begin_without.ensures)
+    subst (λ (us : List Atom). AreGrounds c.args.past.now us) (sym c.in_ok-begin_without.ensures)
     (but_facts c.args.past.now c.args.measured.now.task.enforcement.now c.args.place c.requires.negatable (c.are_true_but.ensures c.if-not-are_true_but.false))
 
 pub returns : goal.returns

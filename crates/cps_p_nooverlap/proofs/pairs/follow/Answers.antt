@@ -3,7 +3,7 @@ use Rattle.std.specs.Prelude.{IfSome}
 use Rattle.std.proofs.lemmas.Int.{to_z-of_z}
 use mir.Syntax.{w128}
 use Rattle.cps_instance.specs.declared.task.Span.{Span}
-use Rattle.cps_p_nooverlap.specs.Spans.{Says, start_at, end_at, no_seen}
+use Rattle.cps_p_nooverlap.specs.Spans.{SaysOfTimes, start_at, end_at, no_seen}
 use Rattle.cps_p_nooverlap.proofs.Timing.{IfSome-map}
 use Rattle.cps_p_nooverlap.proofs.Pairing.{start_given, end_given, gives_proposed}
 use Rattle.cps_p_nooverlap.proofs.pairs.follow.Goals as goal
@@ -22,8 +22,8 @@ returns c =
     let fb : FitsSigned w128 (get_or c.args.seen.now c.args.pair.after no_seen).times.start_high = search rules in
     let d = c.index-spans-pair.result in
     let e = c.index-spans-pair-2.result in
-    let first = subst (λ (z : Span). IfSome c.later_start-start.result (λ u. Says z u (λ xs. (get_or vs p.before no_seen).times.end_low ≤ℤ start_at xs z))) c.index-spans-pair.is (rw (to_z-of_z w128 (get_or c.args.seen.now c.args.pair.before no_seen).times.end_low fa) at c.later_start-start.ensures) in
-    let second = subst (λ (z : Span). IfSome c.earlier_end-end.result (λ u. Says z u (λ xs. end_at xs z ≤ℤ (get_or vs p.after no_seen).times.start_high))) c.index-spans-pair-2.is (rw (to_z-of_z w128 (get_or c.args.seen.now c.args.pair.after no_seen).times.start_high fb) at c.earlier_end-end.ensures) in
+    let first = subst (λ (z : Span). IfSome c.later_start-start.result (λ u. SaysOfTimes z u (λ xs. (get_or vs p.before no_seen).times.end_low ≤ℤ start_at xs z))) c.index-spans-pair.is (rw (to_z-of_z w128 (get_or c.args.seen.now c.args.pair.before no_seen).times.end_low fa) at c.later_start-start.ensures) in
+    let second = subst (λ (z : Span). IfSome c.earlier_end-end.result (λ u. SaysOfTimes z u (λ xs. end_at xs z ≤ℤ (get_or vs p.after no_seen).times.start_high))) c.index-spans-pair-2.is (rw (to_z-of_z w128 (get_or c.args.seen.now c.args.pair.after no_seen).times.start_high fb) at c.earlier_end-end.ensures) in
     λ s are b order h. gives_proposed b s c.earlier_end-end.result c.propose.new.found.items c.propose-2.new.found.items
     (IfSome-map c.earlier_end-end.result (λ u q. end_given s c.args.spans.now c.args.seen.now are.spans are.seen b p e u c.requires.pair order q) second) c.in_ok-propose-2.ensures
     (gives_proposed b s c.later_start-start.result c.args.found.now.items c.propose.new.found.items

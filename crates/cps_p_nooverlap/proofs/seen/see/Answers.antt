@@ -3,7 +3,7 @@ use Rattle.std.specs.List.{AllZip}
 use Rattle.std.proofs.lemmas.List.{take_more}
 use Rattle.cps_instance.specs.declared.task.Span.{Span}
 use Rattle.cps_p_nooverlap.specs.declared.seen.Seen.{Seen}
-use Rattle.cps_p_nooverlap.specs.Spans.{IsSeen}
+use Rattle.cps_p_nooverlap.specs.Spans.{IsSpanSeen}
 use Rattle.cps_p_nooverlap.proofs.Timing.{zip_push}
 use Rattle.cps_p_nooverlap.proofs.seen.see.Goals as goal
 
@@ -14,6 +14,6 @@ loop-span-preserved c =
     let k = c.loop-span.span-index in
     let q = c.span-item.result in
     let same : q ≡ get_or ps k q = c.span-item.is in
-    subst (λ (qs : List Span). AllZip (IsSeen s) qs c.push.new.self.items) (sym (take_more ps k q c.loop-span-test.true))
-    (subst (λ (vs : List Seen). AllZip (IsSeen s) (take k ps ++ get_or ps k q ∷ []) vs) (sym c.in_ok-push.ensures.items)
-    (zip_push (IsSeen s) (take k ps) c.loop-span.seen.items (get_or ps k q) c.seen_of.result c.loop-span.invariant (subst (λ (z : Span). IsSeen s z c.seen_of.result) same c.seen_of.ensures)))
+    subst (λ (qs : List Span). AllZip (IsSpanSeen s) qs c.push.new.self.items) (sym (take_more ps k q c.loop-span-test.true))
+    (subst (λ (vs : List Seen). AllZip (IsSpanSeen s) (take k ps ++ get_or ps k q ∷ []) vs) (sym c.in_ok-push.ensures.items)
+    (zip_push (IsSpanSeen s) (take k ps) c.loop-span.seen.items (get_or ps k q) c.seen_of.result c.loop-span.invariant (subst (λ (z : Span). IsSpanSeen s z c.seen_of.result) same c.seen_of.ensures)))

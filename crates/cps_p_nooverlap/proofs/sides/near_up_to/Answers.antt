@@ -3,7 +3,7 @@ use Rattle.std.specs.Prelude.{IfSome}
 use Rattle.std.proofs.lemmas.Int.{to_z-of_z}
 use mir.Syntax.{w64, w128}
 use Rattle.cps_p_nooverlap.specs.Crowds.{near_at}
-use Rattle.cps_p_nooverlap.specs.Spans.{Says}
+use Rattle.cps_p_nooverlap.specs.Spans.{SaysOfTimes}
 use Rattle.cps_p_nooverlap.proofs.Timing.{IfSome-map}
 use Rattle.cps_p_nooverlap.proofs.Turning.{near_up_to}
 use Rattle.cps_p_nooverlap.proofs.sides.near_up_to.Goals as goal
@@ -12,5 +12,5 @@ pub returns-then-is_reversed : goal.returns-then-is_reversed
 returns-then-is_reversed c =
     let f : FitsSigned w128 c.opposite.result = search rules in
     let g : FitsSigned w64 c.args.time = search rules in
-    subst (λ (b : Bool). IfSome c.end_from.result (λ u. Says c.args.span.now u (λ xs. near_at b xs c.args.span.now ≤ℤ c.args.time))) (sym c.if-is_reversed.true)
+    subst (λ (b : Bool). IfSome c.end_from.result (λ u. SaysOfTimes c.args.span.now u (λ xs. near_at b xs c.args.span.now ≤ℤ c.args.time))) (sym c.if-is_reversed.true)
     (IfSome-map c.end_from.result (λ u h. near_up_to c.args.span.now u c.args.time c.opposite.result (rw (to_z-of_z w64 c.args.time g) at c.opposite.ensures) h) (rw (to_z-of_z w128 c.opposite.result f) at c.end_from.ensures))

@@ -3,7 +3,7 @@ use Rattle.std.proofs.lemmas.Int.{ints, to_z-of_z}
 use mir.Syntax.{w64}
 use Rattle.cps_p_nooverlap.specs.declared.crowd.Ends.TheVariants.{End}
 use Rattle.cps_p_nooverlap.specs.Citing.{Cites}
-use Rattle.cps_p_nooverlap.specs.Crowds.{AreRuns, IsAside}
+use Rattle.cps_p_nooverlap.specs.Crowds.{AreRuns, IsUncounted}
 use Rattle.cps_p_nooverlap.proofs.Claims.{cites_not_first}
 use Rattle.cps_p_nooverlap.proofs.windows.cite_not_first.Goals as goal
 
@@ -15,7 +15,7 @@ returns-else-not-branch c e =
     let whole = c.as_slice-whole.ensures.value in
     let more = c.is_overfull.ensures c.if-not-is_overfull.false in
     let full : c.args.crowd.to <ℤ (c.args.crowd.edge +ℤ pos c.in-Some.counted) = omega (arith, ints) in
-    let aside : IsAside (length c.args.spans.now) c.args.marks.now.whole.items c.args.crowd.place c.in-Some.counted = subst (λ (ws : List ℕ). IsAside (length c.args.spans.now) ws c.args.crowd.place c.in-Some.counted) c.as_slice-whole.ensures.value c.in-Some.ensures in
+    let aside : IsUncounted (length c.args.spans.now) c.args.marks.now.whole.items c.args.crowd.place c.in-Some.counted = subst (λ (ws : List ℕ). IsUncounted (length c.args.spans.now) ws c.args.crowd.place c.in-Some.counted) c.as_slice-whole.ensures.value c.in-Some.ensures in
     let runs = rw (to_z-of_z w64 c.args.crowd.to g) at (rw (to_z-of_z w64 c.args.crowd.time f) at (c.cite_runs.ensures e)) in
     cites_not_first c.args.spans.now c.args.crowd.place aside.place c.index-spans-crowd.result c.index-spans-crowd.is c.args.past.now c.args.crowd.is_reversed c.args.facts.now.items c.cite_late.new.facts.items c.cite_runs.new.facts.items c.args.marks.now.whole.items c.in-Some.counted aside
     c.args.crowd.to c.args.crowd.edge c.args.crowd.time full (c.cite_late.ensures one)

@@ -10,7 +10,7 @@ use Rattle.cps_port.specs.Order.{raised_above}
 use Rattle.cps_port.specs.Totals.{total}
 use Rattle.cps_bounds.specs.Seats as words
 use Rattle.cps_portfolio.specs.declared.seats.Seated.{Seated}
-use Rattle.cps_portfolio.specs.Crews.{words_splits, IsReady, AreGathered}
+use Rattle.cps_portfolio.specs.Crews.{words_splits, IsWorkerReady, AreGathered}
 use Rattle.cps_portfolio.proofs.Crews.{written, written_back, all_at, all_ready, splits_back, came_to}
 use Rattle.cps_portfolio.proofs.threads.solve.Goals as goal
 
@@ -19,8 +19,8 @@ work_all-requires-clause-ready g c =
     let m = c.args.model.now in
     let o = c.args.options.now in
     let ready = all_ready m o.gap o.conflicts c.in_ok-board.board c.in_ok-bounds.bounds c.in_ok-crew.crew.items c.in_ok-bounds.ensures.model c.in_ok-crew.ensures.crew in
-    let here = subst (λ (l : List Seated). All (IsReady m) l) (sym c.as_mut_slice.ensures.value) ready in
-    λ κs outlive. subst (λ (x : CpModel). All (IsReady x) c.as_mut_slice.result.now) (sym c.in_ok-pool.ensures) here
+    let here = subst (λ (l : List Seated). All (IsWorkerReady m) l) (sym c.as_mut_slice.ensures.value) ready in
+    λ κs outlive. subst (λ (x : CpModel). All (IsWorkerReady x) c.as_mut_slice.result.now) (sym c.in_ok-pool.ensures) here
 
 pub gather-requires-clause-splits : goal.gather-requires-clause-splits
 gather-requires-clause-splits g c =

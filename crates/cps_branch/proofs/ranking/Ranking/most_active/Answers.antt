@@ -2,7 +2,7 @@ use Rattle.std.proofs.Common.{ℕ, ◌≡◌, ◌∙◌, Option, length, sym, su
 use Rattle.std.specs.Prelude.{IfSome, IsNone}
 use Rattle.cps_branch.specs.declared.ranking.Aside.{Aside}
 use Rattle.cps_branch.specs.Fixed.{AreFixed}
-use Rattle.cps_branch.specs.SetAside.{Leads, aside_of, size_of}
+use Rattle.cps_branch.specs.SetAside.{LeadsInPlay, aside_of, size_of}
 use Rattle.cps_branch.proofs.Aside.{all_aside_fixed, have_still, leader_most, none_open, same_next, sets_more, sets_none}
 use Rattle.cps_branch.proofs.ranking.Ranking.most_active.Goals as goal
 
@@ -46,6 +46,6 @@ returns-then-not-is_fixed-clause-choice c = λ activities count have.
     let old = c.args.self.now in
     let mid = c.variables.self in
     let v = c.in-Some.variable in
-    let leads = subst (λ (o : Option ℕ). IfSome o (λ v. Leads (size_of mid) mid.nodes.items v)) c.in-Some.is c.top.ensures.some in
+    let leads = subst (λ (o : Option ℕ). IfSome o (λ v. LeadsInPlay (size_of mid) mid.nodes.items v)) c.in-Some.is c.top.ensures.some in
     leader_most (size_of mid) v mid.nodes.items (aside_of mid) c.args.store.now activities i.ranking.tournament i.fixed leads (λ f. true≢false (sym (c.is_fixed.ensures.1 f) ∙ c.if-not-is_fixed.true)) (count ∙ sym i.count)
     (have_still activities old mid (size_of old) (sym count) i.same have)

@@ -6,9 +6,9 @@ use Rattle.cps_clauses.specs.declared.journal.Line.{Line}
 use Rattle.cps_clauses.specs.declared.journal.Line.TheVariants as lines
 use Rattle.cps_clauses.specs.declared.origin.Origin.{Origin}
 use Rattle.cps_clauses.specs.Journals.{noted}
-use Rattle.cps_clauses.specs.Lines.{item_of, IsKept}
+use Rattle.cps_clauses.specs.Lines.{item_of, IsJournalKept}
 use Rattle.cps_clauses.specs.AtomRanges.{IsAppended}
-use Rattle.cps_clauses.proofs.Recording.{items_learnt, IsKept-learnt}
+use Rattle.cps_clauses.proofs.Recording.{items_learnt, IsJournalKept-learnt}
 use Rattle.cps_clauses.proofs.journal.Journal.note.Goals as goal
 use Rattle.cps_clauses.proofs.journal.Journal.note.Goals.{In_ok-atom_range-in-Learnt}
 
@@ -18,8 +18,8 @@ appended c = subst (λ (ts : List Atom). IsAppended c.self.inside.atoms c.append
 pub invariant_of-self-in-Learnt : goal.invariant_of-self-in-Learnt
 invariant_of-self-in-Learnt c =
     let i = c.self.inside in
-    subst (λ (ls : List Line). IsKept c.append.new.self ls c.args.clause) (sym (c.push_reserved.ensures.items ∙ ap (λ (ls : List Line). ls ++ lines.Learnt c.in_ok-atom_range-in-Learnt.atom_range c.args.below ∷ []) c.reserve.ensures.items))
-    (IsKept-learnt i.atoms c.append.new.self c.args.clause i.latest i.lines.items c.in_ok-atom_range-in-Learnt.atom_range c.args.below (appended (goal.at.invariant_of-self-in-Learnt c).In_ok-atom_range-in-Learnt) c.self.invariant)
+    subst (λ (ls : List Line). IsJournalKept c.append.new.self ls c.args.clause) (sym (c.push_reserved.ensures.items ∙ ap (λ (ls : List Line). ls ++ lines.Learnt c.in_ok-atom_range-in-Learnt.atom_range c.args.below ∷ []) c.reserve.ensures.items))
+    (IsJournalKept-learnt i.atoms c.append.new.self c.args.clause i.latest i.lines.items c.in_ok-atom_range-in-Learnt.atom_range c.args.below (appended (goal.at.invariant_of-self-in-Learnt c).In_ok-atom_range-in-Learnt) c.self.invariant)
 
 pub returns-in_ok-atom_range-in-Learnt-clause-ok : goal.returns-in_ok-atom_range-in-Learnt-clause-ok
 returns-in_ok-atom_range-in-Learnt-clause-ok c =

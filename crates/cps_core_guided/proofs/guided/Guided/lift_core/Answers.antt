@@ -3,14 +3,14 @@ use Rattle.std.proofs.lemmas.Int.{ints}
 use Rattle.cps_literal.specs.declared.atom.Atom.{Atom}
 use Rattle.cps_literal.specs.Truth.{value_at}
 use Rattle.cps_instance.specs.declared.term.Term.{Term}
-use Rattle.cps_trail.specs.Trail.{IsFalseNow, IsSound, Trail}
+use Rattle.cps_trail.specs.Trail.{IsFalseNow, IsSoundTrail, Trail}
 use Rattle.cps_search.proofs.Results.{if_ok_weaker}
 use Rattle.cps_reform.specs.declared.held.Held.{Held}
 use Rattle.cps_reform.specs.Cores.{core_terms}
 use Rattle.cps_reform.specs.Floors.{OfEachBelow}
 use Rattle.cps_reform.specs.Forms.{Form, lifted, term_at}
 use Rattle.cps_reform.proofs.Rooms.{bound-small}
-use Rattle.cps_core_guided.specs.Guiding.{Splits, Tried, core_search_of}
+use Rattle.cps_core_guided.specs.Guiding.{SplitsCore, Tried, core_search_of}
 use Rattle.cps_core_guided.specs.Reforming.{CoreSearch, ReformsTo, alone}
 use Rattle.cps_core_guided.proofs.CoreLaw.{core-has-failed, core-some, core-weighs, in-core, risen-alone}
 use Rattle.cps_core_guided.proofs.Lifting.{lift-same, marked-sound, one_more, tried-lifted, tried-split, works-form}
@@ -30,7 +30,7 @@ overflow_add-atom g c =
 pub lift-requires-clause-sound : goal.lift-requires-clause-sound
 lift-requires-clause-sound g c =
     let s = core_search_of c.args.self.now in
-    marked-sound s c.mark_core.new.self c.args.place c.args.decisions.now c.requires.works.sound c.requires.failed.bottom (subst (λ (x : Trail). IsSound x) c.store.ensures c.entries.ensures.sound) c.mark_core.ensures
+    marked-sound s c.mark_core.new.self c.args.place c.args.decisions.now c.requires.works.sound c.requires.failed.bottom (subst (λ (x : Trail). IsSoundTrail x) c.store.ensures c.entries.ensures.sound) c.mark_core.ensures
 
 pub lift-requires-clause-rises : goal.lift-requires-clause-rises
 lift-requires-clause-rises g c =
@@ -102,7 +102,7 @@ split-requires-clause-works g c =
     let old = c.args.self.now in
     let scope = g.B.Brancher.scope old.brancher in
     let agrees = g.B.Brancher.agrees old.brancher s.search.store in
-    let sound = marked-sound s f c.args.place c.args.decisions.now c.requires.works.sound c.requires.failed.bottom (subst (λ (x : Trail). IsSound x) c.store.ensures c.entries.ensures.sound) c.mark_core.ensures in
+    let sound = marked-sound s f c.args.place c.args.decisions.now c.requires.works.sound c.requires.failed.bottom (subst (λ (x : Trail). IsSoundTrail x) c.store.ensures c.entries.ensures.sound) c.mark_core.ensures in
     works-form s (record s { form = f }) scope scope agrees agrees old.kept old.kept c.requires.works sound refl refl refl c.requires.works.agreed
 
 pub split-requires-clause-weights : goal.split-requires-clause-weights
@@ -127,4 +127,4 @@ returns-clause-tried g c =
     let size : length (core_terms f.terms) ≡ c.len.result = ap (λ (ts : List Term). length ts) (sym c.in_ok-core.ensures) ∙ count in
     let several_terms : 2 ≤ length (core_terms f.terms) = omega (arith, some, size, c.if-len-eq1.false) in
     let not_false = subst (λ (u : Atom). IsFalseNow s.search.store u → ⊥) c.requires.atom c.requires.not_false in
-    if_ok_weaker c.split.result (Splits (record s { form = f }) t) (Tried s t i decisions) (λ done sp. tried-split s t f i decisions done failed not_false m several_terms (core-weighs s f i decisions c.requires.works.sound.search failed m) sp) c.split.ensures.splits
+    if_ok_weaker c.split.result (SplitsCore (record s { form = f }) t) (Tried s t i decisions) (λ done sp. tried-split s t f i decisions done failed not_false m several_terms (core-weighs s f i decisions c.requires.works.sound.search failed m) sp) c.split.ensures.splits

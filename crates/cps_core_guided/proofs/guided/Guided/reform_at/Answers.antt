@@ -2,7 +2,7 @@ use Rattle.std.specs.Prelude.{IsTrue}
 use Rattle.std.proofs.Common.{◌≡◌, ◌∙◌, Bool, true, false, true≢false, ap, arith, inl, inr, length, List, min, refl, subst, sym}
 use Rattle.cps_model.specs.declared.bound.Bound.TheVariants.{At}
 use Rattle.cps_literal.specs.declared.atom.Atom.{Atom}
-use Rattle.cps_trail.specs.Trail.{IsSound, Trail}
+use Rattle.cps_trail.specs.Trail.{IsSoundTrail, Trail}
 use Rattle.cps_trail.proofs.Falls.{bool_cases}
 use Rattle.cps_search.specs.declared.turn.Turn.{Turn}
 use Rattle.cps_search.specs.Growing.{AreBehindIn}
@@ -38,7 +38,7 @@ reform_by-requires-clause-works g c =
     let is : r ≡ moved s.search r.store r.rested = c.restart.ensures.is ∙ ap (λ (x : Search). moved x r.store r.rested) kept_same in
     let back : GoesBack s.search.store r.store 0 = subst (λ (x : Search). GoesBack x.store r.store 0) kept_same c.restart.ensures.back in
     let running : c.decisions_behind.new.self.refused ≡ false = ap (λ (x : Search). x.refused) kept_same ∙ not_refused s.search.refused c.in_ok-decisions.ensures.stays in
-    let store : IsSound r.store = subst (λ (x : Trail). IsSound x) c.store-2.ensures c.entries-2.ensures.sound in
+    let store : IsSoundTrail r.store = subst (λ (x : Trail). IsSoundTrail x) c.store-2.ensures c.entries-2.ensures.sound in
     let level : r.store.level ≡ 0 = ap (λ (x : Trail). x.level) c.restart.ensures.back.is in
     let b = c.args.self.now.brancher in
     let kept = c.args.self.now.kept in
@@ -76,12 +76,12 @@ reform_by-requires-clause-failed g c =
     let kept_same : c.decisions_behind.new.self ≡ s.search = c.in_ok-decisions.ensures.same in
     let is : r ≡ moved s.search r.store r.rested = c.restart.ensures.is ∙ ap (λ (x : Search). moved x r.store r.rested) kept_same in
     let back : GoesBack s.search.store r.store 0 = subst (λ (x : Search). GoesBack x.store r.store 0) kept_same c.restart.ensures.back in
-    let store : IsSound r.store = subst (λ (x : Trail). IsSound x) c.store-2.ensures c.entries-2.ensures.sound in
+    let store : IsSoundTrail r.store = subst (λ (x : Trail). IsSoundTrail x) c.store-2.ensures c.entries-2.ensures.sound in
     let level : r.store.level ≡ 0 = ap (λ (x : Trail). x.level) c.restart.ensures.back.is in
     let atom : c.assumption-atom.result ≡ assumed (term_at s.form.terms i) = c.assumption-atom.ensures ∙ ap (λ (ts : List Held). assumed (term_at ts i)) c.terms.ensures in
     let behind : AreBehindIn s.search (assumed (term_at s.form.terms i)) decisions =
     subst (λ (us : List Atom). AreBehindIn s.search (assumed (term_at s.form.terms i)) us) (sym c.as_slice.ensures.value) (subst (λ (a : Atom). AreBehindIn s.search a c.in_ok-decisions.decisions.items) atom c.in_ok-decisions.ensures.behind) in
-    let first : IsSound s.search.store = subst (λ (x : Trail). IsSound x) c.store.ensures c.entries.ensures.sound in
+    let first : IsSoundTrail s.search.store = subst (λ (x : Trail). IsSoundTrail x) c.store.ensures c.entries.ensures.sound in
     subst (λ (x : Search). HasFailed (record s { search = x }) i decisions) (sym is) (has-failed s r.store r.rested i decisions w.sound first c.requires.few c.requires.failed level behind)
 
 pub conclude-requires-clause-base : goal.conclude-requires-clause-base

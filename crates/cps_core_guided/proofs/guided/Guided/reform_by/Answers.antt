@@ -8,7 +8,7 @@ use Rattle.cps_trail.specs.Trail.{IsFalseNow, Trail}
 use Rattle.cps_reform.specs.Floors.{OfEachBelow}
 use Rattle.cps_reform.specs.Forms.{lifted, no_term, term_at}
 use Rattle.cps_core_guided.specs.Guiding.{core_search_of}
-use Rattle.cps_core_guided.specs.Reforming.{CoreSearch, IsLeastNow, at_bottom}
+use Rattle.cps_core_guided.specs.Reforming.{CoreSearch, IsLeastAdmitted, at_bottom}
 use Rattle.cps_core_guided.proofs.Lifting.{lift-same, tried-lifted, works-form}
 use Rattle.cps_core_guided.proofs.Reforming.{base-rises, least-above, least-now, risen-least}
 use Rattle.cps_core_guided.proofs.guided.Guided.reform_by.Goals as goal
@@ -21,7 +21,7 @@ lift-requires-clause-rises g c =
     let fits : FitsSigned w64 v = search rules in
     let not_met = subst (λ (u : Atom). IsFalseNow s.search.store u) c.requires.atom (subst (λ (x : Trail). IsFalseNow x c.args.atom) c.store.ensures (c.in-No.ensures.no.0 refl)) in
     let here = least-now c.store-in-No.result.now s.search.store c.args.atom.subject v (λ x. contains c.domain.result.now x) c.store-in-No.ensures c.domain.ensures c.min-least.ensures.within c.min-least.ensures.least in
-    let least : IsLeastNow s.search.store term.subject v = subst (λ (i : ℕ). IsLeastNow s.search.store i v) (ap (λ (u : Atom). u.subject) c.requires.atom) here in
+    let least : IsLeastAdmitted s.search.store term.subject v = subst (λ (i : ℕ). IsLeastAdmitted s.search.store i v) (ap (λ (u : Atom). u.subject) c.requires.atom) here in
     let over = least-above s.search.store term v not_met least in
     subst (λ (x : ℤ). term.bound ≤ℤ x) (sym (to_z-of_z w64 v fits)) (omega (arith, ints, over))
 
@@ -32,7 +32,7 @@ lift-requires-clause-risen g c =
     let v = c.min-least.result in
     let fits : FitsSigned w64 v = search rules in
     let here = least-now c.store-in-No.result.now s.search.store c.args.atom.subject v (λ x. contains c.domain.result.now x) c.store-in-No.ensures c.domain.ensures c.min-least.ensures.within c.min-least.ensures.least in
-    let least : IsLeastNow s.search.store term.subject v = subst (λ (i : ℕ). IsLeastNow s.search.store i v) (ap (λ (u : Atom). u.subject) c.requires.atom) here in
+    let least : IsLeastAdmitted s.search.store term.subject v = subst (λ (i : ℕ). IsLeastAdmitted s.search.store i v) (ap (λ (u : Atom). u.subject) c.requires.atom) here in
     let held = c.requires.works.sound.form.roomy.terms c.args.place no_term c.requires.failed.within in
     let inside : term.subject < length s.search.store.first = subst (λ (ds : Domains). term.subject < length ds) (sym c.requires.works.sound.search.domains) held.subject in
     subst (λ (x : ℤ). OfEachBelow s.search.instance s.search.z (λ xs. x ≤ℤ value_at xs term.subject)) (sym (to_z-of_z w64 v fits)) (risen-least s.search term.subject v c.requires.bottom inside least)
@@ -49,8 +49,8 @@ returns-in-No-clause-tried g c =
     let b = to_z w64 (of_z w64 v) in
     let not_met = subst (λ (u : Atom). IsFalseNow s.search.store u) c.requires.atom (subst (λ (x : Trail). IsFalseNow x c.args.atom) c.store.ensures (c.in-No.ensures.no.0 refl)) in
     let here = least-now c.store-in-No.result.now s.search.store c.args.atom.subject v (λ x. contains c.domain.result.now x) c.store-in-No.ensures c.domain.ensures c.min-least.ensures.within c.min-least.ensures.least in
-    let at : IsLeastNow s.search.store term.subject v = subst (λ (j : ℕ). IsLeastNow s.search.store j v) (ap (λ (u : Atom). u.subject) c.requires.atom) here in
-    let least : IsLeastNow s.search.store term.subject b = subst (λ (x : ℤ). IsLeastNow s.search.store term.subject x) (sym read) at in
+    let at : IsLeastAdmitted s.search.store term.subject v = subst (λ (j : ℕ). IsLeastAdmitted s.search.store j v) (ap (λ (u : Atom). u.subject) c.requires.atom) here in
+    let least : IsLeastAdmitted s.search.store term.subject b = subst (λ (x : ℤ). IsLeastAdmitted s.search.store term.subject x) (sym read) at in
     let up = base-rises s.form i b c.requires.failed.weighs (least-above s.search.store term b not_met least) in
     tried-lifted s t s.form i b c.args.decisions.now c.lift.result c.requires.failed (at_bottom b not_met least) up c.lift.ensures.lifts c.lift.ensures.stays c.lift.ensures.not_past c.lift.ensures.past c.lift.ensures.none
 

@@ -5,17 +5,17 @@ use Rattle.cps_model.specs.declared.model.CpModel.{CpModel}
 use Rattle.cps_instance.specs.declared.term.Term.{Term}
 use Rattle.cps_instance.specs.Problem.{Problem}
 use Rattle.cps_instance.specs.Sums.{DefinedSum}
-use Rattle.cps_trail.specs.Trail.{IsSound, Trail}
+use Rattle.cps_trail.specs.Trail.{IsSoundTrail, Trail}
 use Rattle.cps_port.specs.Order.{IsSmallBound}
 use Rattle.cps_search.specs.Growing.{GrewBy}
 use Rattle.cps_search.specs.Searches.{NoneBelow, Search}
 use Rattle.cps_search.proofs.Results.{ok_if}
 use Rattle.cps_reform.specs.Cores.{core_sum, core_terms, least_weight, split, IsSomeAbove}
-use Rattle.cps_reform.specs.Floors.{IsCoreSum, IsGreatest, IsPast, IsReform, NoneIsBelow, OfEachBelow}
+use Rattle.cps_reform.specs.Floors.{IsCoreSum, IsGreatestObjective, IsFormPast, IsReform, NoneIsBelow, OfEachBelow}
 use Rattle.cps_reform.specs.Forms.{Form}
 use Rattle.cps_reform.proofs.Growing.{core-reach, core-subjects, grown-core, grown-reform, grown-sum}
 use Rattle.cps_core_guided.specs.CoreTurns.{IsCoreWorking}
-use Rattle.cps_core_guided.specs.Guiding.{Splits, core_search_of}
+use Rattle.cps_core_guided.specs.Guiding.{SplitsCore, core_search_of}
 use Rattle.cps_core_guided.specs.Reforming.{CoreSearch}
 use Rattle.cps_core_guided.proofs.CoreWorking.{works-grown}
 use Rattle.cps_core_guided.proofs.Reforming.{most-greatest, small-greatest, z-small}
@@ -77,8 +77,8 @@ split_below-requires-clause-greatest g c =
     let t = c.grow.new.self in
     let grew = c.in_ok-subject.ensures.grew in
     let model : c.instance.result.now.model ≡ s.search.instance.model = ap (λ (p : Problem). p.model) c.instance.ensures ∙ grew.defines.model in
-    subst (λ (m : CpModel). IsGreatest m c.ceiling-ceiling.result.greatest) (sym model)
-    (subst (λ (v : ℤ). IsGreatest s.search.instance.model v) (sym c.ceiling-ceiling.ensures.greatest) (most-greatest s c.requires.works.sound))
+    subst (λ (m : CpModel). IsGreatestObjective m c.ceiling-ceiling.result.greatest) (sym model)
+    (subst (λ (v : ℤ). IsGreatestObjective s.search.instance.model v) (sym c.ceiling-ceiling.ensures.greatest) (most-greatest s c.requires.works.sound))
 
 pub split_below-requires-clause-small : goal.split_below-requires-clause-small
 split_below-requires-clause-small g c =
@@ -94,18 +94,18 @@ returns-clause-splits g c =
     let grew = of_core s.search t c.args.core.now (core_terms s.form.terms) n c.requires.core c.in_ok-subject.ensures.grew in
     let u : CoreSearch = record s { search = t; form = f; sums = s.sums + 1 } in
     let z = same_z s.search t (core_sum s.form.terms) n grew in
-    if_ok_of c.split_below.result (Splits s u) (λ done e. record {
+    if_ok_of c.split_below.result (SplitsCore s u) (λ done e. record {
       subject = n;
       grew = grew;
       sums = refl;
       is = λ on. c.split_below.ensures.splits (e ∙ ap (λ (b : Bool). Ok b) on);
       stays = λ off. c.split_below.ensures.stays (e ∙ ap (λ (b : Bool). Ok b) off);
-      not_past = λ on. subst (λ (p : Problem). IsPast t.z s.greatest p.domains f → ⊥) c.instance.ensures
-          (subst (λ (v : ℤ). IsPast t.z v c.instance.result.now.domains f → ⊥) c.ceiling-ceiling.ensures.greatest
-          (subst (λ (b : Bound). IsPast b c.ceiling-ceiling.result.greatest c.instance.result.now.domains f → ⊥) c.ceiling-ceiling.ensures.z (c.split_below.ensures.not_past (e ∙ ap (λ (b : Bool). Ok b) on))));
-      past = λ off. subst (λ (p : Problem). IsPast t.z s.greatest p.domains (split s.form (least_weight s.form.terms) n)) c.instance.ensures
-          (subst (λ (v : ℤ). IsPast t.z v c.instance.result.now.domains (split s.form (least_weight s.form.terms) n)) c.ceiling-ceiling.ensures.greatest
-          (subst (λ (b : Bound). IsPast b c.ceiling-ceiling.result.greatest c.instance.result.now.domains (split s.form (least_weight s.form.terms) n)) c.ceiling-ceiling.ensures.z (c.split_below.ensures.past (e ∙ ap (λ (b : Bool). Ok b) off))));
+      not_past = λ on. subst (λ (p : Problem). IsFormPast t.z s.greatest p.domains f → ⊥) c.instance.ensures
+          (subst (λ (v : ℤ). IsFormPast t.z v c.instance.result.now.domains f → ⊥) c.ceiling-ceiling.ensures.greatest
+          (subst (λ (b : Bound). IsFormPast b c.ceiling-ceiling.result.greatest c.instance.result.now.domains f → ⊥) c.ceiling-ceiling.ensures.z (c.split_below.ensures.not_past (e ∙ ap (λ (b : Bool). Ok b) on))));
+      past = λ off. subst (λ (p : Problem). IsFormPast t.z s.greatest p.domains (split s.form (least_weight s.form.terms) n)) c.instance.ensures
+          (subst (λ (v : ℤ). IsFormPast t.z v c.instance.result.now.domains (split s.form (least_weight s.form.terms) n)) c.ceiling-ceiling.ensures.greatest
+          (subst (λ (b : Bound). IsFormPast b c.ceiling-ceiling.result.greatest c.instance.result.now.domains (split s.form (least_weight s.form.terms) n)) c.ceiling-ceiling.ensures.z (c.split_below.ensures.past (e ∙ ap (λ (b : Bool). Ok b) off))));
       none_below = λ off. subst (λ (m : CpModel). NoneBelow m s.search.z) grew.defines.model (subst (λ (b : Bound). NoneBelow t.instance.model b) z
           (subst (λ (b : Bound). NoneIsBelow t.instance b) c.ceiling-ceiling.ensures.z (subst (λ (p : Problem). NoneIsBelow p c.ceiling-ceiling.result.z) c.instance.ensures (c.split_below.ensures.none (e ∙ ap (λ (b : Bool). Ok b) off)))));
       raised = refl;
@@ -128,5 +128,5 @@ returns-clause-works g c =
     let agrees = g.B.Brancher.agrees b in
     let works : IsCoreWorking (record s { search = t; form = f; sums = s.sums + 1 }) scope (agrees t.store) kept =
     works-grown s t f (core_sum s.form.terms) c.in_ok-subject.subject scope agrees kept c.requires.works c.requires.few c.in_ok-subject.ensures.sound grew reform c.split_below.ensures.base
-    (subst (λ (x : Trail). IsSound x) c.store.ensures c.entries.ensures.sound) level c.requires.running (λ same was. g.met.B.Brancher.kept_on b s.search.store t.store kept kept (omega arith) same was) in
+    (subst (λ (x : Trail). IsSoundTrail x) c.store.ensures c.entries.ensures.sound) level c.requires.running (λ same was. g.met.B.Brancher.kept_on b s.search.store t.store kept kept (omega arith) same was) in
     ok_if c.split_below.result (IsCoreWorking (record s { search = t; form = f; sums = s.sums + 1 }) scope (agrees t.store) kept) works

@@ -6,7 +6,7 @@ use Rattle.std.proofs.lemmas.List.{length-map}
 use Rattle.std.proofs.lemmas.Result.{on_ok_weaker}
 use Rattle.cps_model.specs.declared.model.LinearExpr.{LinearExpr}
 use Rattle.cps_model.specs.Values.{reference_expression}
-use Rattle.cps_instance.specs.Strategies.{KeepsRules, Numbers}
+use Rattle.cps_instance.specs.Strategies.{KeepsRules, NumbersExpressions}
 use Rattle.cps_instance.proofs.Agreeing.{All-append_left, All-append_right}
 use Rattle.cps_instance.proofs.Drafting.{numbers_rules, numbers_room, numbers_both}
 use Rattle.cps_instance.proofs.draft.Draft.push_all.Goals as goal
@@ -52,6 +52,6 @@ returns c =
     let es = c.parts.result.0.now in
     let rs = c.parts.result.1.now in
     on_ok_weaker c.push_references.result
-    (λ h. subst (λ (xs : List LinearExpr). Numbers p c.push_references.new.self xs c.args.subjects.now.items c.push_references.new.subjects.items) (sym c.parts.ensures)
+    (λ h. subst (λ (xs : List LinearExpr). NumbersExpressions p c.push_references.new.self xs c.args.subjects.now.items c.push_references.new.subjects.items) (sym c.parts.ensures)
     (numbers_both p c.push_subjects.new.self c.push_references.new.self es (map reference_expression rs) c.args.subjects.now.items c.push_subjects.new.subjects.items c.push_references.new.subjects.items c.in_ok-push_subjects.ensures h))
     c.push_references.ensures

@@ -8,7 +8,7 @@ use Rattle.std.proofs.lemmas.List.Elements.{All-tail}
 use Rattle.cps_model.specs.declared.model.LinearExpr.{LinearExpr}
 use Rattle.cps_instance.specs.Posting.{expressions_of}
 use Rattle.cps_model.specs.Values.{reference_expression}
-use Rattle.cps_instance.specs.Strategies.{KeepsRules, Numbers}
+use Rattle.cps_instance.specs.Strategies.{KeepsRules, NumbersExpressions}
 use Rattle.cps_instance.proofs.Agreeing.{All-append_left, All-append_right}
 use Rattle.cps_instance.proofs.Drafting.{numbers_rules, numbers_room, numbers_both}
 use Rattle.cps_instance.proofs.draft.Draft.push_kind.Goals as goal
@@ -128,7 +128,7 @@ returns-in_ok-push_both-in-Element c =
     let a = c.in-Element in
     let es : (a.index ∷ c.from_ref.result.now) ++ a.exprs ≡ expressions_of c.args.kind.now = ap (λ (xs : List LinearExpr). a.index ∷ (xs ++ a.exprs)) c.from_ref.ensures.value ∙ sym (ap expressions_of a.is) in
     on_ok_weaker c.push_all.result
-    (λ h. subst (λ (xs : List LinearExpr). Numbers p c.push_all.new.self xs c.args.subjects.now.items c.push_all.new.subjects.items) es
+    (λ h. subst (λ (xs : List LinearExpr). NumbersExpressions p c.push_all.new.self xs c.args.subjects.now.items c.push_all.new.subjects.items) es
     (numbers_both p c.push_both.new.self c.push_all.new.self (a.index ∷ c.from_ref.result.now) a.exprs c.args.subjects.now.items c.push_both.new.subjects.items c.push_all.new.subjects.items c.in_ok-push_both-in-Element.ensures h))
     c.push_all.ensures
 
@@ -138,7 +138,7 @@ returns-in_ok-push_subject-in-Interval c =
     let a = c.in-Interval in
     let es : (a.start ∷ []) ++ (a.end ∷ c.from_ref-in-Interval.result.now) ≡ expressions_of c.args.kind.now = sym (ap expressions_of a.is ∙ ap (λ (xs : List LinearExpr). a.start ∷ a.end ∷ xs) (sym c.from_ref-in-Interval.ensures.value)) in
     on_ok_weaker c.push_both-in-Interval.result
-    (λ h. subst (λ (xs : List LinearExpr). Numbers p c.push_both-in-Interval.new.self xs c.args.subjects.now.items c.push_both-in-Interval.new.subjects.items) es
+    (λ h. subst (λ (xs : List LinearExpr). NumbersExpressions p c.push_both-in-Interval.new.self xs c.args.subjects.now.items c.push_both-in-Interval.new.subjects.items) es
     (numbers_both p c.push_subject.new.self c.push_both-in-Interval.new.self (a.start ∷ []) (a.end ∷ c.from_ref-in-Interval.result.now) c.args.subjects.now.items c.push_subject.new.subjects.items c.push_both-in-Interval.new.subjects.items
     c.in_ok-push_subject-in-Interval.ensures h))
     c.push_both-in-Interval.ensures
@@ -154,7 +154,7 @@ returns-in_ok-push_references-in-Inverse c =
     ∙ ap (λ (rs : List ℤ). map reference_expression a.direct ++ map reference_expression rs) c.as_slice-in-Inverse-2.ensures
     ∙ sym (ap expressions_of a.is) in
     on_ok_weaker c.push_references-in-Inverse.result
-    (λ h. subst (λ (xs : List LinearExpr). Numbers p c.push_references-in-Inverse.new.self xs c.args.subjects.now.items c.push_references-in-Inverse.new.subjects.items) es
+    (λ h. subst (λ (xs : List LinearExpr). NumbersExpressions p c.push_references-in-Inverse.new.self xs c.args.subjects.now.items c.push_references-in-Inverse.new.subjects.items) es
     (numbers_both p c.push_references.new.self c.push_references-in-Inverse.new.self (map reference_expression front) (map reference_expression back) c.args.subjects.now.items c.push_references.new.subjects.items
     c.push_references-in-Inverse.new.subjects.items c.in_ok-push_references-in-Inverse.ensures h))
     c.push_references-in-Inverse.ensures
@@ -168,7 +168,7 @@ returns-in_ok-push_subjects-in-Reservoir c =
     let es : front ++ back ≡ expressions_of c.args.kind.now =
     ap (λ (xs : List LinearExpr). xs ++ back) c.as_slice-in-Reservoir.ensures ∙ ap (λ (xs : List LinearExpr). a.times ++ xs) c.as_slice-in-Reservoir-2.ensures ∙ sym (ap expressions_of a.is) in
     on_ok_weaker c.push_subjects-in-Reservoir-2.result
-    (λ h. subst (λ (xs : List LinearExpr). Numbers p c.push_subjects-in-Reservoir-2.new.self xs c.args.subjects.now.items c.push_subjects-in-Reservoir-2.new.subjects.items) es
+    (λ h. subst (λ (xs : List LinearExpr). NumbersExpressions p c.push_subjects-in-Reservoir-2.new.self xs c.args.subjects.now.items c.push_subjects-in-Reservoir-2.new.subjects.items) es
     (numbers_both p c.push_subjects-in-Reservoir.new.self c.push_subjects-in-Reservoir-2.new.self front back c.args.subjects.now.items c.push_subjects-in-Reservoir.new.subjects.items c.push_subjects-in-Reservoir-2.new.subjects.items
     c.in_ok-push_subjects-in-Reservoir.ensures h))
     c.push_subjects-in-Reservoir-2.ensures

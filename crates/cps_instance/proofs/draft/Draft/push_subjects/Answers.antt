@@ -4,7 +4,7 @@ use Rattle.std.proofs.lemmas.List.{take_more, take_all, length-take-le}
 use Rattle.std.proofs.lemmas.List.Elements.{All-get_or}
 use Rattle.cps_model.specs.declared.model.CpModel.{CpModel}
 use Rattle.cps_model.specs.declared.model.LinearExpr.{LinearExpr}
-use Rattle.cps_instance.specs.Strategies.{KeepsRules, Numbers}
+use Rattle.cps_instance.specs.Strategies.{KeepsRules, NumbersExpressions}
 use Rattle.cps_instance.proofs.Drafting.{numbers_none, numbers_both, numbers_room}
 use Rattle.cps_instance.proofs.draft.Draft.push_subjects.Goals as goal
 
@@ -38,10 +38,10 @@ loop-expr-preserved c =
     let p = c.args.self.now in
     let r = c.push_subject.new.self in
     let js = c.push_subject.new.subjects.items in
-    subst (λ (xs : List LinearExpr). Numbers p r xs c.args.subjects.now.items js) (sym longer)
+    subst (λ (xs : List LinearExpr). NumbersExpressions p r xs c.args.subjects.now.items js) (sym longer)
     (numbers_both p c.loop-expr.self r (take k es) (e ∷ []) c.args.subjects.now.items c.loop-expr.subjects.items js c.loop-expr.invariant c.in_ok-push_subject.ensures)
 
 pub returns : goal.returns
 returns c =
     let all = take_all c.loop-expr.expr-index c.args.exprs.now (omega arith) in
-    subst (λ (es : List LinearExpr). Numbers c.args.self.now c.loop-expr.self es c.args.subjects.now.items c.loop-expr.subjects.items) all c.loop-expr.invariant
+    subst (λ (es : List LinearExpr). NumbersExpressions c.args.self.now c.loop-expr.self es c.args.subjects.now.items c.loop-expr.subjects.items) all c.loop-expr.invariant

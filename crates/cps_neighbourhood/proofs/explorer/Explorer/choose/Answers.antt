@@ -1,5 +1,5 @@
 use Rattle.std.proofs.Common.{◌≡◌, length, refl, ap, subst, arith}
-use Rattle.cps_trail.specs.Trail.{Trail, IsSound}
+use Rattle.cps_trail.specs.Trail.{Trail, IsSoundTrail}
 use Rattle.cps_branch.specs.Scope.{Scope}
 use Rattle.cps_neighbourhood.proofs.Exploring.{chosen_decided, chosen_hinted, chosen_in}
 use Rattle.cps_neighbourhood.proofs.explorer.Explorer.choose.Goals as goal
@@ -14,4 +14,4 @@ returns-clause-exploring g c =
     let d = c.in_ok-decide_next.ensures in
     let seen : length c.entries-seen.result.now ≡ length c.args.self.now.frame.store.entries = omega (arith, c.entries-seen.ensures.views.same_length, ap (λ (x : Trail). length x.entries) c.store.ensures) in
     chosen_decided c.args.self.now _ c.requires.exploring c.requires.due c.requires.in_round c.requires.none (chosen_hinted c.args.self.now _ d.decided) d.sound (ap (λ (s : Scope). s.subjects) d.scope) seen d.saw
-    (subst (λ (x : Trail). IsSound x) c.store.ensures c.entries-seen.ensures.sound).levels refl refl refl refl refl
+    (subst (λ (x : Trail). IsSoundTrail x) c.store.ensures c.entries-seen.ensures.sound).levels refl refl refl refl refl

@@ -2,7 +2,7 @@
 use Rattle.std.proofs.Common.{Ok, ◌∙◌, true, sym, ap, subst, ◌≡◌}
 use Rattle.std.proofs.lemmas.Result.{on_ok_weaker}
 use Rattle.cps_trail.specs.Trail.{Trail}
-use Rattle.cps_neighbourhood.specs.Rounds.{IsFirstOpen}
+use Rattle.cps_neighbourhood.specs.Rounds.{IsFirstOpenDecision}
 use Rattle.cps_search.specs.Assumptions.{NoneIsOpen}
 use Rattle.cps_neighbourhood.specs.Exploring.{near_of}
 use Rattle.cps_neighbourhood.proofs.Exploring.{decided_begun, near_placed, open_in}
@@ -15,8 +15,8 @@ returns-in-Some-clause-decides g c =
     let stays = c.in_ok-assume.ensures.none (ap Ok c.if-branch.false) in
     let on : a.in_round ≡ true = subst (λ (y : _). y.in_round ≡ true) (sym stays.0) c.in_ok-enter.ensures.in_round in
     let none : NoneIsOpen a.frame.instance.model.assumptions a.frame.store = subst (λ (y : _). NoneIsOpen y.frame.instance.model.assumptions y.frame.store) (sym stays.0) stays.1 in
-    let first : IsFirstOpen c.next_open.new.self.decisions.items a.frame.store c.in-Some.atom =
-    subst (λ (ts : _). IsFirstOpen ts a.frame.store c.in-Some.atom) (sym k.decisions) (subst (λ (t : Trail). IsFirstOpen a.round.decisions.items t c.in-Some.atom) c.store.ensures k.some.0) in
+    let first : IsFirstOpenDecision c.next_open.new.self.decisions.items a.frame.store c.in-Some.atom =
+    subst (λ (ts : _). IsFirstOpenDecision ts a.frame.store c.in-Some.atom) (sym k.decisions) (subst (λ (t : Trail). IsFirstOpenDecision a.round.decisions.items t c.in-Some.atom) c.store.ensures k.some.0) in
     on_ok_weaker c.decide_open.result
     (λ near. decided_begun (near_of c.args.self.now) (near_of (record a { round = c.next_open.new.self })) (near_of c.decide_open.new.self) (near_placed a c.next_open.new.self k.decisions k.learnt ∙ ap (λ (y : _). near_of y) stays.0 ∙ c.in_ok-enter.ensures.near)
     (open_in (record a { round = c.next_open.new.self }) (near_of c.decide_open.new.self) c.in-Some.atom on none first near))

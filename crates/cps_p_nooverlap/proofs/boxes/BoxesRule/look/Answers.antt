@@ -5,7 +5,7 @@ use Rattle.cps_instance.specs.declared.task.Body.TheVariants.{NoOverlap2d}
 use Rattle.cps_propagate.specs.Strength.{HasSeparateBoxes}
 use Rattle.cps_rule.specs.Rules.{IsAtRest}
 use Rattle.cps_p_nooverlap.specs.declared.pairs.Pair.{Pair}
-use Rattle.cps_p_nooverlap.specs.Boxes.{LeavesNone, IsCount}
+use Rattle.cps_p_nooverlap.specs.Boxes.{LeavesNoBody, IsCount}
 use Rattle.cps_p_nooverlap.proofs.Boxing.{kept_of, given_of, direction_known, separate, boxes_at_rest, are_along, are_across}
 use Rattle.cps_p_nooverlap.proofs.boxes.BoxesRule.look.Goals as goal
 
@@ -28,7 +28,7 @@ returns-in-Some-clause-given c =
 pub returns-in-Some-clause-seen : goal.returns-in-Some-clause-seen
 returns-in-Some-clause-seen c =
     let s = c.args.store.now in
-    let leaves = subst (λ (o : Option Pair). IfSome o (λ p. LeavesNone c.look.new.self c.look-2.new.self)) c.in-Some.is c.in_ok-pair.ensures.impossible in
+    let leaves = subst (λ (o : Option Pair). IfSome o (λ p. LeavesNoBody c.look.new.self c.look-2.new.self)) c.in-Some.is c.in_ok-pair.ensures.impossible in
     leaves s c.in_ok-look.ensures.seen c.in_ok-look-2.ensures.seen (NoOverlap2d c.args.self.now.x.spans c.args.self.now.y.spans) (kept_of c.args.self.now.x.spans c.args.self.now.y.spans c.look.new.self.spans c.look-2.new.self.spans c.look.ensures.spans c.look-2.ensures.spans)
 
 pub returns-in-None-clause-given : goal.returns-in-None-clause-given

@@ -2,7 +2,7 @@ use Rattle.std.proofs.Common.{◌≡◌, Ok, None, List, length, sym, subst, rul
 use Rattle.std.specs.List.{AllZip}
 use Rattle.cps_instance.specs.declared.task.Span.{Span}
 use Rattle.cps_p_nooverlap.specs.declared.seen.Seen.{Seen}
-use Rattle.cps_p_nooverlap.specs.Spans.{AreSpans, AreSeen, IsSeen, AreAllowed}
+use Rattle.cps_p_nooverlap.specs.Spans.{AreSpans, AreSeen, IsSpanSeen, AreAllowed}
 use Rattle.cps_p_nooverlap.proofs.Ordering.{has_orders}
 use Rattle.cps_p_nooverlap.proofs.Resting.{are_spans, at_rest}
 use Rattle.cps_p_nooverlap.proofs.no_overlap.NoOverlapRule.look.Goals as goal
@@ -14,7 +14,7 @@ pub meet_both-requires : goal.meet_both-requires
 meet_both-requires c =
     let s = c.args.store.now in
     let are = are_spans c.args.store.now.first c.args.self.now.spans c.requires.fits in
-    let seen = subst (λ (qs : List Span). AllZip (IsSeen s) qs c.see.new.seen.items) c.as_slice.ensures c.in_ok-see.ensures in
+    let seen = subst (λ (qs : List Span). AllZip (IsSpanSeen s) qs c.see.new.seen.items) c.as_slice.ensures c.in_ok-see.ensures in
     subst (λ (qs : List Span). AreSeen s qs c.as_slice-seen.result.now) (sym c.as_slice-spans.ensures)
     (subst (λ (vs : List Seen). AreSeen s c.args.self.now.spans vs) (sym c.as_slice-seen.ensures.value) (record { spans = are; seen = seen }))
 
@@ -24,7 +24,7 @@ returns-in-None-clause-rest c e all =
     let ps = c.args.self.now.spans in
     let none : c.meet_both.result ≡ Ok None = search rules in
     let allowed = c.meet_both.ensures.allowed none in
-    let seen = subst (λ (qs : List Span). AllZip (IsSeen s) qs c.see.new.seen.items) c.as_slice.ensures c.in_ok-see.ensures in
+    let seen = subst (λ (qs : List Span). AllZip (IsSpanSeen s) qs c.see.new.seen.items) c.as_slice.ensures c.in_ok-see.ensures in
     at_rest s ps c.see.new.seen.items seen
     (subst (λ (vs : List Seen). AreAllowed vs (length ps)) c.as_slice-seen.ensures.value (subst (λ (qs : List Span). AreAllowed c.as_slice-seen.result.now (length qs)) c.as_slice-spans.ensures allowed))
 
@@ -34,6 +34,6 @@ returns-in-None-clause-seen c = λ excluded.
     let ps = c.args.self.now.spans in
     let none : c.meet_both.result ≡ Ok None = search rules in
     let allowed = c.meet_both.ensures.allowed none in
-    let seen = subst (λ (qs : List Span). AllZip (IsSeen s) qs c.see.new.seen.items) c.as_slice.ensures c.in_ok-see.ensures in
+    let seen = subst (λ (qs : List Span). AllZip (IsSpanSeen s) qs c.see.new.seen.items) c.as_slice.ensures c.in_ok-see.ensures in
     excluded (has_orders s ps c.see.new.seen.items seen
     (subst (λ (vs : List Seen). AreAllowed vs (length ps)) c.as_slice-seen.ensures.value (subst (λ (qs : List Span). AreAllowed c.as_slice-seen.result.now (length qs)) c.as_slice-spans.ensures allowed)))

@@ -2,7 +2,7 @@ use Rattle.std.proofs.Common.{◌≡◌, ◌≤ℤ◌, ◌<ℤ◌, inl, inr, sub
 use Rattle.std.proofs.lemmas.Int.{ints, to_z-of_z}
 use Rattle.cps_instance.specs.Terms.{Domains}
 use Rattle.cps_instance.specs.Sums.{extended}
-use Rattle.cps_reform.specs.Forms.{IsRoomy, lifted, term_at}
+use Rattle.cps_reform.specs.Forms.{FitsTypes, lifted, term_at}
 use Rattle.cps_reform.proofs.Steps.{bool_cases, reform-past, reform-lifted, reform-bounds, reform-none, below-less, base-lifted, base-small, solution-greatest, roomy-subject}
 use Rattle.cps_reform.proofs.Pasts.{not-past, past-lifted}
 use Rattle.cps_reform.proofs.reform.Reform.lift_below.Goals as goal
@@ -18,7 +18,7 @@ returns-then-limit-base-clause-none c = λ r.
 pub returns-clause-reform : goal.returns-clause-reform
 returns-clause-reform c =
     let fb = c.ranges.bound in
-    let roomy : IsRoomy c.args.instance.now.domains c.lift.new.self = subst (λ (ds : Domains). IsRoomy ds c.lift.new.self) c.domains.ensures.list c.lift.ensures.roomy in
+    let roomy : FitsTypes c.args.instance.now.domains c.lift.new.self = subst (λ (ds : Domains). FitsTypes ds c.lift.new.self) c.domains.ensures.list c.lift.ensures.roomy in
     let above = simp to_z-of_z at c.lift.ensures.above in
     reform-lifted c.args.instance.now c.args.ceiling.z c.args.self.now c.lift.new.self c.args.place c.args.bound c.requires.reform roomy c.lift.ensures.worth above c.requires.risen
 

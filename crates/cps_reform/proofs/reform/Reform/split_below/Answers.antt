@@ -2,7 +2,7 @@ use Rattle.std.proofs.Common.{◌<ℤ◌, inr, subst, arith, rules, w64, FitsSig
 use Rattle.std.proofs.lemmas.Int.{ints, to_z-of_z}
 use Rattle.cps_instance.specs.Terms.{Domains}
 use Rattle.cps_instance.specs.Sums.{extended}
-use Rattle.cps_reform.specs.Forms.{IsRoomy}
+use Rattle.cps_reform.specs.Forms.{FitsTypes}
 use Rattle.cps_reform.proofs.Steps.{reform-past, reform-split, reform-bounds, reform-none, below-less, solution-greatest, assigned, split_base}
 use Rattle.cps_reform.proofs.Pasts.{not-past, past-split}
 use Rattle.cps_reform.proofs.reform.Reform.split_below.Goals as goal
@@ -18,7 +18,7 @@ returns-then-limit-base-clause-none c = λ r.
 -- the domains as the sum's fact has them
 pub returns-clause-reform : goal.returns-clause-reform
 returns-clause-reform c =
-    let roomy : IsRoomy c.args.instance.now.domains c.split.new.self = subst (λ (ds : Domains). IsRoomy ds c.split.new.self) c.domains.ensures.list c.split.ensures.roomy in
+    let roomy : FitsTypes c.args.instance.now.domains c.split.new.self = subst (λ (ds : Domains). FitsTypes ds c.split.new.self) c.domains.ensures.list c.split.ensures.roomy in
     reform-split c.args.instance.now c.args.ceiling.z c.args.self.now c.split.new.self c.args.subject c.requires.reform c.requires.sum roomy c.split.ensures.worth c.split.ensures.above c.requires.core
 
 pub returns-clause-base : goal.returns-clause-base

@@ -6,7 +6,7 @@ use Rattle.cps_model.specs.declared.model.CpModel.{CpModel}
 use Rattle.cps_literal.specs.declared.atom.Atom.{Atom}
 use Rattle.cps_instance.specs.Posting.{atom_of}
 use Rattle.cps_instance.specs.Problem.{variable_count}
-use Rattle.cps_trail.specs.Trail.{IsFalseNow, IsSound}
+use Rattle.cps_trail.specs.Trail.{IsFalseNow, IsSoundTrail}
 use Rattle.cps_search.specs.Assumptions.{AreOnceInOrder, IsAssumed, IsCoreBelow, IsInCore, IsSufficient, assumption_at}
 use Rattle.cps_search.specs.Exhausting.{IsAssumptionCore, IsCoreOf}
 use Rattle.cps_search.specs.Searches.{Search}
@@ -49,7 +49,7 @@ core_of-requires-clause-decisions g c =
     let decisions = c.in_ok-decisions.decisions.items in
     let behind : AreBehindIn s (assumption_at s.instance.model.assumptions c.args.failed) decisions = subst (λ (t : Atom). AreBehindIn s t decisions) atom c.in_ok-decisions.ensures in
     subst (λ (ts : List Atom). All (IsAssumed c.as_slice-assumptions.result.now) ts) (sym c.as_slice.ensures.value)
-    (subst (λ (rs : List ℤ). All (IsAssumed rs) decisions) (sym same) (failed_assumed s c.args.failed decisions c.requires.sound (subst (λ (x : Search). IsSound x.store) c.self.view_is c.entries.ensures.sound) c.requires.failed behind))
+    (subst (λ (rs : List ℤ). All (IsAssumed rs) decisions) (sym same) (failed_assumed s c.args.failed decisions c.requires.sound (subst (λ (x : Search). IsSoundTrail x.store) c.self.view_is c.entries.ensures.sound) c.requires.failed behind))
 
 pub returns-in-At-clause-none : goal.returns-in-At-clause-none
 returns-in-At-clause-none g c =
@@ -60,7 +60,7 @@ returns-in-At-clause-none g c =
     let atom : c.atom_of.result ≡ assumption_at s.instance.model.assumptions c.args.failed = c.atom_of.ensures ∙ ap atom_of (to_z-of_z w32 r fits) ∙ ap (λ (rs : List ℤ). assumption_at rs c.args.failed) same in
     let decisions = c.in_ok-decisions.decisions.items in
     let behind : AreBehindIn s (assumption_at s.instance.model.assumptions c.args.failed) decisions = subst (λ (t : Atom). AreBehindIn s t decisions) atom c.in_ok-decisions.ensures in
-    failed_none s c.requires.sound c.args.failed c.requires.failed.within decisions (failed_assumed s c.args.failed decisions c.requires.sound (subst (λ (x : Search). IsSound x.store) c.self.view_is c.entries.ensures.sound) c.requires.failed behind) behind
+    failed_none s c.requires.sound c.args.failed c.requires.failed.within decisions (failed_assumed s c.args.failed decisions c.requires.sound (subst (λ (x : Search). IsSoundTrail x.store) c.self.view_is c.entries.ensures.sound) c.requires.failed behind) behind
 
 pub returns-clause-core : goal.returns-clause-core
 returns-clause-core g c =
@@ -95,7 +95,7 @@ returns-clause-below g c =
     (subst (λ (xs : List ℤ). AreOnceInOrder (IsInCore xs c.args.failed c.as_slice.result.now) xs core) same c.in_ok-core-in-Infinite.ensures) in
     subst (λ (z : Bound). IsCoreBelow s.instance.model z c.from_vec.result) (sym c.in-Infinite.is ∙ ap (λ (x : Search). x.z) c.self.view_is)
     (subst (λ (xs : List ℤ). IsSufficient s.instance.model xs) (sym c.from_vec.ensures)
-    (failed_sufficient s c.requires.sound c.args.failed c.requires.failed.within decisions (failed_assumed s c.args.failed decisions c.requires.sound (subst (λ (x : Search). IsSound x.store) c.self.view_is c.entries.ensures.sound) c.requires.failed behind) behind core (sym (ap (λ (x : Search). x.z) c.self.view_is) ∙ c.in-Infinite.is) just))
+    (failed_sufficient s c.requires.sound c.args.failed c.requires.failed.within decisions (failed_assumed s c.args.failed decisions c.requires.sound (subst (λ (x : Search). IsSoundTrail x.store) c.self.view_is c.entries.ensures.sound) c.requires.failed behind) behind core (sym (ap (λ (x : Search). x.z) c.self.view_is) ∙ c.in-Infinite.is) just))
 
 pub returns-clause-none : goal.returns-clause-none
 returns-clause-none g c =
@@ -107,4 +107,4 @@ returns-clause-none g c =
     let atom : c.atom_of.result ≡ assumption_at rs c.args.failed = c.atom_of.ensures ∙ ap atom_of (to_z-of_z w32 r fits) ∙ ap (λ (xs : List ℤ). assumption_at xs c.args.failed) same in
     let decisions = c.in_ok-decisions.decisions.items in
     let behind : AreBehindIn s (assumption_at rs c.args.failed) decisions = subst (λ (t : Atom). AreBehindIn s t decisions) atom c.in_ok-decisions.ensures in
-    failed_none s c.requires.sound c.args.failed c.requires.failed.within decisions (failed_assumed s c.args.failed decisions c.requires.sound (subst (λ (x : Search). IsSound x.store) c.self.view_is c.entries.ensures.sound) c.requires.failed behind) behind
+    failed_none s c.requires.sound c.args.failed c.requires.failed.within decisions (failed_assumed s c.args.failed decisions c.requires.sound (subst (λ (x : Search). IsSoundTrail x.store) c.self.view_is c.entries.ensures.sound) c.requires.failed behind) behind

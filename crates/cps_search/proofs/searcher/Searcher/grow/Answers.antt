@@ -6,7 +6,7 @@ use Rattle.cps_domain.specs.Window.{intervals}
 use Rattle.cps_instance.specs.Problem.{Defines, sum_task}
 use Rattle.cps_instance.specs.Sums.{DefinedSum}
 use Rattle.cps_instance.specs.Terms.{Domains}
-use Rattle.cps_trail.specs.Trail.{IsSound}
+use Rattle.cps_trail.specs.Trail.{IsSoundTrail}
 use Rattle.cps_propagate.specs.Agenda.{Agenda}
 use Rattle.cps_search.specs.declared.end.Phase.TheVariants.{Stepping}
 use Rattle.cps_search.specs.Growing.{GrewBy}
@@ -54,4 +54,4 @@ returns-clause-grew g c =
 pub returns-clause-sound : goal.returns-clause-sound
 returns-clause-sound g c =
     sound_grew c.args.self.now _ (record { terms = c.args.terms.now; offset = c.args.offset }) c.in_ok-subject.subject (returns-clause-grew g c) c.define.ensures.sound c.requires.sound
-    (subst (λ (x : Search). IsSound x.store) c.self.view_is c.entries.ensures.sound) c.requires.bottom
+    (subst (λ (x : Search). IsSoundTrail x.store) c.self.view_is c.entries.ensures.sound) c.requires.bottom

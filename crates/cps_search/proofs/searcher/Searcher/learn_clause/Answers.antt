@@ -8,7 +8,7 @@ use Rattle.cps_search.specs.Lessons.{GoesBack}
 use Rattle.cps_search.specs.Moves.{moved, with_learnt}
 use Rattle.cps_search.specs.Resting.{Rest}
 use Rattle.cps_search.specs.Shelves.{Learns, in_force_on, shelf_of}
-use Rattle.cps_search.specs.Turns.{IsShared, IsShort}
+use Rattle.cps_search.specs.Turns.{IsPutOnBoard, IsShort}
 use Rattle.cps_search.specs.Searching.{search_of}
 use Rattle.cps_search.proofs.Stepping.{short_below, sound_kept}
 use Rattle.cps_search.proofs.searcher.Searcher.learn_clause.Goals as goal
@@ -47,8 +47,8 @@ returns-clause-shared g c = λ short.
     let q = (g.Q.Port.part c.share_short-row.new.port).board in
     let rows = g.Q.Port.rows c.args.port.now in
     let brief = subst (λ (ts : List Atom). IsShort (g.Q.Port.model c.args.port.now) ts) (sym c.as_slice.ensures) (subst (λ (m : CpModel). IsShort m c.args.learnt.clause) (sym c.requires.model) short) in
-    subst (λ (x : Search). IsShared rows x.z c.args.learnt.clause p q) c.self.view_is
-    (subst (λ (ts : List Atom). IsShared rows c.self.inside.z ts p q) c.as_slice.ensures (c.share_short-row.ensures.shared brief))
+    subst (λ (x : Search). IsPutOnBoard rows x.z c.args.learnt.clause p q) c.self.view_is
+    (subst (λ (ts : List Atom). IsPutOnBoard rows c.self.inside.z ts p q) c.as_slice.ensures (c.share_short-row.ensures.shared brief))
 
 pub returns-clause-is : goal.returns-clause-is
 returns-clause-is g c =
