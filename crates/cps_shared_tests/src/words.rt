@@ -1,4 +1,7 @@
-//! Worked runs on the two words.
+//! Worked runs on the two words that hold the bounds.
+//!
+//! Threads race with offers and raises on a model whose objective is known, and what is left in the words is the best of
+//! what they gave, whatever their order. Runs of seats one after the other show what each sees of the others' offers.
 ghost use Rattle.std.specs.Prelude.{◌≡◌, ℤ, pos, List, IfOk, IsTrue};
 ghost use Rattle.cps_port.specs.Order.{IsSmallBound};
 ghost use Rattle.cps_port.specs.Incumbents.{IsAttained, IsLowerBound};

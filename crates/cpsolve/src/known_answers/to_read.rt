@@ -1,4 +1,7 @@
 //! Inputs of `validate` and `print`, with their answers.
+//!
+//! Rules of a valid model and faults of texts and fields, most of them broken by an input of one line. Of what `print`
+//! writes the whole text is compared. What only solving shows is in `to_solve`.
 use super::PRODUCTION;
 
 /// A variable with a domain that is no list of intervals.

@@ -1,4 +1,7 @@
 //! Inputs of `solve`, with their answers.
+//!
+//! Most are about one kind of constraint at the edge of what it allows; they have one solution or none, or one that is
+//! best, so that there is one text whatever the workers do. Objectives, strategies and assumptions are among them.
 use super::{PRODUCTION, PRODUCTION_TEXT, THREE_DIFFERENT};
 
 /// An input of `solve`, and its answer.
