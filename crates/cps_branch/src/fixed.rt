@@ -70,7 +70,7 @@ impl FixedBrancher {
         })
     }
 
-    /// ForgetsCounts the places that more than the first `kept` entries fixed.
+    /// Forgets the places that more than the first `kept` entries fixed.
     fn forget(&mut self, kept: usize)
         ensures plan { self.new.plan ≡ self.old.plan }
         ensures forgets { ForgetsCounts kept self.old.fixed_after self.new.fixed_after }

@@ -1,8 +1,9 @@
 //! What a strategy takes and decides.
 //!
 //! Each way to choose is a rank of the open subjects (`rank_of`), of which the least is taken and of equal ones the
-//! first listed; so the five ways share one loop. Ranks have 128 bits, since the opposite of a count of values need not
-//! fit into 64. Each way to select is one atom, which is undecided because the subject has more than one value.
+//! first listed; so four ways share one loop, and the first listed, of equal ranks, needs none. Ranks have 128 bits,
+//! since the opposite of a count of values need not fit into 64. Each way to select is one atom, which is undecided
+//! because the subject has more than one value.
 ghost use Rattle.std.specs.Prelude.{pos, negsuc, neg_ℤ, ◌≡◌, ◌<◌, ◌≤◌, ◌-◌, ◌/◌, ◌^◌, ◌+ℤ◌, ◌-ℤ◌, ◌≤ℤ◌, ◌<ℤ◌, All, length, unsigned_abs, MatchOption, IfSome, slice_index, slice_index_or, take};
 ghost use Rattle.cps_domain.specs.Window.{IsRising, IsInterval, intervals, size_of, width as width_of};
 ghost use Rattle.cps_domain.specs.Division.{IsFloor};

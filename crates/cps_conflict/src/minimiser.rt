@@ -187,7 +187,7 @@ impl Minimiser {
         (node.end, latest)
     }
 
-    /// PassesAtoms over the atoms of a node that are known to lead back, and answers the next.
+    /// Passes over the atoms of a node that are known to lead back, and answers the next.
     fn pass(&mut self, top: usize) -> Option<Fallen>
         ensures { Carries self.old self.new }
     {

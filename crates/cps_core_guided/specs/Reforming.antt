@@ -32,7 +32,7 @@ pub record CoreSearch : Type 0 where
   pub ended : Bool
   pub core : List ℤ
 
--- after this many sums of cores nothing is assumed any more
+-- after this many sums of cores no term is assumed any more
 abbrev pub most_sums : ℕ
 most_sums = 2 ^ 24
 

@@ -3,8 +3,9 @@
 //! `Frame::steps` does a turn up to a decision. Where a decision is due, the objective is reformed for the first term
 //! whose assumption is false (`reform_at`); without one the first undecided assumption is decided, those of the model
 //! before those of terms, and without that the brancher chooses. A reform goes back to level 0: a false assumption
-//! there lifts its term alone, and else the decisions behind it are the core. Cores are not minimised, and the terms
-//! are not taken by weight in stages: each would be a strategy of its own over the same proved steps.
+//! there lifts its term alone, and else it and the terms whose assumptions are among the decisions behind it are the
+//! core. Cores are not minimised, and the terms are not taken by weight in stages: each would be a strategy of its own
+//! over the same proved steps.
 
 ghost use Rattle.std.specs.Prelude.{◌≡◌, ◌↔◌, ◌<◌, ◌≤◌, ◌^◌, ◌+◌, ℤ, ◌≤ℤ◌, length, true, false, OnOk, OnErr, IfOk, IfSome, IsNone, IsTrue};
 ghost use Rattle.cps_literal.specs.Truth.{value_at};
@@ -381,7 +382,7 @@ impl<'a, P: Defining, B: Brancher + Drop> Guided<'a, P, B> {
             .lift_below(self.frame.instance(), place, bound, ceiling)
     }
 
-    /// SplitsCore a core of several terms: each solution below z has one of their subjects above its bound. Answers false
+    /// Splits a core of several terms: each solution below z has one of their subjects above its bound. Answers false
     /// if no solution below z can have the new form.
     fn split(&mut self, core: &[Term]) -> Result<bool, AllocError>
         requires works { Works B.scope B.agrees self.old }

@@ -10,7 +10,8 @@
 //! section 3, state it, over bounds of whole-number subjects in place of literals.
 //!
 //! The contracts say that the form stays worth the objective, that what is raised is at most the objective of each
-//! solution and at most z, and that a turn reforms exactly where a decision is due and an assumption is false.
+//! solution and at most z, and that a turn reforms, or ends since no solution can have the new form, exactly where a
+//! decision is due and the assumption of a term is false, as long as terms are assumed.
 //! `CoreEnded` is the worker as others see it after it ended.
 #![tactic(auto)]
 

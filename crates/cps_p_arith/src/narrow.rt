@@ -148,7 +148,7 @@ fn furthest(
     Ok(best)
 }
 
-/// AddsNarrowing an atom, if there is one.
+/// Adds an atom, if there is one.
 fn add(best: Option<Atom>, found: &mut Vec<Narrowing>) -> Result<(), AllocError>
     ensures { OnOk result (AddsNarrowing best found.old.items found.new.items) }
 {
@@ -162,7 +162,7 @@ fn add(best: Option<Atom>, found: &mut Vec<Narrowing>) -> Result<(), AllocError>
     }
 }
 
-/// AddsNarrowing the bounds of a place's subject that are found to be given.
+/// Adds the bounds of a place's subject that are found to be given.
 fn narrow_place(
     demand: &Demand,
     bounds: &Bounds,
@@ -224,7 +224,7 @@ fn is_worth_trying(relation: Relation, target: Ends, member: Ends, reaching: usi
     }
 }
 
-/// AddsNarrowing the bounds that are found to be given.
+/// Adds the bounds that are found to be given.
 pub(crate) fn narrow(
     demand: &Demand,
     bounds: &Bounds,

@@ -49,7 +49,7 @@ pub(crate) struct Ended {
     pub(crate) level: u64,
 }
 
-/// PassesEnds each end at a time or before.
+/// Passes each end at a time or before.
 fn pass_ends(time: i64, ends: &[Part], ended: Ended) -> Ended
     requires before { IsEndedBy ends.now ended time }
     ensures ended { IsEndedBy ends.now result time }

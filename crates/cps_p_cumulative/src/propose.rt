@@ -94,7 +94,7 @@ fn offer_some(
     }
 }
 
-/// That a span starts after the first time at which it has no room.
+/// That a span starts after the last time of the first full segment in which it would run at its earliest.
 fn start_later(span: &Span, place: &Place, segments: &[Segment]) -> Option<Narrowing>
     ensures { IfSome result (λ n. n.target.subject ≡ span.now.start) }
 {
@@ -117,7 +117,7 @@ fn end_by(span: &Span, time: i64) -> Narrowing
     }
 }
 
-/// That a span ends before the last time at which it has no room.
+/// That a span ends by the first time of the last full segment in which it would run at its latest.
 fn end_earlier(span: &Span, place: &Place, segments: &[Segment]) -> Option<Narrowing>
     ensures { IfSome result (λ n. IsTimeOf span.now n.target.subject) }
 {

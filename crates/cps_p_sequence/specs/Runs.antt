@@ -87,7 +87,7 @@ pub record IsFollowed (b : Body) (s : Trail) (steps : List Step) (first : ℕ) (
   pub at : (k : ℕ) → k < length is → (xs : List ℤ) → IsAdmitted s.first s.entries xs → HoldsBody b xs
       → IsAlive s steps first last is k (value_at xs (slice_index_or is k 0))
 
--- the values that a subject may have now are among fewer than 4,096 numbers, one next to the other
+-- the values that a subject may have now are among at most 4,096 numbers, one next to the other
 pub record IsNarrowAt (s : Trail) (i : ℕ) : Type 0 where
   pub at : (x y : ℤ) → IsOpenTo s i x → IsOpenTo s i y → y <ℤ (x +ℤ pos 4096)
 

@@ -83,7 +83,7 @@ GoesByGuidance kinds.Near = ⊥
 
 -- ---- workers that begin
 
--- an instance of the model, with the sums of its strategies alone
+-- an instance of the model, with the sums that it writes alone
 pub record IsFirstInstance (m : CpModel) (p : Problem) : Type 0 where
   pub sound : IsInstance p
   pub model : p.model ≡ m

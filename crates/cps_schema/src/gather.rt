@@ -1,8 +1,9 @@
 //! Messages that are read by a list of their fields: what each field gives is gathered, and the message is made of it.
 //!
 //! A message of many fields states them as lines: a name, and what it takes. One function walks the fields of the text
-//! and fills a slot per line, with every refusal in one place, and it is proved once for every list of lines. Messages
-//! with few fields or with nested ones of their own are read by hand, field by field, as each then needs no list.
+//! and fills a slot per line, with every refusal in one place, and it is proved once for every list of lines. The
+//! messages of expressions, variables, literals, `linear`, `no_overlap`, hints, objectives, strategies, constraints and of
+//! the model are read by hand, field by field, and need no list.
 //! A name is looked up by comparing it with each line in turn: there are at most seven, too few for a table to pay.
 ghost use Rattle.std.specs.Prelude.{◌≡◌, ◌<◌, ◌++◌, ◌&&◌, ℕ, List, [], ◌∷◌, true, false, None, Some, map, length, OnOk, IfOk, IfErr, IfSome};
 ghost use Rattle.cps_textproto.specs.Trees.{Tree, tree_of, values_of};

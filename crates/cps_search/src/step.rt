@@ -44,8 +44,8 @@ impl<'a, P: Propagator> Searcher<'a, P> {
         Some(z)
     }
 
-    /// Takes an entry from the board if the next row is open, and adds its clause if that holds below z and is not in
-    /// force already. Answers whether there was an entry.
+    /// Takes an entry from the board if the next row is open, and adds its clause if that holds below z, unless this
+    /// worker shared it itself and has it in force still. Answers whether there was an entry.
     fn take_one<Q: Port>(&mut self, port: &mut Q) -> Result<bool, AllocError>
         requires sound { IsSoundSearch self.old }
         requires model { Q.model port.old ≡ self.old.instance.model }
