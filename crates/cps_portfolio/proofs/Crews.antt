@@ -19,6 +19,7 @@ use Rattle.cps_port.specs.Order.{BoundLe, IsNoLower, lesser, greater, greater_of
 use Rattle.cps_port.specs.Totals.{total}
 use Rattle.cps_port.proofs.Bounding.{BoundLe-trans, lesser-first, lesser-second, greater-first, greater-exchange}
 use Rattle.cps_search.specs.declared.end.End.{End}
+use Rattle.cps_search.specs.declared.end.Phase.{Phase}
 use Rattle.cps_search.specs.declared.end.Phase.TheVariants.{Over}
 use Rattle.cps_search.specs.declared.end.WorkerKind.{WorkerKind}
 use Rattle.cps_search.specs.Searches.{Search}
@@ -30,7 +31,7 @@ use Rattle.cps_portfolio.specs.Workers.{AnySearch, search_in, kind_in, ending_in
 use Rattle.cps_model.specs.Start.{objective_start}
 use Rattle.cps_port.specs.Incumbents.{IsLowerBound}
 use Rattle.cps_portfolio.specs.Outcomes.{CameTo, EndedWithin, GoesByModel, HasSums, better, best_of}
-use Rattle.cps_portfolio.specs.Crews.{part_at, words_splits, IsSeatedAt, IsWorkerReady, Worked, IsSeated, IsCrew, IsHonestlyDone, HasReturned, HaveReturned, EndedSeen, AreGathered}
+use Rattle.cps_portfolio.specs.Crews.{part_at, words_splits, IsBackAt, IsWorkerReady, Worked, IsSeated, IsCrew, IsHonestlyDone, HasReturned, HaveReturned, EndedSeen, AreGathered}
 use Rattle.cps_portfolio.proofs.Going.{has_begun, done_from}
 
 -- ---- lists that grow and shrink at their end
@@ -249,8 +250,9 @@ written_back m gap conflicts board board' bounds bounds' n crew before after ful
     let seated = subst (λ (l : List Seated). IsCrew m gap conflicts board bounds l) (sym same) there in
     subst (λ (l : List Seated). HaveReturned m gap conflicts board bounds l) (sym (written n crew after full long)) (all_back m gap conflicts board bounds before after len seated w)
 
-pub all_at : (m : CpModel) (gap conflicts : ℕ) (board : Board) (bounds : Bounds) (crew : List Seated) → HaveReturned m gap conflicts board bounds crew → All (IsSeatedAt board bounds) crew
-all_at m gap conflicts board bounds crew h i d l = let back = h.each i d l in (back.board_is, back.bounds_is)
+pub all_at : (m : CpModel) (gap conflicts : ℕ) (board : Board) (bounds : Bounds) (crew : List Seated) → HaveReturned m gap conflicts board bounds crew → All (IsBackAt board bounds) crew
+all_at m gap conflicts board bounds crew h i d l =
+    let back = h.each i d l in (back.board_is, back.bounds_is, λ r. subst (λ (p : Phase). IsOver p) (sym (back.done r).over) tt)
 
 pub splits_back : (crew after : List Seated) → length after ≡ length crew → ((i : ℕ) (d : Seated) → i < length crew → Worked (slice_index_or crew i d) (slice_index_or after i d)) → total words_splits after ≡ total words_splits crew
 splits_back crew after len w = total_same words_splits crew after len (λ i d l. (w i d l).seats.bounds_splits)

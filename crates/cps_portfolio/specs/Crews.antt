@@ -29,9 +29,10 @@ words_part c = words.part_of c.port.bounds_seat
 abbrev pub words_splits : Seated → ℕ
 words_splits c = words.splits_of c.port.bounds_seat
 
--- a worker has its seats at these tables
-abbrev pub IsSeatedAt : Board → Bounds → Seated → Type 0
-IsSeatedAt board bounds c = (c.port.board.now ≡ board) × (c.port.bounds.now ≡ bounds)
+-- a worker has its seats at these tables, and has ended unless it ran out of memory
+abbrev pub IsBackAt : Board → Bounds → Seated → Type 0
+IsBackAt board bounds c = (c.port.board.now ≡ board) × (c.port.bounds.now ≡ bounds)
+    × (c.refused ≡ false → IsOver (worker_search c.worker).phase)
 
 -- a worker of a model that may begin
 pub record IsWorkerReady (m : CpModel) (c : Seated) : Type 0 where

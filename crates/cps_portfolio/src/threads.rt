@@ -13,7 +13,7 @@ ghost use Rattle.cps_bounds.specs.Rule.{all_splits};
 ghost use Rattle.cps_options.specs.Ranges.{AreInRange};
 ghost use Rattle.cps_kinds.specs.Kinds.{AreAllPropagated};
 ghost use Rattle.cps_portfolio.specs.Outcomes.{IsGoodOutcome};
-ghost use Rattle.cps_portfolio.specs.Crews.{words_splits, IsSeatedAt, IsSeated, IsCrew, HaveReturned, AreGathered};
+ghost use Rattle.cps_portfolio.specs.Crews.{words_splits, IsBackAt, IsSeated, IsCrew, HaveReturned, AreGathered};
 
 use crate::conclusion::outcome_of;
 use crate::ended::AnyEnded;
@@ -114,7 +114,7 @@ fn gather<'a>(
     requires idle { ((words.part_of kept.old.bounds_seat).offered ≡ Bound.Infinite)
         × ((words.part_of kept.old.bounds_seat).raised ≡ None) }
     requires splits { words.splits_of kept.old.bounds_seat + total words_splits crew.items ≡ all_splits }
-    requires crew { All (IsSeatedAt kept.old.board.now kept.old.bounds.now) crew.items }
+    requires crew { All (IsBackAt kept.old.board.now kept.old.bounds.now) crew.items }
     ensures tables { (kept.new.board.now ≡ kept.old.board.now) × (kept.new.bounds.now ≡ kept.old.bounds.now) }
     ensures splits { OnOk result (words.splits_of kept.new.bounds_seat ≡ all_splits) }
     ensures gathered { IfOk result (λ ends. (m : CpModel) (gap conflicts : ℕ)

@@ -7,7 +7,7 @@ use Rattle.cps_search.specs.Ends.{Ending}
 use Rattle.cps_bounds.specs.Seats as words
 use Rattle.cps_portfolio.specs.declared.seats.Seated.{Seated}
 use Rattle.cps_portfolio.specs.Workers.{known_of}
-use Rattle.cps_portfolio.specs.Crews.{words_part, words_splits, IsSeatedAt, HasReturned, HaveReturned, AreGathered}
+use Rattle.cps_portfolio.specs.Crews.{words_part, words_splits, IsBackAt, HasReturned, HaveReturned, AreGathered}
 use Rattle.cps_portfolio.proofs.Crews.{each_front, each_last, none_gathered, total_push, one_gathered}
 use Rattle.cps_portfolio.proofs.threads.gather.Goals as goal
 
@@ -35,9 +35,23 @@ join-requires c =
     let xs : List Seated = c.pop.new.self.items in
     let x : Seated = c.in-Some.seated in
     let e : c.loop-seated.crew.items ≡ xs ++ x ∷ [] = c.pop.ensures.items ∙ ap (λ (o : Option Seated). xs ++ option_to_list o) c.in-Some.is in
-    let all : All (IsSeatedAt board bounds) (xs ++ x ∷ []) = subst (All (IsSeatedAt board bounds)) e i.crew in
-    let last : IsSeatedAt board bounds x = All-append_right (IsSeatedAt board bounds) xs (x ∷ []) all 0 x (omega arith) in
+    let all : All (IsBackAt board bounds) (xs ++ x ∷ []) = subst (All (IsBackAt board bounds)) e i.crew in
+    let last : IsBackAt board bounds x = All-append_right (IsBackAt board bounds) xs (x ∷ []) all 0 x (omega arith) in
     (last.0 ∙ sym i.tables.0, last.1 ∙ sym i.tables.1)
+
+pub finish-requires : goal.finish-requires
+finish-requires c =
+    let board = c.args.kept.now.board.now in
+    let bounds = c.args.kept.now.bounds.now in
+    let i = c.loop-seated.invariant in
+    let xs : List Seated = c.pop.new.self.items in
+    let x : Seated = c.in-Some.seated in
+    let e : c.loop-seated.crew.items ≡ xs ++ x ∷ [] = c.pop.ensures.items ∙ ap (λ (o : Option Seated). xs ++ option_to_list o) c.in-Some.is in
+    let there : All (IsBackAt board bounds) (xs ++ x ∷ []) = subst (All (IsBackAt board bounds)) e i.crew in
+    let last : IsBackAt board bounds x = All-append_right (IsBackAt board bounds) xs (x ∷ []) there 0 x (omega arith) in
+    let all : All (λ (c : Seated). c.refused ≡ false) (xs ++ x ∷ []) = subst (λ (l : List Seated). All (λ (c : Seated). c.refused ≡ false) l) e i.has_memory in
+    let ready : x.refused ≡ false = All-append_right (λ (c : Seated). c.refused ≡ false) xs (x ∷ []) all 0 x (omega arith) in
+    last.2 ready
 
 pub loop-seated-preserved : goal.loop-seated-preserved
 loop-seated-preserved c =
@@ -47,7 +61,7 @@ loop-seated-preserved c =
     let xs : List Seated = c.pop.new.self.items in
     let x : Seated = c.in-Some.seated in
     let e : c.loop-seated.crew.items ≡ xs ++ x ∷ [] = c.pop.ensures.items ∙ ap (λ (o : Option Seated). xs ++ option_to_list o) c.in-Some.is in
-    let there : All (IsSeatedAt board bounds) (xs ++ x ∷ []) = subst (All (IsSeatedAt board bounds)) e i.crew in
+    let there : All (IsBackAt board bounds) (xs ++ x ∷ []) = subst (All (IsBackAt board bounds)) e i.crew in
     let all : All (λ (c : Seated). c.refused ≡ false) (xs ++ x ∷ []) = subst (λ (l : List Seated). All (λ (c : Seated). c.refused ≡ false) l) e i.has_memory in
     let ready : x.refused ≡ false = All-append_right (λ (c : Seated). c.refused ≡ false) xs (x ∷ []) all 0 x (omega arith) in
     let long : length c.loop-seated.crew.items ≡ length xs + 1 = ap (λ (l : List Seated). length l) e ∙ length-append xs (x ∷ []) in
@@ -57,7 +71,7 @@ loop-seated-preserved c =
     record {
       tables = (k.tables.0 ∙ i.tables.0, k.tables.1 ∙ i.tables.1);
       splits = omega (arith, i.splits, ap (λ (l : List Seated). total words_splits l) e, total_push words_splits xs x, k.splits);
-      crew = All-append_left (IsSeatedAt board bounds) xs (x ∷ []) there;
+      crew = All-append_left (IsBackAt board bounds) xs (x ∷ []) there;
       returned = λ m gap conflicts h.
           record { each = each_front (HasReturned m gap conflicts board bounds) xs x (subst (HaveReturned m gap conflicts board bounds) e (i.returned m gap conflicts h)).each };
       has_memory = All-append_left (λ (c : Seated). c.refused ≡ false) xs (x ∷ []) all;

@@ -5,14 +5,14 @@ use Rattle.cps_port.specs.Totals.{total}
 use Rattle.cps_bounds.specs.Seats as words
 use Rattle.cps_bounds.specs.Rule.{all_splits}
 use Rattle.cps_portfolio.specs.declared.seats.Seated.{Seated}
-use Rattle.cps_portfolio.specs.Crews.{words_splits, IsSeatedAt, HaveReturned, AreGathered}
+use Rattle.cps_portfolio.specs.Crews.{words_splits, IsBackAt, HaveReturned, AreGathered}
 use Rattle.cps_portfolio.proofs.threads.gather.Given as goal
 
 abbrev pub invariant-loop-seated : goal.invariant-loop-seated
 invariant-loop-seated l = record {
   tables : (l.kept.board.now ≡ l.initial.kept.board.now) × (l.kept.bounds.now ≡ l.initial.kept.bounds.now);
   splits : words.splits_of l.kept.bounds_seat + total words_splits l.crew.items ≡ all_splits;
-  crew : All (IsSeatedAt l.initial.kept.board.now l.initial.kept.bounds.now) l.crew.items;
+  crew : All (IsBackAt l.initial.kept.board.now l.initial.kept.bounds.now) l.crew.items;
   returned : (m : CpModel) (gap conflicts : ℕ) → HaveReturned m gap conflicts l.initial.kept.board.now l.initial.kept.bounds.now l.initial.crew.items
       → HaveReturned m gap conflicts l.initial.kept.board.now l.initial.kept.bounds.now l.crew.items;
   has_memory : All (λ (c : Seated). c.refused ≡ false) l.crew.items;
