@@ -6,7 +6,7 @@ use Rattle.std.proofs.Math.ListN.{get_or-append, length-append}
 use Rattle.std.proofs.lemmas.Int.{ints}
 use Rattle.std.proofs.lemmas.List.{get_or-append_right, drop_more, length-take, length-drop}
 use Rattle.std.proofs.lemmas.List.Elements.{Contains-append_left, Contains-append_right, Contains-append_cases}
-use Rattle.cps_domain.specs.Window.{Window, within, is_among, contains, intervals, IsRising, IsDomain, width, size_of}
+use Rattle.cps_domain.specs.Window.{Window, within, is_among, contains, intervals, RisesFrom, IsDomain, width, size_of}
 use Rattle.cps_domain.proofs.Tests.{within_low, within_high, is_within, or_cases, or_right}
 use Rattle.cps_trail.specs.Trail.{Trail, admits}
 use Rattle.cps_branch.specs.Strategies.{IsAscending, AreValuesOf, HasSize, IsMedian, run_from, values_of}
@@ -58,7 +58,7 @@ among_values (p ∷ ps) x e = elim (or_cases (within x p) (is_among ps x) e) [
 or_left : (a b : Bool) → a ≡ true → (a || b) ≡ true
 or_left a b e = rw e refl
 
-pub values_among : (low : ℤ) (ps : List (ℤ × ℤ)) (x : ℤ) → IsRising low ps → Contains (values_of ps) x → is_among ps x ≡ true
+pub values_among : (low : ℤ) (ps : List (ℤ × ℤ)) (x : ℤ) → RisesFrom low ps → Contains (values_of ps) x → is_among ps x ≡ true
 values_among low [] x h c = absurd (omega (arith, c.1))
 values_among low (p ∷ ps) x h c = elim (Contains-append_cases (run_from p.0 (width p)) (values_of ps) x c) [
   | inl l ↦ or_left (within x p) (is_among ps x) (of_run p x h.1 l)
@@ -70,7 +70,7 @@ unfolding run_from
 run_then low v h zero ys a e f = f low (omega (arith, ints))
 run_then low v h (suc n) ys a e f = (a, run_then v (v +ℤ pos 1) h n ys (omega (arith, ints)) (omega (arith, ints)) f)
 
-pub ascending : (low : ℤ) (ps : List (ℤ × ℤ)) (l : ℤ) → IsRising low ps → l ≤ℤ low → IsAscending l (values_of ps)
+pub ascending : (low : ℤ) (ps : List (ℤ × ℤ)) (l : ℤ) → RisesFrom low ps → l ≤ℤ low → IsAscending l (values_of ps)
 ascending low [] l h k = tt
 ascending low (p ∷ ps) l h k =
     let above = h.0 in

@@ -5,7 +5,7 @@
 //! since the opposite of a count of values need not fit into 64. Each way to select is one atom, which is undecided
 //! because the subject has more than one value.
 ghost use Rattle.std.specs.Prelude.{pos, negsuc, neg_ℤ, ◌≡◌, ◌<◌, ◌≤◌, ◌-◌, ◌/◌, ◌^◌, ◌+ℤ◌, ◌-ℤ◌, ◌≤ℤ◌, ◌<ℤ◌, All, length, unsigned_abs, MatchOption, IfSome, slice_index, slice_index_or, take};
-ghost use Rattle.cps_domain.specs.Window.{IsRising, IsInterval, intervals, size_of, width as width_of};
+ghost use Rattle.cps_domain.specs.Window.{RisesFrom, IsIntervalAbove, intervals, size_of, width as width_of};
 ghost use Rattle.cps_domain.specs.Division.{IsFloor};
 ghost use Rattle.cps_branch.specs.Fixed.{IsFixed};
 ghost use Rattle.cps_branch.specs.Choice.{IsUndecided};
@@ -170,7 +170,7 @@ fn middle(store: &Store, subject: u32) -> i64
 
 /// How many numbers an interval has.
 fn width(interval: &(i64, i64)) -> u64
-    requires { IsInterval (negsuc (2 ^ 62 - 1)) interval.now }
+    requires { IsIntervalAbove (negsuc (2 ^ 62 - 1)) interval.now }
     ensures { result ≡ width_of interval.now }
 {
     (interval.1 - interval.0) as u64 + 1
@@ -178,7 +178,7 @@ fn width(interval: &(i64, i64)) -> u64
 
 /// The value at a place of rising intervals, counted from 0.
 fn value_at_place(intervals: &[(i64, i64)], place: u64) -> i64
-    requires rising { IsRising (negsuc (2 ^ 62 - 1)) intervals.now }
+    requires rising { RisesFrom (negsuc (2 ^ 62 - 1)) intervals.now }
     requires place { place < size_of intervals.now }
     ensures { result ≡ slice_index_or (values_of intervals.now) place (pos 0) }
 {

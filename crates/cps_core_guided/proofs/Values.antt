@@ -3,7 +3,7 @@ use Rattle.std.specs.Prelude.{All, if◌then◌else◌}
 use Rattle.std.proofs.Common.{ℕ, zero, suc, ◌-◌, ◌*◌, ◌<◌, ◌≤◌, ◌^◌, Bool, true, false, List, [], ◌∷◌, length, arith, ℤ, pos, negsuc, ◌+ℤ◌, ◌-ℤ◌, ◌≤ℤ◌}
 use Rattle.std.proofs.lemmas.Int.{ints}
 use Rattle.std.proofs.lemmas.List.Elements.{All-get_or}
-use Rattle.cps_domain.specs.Window.{IsRising, width}
+use Rattle.cps_domain.specs.Window.{RisesFrom, width}
 use Rattle.cps_instance.specs.Terms.{AreIntervals, Domains, Intervals}
 use Rattle.cps_trail.specs.Trail.{Entry, admits, count_from, count_in, first_of, open_values, total}
 
@@ -17,7 +17,7 @@ count_from-most test low zero = omega arith
 count_from-most test low (suc n) = (let here = one_most (test low) in let rest = count_from-most test (low +ℤ pos 1) n in omega (arith, here, rest))
 
 -- intervals that rise from a number on have no more values than there are up to the greatest that a value can be
-count_in-most : (test : ℤ → Bool) (low : ℤ) (ps : Intervals) → IsRising low ps → low ≤ℤ pos (2 ^ 62) → pos (count_in test ps) ≤ℤ (pos (2 ^ 62) -ℤ low)
+count_in-most : (test : ℤ → Bool) (low : ℤ) (ps : Intervals) → RisesFrom low ps → low ≤ℤ pos (2 ^ 62) → pos (count_in test ps) ≤ℤ (pos (2 ^ 62) -ℤ low)
 count_in-most test low [] h l = omega (arith, ints, l)
 count_in-most test low (p ∷ ps) h l =
     let above = h.0 in

@@ -6,7 +6,7 @@ use Rattle.std.specs.Ordering.{int_eq}
 use Rattle.std.proofs.lemmas.Bool.Decides.{Decides-like, Decides-and, Decides-int_eq}
 use Rattle.std.proofs.lemmas.Int.{ints, by_lt_z}
 use Rattle.std.proofs.lemmas.List.Folds.{list_any-append}
-use Rattle.cps_domain.specs.Window.{within, is_among, IsRising}
+use Rattle.cps_domain.specs.Window.{within, is_among, RisesFrom}
 use Rattle.cps_domain.specs.Cuts.{IsUpTo, IsFromOn}
 use Rattle.cps_domain.specs.Meeting.{AddsShared, AreShared}
 use Rattle.cps_domain.proofs.Tests.{within_low, within_high, is_within, or_cases, or_right, first_of_both, second_of_both, test_false, up_to_keeps, from_on_keeps}
@@ -33,7 +33,7 @@ shares_one p q r s old new f u h e = inr (s, (record { ordered = h; values = λ 
 
 -- how far a walk through two lists has come
 pub record SharedSoFar (ps qs ms rest other : List (ℤ × ℤ)) : Type 0 where
-  pub rising : IsRising (negsuc (2 ^ 62 - 1)) ms
+  pub rising : RisesFrom (negsuc (2 ^ 62 - 1)) ms
   pub values : (x : ℤ) → (is_among ms x || (is_among rest x && is_among other x)) ≡ (is_among ps x && is_among qs x)
   pub apart : (x y : ℤ) → is_among ms x ≡ true → is_among rest y ≡ true → is_among other y ≡ true → (x +ℤ pos 1) <ℤ y
 
@@ -69,23 +69,23 @@ pub shared_right : (ps qs ms rest : List (ℤ × ℤ)) → SharedSoFar ps qs ms 
 shared_right ps qs ms rest h = record { rising = h.rising; values = λ x. sym (or_false (is_among ms x)) ∙ ap (λ b. is_among ms x || b) (sym (and_false (is_among rest x))) ∙ h.values x }
 
 -- an interval after rising ones
-rising_push : (low : ℤ) (ms : List (ℤ × ℤ)) (r : ℤ × ℤ) → IsRising low ms → low <ℤ r.0 → r.0 ≤ℤ r.1 → r.1 <ℤ pos (2 ^ 62) → ((x : ℤ) → is_among ms x ≡ true → (x +ℤ pos 1) <ℤ r.0) → IsRising low (ms ++ (r ∷ []))
+rising_push : (low : ℤ) (ms : List (ℤ × ℤ)) (r : ℤ × ℤ) → RisesFrom low ms → low <ℤ r.0 → r.0 ≤ℤ r.1 → r.1 <ℤ pos (2 ^ 62) → ((x : ℤ) → is_among ms x ≡ true → (x +ℤ pos 1) <ℤ r.0) → RisesFrom low (ms ++ (r ∷ []))
 rising_push low [] r h a b c g = (a, b, c, tt)
 rising_push low (p ∷ ps) r h a b c g =
     (h.0, h.1, h.2, rising_push (p.1 +ℤ pos 1) ps r h.3 (g p.1 (ap (λ t. t || is_among ps p.1) (is_within p.1 p h.1 (omega (arith, ints))))) b c (λ x e. g x (or_right (within x p) (is_among ps x) e)))
 
 -- the numbers after a step are those before it and those that two intervals share
 pub record Adds (p q : ℤ × ℤ) (ms new : List (ℤ × ℤ)) : Type 0 where
-  pub rising : IsRising (negsuc (2 ^ 62 - 1)) new
+  pub rising : RisesFrom (negsuc (2 ^ 62 - 1)) new
   pub values : (x : ℤ) → is_among new x ≡ (is_among ms x || (within x p && within x q))
 
 or_true_left : (a b : Bool) → a ≡ true → (a || b) ≡ true
 or_true_left true b e = refl
 or_true_left false b e = absurd (true≢false (sym e))
 
-pub adds : (ps qs ms new rest other : List (ℤ × ℤ)) (p q : ℤ × ℤ) → IsRising (negsuc (2 ^ 62 - 1)) (p ∷ rest) → SharedSoFar ps qs ms (p ∷ rest) (q ∷ other) → AddsShared p q ms new → Adds p q ms new
+pub adds : (ps qs ms new rest other : List (ℤ × ℤ)) (p q : ℤ × ℤ) → RisesFrom (negsuc (2 ^ 62 - 1)) (p ∷ rest) → SharedSoFar ps qs ms (p ∷ rest) (q ∷ other) → AddsShared p q ms new → Adds p q ms new
 adds ps qs ms new rest other p q up h (inl a) = record {
-  rising = subst (λ l. IsRising (negsuc (2 ^ 62 - 1)) l) (sym a.0) h.rising;
+  rising = subst (λ l. RisesFrom (negsuc (2 ^ 62 - 1)) l) (sym a.0) h.rising;
   values = λ x. ap (λ l. is_among l x) a.0 ∙ sym (or_false (is_among ms x)) ∙ ap (λ b. is_among ms x || b) (sym (a.1 x));
 }
 adds ps qs ms new rest other p q up h (inr a) =
@@ -98,7 +98,7 @@ adds ps qs ms new rest other p q up h (inr a) =
     let high_p = first_of_both (within r.1 p) (within r.1 q) in_high in
     let l = within_low r.0 p low_p in let k = within_high r.1 p high_p in let u = up.0 in let v = up.2 in
     record {
-      rising = subst (λ w. IsRising (negsuc (2 ^ 62 - 1)) w) (sym a.1.1)
+      rising = subst (λ w. RisesFrom (negsuc (2 ^ 62 - 1)) w) (sym a.1.1)
           (rising_push (negsuc (2 ^ 62 - 1)) ms r h.rising (omega (arith, ints)) o (omega (arith, ints))
           (λ x e. h.apart x r.0 e (or_true_left (within r.0 p) (is_among rest r.0) low_p) (or_true_left (within r.0 q) (is_among other r.0) low_q)));
       values = λ x. ap (λ w. is_among w x) a.1.1 ∙ list_any-append (within x) ms (r ∷ []) ∙ ap (λ b. is_among ms x || b) (or_false (within x r) ∙ s.values x);
@@ -112,7 +112,7 @@ step_test false true p true q h = refl
 step_test false true true false q h = refl
 step_test false true false false q h = sym (h refl)
 
-pub step_left : (ps qs ms new rest other : List (ℤ × ℤ)) (p q : ℤ × ℤ) → IsRising (negsuc (2 ^ 62 - 1)) (p ∷ rest) → IsRising (negsuc (2 ^ 62 - 1)) (q ∷ other) → p.1 ≤ℤ q.1
+pub step_left : (ps qs ms new rest other : List (ℤ × ℤ)) (p q : ℤ × ℤ) → RisesFrom (negsuc (2 ^ 62 - 1)) (p ∷ rest) → RisesFrom (negsuc (2 ^ 62 - 1)) (q ∷ other) → p.1 ≤ℤ q.1
     → Adds p q ms new → SharedSoFar ps qs ms (p ∷ rest) (q ∷ other) → SharedSoFar ps qs new rest (q ∷ other)
 step_left ps qs ms new rest other p q up uq l a h = record {
   rising = a.rising;
@@ -132,13 +132,13 @@ step_left ps qs ms new rest other p q up uq l a h = record {
 adds_swap : (p q : ℤ × ℤ) (ms new : List (ℤ × ℤ)) → Adds p q ms new → Adds q p ms new
 adds_swap p q ms new a = record { rising = a.rising; values = λ x. a.values x ∙ ap (λ b. is_among ms x || b) (and_swap (within x p) (within x q)) }
 
-pub step_right : (ps qs ms new rest other : List (ℤ × ℤ)) (p q : ℤ × ℤ) → IsRising (negsuc (2 ^ 62 - 1)) (p ∷ rest) → IsRising (negsuc (2 ^ 62 - 1)) (q ∷ other) → q.1 ≤ℤ p.1
+pub step_right : (ps qs ms new rest other : List (ℤ × ℤ)) (p q : ℤ × ℤ) → RisesFrom (negsuc (2 ^ 62 - 1)) (p ∷ rest) → RisesFrom (negsuc (2 ^ 62 - 1)) (q ∷ other) → q.1 ≤ℤ p.1
     → Adds p q ms new → SharedSoFar ps qs ms (p ∷ rest) (q ∷ other) → SharedSoFar ps qs new (p ∷ rest) other
 step_right ps qs ms new rest other p q up uq l a h =
     shared_swap qs ps new other (p ∷ rest) (step_left qs ps ms new other rest q p uq up l (adds_swap p q ms new a) (shared_swap ps qs ms (p ∷ rest) (q ∷ other) h))
 
 -- the intervals from an index on rise
-pub rising_drop : (low : ℤ) (ps : List (ℤ × ℤ)) (i : ℕ) → IsRising low ps → IsRising low (drop i ps)
+pub rising_drop : (low : ℤ) (ps : List (ℤ × ℤ)) (i : ℕ) → RisesFrom low ps → RisesFrom low (drop i ps)
 rising_drop low [] zero h = tt
 rising_drop low [] (suc i) h = tt
 rising_drop low (p ∷ ps) zero h = h
@@ -152,13 +152,13 @@ pub data Compared (ps qs : List (ℤ × ℤ)) : Type 0 where
 in_first : (p : ℤ × ℤ) (ps : List (ℤ × ℤ)) (x : ℤ) → p.0 ≤ℤ x → x ≤ℤ p.1 → is_among (p ∷ ps) x ≡ true
 in_first p ps x a b = or_true_left (within x p) (is_among ps x) (is_within x p a b)
 
-none_below : (low x : ℤ) (ps : List (ℤ × ℤ)) → IsRising low ps → x ≤ℤ low → is_among ps x ≡ false
+none_below : (low x : ℤ) (ps : List (ℤ × ℤ)) → RisesFrom low ps → x ≤ℤ low → is_among ps x ≡ false
 none_below low x ps h l = test_false (is_among ps x) (λ e. absurd (let a = above_low low x ps h e in omega (arith, ints)))
 
 past_first : (p : ℤ × ℤ) (ps : List (ℤ × ℤ)) (x : ℤ) → p.1 <ℤ x → is_among (p ∷ ps) x ≡ is_among ps x
 past_first p ps x h = ap (λ b. b || is_among ps x) (test_false (within x p) (λ e. absurd (let a = within_high x p e in omega (arith, ints))))
 
-before_first : (p : ℤ × ℤ) (ps : List (ℤ × ℤ)) (x : ℤ) → IsRising (p.1 +ℤ pos 1) ps → x <ℤ p.0 → p.0 ≤ℤ p.1 → is_among (p ∷ ps) x ≡ false
+before_first : (p : ℤ × ℤ) (ps : List (ℤ × ℤ)) (x : ℤ) → RisesFrom (p.1 +ℤ pos 1) ps → x <ℤ p.0 → p.0 ≤ℤ p.1 → is_among (p ∷ ps) x ≡ false
 before_first p ps x h l o =
     ap (λ b. b || is_among ps x) (test_false (within x p) (λ e. absurd (let a = within_low x p e in omega (arith, ints))))
     ∙ none_below (p.1 +ℤ pos 1) x ps h (omega (arith, ints))
@@ -175,7 +175,7 @@ opposed_back a b e f = e ∙ ap not (sym f)
 by_order : (C : Type 0) (a b : ℤ) → (a <ℤ b → C) → (a ≡ b → C) → (b <ℤ a → C) → C
 by_order C a b f g h = by_lt_z a b f (λ l. by_lt_z b a h (λ k. g (omega (arith, ints))))
 
-heads_compared : (low : ℤ) (p q : ℤ × ℤ) (ps qs : List (ℤ × ℤ)) → IsRising low (p ∷ ps) → IsRising low (q ∷ qs) → (p ≡ q → Compared (p ∷ ps) (q ∷ qs)) → Compared (p ∷ ps) (q ∷ qs)
+heads_compared : (low : ℤ) (p q : ℤ × ℤ) (ps qs : List (ℤ × ℤ)) → RisesFrom low (p ∷ ps) → RisesFrom low (q ∷ qs) → (p ≡ q → Compared (p ∷ ps) (q ∷ qs)) → Compared (p ∷ ps) (q ∷ qs)
 heads_compared low p q ps qs h k same_heads =
     by_order (Compared (p ∷ ps) (q ∷ qs)) p.0 q.0
     (λ l. differ p.0 (opposed _ _ (in_first p ps p.0 (omega (arith, ints)) h.1) (before_first q qs p.0 k.3 l k.1)))
@@ -185,20 +185,20 @@ heads_compared low p q ps qs h k same_heads =
     (λ l. differ (q.1 +ℤ pos 1) (let o = k.1 in opposed _ _ (in_first p ps (q.1 +ℤ pos 1) (omega (arith, ints)) (omega (arith, ints))) (past_first q qs (q.1 +ℤ pos 1) (omega (arith, ints)) ∙ none_below (q.1 +ℤ pos 1) (q.1 +ℤ pos 1) qs k.3 (omega (arith, ints))))))
     (λ l. differ q.0 (opposed_back _ _ (before_first p ps q.0 h.3 l h.1) (in_first q qs q.0 (omega (arith, ints)) k.1)))
 
-past_both : (p q : ℤ × ℤ) (ps qs : List (ℤ × ℤ)) (x : ℤ) → p ≡ q → IsRising (p.1 +ℤ pos 1) ps → IsRising (q.1 +ℤ pos 1) qs → is_among ps x ≡ not (is_among qs x) → is_among (p ∷ ps) x ≡ not (is_among (q ∷ qs) x)
+past_both : (p q : ℤ × ℤ) (ps qs : List (ℤ × ℤ)) (x : ℤ) → p ≡ q → RisesFrom (p.1 +ℤ pos 1) ps → RisesFrom (q.1 +ℤ pos 1) qs → is_among ps x ≡ not (is_among qs x) → is_among (p ∷ ps) x ≡ not (is_among (q ∷ qs) x)
 past_both p q ps qs x e h k d =
     let f = ap (λ (r : ℤ × ℤ). r.1) e in
     by_lt_z p.1 x
     (λ l. past_first p ps x l ∙ d ∙ ap not (sym (past_first q qs x (omega (arith, ints)))))
     (λ l. absurd (true≢false (sym (ap not (none_below (q.1 +ℤ pos 1) x qs k (omega (arith, ints)))) ∙ sym d ∙ none_below (p.1 +ℤ pos 1) x ps h (omega (arith, ints)))))
 
-pub compared : (low : ℤ) (ps qs : List (ℤ × ℤ)) → IsRising low ps → IsRising low qs → Compared ps qs
+pub compared : (low : ℤ) (ps qs : List (ℤ × ℤ)) → RisesFrom low ps → RisesFrom low qs → Compared ps qs
 compared low [] [] h k = same refl
 compared low [] (q ∷ qs) h k = differ q.0 (opposed_back _ _ refl (in_first q qs q.0 (omega (arith, ints)) k.1))
 compared low (p ∷ ps) [] h k = differ p.0 (opposed _ _ (in_first p ps p.0 (omega (arith, ints)) h.1) refl)
 compared low (p ∷ ps) (q ∷ qs) h k =
     heads_compared low p q ps qs h k (λ e.
-    let k' = subst (λ (r : ℤ × ℤ). IsRising (r.1 +ℤ pos 1) qs) (sym e) k.3 in
+    let k' = subst (λ (r : ℤ × ℤ). RisesFrom (r.1 +ℤ pos 1) qs) (sym e) k.3 in
     elim (compared (p.1 +ℤ pos 1) ps qs h.3 k') [
       | same f ↦ same (ap (λ r. r ∷ ps) e ∙ ap (λ rs. q ∷ rs) f)
       | differ x d ↦ differ x (past_both p q ps qs x e h.3 k.3 d)
@@ -213,17 +213,17 @@ pair_Decides p q =
 -- a step of the walk, by places in the two lists
 record IsAt (ps : List (ℤ × ℤ)) (i : ℕ) : Type 0 where
   pub whole : drop i ps ≡ get_or ps i (pos 0, pos 0) ∷ drop (i + 1) ps
-  pub rising : IsRising (negsuc (2 ^ 62 - 1)) (get_or ps i (pos 0, pos 0) ∷ drop (i + 1) ps)
+  pub rising : RisesFrom (negsuc (2 ^ 62 - 1)) (get_or ps i (pos 0, pos 0) ∷ drop (i + 1) ps)
 
-is_at : (ps : List (ℤ × ℤ)) (i : ℕ) → i < length ps → IsRising (negsuc (2 ^ 62 - 1)) ps → IsAt ps i
+is_at : (ps : List (ℤ × ℤ)) (i : ℕ) → i < length ps → RisesFrom (negsuc (2 ^ 62 - 1)) ps → IsAt ps i
 is_at ps i l h =
     let e = drop-cons ps i (pos 0, pos 0) l ∙ ap (λ j. get_or ps i (pos 0, pos 0) ∷ drop j ps) (let s : suc i ≡ i + 1 = omega arith in s) in
-    record { whole = e; rising = subst (λ qs. IsRising (negsuc (2 ^ 62 - 1)) qs) e (rising_drop (negsuc (2 ^ 62 - 1)) ps i h) }
+    record { whole = e; rising = subst (λ qs. RisesFrom (negsuc (2 ^ 62 - 1)) qs) e (rising_drop (negsuc (2 ^ 62 - 1)) ps i h) }
 
 at_both : (ps qs ms rest rest' other other' : List (ℤ × ℤ)) → rest ≡ rest' → other ≡ other' → SharedSoFar ps qs ms rest other → SharedSoFar ps qs ms rest' other'
 at_both ps qs ms rest rest' other other' e f h = subst (λ o. SharedSoFar ps qs ms rest' o) f (subst (λ r. SharedSoFar ps qs ms r other) e h)
 
-pub walk_left : (ps qs ms new : List (ℤ × ℤ)) (i j : ℕ) → i < length ps → j < length qs → IsRising (negsuc (2 ^ 62 - 1)) ps → IsRising (negsuc (2 ^ 62 - 1)) qs
+pub walk_left : (ps qs ms new : List (ℤ × ℤ)) (i j : ℕ) → i < length ps → j < length qs → RisesFrom (negsuc (2 ^ 62 - 1)) ps → RisesFrom (negsuc (2 ^ 62 - 1)) qs
     → (get_or ps i (pos 0, pos 0)).1 ≤ℤ (get_or qs j (pos 0, pos 0)).1 → AddsShared (get_or ps i (pos 0, pos 0)) (get_or qs j (pos 0, pos 0)) ms new
     → SharedSoFar ps qs ms (drop i ps) (drop j qs) → SharedSoFar ps qs new (drop (i + 1) ps) (drop j qs)
 walk_left ps qs ms new i j l k h g e a s =
@@ -232,7 +232,7 @@ walk_left ps qs ms new i j l k h g e a s =
     at_both ps qs new _ _ _ _ (let same : drop (i + 1) ps ≡ drop (i + 1) ps = refl in same) (sym y.whole)
     (step_left ps qs ms new (drop (i + 1) ps) (drop (j + 1) qs) _ _ x.rising y.rising e (adds ps qs ms new (drop (i + 1) ps) (drop (j + 1) qs) _ _ x.rising s' a) s')
 
-pub walk_right : (ps qs ms new : List (ℤ × ℤ)) (i j : ℕ) → i < length ps → j < length qs → IsRising (negsuc (2 ^ 62 - 1)) ps → IsRising (negsuc (2 ^ 62 - 1)) qs
+pub walk_right : (ps qs ms new : List (ℤ × ℤ)) (i j : ℕ) → i < length ps → j < length qs → RisesFrom (negsuc (2 ^ 62 - 1)) ps → RisesFrom (negsuc (2 ^ 62 - 1)) qs
     → (get_or qs j (pos 0, pos 0)).1 ≤ℤ (get_or ps i (pos 0, pos 0)).1 → AddsShared (get_or ps i (pos 0, pos 0)) (get_or qs j (pos 0, pos 0)) ms new
     → SharedSoFar ps qs ms (drop i ps) (drop j qs) → SharedSoFar ps qs new (drop i ps) (drop (j + 1) qs)
 walk_right ps qs ms new i j l k h g e a s =

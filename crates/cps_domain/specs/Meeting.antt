@@ -1,6 +1,6 @@
 -- What two lists of intervals share.
 use Rattle.std.specs.Prelude.{ℤ, ◌≡◌, ◌≤ℤ◌, ◌⊎◌, false, negsuc, ◌&&◌, ◌-◌, ◌^◌, ◌++◌, [], ◌∷◌, List}
-use Rattle.cps_domain.specs.Window.{within, is_among, IsRising}
+use Rattle.cps_domain.specs.Window.{within, is_among, RisesFrom}
 
 -- an interval has the numbers that lie in both of two others, and has some
 pub record IsShared (p q r : ℤ × ℤ) : Type 0 where
@@ -15,5 +15,5 @@ AddsShared p q old new =
 
 -- the list rises and has the numbers that lie in both of two others
 pub record AreShared (ps qs ms : List (ℤ × ℤ)) : Type 0 where
-  pub rising : IsRising (negsuc (2 ^ 62 - 1)) ms
+  pub rising : RisesFrom (negsuc (2 ^ 62 - 1)) ms
   pub values : (x : ℤ) → is_among ms x ≡ (is_among ps x && is_among qs x)

@@ -4,10 +4,10 @@ use Rattle.std.specs.Prelude.{All}
 use Rattle.cps_lex.specs.declared.types.TokenKind.{TokenKind}
 use Rattle.cps_lex.specs.declared.types.Token.{Token}
 use Rattle.cps_lex.proofs.Standing.{none_on_nothing}
-use Rattle.cps_lex.specs.Tokens.{Stands, IsLongest, NoneStands, IsTokenAt, Leads, AreTokens, HasNoTokenAt, IsSpanWithin, past_blank}
+use Rattle.cps_lex.specs.Tokens.{Stands, IsLongest, NoneStands, IsTokenAt, ReadsTokens, AreTokens, HasNoTokenAt, IsSpanWithin, past_blank}
 
 -- a token more at the end
-pub leads_more : (bytes : List ℕ) (from to : ℕ) (ts : List Token) (t : Token) → Leads bytes from ts to → IsTokenAt bytes to t → Leads bytes from (ts ++ t ∷ []) (past_blank bytes t.end)
+pub leads_more : (bytes : List ℕ) (from to : ℕ) (ts : List Token) (t : Token) → ReadsTokens bytes from ts to → IsTokenAt bytes to t → ReadsTokens bytes from (ts ++ t ∷ []) (past_blank bytes t.end)
 leads_more bytes from to [] t before here = (subst (λ at. IsTokenAt bytes at t) (sym before) here, refl)
 leads_more bytes from to (u ∷ ts) t before here = (before.0, leads_more bytes u.end to ts t before.1 here)
 
@@ -43,7 +43,7 @@ same_token bytes at t u a b =
     λ i. record { kind = kinds i; start = starts i; end = ends i }
 
 -- two ways through the bytes that both end where none can stand are the same
-pub leads_once : (bytes : List ℕ) (from to to' : ℕ) (ts us : List Token) → NoneStands (drop to bytes) → NoneStands (drop to' bytes) → Leads bytes from ts to → Leads bytes from us to' → (ts ≡ us) × (to ≡ to')
+pub leads_once : (bytes : List ℕ) (from to to' : ℕ) (ts us : List Token) → NoneStands (drop to bytes) → NoneStands (drop to' bytes) → ReadsTokens bytes from ts to → ReadsTokens bytes from us to' → (ts ≡ us) × (to ≡ to')
 leads_once bytes from to to' [] [] stop stop' a b = (refl, sym a ∙ b)
 leads_once bytes from to to' [] (u ∷ us) stop stop' a b =
     absurd (stop u.kind _ (subst (λ at. Stands (drop at bytes) u.kind (u.end - u.start)) (b.0.start ∙ a) b.0.longest.stands))
@@ -51,7 +51,7 @@ leads_once bytes from to to' (t ∷ ts) [] stop stop' a b =
     absurd (stop' t.kind _ (subst (λ at. Stands (drop at bytes) t.kind (t.end - t.start)) (a.0.start ∙ b) a.0.longest.stands))
 leads_once bytes from to to' (t ∷ ts) (u ∷ us) stop stop' a b =
     let same = same_token bytes _ t u a.0 b.0 in
-    let rest = leads_once bytes t.end to to' ts us stop stop' a.1 (subst (λ at. Leads bytes at us to') (sym (ap (λ (x : Token). x.end) same)) b.1) in
+    let rest = leads_once bytes t.end to to' ts us stop stop' a.1 (subst (λ at. ReadsTokens bytes at us to') (sym (ap (λ (x : Token). x.end) same)) b.1) in
     (cc (same, rest.0), rest.1)
 
 -- at the end of the bytes none stands
@@ -69,7 +69,7 @@ refused_alone bytes at ts r a =
     omega (arith, r.2, same)
 
 -- no more tokens than bytes
-pub leads_few : (bytes : List ℕ) (from to : ℕ) (ts : List Token) → Leads bytes from ts to → from + length ts ≤ to
+pub leads_few : (bytes : List ℕ) (from to : ℕ) (ts : List Token) → ReadsTokens bytes from ts to → from + length ts ≤ to
 leads_few bytes from to [] leads = omega (arith, leads)
 leads_few bytes from to (t ∷ ts) (here, rest) =
     let some = stands_on_some _ _ _ here.longest.stands in
@@ -85,7 +85,7 @@ token_within bytes at t here =
       form = here.longest.stands.form;
     }
 
-pub leads_within : (bytes : List ℕ) (from to : ℕ) (ts : List Token) → Leads bytes from ts to → All (IsSpanWithin bytes) ts
+pub leads_within : (bytes : List ℕ) (from to : ℕ) (ts : List Token) → ReadsTokens bytes from ts to → All (IsSpanWithin bytes) ts
 leads_within bytes from to [] leads k d lt = absurd (omega (arith, lt))
 leads_within bytes from to (t ∷ ts) (here, rest) zero d lt = token_within bytes _ t here
 leads_within bytes from to (t ∷ ts) (here, rest) (suc k) d lt = leads_within bytes t.end to ts rest k d (omega (arith, lt))

@@ -44,18 +44,18 @@ pub record IsTokenAt (bytes : List ℕ) (at : ℕ) (t : Token) : Type 0 where
   pub longest : IsLongest (drop t.start bytes) t.kind (t.end - t.start)
 
 -- these tokens, with white space and comments before each and behind the last, go from one place to the other
-abbrev pub Leads : List ℕ → ℕ → List Token → ℕ → Type 0
-Leads bytes from [] to = past_blank bytes from ≡ to
-Leads bytes from (t ∷ ts) to = IsTokenAt bytes (past_blank bytes from) t × Leads bytes t.end ts to
+abbrev pub ReadsTokens : List ℕ → ℕ → List Token → ℕ → Type 0
+ReadsTokens bytes from [] to = past_blank bytes from ≡ to
+ReadsTokens bytes from (t ∷ ts) to = IsTokenAt bytes (past_blank bytes from) t × ReadsTokens bytes t.end ts to
 
 -- these are the tokens of the bytes
 abbrev pub AreTokens : List ℕ → List Token → Type 0
-AreTokens bytes ts = Leads bytes 0 ts (length bytes)
+AreTokens bytes ts = ReadsTokens bytes 0 ts (length bytes)
 
 -- tokens lead to this byte, and none can stand there
 abbrev pub HasNoTokenAt : List ℕ → ℕ → Type 0
 HasNoTokenAt bytes at =
-    (ts : List Token) × Leads bytes 0 ts at × (at < length bytes) × NoneStands (drop at bytes)
+    (ts : List Token) × ReadsTokens bytes 0 ts at × (at < length bytes) × NoneStands (drop at bytes)
 
 -- a token stands on one or more of the bytes, which are of its kind
 pub record IsSpanWithin (bytes : List ℕ) (t : Token) : Type 0 where
@@ -64,12 +64,12 @@ pub record IsSpanWithin (bytes : List ℕ) (t : Token) : Type 0 where
   pub form : kind_of (text_of bytes t) ≡ Some t.kind
 
 -- why the bytes have no tokens
-abbrev pub IsRefusal : List ℕ → LexError → Type 0
-IsRefusal bytes (NoToken at) = HasNoTokenAt bytes at
-IsRefusal bytes OutOfMemory = Unit {0}
+abbrev pub IsLexRefusal : List ℕ → LexError → Type 0
+IsLexRefusal bytes (NoToken at) = HasNoTokenAt bytes at
+IsLexRefusal bytes OutOfMemory = Unit {0}
 
 -- the answer is these tokens, or memory ran out
-abbrev pub Gives : Result (Vec Token Global) LexError → List Token → Type 0
-Gives (Ok v) ts = v.items ≡ ts
-Gives (Err (NoToken at)) ts = ⊥
-Gives (Err OutOfMemory) ts = Unit {0}
+abbrev pub GivesTokens : Result (Vec Token Global) LexError → List Token → Type 0
+GivesTokens (Ok v) ts = v.items ≡ ts
+GivesTokens (Err (NoToken at)) ts = ⊥
+GivesTokens (Err OutOfMemory) ts = Unit {0}

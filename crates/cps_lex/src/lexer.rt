@@ -1,7 +1,7 @@
 //! The tokens of a whole input.
 ghost use Rattle.std.specs.Prelude.{◌≡◌, ◌<◌, ◌≤◌, ◌^◌, length, IfOk, IfErr, List, All};
 ghost use Rattle.cps_lex.specs.declared.types.Token.{Token};
-ghost use Rattle.cps_lex.specs.Tokens.{AreTokens, IsSpanWithin, IsRefusal, Gives};
+ghost use Rattle.cps_lex.specs.Tokens.{AreTokens, IsSpanWithin, IsLexRefusal, GivesTokens};
 
 use super::scan::{blank_length, token_at};
 use super::types::{LexError, Token};
@@ -11,10 +11,10 @@ use std::alloc::Global;
 pub fn tokens(alloc: Global, bytes: &[u8]) -> Result<Vec<Token>, LexError>
     requires { length bytes.now < 2 ^ 32 }
     ensures ok { IfOk result (λ v. AreTokens bytes.now v.items) }
-    ensures err { IfErr result (IsRefusal bytes.now) }
+    ensures err { IfErr result (IsLexRefusal bytes.now) }
 
     // Bytes that have tokens are cut into these, unless memory runs out.
-    ensures only { (ts : List Token) → AreTokens bytes.now ts → Gives result ts }
+    ensures only { (ts : List Token) → AreTokens bytes.now ts → GivesTokens result ts }
 
     // What a caller needs to look at the tokens.
     ensures count { IfOk result (λ v. length v.items ≤ length bytes.now) }

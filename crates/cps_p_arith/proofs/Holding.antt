@@ -4,7 +4,7 @@ use Rattle.std.specs.Prelude.{int_le, ◌||◌, not}
 use Rattle.std.specs.List.{AllZip, list_any}
 use Rattle.std.proofs.lemmas.Int.{ints}
 use Rattle.std.proofs.lemmas.List.Elements.{All-nil, All-cons, All-head, All-tail, All-push}
-use Rattle.cps_domain.specs.Window.{is_among, within, IsRising}
+use Rattle.cps_domain.specs.Window.{is_among, within, RisesFrom}
 use Rattle.cps_domain.proofs.Tests.{true_le, first_of_both, second_of_both}
 use Rattle.cps_literal.specs.declared.atom.Atom.{Atom}
 use Rattle.cps_literal.specs.declared.atom.Op.TheVariants.{Le, Ge}
@@ -160,7 +160,7 @@ either true = inl refl
 either false = inr refl
 
 -- values of intervals that rise lie between the least and the greatest that there are
-among_inside : (low : ℤ) (ps : List (ℤ × ℤ)) (x : ℤ) → IsRising low ps → is_among ps x ≡ true → (low <ℤ x) × (x <ℤ pos (2 ^ 62))
+among_inside : (low : ℤ) (ps : List (ℤ × ℤ)) (x : ℤ) → RisesFrom low ps → is_among ps x ≡ true → (low <ℤ x) × (x <ℤ pos (2 ^ 62))
 among_inside low [] x r h = absurd (true≢false (sym h))
 among_inside low (p ∷ ps) x r h = elim (either (within x p)) [
   | inl y ↦ (

@@ -5,7 +5,7 @@ use Rattle.std.proofs.Common.{◌≡◌, ℕ, zero, suc, ◌+◌, ◌-◌, ◌<�
 use Rattle.cps_lex.specs.declared.types.Token.{Token}
 use Rattle.cps_lex.specs.declared.types.TokenKind.{TokenKind}
 use Rattle.cps_lex.specs.Bytes.{is_space}
-use Rattle.cps_lex.specs.Tokens.{past_blank, blank_length, IsTokenAt, IsLongest, NoneStands, Leads, AreTokens}
+use Rattle.cps_lex.specs.Tokens.{past_blank, blank_length, IsTokenAt, IsLongest, NoneStands, ReadsTokens, AreTokens}
 use Rattle.cps_lex.specs.Scan.{scan}
 use Rattle.cps_lex.proofs.Standing.{scan_finds}
 use Rattle.cps_textproto.specs.declared.symbol.Symbol.{Symbol}
@@ -82,7 +82,7 @@ longest_of : (rest : List ℕ) (kind : TokenKind) (n : ℕ) → scan rest ≡ So
 longest_of rest kind n e =
     subst (λ (o : Option (TokenKind × ℕ)). MatchOption o (NoneStands rest) (λ t. IsLongest rest t.0 t.1)) e (scan_finds rest)
 
-same_start : (bytes : List ℕ) (a b to : ℕ) (ts : List Token) → past_blank bytes a ≡ past_blank bytes b → Leads bytes b ts to → Leads bytes a ts to
+same_start : (bytes : List ℕ) (a b to : ℕ) (ts : List Token) → past_blank bytes a ≡ past_blank bytes b → ReadsTokens bytes b ts to → ReadsTokens bytes a ts to
 same_start bytes a b to [] e l = e ∙ l
 same_start bytes a b to (t ∷ ts) e l = (subst (λ p. IsTokenAt bytes p t) (sym e) l.0, l.1)
 
@@ -100,7 +100,7 @@ token_at bytes at kind text after e s =
       longest = subst (λ n. IsLongest (drop at bytes) kind n) size long;
     }
 
-leads : (bytes : List ℕ) (at : ℕ) (ps : List Piece) → Rests bytes at (spelled ps) → AreSound ps → Leads bytes at (tokens_at at ps) (length bytes)
+leads : (bytes : List ℕ) (at : ℕ) (ps : List Piece) → Rests bytes at (spelled ps) → AreSound ps → ReadsTokens bytes at (tokens_at at ps) (length bytes)
 leads bytes at [] r s =
     let none : length bytes - at ≡ 0 = sym (length-drop at bytes) ∙ ap length r.is in
     let within = r.within in

@@ -28,7 +28,7 @@ use Rattle.cps_schema.specs.Answers.{Refuses}
 use Rattle.cps_schema.specs.Steps.{field_then, Passes, Stops}
 use Rattle.cps_schema.specs.Slots.{AreGivenSlots}
 use Rattle.cps_schema.specs.Parts.{is_other}
-use Rattle.cps_schema.specs.Gathered.{content_taken, use_taken, contents_of, takes_one, form_taken, entry_of, IsTableOf, are_apart, Found, nothing, joined, found_in, found_of, found, held, lines_of, found_from, all_from, marks, IsGathered, is_mixed, line_fault, form_behind, line_place}
+use Rattle.cps_schema.specs.Gathered.{content_taken, use_taken, contents_of, takes_one, form_taken, entry_of, IsTableOf, are_apart, GatheredFields, nothing, joined, found_in, found_of, found, held, lines_of, found_from, all_from, marks, IsGathered, is_mixed, line_fault, form_behind, line_place}
 use Rattle.cps_schema.proofs.Steps.{next_given, refused_stops}
 use Rattle.cps_schema.proofs.Forms.{next_form, joined_form}
 
@@ -310,7 +310,7 @@ or_or : (a b c : Bool) → ((a || b) || c) ≡ (a || (b || c))
 or_or true b c = refl
 or_or false b c = refl
 
-joined_assoc : (a b c : Found) → joined (joined a b) c ≡ joined a (joined b c)
+joined_assoc : (a b c : GatheredFields) → joined (joined a b) c ≡ joined a (joined b c)
 joined_assoc a b c =
     rw (
       or_or a.given b.given c.given,
@@ -320,17 +320,17 @@ joined_assoc a b c =
       append_assoc a.expressions b.expressions c.expressions,
     ) refl
 
-joined_none : (w : Written) (h : Found) (contents : Contents) (name : List ℕ) → joined h (found_of w contents name no_fields) ≡ h
+joined_none : (w : Written) (h : GatheredFields) (contents : Contents) (name : List ℕ) → joined h (found_of w contents name no_fields) ≡ h
 joined_none w h References name = rw (or_false h.given, append-nil h.references, append-nil h.numbers, append-nil h.truths, append-nil h.expressions) refl
 joined_none w h Numbers name = rw (or_false h.given, append-nil h.references, append-nil h.numbers, append-nil h.truths, append-nil h.expressions) refl
 joined_none w h Truths name = rw (or_false h.given, append-nil h.references, append-nil h.numbers, append-nil h.truths, append-nil h.expressions) refl
 joined_none w h Expressions name = rw (or_false h.given, append-nil h.references, append-nil h.numbers, append-nil h.truths, append-nil h.expressions) refl
 
 is_marked : (w : Written) (old new : Slot) (contents : Contents) (vs : Values) → held new ≡ joined (held old) (found_in w contents vs) → new.given ≡ true
-is_marked w old new References vs e = ap (λ (h : Found). h.given) e ∙ or_true old.given
-is_marked w old new Numbers vs e = ap (λ (h : Found). h.given) e ∙ or_true old.given
-is_marked w old new Truths vs e = ap (λ (h : Found). h.given) e ∙ or_true old.given
-is_marked w old new Expressions vs e = ap (λ (h : Found). h.given) e ∙ or_true old.given
+is_marked w old new References vs e = ap (λ (h : GatheredFields). h.given) e ∙ or_true old.given
+is_marked w old new Numbers vs e = ap (λ (h : GatheredFields). h.given) e ∙ or_true old.given
+is_marked w old new Truths vs e = ap (λ (h : GatheredFields). h.given) e ∙ or_true old.given
+is_marked w old new Expressions vs e = ap (λ (h : GatheredFields). h.given) e ∙ or_true old.given
 
 found_own : (w : Written) (f : Field) (rest : Tree) (contents : Contents) (name : List ℕ) → bytes_eq (token_text w f.name) name ≡ true →
     found_of w contents name (field_then f rest) ≡ joined (found_in w contents (values_of f.items)) (found_of w contents name rest)
@@ -349,18 +349,18 @@ found_other w f rest Expressions name e = rw e refl
 -- a field of another name
 other_slot : (w : Written) (f : Field) (rest : Tree) (slot : Slot) → bytes_eq (token_text w f.name) slot.line.0.now ≡ false →
     found_from w (field_then f rest) slot ≡ found_from w rest slot
-other_slot w f rest slot e = ap (λ (h : Found). joined (held slot) h) (found_other w f rest (contents_of slot.line.1) slot.line.0.now e)
+other_slot w f rest slot e = ap (λ (h : GatheredFields). joined (held slot) h) (found_other w f rest (contents_of slot.line.1) slot.line.0.now e)
 
 -- and one of the slot's
 own_slot : (w : Written) (f : Field) (rest : Tree) (old new : Slot) → bytes_eq (token_text w f.name) old.line.0.now ≡ true → new.line ≡ old.line →
     held new ≡ joined (held old) (found_in w (contents_of old.line.1) (values_of f.items)) →
     found_from w (field_then f rest) old ≡ found_from w rest new
 own_slot w f rest old new e same added =
-    let more : Found = found_in w (contents_of old.line.1) (values_of f.items) in
-    let behind : Found = found w rest old.line in
-    ap (λ (h : Found). joined (held old) h) (found_own w f rest (contents_of old.line.1) old.line.0.now e)
+    let more : GatheredFields = found_in w (contents_of old.line.1) (values_of f.items) in
+    let behind : GatheredFields = found w rest old.line in
+    ap (λ (h : GatheredFields). joined (held old) h) (found_own w f rest (contents_of old.line.1) old.line.0.now e)
     ∙ sym (joined_assoc (held old) more behind)
-    ∙ ap (λ (h : Found). joined h behind) (sym added)
+    ∙ ap (λ (h : GatheredFields). joined h behind) (sym added)
     ∙ ap (λ (line : Line). joined (held new) (found w rest line)) (sym same)
 
 all_lacking : (w : Written) (f : Field) (rest : Tree) (slots : List Slot) → LacksName (token_text w f.name) slots →
@@ -385,12 +385,12 @@ all_step w f rest (s ∷ slots) old new e same added apart =
           let name : token_text w f.name ≡ s.line.0.now = same_bytes (token_text w f.name) s.line.0.now t in
           let lacks : LacksName (token_text w f.name) slots = rw name first.0 in
           let own : found_from w (field_then f rest) s ≡ found_from w rest new = own_slot w f rest s new t (rw one same) (rw one added) in
-          rw t (ap (λ (h : Found). h ∷ all_from w slots (field_then f rest)) own
-          ∙ ap (λ (hs : List Found). found_from w rest new ∷ hs) (all_lacking w f rest slots lacks))
+          rw t (ap (λ (h : GatheredFields). h ∷ all_from w slots (field_then f rest)) own
+          ∙ ap (λ (hs : List GatheredFields). found_from w rest new ∷ hs) (all_lacking w f rest slots lacks))
       by_test false t first more =
           let other : slot_named slots (token_text w f.name) ≡ Some old = rw t at e in
-          rw t (ap (λ (h : Found). h ∷ all_from w slots (field_then f rest)) (other_slot w f rest s t)
-          ∙ ap (λ (hs : List Found). found_from w rest s ∷ hs) (more other))
+          rw t (ap (λ (h : GatheredFields). h ∷ all_from w slots (field_then f rest)) (other_slot w f rest s t)
+          ∙ ap (λ (hs : List GatheredFields). found_from w rest s ∷ hs) (more other))
 
 -- before any field, and behind the last
 
@@ -400,8 +400,8 @@ all_first w tree [] e = refl
 all_first w tree (s ∷ slots) e =
     let empty : held s ≡ nothing = cc in
     let others : map held slots ≡ map (λ (line : Line). nothing) (lines_of slots) = cc in
-    let own : found_from w tree s ≡ found w tree s.line = ap (λ (h : Found). joined h (found w tree s.line)) empty in
-    ap (λ (h : Found). h ∷ all_from w slots tree) own ∙ ap (λ (hs : List Found). found w tree s.line ∷ hs) (all_first w tree slots others)
+    let own : found_from w tree s ≡ found w tree s.line = ap (λ (h : GatheredFields). joined h (found w tree s.line)) empty in
+    ap (λ (h : GatheredFields). h ∷ all_from w slots tree) own ∙ ap (λ (hs : List GatheredFields). found w tree s.line ∷ hs) (all_first w tree slots others)
 
 pub marks_first : (slots : List Slot) → map held slots ≡ map (λ (line : Line). nothing) (lines_of slots) → AreGivenSlots (marks slots) []
 unfolding is_given
@@ -409,13 +409,13 @@ marks_first [] e = tt
 marks_first (s ∷ slots) e =
     let empty : held s ≡ nothing = cc in
     let others : map held slots ≡ map (λ (line : Line). nothing) (lines_of slots) = cc in
-    (sym (ap (λ (h : Found). h.given) empty), marks_first slots others)
+    (sym (ap (λ (h : GatheredFields). h.given) empty), marks_first slots others)
 
 pub all_last : (w : Written) (slots : List Slot) → all_from w slots no_fields ≡ map held slots
 all_last w [] = refl
 all_last w (s ∷ slots) =
-    ap (λ (h : Found). h ∷ all_from w slots no_fields) (joined_none w (held s) (contents_of s.line.1) s.line.0.now)
-    ∙ ap (λ (hs : List Found). held s ∷ hs) (all_last w slots)
+    ap (λ (h : GatheredFields). h ∷ all_from w slots no_fields) (joined_none w (held s) (contents_of s.line.1) s.line.0.now)
+    ∙ ap (λ (hs : List GatheredFields). held s ∷ hs) (all_last w slots)
 
 -- the use of a name in the message
 

@@ -14,12 +14,12 @@ Refuses fault (Fault name token) = fault ≡ Some (name, token)
 Refuses fault OutOfMemory = Unit {0}
 
 -- a refusal is the document's first fault, unless memory ran out
-abbrev pub IsRefusal : Written → Tree → SchemaError → Type 0
-IsRefusal w tree (Fault name token) = FirstFault w tree name token
-IsRefusal w tree OutOfMemory = Unit {0}
+abbrev pub IsSchemaRefusal : Written → Tree → SchemaError → Type 0
+IsSchemaRefusal w tree (Fault name token) = FirstFault w tree name token
+IsSchemaRefusal w tree OutOfMemory = Unit {0}
 
 -- the answer is this model, or memory ran out
-abbrev pub Gives : Result CpModel SchemaError → CpModel → Type 0
-Gives (Ok model) m = model ≡ m
-Gives (Err (Fault name token)) m = ⊥
-Gives (Err OutOfMemory) m = Unit {0}
+abbrev pub GivesModel : Result CpModel SchemaError → CpModel → Type 0
+GivesModel (Ok model) m = model ≡ m
+GivesModel (Err (Fault name token)) m = ⊥
+GivesModel (Err OutOfMemory) m = Unit {0}

@@ -73,7 +73,7 @@ are_apart [] = true
 are_apart (line ∷ lines) = not (list_any (λ (other : Line). bytes_eq other.0.now line.0.now) lines) && are_apart lines
 
 -- what fields give: whether there is one, and their values, of one sort
-pub record Found : Type 0 where
+pub record GatheredFields : Type 0 where
   pub given : Bool
   pub references : List ℤ
   pub numbers : List ℤ
@@ -81,11 +81,11 @@ pub record Found : Type 0 where
   pub expressions : List LinearExpr
 
 -- of no fields
-abbrev pub nothing : Found
+abbrev pub nothing : GatheredFields
 nothing = record { given = false; references = []; numbers = []; truths = []; expressions = [] }
 
 -- of fields, and of further ones behind them
-abbrev pub joined : Found → Found → Found
+abbrev pub joined : GatheredFields → GatheredFields → GatheredFields
 joined a b = record {
   given = a.given || b.given;
   references = a.references ++ b.references;
@@ -95,7 +95,7 @@ joined a b = record {
 }
 
 -- of one field with these values
-abbrev pub found_in : Written → Contents → Values → Found
+abbrev pub found_in : Written → Contents → Values → GatheredFields
 found_in w References vs = record {
   given = true;
   references = value_numbers w vs;
@@ -127,7 +127,7 @@ found_in w Expressions vs = record {
 }
 
 -- of all fields of a name
-abbrev pub found_of : Written → Contents → List ℕ → Tree → Found
+abbrev pub found_of : Written → Contents → List ℕ → Tree → GatheredFields
 found_of w References name tree = record {
   given = gives w name tree;
   references = numbers w name tree;
@@ -158,11 +158,11 @@ found_of w Expressions name tree = record {
 }
 
 -- of all fields of a line
-abbrev pub found : Written → Tree → Line → Found
+abbrev pub found : Written → Tree → Line → GatheredFields
 found w tree line = found_of w (contents_of line.1) line.0.now tree
 
 -- what was read so far of a line's fields
-abbrev pub held : Slot → Found
+abbrev pub held : Slot → GatheredFields
 held slot = record {
   given = slot.given;
   references = slot.references.items;
@@ -175,10 +175,10 @@ abbrev pub lines_of : List Slot → List Line
 lines_of slots = map (λ (slot : Slot). slot.line) slots
 
 -- what was read so far, and what further fields give
-abbrev pub found_from : Written → Tree → Slot → Found
+abbrev pub found_from : Written → Tree → Slot → GatheredFields
 found_from w rest slot = joined (held slot) (found w rest slot.line)
 
-abbrev pub all_from : Written → List Slot → Tree → List Found
+abbrev pub all_from : Written → List Slot → Tree → List GatheredFields
 all_from w slots rest = map (found_from w rest) slots
 
 abbrev pub marks : List Slot → List (List ℕ × Bool)
@@ -222,13 +222,13 @@ line_place k [] name = None
 line_place k (slot ∷ slots) name = if bytes_eq name slot.line.0.now then Some k else line_place (k + 1) slots name
 
 -- what the slots give that are left
-abbrev pub left : IntoIter Slot Global → List Found
+abbrev pub left : IntoIter Slot Global → List GatheredFields
 left slots = map held (into_iter_items slots)
 
-abbrev pub behind_first : List Found → List Found
+abbrev pub behind_first : List GatheredFields → List GatheredFields
 behind_first [] = []
 behind_first (f ∷ fs) = fs
 
 -- what the first of these gives, and nothing where there is none
-abbrev pub next : List Found → Found
+abbrev pub next : List GatheredFields → GatheredFields
 next fs = first_or nothing fs

@@ -12,7 +12,7 @@ ghost use Rattle.cps_schema.specs.Inputs.{written_of, names_of};
 ghost use Rattle.cps_schema.specs.Tables.{model_message, variable_message, constraint_message, objective_message, hint_message, message, number};
 ghost use Rattle.cps_schema.specs.Faults.{values_fault, fields_fault};
 ghost use Rattle.cps_schema.specs.Readings.{ReadsAs, value_numbers, value_messages, read_variable, read_constraint, read_objective, read_hint, read_model};
-ghost use Rattle.cps_schema.specs.Answers.{Refuses, IsRefusal, Gives};
+ghost use Rattle.cps_schema.specs.Answers.{Refuses, IsSchemaRefusal, GivesModel};
 ghost use Rattle.cps_schema.specs.Steps.{field_then, Passes, Stops, SinglePasses, SingleStops, ClosablePasses, ClosableStops};
 ghost use Rattle.cps_schema.specs.Slots.{AreGivenSlots};
 ghost use Rattle.cps_schema.specs.Parts.{model_from, model_slots};
@@ -161,13 +161,13 @@ pub fn model_with(
         (tree_of node.now) model) }
     ensures kinds { IfOk result (λ model. OpenKinds (names_of closed.now) model) }
     ensures assumptions { IfOk result (λ model. OpenAssumptions (names_of closed.now) model) }
-    ensures err { IfErr result (IsRefusal (written_with (names_of closed.now) bytes.now tokens.now)
+    ensures err { IfErr result (IsSchemaRefusal (written_with (names_of closed.now) bytes.now tokens.now)
         (tree_of node.now)) }
 
     // A document that has a model is read as it, unless memory runs out.
     ensures only { (model : CpModel)
         → ReadsAs (written_with (names_of closed.now) bytes.now tokens.now) (tree_of node.now) model
-        → Gives result model }
+        → GivesModel result model }
 {
     let input = Input {
         bytes,
@@ -187,11 +187,11 @@ pub fn model_of(
     ensures ok { IfOk result (λ model. ReadsAs (written bytes.now tokens.now) (tree_of node.now) model) }
     ensures kinds { IfOk result (λ model. OpenKinds closed_names model) }
     ensures assumptions { IfOk result (λ model. OpenAssumptions closed_names model) }
-    ensures err { IfErr result (IsRefusal (written bytes.now tokens.now) (tree_of node.now)) }
+    ensures err { IfErr result (IsSchemaRefusal (written bytes.now tokens.now) (tree_of node.now)) }
 
     // A document that has a model is read as it, unless memory runs out.
     ensures only { (model : CpModel) → ReadsAs (written bytes.now tokens.now) (tree_of node.now) model
-        → Gives result model }
+        → GivesModel result model }
 {
     model_with(alloc, &CLOSED, bytes, tokens, node)
 }

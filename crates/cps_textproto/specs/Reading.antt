@@ -89,12 +89,12 @@ abbrev mutual
 abbrev pub HasTree : List Symbol → Tree → Type 0
 HasTree s tree = (fs : Fields) × IsDocument s fs × (tree ≡ tree_at 0 fs)
 
-abbrev pub IsRefusal : List Symbol → TextError → Type 0
-IsRefusal s (NotADocument token) = IsRefusedAt s token
-IsRefusal s OutOfMemory = Unit {0}
+abbrev pub IsTextRefusal : List Symbol → TextError → Type 0
+IsTextRefusal s (NotADocument token) = IsRefusedAt s token
+IsTextRefusal s OutOfMemory = Unit {0}
 
 -- the answer has this tree, or memory ran out
-abbrev pub Gives : Result Node TextError → Tree → Type 0
-Gives (Ok node) tree = tree_of node ≡ tree
-Gives (Err (NotADocument token)) tree = ⊥
-Gives (Err OutOfMemory) tree = Unit {0}
+abbrev pub GivesTree : Result Node TextError → Tree → Type 0
+GivesTree (Ok node) tree = tree_of node ≡ tree
+GivesTree (Err (NotADocument token)) tree = ⊥
+GivesTree (Err OutOfMemory) tree = Unit {0}

@@ -3,7 +3,7 @@ ghost use Rattle.std.specs.Prelude.{◌≡◌, ◌<◌, ◌^◌, length, IfOk, I
 ghost use Rattle.cps_textproto.specs.declared.reading.TextError.TheVariants.{OutOfMemory};
 ghost use Rattle.cps_textproto.specs.Symbols.{symbols};
 ghost use Rattle.cps_textproto.specs.Trees.{Tree, NumbersBelow, tree_of};
-ghost use Rattle.cps_textproto.specs.Reading.{HasTree, IsRefusal, Gives};
+ghost use Rattle.cps_textproto.specs.Reading.{HasTree, IsTextRefusal, GivesTree};
 ghost use Rattle.cps_textproto.specs.Building.{Ends, build_of, empty_build};
 
 use super::builder::{Builder, act, action_of, innermost, node_of};
@@ -46,10 +46,10 @@ impl<T: Drop> From<AllocFailed<T>> for TextError {
 pub fn document(alloc: Global, bytes: &[u8], tokens: &[Token]) -> Result<Node, TextError>
     requires { length tokens.now < 2 ^ 32 }
     ensures ok { IfOk result (λ node. HasTree (symbols bytes.now tokens.now) (tree_of node)) }
-    ensures err { IfErr result (IsRefusal (symbols bytes.now tokens.now)) }
+    ensures err { IfErr result (IsTextRefusal (symbols bytes.now tokens.now)) }
 
     // Tokens that are a document are read as its tree, unless memory runs out.
-    ensures only { (tree : Tree) → HasTree (symbols bytes.now tokens.now) tree → Gives result tree }
+    ensures only { (tree : Tree) → HasTree (symbols bytes.now tokens.now) tree → GivesTree result tree }
 
     // What a caller needs to look up the tokens.
     ensures below { IfOk result (λ node. NumbersBelow (length tokens.now) (tree_of node)) }

@@ -1,6 +1,6 @@
 use Rattle.std.proofs.Common.{◌≡◌, ◌≤◌, ◌+◌, ◌-◌, length, false, ap, ◌∙◌, subst, arith, length-drop}
 use Rattle.std.proofs.lemmas.List.{take_rest}
-use Rattle.cps_lex.specs.Tokens.{Leads, IsLongest, NoneStands, blank_length, past_blank}
+use Rattle.cps_lex.specs.Tokens.{ReadsTokens, IsLongest, NoneStands, blank_length, past_blank}
 use Rattle.cps_lex.proofs.Cutting.{leads_more, token_here, tokens_once, refused_alone, leads_few, leads_within}
 use Rattle.cps_lex.proofs.lexer.tokens.Goals as goal
 
@@ -28,7 +28,7 @@ loop-at-preserved c =
 pub returns-clause-only : goal.returns-clause-only
 returns-clause-only c = λ ts are.
     let at_end : c.loop-at.at ≡ length c.args.bytes.now = omega arith in
-    tokens_once c.args.bytes.now _ ts (subst (Leads c.args.bytes.now 0 c.loop-at.tokens.items) at_end c.loop-at.invariant.leads) are
+    tokens_once c.args.bytes.now _ ts (subst (ReadsTokens c.args.bytes.now 0 c.loop-at.tokens.items) at_end c.loop-at.invariant.leads) are
 
 pub returns-clause-count : goal.returns-clause-count
 returns-clause-count c = omega (arith, leads_few c.args.bytes.now 0 c.loop-at.at c.loop-at.tokens.items c.loop-at.invariant.leads, c.loop-at.invariant.within)
