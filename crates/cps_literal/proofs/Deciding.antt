@@ -8,7 +8,7 @@ use Rattle.cps_literal.specs.declared.atom.Op.{Op}
 use Rattle.cps_literal.specs.declared.atom.Op.TheVariants.{Le, Ge, Eq, Ne}
 use Rattle.cps_literal.specs.declared.atom.Truth.{Truth}
 use Rattle.cps_literal.specs.declared.atom.Truth.TheVariants.{Yes, No}
-use Rattle.cps_literal.proofs.Implying.{le_yes, le_no, yes_le, no_le, yes_lt, no_lt, eq_yes, eq_no, yes_eq, no_eq}
+use Rattle.cps_literal.proofs.Implying.{le_yes, le_no, yes_le, no_le, yes_lt, no_lt, eq_yes, yes_eq}
 
 lt_yes : (x v : ℤ) → x <ℤ v → int_lt x v ≡ true
 lt_yes x v h = grind (arith, ints)
@@ -29,10 +29,6 @@ not_true : (b : Bool) → not b ≡ true → b ≡ false
 not_true true h = sym h
 not_true false h = refl
 
-true_not : (b : Bool) → (b ≡ true → ⊥) → not b ≡ true
-true_not true h = absurd (h refl)
-true_not false h = refl
-
 not_false : (b : Bool) → not b ≡ false → b ≡ true
 not_false true e = refl
 not_false false e = sym e
@@ -41,20 +37,12 @@ no_truth : (b : Bool) → (b ≡ true → ⊥) → b ≡ false
 no_truth true h = absurd (h refl)
 no_truth false h = refl
 
--- a number that is no value, and one that is the only value
-pub eq_never : (admits : ℤ → Bool) (v : ℤ) → (not (admits v) ≡ true) ↔ IsFalseOn admits Eq v
-eq_never admits v = (
-  λ e x m. eq_no x v (λ z. true≢false (sym m ∙ ap admits z ∙ not_true (admits v) e)),
-  λ f. true_not (admits v) (λ m. no_eq v v (f v m) refl),
-)
+-- by what is told of equality: `r` is the opposite of the truth `t`
+pub ne_true : (admits : ℤ → Bool) (v : ℤ) (t r : Truth) → ((r ≡ Yes) ↔ (t ≡ No)) → ((t ≡ No) ↔ IsFalseOn admits Eq v) → (r ≡ Yes) ↔ IsTrueOn admits Ne v
+ne_true admits v t r a h = (λ y x m. ap not (h.0 (a.0 y) x m), λ f. a.1 (h.1 (λ x m. not_true (equals x v) (f x m))))
 
-pub ne_always : (admits : ℤ → Bool) (v : ℤ) → (not (admits v) ≡ true) ↔ IsTrueOn admits Ne v
-ne_always admits v =
-    let e = eq_never admits v in
-    (λ n x m. ap not (e.0 n x m), λ f. e.1 (λ x m. not_true (equals x v) (f x m)))
-
-pub ne_never : (admits : ℤ → Bool) (v : ℤ) (b : Bool) → ((b ≡ true) ↔ IsTrueOn admits Eq v) → (b ≡ true) ↔ IsFalseOn admits Ne v
-ne_never admits v b h = (λ e x m. ap not (h.0 e x m), λ f. h.1 (λ x m. not_false (equals x v) (f x m)))
+pub ne_false : (admits : ℤ → Bool) (v : ℤ) (t r : Truth) → ((r ≡ No) ↔ (t ≡ Yes)) → ((t ≡ Yes) ↔ IsTrueOn admits Eq v) → (r ≡ No) ↔ IsFalseOn admits Ne v
+ne_false admits v t r a h = (λ y x m. ap not (h.0 (a.0 y) x m), λ f. a.1 (h.1 (λ x m. not_false (equals x v) (f x m))))
 
 -- no value is another: by the greatest value, and then by the least
 pub only_not : (admits : ℤ → Bool) (v g : ℤ) → admits g ≡ true → int_lt v g ≡ true → IsTrueOn admits Eq v → ⊥
@@ -65,6 +53,11 @@ only_test admits v l g i h k n = (
   λ e x m. eq_yes x v (let a = h x m in let b = k x m in let c = no_lt v g n in let d = yes_le v l e in omega (arith, ints)),
   λ f. le_yes v l (let a = yes_eq l v (f l i) in omega (arith, ints)),
 )
+
+pub only_there : (admits : ℤ → Bool) (v l g : ℤ) → admits l ≡ true → ((x : ℤ) → admits x ≡ true → x ≤ℤ g) → int_lt v g ≡ false → int_le v l ≡ true → admits v ≡ true
+only_there admits v l g i k n e =
+    let same : l ≡ v = (let b = k l i in let c = no_lt v g n in let d = yes_le v l e in omega (arith, ints)) in
+    subst (λ z. admits z ≡ true) same i
 
 pub as_coded : (a b : Bool) (P : Type 0) → a ≡ b → ((b ≡ true) ↔ P) → (a ≡ true) ↔ P
 as_coded a b P e h = (λ y. h.0 (sym e ∙ y), λ p. e ∙ h.1 p)
@@ -79,3 +72,7 @@ pub never_told : (admits : ℤ → Bool) (o p : Op) (v z : ℤ) (cb b cn n : Boo
 never_told admits o p v z cb b cn n t e i s r a h k =
     subst (λ q. (t ≡ No) ↔ IsFalseOn admits q v) (sym e)
     (λ y. k.0 (sym r ∙ (a.0 y).1), λ f. a.1 (s ∙ no_truth b (λ y. true≢false (sym (h.0 y z i) ∙ f z i)), r ∙ k.1 f))
+
+-- what is told of a comparison and a number, of those that they are
+pub as_told : (P : Op → ℤ → Type 0) (o p : Op) (v z : ℤ) → o ≡ p → z ≡ v → P p z → P o v
+as_told P o p v z e i h = subst (λ q. P q v) (sym e) (subst (P p) i h)

@@ -1,11 +1,12 @@
-use Rattle.std.proofs.Common.{rules, true, refl, ap, subst, ◌≡◌, ◌∙◌, w64, FitsSigned}
-use Rattle.std.specs.Prelude.{int_le, int_lt, not, ◌↔◌}
+use Rattle.std.proofs.Common.{rules, ◌≡◌, w64, FitsSigned}
+use Rattle.std.specs.Prelude.{int_le, int_lt, ◌↔◌}
 use Rattle.std.proofs.lemmas.Int.{to_z-of_z}
 use Rattle.cps_domain.specs.Window.{contains}
 use Rattle.cps_literal.specs.declared.atom.Op.TheVariants.{Le, Ge, Eq, Ne}
-use Rattle.cps_literal.specs.Truth.{IsTrueOn}
+use Rattle.cps_literal.specs.Truth.{IsTrueOn, IsFalseOn}
+use Rattle.cps_literal.specs.declared.atom.Truth.TheVariants.{Yes, No}
 use Rattle.cps_literal.proofs.Implying.{code_le, code_lt}
-use Rattle.cps_literal.proofs.Deciding.{le_always, le_never, ge_always, ge_never, eq_never, ne_always, ne_never, always_told, never_told}
+use Rattle.cps_literal.proofs.Deciding.{le_always, le_never, ge_always, ge_never, ne_true, ne_false, always_told, never_told, as_told}
 use Rattle.cps_literal.proofs.atom.Atom.truth_in.Goals as goal
 
 pub returns-in-Le-clause-yes : goal.returns-in-Le-clause-yes
@@ -53,36 +54,29 @@ returns-in-Ge-clause-no c =
 pub returns-in-Eq-clause-yes : goal.returns-in-Eq-clause-yes
 returns-in-Eq-clause-yes c =
     let v = c.args.self.value in
-    let admits = contains c.args.domain.now in
     let fv : FitsSigned w64 c.args.self.value = search rules in
-    let only = subst (λ z. (c.is_only.result ≡ true) ↔ IsTrueOn admits Eq z) (to_z-of_z w64 v fv) c.is_only.ensures in
-    always_told admits c.args.self.op Eq v c.is_only.result c.is_only.result c.truth_of-in-Eq.result c.in-Eq.is refl c.truth_of-in-Eq.ensures.yes only
+    as_told (λ o z. (c.truth_of_equality.result ≡ Yes) ↔ IsTrueOn (contains c.args.domain.now) o z) c.args.self.op Eq v _ c.in-Eq.is (to_z-of_z w64 v fv) c.truth_of_equality.ensures.yes
 
 pub returns-in-Eq-clause-no : goal.returns-in-Eq-clause-no
 returns-in-Eq-clause-no c =
     let v = c.args.self.value in
-    let admits = contains c.args.domain.now in
     let fv : FitsSigned w64 c.args.self.value = search rules in
-    let e = to_z-of_z w64 v fv in
-    let only = subst (λ z. (c.is_only.result ≡ true) ↔ IsTrueOn admits Eq z) e c.is_only.ensures in
-    never_told admits c.args.self.op Eq v c.min-least.result c.is_only.result c.is_only.result _ (not (contains c.args.domain.now v)) c.truth_of-in-Eq.result c.in-Eq.is c.min-least.ensures.within
-    refl (ap not (c.contains.ensures ∙ ap (λ z. contains c.args.domain.now z) e)) c.truth_of-in-Eq.ensures.no only (eq_never admits v)
+    as_told (λ o z. (c.truth_of_equality.result ≡ No) ↔ IsFalseOn (contains c.args.domain.now) o z) c.args.self.op Eq v _ c.in-Eq.is (to_z-of_z w64 v fv) c.truth_of_equality.ensures.no
 
 pub returns-in-Ne-clause-yes : goal.returns-in-Ne-clause-yes
 returns-in-Ne-clause-yes c =
     let v = c.args.self.value in
     let admits = contains c.args.domain.now in
     let fv : FitsSigned w64 c.args.self.value = search rules in
-    let e = to_z-of_z w64 v fv in
-    always_told admits c.args.self.op Ne v _ (not (contains c.args.domain.now v)) c.truth_of-in-Ne.result c.in-Ne.is (ap not (c.contains-in-Ne.ensures ∙ ap (λ z. contains c.args.domain.now z) e)) c.truth_of-in-Ne.ensures.yes
-    (ne_always admits v)
+    let told = c.truth_of_equality-in-Ne.ensures.no in
+    as_told (λ o z. (c.opposite.result ≡ Yes) ↔ IsTrueOn admits o z) c.args.self.op Ne v _ c.in-Ne.is (to_z-of_z w64 v fv)
+    (ne_true admits _ c.truth_of_equality-in-Ne.result c.opposite.result c.opposite.ensures.yes told)
 
 pub returns-in-Ne-clause-no : goal.returns-in-Ne-clause-no
 returns-in-Ne-clause-no c =
     let v = c.args.self.value in
     let admits = contains c.args.domain.now in
     let fv : FitsSigned w64 c.args.self.value = search rules in
-    let e = to_z-of_z w64 v fv in
-    let only = subst (λ z. (c.is_only-in-Ne.result ≡ true) ↔ IsTrueOn admits Eq z) e c.is_only-in-Ne.ensures in
-    never_told admits c.args.self.op Ne v c.min-least.result _ (not (contains c.args.domain.now v)) c.is_only-in-Ne.result c.is_only-in-Ne.result c.truth_of-in-Ne.result c.in-Ne.is c.min-least.ensures.within
-    (ap not (c.contains-in-Ne.ensures ∙ ap (λ z. contains c.args.domain.now z) e)) refl c.truth_of-in-Ne.ensures.no (ne_always admits v) (ne_never admits v c.is_only-in-Ne.result only)
+    let told = c.truth_of_equality-in-Ne.ensures.yes in
+    as_told (λ o z. (c.opposite.result ≡ No) ↔ IsFalseOn admits o z) c.args.self.op Ne v _ c.in-Ne.is (to_z-of_z w64 v fv)
+    (ne_false admits _ c.truth_of_equality-in-Ne.result c.opposite.result c.opposite.ensures.no told)
