@@ -57,7 +57,7 @@ impl Bounds {
         bound_of(self.table.shared.load::<SeeUpper>(&mut seat.seat, 0))
     }
 
-    /// The greatest bound that was raised.
+    /// The greatest of the start and of all raises.
     pub fn lower(&self, seat: &mut BoundsSeat) -> Bound
         requires { IsSeatOf self.now seat.old }
         ensures own { IsSeatOf self.now seat.new × (splits_of seat.new ≡ splits_of seat.old) }

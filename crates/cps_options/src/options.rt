@@ -19,9 +19,10 @@ pub const GREATEST_GAP: u64 = 9_223_372_036_854_775_807;
 pub struct Options {
     /// How many workers search, at least `LEAST_WORKERS` and at most `MOST_WORKERS`.
     pub workers: u32,
-    /// From how many conflicts each worker may learn, at most `MOST_CONFLICTS`.
+    /// From how many conflicts each worker may learn, at most `MOST_CONFLICTS`; one that searches near solutions does
+    /// whole rounds, and may learn from up to 100 more.
     pub conflicts: u64,
-    /// Where the words begin by which the turns of an interleaved run are drawn.
+    /// Where the words begin by which rounds free variables, and by which the turns of an interleaved run are drawn.
     pub seed: u64,
     /// Whether the workers take turns in one thread.
     pub interleave: bool,

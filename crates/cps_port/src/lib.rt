@@ -4,8 +4,8 @@
 //!
 //! After every list of lawful steps, by whichever actors, each clause on the board holds in each assignment that is
 //! better than the incumbent it names, the upper bound is the least objective that was offered, and the lower bound is
-//! the greatest value to which one was raised, and at most every solution's objective. A port over the plain state
-//! changes it by lawful steps of its own actor alone, so it cannot make up an answer.
+//! the greatest of the least objective by the domains and of all raises, and at most every solution's objective. A port
+//! over the plain state changes it by lawful steps of its own actor alone, so it cannot make up an answer.
 #![tactic(auto)]
 
 pub mod entry;

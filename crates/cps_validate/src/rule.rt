@@ -9,7 +9,7 @@ pub enum Rule {
     IllFormedDomain,
     /// A bound of a variable's domain reaches 2^62 in magnitude.
     FarBound,
-    /// A reference names no variable.
+    /// A reference other than a hint's names no variable.
     UnknownVariable,
     /// A literal's variable has values beside 0 and 1.
     NotBoolean,
