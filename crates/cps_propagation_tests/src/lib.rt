@@ -27,6 +27,10 @@ macro_rules! no {
 }
 
 #[cfg(test)]
+mod boolean_reasons;
+#[cfg(test)]
+mod boolean_runs;
+#[cfg(test)]
 mod booleans;
 #[cfg(test)]
 mod engines;
