@@ -1,25 +1,13 @@
 //! Models that are generated: what is written of them, and what comes of solving them.
-use crate::running::{Given, Seen, run, unhindered};
+use crate::running::{Given, run, run_unread, unhindered};
 use std::alloc::{AllocError, Global};
+use std::process::Abort;
 use std::sync::Wait;
 use std::test::Fail;
 use std::thread::Threads;
 
-/// What comes of words to which nothing is read: the first read would fail.
-fn run_unread<R: Threads + Wait + Sync>(
-    rt: &R,
-    alloc: Global,
-    words: &[&str],
-) -> Result<Seen, AllocError> {
-    let unreadable = Given {
-        failing_reads: &[0],
-        ..unhindered(words, "")
-    };
-    run(rt, alloc, &unreadable)
-}
-
 /// Words of `demo`, each with what is written. The objectives are those that a search through all orders finds.
-const DEMONSTRATIONS: [(&[&str], &str); 4] = [
+static DEMONSTRATIONS: [(&[&str], &str); 4] = [
     (
         &["demo", "knapsack", "1", "7"],
         "variables: 1\nconstraints: 1\nstatus: OPTIMAL\nobjective_value: 0\n",
@@ -38,13 +26,21 @@ const DEMONSTRATIONS: [(&[&str], &str); 4] = [
     ),
 ];
 
-#[test]
-fn demonstrations_say_what_came_of_them(rt: HostRuntime) -> Result<(), Fail> {
-    for (words, lines) in DEMONSTRATIONS.iter() {
-        let seen = run_unread(&rt, rt.alloc(), words)?;
+fn assert_demonstrated<R: Threads + Wait + Sync + Abort>(
+    rt: &R,
+    alloc: Global,
+    rows: &[(&'static [&'static str], &'static str)],
+) -> Result<(), Fail> {
+    for (words, lines) in rows {
+        let seen = run_unread(rt, alloc, words)?;
         assert!(rt; seen.is(0, true, lines), "at {lines}");
     }
     Ok(())
+}
+
+#[test]
+fn demonstrations_say_what_came_of_them(rt: HostRuntime) -> Result<(), Fail> {
+    assert_demonstrated(&rt, rt.alloc(), &DEMONSTRATIONS)
 }
 
 #[test]

@@ -1,14 +1,15 @@
 //! Runs against a source and a sink that fail, and on texts that are cut off, too deep, too long or at the limits of
 //! their numbers.
 use crate::known_answers::{COMMANDS, PRODUCTION, PRODUCTION_TEXT, Solving};
-use crate::running::{Given, Seen, run, unhindered};
+use crate::running::{Given, Seen, assert_solved, run, unhindered};
 use std::alloc::{AllocError, Global};
+use std::process::Abort;
 use std::sync::Wait;
 use std::test::Fail;
 use std::thread::Threads;
 
 /// How many bytes the text has, and so many reads of one byte.
-const ONE_BY_ONE: [usize; 300] = [1; 300];
+static ONE_BY_ONE: [usize; 300] = [1; 300];
 
 #[test]
 fn bytes_come_and_go_one_by_one(rt: HostRuntime) -> Result<(), Fail> {
@@ -65,7 +66,7 @@ struct Written {
     has_outcome: bool,
 }
 
-const WRITTEN: [Written; 6] = [
+static WRITTEN: [Written; 6] = [
     Written {
         words: &["solve"],
         input: "",
@@ -122,19 +123,27 @@ fn holds_what_came_before<R: Threads + Wait + Sync>(
     Ok(seen.exit == 4 && seen.has_outcome == row.has_outcome && held == Some(seen.text.as_slice()))
 }
 
-#[test]
-fn each_write_fails(rt: HostRuntime) -> Result<(), Fail> {
-    for row in WRITTEN.iter() {
+fn assert_each_write_fails<R: Threads + Wait + Sync + Abort>(
+    rt: &R,
+    alloc: Global,
+    rows: &[Written],
+) -> Result<(), Fail> {
+    for row in rows {
         for call in 0..row.text.len() {
-            let holds = holds_what_came_before(&rt, rt.alloc(), row, call)?;
+            let holds = holds_what_came_before(rt, alloc, row, call)?;
             assert!(rt; holds, "{call} of {}", row.text);
         }
     }
     Ok(())
 }
 
+#[test]
+fn each_write_fails(rt: HostRuntime) -> Result<(), Fail> {
+    assert_each_write_fails(&rt, rt.alloc(), &WRITTEN)
+}
+
 /// The lengths of the first parts of the text that end behind a whole message.
-const WHOLE: [usize; 10] = [0, 29, 30, 59, 60, 148, 149, 237, 238, 300];
+static WHOLE: [usize; 10] = [0, 29, 30, 59, 60, 148, 149, 237, 238, 300];
 
 /// Whether so many bytes of the text are solved where they end behind a whole message, and are said to end too early
 /// elsewhere.
@@ -165,7 +174,7 @@ fn texts_are_cut_off(rt: HostRuntime) -> Result<(), Fail> {
 }
 
 /// Texts that no command takes, each with what is said of it.
-const FAULTY: [(&str, &str); 5] = [
+static FAULTY: [(&str, &str); 5] = [
     // 33 messages, each in the one before
     (
         "a{a{a{a{a{a{a{a{\
@@ -196,19 +205,27 @@ const FAULTY: [(&str, &str); 5] = [
     ),
 ];
 
-#[test]
-fn texts_have_faults(rt: HostRuntime) -> Result<(), Fail> {
-    for (input, text) in FAULTY.iter() {
+fn assert_faults<R: Threads + Wait + Sync + Abort>(
+    rt: &R,
+    alloc: Global,
+    rows: &[(&'static str, &'static str)],
+) -> Result<(), Fail> {
+    for (input, text) in rows {
         for command in COMMANDS.iter() {
-            let seen = run(&rt, rt.alloc(), &unhindered(&[*command], input))?;
+            let seen = run(rt, alloc, &unhindered(&[*command], input))?;
             assert!(rt; seen.is(1, false, text), "{command} at {input}");
         }
     }
     Ok(())
 }
 
+#[test]
+fn texts_have_faults(rt: HostRuntime) -> Result<(), Fail> {
+    assert_faults(&rt, rt.alloc(), &FAULTY)
+}
+
 /// The greatest numbers that a variable may have, under a sum that is as great, and under one that would be greater.
-const GREATEST: [Solving; 2] = [
+static GREATEST: [Solving; 2] = [
     Solving {
         input: "variables { domain: [-4611686018427387903, 4611686018427387903] } \
          constraints { linear { vars: [0] coeffs: [-1] domain: [4611686018427387903, 9223372036854775807] } }",
@@ -225,11 +242,7 @@ const GREATEST: [Solving; 2] = [
 
 #[test]
 fn numbers_are_the_greatest(rt: HostRuntime) -> Result<(), Fail> {
-    for row in GREATEST.iter() {
-        let seen = run(&rt, rt.alloc(), &unhindered(&["solve"], row.input))?;
-        assert!(rt; seen.is(row.exit, row.exit == 0, row.text), "{}", row.exit);
-    }
-    Ok(())
+    assert_solved(&rt, rt.alloc(), &GREATEST)
 }
 
 /// What is answered to so many spaces. The length is judged before the command works on the input, so one command

@@ -49,7 +49,7 @@ pub struct Line {
 }
 
 /// Inputs that are solved with options.
-pub const LINES: [Line; 10] = [
+pub static LINES: [Line; 10] = [
     Line {
         words: &["solve", "--workers", "1", "--conflicts", "0"],
         input: THREE_IN_TWO,
@@ -120,7 +120,7 @@ pub const LINES: [Line; 10] = [
 ];
 
 /// Words behind the program's name that make no command line.
-pub const FAULTY_WORDS: [&[&str]; 15] = [
+pub static FAULTY_WORDS: [&[&str]; 15] = [
     &[],
     &["solve", "--workers", "0"],
     &["solve", "--workers", "17"],
@@ -139,7 +139,7 @@ pub const FAULTY_WORDS: [&[&str]; 15] = [
 ];
 
 /// The commands that read a model.
-pub const COMMANDS: [&str; 3] = ["solve", "validate", "print"];
+pub static COMMANDS: [&str; 3] = ["solve", "validate", "print"];
 
 /// Words of a command and its input, the first three bytes that it writes, and whether it has an outcome.
 pub struct Beginning {
@@ -150,7 +150,7 @@ pub struct Beginning {
 }
 
 /// What is held of texts of which no more is taken.
-pub const BEGINNINGS: [Beginning; 6] = [
+pub static BEGINNINGS: [Beginning; 6] = [
     Beginning {
         words: &["solve"],
         input: "",

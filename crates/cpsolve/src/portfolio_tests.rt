@@ -36,7 +36,7 @@ impl Gate for MeetingGate {
 }
 
 /// What is written where an order of 0, 1 and 2 is best, for each order.
-const BEST_ORDERS: [&str; 6] = [
+static BEST_ORDERS: [&str; 6] = [
     "status: OPTIMAL\nsolution: 0\nsolution: 1\nsolution: 2\nobjective_value: 3\nbest_objective_bound: 3\n",
     "status: OPTIMAL\nsolution: 0\nsolution: 2\nsolution: 1\nobjective_value: 3\nbest_objective_bound: 3\n",
     "status: OPTIMAL\nsolution: 1\nsolution: 0\nsolution: 2\nobjective_value: 3\nbest_objective_bound: 3\n",

@@ -1,9 +1,12 @@
 //! One run of the program, over a source and a sink in memory.
+use crate::known_answers::Solving;
 use crate::ran::Ran;
 use crate::solve::solve_main;
 use cps_outer::{Gate, MemorySink, MemorySource, OpenGate};
 use std::alloc::{AllocError, Global};
+use std::process::Abort;
 use std::sync::Wait;
+use std::test::Fail;
 use std::thread::Threads;
 
 /// What a run is handed: the words behind the program's name, the input, and how the source and the sink behave. A call
@@ -110,4 +113,34 @@ pub fn run<R: Threads + Wait + Sync>(
     given: &Given,
 ) -> Result<Seen, AllocError> {
     run_at(rt, alloc, given, &OpenGate)
+}
+
+/// What comes of words to which nothing is read: the first read would fail.
+pub fn run_unread<R: Threads + Wait + Sync>(
+    rt: &R,
+    alloc: Global,
+    words: &[&str],
+) -> Result<Seen, AllocError> {
+    let unreadable = Given {
+        failing_reads: &[0],
+        ..unhindered(words, "")
+    };
+    run(rt, alloc, &unreadable)
+}
+
+/// Asserts that each of these inputs has its answer.
+pub fn assert_solved<R: Threads + Wait + Sync + Abort>(
+    rt: &R,
+    alloc: Global,
+    rows: &[Solving],
+) -> Result<(), Fail> {
+    for row in rows {
+        let seen = run(rt, alloc, &unhindered(&["solve"], row.input))?;
+        assert!(rt;
+            seen.is(row.exit, row.exit == 0, row.text),
+            "at {}",
+            row.input
+        );
+    }
+    Ok(())
 }

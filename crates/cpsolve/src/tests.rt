@@ -1,27 +1,27 @@
 //! Whole runs of the program: the exit, whether there is an outcome, and every byte that is written.
 use crate::known_answers::{
-    BEGINNINGS, COMMANDS, FAULTY_WORDS, INPUTS, LINES, PRODUCTION, READINGS,
+    BEGINNINGS, Beginning, COMMANDS, FAULTY_WORDS, INPUTS, LINES, Line, PRODUCTION, READINGS,
+    Reading,
 };
-use crate::running::{Given, run, unhindered};
+use crate::running::{Given, assert_solved, run, run_unread, unhindered};
+use std::alloc::Global;
+use std::process::Abort;
+use std::sync::Wait;
 use std::test::Fail;
+use std::thread::Threads;
 
 #[test]
 fn inputs_have_their_answers(rt: HostRuntime) -> Result<(), Fail> {
-    for row in INPUTS.iter() {
-        let seen = run(&rt, rt.alloc(), &unhindered(&["solve"], row.input))?;
-        assert!(rt;
-            seen.is(row.exit, row.exit == 0, row.text),
-            "at {}",
-            row.input
-        );
-    }
-    Ok(())
+    assert_solved(&rt, rt.alloc(), &INPUTS)
 }
 
-#[test]
-fn readings_have_their_answers(rt: HostRuntime) -> Result<(), Fail> {
-    for row in READINGS.iter() {
-        let seen = run(&rt, rt.alloc(), &unhindered(&[row.command], row.input))?;
+fn assert_read<R: Threads + Wait + Sync + Abort>(
+    rt: &R,
+    alloc: Global,
+    rows: &[Reading],
+) -> Result<(), Fail> {
+    for row in rows {
+        let seen = run(rt, alloc, &unhindered(&[row.command], row.input))?;
         assert!(rt;
             seen.is(row.exit, false, row.text),
             "{} at {}",
@@ -33,27 +33,44 @@ fn readings_have_their_answers(rt: HostRuntime) -> Result<(), Fail> {
 }
 
 #[test]
-fn lines_have_their_answers(rt: HostRuntime) -> Result<(), Fail> {
-    for row in LINES.iter() {
-        let seen = run(&rt, rt.alloc(), &unhindered(row.words, row.input))?;
+fn readings_have_their_answers(rt: HostRuntime) -> Result<(), Fail> {
+    assert_read(&rt, rt.alloc(), &READINGS)
+}
+
+fn assert_lines<R: Threads + Wait + Sync + Abort>(
+    rt: &R,
+    alloc: Global,
+    rows: &[Line],
+) -> Result<(), Fail> {
+    for row in rows {
+        let seen = run(rt, alloc, &unhindered(row.words, row.input))?;
         assert!(rt; seen.is(0, true, row.text), "at {}", row.input);
     }
     Ok(())
 }
 
-/// They are judged before the source is read.
 #[test]
-fn words_without_a_command_have_the_usage_line(rt: HostRuntime) -> Result<(), Fail> {
+fn lines_have_their_answers(rt: HostRuntime) -> Result<(), Fail> {
+    assert_lines(&rt, rt.alloc(), &LINES)
+}
+
+/// The words are judged before the source is read.
+fn assert_usage<R: Threads + Wait + Sync + Abort>(
+    rt: &R,
+    alloc: Global,
+    rows: &[&'static [&'static str]],
+) -> Result<(), Fail> {
     let usage = "usage: cpsolve solve|validate|print|gen|demo|check\n";
-    for words in FAULTY_WORDS.iter() {
-        let unreadable = Given {
-            failing_reads: &[0],
-            ..unhindered(words, "")
-        };
-        let seen = run(&rt, rt.alloc(), &unreadable)?;
+    for words in rows {
+        let seen = run_unread(rt, alloc, words)?;
         assert!(rt; seen.is(2, false, usage));
     }
     Ok(())
+}
+
+#[test]
+fn words_without_a_command_have_the_usage_line(rt: HostRuntime) -> Result<(), Fail> {
+    assert_usage(&rt, rt.alloc(), &FAULTY_WORDS)
 }
 
 #[test]
@@ -71,16 +88,24 @@ fn a_second_read_fails(rt: HostRuntime) -> Result<(), Fail> {
     Ok(())
 }
 
-#[test]
-fn a_second_write_fails(rt: HostRuntime) -> Result<(), Fail> {
-    for row in BEGINNINGS.iter() {
+fn assert_held<R: Threads + Wait + Sync + Abort>(
+    rt: &R,
+    alloc: Global,
+    rows: &[Beginning],
+) -> Result<(), Fail> {
+    for row in rows {
         let full = Given {
             at_once: 3,
             failing_writes: &[1],
             ..unhindered(row.words, row.input)
         };
-        let seen = run(&rt, rt.alloc(), &full)?;
+        let seen = run(rt, alloc, &full)?;
         assert!(rt; seen.is(4, row.has_outcome, row.held), "at {}", row.held);
     }
     Ok(())
+}
+
+#[test]
+fn a_second_write_fails(rt: HostRuntime) -> Result<(), Fail> {
+    assert_held(&rt, rt.alloc(), &BEGINNINGS)
 }
