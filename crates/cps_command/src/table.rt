@@ -72,17 +72,12 @@ fn solve_line<'a>(alloc: Global) -> Result<Command<'a>, AllocError>
     ensures app { IfOk result (λ c. app_of c ≡ solve_line) }
     ensures local { IfOk result (λ c. (out-Command c).has_globals ≡ false) }
 {
-    let workers = workers_option(alloc);
-    let conflicts = conflicts_option(alloc);
-    let seed = seed_option(alloc);
-    let interleave = interleave_option(alloc);
-    let gap = gap_option(alloc);
     Command::new(alloc, "solve")
-        .arg(workers)?
-        .arg(conflicts)?
-        .arg(seed)?
-        .arg(interleave)?
-        .arg(gap)
+        .arg(workers_option(alloc))?
+        .arg(conflicts_option(alloc))?
+        .arg(seed_option(alloc))?
+        .arg(interleave_option(alloc))?
+        .arg(gap_option(alloc))
 }
 
 /// `FAMILY`
@@ -118,28 +113,23 @@ fn generating_line<'a>(alloc: Global, name: &'a str) -> Result<Command<'a>, Allo
     ensures app { IfOk result (λ c. app_of c ≡ generating_line name.entry.now) }
     ensures local { IfOk result (λ c. (out-Command c).has_globals ≡ false) }
 {
-    let family = family_argument(alloc);
-    let size = size_argument(alloc);
-    let seed = drawing_argument(alloc);
-    Command::new(alloc, name).arg(family)?.arg(size)?.arg(seed)
+    Command::new(alloc, name)
+        .arg(family_argument(alloc))?
+        .arg(size_argument(alloc))?
+        .arg(drawing_argument(alloc))
 }
 
 /// All lines.
 fn command_table<'a>(alloc: Global) -> Result<Command<'a>, AllocError>
     ensures { IfOk result (λ c. app_of c ≡ command_table) }
 {
-    let solve = solve_line(alloc)?;
-    let validate = Command::new(alloc, "validate");
-    let print = Command::new(alloc, "print");
-    let generate = generating_line(alloc, "gen")?;
-    let demonstrate = generating_line(alloc, "demo")?;
     Command::new(alloc, "cpsolve")
         .subcommand_required(true)
-        .subcommand(solve)?
-        .subcommand(validate)?
-        .subcommand(print)?
-        .subcommand(generate)?
-        .subcommand(demonstrate)
+        .subcommand(solve_line(alloc)?)?
+        .subcommand(Command::new(alloc, "validate"))?
+        .subcommand(Command::new(alloc, "print"))?
+        .subcommand(generating_line(alloc, "gen")?)?
+        .subcommand(generating_line(alloc, "demo")?)
 }
 
 /// What the words say by the table; `None` if they are no line of it.

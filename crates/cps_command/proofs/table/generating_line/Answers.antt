@@ -9,12 +9,12 @@ use Rattle.cps_command.proofs.table.generating_line.Goals as goal
 pub returns-clause-app : goal.returns-clause-app
 unfolding generating_line
 returns-clause-app c =
-    let family = c.in_ok-arg.ensures.shape c.family_argument-family.ensures.local ∙ ap₂ with_rule c.new.ensures.app c.family_argument-family.ensures.rule in
-    let size = c.in_ok-arg-2.ensures.shape c.size_argument-size.ensures.local ∙ ap₂ with_rule family c.size_argument-size.ensures.rule in
-    IfOk-weaker c.arg-3.result _ _ (λ r added. added.shape c.drawing_argument-seed.ensures.local ∙ ap₂ with_rule size c.drawing_argument-seed.ensures.rule) c.arg-3.ensures
+    let family = c.in_ok-arg.ensures.shape c.family_argument.ensures.local ∙ ap₂ with_rule c.new.ensures.app c.family_argument.ensures.rule in
+    let size = c.in_ok-arg-2.ensures.shape c.size_argument.ensures.local ∙ ap₂ with_rule family c.size_argument.ensures.rule in
+    IfOk-weaker c.arg-3.result _ _ (λ r added. added.shape c.drawing_argument.ensures.local ∙ ap₂ with_rule size c.drawing_argument.ensures.rule) c.arg-3.ensures
 
 pub returns-clause-local : goal.returns-clause-local
 returns-clause-local c =
-    let family = stays_local _ _ _ c.in_ok-arg.ensures c.new.ensures.local c.family_argument-family.ensures.local in
-    let size = stays_local _ _ _ c.in_ok-arg-2.ensures family c.size_argument-size.ensures.local in
-    IfOk-weaker c.arg-3.result _ _ (λ r added. stays_local _ _ _ added size c.drawing_argument-seed.ensures.local) c.arg-3.ensures
+    let family = stays_local _ _ _ c.in_ok-arg.ensures c.new.ensures.local c.family_argument.ensures.local in
+    let size = stays_local _ _ _ c.in_ok-arg-2.ensures family c.size_argument.ensures.local in
+    IfOk-weaker c.arg-3.result _ _ (λ r added. stays_local _ _ _ added size c.drawing_argument.ensures.local) c.arg-3.ensures

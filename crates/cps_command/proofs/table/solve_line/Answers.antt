@@ -9,16 +9,16 @@ use Rattle.cps_command.proofs.table.solve_line.Goals as goal
 pub returns-clause-app : goal.returns-clause-app
 unfolding solve_line
 returns-clause-app c =
-    let workers = c.in_ok-arg.ensures.shape c.workers_option-workers.ensures.local ∙ ap₂ with_rule c.new.ensures.app c.workers_option-workers.ensures.rule in
-    let conflicts = c.in_ok-arg-2.ensures.shape c.conflicts_option-conflicts.ensures.local ∙ ap₂ with_rule workers c.conflicts_option-conflicts.ensures.rule in
-    let seed = c.in_ok-arg-3.ensures.shape c.seed_option-seed.ensures.local ∙ ap₂ with_rule conflicts c.seed_option-seed.ensures.rule in
-    let interleave = c.in_ok-arg-4.ensures.shape c.interleave_option-interleave.ensures.local ∙ ap₂ with_rule seed c.interleave_option-interleave.ensures.rule in
-    IfOk-weaker c.arg-5.result _ _ (λ r added. added.shape c.gap_option-gap.ensures.local ∙ ap₂ with_rule interleave c.gap_option-gap.ensures.rule) c.arg-5.ensures
+    let workers = c.in_ok-arg.ensures.shape c.workers_option.ensures.local ∙ ap₂ with_rule c.new.ensures.app c.workers_option.ensures.rule in
+    let conflicts = c.in_ok-arg-2.ensures.shape c.conflicts_option.ensures.local ∙ ap₂ with_rule workers c.conflicts_option.ensures.rule in
+    let seed = c.in_ok-arg-3.ensures.shape c.seed_option.ensures.local ∙ ap₂ with_rule conflicts c.seed_option.ensures.rule in
+    let interleave = c.in_ok-arg-4.ensures.shape c.interleave_option.ensures.local ∙ ap₂ with_rule seed c.interleave_option.ensures.rule in
+    IfOk-weaker c.arg-5.result _ _ (λ r added. added.shape c.gap_option.ensures.local ∙ ap₂ with_rule interleave c.gap_option.ensures.rule) c.arg-5.ensures
 
 pub returns-clause-local : goal.returns-clause-local
 returns-clause-local c =
-    let workers = stays_local _ _ _ c.in_ok-arg.ensures c.new.ensures.local c.workers_option-workers.ensures.local in
-    let conflicts = stays_local _ _ _ c.in_ok-arg-2.ensures workers c.conflicts_option-conflicts.ensures.local in
-    let seed = stays_local _ _ _ c.in_ok-arg-3.ensures conflicts c.seed_option-seed.ensures.local in
-    let interleave = stays_local _ _ _ c.in_ok-arg-4.ensures seed c.interleave_option-interleave.ensures.local in
-    IfOk-weaker c.arg-5.result _ _ (λ r added. stays_local _ _ _ added interleave c.gap_option-gap.ensures.local) c.arg-5.ensures
+    let workers = stays_local _ _ _ c.in_ok-arg.ensures c.new.ensures.local c.workers_option.ensures.local in
+    let conflicts = stays_local _ _ _ c.in_ok-arg-2.ensures workers c.conflicts_option.ensures.local in
+    let seed = stays_local _ _ _ c.in_ok-arg-3.ensures conflicts c.seed_option.ensures.local in
+    let interleave = stays_local _ _ _ c.in_ok-arg-4.ensures seed c.interleave_option.ensures.local in
+    IfOk-weaker c.arg-5.result _ _ (λ r added. stays_local _ _ _ added interleave c.gap_option.ensures.local) c.arg-5.ensures
