@@ -26,6 +26,9 @@ more_times v k =
 pub times-some : (a b : ℤ) → pos 0 ≤ℤ a → pos 0 ≤ℤ b → pos 0 ≤ℤ (a *ℤ b)
 times-some a b p q = let e = *ℤ-zero a in let f = times_grows a (pos 0) b p q in omega (arith, ints)
 
+pub times-next-some : (a b : ℤ) → pos 0 ≤ℤ a → pos 0 ≤ℤ b → pos 0 ≤ℤ ((a *ℤ b) +ℤ pos 1)
+times-next-some a b p q = let e = times-some a b p q in omega (arith, ints)
+
 -- how large a number of 64 bits is
 pub number_size : (n : ℤ) → FitsSigned w64 n → unsigned_abs n ≤ 2 ^ 63
 number_size (pos n) f = let g = f.sfits in omega (arith, ints)

@@ -1,7 +1,8 @@
 -- What is seen of a level, and of what facts give of it.
-use Rattle.std.proofs.Common.{ℕ, inl, inr, get_or, take, unsigned_abs, ◌+◌, ◌*◌, ◌^◌, ◌<◌, ◌≤◌, ℤ, pos, neg_ℤ, ◌+ℤ◌, ◌≤ℤ◌, ◌<ℤ◌, ◌≡◌, Bool, true, false, not, cond, ◌&&◌, List, [], ◌∷◌, ◌++◌, length, refl, sym, ◌∙◌, ap, subst, arith, FitsSigned, w64}
+use Rattle.std.proofs.Common.{ℕ, inl, inr, get_or, take, unsigned_abs, ◌+◌, ◌*◌, ◌^◌, ◌<◌, ◌≤◌, ℤ, pos, neg_ℤ, ◌+ℤ◌, ◌≤ℤ◌, ◌<ℤ◌, ◌≡◌, Bool, true, false, not, cond, ◌&&◌, List, [], ◌∷◌, ◌++◌, length, refl, sym, ◌∙◌, ap, subst, arith, FitsSigned, w64, true≢false}
 use Rattle.std.specs.Prelude.{int_le, Option, Some, None, IfSome, IfOk, Result, Ok, Err}
 use Rattle.std.specs.declared.alloc.AllocError.{AllocError}
+use Rattle.std.specs.Result.{IsErr, is_err}
 use Rattle.std.specs.List.{All}
 use Rattle.std.proofs.lemmas.Int.{ints}
 use Rattle.std.proofs.lemmas.List.{take_more, take_all}
@@ -400,3 +401,22 @@ active-free s a o us e f = subst (λ (p : Option Atom). Relies s a (λ xs. is_ac
 
 pub ok_true : (r : Result Bool AllocError) (b : Bool) → r ≡ Ok b → b ≡ true → r ≡ Ok true
 ok_true r b e f = e ∙ ap (λ v. Ok v) f
+
+-- a result that is no `Ok true`, and one that is no `Ok (Some _)`
+abbrev pub is_yes : Result Bool AllocError → Bool
+is_yes (Ok b) = b
+is_yes (Err e) = false
+
+pub no_yes : (P : Type 0) (r : Result Bool AllocError) → r ≡ Ok true → is_yes r ≡ false → P
+no_yes P r is not = absurd (true≢false (sym (ap is_yes is) ∙ not))
+
+abbrev pub is_number : Result (Option ℤ) AllocError → Bool
+is_number (Ok (Some v)) = true
+is_number (Ok None) = false
+is_number (Err e) = false
+
+pub no_number : (P : Type 0) (r : Result (Option ℤ) AllocError) (v : ℤ) → r ≡ Ok (Some v) → is_number r ≡ false → P
+no_number P r v is not = absurd (true≢false (sym (ap is_number is) ∙ not))
+
+pub no_err : {T : Type 0} (P : Type 0) (r : Result T AllocError) (v : T) → r ≡ Ok v → IsErr r → P
+no_err P r v is err = absurd (true≢false (sym err ∙ ap is_err is))

@@ -194,6 +194,16 @@ over-capacity s a t w r most need u old mid new some same is h i = Relies-then s
     absurd (omega (arith, ints))
     ))
 
+-- a capacity below 0
+pub under-capacity : (s : Trail) (a : Atom) (r : Resource) (most : ℤ) (u : Atom) (old new : List Atom) → most <ℤ pos 0 → u ≡ record { subject = r.capacity; op = Le; value = most }
+    → Relies s a (λ xs. atom_holds xs u ≡ true) old new → Relies s a (λ xs. HoldsBody (body_of r) xs → ⊥) old new
+under-capacity s a r most u old new low is h = Relies-so s a (λ xs. atom_holds xs u ≡ true) (λ xs. HoldsBody (body_of r) xs → ⊥) old new h
+    (λ xs x b holds. (
+    let e = true_le (value_at xs r.capacity) most (subst (λ (v : Atom). atom_holds xs v ≡ true) is b) in
+    let f = holds.some_room in
+    absurd (omega (arith, ints))
+    ))
+
 -- the same, by what the code reads
 pub charge-step : (s : Trail) (a : Atom) (t w : ℤ) (ps rs : List Span) (ds es : List ℕ) (need known : ℤ) (k : ℕ) (p : Span) (d : ℕ) (left had after got : ℤ) (old mid new : List Atom) → k < length rs → k < length es → rs ≡ ps → es ≡ ds → p ≡ get_or rs k p → d ≡ get_or es k 0
     → Relies s a (IsCharged t w ps ds need k left) old mid → Relies s a (IsEnergyTaken t w p d had after) mid new → had ≡ left → known ≡ need → got ≡ after → Relies s a (IsCharged t w ps ds known (k + 1) got) old new
@@ -226,3 +236,10 @@ pub fact-capacity : (s : Trail) (i : ℕ) (most : ℤ) (u : Atom) (us : List Ato
 fact-capacity s i most u us is same l inside up =
     let fact : IsFact s (record { subject = i; op = Le; value = most }) = record { subject = l; inside = inside; true_now = λ x o. le_true x most (up x o) } in
     subst (λ (vs : List Atom). AreFacts s vs) (sym is) (subst (λ (v : Atom). AreFacts s (v ∷ [])) (sym same) (All-push (IsFact s) [] (record { subject = i; op = Le; value = most }) (All-nil (IsFact s)) fact))
+
+-- what is left after a span took from it
+pub fallen : (left got after : ℤ) → got ≡ after → pos 0 ≤ℤ got → got ≤ℤ left → (pos 0 ≤ℤ after) × (after ≤ℤ left)
+fallen left got after e low high = subst (λ (z : ℤ). (pos 0 ≤ℤ z) × (z ≤ℤ left)) e (low, high)
+
+pub not_fallen : (left after : ℤ) → left ≡ after → pos 0 ≤ℤ left → (pos 0 ≤ℤ after) × (after ≤ℤ left)
+not_fallen left after e low = fallen left left after e low (omega (arith, ints))

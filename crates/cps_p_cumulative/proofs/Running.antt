@@ -40,6 +40,9 @@ lt_true a b h = grind (arith, ints)
 pub true_lt : (a b : ℤ) → int_lt a b ≡ true → a <ℤ b
 true_lt a b h = grind (arith, ints)
 
+pub false_lt : (a b : ℤ) → int_lt a b ≡ false → b ≤ℤ a
+false_lt a b h = grind (arith, ints)
+
 -- a span runs at a time where it is present, starts by then and ends later
 pub running : (xs : List ℤ) (t : ℤ) (p : Span) → list_all (atom_holds xs) p.presence ≡ true → value_at xs p.start ≤ℤ t → t <ℤ span_end xs p.start p.end p.length → is_running xs t p ≡ true
 running xs t p here a b =

@@ -1,5 +1,5 @@
 -- The demand of parts at a time, by sums over their starts and their ends.
-use Rattle.std.proofs.Common.{ℕ, zero, suc, ◌+◌, ◌<◌, ◌≤◌, ◌^◌, ℤ, ◌≤ℤ◌, ◌<ℤ◌, ◌≡◌, ◌⊎◌, inl, inr, Bool, true, false, cond, List, [], ◌∷◌, length, get_or, take, drop, refl, sym, ap, subst, arith}
+use Rattle.std.proofs.Common.{ℕ, zero, suc, ◌+◌, ◌-◌, ◌<◌, ◌≤◌, ◌^◌, ℤ, ◌≤ℤ◌, ◌<ℤ◌, ◌≡◌, ◌⊎◌, inl, inr, Bool, true, false, cond, List, [], ◌∷◌, length, get_or, take, drop, refl, sym, ap, subst, arith}
 use Rattle.std.specs.Prelude.{int_le}
 use Rattle.std.specs.List.{All, sum_by}
 use Rattle.std.specs.List.Sorted.{IsPermutation}
@@ -10,7 +10,7 @@ use Rattle.std.proofs.lemmas.List.Sums.{sum_by-cons, sum_by-take-drop, sum_by-ta
 use Rattle.std.proofs.lemmas.List.Sorted.{sum_by-IsPermutation, All-permutation}
 use Rattle.cps_domain.proofs.Tests.{true_le, le_true, false_le, le_false}
 use Rattle.cps_p_cumulative.specs.declared.part.Part.{Part}
-use Rattle.cps_p_cumulative.specs.Profile.{at, height, AreParts, FitsCapacity, PassesEnds, IsSweptAt, IsSwept}
+use Rattle.cps_p_cumulative.specs.Profile.{at, height, AreParts, FitsCapacity, IsOverCapacity, IsEndedBy, PassesEnds, IsSweptAt, IsSwept}
 use Rattle.cps_p_cumulative.specs.declared.judge.Ended.{Ended}
 
 -- what a part demands if it began by a time, and if it ended by it
@@ -241,3 +241,34 @@ at_below t p n e = let a = at_most t p in omega arith
 
 pub room_all : (t : ℤ) (ps : List Part) (k sum capacity : ℕ) → length ps ≤ k → sum ≡ height t (take k ps) → sum ≤ capacity → height t ps ≤ capacity
 room_all t ps k sum capacity l is below = let e = ap (height t) (take_all k ps l) in omega arith
+
+-- one part more
+pub height_more : (t : ℤ) (ps : List Part) (k sum n : ℕ) (d : Part) → k < length ps → sum ≡ height t (take k ps) → n ≡ at t (get_or ps k d) → sum + n ≡ height t (take (k + 1) ps)
+height_more t ps k sum n d l is here = let e = sum_by_more (at t) ps k d l in omega arith
+
+pub over_some : (t : ℤ) (ps : List Part) (k sum n capacity : ℕ) (d : Part) → k < length ps → sum ≡ height t (take k ps) → n ≡ at t (get_or ps k d) → capacity < sum + n → IsOverCapacity ps capacity t
+over_some t ps k sum n capacity d l is here over = record {
+  over = (let e = height_more t ps k sum n d l is here in let f = sum_by-take-le (at t) ps (k + 1) in omega arith);
+}
+
+-- one end more is passed
+pub ended_more : (ends : List Part) (t : ℤ) (k level rest : ℕ) (d : Part) → k < length ends → (get_or ends k d).to ≤ℤ t → IsEndedBy ends (record { place = k; level = level }) t → IsEndedBy ends (record { place = k + 1; level = rest }) t
+ended_more ends t k level rest d l here h = record {
+  within = omega arith;
+  passed = λ j e i. elim (last_or j k i) [
+    | inl b ↦ h.passed j e b
+    | inr b ↦ subst (λ (u : ℕ). (get_or ends u e).to ≤ℤ t) (sym b) (subst (λ (p : Part). p.to ≤ℤ t) (get_or_default ends k d e l) here)
+  ];
+}
+
+pub passes_more : (ends : List Part) (old : Ended) (k level : ℕ) (d : Part) → k < length ends → (get_or ends k d).demand ≤ level → PassesEnds ends old (record { place = k; level = level }) → PassesEnds ends old (record { place = k + 1; level = level - (get_or ends k d).demand })
+passes_more ends old k level d l most h = record {
+  level = (let a = h.level in let b = sum_by_more demand ends k d l in omega arith);
+  less = (let a = h.less in omega arith);
+}
+
+pub passes_none : (ends : List Part) (old : Ended) → PassesEnds ends old old
+passes_none ends old = record { level = refl; less = omega arith }
+
+pub fewer_left : (n k : ℕ) → k < n → n - (k + 1) < n - k
+fewer_left n k l = omega arith

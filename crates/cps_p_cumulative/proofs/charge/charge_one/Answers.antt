@@ -1,11 +1,11 @@
-use Rattle.std.proofs.Common.{◌≡◌, true, pos, ℤ, ◌-ℤ◌, ◌*ℤ◌, ◌≤ℤ◌, sym, subst, rules, FitsSigned, w64}
+use Rattle.std.proofs.Common.{◌≡◌, true, pos, ℤ, ◌-ℤ◌, ◌*ℤ◌, ◌≤ℤ◌, refl, sym, subst, rules, FitsSigned, w64}
 use Rattle.std.specs.Prelude.{Ok, Some, Option, Result}
 use Rattle.std.specs.declared.alloc.AllocError.{AllocError}
 use Rattle.std.proofs.lemmas.Int.{to_z-of_z}
 use mir.Syntax.{w128}
 use Rattle.cps_p_cumulative.proofs.Energy.{times-some}
-use Rattle.cps_p_cumulative.proofs.Levelled.{ok_true}
-use Rattle.cps_p_cumulative.proofs.Relied.{charge-skip, charge-run}
+use Rattle.cps_p_cumulative.proofs.Levelled.{ok_true, no_number, no_err}
+use Rattle.cps_p_cumulative.proofs.Relied.{charge-skip, charge-run, fallen, not_fallen}
 use Rattle.cps_p_cumulative.proofs.charge.charge_one.Goals as goal
 
 some_of : (v after : ℤ) → ◌≡◌ {A = Result (Option ℤ) AllocError} (Ok (Some v)) (Ok (Some after)) → v ≡ after
@@ -49,3 +49,82 @@ returns-clause-charged c = λ after ok.
     let taken' : (c.args.left -ℤ after) ≤ℤ (claim.stay.ticks *ℤ claim.demand) = subst (λ (z : ℤ). (c.args.left -ℤ z) ≤ℤ (claim.stay.ticks *ℤ claim.demand)) got (subst (λ (z : ℤ). (c.args.left -ℤ c.rest_of.result) ≤ℤ z) e taken) in
     charge-run c.args.past.now c.args.case.assumed c.args.case.time c.args.case.width c.args.load.now.span.now c.args.load.now.demand c.args.left after claim c.at_least-2.result c.args.facts.now.items c.rely_run.new.facts.items c.rely-2.new.facts.items
     c.in-Some.ensures taken' is (c.rely_run.ensures one) (c.rely-2.ensures two)
+
+pub returns-in_err-rely-clause-falls : goal.returns-in_err-rely-clause-falls
+returns-in_err-rely-clause-falls c = λ after ok. no_err _ _ _ ok c.from_residual.ensures.0
+
+pub returns-in_err-rely-clause-charged : goal.returns-in_err-rely-clause-charged
+returns-in_err-rely-clause-charged c = λ after ok. no_err _ _ _ ok c.from_residual.ensures.0
+
+pub returns-in_default-clause-falls : goal.returns-in_default-clause-falls
+returns-in_default-clause-falls c = λ after ok. no_number _ _ after ok refl
+
+pub returns-in_default-clause-charged : goal.returns-in_default-clause-charged
+returns-in_default-clause-charged c = λ after ok. no_number _ _ after ok refl
+
+pub returns-in_err-rely_run-clause-falls : goal.returns-in_err-rely_run-clause-falls
+returns-in_err-rely_run-clause-falls c = λ after ok. no_err _ _ _ ok c.from_residual-in_err-rely_run.ensures.0
+
+pub returns-in_err-rely_run-clause-charged : goal.returns-in_err-rely_run-clause-charged
+returns-in_err-rely_run-clause-charged c = λ after ok. no_err _ _ _ ok c.from_residual-in_err-rely_run.ensures.0
+
+pub returns-then-not-branch-clause-falls : goal.returns-then-not-branch-clause-falls
+returns-then-not-branch-clause-falls c = λ after ok. no_number _ _ after ok refl
+
+pub returns-then-not-branch-clause-charged : goal.returns-then-not-branch-clause-charged
+returns-then-not-branch-clause-charged c = λ after ok. no_number _ _ after ok refl
+
+pub returns-in_err-rely-2-clause-falls : goal.returns-in_err-rely-2-clause-falls
+returns-in_err-rely-2-clause-falls c = λ after ok. no_err _ _ _ ok c.from_residual-in_err-rely-2.ensures.0
+
+pub returns-in_err-rely-2-clause-charged : goal.returns-in_err-rely-2-clause-charged
+returns-in_err-rely-2-clause-charged c = λ after ok. no_err _ _ _ ok c.from_residual-in_err-rely-2.ensures.0
+
+pub returns-then-not-branch-2-clause-falls : goal.returns-then-not-branch-2-clause-falls
+returns-then-not-branch-2-clause-falls c = λ after ok. no_number _ _ after ok refl
+
+pub returns-then-not-branch-2-clause-charged : goal.returns-then-not-branch-2-clause-charged
+returns-then-not-branch-2-clause-charged c = λ after ok. no_number _ _ after ok refl
+
+pub claim_of-requires-clause-span : goal.claim_of-requires-clause-span
+claim_of-requires-clause-span c = c.requires.span
+
+pub claim_of-requires-clause-demand : goal.claim_of-requires-clause-demand
+claim_of-requires-clause-demand c = c.requires.demand
+
+pub rely-requires-clause-subject : goal.rely-requires-clause-subject
+rely-requires-clause-subject c = let l = c.requires.demand in rw c.at_least.ensures l
+
+pub rely-requires-clause-facts : goal.rely-requires-clause-facts
+rely-requires-clause-facts c = c.requires.facts
+
+pub rely_run-requires-clause-span : goal.rely_run-requires-clause-span
+rely_run-requires-clause-span c = c.requires.span
+
+pub rely_run-requires-clause-facts : goal.rely_run-requires-clause-facts
+rely_run-requires-clause-facts c = c.requires.facts
+
+pub rely-requires-2-clause-subject : goal.rely-requires-2-clause-subject
+rely-requires-2-clause-subject c = let l = c.requires.demand in rw c.at_least-2.ensures l
+
+pub rely-requires-2-clause-facts : goal.rely-requires-2-clause-facts
+rely-requires-2-clause-facts c = (c.rely_run.ensures (ok_true c.rely_run.result c.in_ok-rely_run.field-0 c.in_ok-rely_run.was c.if-not-branch.false)).facts
+
+pub rest_of-requires-clause-left : goal.rest_of-requires-clause-left
+rest_of-requires-clause-left c =
+    let k : FitsSigned w128 c.args.left = search rules in
+    rw (to_z-of_z w128 c.args.left k) c.requires.left
+
+pub returns-then-branch-clause-falls : goal.returns-then-branch-clause-falls
+returns-then-branch-clause-falls c = λ after ok.
+    let f : FitsSigned w128 c.args.left = search rules in
+    let e = rw (to_z-of_z w128 c.args.left f) at ok in
+    not_fallen c.args.left after (some_of c.args.left after e) c.requires.left
+
+pub returns-clause-falls : goal.returns-clause-falls
+returns-clause-falls c = λ after ok.
+    let k : FitsSigned w128 c.args.left = search rules in
+    let l : FitsSigned w128 c.rest_of.result = search rules in
+    let ok' = rw (to_z-of_z w128 c.rest_of.result l) at ok in
+    let high = rw (to_z-of_z w128 c.args.left k) at c.rest_of.ensures.high in
+    fallen c.args.left c.rest_of.result after (some_of c.rest_of.result after ok') c.rest_of.ensures.low high
