@@ -1,9 +1,10 @@
-use Rattle.std.proofs.Common.{ℕ, ◌<◌, ◌<ℤ◌, get_or, sym, subst, rules}
+use Rattle.std.proofs.Common.{ℕ, ◌<◌, ◌<ℤ◌, inl, inr, get_or, sym, subst, rules}
 use Rattle.cps_instance.specs.declared.task.Body.TheVariants.{NoOverlap}
 use Rattle.cps_p_nooverlap.specs.declared.pairs.Pair.{Pair}
 use Rattle.cps_p_nooverlap.specs.Spans.{Orders, no_seen}
 use Rattle.cps_p_nooverlap.proofs.Pairing.{comes, swapped_pair}
 use Rattle.cps_p_nooverlap.proofs.pairs.meet.Goals as goal
+use Rattle.cps_p_nooverlap.proofs.pairs.meet.Goals.{else-not-forth-via-then-not-forth+else-not-back, else-not-forth-via-else-not-forth}
 
 pub bounds-seen-pair : goal.bounds-seen-pair
 bounds-seen-pair c = subst (λ (n : ℕ). c.args.pair.before < n) c.requires.known.each c.requires.pair.before
@@ -21,3 +22,21 @@ returns-in_ok-follow-2-clause-given c =
     let late : (get_or c.args.seen.now c.args.pair.after no_seen).times.start_high <ℤ (get_or c.args.seen.now c.args.pair.before no_seen).times.end_low = search rules in
     λ s are. c.in_ok-follow-2.ensures s are (NoOverlap c.args.spans.now) (subst (λ (q : Pair). Orders (NoOverlap c.args.spans.now) s c.args.spans.now q) (sym c.swapped.ensures)
     (comes s c.args.spans.now c.args.seen.now are.spans are.seen (record { before = c.args.pair.after; after = c.args.pair.before }) (swapped_pair _ c.args.pair c.requires.pair) late c.if-after.true c.if-before.true))
+
+pub returns-in_ok-follow-clause-allowed : goal.returns-in_ok-follow-clause-allowed
+returns-in_ok-follow-clause-allowed c = λ e a b. elim c.else-not-forth.branch [
+  | else-not-forth-via-then-not-forth+else-not-back w ↦ inr (search rules)
+  | else-not-forth-via-else-not-forth w ↦ inl (search rules)
+]
+
+pub returns-in_ok-follow-2-clause-allowed : goal.returns-in_ok-follow-2-clause-allowed
+returns-in_ok-follow-2-clause-allowed c = λ e a b. elim c.else-not-forth.branch [
+  | else-not-forth-via-then-not-forth+else-not-back w ↦ inr (search rules)
+  | else-not-forth-via-else-not-forth w ↦ inl (search rules)
+]
+
+pub returns-else-not-forth-2-clause-allowed : goal.returns-else-not-forth-2-clause-allowed
+returns-else-not-forth-2-clause-allowed c = λ e a b. elim c.else-not-forth.branch [
+  | else-not-forth-via-then-not-forth+else-not-back w ↦ inr (search rules)
+  | else-not-forth-via-else-not-forth w ↦ inl (search rules)
+]
