@@ -17,7 +17,7 @@ use Rattle.cps_instance.specs.Parts.{span_runs}
 use Rattle.cps_trail.specs.Trail.{Trail}
 use Rattle.cps_p_nooverlap.specs.declared.pairs.Pair.{Pair}
 use Rattle.cps_p_nooverlap.specs.Citing.{Cites}
-use Rattle.cps_p_nooverlap.specs.Spans.{start_at, end_at, is_present, IsBefore, SaysOfTimes, IsPair, OrdersAt, ClashesAt, IsSmallAtom, IsSpan}
+use Rattle.cps_p_nooverlap.specs.Spans.{start_at, end_at, is_present, IsBefore, SaysOfTimes, IsPair, OrdersAt, ClashesAt, IsSmallAtom, IsSpan, AreSpans}
 use Rattle.cps_p_nooverlap.proofs.Pairing.{pair_apart}
 
 pub cites_none : (s : Trail) (us : List Atom) (P : List ℤ → Type 0) → ((xs : List ℤ) → P xs) → Cites s us us P
@@ -64,6 +64,16 @@ denies t false e h = e
 pub literals_small : (first : Domains) (us : List Atom) → All (IsLiteral first) us → All IsSmallAtom us
 literals_small first us h = λ k d l. record { low = (h k d l).low; high = (h k d l).high }
 
+-- what is read at a place of a list of spans is one, and so are its atoms
+pub span_of : (first : Domains) (ps : List Span) (k : ℕ) (x : Span) → AreSpans first ps → k < length ps → x ≡ get_or ps k x → IsSpan first x
+span_of first ps k x h l e = subst (λ (q : Span). IsSpan first q) (sym e) (h k x l)
+
+pub presence_of : (first : Domains) (ps : List Span) (k : ℕ) (x : Span) (us : List Atom) → AreSpans first ps → k < length ps → us ≡ (get_or ps k x).presence → All (λ u. u.subject < length first) us
+presence_of first ps k x us h l e = subst (λ (vs : List Atom). All (λ u. u.subject < length first) vs) (sym e) (h k x l).presence
+
+pub small_of : (first : Domains) (ps : List Span) (k : ℕ) (x : Span) (us : List Atom) → AreSpans first ps → k < length ps → us ≡ (get_or ps k x).presence → All IsSmallAtom us
+small_of first ps k x us h l e = subst (λ (vs : List Atom). All IsSmallAtom vs) (sym e) (literals_small first (get_or ps k x).presence (h k x l).literals)
+
 rest_whole : (us : List Atom) (m : ℕ) → take (length us - m) (drop m us) ≡ drop m us
 rest_whole us m = take_all (length us - m) (drop m us) (let l = length-drop m us in omega arith)
 
@@ -82,6 +92,16 @@ module _ (ps : List Span) (pair : Pair) (p : IsPair (length ps) pair) (x y : Spa
 
   refutes : (xs : List ℤ) → is_present xs x ≡ true → is_present xs y ≡ true → ClashesAt xs ps pair → IsNoOverlap (span_runs xs ps) → ⊥
   refutes xs a b c h = clashes xs ps pair x p (subst (λ (q : Span). is_present xs q ≡ true) (before_is x) a) (subst (λ (q : Span). is_present xs q ≡ true) (after_is x) b) c h
+
+  clashes_at : (xs : List ℤ) → start_at xs x <ℤ end_at xs y → start_at xs y <ℤ end_at xs x → ClashesAt xs ps pair
+  clashes_at xs l m = λ d.
+      (
+        subst (λ (q : Span). start_at xs q <ℤ end_at xs (get_or ps pair.after d)) (before_is d) (subst (λ (q : Span). start_at xs x <ℤ end_at xs q) (after_is d) l),
+        subst (λ (q : Span). start_at xs q <ℤ end_at xs (get_or ps pair.before d)) (after_is d) (subst (λ (q : Span). start_at xs y <ℤ end_at xs q) (before_is d) m)
+      )
+
+  pub cites_clash : (s : Trail) (a b c : List Atom) → Cites s a b (λ xs. start_at xs x <ℤ end_at xs y) → Cites s b c (λ xs. start_at xs y <ℤ end_at xs x) → Cites s a c (λ xs. ClashesAt xs ps pair)
+  cites_clash s a b c f g = record { facts = λ h. g.facts (f.facts h); kept = λ xs h. f.kept xs (g.kept xs h); gives = λ xs h. clashes_at xs (f.gives xs (g.kept xs h)) (g.gives xs h) }
 
   in_order : (xs : List ℤ) → OrdersAt xs ps pair → IsNoOverlap (span_runs xs ps) → end_at xs x ≤ℤ start_at xs y
   in_order xs o h = subst (λ (q : Span). end_at xs q ≤ℤ start_at xs y) (sym (before_is x)) (subst (λ (q : Span). end_at xs (get_or ps pair.before x) ≤ℤ start_at xs q) (sym (after_is x)) (o x h))

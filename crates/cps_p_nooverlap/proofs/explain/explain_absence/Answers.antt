@@ -1,7 +1,7 @@
 use Rattle.std.proofs.Common.{Ok, ◌≡◌, true, pos, rules, ◌<◌, length}
 use Rattle.cps_literal.specs.declared.atom.Atom.{Atom}
 use Rattle.cps_literal.specs.declared.atom.Op.TheVariants.{Le}
-use Rattle.cps_p_nooverlap.proofs.Citing.{cites_absence}
+use Rattle.cps_p_nooverlap.proofs.Citing.{cites_absence, presence_of, small_of}
 use Rattle.cps_p_nooverlap.proofs.explain.explain_absence.Goals as goal
 
 abbrev no_atom : Atom
@@ -15,3 +15,9 @@ returns c e =
     let l : c.denied_place-place.result < length c.as_slice-atoms.result.now = search rules in
     cites_absence c.args.spans.now c.args.pair c.requires.pair c.index-spans-pair.result c.index-spans-pair-2.result c.index-spans-pair.is c.index-spans-pair-2.is c.args.past.now c.args.facts.now.items c.cite_all.new.facts.items c.cite_all-2.new.facts.items c.cite_all-3.new.facts.items c.cite_clash.new.facts.items c.as_slice-atoms.result.now c.as_slice.result.now c.denied_place-place.result no_atom c.args.target
     c.as_slice-atoms.ensures c.as_slice.ensures l (λ xs. c.denied_place-place.ensures l no_atom xs) (c.cite_all.ensures one) (c.cite_all-2.ensures two) (c.cite_all-3.ensures three) (c.cite_clash.ensures e)
+
+pub denied_place-place-requires : goal.denied_place-place-requires
+denied_place-place-requires c = small_of c.args.past.now.first c.args.spans.now c.args.pair.before c.index-spans-pair.result c.as_slice-atoms.result.now c.requires.spans c.requires.pair.before c.as_slice-atoms.ensures
+
+pub cite_all-requires-3 : goal.cite_all-requires-3
+cite_all-requires-3 c = presence_of c.args.past.now.first c.args.spans.now c.args.pair.after c.index-spans-pair-2.result c.as_slice.result.now c.requires.spans c.requires.pair.after c.as_slice.ensures
