@@ -94,11 +94,10 @@ module _ (ps : List Span) (pair : Pair) (p : IsPair (length ps) pair) (x y : Spa
   refutes xs a b c h = clashes xs ps pair x p (subst (λ (q : Span). is_present xs q ≡ true) (before_is x) a) (subst (λ (q : Span). is_present xs q ≡ true) (after_is x) b) c h
 
   clashes_at : (xs : List ℤ) → start_at xs x <ℤ end_at xs y → start_at xs y <ℤ end_at xs x → ClashesAt xs ps pair
-  clashes_at xs l m = λ d.
-      (
-        subst (λ (q : Span). start_at xs q <ℤ end_at xs (get_or ps pair.after d)) (before_is d) (subst (λ (q : Span). start_at xs x <ℤ end_at xs q) (after_is d) l),
-        subst (λ (q : Span). start_at xs q <ℤ end_at xs (get_or ps pair.before d)) (after_is d) (subst (λ (q : Span). start_at xs y <ℤ end_at xs q) (before_is d) m)
-      )
+  clashes_at xs l m = λ d. (
+    subst (λ (q : Span). start_at xs q <ℤ end_at xs (get_or ps pair.after d)) (before_is d) (subst (λ (q : Span). start_at xs x <ℤ end_at xs q) (after_is d) l),
+    subst (λ (q : Span). start_at xs q <ℤ end_at xs (get_or ps pair.before d)) (after_is d) (subst (λ (q : Span). start_at xs y <ℤ end_at xs q) (before_is d) m),
+  )
 
   pub cites_clash : (s : Trail) (a b c : List Atom) → Cites s a b (λ xs. start_at xs x <ℤ end_at xs y) → Cites s b c (λ xs. start_at xs y <ℤ end_at xs x) → Cites s a c (λ xs. ClashesAt xs ps pair)
   cites_clash s a b c f g = record { facts = λ h. g.facts (f.facts h); kept = λ xs h. f.kept xs (g.kept xs h); gives = λ xs h. clashes_at xs (f.gives xs (g.kept xs h)) (g.gives xs h) }
