@@ -1,4 +1,9 @@
 //! Runs of the Boolean kinds: each narrows, meets a conflict, and makes its last enforcement atom false.
+//!
+//! Each kind has a table of its own: what is posted, what is decided before the run, and what the run comes to, worked
+//! out by hand from what the kind means. Two more tables have every kind over an atom that is named twice, and over an
+//! atom and its opposite, since there a rule that counts places instead of atoms goes wrong. What reasons name is not
+//! looked at here, but how many atoms a conflict has.
 
 use crate::booleans::{Came, Kind, explained_trial};
 use cps_literal::{Atom, Op};
