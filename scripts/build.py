@@ -80,10 +80,21 @@ def link(one, other):
 
 def give(part, crate, origin, to):
     """Gives a part of what was built of a crate, if it is there, to another copy of the checkout."""
-    built, wanted = (it / "crates" / crate / "out" / part for it in (origin, to))
-    if built.is_dir():
+    made, wanted = (it / "crates" / crate / "out" / part for it in (origin, to))
+    if made.is_dir():
         shutil.rmtree(wanted, ignore_errors=True)
-        shutil.copytree(built, wanted, copy_function=link)
+        shutil.copytree(made, wanted, copy_function=link)
+
+
+def run(folder, *words):
+    """Runs a command of the kit on no input, and gives its status and all that it said."""
+    how = {"stdin": subprocess.DEVNULL, "stdout": subprocess.PIPE, "stderr": subprocess.STDOUT}
+    return subprocess.run(words, cwd=folder, text=True, errors="replace", **how)
+
+
+def tell_failure(crate, said):
+    """Says that a crate is not proved, with the end of what the kit said of it."""
+    print(f"cpsolve: {crate} is not proved:", *said.splitlines()[-40:], sep="\n", file=sys.stderr)
 
 
 class Place:
@@ -97,15 +108,13 @@ class Place:
             shutil.copy2(TOP / file, self.top / file)
 
     def prove(self, crate, jobs):
-        """Proves a crate and builds its library. Gives the place, the crate, whether that went well, and what was said."""
+        """Proves a crate and builds its library. Gives the place, the crate, the jobs, and how the command ended."""
         for lower in below(crate, self.uses) - self.has:
             give("rlib", lower, TOP, self.top)
             self.has.add(lower)
         for part in "rlib", "incremental":
             give(part, crate, TOP, self.top)
-        words, folder = ["rt", "lib", "--jobs", str(jobs)], self.top / "crates" / crate
-        how = {"stdin": subprocess.DEVNULL, "stdout": subprocess.PIPE, "stderr": subprocess.STDOUT}
-        ran = subprocess.run(words, cwd=folder, text=True, errors="replace", **how)
+        ran = run(self.top / "crates" / crate, "rt", "lib", "--jobs", str(jobs))
         for part in "rlib", "incremental":
             give(part, crate, self.top, TOP)
         self.has.add(crate)
@@ -137,18 +146,19 @@ class Build:
         self.free.append(place)
         self.processors += jobs
         if ran.returncode:
-            print(f"cpsolve: {crate} is not proved:", *ran.stdout.splitlines()[-40:], sep="\n", file=sys.stderr)
+            tell_failure(crate, ran.stdout)
             return False
         self.done.add(crate)
         self.tell(crate)
         return True
 
     def tell(self, crate):
+        """Says that a crate is proved, how many are, and how long that took."""
         minutes, seconds = divmod(int(time.monotonic() - self.start), 60)
         count = f"{len(self.done)} of {len(self.uses)}"
         print(f"cpsolve: checked {crate} ({count}), {minutes} min {seconds:02} s", file=sys.stderr, flush=True)
 
-    def run(self):
+    def prove_all(self):
         """Proves all libraries, and gives whether each is proved."""
         well = True
         with ThreadPoolExecutor(len(self.free)) as pool:
@@ -164,7 +174,8 @@ class Build:
 def places_for(uses):
     """As many places as there are processors and as memory allows."""
     shutil.rmtree(PLACES, ignore_errors=True)
-    free = next(int(it.split()[1]) << 10 for it in open("/proc/meminfo") if it.startswith("MemAvailable"))
+    memory = Path("/proc/meminfo").read_text().splitlines()
+    free = next(int(it.split()[1]) << 10 for it in memory if it.startswith("MemAvailable"))
     count = max(1, min(len(os.sched_getaffinity(0)), free // ROOM))
     return [Place(number, uses) for number in range(count)]
 
@@ -176,16 +187,15 @@ def main():
         fcntl.flock(it, fcntl.LOCK_EX)
     try:
         build = Build(uses, places_for(uses))
-        if not build.run():
+        if not build.prove_all():
             return 1
     finally:
         shutil.rmtree(PLACES, ignore_errors=True)
         for it in locks:
             os.close(it)
-    how = {"stdin": subprocess.DEVNULL, "stdout": subprocess.PIPE, "stderr": subprocess.STDOUT}
-    ran = subprocess.run(["rt", "run", "--", "solve"], cwd=TOP / "crates" / PROGRAM, text=True, errors="replace", **how)
+    ran = run(TOP / "crates" / PROGRAM, "rt", "run", "--", "solve")
     if ran.returncode:
-        print("cpsolve: the program is not proved:", *ran.stdout.splitlines()[-40:], sep="\n", file=sys.stderr)
+        tell_failure(PROGRAM, ran.stdout)
         return 1
     build.done.add(PROGRAM)
     build.tell(PROGRAM)
