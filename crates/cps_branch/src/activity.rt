@@ -26,7 +26,6 @@ use std::marker::Model;
 ///
 /// A choice looks only at the variables that were set aside by entries that are gone, and at fixed ones that were not
 /// set aside yet, each at the cost of one way up the tournament, of length log n.
-#[derive(Drop)]
 pub struct ActivityBrancher {
     activities: Vec<u64>,
     /// Which variables the part of a clause that was heard so far speaks of.
@@ -36,6 +35,19 @@ pub struct ActivityBrancher {
     /// The variables by activity, without those that were seen fixed.
     ranking: Ranking,
     restarts: Restarts,
+}
+
+// Written out, so that crates above do not prove it anew.
+impl Drop for ActivityBrancher {
+    fn drop(self) {
+        let ActivityBrancher {
+            activities: _activities,
+            marks: _marks,
+            hints: _hints,
+            ranking: _ranking,
+            restarts: _restarts,
+        } = self;
+    }
 }
 
 impl Model for ActivityBrancher {
@@ -171,7 +183,13 @@ impl Brancher for ActivityBrancher {
     }
 
     fn into_guidance(self) -> Guidance {
-        let ActivityBrancher { hints, .. } = self;
+        let ActivityBrancher {
+            hints,
+            activities: _activities,
+            marks: _marks,
+            ranking: _ranking,
+            restarts: _restarts,
+        } = self;
         Guidance::Hinted(Listed::from_vec(hints))
     }
 }

@@ -20,12 +20,22 @@ use std::marker::Model;
 ///
 /// A choice does not look again at the places of that order that the kept entries fixed. A strategy that takes its
 /// first open subject stops at it; every other strategy looks at all of its subjects from there on.
-#[derive(Drop)]
 pub struct FixedBrancher {
     plan: Plan,
     /// For each place of the plan's order before `known`, after how many entries the subjects up to it were fixed.
     fixed_after: Vec<usize>,
     known: usize,
+}
+
+// Written out, so that crates above do not prove it anew.
+impl Drop for FixedBrancher {
+    fn drop(self) {
+        let FixedBrancher {
+            plan: _plan,
+            fixed_after: _fixed_after,
+            known: _known,
+        } = self;
+    }
 }
 
 impl Model for FixedBrancher {
@@ -163,7 +173,11 @@ impl Brancher for FixedBrancher {
     }
 
     fn into_guidance(self) -> Guidance {
-        let FixedBrancher { plan, .. } = self;
+        let FixedBrancher {
+            plan,
+            fixed_after: _fixed_after,
+            known: _known,
+        } = self;
         Guidance::Steered(plan)
     }
 }

@@ -139,8 +139,17 @@ pub enum Body {
 }
 
 /// A demand, in force where all its enforcement atoms are true.
-#[derive(Drop)]
 pub struct Task {
     pub enforcement: Listed<Atom>,
     pub body: Body,
+}
+
+// Written out, so that crates above do not prove it anew.
+impl Drop for Task {
+    fn drop(self) {
+        let Task {
+            enforcement: _enforcement,
+            body: _body,
+        } = self;
+    }
 }

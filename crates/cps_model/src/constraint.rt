@@ -116,9 +116,19 @@ pub enum Kind {
 }
 
 /// A constraint, in force where all its enforcement literals are true.
-#[derive(Drop)]
 pub struct Constraint {
     pub name: Text,
     pub enforcement: Listed<i32>,
     pub kind: Kind,
+}
+
+// Written out, so that crates above do not prove it anew.
+impl Drop for Constraint {
+    fn drop(self) {
+        let Constraint {
+            name: _name,
+            enforcement: _enforcement,
+            kind: _kind,
+        } = self;
+    }
 }

@@ -26,11 +26,20 @@ use std::marker::Model;
 /// solution, and then goes by activity; it ends after 100 conflicts, or when one sends the search back below its
 /// decisions. What it learns holds of the whole model. Once an allocation has failed, every later call that may
 /// allocate fails too.
-#[derive(Drop)]
 pub struct NearWorker<'a, P: Propagator> {
     explorer: Explorer<'a, P>,
     /// Whether memory was refused.
     refused: bool,
+}
+
+// Written out, so that crates above do not prove it anew.
+impl<P: Propagator> Drop for NearWorker<'_, P> {
+    fn drop(self) {
+        let NearWorker {
+            explorer: _explorer,
+            refused: _refused,
+        } = self;
+    }
 }
 
 impl<'a, P: Propagator> Model for NearWorker<'a, P> {
@@ -174,7 +183,10 @@ impl<'a, P: Propagator> NearWorker<'a, P> {
         ensures phase { self.entry.search.phase ≡ Phase.Over result.end }
         ensures is { result ≡ ending WorkerKind.Near None result.end self.entry.search }
     {
-        let NearWorker { explorer, .. } = self;
+        let NearWorker {
+            explorer,
+            refused: _refused,
+        } = self;
         let Explorer { frame, .. } = explorer;
         frame.finish_ended(WorkerKind::Near, None)
     }

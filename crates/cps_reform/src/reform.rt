@@ -23,10 +23,19 @@ use std::alloc::{AllocError, Global};
 use std::marker::Model;
 
 /// The objective as a base and held terms.
-#[derive(Drop)]
 pub struct Reform {
     base: i64,
     terms: Vec<Held>,
+}
+
+// Written out, so that crates above do not prove it anew.
+impl Drop for Reform {
+    fn drop(self) {
+        let Reform {
+            base: _base,
+            terms: _terms,
+        } = self;
+    }
 }
 
 /// What the sum of a core takes over.

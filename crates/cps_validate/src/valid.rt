@@ -19,9 +19,15 @@ use std::marker::Model;
 use thiserror::Error;
 
 /// A model that keeps every rule. Contracts see it as the model that it keeps.
-#[derive(Drop)]
 pub struct ValidModel {
     model: CpModel,
+}
+
+// Written out, so that crates above do not prove it anew.
+impl Drop for ValidModel {
+    fn drop(self) {
+        let ValidModel { model: _model } = self;
+    }
 }
 
 impl Model for ValidModel {

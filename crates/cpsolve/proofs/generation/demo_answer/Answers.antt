@@ -9,12 +9,12 @@ use Rattle.cpsolve.proofs.generation.demo_answer.Goals as goal
 
 pub demo_text-requires-clause-ready : goal.demo_text-requires-clause-ready
 demo_text-requires-clause-ready c =
-    ready c.in_ok-model.model c.model-2.result.now c.demo_options-options.result c.in_ok-outcome.outcome c.model-2.ensures.same c.model-2.ensures.valid
+    ready c.in_ok-model.model c.model.result.now c.demo_options-options.result c.in_ok-outcome.outcome c.model.ensures.same c.model.ensures.valid
     c.in_ok-outcome.ensures.good
 
 pub returns : goal.returns
 returns c =
     let shown : CpModel → List ℕ = λ m. demo_text m c.in_ok-outcome.outcome.status c.in_ok-outcome.outcome.solution in
     demonstrated c.args.recipe.now c.in_ok-model.model c.demo_options-options.result c.in_ok-outcome.outcome _ c.in_ok-model.ensures.stated
-    c.demo_options-options.ensures (subst IsValid c.model-2.ensures.same c.model-2.ensures.valid) c.in_ok-outcome.ensures.good c.in_ok-outcome.ensures.drawn refl
-    refl (c.from_string.ensures ∙ c.in_ok-text.ensures ∙ ap shown c.model-2.ensures.same)
+    c.demo_options-options.ensures (subst IsValid c.model.ensures.same c.model.ensures.valid) c.in_ok-outcome.ensures.good c.in_ok-outcome.ensures.drawn refl
+    refl (c.from_string.ensures ∙ c.in_ok-text.ensures ∙ ap shown c.model.ensures.same)
