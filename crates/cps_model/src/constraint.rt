@@ -6,7 +6,6 @@ use crate::text::Text;
 
 /// What a constraint demands. Literals and variables are given by references, intervals by the numbers of the
 /// constraints that they are.
-#[derive(Drop)]
 pub enum Kind {
     /// Nothing.
     Empty,
@@ -113,6 +112,88 @@ pub enum Kind {
         x: Listed<i32>,
         y: Listed<i32>,
     },
+}
+
+// Written out: a drop of an enum that is derived stands in full in each function where one is dropped.
+impl Drop for Kind {
+    fn drop(self) {
+        match self {
+            Kind::Empty => {}
+            Kind::BoolOr(_refs)
+            | Kind::BoolAnd(_refs)
+            | Kind::AtMostOne(_refs)
+            | Kind::ExactlyOne(_refs)
+            | Kind::BoolXor(_refs)
+            | Kind::NoOverlap(_refs) => {}
+            Kind::Linear {
+                vars: _vars,
+                coeffs: _coeffs,
+                domain: _domain,
+            } => {}
+            Kind::IntDiv {
+                target: _target,
+                exprs: _exprs,
+            }
+            | Kind::IntMod {
+                target: _target,
+                exprs: _exprs,
+            }
+            | Kind::IntProd {
+                target: _target,
+                exprs: _exprs,
+            }
+            | Kind::LinMax {
+                target: _target,
+                exprs: _exprs,
+            } => {}
+            Kind::Element {
+                index: _index,
+                target: _target,
+                exprs: _exprs,
+            } => {}
+            Kind::Table {
+                exprs: _exprs,
+                values: _values,
+                negated: _negated,
+            } => {}
+            Kind::AllDiff(_exprs) => {}
+            Kind::Circuit {
+                tails: _tails,
+                heads: _heads,
+                literals: _literals,
+            } => {}
+            Kind::Interval {
+                start: _start,
+                end: _end,
+                size: _size,
+            } => {}
+            Kind::Cumulative {
+                capacity: _capacity,
+                intervals: _intervals,
+                demands: _demands,
+            } => {}
+            Kind::Inverse {
+                direct: _direct,
+                inverse: _inverse,
+            } => {}
+            Kind::Automaton {
+                start: _start,
+                finals: _finals,
+                tails: _tails,
+                heads: _heads,
+                labels: _labels,
+                exprs: _exprs,
+            } => {}
+            Kind::Reservoir {
+                min: _min,
+                max: _max,
+                times: _times,
+                changes: _changes,
+                active: _active,
+            } => {}
+            Kind::NoOverlap2d { x: _x, y: _y } => {}
+        }
+    }
 }
 
 /// A constraint, in force where all its enforcement literals are true.
