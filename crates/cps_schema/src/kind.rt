@@ -248,6 +248,6 @@ pub(crate) fn set_kind(
 {
     let node = kind_message(input, given, name, field)?;
     let kind = read_kind(alloc, input, name, node)?;
-    *given = Some(GivenKind { name, kind });
+    given.insert(GivenKind { name, kind });
     Ok(())
 }
