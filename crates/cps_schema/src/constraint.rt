@@ -96,7 +96,13 @@ fn read_constraint(alloc: Global, input: &Input, node: &Node) -> Result<Constrai
         given: None,
     };
     for field in fields_of(node) {
-        add_field(alloc, input, &mut parts, field)?;
+        match add_field(alloc, input, &mut parts, field) {
+            Ok(()) => {}
+            Err(error) => {
+                drop(parts);
+                return Err(error);
+            }
+        }
     }
     Ok(constraint_of(alloc, parts))
 }

@@ -20,7 +20,6 @@ use super::taking::{next_expression, next_expressions, next_given};
 use cps_model::{Exprs, Kind, Listed};
 use cps_textproto::Node;
 use std::alloc::{AllocError, Global};
-use std::mem::drop;
 use std::vec::IntoIter;
 
 const FIELDS: [Line; 6] = [

@@ -1,11 +1,13 @@
-use Rattle.std.proofs.Common.{◌≡◌, ◌+◌, [], arith, drop, refl, sym, ap, ◌∙◌}
-use Rattle.std.proofs.lemmas.Grind.{common_steps}
-use Rattle.cps_textproto.specs.Trees.{field_list, no_fields}
+use Rattle.std.proofs.Common.{◌+◌, [], arith, drop, refl, sym, ap, ◌∙◌, ◌<◌, ◌∷◌, length}
+use Rattle.std.proofs.lemmas.Result.{err_from_is_err_and}
+use Rattle.cps_textproto.specs.Trees.{field_list, Tree, tree_of}
 use Rattle.cps_schema.specs.Inputs.{written_of}
 use Rattle.cps_schema.specs.Readings.{read_strategy}
 use Rattle.cps_schema.specs.Parts.{strategy_from}
-use Rattle.cps_schema.specs.Tables.{is_given}
-use Rattle.cps_schema.specs.Faults.{has_kind, has_other_form}
+use Rattle.cps_schema.specs.Tables.{is_given, strategy_message}
+use Rattle.cps_schema.specs.Faults.{has_kind, has_other_form, fields_fault}
+use Rattle.cps_schema.specs.Written.{token_text}
+use Rattle.cps_schema.proofs.Loops.{field_refused, all_read, cut_field, field_passed}
 use Rattle.cps_schema.proofs.strategy.read_strategy.Goals as goal
 
 pub loop-field-init : goal.loop-field-init
@@ -14,14 +16,40 @@ loop-field-init c = (([], refl, record { slots = (refl, (refl, tt)); forms = λ 
 
 pub returns-in_err-add_field-clause-err : goal.returns-in_err-add_field-clause-err
 returns-in_err-add_field-clause-err c =
-    let rest = field_list (drop (c.loop-field.field-index + 1) c.fields_of-field-items.result.now) in
-    grind (arith, common_steps, c.in_err-add_field.ensures.err c.loop-field.invariant.0.0 c.loop-field.invariant.0.2 rest)
+    let items = c.fields_of-field-items.result.now in
+    let i = c.loop-field.field-index in
+    let before = c.loop-field.invariant.0.0 in
+    let h : i < length items = omega arith in
+    let p = err_from_is_err_and c.from_residual.result c.from_residual.ensures.1 in
+    rw (p.1, p.2) (field_refused (written_of c.args.input.now) strategy_message before items (tree_of c.args.node.now) i h c.field-item.is c.fields_of-field-items.ensures c.loop-field.invariant.0.1 _
+    (c.in_err-add_field.ensures.err before c.loop-field.invariant.0.2))
 
 pub returns-clause-reading : goal.returns-clause-reading
 returns-clause-reading c =
     let w = written_of c.args.input.now in
+    c.strategy_of.ensures w
+    ∙ sym (all_read (read_strategy w) (strategy_from w c.loop-field.parts) c.fields_of-field-items.result.now (tree_of c.args.node.now)
+    c.loop-field.field-index (omega arith) c.fields_of-field-items.ensures c.loop-field.invariant.1)
+
+pub returns-clause-accepted : goal.returns-clause-accepted
+returns-clause-accepted c =
+    let w = written_of c.args.input.now in
+    all_read (λ (t : Tree). fields_fault w strategy_message [] t) (λ (t : Tree). fields_fault w strategy_message c.loop-field.invariant.0.0 t) c.fields_of-field-items.result.now (tree_of c.args.node.now)
+    c.loop-field.field-index (omega arith) c.fields_of-field-items.ensures c.loop-field.invariant.0.1
+
+pub loop-field-preserved : goal.loop-field-preserved
+loop-field-preserved c =
+    let w = written_of c.args.input.now in
     let items = c.fields_of-field-items.result.now in
-    let past : drop c.loop-field.field-index items ≡ [] = grind (arith, common_steps) in
-    let read : read_strategy w (field_list items) ≡ strategy_from w c.loop-field.parts no_fields =
-    c.loop-field.invariant.1 ∙ ap (λ fs. strategy_from w c.loop-field.parts (field_list fs)) past in
-    c.strategy_of.ensures w ∙ sym read ∙ ap (read_strategy w) c.fields_of-field-items.ensures
+    let i = c.loop-field.field-index in
+    let before = c.loop-field.invariant.0.0 in
+    let h : i < length items = omega arith in
+    let passes = c.in_ok-add_field.ensures.passes before c.loop-field.invariant.0.2 in (
+      (
+        token_text w c.field-item.result.name ∷ before,
+        field_passed w strategy_message before items i h c.field-item.is c.loop-field.invariant.0.1 passes.0,
+        passes.1,
+      ),
+      c.loop-field.invariant.1 ∙ ap (λ (t : Tree). strategy_from w c.loop-field.parts t) (cut_field items i h c.field-item.is)
+          ∙ c.in_ok-add_field.ensures.read (field_list (drop (i + 1) items)),
+    )
