@@ -1,17 +1,20 @@
 -- One field more of a message, and one value more of a list.
-use Rattle.std.specs.Option.{option_or}
-use Rattle.std.proofs.Common.{◌≡◌, ℕ, ◌+◌, ◌<◌, ◌≤◌, List, [], ◌∷◌, Option, None, length, get_or, drop, refl, sym, ap, ◌∙◌, arith}
+use Rattle.std.specs.Option.{option_or, unwrap_or}
+use Rattle.std.proofs.Common.{◌≡◌, ℕ, ◌+◌, ◌<◌, ◌≤◌, ◌++◌, Bool, false, List, [], ◌∷◌, ℤ, Option, Some, None, length, get_or, drop, refl, sym, ap, ◌∙◌, arith, append_assoc}
 use Rattle.std.proofs.lemmas.Grind.{common_steps}
 use Rattle.std.proofs.lemmas.List.{drop_all}
 use Rattle.cps_textproto.specs.declared.tree.Field.{Field}
 use Rattle.cps_textproto.specs.declared.tree.Nested.{Nested, out-Nested}
-use Rattle.cps_textproto.specs.Trees.{Tree, no_fields, tree_of, field_list}
+use Rattle.cps_textproto.specs.declared.tree.TokenRange.{TokenRange}
+use Rattle.cps_textproto.specs.Trees.{Tree, no_fields, tree_of, field_list, Values, scalar_value, range_values}
 use Rattle.cps_model.specs.declared.fault.FaultName.{FaultName}
 use Rattle.cps_schema.specs.declared.error.SchemaError.{SchemaError}
 use Rattle.cps_schema.specs.declared.error.SchemaError.TheVariants.{Fault, OutOfMemory}
-use Rattle.cps_schema.specs.Written.{Written, token_text}
-use Rattle.cps_schema.specs.Tables.{Message}
-use Rattle.cps_schema.specs.Faults.{fields_fault}
+use Rattle.cps_schema.specs.Written.{Written, token_text, number_at}
+use Rattle.cps_schema.specs.Tables.{Message, Content}
+use Rattle.cps_schema.specs.Truths.{truth_at}
+use Rattle.cps_schema.specs.Readings.{value_numbers, value_truths}
+use Rattle.cps_schema.specs.Faults.{refused_at, scalar_fault, values_fault, fields_fault}
 use Rattle.cps_schema.specs.Values.{nested_trees, trees_fault}
 use Rattle.cps_schema.specs.Answers.{Refuses}
 use Rattle.cps_schema.specs.Steps.{field_then, Passes, Stops}
@@ -62,3 +65,44 @@ nested_refused {m} w k list i h is kept e refused =
 pub nested_passed : (w : Written) (k : Message) (list : List Nested) (i : ℕ) → length list ≤ i
     → trees_fault w k (nested_trees list) ≡ trees_fault w k (nested_trees (drop i list)) → trees_fault w k (nested_trees list) ≡ None
 nested_passed w k list i past kept = kept ∙ ap (λ (ms : List Nested). trees_fault w k (nested_trees ms)) (drop_all i list past)
+
+-- scalars of a list: one more that passes, one that is refused, and all that pass
+cut_range : (d : TokenRange) (list : List TokenRange) (i : ℕ) → i < length list
+    → range_values (drop i list) ≡ scalar_value (get_or list i d).first (get_or list i d).end (range_values (drop (i + 1) list))
+cut_range d list i h = grind (arith, common_steps)
+
+pub no_fault_at : (first : ℕ) (fault : Option FaultName) → fault ≡ None → refused_at first fault ≡ None
+no_fault_at first fault none = rw none refl
+
+pub range_passed : (d : TokenRange) (w : Written) (content : Content) (list : List TokenRange) (i : ℕ) → i < length list
+    → values_fault w (Some content) (range_values list) ≡ values_fault w (Some content) (range_values (drop i list))
+    → scalar_fault w (Some content) (get_or list i d).first (get_or list i d).end ≡ None
+    → values_fault w (Some content) (range_values list) ≡ values_fault w (Some content) (range_values (drop (i + 1) list))
+range_passed d w content list i h kept none =
+    kept ∙ ap (λ (vs : Values). values_fault w (Some content) vs) (cut_range d list i h) ∙ rw none refl
+
+pub range_refused : (d : TokenRange) (w : Written) (content : Content) (list : List TokenRange) (i : ℕ) → i < length list
+    → values_fault w (Some content) (range_values list) ≡ values_fault w (Some content) (range_values (drop i list))
+    → (e : SchemaError) → Refuses (scalar_fault w (Some content) (get_or list i d).first (get_or list i d).end) e
+    → Refuses (values_fault w (Some content) (range_values list)) e
+range_refused d w content list i h kept e refused =
+    first_refused (scalar_fault w (Some content) (get_or list i d).first (get_or list i d).end)
+    (values_fault w (Some content) (range_values (drop (i + 1) list))) (values_fault w (Some content) (range_values list))
+    (kept ∙ ap (λ (vs : Values). values_fault w (Some content) vs) (cut_range d list i h)) e refused
+
+pub ranges_passed : (w : Written) (content : Content) (list : List TokenRange) (i : ℕ) → length list ≤ i
+    → values_fault w (Some content) (range_values list) ≡ values_fault w (Some content) (range_values (drop i list))
+    → values_fault w (Some content) (range_values list) ≡ None
+ranges_passed w content list i past kept = kept ∙ ap (λ (rs : List TokenRange). values_fault w (Some content) (range_values rs)) (drop_all i list past)
+
+pub number_added : (d : TokenRange) (w : Written) (old new : List ℤ) (list : List TokenRange) (i : ℕ) → i < length list
+    → new ≡ old ++ number_at w (get_or list i d).first ∷ []
+    → old ++ value_numbers w (range_values (drop i list)) ≡ new ++ value_numbers w (range_values (drop (i + 1) list))
+number_added d w old new list i h added =
+    ap (λ (vs : Values). old ++ value_numbers w vs) (cut_range d list i h) ∙ simp (added, append_assoc)
+
+pub truth_added : (d : TokenRange) (w : Written) (old new : List Bool) (list : List TokenRange) (i : ℕ) → i < length list
+    → new ≡ old ++ unwrap_or (truth_at w (get_or list i d).first) false ∷ []
+    → old ++ value_truths w (range_values (drop i list)) ≡ new ++ value_truths w (range_values (drop (i + 1) list))
+truth_added d w old new list i h added =
+    ap (λ (vs : Values). old ++ value_truths w vs) (cut_range d list i h) ∙ simp (added, append_assoc)

@@ -247,7 +247,11 @@ pub(crate) fn set_kind(
         (is_given_as given.old name) (is_some given.old)) }
 {
     let node = kind_message(input, given, name, field)?;
-    let kind = read_kind(alloc, input, name, node)?;
-    given.insert(GivenKind { name, kind });
-    Ok(())
+    match read_kind(alloc, input, name, node) {
+        Ok(kind) => {
+            given.insert(GivenKind { name, kind });
+            Ok(())
+        }
+        Err(error) => Err(error),
+    }
 }
