@@ -99,6 +99,7 @@ fn read_constraint(alloc: Global, input: &Input, node: &Node) -> Result<Constrai
         match add_field(alloc, input, &mut parts, field) {
             Ok(()) => {}
             Err(error) => {
+                // A kind is dropped in a call: its drop, written out here, is long.
                 drop(parts);
                 return Err(error);
             }

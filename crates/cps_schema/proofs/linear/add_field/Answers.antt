@@ -15,6 +15,16 @@ returns-then-eq-clause-passes c =
     let name : token_text w c.args.field.now.name ≡ codes "vars" = same_name _ _ _ _ c.eq.result c.eq.ensures c.if-eq.true c.token_text-name.ensures c.as_slice.ensures in
     repeated_passes w linear_message c.args.field.now (number Int32) c.add_refs.result (table_use _ _ _ _ name refl) c.add_refs.ensures.fault
 
+pub returns-then-eq-clause-read : goal.returns-then-eq-clause-read
+returns-then-eq-clause-read c =
+    let w = written_of c.args.input.now in
+    let f = c.args.field.now in
+    let name : token_text w f.name ≡ codes "vars" = same_name _ _ _ _ c.eq.result c.eq.ensures c.if-eq.true c.token_text-name.ensures c.as_slice.ensures in
+    on_ok_weaker c.add_refs.result
+    (λ (added : c.add_refs.new.list.items ≡ c.args.parts.now.vars.items ++ value_numbers w (values_of f.items)) rest.
+    simp (name, added, append_assoc))
+    c.add_refs.ensures.added
+
 pub returns-then-eq-clause-err : goal.returns-then-eq-clause-err
 returns-then-eq-clause-err c =
     let w = written_of c.args.input.now in
@@ -47,6 +57,16 @@ returns-then-eq-3-clause-passes c =
     let w = written_of c.args.input.now in
     let name : token_text w c.args.field.now.name ≡ codes "domain" = same_name _ _ _ _ c.eq-else-eq-2.result c.eq-else-eq-2.ensures c.if-eq-3.true c.token_text-name.ensures c.as_slice-else-eq-2.ensures in
     repeated_passes w linear_message c.args.field.now (number Int64) c.add_ints-then-eq-3.result (table_use _ _ _ _ name refl) c.add_ints-then-eq-3.ensures.fault
+
+pub returns-then-eq-3-clause-read : goal.returns-then-eq-3-clause-read
+returns-then-eq-3-clause-read c =
+    let w = written_of c.args.input.now in
+    let f = c.args.field.now in
+    let name : token_text w f.name ≡ codes "domain" = same_name _ _ _ _ c.eq-else-eq-2.result c.eq-else-eq-2.ensures c.if-eq-3.true c.token_text-name.ensures c.as_slice-else-eq-2.ensures in
+    on_ok_weaker c.add_ints-then-eq-3.result
+    (λ (added : c.add_ints-then-eq-3.new.list.items ≡ c.args.parts.now.domain.items ++ value_numbers w (values_of f.items)) rest.
+    simp (name, added, append_assoc))
+    c.add_ints-then-eq-3.ensures.added
 
 pub returns-then-eq-3-clause-err : goal.returns-then-eq-3-clause-err
 returns-then-eq-3-clause-err c =

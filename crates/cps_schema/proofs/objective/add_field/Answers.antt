@@ -1,3 +1,4 @@
+use Rattle.std.specs.Option.{option_to_list}
 use Rattle.std.proofs.Common.{◌≡◌, ◌++◌, codes, None, refl, arith, append_assoc}
 use Rattle.std.proofs.lemmas.Result.{on_ok_weaker}
 use Rattle.cps_textproto.specs.Trees.{values_of}
@@ -72,6 +73,16 @@ returns-then-eq-3-clause-passes c =
     let name : token_text w f.name ≡ codes "offset" = same_name _ _ _ _ c.eq-else-eq-2.result c.eq-else-eq-2.ensures c.if-eq-3.true c.token_text-name.ensures c.as_slice-else-eq-2.ensures in
     offset_passes w f c.set_number.result c.args.parts.now.offset c.set_number.new.slot c.args.parts.now.scaling name c.set_number.ensures.passes c.set_number.ensures.some
 
+pub returns-then-eq-3-clause-read : goal.returns-then-eq-3-clause-read
+returns-then-eq-3-clause-read c =
+    let w = written_of c.args.input.now in
+    let f = c.args.field.now in
+    let name : token_text w f.name ≡ codes "offset" = same_name _ _ _ _ c.eq-else-eq-2.result c.eq-else-eq-2.ensures c.if-eq-3.true c.token_text-name.ensures c.as_slice-else-eq-2.ensures in
+    on_ok_weaker c.set_number.result
+    (λ (added : option_to_list c.set_number.new.slot ≡ option_to_list c.args.parts.now.offset ++ value_numbers w (values_of f.items)) rest.
+    simp (name, added, append_assoc))
+    c.set_number.ensures.added
+
 pub returns-then-eq-3-clause-err : goal.returns-then-eq-3-clause-err
 returns-then-eq-3-clause-err c =
     let w = written_of c.args.input.now in
@@ -85,6 +96,16 @@ returns-then-eq-4-clause-passes c =
     let f = c.args.field.now in
     let name : token_text w f.name ≡ codes "scaling_factor" = same_name _ _ _ _ c.eq-else-eq-3.result c.eq-else-eq-3.ensures c.if-eq-4.true c.token_text-name.ensures c.as_slice-else-eq-3.ensures in
     scaling_passes w f c.set_number-then-eq-4.result c.args.parts.now.scaling c.set_number-then-eq-4.new.slot c.args.parts.now.offset name c.set_number-then-eq-4.ensures.passes c.set_number-then-eq-4.ensures.some
+
+pub returns-then-eq-4-clause-read : goal.returns-then-eq-4-clause-read
+returns-then-eq-4-clause-read c =
+    let w = written_of c.args.input.now in
+    let f = c.args.field.now in
+    let name : token_text w f.name ≡ codes "scaling_factor" = same_name _ _ _ _ c.eq-else-eq-3.result c.eq-else-eq-3.ensures c.if-eq-4.true c.token_text-name.ensures c.as_slice-else-eq-3.ensures in
+    on_ok_weaker c.set_number-then-eq-4.result
+    (λ (added : option_to_list c.set_number-then-eq-4.new.slot ≡ option_to_list c.args.parts.now.scaling ++ value_numbers w (values_of f.items)) rest.
+    simp (name, added, append_assoc))
+    c.set_number-then-eq-4.ensures.added
 
 pub returns-then-eq-4-clause-err : goal.returns-then-eq-4-clause-err
 returns-then-eq-4-clause-err c =
@@ -101,6 +122,16 @@ returns-then-eq-5-clause-passes c =
     if_passes w objective_message f (IsGivenObjective c.args.parts.now.offset c.args.parts.now.scaling) (IsGivenObjective c.args.parts.now.offset c.args.parts.now.scaling) c.add_ints-then-eq-5.result
     (repeated_passes w objective_message f (number Int64) c.add_ints-then-eq-5.result (table_use _ _ _ _ name refl) c.add_ints-then-eq-5.ensures.fault)
     (other_given c.args.parts.now.offset c.args.parts.now.scaling (token_text w f.name) (codes "domain") name refl refl)
+
+pub returns-then-eq-5-clause-read : goal.returns-then-eq-5-clause-read
+returns-then-eq-5-clause-read c =
+    let w = written_of c.args.input.now in
+    let f = c.args.field.now in
+    let name : token_text w f.name ≡ codes "domain" = same_name _ _ _ _ c.eq-else-eq-4.result c.eq-else-eq-4.ensures c.if-eq-5.true c.token_text-name.ensures c.as_slice-else-eq-4.ensures in
+    on_ok_weaker c.add_ints-then-eq-5.result
+    (λ (added : c.add_ints-then-eq-5.new.list.items ≡ c.args.parts.now.domain.items ++ value_numbers w (values_of f.items)) rest.
+    simp (name, added, append_assoc))
+    c.add_ints-then-eq-5.ensures.added
 
 pub returns-then-eq-5-clause-err : goal.returns-then-eq-5-clause-err
 returns-then-eq-5-clause-err c =
