@@ -17,7 +17,6 @@ pub struct Span {
 
 /// What a task demands where it is in force. Atoms stand for literals, subjects for expressions, and spans for
 /// intervals.
-#[derive(Drop)]
 pub enum Body {
     /// Nothing.
     Empty,
@@ -136,6 +135,100 @@ pub enum Body {
         terms: Listed<Term>,
         upper: Option<i64>,
     },
+}
+
+// Written out: a drop of an enum that is derived stands in full in each function where one is dropped.
+impl Drop for Body {
+    fn drop(self) {
+        match self {
+            Body::Empty => {}
+            Body::BoolOr(_list)
+            | Body::BoolAnd(_list)
+            | Body::AtMostOne(_list)
+            | Body::ExactlyOne(_list)
+            | Body::BoolXor(_list) => {}
+            Body::Linear {
+                terms: _terms,
+                domain: _domain,
+            }
+            | Body::ObjectiveList {
+                terms: _terms,
+                domain: _domain,
+            } => {}
+            Body::IntDiv {
+                target: _target,
+                exprs: _exprs,
+            }
+            | Body::IntMod {
+                target: _target,
+                exprs: _exprs,
+            }
+            | Body::IntProd {
+                target: _target,
+                exprs: _exprs,
+            }
+            | Body::LinMax {
+                target: _target,
+                exprs: _exprs,
+            } => {}
+            Body::Element {
+                index: _index,
+                target: _target,
+                exprs: _exprs,
+            } => {}
+            Body::Table {
+                exprs: _exprs,
+                values: _values,
+                negated: _negated,
+            } => {}
+            Body::AllDiff(_list) => {}
+            Body::Circuit {
+                tails: _tails,
+                heads: _heads,
+                literals: _literals,
+            } => {}
+            Body::Interval {
+                start: _start,
+                end: _end,
+                size: _size,
+            } => {}
+            Body::NoOverlap(_list) => {}
+            Body::Cumulative {
+                capacity: _capacity,
+                intervals: _intervals,
+                demands: _demands,
+            } => {}
+            Body::Inverse {
+                direct: _direct,
+                inverse: _inverse,
+            } => {}
+            Body::Automaton {
+                start: _start,
+                finals: _finals,
+                tails: _tails,
+                heads: _heads,
+                labels: _labels,
+                exprs: _exprs,
+            } => {}
+            Body::Reservoir {
+                min: _min,
+                max: _max,
+                times: _times,
+                changes: _changes,
+                active: _active,
+            } => {}
+            Body::NoOverlap2d { x: _x, y: _y } => {}
+            Body::Sum {
+                subject: _subject,
+                terms: _terms,
+                offset: _offset,
+            } => {}
+            Body::Cut {
+                terms: _terms,
+                upper: _upper,
+            } => {}
+        }
+    }
 }
 
 /// A demand, in force where all its enforcement atoms are true.

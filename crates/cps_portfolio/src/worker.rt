@@ -27,7 +27,6 @@ use cps_validate::ValidModel;
 use std::alloc::{AllocError, Global};
 
 /// A worker of one of the kinds.
-#[derive(Drop)]
 pub enum AnyWorker<'a> {
     /// Follows the model's strategies, and then takes the variables in order.
     Fixed(Worker<'a, AnyPropagator, FixedBrancher>),
@@ -37,6 +36,18 @@ pub enum AnyWorker<'a> {
     Core(CoreWorker<'a, AnyPropagator, ActivityBrancher>),
     /// Searches near solutions that workers found.
     Near(AimedWorker<'a>),
+}
+
+// Written out: a drop of an enum that is derived stands in full in each function where one is dropped.
+impl Drop for AnyWorker<'_> {
+    fn drop(self) {
+        match self {
+            AnyWorker::Fixed(_worker) => {}
+            AnyWorker::Activity(_worker) => {}
+            AnyWorker::Core(_worker) => {}
+            AnyWorker::Near(_near) => {}
+        }
+    }
 }
 
 /// A neighbourhood worker, and how much of the pool it has seen.
