@@ -1,9 +1,11 @@
 -- How a core-guided search begins.
-use Rattle.std.specs.Prelude.{◌≡◌, ◌⊎◌, ℕ, ◌+◌, ◌≤◌, pos, negsuc, [], ◌∷◌, length}
+use Rattle.std.specs.Prelude.{◌≡◌, ◌⊎◌, ℕ, ℤ, ◌+◌, ◌≤◌, pos, negsuc, None, false, [], ◌∷◌, length}
 use Rattle.cps_instance.specs.Sums.{DefinedSum}
 use Rattle.cps_search.specs.Growing.{GrewBy}
 use Rattle.cps_search.specs.Moves.{fresh}
 use Rattle.cps_search.specs.Searches.{Search}
+use Rattle.cps_reform.specs.Forms.{Form}
+use Rattle.cps_core_guided.specs.Reforming.{CoreSearch}
 
 -- the sum that is the opposite of a subject
 abbrev pub opposite : ℕ → DefinedSum
@@ -20,3 +22,7 @@ pub record OnlyGrew (s t : Search) (most : ℕ) : Type 0 where
   pub longer : length s.instance.domains ≤ length t.instance.domains
   pub few : length t.instance.domains ≤ length s.instance.domains + most
   pub is_fresh : s ≡ fresh s.instance s.gap s.budget → t ≡ fresh t.instance s.gap s.budget
+
+-- a core-guided search that has raised nothing yet: the search, its form, and what the objective is at most
+abbrev pub beginning : Search → Form → ℤ → CoreSearch
+beginning t f greatest = record { search = t; form = f; sums = 0; greatest = greatest; raised = None; ended = false; core = [] }

@@ -13,7 +13,7 @@ ghost use Rattle.cps_core_guided.specs.Reforming.{IsSoundCore, whole};
 ghost use Rattle.cps_core_guided.specs.CoreTurns.{BeginsCore, RunsCoreTo, RunsInCoreTurns, TakesCoreTurn, core_ending};
 
 use crate::ended::CoreEnded;
-use crate::first::first_form;
+use crate::first::{Beginning, begin};
 use crate::guided::Guided;
 use cps_branch::{ActivityBrancher, Brancher};
 use cps_clauses::Journal;
@@ -21,8 +21,7 @@ use cps_instance::Instance;
 use cps_model::Refs;
 use cps_port::Port;
 use cps_propagate::{Defining, Engine};
-use cps_reform::{greatest_sum, objective_terms};
-use cps_search::{End, Frame, Phase, Turn, WorkerKind, end_of};
+use cps_search::{End, Phase, Turn, WorkerKind, end_of};
 use std::alloc::{AllocError, Global};
 use std::marker::Model;
 
@@ -67,10 +66,11 @@ impl<'a, P: Defining> CoreWorker<'a, P, ActivityBrancher> {
         ensures hints { IfOk result (λ w. AreHintsOf w.0.search.instance w.1.hints) }
     {
         let brancher = ActivityBrancher::of(alloc, &instance)?;
-        let terms = objective_terms(alloc, &instance)?;
-        let mut frame = Frame::new(alloc, instance, engine, Some(budget), gap)?;
-        let reform = first_form(alloc, &mut frame, terms.as_slice())?;
-        let greatest = greatest_sum(frame.instance().domains(), terms.as_slice());
+        let Beginning {
+            frame,
+            reform,
+            greatest,
+        } = begin(alloc, instance, engine, budget, gap)?;
         Ok(CoreWorker {
             guided: Guided {
                 alloc,
