@@ -1,6 +1,7 @@
 -- What a core-guided worker keeps over its turns.
 use Rattle.std.specs.Prelude.{unsigned_abs, IfSome, IsSome}
-use Rattle.std.proofs.Common.{◌⊎◌, false, refl, length-append, ◌+◌, ◌≡◌, ℕ, ℤ, ◌<◌, ◌≤◌, ◌^◌, Option, List, [], ◌∷◌, ◌++◌, length, take, sym, ◌∙◌, ap, subst, arith}
+use Rattle.std.proofs.Common.{◌⊎◌, Bool, false, refl, length-append, ◌+◌, ◌≡◌, ℕ, ℤ, ◌<◌, ◌≤◌, ◌^◌, Option, List, [], ◌∷◌, ◌++◌, length, take, sym, ◌∙◌, ap, subst, arith}
+use Rattle.cps_model.specs.declared.bound.Bound.{Bound}
 use Rattle.cps_model.specs.declared.model.CpModel.{CpModel}
 use Rattle.cps_instance.proofs.Growing.{same-append}
 use Rattle.cps_instance.specs.Problem.{Problem}
@@ -46,6 +47,11 @@ works-core s t scope scope' agrees agrees' kept kept' h sound setting longer sam
   within = within;
   agreed = agreed;
 }
+
+-- a worker that raised the lower bound works on
+pub works-concluded : (v : CoreSearch) (r : Option Bound) (e : Bool) (core : List ℤ) (scope : Scope) (agrees : ℕ → Type 0) (kept : ℕ) → IsCoreWorking v scope agrees kept → IsSoundCore (record v { raised = r; ended = e; core = core })
+    → IsCoreWorking (record v { raised = r; ended = e; core = core }) scope agrees kept
+works-concluded v r e core scope agrees kept w sound = record { sound = sound; of_problem = w.of_problem; budget = w.budget; has_budget = w.has_budget; few = w.few; within = w.within; agreed = w.agreed }
 
 -- the stores before and after a sum is defined have the same entries, over the same domains of the subjects that a brancher asks of
 pub same-grown : (p : Problem) (scope : Scope) (s t : Trail) (kept : ℕ) (added : List (ℤ × ℤ)) → IsScopeOf p scope → s.first ≡ p.domains → t.first ≡ p.domains ++ added ∷ [] → t.entries ≡ s.entries → AreSameUpTo scope.subjects kept s t

@@ -46,6 +46,10 @@ has-failed s bottom rest place decisions h store few failed level behind =
       false_there = λ a solution below decided. behind.enough a solution.free below decided;
     }
 
+-- where no solution was left before a reform was tried, none is after it
+pub none-after : (v : CoreSearch) (model : CpModel) (z : Bound) → v.search.instance.model ≡ model → v.search.z ≡ z → NoneBelow model z → NoneBelow v.search.instance.model v.search.z
+none-after v model z same bound none = subst (λ (b : Bound). NoneBelow v.search.instance.model b) (sym bound) (subst (λ (k : CpModel). NoneBelow k z) (sym same) none)
+
 -- a raise after a reform is one from before it
 raises-from : (m v t : CoreSearch) (p q : Part) (bound : Bound) → v.raised ≡ m.raised → RaisesTo bound v t p q → RaisesTo bound m t p q
 raises-from m v t p q bound same r = record { raised = r.raised ∙ ap (λ (o : Option Bound). raised_to o bound) same; seen = r.seen; at_least = r.at_least; told = r.told; board = r.board }
@@ -77,9 +81,6 @@ module _ (m v : CoreSearch) (bottom : Trail) (rest : Rest) (place : ℕ) (decisi
   -- the form that a reform came to has a base that is a lower bound
   pub tried-bound : IsSoundCore v → done ≡ true → IsLowerBound v.search.instance.model (At v.form.base)
   tried-bound sound on = base-bound v sound (subst (λ (f : Form). IsFormPast v.search.z v.greatest v.search.instance.domains f → ⊥) (sym (h.is on)) (h.not_past on))
-
-  pub tried-none : done ≡ false → NoneBelow v.search.instance.model v.search.z
-  tried-none off = subst (λ (b : Bound). NoneBelow v.search.instance.model b) (sym h.z) (subst (λ (k : CpModel). NoneBelow k m.search.z) (sym h.setting.model) (h.none_below off))
 
   pub reforms-from : (r : Option Bound) (e : Bool) (c : List ℤ) (p q : Part) → m.sums < most_sums → IsFailed m.search.store m.form.terms place → AreBehindIn m.search (assumed (term_at m.form.terms place)) decisions → GoesBack m.search.store bottom 0
       → done ≡ true → RaisesTo (At v.form.base) v (record v { raised = r; ended = e; core = c }) p q → e ≡ false → ReformsFrom m (record v { raised = r; ended = e; core = c }) p q v.form.base

@@ -9,6 +9,7 @@ use Rattle.cps_search.specs.Growing.{AreBehindIn}
 use Rattle.cps_search.specs.Lessons.{GoesBack}
 use Rattle.cps_search.specs.Moves.{moved}
 use Rattle.cps_search.specs.Searches.{IsSoundSearch, Search}
+use Rattle.cps_search.proofs.Keeps.{keeps_none}
 use Rattle.cps_search.proofs.Turning.{back_only}
 use Rattle.cps_search.proofs.Working.{same_back}
 use Rattle.cps_reform.specs.declared.held.Held.{Held}
@@ -16,9 +17,9 @@ use Rattle.cps_reform.specs.Forms.{term_at}
 use Rattle.cps_reform.specs.Marks.{assumed}
 use Rattle.cps_core_guided.specs.CoreTurns.{ExhaustsFrom, GoesOn, IsCoreWorking, RaisesTo, ReformsFrom}
 use Rattle.cps_core_guided.specs.Guiding.{HasFailed, Tried, core_search_of}
-use Rattle.cps_core_guided.specs.Reforming.{CoreSearch}
-use Rattle.cps_core_guided.proofs.CoreWorking.{works-core}
-use Rattle.cps_core_guided.proofs.Failing.{exhausts-from, has-failed, reforms-from, sound-bottom, tried-bound}
+use Rattle.cps_core_guided.specs.Reforming.{CoreSearch, IsSoundCore}
+use Rattle.cps_core_guided.proofs.CoreWorking.{works-concluded, works-core}
+use Rattle.cps_core_guided.proofs.Failing.{exhausts-from, has-failed, none-after, reforms-from, sound-bottom, tried-bound}
 use Rattle.cps_core_guided.proofs.guided.Guided.reform_at.Goals as goal
 
 not_refused : (b : Bool) → (IsTrue b → false ≡ true) → b ≡ false
@@ -98,6 +99,52 @@ conclude-requires-clause-base g c =
     let done = c.in_ok-is_reformed.is_reformed in
     let h : Tried (record s { search = moved s.search r.store r.rested }) v i decisions done = subst (λ (x : Search). Tried (record s { search = x }) v i decisions done) is c.in_ok-is_reformed.ensures.tried in
     tried-bound s v r.store r.rested i decisions done h c.in_ok-is_reformed.ensures.works.sound
+
+pub reform_by-requires-clause-running : goal.reform_by-requires-clause-running
+reform_by-requires-clause-running g c = c.requires.running
+
+pub reform_by-requires-clause-atom : goal.reform_by-requires-clause-atom
+reform_by-requires-clause-atom g c = c.assumption-atom.ensures ∙ ap (λ (ts : List Held). assumed (term_at ts c.args.place)) c.terms.ensures
+
+pub returns-in_err-decisions-clause-keeps : goal.returns-in_err-decisions-clause-keeps
+returns-in_err-decisions-clause-keeps g c = keeps_none _ _ _ g.met.Q.Port.unmoved _
+
+pub returns-in_err-is_reformed-clause-keeps : goal.returns-in_err-is_reformed-clause-keeps
+returns-in_err-is_reformed-clause-keeps g c = keeps_none _ _ _ g.met.Q.Port.unmoved _
+
+pub returns-in_err-core-clause-keeps : goal.returns-in_err-core-clause-keeps
+returns-in_err-core-clause-keeps g c = keeps_none _ _ _ g.met.Q.Port.unmoved _
+
+pub conclude-requires-clause-sound : goal.conclude-requires-clause-sound
+conclude-requires-clause-sound g c = c.in_ok-is_reformed.ensures.works.sound
+
+pub conclude-requires-clause-model : goal.conclude-requires-clause-model
+conclude-requires-clause-model g c =
+    c.requires.model ∙ ap (λ (x : Search). x.instance.model) (sym c.in_ok-decisions.ensures.same) ∙ ap (λ (x : Search). x.instance.model) (sym c.restart.ensures.is) ∙ sym c.in_ok-is_reformed.ensures.tried.setting.model
+
+pub conclude-requires-clause-none : goal.conclude-requires-clause-none
+conclude-requires-clause-none g c =
+    let h = c.in_ok-is_reformed.ensures.tried in
+    λ off. none-after (core_search_of c.reform_by.new.self) c.restart.new.self.instance.model c.restart.new.self.z h.setting.model h.z (h.none_below off)
+
+pub conclude-requires-clause-core : goal.conclude-requires-clause-core
+conclude-requires-clause-core g c = c.in_ok-core.ensures
+
+pub returns-clause-keeps : goal.returns-clause-keeps
+returns-clause-keeps g c = c.conclude.ensures.keeps
+
+pub returns-clause-brancher : goal.returns-clause-brancher
+returns-clause-brancher g c = ap (λ (x : _). x.brancher) c.conclude.ensures.rest ∙ c.in_ok-is_reformed.ensures.brancher
+
+pub returns-clause-works : goal.returns-clause-works
+returns-clause-works g c =
+    let v = core_search_of c.reform_by.new.self in
+    let t = c.conclude.new.self in
+    let b = c.reform_by.new.self.brancher in
+    let rest = c.conclude.ensures.rest in
+    subst (λ (x : _). IsCoreWorking (core_search_of x) (g.B.Brancher.scope x.brancher) (g.B.Brancher.agrees x.brancher x.frame.store) x.kept) (sym rest)
+    (works-concluded v t.raised t.ended t.core (g.B.Brancher.scope b) (g.B.Brancher.agrees b v.search.store) c.reform_by.new.self.kept c.in_ok-is_reformed.ensures.works
+    (subst (λ (x : _). IsSoundCore (core_search_of x)) rest c.conclude.ensures.sound))
 
 pub returns-clause-goes_on : goal.returns-clause-goes_on
 returns-clause-goes_on g c =
