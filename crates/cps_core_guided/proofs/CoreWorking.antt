@@ -1,6 +1,7 @@
 -- What a core-guided worker keeps over its turns.
-use Rattle.std.specs.Prelude.{unsigned_abs, IfSome, IsSome}
+use Rattle.std.specs.Prelude.{All, unsigned_abs, IfSome, IsSome}
 use Rattle.std.proofs.Common.{◌⊎◌, Bool, false, refl, length-append, ◌+◌, ◌≡◌, ℕ, ℤ, ◌<◌, ◌≤◌, ◌^◌, Option, List, [], ◌∷◌, ◌++◌, length, take, sym, ◌∙◌, ap, subst, arith}
+use Rattle.std.proofs.lemmas.List.Elements.{All-weaker}
 use Rattle.cps_model.specs.declared.bound.Bound.{Bound}
 use Rattle.cps_model.specs.declared.model.CpModel.{CpModel}
 use Rattle.cps_instance.proofs.Growing.{same-append}
@@ -8,7 +9,8 @@ use Rattle.cps_instance.specs.Problem.{Problem}
 use Rattle.cps_instance.specs.Sums.{DefinedSum}
 use Rattle.cps_instance.specs.Terms.{Domains}
 use Rattle.cps_literal.specs.declared.atom.Atom.{Atom}
-use Rattle.cps_reform.specs.Forms.{Form}
+use Rattle.cps_reform.specs.declared.held.Held.{Held}
+use Rattle.cps_reform.specs.Forms.{Form, IsHeldInDomain}
 use Rattle.cps_reform.specs.Floors.{IsReform}
 use Rattle.cps_trail.specs.Trail.{IsSoundTrail, Trail, Entry, Decision, first_of}
 use Rattle.cps_branch.specs.Scope.{Scope, IsScopeOf, AreSameUpTo}
@@ -47,6 +49,13 @@ works-core s t scope scope' agrees agrees' kept kept' h sound setting longer sam
   within = within;
   agreed = agreed;
 }
+
+-- each term of the form is about a subject of the store, where both are read
+pub terms-inside : (s : CoreSearch) (x : Trail) (ts : List Held) → IsSoundCore s → x ≡ s.search.store → ts ≡ s.form.terms → All (λ t. t.subject < length x.first) ts
+terms-inside s x ts h store terms =
+    let size : length x.first ≡ length s.search.instance.domains = ap (λ (y : Trail). length y.first) store ∙ ap (λ (ds : Domains). length ds) h.search.domains in
+    subst (λ (us : List Held). All (λ t. t.subject < length x.first) us) (sym terms)
+    (All-weaker (IsHeldInDomain s.search.instance.domains) (λ t. t.subject < length x.first) (λ t k. let inside = k.subject in omega (arith, inside, size)) s.form.terms h.form.roomy.terms)
 
 -- a worker that raised the lower bound works on
 pub works-concluded : (v : CoreSearch) (r : Option Bound) (e : Bool) (core : List ℤ) (scope : Scope) (agrees : ℕ → Type 0) (kept : ℕ) → IsCoreWorking v scope agrees kept → IsSoundCore (record v { raised = r; ended = e; core = core })

@@ -1,8 +1,38 @@
 use Rattle.std.proofs.Common.{subst, sym, refl, List}
 use Rattle.cps_trail.specs.Trail.{Trail}
 use Rattle.cps_reform.specs.declared.held.Held.{Held}
-use Rattle.cps_core_guided.specs.Assuming.{AreAssumed, NoTermFails}
+use Rattle.cps_core_guided.specs.Assuming.{AreAssumed, IsFirstOpenTerm, NoTermFails}
+use Rattle.cps_core_guided.specs.Guiding.{core_search_of}
+use Rattle.cps_core_guided.proofs.CoreWorking.{terms-inside}
 use Rattle.cps_core_guided.proofs.guided.Guided.decide_by_terms.Goals as goal
+
+pub first_open-requires : goal.first_open-requires
+first_open-requires g c = terms-inside (core_search_of c.args.self.now) c.store.result.now c.terms.result.now c.requires.works.sound c.store.ensures c.terms.ensures
+
+pub choose-requires-clause-works : goal.choose-requires-clause-works
+choose-requires-clause-works g c = c.requires.works
+
+pub choose-requires-clause-none_open : goal.choose-requires-clause-none_open
+choose-requires-clause-none_open g c = c.requires.none_open
+
+pub assume-requires-clause-works : goal.assume-requires-clause-works
+assume-requires-clause-works g c = c.requires.works
+
+pub assume-requires-clause-none_open : goal.assume-requires-clause-none_open
+assume-requires-clause-none_open g c = c.requires.none_open
+
+pub assume-requires-clause-open_now : goal.assume-requires-clause-open_now
+assume-requires-clause-open_now g c =
+    let terms = c.args.self.now.reform.terms in
+    let x = c.store.result.now in
+    let i = c.in-Some.place in
+    subst (λ (y : Trail). IsFirstOpenTerm y terms i) c.store.ensures (subst (λ (us : List Held). IsFirstOpenTerm x us i) c.terms.ensures c.in-Some.ensures.some)
+
+pub choose-requires-in-None-clause-works : goal.choose-requires-in-None-clause-works
+choose-requires-in-None-clause-works g c = c.requires.works
+
+pub choose-requires-in-None-clause-none_open : goal.choose-requires-in-None-clause-none_open
+choose-requires-in-None-clause-none_open g c = c.requires.none_open
 
 pub choose-requires-in-None-clause-assumed : goal.choose-requires-in-None-clause-assumed
 choose-requires-in-None-clause-assumed g c = λ few.

@@ -9,9 +9,20 @@ use Rattle.cps_search.proofs.Working.{brancher_heard, imported_few, same_back, s
 use Rattle.cps_core_guided.specs.CoreTurns.{GoesOn, TakesCoreTurn}
 use Rattle.cps_core_guided.specs.Guiding.{core_search_of}
 use Rattle.cps_core_guided.proofs.CoreTurning.{frame-not-decided, not-ended, turn-frame, turn-on}
-use Rattle.cps_core_guided.proofs.CoreWorking.{works-frame}
+use Rattle.cps_core_guided.proofs.CoreWorking.{core-room, works-frame}
 use Rattle.cps_core_guided.proofs.Hearing.{heard-brancher}
 use Rattle.cps_core_guided.proofs.guided.Guided.turn.Goals as goal
+
+pub steps-requires-clause-model : goal.steps-requires-clause-model
+steps-requires-clause-model g c = c.requires.model
+
+pub steps-requires-clause-few : goal.steps-requires-clause-few
+steps-requires-clause-few g c =
+    let x = c.args.self.now in
+    core-room (core_search_of x) (g.B.Brancher.scope x.brancher) (g.B.Brancher.agrees x.brancher x.frame.store) x.kept c.requires.works
+
+pub go_on-requires-clause-running : goal.go_on-requires-clause-running
+go_on-requires-clause-running g c = not-ended (core_search_of c.args.self.now) c.requires.running
 
 pub go_on-requires-clause-works : goal.go_on-requires-clause-works
 go_on-requires-clause-works g c =
@@ -32,6 +43,12 @@ go_on-requires-clause-works g c =
     let imported = steps.cause.imported in
     works-frame s m scope scope (agrees s.search.store) (agrees m.store) kept kept w c.in_ok-turn.ensures.sound.1 steps.setting steps.moves.falls (not-ended s c.requires.running) steps.store refl (omega (arith, few, imported)) (omega (arith, within, size))
     (g.met.B.Brancher.kept_on b s.search.store m.store kept kept (omega arith) (same_onward scope.subjects kept s.search.store m.store within on) w.agreed)
+
+pub returns-in-Some-clause-keeps : goal.returns-in-Some-clause-keeps
+returns-in-Some-clause-keeps g c = c.in_ok-turn.ensures.keeps
+
+pub returns-in-Some-clause-guidance : goal.returns-in-Some-clause-guidance
+returns-in-Some-clause-guidance g c = c.hear_turn.ensures.guidance
 
 pub returns-in-Some-clause-turn : goal.returns-in-Some-clause-turn
 returns-in-Some-clause-turn g c =
@@ -84,6 +101,12 @@ returns-in-Some-clause-works g c =
     works-frame s t scope (g.B.Brancher.scope new) (g.B.Brancher.agrees b s.search.store) (g.B.Brancher.agrees new t.store) kept still w (c.hear_turn.ensures.sound c.in_ok-turn.ensures.sound.1) taken.setting taken.moves.falls (not-ended s c.requires.running) store c.hear_turn.ensures.scope
     (omega (arith, few, stands_imported m t c.hear_turn.ensures.frame)) (omega (arith, left))
     (c.hear_turn.ensures.saw t.store still (g.met.B.Brancher.kept_on b s.search.store t.store still kept (omega (arith, left)) (same_back scope.subjects still s.search.store t.store (omega (arith, left, within)) (omega (arith, left)) store) w.agreed))
+
+pub returns-in-None-clause-guidance : goal.returns-in-None-clause-guidance
+returns-in-None-clause-guidance g c = c.go_on.ensures.guidance
+
+pub returns-in-None-clause-works : goal.returns-in-None-clause-works
+returns-in-None-clause-works g c = c.go_on.ensures.works
 
 pub returns-in-None-clause-keeps : goal.returns-in-None-clause-keeps
 returns-in-None-clause-keeps g c = keeps_then _ _ _ g.met.Q.Port.moved_on _ _ _ c.in_ok-turn.ensures.keeps c.go_on.ensures.keeps
