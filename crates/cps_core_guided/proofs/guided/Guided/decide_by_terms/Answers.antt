@@ -1,6 +1,8 @@
-use Rattle.std.proofs.Common.{subst, sym, refl, List}
+use Rattle.std.proofs.Common.{◌≡◌, inl, inr, rules, subst, sym, refl, List}
 use Rattle.cps_trail.specs.Trail.{Trail}
 use Rattle.cps_reform.specs.declared.held.Held.{Held}
+use Rattle.cps_search.specs.Ends.{DecidedBy}
+use Rattle.cps_search.proofs.Results.{ok_if}
 use Rattle.cps_core_guided.specs.Assuming.{AreAssumed, IsFirstOpenTerm, NoTermFails}
 use Rattle.cps_core_guided.specs.Guiding.{core_search_of}
 use Rattle.cps_core_guided.proofs.CoreWorking.{terms-inside}
@@ -41,3 +43,24 @@ choose-requires-in-None-clause-assumed g c = λ few.
     let ts = c.terms.result.now in
     let there : NoTermFails x ts = subst (λ (us : List Held). NoTermFails x us) (sym c.terms.ensures) (subst (λ (y : Trail). NoTermFails y terms) (sym c.store.ensures) (c.requires.none_fails few)) in
     subst (λ (y : Trail). AreAssumed y.first y.entries terms) c.store.ensures (subst (λ (us : List Held). AreAssumed x.first x.entries us) c.terms.ensures (c.in-None.ensures.none refl there))
+
+pub assume-requires-clause-none_fails : goal.assume-requires-clause-none_fails
+assume-requires-clause-none_fails g c = c.requires.none_fails (search rules)
+
+pub returns-then-not-assumes_terms-clause-brancher : goal.returns-then-not-assumes_terms-clause-brancher
+returns-then-not-assumes_terms-clause-brancher g c =
+    let old = c.args.self.now.brancher in
+    let new = c.choose.new.self.brancher in
+    ok_if c.choose.result (DecidedBy (g.B.Brancher.stays old new) (new ≡ old)) (inl c.choose.ensures.brancher)
+
+pub returns-in-Some-clause-brancher : goal.returns-in-Some-clause-brancher
+returns-in-Some-clause-brancher g c =
+    let old = c.args.self.now.brancher in
+    let new = c.assume.new.self.brancher in
+    ok_if c.assume.result (DecidedBy (g.B.Brancher.stays old new) (new ≡ old)) (inr c.assume.ensures.brancher)
+
+pub returns-in-None-clause-brancher : goal.returns-in-None-clause-brancher
+returns-in-None-clause-brancher g c =
+    let old = c.args.self.now.brancher in
+    let new = c.choose-in-None.new.self.brancher in
+    ok_if c.choose-in-None.result (DecidedBy (g.B.Brancher.stays old new) (new ≡ old)) (inl c.choose-in-None.ensures.brancher)

@@ -1,4 +1,4 @@
-use Rattle.std.proofs.Common.{◌≡◌, ◌∙◌, ℕ, ap, arith, length, sym}
+use Rattle.std.proofs.Common.{◌∙◌, ℕ, ap, arith, length, sym}
 use Rattle.cps_model.specs.declared.model.CpModel.{CpModel}
 use Rattle.cps_branch.specs.Agreeing.{aside_none_kept}
 use Rattle.cps_branch.specs.Hints.{hint_for}
