@@ -152,3 +152,17 @@ impossible-of s r ps ds parts room n most t None inside a b d profile is over lo
 impossible-of s r ps ds parts room n most t (Some u) inside a b d profile is over low up fit =
     let q : IsProfile s r.spans r.demands room = subst (λ (es : List ℕ). IsProfile s r.spans es room) b (subst (λ (qs : List Span). IsProfile s qs ds room) a profile) in
     impossible s r room n u inside q (subst (λ (rs : List Part). IsOverCapacity rs n u) d over) (λ x o. (let e = up x o in omega (arith, ints))) fit
+
+-- where no time is over the capacity, by what the code reads
+pub capacity-of : (s : Trail) (r : Resource) (ps : List Span) (ds : List ℕ) (parts room : List Part) (n : ℕ) (most : ℤ) (found : Option ℤ) → ps ≡ r.spans → ds ≡ r.demands → parts ≡ room → IsProfile s ps ds room
+    → ((t : ℤ) → found ≡ Some t → ⊥) → MatchOption found (FitsCapacity parts n) (λ u. IsOverCapacity parts n u) → pos n ≡ most → IsOpenTo s r.capacity most → HasCapacity s r.capacity r.spans r.demands
+capacity-of s r ps ds parts room n most (Some u) a b d profile none fits low reached = absurd (none u refl)
+capacity-of s r ps ds parts room n most None a b d profile none fits low reached = record {
+  enough = λ time load top loads up.
+      (let q : IsProfile s r.spans r.demands room = subst (λ (es : List ℕ). IsProfile s r.spans es room) b (subst (λ (qs : List Span). IsProfile s qs ds room) a profile) in
+      let w = q.whole time load loads in
+      let f : FitsCapacity room n = subst (λ (rs : List Part). FitsCapacity rs n) d fits in
+      let h = f.room time in
+      let u = up most reached in
+      omega (arith, ints));
+}
