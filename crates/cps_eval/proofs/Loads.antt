@@ -1,5 +1,5 @@
 -- The load of a cumulative constraint is the level of its changes, and what it is at their times decides.
-use Rattle.std.specs.Prelude.{All, ◌↔◌, unsigned_abs, int_le, int_lt, ◌&&◌, if◌then◌else◌, Some}
+use Rattle.std.specs.Prelude.{All, ◌↔◌, unsigned_abs, int_le, int_lt, ◌&&◌, if◌then◌else◌, Some, None}
 use Rattle.std.specs.List.{cons_option}
 use Rattle.std.proofs.Common.{◌≡◌, ◌⊎◌, inl, inr, ℕ, zero, suc, ◌+◌, ◌*◌, ◌<◌, ◌≤◌, ◌^◌, ℤ, pos, negsuc, neg_ℤ, ◌+ℤ◌, ◌≤ℤ◌, ◌<ℤ◌, Bool, true, false, List, [], ◌∷◌, ◌++◌, length, drop, get_or, refl, sym, ◌∙◌, ap, ap₂, subst, arith, append_assoc, add-one}
 use Rattle.std.proofs.lemmas.Int.{ints, by_lt_z}
@@ -31,6 +31,12 @@ uses-more cs a is ds k d this done whole p q ed e h =
     let all = uses-drop cs a is ds k d p q in
     let step : uses cs a (drop k is) (drop k ds) ≡ this ∷ rest = all ∙ rw (← ed) (ap (λ o. cons_option o rest) e) in
     append_assoc done (this ∷ []) rest ∙ ap (λ (us : List Use). done ++ us) (sym step) ∙ h
+
+pub uses-less : (cs : List Constraint) (a is : List ℤ) (ds : List LinearExpr) (k : ℕ) (d : LinearExpr) (done whole : List Use) → k < length is → k < length ds → d ≡ get_or ds k d → use_of (run_at cs a (get_or is k (pos 0))) (expression_value a d) ≡ None → done ++ uses cs a (drop k is) (drop k ds) ≡ whole → done ++ uses cs a (drop (k + 1) is) (drop (k + 1) ds) ≡ whole
+uses-less cs a is ds k d done whole p q ed e h =
+    let rest = uses cs a (drop (k + 1) is) (drop (k + 1) ds) in
+    let step : uses cs a (drop k is) (drop k ds) ≡ rest = uses-drop cs a is ds k d p q ∙ rw (← ed) (ap (λ o. cons_option o rest) e) in
+    ap (λ (us : List Use). done ++ us) (sym step) ∙ h
 
 pub small_demand-more : (us : List Use) (u : Use) → have_small_demands us ≡ true → has_small_demand u ≡ true → have_small_demands (us ++ u ∷ []) ≡ true
 small_demand-more us u h this = list_all-append has_small_demand us (u ∷ []) ∙ both_true _ _ h (both_true _ _ this refl)
