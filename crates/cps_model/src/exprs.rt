@@ -10,10 +10,19 @@ use std::marker::Model;
 
 /// A list of linear expressions: those that are written out first, and then those that are references. Contracts see
 /// all of them as expressions.
-#[derive(Drop)]
 pub struct Exprs {
     written: Vec<LinearExpr>,
     references: Vec<i32>,
+}
+
+// Written out, so that crates above do not prove it anew.
+impl Drop for Exprs {
+    fn drop(self) {
+        let Exprs {
+            written: _written,
+            references: _references,
+        } = self;
+    }
 }
 
 impl Model for Exprs {
