@@ -13,7 +13,6 @@ use std::marker::Model;
 use std::mem::swap;
 
 /// A task that a rule looks at, in force where its enforcement literals are true. Contracts see the task.
-#[derive(Drop)]
 pub struct Enforced<R: Rule> {
     alloc: Global,
     enforcement: Vec<Atom>,
@@ -21,6 +20,19 @@ pub struct Enforced<R: Rule> {
     /// Room for what a look finds.
     found: Vec<Narrowing>,
     room: Room,
+}
+
+// Written out, so that crates above do not prove it anew.
+impl<R: Rule> Drop for Enforced<R> {
+    fn drop(self) {
+        let Enforced {
+            alloc: _alloc,
+            enforcement: _enforcement,
+            rule: _rule,
+            found: _found,
+            room: _room,
+        } = self;
+    }
 }
 
 impl<R: Rule> Model for Enforced<R> {

@@ -22,12 +22,23 @@ use std::alloc::{AllocError, Global};
 use std::marker::Model;
 
 /// The rule of a body `AllDiff`. Contracts see the body. A hint is the ends of a full or of a crowded interval.
-#[derive(Drop)]
 pub struct AllDifferent {
     subjects: Vec<u32>,
     ends: Vec<Interval>,
     finder: Finder,
     settled: Settled,
+}
+
+// Written out, so that crates above do not prove it anew.
+impl Drop for AllDifferent {
+    fn drop(self) {
+        let AllDifferent {
+            subjects: _subjects,
+            ends: _ends,
+            finder: _finder,
+            settled: _settled,
+        } = self;
+    }
 }
 
 impl Model for AllDifferent {

@@ -15,12 +15,23 @@ use cps_trail::{Before, Store};
 use std::alloc::{AllocError, Global};
 
 /// A target that is computed of members, and room for what is read of a store.
-#[derive(Drop)]
 pub struct Arithmetic {
     alloc: Global,
     demand: Demand,
     bounds: Bounds,
     trial: Bounds,
+}
+
+// Written out, so that crates above do not prove it anew.
+impl Drop for Arithmetic {
+    fn drop(self) {
+        let Arithmetic {
+            alloc: _alloc,
+            demand: _demand,
+            bounds: _bounds,
+            trial: _trial,
+        } = self;
+    }
 }
 
 /// The demand of a relation between subjects.

@@ -27,7 +27,6 @@ use cps_trail::{Before, Store};
 use std::alloc::{AllocError, Global};
 
 /// The rule of a circuit.
-#[derive(Drop)]
 pub struct Circuit {
     alloc: Global,
     graph: Graph,
@@ -35,6 +34,20 @@ pub struct Circuit {
     literals: Vec<Atom>,
     taken: Vec<bool>,
     finder: Finder,
+}
+
+// Written out, so that crates above do not prove it anew.
+impl Drop for Circuit {
+    fn drop(self) {
+        let Circuit {
+            alloc: _alloc,
+            graph: _graph,
+            links: _links,
+            literals: _literals,
+            taken: _taken,
+            finder: _finder,
+        } = self;
+    }
 }
 
 impl Circuit {

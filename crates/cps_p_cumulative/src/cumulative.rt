@@ -35,10 +35,19 @@ struct Room {
 }
 
 /// That at no time the present spans that run then demand more than the capacity.
-#[derive(Drop)]
 pub struct Cumulative {
     resource: Resource,
     room: Room,
+}
+
+// Written out, so that crates above do not prove it anew.
+impl Drop for Cumulative {
+    fn drop(self) {
+        let Cumulative {
+            resource: _resource,
+            room: _room,
+        } = self;
+    }
 }
 
 /// Makes the facts those by which a window is overloaded, the greatest capacity first. Answers false where it finds

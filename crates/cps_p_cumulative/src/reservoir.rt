@@ -21,10 +21,19 @@ use cps_trail::{Before, Store};
 use std::alloc::{AllocError, Global};
 
 /// That after each event that takes place the level lies between the least and the greatest.
-#[derive(Drop)]
 pub struct Reservoir {
     tank: Tank,
     facts: Vec<Atom>,
+}
+
+// Written out, so that crates above do not prove it anew.
+impl Drop for Reservoir {
+    fn drop(self) {
+        let Reservoir {
+            tank: _tank,
+            facts: _facts,
+        } = self;
+    }
 }
 
 /// Adds an atom, where its denial makes the level pass a limit.

@@ -15,13 +15,24 @@ use cps_trail::{Before, Store};
 use std::alloc::{AllocError, Global};
 
 /// The rule of an element.
-#[derive(Drop)]
 pub struct Element {
     index: u32,
     target: u32,
     exprs: Listed<u32>,
     /// Room for a search of gaps in the target's domain.
     gaps: Gaps,
+}
+
+// Written out, so that crates above do not prove it anew.
+impl Drop for Element {
+    fn drop(self) {
+        let Element {
+            index: _index,
+            target: _target,
+            exprs: _exprs,
+            gaps: _gaps,
+        } = self;
+    }
 }
 
 impl Element {

@@ -16,10 +16,16 @@ use cps_trail::{Before, Store};
 use std::alloc::{AllocError, Global};
 
 /// The rule of boxes that do not overlap.
-#[derive(Drop)]
 pub struct Boxes {
     x: Direction,
     y: Direction,
+}
+
+// Written out, so that crates above do not prove it anew.
+impl Drop for Boxes {
+    fn drop(self) {
+        let Boxes { x: _x, y: _y } = self;
+    }
 }
 
 /// A direction of boxes with these spans, of which nothing is seen yet.

@@ -18,9 +18,15 @@ use cps_trail::{Before, Store};
 use std::alloc::{AllocError, Global};
 
 /// The rule of an interval.
-#[derive(Drop)]
 pub struct Interval {
     places: Places,
+}
+
+// Written out, so that crates above do not prove it anew.
+impl Drop for Interval {
+    fn drop(self) {
+        let Interval { places: _places } = self;
+    }
 }
 
 /// The subjects of an interval.

@@ -15,13 +15,24 @@ use cps_trail::{Before, Store};
 use std::alloc::{AllocError, Global};
 
 /// The rule of spans that do not overlap.
-#[derive(Drop)]
 pub struct NoOverlap {
     spans: Listed<Span>,
     /// What the store leaves to each span. Its memory is kept for the next look.
     seen: Vec<Seen>,
     alloc: Global,
     desk: Desk,
+}
+
+// Written out, so that crates above do not prove it anew.
+impl Drop for NoOverlap {
+    fn drop(self) {
+        let NoOverlap {
+            spans: _spans,
+            seen: _seen,
+            alloc: _alloc,
+            desk: _desk,
+        } = self;
+    }
 }
 
 /// Adds the subjects of spans at the end of a list.

@@ -20,7 +20,6 @@ use std::alloc::{AllocError, Global};
 use std::marker::Model;
 
 /// The rule of a body `Automaton`. Contracts see the body. A hint says nothing.
-#[derive(Drop)]
 pub struct Automaton {
     alloc: Global,
     start: i64,
@@ -40,6 +39,27 @@ pub struct Automaton {
     /// The labels of the transitions, rising.
     alphabet: Vec<i64>,
     room: Room,
+}
+
+// Written out, so that crates above do not prove it anew.
+impl Drop for Automaton {
+    fn drop(self) {
+        let Automaton {
+            alloc: _alloc,
+            start: _start,
+            finals: _finals,
+            tails: _tails,
+            heads: _heads,
+            labels: _labels,
+            exprs: _exprs,
+            states: _states,
+            first: _first,
+            last: _last,
+            steps: _steps,
+            alphabet: _alphabet,
+            room: _room,
+        } = self;
+    }
 }
 
 impl Model for Automaton {

@@ -21,11 +21,21 @@ use std::marker::Model;
 
 /// The rule of a body `Inverse`. Contracts see the body. A hint is the ends of an interval that is full or crowded in
 /// one of the lists, or of none.
-#[derive(Drop)]
 pub struct Inverse {
     direct: Vec<u32>,
     inverse: Vec<u32>,
     sides: Sides,
+}
+
+// Written out, so that crates above do not prove it anew.
+impl Drop for Inverse {
+    fn drop(self) {
+        let Inverse {
+            direct: _direct,
+            inverse: _inverse,
+            sides: _sides,
+        } = self;
+    }
 }
 
 impl Model for Inverse {
