@@ -19,13 +19,24 @@ use std::alloc::{AllocError, Global};
 use std::marker::Model;
 
 /// Strategies, and then variables, with the order of all places.
-#[derive(Drop)]
 pub struct Plan {
     strategies: Vec<Steering>,
     /// The subjects that the strategies list, one after another, and then the variables.
     order: Vec<u32>,
     variables: usize,
     subjects: usize,
+}
+
+// Written out, so that crates above do not prove it anew.
+impl Drop for Plan {
+    fn drop(self) {
+        let Plan {
+            strategies: _strategies,
+            order: _order,
+            variables: _variables,
+            subjects: _subjects,
+        } = self;
+    }
 }
 
 impl Model for Plan {

@@ -10,13 +10,23 @@ use std::marker::Model;
 
 /// A core-guided worker that has ended. Only a worker's `finish` makes one. Contracts see it as an `Ended` whose
 /// `raised` counts what the worker itself raised too.
-#[derive(Drop)]
 pub struct CoreEnded {
     pub(crate) ended: Ended,
     /// The greatest bound to which the worker itself raised the lower one.
     pub(crate) raised: Option<Bound>,
     /// The assumptions by which it ended, if it ended in place of a reform.
     pub(crate) own: Option<Refs>,
+}
+
+// Written out, so that crates above do not prove it anew.
+impl Drop for CoreEnded {
+    fn drop(self) {
+        let CoreEnded {
+            ended: _ended,
+            raised: _raised,
+            own: _own,
+        } = self;
+    }
 }
 
 impl Model for CoreEnded {

@@ -27,11 +27,20 @@ use std::marker::Model;
 
 /// A search with the objective's form, and a brancher that chooses once all assumptions are true. Contracts see it as
 /// the pair of both. Once an allocation has failed, every later call that may allocate fails too.
-#[derive(Drop)]
 pub struct CoreWorker<'a, P: Defining, B: Brancher + Drop> {
     guided: Guided<'a, P, B>,
     /// Whether memory was refused.
     refused: bool,
+}
+
+// Written out, so that crates above do not prove it anew.
+impl<P: Defining, B: Brancher + Drop> Drop for CoreWorker<'_, P, B> {
+    fn drop(self) {
+        let CoreWorker {
+            guided: _guided,
+            refused: _refused,
+        } = self;
+    }
 }
 
 impl<'a, P: Defining, B: Brancher + Drop> Model for CoreWorker<'a, P, B> {
@@ -181,7 +190,10 @@ impl<'a, P: Defining, B: Brancher + Drop> CoreWorker<'a, P, B> {
         ensures phase { (whole self.entry.0).phase ≡ Phase.Over result.end }
         ensures is { result ≡ core_ending result.end self.entry.0 }
     {
-        let CoreWorker { guided, .. } = self;
+        let CoreWorker {
+            guided,
+            refused: _refused,
+        } = self;
         let Guided {
             frame,
             raised,
