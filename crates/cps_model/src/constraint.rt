@@ -1,4 +1,8 @@
 //! A constraint and the kinds that there are.
+//!
+//! A kind is kept as it was given: its fields are the message's, and what it demands of an assignment is defined in
+//! `specs/`. The enforcement literals stand beside the kind, since they mean the same for all of them. Each type has a
+//! written drop: a derived one would stand once more in every crate that may drop it.
 use crate::exprs::Exprs;
 use crate::listed::Listed;
 use crate::model::LinearExpr;

@@ -98,11 +98,7 @@ fn read_constraint(alloc: Global, input: &Input, node: &Node) -> Result<Constrai
     for field in fields_of(node) {
         match add_field(alloc, input, &mut parts, field) {
             Ok(()) => {}
-            Err(error) => {
-                // A kind is dropped in a call: its drop, written out here, is long.
-                drop(parts);
-                return Err(error);
-            }
+            Err(error) => return Err(error),
         }
     }
     Ok(constraint_of(alloc, parts))

@@ -119,8 +119,6 @@ fn given_element(alloc: Global, newer: Kind, older: OlderFields) -> Result<Kind,
         (reference_expression older.target) (map reference_expression older.vars) else newer)) }
 {
     if older.given {
-        // A kind is dropped in a call: its drop, written out here, is long.
-        drop(newer);
         older_element(alloc, older)
     } else {
         Ok(newer)

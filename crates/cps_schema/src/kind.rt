@@ -249,8 +249,7 @@ pub(crate) fn set_kind(
     let node = kind_message(input, given, name, field)?;
     match read_kind(alloc, input, name, node) {
         Ok(kind) => {
-            // Not assigned: the drop of what stood there, written out here, is long.
-            given.insert(GivenKind { name, kind });
+            *given = Some(GivenKind { name, kind });
             Ok(())
         }
         Err(error) => Err(error),
