@@ -5,6 +5,10 @@ use Rattle.std.proofs.Common.{◌≡◌, ℕ, zero, suc, ◌+◌, ◌-◌, ◌/�
 use Rattle.std.proofs.Math.Nat.{two-pow-succ}
 use Rattle.std.proofs.lemmas.Int.{ints, int_min_is, int_max_is}
 use Rattle.std.proofs.lemmas.List.Elements.{All-nil, All-cons, All-weaker}
+use Rattle.std.proofs.lemmas.Option.{IfSome_then}
+use Rattle.cps_options.specs.declared.options.Options.{Options}
+use Rattle.cps_options.specs.Ranges.{AreInRange}
+use Rattle.cps_kinds.specs.Kinds.{AreAllPropagated}
 use Rattle.cps_model.specs.declared.model.CpModel.{CpModel}
 use Rattle.cps_model.specs.declared.bound.Bound.{Bound}
 use Rattle.cps_model.specs.declared.bound.Bound.TheVariants.{At, Infinite}
@@ -19,7 +23,6 @@ use Rattle.cps_port.specs.Order.{BoundLe, IsNoLower, lesser, greater, greater_of
 use Rattle.cps_port.specs.Totals.{total}
 use Rattle.cps_port.proofs.Bounding.{BoundLe-trans, lesser-first, lesser-second, greater-first, greater-exchange}
 use Rattle.cps_search.specs.declared.end.End.{End}
-use Rattle.cps_search.specs.declared.end.Phase.{Phase}
 use Rattle.cps_search.specs.declared.end.Phase.TheVariants.{Over}
 use Rattle.cps_search.specs.declared.end.WorkerKind.{WorkerKind}
 use Rattle.cps_search.specs.Searches.{Search}
@@ -27,12 +30,12 @@ use Rattle.cps_search.specs.Ends.{Ending, IsOver, IsHonestEnding}
 use Rattle.cps_search.specs.Following.{best_bound}
 use Rattle.cps_search.proofs.Bounds.{greater-second, same_bound}
 use Rattle.cps_portfolio.specs.declared.seats.Seated.{Seated}
-use Rattle.cps_portfolio.specs.Workers.{AnySearch, search_in, kind_in, ending_in, known_of, worker_kind}
+use Rattle.cps_portfolio.specs.Workers.{AnySearch, search_in, kind_in, ending_in, worker_kind}
 use Rattle.cps_model.specs.Start.{objective_start}
 use Rattle.cps_port.specs.Incumbents.{IsLowerBound}
 use Rattle.cps_portfolio.specs.Outcomes.{CameTo, EndedWithin, GoesByModel, HasSums, better, best_of}
-use Rattle.cps_portfolio.specs.Crews.{part_at, words_splits, IsBackAt, IsWorkerReady, Worked, IsSeated, IsCrew, IsHonestlyDone, HasReturned, HaveReturned, EndedSeen, AreGathered}
-use Rattle.cps_portfolio.proofs.Going.{has_begun, done_from}
+use Rattle.cps_portfolio.specs.Crews.{part_at, words_part, words_splits, IsBackAt, MayWork, Worked, IsSeated, IsCrew, IsHonestlyDone, IsHonestEnd, HasReturned, HaveReturned, EndedSeen, AreGathered}
+use Rattle.cps_portfolio.proofs.Going.{done_from}
 
 -- ---- lists that grow and shrink at their end
 
@@ -179,26 +182,36 @@ none_gathered m gap conflicts first k offered raised = record {
 pub over_is : (s : Search) (end : End) → s.phase ≡ Over end → IsOver s.phase
 over_is s end e = subst IsOver (sym e) tt
 
-pub one_gathered : (m : CpModel) (gap conflicts first count : ℕ) (k j q : BoundsPart) (s : AnySearch) (e : Ending) (ends : List Ending) → AreGathered m gap conflicts (first + 1) count k ends → kind_in s ≡ worker_kind first
-    → IsHonestlyDone m gap conflicts q s → (search_in s).phase ≡ Over e.end → e ≡ ending_in s e.end → j ≡ both_parts k q → AreGathered m gap conflicts first (suc count) j (e ∷ ends)
-one_gathered m gap conflicts first count k j q s e ends h kind_is done phase is joined =
+-- what is seen of a worker that ended honestly
+pub honest_end : (m : CpModel) (gap conflicts : ℕ) (q : BoundsPart) (number : ℕ) (s : AnySearch) (e : Ending) → kind_in s ≡ worker_kind number → IsHonestlyDone m gap conflicts q s → (search_in s).phase ≡ Over e.end → e ≡ ending_in s e.end
+    → IsHonestEnd m gap conflicts q number e
+honest_end m gap conflicts q number s e kind_is done phase is =
     let both : Over e.end ≡ Over done.end = sym phase ∙ done.over in
     let same : e.end ≡ done.end = cc in
     let all : e ≡ ending_in s done.end = is ∙ ap (ending_in s) same in
-    let honest : IsHonestEnding m gap conflicts q e = subst (IsHonestEnding m gap conflicts q) (sym all) done.honest in
+    record {
+      kind = ap (λ (x : Ending). x.kind) all ∙ kind_is;
+      honest = subst (IsHonestEnding m gap conflicts q) (sym all) done.honest;
+      sums = subst (λ (x : Ending). HasSums x.kind m x.defs) (sym all) done.sums;
+      goes = subst (GoesByModel m gap conflicts) (sym all) done.goes;
+    }
+
+pub one_gathered : (m : CpModel) (gap conflicts first count : ℕ) (k j q : BoundsPart) (e : Ending) (ends : List Ending) → AreGathered m gap conflicts (first + 1) count k ends → IsHonestEnd m gap conflicts q first e → j ≡ both_parts k q
+    → AreGathered m gap conflicts first (suc count) j (e ∷ ends)
+one_gathered m gap conflicts first count k j q e ends h done joined =
     let offered : j.offered ≡ lesser k.offered q.offered = ap (λ (x : BoundsPart). x.offered) joined in
     let raised : j.raised ≡ greater_of k.raised q.raised = ap (λ (x : BoundsPart). x.raised) joined in
     let upper : j.saw_upper ≡ lesser k.saw_upper q.saw_upper = ap (λ (x : BoundsPart). x.saw_upper) joined in
     let lower : j.saw_lower ≡ greater_of k.saw_lower q.saw_lower = ap (λ (x : BoundsPart). x.saw_lower) joined in
     record {
-      kinds = ap₂ (λ (x : WorkerKind) (xs : List WorkerKind). x ∷ xs) (ap (λ (x : Ending). x.kind) all ∙ kind_is) h.kinds;
-      offered = offered ∙ ap₂ lesser h.offered honest.offered ∙ best_lesser m e.best (best_of m ends);
-      raised = λ start. ap (λ (o : Option Bound). raised_above o start) raised ∙ raised_both k.raised q.raised start ∙ ap₂ raised_above honest.raised (h.raised start);
+      kinds = ap₂ (λ (x : WorkerKind) (xs : List WorkerKind). x ∷ xs) done.kind h.kinds;
+      offered = offered ∙ ap₂ lesser h.offered done.honest.offered ∙ best_lesser m e.best (best_of m ends);
+      raised = λ start. ap (λ (o : Option Bound). raised_above o start) raised ∙ raised_both k.raised q.raised start ∙ ap₂ raised_above done.honest.raised (h.raised start);
       each = All-cons (EndedSeen m gap conflicts j) e ends (record {
         part = q;
-        ended = honest;
-        sums = subst (λ (x : Ending). HasSums x.kind m x.defs) (sym all) done.sums;
-        goes = subst (GoesByModel m gap conflicts) (sym all) done.goes;
+        ended = done.honest;
+        sums = done.sums;
+        goes = done.goes;
         above = subst (λ (b : Bound). BoundLe b q.saw_upper) (sym upper) (lesser-second k.saw_upper q.saw_upper);
         below = λ b l. no_lower_second k.saw_lower q.saw_lower b (subst (λ (o : Option Bound). IsNoLower o b) lower l);
       })
@@ -214,48 +227,39 @@ one_gathered m gap conflicts first count k j q s e ends h kind_is done phase is 
 
 -- ---- a worker that was seated and then searched is back
 
-pub is_ready : (m : CpModel) (gap conflicts : ℕ) (board : Board) (bounds : Bounds) (number : ℕ) (c : Seated) → words.model_of bounds ≡ m → IsSeated m gap conflicts board bounds number c → IsWorkerReady m c
-is_ready m gap conflicts board bounds number c model h =
-    let b = has_begun m gap conflicts (known_of c.worker) h.begins in
-    record {
-      of_model = b.model;
-      running = b.running;
-      memory = b.refused;
-      model = ap words.model_of h.bounds_is ∙ model ∙ sym b.model;
-      imported = (let none = b.imported in omega (arith, none));
-    }
-
-pub has_returned : (m : CpModel) (gap conflicts : ℕ) (board : Board) (bounds : Bounds) (number : ℕ) (a b : Seated) → IsSeated m gap conflicts board bounds number a → Worked a b → HasReturned m gap conflicts board bounds number b
+pub has_returned : (m : CpModel) (gap conflicts : ℕ) (board : Board) (bounds : Bounds) (number : ℕ) (a b : Seated) → IsSeated board bounds number a → Worked m gap conflicts a b → HasReturned m gap conflicts board bounds number b
 has_returned m gap conflicts board bounds number a b h w = record {
-  kind = w.kind ∙ h.kind;
   board_is = w.seats.board ∙ h.board_is;
   bounds_is = w.seats.bounds ∙ h.bounds_is;
-  done = λ fine. done_from m gap conflicts (boards.rows_of a.port.board.now) (known_of a.worker) (known_of b.worker) (part_at a) (part_at b) h.begins h.offered h.raised (w.ended fine);
+  done = IfSome_then b.ended w.ended (λ e s.
+      let rows = boards.rows_of a.port.board.now in
+      let done = done_from m gap conflicts rows s.first s.last (part_at a) (part_at b) s.begins h.offered h.raised s.ended in
+      honest_end m gap conflicts (words_part b) number s.last e (s.kind ∙ ap worker_kind h.number_is) done s.over s.is);
 }
 
-pub all_ready : (m : CpModel) (gap conflicts : ℕ) (board : Board) (bounds : Bounds) (crew : List Seated) → words.model_of bounds ≡ m → IsCrew m gap conflicts board bounds crew → All (IsWorkerReady m) crew
-all_ready m gap conflicts board bounds crew model h i d l = is_ready m gap conflicts board bounds i _ model (h.each i d l)
+pub all_ready : (m pool : CpModel) (o : Options) (board : Board) (bounds : Bounds) (crew : List Seated) → words.model_of bounds ≡ m → pool ≡ m → AreInRange o → AreAllPropagated m → IsCrew board bounds crew → All (MayWork m o pool) crew
+all_ready m pool o board bounds crew model found range kinds h i d l = let s = h.each i d l in record { range = range; kinds = kinds; found = found; words = ap words.model_of s.bounds_is ∙ model }
 
-pub all_back : (m : CpModel) (gap conflicts : ℕ) (board : Board) (bounds : Bounds) (crew after : List Seated) → length after ≡ length crew → IsCrew m gap conflicts board bounds crew
-    → ((i : ℕ) (d : Seated) → i < length crew → Worked (slice_index_or crew i d) (slice_index_or after i d)) → HaveReturned m gap conflicts board bounds after
+pub all_back : (m : CpModel) (gap conflicts : ℕ) (board : Board) (bounds : Bounds) (crew after : List Seated) → length after ≡ length crew → IsCrew board bounds crew
+    → ((i : ℕ) (d : Seated) → i < length crew → Worked m gap conflicts (slice_index_or crew i d) (slice_index_or after i d)) → HaveReturned m gap conflicts board bounds after
 all_back m gap conflicts board bounds crew after len h w = record { each = λ i d l. let k : i < length crew = omega (arith, l, len) in has_returned m gap conflicts board bounds i _ _ (h.each i d k) (w i d k) }
 
 -- the workers that were written over the crew after they searched
 pub written_back : (m : CpModel) (gap conflicts : ℕ) (board board' : Board) (bounds bounds' : Bounds) (n : ℕ) (crew before after : List Seated) → n ≡ length crew → before ≡ crew → length after ≡ length before → board ≡ board' → bounds ≡ bounds'
-    → IsCrew m gap conflicts board' bounds' crew → ((i : ℕ) (d : Seated) → i < length before → Worked (slice_index_or before i d) (slice_index_or after i d))
+    → IsCrew board' bounds' crew → ((i : ℕ) (d : Seated) → i < length before → Worked m gap conflicts (slice_index_or before i d) (slice_index_or after i d))
     → HaveReturned m gap conflicts board bounds (take n (after ++ drop (length after) crew))
 written_back m gap conflicts board board' bounds bounds' n crew before after full same len at_board at_bounds h w =
     let long : length after ≡ length crew = len ∙ ap (λ (l : List Seated). length l) same in
-    let there = subst (λ (b : Bounds). IsCrew m gap conflicts board b crew) (sym at_bounds) (subst (λ (b : Board). IsCrew m gap conflicts b bounds' crew) (sym at_board) h) in
-    let seated = subst (λ (l : List Seated). IsCrew m gap conflicts board bounds l) (sym same) there in
-    subst (λ (l : List Seated). HaveReturned m gap conflicts board bounds l) (sym (written n crew after full long)) (all_back m gap conflicts board bounds before after len seated w)
+    let there = subst (λ (b : Bounds). IsCrew board b crew) (sym at_bounds) (subst (λ (b : Board). IsCrew b bounds' crew) (sym at_board) h) in
+    let seated = subst (IsCrew board bounds) (sym same) there in
+    subst (HaveReturned m gap conflicts board bounds) (sym (written n crew after full long)) (all_back m gap conflicts board bounds before after len seated w)
 
 pub all_at : (m : CpModel) (gap conflicts : ℕ) (board : Board) (bounds : Bounds) (crew : List Seated) → HaveReturned m gap conflicts board bounds crew → All (IsBackAt board bounds) crew
-all_at m gap conflicts board bounds crew h i d l =
-    let back = h.each i d l in (back.board_is, back.bounds_is, λ r. subst (λ (p : Phase). IsOver p) (sym (back.done r).over) tt)
+all_at m gap conflicts board bounds crew h i d l = let back = h.each i d l in (back.board_is, back.bounds_is)
 
-pub splits_back : (crew after : List Seated) → length after ≡ length crew → ((i : ℕ) (d : Seated) → i < length crew → Worked (slice_index_or crew i d) (slice_index_or after i d)) → total words_splits after ≡ total words_splits crew
-splits_back crew after len w = total_same words_splits crew after len (λ i d l. (w i d l).seats.bounds_splits)
+pub splits_back : (m : CpModel) (gap conflicts : ℕ) (crew after : List Seated) → length after ≡ length crew → ((i : ℕ) (d : Seated) → i < length crew → Worked m gap conflicts (slice_index_or crew i d) (slice_index_or after i d))
+    → total words_splits after ≡ total words_splits crew
+splits_back m gap conflicts crew after len w = total_same words_splits crew after len (λ i d l. (w i d l).seats.bounds_splits)
 
 -- ---- the words that are left
 

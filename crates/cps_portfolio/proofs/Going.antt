@@ -160,6 +160,25 @@ still_runs rows (by_cores g s) (by_cores h t) p q turn = (let last = turn.1 in s
 still_runs rows (in_rounds m) (in_rounds n) p q turn = subst (λ (o : Option End). EndsAs o n.search) (none_of (end_of turn.turn) turn.last) turn.takes.ends
 still_runs rows s t p q turn = absurd turn
 
+pub ends_over : (rows : ℕ) (s t : AnySearch) (p q : Part) → HasTurned rows s t p q true → IsOver (search_in t).phase
+ends_over rows (by_guidance k g s) (by_guidance l h t) p q turn =
+    let last = turn.2 in
+    let e = some_of (end_of last.turn) last.last in
+    subst (λ (x : Phase). IsOver x) (sym (subst (λ (o : Option End). EndsAs o t) e.1 last.takes.search.ends)) tt
+ends_over rows (by_cores g s) (by_cores h t) p q turn =
+    let last = turn.1 in
+    let e = some_of (end_of last.turn) last.last in
+    subst (λ (x : Phase). IsOver x) (sym (subst (λ (o : Option End). EndsAs o (search_in (by_cores h t))) e.1 last.takes.search.ends)) tt
+ends_over rows (in_rounds m) (in_rounds n) p q turn =
+    let e = some_of (end_of turn.turn) turn.last in
+    subst (λ (x : Phase). IsOver x) (sym (subst (λ (o : Option End). EndsAs o n.search) e.1 turn.takes.ends)) tt
+ends_over rows (by_guidance k g s) (by_cores h t) p q turn = absurd turn
+ends_over rows (by_guidance k g s) (in_rounds t) p q turn = absurd turn
+ends_over rows (by_cores g s) (by_guidance l h t) p q turn = absurd turn
+ends_over rows (by_cores g s) (in_rounds t) p q turn = absurd turn
+ends_over rows (in_rounds m) (by_guidance l h t) p q turn = absurd turn
+ends_over rows (in_rounds m) (by_cores h t) p q turn = absurd turn
+
 -- ---- why turns come to an end
 
 -- what a worker has left to do

@@ -1,5 +1,5 @@
--- Workers at their ports, before they search and after it, and what their ports knew together.
-use Rattle.std.specs.Prelude.{◌≡◌, ℕ, ◌<◌, ◌≤◌, false, length, List, All, slice_index_or, map, None}
+-- Seats at the shared tables, before workers search there and after it, and what the seats knew together.
+use Rattle.std.specs.Prelude.{◌≡◌, ℕ, ◌<◌, IfSome, length, List, All, slice_index_or, map, None}
 use Rattle.std.specs.List.{range_with_len}
 use Rattle.cps_model.specs.declared.bound.Bound.{Bound}
 use Rattle.cps_model.specs.declared.bound.Bound.TheVariants.{Infinite}
@@ -13,12 +13,17 @@ use Rattle.cps_port.specs.declared.part.Part.{Part}
 use Rattle.cps_port.specs.Order.{BoundLe, IsNoLower, raised_above}
 use Rattle.cps_search.specs.declared.end.End.{End}
 use Rattle.cps_search.specs.declared.end.Phase.TheVariants.{Over}
-use Rattle.cps_search.specs.Ends.{Ending, IsOver, IsHonestEnding}
+use Rattle.cps_search.specs.Ends.{Ending, IsHonestEnding}
+use Rattle.cps_options.specs.declared.options.Options.{Options}
+use Rattle.cps_options.specs.Ranges.{AreInRange}
+use Rattle.cps_kinds.specs.Kinds.{AreAllPropagated}
 use Rattle.cps_search.specs.Following.{best_bound}
 use Rattle.cps_portfolio.specs.declared.seats.Seated.{Seated}
 use Rattle.cps_portfolio.specs.Ports.{part_of, SeatsStay}
-use Rattle.cps_portfolio.specs.Workers.{AnySearch, search_in, kind_in, ending_in, known_of, worker_search, kind_of, worker_kind, BeginsAs, HasEnded}
+use Rattle.cps_portfolio.specs.Workers.{AnySearch, search_in, kind_in, ending_in, worker_kind, BeginsAs, HasEnded}
 use Rattle.cps_portfolio.specs.Outcomes.{GoesByModel, HasSums, best_of, greatest_raised}
+
+-- ---- seats
 
 abbrev pub part_at : Seated → Part
 part_at c = part_of c.port.board_seat c.port.bounds_seat
@@ -29,41 +34,49 @@ words_part c = words.part_of c.port.bounds_seat
 abbrev pub words_splits : Seated → ℕ
 words_splits c = words.splits_of c.port.bounds_seat
 
--- a worker has its seats at these tables, and has ended unless it ran out of memory
-abbrev pub IsBackAt : Board → Bounds → Seated → Type 0
-IsBackAt board bounds c = (c.port.board.now ≡ board) × (c.port.bounds.now ≡ bounds)
-    × (c.refused ≡ false → IsOver (worker_search c.worker).phase)
-
--- a worker of a model that may begin
-pub record IsWorkerReady (m : CpModel) (c : Seated) : Type 0 where
-  pub of_model : (worker_search c.worker).instance.model ≡ m
-  pub running : IsOver (worker_search c.worker).phase → ⊥
-  pub memory : (worker_search c.worker).refused ≡ false
-  pub model : words.model_of c.port.bounds.now ≡ (worker_search c.worker).instance.model
-  pub imported : (worker_search c.worker).imported ≤ length (boards.part_of c.port.board_seat).taken
-
--- a worker took its turns up to its end, or ran out of memory
-pub record Worked (a b : Seated) : Type 0 where
-  pub seats : SeatsStay a.port.board.now b.port.board.now a.port.bounds.now b.port.bounds.now
-      a.port.board_seat b.port.board_seat a.port.bounds_seat b.port.bounds_seat
-  pub kind : kind_of b.worker ≡ kind_of a.worker
-  pub ended : b.refused ≡ false
-      → HasEnded (boards.rows_of a.port.board.now) (known_of a.worker) (known_of b.worker) (part_at a) (part_at b)
-
--- the worker of this number, which knows nothing yet, with seats of the two tables that have offered and raised nothing
-pub record IsSeated (m : CpModel) (gap conflicts : ℕ) (board : Board) (bounds : Bounds) (number : ℕ)
-    (c : Seated) : Type 0 where
-  pub begins : BeginsAs m gap conflicts (known_of c.worker)
-  pub kind : kind_of c.worker ≡ worker_kind number
+-- seats of this number at the two tables, that have offered and raised nothing
+pub record IsSeated (board : Board) (bounds : Bounds) (number : ℕ) (c : Seated) : Type 0 where
+  pub number_is : c.number ≡ number
   pub board_is : c.port.board.now ≡ board
   pub bounds_is : c.port.bounds.now ≡ bounds
   pub offered : (words_part c).offered ≡ Infinite
   pub raised : (words_part c).raised ≡ None
 
--- so many workers, by number
-pub record IsCrew (m : CpModel) (gap conflicts : ℕ) (board : Board) (bounds : Bounds) (crew : List Seated)
-    : Type 0 where
-  pub each : (i : ℕ) (d : Seated) → i < length crew → IsSeated m gap conflicts board bounds i (slice_index_or crew i d)
+-- seats of so many workers, by number
+pub record IsCrew (board : Board) (bounds : Bounds) (crew : List Seated) : Type 0 where
+  pub each : (i : ℕ) (d : Seated) → i < length crew → IsSeated board bounds i (slice_index_or crew i d)
+
+-- seats at these tables
+abbrev pub IsBackAt : Board → Bounds → Seated → Type 0
+IsBackAt board bounds c = (c.port.board.now ≡ board) × (c.port.bounds.now ≡ bounds)
+
+-- ---- workers that search
+
+-- seats at which a worker of the model may be made, with a pool of the same model
+pub record MayWork (m : CpModel) (o : Options) (pool : CpModel) (c : Seated) : Type 0 where
+  pub range : AreInRange o
+  pub kinds : AreAllPropagated m
+  pub found : pool ≡ m
+  pub words : words.model_of c.port.bounds.now ≡ m
+
+-- the worker of this number, which knew nothing at first, took its turns up to its end
+pub record HasSearched (m : CpModel) (gap conflicts number rows : ℕ) (p q : Part) (e : Ending) : Type 0 where
+  pub first : AnySearch
+  pub last : AnySearch
+  pub begins : BeginsAs m gap conflicts first
+  pub kind : kind_in last ≡ worker_kind number
+  pub ended : HasEnded rows first last p q
+  pub over : (search_in last).phase ≡ Over e.end
+  pub is : e ≡ ending_in last e.end
+
+-- the worker of these seats took its turns up to its end, or ran out of memory
+pub record Worked (m : CpModel) (gap conflicts : ℕ) (a b : Seated) : Type 0 where
+  pub seats : SeatsStay a.port.board.now b.port.board.now a.port.bounds.now b.port.bounds.now
+      a.port.board_seat b.port.board_seat a.port.bounds_seat b.port.bounds_seat
+  pub ended : IfSome b.ended (HasSearched m gap conflicts a.number (boards.rows_of a.port.board.now)
+      (part_at a) (part_at b))
+
+-- ---- workers that have ended
 
 -- a worker that ended honestly, by its guidance, its cores or its rounds
 pub record IsHonestlyDone (m : CpModel) (gap conflicts : ℕ) (q : BoundsPart) (s : AnySearch) : Type 0 where
@@ -73,13 +86,19 @@ pub record IsHonestlyDone (m : CpModel) (gap conflicts : ℕ) (q : BoundsPart) (
   pub sums : HasSums (kind_in s) m (search_in s).instance.defs
   pub goes : GoesByModel m gap conflicts (ending_in s end)
 
+-- the worker of this number as it is seen after it ended honestly
+pub record IsHonestEnd (m : CpModel) (gap conflicts : ℕ) (q : BoundsPart) (number : ℕ) (e : Ending) : Type 0 where
+  pub kind : e.kind ≡ worker_kind number
+  pub honest : IsHonestEnding m gap conflicts q e
+  pub sums : HasSums e.kind m e.defs
+  pub goes : GoesByModel m gap conflicts e
+
 -- the worker of this number has ended honestly, or ran out of memory
 pub record HasReturned (m : CpModel) (gap conflicts : ℕ) (board : Board) (bounds : Bounds) (number : ℕ)
     (c : Seated) : Type 0 where
-  pub kind : kind_of c.worker ≡ worker_kind number
   pub board_is : c.port.board.now ≡ board
   pub bounds_is : c.port.bounds.now ≡ bounds
-  pub done : c.refused ≡ false → IsHonestlyDone m gap conflicts (words_part c) (known_of c.worker)
+  pub done : IfSome c.ended (IsHonestEnd m gap conflicts (words_part c) number)
 
 pub record HaveReturned (m : CpModel) (gap conflicts : ℕ) (board : Board) (bounds : Bounds) (crew : List Seated)
     : Type 0 where

@@ -59,12 +59,6 @@ known_of (Activity w) = by_guidance kinds.Activity (Hinted w.1.hints) w.0
 known_of (Core w) = by_cores (Hinted w.1.hints) w.0
 known_of (NearSolutions w) = in_rounds w.worker
 
-abbrev pub worker_search : AnyWorker → Search
-worker_search w = search_in (known_of w)
-
-abbrev pub kind_of : AnyWorker → WorkerKind
-kind_of w = kind_in (known_of w)
-
 -- The kind of a worker by its number: after the first, three kinds in turn.
 abbrev pub worker_kind : ℕ → WorkerKind
 worker_kind number = if number == 0 then kinds.Fixed else

@@ -3,7 +3,7 @@
 //! Each turn's worker is drawn from a generator with a fixed stream of the seed, so that a run can be repeated: a turn
 //! depends on the state alone, and no clock or thread has a part in it. One `PlainPort` serves all workers, and its
 //! actor is set before each turn. Workers keep their places in the list when they end, so that a worker's number stays
-//! its place.
+//! its place. What is proved of the turns rests on what a crew asks of each worker (`Member`).
 ghost use Rattle.std.specs.Prelude.{◌≡◌, ℕ, ◌<◌, ◌≤◌, length, vec_len, All, IfOk, OnOk, map, false, None, slice_index_or};
 ghost use Rattle.rand_pcg.specs.Lcg.{Lcg};
 ghost use Rattle.cps_options.specs.Ranges.{AreInRange};
@@ -13,13 +13,14 @@ ghost use Rattle.cps_port.specs.Others.{ActsAlone};
 ghost use Rattle.cps_port.specs.Sound.{IsSoundShared};
 ghost use Rattle.cps_kinds.specs.Kinds.{AreAllPropagated};
 ghost use Rattle.cps_search.specs.Ends.{IsOver};
-ghost use Rattle.cps_portfolio.specs.Workers.{known_of, worker_search, kind_of, HasTurned};
+ghost use Rattle.cps_portfolio.specs.Workers.{search_in, kind_in, HasTurned};
 ghost use Rattle.cps_portfolio.specs.Outcomes.{IsGoodOutcome};
-ghost use Rattle.cps_portfolio.specs.Turning.{AreTurning, AreFresh, count_at_work, ended_of, place_at_work, words_of_seed, TakesDrawnTurns, IsDrawnRun};
+ghost use Rattle.cps_portfolio.specs.Turning.{AreTurning, AreFresh, count_at_work, ended_of, place_at_work, words_of_seed, TakesDrawnTurns, IsDrawnBy, IsDrawnRun};
 ghost use Rattle.cps_portfolio.specs.declared.interleaved.Turning.{Turning as TurningOf};
 
 use crate::conclusion::outcome_of;
 use crate::ended::AnyEnded;
+use crate::member::{Member, Recruit};
 use crate::outcome::{Outcome, Reached};
 use crate::worker::{AnyWorker, reads_pool};
 use cps_model::Bound;
@@ -33,28 +34,28 @@ use std::alloc::{AllocError, Global};
 
 /// A worker, and whether it has ended.
 #[derive(Drop)]
-pub struct Turning<'a> {
+pub struct Turning<W> {
     /// The worker.
-    pub worker: AnyWorker<'a>,
+    pub worker: W,
     /// Whether it has ended.
     pub over: bool,
 }
 
 /// All workers, before their first turns.
-fn crew_of<'a>(
+fn crew_of<'a, W: Recruit<'a>>(
     alloc: Global,
     model: &'a ValidModel,
     options: &Options,
-) -> Result<Vec<Turning<'a>>, AllocError>
+) -> Result<Vec<Turning<W>>, AllocError>
     requires range { AreInRange options.now }
     requires kinds { AreAllPropagated model.now }
     ensures count { IfOk result (λ crew. vec_len crew ≡ options.now.workers) }
     ensures each { IfOk result (λ crew.
-        AreFresh model.entry.now options.now.gap options.now.conflicts options.now.seed crew.items) }
+        AreFresh W.known model.entry.now options.now.gap options.now.conflicts options.now.seed crew.items) }
 {
     let mut crew = Vec::new(alloc);
     for number in 0..options.workers {
-        let worker = AnyWorker::of(alloc, model, options, number)?;
+        let worker = W::of(alloc, model, options, number)?;
         crew.push(Turning {
             worker,
             over: false,
@@ -64,7 +65,7 @@ fn crew_of<'a>(
 }
 
 /// How many workers have not ended.
-fn count_at_work(crew: &[Turning<'_>]) -> usize
+fn count_at_work<W>(crew: &[Turning<W>]) -> usize
     ensures count { result ≡ count_at_work crew.now }
 {
     let mut count = 0;
@@ -77,11 +78,11 @@ fn count_at_work(crew: &[Turning<'_>]) -> usize
 }
 
 /// The place of the worker of this rank among those that have not ended.
-fn place_of(crew: &[Turning<'_>], rank: usize) -> usize
+fn place_of<W>(crew: &[Turning<W>], rank: usize) -> usize
     requires { rank < count_at_work crew.now }
     ensures place { result ≡ place_at_work crew.now rank }
     ensures within { result < length crew.now }
-    ensures at_work { (d : TurningOf) → (slice_index_or crew.now result d).over ≡ false }
+    ensures at_work { (d : TurningOf W) → (slice_index_or crew.now result d).over ≡ false }
 {
     let mut left = rank;
     for (place, turning) in crew.iter().enumerate() {
@@ -97,27 +98,27 @@ fn place_of(crew: &[Turning<'_>], rank: usize) -> usize
 }
 
 /// Lets an actor's worker take one turn. Answers whether it was the worker's last.
-fn take_turn(
+fn take_turn<W: Member>(
     port: &mut PlainPort<'_, '_>,
-    worker: &mut AnyWorker<'_>,
+    worker: &mut W,
     pool: &mut PlainPool<'_>,
     actor: u32,
 ) -> Result<bool, AllocError>
     requires actor { actor < actor_count port.old.core.now }
     requires idle { (board_part port.old.core.now.board actor).drawn ≡ None }
-    requires memory { (worker_search worker.old).refused ≡ false }
-    requires running { IsOver (worker_search worker.old).phase → ⊥ }
-    requires model { port.old.core.now.model ≡ (worker_search worker.old).instance.model }
-    requires pool { pool.old.model ≡ (worker_search worker.old).instance.model }
-    requires imported { (worker_search worker.old).imported ≤ length (part_at port.old.core.now actor).board.taken }
+    requires memory { (search_in (W.known worker.old)).refused ≡ false }
+    requires running { IsOver (search_in (W.known worker.old)).phase → ⊥ }
+    requires model { port.old.core.now.model ≡ (search_in (W.known worker.old)).instance.model }
+    requires pool { pool.old.model ≡ (search_in (W.known worker.old)).instance.model }
+    requires imported { (search_in (W.known worker.old)).imported ≤ length (part_at port.old.core.now actor).board.taken }
     ensures same { (port.new.core.now.model ≡ port.old.core.now.model)
         × (length port.new.core.now.board.rows ≡ length port.old.core.now.board.rows) }
     ensures idle { (board_part port.new.core.now.board actor).drawn ≡ None }
     ensures alone { ActsAlone actor actor port.old.core.now port.new.core.now }
     ensures pool { pool.new.model ≡ pool.old.model }
-    ensures kind { kind_of worker.new ≡ kind_of worker.old }
-    ensures turn { IfOk result (HasTurned (length port.old.core.now.board.rows) (known_of worker.old)
-        (known_of worker.new) (part_at port.old.core.now actor) (part_at port.new.core.now actor)) }
+    ensures kind { kind_in (W.known worker.new) ≡ kind_in (W.known worker.old) }
+    ensures turn { IfOk result (HasTurned (length port.old.core.now.board.rows) (W.known worker.old)
+        (W.known worker.new) (part_at port.old.core.now actor) (part_at port.new.core.now actor)) }
 {
     port.actor = actor;
     worker.turn(port, pool)
@@ -125,26 +126,26 @@ fn take_turn(
 
 /// Lets the workers take turns until all have ended. Each turn's worker is drawn among those that have not ended. The
 /// solutions that they find go into the pool.
-fn take_turns(
+fn take_turns<W: Member>(
     port: &mut PlainPort<'_, '_>,
-    crew: &mut [Turning<'_>],
+    crew: &mut [Turning<W>],
     pool: &mut PlainPool<'_>,
     options: &Options,
 ) -> Result<(), AllocError>
     requires count { (actor_count port.old.core.now ≡ length crew.old) × (length crew.old ≤ 16) }
     requires idle { (i : ℕ) → (board_part port.old.core.now.board i).drawn ≡ None }
     requires pool { pool.old.model ≡ port.old.core.now.model }
-    requires crew { AreTurning port.old.core.now.model options.now.gap options.now.conflicts
+    requires crew { AreTurning W.known port.old.core.now.model options.now.gap options.now.conflicts
         (length port.old.core.now.board.rows) port.old.core.now crew.old }
     ensures same { OnOk result (port.new.core.now.model ≡ port.old.core.now.model) }
     ensures count { OnOk result (actor_count port.new.core.now ≡ actor_count port.old.core.now) }
     ensures len { length crew.new ≡ length crew.old }
     ensures actors { actor_count port.old.core.now ≡ length crew.new }
-    ensures crew { OnOk result (AreTurning port.old.core.now.model options.now.gap options.now.conflicts
+    ensures crew { OnOk result (AreTurning W.known port.old.core.now.model options.now.gap options.now.conflicts
         (length port.old.core.now.board.rows) port.new.core.now crew.new) }
     ensures over { OnOk result (count_at_work crew.new ≡ 0) }
     ensures drawn { OnOk result ((words : Lcg)
-        × TakesDrawnTurns (length port.old.core.now.board.rows) port.old.core.now crew.old
+        × TakesDrawnTurns W.known (length port.old.core.now.board.rows) port.old.core.now crew.old
         (words_of_seed options.now.seed) port.new.core.now crew.new words) }
 {
     let mut words = Lcg64Xsh32::new(options.seed, 0);
@@ -187,9 +188,12 @@ fn lower_of(core: &mut CoreState<'_>) -> Bound
 }
 
 /// The ends of all workers.
-fn finish_all(alloc: Global, mut crew: Vec<Turning<'_>>) -> Result<Vec<AnyEnded>, AllocError>
-    requires { All (λ c. IsOver (worker_search c.worker).phase) crew.items }
-    ensures { IfOk result (λ ends. ends.items ≡ map ended_of crew.entry.items) }
+fn finish_all<W: Member>(
+    alloc: Global,
+    mut crew: Vec<Turning<W>>,
+) -> Result<Vec<AnyEnded>, AllocError>
+    requires { All (λ c. IsOver (search_in (W.known c.worker)).phase) crew.items }
+    ensures { IfOk result (λ ends. ends.items ≡ map (ended_of W.known) crew.items) }
 {
     let mut ends = Vec::new(alloc);
     while let Some(turning) = crew.pop() {
@@ -199,21 +203,19 @@ fn finish_all(alloc: Global, mut crew: Vec<Turning<'_>>) -> Result<Vec<AnyEnded>
     Ok(ends)
 }
 
-/// Solves a model: `options.workers` workers take turns until the bounds meet, or each has spent its budget or done its
-/// rounds. Each turn's worker is drawn among those that have not ended, in rising order, by a word of
-/// `Lcg64Xsh32::new(seed, 0)` modulo their number. So the same options give the same outcome.
-pub fn solve_interleaved(
+/// Solves a model by a crew that takes turns.
+fn solve_by<'a, W: Recruit<'a>>(
     alloc: Global,
-    model: &ValidModel,
+    model: &'a ValidModel,
     options: &Options,
 ) -> Result<Outcome, AllocError>
     requires range { AreInRange options.now }
     requires kinds { AreAllPropagated model.now }
     ensures good { IfOk result (IsGoodOutcome model.now options.now) }
-    ensures drawn { IfOk result (λ o. IsDrawnRun model.now options.now most_rows o.ends) }
+    ensures drawn { IfOk result (λ o. IsDrawnBy W.known model.now options.now most_rows o.ends) }
 {
     let mut core = CoreState::new(alloc, model, options.workers, MOST_ROWS)?;
-    let mut crew = crew_of(alloc, model, options)?;
+    let mut crew = crew_of::<W>(alloc, model, options)?;
     let mut port = PlainPort {
         core: &mut core,
         actor: 0,
@@ -230,4 +232,20 @@ pub fn solve_interleaved(
     let lower = lower_of(shared);
     let ends = finish_all(alloc, crew)?;
     outcome_of(alloc, model, options, Reached { upper, lower, ends })
+}
+
+/// Solves a model: `options.workers` workers take turns until the bounds meet, or each has spent its budget or done its
+/// rounds. Each turn's worker is drawn among those that have not ended, in rising order, by a word of
+/// `Lcg64Xsh32::new(seed, 0)` modulo their number. So the same options give the same outcome.
+pub fn solve_interleaved(
+    alloc: Global,
+    model: &ValidModel,
+    options: &Options,
+) -> Result<Outcome, AllocError>
+    requires range { AreInRange options.now }
+    requires kinds { AreAllPropagated model.now }
+    ensures good { IfOk result (IsGoodOutcome model.now options.now) }
+    ensures drawn { IfOk result (λ o. IsDrawnRun model.now options.now most_rows o.ends) }
+{
+    solve_by::<AnyWorker<'_>>(alloc, model, options)
 }

@@ -10,6 +10,7 @@
 mod conclusion;
 mod ended;
 mod interleaved;
+mod member;
 mod outcome;
 mod seats;
 mod table_port;

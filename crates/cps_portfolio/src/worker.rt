@@ -12,9 +12,10 @@ ghost use Rattle.cps_search.specs.Keeps.{Keeps};
 ghost use Rattle.cps_search.specs.Ends.{IsOver, end_of};
 ghost use Rattle.cps_core_guided.specs.Reforming.{whole};
 ghost use Rattle.cps_neighbourhood.specs.Drawing.{draws_of};
-ghost use Rattle.cps_portfolio.specs.Workers.{known_of, worker_search, kind_of, worker_kind, ending_in, Begins, BeginsAs, BeginsCores, BeginsRounds, DrawsBy, HasEnded, HasTurned, IsAimed, SearchesNear, TurnedBy, TurnedByCores, TurnedNear};
+ghost use Rattle.cps_portfolio.specs.Workers.{Begins, BeginsCores, BeginsRounds, IsAimed, SearchesNear, TurnedBy, TurnedByCores, TurnedNear};
 
 use crate::ended::AnyEnded;
+use crate::member::{Member, Recruit};
 use cps_core_guided::CoreWorker;
 use cps_instance::Instance;
 use cps_kinds::{AnyPropagator, engine_of};
@@ -22,7 +23,8 @@ use cps_neighbourhood::NearWorker;
 use cps_options::Options;
 use cps_pool::Pool;
 use cps_port::Port;
-use cps_search::{ActivityBrancher, Brancher, FixedBrancher, Phase, Turn, Worker, WorkerKind};
+use cps_propagate::{Defining, Propagator};
+use cps_search::{ActivityBrancher, Brancher, FixedBrancher, Turn, Worker, WorkerKind};
 use cps_validate::ValidModel;
 use std::alloc::{AllocError, Global};
 
@@ -35,7 +37,7 @@ pub enum AnyWorker<'a> {
     /// Assumes that each part of the objective stays at its bound, and raises the lower bound by each core.
     Core(CoreWorker<'a, AnyPropagator, ActivityBrancher>),
     /// Searches near solutions that workers found.
-    Near(AimedWorker<'a>),
+    Near(AimedWorker<'a, AnyPropagator>),
 }
 
 // Written out: a drop of an enum that is derived stands in full in each function where one is dropped.
@@ -52,9 +54,9 @@ impl Drop for AnyWorker<'_> {
 
 /// A neighbourhood worker, and how much of the pool it has seen.
 #[derive(Drop)]
-pub struct AimedWorker<'a> {
+pub struct AimedWorker<'a, P: Propagator> {
     /// The worker.
-    pub worker: NearWorker<'a, AnyPropagator>,
+    pub worker: NearWorker<'a, P>,
     /// How many solutions the pool had when the worker was last handed one.
     pub handed: usize,
 }
@@ -119,7 +121,7 @@ fn near_worker<'a>(
     model: &'a ValidModel,
     options: &Options,
     number: u32,
-) -> Result<AimedWorker<'a>, AllocError>
+) -> Result<AimedWorker<'a, AnyPropagator>, AllocError>
     requires range { AreInRange options.now }
     requires kinds { AreAllPropagated model.now }
     ensures begins { IfOk result (λ near.
@@ -161,8 +163,8 @@ fn note_turn<F: Pool>(pool: &mut F, turn: &Turn, best: Option<&[i64]>) -> Result
 }
 
 /// Lets a worker take one turn. Answers whether it was the worker's last.
-fn turn_of<B: Brancher + Drop, Q: Port, F: Pool>(
-    worker: &mut Worker<'_, AnyPropagator, B>,
+fn turn_of<P: Propagator, B: Brancher + Drop, Q: Port, F: Pool>(
+    worker: &mut Worker<'_, P, B>,
     port: &mut Q,
     pool: &mut F,
 ) -> Result<bool, AllocError>
@@ -181,8 +183,8 @@ fn turn_of<B: Brancher + Drop, Q: Port, F: Pool>(
 }
 
 /// Lets a core-guided worker take a turn, and answers whether it was the last.
-fn core_turn_of<B: Brancher + Drop, Q: Port, F: Pool>(
-    worker: &mut CoreWorker<'_, AnyPropagator, B>,
+fn core_turn_of<P: Defining, B: Brancher + Drop, Q: Port, F: Pool>(
+    worker: &mut CoreWorker<'_, P, B>,
     port: &mut Q,
     pool: &mut F,
 ) -> Result<bool, AllocError>
@@ -201,7 +203,7 @@ fn core_turn_of<B: Brancher + Drop, Q: Port, F: Pool>(
 }
 
 /// Hands a neighbourhood worker the pool's last solution, unless it was handed that one before.
-fn aim<F: Pool>(near: &mut AimedWorker<'_>, pool: &F)
+fn aim<P: Propagator, F: Pool>(near: &mut AimedWorker<'_, P>, pool: &F)
     requires memory { near.old.worker.search.refused ≡ false }
     requires pool { F.model pool.now ≡ near.old.worker.search.instance.model }
     ensures { IsAimed near.old.worker near.new.worker }
@@ -216,8 +218,8 @@ fn aim<F: Pool>(near: &mut AimedWorker<'_>, pool: &F)
 }
 
 /// Aims a neighbourhood worker and lets it take one turn. Answers whether it was the worker's last.
-fn near_turn_of<Q: Port, F: Pool>(
-    near: &mut AimedWorker<'_>,
+fn near_turn_of<P: Propagator, Q: Port, F: Pool>(
+    near: &mut AimedWorker<'_, P>,
     port: &mut Q,
     pool: &mut F,
 ) -> Result<bool, AllocError>
@@ -243,22 +245,15 @@ pub fn reads_pool(workers: u32) -> bool
     workers > 3
 }
 
-impl<'a> AnyWorker<'a> {
-    /// The worker of this number, which knows nothing yet. Number 0 follows the strategies; after it number 1 goes by
-    /// activity, number 2 by cores and number 3 near solutions, and so on in turn.
-    pub fn of(
+impl<'a> Recruit<'a> for AnyWorker<'a> {
+    /// Number 0 follows the strategies; after it number 1 goes by activity, number 2 by cores and number 3 near
+    /// solutions, and so on in turn.
+    fn of(
         alloc: Global,
         model: &'a ValidModel,
         options: &Options,
         number: u32,
-    ) -> Result<AnyWorker<'a>, AllocError>
-        requires range { AreInRange options.now }
-        requires kinds { AreAllPropagated model.now }
-        ensures begins { IfOk result (λ worker. BeginsAs model.entry.now options.now.gap options.now.conflicts
-            (known_of worker)) }
-        ensures kind { IfOk result (λ worker. kind_of worker ≡ worker_kind number) }
-        ensures draws { IfOk result (λ worker. DrawsBy options.now.seed number (known_of worker)) }
-    {
+    ) -> Result<Self, AllocError> {
         let Options { conflicts, gap, .. } = *options;
         if number == 0 {
             Ok(AnyWorker::Fixed(fixed_worker(alloc, model, conflicts, gap)?))
@@ -270,41 +265,15 @@ impl<'a> AnyWorker<'a> {
             Ok(AnyWorker::Activity(activity_worker(alloc, model, conflicts, gap)?))
         }
     }
+}
 
-    /// Takes turns until one ends the worker.
-    pub fn run<Q: Port, F: Pool>(&mut self, port: &mut Q, pool: &mut F) -> Result<(), AllocError>
-        requires memory { (worker_search self.old).refused ≡ false }
-        requires running { IsOver (worker_search self.old).phase → ⊥ }
-        requires model { Q.model port.old ≡ (worker_search self.old).instance.model }
-        requires pool { F.model pool.old ≡ (worker_search self.old).instance.model }
-        requires imported { (worker_search self.old).imported ≤ length (Q.part port.old).board.taken }
-        ensures keeps { Keeps Q.model Q.rows Q.stays port.old port.new }
-        ensures kind { kind_of self.new ≡ kind_of self.old }
-        ensures runs { OnOk result (HasEnded (Q.rows port.old) (known_of self.old) (known_of self.new)
-            (Q.part port.old) (Q.part port.new)) }
-    {
-        'turns: loop {
-            let over = self.turn(port, pool)?;
-            if over {
-                return Ok(());
-            }
-        }
-    }
+impl Member for AnyWorker<'_> {
+    ghost use Rattle.cps_portfolio.specs.Workers.{known_of};
 
-    /// Takes one turn. Answers whether it was the worker's last. A solution that is found goes into the pool, and a
-    /// neighbourhood worker is handed the pool's last solution before its turn.
-    pub fn turn<Q: Port, F: Pool>(&mut self, port: &mut Q, pool: &mut F) -> Result<bool, AllocError>
-        requires memory { (worker_search self.old).refused ≡ false }
-        requires running { IsOver (worker_search self.old).phase → ⊥ }
-        requires model { Q.model port.old ≡ (worker_search self.old).instance.model }
-        requires pool { F.model pool.old ≡ (worker_search self.old).instance.model }
-        requires imported { (worker_search self.old).imported ≤ length (Q.part port.old).board.taken }
-        ensures keeps { Keeps Q.model Q.rows Q.stays port.old port.new }
-        ensures pool { F.model pool.new ≡ F.model pool.old }
-        ensures kind { kind_of self.new ≡ kind_of self.old }
-        ensures turn { IfOk result (HasTurned (Q.rows port.old) (known_of self.old) (known_of self.new)
-            (Q.part port.old) (Q.part port.new)) }
-    {
+    ghost known = { known_of };
+
+    /// A neighbourhood worker is handed the pool's last solution before its turn.
+    fn turn<Q: Port, F: Pool>(&mut self, port: &mut Q, pool: &mut F) -> Result<bool, AllocError> {
         match self {
             AnyWorker::Fixed(worker) => turn_of(worker, port, pool),
             AnyWorker::Activity(worker) => turn_of(worker, port, pool),
@@ -313,12 +282,7 @@ impl<'a> AnyWorker<'a> {
         }
     }
 
-    /// The worker as others see it after it ended.
-    pub fn finish(self) -> AnyEnded
-        requires { IsOver (worker_search self).phase }
-        ensures phase { (worker_search self.entry).phase ≡ Phase.Over result.end }
-        ensures is { result ≡ ending_in (known_of self.entry) result.end }
-    {
+    fn finish(self) -> AnyEnded {
         match self {
             AnyWorker::Fixed(worker) => AnyEnded::plain(worker.finish(WorkerKind::Fixed)),
             AnyWorker::Activity(worker) => AnyEnded::plain(worker.finish(WorkerKind::Activity)),

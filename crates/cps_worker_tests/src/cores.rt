@@ -11,6 +11,7 @@ use cps_instance::Instance;
 use cps_kinds::{AnyPropagator, engine_of};
 use cps_model::Bound;
 use cps_port::{CoreState, PlainPort, Port};
+use cps_propagate::Defining;
 use cps_search::{ActivityBrancher, Brancher, Turn};
 use cps_validate::ValidModel;
 use std::alloc::{AllocError, Global};
@@ -33,8 +34,8 @@ fn core_worker_of<'a>(
 
 /// The base of a worker's first reform, after which it runs to its end; `None` where it ends before, or does not reform
 /// in a hundred turns.
-fn reforms_and_runs<B: Brancher + Drop, Q: Port>(
-    worker: &mut CoreWorker<'_, AnyPropagator, B>,
+fn reforms_and_runs<P: Defining, B: Brancher + Drop, Q: Port>(
+    worker: &mut CoreWorker<'_, P, B>,
     port: &mut Q,
 ) -> Result<Option<i64>, AllocError>
     requires running { IsOver (whole worker.old.0).phase → ⊥ }

@@ -8,18 +8,18 @@ use crate::models::{sum, three};
 use crate::turns::{active_worker_of, name_of, ordered_worker_of};
 use cps_board::Board;
 use cps_bounds::Bounds;
-use cps_kinds::AnyPropagator;
 use cps_model::Bound;
 use cps_port::Port;
 use cps_portfolio::TablePort;
+use cps_propagate::Propagator;
 use cps_search::{Brancher, Worker};
 use cps_validate::ValidModel;
 use std::alloc::{AllocError, Global};
 use std::test::Fail;
 
 /// Takes a turn of a worker that is not over. Whether it is over then.
-fn take_turn<B: Brancher + Drop, Q: Port>(
-    worker: &mut Worker<'_, AnyPropagator, B>,
+fn take_turn<P: Propagator, B: Brancher + Drop, Q: Port>(
+    worker: &mut Worker<'_, P, B>,
     port: &mut Q,
     is_over: bool,
 ) -> Result<bool, AllocError>
@@ -40,10 +40,10 @@ fn take_turn<B: Brancher + Drop, Q: Port>(
 
 /// Lets two workers take turns, each at a port of its own, until both are over, or for a hundred turns. Whether both
 /// are over.
-fn turn_about<B: Brancher + Drop, C: Brancher + Drop, Q: Port>(
-    first: &mut Worker<'_, AnyPropagator, B>,
+fn turn_about<P: Propagator, B: Brancher + Drop, C: Brancher + Drop, Q: Port>(
+    first: &mut Worker<'_, P, B>,
     first_port: &mut Q,
-    second: &mut Worker<'_, AnyPropagator, C>,
+    second: &mut Worker<'_, P, C>,
     second_port: &mut Q,
 ) -> Result<bool, AllocError>
     requires first_runs { IsOver first.old.0.phase → ⊥ }

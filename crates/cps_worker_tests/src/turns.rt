@@ -13,6 +13,7 @@ use cps_instance::Instance;
 use cps_kinds::{AnyPropagator, engine_of};
 use cps_model::Bound;
 use cps_port::{CoreState, PlainPort, Port};
+use cps_propagate::Propagator;
 use cps_search::{ActivityBrancher, Brancher, FixedBrancher, Turn, Worker};
 use cps_validate::ValidModel;
 use std::alloc::{AllocError, Global};
@@ -68,9 +69,9 @@ pub fn name_of(turn: &Turn) -> (&'static str, bool)
 }
 
 /// The turns of a worker up to its end, or the first hundred.
-fn turns_of<B: Brancher + Drop, Q: Port>(
+fn turns_of<P: Propagator, B: Brancher + Drop, Q: Port>(
     alloc: Global,
-    worker: &mut Worker<'_, AnyPropagator, B>,
+    worker: &mut Worker<'_, P, B>,
     port: &mut Q,
 ) -> Result<String, AllocError>
     requires running { IsOver worker.old.0.phase → ⊥ }

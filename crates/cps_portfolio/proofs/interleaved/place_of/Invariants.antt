@@ -4,7 +4,7 @@ use Rattle.cps_portfolio.specs.Turning.{count_at_work, place_at_work}
 use Rattle.cps_portfolio.proofs.interleaved.place_of.Given as goal
 
 abbrev pub invariant-loop-place : goal.invariant-loop-place
-invariant-loop-place l = record {
+invariant-loop-place g l = record {
   some_left : l.left < count_at_work (drop l.place l.crew);
   same : l.place + place_at_work (drop l.place l.crew) l.left ≡ place_at_work l.crew l.rank;
 }

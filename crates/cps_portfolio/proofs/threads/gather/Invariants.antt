@@ -1,10 +1,9 @@
 -- The seats of the last workers were joined, and the ends of these are there.
-use Rattle.std.proofs.Common.{◌≡◌, ℕ, ◌+◌, length, vec_len, false, All}
+use Rattle.std.proofs.Common.{◌≡◌, ℕ, ◌+◌, length, vec_len, All}
 use Rattle.cps_model.specs.declared.model.CpModel.{CpModel}
 use Rattle.cps_port.specs.Totals.{total}
 use Rattle.cps_bounds.specs.Seats as words
 use Rattle.cps_bounds.specs.Rule.{all_splits}
-use Rattle.cps_portfolio.specs.declared.seats.Seated.{Seated}
 use Rattle.cps_portfolio.specs.Crews.{words_splits, IsBackAt, HaveReturned, AreGathered}
 use Rattle.cps_portfolio.proofs.threads.gather.Given as goal
 
@@ -15,7 +14,6 @@ invariant-loop-seated l = record {
   crew : All (IsBackAt l.initial.kept.board.now l.initial.kept.bounds.now) l.crew.items;
   returned : (m : CpModel) (gap conflicts : ℕ) → HaveReturned m gap conflicts l.initial.kept.board.now l.initial.kept.bounds.now l.initial.crew.items
       → HaveReturned m gap conflicts l.initial.kept.board.now l.initial.kept.bounds.now l.crew.items;
-  has_memory : All (λ (c : Seated). c.refused ≡ false) l.crew.items;
   count : length l.crew.items + length l.ends.items ≡ length l.initial.crew.items;
   gathered : (m : CpModel) (gap conflicts : ℕ) → HaveReturned m gap conflicts l.initial.kept.board.now l.initial.kept.bounds.now l.initial.crew.items
       → AreGathered m gap conflicts (length l.crew.items) (length l.ends.items) (words.part_of l.kept.bounds_seat) l.ends.items;

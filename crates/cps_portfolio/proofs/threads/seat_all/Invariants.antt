@@ -15,5 +15,5 @@ invariant-loop-number l = record {
   part : words.part_of l.kept.bounds_seat ≡ words.part_of l.initial.kept.bounds_seat;
   splits : words.splits_of l.kept.bounds_seat + total words_splits l.crew.items ≡ all_splits;
   count : vec_len l.crew ≡ l.number;
-  crew : IsCrew l.model l.options.gap l.options.conflicts l.initial.kept.board.now l.initial.kept.bounds.now l.crew.items;
+  crew : IsCrew l.initial.kept.board.now l.initial.kept.bounds.now l.crew.items;
 }

@@ -10,7 +10,7 @@ use Rattle.cps_port.specs.Order.{raised_above}
 use Rattle.cps_port.specs.Totals.{total}
 use Rattle.cps_bounds.specs.Seats as words
 use Rattle.cps_portfolio.specs.declared.seats.Seated.{Seated}
-use Rattle.cps_portfolio.specs.Crews.{words_splits, IsWorkerReady, AreGathered}
+use Rattle.cps_portfolio.specs.Crews.{words_splits, MayWork, AreGathered}
 use Rattle.cps_portfolio.proofs.Crews.{written, written_back, all_at, all_ready, splits_back, came_to}
 use Rattle.cps_portfolio.proofs.threads.solve.Goals as goal
 
@@ -18,19 +18,20 @@ pub work_all-requires-clause-ready : goal.work_all-requires-clause-ready
 work_all-requires-clause-ready g c =
     let m = c.args.model.now in
     let o = c.args.options.now in
-    let ready = all_ready m o.gap o.conflicts c.in_ok-board.board c.in_ok-bounds.bounds c.in_ok-crew.crew.items c.in_ok-bounds.ensures.model c.in_ok-crew.ensures.crew in
-    let here = subst (λ (l : List Seated). All (IsWorkerReady m) l) (sym c.as_mut_slice.ensures.value) ready in
-    λ κs outlive. subst (λ (x : CpModel). All (IsWorkerReady x) c.as_mut_slice.result.now) (sym c.in_ok-pool.ensures) here
+    let ready = all_ready m _ o c.in_ok-board.board c.in_ok-bounds.bounds c.in_ok-crew.crew.items c.in_ok-bounds.ensures.model c.in_ok-pool.ensures c.requires.range c.requires.kinds c.in_ok-crew.ensures.crew in
+    λ κs outlive. subst (All (MayWork m o _)) (sym c.as_mut_slice.ensures.value) ready
 
 pub gather-requires-clause-splits : goal.gather-requires-clause-splits
 gather-requires-clause-splits g c =
+    let m = c.args.model.now in
+    let o = c.args.options.now in
     let xs : List Seated = c.in_ok-crew.crew.items in
     let ys : List Seated = c.work_all.new.crew in
     let same : c.as_mut_slice.result.now ≡ xs = c.as_mut_slice.ensures.value in
     let len : length ys ≡ length xs = c.work_all.ensures.len ∙ ap (λ (l : List Seated). length l) same in
     let full : c.in_ok-crew.crew.len ≡ length xs = search rules in
     let w = written c.in_ok-crew.crew.len xs ys full len in
-    let k = splits_back c.as_mut_slice.result.now ys c.work_all.ensures.len c.work_all.ensures.each in
+    let k = splits_back m o.gap o.conflicts c.as_mut_slice.result.now ys c.work_all.ensures.len c.work_all.ensures.each in
     ap (λ (l : List Seated). words.splits_of c.seat_all.new.kept.bounds_seat + total words_splits l) w ∙ ap (λ (n : ℕ). words.splits_of c.seat_all.new.kept.bounds_seat + n) (k ∙ ap (total words_splits) same) ∙ c.in_ok-crew.ensures.splits
 
 pub gather-requires-clause-crew : goal.gather-requires-clause-crew

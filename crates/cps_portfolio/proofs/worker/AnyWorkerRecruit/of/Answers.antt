@@ -3,7 +3,7 @@ use Rattle.std.specs.Prelude.{if◌then◌else◌}
 use Rattle.std.proofs.Common.{◌≡◌, Bool, true, false, refl}
 use Rattle.std.proofs.lemmas.Bool.{ne_eqb}
 use Rattle.cps_search.specs.declared.end.WorkerKind.TheVariants as kinds
-use Rattle.cps_portfolio.proofs.worker.AnyWorker.of.Goals as goal
+use Rattle.cps_portfolio.proofs.worker.AnyWorkerRecruit.of.Goals as goal
 
 none_of_three : (a b c : Bool) → a ≡ false → b ≡ false → c ≡ false
     → kinds.Activity ≡ (if a then kinds.Fixed else (if b then kinds.Near else (if c then kinds.CoreGuided else kinds.Activity)))
