@@ -96,7 +96,7 @@ impl ActivityBrancher {
         let count = instance.variable_count();
         // The variables are the first subjects, of which there are at most 2^31.
         prove!(count <= instance.domains().len());
-        ActivityBrancher::over(alloc, count, &instance.model().model().hint)
+        ActivityBrancher::over(alloc, count, instance.hint())
     }
 
     /// A brancher over `count` variables, with a hint.

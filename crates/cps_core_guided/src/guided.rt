@@ -285,7 +285,7 @@ impl<'a, P: Defining, B: Brancher + Drop> Guided<'a, P, B> {
         match self.frame.z() {
             Bound::At(_) => Ok(Refs::new(self.alloc)),
             Bound::Infinite => {
-                let assumptions = self.frame.instance().model().model().assumptions.as_slice();
+                let assumptions = self.frame.instance().assumptions();
                 Ok(Refs::from_vec(assumptions.to_vec(self.alloc)?))
             }
         }

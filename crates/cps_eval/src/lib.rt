@@ -27,7 +27,7 @@ mod values;
 mod violation;
 
 pub use circuits::is_circuit;
-pub use objectives::{display_value, objective};
+pub use objectives::{display_value, objective, objective_sum};
 pub use solution::satisfies;
 pub use start::objective_start;
 pub use violation::first_violated;

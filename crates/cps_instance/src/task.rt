@@ -1,8 +1,8 @@
 //! What is to hold of the values of subjects.
 //!
 //! Values are given by the numbers of subjects, literals as atoms, and an interval by the span of its start, end and
-//! size, so that a propagator is made from a task and asks no model. Each type has a written drop: a derived one would
-//! stand once more in every crate that may drop it.
+//! size, so that a propagator is made from a task and asks no model. `Body` and `Task` have a written drop: a derived one
+//! would stand once more in every crate that may drop it.
 
 use crate::term::Term;
 use cps_literal::Atom;

@@ -47,14 +47,14 @@ fn one_clause(alloc: Global) -> Result<Listed<Constraint>, AllocError> {
 }
 
 /// How many of each an instance has, whether its first task is the clause, and whether it is of a model without
-/// constraints.
+/// assumptions.
 #[derive(Clone, Copy)]
 struct Sizes {
     variables: usize,
     subjects: usize,
     tasks: usize,
     has_clause: bool,
-    is_unconstrained: bool,
+    is_unassumed: bool,
 }
 
 fn sizes_of(instance: &Instance) -> Sizes {
@@ -63,7 +63,7 @@ fn sizes_of(instance: &Instance) -> Sizes {
         subjects: instance.domains().len(),
         tasks: instance.tasks().len(),
         has_clause: begins_with_the_clause(instance),
-        is_unconstrained: instance.model().model().constraints.is_empty(),
+        is_unassumed: instance.assumptions().is_empty(),
     }
 }
 
@@ -98,7 +98,7 @@ fn posted_empty(alloc: Global) -> Option<(Sizes, Option<u32>, Sizes)> {
 fn instance_of_an_empty_model(rt: HostRuntime) -> Result<(), Fail> {
     let (first, subject, then) = posted_empty(rt.alloc()).ok_or("no instance")?;
     assert_eq!(rt; first.variables, 0);
-    assert!(rt; first.is_unconstrained);
+    assert!(rt; first.is_unassumed);
     assert_eq!(rt; first.tasks, 2);
     assert_eq!(rt; subject, Some(0));
     assert_eq!(rt; then.subjects, 1);

@@ -74,7 +74,7 @@ pub fn objective_terms(alloc: Global, instance: &Instance<'_>) -> Result<Vec<Ter
 {
     // Reading the domains gives the proof the instance's invariant.
     let _ = instance.domains();
-    terms_of_objective(alloc, &instance.model().model().objective)
+    terms_of_objective(alloc, instance.objective())
 }
 
 /// The greater of a coefficient times the one end of a domain and times the other.

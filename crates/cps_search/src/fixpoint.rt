@@ -35,10 +35,7 @@ impl<'a, P: Propagator> Searcher<'a, P> {
         ensures some { IfSome result (IsAssumedNext self.now.instance.model.assumptions self.now.store) }
         ensures none { IsNone result → NoneIsOpen self.now.instance.model.assumptions self.now.store }
     {
-        first_open(
-            self.instance.model().model().assumptions.as_slice(),
-            &self.store,
-        )
+        first_open(self.instance.assumptions(), &self.store)
     }
 
     /// The number of the first assumption that is false.
@@ -47,10 +44,7 @@ impl<'a, P: Propagator> Searcher<'a, P> {
         ensures some { IfSome result (IsFailedAssumption self.now.instance.model.assumptions self.now.store) }
         ensures none { IsNone result → NoneFails self.now.instance.model.assumptions self.now.store }
     {
-        first_failed(
-            self.instance.model().model().assumptions.as_slice(),
-            &self.store,
-        )
+        first_failed(self.instance.assumptions(), &self.store)
     }
 
     /// The core of an assumption that is false, where no incumbent is known; else none.
@@ -63,7 +57,7 @@ impl<'a, P: Propagator> Searcher<'a, P> {
     {
         // Reading the entries gives the proof the store's invariant.
         let _ = self.store.entries();
-        let assumptions = self.instance.model().model().assumptions.as_slice();
+        let assumptions = self.instance.assumptions();
         let decisions = self.decisions_behind(atom_of(assumptions[failed]))?;
         match self.z {
             Bound::At(_) => Ok(Refs::new(self.alloc)),
