@@ -1,6 +1,6 @@
 -- A walk along arcs of which no two leave one node: it comes back to its start having come by all exactly where they are a
 -- single circuit.
-use Rattle.std.specs.Prelude.{All, Contains, IsPermutation, ◌↔◌, if◌then◌else◌, MatchOption}
+use Rattle.std.specs.Prelude.{not, All, Contains, IsPermutation, ◌↔◌, if◌then◌else◌, MatchOption}
 use Rattle.std.specs.List.{list_all}
 use Rattle.std.specs.List.Sorted.{IsSortedByKey, IsSearchInRange, IsBinarySearchResult}
 use Rattle.std.specs.Result.{result_ok}
@@ -15,7 +15,7 @@ use Rattle.std.proofs.lemmas.List.Elements.{All-weaker}
 use Rattle.std.proofs.lemmas.List.Sorted.{sorted_far, ranks_by, searchable_from_sorted, Contains-permutation}
 use Rattle.cps_model.specs.declared.parts.Arc.{Arc}
 use Rattle.cps_model.specs.Values.{literal_holds}
-use Rattle.cps_model.specs.Circuits.{selected, Leads, here, along}
+use Rattle.cps_model.specs.Circuits.{selected, is_loop, moves, Leads, here, along}
 use Rattle.cps_model.proofs.Pairs.{All-from_test, test_from_All}
 use Rattle.cps_model.proofs.Permuted.{AllPairs-permuted}
 use Rattle.cps_eval.specs.Walks.{no_arc, tail_at, head_at, LeaveApart, AreRising, EnterEach, AreSingle, LeavesAt, NoneLeaves, seen_at, SeenFrom, IsNext}
@@ -36,6 +36,21 @@ selected-less a ts hs ls k done whole p q r off h =
     let rest = selected a (drop (k + 1) ts) (drop (k + 1) hs) (drop (k + 1) ls) in
     let this : selected a (drop k ts) (drop k hs) (drop k ls) ≡ rest = selected-drop a ts hs ls k p q r ∙ rw off refl in
     ap (λ (arcs : List Arc). done ++ arcs) (sym this) ∙ h
+
+-- one arc more that is no loop, or one that is
+pub moves-more : (arcs done whole : List Arc) (k : ℕ) → k < length arcs → is_loop (get_or arcs k no_arc) ≡ false → done ++ moves (drop k arcs) ≡ whole → (done ++ get_or arcs k no_arc ∷ []) ++ moves (drop (k + 1) arcs) ≡ whole
+moves-more arcs done whole k l apart h =
+    let arc = get_or arcs k no_arc in
+    let rest = moves (drop (k + 1) arcs) in
+    let this : moves (drop k arcs) ≡ arc ∷ rest = ap moves (drop_more arcs k no_arc l) ∙ ap (λ (b : Bool). if not b then arc ∷ rest else rest) apart in
+    append_assoc done (arc ∷ []) rest ∙ ap (λ (found : List Arc). done ++ found) (sym this) ∙ h
+
+pub moves-less : (arcs done whole : List Arc) (k : ℕ) → k < length arcs → is_loop (get_or arcs k no_arc) ≡ true → done ++ moves (drop k arcs) ≡ whole → done ++ moves (drop (k + 1) arcs) ≡ whole
+moves-less arcs done whole k l same h =
+    let arc = get_or arcs k no_arc in
+    let rest = moves (drop (k + 1) arcs) in
+    let this : moves (drop k arcs) ≡ rest = ap moves (drop_more arcs k no_arc l) ∙ ap (λ (b : Bool). if not b then arc ∷ rest else rest) same in
+    ap (λ (found : List Arc). done ++ found) (sym this) ∙ h
 
 -- what a sort by tail ensures of arcs of which no two leave one node
 pub apart_permuted : (xs ys : List Arc) → IsPermutation xs ys → LeaveApart xs → LeaveApart ys

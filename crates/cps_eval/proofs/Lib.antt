@@ -14,3 +14,5 @@ pub mod ActiveEvents
 pub mod Inverses
 pub mod Listing
 pub mod LevelsInOrder
+pub mod Words
+pub mod Dividing

@@ -1,5 +1,5 @@
 -- The values of expressions, those that are written out first and then plain references.
-use Rattle.std.specs.Prelude.{◌&&◌, Some, None, slice_get}
+use Rattle.std.specs.Prelude.{Some, None, slice_get}
 use Rattle.std.specs.List.{list_all}
 use Rattle.std.proofs.Common.{◌≡◌, ℕ, zero, suc, ◌+◌, ◌<◌, ◌≤◌, ℤ, pos, true, List, [], ◌∷◌, ◌++◌, map, length, get_or, refl, sym, ap, ◌∙◌, arith}
 use Rattle.std.proofs.lemmas.List.{map-append}

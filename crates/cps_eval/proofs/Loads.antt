@@ -54,12 +54,21 @@ ending u = record { time = u.end; change = neg_ℤ u.demand }
 runs_forward : (u : Use) (us : List Use) → u.start <ℤ u.end → load_changes (u ∷ us) ≡ beginning u ∷ ending u ∷ load_changes us
 runs_forward u us up = let test : int_lt u.start u.end ≡ true = grind (arith, ints) in rw test refl
 
+runs_backward : (u : Use) (us : List Use) → u.end ≤ℤ u.start → load_changes (u ∷ us) ≡ load_changes us
+runs_backward u us down = let test : int_lt u.start u.end ≡ false = grind (arith, ints) in rw test refl
+
 pub changes-more : (us : List Use) (k : ℕ) (done whole : List Event) (b e : Event) → k < length us → (get_or us k no_use).start <ℤ (get_or us k no_use).end → b ≡ beginning (get_or us k no_use) → e ≡ ending (get_or us k no_use) → done ++ load_changes (drop k us) ≡ whole → ((done ++ b ∷ []) ++ e ∷ []) ++ load_changes (drop (k + 1) us) ≡ whole
 changes-more us k done whole b e l up eb ee h =
     let u = get_or us k no_use in
     let rest = load_changes (drop (k + 1) us) in
     let step : load_changes (drop k us) ≡ b ∷ e ∷ rest = ap load_changes (drop_more us k no_use l) ∙ runs_forward u (drop (k + 1) us) up ∙ rw (eb, ee) refl in
     append_assoc (done ++ b ∷ []) (e ∷ []) rest ∙ append_assoc done (b ∷ []) (e ∷ rest) ∙ ap (λ (es : List Event). done ++ es) (sym step) ∙ h
+
+pub changes-less : (us : List Use) (k : ℕ) (done whole : List Event) → k < length us → (get_or us k no_use).end ≤ℤ (get_or us k no_use).start → done ++ load_changes (drop k us) ≡ whole → done ++ load_changes (drop (k + 1) us) ≡ whole
+changes-less us k done whole l down h =
+    let u = get_or us k no_use in
+    let step : load_changes (drop k us) ≡ load_changes (drop (k + 1) us) = ap load_changes (drop_more us k no_use l) ∙ runs_backward u (drop (k + 1) us) down in
+    ap (λ (es : List Event). done ++ es) (sym step) ∙ h
 
 pub changes-small : (us : List Use) (k : ℕ) (es : List Event) (b e : Event) → k < length us → have_small_demands us ≡ true → b ≡ beginning (get_or us k no_use) → e ≡ ending (get_or us k no_use) → have_small_changes es ≡ true → have_small_changes ((es ++ b ∷ []) ++ e ∷ []) ≡ true
 changes-small us k es b e l small eb ee h =
@@ -96,9 +105,6 @@ never_runs t u down = by_lt_z t u.start
     and_false : (b : Bool) → (b && false) ≡ false
     and_false true = refl
     and_false false = refl
-
-runs_backward : (u : Use) (us : List Use) → u.end ≤ℤ u.start → load_changes (u ∷ us) ≡ load_changes us
-runs_backward u us down = let test : int_lt u.start u.end ≡ false = grind (arith, ints) in rw test refl
 
 two_terms : (x a b r s : ℤ) → x ≡ a +ℤ b → r ≡ s → x +ℤ r ≡ a +ℤ (b +ℤ s)
 two_terms x a b r s p q = omega (arith, ints)

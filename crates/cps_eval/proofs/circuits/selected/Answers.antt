@@ -1,7 +1,9 @@
 -- One arc more, or one that is not selected.
-use Rattle.std.proofs.Common.{◌∙◌, sym, get_or, pos, arith, rules, refl, FitsSigned, w32}
+use Rattle.std.proofs.Common.{◌≡◌, ◌∙◌, ℤ, true, length, sym, subst, get_or, pos, arith, rules, refl, FitsSigned, w32}
 use Rattle.std.proofs.lemmas.Int.{to_z-of_z}
+use Rattle.cps_model.specs.Rules.{names}
 use Rattle.cps_eval.proofs.Circling.{selected-more, selected-less}
+use Rattle.cps_eval.proofs.Listing.{named_at}
 use Rattle.cps_eval.proofs.circuits.selected.Goals as goal
 
 pub loop-k-preserved-then-not-literal_holds : goal.loop-k-preserved-then-not-literal_holds
@@ -24,3 +26,10 @@ loop-k-preserved c =
     let is = simp to_z-of_z at c.literal_holds.ensures in
     let items = simp to_z-of_z at c.in_ok-push.ensures.items in
     rw items (selected-more c.args.values.now ts hs ls k _ c.loop-k.arcs.items _ (omega arith) (omega arith) (omega arith) refl (sym is ∙ c.if-not-literal_holds.false) c.loop-k.invariant)
+
+pub literal_holds-requires : goal.literal_holds-requires
+literal_holds-requires c =
+    let ls = c.args.literals.now in
+    let k = c.loop-k.k in
+    let fits : FitsSigned w32 (get_or ls k (pos 0)) = search rules in
+    subst (λ (z : ℤ). names (length c.args.values.now) z ≡ true) (sym (to_z-of_z w32 _ fits)) (named_at (length c.args.values.now) ls k c.requires.named (omega arith))

@@ -3,6 +3,8 @@ use Rattle.std.proofs.Common.{◌≡◌, ◌∙◌, sym, get_or, pos, refl, drop
 use Rattle.std.proofs.lemmas.Int.{to_z-of_z}
 use Rattle.cps_model.specs.Values.{expression_value}
 use Rattle.cps_model.specs.Scheduling.{run_at, use_of, uses}
+use Rattle.cps_model.specs.Ready.{is_ready}
+use Rattle.cps_model.proofs.Pairs.{All-from_test}
 use Rattle.cps_eval.proofs.Computing.{all_done}
 use Rattle.cps_eval.proofs.Loads.{uses-more, uses-less, small_demand-more}
 use Rattle.cps_eval.proofs.cumulative.uses.Goals as goal
@@ -40,3 +42,8 @@ loop-k-preserved-in_default c =
 
 pub returns-clause-value : goal.returns-clause-value
 returns-clause-value c = all_done (λ is. uses c.args.constraints.now c.args.values.now is (drop c.loop-k.k c.args.demands.now)) c.args.intervals.now c.loop-k.present.items _ c.loop-k.k refl (omega arith) c.loop-k.invariant.whole
+
+pub use_at-requires-clause-demand : goal.use_at-requires-clause-demand
+use_at-requires-clause-demand c =
+    let ready = is_ready c.args.values.now in
+    rw c.index-demands-k.is (All-from_test ready c.args.demands.now c.requires.demands c.loop-k.k c.index-demands-k.result (omega arith))

@@ -52,3 +52,10 @@ loop-k-preserved c =
             | else-is_last_of_time-via-else-is_last_of_time w ↦ λ last. (let other = c.is_last_of_time.ensures in let false_here = w.if-is_last_of_time.false in cc)
           ]);
     }
+
+pub after_change-level-requires-clause-change : goal.after_change-level-requires-clause-change
+after_change-level-requires-clause-change c =
+    let es = c.args.events.now in
+    let k = c.loop-k.k in
+    let fits : FitsSigned w64 (get_or es k no_event).change = search rules in
+    rw (to_z-of_z w64 _ fits) (small_change es k c.requires.small (omega arith))

@@ -1,9 +1,13 @@
--- One event more, or one that is not active.
-use Rattle.std.proofs.Common.{◌∙◌, sym, get_or, pos, arith, rules, FitsSigned, w32}
+-- One event more, or one that is not active, and none that is left.
+use Rattle.std.proofs.Common.{◌≡◌, ◌∙◌, sym, subst, true, ℤ, length, drop, get_or, pos, refl, arith, rules, FitsSigned, w32}
 use Rattle.std.proofs.lemmas.Int.{to_z-of_z}
 use Rattle.cps_model.specs.Ready.{is_ready}
+use Rattle.cps_model.specs.Reservoirs.{active_events}
+use Rattle.cps_model.specs.Rules.{names}
 use Rattle.cps_model.proofs.Pairs.{All-from_test}
 use Rattle.cps_eval.proofs.ActiveEvents.{active-more, active-less, small-more}
+use Rattle.cps_eval.proofs.Computing.{all_done}
+use Rattle.cps_eval.proofs.Listing.{named_at}
 use Rattle.cps_eval.proofs.reservoirs.active_events.Goals as goal
 
 pub loop-k-preserved-then-not-literal_holds : goal.loop-k-preserved-then-not-literal_holds
@@ -41,3 +45,13 @@ loop-k-preserved c =
       whole = active-more c.args.values.now c.args.times.now c.args.changes.now ls k t u c.event_of.result c.loop-k.found.items _ (omega arith) (omega arith) (omega arith) c.index-times-k.is c.index-changes-k.is c.event_of.ensures.value (sym is ∙ c.if-not-literal_holds.false) c.loop-k.invariant.whole;
       small = small-more c.loop-k.found.items c.event_of.result c.loop-k.invariant.small c.event_of.ensures.near;
     })
+
+pub literal_holds-requires : goal.literal_holds-requires
+literal_holds-requires c =
+    let ls = c.args.active.now in
+    let k = c.loop-k.k in
+    let fits : FitsSigned w32 (get_or ls k (pos 0)) = search rules in
+    subst (λ (z : ℤ). names (length c.args.values.now) z ≡ true) (sym (to_z-of_z w32 _ fits)) (named_at (length c.args.values.now) ls k c.requires.named (omega arith))
+
+pub returns-clause-value : goal.returns-clause-value
+returns-clause-value c = all_done (λ ts. active_events c.args.values.now ts (drop c.loop-k.k c.args.changes.now) (drop c.loop-k.k c.args.active.now)) c.args.times.now c.loop-k.found.items _ c.loop-k.k refl (omega arith) c.loop-k.invariant.whole

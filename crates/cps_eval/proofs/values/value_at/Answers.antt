@@ -9,7 +9,7 @@ use Rattle.cps_model.specs.Meaning.{values_of}
 use Rattle.cps_model.specs.Rules.{names}
 use Rattle.cps_model.specs.Ready.{is_ready}
 use Rattle.cps_validate.proofs.Passing.{all_at}
-use Rattle.cps_eval.proofs.Listing.{both_ready, named_at, value_behind, value_past}
+use Rattle.cps_eval.proofs.Listing.{both_ready, named_at, value_written, value_behind, value_past}
 use Rattle.cps_eval.proofs.values.value_at.Goals as goal
 
 pub expression_value-requires-clause-ready : goal.expression_value-requires-clause-ready
@@ -50,3 +50,13 @@ returns c =
     let place = c.args.place in
     let at : place ≡ length es + (place - length es) = omega (arith, c.if-place-written.false) in
     sym (value_past a es rs place (place - length es) at c.if-behind-references.false) ∙ ap (λ (xs : List LinearExpr). slice_get (values_of a xs) place) (sym c.parts.ensures)
+
+pub returns-then-place-written : goal.returns-then-place-written
+returns-then-place-written c =
+    let a = c.args.values.now in
+    let es = c.parts.result.0.now in
+    let rs = c.parts.result.1.now in
+    let place = c.args.place in
+    let v = c.expression_value.result in
+    let fv : FitsSigned w64 v = search rules in
+    ap (λ (z : ℤ). Some z) (to_z-of_z w64 v fv ∙ c.expression_value.ensures.value) ∙ sym (value_written a es rs place c.index-written-place.result c.if-place-written.true c.index-written-place.is) ∙ ap (λ (xs : List LinearExpr). slice_get (values_of a xs) place) (sym c.parts.ensures)

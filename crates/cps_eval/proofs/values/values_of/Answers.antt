@@ -4,7 +4,8 @@ use Rattle.std.proofs.lemmas.Int.{to_z-of_z}
 use Rattle.cps_model.specs.declared.model.LinearExpr.{LinearExpr}
 use Rattle.cps_model.specs.Values.{expression_value}
 use Rattle.cps_model.specs.Meaning.{values_of}
-use Rattle.cps_model.specs.Ready.{are_small}
+use Rattle.cps_model.specs.Ready.{are_small, is_ready}
+use Rattle.cps_validate.proofs.Passing.{all_at}
 use Rattle.cps_eval.proofs.Computing.{map_more, small_number-more, all_done}
 use Rattle.cps_eval.proofs.values.values_of.Goals as goal
 
@@ -26,3 +27,7 @@ loop-expr-preserved c =
 
 pub returns-clause-value : goal.returns-clause-value
 returns-clause-value c = all_done (values_of c.args.values.now) c.args.exprs.now c.loop-expr.numbers.items _ c.loop-expr.expr-index refl (omega arith) c.loop-expr.invariant.whole
+
+pub expression_value-requires-clause-ready : goal.expression_value-requires-clause-ready
+expression_value-requires-clause-ready c =
+    all_at (is_ready c.args.values.now) c.args.exprs.now c.loop-expr.expr-index c.expr-item.result c.requires.ready (omega arith) c.expr-item.is
