@@ -43,11 +43,14 @@ number_within old new atom n h = within new n h.stands
       | inr past ↦ (let bad : None ≡ Some atom = sym past.1 ∙ e in cc bad)
     ]
 
+-- the numbers of a table that grows stay its numbers
+pub numbers_kept : (old new : List Atom) (atom : Atom) (n : ℕ) (ns : List ℕ) → Numbers old new atom n → AreIn old ns → AreIn new ns
+numbers_kept old new atom n ns h all = let grows = table_grows old new atom n h in All-weaker (λ k. k < length old) (λ k. k < length new) (λ k l. omega (arith, l, grows)) ns all
+
 -- the numbers with one more
 pub numbers_pushed : (old new : List Atom) (atom : Atom) (n : ℕ) (ns : List ℕ) → Numbers old new atom n → AreIn old ns → AreIn new (ns ++ n ∷ [])
 numbers_pushed old new atom n ns h all =
-    let grows = table_grows old new atom n h in
-    All-push (λ k. k < length new) ns n (All-weaker (λ k. k < length old) (λ k. k < length new) (λ k l. omega (arith, l, grows)) ns all) (number_within old new atom n h)
+    All-push (λ k. k < length new) ns n (numbers_kept old new atom n ns h all) (number_within old new atom n h)
 
 -- and its atom
 pub atoms_pushed : (old new : List Atom) (atom : Atom) (n : ℕ) (ns : List ℕ) → Numbers old new atom n → AreIn old ns → map (atom_in new) (ns ++ n ∷ []) ≡ map (atom_in old) ns ++ atom ∷ []

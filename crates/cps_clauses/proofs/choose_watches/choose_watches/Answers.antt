@@ -1,11 +1,13 @@
+-- The two atoms that became false last are watched; a clause of at most one keeps its watch.
 use Rattle.std.proofs.Common.{IfOk, OnOk, ℕ, ◌<◌, ◌≤◌, List, [], length, sym, ap, subst, arith}
 use Rattle.cps_literal.specs.declared.atom.Atom.{Atom}
 use Rattle.cps_clauses.specs.Notes.{ByClause}
 use Rattle.cps_trail.specs.Adds.{Infers}
 use Rattle.cps_clauses.specs.Quiet.{Fits}
 use Rattle.cps_clauses.specs.Falls.{AreLastTwo}
-use Rattle.cps_clauses.specs.Watches.{clause_of}
+use Rattle.cps_clauses.specs.Watches.{clause_of, list_at}
 use Rattle.cps_clauses.specs.Looks.{IsLastSettled, IsShortSettled}
+use Rattle.cps_clauses.proofs.Attaching.{watching_short}
 use Rattle.cps_clauses.proofs.Choosing.{rewatched_two, rewatched_short, looked_open, looked_settled, looked_short, others_false}
 use Rattle.cps_clauses.proofs.choose_watches.choose_watches.Goals as goal
 use Rattle.cps_clauses.proofs.choose_watches.choose_watches.Goals.{After-clause-atoms, After-rewatch}
@@ -20,6 +22,11 @@ pub returns-then-len-lt2-clause-infers : goal.returns-then-len-lt2-clause-infers
 returns-then-len-lt2-clause-infers c =
     subst (λ (n : ℕ). OnOk c.settle_short.result (Infers (ByClause n (clause_of c.args.clauses.now c.args.clause)) c.args.store.now c.settle_short.new.store)) c.in-Ok.ensures.1
     (subst (λ (ts : List Atom). OnOk c.settle_short.result (Infers (ByClause c.in-Ok.number ts) c.args.store.now c.settle_short.new.store)) c.clause-atoms.ensures c.settle_short.ensures.infers)
+
+pub returns-then-len-lt2-clause-watching : goal.returns-then-len-lt2-clause-watching
+returns-then-len-lt2-clause-watching c =
+    let short : length (clause_of c.args.clauses.now c.args.clause) < 2 = omega (arith, c.len.ensures, c.if-len-lt2.true, ap (λ (ts : List Atom). length ts) c.clause-atoms.ensures) in
+    watching_short c.args.clauses.now c.args.watching.now.watches.items c.args.watching.now.attached c.max-watching.result (list_at c.args.watching.now.lists.items) c.args.clause c.requires.clause c.requires.within c.max-watching.ensures short c.requires.watching
 
 pub returns-then-len-lt2-clause-looked : goal.returns-then-len-lt2-clause-looked
 returns-then-len-lt2-clause-looked c =

@@ -1,8 +1,9 @@
+-- The table keeps the numbers that it gave, and may give one more.
 use Rattle.std.proofs.Common.{ℕ, List, [], ◌∷◌, ◌++◌, map, sym, ◌∙◌, ap, subst}
 use Rattle.cps_literal.specs.declared.atom.Atom.{Atom}
 use Rattle.cps_literal.specs.Table.{Numbers}
 use Rattle.cps_clauses.specs.AtomRanges.{atom_in}
-use Rattle.cps_clauses.proofs.Numbered.{AreIn, atoms_kept, atoms_pushed, numbers_pushed}
+use Rattle.cps_clauses.proofs.Numbered.{AreIn, atoms_kept, atoms_pushed, numbers_kept, numbers_pushed}
 use Rattle.cps_clauses.proofs.atoms.AtomList.push.Goals as goal
 
 pub returns-in_default-clause-err : goal.returns-in_default-clause-err
@@ -10,6 +11,11 @@ returns-in_default-clause-err c =
     let i = c.self.inside in
     ap (λ (ns : List ℕ). map (atom_in c.number.new.self) ns) c.reserve.ensures.items
     ∙ atoms_kept i.literals c.number.new.self c.args.atom c.in_ok-number.number i.numbers.items c.in_ok-number.ensures.ok c.self.invariant ∙ c.self.view_is
+
+pub invariant_of-self-in_default : goal.invariant_of-self-in_default
+invariant_of-self-in_default c =
+    let i = c.self.inside in
+    subst (λ (ns : List ℕ). AreIn c.number.new.self ns) (sym c.reserve.ensures.items) (numbers_kept i.literals c.number.new.self c.args.atom c.in_ok-number.number i.numbers.items c.in_ok-number.ensures.ok c.self.invariant)
 
 pub invariant_of-self-2 : goal.invariant_of-self-2
 invariant_of-self-2 c =
