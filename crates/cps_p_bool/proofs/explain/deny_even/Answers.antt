@@ -1,3 +1,4 @@
+-- No literal was open, and an even number was true.
 use Rattle.std.proofs.Common.{arith}
 use Rattle.cps_propagate.specs.Now.{IsKnownNow}
 use Rattle.cps_p_bool.proofs.Placing.{all_passed}
@@ -13,3 +14,6 @@ returns c = λ _. record {
   excludes = Excludes-even c.args.past.now c.args.atoms.now c.count_true.result c.count_true.ensures.count c.if-count_true-eq1.false;
   denies = c.in_ok-deny_antecedents.ensures;
 }
+
+pub seek-place-requires-clause-subjects : goal.seek-place-requires-clause-subjects
+seek-place-requires-clause-subjects c = λ k d l. (c.requires.atoms_fit k d l).subject

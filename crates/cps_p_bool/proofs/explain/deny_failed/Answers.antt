@@ -1,9 +1,11 @@
+-- The literal that was false is one of the list.
 use Rattle.std.proofs.Common.{◌<◌, List, length, sym, subst, arith}
 use Rattle.cps_literal.specs.declared.atom.Atom.{Atom}
 use Rattle.cps_instance.specs.declared.task.Body.TheVariants.{BoolAnd}
 use Rattle.cps_propagate.proofs.Past.{none}
-use Rattle.cps_p_bool.specs.Denying.{Excludes}
+use Rattle.cps_p_bool.specs.Denying.{Excludes, IsFit}
 use Rattle.cps_p_bool.proofs.Conjoining.{Excludes-and}
+use Rattle.cps_p_bool.proofs.Placing.{one_used}
 use Rattle.cps_p_bool.proofs.explain.deny_failed.Goals as goal
 
 pub returns : goal.returns
@@ -14,3 +16,6 @@ returns c = λ _.
       excludes = subst (λ (used : List Atom). Excludes c.args.past.now (BoolAnd c.args.atoms.now) used) (sym c.as_slice.ensures) (Excludes-and c.args.past.now c.args.atoms.now c.args.place none l (c.was_false.ensures c.if-not-was_false.false));
       denies = c.in_ok-deny_antecedents.ensures;
     }
+
+pub deny_antecedents-requires-clause-used_fit : goal.deny_antecedents-requires-clause-used_fit
+deny_antecedents-requires-clause-used_fit c = one_used (IsFit c.args.past.now.first) c.args.atoms.now c.as_slice.result.now c.args.place none c.as_slice.ensures c.requires.atoms_fit (omega (arith, c.if-place-atoms.false))

@@ -1,8 +1,10 @@
+-- The two literals that were true are of the list.
 use Rattle.std.proofs.Common.{◌<◌, List, length, sym, subst, arith}
 use Rattle.cps_literal.specs.declared.atom.Atom.{Atom}
 use Rattle.cps_propagate.proofs.Past.{none}
-use Rattle.cps_p_bool.specs.Denying.{Excludes}
+use Rattle.cps_p_bool.specs.Denying.{Excludes, IsFit}
 use Rattle.cps_p_bool.proofs.Limiting.{Excludes-two}
+use Rattle.cps_p_bool.proofs.Placing.{two_used}
 use Rattle.cps_p_bool.proofs.explain.deny_two.Goals as goal
 
 pub returns : goal.returns
@@ -15,3 +17,9 @@ returns c = λ _ body n.
           (Excludes-two body c.args.atoms.now n c.args.past.now c.args.noted.place c.args.noted.other none a l (c.was_true.ensures c.if-not-was_true.false) (c.was_true-2.ensures c.if-not-was_true-2.false));
       denies = c.in_ok-deny_antecedents.ensures;
     }
+
+pub deny_antecedents-requires-clause-used_fit : goal.deny_antecedents-requires-clause-used_fit
+deny_antecedents-requires-clause-used_fit c =
+    let a : c.args.noted.place < c.args.noted.other = omega (arith, c.if-first-second.false) in
+    let l : c.args.noted.other < length c.args.atoms.now = omega (arith, c.if-second-atoms.false) in
+    two_used (IsFit c.args.past.now.first) c.args.atoms.now c.as_slice.result.now c.args.noted.place c.args.noted.other none c.as_slice.ensures c.requires.atoms_fit (omega (arith, a, l)) l

@@ -1,13 +1,15 @@
+-- All literals but the one were false, before it and after it.
 use Rattle.std.proofs.Common.{List, ◌≡◌, ◌<◌, ◌++◌, ◌+◌, [], length, take, drop, get_or, subst, ap, Ok, arith}
 use Rattle.std.specs.List.{All}
 use Rattle.std.proofs.lemmas.List.{take_rest}
 use Rattle.cps_literal.specs.declared.atom.Atom.{Atom}
 use Rattle.cps_trail.specs.Trail.{IsFalseNow}
 use Rattle.cps_propagate.proofs.Past.{none}
-use Rattle.cps_p_bool.specs.Denying.{Denies, IsDenyingReason}
+use Rattle.cps_p_bool.specs.Denying.{Denies, IsDenyingReason, IsFit}
 use Rattle.cps_p_bool.proofs.Denials.{Denies-append}
 use Rattle.cps_p_bool.proofs.Giving.{IsDenyingReason-made}
 use Rattle.cps_p_bool.proofs.Explaining.{IsExplanation-given, Gives-but}
+use Rattle.cps_p_bool.proofs.Placing.{all_before, all_after}
 use Rattle.cps_p_bool.proofs.explain.explain_last.Goals as goal
 
 pub returns : goal.returns
@@ -27,3 +29,9 @@ returns c = λ _ body n.
     let all : Denies s [] c.deny_false-2.new.reason.items (e ++ (take p us ++ drop (p + 1) us)) = Denies-append s [] c.deny_all.new.reason.items c.deny_false-2.new.reason.items e (take p us ++ drop (p + 1) us) enforced others in
     let made : IsDenyingReason s (e ++ (take p us ++ drop (p + 1) us)) c.args.atom c.push.new.self.items = IsDenyingReason-made s c.deny_false-2.new.reason.items c.push.new.self.items (e ++ (take p us ++ drop (p + 1) us)) c.args.atom all c.in_ok-push.ensures.items in
     IsExplanation-given s e (take p us ++ drop (p + 1) us) body (get_or us p none) c.args.atom c.push.new.self.items same (c.requires.atoms_fit p none l).subject made (Gives-but s body us n p none l false_before false_after e c.requires.enforced)
+
+pub deny_false-requires : goal.deny_false-requires
+deny_false-requires c = all_before (IsFit c.args.past.now.first) c.args.atoms.now c.place_of-place.result c.requires.atoms_fit
+
+pub deny_false-requires-2 : goal.deny_false-requires-2
+deny_false-requires-2 c = all_after (IsFit c.args.past.now.first) c.args.atoms.now c.place_of-place.result c.requires.atoms_fit

@@ -1,6 +1,10 @@
-use Rattle.std.proofs.Common.{arith}
-use Rattle.cps_p_bool.proofs.Results.{IfOk-map}
+-- The last enforcement atom is given its opposite, or all are true and the body holds nowhere.
+use Rattle.std.proofs.Common.{arith, ℕ, ◌<◌, length, sym, subst}
+use Rattle.cps_p_bool.proofs.Results.{IfOk-map, not_settled}
 use Rattle.cps_p_bool.proofs.Giving.{GivesAtom-last, IsConflict-denied, IsOff-opposite}
+use Rattle.cps_p_bool.proofs.Negating.{negatable_low, negatable_high, negatable_above, negatable_below}
+use Rattle.cps_propagate.proofs.Past.{none}
+use Rattle.cps_trail.proofs.Inferring.{Infers-refl}
 use Rattle.cps_p_bool.proofs.reasons.reject.Goals as goal
 
 pub returns-then-last-enforcement-clause-infers : goal.returns-then-last-enforcement-clause-infers
@@ -22,3 +26,24 @@ returns-then-last-enforcement-clause-refused c = λ e.
 pub returns-clause-answers : goal.returns-clause-answers
 returns-clause-answers c = λ body x.
     IsConflict-denied _ _ c.args.rule.now.last _ body _ c.requires.in_force (λ l. omega (arith, l, c.if-last-enforcement.false)) x c.in_ok-deny_antecedents.ensures
+
+pub negate-target-requires-clause-low : goal.negate-target-requires-clause-low
+negate-target-requires-clause-low c = negatable_low (c.requires.fits c.args.rule.now.last none c.if-last-enforcement.true)
+
+pub negate-target-requires-clause-high : goal.negate-target-requires-clause-high
+negate-target-requires-clause-high c = negatable_high (c.requires.fits c.args.rule.now.last none c.if-last-enforcement.true)
+
+pub negate-target-requires-clause-above : goal.negate-target-requires-clause-above
+negate-target-requires-clause-above c = λ _. negatable_above (c.requires.fits c.args.rule.now.last none c.if-last-enforcement.true)
+
+pub negate-target-requires-clause-below : goal.negate-target-requires-clause-below
+negate-target-requires-clause-below c = λ _. negatable_below (c.requires.fits c.args.rule.now.last none c.if-last-enforcement.true)
+
+pub infer-requires-clause-subject : goal.infer-requires-clause-subject
+infer-requires-clause-subject c = subst (λ (k : ℕ). k < length c.args.store.now.first) (sym c.negate-target.ensures.subject) (c.requires.fits c.args.rule.now.last none c.if-last-enforcement.true).subject
+
+pub returns-clause-infers : goal.returns-clause-infers
+returns-clause-infers c = λ body x. Infers-refl _ c.args.store.now
+
+pub returns-clause-refused : goal.returns-clause-refused
+returns-clause-refused c = λ is. absurd (not_settled is)
