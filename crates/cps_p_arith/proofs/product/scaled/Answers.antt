@@ -57,3 +57,24 @@ returns-else-number-lt0-clause-exact c =
     let fm : FitsSigned w128 (n *ℤ l) = scaled_fits n l fn c.requires.low in
     let fk : FitsSigned w128 (n *ℤ h) = scaled_fits n h fn c.requires.high in
     simp to_z-of_z (λ y b. scaled_both n l h y b)
+
+pub overflow_cast-factor : goal.overflow_cast-factor
+overflow_cast-factor c = let fn : FitsSigned w64 c.args.number = c.ranges.number in simp to_z-of_z (fits_wider c.args.number fn)
+
+pub overflow_mul-one : goal.overflow_mul-one
+overflow_mul-one c =
+    let n = c.args.number in
+    let l = c.args.range.low in
+    let fn : FitsSigned w64 n = c.ranges.number in
+    let fw : FitsSigned w128 n = fits_wider n fn in
+    let fl : FitsSigned w128 l = search rules in
+    simp to_z-of_z (scaled_fits n l fn c.requires.low)
+
+pub overflow_mul-other : goal.overflow_mul-other
+overflow_mul-other c =
+    let n = c.args.number in
+    let h = c.args.range.high in
+    let fn : FitsSigned w64 n = c.ranges.number in
+    let fw : FitsSigned w128 n = fits_wider n fn in
+    let fh : FitsSigned w128 h = search rules in
+    simp to_z-of_z (scaled_fits n h fn c.requires.high)

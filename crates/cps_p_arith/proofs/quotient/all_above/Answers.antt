@@ -31,3 +31,26 @@ returns-else-quotient-lt0 c =
     let positive = c.if-quotient-lt0.false in
     let one = c.requires.positive in
     simp to_z-of_z (λ h n e q r ln b k. let from = b.from in above_up t l d n e q r (omega (arith, ints)) (omega (arith, ints)) b.to (grind (arith, ints, h)) ln k)
+
+pub overflow_mul-result : goal.overflow_mul-result
+overflow_mul-result c =
+    let t = c.args.quotient.high in
+    let d = c.args.divisor.low in
+    let ft : FitsSigned w128 t = search rules in
+    let fd : FitsSigned w128 d = search rules in
+    simp to_z-of_z (product_fits t d (let s = c.requires.quotient.high in omega arith) c.requires.divisor.low)
+
+pub overflow_add-result : goal.overflow_add-result
+overflow_add-result c =
+    let t = c.args.quotient.high in
+    let ft : FitsSigned w128 t = search rules in
+    simp to_z-of_z (next_fits t c.requires.quotient.high)
+
+pub overflow_mul-result-else-quotient-lt0 : goal.overflow_mul-result-else-quotient-lt0
+overflow_mul-result-else-quotient-lt0 c =
+    let t = c.args.quotient.high in
+    let d = c.args.divisor.high in
+    let ft : FitsSigned w128 t = search rules in
+    let fd : FitsSigned w128 d = search rules in
+    let fs : FitsSigned w128 (t +ℤ pos 1) = next_fits t c.requires.quotient.high in
+    simp to_z-of_z (product_fits (t +ℤ pos 1) d (next_size t c.requires.quotient.high) c.requires.divisor.high)

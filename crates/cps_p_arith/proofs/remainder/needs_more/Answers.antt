@@ -18,3 +18,19 @@ returns c =
     let fg : FitsSigned w128 (h -ℤ l) = gap_fits h l c.requires.number.high c.requires.rest.low in
     let fm : FitsSigned w128 (k *ℤ d) = product_fits k d (let s = c.requires.quotient.low in omega arith) c.requires.divisor.low in
     simp to_z-of_z (λ t n e r nh ld v rl. needs_more k d l h n e r c.requires.from ld (grind (arith, ints, t)) nh rl v)
+
+pub overflow_mul-result : goal.overflow_mul-result
+overflow_mul-result c =
+    let k = c.args.quotient.low in
+    let d = c.args.divisor.low in
+    let fk : FitsSigned w128 k = search rules in
+    let fd : FitsSigned w128 d = search rules in
+    simp to_z-of_z (product_fits k d (let s = c.requires.quotient.low in omega arith) c.requires.divisor.low)
+
+pub overflow_sub-result : goal.overflow_sub-result
+overflow_sub-result c =
+    let a = c.args.number.high in
+    let b = c.args.rest.low in
+    let fa : FitsSigned w128 a = search rules in
+    let fb : FitsSigned w128 b = search rules in
+    simp to_z-of_z (gap_fits a b c.requires.number.high c.requires.rest.low)
