@@ -85,14 +85,17 @@ validate_line = new_app (codes "validate")
 unfoldable pub print_line : App
 print_line = new_app (codes "print")
 
+-- a table with the lines of the commands that read a model
+unfoldable pub with_reading_lines : App → App
+with_reading_lines table =
+    with_subcommand (with_subcommand (with_subcommand table solve_line.top) validate_line.top) print_line.top
+
+-- a table with the lines of the commands that generate a model
+unfoldable pub with_generating_lines : App → App
+with_generating_lines table =
+    with_subcommand (with_subcommand table (generating_line (codes "gen")).top)
+    (generating_line (codes "demo")).top
+
 -- all lines
 unfoldable pub command_table : App
-command_table =
-    with_subcommand
-    (with_subcommand
-    (with_subcommand
-    (with_subcommand (with_subcommand
-    (on_top wants_subcommand (new_app (codes "cpsolve"))) solve_line.top) validate_line.top)
-    print_line.top)
-    (generating_line (codes "gen")).top)
-    (generating_line (codes "demo")).top
+command_table = with_generating_lines (with_reading_lines (on_top wants_subcommand (new_app (codes "cpsolve"))))

@@ -6,7 +6,7 @@
 ghost use Rattle.std.specs.Prelude.{◌≡◌, ◌≢◌, [], false, IfOk, MatchOption};
 ghost use Rattle.clap.specs.Words.{app_of, rule_of, fault_of, subcommand_of, subcommand_rows_of};
 ghost use Rattle.clap.specs.declared.builder.Command.TheViews.{out-Command};
-ghost use Rattle.cps_command.specs.Rules.{workers_rule, conflicts_rule, seed_rule, interleave_rule, gap_rule, family_rule, size_rule, drawing_rule, solve_line, generating_line, command_table};
+ghost use Rattle.cps_command.specs.Rules.{workers_rule, conflicts_rule, seed_rule, interleave_rule, gap_rule, family_rule, size_rule, drawing_rule, solve_line, generating_line, with_reading_lines, with_generating_lines, command_table};
 ghost use Rattle.cps_command.specs.Lines.{texts_of, IsPassed};
 
 use clap::error::ErrorKind;
@@ -119,17 +119,32 @@ fn generating_line<'a>(alloc: Global, name: &'a str) -> Result<Command<'a>, Allo
         .arg(drawing_argument(alloc))
 }
 
+/// A table with the lines of the commands that read a model: `solve`, `validate` and `print`.
+fn with_reading_lines<'a>(alloc: Global, table: Command<'a>) -> Result<Command<'a>, AllocError>
+    ensures { IfOk result (λ c. app_of c ≡ with_reading_lines (app_of table.entry)) }
+{
+    table
+        .subcommand(solve_line(alloc)?)?
+        .subcommand(Command::new(alloc, "validate"))?
+        .subcommand(Command::new(alloc, "print"))
+}
+
+/// A table with the lines of the commands that generate a model: `gen` and `demo`.
+fn with_generating_lines<'a>(alloc: Global, table: Command<'a>) -> Result<Command<'a>, AllocError>
+    ensures { IfOk result (λ c. app_of c ≡ with_generating_lines (app_of table.entry)) }
+{
+    table
+        .subcommand(generating_line(alloc, "gen")?)?
+        .subcommand(generating_line(alloc, "demo")?)
+}
+
 /// All lines.
 fn command_table<'a>(alloc: Global) -> Result<Command<'a>, AllocError>
     ensures { IfOk result (λ c. app_of c ≡ command_table) }
 {
-    Command::new(alloc, "cpsolve")
-        .subcommand_required(true)
-        .subcommand(solve_line(alloc)?)?
-        .subcommand(Command::new(alloc, "validate"))?
-        .subcommand(Command::new(alloc, "print"))?
-        .subcommand(generating_line(alloc, "gen")?)?
-        .subcommand(generating_line(alloc, "demo")?)
+    let table = Command::new(alloc, "cpsolve").subcommand_required(true);
+    let table = with_reading_lines(alloc, table)?;
+    with_generating_lines(alloc, table)
 }
 
 /// What the words say by the table; `None` if they are no line of it.
