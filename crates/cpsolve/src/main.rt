@@ -2,35 +2,12 @@
 //! says that the model is valid, or writes it in canonical form. It also generates models, and writes them or solves
 //! them.
 //!
-//! `solve_main` is the whole program over any source of bytes and any sink, and its contract says what the program
-//! does: OPTIMAL comes only with a solution that none beats by more than the gap that the words give, INFEASIBLE only
-//! where there is none, FEASIBLE and UNKNOWN only where each worker spent its budget of conflicts, or did its rounds
-//! near solutions, on clauses that said something new; `valid` comes only for a valid model, and a canonical text is
-//! read as the same model; and every other answer comes only where its cause is there. `main` hands it the words,
+//! `solve_main` of `cps_program` is the whole program, and its contract says what it does. `main` hands it the words,
 //! standard input and standard output.
 #![tactic(auto)]
 
-mod answer;
-mod exits;
-mod generation;
-#[cfg(test)]
-mod generation_tests;
-#[cfg(test)]
-mod hostile_tests;
-mod input;
-#[cfg(test)]
-mod known_answers;
-#[cfg(test)]
-mod portfolio_tests;
-mod ran;
-#[cfg(test)]
-mod running;
-mod solve;
-#[cfg(test)]
-mod tests;
-
-use crate::solve::solve_main;
 use cps_outer::{OpenGate, StdSink, StdSource};
+use cps_program::{OUT_OF_MEMORY, solve_main};
 use std::alloc::{Alloc, AllocError, Global};
 use std::env::{self, Env};
 use std::io::ErrorKind;
@@ -49,7 +26,7 @@ fn words_of<R: Env + Alloc<A = Global>>(rt: &R) -> Result<Vec<String>, AllocErro
 fn main(rt: HostRuntime) -> ExitCode {
     let alloc = rt.alloc();
     let Ok(words) = words_of(&rt) else {
-        return ExitCode::from(exits::OUT_OF_MEMORY);
+        return ExitCode::from(OUT_OF_MEMORY);
     };
     let mut source = StdSource::new(rt.stdin());
     let mut sink = StdSink::new(rt.stdout());

@@ -1,0 +1,31 @@
+-- What a run did with its source and its sink.
+use Rattle.std.specs.Prelude.{◌≡◌, ◌≢◌, ◌==◌, ◌||◌, ℕ, ◌+◌, Bool, List, drop, Option, Some, None, IfSome}
+use Rattle.std.specs.Io.KnownBytes.{Appends}
+use Rattle.cps_outer.specs.Transfers.{TakesPrefix}
+use Rattle.cps_program.specs.declared.answer.Answer.{Answer}
+use Rattle.cps_program.specs.declared.ran.Ran.{Ran}
+use Rattle.cps_program.specs.Inputs.{most_bytes}
+use Rattle.cps_program.specs.Answers.{IsAnswerTo}
+
+-- an exit status with which no text is written: a read failed, or memory ran out
+abbrev pub is_silent : ℕ → Bool
+is_silent exit = exit == 3 || exit == 5
+
+-- the bytes are those that were left, where the source tells them
+abbrev pub AreBytesLeft : Option (List ℕ) → List ℕ → Type 0
+AreBytesLeft None bytes = Unit {0}
+AreBytesLeft (Some left) bytes = left ≡ bytes
+
+-- a source was read to its end, or to one byte more than an input may have
+abbrev pub IsReadThrough : Option (List ℕ) → Option (List ℕ) → Type 0
+IsReadThrough before after = IfSome before (λ bytes. after ≡ Some (drop (most_bytes + 1) bytes))
+
+-- an answer to the bytes that were left, whose text the sink took, or a first part of it where the exit status is 4
+pub record GivesOut (words : List (List ℕ)) (left held_before held_after : Option (List ℕ)) (ran : Ran) : Type 0 where
+  pub bytes : List ℕ
+  pub answer : Answer
+  pub input : AreBytesLeft left bytes
+  pub right : IsAnswerTo words bytes answer
+  pub outcome : ran.outcome ≡ answer.outcome
+  pub whole : ran.exit ≢ 4 → (ran.exit ≡ answer.exit) × Appends held_before held_after answer.text
+  pub part : ran.exit ≡ 4 → TakesPrefix held_before held_after answer.text
