@@ -12,3 +12,6 @@ pub mod Claims
 pub mod Disjoint
 pub mod Boxing
 pub mod Box_facts
+pub mod Refusing
+pub mod Presences
+pub mod Opposing

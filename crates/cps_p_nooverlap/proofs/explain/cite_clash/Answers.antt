@@ -1,5 +1,7 @@
+-- Each span ends after the other starts.
 use Rattle.std.proofs.Common.{Ok, ◌≡◌, true, rules}
 use Rattle.cps_p_nooverlap.proofs.Citing.{cites_clash, span_of}
+use Rattle.cps_p_nooverlap.proofs.Refusing.{refused}
 use Rattle.cps_p_nooverlap.proofs.explain.cite_clash.Goals as goal
 
 pub cite_late-requires-clause-late : goal.cite_late-requires-clause-late
@@ -18,3 +20,6 @@ pub returns : goal.returns
 returns c e =
     let one : c.cite_late.result ≡ Ok true = search rules in
     cites_clash c.args.spans.now c.args.pair c.requires.pair c.index-spans-pair.result c.index-spans-pair-2.result c.index-spans-pair.is c.index-spans-pair-2.is c.args.past.now c.args.facts.now.items c.cite_late.new.facts.items c.cite_late-2.new.facts.items (c.cite_late.ensures one) (c.cite_late-2.ensures e)
+
+pub returns-then-not-branch : goal.returns-then-not-branch
+returns-then-not-branch c e = refused e

@@ -1,7 +1,10 @@
-use Rattle.std.proofs.Common.{Ok, ◌≡◌, true, pos, rules, ◌<◌, length}
+-- Where the target is false, both spans are present and clash.
+use Rattle.std.proofs.Common.{Ok, ◌≡◌, true, pos, rules, ◌<◌, length, ◌+◌, ◌-◌, drop}
 use Rattle.cps_literal.specs.declared.atom.Atom.{Atom}
 use Rattle.cps_literal.specs.declared.atom.Op.TheVariants.{Le}
 use Rattle.cps_p_nooverlap.proofs.Citing.{cites_absence, presence_of, small_of}
+use Rattle.std.proofs.lemmas.List.Elements.{All-take, All-drop}
+use Rattle.cps_p_nooverlap.proofs.Refusing.{refused}
 use Rattle.cps_p_nooverlap.proofs.explain.explain_absence.Goals as goal
 
 abbrev no_atom : Atom
@@ -21,3 +24,28 @@ denied_place-place-requires c = small_of c.args.past.now.first c.args.spans.now 
 
 pub cite_all-requires-3 : goal.cite_all-requires-3
 cite_all-requires-3 c = presence_of c.args.past.now.first c.args.spans.now c.args.pair.after c.index-spans-pair-2.result c.as_slice.result.now c.requires.spans c.requires.pair.after c.as_slice.ensures
+
+pub cite_all-requires : goal.cite_all-requires
+cite_all-requires c =
+    let within = presence_of c.args.past.now.first c.args.spans.now c.args.pair.before c.index-spans-pair.result c.as_slice-atoms.result.now c.requires.spans c.requires.pair.before c.as_slice-atoms.ensures in
+    All-take (λ (u : Atom). u.subject < length c.args.past.now.first) c.denied_place-place.result c.as_slice-atoms.result.now within
+
+pub cite_all-requires-2 : goal.cite_all-requires-2
+cite_all-requires-2 c =
+    let k = c.denied_place-place.result + 1 in
+    let us = c.as_slice-atoms.result.now in
+    let within = presence_of c.args.past.now.first c.args.spans.now c.args.pair.before c.index-spans-pair.result c.as_slice-atoms.result.now c.requires.spans c.requires.pair.before c.as_slice-atoms.ensures in
+    let P = λ (u : Atom). u.subject < length c.args.past.now.first in
+    All-take P (length us - k) (drop k us) (All-drop P k us within)
+
+pub returns-then-place-atoms : goal.returns-then-place-atoms
+returns-then-place-atoms c e = refused e
+
+pub returns-then-not-branch : goal.returns-then-not-branch
+returns-then-not-branch c e = refused e
+
+pub returns-then-not-branch-2 : goal.returns-then-not-branch-2
+returns-then-not-branch-2 c e = refused e
+
+pub returns-then-not-branch-3 : goal.returns-then-not-branch-3
+returns-then-not-branch-3 c e = refused e

@@ -1,5 +1,7 @@
+-- The later span starts at such a time at the latest, and the earlier one ends before it.
 use Rattle.std.proofs.Common.{Ok, ◌≡◌, true, rules}
 use Rattle.cps_p_nooverlap.proofs.Citing.{cites_end, span_of}
+use Rattle.cps_p_nooverlap.proofs.Refusing.{refused}
 use Rattle.cps_p_nooverlap.proofs.explain.explain_end.Goals as goal
 
 pub returns : goal.returns
@@ -10,3 +12,9 @@ returns c e =
 
 pub cite_start_up_to-requires : goal.cite_start_up_to-requires
 cite_start_up_to-requires c = span_of c.args.past.now.first c.args.spans.now c.args.pair.after c.index-spans-pair-3.result c.requires.spans c.requires.pair.after c.index-spans-pair-3.is
+
+pub returns-then-not-same_atom : goal.returns-then-not-same_atom
+returns-then-not-same_atom c e = refused e
+
+pub returns-then-not-branch : goal.returns-then-not-branch
+returns-then-not-branch c e = refused e

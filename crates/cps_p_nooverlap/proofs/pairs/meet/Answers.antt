@@ -1,8 +1,10 @@
-use Rattle.std.proofs.Common.{ℕ, ◌<◌, ◌<ℤ◌, inl, inr, get_or, sym, subst, rules}
+-- Of two present spans, one that cannot come first comes after the other.
+use Rattle.std.proofs.Common.{ℕ, ◌<◌, ◌<ℤ◌, inl, inr, get_or, sym, subst, rules, length}
 use Rattle.cps_instance.specs.declared.task.Body.TheVariants.{NoOverlap}
 use Rattle.cps_p_nooverlap.specs.declared.pairs.Pair.{Pair}
-use Rattle.cps_p_nooverlap.specs.Spans.{Orders, no_seen}
+use Rattle.cps_p_nooverlap.specs.Spans.{Orders, no_seen, IsPair}
 use Rattle.cps_p_nooverlap.proofs.Pairing.{comes, swapped_pair}
+use Rattle.cps_p_nooverlap.proofs.Refusing.{refused}
 use Rattle.cps_p_nooverlap.proofs.pairs.meet.Goals as goal
 use Rattle.cps_p_nooverlap.proofs.pairs.meet.Goals.{else-not-forth-via-then-not-forth+else-not-back, else-not-forth-via-else-not-forth}
 
@@ -40,3 +42,48 @@ returns-else-not-forth-2-clause-allowed c = λ e a b. elim c.else-not-forth.bran
   | else-not-forth-via-then-not-forth+else-not-back w ↦ inr (search rules)
   | else-not-forth-via-else-not-forth w ↦ inl (search rules)
 ]
+
+pub clash-requires-clause-known : goal.clash-requires-clause-known
+clash-requires-clause-known c = c.requires.known
+
+pub clash-requires-clause-pair : goal.clash-requires-clause-pair
+clash-requires-clause-pair c = c.requires.pair
+
+pub follow-requires-clause-known : goal.follow-requires-clause-known
+follow-requires-clause-known c = c.requires.known
+
+pub follow-requires-clause-pair : goal.follow-requires-clause-pair
+follow-requires-clause-pair c = c.requires.pair
+
+pub follow-requires-then-not-forth-2-clause-known : goal.follow-requires-then-not-forth-2-clause-known
+follow-requires-then-not-forth-2-clause-known c = c.requires.known
+
+pub follow-requires-then-not-forth-2-clause-pair : goal.follow-requires-then-not-forth-2-clause-pair
+follow-requires-then-not-forth-2-clause-pair c = subst (λ (q : Pair). IsPair (length c.args.spans.now) q) (sym c.swapped.ensures) (swapped_pair _ c.args.pair c.requires.pair)
+
+pub returns-then-not-back-clause-given : goal.returns-then-not-back-clause-given
+returns-then-not-back-clause-given c = c.clash.ensures.given
+
+pub returns-then-not-back-clause-impossible : goal.returns-then-not-back-clause-impossible
+returns-then-not-back-clause-impossible c = c.clash.ensures.impossible
+
+pub returns-then-not-back-clause-allowed : goal.returns-then-not-back-clause-allowed
+returns-then-not-back-clause-allowed c = c.clash.ensures.allowed
+
+pub returns-in_ok-follow-clause-impossible : goal.returns-in_ok-follow-clause-impossible
+returns-in_ok-follow-clause-impossible c e = refused e
+
+pub returns-in_ok-follow-2-clause-impossible : goal.returns-in_ok-follow-2-clause-impossible
+returns-in_ok-follow-2-clause-impossible c e = refused e
+
+pub returns-else-not-forth-2-clause-impossible : goal.returns-else-not-forth-2-clause-impossible
+returns-else-not-forth-2-clause-impossible c e = refused e
+
+pub returns-else-before-clause-impossible : goal.returns-else-before-clause-impossible
+returns-else-before-clause-impossible c e = refused e
+
+pub clash-requires-clause-forth : goal.clash-requires-clause-forth
+clash-requires-clause-forth c = search (rules, c.if-not-forth.true)
+
+pub clash-requires-clause-back : goal.clash-requires-clause-back
+clash-requires-clause-back c = search (rules, c.if-not-back.true)

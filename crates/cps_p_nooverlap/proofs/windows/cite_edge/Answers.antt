@@ -1,3 +1,4 @@
+-- The others leave no room for the span in their window, so it comes after all that start late.
 use Rattle.std.proofs.Common.{Ok, ◌≡◌, ◌≤ℤ◌, ◌+ℤ◌, pos, true, List, ℕ, rules, subst, FitsSigned, arith}
 use Rattle.std.proofs.lemmas.Int.{ints, to_z-of_z}
 use mir.Syntax.{w64}
@@ -5,6 +6,8 @@ use Rattle.cps_p_nooverlap.specs.declared.crowd.Ends.TheVariants.{Both}
 use Rattle.cps_p_nooverlap.specs.Citing.{Cites}
 use Rattle.cps_p_nooverlap.specs.Crowds.{AreRuns}
 use Rattle.cps_p_nooverlap.proofs.Claims.{cites_edge}
+use Rattle.cps_p_nooverlap.proofs.Citing.{span_of}
+use Rattle.cps_p_nooverlap.proofs.Refusing.{refused}
 use Rattle.cps_p_nooverlap.proofs.windows.cite_edge.Goals as goal
 
 pub returns-else-not-branch-2 : goal.returns-else-not-branch-2
@@ -21,3 +24,24 @@ returns-else-not-branch-2 c e =
     c.args.facts.now.items c.cite_early.new.facts.items c.cite_runs.new.facts.items c.cite_runs-in-Some.new.facts.items reached (rw (to_z-of_z w64 c.args.crowd.from f) at (c.cite_early.ensures one))
     (subst (λ (ws : List ℕ). Cites c.args.past.now c.cite_early.new.facts.items c.cite_runs.new.facts.items (λ xs. AreRuns Both c.args.crowd.is_reversed xs c.args.spans.now ws c.args.crowd.from c.args.crowd.to)) c.as_slice.ensures.value runs)
     (search rules)
+
+pub bounds-spans-crowd : goal.bounds-spans-crowd
+bounds-spans-crowd c = c.in-Some.ensures.place
+
+pub cite_early-requires : goal.cite_early-requires
+cite_early-requires c = span_of c.args.past.now.first c.args.spans.now c.args.crowd.place c.index-spans-crowd.result c.requires.spans c.in-Some.ensures.place c.index-spans-crowd.is
+
+pub cite_runs-requires-clause-each : goal.cite_runs-requires-clause-each
+cite_runs-requires-clause-each c = rw c.as_slice.ensures.value c.in-Some.ensures.every
+
+pub cite_runs-requires-in-Some-clause-each : goal.cite_runs-requires-in-Some-clause-each
+cite_runs-requires-in-Some-clause-each c = rw c.as_slice-in-Some.ensures.value c.in-Some.ensures.late.each
+
+pub returns-then-not-is_reached : goal.returns-then-not-is_reached
+returns-then-not-is_reached c e = refused e
+
+pub returns-then-not-branch : goal.returns-then-not-branch
+returns-then-not-branch c e = refused e
+
+pub returns-then-not-branch-2 : goal.returns-then-not-branch-2
+returns-then-not-branch-2 c e = refused e

@@ -1,3 +1,4 @@
+-- Each of the others starts before the span can end, so it comes after all of them.
 use Rattle.std.proofs.Common.{Ok, ◌≡◌, ◌<ℤ◌, ◌≤ℤ◌, ◌+ℤ◌, pos, true, List, ℕ, length, rules, subst, FitsSigned, arith}
 use Rattle.std.proofs.lemmas.Int.{ints, to_z-of_z}
 use mir.Syntax.{w64}
@@ -5,6 +6,8 @@ use Rattle.cps_p_nooverlap.specs.declared.crowd.Ends.TheVariants.{Start}
 use Rattle.cps_p_nooverlap.specs.Citing.{Cites}
 use Rattle.cps_p_nooverlap.specs.Crowds.{AreRuns, IsUncounted}
 use Rattle.cps_p_nooverlap.proofs.Claims.{cites_precedences}
+use Rattle.cps_p_nooverlap.proofs.Citing.{span_of}
+use Rattle.cps_p_nooverlap.proofs.Refusing.{refused}
 use Rattle.cps_p_nooverlap.proofs.windows.cite_precedences.Goals as goal
 
 pub returns-else-not-branch : goal.returns-else-not-branch
@@ -21,3 +24,21 @@ returns-else-not-branch c e =
     cites_precedences c.args.spans.now c.args.crowd.place aside.place c.index-spans-crowd.result c.index-spans-crowd.is c.args.past.now c.args.crowd.is_reversed c.args.facts.now.items c.cite_late.new.facts.items c.cite_runs.new.facts.items c.args.marks.now.whole.items c.in-Some.counted aside
     c.args.crowd.from c.args.crowd.to c.args.crowd.edge c.args.crowd.time late reached (c.cite_late.ensures one)
     (subst (λ (ws : List ℕ). Cites c.args.past.now c.cite_late.new.facts.items c.cite_runs.new.facts.items (λ xs. AreRuns Start c.args.crowd.is_reversed xs c.args.spans.now ws c.args.crowd.from c.args.crowd.to)) c.as_slice-whole.ensures.value runs)
+
+pub bounds-spans-crowd : goal.bounds-spans-crowd
+bounds-spans-crowd c = c.in-Some.ensures.place
+
+pub cite_late-requires : goal.cite_late-requires
+cite_late-requires c = span_of c.args.past.now.first c.args.spans.now c.args.crowd.place c.index-spans-crowd.result c.requires.spans c.in-Some.ensures.place c.index-spans-crowd.is
+
+pub cite_runs-requires-clause-each : goal.cite_runs-requires-clause-each
+cite_runs-requires-clause-each c = c.in-Some.ensures.count.each
+
+pub returns-then-not-is_reached : goal.returns-then-not-is_reached
+returns-then-not-is_reached c e = refused e
+
+pub returns-then-crowd : goal.returns-then-crowd
+returns-then-crowd c e = refused e
+
+pub returns-then-not-branch : goal.returns-then-not-branch
+returns-then-not-branch c e = refused e

@@ -1,0 +1,27 @@
+-- Which of a span's atoms is not true.
+use Rattle.std.proofs.Common.{◌≡◌, ◌<◌, ◌≤◌, ◌+◌, ℕ, List, false, true≢false, sym, length, get_or, pos, inl, inr, arith}
+use Rattle.cps_literal.specs.declared.atom.Atom.{Atom}
+use Rattle.cps_literal.specs.declared.atom.Op.TheVariants.{Le}
+use Rattle.cps_trail.specs.Trail.{Trail, IsTrueNow}
+use Rattle.cps_p_nooverlap.specs.Spans.{IsPresence}
+use Rattle.cps_p_nooverlap.proofs.Pairing.{less_or}
+
+abbrev no_atom : Atom
+no_atom = record { subject = 0; op = Le; value = pos 0 }
+
+-- all are true but the one at a place
+pub but_one : (s : Trail) (us : List Atom) (m n : ℕ) → m < length us → ((d : Atom) → m < length us → IsTrueNow s (get_or us m d) → ⊥) → ((k : ℕ) (d : Atom) → 0 ≤ k → k < m → IsTrueNow s (get_or us k d))
+    → ((k : ℕ) (d : Atom) → m + 1 ≤ k → k < n → IsTrueNow s (get_or us k d)) → n ≡ length us → IsPresence s us (record { sure = false; last = m })
+but_one s us m n l untrue sooner later e = record {
+  sure = λ h. absurd (true≢false (sym h));
+  unsure = λ h all. untrue no_atom l (all m no_atom l);
+  others = λ h k d i apart. elim (less_or k m apart) [ inl below ↦ sooner k d (omega arith) below | inr above ↦ later k d (omega arith) (omega arith) ];
+}
+
+-- one is not, and none is named
+pub not_all : (s : Trail) (us : List Atom) (m : ℕ) → m < length us → ((d : Atom) → m < length us → IsTrueNow s (get_or us m d) → ⊥) → IsPresence s us (record { sure = false; last = length us })
+not_all s us m l untrue = record {
+  sure = λ h. absurd (true≢false (sym h));
+  unsure = λ h all. untrue no_atom l (all m no_atom l);
+  others = λ h k d i apart. absurd (omega arith);
+}

@@ -1,0 +1,14 @@
+-- Each of the two atoms was cited.
+use Rattle.std.proofs.Common.{Ok, ◌≡◌, true, rules}
+use Rattle.cps_literal.specs.Truth.{atom_holds}
+use Rattle.cps_p_nooverlap.proofs.Citing.{cites_then}
+use Rattle.cps_p_nooverlap.proofs.Refusing.{refused}
+use Rattle.cps_p_nooverlap.proofs.interval.cite_both.Goals as goal
+
+pub returns : goal.returns
+returns c e =
+    let one : c.cite.result ≡ Ok true = search rules in
+    cites_then c.args.past.now c.args.facts.now.items c.cite.new.facts.items c.cite-2.new.facts.items (λ xs. atom_holds xs c.args.support.one ≡ true) (λ xs. atom_holds xs c.args.support.other ≡ true) (c.cite.ensures one) (c.cite-2.ensures e)
+
+pub returns-then-not-branch : goal.returns-then-not-branch
+returns-then-not-branch c e = refused e
