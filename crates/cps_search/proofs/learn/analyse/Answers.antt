@@ -1,8 +1,9 @@
-use Rattle.std.proofs.Common.{ap, arith}
+-- The conflict is analysed where the store went back to its level.
+use Rattle.std.proofs.Common.{◌<◌, length, All, ap, arith, subst, sym}
 use Rattle.cps_trail.specs.Trail.{Trail}
 use Rattle.cps_search.specs.Giving.{ByAll}
 use Rattle.cps_search.proofs.Giving.{AreGiven-back, AreGiven-fit}
-use Rattle.cps_search.proofs.Lessons.{bottom_of, open_above, present_back, false_before, taught_new}
+use Rattle.cps_search.proofs.Lessons.{bottom_of, false_back, open_above, present_back, false_before, taught_new}
 use Rattle.cps_search.proofs.learn.analyse.Goals as goal
 
 pub analyse-requires-clause-present : goal.analyse-requires-clause-present
@@ -27,3 +28,57 @@ analyse-requires-clause-fits g c =
 
 pub returns-then-level-eq0-clause-bottom : goal.returns-then-level-eq0-clause-bottom
 returns-then-level-eq0-clause-bottom g c = λ _. bottom_of c.args.store.now c.args.conflict.now c.conflict_level-level.result c.conflict_level-level.ensures (omega (arith, c.if-level-eq0.true))
+
+pub returns-then-level-eq0-clause-back : goal.returns-then-level-eq0-clause-back
+returns-then-level-eq0-clause-back g c = (c.conflict_level-level.result, c.go_back.ensures.back)
+
+pub returns-then-level-eq0-clause-rested : goal.returns-then-level-eq0-clause-rested
+returns-then-level-eq0-clause-rested g c = c.go_back.ensures.rested
+
+pub returns-then-level-eq0-clause-sound_before : goal.returns-then-level-eq0-clause-sound_before
+returns-then-level-eq0-clause-sound_before g c = c.go_back.ensures.sound_before
+
+pub returns-then-level-eq0-clause-sound : goal.returns-then-level-eq0-clause-sound
+returns-then-level-eq0-clause-sound g c = c.go_back.ensures.sound
+
+pub returns-in_err-learnt-clause-back : goal.returns-in_err-learnt-clause-back
+returns-in_err-learnt-clause-back g c = (c.conflict_level-level.result, c.go_back.ensures.back)
+
+pub returns-in_err-learnt-clause-rested : goal.returns-in_err-learnt-clause-rested
+returns-in_err-learnt-clause-rested g c = c.go_back.ensures.rested
+
+pub returns-in_err-learnt-clause-sound_before : goal.returns-in_err-learnt-clause-sound_before
+returns-in_err-learnt-clause-sound_before g c = c.go_back.ensures.sound_before
+
+pub returns-in_err-learnt-clause-sound : goal.returns-in_err-learnt-clause-sound
+returns-in_err-learnt-clause-sound g c = c.go_back.ensures.sound
+
+pub returns-clause-back : goal.returns-clause-back
+returns-clause-back g c = (c.conflict_level-level.result, c.go_back.ensures.back)
+
+pub returns-clause-rested : goal.returns-clause-rested
+returns-clause-rested g c = c.go_back.ensures.rested
+
+pub returns-clause-sound_before : goal.returns-clause-sound_before
+returns-clause-sound_before g c = c.go_back.ensures.sound_before
+
+pub returns-clause-sound : goal.returns-clause-sound
+returns-clause-sound g c = c.go_back.ensures.sound
+
+pub analyse-requires-clause-conflict : goal.analyse-requires-clause-conflict
+analyse-requires-clause-conflict g c = false_back c.args.store.now c.go_back.new.store c.args.conflict.now c.conflict_level-level.result c.conflict_level-level.ensures c.go_back.ensures.back.is
+
+pub returns-then-level-eq0-clause-conflict : goal.returns-then-level-eq0-clause-conflict
+returns-then-level-eq0-clause-conflict g c = false_back c.args.store.now c.go_back.new.store c.args.conflict.now c.conflict_level-level.result c.conflict_level-level.ensures c.go_back.ensures.back.is
+
+pub returns-in_err-learnt-clause-conflict : goal.returns-in_err-learnt-clause-conflict
+returns-in_err-learnt-clause-conflict g c = false_back c.args.store.now c.go_back.new.store c.args.conflict.now c.conflict_level-level.result c.conflict_level-level.ensures c.go_back.ensures.back.is
+
+pub returns-clause-conflict : goal.returns-clause-conflict
+returns-clause-conflict g c = false_back c.args.store.now c.go_back.new.store c.args.conflict.now c.conflict_level-level.result c.conflict_level-level.ensures c.go_back.ensures.back.is
+
+pub analyse-requires-clause-subjects : goal.analyse-requires-clause-subjects
+analyse-requires-clause-subjects g c = subst (λ (s : Trail). All (λ t. t.subject < length s.first) c.args.conflict.now) (sym c.go_back.ensures.back.is) c.requires.subjects
+
+pub analyse-requires-clause-above : goal.analyse-requires-clause-above
+analyse-requires-clause-above g c = omega (arith, ap (λ (s : Trail). s.level) c.go_back.ensures.back.is, c.if-level-eq0.false)

@@ -1,11 +1,12 @@
+-- The sum is defined as the next subject in the instance, the store and the tasks alike.
 use Rattle.std.specs.Prelude.{None}
 use Rattle.std.specs.List.{All}
 use mir.Facts.{to_z-of_z}
-use Rattle.std.proofs.Common.{◌≡◌, ◌∙◌, ◌<◌, ◌^◌, ℤ, [], ◌∷◌, ◌++◌, length, sym, subst, ap}
+use Rattle.std.proofs.Common.{◌≡◌, ◌∙◌, ◌+◌, ◌<◌, ◌^◌, ℤ, [], ◌∷◌, ◌++◌, length, length-append, unsigned_abs, sym, subst, ap, arith}
 use Rattle.cps_domain.specs.Window.{intervals}
 use Rattle.cps_instance.specs.Problem.{Defines, sum_task}
 use Rattle.cps_instance.specs.Sums.{DefinedSum}
-use Rattle.cps_instance.specs.Terms.{Domains}
+use Rattle.cps_instance.specs.Terms.{Domains, terms_reach}
 use Rattle.cps_trail.specs.Trail.{IsSoundTrail}
 use Rattle.cps_propagate.specs.Agenda.{Agenda}
 use Rattle.cps_search.specs.declared.end.Phase.TheVariants.{Stepping}
@@ -55,3 +56,13 @@ pub returns-clause-sound : goal.returns-clause-sound
 returns-clause-sound g c =
     sound_grew c.args.self.now _ (record { terms = c.args.terms.now; offset = c.args.offset }) c.in_ok-subject.subject (returns-clause-grew g c) c.define.ensures.sound c.requires.sound
     (subst (λ (x : Search). IsSoundTrail x.store) c.self.view_is c.entries.ensures.sound) c.requires.bottom
+
+pub define-requires-clause-small : goal.define-requires-clause-small
+define-requires-clause-small g c =
+    subst (λ (z : ℤ). terms_reach (search_of c.self.inside).instance.domains c.args.terms.now + unsigned_abs z < 2 ^ 62) (sym (to_z-of_z c.ranges.offset))
+    (subst (λ (x : Search). terms_reach x.instance.domains c.args.terms.now + unsigned_abs c.args.offset < 2 ^ 62) (sym c.self.view_is) c.requires.small)
+
+pub domain_of-requires : goal.domain_of-requires
+domain_of-requires g c =
+    let d = c.in_ok-subject.ensures.ok in
+    omega (arith, d.subject_is, ap (λ (ds : Domains). length ds) d.domains, length-append (search_of c.self.inside).instance.domains (d.added ∷ []))
