@@ -3,6 +3,7 @@ use crate::transfers::is_answer;
 use cps_outer::{ReadError, ReaderSource, WriteFault, WriterSink, read_all, write_all};
 use std::alloc::Global;
 use std::io::{self, ErrorKind, Read, Write};
+use std::process::Abort;
 use std::test::Fail;
 
 /// Gives two bytes at a time. The call `failing`, from 0 on, fails, and the next one goes on as if nothing had been.
@@ -28,7 +29,7 @@ impl Read for Stumbling {
 }
 
 /// The call that fails, and what comes of "abcdef".
-const READS: [(Option<u32>, Result<&[u8], ReadError>); 5] = [
+static READS: [(Option<u32>, Result<&[u8], ReadError>); 5] = [
     (None, Ok(b"abcdef")),
     (Some(0), Err(ReadError::ReadFault)),
     (Some(1), Err(ReadError::ReadFault)),
@@ -46,12 +47,16 @@ fn read_of(alloc: Global, failing: Option<u32>) -> Result<Vec<u8>, ReadError> {
     read_all(alloc, &mut source, 6)
 }
 
-#[test]
-fn a_failed_read_is_not_the_end(rt: HostRuntime) {
-    for (failing, expected) in READS.iter() {
-        let read = read_of(rt.alloc(), *failing);
+fn assert_reads(rt: &impl Abort, alloc: Global, rows: &[(Option<u32>, Result<&[u8], ReadError>)]) {
+    for (failing, expected) in rows {
+        let read = read_of(alloc, *failing);
         assert!(rt; is_answer(&read, expected), "{failing:?}");
     }
+}
+
+#[test]
+fn a_failed_read_is_not_the_end(rt: HostRuntime) {
+    assert_reads(&rt, rt.alloc(), &READS)
 }
 
 /// Takes two bytes at a time. The call `failing`, from 0 on, fails, and the call `idle` takes nothing.
@@ -84,20 +89,21 @@ impl Write for Choosy {
 }
 
 /// The call that fails and the one that takes nothing, the answer to "abcdef", and what was taken of it.
-const WRITES: [(Option<u32>, Option<u32>, Result<(), WriteFault>, &[u8]); 5] = [
-    (None, None, Ok(()), b"abcdef"),
-    (Some(0), None, Err(WriteFault), b""),
-    (Some(1), None, Err(WriteFault), b"ab"),
-    (None, Some(2), Err(WriteFault), b"abcd"),
-    (Some(3), Some(4), Ok(()), b"abcdef"),
+static WRITES: [(Option<u32>, Option<u32>, (Result<(), WriteFault>, &[u8])); 5] = [
+    (None, None, (Ok(()), b"abcdef")),
+    (Some(0), None, (Err(WriteFault), b"")),
+    (Some(1), None, (Err(WriteFault), b"ab")),
+    (None, Some(2), (Err(WriteFault), b"abcd")),
+    (Some(3), Some(4), (Ok(()), b"abcdef")),
 ];
 
-/// What is answered to "abcdef", and what is taken of it, where one call fails and one takes nothing.
-fn written(
+/// Whether this is answered to "abcdef" and so much is taken of it, where one call fails and one takes nothing.
+fn is_written(
     alloc: Global,
     failing: Option<u32>,
     idle: Option<u32>,
-) -> (Result<(), WriteFault>, Vec<u8>) {
+    expected: &(Result<(), WriteFault>, &[u8]),
+) -> bool {
     let mut writer = Choosy {
         taken: Vec::new(alloc),
         failing,
@@ -105,25 +111,37 @@ fn written(
         calls: 0,
     };
     let answer = write_all(&mut WriterSink::new(&mut writer), b"abcdef");
-    let Choosy { taken, .. } = writer;
-    (answer, taken)
+    answer == expected.0 && writer.taken.as_slice() == expected.1
 }
 
-#[test]
-fn a_write_that_takes_nothing_has_failed(rt: HostRuntime) {
-    for (failing, idle, expected, taken) in WRITES.iter() {
-        let (answer, bytes) = written(rt.alloc(), *failing, *idle);
-        assert_eq!(rt; &answer, expected);
-        assert!(rt; bytes.as_slice() == *taken);
+fn assert_writes(
+    rt: &impl Abort,
+    alloc: Global,
+    rows: &[(Option<u32>, Option<u32>, (Result<(), WriteFault>, &[u8]))],
+) {
+    for (failing, idle, expected) in rows {
+        assert!(rt;
+            is_written(alloc, *failing, *idle, expected),
+            "{failing:?} {idle:?}"
+        );
     }
 }
 
 #[test]
+fn a_write_that_takes_nothing_has_failed(rt: HostRuntime) {
+    assert_writes(&rt, rt.alloc(), &WRITES)
+}
+
+/// The bytes that reading these of memory gives.
+fn read_back(alloc: Global, bytes: &[u8]) -> Result<Vec<u8>, ReadError> {
+    let mut source = ReaderSource::new(bytes);
+    read_all(alloc, &mut source, 6)
+}
+
+#[test]
 fn bytes_in_memory_go_through_std(rt: HostRuntime) -> Result<(), Fail> {
-    let alloc = rt.alloc();
-    let mut source = ReaderSource::new(b"abcdef".as_slice());
-    let read = read_all(alloc, &mut source, 6)?;
-    let mut written = Vec::new(alloc);
+    let read = read_back(rt.alloc(), b"abcdef")?;
+    let mut written = Vec::new(rt.alloc());
     write_all(&mut WriterSink::new(&mut written), &read)?;
     assert!(rt; written.as_slice() == b"abcdef".as_slice());
     Ok(())

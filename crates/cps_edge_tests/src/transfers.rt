@@ -4,10 +4,11 @@ use cps_outer::{
     read_all, write_all,
 };
 use std::alloc::{AllocError, Global};
+use std::process::Abort;
 use std::test::Fail;
 
 /// The lengths of the pieces, the numbers of the calls that fail, the limit, and the answer to "abcdef".
-const READS: [(&[usize], &[usize], usize, Result<&[u8], ReadError>); 7] = [
+static READS: [(&[usize], &[usize], usize, Result<&[u8], ReadError>); 7] = [
     (&[], &[], 6, Ok(b"abcdef")),
     (&[], &[], 5, Err(ReadError::TooLong)),
     (&[1, 2], &[], 6, Ok(b"abcdef")),
@@ -18,12 +19,12 @@ const READS: [(&[usize], &[usize], usize, Result<&[u8], ReadError>); 7] = [
 ];
 
 /// How many bytes are taken at once, the numbers of the calls that fail, the answer to "abcdef" and what is held then.
-const WRITES: [(usize, &[usize], Result<(), WriteFault>, &[u8]); 5] = [
-    (6, &[], Ok(()), b"abcdef"),
-    (4, &[], Ok(()), b"abcdef"),
-    (0, &[6], Ok(()), b"abcdef"),
-    (2, &[0], Err(WriteFault), b""),
-    (2, &[1], Err(WriteFault), b"ab"),
+static WRITES: [(usize, &[usize], (Result<(), WriteFault>, &[u8])); 5] = [
+    (6, &[], (Ok(()), b"abcdef")),
+    (4, &[], (Ok(()), b"abcdef")),
+    (0, &[6], (Ok(()), b"abcdef")),
+    (2, &[0], (Err(WriteFault), b"")),
+    (2, &[1], (Err(WriteFault), b"ab")),
 ];
 
 /// Whether bytes were read, or the cause was given, as expected.
@@ -48,17 +49,36 @@ fn source_of(
     ))
 }
 
-#[test]
-fn reads_to_the_end(rt: HostRuntime) -> Result<(), Fail> {
-    for (pieces, failing, limit, expected) in READS.iter() {
-        let mut source = source_of(rt.alloc(), pieces, failing)?;
-        let read = read_all(rt.alloc(), &mut source, (*limit).min(100));
+/// Whether "abcdef", in these pieces and with these failing calls, is read as expected.
+fn reads_as(
+    alloc: Global,
+    pieces: &[usize],
+    failing: &[usize],
+    limit: usize,
+    expected: &Result<&[u8], ReadError>,
+) -> Result<bool, AllocError> {
+    let mut source = source_of(alloc, pieces, failing)?;
+    let read = read_all(alloc, &mut source, limit.min(100));
+    Ok(is_answer(&read, expected))
+}
+
+fn assert_reads(
+    rt: &impl Abort,
+    alloc: Global,
+    rows: &[(&[usize], &[usize], usize, Result<&[u8], ReadError>)],
+) -> Result<(), Fail> {
+    for (pieces, failing, limit, expected) in rows {
         assert!(rt;
-            is_answer(&read, expected),
+            reads_as(alloc, pieces, failing, *limit, expected)?,
             "{pieces:?} {failing:?} {limit}"
         );
     }
     Ok(())
+}
+
+#[test]
+fn reads_to_the_end(rt: HostRuntime) -> Result<(), Fail> {
+    assert_reads(&rt, rt.alloc(), &READS)
 }
 
 #[test]
@@ -75,14 +95,35 @@ fn sink_of(alloc: Global, at_once: usize, failing: &[usize]) -> Result<MemorySin
     Ok(MemorySink::new(alloc, at_once, failing))
 }
 
-#[test]
-fn writes_all(rt: HostRuntime) -> Result<(), Fail> {
-    for (at_once, failing, expected, held) in WRITES.iter() {
-        let mut sink = sink_of(rt.alloc(), *at_once, failing)?;
-        assert_eq!(rt; &write_all(&mut sink, b"abcdef"), expected);
-        assert!(rt; sink.bytes() == *held);
+/// Whether "abcdef" has this answer from a sink with these failing calls, which holds so much then.
+fn writes_as(
+    alloc: Global,
+    at_once: usize,
+    failing: &[usize],
+    expected: &(Result<(), WriteFault>, &[u8]),
+) -> Result<bool, AllocError> {
+    let mut sink = sink_of(alloc, at_once, failing)?;
+    let answer = write_all(&mut sink, b"abcdef");
+    Ok(answer == expected.0 && sink.bytes() == expected.1)
+}
+
+fn assert_writes(
+    rt: &impl Abort,
+    alloc: Global,
+    rows: &[(usize, &[usize], (Result<(), WriteFault>, &[u8]))],
+) -> Result<(), Fail> {
+    for (at_once, failing, expected) in rows {
+        assert!(rt;
+            writes_as(alloc, *at_once, failing, expected)?,
+            "{at_once} {failing:?}"
+        );
     }
     Ok(())
+}
+
+#[test]
+fn writes_all(rt: HostRuntime) -> Result<(), Fail> {
+    assert_writes(&rt, rt.alloc(), &WRITES)
 }
 
 #[test]
