@@ -119,3 +119,8 @@ none_fits first = record {
 pub idle_fit : (first : Domains) (tasks : List Task) → tasks ≡ idle_task ∷ idle_task ∷ [] → All (IsFitting first) tasks
 idle_fit first tasks e = subst (λ (us : List Task). All (IsFitting first) us) (sym e)
     (All-cons (IsFitting first) idle_task (idle_task ∷ []) (none_fits first) (All-cons (IsFitting first) idle_task [] (none_fits first) (All-nil (IsFitting first))))
+
+-- tasks that fit go on to fit where the first domains stay
+pub fits_after : (d e : Domains) (ts us : List Task) → us ≡ ts → e ≡ d → All (IsFitting d) ts → All (IsFitting e) us
+fits_after d e ts us same first fit = subst (λ (xs : List Task). All (IsFitting e) xs) (sym same)
+    (subst (λ (x : Domains). All (IsFitting x) ts) (sym first) fit)

@@ -1,70 +1,22 @@
 //! The instances of a model that says nothing, of one with a clause and of one with a strategy.
 //!
 //! Looked at are the numbers of subjects and tasks, the ends of the domains, and which expressions of a strategy have a
-//! subject of their own. Helpers own a model and lend it, so that no test holds two large values at a time.
+//! subject of their own. The strategy has expressions in both forms, which no text can give, so its model is built here.
+use crate::reading::valid_model;
 use crate::stores::at_most;
 use cps_instance::{Body, Instance};
-use cps_model::{
-    Choose, Constraint, CpModel, Exprs, Kind, LinearExpr, Listed, Select, Strategy, Text, Variable,
-};
+use cps_model::{Choose, CpModel, Exprs, LinearExpr, Listed, Select, Strategy, Text, Variable};
 use cps_validate::{ValidModel, validate};
 use std::alloc::{AllocError, Global};
 use std::test::Fail;
 
-fn model_of(
-    alloc: Global,
-    variables: Listed<Variable>,
-    constraints: Listed<Constraint>,
-    strategies: Listed<Strategy>,
-) -> CpModel {
-    CpModel {
-        name: Text::new(alloc),
-        variables,
-        constraints,
-        objective: None,
-        strategies,
-        hint: None,
-        assumptions: Listed::new(alloc),
-    }
-}
-
-/// A variable of the values 0 and 1.
-fn one_variable(alloc: Global) -> Result<Listed<Variable>, AllocError> {
-    let mut variables = Vec::new(alloc);
-    push_variable(alloc, &mut variables, 0, 1)?;
-    Ok(Listed::from_vec(variables))
-}
-
-/// The clause that the variable is not 1.
-fn one_clause(alloc: Global) -> Result<Listed<Constraint>, AllocError> {
-    let literals = Vec::from_slice(alloc, &[-1])?;
-    let clause = Constraint {
-        name: Text::new(alloc),
-        enforcement: Listed::new(alloc),
-        kind: Kind::BoolOr(Listed::from_vec(literals)),
-    };
-    Ok(Listed::from_vec(vec![in alloc; clause]?))
-}
-
-/// How many of each an instance has, whether its first task is the clause, and whether it is of a model without
-/// assumptions.
-#[derive(Clone, Copy)]
-struct Sizes {
-    variables: usize,
-    subjects: usize,
-    tasks: usize,
-    has_clause: bool,
-    is_unassumed: bool,
-}
-
-fn sizes_of(instance: &Instance) -> Sizes {
-    Sizes {
-        variables: instance.variable_count(),
-        subjects: instance.domains().len(),
-        tasks: instance.tasks().len(),
-        has_clause: begins_with_the_clause(instance),
-        is_unassumed: instance.assumptions().is_empty(),
-    }
+/// How many variables, subjects and tasks an instance has.
+fn sizes_of(instance: &Instance) -> [usize; 3] {
+    [
+        instance.variable_count(),
+        instance.domains().len(),
+        instance.tasks().len(),
+    ]
 }
 
 /// Defines the sum of no term and 5. The number of its subject.
@@ -75,34 +27,34 @@ fn define_constant(instance: &mut Instance) -> Option<u32> {
     instance.define(&[], 5).ok()
 }
 
-/// The instance of a model, and what it is with the sum of no term and 5.
-fn posted(alloc: Global, model: &ValidModel) -> Result<(Sizes, Option<u32>, Sizes), AllocError> {
-    let mut instance = Instance::of(alloc, model)?;
-    let first = sizes_of(&instance);
-    let subject = define_constant(&mut instance);
-    Ok((first, subject, sizes_of(&instance)))
+/// The sizes of an instance, whether its model makes no assumptions, and with the sum of no term and 5 the number of
+/// that sum's subject and the sizes.
+#[derive(Clone, Copy)]
+struct Grown {
+    first: [usize; 3],
+    is_unassumed: bool,
+    subject: Option<u32>,
+    then: [usize; 3],
 }
 
-fn posted_empty(alloc: Global) -> Option<(Sizes, Option<u32>, Sizes)> {
-    let model = model_of(
-        alloc,
-        Listed::new(alloc),
-        Listed::new(alloc),
-        Listed::new(alloc),
-    );
-    let valid = validate(alloc, model).ok()?;
-    posted(alloc, &valid).ok()
+fn grow(alloc: Global, model: &ValidModel) -> Result<Grown, AllocError> {
+    let mut instance = Instance::of(alloc, model)?;
+    Ok(Grown {
+        first: sizes_of(&instance),
+        is_unassumed: instance.assumptions().is_empty(),
+        subject: define_constant(&mut instance),
+        then: sizes_of(&instance),
+    })
 }
 
 #[test]
 fn instance_of_an_empty_model(rt: HostRuntime) -> Result<(), Fail> {
-    let (first, subject, then) = posted_empty(rt.alloc()).ok_or("no instance")?;
-    assert_eq!(rt; first.variables, 0);
-    assert!(rt; first.is_unassumed);
-    assert_eq!(rt; first.tasks, 2);
-    assert_eq!(rt; subject, Some(0));
-    assert_eq!(rt; then.subjects, 1);
-    assert_eq!(rt; then.tasks, 3);
+    let model = valid_model(&rt, rt.alloc(), "")?;
+    let grown = grow(rt.alloc(), &model)?;
+    assert!(rt; grown.first == [0, 0, 2]);
+    assert!(rt; grown.is_unassumed);
+    assert!(rt; grown.subject == Some(0));
+    assert!(rt; grown.then == [0, 1, 3]);
     Ok(())
 }
 
@@ -117,24 +69,19 @@ fn begins_with_the_clause(instance: &Instance) -> bool {
     task.enforcement.is_empty() && atoms.as_slice() == [at_most(0, 0)].as_slice()
 }
 
-fn clause_model(alloc: Global) -> Result<CpModel, AllocError> {
-    let variables = one_variable(alloc)?;
-    let constraints = one_clause(alloc)?;
-    Ok(model_of(alloc, variables, constraints, Listed::new(alloc)))
+/// The sizes of an instance, and whether its first task is the clause.
+fn posted(alloc: Global, model: &ValidModel) -> Result<([usize; 3], bool), AllocError> {
+    let instance = Instance::of(alloc, model)?;
+    Ok((sizes_of(&instance), begins_with_the_clause(&instance)))
 }
 
-fn posted_clause(alloc: Global) -> Option<(Sizes, Option<u32>, Sizes)> {
-    let valid = validate(alloc, clause_model(alloc).ok()?).ok()?;
-    posted(alloc, &valid).ok()
-}
+/// A variable of the values 0 and 1, and the clause that it is not 1.
+const CLAUSE: &str = "variables { domain: [0, 1] } constraints { bool_or { literals: -1 } }";
 
 #[test]
 fn instance_of_a_clause(rt: HostRuntime) -> Result<(), Fail> {
-    let (first, _, _) = posted_clause(rt.alloc()).ok_or("no instance")?;
-    assert_eq!(rt; first.variables, 1);
-    assert_eq!(rt; first.subjects, 1);
-    assert_eq!(rt; first.tasks, 3);
-    assert!(rt; first.has_clause);
+    let model = valid_model(&rt, rt.alloc(), CLAUSE)?;
+    assert!(rt; posted(rt.alloc(), &model)? == ([1, 1, 3], true));
     Ok(())
 }
 
@@ -237,7 +184,15 @@ fn two_variables(alloc: Global) -> Result<Listed<Variable>, AllocError> {
 fn steered_model(alloc: Global) -> Result<CpModel, AllocError> {
     let variables = two_variables(alloc)?;
     let strategies = one_strategy(alloc)?;
-    Ok(model_of(alloc, variables, Listed::new(alloc), strategies))
+    Ok(CpModel {
+        name: Text::new(alloc),
+        variables,
+        constraints: Listed::new(alloc),
+        objective: None,
+        strategies,
+        hint: None,
+        assumptions: Listed::new(alloc),
+    })
 }
 
 /// The least and the greatest value of each subject.

@@ -37,6 +37,8 @@ mod engines;
 #[cfg(test)]
 mod instances;
 #[cfg(test)]
+mod reading;
+#[cfg(test)]
 mod runs;
 #[cfg(test)]
 mod stores;

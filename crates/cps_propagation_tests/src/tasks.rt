@@ -3,210 +3,43 @@
 //! One model has a constraint of each kind, with expressions that are variables and others that are sums; the subjects
 //! of each task are flattened into a list in the order of the body's fields, and compared with a list that was counted
 //! by hand.
+use crate::reading::valid_model;
 use cps_instance::{Body, Instance, Span};
 use cps_literal::Atom;
-use cps_model::{Constraint, CpModel, Exprs, Kind, LinearExpr, Listed, Text, Variable};
-use cps_validate::{ValidModel, validate};
+use cps_validate::ValidModel;
 use std::alloc::{AllocError, Global};
+use std::test::Fail;
 
-/// The bounds of four variables. Sums have the subjects from 4 on.
-static BOUNDS: [[i64; 2]; 4] = [[0, 1], [0, 1], [0, 9], [1, 9]];
-
-fn refs(alloc: Global, items: &[i32]) -> Result<Listed<i32>, AllocError> {
-    Ok(Listed::from_vec(Vec::from_slice(alloc, items)?))
-}
-
-fn ints(alloc: Global, items: &[i64]) -> Result<Listed<i64>, AllocError> {
-    Ok(Listed::from_vec(Vec::from_slice(alloc, items)?))
-}
-
-/// An expression of one variable, or of none.
-#[derive(Clone, Copy)]
-enum Written {
-    Variable(i32),
-    /// A variable, so many times, and an offset.
-    Times(i32, i64, i64),
-    Number(i64),
-}
-
-fn times(alloc: Global, reference: i32, coeff: i64, offset: i64) -> Result<LinearExpr, AllocError> {
-    Ok(LinearExpr {
-        vars: refs(alloc, &[reference])?,
-        coeffs: ints(alloc, &[coeff])?,
-        offset,
-    })
-}
-
-fn expr(alloc: Global, written: Written) -> Result<LinearExpr, AllocError> {
-    match written {
-        Written::Variable(reference) => times(alloc, reference, 1, 0),
-        Written::Times(reference, coeff, offset) => times(alloc, reference, coeff, offset),
-        Written::Number(offset) => Ok(LinearExpr {
-            vars: Listed::new(alloc),
-            coeffs: Listed::new(alloc),
-            offset,
-        }),
-    }
-}
-
-fn exprs(alloc: Global, list: &[Written]) -> Result<Listed<LinearExpr>, AllocError> {
-    let mut exprs = Vec::new(alloc);
-    for written in list {
-        let expr = expr(alloc, *written)?;
-        exprs.push(expr)?;
-    }
-    Ok(Listed::from_vec(exprs))
-}
-
-/// Expressions that are written out.
-fn written_out(alloc: Global, list: &[Written]) -> Result<Exprs, AllocError> {
-    let exprs = exprs(alloc, list)?;
-    Ok(Exprs::of(exprs.into_vec(), Vec::new(alloc)))
-}
-
-/// The operands of the kinds that compute a number.
-fn operands(place: usize) -> &'static [Written] {
-    match place {
-        0 => &[Written::Variable(2), Written::Variable(3)],
-        1 => &[Written::Times(2, 2, 0), Written::Variable(3)],
-        2 => &[],
-        _ => &[Written::Times(2, 1, 1)],
-    }
-}
-
-/// Kinds that compute a number.
-fn computed(alloc: Global, place: usize) -> Result<Kind, AllocError> {
-    let target = expr(alloc, Written::Variable(2))?;
-    let exprs = exprs(alloc, operands(place))?;
-    match place {
-        0 => Ok(Kind::IntDiv { target, exprs }),
-        1 => Ok(Kind::IntMod { target, exprs }),
-        2 => Ok(Kind::IntProd { target, exprs }),
-        _ => Ok(Kind::LinMax { target, exprs }),
-    }
-}
-
-/// Kinds over lists.
-fn listed(alloc: Global, place: usize) -> Result<Kind, AllocError> {
-    match place {
-        4 => Ok(Kind::Element {
-            index: expr(alloc, Written::Variable(0))?,
-            target: expr(alloc, Written::Variable(2))?,
-            exprs: written_out(alloc, &[Written::Variable(3), Written::Number(7)])?,
-        }),
-        5 => Ok(Kind::Table {
-            exprs: Exprs::of(Vec::new(alloc), Vec::from_slice(alloc, &[2, 3])?),
-            values: ints(alloc, &[1, 2])?,
-            negated: false,
-        }),
-        6 => Ok(Kind::AllDiff(exprs(alloc, &[Written::Variable(2), Written::Variable(3)])?)),
-        7 => Ok(Kind::Circuit {
-            tails: refs(alloc, &[0])?,
-            heads: refs(alloc, &[0])?,
-            literals: refs(alloc, &[-1])?,
-        }),
-        8 => Ok(Kind::Inverse {
-            direct: refs(alloc, &[2, -3])?,
-            inverse: refs(alloc, &[3, 2])?,
-        }),
-        _ => Ok(Kind::Automaton {
-            start: 0,
-            finals: ints(alloc, &[0])?,
-            tails: ints(alloc, &[0])?,
-            heads: ints(alloc, &[0])?,
-            labels: ints(alloc, &[1])?,
-            exprs: written_out(alloc, &[Written::Variable(2)])?,
-        }),
-    }
-}
-
-/// Kinds over time. The interval is constraint 11.
-fn timed(alloc: Global, place: usize) -> Result<Kind, AllocError> {
-    match place {
-        10 => Ok(Kind::NoOverlap(refs(alloc, &[11])?)),
-        11 => Ok(Kind::Interval {
-            start: expr(alloc, Written::Variable(2))?,
-            end: expr(alloc, Written::Times(2, 1, 7))?,
-            size: expr(alloc, Written::Number(7))?,
-        }),
-        12 => Ok(Kind::Cumulative {
-            capacity: expr(alloc, Written::Variable(3))?,
-            intervals: refs(alloc, &[11])?,
-            demands: exprs(alloc, &[Written::Variable(0)])?,
-        }),
-        13 => Ok(Kind::Reservoir {
-            min: 0,
-            max: 5,
-            times: exprs(alloc, &[Written::Variable(2)])?,
-            changes: exprs(alloc, &[Written::Variable(3)])?,
-            active: refs(alloc, &[0])?,
-        }),
-        _ => Ok(Kind::NoOverlap2d {
-            x: refs(alloc, &[11])?,
-            y: refs(alloc, &[11])?,
-        }),
-    }
-}
-
-fn kind_at(alloc: Global, place: usize) -> Result<Kind, AllocError> {
-    if place < 4 {
-        computed(alloc, place)
-    } else if place < 10 {
-        listed(alloc, place)
-    } else {
-        timed(alloc, place)
-    }
-}
-
-fn push_constraint(
-    alloc: Global,
-    constraints: &mut Vec<Constraint>,
-    place: usize,
-) -> Result<(), AllocError> {
-    let kind = kind_at(alloc, place)?;
-    let enforcement = refs(alloc, &[1])?;
-    constraints.push(Constraint {
-        name: Text::new(alloc),
-        enforcement,
-        kind,
-    })?;
-    Ok(())
-}
-
-/// A constraint of each kind, each in force where variable 1 is 1.
-fn constraints_of(alloc: Global) -> Result<Listed<Constraint>, AllocError> {
-    let mut constraints = Vec::new(alloc);
-    for place in 0..15 {
-        push_constraint(alloc, &mut constraints, place)?;
-    }
-    Ok(Listed::from_vec(constraints))
-}
-
-fn variables_of(alloc: Global, rows: &[[i64; 2]]) -> Result<Listed<Variable>, AllocError> {
-    let mut variables = Vec::new(alloc);
-    for bounds in rows {
-        let domain = ints(alloc, bounds)?;
-        variables.push(Variable {
-            name: Text::new(alloc),
-            domain,
-        })?;
-    }
-    Ok(Listed::from_vec(variables))
-}
-
-fn model_of(alloc: Global) -> Result<CpModel, AllocError> {
-    let variables = variables_of(alloc, &BOUNDS)?;
-    let constraints = constraints_of(alloc)?;
-    Ok(CpModel {
-        name: Text::new(alloc),
-        variables,
-        constraints,
-        objective: None,
-        strategies: Listed::new(alloc),
-        hint: None,
-        assumptions: Listed::new(alloc),
-    })
-}
+/// Four variables, and a constraint of each kind, each in force where variable 1 is 1. The interval is constraint 11.
+static MODEL: &str = "\
+    variables { domain: [0, 1] }\n\
+    variables { domain: [0, 1] }\n\
+    variables { domain: [0, 9] }\n\
+    variables { domain: [1, 9] }\n\
+    constraints { enforcement_literal: 1 int_div { target { vars: 2 coeffs: 1 } \
+        exprs { vars: 2 coeffs: 1 } exprs { vars: 3 coeffs: 1 } } }\n\
+    constraints { enforcement_literal: 1 int_mod { target { vars: 2 coeffs: 1 } \
+        exprs { vars: 2 coeffs: 2 } exprs { vars: 3 coeffs: 1 } } }\n\
+    constraints { enforcement_literal: 1 int_prod { target { vars: 2 coeffs: 1 } } }\n\
+    constraints { enforcement_literal: 1 lin_max { target { vars: 2 coeffs: 1 } \
+        exprs { vars: 2 coeffs: 1 offset: 1 } } }\n\
+    constraints { enforcement_literal: 1 element { linear_index { vars: 0 coeffs: 1 } \
+        linear_target { vars: 2 coeffs: 1 } exprs { vars: 3 coeffs: 1 } exprs { offset: 7 } } }\n\
+    constraints { enforcement_literal: 1 table { vars: [2, 3] values: [1, 2] } }\n\
+    constraints { enforcement_literal: 1 all_diff { exprs { vars: 2 coeffs: 1 } exprs { vars: 3 coeffs: 1 } } }\n\
+    constraints { enforcement_literal: 1 circuit { tails: 0 heads: 0 literals: -1 } }\n\
+    constraints { enforcement_literal: 1 inverse { f_direct: [2, -3] f_inverse: [3, 2] } }\n\
+    constraints { enforcement_literal: 1 automaton { starting_state: 0 final_states: 0 \
+        transition_tail: 0 transition_head: 0 transition_label: 1 exprs { vars: 2 coeffs: 1 } } }\n\
+    constraints { enforcement_literal: 1 no_overlap { intervals: 11 } }\n\
+    constraints { enforcement_literal: 1 interval { start { vars: 2 coeffs: 1 } \
+        end { vars: 2 coeffs: 1 offset: 7 } size { offset: 7 } } }\n\
+    constraints { enforcement_literal: 1 cumulative { capacity { vars: 3 coeffs: 1 } intervals: 11 \
+        demands { vars: 0 coeffs: 1 } } }\n\
+    constraints { enforcement_literal: 1 reservoir { min_level: 0 max_level: 5 \
+        time_exprs { vars: 2 coeffs: 1 } level_changes { vars: 3 coeffs: 1 } active_literals: 0 } }\n\
+    constraints { enforcement_literal: 1 no_overlap_2d { x_intervals: 11 y_intervals: 11 } }\n\
+";
 
 fn push_all(subjects: &mut Vec<i64>, more: &[u32]) -> Result<(), AllocError> {
     for subject in more {
@@ -350,12 +183,9 @@ fn posted(alloc: Global, model: &ValidModel) -> Result<(Option<usize>, usize), A
     Ok((wrong, instance.domains().len()))
 }
 
-fn posted_of_model(alloc: Global) -> Option<(Option<usize>, usize)> {
-    let valid = validate(alloc, model_of(alloc).ok()?).ok()?;
-    posted(alloc, &valid).ok()
-}
-
 #[test]
-fn tasks_of_each_kind(rt: HostRuntime) {
-    assert_eq!(rt; posted_of_model(rt.alloc()), Some((None, 10)));
+fn tasks_of_each_kind(rt: HostRuntime) -> Result<(), Fail> {
+    let model = valid_model(&rt, rt.alloc(), MODEL)?;
+    assert!(rt; posted(rt.alloc(), &model)? == (None, 10));
+    Ok(())
 }

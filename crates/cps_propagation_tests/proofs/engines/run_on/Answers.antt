@@ -1,4 +1,4 @@
-use Rattle.std.proofs.Common.{◌≡◌, ◌+◌, ap, sym, subst, Ok, refl, List, length}
+use Rattle.std.proofs.Common.{◌≡◌, ◌∙◌, ◌+◌, ap, sym, subst, Ok, refl, List, length}
 use Rattle.cps_instance.specs.declared.task.Task.{Task}
 use Rattle.cps_trail.specs.Notes.{AllFit, IsGivenAt}
 use Rattle.cps_trail.specs.Trail.{Trail, Entry, Decision}
@@ -6,8 +6,13 @@ use Rattle.cps_propagation_tests.proofs.Noting.{none_fit, none_noted, decided_fi
 use Rattle.cps_propagate.specs.Agenda.{Agenda}
 use Rattle.cps_propagate.specs.Laws.{IsInStep}
 use Rattle.cps_propagate.specs.Notes.{ByTasks}
-use Rattle.cps_propagation_tests.proofs.SumFits.{decided_step}
+use Rattle.cps_propagation_tests.proofs.SumFits.{decided_step, fits_after}
 use Rattle.cps_propagation_tests.proofs.engines.run_on.Goals as goal
+
+pub run_from-requires-clause-fits : goal.run_from-requires-clause-fits
+run_from-requires-clause-fits g c = fits_after c.args.store.now.first c.decide.new.store.first c.args.engine.now.tasks c.run.new.self.tasks
+    (ap (λ (a : Agenda). a.tasks) c.in_ok-run.ensures.keeps)
+    (c.in_ok-was_open.ensures.first ∙ c.in_ok-run.ensures.infers.first) c.requires.fits
 
 pub run_from-requires-clause-in_step : goal.run_from-requires-clause-in_step
 run_from-requires-clause-in_step g c =
