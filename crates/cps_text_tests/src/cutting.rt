@@ -2,6 +2,9 @@
 //!
 //! Tables stand as text, a row on each line, so that many cases cost one function: a text with its tokens, a byte with
 //! a text that is refused there, a string with what it denotes in hexadecimal digits.
+ghost use Rattle.std.specs.Prelude.{◌<◌, length};
+
+use crate::rows::assert_text;
 use cps_lex::{LexError, Token, TokenKind, push_text, tokens};
 use std::alloc::Global;
 use std::fmt::Write;
@@ -18,11 +21,12 @@ fn shown(alloc: Global, tokens: &[Token]) -> Result<String, Fail> {
 }
 
 /// Asserts that a text has these tokens.
-fn assert_tokens(rt: &impl Abort, alloc: Global, text: &[u8], wanted: &str) -> Result<(), Fail> {
-    assert!(rt; text.len() < 1000);
-    let tokens = tokens(alloc, text)?;
+fn assert_tokens(rt: &impl Abort, alloc: Global, text: &str, wanted: &str) -> Result<(), Fail> {
+    let bytes = text.as_bytes();
+    assert!(rt; bytes.len() < 1000);
+    let tokens = tokens(alloc, bytes)?;
     let shown = shown(alloc, &tokens)?;
-    assert_eq!(rt; shown.as_str(), wanted);
+    assert_text(rt, text, &shown, wanted);
     Ok(())
 }
 
@@ -50,7 +54,7 @@ static CUT: [(&str, &str); 6] = [
 
 fn assert_cut(rt: &impl Abort, alloc: Global, rows: &[(&str, &str)]) -> Result<(), Fail> {
     for (text, wanted) in rows {
-        assert_tokens(rt, alloc, text.as_bytes(), wanted)?;
+        assert_tokens(rt, alloc, text, wanted)?;
     }
     Ok(())
 }
@@ -69,7 +73,7 @@ fn assert_one(rt: &impl Abort, alloc: Global, text: &[u8], kind: TokenKind) -> R
         end: text.len() as u32,
     };
     let tokens = tokens(alloc, text)?;
-    assert_eq!(rt; tokens.as_slice(), [whole].as_slice());
+    assert!(rt; tokens.as_slice() == [whole].as_slice());
     Ok(())
 }
 
@@ -103,13 +107,23 @@ fn cuts_numbers(rt: HostRuntime) -> Result<(), Fail> {
     assert_kinds(&rt, rt.alloc(), &NUMBERS)
 }
 
+/// The byte at which no token can stand, where one can at each earlier place.
+fn refused_at(alloc: Global, text: &[u8]) -> Option<usize>
+    requires { length text.now < 1000 }
+{
+    match tokens(alloc, text) {
+        Err(LexError::NoToken { at }) => Some(at),
+        _ => None,
+    }
+}
+
 /// Asserts that no token can stand at this byte, and that one can at each earlier place.
 fn assert_refused(rt: &impl Abort, alloc: Global, text: &[u8], byte: usize) {
     assert!(rt; text.len() < 1000);
-    match tokens(alloc, text) {
-        Err(LexError::NoToken { at }) => assert_eq!(rt; at, byte),
-        _ => assert!(rt; false, "no token was to stand at {byte}"),
-    }
+    assert!(rt;
+        refused_at(alloc, text) == Some(byte),
+        "no token was to stand at {byte}"
+    );
 }
 
 /// Each line is a byte and a text that is refused there.
@@ -213,7 +227,7 @@ fn denoted(alloc: Global, strings: &[&[u8]]) -> Result<String, Fail> {
 fn assert_string(rt: &impl Abort, alloc: Global, text: &[u8], wanted: &str) -> Result<(), Fail> {
     assert_one(rt, alloc, text, TokenKind::Text)?;
     let digits = denoted(alloc, &[text])?;
-    assert_eq!(rt; digits.as_str(), wanted);
+    assert_text(rt, wanted, &digits, wanted);
     Ok(())
 }
 
@@ -271,6 +285,6 @@ fn reads_strings(rt: HostRuntime) -> Result<(), Fail> {
 #[test]
 fn joins_strings(rt: HostRuntime) -> Result<(), Fail> {
     let digits = denoted(rt.alloc(), &[b"'a'", b"\"\\142\""])?;
-    assert_eq!(rt; digits.as_str(), "6162");
+    assert_text(&rt, "a and b", &digits, "6162");
     Ok(())
 }

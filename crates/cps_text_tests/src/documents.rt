@@ -2,6 +2,7 @@
 //!
 //! In most rows each byte of a text is taken as one token, whose kind the byte tells, so that a token's number is a
 //! byte's place. A few rows are cut by the lexer first.
+use crate::rows::{assert_so, assert_text};
 use cps_lex::{Token, TokenKind, tokens};
 use cps_textproto::{TextError, document};
 use std::alloc::Global;
@@ -56,7 +57,7 @@ fn fault(
 fn assert_fault(rt: &impl Abort, alloc: Global, text: &str, wanted: &str) -> Result<(), Fail> {
     let tokens = bytes_as_tokens(rt, alloc, text.as_bytes())?;
     let fault = fault(rt, alloc, text.as_bytes(), &tokens)?;
-    assert_eq!(rt; fault, wanted.parse::<usize>().ok(), "{text}");
+    assert_so(rt, text, fault == wanted.parse::<usize>().ok());
     Ok(())
 }
 
@@ -169,7 +170,7 @@ fn assert_cut_fault(
     let bytes = text.as_bytes();
     assert!(rt; bytes.len() < 1000);
     let tokens = tokens(alloc, bytes)?;
-    assert_eq!(rt; fault(rt, alloc, bytes, &tokens)?, wanted, "{text}");
+    assert_so(rt, text, fault(rt, alloc, bytes, &tokens)? == wanted);
     Ok(())
 }
 
@@ -204,14 +205,18 @@ fn refuses_cut_texts(rt: HostRuntime) -> Result<(), Fail> {
     assert_cut_faults(&rt, rt.alloc(), &CUT)
 }
 
+/// The tree of a text on these tokens, as `Debug` shows it.
+fn tree(rt: &impl Abort, alloc: Global, text: &str, tokens: &[Token]) -> Result<String, Fail> {
+    assert!(rt; tokens.len() < 1000);
+    let node = document(alloc, text.as_bytes(), tokens)?;
+    Ok(format!(in alloc; "{node:?}")?)
+}
+
 /// Asserts that this is the tree of a text whose bytes are its tokens.
 fn assert_tree(rt: &impl Abort, alloc: Global, text: &str, wanted: &str) -> Result<(), Fail> {
-    let bytes = text.as_bytes();
-    let tokens = bytes_as_tokens(rt, alloc, bytes)?;
-    assert!(rt; tokens.len() < 1000);
-    let node = document(alloc, bytes, &tokens)?;
-    let shown = format!(in alloc; "{node:?}")?;
-    assert_eq!(rt; shown.as_str(), wanted, "{text}");
+    let tokens = bytes_as_tokens(rt, alloc, text.as_bytes())?;
+    let tree = tree(rt, alloc, text, &tokens)?;
+    assert_text(rt, text, &tree, wanted);
     Ok(())
 }
 

@@ -1,6 +1,7 @@
 //! Models against the rules that single kinds have, and against those rules of all kinds that their lists and literals
 //! keep. Each line of a table is the rule that a constraint breaks first, or `-`, the domains of the variables, and the
 //! constraint, which is the first of its model.
+use crate::rows::assert_so;
 use crate::rules::broken;
 use cps_model::Place;
 use std::alloc::{AllocError, Global};
@@ -128,9 +129,8 @@ static TABLES: [&str; 8] = [
     DIVISORS, FACTORS, OPERANDS, INTERVALS, ARCS, LEVELS, LISTS, ORDERED,
 ];
 
-/// The text of a model with variables of these domains, a constraint, an interval and a constraint of no kind.
-fn text_of(alloc: Global, domains: &str, constraint: &str) -> Result<String, AllocError> {
-    let mut text = String::new(alloc);
+/// Appends variables of these domains.
+fn push_variables(text: &mut String, domains: &str) -> Result<(), AllocError> {
     for domain in domains.split(" and ") {
         if !domain.is_empty() {
             text.push_str("variables { domain: ")?;
@@ -138,6 +138,13 @@ fn text_of(alloc: Global, domains: &str, constraint: &str) -> Result<String, All
             text.push_str(" } ")?;
         }
     }
+    Ok(())
+}
+
+/// The text of a model with variables of these domains, a constraint, an interval and a constraint of no kind.
+fn text_of(alloc: Global, domains: &str, constraint: &str) -> Result<String, AllocError> {
+    let mut text = String::new(alloc);
+    push_variables(&mut text, domains)?;
     text.push_str("constraints { ")?;
     text.push_str(constraint)?;
     text.push_str(" } constraints { interval { } } constraints { }")?;
@@ -153,7 +160,7 @@ fn assert_line(rt: &impl Abort, alloc: Global, line: &str) -> Result<(), Fail> {
         .parse::<u8>()
         .ok()
         .map(|rule| (rule, Place::Constraint(0)));
-    assert_eq!(rt; broken(rt, alloc, &text)?, wanted, "{line}");
+    assert_so(rt, line, broken(rt, alloc, &text)? == wanted);
     Ok(())
 }
 

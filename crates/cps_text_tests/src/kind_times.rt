@@ -2,7 +2,7 @@
 //!
 //! A row has intervals, one constraint on them, and for each choice of presence literals whether it is a solution. The
 //! answers follow from the definition of the constraint, interval by interval.
-use crate::kind_values::is_solution;
+use crate::kind_values::assert_solution;
 use std::alloc::Global;
 use std::fmt::Write;
 use std::process::Abort;
@@ -142,14 +142,21 @@ static BOXES: [Row; 4] = [
     },
 ];
 
+/// Appends an interval.
+fn push_interval(text: &mut String, interval: &[i64; 3]) -> Result<(), Fail> {
+    let [start, end, size] = interval;
+    write!(
+        text,
+        "interval {{ start {{ offset: {start} }} end {{ offset: {end} }} size {{ offset: {size} }} }} }} "
+    )?;
+    Ok(())
+}
+
 /// Appends intervals, the one of number k present where variable k is 1.
 fn push_intervals(text: &mut String, intervals: &[[i64; 3]]) -> Result<(), Fail> {
-    for (literal, [start, end, size]) in (0u32..1000).zip(intervals.iter()) {
+    for (literal, interval) in intervals.iter().enumerate() {
         write!(text, "constraints {{ enforcement_literal: {literal} ")?;
-        write!(
-            text,
-            "interval {{ start {{ offset: {start} }} end {{ offset: {end} }} size {{ offset: {size} }} }} }} "
-        )?;
+        push_interval(text, interval)?;
     }
     Ok(())
 }
@@ -176,8 +183,7 @@ fn assert_solutions(
     wanted: bool,
 ) -> Result<(), Fail> {
     for values in assignments {
-        let found = is_solution(rt, alloc, text, values)?;
-        assert_eq!(rt; found, wanted, "{values:?} of {text}");
+        assert_solution(rt, alloc, text, values, wanted)?;
     }
     Ok(())
 }

@@ -262,15 +262,23 @@ fn text_of(alloc: Global, row: &Row, count: usize) -> Result<String, AllocError>
 }
 
 /// Whether values are a solution of the model of a text.
-pub fn is_solution(
+fn is_solution(rt: &impl Abort, alloc: Global, text: &str, values: &[i64]) -> Result<bool, Fail> {
+    let model = valid_model(rt, alloc, text)?;
+    assert!(rt; values.len() == model.model().variables.len());
+    Ok(satisfies(alloc, &model, values)?)
+}
+
+/// Asserts whether values are a solution of the model of a text.
+pub fn assert_solution(
     rt: &impl Abort,
     alloc: Global,
     text: &str,
     values: &[i64],
-) -> Result<bool, Fail> {
-    let model = valid_model(rt, alloc, text)?;
-    assert_eq!(rt; values.len(), model.model().variables.len(), "{text}");
-    Ok(satisfies(alloc, &model, values)?)
+    wanted: bool,
+) -> Result<(), Fail> {
+    let found = is_solution(rt, alloc, text, values)?;
+    assert!(rt; found == wanted, "{values:?} of {text}");
+    Ok(())
 }
 
 /// Asserts of assignments of a row whether they are solutions.
@@ -283,8 +291,7 @@ fn assert_solutions(
 ) -> Result<(), Fail> {
     for values in assignments {
         let text = text_of(alloc, row, values.len())?;
-        let found = is_solution(rt, alloc, &text, values)?;
-        assert_eq!(rt; found, wanted, "{values:?} of {text}");
+        assert_solution(rt, alloc, &text, values, wanted)?;
     }
     Ok(())
 }
@@ -330,9 +337,8 @@ fn assert_free_out_of_force(rt: &impl Abort, alloc: Global, kind: &str) -> Resul
         "variables {{ domain: [0, 1] }} variables {{ domain: [0, 1] }} constraints {{ enforcement_literal: 0 {kind} }} \
          constraints {{ interval {{ end {{ offset: 1 }} size {{ offset: 1 }} }} }}"
     )?;
-    assert!(rt; !is_solution(rt, alloc, &text, &[1, 1])?, "{kind}");
-    assert!(rt; is_solution(rt, alloc, &text, &[0, 1])?, "{kind}");
-    Ok(())
+    assert_solution(rt, alloc, &text, &[1, 1], false)?;
+    assert_solution(rt, alloc, &text, &[0, 1], true)
 }
 
 fn assert_all_free(rt: &impl Abort, alloc: Global, kinds: &[&str]) -> Result<(), Fail> {

@@ -4,6 +4,7 @@
 //! has the text and what it is to be.
 use crate::reading::model_of_kind;
 use crate::refusals::assert_refusals;
+use crate::rows::assert_text;
 use cps_model::{Exprs, Kind, LinearExpr, Listed};
 use std::alloc::Global;
 use std::fmt::Write;
@@ -219,7 +220,7 @@ fn held(rt: &impl Abort, alloc: Global, field: &str) -> Result<String, Fail> {
 fn assert_held(rt: &impl Abort, alloc: Global, line: &str) -> Result<(), Fail> {
     let (wanted, field) = line.split_once(": ").ok_or("no field")?;
     let held = held(rt, alloc, field)?;
-    assert_eq!(rt; held.as_str(), wanted, "{field}");
+    assert_text(rt, field, &held, wanted);
     Ok(())
 }
 

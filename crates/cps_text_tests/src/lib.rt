@@ -5,7 +5,8 @@
 //! `printed_kinds` for every kind of constraint, open or closed) and of answers to them (`responses`).
 //!
 //! What a call does is proved. The rows here show that its contract says what was meant: each was worked out by hand
-//! from the specification of the text format and from the message definitions of CP-SAT models.
+//! from the specification of the text format and from the message definitions of CP-SAT models. `reading` and `rows` are
+//! shared: the way from a text to its model, and how what a row comes to is compared.
 #![tactic(auto)]
 
 #[cfg(test)]
@@ -32,6 +33,8 @@ mod reading;
 mod refusals;
 #[cfg(test)]
 mod responses;
+#[cfg(test)]
+mod rows;
 #[cfg(test)]
 mod rules;
 #[cfg(test)]

@@ -55,16 +55,27 @@ fn are_variables(model: &CpModel) -> bool {
     }
 }
 
+/// Whether a constraint is of this kind over these literals.
+fn is_over(constraint: &Constraint, name: &str, literals: &[i32]) -> bool {
+    match &constraint.kind {
+        Kind::BoolAnd(read) => name == "bool_and" && read.as_slice() == literals,
+        Kind::AtMostOne(read) => name == "at_most_one" && read.as_slice() == literals,
+        Kind::ExactlyOne(read) => name == "exactly_one" && read.as_slice() == literals,
+        Kind::BoolXor(read) => name == "bool_xor" && read.as_slice() == literals,
+        _ => false,
+    }
+}
+
 fn are_constraints(model: &CpModel) -> bool {
     match model.constraints.as_slice() {
         [first, second, third, every, most, one, odd] => {
             is_bool_or(first, &[0, i32::MIN], &[i32::MAX])
                 && is_empty(second)
                 && is_linear(third, &[0, 1], &[-3], &[i64::MIN])
-                && matches!(&every.kind, Kind::BoolAnd(read) if read.as_slice() == [1, -2].as_slice())
-                && matches!(&most.kind, Kind::AtMostOne(read) if read.as_slice() == [3].as_slice())
-                && matches!(&one.kind, Kind::ExactlyOne(read) if read.as_slice() == [4, 4].as_slice())
-                && matches!(&odd.kind, Kind::BoolXor(read) if read.as_slice().is_empty())
+                && is_over(every, "bool_and", &[1, -2])
+                && is_over(most, "at_most_one", &[3])
+                && is_over(one, "exactly_one", &[4, 4])
+                && is_over(odd, "bool_xor", &[])
         }
         _ => false,
     }

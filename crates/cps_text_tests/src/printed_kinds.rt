@@ -3,6 +3,7 @@
 //! The canonical text of each row follows from the printed form: newer fields, in the format's order, and nothing that
 //! says nothing.
 use crate::reading::model_of_kind;
+use crate::rows::assert_text;
 use cps_print::model_text;
 use std::alloc::Global;
 use std::process::Abort;
@@ -18,7 +19,7 @@ fn printed(rt: &impl Abort, alloc: Global, kind: &str) -> Result<String, Fail> {
 fn assert_kind(rt: &impl Abort, alloc: Global, kind: &str, wanted: &str) -> Result<(), Fail> {
     let printed = printed(rt, alloc, kind)?;
     let wanted = format!(in alloc; "constraints {{\n{wanted}}}\n")?;
-    assert_eq!(rt; printed.as_str(), wanted.as_str());
+    assert_text(rt, kind, &printed, &wanted);
     Ok(())
 }
 

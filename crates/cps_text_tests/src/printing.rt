@@ -1,15 +1,20 @@
 //! Models in canonical form.
 use crate::reading::model;
+use crate::rows::assert_text;
 use cps_print::model_text;
 use std::alloc::Global;
 use std::process::Abort;
 use std::test::Fail;
 
-/// Asserts that this is the canonical text of the model that a text is read as.
-fn assert_printed(rt: &impl Abort, alloc: Global, text: &str, wanted: &str) -> Result<(), Fail> {
+/// The canonical text of the model that a text is read as.
+fn printed(rt: &impl Abort, alloc: Global, text: &str) -> Result<String, Fail> {
     let model = model(rt, alloc, text)?;
-    let printed = model_text(alloc, &model)?;
-    assert_eq!(rt; printed.as_str(), wanted, "{text}");
+    Ok(model_text(alloc, &model)?)
+}
+
+fn assert_printed(rt: &impl Abort, alloc: Global, text: &str, wanted: &str) -> Result<(), Fail> {
+    let printed = printed(rt, alloc, text)?;
+    assert_text(rt, text, &printed, wanted);
     Ok(())
 }
 

@@ -1,5 +1,6 @@
 //! Documents that are refused, each with its first fault and the byte where that is.
 use crate::reading::refusal;
+use crate::rows::assert_text;
 use std::alloc::Global;
 use std::process::Abort;
 use std::test::Fail;
@@ -8,7 +9,7 @@ use std::test::Fail;
 fn assert_refusal(rt: &impl Abort, alloc: Global, text: &str, wanted: &str) -> Result<(), Fail> {
     let (name, byte) = refusal(rt, alloc, text)?;
     let shown = format!(in alloc; "{name:?} at {byte}")?;
-    assert_eq!(rt; shown.as_str(), wanted, "{text}");
+    assert_text(rt, text, &shown, wanted);
     Ok(())
 }
 

@@ -5,6 +5,7 @@
 ghost use Rattle.std.specs.Prelude.{◌≡◌, [], IfOk};
 ghost use Rattle.cps_print.specs.Responses.{HasShowableLimits, IsSolved, HasFiniteBound};
 
+use crate::rows::assert_text;
 use cps_model::{Bound, CpModel, FaultName, Ints, Listed, Objective, Place, Refs, Status, Text};
 use cps_print::{Fault, Response, fault_text, response_text};
 use std::alloc::{AllocError, Global};
@@ -81,7 +82,7 @@ fn assert_response(
     requires bounded { HasFiniteBound response.now.status response.now.lower }
 {
     let text = response_text(alloc, model, response)?;
-    assert_eq!(rt; text.as_str(), wanted);
+    assert_text(rt, wanted, &text, wanted);
     Ok(())
 }
 
@@ -202,7 +203,7 @@ fn infeasible(rt: HostRuntime) -> Result<(), Fail> {
 fn assert_fault(rt: &impl Abort, alloc: Global, fault: &Fault, cause: &str) -> Result<(), Fail> {
     let text = fault_text(alloc, fault)?;
     let wanted = format!(in alloc; "status: MODEL_INVALID\n# {cause}\n")?;
-    assert_eq!(rt; text.as_str(), wanted.as_str());
+    assert_text(rt, cause, &text, &wanted);
     Ok(())
 }
 

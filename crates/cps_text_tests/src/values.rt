@@ -18,7 +18,7 @@ fn assert_place(
     values: &[i64],
     place: Option<Place>,
 ) -> Result<(), Fail> {
-    assert_eq!(rt; values.len(), model.model().variables.len());
+    assert!(rt; values.len() == model.model().variables.len());
     let answers = (
         satisfies(alloc, model, values)?,
         first_violated(alloc, model, values)?,
@@ -206,12 +206,9 @@ fn assert_objective(
     solution: &[i64],
     wanted: [i64; 2],
 ) -> Result<(), Fail> {
-    assert_eq!(rt; solution.len(), model.model().variables.len());
+    assert!(rt; solution.len() == model.model().variables.len());
     assert!(rt; satisfies(alloc, model, solution)?);
-    assert_eq!(rt;
-        [objective_start(model), objective(model, solution)],
-        wanted
-    );
+    assert!(rt; [objective_start(model), objective(model, solution)] == wanted);
     Ok(())
 }
 
@@ -227,7 +224,7 @@ fn assert_shown(rt: &impl Abort, model: &CpModel, sum: i64, wanted: i128) {
         Some(objective) => {
             assert!(rt; objective.offset.unsigned_abs() <= 1 << 53);
             assert!(rt; objective.scaling.unsigned_abs() <= 1 << 53);
-            assert_eq!(rt; display_value(model, sum), wanted);
+            assert!(rt; display_value(model, sum) == wanted);
         }
         None => assert!(rt; false, "no objective"),
     }
