@@ -192,8 +192,8 @@ fn is_clause(clause: &[Atom], wanted: &[Comparison]) -> bool {
     if clause.len() != wanted.len() {
         return false;
     }
-    for (atom, comparison) in clause.iter().zip(wanted.iter()) {
-        if *atom != atom_of(*comparison) {
+    for (place, atom) in clause.iter().enumerate() {
+        if *atom != atom_of(wanted[place]) {
             return false;
         }
     }

@@ -3,7 +3,10 @@
 //! Rows give the ends of all subjects and what is left of them, worked out by hand; the automaton's reasons are
 //! compared too, since a cut may be chosen in several ways and only one is wanted.
 
-ghost use Rattle.std.specs.Prelude.{IfOk};
+ghost use Rattle.std.specs.Prelude.{◌≡◌, IfOk, IsTrue, length};
+ghost use Rattle.cps_instance.specs.Terms.{Domains};
+ghost use Rattle.cps_instance.specs.Fitting.{IsFittingBody};
+ghost use Rattle.cps_p_sequence.specs.Networks.{is_automaton};
 ghost use Rattle.cps_rule_tests.specs.Ready.{IsPlainTask};
 
 use crate::runs::{Left, Outcome, assert_row, ends_by, leaves, trial};
@@ -11,7 +14,7 @@ use crate::stores::{Comparison, Ends};
 use cps_enforce::Enforced;
 use cps_instance::{Body, Task};
 use cps_literal::Op::{Ge, Le, Ne};
-use cps_model::Listed;
+use cps_model::{Ints, Listed};
 use cps_p_sequence::{Automaton, Inverse};
 use std::alloc::{AllocError, Global};
 use std::process::Abort;
@@ -163,26 +166,41 @@ fn places_that_positions_fill_are_left_to_them(rt: HostRuntime) -> Result<(), Fa
     assert_inverted(&rt, rt.alloc(), &FILLED)
 }
 
-/// The propagator of subjects 0 to 2, which are to be 1 2 1, 1 3 1 or 7 7 7: from 10 label 1 leads to 20, 2 or 3 to 30,
-/// and 1 to the final 40; label 7 leads by 50 and 60. From 20 label 9 leads to 70, and from there nothing leads on.
+/// These numbers as a list.
+fn numbers(alloc: Global, items: &[i64]) -> Result<Ints, AllocError>
+    ensures { IfOk result (λ ints. length ints ≡ length items.now) }
+{
+    Ok(Listed::from_vec(Vec::from_slice(alloc, items)?))
+}
+
+/// That subjects 0 to 2 are 1 2 1, 1 3 1 or 7 7 7: from 10 label 1 leads to 20, 2 or 3 to 30, and 1 to the final 40;
+/// label 7 leads by 50 and 60. From 20 label 9 leads to 70, and from there nothing leads on.
+fn words(alloc: Global) -> Result<Body, AllocError>
+    ensures kind { IfOk result (λ body. IsTrue (is_automaton body)) }
+    ensures fits { IfOk result (λ body. (first : Domains) → IsFittingBody first body) }
+{
+    let exprs = Listed::from_vec(Vec::from_slice(alloc, &[0, 1, 2])?);
+    let finals = numbers(alloc, &[40])?;
+    let tails = numbers(alloc, &[10, 20, 20, 30, 10, 50, 60, 20])?;
+    let heads = numbers(alloc, &[20, 30, 30, 40, 50, 60, 40, 70])?;
+    let labels = numbers(alloc, &[1, 2, 3, 1, 7, 7, 7, 9])?;
+    Ok(Body::Automaton {
+        start: 10,
+        finals,
+        tails,
+        heads,
+        labels,
+        exprs,
+    })
+}
+
+/// The propagator of these words.
 fn automaton(alloc: Global) -> Result<Enforced<Automaton>, AllocError>
     ensures { IfOk result (λ propagator. IsPlainTask propagator) }
 {
-    let tails = Listed::from_vec(Vec::from_slice(alloc, &[10, 20, 20, 30, 10, 50, 60, 20])?);
-    let heads = Listed::from_vec(Vec::from_slice(alloc, &[20, 30, 30, 40, 50, 60, 40, 70])?);
-    let labels = Listed::from_vec(Vec::from_slice(alloc, &[1, 2, 3, 1, 7, 7, 7, 9])?);
-    let finals = Listed::from_vec(Vec::from_slice(alloc, &[40])?);
-    let exprs = Listed::from_vec(Vec::from_slice(alloc, &[0, 1, 2])?);
     let task = Task {
         enforcement: Listed::new(alloc),
-        body: Body::Automaton {
-            start: 10,
-            finals,
-            tails,
-            heads,
-            labels,
-            exprs,
-        },
+        body: words(alloc)?,
     };
     let propagator = Automaton::of(alloc, &task)?;
     Ok(propagator)

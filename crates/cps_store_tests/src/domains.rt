@@ -1,7 +1,10 @@
 //! Cuts of domains, and division.
 
+ghost use Rattle.std.specs.Prelude.{◌≡◌, ◌<◌, ◌*◌, ◌-◌, ◌^◌, length, negsuc};
+ghost use Rattle.cps_domain.specs.Window.{pairs_of, RisesFrom};
+
 use cps_domain::{Cut, Domain, ceil_div, floor_div};
-use std::alloc::AllocError;
+use std::alloc::{AllocError, Global};
 use std::process::Abort;
 use std::test::Fail;
 
@@ -92,43 +95,67 @@ fn cuts_keep_the_values_that_pass(rt: HostRuntime) -> Result<(), Fail> {
     Ok(())
 }
 
-/// Keeps the values that another domain has too; whether the answer and what is left are as wanted.
+/// Keeps the values that a domain of these bounds has too; whether the answer and what is left are as wanted.
 fn intersects(
+    alloc: Global,
     domain: &mut Domain,
-    other: Domain,
+    bounds: &[i64],
     cut: Cut,
     left: &[(i64, i64)],
-) -> Result<bool, AllocError> {
+) -> Result<bool, AllocError>
+    requires pairs { length bounds.now ≡ 2 * length (pairs_of bounds.now) }
+    requires some { 0 < length bounds.now }
+    requires rising { RisesFrom (negsuc (2 ^ 62 - 1)) (pairs_of bounds.now) }
+{
+    let other = Domain::of_bounds(alloc, bounds)?;
     Ok(domain.intersect(&other)? == cut && domain.intervals() == left)
 }
 
 #[test]
 fn one_interval_is_intersected(rt: HostRuntime) -> Result<(), Fail> {
-    let mut domain = Domain::of_bounds(rt.alloc(), &[0, 4])?;
-    let other = Domain::of_bounds(rt.alloc(), &[3, 9])?;
-    assert!(rt; intersects(&mut domain, other, Cut::Narrowed, &[(3, 4)])?);
+    let alloc = rt.alloc();
+    let mut domain = Domain::of_bounds(alloc, &[0, 4])?;
+    assert!(rt; intersects(alloc, &mut domain, &[3, 9], Cut::Narrowed, &[(3, 4)])?);
     Ok(())
 }
 
 /// What 0 to 3, 5 to 8 and 11 to 12 share with 2 to 6 and 8 to 20.
 static SHARED: [(i64, i64); 4] = [(2, 3), (5, 6), (8, 8), (11, 12)];
 
+/// Whether these lists have the shared values, intersecting once more changes nothing, and no value is left that lies
+/// apart.
+fn are_shared(alloc: Global, shared: &[(i64, i64)]) -> Result<bool, AllocError> {
+    let mut domain = Domain::of_bounds(alloc, &[0, 3, 5, 8, 11, 12])?;
+    Ok(
+        intersects(alloc, &mut domain, &[2, 6, 8, 20], Cut::Narrowed, shared)?
+            && intersects(alloc, &mut domain, &[2, 6, 8, 20], Cut::NoChange, shared)?
+            && intersects(alloc, &mut domain, &[4, 4, 13, 14], Cut::Wiped, shared)?,
+    )
+}
+
 #[test]
 fn lists_of_intervals_are_intersected(rt: HostRuntime) -> Result<(), Fail> {
-    let mut domain = Domain::of_bounds(rt.alloc(), &[0, 3, 5, 8, 11, 12])?;
-    let other = Domain::of_bounds(rt.alloc(), &[2, 6, 8, 20])?;
-    assert!(rt; intersects(&mut domain, other, Cut::Narrowed, &SHARED)?);
-    let other = Domain::of_bounds(rt.alloc(), &[2, 6, 8, 20])?;
-    assert!(rt; intersects(&mut domain, other, Cut::NoChange, &SHARED)?);
-    let apart = Domain::of_bounds(rt.alloc(), &[4, 4, 13, 14])?;
-    assert!(rt; intersects(&mut domain, apart, Cut::Wiped, &SHARED)?);
+    assert!(rt; are_shared(rt.alloc(), &SHARED)?);
     Ok(())
+}
+
+/// What is divided by what, and the quotient rounded down and up.
+static QUOTIENTS: [[i128; 4]; 4] = [
+    [-10, 3, -4, -3],
+    [10, -3, -4, -3],
+    [7, 2, 3, 4],
+    [-6, -2, 3, 3],
+];
+
+fn assert_quotients(rt: &impl Abort, rows: &[[i128; 4]]) {
+    for [divided, divisor, down, up] in rows {
+        assert!(rt; *divisor < -1 || *divisor > 1);
+        assert_eq!(rt; floor_div(*divided, *divisor), *down);
+        assert_eq!(rt; ceil_div(*divided, *divisor), *up);
+    }
 }
 
 #[test]
 fn division_rounds_down_or_up(rt: HostRuntime) {
-    assert_eq!(rt; (floor_div(-10, 3), ceil_div(-10, 3)), (-4, -3));
-    assert_eq!(rt; (floor_div(10, -3), ceil_div(10, -3)), (-4, -3));
-    assert_eq!(rt; (floor_div(7, 2), ceil_div(7, 2)), (3, 4));
-    assert_eq!(rt; (floor_div(-6, -2), ceil_div(-6, -2)), (3, 3));
+    assert_quotients(&rt, &QUOTIENTS);
 }

@@ -1,4 +1,4 @@
-use Rattle.std.proofs.Common.{ℕ, ◌≡◌, ◌<◌, ◌∙◌, Ok, length, ap, sym, subst}
+use Rattle.std.proofs.Common.{ℕ, ◌<◌, ◌∙◌, Ok, length, ap, sym, subst}
 use Rattle.std.specs.List.{All}
 use Rattle.cps_instance.specs.declared.task.Task.{Task}
 use Rattle.cps_instance.specs.Tasks.{HoldsTask, subjects_of}
