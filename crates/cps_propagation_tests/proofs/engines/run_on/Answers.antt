@@ -1,4 +1,4 @@
-use Rattle.std.proofs.Common.{◌≡◌, ◌∙◌, ◌+◌, ap, sym, subst, Ok, refl, List, length}
+use Rattle.std.proofs.Common.{◌∙◌, ◌+◌, ap, sym, subst, Ok, refl, List, length}
 use Rattle.cps_instance.specs.declared.task.Task.{Task}
 use Rattle.cps_trail.specs.Notes.{AllFit, IsGivenAt}
 use Rattle.cps_trail.specs.Trail.{Trail, Entry, Decision}
