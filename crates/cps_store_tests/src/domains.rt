@@ -1,4 +1,7 @@
 //! Cuts of domains, and division.
+//!
+//! A row has what a domain is asked to keep, what it answers, and what is left of it; cuts are made one after the other, so
+//! that each row goes on from what the one before left. Rows were worked out by hand from the meaning of a cut.
 
 ghost use Rattle.std.specs.Prelude.{◌≡◌, ◌<◌, ◌*◌, ◌-◌, ◌^◌, length, negsuc};
 ghost use Rattle.cps_domain.specs.Window.{pairs_of, RisesFrom};
@@ -122,8 +125,8 @@ fn one_interval_is_intersected(rt: HostRuntime) -> Result<(), Fail> {
 /// What 0 to 3, 5 to 8 and 11 to 12 share with 2 to 6 and 8 to 20.
 static SHARED: [(i64, i64); 4] = [(2, 3), (5, 6), (8, 8), (11, 12)];
 
-/// Whether these lists have the shared values, intersecting once more changes nothing, and no value is left that lies
-/// apart.
+/// Whether the first list keeps what it shares with the second, the second once more changes nothing, and a list that lies
+/// apart leaves no value.
 fn are_shared(alloc: Global, shared: &[(i64, i64)]) -> Result<bool, AllocError> {
     let mut domain = Domain::of_bounds(alloc, &[0, 3, 5, 8, 11, 12])?;
     Ok(
