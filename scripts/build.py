@@ -1,9 +1,9 @@
 """Proves the crates of the program and builds it, with all processors. `./cpsolve` calls it.
 
 `rt all check` proves crates side by side too, but there a crate that waits for those below it holds a place, and each has one
-job. Here the crate with most to prove in it and in the chain above it comes first, and processors that no other crate can use share
-its check. `rt lib` locks all crates below the one that it proves, so each place has a copy of the sources of its own. What is proved comes
-back to the checkout at once, so a build that was interrupted goes on where it was.
+job. Here the crate with the dearest chain from it upward comes first, and processors that no other crate can use share its
+check. `rt lib` locks all crates below the one that it proves, so each place has a copy of the sources of its own. What is proved
+comes back to the checkout at once, so a build that was interrupted goes on where it was.
 """
 
 import fcntl
@@ -22,6 +22,11 @@ PLACES = TOP / "crates" / PROGRAM / "out" / "places"
 MOST_JOBS = 4
 # The memory that a place should have, in bytes.
 ROOM = 4 << 30
+# What a check pays for beside the text of its crate, counted in bytes of such text: as much as this before its first function,
+# and one part in so many of the text below it, which it reads and whose types its functions reach. Both are fitted to the
+# processor time of all crates.
+START = 100_000
+PART_BELOW = 20
 
 
 def crates_of_program():
@@ -50,12 +55,18 @@ def texts(crate):
     return [file.stat() for part in parts for file in part.rglob("*") if file.is_file()]
 
 
+def prices(uses):
+    """What the check of each crate is likely to cost, in bytes of text."""
+    own = {crate: sum(it.st_size for it in texts(crate)) for crate in uses}
+    lower = {crate: sum(own[it] for it in below(crate, uses)) for crate in uses}
+    return {crate: START + own[crate] + lower[crate] // PART_BELOW for crate in uses}
+
+
 def chains(uses):
-    """How much is to be proved in each crate and the longest chain of crates above it, in bytes of text."""
-    chain = {}
+    """What each crate and the dearest chain of crates above it are likely to cost, in bytes of text."""
+    price, chain = prices(uses), {}
     for crate in reversed(uses):
-        own = sum(it.st_size for it in texts(crate))
-        chain[crate] = own + max((chain[it] for it in chain if crate in uses[it]), default=0)
+        chain[crate] = price[crate] + max((chain[it] for it in chain if crate in uses[it]), default=0)
     return chain
 
 
