@@ -23,8 +23,8 @@ MOST_JOBS = 4
 # The memory that a place should have, in bytes.
 ROOM = 4 << 30
 # What a check pays for beside the text of its crate, counted in bytes of such text: as much as this before its first function,
-# and one part in so many of the text below it, which it reads and whose types its functions reach. Both are fitted to the
-# processor time of all crates.
+# and one part in so many of the text below it, which it reads and whose types its functions reach. Both are rounded from a
+# fit to the processor time of the libraries in one gate.
 START = 100_000
 PART_BELOW = 20
 
