@@ -123,13 +123,47 @@ is_below : (d : Window) (k : ℕ) (v : ℤ) (p : ℤ × ℤ) → IsHeld d k v �
 is_below d k v p h f i e =
     is_lt v (at d k).1 (bits_lt v (at d k).1 true f (fits_high d k (has_place d k h.domain h.low h.high)) (subst (λ (q : ℤ × ℤ). int_lt (bits v) (bits q.1) ≡ true) i e))
 
+-- the next number after one that an interval has, and the one before it, as the code computes them
+pub next_fits : (d : Window) (k : ℕ) (v : ℤ) → IsHeld d k v → FitsSigned w64 v → FitsSigned w64 (bits v +ℤ pos 1)
+next_fits d k v h f =
+    let p = has_place d k h.domain h.low h.high in
+    let l = p.low in let g = p.high in let s = h.begins in let t = h.ends in
+    subst (λ z. FitsSigned w64 (z +ℤ pos 1)) (sym (to_z-of_z w64 v f)) (fits_signed_from_abs w64 (v +ℤ pos 1) (omega (arith, ints)))
+
+pub previous_fits : (d : Window) (k : ℕ) (v : ℤ) → IsHeld d k v → FitsSigned w64 v → FitsSigned w64 (bits v -ℤ pos 1)
+previous_fits d k v h f =
+    let p = has_place d k h.domain h.low h.high in
+    let l = p.low in let g = p.high in let s = h.begins in let t = h.ends in
+    subst (λ z. FitsSigned w64 (z -ℤ pos 1)) (sym (to_z-of_z w64 v f)) (fits_signed_from_abs w64 (v -ℤ pos 1) (omega (arith, ints)))
+
+pub next_same : (d : Window) (k : ℕ) (v x : ℤ) → IsHeld d k v → FitsSigned w64 v → x ≡ bits (bits v +ℤ pos 1) → x ≡ v +ℤ pos 1
+next_same d k v x h f e = e ∙ to_z-of_z w64 (bits v +ℤ pos 1) (next_fits d k v h f) ∙ ap (λ z. z +ℤ pos 1) (to_z-of_z w64 v f)
+
+pub previous_same : (d : Window) (k : ℕ) (v x : ℤ) → IsHeld d k v → FitsSigned w64 v → x ≡ bits (bits v -ℤ pos 1) → x ≡ v -ℤ pos 1
+previous_same d k v x h f e = e ∙ to_z-of_z w64 (bits v -ℤ pos 1) (previous_fits d k v h f) ∙ ap (λ z. z -ℤ pos 1) (to_z-of_z w64 v f)
+
 -- the interval without its end, and without a number inside
+pub shrinks_one : (d : Window) (k : ℕ) (v : ℤ) (q : ℤ × ℤ) → IsHeld d k v → FitsSigned w64 v → q.0 ≡ bits v → q.1 ≡ bits v → Shrinks (at d k) q
+shrinks_one d k v q h f a b =
+    let x = a ∙ to_z-of_z w64 v f in
+    let y = b ∙ to_z-of_z w64 v f in
+    let s = h.begins in let t = h.ends in
+    record { low = omega (arith, ints); ordered = omega (arith, ints); high = omega (arith, ints) }
+
 pub shrinks_left : (d : Window) (k : ℕ) (v : ℤ) (p q : ℤ × ℤ) → IsHeld d k v → FitsSigned w64 v → p ≡ at d k → q.0 ≡ bits p.0 → q.1 ≡ v -ℤ pos 1
     → int_lt (bits p.0) (bits v) ≡ true → Shrinks (at d k) q
 shrinks_left d k v p q h f i e g l =
     let x = low_same d k v q.0 p h i e in
     let y = is_above d k v p h f i l in
     let z = h.ends in
+    record { low = omega (arith, ints); ordered = omega (arith, ints); high = omega (arith, ints) }
+
+pub shrinks_right : (d : Window) (k : ℕ) (v : ℤ) (p q : ℤ × ℤ) → IsHeld d k v → FitsSigned w64 v → p ≡ at d k → q.0 ≡ v +ℤ pos 1 → q.1 ≡ bits p.1
+    → int_lt (bits v) (bits p.1) ≡ true → Shrinks (at d k) q
+shrinks_right d k v p q h f i e g l =
+    let x = high_same d k v q.1 p h i g in
+    let y = is_below d k v p h f i l in
+    let z = h.begins in
     record { low = omega (arith, ints); ordered = omega (arith, ints); high = omega (arith, ints) }
 
 pub is_parted : (d : Window) (k : ℕ) (v : ℤ) (p a b : ℤ × ℤ) → IsHeld d k v → FitsSigned w64 v → p ≡ at d k → a.0 ≡ bits p.0 → a.1 ≡ v -ℤ pos 1 → b.0 ≡ v +ℤ pos 1 → b.1 ≡ bits p.1

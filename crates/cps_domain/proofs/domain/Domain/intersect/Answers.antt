@@ -1,7 +1,9 @@
+-- The domain keeps the intervals that the lists share; one interval shares without a list.
 use Rattle.std.proofs.Common.{arith, refl, true≢false, ap, sym, ◌∙◌, ◌≡◌, length}
 use Rattle.std.proofs.lemmas.Int.{ints}
 use Rattle.std.proofs.lemmas.Bool.{eqb-true}
 use Rattle.cps_domain.specs.Window.{within, contains, intervals}
+use Rattle.cps_domain.proofs.Holding.{one_alone}
 use Rattle.cps_domain.proofs.Composing.{cuts_alike, alone_contains, shares_nothing, shares_all, shares_some}
 use Rattle.cps_domain.proofs.domain.Domain.intersect.Goals as goal
 
@@ -11,6 +13,12 @@ returns-then-is_interval-clause-cuts c =
     cuts_alike (λ x. within x b) (contains c.args.other.now) c.args.self.now c.narrow_within.new.self c.narrow_within.result
     (λ x i. sym (alone_contains c.args.other.now c.between-hull.result x c.min.ensures.domain (c.if-is_interval.ensures.0 refl) (omega (arith, ints, c.between-hull.ensures.low, c.min.ensures.is)) (omega (arith, ints, c.between-hull.ensures.high, c.max.ensures.is))))
     c.narrow_within.ensures
+
+pub returns-in_err-shared-clause-alone : goal.returns-in_err-shared-clause-alone
+returns-in_err-shared-clause-alone c = λ e. absurd (true≢false (sym (c.if-is_interval.ensures.1 (one_alone c.args.other.now c.intervals-2.ensures.domain e))))
+
+pub returns-in_err-self-inside-clause-alone : goal.returns-in_err-self-inside-clause-alone
+returns-in_err-self-inside-clause-alone c = λ e. absurd (true≢false (sym (c.if-is_interval.ensures.1 (one_alone c.args.other.now c.intervals-2.ensures.domain e))))
 
 pub returns-then-is_empty-clause-cuts : goal.returns-then-is_empty-clause-cuts
 returns-then-is_empty-clause-cuts c =
