@@ -1,6 +1,6 @@
 //! The normal form of a clause.
 
-ghost use Rattle.std.specs.Prelude.{ℕ, ℤ, ◌≡◌, ◌<◌, ◌≤◌, ◌+◌, OnOk, IfOk, IsOk, length, List, All, false};
+ghost use Rattle.std.specs.Prelude.{ℕ, ℤ, ◌≡◌, ◌<◌, ◌≤◌, ◌+◌, OnOk, IfOk, IsOk, length, List, [], ◌∷◌, ◌++◌, All, true, false};
 ghost use Rattle.std.specs.List.Sorted.{IsPermutation, IsSortedBy};
 ghost use Rattle.smallvec.specs.SmallVec.{small_vec_len, HasRoomFor};
 ghost use Rattle.cps_literal.specs.Truth.{clause_holds};
@@ -50,13 +50,29 @@ fn normal_of_sorted(alloc: Global, atoms: &[Atom]) -> Result<Clause, AllocError>
 }
 
 /// Adds an atom that comes before none of those kept, and takes out those that imply it, unless it
-/// implies one itself. Only the last atoms, those about the same subject, are looked at.
+/// implies one itself.
 fn include(kept: &mut SmallVec<Atom, 8>, atom: Atom) -> Result<(), AllocError>
     requires normal { IsNormal kept.old.items }
     requires sorted { All (λ u. comes_before atom u ≡ false) kept.old.items }
     ensures includes { OnOk result (Includes kept.old.items atom kept.new.items) }
     ensures succeeds { HasRoomFor kept.old 1 → IsOk result }
     ensures len { small_vec_len kept.new ≤ small_vec_len kept.old + 1 }
+    ensures capacity { kept.old.capacity ≤ kept.new.capacity }
+{
+    if clear_for(kept, atom) {
+        kept.push(atom)?;
+    }
+    Ok(())
+}
+
+/// Takes out the atoms that imply one that comes before none of those kept, and says whether that one is still to be
+/// added. Only the last atoms, those about the same subject, are looked at.
+fn clear_for(kept: &mut SmallVec<Atom, 8>, atom: Atom) -> bool
+    requires normal { IsNormal kept.old.items }
+    requires sorted { All (λ u. comes_before atom u ≡ false) kept.old.items }
+    ensures added { result ≡ true → Includes kept.old.items atom (kept.new.items ++ atom ∷ []) }
+    ensures implied { result ≡ false → Includes kept.old.items atom kept.new.items }
+    ensures len { small_vec_len kept.new ≤ small_vec_len kept.old }
     ensures capacity { kept.old.capacity ≤ kept.new.capacity }
 {
     let mut place = kept.len();
@@ -66,13 +82,12 @@ fn include(kept: &mut SmallVec<Atom, 8>, atom: Atom) -> Result<(), AllocError>
             break;
         }
         if atom.implies(other) {
-            return Ok(());
+            return false;
         }
         place -= 1;
         if other.implies(atom) {
             kept.remove(place);
         }
     }
-    kept.push(atom)?;
-    Ok(())
+    true
 }

@@ -1,7 +1,7 @@
 use Rattle.std.proofs.Common.{◌≤◌}
 use Rattle.smallvec.specs.SmallVec.{small_vec_len}
 use Rattle.cps_literal.proofs.Normalizing.{IncludedSoFar}
-use Rattle.cps_literal.proofs.normal.include.Given as goal
+use Rattle.cps_literal.proofs.normal.clear_for.Given as goal
 
 abbrev pub invariant-loop-place : goal.invariant-loop-place
 invariant-loop-place l = record {
