@@ -1,11 +1,11 @@
 -- What a domain has that keeps no list, or the whole of one.
-use Rattle.std.proofs.Common.{ℕ, ◌≤◌, ◌<◌, ◌-◌, ◌+◌, ℤ, pos, negsuc, ◌≡◌, true, List, [], ◌∷◌, ◌++◌, length, drop, take, refl, sym, ◌∙◌, ap, subst, arith, ◌^◌}
-use Rattle.std.specs.Prelude.{nat_eq, slice_range, slice_set}
+use Rattle.std.proofs.Common.{ℕ, ◌≤◌, ◌<◌, ◌-◌, ◌+◌, ℤ, negsuc, ◌≡◌, ◌==◌, true, false, List, ◌++◌, length, drop, take, refl, sym, ◌∙◌, ap, subst, arith, ◌^◌}
+use Rattle.std.specs.Prelude.{nat_eq, slice_range}
 use Rattle.std.proofs.lemmas.List.{length-take-le, length-drop, take_all, drop_all, append-nil}
 use Rattle.cps_domain.specs.Window.{Window, intervals, RisesFrom, IsDomain, least, greatest, interval_at, pairs_of}
 use Rattle.cps_domain.specs.Cuts.{IsInner, Shrinks, clipped}
 use Rattle.cps_domain.proofs.Windows.{at}
-use Rattle.cps_domain.proofs.Cutting.{listing, alone, is_alone, listed_none, is_alone_window, clip_domain, IsWritten, written}
+use Rattle.cps_domain.proofs.Cutting.{listing, alone, is_alone, listed_some, is_alone_window, clip_domain, IsWritten, written}
 
 -- a window of a whole list
 abbrev pub whole : List (ℤ × ℤ) → ℕ → Window
@@ -64,3 +64,7 @@ alone_written a q ps f t k g u n d i s =
 -- where all numbers are paired
 pub pairs_done : (xs : List ℤ) (n : ℕ) (ps : List (ℤ × ℤ)) → length xs ≤ n → ps ++ pairs_of (drop n xs) ≡ pairs_of xs → ps ≡ pairs_of xs
 pairs_done xs n ps h e = sym (ap (λ ys. ps ++ pairs_of ys) (drop_all n xs h) ∙ append-nil ps) ∙ e
+
+-- the list that the code reads, where a domain keeps one
+pub read_list : (a : ℤ × ℤ) (ps read : List (ℤ × ℤ)) (len f t : ℕ) (old : Window) → length ps ≡ len → (len == 0) ≡ false → read ≡ ps → listing a ps f t ≡ old → read ≡ old.list
+read_list a ps read len f t old l n r e = r ∙ sym (listed_some a.0 a.1 ps (ap (λ m. nat_eq m 0) l ∙ n)) ∙ ap (λ (w : Window). w.list) e
