@@ -1,10 +1,12 @@
 -- The words of values below 0, and when two bounds have met, in the code's 64 and 128 bits.
-use Rattle.std.proofs.Common.{ℕ, ◌-◌, ◌<◌, ◌^◌, ℤ, pos, negsuc, ◌+ℤ◌, ◌-ℤ◌, ◌≡◌, Bool, if◌then◌else◌, sym, ◌∙◌, ap, arith, w64, FitsSigned, to_z, of_z}
-use Rattle.std.specs.Prelude.{int_le}
+use Rattle.std.proofs.Common.{ℕ, ◌-◌, ◌≤◌, ◌<◌, ◌^◌, ℤ, pos, negsuc, ◌+ℤ◌, ◌-ℤ◌, ◌≡◌, Bool, true, false, true≢false, if◌then◌else◌, refl, sym, subst, ◌∙◌, ap, arith, w64, FitsSigned, to_z, of_z}
+use Rattle.std.specs.Prelude.{int_le, unsigned_abs}
 use Rattle.std.proofs.lemmas.Int.{ints, to_z-of_z, to_z_pos, fits_signed_from_abs}
 use Rattle.std.proofs.lemmas.Bool.{lt-ltb}
 use mir.Syntax.{w128}
-use Rattle.cps_port.specs.Words.{value_of}
+use lib.Dec.{T}
+use lib.Signed.{non_neg}
+use Rattle.cps_port.specs.Words.{value_of, value_word}
 
 -- a number as the code reads it
 abbrev bits : ℤ → ℤ
@@ -27,6 +29,28 @@ pub value_below : (w : ℕ) → w < 9223372036854775808 → bits (bits (pos 0 -�
 value_below w h =
     below_opposite (9223372036854775807 - w) (omega arith)
     ∙ sym (ap (λ (t : Bool). if t then negsuc (9223372036854775807 - w) else pos (w - 9223372036854775808)) (lt-ltb w 9223372036854775808 h))
+
+-- how far a value below 0 lies below -1
+opposite_above : (n : ℕ) → FitsSigned w64 (negsuc n) → bits (pos 0 -ℤ bits (bits (negsuc n) +ℤ pos 1)) ≡ pos n
+opposite_above n f =
+    let g : FitsSigned w64 (negsuc n +ℤ pos 1) = fits_signed_from_abs w64 (negsuc n +ℤ pos 1) (omega (arith, ints, f.sfits)) in
+    let e : pos 0 -ℤ (negsuc n +ℤ pos 1) ≡ pos n = omega (arith, ints) in
+    ap (λ z. bits (pos 0 -ℤ bits (z +ℤ pos 1))) (to_z-of_z w64 (negsuc n) f)
+    ∙ ap (λ z. bits (pos 0 -ℤ z)) (to_z-of_z w64 (negsuc n +ℤ pos 1) g)
+    ∙ ap bits e
+    ∙ to_z-of_z w64 (pos n) (record { sfits = f.sfits })
+
+-- the word of a value that is not at least 0
+pub record IsWordBelow (v : ℤ) (x : ℤ) : Type 0 where
+  pub positive : T (non_neg x)
+  pub small : unsigned_abs x ≤ 9223372036854775807
+  pub word : 9223372036854775807 - unsigned_abs x ≡ value_word v
+
+pub word_below : (v : ℤ) → FitsSigned w64 v → int_le (pos 0) (bits v) ≡ false → IsWordBelow v (bits (pos 0 -ℤ bits (bits v +ℤ pos 1)))
+word_below (pos n) f e = absurd (true≢false (sym (at_least n) ∙ sym (ap (λ z. int_le (pos 0) z) (to_z-of_z w64 (pos n) f)) ∙ e)) where
+  at_least : (n : ℕ) → int_le (pos 0) (pos n) ≡ true
+  at_least n = grind (arith, ints)
+word_below (negsuc n) f e = subst (λ x. IsWordBelow (negsuc n) x) (sym (opposite_above n f)) (record { positive = tt; small = omega (arith, f.sfits); word = refl })
 
 -- the test of two bounds that are values, in 128 bits
 wide_is : (x : ℤ) → FitsSigned w64 x → wide x ≡ x
