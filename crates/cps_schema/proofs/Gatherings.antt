@@ -2,7 +2,7 @@
 use Rattle.std.specs.Option.{option_or}
 use Rattle.std.specs.List.{list_any}
 use Rattle.std.specs.Str.{bytes_eq}
-use Rattle.std.proofs.Common.{◌≡◌, ℕ, ◌+◌, ◌<◌, suc, List, [], ◌∷◌, ◌++◌, ◌||◌, ◌&&◌, Bool, true, false, not, cond, if◌then◌else◌, map, length, get_or, Option, Some, None, append_assoc, append-nil, zero-add, refl, sym, ap, ◌∙◌, arith, IsTrue, OnOk, IfErr, Result, Ok, Err}
+use Rattle.std.proofs.Common.{◌≡◌, ℕ, ◌+◌, ◌<◌, suc, List, [], ◌∷◌, ◌||◌, ◌&&◌, Bool, true, false, not, if◌then◌else◌, map, length, get_or, Option, Some, None, append_assoc, append-nil, zero-add, refl, sym, ap, ◌∙◌, arith, OnOk, IfErr, Result, Ok, Err}
 use Rattle.std.proofs.Math.ListN.{set}
 use Rattle.std.proofs.lemmas.List.{map-append}
 use Rattle.std.proofs.lemmas.Slice.Eq.{bytes_eq-Decides}
@@ -22,13 +22,13 @@ use Rattle.cps_schema.specs.declared.gather.Line.{Line}
 use Rattle.cps_schema.specs.declared.gather.Slot.{Slot}
 use Rattle.cps_schema.specs.declared.gather.Gathered.{Gathered}
 use Rattle.cps_schema.specs.Written.{Written, token_text}
-use Rattle.cps_schema.specs.Tables.{Message, Content, Use, Table, use_in, use_of, table_of, unsupported_names, is_given}
+use Rattle.cps_schema.specs.Tables.{Message, use_in, use_of, table_of, is_given}
 use Rattle.cps_schema.specs.Faults.{refused_at, is_alone, alone_fault, is_other_form, has_other_form, values_fault, fields_fault}
 use Rattle.cps_schema.specs.Answers.{Refuses}
 use Rattle.cps_schema.specs.Steps.{field_then, Passes, Stops}
 use Rattle.cps_schema.specs.Slots.{AreGivenSlots}
 use Rattle.cps_schema.specs.Parts.{is_other}
-use Rattle.cps_schema.specs.Gathered.{content_taken, use_taken, contents_of, takes_one, form_taken, entry_of, IsTableOf, are_apart, GatheredFields, nothing, joined, found_in, found_of, found, held, lines_of, found_from, all_from, marks, IsGathered, is_mixed, line_fault, form_behind, line_place}
+use Rattle.cps_schema.specs.Gathered.{content_taken, use_taken, contents_of, form_taken, entry_of, IsTableOf, are_apart, GatheredFields, nothing, joined, found_in, found_of, found, held, lines_of, found_from, all_from, marks, IsGathered, is_mixed, line_fault, form_behind, line_place}
 use Rattle.cps_schema.proofs.Steps.{next_given, refused_stops}
 use Rattle.cps_schema.proofs.Forms.{next_form, joined_form}
 
@@ -185,6 +185,19 @@ pub record Placed (slots : List Slot) (name : List ℕ) (place : ℕ) : Type 0 w
   pub named : (d : Slot) → slot_named slots name ≡ Some (get_or slots place d)
   pub put : (new : Slot) → set slots place new ≡ put_named slots name new
 
+-- a place behind the first of these
+next_within : (slot : Slot) (slots : List Slot) (j : ℕ) → j < length slots → suc j < length (slot ∷ slots)
+next_within slot slots j h = omega arith
+
+first_within : (slot : Slot) (slots : List Slot) → 0 < length (slot ∷ slots)
+first_within slot slots = omega arith
+
+next_place : (place j k : ℕ) → place ≡ j + (k + 1) → place ≡ suc j + k
+next_place place j k e = omega arith
+
+same_place : (k place : ℕ) → Some k ≡ Some place → place ≡ 0 + k
+same_place k place e = (let same : place ≡ k = cc in same) ∙ sym (zero-add k)
+
 place_behind : (k : ℕ) (slots : List Slot) (name : List ℕ) (place : ℕ) → line_place k slots name ≡ Some place →
     (j : ℕ) × (place ≡ j + k) × Placed slots name j
 place_behind k [] name place e = cc
@@ -195,15 +208,14 @@ place_behind k (slot ∷ slots) name place e =
           (j : ℕ) × (place ≡ j + k) × Placed (slot ∷ slots) name j
       by_test true t more =
           let this : Some k ≡ Some place = rw t at e in
-          let same : place ≡ k = cc in
-          (0, same ∙ sym (zero-add k), record { within = omega arith; named = λ d. rw t refl; put = λ new. rw t refl })
+          (0, same_place k place this, record { within = first_within slot slots; named = λ d. rw t refl; put = λ new. rw t refl })
       by_test false t more =
           let other : line_place (k + 1) slots name ≡ Some place = rw t at e in
           let rest = more other in (
             suc rest.0,
-            (let same : place ≡ rest.0 + (k + 1) = rest.1 in omega arith),
+            next_place place rest.0 k rest.1,
             record {
-              within = (let below : rest.0 < length slots = rest.2.within in omega arith);
+              within = next_within slot slots rest.0 rest.2.within;
               named = λ d. rw t (rest.2.named d);
               put = λ new. rw t (ap (λ (ss : List Slot). slot ∷ ss) (rest.2.put new));
             },

@@ -26,7 +26,7 @@ use super::circuit::read_circuit;
 use super::cumulative::read_cumulative;
 use super::element::read_element;
 use super::error::SchemaError;
-use super::input::{Input, token_text};
+use super::input::{Input, same_text, token_text};
 use super::interval::read_interval;
 use super::intervals::read_intervals;
 use super::inverse::read_inverse;
@@ -131,7 +131,7 @@ fn find_named(kinds: &[KindName], name: &[u8]) -> Option<KindName>
     ensures { result ≡ find (λ kind. bytes_eq name.now (field_name kind)) kinds.now }
 {
     for kind in kinds {
-        if name == field_name(*kind) {
+        if same_text(name, field_name(*kind)) {
             return Some(*kind);
         }
     }
@@ -150,7 +150,7 @@ fn is_given_as(given: &Option<GivenKind>, name: KindName) -> bool
     ensures { result ≡ is_given_as given.now name }
 {
     match given {
-        Some(given) => field_name(name) == field_name(given.name),
+        Some(given) => same_text(field_name(name), field_name(given.name)),
         None => false,
     }
 }
