@@ -208,9 +208,8 @@ fn add_to(
     let one = takes_one(takes);
     check_again(one && slot.given, is_mixed(*form, takes), field)?;
     check_alone(input, one, field)?;
-    add_values(alloc, input, slot, field)?;
     *form = form_behind(*form, takes);
-    Ok(())
+    add_values(alloc, input, slot, field)
 }
 
 /// The place of the line with this name. `None` if there is no such line.

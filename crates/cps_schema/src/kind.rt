@@ -203,11 +203,11 @@ fn read_kind(alloc: Global, input: &Input, name: KindName, node: &Node) -> Resul
         (fields_fault (written_of input.now) (message_of name) [] (tree_of node.now))) }
 {
     match name {
-        KindName::BoolOr => Ok(Kind::BoolOr(read_literals(alloc, input, node)?)),
-        KindName::BoolAnd => Ok(Kind::BoolAnd(read_literals(alloc, input, node)?)),
-        KindName::AtMostOne => Ok(Kind::AtMostOne(read_literals(alloc, input, node)?)),
-        KindName::ExactlyOne => Ok(Kind::ExactlyOne(read_literals(alloc, input, node)?)),
-        KindName::BoolXor => Ok(Kind::BoolXor(read_literals(alloc, input, node)?)),
+        KindName::BoolOr => read_literals(alloc, input, node).map(Kind::BoolOr),
+        KindName::BoolAnd => read_literals(alloc, input, node).map(Kind::BoolAnd),
+        KindName::AtMostOne => read_literals(alloc, input, node).map(Kind::AtMostOne),
+        KindName::ExactlyOne => read_literals(alloc, input, node).map(Kind::ExactlyOne),
+        KindName::BoolXor => read_literals(alloc, input, node).map(Kind::BoolXor),
         KindName::IntDiv => read_int_div(alloc, input, node),
         KindName::IntMod => read_int_mod(alloc, input, node),
         KindName::IntProd => read_int_prod(alloc, input, node),
@@ -218,7 +218,7 @@ fn read_kind(alloc: Global, input: &Input, name: KindName, node: &Node) -> Resul
         KindName::Circuit => read_circuit(alloc, input, node),
         KindName::Table => read_table(alloc, input, node),
         KindName::Interval => read_interval(alloc, input, node),
-        KindName::NoOverlap => Ok(Kind::NoOverlap(read_intervals(alloc, input, node)?)),
+        KindName::NoOverlap => read_intervals(alloc, input, node).map(Kind::NoOverlap),
         KindName::Cumulative => read_cumulative(alloc, input, node),
         KindName::Automaton => read_automaton(alloc, input, node),
         KindName::Inverse => read_inverse(alloc, input, node),

@@ -35,7 +35,7 @@ returns-then-same_text-clause-read c =
     let name : token_text w f.name ≡ codes "name" = same_name c.same_text.ensures c.if-same_text.true c.token_text-name.ensures in
     on_ok_weaker c.set_name.result
     (λ (added : option_to_list c.set_name.new.slot ≡ option_to_list c.args.parts.now.name ++ value_texts w (values_of f.items)) rest.
-    simp (name, added, append_assoc))
+    rw (name, added, append_assoc) refl)
     c.set_name.ensures.added
 
 pub returns-then-same_text-clause-err : goal.returns-then-same_text-clause-err
@@ -62,7 +62,7 @@ returns-then-same_text-2-clause-read c =
     let name : token_text w f.name ≡ codes "enforcement_literal" = same_name c.same_text-else-same_text.ensures c.if-same_text-2.true c.token_text-name.ensures in
     on_ok_weaker c.add_refs.result
     (λ (added : c.add_refs.new.list.items ≡ c.args.parts.now.enforcement.items ++ value_numbers w (values_of f.items)) rest.
-    simp (name, added, append_assoc))
+    rw (name, added, append_assoc) refl)
     c.add_refs.ensures.added
 
 pub returns-then-same_text-2-clause-err : goal.returns-then-same_text-2-clause-err

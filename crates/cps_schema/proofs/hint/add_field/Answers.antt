@@ -24,7 +24,7 @@ returns-then-same_text-clause-read c =
     let name : token_text w f.name ≡ codes "vars" = same_name c.same_text.ensures c.if-same_text.true c.token_text-name.ensures in
     on_ok_weaker c.add_refs.result
     (λ (added : c.add_refs.new.list.items ≡ c.args.parts.now.vars.items ++ value_numbers w (values_of f.items)) rest.
-    simp (name, added, append_assoc))
+    rw (name, added, append_assoc) refl)
     c.add_refs.ensures.added
 
 pub returns-then-same_text-clause-err : goal.returns-then-same_text-clause-err
@@ -48,7 +48,7 @@ returns-then-same_text-2-clause-read c =
     let name : token_text w f.name ≡ codes "values" = same_name c.same_text-else-same_text.ensures c.if-same_text-2.true c.token_text-name.ensures in
     on_ok_weaker c.add_ints.result
     (λ (added : c.add_ints.new.list.items ≡ c.args.parts.now.values.items ++ value_numbers w (values_of f.items)) rest.
-    simp (name, added, append_assoc))
+    rw (name, added, append_assoc) refl)
     c.add_ints.ensures.added
 
 pub returns-then-same_text-2-clause-err : goal.returns-then-same_text-2-clause-err

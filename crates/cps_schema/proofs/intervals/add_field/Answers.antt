@@ -34,5 +34,5 @@ returns-then-same_text-clause-read c =
     let name : token_text w c.args.field.now.name ≡ codes "intervals" = same_name c.same_text.ensures c.if-same_text.true c.token_text.ensures in
     on_ok_weaker c.add_refs.result
     (λ (added : c.add_refs.new.list.items ≡ c.args.intervals.now.items ++ value_numbers w (values_of c.args.field.now.items)) rest.
-    simp (name, added, append_assoc))
+    rw (name, added, append_assoc) refl)
     c.add_refs.ensures.added

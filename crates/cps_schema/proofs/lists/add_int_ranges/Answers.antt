@@ -1,5 +1,5 @@
--- Each scalar adds its number, and the list is as it was where room for all of them is made.
-use Rattle.std.proofs.Common.{◌≡◌, ◌∙◌, ◌<◌, ◌++◌, List, ℤ, Vec, Global, ap, refl, length, arith}
+-- Each scalar adds its number, and the list is as it was before room for all of them was made.
+use Rattle.std.proofs.Common.{◌∙◌, ◌<◌, ◌++◌, List, ℤ, ap, refl, length, arith}
 use Rattle.std.proofs.lemmas.Result.{err_from_is_err_and}
 use Rattle.cps_schema.specs.declared.number.Number.TheVariants.{Int64}
 use Rattle.cps_schema.specs.Tables.{number}
@@ -7,7 +7,6 @@ use Rattle.cps_schema.specs.Inputs.{written_of}
 use Rattle.cps_textproto.specs.Trees.{range_values}
 use Rattle.cps_schema.specs.Readings.{value_numbers}
 use Rattle.cps_schema.proofs.Loops.{no_fault_at, range_passed, range_refused, ranges_passed, number_added, all_added}
-use Rattle.cps_schema.proofs.lists.add_int_ranges.Goals.{then-is_empty+in_ok-reserve_exact, else-is_empty}
 use Rattle.cps_schema.proofs.lists.add_int_ranges.Goals as goal
 
 pub loop-token_range-preserved : goal.loop-token_range-preserved
@@ -37,9 +36,5 @@ pub returns-clause-added : goal.returns-clause-added
 returns-clause-added c =
     let w = written_of c.args.input.now in
     let list = c.args.token_ranges.now in
-    let same : c.if-is_empty.list.items ≡ c.args.list.now.items = elim c.if-is_empty.branch [
-      | then-is_empty+in_ok-reserve_exact b ↦ ap (λ (v : Vec ℤ Global). v.items) b.list-is ∙ b.in_ok-reserve_exact.ensures.items
-      | else-is_empty b ↦ ap (λ (v : Vec ℤ Global). v.items) b.list-is
-    ] in
-    all_added (value_numbers w) c.if-is_empty.list.items c.loop-token_range.list.items list c.loop-token_range.token_range-index refl c.loop-token_range-test.false c.loop-token_range.invariant.1
-    ∙ ap (λ (before : List ℤ). before ++ value_numbers w (range_values list)) same
+    all_added (value_numbers w) c.make_room.new.list.items c.loop-token_range.list.items list c.loop-token_range.token_range-index refl c.loop-token_range-test.false c.loop-token_range.invariant.1
+    ∙ ap (λ (before : List ℤ). before ++ value_numbers w (range_values list)) c.make_room.ensures

@@ -8,7 +8,7 @@ use Rattle.cps_schema.specs.declared.number.Number.TheVariants.{Int32}
 use Rattle.cps_schema.specs.Inputs.{written_of}
 use Rattle.cps_schema.specs.Written.{token_text}
 use Rattle.cps_schema.specs.Tables.{model_message, variable_message, constraint_message, objective_message, strategy_message, hint_message, text, message, number}
-use Rattle.cps_schema.specs.Readings.{value_numbers, value_texts, value_messages, read_variable, read_constraint, read_objective, read_strategy, read_hint}
+use Rattle.cps_schema.specs.Readings.{value_numbers, value_texts, value_messages, read_variable, read_constraint, read_objective, read_strategy, read_hint, messages}
 use Rattle.cps_schema.specs.Parts.{model_slots}
 use Rattle.cps_schema.proofs.Steps.{same_name, other_name, table_use, repeated_passes, repeated_stops, refused_stops, if_passes, if_stops, closable_passes, closable_refused}
 use Rattle.cps_schema.specs.Slots.{AreGivenSlots}
@@ -36,7 +36,7 @@ returns-then-same_text-clause-read c =
     let name : token_text w f.name ≡ codes "name" = same_name c.same_text.ensures c.if-same_text.true c.token_text-name.ensures in
     on_ok_weaker c.set_name.result
     (λ (added : option_to_list c.set_name.new.slot ≡ option_to_list c.args.parts.now.name ++ value_texts w (values_of f.items)) rest.
-    simp (name, added, append_assoc))
+    rw (name, added, append_assoc) refl)
     c.set_name.ensures.added
 
 pub returns-then-same_text-clause-err : goal.returns-then-same_text-clause-err
@@ -63,7 +63,7 @@ returns-then-same_text-2-clause-read c =
     let name : token_text w f.name ≡ codes "variables" = same_name c.same_text-else-same_text.ensures c.if-same_text-2.true c.token_text-name.ensures in
     on_ok_weaker c.add_messages.result
     (λ (added : c.add_messages.new.values.items ≡ c.args.parts.now.variables.items ++ map (read_variable w) (value_messages (values_of f.items))) rest.
-    simp (name, added, map-append, append_assoc))
+    rw (name, map-append (read_variable w) (value_messages (values_of f.items)) (messages w (codes "variables") rest), added, append_assoc) refl)
     c.add_messages.ensures.added
 
 pub returns-then-same_text-2-clause-err : goal.returns-then-same_text-2-clause-err
@@ -90,7 +90,7 @@ returns-then-same_text-3-clause-read c =
     let name : token_text w f.name ≡ codes "constraints" = same_name c.same_text-else-same_text-2.ensures c.if-same_text-3.true c.token_text-name.ensures in
     on_ok_weaker c.add_messages-then-same_text-3.result
     (λ (added : c.add_messages-then-same_text-3.new.values.items ≡ c.args.parts.now.constraints.items ++ map (read_constraint w) (value_messages (values_of f.items))) rest.
-    simp (name, added, map-append, append_assoc))
+    rw (name, map-append (read_constraint w) (value_messages (values_of f.items)) (messages w (codes "constraints") rest), added, append_assoc) refl)
     c.add_messages-then-same_text-3.ensures.added
 
 pub returns-then-same_text-3-clause-err : goal.returns-then-same_text-3-clause-err
@@ -121,7 +121,7 @@ returns-then-same_text-4-clause-read c =
     let name : token_text w f.name ≡ codes "objective" = same_name c.same_text-else-same_text-3.ensures c.if-same_text-4.true c.token_text-name.ensures in
     on_ok_weaker c.set_once.result
     (λ (added : option_to_list c.set_once.new.slot ≡ option_to_list c.args.parts.now.objective ++ map (read_objective w) (value_messages (values_of f.items))) rest.
-    simp (name, added, map-append, append_assoc))
+    rw (name, map-append (read_objective w) (value_messages (values_of f.items)) (messages w (codes "objective") rest), added, append_assoc) refl)
     c.set_once.ensures.added
 
 pub returns-then-same_text-4-clause-err : goal.returns-then-same_text-4-clause-err
@@ -148,7 +148,7 @@ returns-then-same_text-5-clause-read c =
     let name : token_text w f.name ≡ codes "search_strategy" = same_name c.same_text-else-same_text-4.ensures c.if-same_text-5.true c.token_text-name.ensures in
     on_ok_weaker c.add_messages-then-same_text-5.result
     (λ (added : c.add_messages-then-same_text-5.new.values.items ≡ c.args.parts.now.strategies.items ++ map (read_strategy w) (value_messages (values_of f.items))) rest.
-    simp (name, added, map-append, append_assoc))
+    rw (name, map-append (read_strategy w) (value_messages (values_of f.items)) (messages w (codes "search_strategy") rest), added, append_assoc) refl)
     c.add_messages-then-same_text-5.ensures.added
 
 pub returns-then-same_text-5-clause-err : goal.returns-then-same_text-5-clause-err
@@ -179,7 +179,7 @@ returns-then-same_text-6-clause-read c =
     let name : token_text w f.name ≡ codes "solution_hint" = same_name c.same_text-else-same_text-5.ensures c.if-same_text-6.true c.token_text-name.ensures in
     on_ok_weaker c.set_once-then-same_text-6.result
     (λ (added : option_to_list c.set_once-then-same_text-6.new.slot ≡ option_to_list c.args.parts.now.hint ++ map (read_hint w) (value_messages (values_of f.items))) rest.
-    simp (name, added, map-append, append_assoc))
+    rw (name, map-append (read_hint w) (value_messages (values_of f.items)) (messages w (codes "solution_hint") rest), added, append_assoc) refl)
     c.set_once-then-same_text-6.ensures.added
 
 pub returns-then-same_text-6-clause-err : goal.returns-then-same_text-6-clause-err
@@ -206,7 +206,7 @@ returns-then-same_text-7-clause-read c =
     let name : token_text w f.name ≡ codes "assumptions" = same_name c.same_text-else-same_text-6.ensures c.if-same_text-7.true c.token_text-name.ensures in
     on_ok_weaker c.add_assumptions.result
     (λ (added : c.add_assumptions.new.list.items ≡ c.args.parts.now.assumptions.items ++ value_numbers w (values_of f.items)) rest.
-    simp (name, added, append_assoc))
+    rw (name, added, append_assoc) refl)
     c.add_assumptions.ensures.added
 
 pub returns-then-same_text-7-clause-err : goal.returns-then-same_text-7-clause-err

@@ -35,7 +35,7 @@ returns-then-same_text-clause-read c =
     let name : token_text w f.name ≡ codes "exprs" = same_name c.same_text.ensures c.if-same_text.true c.token_text-name.ensures in
     on_ok_weaker c.add_newer.result
     (λ (added : c.add_newer.new.exprs.items ≡ c.args.parts.now.exprs.items ++ map (read_expression w) (value_messages (values_of f.items))) rest.
-    simp (name, added, map-append, append_assoc))
+    rw name (simp (added, map-append, append_assoc)))
     c.add_newer.ensures.added
 
 pub returns-then-same_text-clause-err : goal.returns-then-same_text-clause-err
@@ -63,7 +63,7 @@ returns-then-same_text-2-clause-read c =
     let name : token_text w f.name ≡ codes "variables" = same_name c.same_text-else-same_text.ensures c.if-same_text-2.true c.token_text-name.ensures in
     on_ok_weaker c.add_older.result
     (λ (added : c.add_older.new.variables.items ≡ c.args.parts.now.variables.items ++ value_numbers w (values_of f.items)) rest.
-    simp (name, added, append_assoc))
+    rw name (simp (added, append_assoc)))
     c.add_older.ensures.added
 
 pub returns-then-same_text-2-clause-err : goal.returns-then-same_text-2-clause-err
@@ -95,7 +95,7 @@ returns-then-same_text-3-clause-read c =
     let name : token_text w f.name ≡ codes "variable_selection_strategy" = same_name c.same_text-else-same_text-2.ensures c.if-same_text-3.true c.token_text-name.ensures in
     on_ok_weaker c.set_choose.result
     (λ (added : option_to_list c.set_choose.new.slot ≡ option_to_list c.args.parts.now.choose ++ map choose_of (value_members w VariableSelection (values_of f.items))) rest.
-    simp (name, added, map-append, append_assoc))
+    rw name (simp (added, map-append, append_assoc)))
     c.set_choose.ensures.added
 
 pub returns-then-same_text-3-clause-err : goal.returns-then-same_text-3-clause-err
@@ -127,7 +127,7 @@ returns-then-same_text-4-clause-read c =
     let name : token_text w f.name ≡ codes "domain_reduction_strategy" = same_name c.same_text-else-same_text-3.ensures c.if-same_text-4.true c.token_text-name.ensures in
     on_ok_weaker c.set_select.result
     (λ (added : option_to_list c.set_select.new.slot ≡ option_to_list c.args.parts.now.select ++ map select_of (value_members w DomainReduction (values_of f.items))) rest.
-    simp (name, added, map-append, append_assoc))
+    rw name (simp (added, map-append, append_assoc)))
     c.set_select.ensures.added
 
 pub returns-then-same_text-4-clause-err : goal.returns-then-same_text-4-clause-err
