@@ -2,9 +2,9 @@
 use Rattle.std.specs.Option.{option_or}
 use Rattle.std.specs.List.{list_any}
 use Rattle.std.specs.Str.{bytes_eq}
-use Rattle.std.proofs.Common.{◌≡◌, ℕ, ◌+◌, ◌<◌, suc, List, [], ◌∷◌, ◌||◌, ◌&&◌, Bool, true, false, not, if◌then◌else◌, map, length, get_or, Option, Some, None, append_assoc, append-nil, zero-add, refl, sym, ap, ◌∙◌, arith, OnOk, IfErr, Result, Ok, Err}
+use Rattle.std.proofs.Common.{◌≡◌, ℕ, ◌+◌, ◌<◌, suc, List, [], ◌∷◌, ◌++◌, ◌||◌, ◌&&◌, Bool, true, false, not, if◌then◌else◌, map, length, take, get_or, Option, Some, None, append_assoc, append-nil, zero-add, refl, sym, ap, ◌∙◌, arith, OnOk, IfErr, Result, Ok, Err}
 use Rattle.std.proofs.Math.ListN.{set}
-use Rattle.std.proofs.lemmas.List.{map-append}
+use Rattle.std.proofs.lemmas.List.{map-append, take_more}
 use Rattle.std.proofs.lemmas.Slice.Eq.{bytes_eq-Decides}
 use Rattle.cps_textproto.specs.declared.tree.Field.{Field}
 use Rattle.cps_textproto.specs.Trees.{Tree, Values, no_fields, values_of}
@@ -405,6 +405,19 @@ all_step w f rest (s ∷ slots) old new e same added apart =
           ∙ ap (λ (hs : List GatheredFields). found_from w rest s ∷ hs) (more other))
 
 -- before any field, and behind the last
+
+-- the slot of one line more
+pub slots_more : (slots new : List Slot) (slot : Slot) (lines : List Line) (i : ℕ) (d : Line) → i < length lines → slot.line ≡ get_or lines i d → held slot ≡ nothing →
+    new ≡ slots ++ slot ∷ [] → (lines_of slots ≡ take i lines) × (map held slots ≡ map (λ (line : Line). nothing) (take i lines)) →
+    (lines_of new ≡ take (i + 1) lines) × (map held new ≡ map (λ (line : Line). nothing) (take (i + 1) lines))
+slots_more slots new slot lines i d h same empty added before =
+    let more : take (i + 1) lines ≡ take i lines ++ get_or lines i d ∷ [] = take_more lines i d h in (
+      ap lines_of added ∙ map-append (λ (s : Slot). s.line) slots (slot ∷ []) ∙ ap (λ (line : Line). lines_of slots ++ line ∷ []) same
+          ∙ ap (λ (ls : List Line). ls ++ get_or lines i d ∷ []) before.0 ∙ sym more,
+      ap (map held) added ∙ map-append held slots (slot ∷ []) ∙ ap (λ (h : GatheredFields). map held slots ++ h ∷ []) empty
+          ∙ ap (λ (hs : List GatheredFields). hs ++ nothing ∷ []) before.1
+          ∙ sym (ap (map (λ (line : Line). nothing)) more ∙ map-append (λ (line : Line). nothing) (take i lines) (get_or lines i d ∷ [])),
+    )
 
 pub all_first : (w : Written) (tree : Tree) (slots : List Slot) → map held slots ≡ map (λ (line : Line). nothing) (lines_of slots) →
     all_from w slots tree ≡ map (found w tree) (lines_of slots)

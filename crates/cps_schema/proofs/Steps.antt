@@ -1,7 +1,7 @@
 -- What a field of each use does to the first fault of a message.
 use Rattle.std.specs.Str.{bytes_eq}
 use Rattle.std.specs.Option.{option_or}
-use Rattle.std.proofs.Common.{◌≡◌, ℕ, List, ◌∷◌, ◌||◌, Bool, true, false, Option, Some, None, Result, Ok, Err, if◌then◌else◌, OnOk, IfErr, refl, sym, ◌∙◌}
+use Rattle.std.proofs.Common.{◌≡◌, ℕ, List, ◌∷◌, ◌||◌, Bool, true, false, Option, Some, None, Result, Ok, Err, if◌then◌else◌, OnOk, IfOk, IfErr, refl, sym, ◌∙◌}
 use Rattle.std.proofs.lemmas.Slice.Eq.{bytes_eq-Decides}
 use Rattle.cps_textproto.specs.declared.tree.Field.{Field}
 use Rattle.cps_textproto.specs.Trees.{Tree, values_of}
@@ -143,6 +143,11 @@ pub closable_refused : (w : Written) (m : Message) (f : Field) (content : Conten
     IfErr r (λ e. (before : List (List ℕ)) → Stops w m before f e)
 closable_refused w m f content (Ok x) takes stops = stops
 closable_refused w m f content (Err e) takes stops = λ before. stops m before takes
+
+-- a fact that does not depend on what is read
+pub if_read : {A E : Type 0} (r : Result A E) {P : Type 0} → P → IfOk r (λ _. P)
+if_read (Ok x) fact = fact
+if_read (Err e) fact = tt
 
 -- a kind that the table closes
 pub closed_stops : (w : Written) (m : Message) (before : List (List ℕ)) (f : Field) (k : Message) →
