@@ -114,8 +114,8 @@ impl Energies {
         Ok(())
     }
 
-    /// Takes down the spans of a resource, in both orders, and makes a tree without jobs.
-    fn fill(&mut self, past: &Before, resource: &Resource) -> Result<(), AllocError>
+    /// Takes down the spans of a resource, in no order.
+    fn take_all(&mut self, past: &Before, resource: &Resource) -> Result<(), AllocError>
         requires { IsResourceOf past.now.first resource.now }
     {
         self.jobs.clear();
@@ -125,12 +125,26 @@ impl Energies {
         for k in 0..count {
             self.take(past, &spans[k], demands[k])?;
         }
+        Ok(())
+    }
+
+    /// Brings the jobs into both orders.
+    fn sort(&mut self) -> Result<(), AllocError> {
         self.jobs.sort_unstable_by_key(|job| job.from);
         self.order.clear();
         for (place, job) in self.jobs.as_slice().iter().enumerate() {
             self.order.push((job.to, place))?;
         }
         self.order.sort_unstable_by_key(|due| due.0);
+        Ok(())
+    }
+
+    /// Takes down the spans of a resource, in both orders, and makes a tree without jobs.
+    fn fill(&mut self, past: &Before, resource: &Resource) -> Result<(), AllocError>
+        requires { IsResourceOf past.now.first resource.now }
+    {
+        self.take_all(past, resource)?;
+        self.sort()?;
         self.clear_tree()
     }
 
@@ -211,6 +225,17 @@ impl Energies {
         }
     }
 
+    /// The window up to a time, from the last least start from which on the jobs pass a limit.
+    fn window_to(&self, to: i64, limit: i128) -> Option<Hint> {
+        match self.first_of(limit) {
+            Some(from) => Some(Hint {
+                a: from,
+                b: to.wrapping_sub(from),
+            }),
+            None => None,
+        }
+    }
+
     /// A window of which the spans of a resource seem to use more than there is: its first time, and how many.
     pub(crate) fn used_up(
         &mut self,
@@ -230,13 +255,7 @@ impl Energies {
             self.let_in(place, most);
             let limit = most.wrapping_mul(i128::from(to));
             if limit < self.node(1).envelope {
-                return match self.first_of(limit) {
-                    Some(from) => Ok(Some(Hint {
-                        a: from,
-                        b: to.wrapping_sub(from),
-                    })),
-                    None => Ok(None),
-                };
+                return Ok(self.window_to(to, limit));
             }
         }
         Ok(None)

@@ -1,22 +1,31 @@
-use Rattle.std.proofs.Common.{rules, FitsSigned, w64, arith, pos, ◌≡◌, ◌≤ℤ◌, ◌+ℤ◌, ℤ}
+-- What is tested of a stay in numbers of 128 bits is so of its numbers of 64.
+use Rattle.std.proofs.Common.{rules, FitsSigned, w64, arith, pos, ◌≡◌, ◌≤ℤ◌, ◌+ℤ◌, ℤ, sym, true≢false}
 use Rattle.std.specs.Prelude.{Some, None, int_lt, false}
 use mir.Syntax.{w128}
 use Rattle.std.proofs.lemmas.Int.{ints, to_z-of_z}
-use Rattle.cps_p_cumulative.proofs.Energy.{stay-of, fits-wide, sum-fits}
+use Rattle.cps_p_cumulative.proofs.Energy.{stay-of, fits-wide, sum-fits, wide_sum_fits}
 use Rattle.cps_p_cumulative.proofs.charge.is_stay.Goals as goal
 
 not_less : (a b : ℤ) → int_lt a b ≡ false → b ≤ℤ a
 not_less a b e = grind (arith, ints)
 
 pub overflow_add-result : goal.overflow_add-result
-overflow_add-result c =
-    let latest = c.args.stay.latest in
-    let ticks = c.args.stay.ticks in
-    let f : FitsSigned w64 latest = search rules in
-    let g : FitsSigned w64 ticks = search rules in
-    let a = rw (to_z-of_z w64 latest f) at c.from-latest.ensures in
-    let b = rw (to_z-of_z w64 ticks g) at c.from-ticks.ensures in
-    rw (a, b, to_z-of_z w128 latest (fits-wide latest f), to_z-of_z w128 ticks (fits-wide ticks g)) (sum-fits latest ticks f g)
+overflow_add-result c = wide_sum_fits c.args.stay.latest c.args.stay.ticks c.from-latest.result c.from-ticks.result (search rules) (search rules) c.from-latest.ensures c.from-ticks.ensures
+
+pub overflow_add-start : goal.overflow_add-start
+overflow_add-start c = wide_sum_fits c.args.case.time c.args.stay.ticks c.from-start.result c.from-ticks.result (search rules) (search rules) c.from-start.ensures c.from-ticks.ensures
+
+pub overflow_add-start-2 : goal.overflow_add-start-2
+overflow_add-start-2 c = wide_sum_fits c.args.case.time c.args.case.width c.from-start.result c.from.result (search rules) (search rules) c.from-start.ensures c.from.ensures
+
+pub overflow_add-latest : goal.overflow_add-latest
+overflow_add-latest c = wide_sum_fits c.args.stay.latest c.args.stay.ticks c.from-latest.result c.from-ticks.result (search rules) (search rules) c.from-latest.ensures c.from-ticks.ensures
+
+pub returns-then-start-from : goal.returns-then-start-from
+returns-then-start-from c = λ yes. absurd (true≢false (sym yes))
+
+pub returns-then-stay-lt0 : goal.returns-then-stay-lt0
+returns-then-stay-lt0 c = λ yes. absurd (true≢false (sym yes))
 
 pub returns-in-Some : goal.returns-in-Some
 returns-in-Some c = λ test.

@@ -1,3 +1,4 @@
+-- The level passes no limit after the events so far, and in the end after none.
 use Rattle.std.proofs.Common.{◌<◌, length, arith}
 use Rattle.cps_p_cumulative.specs.Levels.{moves_of}
 use Rattle.cps_p_cumulative.proofs.Levelled.{on_time, move_inside, room_more, at_rest_of}
@@ -23,3 +24,9 @@ loop-k-preserved c =
 pub returns-clause-kept : goal.returns-clause-kept
 returns-clause-kept c = λ e.
     at_rest_of c.args.past.now c.args.tank.now c.loop-k.k c.requires.zero (let a = c.count-k-end.ensures in let b = c.loop-k-test.false in omega arith) c.loop-k.invariant
+
+pub passes-requires-clause-tank : goal.passes-requires-clause-tank
+passes-requires-clause-tank c = c.requires.tank
+
+pub passes-requires-in-loop-k-clause-tank : goal.passes-requires-in-loop-k-clause-tank
+passes-requires-in-loop-k-clause-tank c = c.requires.tank

@@ -1,3 +1,4 @@
+-- A part covers just the times at which its span surely runs, and demands the least that the span may.
 use Rattle.std.specs.Prelude.{unsigned_abs}
 use Rattle.std.proofs.Common.{◌≡◌, ℤ, pos, ◌≤ℤ◌, ◌<ℤ◌, List, rules, FitsSigned, w64, arith, sym, subst, length, ◌<◌}
 use Rattle.std.specs.Int.{w128}
@@ -64,3 +65,9 @@ returns c =
       ordered = omega (arith, ints);
     } in
     rw (to_z-of_z w64 a fa, to_z-of_z w128 b fb, to_z-of_z w64 m fm) (measured-some s p c.args.demand (record { from = a; to = b; demand = unsigned_abs m }) sure)
+
+pub ends-least-requires : goal.ends-least-requires
+ends-least-requires c = c.requires.demand
+
+pub least_end-to-requires : goal.least_end-to-requires
+least_end-to-requires c = c.requires.span
