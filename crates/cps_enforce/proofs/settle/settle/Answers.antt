@@ -1,3 +1,4 @@
+-- Each pass goes on from what the passes before left, with the same body.
 use Rattle.std.proofs.Common.{◌∙◌, sym, subst}
 use Rattle.cps_instance.specs.declared.task.Body.{Body}
 use Rattle.cps_instance.specs.Tasks.{HoldsTask}
@@ -22,6 +23,19 @@ returns-in-Conflict-clause-infers g c =
     let b = g.R.Rule.body c.args.rule.now in
     Infers-trans (ByTask h.number (HoldsTask (task_of h.enforcement.now b))) c.args.store.now c.loop-store.store c.pass.new.store c.loop-store.invariant.infers
     (subst (λ (x : Body). Infers (ByTask c.args.header.now.number (HoldsTask (task_of c.args.header.now.enforcement.now x))) c.loop-store.store c.pass.new.store) c.loop-store.invariant.keeps c.in_ok-pass.ensures.infers)
+
+pub returns-then-entries-before-clause-infers : goal.returns-then-entries-before-clause-infers
+returns-then-entries-before-clause-infers g c =
+    let h = c.args.header.now in
+    let b = g.R.Rule.body c.args.rule.now in
+    Infers-trans (ByTask h.number (HoldsTask (task_of h.enforcement.now b))) c.args.store.now c.loop-store.store c.pass.new.store c.loop-store.invariant.infers
+    (subst (λ (x : Body). Infers (ByTask c.args.header.now.number (HoldsTask (task_of c.args.header.now.enforcement.now x))) c.loop-store.store c.pass.new.store) c.loop-store.invariant.keeps c.in_ok-pass.ensures.infers)
+
+pub returns-in-Conflict-clause-keeps : goal.returns-in-Conflict-clause-keeps
+returns-in-Conflict-clause-keeps g c = c.in_ok-pass.ensures.keeps ∙ c.loop-store.invariant.keeps
+
+pub returns-then-entries-before-clause-keeps : goal.returns-then-entries-before-clause-keeps
+returns-then-entries-before-clause-keeps g c = c.in_ok-pass.ensures.keeps ∙ c.loop-store.invariant.keeps
 
 pub loop-store-preserved : goal.loop-store-preserved
 loop-store-preserved g c =
