@@ -61,11 +61,23 @@ wide_is a x f p =
     let e : x ≡ a = p ∙ to_z-of_z w64 a f in
     rw e (to_z-of_z w128 a (fits-wide a f))
 
+pub wide_same : (a x : ℤ) → FitsSigned w64 a → x ≡ to_z w64 (of_z w64 a) → to_z w128 (of_z w128 x) ≡ to_z w64 (of_z w64 a)
+wide_same a x f p = wide_is a x f p ∙ sym (to_z-of_z w64 a f)
+
 pub wide_sum_fits : (a b x y : ℤ) → FitsSigned w64 a → FitsSigned w64 b → x ≡ to_z w64 (of_z w64 a) → y ≡ to_z w64 (of_z w64 b) → FitsSigned w128 (to_z w128 (of_z w128 x) +ℤ to_z w128 (of_z w128 y))
 wide_sum_fits a b x y f g p q = subst (λ (z : ℤ). FitsSigned w128 (z +ℤ to_z w128 (of_z w128 y))) (sym (wide_is a x f p)) (subst (λ (z : ℤ). FitsSigned w128 (a +ℤ z)) (sym (wide_is b y g q)) (sum-fits a b f g))
 
 pub wide_sum : (a b x y : ℤ) → FitsSigned w64 a → FitsSigned w64 b → x ≡ to_z w64 (of_z w64 a) → y ≡ to_z w64 (of_z w64 b) → to_z w128 (of_z w128 (to_z w128 (of_z w128 x) +ℤ to_z w128 (of_z w128 y))) ≡ a +ℤ b
 wide_sum a b x y f g p q = to_z-of_z w128 (to_z w128 (of_z w128 x) +ℤ to_z w128 (of_z w128 y)) (wide_sum_fits a b x y f g p q) ∙ ap (λ (z : ℤ). z +ℤ to_z w128 (of_z w128 y)) (wide_is a x f p) ∙ ap (λ (z : ℤ). a +ℤ z) (wide_is b y g q)
+
+pub wide_next_fits : (a x : ℤ) → FitsSigned w64 a → x ≡ to_z w64 (of_z w64 a) → FitsSigned w128 (to_z w128 (of_z w128 x) +ℤ pos 1)
+wide_next_fits a x f p = subst (λ (z : ℤ). FitsSigned w128 (z +ℤ pos 1)) (sym (wide_is a x f p)) (fits_signed_from_abs w128 (a +ℤ pos 1) (
+    let s = number_size a f in
+    let r = unsigned_abs-add a (pos 1) in
+    omega arith))
+
+pub wide_next : (a x : ℤ) → FitsSigned w64 a → x ≡ to_z w64 (of_z w64 a) → to_z w128 (of_z w128 (to_z w128 (of_z w128 x) +ℤ pos 1)) ≡ a +ℤ pos 1
+wide_next a x f p = to_z-of_z w128 (to_z w128 (of_z w128 x) +ℤ pos 1) (wide_next_fits a x f p) ∙ ap (λ (z : ℤ). z +ℤ pos 1) (wide_is a x f p)
 
 pub wide_times_fits : (a b x y : ℤ) → FitsSigned w64 a → FitsSigned w64 b → x ≡ to_z w64 (of_z w64 a) → y ≡ to_z w64 (of_z w64 b) → FitsSigned w128 (to_z w128 (of_z w128 x) *ℤ to_z w128 (of_z w128 y))
 wide_times_fits a b x y f g p q = subst (λ (z : ℤ). FitsSigned w128 (z *ℤ to_z w128 (of_z w128 y))) (sym (wide_is a x f p)) (subst (λ (z : ℤ). FitsSigned w128 (a *ℤ z)) (sym (wide_is b y g q)) (energy-fits a b f g))

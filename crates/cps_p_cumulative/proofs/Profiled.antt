@@ -43,6 +43,7 @@ measured-bare s p d from to e none = subst (λ (x : ℤ). IsPartMeasured s p d (
 pub ends-some : (s : Trail) (t : ℤ) (start end : ℕ) (length : Option ℤ) (far low v : ℤ) → length ≡ Some far → ((x : ℤ) → IsOpenTo s start x → low ≤ℤ x) → t <ℤ v → v ≡ low +ℤ far → EndsAfter s t start end length
 ends-some s t start end length far low v e least l same = subst (λ (o : Option ℤ). EndsAfter s t start end o) (sym e) (λ x o. (let a = least x o in omega (arith, ints)))
 
+-- and any other span
 pub ends-none : (s : Trail) (t : ℤ) (start end : ℕ) (length : Option ℤ) (low v : ℤ) → length ≡ None → ((x : ℤ) → IsOpenTo s end x → low ≤ℤ x) → t <ℤ v → v ≡ low → EndsAfter s t start end length
 ends-none s t start end length low v e least l same = subst (λ (o : Option ℤ). EndsAfter s t start end o) (sym e) (λ x o. (let a = least x o in omega (arith, ints)))
 

@@ -94,6 +94,7 @@ start-inside first p h = All-head (λ i. i < length first) p.start (p.end ∷ at
 pub end-inside : (first : Domains) (p : Span) → IsSpanOf first p → p.end < length first
 end-inside first p h = All-head (λ i. i < length first) p.end (atom_subjects p.presence) (All-tail (λ i. i < length first) p.start (p.end ∷ atom_subjects p.presence) h)
 
+-- two atoms on subjects of a store
 pub both-inside : (first : Domains) (u v : Atom) → u.subject < length first → v.subject < length first → All (λ a. a.subject < length first) (u ∷ v ∷ [])
 both-inside first u v a b = All-cons (λ w. w.subject < length first) u (v ∷ []) a (All-cons (λ w. w.subject < length first) v [] b (All-nil (λ w. w.subject < length first)))
 
@@ -151,6 +152,7 @@ pub demand-proposed : (first : Domains) (d : ℕ) (r : Option Narrowing) → IfS
 demand-proposed first d None is l = is
 demand-proposed first d (Some n) is l = subst (λ (i : ℕ). i < length first) (sym is) l
 
+-- and of three of them each is
 pub three-proposed : (first : Domains) (r s t : Option Narrowing) → IfSome r (λ n. n.target.subject < length first) → IfSome s (λ n. n.target.subject < length first) → IfSome t (λ n. n.target.subject < length first) → All (λ o. IfSome o (λ n. n.target.subject < length first)) (r ∷ s ∷ t ∷ [])
 three-proposed first r s t a b c =
     let P = λ (o : Option Narrowing). IfSome o (λ n. n.target.subject < length first) in

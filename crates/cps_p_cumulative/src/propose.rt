@@ -225,7 +225,13 @@ fn propose_span(
     let later = start_later(span, &place, segments);
     let earlier = end_earlier(span, &place, segments);
     let less = demand_less(demand, &place, segments);
-    offer_each(past, resource, &[later, earlier, less], &mut scratch.facts, found)
+    offer_each(
+        past,
+        resource,
+        &[later, earlier, less],
+        &mut scratch.facts,
+        found,
+    )
 }
 
 /// That the capacity is at least what is demanded at some time.

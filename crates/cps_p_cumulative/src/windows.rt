@@ -114,8 +114,19 @@ impl Energies {
         Ok(())
     }
 
-    /// Takes down the spans of a resource, in no order.
-    fn take_all(&mut self, past: &Before, resource: &Resource) -> Result<(), AllocError>
+    /// Brings the jobs into both orders, and makes a tree without jobs.
+    fn sort(&mut self) -> Result<(), AllocError> {
+        self.jobs.sort_unstable_by_key(|job| job.from);
+        self.order.clear();
+        for (place, job) in self.jobs.as_slice().iter().enumerate() {
+            self.order.push((job.to, place))?;
+        }
+        self.order.sort_unstable_by_key(|due| due.0);
+        self.clear_tree()
+    }
+
+    /// Takes down the spans of a resource, in both orders, and makes a tree without jobs.
+    fn fill(&mut self, past: &Before, resource: &Resource) -> Result<(), AllocError>
         requires { IsResourceOf past.now.first resource.now }
     {
         self.jobs.clear();
@@ -125,27 +136,7 @@ impl Energies {
         for k in 0..count {
             self.take(past, &spans[k], demands[k])?;
         }
-        Ok(())
-    }
-
-    /// Brings the jobs into both orders.
-    fn sort(&mut self) -> Result<(), AllocError> {
-        self.jobs.sort_unstable_by_key(|job| job.from);
-        self.order.clear();
-        for (place, job) in self.jobs.as_slice().iter().enumerate() {
-            self.order.push((job.to, place))?;
-        }
-        self.order.sort_unstable_by_key(|due| due.0);
-        Ok(())
-    }
-
-    /// Takes down the spans of a resource, in both orders, and makes a tree without jobs.
-    fn fill(&mut self, past: &Before, resource: &Resource) -> Result<(), AllocError>
-        requires { IsResourceOf past.now.first resource.now }
-    {
-        self.take_all(past, resource)?;
-        self.sort()?;
-        self.clear_tree()
+        self.sort()
     }
 
     /// Makes a tree with a leaf for each job.
@@ -225,17 +216,6 @@ impl Energies {
         }
     }
 
-    /// The window up to a time, from the last least start from which on the jobs pass a limit.
-    fn window_to(&self, to: i64, limit: i128) -> Option<Hint> {
-        match self.first_of(limit) {
-            Some(from) => Some(Hint {
-                a: from,
-                b: to.wrapping_sub(from),
-            }),
-            None => None,
-        }
-    }
-
     /// A window of which the spans of a resource seem to use more than there is: its first time, and how many.
     pub(crate) fn used_up(
         &mut self,
@@ -255,7 +235,13 @@ impl Energies {
             self.let_in(place, most);
             let limit = most.wrapping_mul(i128::from(to));
             if limit < self.node(1).envelope {
-                return Ok(self.window_to(to, limit));
+                return match self.first_of(limit) {
+                    Some(from) => Ok(Some(Hint {
+                        a: from,
+                        b: to.wrapping_sub(from),
+                    })),
+                    None => Ok(None),
+                };
             }
         }
         Ok(None)

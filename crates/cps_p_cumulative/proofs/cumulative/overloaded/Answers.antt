@@ -1,7 +1,13 @@
 -- Where no time is over the greatest capacity all loads have room, and where one is they have none.
 use Rattle.std.specs.Prelude.{unsigned_abs}
-use Rattle.std.proofs.Common.{◌≡◌, pos, rules, FitsSigned, w64, arith}
+use Rattle.std.proofs.Common.{◌≡◌, ◌<◌, ℕ, pos, List, length, refl, sym, subst, rules, FitsSigned, w64, arith}
+use Rattle.std.specs.List.{All}
 use Rattle.std.proofs.lemmas.Int.{ints, to_z-of_z}
+use Rattle.cps_instance.specs.declared.task.Span.{Span}
+use Rattle.cps_instance.specs.Tasks.{span_subjects}
+use Rattle.cps_p_cumulative.specs.declared.part.Part.{Part}
+use Rattle.cps_p_cumulative.specs.Profile.{AreParts}
+use Rattle.cps_p_cumulative.proofs.Levelled.{no_none}
 use Rattle.cps_p_cumulative.proofs.Resting.{impossible-none, impossible-of, capacity-of}
 use Rattle.cps_p_cumulative.proofs.Running.{true_lt}
 use Rattle.cps_p_cumulative.proofs.cumulative.overloaded.Goals as goal
@@ -41,3 +47,18 @@ returns-then-most-lt0-clause-over c =
 
 pub crowded-requires : goal.crowded-requires
 crowded-requires c = c.requires.inside
+
+pub measure-requires-clause-spans : goal.measure-requires-clause-spans
+measure-requires-clause-spans c = subst (λ (ps : List Span). All (λ i. i < length c.args.past.now.first) (span_subjects ps)) (sym c.as_slice.ensures) c.requires.inside.spans
+
+pub measure-requires-clause-demands : goal.measure-requires-clause-demands
+measure-requires-clause-demands c = subst (λ (ds : List ℕ). All (λ i. i < length c.args.past.now.first) ds) (sym c.as_slice-2.ensures) c.requires.inside.demands
+
+pub overload-requires-clause-parts : goal.overload-requires-clause-parts
+overload-requires-clause-parts c = subst (λ (l : List Part). AreParts l) (sym c.as_slice-3.ensures.value) c.in_ok-measure.ensures.good
+
+pub returns-then-most-lt0-clause-rest : goal.returns-then-most-lt0-clause-rest
+returns-then-most-lt0-clause-rest c = λ ok. no_none _ _ ok refl
+
+pub returns-in-Some-clause-rest : goal.returns-in-Some-clause-rest
+returns-in-Some-clause-rest c = λ ok. no_none _ _ ok refl

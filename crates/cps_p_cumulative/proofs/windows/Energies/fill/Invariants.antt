@@ -1,4 +1,4 @@
-use Rattle.cps_p_cumulative.proofs.windows.Energies.take_all.Given as goal
+use Rattle.cps_p_cumulative.proofs.windows.Energies.fill.Given as goal
 
 abbrev pub invariant-loop-k : goal.invariant-loop-k
 invariant-loop-k l = Unit {0}
