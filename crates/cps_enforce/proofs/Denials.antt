@@ -21,6 +21,10 @@ on_ok (Err e) P Q h f = tt
 pub when_ok : {A E : Type 0} (r : Result A E) (x : A) (P : Type 0) → r ≡ Ok x → OnOk r P → P
 when_ok {A} {E} r x P e h = subst (λ (q : Result A E). OnOk q P) e h
 
+-- no is not yes
+pub no_yes : {E : Type 0} (P : Type 0) → ◌≡◌ {A = Result Bool E} (Ok false) (Ok true) → P
+no_yes P h = absurd (cc h)
+
 or_none : (b : Bool) → (b || false) ≡ b
 or_none true = refl
 or_none false = refl

@@ -2,6 +2,7 @@
 use Rattle.std.proofs.Common.{◌∙◌, List, Ok, ap, sym, subst}
 use Rattle.cps_literal.specs.declared.atom.Atom.{Atom}
 use Rattle.cps_instance.specs.declared.task.Task.{Task}
+use Rattle.cps_instance.specs.Fitting.{IsFitting}
 use Rattle.cps_instance.specs.Tasks.{HoldsTask}
 use Rattle.cps_trail.specs.Adds.{IsConflict, Answers, Infers}
 use Rattle.cps_trail.specs.Notes.{ByTask}
@@ -41,3 +42,8 @@ pub returns-in-Conflict-clause-infers : goal.returns-in-Conflict-clause-infers
 returns-in-Conflict-clause-infers g c =
     let b = g.R.Rule.body c.self.inside.rule in
     subst (λ (t : Task). Infers (ByTask c.args.number (HoldsTask t)) c.args.store.now c.visit.new.store) (ap (λ (us : List Atom). task_of us b) c.as_slice.ensures.value ∙ c.self.view_is) c.in_ok-visit.ensures.infers
+
+pub visit-requires : goal.visit-requires
+visit-requires g c =
+    let b = g.R.Rule.body c.self.inside.rule in
+    record { fits = subst (λ (t : Task). IsFitting c.args.store.now.first t) (sym (ap (λ (us : List Atom). task_of us b) c.as_slice.ensures.value ∙ c.self.view_is)) c.requires }
