@@ -463,9 +463,9 @@ is_nothing (Err e) = false
 pub no_none : {A : Type 0} (P : Type 0) (r : Result (Option A) AllocError) → r ≡ Ok None → is_nothing r ≡ false → P
 no_none P r is not = absurd (true≢false (sym (ap is_nothing is) ∙ not))
 
--- a hint is not none
-pub no_hint : (P : Type 0) (h : Hint) → ◌≡◌ {A = Option Hint} (Some h) None → P
-no_hint P h e = absurd (cc e)
+-- what is found is not none
+pub no_some : {A : Type 0} (P : Type 0) (x : A) → ◌≡◌ {A = Option A} (Some x) None → P
+no_some P x e = absurd (cc e)
 
 -- and a failure is no success
 pub no_err : {T : Type 0} (P : Type 0) (r : Result T AllocError) (v : T) → r ≡ Ok v → IsErr r → P

@@ -1,6 +1,6 @@
 -- What spans demand at a time, one by one.
 use Rattle.std.proofs.Common.{ℕ, zero, suc, inl, inr, take, get_or, append_assoc, append-nil, ◌+◌, ◌<◌, ℤ, pos, ◌+ℤ◌, ◌≤ℤ◌, ◌<ℤ◌, ◌≡◌, Bool, true, false, cond, ◌&&◌, List, [], ◌∷◌, ◌++◌, length, refl, sym, ◌∙◌, ap, subst, arith}
-use Rattle.std.specs.Prelude.{int_le, int_lt, Option, Some, None, IfSome}
+use Rattle.std.specs.Prelude.{int_le, int_lt, Option, Some, None, IfSome, Result, Ok, Err, OnOk}
 use Rattle.std.specs.List.{list_all, cons_option, All}
 use Rattle.std.proofs.lemmas.Int.{ints}
 use Rattle.std.proofs.lemmas.List.Elements.{All-head, All-tail, All-nil, All-cons}
@@ -126,6 +126,15 @@ subjects-more ps k d l = ap span_subjects (take_more ps k d l) ∙ last (take k 
     last : (qs : List Span) (q : Span) → span_subjects (qs ++ q ∷ []) ≡ span_subjects qs ++ subjects_of_span q
     last [] q = append-nil (subjects_of_span q)
     last (p ∷ qs) q = ap (λ is. subjects_of_span p ++ is) (last qs q) ∙ sym (append_assoc (subjects_of_span p) (span_subjects qs) (subjects_of_span q))
+
+-- a number and two lists that were added one after another
+pub spread : (old one two three : List ℕ) (a : ℕ) (xs ys : List ℕ) → one ≡ old ++ a ∷ [] → two ≡ one ++ xs → three ≡ two ++ ys → three ≡ old ++ (a ∷ (xs ++ ys))
+spread old one two three a xs ys e f g = g ∙ ap (λ (is : List ℕ). is ++ ys) (f ∙ ap (λ (is : List ℕ). is ++ xs) e) ∙ append_assoc (old ++ a ∷ []) xs ys ∙ append_assoc old (a ∷ []) (xs ++ ys)
+
+-- what follows from a success
+pub on_ok : {A E : Type 0} (r : Result A E) (P Q : Type 0) → OnOk r P → (P → Q) → OnOk r Q
+on_ok (Ok x) P Q h f = f h
+on_ok (Err e) P Q h f = tt
 
 -- one copy more
 pub copied-more : (ps : List Span) (k : ℕ) (p q : Span) (old new : List Span) → k < length ps → old ≡ take k ps → new ≡ old ++ q ∷ [] → q ≡ p → p ≡ get_or ps k p → new ≡ take (k + 1) ps

@@ -1,7 +1,7 @@
 -- The level passes no limit after the events so far, and in the end after none.
 use Rattle.std.proofs.Common.{◌<◌, length, arith}
 use Rattle.cps_p_cumulative.specs.Levels.{moves_of}
-use Rattle.cps_p_cumulative.proofs.Levelled.{on_time, move_inside, room_more, at_rest_of, no_hint}
+use Rattle.cps_p_cumulative.proofs.Levelled.{on_time, move_inside, room_more, at_rest_of, no_some}
 use Rattle.cps_p_cumulative.proofs.level.passing.Goals as goal
 
 pub ends-requires : goal.ends-requires
@@ -38,10 +38,10 @@ pub returns-then-passes-2-clause-over : goal.returns-then-passes-2-clause-over
 returns-then-passes-2-clause-over c = c.passes-in-loop-k.ensures.over c.if-passes-2.true
 
 pub returns-then-passes-clause-kept : goal.returns-then-passes-clause-kept
-returns-then-passes-clause-kept c = λ none. no_hint _ _ none
+returns-then-passes-clause-kept c = λ none. no_some _ _ none
 
 pub returns-then-passes-2-clause-kept : goal.returns-then-passes-2-clause-kept
-returns-then-passes-2-clause-kept c = λ none. no_hint _ _ none
+returns-then-passes-2-clause-kept c = λ none. no_some _ _ none
 
 pub passes-requires-clause-event : goal.passes-requires-clause-event
 passes-requires-clause-event c =
