@@ -98,6 +98,9 @@ live_skip s es values n rows row is dead h r l live = elim (cases_lt r n) [
 pub live_one : (s : Trail) (es : List ℕ) (values : List ℤ) (n : ℕ) (row : List ℤ) → row ≡ row_at (length es) values n → (n + 1) * length es ≤ length values → IsOpenRow s es row → IsLive s es values n
 live_one s es values n row is l o = record { within = l; open_row = subst (λ (w : List ℤ). IsOpenRow s es w) is o }
 
+pub live_all : (s : Trail) (es : List ℕ) (values : List ℤ) (n : ℕ) (rows : List ℕ) → 0 < length es → length values / length es ≤ n → All (IsLive s es values) rows → ((r : ℕ) → r < n → IsLive s es values r → Contains rows r) → AreLive s es values rows
+live_all s es values n rows p past each every = record { each = each; every = λ r live. let b = row_before (length values) (length es) r p live.within in every r (omega arith) live }
+
 pub live_long : (s : Trail) (es : List ℕ) (values : List ℤ) (rows : List ℕ) → AreLive s es values rows → All (λ r. (r + 1) * length es ≤ length values) rows
 live_long s es values rows h = All-weaker (IsLive s es values) (λ r. (r + 1) * length es ≤ length values) (λ r l. l.within) rows h.each
 
