@@ -3,7 +3,7 @@ use lib.Signed.{lt_z}
 use mir.Syntax.{w64}
 use mir.Val.{to_z, of_z}
 use Rattle.std.specs.Prelude.{not, FitsSigned}
-use Rattle.std.proofs.Common.{◌≡◌, ℕ, ◌<◌, ℤ, pos, negsuc, ◌≤ℤ◌, Bool, true, false, List, length, get_or, sym, ◌∙◌, ap, arith}
+use Rattle.std.proofs.Common.{◌≡◌, ◌<◌, ℤ, pos, negsuc, ◌≤ℤ◌, true, false, List, length, get_or, sym, ◌∙◌, ap, arith}
 use Rattle.std.proofs.lemmas.Int.{ints, to_z-of_z}
 use Rattle.std.proofs.lemmas.List.{get_or_default}
 use Rattle.cps_literal.specs.declared.atom.Atom.{Atom}
