@@ -79,17 +79,17 @@ fn hull(values: &[i64]) -> (i64, i64) {
     (low, high)
 }
 
-/// How many different values there are, where they lie close to one another.
-fn count_distinct(values: &[i64], marks: &mut Vec<bool>) -> Result<Option<u64>, AllocError> {
-    let (low, high) = hull(values);
-    let most = values.len().saturating_mul(4).saturating_add(64);
-    let Some(span) = distance(low, high, most) else {
-        return Ok(None);
-    };
+/// So many marks, of which none is set.
+fn clear_marks(marks: &mut Vec<bool>, count: usize) -> Result<(), AllocError> {
     marks.clear();
-    for _ in 0..span.saturating_add(1) {
+    for _ in 0..count {
         marks.push(false)?;
     }
+    Ok(())
+}
+
+/// Marks values by how far each lies above the least one, and counts the marks.
+fn count_marked(values: &[i64], low: i64, marks: &mut [bool]) -> u64 {
     let mut count = 0u64;
     for value in values {
         let Some(place) = distance(low, *value, marks.len()) else {
@@ -100,7 +100,18 @@ fn count_distinct(values: &[i64], marks: &mut Vec<bool>) -> Result<Option<u64>, 
             count = count.saturating_add(1);
         }
     }
-    Ok(Some(count))
+    count
+}
+
+/// How many different values there are, where they lie close to one another.
+fn count_distinct(values: &[i64], marks: &mut Vec<bool>) -> Result<Option<u64>, AllocError> {
+    let (low, high) = hull(values);
+    let most = values.len().saturating_mul(4).saturating_add(64);
+    let Some(span) = distance(low, high, most) else {
+        return Ok(None);
+    };
+    clear_marks(marks, span.saturating_add(1))?;
+    Ok(Some(count_marked(values, low, marks.as_mut_slice())))
 }
 
 /// Makes a list that of the values as intervals.
