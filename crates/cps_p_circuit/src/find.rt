@@ -178,6 +178,28 @@ impl Finder {
         }
     }
 
+    /// Counts the arcs at each node, and sees which are not taken.
+    fn count_all(
+        &mut self,
+        graph: &Graph,
+        literals: &[Atom],
+        store: &Store,
+    ) -> Result<(), AllocError>
+        requires { All (λ i. i < length store.now.first) (atom_subjects literals.now) }
+    {
+        let nodes = graph.nodes.len();
+        reset(&mut self.out, nodes)?;
+        reset(&mut self.into, nodes)?;
+        clear_slots(&mut self.loops, nodes)?;
+        let arcs = graph.arcs().min(literals.len());
+        clear_slots(&mut self.shut, arcs)?;
+        for k in 0..arcs {
+            let truth = store.truth(literals[k]);
+            self.count(graph, k, truth);
+        }
+        Ok(())
+    }
+
     /// Proposes that an open arc beside a taken one is not taken.
     fn exclude(&mut self, graph: &Graph, k: usize) -> Result<(), AllocError>
         requires tail { k < length graph.now.from.items }
@@ -436,17 +458,8 @@ impl Finder {
     {
         self.candidates.clear();
         self.conflict = None;
-        let nodes = graph.nodes.len();
-        reset(&mut self.out, nodes)?;
-        reset(&mut self.into, nodes)?;
-        clear_slots(&mut self.loops, nodes)?;
-        let arcs = graph.arcs().min(literals.len());
-        clear_slots(&mut self.shut, arcs)?;
-        for k in 0..arcs {
-            let truth = store.truth(literals[k]);
-            self.count(graph, k, truth);
-        }
-        self.require_all(nodes)?;
+        self.count_all(graph, literals, store)?;
+        self.require_all(graph.nodes.len())?;
         self.follow_all(graph)?;
         self.part(graph, links)?;
         self.exclude_all(graph, literals, store)
