@@ -82,6 +82,10 @@ row_inside n w row p l = (le-div_iff_mul-le p).0 (omega arith)
 pub row_before : (n w row : ℕ) → 0 < w → (row + 1) * w ≤ n → row < n / w
 row_before n w row p l = let h = (le-div_iff_mul-le {k = w} {x = row + 1} {y = n} p).1 l in omega arith
 
+pub row_short : (n w row : ℕ) → 0 < w → (row + 1) * w ≤ n → row < n
+row_short n zero row p l = absurd (omega arith)
+row_short n (suc w) row p l = omega arith
+
 -- the rows that are left, one row more
 pub live_push : (s : Trail) (es : List ℕ) (values : List ℤ) (n : ℕ) (old new : List ℕ) → new ≡ old ++ n ∷ [] → ((r : ℕ) → r < n → IsLive s es values r → Contains old r) → (r : ℕ) → r < n + 1 → IsLive s es values r → Contains new r
 live_push s es values n old new is h r l live = subst (λ (rs : List ℕ). Contains rs r) (sym is) (elim (cases_lt r n) [

@@ -6,7 +6,7 @@ use Rattle.cps_model.specs.Lookups.{row_at}
 use Rattle.cps_p_lookup.specs.Tabling.{IsBanned, IsMissed}
 use Rattle.cps_p_lookup.proofs.Answering.{no_not_yes}
 use Rattle.cps_p_lookup.proofs.Placing.{more_given}
-use Rattle.cps_p_lookup.proofs.Tables.{banned_by, missed_by, ban_given}
+use Rattle.cps_p_lookup.proofs.Tables.{row_short, banned_by, missed_by, ban_given}
 use Rattle.cps_p_lookup.proofs.bans.visit.Goals as goal
 use Rattle.cps_p_lookup.proofs.bans.visit.Goals.{After-truth}
 
@@ -29,6 +29,9 @@ returns-then-column-width-clause-banned c = λ e.
 
 pub returns-in-Yes-clause-missed : goal.returns-in-Yes-clause-missed
 returns-in-Yes-clause-missed c = λ e. missed (goal.at.returns-in-Yes-clause-missed c).After-truth
+
+pub overflow_cast-hint : goal.overflow_cast-hint
+overflow_cast-hint c = let l = row_short (length c.args.grid.now.values.now) (length c.args.grid.now.exprs.now) c.args.row c.requires.some c.requires.row in search rules
 
 pub returns-in_ok-push : goal.returns-in_ok-push
 returns-in_ok-push c =
