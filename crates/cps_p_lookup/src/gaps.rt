@@ -27,7 +27,7 @@ pub(crate) struct Gaps {
     /// The same as intervals, in order.
     runs: Vec<(i64, i64)>,
     /// The values that are not.
-    missing: Vec<i64>,
+    pub(crate) missing: Vec<i64>,
     /// For each number from the least value on, whether it is supported.
     marks: Vec<bool>,
 }
@@ -269,7 +269,7 @@ pub(crate) fn copy_holes(
     subject: u32,
     domain: &Domain,
     other: &Domain,
-    gaps: &mut Gaps,
+    missing: &mut Vec<i64>,
     found: &mut Vec<Narrowing>,
 ) -> Result<(), AllocError>
     ensures { OnOk result (ExcludesValues subject (λ v. contains other.now v ≡ true) found.old.items found.new.items) }
@@ -277,6 +277,6 @@ pub(crate) fn copy_holes(
     if !is_worth(domain, 0) {
         return Ok(());
     }
-    list_uncovered(domain.intervals(), other.intervals(), &mut gaps.missing)?;
-    exclude_outside(subject, other, gaps.missing.as_slice(), found)
+    list_uncovered(domain.intervals(), other.intervals(), missing)?;
+    exclude_outside(subject, other, missing.as_slice(), found)
 }
