@@ -7,7 +7,7 @@ use Rattle.cps_domain.proofs.Tests.{le_true}
 use Rattle.cps_model.specs.Lookups.{item_at}
 use Rattle.cps_literal.specs.declared.atom.Atom.{Atom}
 use Rattle.cps_literal.specs.declared.atom.Op.TheVariants.{Le, Ge}
-use Rattle.cps_literal.specs.Truth.{value_at, atom_holds, meets}
+use Rattle.cps_literal.specs.Truth.{value_at, atom_holds}
 use Rattle.cps_instance.specs.declared.task.Body.TheVariants.{Element}
 use Rattle.cps_instance.specs.Tasks.{HoldsBody}
 use Rattle.cps_instance.specs.Parts.{values_at}
