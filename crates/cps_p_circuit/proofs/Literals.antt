@@ -23,6 +23,7 @@ read_least v w fits e = at_least v w (rw (to_z-of_z w64 v fits) at e)
 read_most : (v w : ℤ) → FitsSigned w64 v → lt_z w (to_z w64 (of_z w64 v)) ≡ false → v ≤ℤ w
 read_most v w fits e = at_least w v (rw (to_z-of_z w64 v fits) at e)
 
+-- a number near 0 is one that a domain may have
 near_inside : (v : ℤ) → negsuc 1 ≤ℤ v → v ≤ℤ pos 2 → IsInside v
 near_inside v l h = record { low = omega (arith, ints); high = omega (arith, ints) }
 
