@@ -3,9 +3,9 @@ use lib.Signed.{lt_z, le_z}
 use mir.Syntax.{w64}
 use mir.Val.{to_z, of_z}
 use Rattle.std.specs.Prelude.{FitsSigned, Result, Ok}
-use Rattle.std.proofs.Common.{◌≡◌, ℕ, ℤ, ◌≤ℤ◌, Bool, true, false, arith}
+use Rattle.std.proofs.Common.{◌≡◌, ℕ, ℤ, pos, ◌+ℤ◌, ◌-ℤ◌, ◌≤ℤ◌, Bool, true, false, arith}
 use Rattle.std.proofs.lemmas.Int.{ints, to_z-of_z}
-use Rattle.cps_trail.specs.Trail.{Trail}
+use Rattle.cps_trail.specs.Trail.{Trail, IsInside}
 use Rattle.cps_propagate.specs.Now.{IsOpenTo}
 use Rattle.cps_propagate.specs.Strength.{IsHeld}
 
@@ -20,6 +20,16 @@ read_at_most a b fa fb e = at_most_from a b (rw (to_z-of_z w64 a fa, to_z-of_z w
 
 pub read_not_less : (a b : ℤ) → FitsSigned w64 a → FitsSigned w64 b → lt_z (to_z w64 (of_z w64 a)) (to_z w64 (of_z w64 b)) ≡ false → b ≤ℤ a
 read_not_less a b fa fb e = at_most_unless a b (rw (to_z-of_z w64 a fa, to_z-of_z w64 b fb) at e)
+
+-- the numbers beside one that a domain may have
+pub above_fits : (v : ℤ) → IsInside v → FitsSigned w64 (v +ℤ pos 1)
+above_fits v h = let a = h.low in let b = h.high in omega (arith, ints)
+
+pub below_fits : (v : ℤ) → IsInside v → FitsSigned w64 (v -ℤ pos 1)
+below_fits v h = let a = h.low in let b = h.high in omega (arith, ints)
+
+pub down_up : (v : ℤ) → ((v -ℤ pos 1) +ℤ pos 1) ≡ v
+down_up v = omega (arith, ints)
 
 in_order : (a b c : ℤ) → a ≤ℤ b → b ≤ℤ c → a ≤ℤ c
 in_order a b c p q = omega (arith, ints)
