@@ -16,7 +16,7 @@ ghost use Rattle.cps_rule.specs.Facts.{Grows, Denied};
 ghost use Rattle.cps_p_sequence.specs.Cuts.{IsOut, IsLimited, Comes, IsCut};
 
 use crate::facts::{LIMIT, atom, is_last, is_met, push_fact};
-use crate::layers::{Network, Position, mark_first, top_row};
+use crate::layers::{Network, Position, drop_top, mark_first, subject_before, top_row};
 use crate::states::{Step, blank};
 use cps_literal::{Atom, Op, Truth};
 use cps_trail::Before;
@@ -125,7 +125,7 @@ fn guides(
     let mut tails = Vec::new(alloc);
     for after in 0..net.subjects.len() {
         let position = Position {
-            subject: net.subjects[net.subjects.len() - 1 - after],
+            subject: subject_before(net.subjects, after),
             steps: net.steps,
         };
         let row = heads.as_slice();
@@ -350,8 +350,7 @@ pub(crate) fn cut(
         };
         lead_on(past, &layer, facts, &mut row)?;
         swap(&mut reached, &mut row);
-        let below = rows.len() - count;
-        rows.truncate(below);
+        drop_top(&mut rows, count);
     }
     let marks = reached.as_slice();
     Ok(is_cut_off(marks, net.last))
