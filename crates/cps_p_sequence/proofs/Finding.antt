@@ -121,6 +121,9 @@ pub record Mirrors (s : Trail) (direct inverse : List ℕ) (n : ℕ) (old new : 
 pub last_or : (k n : ℕ) → k < n + 1 → (k < n) ⊎ (k ≡ n)
 last_or k n l = grind arith
 
+pub within_begun : (s : Trail) (is : List ℕ) (count : ℤ) (found : List Narrowing) → KeptWithin s is count 0 found found
+within_begun s is count found = record { given = λ b places gs. gs; kept = λ all. all; within = λ all k d l m. absurd (omega (arith, l)) }
+
 -- one more step of each loop
 pub within_more : (s : Trail) (is : List ℕ) (count : ℤ) (n : ℕ) (old mid next new : List Narrowing) (i : ℕ) → n < length is → i ≡ get_or is n 0
     → ((b : Body) → (c : ℤ) → HasPlace b i c → AreGivenPlaces b s mid → AreGivenPlaces b s next) → (AreTrue s next → AreTrue s mid) → (AreTrue s next → (x : ℤ) → IsOpenTo s i x → pos 0 ≤ℤ x)

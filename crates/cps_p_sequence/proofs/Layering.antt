@@ -403,6 +403,13 @@ pub whole_at : (s : Trail) (i : ℕ) (labels labels' : List ℤ) (new : List Nar
     → AllTargetsTrue s new → ((v : ℤ) → Contains labels v → IsOpenTo s i v) → IsNarrowAt s i → (x : ℤ) → IsOpenTo s i x → Contains labels x
 whole_at s i labels labels' new e whole = subst (λ (vs : List ℤ). AllTargetsTrue s new → ((v : ℤ) → Contains vs v → IsOpenTo s i v) → IsNarrowAt s i → (x : ℤ) → IsOpenTo s i x → Contains vs x) e whole
 
+-- by all steps
+pub tails_whole : (s : Trail) (i : ℕ) (steps : List Step) (n : ℕ) (heads tails : List Bool) → length steps ≤ n → AreTails s i steps n heads tails → AreTails s i steps (length steps) heads tails
+tails_whole s i steps n heads tails past p = record { size = p.size; all = λ k d l m. p.all k d (omega (arith, m, past)) m; from = p.from }
+
+pub heads_whole : (s : Trail) (i : ℕ) (steps : List Step) (n : ℕ) (tails heads : List Bool) → length steps ≤ n → AreHeads s i steps n tails heads → AreHeads s i steps (length steps) tails heads
+heads_whole s i steps n tails heads past p = record { size = p.size; all = λ k d l m. p.all k d (omega (arith, m, past)) m; from = p.from }
+
 -- a list whose length is counted has items, or none
 pub some_items : (v n : ℕ) (b : Bool) → b ≡ (v == 0) → b ≡ false → v ≡ n → 0 < n
 some_items v n b e f is = grind arith
