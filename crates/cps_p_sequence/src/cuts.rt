@@ -86,7 +86,7 @@ struct Asked {
     is_open: bool,
 }
 
-/// Whether a label was open. That of the label that was asked about last is known.
+/// Whether a label was open, which is known of the one that was asked about last.
 fn ask(past: &Before, goal: Option<Atom>, subject: u32, label: i64, last: Asked) -> Asked
     requires { subject < length past.now.first }
 {

@@ -1,5 +1,5 @@
 -- A step that is no way on is ruled out by the facts; each other one marks its head.
-use Rattle.std.proofs.Common.{pos, true, Ok, get_or, refl, sym, ◌∙◌, ap, arith, true≢false}
+use Rattle.std.proofs.Common.{pos, Ok, get_or, refl, sym, ◌∙◌, ap, arith, true≢false}
 use Rattle.std.proofs.lemmas.List.{get_or_default}
 use Rattle.cps_p_sequence.specs.declared.states.Step.{Step}
 use Rattle.cps_p_sequence.proofs.Growing.{grows_same}

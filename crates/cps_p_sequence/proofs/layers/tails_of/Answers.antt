@@ -1,5 +1,5 @@
 -- A state is marked from which an open step leads to a marked one.
-use Rattle.std.proofs.Common.{pos, true, get_or, refl, sym, ◌∙◌, rules, arith, w64, FitsSigned, true≢false}
+use Rattle.std.proofs.Common.{pos, get_or, refl, sym, ◌∙◌, rules, arith, w64, FitsSigned, true≢false}
 use Rattle.std.proofs.lemmas.Int.{to_z-of_z}
 use Rattle.std.proofs.lemmas.List.{get_or_default}
 use Rattle.cps_p_sequence.specs.declared.states.Step.{Step}
