@@ -1,0 +1,75 @@
+-- What is read back from a word of 64 bits, and what is made of it.
+use Rattle.std.specs.Prelude.{unsigned_abs}
+use Rattle.std.proofs.Common.{◌≡◌, ◌∙◌, ℕ, ◌+◌, ◌*◌, ◌<◌, ◌≤◌, ◌^◌, ℤ, pos, negsuc, ◌+ℤ◌, ◌-ℤ◌, ◌*ℤ◌, ◌≤ℤ◌, List, false, length, length-set, set, refl, sym, ap, subst, arith, to_z, of_z, w64, FitsSigned}
+use Rattle.std.proofs.Math.Nat.{mul-le-mul_left}
+use Rattle.std.proofs.lemmas.Int.{fits_signed_from_abs, ints, to_z-of_z}
+use Rattle.cps_instance.proofs.Boundings.{fits_small}
+use Rattle.cps_reform.specs.declared.held.Held.{Held}
+use Rattle.cps_reform.specs.Forms.{Form, term_at}
+
+-- a number that is small is the one that is read
+pub read_small : (x : ℤ) → unsigned_abs x < 2 ^ 62 → to_z w64 (of_z w64 x) ≡ x
+read_small x small = to_z-of_z w64 x (fits_small x small)
+
+-- an amount is read as a whole number
+pub read_amount : (n : ℕ) → n < 2 ^ 63 → to_z w64 n ≡ pos n
+read_amount n small = omega (arith, ints)
+
+-- a base and a part of it
+pub fits-sum : (b p n : ℤ) → FitsSigned w64 b → FitsSigned w64 p → b ≡ n → unsigned_abs (n +ℤ p) < 2 ^ 62 → FitsSigned w64 (to_z w64 (of_z w64 b) +ℤ to_z w64 (of_z w64 p))
+fits-sum b p n fb fp same small =
+    subst (λ (x : ℤ). FitsSigned w64 (x +ℤ to_z w64 (of_z w64 p))) (sym (to_z-of_z w64 b fb ∙ same))
+    (subst (λ (x : ℤ). FitsSigned w64 (n +ℤ x)) (sym (to_z-of_z w64 p fp)) (fits_small (n +ℤ p) small))
+
+pub read-sum : (b p n : ℤ) → FitsSigned w64 b → FitsSigned w64 p → b ≡ n → unsigned_abs (n +ℤ p) < 2 ^ 62 → to_z w64 (of_z w64 (to_z w64 (of_z w64 b) +ℤ to_z w64 (of_z w64 p))) ≡ n +ℤ p
+read-sum b p n fb fp same small =
+    to_z-of_z w64 (to_z w64 (of_z w64 b) +ℤ to_z w64 (of_z w64 p)) (fits-sum b p n fb fp same small)
+    ∙ ap (λ (x : ℤ). x +ℤ to_z w64 (of_z w64 p)) (to_z-of_z w64 b fb ∙ same) ∙ ap (λ (x : ℤ). n +ℤ x) (to_z-of_z w64 p fp)
+
+-- a base and an amount by which it rises
+pub fits-rise : (b n : ℤ) (a : ℕ) → FitsSigned w64 b → b ≡ n → a < 2 ^ 63 → unsigned_abs (n +ℤ pos a) < 2 ^ 63 → FitsSigned w64 (to_z w64 (of_z w64 b) +ℤ to_z w64 a)
+fits-rise b n a fb same small within =
+    subst (λ (x : ℤ). FitsSigned w64 (x +ℤ to_z w64 a)) (sym (to_z-of_z w64 b fb ∙ same))
+    (subst (λ (x : ℤ). FitsSigned w64 (n +ℤ x)) (sym (read_amount a small)) (fits_signed_from_abs w64 (n +ℤ pos a) within))
+
+pub read-rise : (b n : ℤ) (a : ℕ) → FitsSigned w64 b → b ≡ n → a < 2 ^ 63 → unsigned_abs (n +ℤ pos a) < 2 ^ 63 → to_z w64 (of_z w64 (to_z w64 (of_z w64 b) +ℤ to_z w64 a)) ≡ n +ℤ pos a
+read-rise b n a fb same small within =
+    to_z-of_z w64 (to_z w64 (of_z w64 b) +ℤ to_z w64 a) (fits-rise b n a fb same small within)
+    ∙ ap (λ (x : ℤ). x +ℤ to_z w64 a) (to_z-of_z w64 b fb ∙ same) ∙ ap (λ (x : ℤ). n +ℤ x) (read_amount a small)
+
+-- a rise from one bound to another
+gap_size : (f t : ℤ) → unsigned_abs (t -ℤ f) ≤ unsigned_abs f + unsigned_abs t
+gap_size f t = omega (arith, ints)
+
+pub read-gap : (f t : ℤ) → unsigned_abs f < 2 ^ 62 → unsigned_abs t < 2 ^ 62 → to_z w64 (of_z w64 (to_z w64 (of_z w64 t) -ℤ to_z w64 (of_z w64 f))) ≡ t -ℤ f
+read-gap f t low high =
+    ap (λ (x : ℤ). to_z w64 (of_z w64 (x -ℤ to_z w64 (of_z w64 f)))) (read_small t high) ∙ ap (λ (x : ℤ). to_z w64 (of_z w64 (t -ℤ x))) (read_small f low)
+    ∙ to_z-of_z w64 (t -ℤ f) (fits_signed_from_abs w64 (t -ℤ f) (let size = gap_size f t in omega (arith, size, low, high)))
+
+pub gap-small : (w : ℕ) (f t : ℤ) → w * (unsigned_abs f + unsigned_abs t) < 2 ^ 63 → w * unsigned_abs (t -ℤ f) < 2 ^ 63
+gap-small w f t small = (let most = mul-le-mul_left w (gap_size f t) in omega (arith, small, most))
+
+up_size : (x : ℤ) → pos 0 ≤ℤ x → pos (unsigned_abs x) ≡ x
+up_size (pos n) h = refl
+up_size (negsuc n) h = absurd (omega (arith, ints, h))
+
+pub gap-is : (w : ℕ) (f t : ℤ) → f ≤ℤ t → pos (w * unsigned_abs (t -ℤ f)) ≡ pos w *ℤ (t -ℤ f)
+gap-is w f t rises = times w (unsigned_abs (t -ℤ f)) ∙ ap (λ (x : ℤ). pos w *ℤ x) (up_size (t -ℤ f) (omega (arith, ints, rises)))
+  where
+    times : (w n : ℕ) → pos (w * n) ≡ pos w *ℤ pos n
+    times w n = refl
+
+-- a form by its parts
+pub form_by : (x y : ℤ) (ts us : List Held) → x ≡ y → ts ≡ us → ◌≡◌ {A = Form} (record { base = x; terms = ts }) (record { base = y; terms = us })
+form_by x y ts us base terms = ap (λ (v : ℤ). record { base = v; terms = ts }) base ∙ ap (λ (vs : List Held). record { base = y; terms = vs }) terms
+
+-- a term that was read, put back with another bound
+pub set-bound : (ts us ws : List Held) (i : ℕ) (t : Held) (b v : ℤ) → ws ≡ set us i (record { weight = t.weight; subject = t.subject; bound = v; in_core = false }) → us ≡ ts → t ≡ term_at ts i → v ≡ b
+    → ws ≡ set ts i (record (term_at ts i) { bound = b; in_core = false })
+set-bound ts us ws i t b v is same read bound =
+    is ∙ ap (λ (vs : List Held). set vs i (record { weight = t.weight; subject = t.subject; bound = v; in_core = false })) same
+    ∙ ap (λ (u : Held). set ts i (record u { bound = v; in_core = false })) read
+    ∙ ap (λ (x : ℤ). set ts i (record (term_at ts i) { bound = x; in_core = false })) bound
+
+pub same-size : (us ws : List Held) (i : ℕ) (t : Held) → ws ≡ set us i t → length ws ≡ length us
+same-size us ws i t is = ap (λ (ts : List Held). length ts) is ∙ length-set us i t
