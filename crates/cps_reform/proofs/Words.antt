@@ -1,11 +1,14 @@
 -- What is read back from a word of 64 bits, and what is made of it.
-use Rattle.std.specs.Prelude.{unsigned_abs}
-use Rattle.std.proofs.Common.{◌≡◌, ◌∙◌, ℕ, ◌+◌, ◌*◌, ◌<◌, ◌≤◌, ◌^◌, ℤ, pos, negsuc, ◌+ℤ◌, ◌-ℤ◌, ◌*ℤ◌, ◌≤ℤ◌, List, false, length, length-set, set, refl, sym, ap, subst, arith, to_z, of_z, w64, FitsSigned}
+use Rattle.std.specs.Prelude.{int_lt, unsigned_abs}
+use Rattle.std.proofs.Common.{◌≡◌, ◌∙◌, ℕ, zero, suc, ◌+◌, ◌*◌, ◌<◌, ◌≤◌, ◌^◌, ℤ, pos, negsuc, ◌+ℤ◌, ◌-ℤ◌, ◌*ℤ◌, ◌≤ℤ◌, ◌<ℤ◌, List, false, length, length-set, set, refl, sym, ap, subst, arith, to_z, of_z, w64, FitsSigned}
 use Rattle.std.proofs.Math.Nat.{mul-le-mul_left}
-use Rattle.std.proofs.lemmas.Int.{fits_signed_from_abs, ints, to_z-of_z}
+use Rattle.std.proofs.lemmas.Int.{fits_signed_from_abs, ints, to_z-of_z, unsigned_abs-mul}
+use Rattle.cps_model.proofs.Sums.{unsigned_abs-add}
+use Rattle.cps_instance.specs.Terms.{Intervals, least_of, magnitude}
 use Rattle.cps_instance.proofs.Boundings.{fits_small}
 use Rattle.cps_reform.specs.declared.held.Held.{Held}
 use Rattle.cps_reform.specs.Forms.{Form, term_at}
+use Rattle.cps_reform.proofs.Rooms.{weight-small}
 
 -- a number that is small is the one that is read
 pub read_small : (x : ℤ) → unsigned_abs x < 2 ^ 62 → to_z w64 (of_z w64 x) ≡ x
@@ -73,3 +76,54 @@ set-bound ts us ws i t b v is same read bound =
 
 pub same-size : (us ws : List Held) (i : ℕ) (t : Held) → ws ≡ set us i t → length ws ≡ length us
 same-size us ws i t is = ap (λ (ts : List Held). length ts) is ∙ length-set us i t
+
+-- a test of two numbers that were read
+not_less : (x y : ℤ) → int_lt x y ≡ false → y ≤ℤ x
+not_less x y h = grind (arith, ints)
+
+pub high-read : (g b : ℤ) → FitsSigned w64 g → FitsSigned w64 b → int_lt (to_z w64 (of_z w64 g)) (to_z w64 (of_z w64 b)) ≡ false → b ≤ℤ g
+high-read g b fg fb h =
+    not_less g b (ap (λ (x : ℤ). int_lt x b) (sym (to_z-of_z w64 g fg)) ∙ ap (λ (y : ℤ). int_lt (to_z w64 (of_z w64 g)) y) (sym (to_z-of_z w64 b fb)) ∙ h)
+
+-- how much room a base has below a limit
+room_read : (base limit b : ℤ) (room : ℕ) → b ≡ base → unsigned_abs base < 2 ^ 62 → FitsSigned w64 limit → to_z w64 (of_z w64 b) +ℤ pos room ≡ to_z w64 (of_z w64 limit) → base +ℤ pos room ≡ limit
+room_read base limit b room same small fl is =
+    ap (λ (x : ℤ). x +ℤ pos room) (sym (ap (λ (x : ℤ). to_z w64 (of_z w64 x)) same ∙ read_small base small)) ∙ is ∙ to_z-of_z w64 limit fl
+
+pub within-read : (base limit b : ℤ) (room amount : ℕ) → b ≡ base → unsigned_abs base < 2 ^ 62 → FitsSigned w64 limit → to_z w64 (of_z w64 b) +ℤ pos room ≡ to_z w64 (of_z w64 limit) → amount ≤ room → (base +ℤ pos amount) ≤ℤ limit
+within-read base limit b room amount same small fl is less = (let here = room_read base limit b room same small fl is in omega (arith, ints, here, less))
+
+pub over-read : (base limit b : ℤ) (room amount : ℕ) → b ≡ base → unsigned_abs base < 2 ^ 62 → FitsSigned w64 limit → to_z w64 (of_z w64 b) +ℤ pos room ≡ to_z w64 (of_z w64 limit) → room < amount → limit <ℤ (base +ℤ pos amount)
+over-read base limit b room amount same small fl is more = (let here = room_read base limit b room same small fl is in omega (arith, ints, here, more))
+
+-- what a rise of a term that was read is worth
+pub amount-is : (ts : List Held) (i : ℕ) (t : Held) (bound : ℤ) (amount : ℕ) → FitsSigned w64 bound → FitsSigned w64 t.bound → t ≡ term_at ts i → pos amount ≡ pos t.weight *ℤ (to_z w64 (of_z w64 bound) -ℤ to_z w64 (of_z w64 t.bound))
+    → pos amount ≡ pos (term_at ts i).weight *ℤ (bound -ℤ (term_at ts i).bound)
+amount-is ts i t bound amount fb ft same is =
+    is ∙ ap (λ (x : ℤ). pos t.weight *ℤ (x -ℤ to_z w64 (of_z w64 t.bound))) (to_z-of_z w64 bound fb) ∙ ap (λ (x : ℤ). pos t.weight *ℤ (bound -ℤ x)) (to_z-of_z w64 t.bound ft) ∙ ap (λ (u : Held). pos u.weight *ℤ (bound -ℤ u.bound)) same
+
+-- a weight times a number that is not 0
+pub some_size : (b : ℤ) → (of_z w64 b ≡ 0 → ⊥) → 1 ≤ unsigned_abs b
+some_size (pos zero) h = absurd (h refl)
+some_size (pos (suc n)) h = omega arith
+some_size (negsuc n) h = omega arith
+
+pub fits-product : (w : ℕ) (b : ℤ) → FitsSigned w64 b → 1 ≤ unsigned_abs b → w * unsigned_abs b < 2 ^ 62 → FitsSigned w64 (to_z w64 w *ℤ to_z w64 (of_z w64 b))
+fits-product w b fb some need =
+    subst (λ (x : ℤ). FitsSigned w64 (x *ℤ to_z w64 (of_z w64 b))) (sym (read_amount w (let small = weight-small w (unsigned_abs b) some need in omega (arith, small))))
+    (subst (λ (x : ℤ). FitsSigned w64 (pos w *ℤ x)) (sym (to_z-of_z w64 b fb)) (fits_small (pos w *ℤ b) (let size = unsigned_abs-mul (pos w) b in omega (arith, size, need))))
+
+-- a weight times the least value of a domain, and a base with it
+pub part-small : (w reach : ℕ) (d : Intervals) (b : ℤ) → b ≡ least_of d → reach + w * magnitude d < 2 ^ 62 → w * unsigned_abs b < 2 ^ 62
+part-small w reach d b is small =
+    let most : unsigned_abs (least_of d) ≤ magnitude d = omega arith in
+    let part = mul-le-mul_left w most in
+    subst (λ (x : ℤ). w * unsigned_abs x < 2 ^ 62) (sym is) (omega (arith, small, part))
+
+pub held-small : (base p : ℤ) (w reach : ℕ) (d : Intervals) (b : ℤ) → b ≡ least_of d → unsigned_abs base ≤ reach → unsigned_abs p ≡ w * unsigned_abs b → reach + w * magnitude d < 2 ^ 62 → unsigned_abs (base +ℤ p) < 2 ^ 62
+held-small base p w reach d b is near size small =
+    let most : unsigned_abs (least_of d) ≤ magnitude d = omega arith in
+    let part = mul-le-mul_left w most in
+    let here : unsigned_abs p ≡ w * unsigned_abs (least_of d) = size ∙ ap (λ (x : ℤ). w * unsigned_abs x) is in
+    let both = unsigned_abs-add base p in
+    omega (arith, small, part, here, near, both)
