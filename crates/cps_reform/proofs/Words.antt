@@ -1,9 +1,13 @@
 -- What is read back from a word of 64 bits, and what is made of it.
-use Rattle.std.specs.Prelude.{int_lt, unsigned_abs}
-use Rattle.std.proofs.Common.{◌≡◌, ◌∙◌, ℕ, zero, suc, ◌+◌, ◌*◌, ◌<◌, ◌≤◌, ◌^◌, ℤ, pos, negsuc, ◌+ℤ◌, ◌-ℤ◌, ◌*ℤ◌, ◌≤ℤ◌, ◌<ℤ◌, List, false, length, length-set, set, refl, sym, ap, subst, arith, to_z, of_z, w64, FitsSigned}
+use Rattle.std.specs.Prelude.{int_lt, unsigned_abs, Result, Ok}
+use Rattle.std.specs.Int.{int_min}
+use Rattle.std.proofs.Common.{◌≡◌, ◌∙◌, ℕ, zero, suc, ◌+◌, ◌*◌, ◌<◌, ◌≤◌, ◌^◌, ℤ, pos, negsuc, ◌+ℤ◌, ◌-ℤ◌, ◌*ℤ◌, ◌≤ℤ◌, ◌<ℤ◌, Bool, List, true, false, length, length-set, set, refl, sym, ap, subst, arith, to_z, of_z, w64, FitsSigned}
 use Rattle.std.proofs.Math.Nat.{mul-le-mul_left}
 use Rattle.std.proofs.lemmas.Int.{fits_signed_from_abs, ints, to_z-of_z, unsigned_abs-mul}
+use Rattle.cps_model.specs.declared.bound.Bound.{Bound}
+use Rattle.cps_model.specs.declared.bound.Bound.TheVariants.{At}
 use Rattle.cps_model.proofs.Sums.{unsigned_abs-add}
+use Rattle.cps_port.specs.Order.{IsBelow, IsSmallBound}
 use Rattle.cps_instance.specs.Terms.{Intervals, least_of, magnitude}
 use Rattle.cps_instance.proofs.Boundings.{fits_small}
 use Rattle.cps_reform.specs.declared.held.Held.{Held}
@@ -78,8 +82,11 @@ pub same-size : (us ws : List Held) (i : ℕ) (t : Held) → ws ≡ set us i t �
 same-size us ws i t is = ap (λ (ts : List Held). length ts) is ∙ length-set us i t
 
 -- a test of two numbers that were read
-not_less : (x y : ℤ) → int_lt x y ≡ false → y ≤ℤ x
+pub not_less : (x y : ℤ) → int_lt x y ≡ false → y ≤ℤ x
 not_less x y h = grind (arith, ints)
+
+pub is_less : (x y : ℤ) → int_lt x y ≡ true → x <ℤ y
+is_less x y h = grind (arith, ints)
 
 pub high-read : (g b : ℤ) → FitsSigned w64 g → FitsSigned w64 b → int_lt (to_z w64 (of_z w64 g)) (to_z w64 (of_z w64 b)) ≡ false → b ≤ℤ g
 high-read g b fg fb h =
@@ -127,3 +134,31 @@ held-small base p w reach d b is near size small =
     let here : unsigned_abs p ≡ w * unsigned_abs (least_of d) = size ∙ ap (λ (x : ℤ). w * unsigned_abs x) is in
     let both = unsigned_abs-add base p in
     omega (arith, small, part, here, near, both)
+
+-- the number after one that is small
+pub read-next : (x : ℤ) → unsigned_abs x < 2 ^ 62 → to_z w64 (of_z w64 (to_z w64 (of_z w64 x) +ℤ pos 1)) ≡ x +ℤ pos 1
+read-next x small = ap (λ (y : ℤ). to_z w64 (of_z w64 (y +ℤ pos 1))) (read_small x small) ∙ to_z-of_z w64 (x +ℤ pos 1) (fits_signed_from_abs w64 (x +ℤ pos 1) (omega (arith, ints, small)))
+
+-- the lesser of a number and the one before another
+lesser_all : (g x v : ℤ) → v <ℤ x → v ≤ℤ g → v ≤ℤ int_min g (x -ℤ pos 1)
+lesser_all g x v l m = grind (arith, ints)
+
+lesser_below : (g x : ℤ) → int_min g (x -ℤ pos 1) <ℤ x
+lesser_below g x = grind (arith, ints)
+
+read_lesser : (g x r : ℤ) → FitsSigned w64 g → FitsSigned w64 r → unsigned_abs x < 2 ^ 62 → r ≡ int_min (to_z w64 (of_z w64 g)) (to_z w64 (of_z w64 (to_z w64 (of_z w64 x) -ℤ pos 1))) → to_z w64 (of_z w64 r) ≡ int_min g (x -ℤ pos 1)
+read_lesser g x r fg fr small is =
+    to_z-of_z w64 r fr ∙ is ∙ ap (λ (y : ℤ). int_min y (to_z w64 (of_z w64 (to_z w64 (of_z w64 x) -ℤ pos 1)))) (to_z-of_z w64 g fg) ∙ ap (λ (y : ℤ). int_min g (to_z w64 (of_z w64 (y -ℤ pos 1)))) (read_small x small)
+    ∙ ap (λ (y : ℤ). int_min g y) (to_z-of_z w64 (x -ℤ pos 1) (fits_signed_from_abs w64 (x -ℤ pos 1) (omega (arith, ints, small))))
+
+pub limit-all : (z : Bound) (g x r : ℤ) → z ≡ At x → IsSmallBound z → FitsSigned w64 g → FitsSigned w64 r → r ≡ int_min (to_z w64 (of_z w64 g)) (to_z w64 (of_z w64 (to_z w64 (of_z w64 x) -ℤ pos 1))) → (v : ℤ) → IsBelow v z → v ≤ℤ g → v ≤ℤ to_z w64 (of_z w64 r)
+limit-all z g x r same small fg fr is v below most =
+    subst (λ (y : ℤ). v ≤ℤ y) (sym (read_lesser g x r fg fr (subst (λ (b : Bound). IsSmallBound b) same small) is)) (lesser_all g x v (subst (λ (b : Bound). IsBelow v b) same below) most)
+
+pub limit-below : (z : Bound) (g x r : ℤ) → z ≡ At x → IsSmallBound z → FitsSigned w64 g → FitsSigned w64 r → r ≡ int_min (to_z w64 (of_z w64 g)) (to_z w64 (of_z w64 (to_z w64 (of_z w64 x) -ℤ pos 1))) → IsBelow (to_z w64 (of_z w64 r)) z
+limit-below z g x r same small fg fr is =
+    subst (λ (b : Bound). IsBelow (to_z w64 (of_z w64 r)) b) (sym same) (subst (λ (y : ℤ). y <ℤ x) (sym (read_lesser g x r fg fr (subst (λ (b : Bound). IsSmallBound b) same small) is)) (lesser_below g x))
+
+-- yes is not no
+pub yes_not_no : {E : Type 0} (P : Type 0) → ◌≡◌ {A = Result Bool E} (Ok true) (Ok false) → P
+yes_not_no P h = absurd (cc h)
