@@ -74,6 +74,20 @@ presence_of first ps k x us h l e = subst (λ (vs : List Atom). All (λ u. u.sub
 pub small_of : (first : Domains) (ps : List Span) (k : ℕ) (x : Span) (us : List Atom) → AreSpans first ps → k < length ps → us ≡ (get_or ps k x).presence → All IsSmallAtom us
 small_of first ps k x us h l e = subst (λ (vs : List Atom). All IsSmallAtom vs) (sym e) (literals_small first (get_or ps k x).presence (h k x l).literals)
 
+-- the atoms of a span's presence are about subjects, and stand for literals
+pub presence_slice : (first : Domains) (p : Span) (us : List Atom) → us ≡ p.presence → IsSpan first p → All (λ u. u.subject < length first) us
+presence_slice first p us e h = subst (λ (vs : List Atom). All (λ u. u.subject < length first) vs) (sym e) h.presence
+
+pub small_slice : (first : Domains) (p : Span) (us : List Atom) → us ≡ p.presence → IsSpan first p → All IsSmallAtom us
+small_slice first p us e h = subst (λ (vs : List Atom). All IsSmallAtom vs) (sym e) (literals_small first p.presence h.literals)
+
+-- two spans of which all atoms are cited are present
+pub cites_present : (s : Trail) (a b c : List Atom) (p q : Span) (us vs : List Atom) → us ≡ p.presence → vs ≡ q.presence → Cites s a b (λ xs. list_all (atom_holds xs) us ≡ true) → Cites s b c (λ xs. list_all (atom_holds xs) vs ≡ true)
+    → Cites s a c (λ xs. (is_present xs p ≡ true) × (is_present xs q ≡ true))
+cites_present s a b c p q us vs e f g h =
+    cites_then s a b c (λ xs. is_present xs p ≡ true) (λ xs. is_present xs q ≡ true)
+    (subst (λ (ws : List Atom). Cites s a b (λ xs. list_all (atom_holds xs) ws ≡ true)) e g) (subst (λ (ws : List Atom). Cites s b c (λ xs. list_all (atom_holds xs) ws ≡ true)) f h)
+
 rest_whole : (us : List Atom) (m : ℕ) → take (length us - m) (drop m us) ≡ drop m us
 rest_whole us m = take_all (length us - m) (drop m us) (let l = length-drop m us in omega arith)
 
