@@ -15,3 +15,4 @@ pub mod Box_facts
 pub mod Refusing
 pub mod Presences
 pub mod Opposing
+pub mod Lasting
