@@ -16,3 +16,4 @@ pub mod Refusing
 pub mod Presences
 pub mod Opposing
 pub mod Lasting
+pub mod Copying
