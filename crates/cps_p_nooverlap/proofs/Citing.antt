@@ -29,6 +29,10 @@ cites_then s a b c P Q f g = record { facts = λ h. g.facts (f.facts h); kept = 
 pub cites_as : (s : Trail) (a b : List Atom) (P Q : List ℤ → Type 0) → ((xs : List ℤ) → P xs → Q xs) → Cites s a b P → Cites s a b Q
 cites_as s a b P Q f g = record { facts = g.facts; kept = g.kept; gives = λ xs h. f xs (g.gives xs h) }
 
+-- an atom that says something of a span's times says it where it is cited
+pub cites_said : (s : Trail) (a b : List Atom) (p : Span) (u : Atom) (P : List ℤ → Type 0) → SaysOfTimes p u P → Cites s a b (λ xs. atom_holds xs u ≡ true) → Cites s a b P
+cites_said s a b p u P said g = cites_as s a b (λ xs. atom_holds xs u ≡ true) P said.says g
+
 -- two present spans of which the one is late are in order
 pub orders : (xs : List ℤ) (ps : List Span) (pair : Pair) (d : Span) → IsPair (length ps) pair → is_present xs (get_or ps pair.before d) ≡ true → is_present xs (get_or ps pair.after d) ≡ true
     → start_at xs (get_or ps pair.before d) <ℤ end_at xs (get_or ps pair.after d) → IsNoOverlap (span_runs xs ps) → IsBefore xs (get_or ps pair.before d) (get_or ps pair.after d)
