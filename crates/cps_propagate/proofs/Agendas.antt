@@ -1,10 +1,18 @@
 -- What contracts see of an engine whose fields change.
 use Rattle.std.specs.Prelude.{false, OnErr}
-use Rattle.std.proofs.Common.{Result, Ok, Err, ℕ, ◌+◌, ◌≤◌, ◌<◌, ◌^◌, ℤ, ◌≡◌, Bool, true, List, [], ◌∷◌, ◌++◌, length, take, drop, map, refl, sym, ◌∙◌, ap, arith, true≢false}
+use Rattle.std.proofs.Common.{Result, Ok, Err, ℕ, ◌+◌, ◌≤◌, ◌<◌, ◌^◌, ℤ, ◌≡◌, Bool, true, List, [], ◌∷◌, ◌++◌, length, take, drop, map, refl, sym, ◌∙◌, ap, subst, arith, true≢false}
 use Rattle.std.proofs.lemmas.List.{length-map}
 use Rattle.cps_instance.specs.declared.task.Task.{Task}
 use Rattle.cps_instance.specs.Tasks.{lowered}
+use Rattle.cps_literal.specs.declared.atom.Atom.{Atom}
+use Rattle.cps_trail.specs.declared.step.Step.{Step}
+use Rattle.cps_trail.specs.declared.step.Step.TheVariants.{Settled}
+use Rattle.cps_propagate.specs.declared.propagator.Answer.{Answer}
+use Rattle.cps_propagate.specs.declared.propagator.Answer.TheVariants as answers
 use Rattle.cps_propagate.specs.Agenda.{Agenda}
+use Rattle.cps_propagate.specs.Conflicts.{as_step}
+use Rattle.cps_propagate.specs.Readers.{BySide}
+use Rattle.cps_propagate.specs.Wiring.{IsPlanned}
 use Rattle.cps_propagate.proofs.Planning.{lowered_whole, map-push}
 
 abbrev pub agenda : List Task → Bool → Agenda
@@ -50,3 +58,13 @@ pub lowered_agenda : (upper : ℤ) (tasks tasks' : List Task) (i : ℕ) (refused
     → agenda tasks' refused' ≡ agenda (map (lowered upper) tasks) refused
 lowered_agenda upper tasks tasks' i refused refused' e l same =
     ap (λ (ts : List Task). agenda ts refused') (lowered_whole upper tasks tasks' i e l) ∙ ap (λ (b : Bool). agenda (map (lowered upper) tasks) b) same
+
+-- what is planned for tasks is so whichever of them wait
+pub planned_again : (tasks tasks' : List Task) (readers : BySide) (cuts : List ℕ) (waits waits' : List Bool) → tasks' ≡ tasks → length waits' ≡ length waits → IsPlanned tasks readers cuts waits → IsPlanned tasks' readers cuts waits'
+planned_again tasks tasks' readers cuts waits waits' same count h =
+    subst (λ (ts : List Task). IsPlanned ts readers cuts waits') (sym same) (record { wired = h.wired; are_cuts = h.are_cuts; count = count ∙ h.count; few = h.few })
+
+-- an answer whose step is no conflict is none
+pub settled_of : {E : Type 0} (answer : Answer) (clause : List Atom) (step : Step) → step ≡ as_step answer clause → ◌≡◌ {A = Result Step E} (Ok step) (Ok Settled) → answer ≡ answers.Settled
+settled_of answers.Settled clause step is e = refl
+settled_of answers.Conflict clause step is e = absurd (cc (is, e))

@@ -1,15 +1,18 @@
 -- The tasks that contracts see are those of the list, and a run keeps them.
-use Rattle.std.proofs.Common.{◌∙◌, sym, subst, arith}
+use Rattle.std.proofs.Common.{◌∙◌, Ok, List, map, sym, ap, subst, arith}
 use Rattle.std.specs.Prelude.{IfSome}
 use Rattle.std.specs.List.{All}
 use Rattle.cps_instance.specs.Fitting.{IsFitting}
 use Rattle.cps_propagate.specs.Agenda.{Agenda}
-use Rattle.cps_propagate.specs.Laws.{IsInStep}
+use Rattle.cps_propagate.specs.Laws.{IsInStep, IsTaskAtRest}
 use Rattle.cps_propagate.specs.Wiring.{AreCuts}
 use Rattle.std.proofs.lemmas.List.{length-map}
 use Rattle.cps_trail.specs.Adds.{Infers}
+use Rattle.cps_literal.specs.declared.atom.Atom.{Atom}
+use Rattle.cps_trail.specs.declared.step.Step.{Step}
 use Rattle.cps_propagate.specs.Notes.{ByTasks}
-use Rattle.cps_propagate.proofs.Agendas.{no_plan, on_err, refused_now, as_before}
+use Rattle.cps_propagate.specs.Conflicts.{AnswersByTasks, as_step}
+use Rattle.cps_propagate.proofs.Agendas.{no_plan, on_err, refused_now, as_before, planned_again, settled_of}
 use Rattle.cps_propagate.proofs.engine.Engine.run_from.Goals as goal
 
 pub wake-requires-clause-few : goal.wake-requires-clause-few
@@ -56,3 +59,19 @@ returns-in_err-answer-clause-refused g c =
 pub returns-in_err-step-clause-refused : goal.returns-in_err-step-clause-refused
 returns-in_err-step-clause-refused g c =
     on_err _ _ (refused_now g.P.Propagator.task c.args.self.now c.self.inside.refused c.self.inside.list.items c.settle.new.list.items c.self.view_is c.in_ok-answer.ensures.keeps)
+
+pub invariant_of-self-2 : goal.invariant_of-self-2
+invariant_of-self-2 g c = λ e.
+    planned_again (map g.P.Propagator.task c.self.inside.list.items) (map g.P.Propagator.task c.settle.new.list.items) c.self.inside.readers c.self.inside.cuts.items c.self.inside.queue.waits c.settle.new.queue.waits c.in_ok-answer.ensures.keeps
+    (c.in_ok-answer.ensures.count ∙ c.in_ok-wake.ensures.count) (c.self.invariant c.if-self.false)
+
+pub returns-clause-answers : goal.returns-clause-answers
+returns-clause-answers g c =
+    let step = c.in_ok-step.ensures ∙ ap (λ (us : List Atom). as_step c.in_ok-answer.answer us) c.as_slice-2.ensures.value in
+    subst (λ (t : Step). AnswersByTasks c.args.self.now.tasks c.settle.new.store t) (sym step)
+    (subst (λ (a : Agenda). AnswersByTasks a.tasks c.settle.new.store (as_step c.in_ok-answer.answer c.settle.new.conflict.items)) c.self.view_is c.in_ok-answer.ensures.answers)
+
+pub returns-clause-at_rest : goal.returns-clause-at_rest
+returns-clause-at_rest g c = λ e.
+    let settled = settled_of c.in_ok-answer.answer c.as_slice-2.result.now c.in_ok-step.step c.in_ok-step.ensures e in
+    subst (λ (a : Agenda). All (λ t. IsTaskAtRest t c.settle.new.store) a.tasks) c.self.view_is (c.in_ok-answer.ensures.at_rest (ap Ok settled))
