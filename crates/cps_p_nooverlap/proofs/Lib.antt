@@ -17,3 +17,4 @@ pub mod Presences
 pub mod Opposing
 pub mod Lasting
 pub mod Copying
+pub mod Widening
