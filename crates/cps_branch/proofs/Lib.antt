@@ -9,3 +9,5 @@ pub mod Bumping
 pub mod Leading
 pub mod Playing
 pub mod Aside
+pub mod Lists
+pub mod Parts
