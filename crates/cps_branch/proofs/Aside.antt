@@ -266,6 +266,26 @@ puts_back kept out first items fewer within stays = record {
     count : length (take out items) ≡ out
     count = length-take-le out items (omega arith)
 
+-- what came back was fixed after more than the kept entries
+pub back_more : (kept new mid first : ℕ) (items mids : List Aside) → new + 1 ≡ mid → mids ≡ items → ((0 < kept) × ((aside_at mids (mid - 1)).after ≤ kept) → ⊥) → ((p : ℕ) → mid ≤ p → p < first → 0 < kept → kept < (aside_at items p).after)
+    → (p : ℕ) → new ≤ p → p < first → 0 < kept → kept < (aside_at items p).after
+back_more kept new mid first items mids count same leaves only p low high some = elim (nat_cases p mid) [
+  | inl here ↦
+      let e : p ≡ mid - 1 = omega arith in
+      elim (nat_cases kept (aside_at items p).after) [
+        | inl more ↦ more
+        | inr stays ↦ absurd (leaves (some, subst (λ (k : ℕ). (aside_at mids k).after ≤ kept) e (subst (λ (xs : List Aside). (aside_at xs p).after ≤ kept) (sym same) stays)))
+      ]
+  | inr above ↦ only p above high some
+]
+
+pub only_back : (kept out first : ℕ) (items mids : List Aside) → first ≤ length items → out ≤ first → mids ≡ items → ((p : ℕ) → out ≤ p → p < first → 0 < kept → kept < (aside_at items p).after)
+    → (p : ℕ) → length (take out mids) ≤ p → p < length (take first items) → 0 < kept → kept < (aside_at (take first items) p).after
+only_back kept out first items mids within fewer same only p low high some =
+    let l : p < first = omega (arith, high, length-take-le first items within) in
+    let some_left : length (take out mids) ≡ out = ap (λ (xs : List Aside). length (take out xs)) same ∙ length-take-le out items (omega arith) in
+    omega (arith, only p (omega (arith, low, some_left)) l some, ap (λ (a : Aside). a.after) (get_or-take first items p no_one l))
+
 pub aside_next : (old mid new : Ranking) → SameAside old mid → SameAside mid new → SameAside old new
 aside_next old mid new h k = record { aside = k.aside ∙ h.aside; out = k.out ∙ h.out }
 

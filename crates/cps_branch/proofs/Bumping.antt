@@ -88,6 +88,13 @@ bumped-halved clause old mid gains r = record { gained = mid; gains = gains; hal
 pub bumped-kept : (clause : List Atom) (old mid : List ℕ) → AreGained clause old mid → (ReachesLimit mid → ⊥) → AreBumped clause old mid
 bumped-kept clause old mid gains not = record { gained = mid; gains = gains; halved = λ r. absurd (not r); kept = λ _. refl }
 
+-- halved ones are not those that the clause bumped
+pub halved_differs : (clause : List Atom) (old mid new : List ℕ) → AreGained clause old mid → ReachesLimit mid → new ≡ map (λ a. a / 2) mid → AreGained clause old new → ⊥
+halved_differs clause old mid new gains r is gains' =
+    let h : r.0 < length old = omega (arith, r.1, gains.same_length) in
+    let half = ap (λ (xs : List ℕ). get_or xs r.0 0) is ∙ get_or-map (λ (a : ℕ). a / 2) mid r.0 0 0 r.1 in
+    omega (arith, r.2, half, gains.each r.0 h, gains'.each r.0 h)
+
 pub small-kept : (mid : List ℕ) → (ReachesLimit mid → ⊥) → AreSmall mid
 small-kept mid not i l = elim (cases (get_or mid i 0) (2 ^ 40)) [ inl h ↦ h | inr h ↦ absurd (not (i, l, h)) ]
   where

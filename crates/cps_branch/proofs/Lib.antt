@@ -11,3 +11,4 @@ pub mod Playing
 pub mod Aside
 pub mod Lists
 pub mod Parts
+pub mod Rows
