@@ -29,8 +29,7 @@ pub begun_parts : (n : ℕ) (activities : List ℕ) (marks : List Bool) (hints :
     → ((i : ℕ) → i < n → (stands_at r.nodes.items (n + i)).activity ≡ 0) → AreParts activities marks hints r
 begun_parts n activities marks hints r few none unmarked places ranking size idle =
     let count : length activities ≡ n = ap (λ (xs : List ℕ). length xs) none ∙ length-replicate n 0 in
-    let marked : length marks ≡ n = ap (λ (ms : List Bool). length ms) unmarked ∙ length-replicate n false in
-    (
+    let marked : length marks ≡ n = ap (λ (ms : List Bool). length ms) unmarked ∙ length-replicate n false in (
       omega (arith, few, count),
       marked ∙ sym count,
       places ∙ sym count,

@@ -51,10 +51,7 @@ fn back<B: Brancher>(brancher: &B, store: &mut Store, level: usize, kept: usize)
 }
 
 /// What is chosen at first, after a decision, after another, and after the way back to the first.
-fn run<B: Brancher>(
-    brancher: &mut B,
-    store: &mut Store,
-) -> Result<[Option<Atom>; 4], AllocError>
+fn run<B: Brancher>(brancher: &mut B, store: &mut Store) -> Result<[Option<Atom>; 4], AllocError>
     requires few { (B.scope brancher.old).subjects ≤ 3 }
     requires no_sums { (B.scope brancher.old).subjects ≤ (B.scope brancher.old).variables }
 {
@@ -78,10 +75,7 @@ fn run_in_order(alloc: Global, instance: &Instance) -> Result<[Option<Atom>; 4],
 }
 
 /// The same over a model.
-fn choices_in_order(
-    alloc: Global,
-    model: &ValidModel,
-) -> Result<[Option<Atom>; 4], AllocError> {
+fn choices_in_order(alloc: Global, model: &ValidModel) -> Result<[Option<Atom>; 4], AllocError> {
     let instance = Instance::of(alloc, model)?;
     run_in_order(alloc, &instance)
 }
@@ -165,11 +159,7 @@ fn hear_many(
 }
 
 /// The same for a brancher over an instance.
-fn restarts_of(
-    alloc: Global,
-    instance: &Instance,
-    clauses: u32,
-) -> Result<Vec<u32>, AllocError> {
+fn restarts_of(alloc: Global, instance: &Instance, clauses: u32) -> Result<Vec<u32>, AllocError> {
     let mut brancher = ActivityBrancher::of(alloc, instance)?;
     let mut restarts = Vec::new(alloc);
     hear_many(&mut brancher, clauses, &mut restarts)?;

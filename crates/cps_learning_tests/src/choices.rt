@@ -148,11 +148,7 @@ fn strategies_take_and_select(rt: HostRuntime) -> Result<(), Fail> {
 }
 
 /// What is chosen first in order and by activity.
-fn both(
-    rt: &impl Abort,
-    alloc: Global,
-    text: &str,
-) -> Result<(Option<Atom>, Option<Atom>), Fail> {
+fn both(rt: &impl Abort, alloc: Global, text: &str) -> Result<(Option<Atom>, Option<Atom>), Fail> {
     let model = valid_model(rt, alloc, text, "")?;
     let first = in_order(alloc, &model)?;
     Ok((first, by_activity(alloc, &model, &[])?))

@@ -1,3 +1,4 @@
+-- Each atom bumps and marks its variable.
 use Rattle.std.specs.Prelude.{◌↔◌, IsTrue}
 use Rattle.std.proofs.Common.{◌≡◌, Bool, List, length, get_or, pos, refl, sym, ap, subst, arith, ◌∙◌, true≢false, inl, inr}
 use Rattle.std.proofs.lemmas.List.{take_all}

@@ -1,3 +1,4 @@
+-- One subject after another, the better of two is kept.
 use Rattle.std.proofs.Common.{◌≡◌, ◌+◌, ◌<◌, ℕ, List, [], ◌∷◌, ◌++◌, length, take, get_or, sym, subst, arith, ◌∙◌, ap, true≢false}
 use Rattle.std.proofs.lemmas.List.{take_all, take_more}
 use Rattle.cps_branch.specs.declared.strategy.Ranked.{Ranked}

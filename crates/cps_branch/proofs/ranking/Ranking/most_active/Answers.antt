@@ -1,3 +1,4 @@
+-- The winner is set aside while it is fixed.
 use Rattle.std.proofs.Common.{ℕ, ◌≡◌, ◌∙◌, Option, length, sym, subst, refl, true≢false}
 use Rattle.std.specs.Prelude.{IfSome, IsNone}
 use Rattle.cps_branch.specs.declared.ranking.Aside.{Aside}

@@ -1,3 +1,4 @@
+-- The last that went aside comes back first, until one stays.
 use Rattle.std.proofs.Common.{◌-◌, ◌≤◌, ◌∙◌, List, length, take, refl, sym, ap, subst, arith, true≢false}
 use Rattle.cps_branch.specs.declared.ranking.Aside.{Aside}
 use Rattle.cps_branch.specs.SetAside.{PutsBack, aside_at, aside_of, size_of}

@@ -1,3 +1,4 @@
+-- The last that went aside is in play again.
 use Rattle.std.proofs.Common.{ℕ, ◌-◌, ◌∙◌, ap, sym, arith}
 use Rattle.std.proofs.lemmas.List.{get_or_default}
 use Rattle.cps_branch.specs.declared.ranking.Aside.{Aside}

@@ -1,3 +1,4 @@
+-- One more is aside, out of play.
 use Rattle.std.proofs.Common.{ℕ, ◌∙◌, List, set, ap, arith}
 use Rattle.cps_branch.specs.declared.ranking.Aside.{Aside}
 use Rattle.cps_branch.proofs.Aside.{front_more, one_aside_more}
