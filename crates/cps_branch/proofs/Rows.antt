@@ -1,6 +1,7 @@
--- Rows of what bumping and setting aside come to, by what the calls promise. The values were worked out by hand: a clause about
--- the first of two variables brings its activity to 2 ^ 40, at which both are halved, and one about the second then adds 1 to
--- that alone; of three variables without an activity the first is fixed by one entry, and the other two are not.
+-- Rows of what bumping and setting aside come to, by what the calls promise. The values were worked out by hand: a
+-- clause about the first of two variables brings its activity to 2 ^ 40, at which both are halved, and one about the
+-- second then adds 1 to that alone; of three variables without an activity the first is fixed by one entry, and the
+-- other two are not.
 use Rattle.std.specs.Prelude.{if◌then◌else◌}
 use Rattle.std.proofs.Common.{ℕ, zero, suc, ◌+◌, ◌-◌, ◌/◌, ◌^◌, ◌≤◌, ◌<◌, ◌≡◌, ◌⊎◌, inl, inr, Bool, true, false, List, [], ◌∷◌, length, take, get_or, map, pos, refl, sym, ap, subst, ◌∙◌, arith}
 use Rattle.std.proofs.lemmas.List.{take_all}
