@@ -15,8 +15,8 @@ use Rattle.cps_literal.specs.declared.atom.Atom.{Atom}
 use Rattle.cps_literal.specs.declared.atom.Op.{Op}
 use Rattle.cps_literal.specs.declared.atom.Op.TheVariants.{Le, Ge, Eq, Ne}
 use Rattle.cps_port.specs.declared.entry.Entry.{Entry}
-use Rattle.cps_port.specs.Entries.{most_atoms, blank, entry_of, entry_clause, IsModelAtom, IsShareable}
-use Rattle.cps_port.specs.Incumbents.{IsIncumbent}
+use Rattle.cps_port.specs.Entries.{most_atoms, blank, entry_of, entry_clause, IsModelAtom, IsShareable, IsSoundEntry}
+use Rattle.cps_port.specs.Incumbents.{HoldsBelow, IsIncumbent}
 use Rattle.cps_port.specs.Words.{value_word, value_of, word_of, bound_of}
 use Rattle.cps_port.proofs.Attained.{attained_small}
 use Rattle.cps_port.proofs.InOrder.{has_word_at}
@@ -123,3 +123,9 @@ pub atom_back_at : (c : List Atom) (i : ℕ) (d : Atom) → atoms_of (atom_words
 atom_back_at [] i d e h = absurd (omega arith)
 atom_back_at (t ∷ ts) zero d e h = ap (λ (l : List Atom). get_or l 0 d) e
 atom_back_at (t ∷ ts) (suc i) d e h = atom_back_at ts i d (let tails : atoms_of (atom_words ts) ≡ ts = cc in tails) (omega arith)
+
+-- the entry of a clause that holds below an incumbent is sound
+pub sound_entry : (m : CpModel) (row : ℕ) (z : Bound) (c : List Atom) → IsShareable m c → HoldsBelow m z c → IsIncumbent m z → IsSoundEntry m (entry_of row z c)
+sound_entry m row z c s h i =
+    let e = clause_back row z c in
+    record { fits = s.few; clause = subst (IsShareable m) (sym e) s; holds = subst (HoldsBelow m z) (sym e) h; incumbent = i }

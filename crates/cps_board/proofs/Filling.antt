@@ -1,6 +1,6 @@
 -- A row is filled word by word, and read again atom by atom.
 use Rattle.std.proofs.Common.{◌≡◌, ℕ, zero, suc, ◌+◌, ◌-◌, ◌*◌, ◌<◌, ◌≤◌, ◌^◌, Some, List, [], ◌∷◌, ◌++◌, take, replicate, length, get_or, set, sym, refl, ap, ◌∙◌, subst, arith, append_assoc}
-use Rattle.std.proofs.lemmas.List.{length-take-le, take_more}
+use Rattle.std.proofs.lemmas.List.{length-take-le, take_more, take_all}
 use mathlib.Core.Option.{some, none, some-injective}
 use lib.ListN.{get_elem?}
 use Rattle.atomic_table.specs.Table.{Me, step, Allows}
@@ -130,3 +130,14 @@ took_entry m old next rows row e read of left at is took got =
       own = took.own;
       takes = ap (λ (z : Token). z.0.part) is;
     })
+
+-- what was read of a row is its entry
+same_entry : (r r' : ℕ) (z z' : Bound) (n n' : ℕ) (c c' : List Atom) → r ≡ r' → z ≡ z' → n ≡ n' → c ≡ c' → (let d : Entry = record { row = r; below = z; len = n; atoms = c } in d) ≡ (let e : Entry = record { row = r'; below = z'; len = n'; atoms = c' } in e)
+same_entry r r' z z' n n' c c' e f g h = cc
+
+pub entry_whole : (e : Entry) (row : ℕ) (below : Bound) (len i : ℕ) (atoms : List Atom) → IsCodedEntry e → e.row ≡ row → below ≡ e.below → len ≡ length (entry_clause e) → i ≡ length (entry_clause e)
+    → atoms ≡ take i (entry_clause e) ++ replicate (16 - i) blank → e ≡ (let d : Entry = record { row = row; below = below; len = len; atoms = atoms } in d)
+entry_whole e row below len i atoms h r z n k a =
+    let c = entry_clause e in
+    let all = ap (λ (j : ℕ). take j c ++ replicate (16 - j) blank) k ∙ ap (λ (l : List Atom). l ++ replicate (16 - length (entry_clause e)) blank) (take_all (length c) c (omega arith)) in
+    h.is ∙ same_entry e.row row e.below below (length c) len _ atoms r (sym z) (sym n) (sym (a ∙ all))

@@ -1,7 +1,7 @@
 -- Who is in play, and who is aside.
-use Rattle.std.proofs.Common.{ℕ, ◌+◌, ◌-◌, ◌*◌, ◌≤◌, ◌<◌, ◌≡◌, ◌⊎◌, inl, inr, Bool, ℤ, Option, Some, None, true, false, List, [], ◌∷◌, ◌++◌, length, take, drop, get_or, set, refl, sym, ap, subst, ◌∙◌, arith, true≢false, length-append, add-one, drop-cons}
+use Rattle.std.proofs.Common.{ℕ, ◌+◌, ◌-◌, ◌*◌, ◌^◌, ◌≤◌, ◌<◌, ◌≡◌, ◌⊎◌, inl, inr, Bool, ℤ, Option, Some, None, true, false, List, [], ◌∷◌, ◌++◌, length, take, drop, get_or, set, refl, sym, ap, subst, ◌∙◌, arith, true≢false, length-append, add-one, drop-cons}
 use Rattle.std.specs.Prelude.{if◌then◌else◌, ◌==◌, ◌||◌, MatchOption}
-use Rattle.std.proofs.lemmas.List.{get_or-take, get_or_append_left, get_or_push, length-set, length-take, length-take-le, take-take, take_more_set}
+use Rattle.std.proofs.lemmas.List.{get_or-take, get_or_append_left, get_or_default, get_or_push, length-set, length-take, length-take-le, take-take, take_more_set}
 use Rattle.cps_literal.specs.declared.atom.Atom.{Atom}
 use Rattle.cps_trail.specs.Trail.{Trail}
 use Rattle.cps_branch.specs.declared.tournament.Contender.{Contender}
@@ -127,12 +127,28 @@ begun n nodes aside none size won each = record {
   room = omega arith;
 }
 
+-- so it is with a ranking
+pub begun_ranking : (r : Ranking) (n : ℕ) (nodes : List Contender) → n ≤ 2 ^ 31 → size_of r ≡ n → r.out ≡ 0 → r.nodes.items ≡ nodes → length nodes ≡ 2 * n → AreWon n nodes → ((i : ℕ) → i < n → stands_at nodes (n + i) ≡ record { variable = i; activity = 0; in_play = true }) → IsRanking r
+begun_ranking r n nodes few count out is size won each = record {
+  few = omega (arith, few, count);
+  within = omega (arith, out);
+  tournament = subst (λ (k : ℕ). IsTournament k r.nodes.items (aside_of r)) (sym count) (subst (λ (xs : List Contender). IsTournament n xs (aside_of r)) (sym is)
+      (begun n nodes (aside_of r) (omega (arith, length-take-le r.out r.aside.items (omega (arith, out)), out)) size won each));
+}
+
 -- there is room for one more aside where a variable is in play
 pub room_aside : (n v : ℕ) (nodes : List Contender) (aside : List Aside) → IsTournament n nodes aside → LeadsInPlay n nodes v → length aside < n
 room_aside n v nodes aside h leads = omega (arith, h.room, count_less (λ i. (stands_at nodes (n + i)).in_play) n v leads.within leads.plays)
 
 pub top_room : (r : Ranking) (v : ℕ) → IsRanking r → LeadsInPlay (size_of r) r.nodes.items v → r.out < size_of r
 top_room r v h leads = omega (arith, room_aside (size_of r) v r.nodes.items (aside_of r) h.tournament leads, length-take-le r.out r.aside.items h.within)
+
+-- what is read of the last that is aside is one of the variables
+pub last_named : (r : Ranking) (last : Aside) → IsRanking r → 0 < r.out → last ≡ get_or r.aside.items (r.out - 1) last → last.variable < size_of r
+last_named r last h some at = subst (λ (a : Aside). a.variable < size_of r) (sym same) (h.tournament.names (r.out - 1) (omega (arith, some, length-take-le r.out r.aside.items h.within)))
+  where
+    same : last ≡ aside_at (aside_of r) (r.out - 1)
+    same = at ∙ get_or_default r.aside.items (r.out - 1) last no_one (omega (arith, some, h.within)) ∙ sym (get_or-take r.out r.aside.items (r.out - 1) no_one (omega (arith, some)))
 
 -- one more is aside
 pub front_more : (out out' : ℕ) (items items' : List Aside) (one : Aside) → out < length items → items' ≡ set items out one → out' ≡ out + 1 → take out' items' ≡ take out items ++ one ∷ []
@@ -249,6 +265,26 @@ puts_back kept out first items fewer within stays = record {
   where
     count : length (take out items) ≡ out
     count = length-take-le out items (omega arith)
+
+-- what came back was fixed after more than the kept entries
+pub back_more : (kept new mid first : ℕ) (items mids : List Aside) → new + 1 ≡ mid → mids ≡ items → ((0 < kept) × ((aside_at mids (mid - 1)).after ≤ kept) → ⊥) → ((p : ℕ) → mid ≤ p → p < first → 0 < kept → kept < (aside_at items p).after)
+    → (p : ℕ) → new ≤ p → p < first → 0 < kept → kept < (aside_at items p).after
+back_more kept new mid first items mids count same leaves only p low high some = elim (nat_cases p mid) [
+  | inl here ↦
+      let e : p ≡ mid - 1 = omega arith in
+      elim (nat_cases kept (aside_at items p).after) [
+        | inl more ↦ more
+        | inr stays ↦ absurd (leaves (some, subst (λ (k : ℕ). (aside_at mids k).after ≤ kept) e (subst (λ (xs : List Aside). (aside_at xs p).after ≤ kept) (sym same) stays)))
+      ]
+  | inr above ↦ only p above high some
+]
+
+pub only_back : (kept out first : ℕ) (items mids : List Aside) → first ≤ length items → out ≤ first → mids ≡ items → ((p : ℕ) → out ≤ p → p < first → 0 < kept → kept < (aside_at items p).after)
+    → (p : ℕ) → length (take out mids) ≤ p → p < length (take first items) → 0 < kept → kept < (aside_at (take first items) p).after
+only_back kept out first items mids within fewer same only p low high some =
+    let l : p < first = omega (arith, high, length-take-le first items within) in
+    let some_left : length (take out mids) ≡ out = ap (λ (xs : List Aside). length (take out xs)) same ∙ length-take-le out items (omega arith) in
+    omega (arith, only p (omega (arith, low, some_left)) l some, ap (λ (a : Aside). a.after) (get_or-take first items p no_one l))
 
 pub aside_next : (old mid new : Ranking) → SameAside old mid → SameAside mid new → SameAside old new
 aside_next old mid new h k = record { aside = k.aside ∙ h.aside; out = k.out ∙ h.out }

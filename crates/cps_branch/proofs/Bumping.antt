@@ -1,10 +1,11 @@
 -- Activities after one more atom of a clause.
 use Rattle.std.specs.Prelude.{if◌then◌else◌, ◌==◌, ◌||◌}
-use Rattle.std.proofs.Common.{ℕ, ◌+◌, ◌/◌, ◌^◌, ◌≤◌, ◌<◌, ◌≡◌, ◌⊎◌, inl, inr, Bool, true, false, List, [], ◌∷◌, ◌++◌, length, take, get_or, map, refl, sym, ap, subst, ◌∙◌, arith}
-use Rattle.std.proofs.lemmas.List.{take_more, get_or-map, length-map}
+use Rattle.std.proofs.Common.{ℕ, ◌+◌, ◌/◌, ◌^◌, ◌≤◌, ◌<◌, ◌≡◌, ◌⊎◌, inl, inr, Bool, true, false, true≢false, List, [], ◌∷◌, ◌++◌, length, take, drop, get_or, set, map, refl, sym, ap, subst, ◌∙◌, arith}
+use Rattle.std.proofs.lemmas.List.{take_more, get_or-map, get_or-set_other, get_or-set_same, length-map, length-set}
 use Rattle.std.proofs.lemmas.List.Folds.{list_any-append}
 use Rattle.cps_literal.specs.declared.atom.Atom.{Atom}
 use Rattle.cps_branch.specs.Activities.{speaks_of, gain, AreGained, ReachesLimit, AreBumped, AreSmall, MarksOne}
+use Rattle.cps_branch.proofs.Aside.{speaks_on}
 
 -- one more atom
 pub speaks_more : (clause : List Atom) (k : ℕ) (t d : Atom) (i : ℕ) → k < length clause → t ≡ get_or clause k d
@@ -87,6 +88,13 @@ bumped-halved clause old mid gains r = record { gained = mid; gains = gains; hal
 pub bumped-kept : (clause : List Atom) (old mid : List ℕ) → AreGained clause old mid → (ReachesLimit mid → ⊥) → AreBumped clause old mid
 bumped-kept clause old mid gains not = record { gained = mid; gains = gains; halved = λ r. absurd (not r); kept = λ _. refl }
 
+-- halved ones are not those that the clause bumped
+pub halved_differs : (clause : List Atom) (old mid new : List ℕ) → AreGained clause old mid → ReachesLimit mid → new ≡ map (λ a. a / 2) mid → AreGained clause old new → ⊥
+halved_differs clause old mid new gains r is gains' =
+    let h : r.0 < length old = omega (arith, r.1, gains.same_length) in
+    let half = ap (λ (xs : List ℕ). get_or xs r.0 0) is ∙ get_or-map (λ (a : ℕ). a / 2) mid r.0 0 0 r.1 in
+    omega (arith, r.2, half, gains.each r.0 h, gains'.each r.0 h)
+
 pub small-kept : (mid : List ℕ) → (ReachesLimit mid → ⊥) → AreSmall mid
 small-kept mid not i l = elim (cases (get_or mid i 0) (2 ^ 40)) [ inl h ↦ h | inr h ↦ absurd (not (i, l, h)) ]
   where
@@ -97,3 +105,29 @@ pub small-halved : (clause : List Atom) (old mid : List ℕ) → AreSmall old �
 small-halved clause old mid small gains i l =
     let h : i < length mid = omega (arith, l, length-map mid (λ (a : ℕ). a / 2)) in
     omega (arith, gained-most clause old mid i small gains h, get_or-map (λ (a : ℕ). a / 2) mid i 0 0 h)
+
+same_cases : (a b : ℕ) → (a ≡ b) ⊎ (a ≡ b → ⊥)
+same_cases a b = grind arith
+
+bool_cases : (b : Bool) → (b ≡ true) ⊎ (b ≡ false)
+bool_cases true = inl refl
+bool_cases false = inr refl
+
+-- What is marked is spoken of by the atoms that are left.
+module _ (clause : List Atom) (k : ℕ) (t d : Atom) (marks : List Bool) (within : k < length clause) (is : t ≡ get_or clause k d) (left : (i : ℕ) → i < length marks → get_or marks i false ≡ true → speaks_of (drop k clause) i ≡ true) where
+  spoken_on : (i : ℕ) → (i ≡ t.subject → ⊥) → speaks_of (drop k clause) i ≡ true → speaks_of (drop (k + 1) clause) i ≡ true
+  spoken_on i ne h = elim (bool_cases (speaks_of (drop (k + 1) clause) i)) [
+    | inl spoken ↦ spoken
+    | inr quiet ↦ absurd (true≢false (sym h ∙ speaks_on clause k t d i within is ne quiet))
+  ]
+
+  -- an atom takes back the mark of its subject
+  pub unmarked_one : (i : ℕ) → i < length (set marks t.subject false) → get_or (set marks t.subject false) i false ≡ true → speaks_of (drop (k + 1) clause) i ≡ true
+  unmarked_one i l on = elim (same_cases i t.subject) [
+    | inl same ↦ absurd (true≢false (sym on ∙ ap (λ (j : ℕ). get_or (set marks t.subject false) j false) same ∙ get_or-set_same marks t.subject false false (omega (arith, l, same, length-set marks t.subject false))))
+    | inr ne ↦ spoken_on i ne (left i (omega (arith, l, length-set marks t.subject false)) (sym (get_or-set_other marks t.subject i false false ne) ∙ on))
+  ]
+
+  -- or its subject has none
+  pub unmarked_past : length marks ≤ t.subject → (i : ℕ) → i < length marks → get_or marks i false ≡ true → speaks_of (drop (k + 1) clause) i ≡ true
+  unmarked_past past i l on = spoken_on i (λ same. omega (arith, l, same, past)) (left i l on)

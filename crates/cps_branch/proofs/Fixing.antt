@@ -1,6 +1,6 @@
 -- What is fixed after some entries is fixed after more.
 use Rattle.std.proofs.Common.{ℕ, ℤ, ◌-◌, ◌≤◌, ◌<◌, ◌≡◌, ◌⊎◌, inl, inr, true, List, length, take, drop, get_or, sym, ap, subst, ◌∙◌, arith}
-use Rattle.std.proofs.lemmas.List.{take-take, take_all, take-append-drop, get_or-take, length-take}
+use Rattle.std.proofs.lemmas.List.{take-take, take_all, take-append-drop, get_or-take, length-take, length-take-le}
 use Rattle.cps_trail.specs.Trail.{Domains, Entry, Trail, admits}
 use Rattle.cps_trail.proofs.Laws.{admits-append}
 use Rattle.cps_branch.specs.Fixed.{IsFixedAfter, IsFixed}
@@ -73,3 +73,17 @@ forgets_to kept known r olds items e within fewer some last = record {
   where
     length_is : length (take r items) ≡ r
     length_is = omega (arith, length-take r items, within, fewer)
+
+-- the same count at the places from those that are known up to another
+pub notes_to : (known seen place count : ℕ) (olds items news : List ℕ) → olds ≡ take known items → known ≤ length items → length olds ≤ place → place ≤ seen → place ≤ length news
+    → ((i : ℕ) → i < known → get_or news i 0 ≡ get_or items i 0) → ((i : ℕ) → known ≤ i → i < seen → get_or news i 0 ≡ count) → Notes place count olds (take place news)
+notes_to known seen place count olds items news e inside low high room kept added = record {
+  places = length-take-le place news room;
+  kept = λ i l.
+      let h : i < known = omega (arith, l, known_length) in
+      get_or-take place news i 0 (omega (arith, h, low, known_length)) ∙ kept i h ∙ sym (ap (λ (xs : List ℕ). get_or xs i 0) e ∙ get_or-take known items i 0 h);
+  added = λ i above l. get_or-take place news i 0 l ∙ added i (omega (arith, above, known_length)) (omega (arith, l, high));
+}
+  where
+    known_length : length olds ≡ known
+    known_length = ap (λ (xs : List ℕ). length xs) e ∙ length-take-le known items inside

@@ -9,3 +9,6 @@ pub mod Bumping
 pub mod Leading
 pub mod Playing
 pub mod Aside
+pub mod Lists
+pub mod Parts
+pub mod Rows

@@ -107,3 +107,8 @@ pub listed_more : (gs : List Steering) (k : ℕ) (g : Steering) → k < length g
 listed_more gs k g l at =
     flat_map_more (λ (h : Steering). h.subjects) [] (take k gs) g
     ∙ ap (λ (hs : List Steering). listed hs) (ap (λ (h : Steering). take k gs ++ h ∷ []) at ∙ sym (take_more gs k g l))
+
+-- one more copy
+pub copied_more : (gs copies news : List Steering) (k : ℕ) (g copy : Steering) → k < length gs → g ≡ get_or gs k g → copy ≡ g → copies ≡ take k gs → news ≡ copies ++ copy ∷ [] → news ≡ take (k + 1) gs
+copied_more gs copies news k g copy l at same e pushed =
+    pushed ∙ ap (λ (hs : List Steering). hs ++ copy ∷ []) e ∙ ap (λ (h : Steering). take k gs ++ h ∷ []) (same ∙ at) ∙ sym (take_more gs k g l)

@@ -1,19 +1,19 @@
 -- What is decided of a subject that is not fixed is undecided.
 use Rattle.std.specs.Prelude.{unsigned_abs, int_le, ◌/◌}
 use Rattle.std.specs.List.{Contains}
-use Rattle.std.proofs.Common.{◌≡◌, ℕ, ◌-◌, ◌<◌, length, true, true≢false, sym, ◌∙◌, subst, arith, ℤ, pos, ◌+ℤ◌, ◌-ℤ◌, ◌≤ℤ◌, ◌<ℤ◌}
+use Rattle.std.proofs.Common.{◌≡◌, ℕ, ◌-◌, ◌<◌, length, true, true≢false, refl, sym, ◌∙◌, subst, arith, ℤ, pos, ◌+ℤ◌, ◌-ℤ◌, ◌≤ℤ◌, ◌<ℤ◌}
 use Rattle.std.proofs.lemmas.Int.{ints, by_lt_z}
 use Rattle.std.proofs.lemmas.List.Elements.{Contains-get_or}
 use Rattle.cps_model.specs.declared.steering.Select.{Select}
 use Rattle.cps_model.specs.declared.steering.Select.TheVariants.{MinValue, MaxValue, LowerHalf, UpperHalf, MedianValue}
-use Rattle.cps_domain.specs.Window.{equals}
+use Rattle.cps_domain.specs.Window.{Window, contains, equals}
 use Rattle.cps_domain.specs.Division.{IsFloor}
 use Rattle.cps_domain.proofs.Tests.{le_true, le_false, true_le, equals_yes, first_of_both, second_of_both}
 use Rattle.cps_literal.specs.declared.atom.Atom.{Atom}
 use Rattle.cps_literal.specs.declared.atom.Op.TheVariants.{Le, Ge, Eq}
-use Rattle.cps_trail.specs.Trail.{Trail}
+use Rattle.cps_trail.specs.Trail.{Trail, admits}
 use Rattle.cps_branch.specs.Fixed.{IsFixed}
-use Rattle.cps_branch.specs.Choice.{IsUndecided}
+use Rattle.cps_branch.specs.Choice.{IsUndecided, TakesLeast}
 use Rattle.cps_branch.specs.Strategies.{Admits, IsLeast, IsGreatestValue, IsMedian, Selects}
 
 -- the ends of a subject that is not fixed lie apart
@@ -101,3 +101,19 @@ selected_undecided s UpperHalf t e l open_now h =
 selected_undecided s MedianValue t e l open_now h =
     subst (λ op. IsUndecided s (record { subject = t.subject; op = op; value = t.value })) (sym h.0)
     (undecided_eq s t.subject t.value l open_now (median_value s t.subject t.value e h.1))
+
+-- the least value of what a domain has is the least that the store leaves
+pub takes_least : (s : Trail) (i : ℕ) (w : Window) (v m : ℤ) → ((x : ℤ) → contains w x ≡ admits s.first s.entries i x) → contains w m ≡ true → ((x : ℤ) → contains w x ≡ true → m ≤ℤ x) → v ≡ m → TakesLeast s (record { subject = i; op = Le; value = v })
+takes_least s i w v m same within least is = subst (λ (x : ℤ). TakesLeast s (record { subject = i; op = Le; value = x })) (sym is) (record {
+  op = refl;
+  value = sym (same m) ∙ within;
+  least = λ x a. least x (same x ∙ a);
+})
+
+-- it leaves others where the subject is not fixed
+pub undecided_least : (s : Trail) (i : ℕ) (v : ℤ) → i < length s.first → (IsFixed s i → ⊥) → TakesLeast s (record { subject = i; op = Le; value = v }) → IsUndecided s (record { subject = i; op = Le; value = v })
+undecided_least s i v l open_now h = record {
+  subject = l;
+  not_true = λ t. open_now (λ x y p q. (let a = true_le x v (t x p) in let b = true_le y v (t y q) in let d = h.least x p in let e = h.least y q in omega (arith, ints)));
+  not_false = λ f. true≢false (sym (le_true v v (omega (arith, ints))) ∙ f v h.value);
+}

@@ -1,5 +1,5 @@
 //! How a learnt clause bumps the activities of its variables.
-ghost use Rattle.std.specs.Prelude.{ℕ, ◌≡◌, ◌↔◌, ◌<◌, ◌≤◌, ◌/◌, ◌^◌, IsTrue, length, map, false, slice_index, slice_index_or};
+ghost use Rattle.std.specs.Prelude.{ℕ, ◌≡◌, ◌↔◌, ◌<◌, ◌≤◌, ◌/◌, ◌^◌, IsTrue, length, map, false, true, slice_index, slice_index_or};
 ghost use Rattle.cps_branch.specs.Activities.{speaks_of, AreGained, AreBumped, AreSmall, NoneMarked, ReachesLimit, MarksOne};
 
 use cps_literal::Atom;
@@ -76,6 +76,7 @@ pub(crate) fn bump_all(activities: &mut [u64], marks: &mut [bool], clause: &[Ato
     requires unmarked { NoneMarked marks.old }
     ensures bumped { AreBumped clause.now activities.old activities.new }
     ensures gained { result ≡ false → AreGained clause.now activities.old activities.new }
+    ensures halved { result ≡ true → AreGained clause.now activities.old activities.new → ⊥ }
     ensures small { AreSmall activities.new }
     ensures unmarked { NoneMarked marks.new }
 {

@@ -27,10 +27,6 @@ mod ranking;
 mod restarts;
 mod scan;
 mod strategy;
-#[cfg(test)]
-mod strategy_tests;
-#[cfg(test)]
-mod tests;
 mod tournament;
 
 pub use activity::ActivityBrancher;

@@ -247,6 +247,8 @@ impl Ranking {
         ensures same { SameActivities (size_of self.old) self.old self.new }
         ensures count { size_of self.new ≡ size_of self.old }
         ensures back { PutsBack kept (aside_of self.old) (aside_of self.new) }
+        ensures only { (p : ℕ) → length (aside_of self.new) ≤ p → p < length (aside_of self.old) → 0 < kept
+            → kept < (aside_at (aside_of self.old) p).after }
     {
         'variables: while self.out > 0 {
             if self.last_stays(kept) {
@@ -267,6 +269,7 @@ impl Ranking {
         ensures sets { SetsAside store.now (aside_of self.old) (aside_of self.new) }
         ensures choice { MatchOption result (AreFixed store.now (size_of self.old))
             (λ variable. IsMostActiveIn (size_of self.old) self.old store.now variable) }
+        ensures leads { IfSome result (λ variable. LeadsInPlay (size_of self.new) self.new.nodes.items variable) }
     {
         'variables: loop {
             let Some(variable) = self.top() else {

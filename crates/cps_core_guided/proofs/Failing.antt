@@ -15,6 +15,7 @@ use Rattle.cps_search.specs.Lessons.{GoesBack}
 use Rattle.cps_search.specs.Moves.{moved}
 use Rattle.cps_search.specs.Resting.{Rest}
 use Rattle.cps_search.specs.Searches.{IsSoundSearch, NoneBelow}
+use Rattle.cps_search.specs.Stepping.{Raises}
 use Rattle.cps_reform.specs.Forms.{Form, no_term, term_at}
 use Rattle.cps_reform.specs.Floors.{IsFormPast}
 use Rattle.cps_reform.specs.Marks.{assumed}
@@ -49,6 +50,10 @@ has-failed s bottom rest place decisions h store few failed level behind =
 -- where no solution was left before a reform was tried, none is after it
 pub none-after : (v : CoreSearch) (model : CpModel) (z : Bound) → v.search.instance.model ≡ model → v.search.z ≡ z → NoneBelow model z → NoneBelow v.search.instance.model v.search.z
 none-after v model z same bound none = subst (λ (b : Bound). NoneBelow v.search.instance.model b) (sym bound) (subst (λ (k : CpModel). NoneBelow k z) (sym same) none)
+
+-- a bound that was told to the port is one that was raised to
+pub raises-to : (s : CoreSearch) (r : Option Bound) (e : Bool) (c : List ℤ) (p q : Part) (bound : Bound) → Raises bound p.bounds q.bounds → q.board ≡ p.board → r ≡ raised_to s.raised bound → RaisesTo bound s (record s { raised = r; ended = e; core = c }) p q
+raises-to s r e c p q bound told board is = record { raised = is; seen = told.seen; at_least = told.at_least; told = told.is; board = board }
 
 -- a raise after a reform is one from before it
 raises-from : (m v t : CoreSearch) (p q : Part) (bound : Bound) → v.raised ≡ m.raised → RaisesTo bound v t p q → RaisesTo bound m t p q

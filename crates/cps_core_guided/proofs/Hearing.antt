@@ -1,6 +1,5 @@
 -- What a core-guided turn does to the brancher.
-use Rattle.std.specs.Prelude.{OnOk, IfOk, Result, Ok, Err}
-use Rattle.std.proofs.Common.{◌≡◌, Option, subst, sym}
+use Rattle.std.proofs.Common.{Option}
 use Rattle.cps_literal.specs.declared.atom.Atom.{Atom}
 use Rattle.cps_trail.specs.Trail.{Trail}
 use Rattle.cps_port.specs.declared.part.Part.{Part}
@@ -9,15 +8,6 @@ use Rattle.cps_search.specs.declared.turn.Turn.{Turn}
 use Rattle.cps_search.specs.declared.turn.Turn.TheVariants as turns
 use Rattle.cps_core_guided.specs.CoreTurns.{GoesOn}
 use Rattle.cps_core_guided.specs.Reforming.{CoreSearch}
-
--- a decision
-pub decided-brancher : (turn : Turn) (heard chose same : Type 0) → turn ≡ turns.Decided → chose → BrancherTurn turn heard chose same
-decided-brancher turn heard chose same is h = subst (λ (x : Turn). BrancherTurn x heard chose same) (sym is) h
-
--- a decision, where there was memory for it
-pub decided-by : {E : Type 0} (result : Result Turn E) (chose same : Type 0) → OnOk result chose → IfOk result (λ turn. turn ≡ turns.Decided) → IfOk result (λ turn. BrancherTurn turn ⊥ chose same)
-decided-by (Ok turn) chose same h is = decided-brancher turn ⊥ chose same is h
-decided-by (Err e) chose same h is = tt
 
 -- a reform, or the end in place of one
 pub on-brancher : (chooses : Trail → Option Atom → Type 0) (m t : CoreSearch) (p q : Part) (turn : Turn) (heard chose same : Type 0) → GoesOn chooses m t p q turn → (same → chose) → same → BrancherTurn turn heard chose same

@@ -1,12 +1,14 @@
 pub mod Results
 pub mod Reforming
 pub mod Opposites
+pub mod Openings
 pub mod CoreLaw
 pub mod Assumptions
 pub mod Keeping
 pub mod Wholes
 pub mod CoreTurning
 pub mod CoreWorking
+pub mod Deciding
 pub mod Lifting
 pub mod Failing
 pub mod Hearing

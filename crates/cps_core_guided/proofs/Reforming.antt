@@ -99,3 +99,12 @@ read_back x near = omega (arith, ints)
 -- the least value of a domain is the subject's least value now
 pub least-now : (x s : Trail) (subject : ℕ) (v : ℤ) (has : ℤ → Bool) → x ≡ s → ((y : ℤ) → has y ≡ admits x.first x.entries subject y) → has v ≡ true → ((y : ℤ) → has y ≡ true → v ≤ℤ y) → IsLeastAdmitted s subject v
 least-now x s subject v has same is within least = subst (λ (t : Trail). IsLeastAdmitted t subject v) same (record { has = sym (is v) ∙ within; least = λ y h. least y (is y ∙ h) })
+
+-- a form that is past what is read is past what that is
+pub same-past : (z y : Bound) (v w : ℤ) (p q : Problem) (f : Form) → z ≡ y → v ≡ w → p ≡ q → IsFormPast z v p.domains f → IsFormPast y w q.domains f
+same-past z y v w p q f bound most problem h =
+    subst (λ (x : Problem). IsFormPast y w x.domains f) problem (subst (λ (x : ℤ). IsFormPast y x p.domains f) most (subst (λ (x : Bound). IsFormPast x v p.domains f) bound h))
+
+-- the greatest objective is read back from its word
+pub read-greatest : (s : CoreSearch) → IsSoundCore s → to_z w64 (of_z w64 s.greatest) ≡ s.greatest
+read-greatest s h = read_back s.greatest (small-greatest s h)

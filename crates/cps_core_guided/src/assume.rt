@@ -5,10 +5,22 @@ ghost use Rattle.cps_trail.specs.Trail.{IsFalseNow};
 ghost use Rattle.cps_branch.specs.Choice.{IsUndecided};
 ghost use Rattle.cps_reform.specs.Marks.{assumed};
 ghost use Rattle.cps_core_guided.specs.Assuming.{AreAssumed, IsFailed, IsFirstOpenTerm, NoTermFails};
+ghost use Rattle.cps_core_guided.specs.Reforming.{most_sums};
 
 use cps_literal::Truth;
 use cps_reform::{Held, assumption};
 use cps_trail::Store;
+
+/// The most sums that are defined for cores; after them no term is assumed any more: the model's assumptions are decided
+/// first, and then the brancher chooses. With them there are at most 2^31 subjects.
+const MOST_SUMS: u32 = 1 << 24;
+
+/// Whether terms are assumed still, after so many sums of cores.
+fn assumes_terms(sums: u32) -> bool
+    ensures { IsTrue result ↔ (sums < most_sums) }
+{
+    sums < MOST_SUMS
+}
 
 /// Whether a term has a weight above 0 and its assumption is false.
 fn fails(store: &Store, term: &Held) -> bool
@@ -39,7 +51,7 @@ fn is_open(store: &Store, term: &Held) -> bool
 }
 
 /// The place of the first term with a weight above 0 whose assumption is false.
-pub(crate) fn first_failed(store: &Store, terms: &[Held]) -> Option<usize>
+fn first_failed(store: &Store, terms: &[Held]) -> Option<usize>
     requires { All (λ t. t.subject < length store.now.first) terms.now }
     ensures some { IfSome result (IsFailed store.now terms.now) }
     ensures none { IsNone result → NoTermFails store.now terms.now }
@@ -53,7 +65,7 @@ pub(crate) fn first_failed(store: &Store, terms: &[Held]) -> Option<usize>
 }
 
 /// The place of the first term with a weight above 0 whose assumption is undecided.
-pub(crate) fn first_open(store: &Store, terms: &[Held]) -> Option<usize>
+fn first_open(store: &Store, terms: &[Held]) -> Option<usize>
     requires { All (λ t. t.subject < length store.now.first) terms.now }
     ensures some { IfSome result (IsFirstOpenTerm store.now terms.now) }
     ensures none { IsNone result → NoTermFails store.now terms.now → AreAssumed store.now.first store.now.entries
@@ -65,4 +77,29 @@ pub(crate) fn first_open(store: &Store, terms: &[Held]) -> Option<usize>
         }
     }
     None
+}
+
+/// The place of the first term whose assumption is false, as long as terms are assumed.
+pub(crate) fn failed_term(store: &Store, terms: &[Held], sums: u32) -> Option<usize>
+    requires { All (λ t. t.subject < length store.now.first) terms.now }
+    ensures some { IfSome result (λ place. (sums < most_sums) × IsFailed store.now terms.now place) }
+    ensures none { IsNone result → sums < most_sums → NoTermFails store.now terms.now }
+{
+    if !assumes_terms(sums) {
+        return None;
+    }
+    first_failed(store, terms)
+}
+
+/// The place of the first term whose assumption is undecided, as long as terms are assumed.
+pub(crate) fn open_term(store: &Store, terms: &[Held], sums: u32) -> Option<usize>
+    requires { All (λ t. t.subject < length store.now.first) terms.now }
+    ensures some { IfSome result (λ place. (sums < most_sums) × IsFirstOpenTerm store.now terms.now place) }
+    ensures none { IsNone result → sums < most_sums → NoTermFails store.now terms.now
+        → AreAssumed store.now.first store.now.entries terms.now }
+{
+    if !assumes_terms(sums) {
+        return None;
+    }
+    first_open(store, terms)
 }

@@ -7,7 +7,7 @@
 //! core. Cores are not minimised, and the terms are not taken by weight in stages: each would be a strategy of its own
 //! over the same proved steps.
 
-ghost use Rattle.std.specs.Prelude.{◌≡◌, ◌↔◌, ◌<◌, ◌≤◌, ◌^◌, ◌+◌, ℤ, ◌≤ℤ◌, length, true, false, OnOk, OnErr, IfOk, IfSome, IsNone, IsTrue};
+ghost use Rattle.std.specs.Prelude.{◌≡◌, ◌<◌, ◌≤◌, ◌+◌, ℤ, ◌≤ℤ◌, length, true, false, OnOk, IfOk};
 ghost use Rattle.cps_literal.specs.Truth.{value_at};
 ghost use Rattle.cps_trail.specs.Trail.{IsFalseNow};
 ghost use Rattle.cps_port.specs.declared.part.Part.{Part};
@@ -15,7 +15,7 @@ ghost use Rattle.cps_port.specs.Order.{IsSmallBound, raised_to};
 ghost use Rattle.cps_port.specs.Incumbents.{IsLowerBound};
 ghost use Rattle.cps_search.specs.Keeps.{Keeps};
 ghost use Rattle.cps_search.specs.Stepping.{Raises};
-ghost use Rattle.cps_search.specs.Assumptions.{IsAssumedNext, NoneIsOpen};
+ghost use Rattle.cps_search.specs.Assumptions.{NoneIsOpen};
 ghost use Rattle.cps_search.specs.Ends.{BrancherTurn, DecidedBy, HeardOne, IsOver};
 ghost use Rattle.cps_search.specs.Growing.{IsFalseBelow};
 ghost use Rattle.cps_search.specs.Searches.{NoneBelow};
@@ -23,15 +23,15 @@ ghost use Rattle.cps_reform.specs.Forms.{lifted, term_at};
 ghost use Rattle.cps_reform.specs.Cores.{core_terms, WeighAtLeast, IsSomeAbove};
 ghost use Rattle.cps_reform.specs.Floors.{OfEachBelow};
 ghost use Rattle.cps_reform.specs.Marks.{assumed};
-ghost use Rattle.cps_core_guided.specs.Assuming.{AreAssumed, IsFailed, IsFirstOpenTerm, NoTermFails};
+ghost use Rattle.cps_core_guided.specs.Assuming.{AreAssumed, IsFailed, NoTermFails};
 ghost use Rattle.cps_reform.specs.Floors.{IsFormPast};
 ghost use Rattle.cps_core_guided.specs.Reforming.{IsSoundCore, most_sums, whole, whole_core};
-ghost use Rattle.cps_core_guided.specs.CoreTurns.{GoesOn, RaisesTo, TakesCoreTurn};
+ghost use Rattle.cps_core_guided.specs.CoreTurns.{DecidesFrom, GoesOn, RaisesTo, TakesCoreTurn};
 ghost use Rattle.cps_core_guided.specs.Guiding.{core_search_of, HasFailed, IsDue, SplitsCore, Tried, Works};
 
-use crate::assume::{first_failed, first_open};
+use crate::assume::{failed_term, open_term};
 use cps_branch::Brancher;
-use cps_instance::Term;
+use cps_instance::{Instance, Term};
 use cps_literal::{Atom, Truth};
 use cps_model::{Bound, Refs};
 use cps_port::{Port, raised_to};
@@ -40,9 +40,28 @@ use cps_reform::{Ceiling, Reform, assumption};
 use cps_search::{Frame, Turn, decide_next, hear_turn, still_kept};
 use std::alloc::{AllocError, Global};
 
-/// The most sums that are defined for cores; after them no term is assumed any more: the model's assumptions are decided
-/// first, and then the brancher chooses. With them there are at most 2^31 subjects.
-const MOST_SUMS: u32 = 1 << 24;
+/// All assumptions of the model where no incumbent is known, and else none.
+fn whole_core(alloc: Global, instance: &Instance<'_>, z: Bound) -> Result<Refs, AllocError>
+    ensures { IfOk result (λ core. core ≡ whole_core instance.now.model z) }
+{
+    match z {
+        Bound::At(_) => Ok(Refs::new(alloc)),
+        Bound::Infinite => Ok(Refs::from_vec(instance.assumptions().to_vec(alloc)?)),
+    }
+}
+
+/// Raises the lower bound, and the greatest bound to which the worker itself raised it.
+fn raise<Q: Port>(port: &mut Q, raised: &mut Option<Bound>, bound: Bound)
+    requires bound { IsLowerBound (Q.model port.old) bound }
+    requires small { IsSmallBound bound }
+    ensures keeps { Keeps Q.model Q.rows Q.stays port.old port.new }
+    ensures board { (Q.part port.new).board ≡ (Q.part port.old).board }
+    ensures bounds { Raises bound (Q.part port.old).bounds (Q.part port.new).bounds }
+    ensures raised { raised.new ≡ raised_to raised.old bound }
+{
+    port.raise(bound);
+    *raised = raised_to(*raised, bound);
+}
 
 /// A core-guided worker as long as every allocation succeeds.
 #[derive(Drop)]
@@ -111,44 +130,24 @@ impl<'a, P: Defining, B: Brancher + Drop> Guided<'a, P, B> {
         ensures guidance { B.guidance self.new.brancher ≡ B.guidance self.old.brancher }
         ensures works { OnOk result (Works B.scope B.agrees self.new) }
     {
-        match self.failed_term() {
+        match failed_term(self.frame.store(), self.reform.terms(), self.sums) {
             Some(place) => self.reform_at(port, place),
-            None => self.decide(),
+            None => {
+                self.decide()?;
+                Ok(Turn::Decided)
+            }
         }
-    }
-
-    /// Whether terms are assumed still.
-    fn assumes_terms(&self) -> bool
-        ensures { IsTrue result ↔ (self.now.sums < most_sums) }
-    {
-        self.sums < MOST_SUMS
-    }
-
-    /// The first term whose assumption is false, as long as terms are assumed.
-    fn failed_term(&self) -> Option<usize>
-        requires { IsSoundCore (core_search_of self.now) }
-        ensures some { IfSome result (λ place. (self.now.sums < most_sums)
-            × IsFailed self.now.frame.store self.now.reform.terms place) }
-        ensures none { IsNone result → self.now.sums < most_sums
-            → NoTermFails self.now.frame.store self.now.reform.terms }
-    {
-        if !self.assumes_terms() {
-            return None;
-        }
-        first_failed(self.frame.store(), self.reform.terms())
     }
 
     /// Decides where no assumption of a term is false: an assumption of the model, one of a term, or what the brancher
     /// chooses.
-    fn decide(&mut self) -> Result<Turn, AllocError>
+    fn decide(&mut self) -> Result<(), AllocError>
         requires works { Works B.scope B.agrees self.old }
         requires due { IsDue self.old.frame }
         requires running { self.old.ended ≡ false }
         requires none_fails { self.old.sums < most_sums → NoTermFails self.old.frame.store self.old.reform.terms }
-        ensures goes_on { IfOk result
-            (λ turn. (part : Part) → GoesOn (B.chooses self.old.brancher) (core_search_of self.old)
-            (core_search_of self.new) part part turn) }
-        ensures decided { IfOk result (λ turn. turn ≡ Turn.Decided) }
+        ensures decides { OnOk result ((part : Part) → DecidesFrom (B.chooses self.old.brancher)
+            (core_search_of self.old) (core_search_of self.new) part part) }
         ensures brancher { OnOk result (DecidedBy (B.stays self.old.brancher self.new.brancher)
             (self.new.brancher ≡ self.old.brancher)) }
         ensures guidance { B.guidance self.new.brancher ≡ B.guidance self.old.brancher }
@@ -158,87 +157,41 @@ impl<'a, P: Defining, B: Brancher + Drop> Guided<'a, P, B> {
             return Err(AllocError);
         }
         match self.frame.open_assumption() {
-            Some(atom) => self.assume_next(atom),
+            Some(atom) => self.frame.decide(atom),
             None => self.decide_by_terms(),
         }
     }
 
-    /// Decides the first assumption of the model that is undecided.
-    fn assume_next(&mut self, atom: Atom) -> Result<Turn, AllocError>
-        requires works { Works B.scope B.agrees self.old }
-        requires due { IsDue self.old.frame }
-        requires running { self.old.ended ≡ false }
-        requires next { IsAssumedNext self.old.frame.instance.model.assumptions self.old.frame.store atom }
-        requires none_fails { self.old.sums < most_sums → NoTermFails self.old.frame.store self.old.reform.terms }
-        ensures goes_on { IfOk result
-            (λ turn. (part : Part) → GoesOn (B.chooses self.old.brancher) (core_search_of self.old)
-            (core_search_of self.new) part part turn) }
-        ensures decided { IfOk result (λ turn. turn ≡ Turn.Decided) }
-        ensures brancher { self.new.brancher ≡ self.old.brancher }
-        ensures works { OnOk result (Works B.scope B.agrees self.new) }
-    {
-        self.frame.decide(atom)?;
-        Ok(Turn::Decided)
-    }
-
     /// Decides where no assumption of the model is undecided: the assumption of a term, or what the brancher chooses.
-    fn decide_by_terms(&mut self) -> Result<Turn, AllocError>
+    fn decide_by_terms(&mut self) -> Result<(), AllocError>
         requires works { Works B.scope B.agrees self.old }
         requires due { IsDue self.old.frame }
         requires running { self.old.ended ≡ false }
         requires none_open { NoneIsOpen self.old.frame.instance.model.assumptions self.old.frame.store }
         requires none_fails { self.old.sums < most_sums → NoTermFails self.old.frame.store self.old.reform.terms }
-        ensures goes_on { IfOk result
-            (λ turn. (part : Part) → GoesOn (B.chooses self.old.brancher) (core_search_of self.old)
-            (core_search_of self.new) part part turn) }
-        ensures decided { IfOk result (λ turn. turn ≡ Turn.Decided) }
+        ensures decides { OnOk result ((part : Part) → DecidesFrom (B.chooses self.old.brancher)
+            (core_search_of self.old) (core_search_of self.new) part part) }
         ensures brancher { OnOk result (DecidedBy (B.stays self.old.brancher self.new.brancher)
             (self.new.brancher ≡ self.old.brancher)) }
         ensures guidance { B.guidance self.new.brancher ≡ B.guidance self.old.brancher }
         ensures works { OnOk result (Works B.scope B.agrees self.new) }
     {
-        if !self.assumes_terms() {
-            return self.choose();
-        }
-        match first_open(self.frame.store(), self.reform.terms()) {
-            Some(place) => self.assume(place),
+        match open_term(self.frame.store(), self.reform.terms(), self.sums) {
+            Some(place) => self.frame.decide(assumption(&self.reform.terms()[place])),
             None => self.choose(),
         }
     }
 
-    /// Decides the assumption of a term.
-    fn assume(&mut self, place: usize) -> Result<Turn, AllocError>
-        requires works { Works B.scope B.agrees self.old }
-        requires due { IsDue self.old.frame }
-        requires running { self.old.ended ≡ false }
-        requires none_open { NoneIsOpen self.old.frame.instance.model.assumptions self.old.frame.store }
-        requires few { self.old.sums < most_sums }
-        requires none_fails { NoTermFails self.old.frame.store self.old.reform.terms }
-        requires open_now { IsFirstOpenTerm self.old.frame.store self.old.reform.terms place }
-        ensures goes_on { IfOk result
-            (λ turn. (part : Part) → GoesOn (B.chooses self.old.brancher) (core_search_of self.old)
-            (core_search_of self.new) part part turn) }
-        ensures decided { IfOk result (λ turn. turn ≡ Turn.Decided) }
-        ensures brancher { self.new.brancher ≡ self.old.brancher }
-        ensures works { OnOk result (Works B.scope B.agrees self.new) }
-    {
-        let atom = assumption(&self.reform.terms()[place]);
-        self.frame.decide(atom)?;
-        Ok(Turn::Decided)
-    }
-
     /// Decides what the brancher chooses.
-    fn choose(&mut self) -> Result<Turn, AllocError>
+    fn choose(&mut self) -> Result<(), AllocError>
         requires works { Works B.scope B.agrees self.old }
         requires due { IsDue self.old.frame }
         requires running { self.old.ended ≡ false }
         requires none_open { NoneIsOpen self.old.frame.instance.model.assumptions self.old.frame.store }
         requires assumed { self.old.sums < most_sums
             → AreAssumed self.old.frame.store.first self.old.frame.store.entries self.old.reform.terms }
-        ensures goes_on { IfOk result
-            (λ turn. (part : Part) → GoesOn (B.chooses self.old.brancher) (core_search_of self.old)
-            (core_search_of self.new) part part turn) }
-        ensures decided { IfOk result (λ turn. turn ≡ Turn.Decided) }
+        ensures decides { OnOk result ((part : Part) → DecidesFrom (B.chooses self.old.brancher)
+            (core_search_of self.old) (core_search_of self.new) part part) }
         ensures brancher { B.stays self.old.brancher self.new.brancher }
         ensures guidance { B.guidance self.new.brancher ≡ B.guidance self.old.brancher }
         ensures works { OnOk result (Works B.scope B.agrees self.new) }
@@ -246,7 +199,7 @@ impl<'a, P: Defining, B: Brancher + Drop> Guided<'a, P, B> {
         let seen = self.frame.store().entries().len();
         decide_next(&mut self.frame, &mut self.brancher, self.kept)?;
         self.kept = seen;
-        Ok(Turn::Decided)
+        Ok(())
     }
 
     /// Reforms the objective for a failed term, or ends if no solution below z can have the new form.
@@ -274,21 +227,8 @@ impl<'a, P: Defining, B: Brancher + Drop> Guided<'a, P, B> {
         self.kept = still_kept(self.frame.store(), self.kept);
         let is_reformed = self.reform_by(place, atom, decisions.as_slice())?;
         // Made here, since `conclude` cannot fail; only a worker that is exhausted keeps it.
-        let core = self.whole_core()?;
+        let core = whole_core(self.alloc, self.frame.instance(), self.frame.z())?;
         Ok(self.conclude(port, is_reformed, core))
-    }
-
-    /// All assumptions of the model where no incumbent is known, and else none.
-    fn whole_core(&self) -> Result<Refs, AllocError>
-        ensures { IfOk result (λ core. core ≡ whole_core self.now.frame.instance.model self.now.frame.z) }
-    {
-        match self.frame.z() {
-            Bound::At(_) => Ok(Refs::new(self.alloc)),
-            Bound::Infinite => {
-                let assumptions = self.frame.instance().assumptions();
-                Ok(Refs::from_vec(assumptions.to_vec(self.alloc)?))
-            }
-        }
     }
 
     /// Reforms the objective by the decisions behind the assumption of a failed term, at level 0. Answers false if no
@@ -343,17 +283,6 @@ impl<'a, P: Defining, B: Brancher + Drop> Guided<'a, P, B> {
         self.split(core.as_slice())
     }
 
-    /// What bounds the objective of each solution that is looked for from above.
-    fn ceiling(&self) -> Ceiling
-        ensures z { result.z ≡ self.now.frame.z }
-        ensures greatest { result.greatest ≡ self.now.greatest }
-    {
-        Ceiling {
-            z: self.frame.z(),
-            greatest: self.greatest,
-        }
-    }
-
     /// Raises the bound of a term: no solution below z has its subject below the new bound. Answers false, and changes
     /// nothing, if no solution below z can have the new form.
     fn lift(&mut self, place: usize, bound: i64) -> bool
@@ -377,7 +306,10 @@ impl<'a, P: Defining, B: Brancher + Drop> Guided<'a, P, B> {
     {
         // Reading the entries gives the proof the store's invariant.
         let _ = self.frame.store().entries();
-        let ceiling = self.ceiling();
+        let ceiling = Ceiling {
+            z: self.frame.z(),
+            greatest: self.greatest,
+        };
         self.reform
             .lift_below(self.frame.instance(), place, bound, ceiling)
     }
@@ -401,7 +333,10 @@ impl<'a, P: Defining, B: Brancher + Drop> Guided<'a, P, B> {
         // Reading the entries gives the proof the store's invariant.
         let _ = self.frame.store().entries();
         self.sums += 1;
-        let ceiling = self.ceiling();
+        let ceiling = Ceiling {
+            z: self.frame.z(),
+            greatest: self.greatest,
+        };
         self.reform
             .split_below(self.frame.instance(), subject, ceiling)
     }
@@ -432,27 +367,13 @@ impl<'a, P: Defining, B: Brancher + Drop> Guided<'a, P, B> {
     {
         if is_reformed {
             let base = self.reform.base();
-            self.raise(port, Bound::At(base));
+            raise(port, &mut self.raised, Bound::At(base));
             return Turn::Reformed(base);
         }
         let z = self.frame.z();
-        self.raise(port, z);
+        raise(port, &mut self.raised, z);
         self.core = core;
         self.ended = true;
         Turn::Exhausted
-    }
-
-    /// Raises the lower bound.
-    fn raise<Q: Port>(&mut self, port: &mut Q, bound: Bound)
-        requires model { Q.model port.old ≡ self.old.frame.instance.model }
-        requires bound { IsLowerBound self.old.frame.instance.model bound }
-        requires small { IsSmallBound bound }
-        ensures keeps { Keeps Q.model Q.rows Q.stays port.old port.new }
-        ensures board { (Q.part port.new).board ≡ (Q.part port.old).board }
-        ensures bounds { Raises bound (Q.part port.old).bounds (Q.part port.new).bounds }
-        ensures is { self.new ≡ record self.old { raised = raised_to self.old.raised bound } }
-    {
-        port.raise(bound);
-        self.raised = raised_to(self.raised, bound);
     }
 }

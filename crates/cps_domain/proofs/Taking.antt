@@ -2,9 +2,10 @@
 -- as its 64 bits.
 use Rattle.std.proofs.Common.{ℕ, ◌+◌, ◌≤◌, ◌<◌, ◌-◌, ℤ, pos, negsuc, ◌+ℤ◌, ◌-ℤ◌, ◌≤ℤ◌, ◌<ℤ◌, ◌≡◌, Bool, true, false, sym, ◌∙◌, ap, subst, arith, ◌^◌, w64, FitsSigned, to_z, of_z}
 use Rattle.std.specs.Prelude.{int_le, int_lt}
-use Rattle.std.proofs.lemmas.Int.{ints, to_z-of_z, fits_signed_from_abs}
+use Rattle.std.proofs.lemmas.Int.{ints, clamps, to_z-of_z, fits_signed_from_abs}
+use Rattle.std.specs.Int.{int_min, int_max}
 use Rattle.cps_domain.specs.Window.{Window, contains, IsDomain, least, greatest}
-use Rattle.cps_domain.specs.Cuts.{Shrinks, IsParted}
+use Rattle.cps_domain.specs.Cuts.{Shrinks, IsParted, IsUpTo, IsFromOn}
 use Rattle.cps_domain.proofs.Tests.{true_le, false_le}
 use Rattle.cps_domain.proofs.Cutting.{gap_no}
 use Rattle.cps_domain.proofs.Windows.{at, HasPlace, has_place, least_below, greatest_above}
@@ -30,7 +31,7 @@ bits_lt x y b f g e = sym (ap (λ z. int_lt z (bits y)) (to_z-of_z w64 x f) ∙ 
 bits_le : (x y : ℤ) (b : Bool) → FitsSigned w64 x → FitsSigned w64 y → int_le (bits x) (bits y) ≡ b → int_le x y ≡ b
 bits_le x y b f g e = sym (ap (λ z. int_le z (bits y)) (to_z-of_z w64 x f) ∙ ap (λ z. int_le x z) (to_z-of_z w64 y g)) ∙ e
 
-is_lt : (x y : ℤ) → int_lt x y ≡ true → x <ℤ y
+pub is_lt : (x y : ℤ) → int_lt x y ≡ true → x <ℤ y
 is_lt x y e = grind (arith, ints)
 
 not_lt : (x y : ℤ) → int_lt x y ≡ false → y ≤ℤ x
@@ -123,13 +124,47 @@ is_below : (d : Window) (k : ℕ) (v : ℤ) (p : ℤ × ℤ) → IsHeld d k v �
 is_below d k v p h f i e =
     is_lt v (at d k).1 (bits_lt v (at d k).1 true f (fits_high d k (has_place d k h.domain h.low h.high)) (subst (λ (q : ℤ × ℤ). int_lt (bits v) (bits q.1) ≡ true) i e))
 
+-- the next number after one that an interval has, and the one before it, as the code computes them
+pub next_fits : (d : Window) (k : ℕ) (v : ℤ) → IsHeld d k v → FitsSigned w64 v → FitsSigned w64 (bits v +ℤ pos 1)
+next_fits d k v h f =
+    let p = has_place d k h.domain h.low h.high in
+    let l = p.low in let g = p.high in let s = h.begins in let t = h.ends in
+    subst (λ z. FitsSigned w64 (z +ℤ pos 1)) (sym (to_z-of_z w64 v f)) (fits_signed_from_abs w64 (v +ℤ pos 1) (omega (arith, ints)))
+
+pub previous_fits : (d : Window) (k : ℕ) (v : ℤ) → IsHeld d k v → FitsSigned w64 v → FitsSigned w64 (bits v -ℤ pos 1)
+previous_fits d k v h f =
+    let p = has_place d k h.domain h.low h.high in
+    let l = p.low in let g = p.high in let s = h.begins in let t = h.ends in
+    subst (λ z. FitsSigned w64 (z -ℤ pos 1)) (sym (to_z-of_z w64 v f)) (fits_signed_from_abs w64 (v -ℤ pos 1) (omega (arith, ints)))
+
+pub next_same : (d : Window) (k : ℕ) (v x : ℤ) → IsHeld d k v → FitsSigned w64 v → x ≡ bits (bits v +ℤ pos 1) → x ≡ v +ℤ pos 1
+next_same d k v x h f e = e ∙ to_z-of_z w64 (bits v +ℤ pos 1) (next_fits d k v h f) ∙ ap (λ z. z +ℤ pos 1) (to_z-of_z w64 v f)
+
+pub previous_same : (d : Window) (k : ℕ) (v x : ℤ) → IsHeld d k v → FitsSigned w64 v → x ≡ bits (bits v -ℤ pos 1) → x ≡ v -ℤ pos 1
+previous_same d k v x h f e = e ∙ to_z-of_z w64 (bits v -ℤ pos 1) (previous_fits d k v h f) ∙ ap (λ z. z -ℤ pos 1) (to_z-of_z w64 v f)
+
 -- the interval without its end, and without a number inside
+pub shrinks_one : (d : Window) (k : ℕ) (v : ℤ) (q : ℤ × ℤ) → IsHeld d k v → FitsSigned w64 v → q.0 ≡ bits v → q.1 ≡ bits v → Shrinks (at d k) q
+shrinks_one d k v q h f a b =
+    let x = a ∙ to_z-of_z w64 v f in
+    let y = b ∙ to_z-of_z w64 v f in
+    let s = h.begins in let t = h.ends in
+    record { low = omega (arith, ints); ordered = omega (arith, ints); high = omega (arith, ints) }
+
 pub shrinks_left : (d : Window) (k : ℕ) (v : ℤ) (p q : ℤ × ℤ) → IsHeld d k v → FitsSigned w64 v → p ≡ at d k → q.0 ≡ bits p.0 → q.1 ≡ v -ℤ pos 1
     → int_lt (bits p.0) (bits v) ≡ true → Shrinks (at d k) q
 shrinks_left d k v p q h f i e g l =
     let x = low_same d k v q.0 p h i e in
     let y = is_above d k v p h f i l in
     let z = h.ends in
+    record { low = omega (arith, ints); ordered = omega (arith, ints); high = omega (arith, ints) }
+
+pub shrinks_right : (d : Window) (k : ℕ) (v : ℤ) (p q : ℤ × ℤ) → IsHeld d k v → FitsSigned w64 v → p ≡ at d k → q.0 ≡ v +ℤ pos 1 → q.1 ≡ bits p.1
+    → int_lt (bits v) (bits p.1) ≡ true → Shrinks (at d k) q
+shrinks_right d k v p q h f i e g l =
+    let x = high_same d k v q.1 p h i g in
+    let y = is_below d k v p h f i l in
+    let z = h.begins in
     record { low = omega (arith, ints); ordered = omega (arith, ints); high = omega (arith, ints) }
 
 pub is_parted : (d : Window) (k : ℕ) (v : ℤ) (p a b : ℤ × ℤ) → IsHeld d k v → FitsSigned w64 v → p ≡ at d k → a.0 ≡ bits p.0 → a.1 ≡ v -ℤ pos 1 → b.0 ≡ v +ℤ pos 1 → b.1 ≡ bits p.1
@@ -140,3 +175,34 @@ is_parted d k v p a b h f i e1 e2 e3 e4 l m =
     let w = is_above d k v p h f i l in
     let z = is_below d k v p h f i m in
     record { low = x; left = omega (arith, ints); gap = omega (arith, ints); right = omega (arith, ints); high = y }
+
+-- the part of an interval up to a number, and from one on, by the lesser and the greater of two ends
+lesser_first : (x y : ℤ) → x ≤ℤ y → int_min x y ≡ x
+lesser_first x y h = omega (arith, ints, clamps)
+
+lesser_second : (x y : ℤ) → y ≤ℤ x → int_min x y ≡ y
+lesser_second x y h = omega (arith, ints, clamps)
+
+greater_first : (x y : ℤ) → y ≤ℤ x → int_max x y ≡ x
+greater_first x y h = omega (arith, ints, clamps)
+
+greater_second : (x y : ℤ) → x ≤ℤ y → int_max x y ≡ y
+greater_second x y h = omega (arith, ints, clamps)
+
+pub part_up_to : (p : ℤ × ℤ) (v m : ℤ) → FitsSigned w64 p.0 → FitsSigned w64 p.1 → FitsSigned w64 v → m ≡ int_min (bits p.1) (bits v) → IsUpTo p v (bits p.0, bits m)
+part_up_to p v m f g h e =
+    let is = e ∙ ap (λ z. int_min z (bits v)) (to_z-of_z w64 p.1 g) ∙ ap (λ z. int_min p.1 z) (to_z-of_z w64 v h) in
+    record {
+      low = to_z-of_z w64 p.0 f;
+      all = λ l. ap bits (is ∙ lesser_first p.1 v l) ∙ to_z-of_z w64 p.1 g;
+      cut = λ l. ap bits (is ∙ lesser_second p.1 v l) ∙ to_z-of_z w64 v h;
+    }
+
+pub part_from_on : (p : ℤ × ℤ) (v m : ℤ) → FitsSigned w64 p.0 → FitsSigned w64 p.1 → FitsSigned w64 v → m ≡ int_max (bits p.0) (bits v) → IsFromOn p v (bits m, bits p.1)
+part_from_on p v m f g h e =
+    let is = e ∙ ap (λ z. int_max z (bits v)) (to_z-of_z w64 p.0 f) ∙ ap (λ z. int_max p.0 z) (to_z-of_z w64 v h) in
+    record {
+      high = to_z-of_z w64 p.1 g;
+      all = λ l. ap bits (is ∙ greater_first p.0 v l) ∙ to_z-of_z w64 p.0 f;
+      cut = λ l. ap bits (is ∙ greater_second p.0 v l) ∙ to_z-of_z w64 v h;
+    }

@@ -1,5 +1,5 @@
 -- Clauses that deny facts: conflicts and reasons.
-use Rattle.std.proofs.Common.{ℕ, ◌+◌, ◌<◌, ℤ, ◌≡◌, Bool, true, false, not, ◌||◌, List, [], ◌∷◌, ◌++◌, length, take, get_or, refl, sym, ◌∙◌, ap, subst, inl, inr, arith, true≢false}
+use Rattle.std.proofs.Common.{Result, Ok, Err, OnOk, ℕ, ◌+◌, ◌<◌, ℤ, ◌≡◌, Bool, true, false, not, ◌||◌, List, [], ◌∷◌, ◌++◌, length, take, get_or, refl, sym, ◌∙◌, ap, subst, inl, inr, arith, true≢false}
 use Rattle.std.specs.List.{Contains}
 use Rattle.std.proofs.lemmas.List.Folds.{list_any-append}
 use Rattle.std.proofs.lemmas.List.Elements.{All-nil, All-push, All-append, All-more, All-weaker, All-contains_itself, Contains-push_cases, Contains-push}
@@ -12,6 +12,18 @@ use Rattle.cps_trail.proofs.Times.{and_both}
 use Rattle.cps_propagate.proofs.Explaining.{false_where_explained}
 use Rattle.cps_rule.specs.Rules.{IsFact, AllTrueAt}
 use Rattle.cps_enforce.specs.Reasons.{DeniesFacts, IsReasonFor}
+
+-- what follows from a success, and what a success has
+pub on_ok : {A E : Type 0} (r : Result A E) (P Q : Type 0) → OnOk r P → (P → Q) → OnOk r Q
+on_ok (Ok x) P Q h f = f h
+on_ok (Err e) P Q h f = tt
+
+pub when_ok : {A E : Type 0} (r : Result A E) (x : A) (P : Type 0) → r ≡ Ok x → OnOk r P → P
+when_ok {A} {E} r x P e h = subst (λ (q : Result A E). OnOk q P) e h
+
+-- no is not yes
+pub no_yes : {E : Type 0} (P : Type 0) → ◌≡◌ {A = Result Bool E} (Ok false) (Ok true) → P
+no_yes P h = absurd (cc h)
 
 or_none : (b : Bool) → (b || false) ≡ b
 or_none true = refl

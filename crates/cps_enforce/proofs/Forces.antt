@@ -7,6 +7,8 @@ use Rattle.std.proofs.lemmas.List.Folds.{list_all-append}
 use Rattle.std.proofs.lemmas.List.Elements.{All-append, All-nil, All-cons, All-head, All-tail}
 use Rattle.std.proofs.lemmas.List.Sums.{list_all-from_AllPass}
 use Rattle.cps_literal.specs.declared.atom.Atom.{Atom}
+use Rattle.cps_literal.specs.declared.atom.Truth.{Truth}
+use Rattle.cps_literal.specs.declared.atom.Truth.TheVariants.{Yes, No, Undecided}
 use Rattle.cps_literal.specs.Truth.{meets, value_at, atom_holds}
 use Rattle.cps_instance.specs.Tasks.{atom_subjects}
 use Rattle.cps_trail.specs.Trail.{Trail, admits, IsTrueNow, IsFalseNow}
@@ -59,6 +61,13 @@ module _ (s : Trail) (us : List Atom) (n : ℕ) (u : Atom) (l : n < length us) (
     last = λ others d. (let i = h.inside in absurd (h.not_true d (others place d (omega arith) (omega arith))));
   }
 
+  pub force_false : (IsTrueNow s u → ⊥) → IsFalseNow s u → IsBarred s us n
+  force_false nt f = record {
+    inside = l;
+    not_true = λ d t. nt (subst (λ (v : Atom). IsTrueNow s v) (sym (is d)) t);
+    last = λ others d. subst (λ (v : Atom). IsFalseNow s v) (is d) f;
+  }
+
   pub force_found : (found : Option ℕ) → is_some found ≡ true → (IsTrueNow s u → ⊥) → IsForceSoFar s us n found → (place : ℕ) × IsBarred s us place
   force_found None some nt h = absurd (let bad : false ≡ true = some in cc)
   force_found (Some place) some nt h = (n, force_twice place nt h)
@@ -66,6 +75,21 @@ module _ (s : Trail) (us : List Atom) (n : ℕ) (u : Atom) (l : n < length us) (
   pub force_none : (found : Option ℕ) → is_some found ≡ false → (IsTrueNow s u → ⊥) → (IsFalseNow s u → ⊥) → IsForceSoFar s us n found → IsForceSoFar s us (n + 1) (Some n)
   force_none None none nt nf h = force_open nt nf h
   force_none (Some place) none nt nf h = absurd (let bad : true ≡ false = none in cc)
+
+-- an answer is no other
+abbrev code : Truth → ℕ
+code Yes = 0
+code No = 1
+code Undecided = 2
+
+pub yes_not_no : Yes ≡ No → ⊥
+yes_not_no e = let bad : 0 ≡ 1 = ap code e in omega (arith, bad)
+
+pub yes_not_open : Yes ≡ Undecided → ⊥
+yes_not_open e = let bad : 0 ≡ 2 = ap code e in omega (arith, bad)
+
+pub no_not_open : No ≡ Undecided → ⊥
+no_not_open e = let bad : 1 ≡ 2 = ap code e in omega (arith, bad)
 
 -- what holds of all atoms but one
 pub but_all : (P : Atom → Type 0) (us : List Atom) (place : ℕ) → place < length us → ((k : ℕ) (d : Atom) → k < length us → k ≢ place → P (get_or us k d)) → All P (but us place)

@@ -3,3 +3,4 @@ pub mod Forces
 pub mod Tasks
 pub mod Past
 pub mod Passes
+pub mod Negating

@@ -1,11 +1,11 @@
 -- One pass over what a look found.
 use Rattle.std.specs.Prelude.{All}
-use Rattle.std.proofs.Common.{ℕ, ◌+◌, ◌<◌, List, length, take, get_or}
+use Rattle.std.proofs.Common.{ℕ, ◌+◌, ◌<◌, ◌≡◌, ◌∙◌, List, [], ◌∷◌, ◌++◌, length, take, get_or, ap, arith, append-nil, length-append}
 use Rattle.std.proofs.lemmas.List.Elements.{All-more, All-weaker}
 use Rattle.cps_literal.specs.declared.atom.Atom.{Atom}
 use Rattle.cps_instance.specs.declared.task.Body.{Body}
 use Rattle.cps_instance.specs.Tasks.{HoldsTask}
-use Rattle.cps_trail.specs.Trail.{Trail, IsTrueNow}
+use Rattle.cps_trail.specs.Trail.{Entry, Trail, IsTrueNow}
 use Rattle.cps_trail.specs.Adds.{Infers}
 use Rattle.cps_trail.specs.Notes.{ByTask}
 use Rattle.cps_trail.proofs.Inferring.{Infers-trans, stays_true}
@@ -24,3 +24,8 @@ Narrows-more number us b s u v found i d l h more here = record {
   made = All-more (λ (n : Narrowing). IsTrueNow v n.target) found i d l
       (All-weaker (λ (n : Narrowing). IsTrueNow u n.target) (λ (n : Narrowing). IsTrueNow v n.target) (λ n t. stays_true (ByTask number (HoldsTask (task_of us b))) u v more n.target t) (take i found) h.made) here;
 }
+
+-- where no entry was added, the entries are the same
+pub none_added : (es new added : List Entry) → new ≡ es ++ added → length new ≡ length es → new ≡ es
+none_added es new [] e l = e ∙ append-nil es
+none_added es new (a ∷ added) e l = absurd (omega (arith, ap (λ (xs : List Entry). length xs) e, length-append es (a ∷ added), l))

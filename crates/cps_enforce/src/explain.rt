@@ -122,6 +122,31 @@ fn explain_before<R: Rule>(
     }
 }
 
+/// Drafts the reason of an entry, if the rule gives one.
+fn draft_entry<R: Rule>(
+    asked: &Asked,
+    enforcement: &[Atom],
+    rule: &R,
+    draft: &mut Draft,
+) -> Result<bool, AllocError>
+    requires within { asked.now.entry < length asked.now.store.now.entries }
+    requires fits { IsFitting asked.now.store.now.first (task_of enforcement.now (R.body rule.now)) }
+    ensures { result ≡ Ok true → IsReason
+        (HoldsTask (task_of enforcement.now (R.body rule.now)))
+        asked.now.store.now asked.now.entry draft.new.reason.items }
+{
+    let store = asked.store;
+    let entry = asked.entry;
+    let shown = store.entries()[entry];
+    let (a, b) = shown.reason.witness();
+    let narrowing = Narrowing {
+        target: shown.atom,
+        hint: Hint { a, b },
+    };
+    let past = store.before(entry);
+    explain_before(&past, enforcement, rule, &narrowing, draft)
+}
+
 /// Puts the reason of an entry in the place of what a list holds, if the rule gives one.
 pub(crate) fn explain_by_rule<R: Rule>(
     alloc: Global,
@@ -135,20 +160,11 @@ pub(crate) fn explain_by_rule<R: Rule>(
     ensures { result ≡ Ok true → IsReason
         (HoldsTask (task_of enforcement.now (R.body rule.now))) asked.now.store.now asked.now.entry reason.new.items }
 {
-    let store = asked.store;
-    let entry = asked.entry;
-    let shown = store.entries()[entry];
-    let (a, b) = shown.reason.witness();
-    let narrowing = Narrowing {
-        target: shown.atom,
-        hint: Hint { a, b },
-    };
-    let past = store.before(entry);
     let mut draft = Draft {
         facts: Vec::new(alloc),
         reason: Vec::new(alloc),
     };
-    let is_made = explain_before(&past, enforcement, rule, &narrowing, &mut draft)?;
+    let is_made = draft_entry(asked, enforcement, rule, &mut draft)?;
     if !is_made {
         return Ok(false);
     }

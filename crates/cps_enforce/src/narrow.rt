@@ -65,8 +65,7 @@ fn conflict_by_past<R: Rule>(
     room.subjects.clear();
     push_all_subjects(enforcement, rule, &mut room.subjects)?;
     let place = store.entries().len();
-    deny_all(store, place, room.subjects.as_slice(), &mut room.conflict)?;
-    Ok(())
+    deny_all(store, place, room.subjects.as_slice(), &mut room.conflict)
 }
 
 /// Makes the conflict of a body that cannot hold.
@@ -86,11 +85,9 @@ fn conflict_of<R: Rule>(
     let is_refuted = rule.refute(&past, hint, &mut room.facts)?;
     if is_refuted {
         let facts = room.facts.as_slice();
-        conflict_by(&past, enforcement, facts, &mut room.conflict)?;
-        return Ok(());
+        return conflict_by(&past, enforcement, facts, &mut room.conflict);
     }
-    conflict_by_past(enforcement, rule, room, store)?;
-    Ok(())
+    conflict_by_past(enforcement, rule, room, store)
 }
 
 /// Makes the conflict of a body that gives an atom which is false.
@@ -112,11 +109,9 @@ fn contradict<R: Rule>(
     let is_explained = rule.explain(&past, target, narrowing.hint, &mut room.facts)?;
     if is_explained {
         let facts = room.facts.as_slice();
-        give_by(&past, enforcement, facts, target, &mut room.conflict)?;
-        return Ok(());
+        return give_by(&past, enforcement, facts, target, &mut room.conflict);
     }
-    conflict_by_past(enforcement, rule, room, store)?;
-    Ok(())
+    conflict_by_past(enforcement, rule, room, store)
 }
 
 /// Makes an atom true that the body gives.
@@ -197,10 +192,7 @@ pub(crate) fn pass<R: Rule>(
         → IsRestingBody (R.body rule.old) store.new }
 {
     match rule.look(store, found)? {
-        Look::Possible => {
-            let answer = narrow_all(header, rule, found.as_slice(), room, store)?;
-            Ok(answer)
-        }
+        Look::Possible => narrow_all(header, rule, found.as_slice(), room, store),
         Look::Impossible(hint) => {
             conflict_of(header.enforcement, rule, hint, room, store)?;
             Ok(Answer::Conflict)

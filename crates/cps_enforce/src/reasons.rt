@@ -42,8 +42,7 @@ fn deny_both(
 {
     reason.clear();
     deny(past, enforcement, reason)?;
-    deny(past, facts, reason)?;
-    Ok(())
+    deny(past, facts, reason)
 }
 
 /// Makes the conflict of a body that cannot hold beside facts, in force.
@@ -58,8 +57,7 @@ pub(crate) fn conflict_by(
     ensures { OnOk result ((body : BodyOf) → IsRefuted body past.now facts.now
         → IsConflict (HoldsTask (task_of enforcement.now body)) past.now reason.new.items) }
 {
-    deny_both(past, enforcement, facts, reason)?;
-    Ok(())
+    deny_both(past, enforcement, facts, reason)
 }
 
 /// Makes the reason of an atom that a body and facts give, in force.
@@ -97,8 +95,7 @@ pub(crate) fn deny_others(
     reason.clear();
     deny(past, &enforcement[..place], reason)?;
     deny(past, &enforcement[place + 1..], reason)?;
-    deny(past, facts, reason)?;
-    Ok(())
+    deny(past, facts, reason)
 }
 
 /// Adds the subjects that a task reads at the end of a list: those of its enforcement atoms first.
@@ -111,8 +108,7 @@ pub(crate) fn push_all_subjects<R: Rule>(
         ≡ subjects.old.items ++ subjects_of (task_of enforcement.now (R.body rule.now))) }
 {
     push_atom_subjects(enforcement, subjects)?;
-    rule.push_subjects(subjects)?;
-    Ok(())
+    rule.push_subjects(subjects)
 }
 
 /// Fills a list anew with the negation of each of the first `place` entries about some subjects.

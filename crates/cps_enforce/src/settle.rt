@@ -110,9 +110,6 @@ pub(crate) fn visit<R: Rule>(
             disable(header, place, rule, found, store)?;
             Ok(Answer::Settled)
         }
-        Force::On => {
-            let answer = settle(header, rule, found, room, store)?;
-            Ok(answer)
-        }
+        Force::On => settle(header, rule, found, room, store),
     }
 }

@@ -1,4 +1,4 @@
-//! Tests of conflict analysis and of the base of clauses, over their public calls alone.
+//! Tests of conflict analysis, of the base of clauses and of branching, over their public calls alone.
 //!
 //! What these calls promise is proved where they stand. The tests compare them with worked rows, whose answers come
 //! from outside, and see that a call with ample memory succeeds. In a crate of their own they do not have those proved
@@ -35,6 +35,10 @@ mod bases;
 #[cfg(test)]
 mod behind;
 #[cfg(test)]
+mod branching;
+#[cfg(test)]
+mod choices;
+#[cfg(test)]
 mod conflicts;
 #[cfg(test)]
 mod forgetting;
@@ -42,6 +46,8 @@ mod forgetting;
 mod journals;
 #[cfg(test)]
 mod minimised;
+#[cfg(test)]
+mod models;
 #[cfg(test)]
 mod resting;
 #[cfg(test)]

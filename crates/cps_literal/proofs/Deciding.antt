@@ -8,7 +8,7 @@ use Rattle.cps_literal.specs.declared.atom.Op.{Op}
 use Rattle.cps_literal.specs.declared.atom.Op.TheVariants.{Le, Ge, Eq, Ne}
 use Rattle.cps_literal.specs.declared.atom.Truth.{Truth}
 use Rattle.cps_literal.specs.declared.atom.Truth.TheVariants.{Yes, No}
-use Rattle.cps_literal.proofs.Implying.{le_yes, le_no, yes_le, no_le, yes_lt, no_lt, eq_yes, yes_eq}
+use Rattle.cps_literal.proofs.Implying.{le_yes, le_no, yes_le, no_le, yes_lt, no_lt, eq_yes, eq_no, yes_eq}
 
 lt_yes : (x v : ℤ) → x <ℤ v → int_lt x v ≡ true
 lt_yes x v h = grind (arith, ints)
@@ -76,3 +76,7 @@ never_told admits o p v z cb b cn n t e i s r a h k =
 -- what is told of a comparison and a number, of those that they are
 pub as_told : (P : Op → ℤ → Type 0) (o p : Op) (v z : ℤ) → o ≡ p → z ≡ v → P p z → P o v
 as_told P o p v z e i h = subst (λ q. P q v) (sym e) (subst (P p) i h)
+
+-- a value that is not admitted is none of those that are
+pub not_there : (admits : ℤ → Bool) (v : ℤ) → admits v ≡ false → IsFalseOn admits Eq v
+not_there admits v n = λ x m. eq_no x v (λ e. true≢false (sym m ∙ ap admits e ∙ n))

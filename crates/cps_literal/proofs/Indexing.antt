@@ -34,6 +34,17 @@ found atoms m t n h e = record {
   table = inl refl;
 }
 
+-- an atom is in the list where the map has it, and not where the map lacks it
+not_some : (o : Option ℕ) → ((k : ℕ) → o ≡ Some k → ⊥) → o ≡ None
+not_some None h = refl
+not_some (Some k) h = absurd (h k refl)
+
+pub absent : {S : Type 0} (atoms : List Atom) (m : HashMap Atom ℕ S) (t : Atom) → Agree atoms m → ((k : ℕ) → slice_get atoms k ≡ Some t → ⊥) → get same_atom m t ≡ None
+absent atoms m t h new = not_some (get same_atom m t) (λ k e. new k (h.listed t k e))
+
+pub unlisted : {S : Type 0} (atoms : List Atom) (m : HashMap Atom ℕ S) (t : Atom) (k : ℕ) → Agree atoms m → get same_atom m t ≡ None → slice_get atoms k ≡ Some t → ⊥
+unlisted atoms m t k h n e = none_some (get same_atom m t) k n (place_of atoms m t k h e)
+
 append_get : (atoms : List Atom) (t d : Atom) → get_or (atoms ++ (t ∷ [])) (length atoms) d ≡ t
 append_get [] t d = refl
 append_get (u ∷ atoms) t d = append_get atoms t d

@@ -13,7 +13,7 @@ use Rattle.std.proofs.lemmas.List.Edits.{length-remove}
 use Rattle.std.proofs.lemmas.List.Folds.{Any-from_list_any, list_any-from_Any}
 use Rattle.std.proofs.lemmas.List.Elements.{All-contains, Contains-get_or, Contains-push_cases, Contains-append_left, Contains-push}
 use Rattle.std.proofs.lemmas.List.Quantifiers.{all_pairs_push, all_pairs_remove}
-use Rattle.std.proofs.lemmas.List.Sorted.{sorted_far, Contains-permutation, IsPermutation-sym}
+use Rattle.std.proofs.lemmas.List.Sorted.{sorted_far, All-permutation, Contains-permutation, IsPermutation-sym}
 use Rattle.cps_domain.proofs.Tests.{or_cases, or_right, both, first_of_both, second_of_both, same_test, test_false}
 use Rattle.cps_literal.specs.Truth.{meets, atom_holds, clause_holds, Implies, value_at}
 use Rattle.cps_literal.specs.Normal.{rank, comes_before, IsApart, IsNormal, IsNormalOf, Includes}
@@ -369,13 +369,22 @@ normal_more sorted kept new i d l s n =
       ];
     }
 
--- the normal form of a list is one of each of its orders
-pub normal_done : (atoms sorted kept : List Atom) → IsPermutation atoms sorted → NormalSoFar sorted kept (length sorted) → IsNormalOf atoms kept
-normal_done atoms sorted kept p s =
-    let e = take-length sorted in
+-- all sorted atoms were taken
+pub normal_done : (sorted kept : List Atom) (n : ℕ) → n ≡ length sorted → NormalSoFar sorted kept n → IsNormalOf sorted kept
+normal_done sorted kept n l s =
+    let e = ap (λ j. take j sorted) l ∙ take-length sorted in
     record {
-      kept = λ k d l. Contains-permutation sorted atoms (get_or kept k d) (IsPermutation-sym atoms sorted p) (subst (λ c. Contains c (get_or kept k d)) e (s.kept (get_or kept k d) (Contains-get_or kept k d l)));
-      covered = λ k d l. s.covered (get_or atoms k d) (subst (λ c. Contains c (get_or atoms k d)) (sym e) (Contains-permutation atoms sorted (get_or atoms k d) p (Contains-get_or atoms k d l)));
+      kept = λ k d l. subst (λ c. Contains c (get_or kept k d)) e (s.kept (get_or kept k d) (Contains-get_or kept k d l));
+      covered = λ k d l. s.covered (get_or sorted k d) (subst (λ c. Contains c (get_or sorted k d)) (sym e) (Contains-get_or sorted k d l));
+    }
+
+-- the normal form of a list is one of each of its orders
+pub normal_of_order : (atoms sorted kept : List Atom) → IsPermutation atoms sorted → IsNormalOf sorted kept → IsNormalOf atoms kept
+normal_of_order atoms sorted kept p h =
+    let back = IsPermutation-sym atoms sorted p in
+    record {
+      kept = λ k d l. Contains-permutation sorted atoms (get_or kept k d) back (h.kept k d l);
+      covered = All-permutation (λ t. Any (Implies t) kept) sorted atoms back h.covered;
     }
 
 -- a sorted part is written back whole

@@ -1,5 +1,5 @@
 -- How a worker keeps what it keeps between two turns, where it decides.
-use Rattle.std.specs.Prelude.{All}
+use Rattle.std.specs.Prelude.{All, max}
 use Rattle.std.proofs.Common.{ℕ, ◌+◌, ◌*◌, ◌≤◌, ◌<◌, ℤ, ◌≡◌, ◌∙◌, inl, inr, pos, negsuc, Bool, true, false, cond, Option, Some, None, List, [], ◌∷◌, length, get_or, refl, sym, ap, subst, arith, length-append}
 use Rattle.std.proofs.lemmas.List.Elements.{All-cons, All-nil}
 use Rattle.cps_literal.specs.declared.atom.Atom.{Atom}
@@ -315,3 +315,28 @@ begins x y free h off store frame brancher kept conflicts aim rounds on round as
   where
     clash : {t : Bool} → t ≡ false → t ≡ true → ⊥
     clash e f = absurd (cc)
+
+-- ---- another place in the round
+
+-- a worker that looks from another place in its round explores as before
+pub explores_placed : {P : Type 0} (x : Explorer P) (r : Progress) → IsExploring x → r.learnt ≡ x.round.learnt → IsUnderWay r x.frame.store → IsExploring (record x { round = r })
+explores_placed x r h learnt way = record {
+  sound = h.sound;
+  running = h.running;
+  scope = h.scope;
+  budget = h.budget;
+  conflicts = h.conflicts;
+  imported = h.imported;
+  within = h.within;
+  agreed = h.agreed;
+  variables = h.variables;
+  few_variables = h.few_variables;
+  rounds = h.rounds;
+  tally = omega (arith, h.tally, learnt_same x.in_round x.in_round x.round r refl learnt);
+  between = h.between;
+  under_way = λ _ _. way;
+}
+
+-- it began as many levels
+pub begun_same : (r u : Progress) (n : ℕ) → u.assumed ≡ r.assumed → u.held ≡ r.held → begun r ≡ n → begun u ≡ n
+begun_same r u n assumed held is = ap (λ (k : ℕ). max k u.held) assumed ∙ ap (λ (k : ℕ). max r.assumed k) held ∙ is

@@ -7,3 +7,4 @@ pub mod Learning
 pub mod Counting
 pub mod Lasting
 pub mod Viewing
+pub mod Firsts

@@ -98,6 +98,10 @@ room_after left later wanted g e passed_now = few_wanted later wanted g (ap (λ 
 pub words_after : (left later : ℕ) (g h all : Lcg) → left ≡ suc later → after_words left g ≡ all → h ≡ after_word g → after_words later h ≡ all
 words_after left later g h all e is after = ap (λ (d : Lcg). after_words later d) after ∙ ap (λ (n : ℕ). after_words n g) (sym e) ∙ is
 
+-- the words that are drawn
+pub words_done : (left : ℕ) (g all : Lcg) → left ≡ 0 → after_words left g ≡ all → g ≡ all
+words_done left g all e is = ap (λ (n : ℕ). after_words n g) (sym e) ∙ is
+
 -- a sample that is drawn
 pub none_left : (chosen : List ℕ) (all : List ℕ) (left first wanted : ℕ) (g : Lcg) → left ≡ 0 → chosen ++ sampled left first wanted g ≡ all → chosen ≡ all
 none_left chosen all left first wanted g e is = sym (append_nil chosen) ∙ ap (λ (n : ℕ). chosen ++ sampled n first wanted g) (sym e) ∙ is

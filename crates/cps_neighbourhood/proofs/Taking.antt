@@ -23,12 +23,13 @@ use Rattle.cps_search.specs.declared.turn.Turn.{Turn}
 use Rattle.cps_search.specs.declared.turn.Turn.TheVariants as turns
 use Rattle.cps_search.specs.Following.{MovesWith}
 use Rattle.cps_search.specs.Moves.{decided, moved}
+use Rattle.cps_search.specs.Rounds.{EndsRounds}
 use Rattle.cps_search.specs.Searches.{IsSoundSearch, Search}
 use Rattle.cps_search.specs.Turns.{Caused, IsInferredAt, IsLess, IsOnward, Steps, TookNothing}
 use Rattle.cps_search.specs.Ends.{DecidedOne, Decides, IsOver, Lowers, fewer_rows, fewer_values, lesser_z, round_conflicts, round_count}
 use Rattle.cps_search.proofs.Bounds.{below_less, less_than}
 use Rattle.cps_search.proofs.Moving.{saw_open, turn_moves}
-use Rattle.cps_search.proofs.Turning.{setting_of, setting_trans}
+use Rattle.cps_search.proofs.Turning.{setting_of, setting_trans, stays_there}
 use Rattle.cps_search.proofs.Working.{decided_one, imported_few, same_back}
 use Rattle.cps_neighbourhood.specs.declared.explorer.Explorer.{Explorer}
 use Rattle.cps_neighbourhood.specs.declared.round.Progress.{Progress}
@@ -209,3 +210,44 @@ explores_other x y rows p q turn h running sound steps not taken small brancher 
     (omega (arith, other_tally x.frame y.frame rows p q turn not steps.cause, h.tally, ap (λ (n : ℕ). round_conflicts * n) rounds, learnt_same x.in_round y.in_round x.round y.round in_round learnt))
     (λ off. (let none = h.between (sym in_round ∙ off) in omega (arith, steps.store.level, none)))
     (λ run on. other_way x.frame y.frame rows p q turn x.round y.round not steps.cause run decisions learnt assumed held place (h.under_way running (sym in_round ∙ on)))
+
+-- ---- all rounds are done
+
+-- the worker looks at the bounds and ends
+done_search : (s f : Search) (p q : Part) (turn : Turn) → EndsRounds s f p q turn → (f.imported ≡ s.imported) × (f.tally ≡ s.tally) × IsOver f.phase
+done_search s f p q turns.SawClosed h =
+    let e = h.cause.same in
+    (ap (λ (x : Search). x.imported) e, ap (λ (x : Search). x.tally) e, subst (λ (x : Phase). IsOver x) (sym (ap (λ (x : Search). x.phase) e)) tt)
+done_search s f p q turns.RoundsDone h =
+    let e = h.cause.is in
+    (ap (λ (x : Search). x.imported) e, ap (λ (x : Search). x.tally) e, subst (λ (x : Phase). IsOver x) (sym (ap (λ (x : Search). x.phase) e)) tt)
+done_search s f p q turns.Imported h = absurd h.cause
+done_search s f p q turns.Decided h = absurd h.cause
+done_search s f p q turns.Learnt h = absurd h.cause
+done_search s f p q turns.Found h = absurd h.cause
+done_search s f p q turns.Exhausted h = absurd h.cause
+done_search s f p q (turns.Spent clause below) h = absurd h.cause
+done_search s f p q (turns.Reformed base) h = absurd h.cause
+
+pub turn_done : (s : Near) (f : Search) (rows : ℕ) (p q : Part) (turn : Turn) → s.rounds ≡ round_count s.conflicts → EndsRounds s.search f p q turn → TakesNearTurn s (record s { search = f }) rows p q turn
+turn_done s f rows p q turns.SawClosed all h =
+    let same : SameRounds s (record s { search = f }) = record { rounds = refl; round = refl; draws = refl; brancher = refl } in
+    record { setting = h.setting; conflicts = refl; aim = refl; store = λ _. stays_there s.search.store f.store h.store; cause = (h.cause, same); moves = h.moves; ends = ap (λ (x : Search). x.phase) h.cause.same; lowers = λ e. absurd (cc e) }
+turn_done s f rows p q turns.RoundsDone all h =
+    let same : SameRounds s (record s { search = f }) = record { rounds = refl; round = refl; draws = refl; brancher = refl } in
+    record { setting = h.setting; conflicts = refl; aim = refl; store = λ _. stays_there s.search.store f.store h.store; cause = (all, h.cause, same); moves = h.moves; ends = ap (λ (x : Search). x.phase) h.cause.is; lowers = λ e. absurd (cc e) }
+turn_done s f rows p q turns.Imported all h = absurd h.cause
+turn_done s f rows p q turns.Decided all h = absurd h.cause
+turn_done s f rows p q turns.Learnt all h = absurd h.cause
+turn_done s f rows p q turns.Found all h = absurd h.cause
+turn_done s f rows p q turns.Exhausted all h = absurd h.cause
+turn_done s f rows p q (turns.Spent clause below) all h = absurd h.cause
+turn_done s f rows p q (turns.Reformed base) all h = absurd h.cause
+
+pub explores_done : {P : Type 0} (x : Explorer P) (f : Search) (p q : Part) (turn : Turn) → IsExploring x → IsSoundSearch f → EndsRounds x.frame f p q turn → IsExploring (record x { frame = f })
+explores_done x f p q turn h sound k =
+    let d = done_search x.frame f p q turn k in
+    explores_on x (record x { frame = f }) h sound k.setting (omega (arith, d.0, h.imported)) refl refl refl
+    (omega (arith, h.within, ap (λ (t : Trail). length t.entries) k.store))
+    (subst (λ (t : Trail). AreFixedAside (length x.brancher.activities) x.brancher.aside t x.kept) (sym k.store) h.agreed)
+    h.rounds (omega (arith, d.1, h.tally)) (λ off. ap (λ (t : Trail). t.level) k.store ∙ h.between off) (λ not _. absurd (not d.2))

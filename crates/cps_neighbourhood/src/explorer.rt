@@ -197,31 +197,7 @@ impl<'a, P: Propagator> Explorer<'a, P> {
         }
     }
 
-    /// Ends the round: goes back to level 0.
-    fn end_round(&mut self)
-        requires few { self.old.rounds < 2 ^ 32 }
-        ensures ends { RoundEnds self.old self.new }
-        ensures rest { KeepsRest self.old self.new }
-        ensures brancher { (self.new.brancher ≡ self.old.brancher) × (self.new.kept ≡ self.old.kept) }
-        ensures sound { self.old.frame.refused ≡ false → IsSoundSearch self.new.frame }
-    {
-        self.frame.restart();
-        self.rounds += 1;
-        self.in_round = false;
-    }
-
-    /// Goes on in the round after one more clause was learnt.
-    fn go_on(&mut self)
-        requires few { self.old.round.learnt < round_conflicts }
-        ensures goes_on { RoundGoesOn self.old self.new }
-        ensures rest { KeepsRest self.old self.new }
-        ensures brancher { (self.new.brancher ≡ self.old.brancher) × (self.new.kept ≡ self.old.kept) }
-    {
-        self.round.learnt += 1;
-        self.round.go_back(self.frame.store().level());
-    }
-
-    /// Ends the round with the clause that was learnt last, or goes on.
+    /// Ends the round with the clause that was learnt last, and goes back to level 0; or goes on in it.
     fn end_or_go_on(&mut self)
         requires few { self.old.rounds < 2 ^ 32 }
         requires learnt { self.old.round.learnt < round_conflicts }
@@ -231,10 +207,13 @@ impl<'a, P: Propagator> Explorer<'a, P> {
         ensures brancher { (self.new.brancher ≡ self.old.brancher) × (self.new.kept ≡ self.old.kept) }
         ensures sound { self.old.frame.refused ≡ false → IsSoundSearch self.old.frame → IsSoundSearch self.new.frame }
     {
-        if self.round.is_ended_at(self.frame.store().level()) {
-            self.end_round();
+        let back = self.frame.store().level();
+        if self.round.is_ended_at(back) {
+            self.frame.restart();
+            self.rounds += 1;
+            self.in_round = false;
         } else {
-            self.go_on();
+            self.round.go_on(back);
         }
     }
 
@@ -272,8 +251,9 @@ impl<'a, P: Propagator> Explorer<'a, P> {
         ensures learnt { self.new.round.learnt ≡ self.old.round.learnt }
         ensures same { (self.new.aim ≡ self.old.aim) × (self.new.in_round ≡ self.old.in_round) }
     {
-        self.kept = still_kept(self.frame.store(), self.kept);
-        self.round.go_back(self.frame.store().level());
+        let store = self.frame.store();
+        self.kept = still_kept(store, self.kept);
+        self.round.go_back(store.level());
     }
 
     /// Takes one turn. If all rounds are done it is the last one, which only looks at the two bounds.

@@ -198,6 +198,19 @@ impl Progress {
         self.learnt + 1 == ROUND_CONFLICTS || back < self.held
     }
 
+    /// Goes on after one more clause was learnt, with what is left where the search went back to a level.
+    pub fn go_on(&mut self, level: usize)
+        requires few { self.old.learnt < round_conflicts }
+        ensures assumed { self.new.assumed ≡ min self.old.assumed level }
+        ensures held { self.new.held ≡ held_to self.old level }
+        ensures place { self.new.place ≡ 0 }
+        ensures decisions { self.new.decisions.items ≡ self.old.decisions.items }
+        ensures learnt { self.new.learnt ≡ self.old.learnt + 1 }
+    {
+        self.learnt += 1;
+        self.go_back(level);
+    }
+
     /// Keeps what is left where the search went back to a level.
     pub fn go_back(&mut self, level: usize)
         ensures assumed { self.new.assumed ≡ min self.old.assumed level }

@@ -7,3 +7,4 @@ pub mod Holding
 pub mod Explaining
 pub mod Barring
 pub mod Tasks
+pub mod Reading

@@ -211,6 +211,15 @@ fn add_full(full: &mut Vec<Interval>, interval: Interval) -> Result<(), AllocErr
     Ok(())
 }
 
+/// So many zeros.
+fn clear_values(values: &mut Vec<i64>, count: usize) -> Result<(), AllocError> {
+    values.clear();
+    for _ in 0..count {
+        values.push(0)?;
+    }
+    Ok(())
+}
+
 /// An interval seen from the other side of 0.
 fn mirror(interval: &Interval) -> Interval {
     Interval {
@@ -282,22 +291,24 @@ impl Finder {
         Ok(None)
     }
 
+    /// Makes ready for a sweep from a side: sorts the jobs by their ends, and makes each slot free.
+    fn prepare(&mut self, ends: &[Interval], side: Side) -> Result<(), AllocError> {
+        begin(ends, side, &mut self.jobs)?;
+        self.jobs.sort_unstable_by_key(|job| job.low);
+        lay_out(self.jobs.as_mut_slice(), &mut self.slots.numbers)?;
+        self.jobs.sort_unstable_by_key(|job| job.high);
+        self.slots.free_all()
+    }
+
     /// One sweep from a side: an interval that is crowded, or full intervals that hold an end of another position.
     fn sweep_from(
         &mut self,
         ends: &[Interval],
         side: Side,
     ) -> Result<Option<Interval>, AllocError> {
-        begin(ends, side, &mut self.jobs)?;
-        self.jobs.sort_unstable_by_key(|job| job.low);
-        lay_out(self.jobs.as_mut_slice(), &mut self.slots.numbers)?;
-        self.jobs.sort_unstable_by_key(|job| job.high);
-        self.slots.free_all()?;
+        self.prepare(ends, side)?;
         self.full.clear();
-        self.values.clear();
-        for _ in ends {
-            self.values.push(0)?;
-        }
+        clear_values(&mut self.values, ends.len())?;
         for next in 0..ends.len() {
             let job = match self.jobs.get(next) {
                 Some(job) => *job,

@@ -18,7 +18,8 @@ use Rattle.cps_p_circuit.specs.Graphs.{number, arc_at, arcs_by, IsRound, IsNumbe
 use Rattle.cps_p_circuit.specs.Showing.{taken_at, body_by}
 use Rattle.cps_p_circuit.proofs.Arcs.{found, mapped}
 
-none_taken : (nodes : List ℤ) (from to : List ℕ) → arcs_by nodes from to [] ≡ []
+-- where none is known, no arc is taken
+pub none_taken : (nodes : List ℤ) (from to : List ℕ) → arcs_by nodes from to [] ≡ []
 none_taken nodes [] to = refl
 none_taken nodes (a ∷ fs) [] = refl
 none_taken nodes (a ∷ fs) (b ∷ hs) = refl

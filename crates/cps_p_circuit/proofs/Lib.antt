@@ -4,3 +4,6 @@ pub mod Sorting
 pub mod Deciding
 pub mod Showing
 pub mod Tasks
+pub mod Passing
+pub mod Answering
+pub mod Literals

@@ -120,6 +120,14 @@ fn reset(degrees: &mut Vec<Degree>, nodes: usize) -> Result<(), AllocError> {
     Ok(())
 }
 
+/// That an arc is not taken, by a claim.
+fn untaken(arc: usize, claim: Claim) -> Candidate {
+    Candidate {
+        sign: Sign { arc, holds: false },
+        hint: hint_of(claim),
+    }
+}
+
 /// What a node's degree alone gives: the last open arc is taken, or none is left.
 fn last_open(degree: Degree, claim: Claim) -> Option<Candidate> {
     if degree.any == 0 || degree.taken != 0 || degree.count != 1 || degree.open == 0 {
@@ -178,8 +186,30 @@ impl Finder {
         }
     }
 
-    /// Proposes that an open arc beside a taken one is not taken.
-    fn exclude(&mut self, graph: &Graph, k: usize) -> Result<(), AllocError>
+    /// Counts the arcs at each node, and sees which are not taken.
+    fn count_all(
+        &mut self,
+        graph: &Graph,
+        literals: &[Atom],
+        store: &Store,
+    ) -> Result<(), AllocError>
+        requires { All (λ i. i < length store.now.first) (atom_subjects literals.now) }
+    {
+        let nodes = graph.nodes.len();
+        reset(&mut self.out, nodes)?;
+        reset(&mut self.into, nodes)?;
+        clear_slots(&mut self.loops, nodes)?;
+        let arcs = graph.arcs().min(literals.len());
+        clear_slots(&mut self.shut, arcs)?;
+        for k in 0..arcs {
+            let truth = store.truth(literals[k]);
+            self.count(graph, k, truth);
+        }
+        Ok(())
+    }
+
+    /// That an open arc is not taken, if it is beside a taken one or closes a chain.
+    fn exclude(&self, graph: &Graph, k: usize) -> Option<Candidate>
         requires tail { k < length graph.now.from.items }
         requires head { k < length graph.now.to.items }
     {
@@ -192,14 +222,7 @@ impl Finder {
         } else {
             return self.avoid(graph, k);
         };
-        self.candidates.push(Candidate {
-            sign: Sign {
-                arc: k,
-                holds: false,
-            },
-            hint: hint_of(claim),
-        })?;
-        Ok(())
+        Some(untaken(k, claim))
     }
 
     /// The taken arc that leaves a node and is no loop, counted from 1; 0 where there is none.
@@ -311,25 +334,18 @@ impl Finder {
         }
     }
 
-    /// Proposes that an open arc does not close a chain beside which a node is on the circuit.
-    fn avoid(&mut self, graph: &Graph, k: usize) -> Result<(), AllocError> {
+    /// That an open arc is not taken, if it closes a chain beside which a node is on the circuit.
+    fn avoid(&self, graph: &Graph, k: usize) -> Option<Candidate> {
         let start = head_of(graph, k);
         let label = slot_at(self.first.as_slice(), tail_of(graph, k));
         let by = self.next_of(graph, start);
         if label == 0 || label - 1 != start || by == 0 {
-            return Ok(());
+            return None;
         }
-        let Some(outer) = self.outside(label) else {
-            return Ok(());
-        };
-        self.candidates.push(Candidate {
-            sign: Sign {
-                arc: k,
-                holds: false,
-            },
-            hint: hint_of(Claim::Tour(Subtour { arc: by - 1, outer })),
-        })?;
-        Ok(())
+        match self.outside(label) {
+            Some(outer) => Some(untaken(k, Claim::Tour(Subtour { arc: by - 1, outer }))),
+            None => None,
+        }
     }
 
     /// Sees that a node is parted from one that is surely on the circuit: if it is on the circuit too, that is a
@@ -405,7 +421,7 @@ impl Finder {
         Ok(())
     }
 
-    /// Looks at all open arcs.
+    /// Proposes which open arcs are not taken.
     fn exclude_all(
         &mut self,
         graph: &Graph,
@@ -418,7 +434,9 @@ impl Finder {
         for k in 0..arcs {
             let truth = store.truth(literals[k]);
             if let Truth::Undecided = truth {
-                self.exclude(graph, k)?;
+                if let Some(candidate) = self.exclude(graph, k) {
+                    self.candidates.push(candidate)?;
+                }
             }
         }
         Ok(())
@@ -436,17 +454,8 @@ impl Finder {
     {
         self.candidates.clear();
         self.conflict = None;
-        let nodes = graph.nodes.len();
-        reset(&mut self.out, nodes)?;
-        reset(&mut self.into, nodes)?;
-        clear_slots(&mut self.loops, nodes)?;
-        let arcs = graph.arcs().min(literals.len());
-        clear_slots(&mut self.shut, arcs)?;
-        for k in 0..arcs {
-            let truth = store.truth(literals[k]);
-            self.count(graph, k, truth);
-        }
-        self.require_all(nodes)?;
+        self.count_all(graph, literals, store)?;
+        self.require_all(graph.nodes.len())?;
         self.follow_all(graph)?;
         self.part(graph, links)?;
         self.exclude_all(graph, literals, store)

@@ -1,8 +1,8 @@
 -- What spans demand in a window of times, summed over them.
 use Rattle.std.specs.Prelude.{Option, Some, None}
 use Rattle.std.specs.List.{list_all}
-use Rattle.std.proofs.Common.{ℕ, zero, suc, inl, inr, drop, length, ◌≤◌, ℤ, pos, negsuc, ◌^◌, FitsSigned, w64, ◌+ℤ◌, ◌*ℤ◌, ◌≤ℤ◌, ◌<ℤ◌, ◌≡◌, ◌⊎◌, true, List, ◌∷◌, unsigned_abs, refl, sym, ◌∙◌, ap, subst, arith}
-use Rattle.std.proofs.lemmas.Int.{ints, fits_signed_mul, fits_signed_from_abs}
+use Rattle.std.proofs.Common.{ℕ, zero, suc, inl, inr, drop, length, ◌≤◌, ℤ, pos, negsuc, ◌^◌, FitsSigned, w64, to_z, of_z, ◌+ℤ◌, ◌*ℤ◌, ◌≤ℤ◌, ◌<ℤ◌, ◌≡◌, ◌⊎◌, true, List, ◌∷◌, unsigned_abs, refl, sym, ◌∙◌, ap, subst, arith}
+use Rattle.std.proofs.lemmas.Int.{ints, to_z-of_z, fits_signed_mul, fits_signed_from_abs}
 use mir.Syntax.{w128}
 use Rattle.std.proofs.Math.IntN.{zero-*ℤ, *ℤ-zero}
 use Rattle.cps_model.proofs.Sums.{unsigned_abs-add}
@@ -10,6 +10,7 @@ use Rattle.cps_domain.proofs.Products.{next_times, times_grows, size_times}
 use Rattle.cps_literal.specs.Truth.{value_at, atom_holds}
 use Rattle.cps_instance.specs.declared.task.Span.{Span}
 use Rattle.cps_instance.specs.Parts.{span_end}
+use Rattle.cps_trail.specs.Trail.{IsInside}
 use Rattle.cps_p_cumulative.specs.declared.charge.Stay.{Stay}
 use Rattle.cps_p_cumulative.specs.Running.{demand_of, demands_at, energy_of, energies}
 use Rattle.cps_p_cumulative.specs.Relying.{IsLong, IsStay, IsActiveBetween}
@@ -53,6 +54,47 @@ sum-fits a b f g = fits_signed_from_abs w128 (a +ℤ b) (
     let q = number_size b g in
     let r = unsigned_abs-add a b in
     omega arith)
+
+-- a number of 64 bits, read in 128, and what is made of two
+pub wide_is : (a x : ℤ) → FitsSigned w64 a → x ≡ to_z w64 (of_z w64 a) → to_z w128 (of_z w128 x) ≡ a
+wide_is a x f p =
+    let e : x ≡ a = p ∙ to_z-of_z w64 a f in
+    rw e (to_z-of_z w128 a (fits-wide a f))
+
+pub wide_same : (a x : ℤ) → FitsSigned w64 a → x ≡ to_z w64 (of_z w64 a) → to_z w128 (of_z w128 x) ≡ to_z w64 (of_z w64 a)
+wide_same a x f p = wide_is a x f p ∙ sym (to_z-of_z w64 a f)
+
+pub wide_sum_fits : (a b x y : ℤ) → FitsSigned w64 a → FitsSigned w64 b → x ≡ to_z w64 (of_z w64 a) → y ≡ to_z w64 (of_z w64 b) → FitsSigned w128 (to_z w128 (of_z w128 x) +ℤ to_z w128 (of_z w128 y))
+wide_sum_fits a b x y f g p q = subst (λ (z : ℤ). FitsSigned w128 (z +ℤ to_z w128 (of_z w128 y))) (sym (wide_is a x f p)) (subst (λ (z : ℤ). FitsSigned w128 (a +ℤ z)) (sym (wide_is b y g q)) (sum-fits a b f g))
+
+pub wide_sum : (a b x y : ℤ) → FitsSigned w64 a → FitsSigned w64 b → x ≡ to_z w64 (of_z w64 a) → y ≡ to_z w64 (of_z w64 b) → to_z w128 (of_z w128 (to_z w128 (of_z w128 x) +ℤ to_z w128 (of_z w128 y))) ≡ a +ℤ b
+wide_sum a b x y f g p q = to_z-of_z w128 (to_z w128 (of_z w128 x) +ℤ to_z w128 (of_z w128 y)) (wide_sum_fits a b x y f g p q) ∙ ap (λ (z : ℤ). z +ℤ to_z w128 (of_z w128 y)) (wide_is a x f p) ∙ ap (λ (z : ℤ). a +ℤ z) (wide_is b y g q)
+
+pub wide_next_fits : (a x : ℤ) → FitsSigned w64 a → x ≡ to_z w64 (of_z w64 a) → FitsSigned w128 (to_z w128 (of_z w128 x) +ℤ pos 1)
+wide_next_fits a x f p = subst (λ (z : ℤ). FitsSigned w128 (z +ℤ pos 1)) (sym (wide_is a x f p)) (fits_signed_from_abs w128 (a +ℤ pos 1) (
+    let s = number_size a f in
+    let r = unsigned_abs-add a (pos 1) in
+    omega arith))
+
+pub wide_next : (a x : ℤ) → FitsSigned w64 a → x ≡ to_z w64 (of_z w64 a) → to_z w128 (of_z w128 (to_z w128 (of_z w128 x) +ℤ pos 1)) ≡ a +ℤ pos 1
+wide_next a x f p = to_z-of_z w128 (to_z w128 (of_z w128 x) +ℤ pos 1) (wide_next_fits a x f p) ∙ ap (λ (z : ℤ). z +ℤ pos 1) (wide_is a x f p)
+
+pub wide_times_fits : (a b x y : ℤ) → FitsSigned w64 a → FitsSigned w64 b → x ≡ to_z w64 (of_z w64 a) → y ≡ to_z w64 (of_z w64 b) → FitsSigned w128 (to_z w128 (of_z w128 x) *ℤ to_z w128 (of_z w128 y))
+wide_times_fits a b x y f g p q = subst (λ (z : ℤ). FitsSigned w128 (z *ℤ to_z w128 (of_z w128 y))) (sym (wide_is a x f p)) (subst (λ (z : ℤ). FitsSigned w128 (a *ℤ z)) (sym (wide_is b y g q)) (energy-fits a b f g))
+
+pub wide_times : (a b x y : ℤ) → FitsSigned w64 a → FitsSigned w64 b → x ≡ to_z w64 (of_z w64 a) → y ≡ to_z w64 (of_z w64 b) → to_z w128 (of_z w128 (to_z w128 (of_z w128 x) *ℤ to_z w128 (of_z w128 y))) ≡ a *ℤ b
+wide_times a b x y f g p q = to_z-of_z w128 (to_z w128 (of_z w128 x) *ℤ to_z w128 (of_z w128 y)) (wide_times_fits a b x y f g p q) ∙ ap (λ (z : ℤ). z *ℤ to_z w128 (of_z w128 y)) (wide_is a x f p) ∙ ap (λ (z : ℤ). a *ℤ z) (wide_is b y g q)
+
+-- the number after a value that a subject may have
+pub next_fits : (v : ℤ) → IsInside v → FitsSigned w64 (v +ℤ pos 1)
+next_fits v h = fits_signed_from_abs w64 (v +ℤ pos 1) (
+    let p = inside_size v h in
+    let q = unsigned_abs-add v (pos 1) in
+    omega arith)
+  where
+    inside_size : (n : ℤ) → IsInside n → unsigned_abs n ≤ 2 ^ 62
+    inside_size (pos n) i = let g = i.high in omega (arith, ints)
+    inside_size (negsuc n) i = let g = i.low in omega (arith, ints)
 
 -- one span more
 pub energies-cons : (xs : List ℤ) (t : ℤ) (n : ℕ) (p : Span) (d : ℕ) (ps : List Span) (ds : List ℕ) → energies xs t n (p ∷ ps) (d ∷ ds) ≡ energy_of xs t n p d +ℤ energies xs t n ps ds

@@ -12,6 +12,8 @@ use Rattle.cps_model.proofs.Inside.{unsigned_abs-neg}
 use Rattle.cps_model.proofs.Sums.{unsigned_abs-add}
 use Rattle.cps_literal.specs.declared.atom.Atom.{Atom}
 use Rattle.cps_literal.specs.declared.atom.Op.TheVariants.{Le, Ge}
+use Rattle.cps_literal.specs.declared.atom.Truth.{Truth}
+use Rattle.cps_literal.specs.declared.atom.Truth.TheVariants.{Yes, No, Undecided}
 use Rattle.cps_literal.specs.Truth.{meets, value_at, atom_holds}
 use Rattle.cps_instance.specs.Tasks.{HoldsBody}
 use Rattle.cps_instance.proofs.Agreeing.{All-append_left, All-append_right}
@@ -72,6 +74,18 @@ active_false s m u e h never = record {
 
 pub active_fixed : (s : Trail) (m : Move) (v : Bool) → IsActiveSure s m v → IsActiveFixed s m v
 active_fixed s m v h = record { sure = λ xs o f. h.sure xs o; may = h.may }
+
+-- what is true is not false
+abbrev is_yes_truth : Truth → Bool
+is_yes_truth Yes = true
+is_yes_truth No = false
+is_yes_truth Undecided = false
+
+pub yes_not_no : Yes ≡ No → ⊥
+yes_not_no e = true≢false (ap is_yes_truth e)
+
+pub no_not_yes : No ≡ Yes → ⊥
+no_not_yes e = true≢false (sym (ap is_yes_truth e))
 
 either : (b : Bool) → (b ≡ true → ⊥) → b ≡ false
 either true f = absurd (f refl)
@@ -252,6 +266,10 @@ level_more s t side ms k m v w x l is h i e =
     subst (λ (ns : List Move). IsLevel s t side ns x) (sym (take_more ms k m l))
     (level_last s t side (take k ms) (get_or ms k m) v w x h (subst (λ (n : Move). IsShare s t side n w) is i) e)
 
+-- the level of all
+pub level_all : (s : Trail) (t : ℤ) (side : Side) (ms : List Move) (k : ℕ) (v w : ℤ) → length ms ≤ k → w ≡ v → IsLevel s t side (take k ms) v → IsLevel s t side ms w
+level_all s t side ms k v w l e h = subst (λ (x : ℤ). IsLevel s t side ms x) (sym e) (subst (λ (ns : List Move). IsLevel s t side ns v) (take_all k ms l) h)
+
 -- the tank's events over the subjects of a store
 pub tank_inside : (first : Domains) (k : Tank) → IsFittingRule first (tank_body k) → IsTankOf first k
 tank_inside first k h = moves_all (λ i. i < length first) k h.subjects
@@ -337,6 +355,15 @@ rest-absent first t m u n inside e same denies = record {
     unnot true h = cc
     unnot false h = refl
 
+-- and one by which it comes later
+pub rest-later : (first : Domains) (t after : ℤ) (m : Move) (u : Atom) → IsMoveOf first m → u ≡ record { subject = m.time; op = Ge; value = after } → t <ℤ after → IsRest first t m u
+rest-later first t after m u inside is l = record {
+  subject = subst (λ (a : Atom). a.subject < length first) (sym is) (on_time (λ i. i < length first) m inside);
+  gives = λ xs holds.
+      let a = true_le after (value_at xs m.time) (subst (λ (v : Atom). atom_holds xs v ≡ true) is holds) in
+      and_false (is_active xs m.active) (int_le (value_at xs m.time) t) (le_false (value_at xs m.time) t (omega (arith, ints)));
+}
+
 -- that an event has taken place
 pub acted-relied : (s : Trail) (a : Atom) (t : ℤ) (m : Move) (u : Atom) (old mid new : List Atom) → u ≡ record { subject = m.time; op = Le; value = t } → Relies s a (λ xs. is_active xs m.active ≡ true) old mid → Relies s a (λ xs. atom_holds xs u ≡ true) mid new
     → Relies s a (λ xs. has_acted xs t m ≡ true) old new
@@ -348,6 +375,11 @@ pub added-least : (s : Trail) (a : Atom) (side : Side) (t v had : ℤ) (m : Move
     → Relies s a (IsAdded side t m v) old new
 added-least s a side t v had m u old new e low bound h = Relies-so s a (λ xs. atom_holds xs u ≡ true) (IsAdded side t m v) old new h
     (λ xs w b. record { added = subst (λ (x : ℤ). x ≤ℤ share_of side xs t m) e (at_least_share side xs t had m (bound.gives xs b) low) })
+
+-- nothing, where it rests
+pub added-rest : (s : Trail) (a : Atom) (side : Side) (t v : ℤ) (m : Move) (u : Atom) (old new : List Atom) → pos 0 ≡ v → IsRest s.first t m u → Relies s a (λ xs. atom_holds xs u ≡ true) old new → Relies s a (IsAdded side t m v) old new
+added-rest s a side t v m u old new e rest h = Relies-so s a (λ xs. atom_holds xs u ≡ true) (IsAdded side t m v) old new h
+    (λ xs w b. record { added = (let f = share_rests side xs t m (rest.gives xs b) in omega (arith, ints)) })
 
 pub added-acted : (s : Trail) (a : Atom) (side : Side) (t v had : ℤ) (m : Move) (u : Atom) (old mid new : List Atom) → had ≡ v → IsTowardBound side m.change had u → Relies s a (λ xs. atom_holds xs u ≡ true) old mid → Relies s a (λ xs. has_acted xs t m ≡ true) mid new
     → Relies s a (IsAdded side t m v) old new
@@ -402,6 +434,10 @@ active-free s a o us e f = subst (λ (p : Option Atom). Relies s a (λ xs. is_ac
 pub ok_true : (r : Result Bool AllocError) (b : Bool) → r ≡ Ok b → b ≡ true → r ≡ Ok true
 ok_true r b e f = e ∙ ap (λ v. Ok v) f
 
+-- a result by what was taken from it
+pub ok_is : {A : Type 0} (r : Result A AllocError) (x y : A) → r ≡ Ok x → x ≡ y → r ≡ Ok y
+ok_is r x y e f = e ∙ ap (λ v. Ok v) f
+
 -- a result that is no `Ok true`, and one that is no `Ok (Some _)`
 abbrev pub is_yes : Result Bool AllocError → Bool
 is_yes (Ok b) = b
@@ -418,5 +454,19 @@ is_number (Err e) = false
 pub no_number : (P : Type 0) (r : Result (Option ℤ) AllocError) (v : ℤ) → r ≡ Ok (Some v) → is_number r ≡ false → P
 no_number P r v is not = absurd (true≢false (sym (ap is_number is) ∙ not))
 
+-- and one that is no `Ok None`
+abbrev pub is_nothing : {A : Type 0} → Result (Option A) AllocError → Bool
+is_nothing (Ok None) = true
+is_nothing (Ok (Some v)) = false
+is_nothing (Err e) = false
+
+pub no_none : {A : Type 0} (P : Type 0) (r : Result (Option A) AllocError) → r ≡ Ok None → is_nothing r ≡ false → P
+no_none P r is not = absurd (true≢false (sym (ap is_nothing is) ∙ not))
+
+-- what is found is not none
+pub no_some : {A : Type 0} (P : Type 0) (x : A) → ◌≡◌ {A = Option A} (Some x) None → P
+no_some P x e = absurd (cc e)
+
+-- and a failure is no success
 pub no_err : {T : Type 0} (P : Type 0) (r : Result T AllocError) (v : T) → r ≡ Ok v → IsErr r → P
 no_err P r v is err = absurd (true≢false (sym err ∙ ap is_err is))

@@ -7,3 +7,4 @@ pub mod Summing
 pub mod Moves
 pub mod Rising
 pub mod Levelled
+pub mod Negating

@@ -4,7 +4,7 @@ use Rattle.std.specs.Prelude.{int_le, int_lt, Option, Some, None}
 use Rattle.std.specs.List.{list_all, All}
 use Rattle.std.proofs.lemmas.Int.{ints}
 use Rattle.std.proofs.lemmas.List.{drop_more, drop_all}
-use Rattle.std.proofs.lemmas.List.Elements.{All-push, All-head, All-tail}
+use Rattle.std.proofs.lemmas.List.Elements.{All-nil, All-push, All-head, All-tail}
 use Rattle.std.proofs.lemmas.List.Sums.{sum_by_push}
 use Rattle.cps_domain.proofs.Tests.{true_le, le_true, first_of_both, second_of_both, both}
 use Rattle.cps_literal.specs.declared.atom.Atom.{Atom}
@@ -42,6 +42,21 @@ measured-bare s p d from to e none = subst (λ (x : ℤ). IsPartMeasured s p d (
 -- where a span of a length ends at least
 pub ends-some : (s : Trail) (t : ℤ) (start end : ℕ) (length : Option ℤ) (far low v : ℤ) → length ≡ Some far → ((x : ℤ) → IsOpenTo s start x → low ≤ℤ x) → t <ℤ v → v ≡ low +ℤ far → EndsAfter s t start end length
 ends-some s t start end length far low v e least l same = subst (λ (o : Option ℤ). EndsAfter s t start end o) (sym e) (λ x o. (let a = least x o in omega (arith, ints)))
+
+-- and any other span
+pub ends-none : (s : Trail) (t : ℤ) (start end : ℕ) (length : Option ℤ) (low v : ℤ) → length ≡ None → ((x : ℤ) → IsOpenTo s end x → low ≤ℤ x) → t <ℤ v → v ≡ low → EndsAfter s t start end length
+ends-none s t start end length low v e least l same = subst (λ (o : Option ℤ). EndsAfter s t start end o) (sym e) (λ x o. (let a = least x o in omega (arith, ints)))
+
+-- and it ends there
+pub some-ends : (s : Trail) (t : ℤ) (start end : ℕ) (length : Option ℤ) (far low v : ℤ) → length ≡ Some far → IsOpenTo s start low → v ≡ low +ℤ far → EndsAfter s t start end length → t <ℤ v
+some-ends s t start end length far low v e reached same h =
+    let after : EndsAfter s t start end (Some far) = subst (λ (o : Option ℤ). EndsAfter s t start end o) e h in
+    subst (λ (z : ℤ). t <ℤ z) (sym same) (after low reached)
+
+pub none-ends : (s : Trail) (t : ℤ) (start end : ℕ) (length : Option ℤ) (low v : ℤ) → length ≡ None → IsOpenTo s end low → v ≡ low → EndsAfter s t start end length → t <ℤ v
+none-ends s t start end length low v e reached same h =
+    let after : EndsAfter s t start end None = subst (λ (o : Option ℤ). EndsAfter s t start end o) e h in
+    subst (λ (z : ℤ). t <ℤ z) (sym same) (after low reached)
 
 present_at : (s : Trail) (xs : List ℤ) (us : List Atom) → All (λ u. u.subject < length s.first) us → All (IsTrueNow s) us → IsAdmitted s.first s.entries xs → list_all (atom_holds xs) us ≡ true
 present_at s xs [] inside now admitted = refl
@@ -108,6 +123,14 @@ pub record IsProfileTo (s : Trail) (ps : List Span) (ds : List ℕ) (k : ℕ) (p
   pub whole : (t load : ℤ) → IsLoadOfSome s t ps ds load → (rest : ℤ) × IsLoadOfSome s t (drop k ps) (drop k ds) rest × (load ≤ℤ (pos (height t parts) +ℤ rest))
   pub sound : (t : ℤ) (xs : List ℤ) → IsAdmitted s.first s.entries xs → AreSome xs ds → (pos (height t parts) +ℤ demands_at xs t (drop k ps) (drop k ds)) ≤ℤ demands_at xs t ps ds
   pub good : AreParts parts
+
+-- no span so far
+pub profile-begun : (s : Trail) (ps : List Span) (ds : List ℕ) (parts : List Part) → parts ≡ [] → IsProfileTo s ps ds 0 parts
+profile-begun s ps ds parts none = subst (λ (v : List Part). IsProfileTo s ps ds 0 v) (sym none) (record {
+  whole = λ t load some. (load, some, omega (arith, ints));
+  sound = λ t xs admitted all. omega (arith, ints);
+  good = record { ordered = All-nil (λ p. p.from ≤ℤ p.to); small = All-nil (λ p. p.demand < 2 ^ 63) };
+})
 
 one_load : (s : Trail) (t load : ℤ) (p : Span) (d : ℕ) (ps : List Span) (ds : List ℕ) (part : Part) → IsPartMeasured s p d part → IsLoadOfSome s t (p ∷ ps) (d ∷ ds) load → (rest : ℤ) × IsLoadOfSome s t ps ds rest × (load ≤ℤ (pos (at t part) +ℤ rest))
 one_load s t load p d ps ds part m (inl h) = (h.2, h.4, (let a = m.whole t h.1 h.0 h.3 in let e = h.5 in omega (arith, ints)))

@@ -4,13 +4,14 @@ use Rattle.std.specs.Prelude.{Option, Some, None, IfSome, ◌⊎◌}
 use Rattle.std.specs.List.{list_all, All}
 use Rattle.std.proofs.lemmas.Int.{ints}
 use Rattle.std.proofs.lemmas.List.{drop_more}
-use Rattle.std.proofs.lemmas.List.Elements.{All-nil, All-push, All-head, All-more}
+use Rattle.std.proofs.lemmas.List.Elements.{All-nil, All-push, All-head, All-tail, All-more}
 use Rattle.cps_domain.specs.Window.{is_among}
 use Rattle.cps_domain.proofs.Tests.{first_of_both, true_le, le_true}
 use Rattle.cps_domain.proofs.Products.{times_grows}
 use Rattle.cps_literal.specs.declared.atom.Atom.{Atom}
 use Rattle.cps_literal.specs.declared.atom.Op.TheVariants.{Le, Ge}
-use Rattle.cps_literal.specs.Truth.{meets, value_at, atom_holds}
+use Rattle.cps_literal.specs.Truth.{meets, value_at, atom_holds, Implies}
+use Rattle.cps_literal.proofs.Normalizing.{holds_too}
 use Rattle.cps_instance.specs.declared.task.Body.{Body}
 use Rattle.cps_instance.specs.declared.task.Span.{Span}
 use Rattle.cps_instance.specs.Parts.{span_end}
@@ -20,7 +21,7 @@ use Rattle.cps_trail.specs.Trail.{Trail, Domains, IsTrueNow, IsTrueAfter, IsWith
 use Rattle.cps_rule.specs.Rules.{IsFact, AreFacts, IsGiven, IsImpossible, IsExplained, IsRefuted}
 use Rattle.cps_p_cumulative.specs.declared.resource.Resource.{Resource}
 use Rattle.cps_p_cumulative.specs.declared.charge.Claim.{Claim}
-use Rattle.cps_p_cumulative.specs.Running.{energies, body_of}
+use Rattle.cps_p_cumulative.specs.Running.{energy_of, energies, body_of}
 use Rattle.cps_p_cumulative.specs.Relying.{Relies, IsEnergyTaken, IsCharged, IsBound, IsLater, IsClaim, IsActiveBetween}
 use Rattle.cps_p_cumulative.proofs.Running.{all_hold}
 use Rattle.cps_p_cumulative.proofs.Energy.{energies-cons, energies-past, energies-within, energy-some, energy-stay}
@@ -50,6 +51,10 @@ first_admits first i x h = with_true (is_among (first_of first i) x) h
 -- what each first value meets
 pub Relies-always : (s : Trail) (a u : Atom) (us : List Atom) → u.subject < length s.first → AreFacts s us → IsTrueAfter s.first [] u → Relies s a (λ xs. atom_holds xs u ≡ true) us us
 Relies-always s a u us inside f h = Relies-none s a (λ xs. atom_holds xs u ≡ true) us f (λ xs w b. h (value_at xs u.subject) (first_admits s.first u.subject (value_at xs u.subject) (w u.subject inside)))
+
+-- what the assumed atom implies
+pub Relies-implied : (s : Trail) (a u : Atom) (us : List Atom) → AreFacts s us → Implies a u → Relies s a (λ xs. atom_holds xs u ≡ true) us us
+Relies-implied s a u us f h = Relies-none s a (λ xs. atom_holds xs u ≡ true) us f (λ xs w b. holds_too a u xs h b)
 
 -- one fact more
 pub Relies-fact : (s : Trail) (a u : Atom) (us new : List Atom) → new ≡ us ++ u ∷ [] → u.subject < length s.first → IsInside u.value → IsTrueNow s u → AreFacts s us → Relies s a (λ xs. atom_holds xs u ≡ true) us new
@@ -113,6 +118,10 @@ refuted-impossible s b facts h = record {
   at = λ xs admitted holds. h.excludes xs (within_of s xs admitted) (λ k d l. (h.facts k d l).true_now (value_at xs (get_or facts k d).subject) (admitted (get_or facts k d).subject (h.facts k d l).subject)) holds;
 }
 
+-- no facts
+pub no_facts : (s : Trail) (us : List Atom) → us ≡ [] → AreFacts s us
+no_facts s us e = subst (λ (vs : List Atom). AreFacts s vs) (sym e) (All-nil (IsFact s))
+
 -- the first fact of a list that was empty
 pub one_fact : (old pushed : List Atom) (u : Atom) → old ≡ [] → pushed ≡ old ++ u ∷ [] → pushed ≡ u ∷ []
 one_fact old pushed u e f = f ∙ ap (λ (us : List Atom). us ++ u ∷ []) e
@@ -151,16 +160,14 @@ later-none-of t p None v e h same = h
 later-none-of t p (Some u) v e h same = later-none t p u e (subst (λ (x : ℤ). IsBound p.end x u) same h)
 
 -- that a span is present, starts by one time and ends after another
-pub run-relied : (s : Trail) (a : Atom) (latest after : ℤ) (p : Span) (atoms : List Atom) (u last : Atom) (old one two new : List Atom) → atoms ≡ p.presence → u ≡ record { subject = p.start; op = Le; value = latest } → IsLater after p last
-    → Relies s a (λ xs. All (λ v. atom_holds xs v ≡ true) atoms) old one → Relies s a (λ xs. atom_holds xs u ≡ true) one two → Relies s a (λ xs. atom_holds xs last ≡ true) two new → Relies s a (IsActiveBetween latest after p) old new
-run-relied s a latest after p atoms u last old one two new is starts later h i j =
-    Relies-then s a (λ xs. All (λ v. atom_holds xs v ≡ true) atoms × (atom_holds xs u ≡ true)) (λ xs. atom_holds xs last ≡ true) (IsActiveBetween latest after p) old two new
-    (Relies-then s a (λ xs. All (λ v. atom_holds xs v ≡ true) atoms) (λ xs. atom_holds xs u ≡ true) (λ xs. All (λ v. atom_holds xs v ≡ true) atoms × (atom_holds xs u ≡ true)) old one two h i (λ xs w b c. (b, c)))
-    j
+pub run-relied : (s : Trail) (a : Atom) (latest after : ℤ) (p : Span) (atoms : List Atom) (u last : Atom) (old mid new : List Atom) → atoms ≡ p.presence → u ≡ record { subject = p.start; op = Le; value = latest } → IsLater after p last
+    → Relies s a (λ xs. All (λ v. atom_holds xs v ≡ true) atoms) old mid → Relies s a (λ xs. All (λ v. atom_holds xs v ≡ true) (u ∷ last ∷ [])) mid new → Relies s a (IsActiveBetween latest after p) old new
+run-relied s a latest after p atoms u last old mid new is starts later h i =
+    Relies-then s a (λ xs. All (λ v. atom_holds xs v ≡ true) atoms) (λ xs. All (λ v. atom_holds xs v ≡ true) (u ∷ last ∷ [])) (IsActiveBetween latest after p) old mid new h i
     (λ xs w b c. record {
-      present = subst (λ (us : List Atom). list_all (atom_holds xs) us ≡ true) is (all_hold xs atoms b.0);
-      started = true_le (value_at xs p.start) latest (subst (λ (v : Atom). atom_holds xs v ≡ true) starts b.1);
-      later = later.after xs c;
+      present = subst (λ (us : List Atom). list_all (atom_holds xs) us ≡ true) is (all_hold xs atoms b);
+      started = true_le (value_at xs p.start) latest (subst (λ (v : Atom). atom_holds xs v ≡ true) starts (All-head (λ v. atom_holds xs v ≡ true) u (last ∷ []) c));
+      later = later.after xs (All-head (λ v. atom_holds xs v ≡ true) last [] (All-tail (λ v. atom_holds xs v ≡ true) u (last ∷ []) c));
     })
 
 -- a span that is passed over, and one that counts
@@ -169,12 +176,19 @@ pub charge-skip : (s : Trail) (a : Atom) (t w : ℤ) (p : Span) (d : ℕ) (left 
 charge-skip s a t w p d left after u old new same is h = Relies-so s a (λ xs. atom_holds xs u ≡ true) (IsEnergyTaken t w p d left after) old new h
     (λ xs b c. (let e = energy-some xs t (unsigned_abs w) p d (true_le (pos 0) (value_at xs d) (subst (λ (v : Atom). atom_holds xs v ≡ true) is c)) in record { used = omega (arith, ints) }))
 
-pub charge-run : (s : Trail) (a : Atom) (t w : ℤ) (p : Span) (d : ℕ) (left after : ℤ) (claim : Claim) (u : Atom) (old mid new : List Atom) → IsClaim t w p.length claim → (left -ℤ after) ≤ℤ (claim.stay.ticks *ℤ claim.demand) → u ≡ record { subject = d; op = Ge; value = claim.demand }
-    → Relies s a (IsActiveBetween claim.stay.latest claim.stay.after p) old mid → Relies s a (λ xs. atom_holds xs u ≡ true) mid new → Relies s a (IsEnergyTaken t w p d left after) old new
-charge-run s a t w p d left after claim u old mid new of taken is h i = Relies-then s a (IsActiveBetween claim.stay.latest claim.stay.after p) (λ xs. atom_holds xs u ≡ true) (IsEnergyTaken t w p d left after) old mid new h i
-    (λ xs x b c. (let e = energy-stay xs t w p d claim.demand claim.stay of.stay b of.some (true_le claim.demand (value_at xs d) (subst (λ (v : Atom). atom_holds xs v ≡ true) is c)) in record { used = omega (arith, ints) }))
+pub charge-run : (s : Trail) (a : Atom) (t w : ℤ) (p : Span) (d : ℕ) (left after some : ℤ) (old new : List Atom) → (left -ℤ after) ≤ℤ some → Relies s a (λ xs. some ≤ℤ energy_of xs t (unsigned_abs w) p d) old new → Relies s a (IsEnergyTaken t w p d left after) old new
+charge-run s a t w p d left after some old new taken h = Relies-so s a (λ xs. some ≤ℤ energy_of xs t (unsigned_abs w) p d) (IsEnergyTaken t w p d left after) old new h (λ xs x b. record { used = omega (arith, ints) })
+
+-- that a span uses what is claimed of it
+pub claim-relied : (s : Trail) (a : Atom) (t w : ℤ) (p : Span) (d : ℕ) (claim : Claim) (u : Atom) (old mid new : List Atom) → IsClaim t w p.length claim → u ≡ record { subject = d; op = Ge; value = claim.demand }
+    → Relies s a (IsActiveBetween claim.stay.latest claim.stay.after p) old mid → Relies s a (λ xs. atom_holds xs u ≡ true) mid new → Relies s a (λ xs. (claim.stay.ticks *ℤ claim.demand) ≤ℤ energy_of xs t (unsigned_abs w) p d) old new
+claim-relied s a t w p d claim u old mid new of is h i = Relies-then s a (IsActiveBetween claim.stay.latest claim.stay.after p) (λ xs. atom_holds xs u ≡ true) (λ xs. (claim.stay.ticks *ℤ claim.demand) ≤ℤ energy_of xs t (unsigned_abs w) p d) old mid new h i
+    (λ xs x b c. energy-stay xs t w p d claim.demand claim.stay of.stay b of.some (true_le claim.demand (value_at xs d) (subst (λ (v : Atom). atom_holds xs v ≡ true) is c)))
 
 -- a loop over the spans
+pub charge-begun : (s : Trail) (a : Atom) (t w : ℤ) (ps : List Span) (ds : List ℕ) (need : ℤ) (us : List Atom) → AreFacts s us → Relies s a (IsCharged t w ps ds need 0 need) us us
+charge-begun s a t w ps ds need us f = Relies-none s a (IsCharged t w ps ds need 0 need) us f (λ xs x b. record { used = omega (arith, ints) })
+
 pub charge-more : (s : Trail) (a : Atom) (t w : ℤ) (ps : List Span) (ds : List ℕ) (need : ℤ) (k : ℕ) (p : Span) (d : ℕ) (left after : ℤ) (old mid new : List Atom) → k < length ps → k < length ds
     → Relies s a (IsCharged t w ps ds need k left) old mid → Relies s a (IsEnergyTaken t w (get_or ps k p) (get_or ds k d) left after) mid new → Relies s a (IsCharged t w ps ds need (k + 1) after) old new
 charge-more s a t w ps ds need k p d left after old mid new l m h i =

@@ -145,6 +145,10 @@ impossible s r parts most t inside profile over greatest fit = record {
       absurd (omega (arith, ints));
 }
 
+-- a capacity below 0
+pub impossible-none : (s : Trail) (r : Resource) (most : ℤ) → r.capacity < length s.first → ((x : ℤ) → IsOpenTo s r.capacity x → x ≤ℤ most) → most <ℤ pos 0 → IsImpossible (body_of r) s
+impossible-none s r most inside up low = record { at = λ xs admitted holds. (let a = up (value_at xs r.capacity) (admitted r.capacity inside) in let b = holds.some_room in absurd (omega (arith, ints))) }
+
 -- the same, by what the code reads
 pub impossible-of : (s : Trail) (r : Resource) (ps : List Span) (ds : List ℕ) (parts room : List Part) (n : ℕ) (most t : ℤ) (found : Option ℤ) → IsResourceOf s.first r → ps ≡ r.spans → ds ≡ r.demands → parts ≡ room → IsProfile s ps ds room
     → found ≡ Some t → MatchOption found (FitsCapacity parts n) (λ u. IsOverCapacity parts n u) → pos n ≡ most → ((x : ℤ) → IsOpenTo s r.capacity x → x ≤ℤ most) → All (IsNeverNegative s.first) r.demands → IsImpossible (body_of r) s

@@ -1,6 +1,6 @@
 -- What spans demand at a time, one by one.
 use Rattle.std.proofs.Common.{ℕ, zero, suc, inl, inr, take, get_or, append_assoc, append-nil, ◌+◌, ◌<◌, ℤ, pos, ◌+ℤ◌, ◌≤ℤ◌, ◌<ℤ◌, ◌≡◌, Bool, true, false, cond, ◌&&◌, List, [], ◌∷◌, ◌++◌, length, refl, sym, ◌∙◌, ap, subst, arith}
-use Rattle.std.specs.Prelude.{int_le, int_lt, Option, Some, None, IfSome}
+use Rattle.std.specs.Prelude.{int_le, int_lt, Option, Some, None, IfSome, Result, Ok, Err, OnOk}
 use Rattle.std.specs.List.{list_all, cons_option, All}
 use Rattle.std.proofs.lemmas.Int.{ints}
 use Rattle.std.proofs.lemmas.List.Elements.{All-head, All-tail, All-nil, All-cons}
@@ -94,6 +94,10 @@ start-inside first p h = All-head (λ i. i < length first) p.start (p.end ∷ at
 pub end-inside : (first : Domains) (p : Span) → IsSpanOf first p → p.end < length first
 end-inside first p h = All-head (λ i. i < length first) p.end (atom_subjects p.presence) (All-tail (λ i. i < length first) p.start (p.end ∷ atom_subjects p.presence) h)
 
+-- two atoms on subjects of a store
+pub both-inside : (first : Domains) (u v : Atom) → u.subject < length first → v.subject < length first → All (λ a. a.subject < length first) (u ∷ v ∷ [])
+both-inside first u v a b = All-cons (λ w. w.subject < length first) u (v ∷ []) a (All-cons (λ w. w.subject < length first) v [] b (All-nil (λ w. w.subject < length first)))
+
 pub time-inside : (first : Domains) (p : Span) (i : ℕ) → IsSpanOf first p → IsTimeOf p i → i < length first
 time-inside first p i h (inl e) = subst (λ (j : ℕ). j < length first) (sym e) (start-inside first p h)
 time-inside first p i h (inr e) = subst (λ (j : ℕ). j < length first) (sym e) (end-inside first p h)
@@ -123,9 +127,26 @@ subjects-more ps k d l = ap span_subjects (take_more ps k d l) ∙ last (take k 
     last [] q = append-nil (subjects_of_span q)
     last (p ∷ qs) q = ap (λ is. subjects_of_span p ++ is) (last qs q) ∙ sym (append_assoc (subjects_of_span p) (span_subjects qs) (subjects_of_span q))
 
+-- a number and two lists that were added one after another
+pub spread : (old one two three : List ℕ) (a : ℕ) (xs ys : List ℕ) → one ≡ old ++ a ∷ [] → two ≡ one ++ xs → three ≡ two ++ ys → three ≡ old ++ (a ∷ (xs ++ ys))
+spread old one two three a xs ys e f g = g ∙ ap (λ (is : List ℕ). is ++ ys) (f ∙ ap (λ (is : List ℕ). is ++ xs) e) ∙ append_assoc (old ++ a ∷ []) xs ys ∙ append_assoc old (a ∷ []) (xs ++ ys)
+
+-- what follows from a success
+pub on_ok : {A E : Type 0} (r : Result A E) (P Q : Type 0) → OnOk r P → (P → Q) → OnOk r Q
+on_ok (Ok x) P Q h f = f h
+on_ok (Err e) P Q h f = tt
+
+-- one copy more
+pub copied-more : (ps : List Span) (k : ℕ) (p q : Span) (old new : List Span) → k < length ps → old ≡ take k ps → new ≡ old ++ q ∷ [] → q ≡ p → p ≡ get_or ps k p → new ≡ take (k + 1) ps
+copied-more ps k p q old new l so_far one same is = one ∙ ap (λ (qs : List Span). qs ++ q ∷ []) so_far ∙ ap (λ (r : Span). take k ps ++ r ∷ []) (same ∙ is) ∙ sym (take_more ps k p l)
+
 -- a span that was read
 pub span-read : (first : Domains) (ps qs : List Span) (k : ℕ) (p : Span) → qs ≡ ps → k < length ps → p ≡ get_or qs k p → All (λ i. i < length first) (span_subjects ps) → IsSpanOf first p
 span-read first ps qs k p same l is h = subst (λ (q : Span). IsSpanOf first q) (sym is) (subst (λ (rs : List Span). IsSpanOf first (get_or rs k p)) (sym same) (span-inside first ps k p l h))
+
+-- and a demand
+pub demand-read : (first : Domains) (ds es : List ℕ) (k : ℕ) → es ≡ ds → k < length ds → All (λ i. i < length first) ds → get_or es k 0 < length first
+demand-read first ds es k same l h = subst (λ (is : List ℕ). get_or is k 0 < length first) (sym same) (h k 0 l)
 
 -- what is proposed of a span's start, of its start or end, and of a demand, is on a subject of the store
 pub start-proposed : (first : Domains) (p : Span) (r : Option Narrowing) → IsSpanOf first p → IfSome r (λ n. n.target.subject ≡ p.start) → IfSome r (λ n. n.target.subject < length first)
@@ -139,3 +160,9 @@ time-proposed first p (Some n) h is = time-inside first p n.target.subject h is
 pub demand-proposed : (first : Domains) (d : ℕ) (r : Option Narrowing) → IfSome r (λ n. n.target.subject ≡ d) → d < length first → IfSome r (λ n. n.target.subject < length first)
 demand-proposed first d None is l = is
 demand-proposed first d (Some n) is l = subst (λ (i : ℕ). i < length first) (sym is) l
+
+-- and of three of them each is
+pub three-proposed : (first : Domains) (r s t : Option Narrowing) → IfSome r (λ n. n.target.subject < length first) → IfSome s (λ n. n.target.subject < length first) → IfSome t (λ n. n.target.subject < length first) → All (λ o. IfSome o (λ n. n.target.subject < length first)) (r ∷ s ∷ t ∷ [])
+three-proposed first r s t a b c =
+    let P = λ (o : Option Narrowing). IfSome o (λ n. n.target.subject < length first) in
+    All-cons P r (s ∷ t ∷ []) a (All-cons P s (t ∷ []) b (All-cons P t [] c (All-nil P)))

@@ -261,6 +261,11 @@ ended_more ends t k level rest d l here h = record {
   ];
 }
 
+-- and at a later time they have ended too
+pub ended_later : (ends : List Part) (e : Ended) (t u : ℤ) → t ≤ℤ u → IsEndedBy ends e t → IsEndedBy ends e u
+ended_later ends e t u l h = record { within = h.within; passed = λ j d i. (let a = h.passed j d i in omega (arith, ints)) }
+
+-- what is demanded falls by what the end demanded
 pub passes_more : (ends : List Part) (old : Ended) (k level : ℕ) (d : Part) → k < length ends → (get_or ends k d).demand ≤ level → PassesEnds ends old (record { place = k; level = level }) → PassesEnds ends old (record { place = k + 1; level = level - (get_or ends k d).demand })
 passes_more ends old k level d l most h = record {
   level = (let a = h.level in let b = sum_by_more demand ends k d l in omega arith);

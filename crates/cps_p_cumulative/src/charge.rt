@@ -11,7 +11,7 @@ ghost use Rattle.cps_literal.specs.Truth.{atom_holds};
 ghost use Rattle.cps_trail.specs.Trail.{IsInside};
 ghost use Rattle.cps_instance.specs.Tasks.{HoldsBody};
 ghost use Rattle.cps_rule.specs.Rules.{AreFacts};
-ghost use Rattle.cps_p_cumulative.specs.Running.{IsSpanOf, IsResourceOf, body_of, energies};
+ghost use Rattle.cps_p_cumulative.specs.Running.{IsSpanOf, IsResourceOf, body_of, energy_of, energies};
 ghost use Rattle.cps_p_cumulative.specs.Relying.{Relies, IsBound, IsLater, IsStay, IsClaim, IsActiveBetween, IsEnergyTaken};
 
 use crate::resource::Resource;
@@ -163,10 +163,7 @@ fn rely_run(
     if !rely_all(past, case, span.presence.as_slice(), facts)? {
         return Ok(false);
     }
-    if !rely(past, case, at_most(span.start, stay.latest), facts)? {
-        return Ok(false);
-    }
-    rely(past, case, last, facts)
+    rely_all(past, case, &[at_most(span.start, stay.latest), last], facts)
 }
 
 /// Whether an atom was true, or the assumed one gives it.
@@ -329,6 +326,28 @@ fn rest_of(left: i128, taken: i128) -> i128
     if left <= taken { 0 } else { left - taken }
 }
 
+/// Sees that a span uses what is claimed of it.
+fn rely_claim(
+    past: &Before,
+    case: Case,
+    load: &Load,
+    claim: Claim,
+    facts: &mut Vec<Atom>,
+) -> Result<bool, AllocError>
+    requires span { IsSpanOf past.now.first load.now.span.now }
+    requires demand { load.now.demand < length past.now.first }
+    requires claim { IsClaim case.time case.width load.now.span.now.length claim }
+    requires facts { AreFacts past.now facts.old.items }
+    ensures { result ≡ Ok true → Relies past.now case.assumed
+        (λ xs. (claim.stay.ticks *ℤ claim.demand) ≤ℤ energy_of xs case.time
+        (unsigned_abs case.width) load.now.span.now load.now.demand) facts.old.items facts.new.items }
+{
+    if !rely_run(past, case, load.span, claim.stay, facts)? {
+        return Ok(false);
+    }
+    rely(past, case, at_least(load.demand, claim.demand), facts)
+}
+
 /// Lets one span take from what is left of the energy that is to be shown. None where it may demand less than 0.
 fn charge_one(
     past: &Before,
@@ -346,18 +365,13 @@ fn charge_one(
         → Relies past.now case.assumed
         (IsEnergyTaken case.time case.width load.now.span.now load.now.demand left after) facts.old.items facts.new.items }
 {
-    let span = load.span;
-    let demand = load.demand;
     let Some(claim) = claim_of(past, case, load, left) else {
-        if rely(past, case, at_least(demand, 0), facts)? {
+        if rely(past, case, at_least(load.demand, 0), facts)? {
             return Ok(Some(left));
         }
         return Ok(None);
     };
-    if !rely_run(past, case, span, claim.stay, facts)? {
-        return Ok(None);
-    }
-    if !rely(past, case, at_least(demand, claim.demand), facts)? {
+    if !rely_claim(past, case, load, claim, facts)? {
         return Ok(None);
     }
     Ok(Some(rest_of(left, energy(claim.demand, claim.stay.ticks))))

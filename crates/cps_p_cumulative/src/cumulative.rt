@@ -4,7 +4,7 @@
 //! some time; that it does not where nothing is said is proved of the sweep. Then windows are asked for an overload,
 //! and then bounds are proposed. A hint names the window of times, from which one search for facts makes every reason
 //! again.
-ghost use Rattle.std.specs.Prelude.{◌≡◌, true, All, IfOk, IfSome, OnOk, Ok};
+ghost use Rattle.std.specs.Prelude.{◌≡◌, true, All, IfOk, IfSome, None, OnOk, Ok};
 ghost use Rattle.cps_instance.specs.Fitting.{IsNeverNegative};
 ghost use Rattle.cps_propagate.specs.Strength.{HasCapacity};
 ghost use Rattle.cps_rule.specs.Rules.{IsGiven, IsImpossible, IsRefuted};
@@ -76,18 +76,52 @@ fn refute_window(
 }
 
 /// A window that is overloaded although no time in it is.
-fn crowded(past: &Before, resource: &Resource, room: &mut Room) -> Result<Option<Hint>, AllocError>
+fn crowded(
+    past: &Before,
+    resource: &Resource,
+    energies: &mut Energies,
+    facts: &mut Vec<Atom>,
+) -> Result<Option<Hint>, AllocError>
     requires { IsResourceOf past.now.first resource.now }
     ensures { IfOk result (λ found. IfSome found (λ hint. IsImpossible (body_of resource.now) past.now)) }
 {
     let most = past.ends(resource.capacity).1;
-    let Some(hint) = room.energies.used_up(past, resource, most)? else {
+    let Some(hint) = energies.used_up(past, resource, most)? else {
         return Ok(None);
     };
-    if refute_window(past, resource, hint, &mut room.facts)? {
+    if refute_window(past, resource, hint, facts)? {
         return Ok(Some(hint));
     }
     Ok(None)
+}
+
+/// What is overloaded: a time, or a window of times.
+fn overloaded(
+    past: &Before,
+    resource: &Resource,
+    room: &mut Room,
+) -> Result<Option<Hint>, AllocError>
+    requires inside { IsResourceOf past.now.first resource.now }
+    requires demands { All (IsNeverNegative past.now.first) resource.now.demands }
+    ensures over { IfOk result (λ found. IfSome found (λ hint. IsImpossible (body_of resource.now) past.now)) }
+    ensures rest { result ≡ Ok None
+        → HasCapacity past.now resource.now.capacity resource.now.spans resource.now.demands }
+{
+    let most = past.ends(resource.capacity).1;
+    if most < 0 {
+        return Ok(Some(Hint { a: 0, b: 1 }));
+    }
+    measure(
+        past,
+        resource.spans.as_slice(),
+        resource.demands.as_slice(),
+        &mut room.parts,
+    )?;
+    let found_time = overload(room.parts.as_slice(), most as u64, &mut room.orders)?;
+    if let Some(time) = found_time {
+        return Ok(Some(Hint { a: time, b: 1 }));
+    }
+    crowded(past, resource, &mut room.energies, &mut room.facts)
 }
 
 /// Looks at a resource, and says that it cannot hold where a time is overloaded, or a window of times.
@@ -106,21 +140,7 @@ fn look_at(
         → HasCapacity past.now resource.now.capacity resource.now.spans resource.now.demands }
 {
     found.clear();
-    let most = past.ends(resource.capacity).1;
-    if most < 0 {
-        return Ok(Look::Impossible(Hint { a: 0, b: 1 }));
-    }
-    measure(
-        past,
-        resource.spans.as_slice(),
-        resource.demands.as_slice(),
-        &mut room.parts,
-    )?;
-    let found_time = overload(room.parts.as_slice(), most as u64, &mut room.orders)?;
-    if let Some(time) = found_time {
-        return Ok(Look::Impossible(Hint { a: time, b: 1 }));
-    }
-    if let Some(hint) = crowded(past, resource, room)? {
+    if let Some(hint) = overloaded(past, resource, room)? {
         return Ok(Look::Impossible(hint));
     }
     room.scratch.segments.fill(room.parts.as_slice())?;

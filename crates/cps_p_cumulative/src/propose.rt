@@ -94,6 +94,25 @@ fn offer_some(
     }
 }
 
+/// Adds those proposals that there are.
+fn offer_each(
+    past: &Before,
+    resource: &Resource,
+    proposed: &[Option<Narrowing>],
+    facts: &mut Vec<Atom>,
+    found: &mut Vec<Narrowing>,
+) -> Result<(), AllocError>
+    requires resource { IsResourceOf past.now.first resource.now }
+    requires subjects { All (λ o. IfSome o (λ n. n.target.subject < length past.now.first)) proposed.now }
+    requires found { All (λ n. IsGiven (body_of resource.now) past.now n.target) found.old.items }
+    ensures { OnOk result (All (λ n. IsGiven (body_of resource.now) past.now n.target) found.new.items) }
+{
+    for one in proposed {
+        offer_some(past, resource, *one, facts, found)?;
+    }
+    Ok(())
+}
+
 /// That a span starts after the last time of the first full segment in which it would run at its earliest.
 fn start_later(span: &Span, place: &Place, segments: &[Segment]) -> Option<Narrowing>
     ensures { IfSome result (λ n. n.target.subject ≡ span.now.start) }
@@ -206,9 +225,13 @@ fn propose_span(
     let later = start_later(span, &place, segments);
     let earlier = end_earlier(span, &place, segments);
     let less = demand_less(demand, &place, segments);
-    offer_some(past, resource, later, &mut scratch.facts, found)?;
-    offer_some(past, resource, earlier, &mut scratch.facts, found)?;
-    offer_some(past, resource, less, &mut scratch.facts, found)
+    offer_each(
+        past,
+        resource,
+        &[later, earlier, less],
+        &mut scratch.facts,
+        found,
+    )
 }
 
 /// That the capacity is at least what is demanded at some time.

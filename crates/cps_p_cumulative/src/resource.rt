@@ -21,8 +21,7 @@ fn push_span_subjects(span: &Span, subjects: &mut Vec<u32>) -> Result<(), AllocE
 {
     subjects.push(span.start)?;
     subjects.push(span.end)?;
-    push_atom_subjects(span.presence.as_slice(), subjects)?;
-    Ok(())
+    push_atom_subjects(span.presence.as_slice(), subjects)
 }
 
 /// Adds the subjects of spans at the end of a list, in order.

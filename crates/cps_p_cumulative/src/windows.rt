@@ -114,6 +114,17 @@ impl Energies {
         Ok(())
     }
 
+    /// Brings the jobs into both orders, and makes a tree without jobs.
+    fn sort(&mut self) -> Result<(), AllocError> {
+        self.jobs.sort_unstable_by_key(|job| job.from);
+        self.order.clear();
+        for (place, job) in self.jobs.as_slice().iter().enumerate() {
+            self.order.push((job.to, place))?;
+        }
+        self.order.sort_unstable_by_key(|due| due.0);
+        self.clear_tree()
+    }
+
     /// Takes down the spans of a resource, in both orders, and makes a tree without jobs.
     fn fill(&mut self, past: &Before, resource: &Resource) -> Result<(), AllocError>
         requires { IsResourceOf past.now.first resource.now }
@@ -125,13 +136,7 @@ impl Energies {
         for k in 0..count {
             self.take(past, &spans[k], demands[k])?;
         }
-        self.jobs.sort_unstable_by_key(|job| job.from);
-        self.order.clear();
-        for (place, job) in self.jobs.as_slice().iter().enumerate() {
-            self.order.push((job.to, place))?;
-        }
-        self.order.sort_unstable_by_key(|due| due.0);
-        self.clear_tree()
+        self.sort()
     }
 
     /// Makes a tree with a leaf for each job.

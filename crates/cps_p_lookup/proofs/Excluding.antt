@@ -1,5 +1,5 @@
 -- How facts rule the rows of a table out.
-use Rattle.std.proofs.Common.{◌≡◌, ℕ, ℤ, pos, ◌+◌, ◌*◌, ◌/◌, ◌<◌, ◌≤◌, true, false, List, [], length, get_or, refl, sym, ap, subst, ◌∙◌, Option, Some, arith, inl, inr}
+use Rattle.std.proofs.Common.{◌≡◌, ℕ, ℤ, pos, ◌+◌, ◌*◌, ◌/◌, ◌<◌, ◌≤◌, true, false, true≢false, List, [], length, get_or, refl, sym, ap, subst, ◌∙◌, Option, Some, arith, inl, inr}
 use Rattle.std.proofs.lemmas.Int.{ints}
 use Rattle.std.proofs.lemmas.Bool.{cases_lt}
 use Rattle.cps_domain.specs.Window.{equals}
@@ -12,7 +12,7 @@ use Rattle.cps_instance.specs.Parts.{values_at}
 use Rattle.cps_trail.specs.Trail.{Trail}
 use Rattle.cps_rule.specs.Rules.{AllTrueAt}
 use Rattle.cps_rule.specs.Facts.{Adds, Grows, Denied, GivesGoal}
-use Rattle.cps_p_lookup.specs.Tabling.{ClosesRow, IsOffBy, IsSure, AddsNeededFact, AreSure}
+use Rattle.cps_p_lookup.specs.Tabling.{ClosesRow, IsMetAt, IsRowBarred, IsOffBy, IsSure, AddsNeededFact, AreSure}
 use Rattle.cps_p_lookup.proofs.Growing.{adds_grows, adds_holds, grows_same, grows_trans, no_facts}
 use Rattle.cps_p_lookup.proofs.Tables.{row_value, same_row, in_table, not_in, row_before}
 
@@ -61,3 +61,17 @@ sure_gives s es values r row goal none new p within is long empty h = record {
   facts = h.grows.facts (no_facts s none empty);
   excludes = λ xs in' all holds deny. not_in xs es values r p holds within (same_row xs es row long (λ k l. (h.at k l).at xs all deny) ∙ is);
 }
+
+-- all columns
+pub sure_all : (s : Trail) (es : List ℕ) (row : List ℤ) (n : ℕ) (goal : Option Atom) (old new : List Atom) → length es ≤ n → Grows s old new → ((k : ℕ) → k < n → IsSure (get_or es k 0) (get_or row k (pos 0)) goal new) → AreSure s es row goal old new
+sure_all s es row n goal old new past grows h = record { grows = grows; at = λ k l. h k (omega arith) }
+
+-- the row gives the atom, or is ruled out already
+pub met_closes : (s : Trail) (es : List ℕ) (row : List ℤ) (u : Atom) (us : List Atom) → IsMetAt es row u → ClosesRow s es row (Some u) us us
+met_closes s es row u us m = record {
+  grows = grows_same s us us refl;
+  closed = λ xs all e deny. true≢false (sym (ap (λ j. meets u.op u.value (value_at xs j)) (sym m.subject) ∙ ap (λ v. meets u.op u.value v) (row_value xs es row m.column m.within e) ∙ m.met) ∙ deny);
+}
+
+pub barred_closes : (s : Trail) (es : List ℕ) (row : List ℤ) (goal : Option Atom) (us : List Atom) → IsRowBarred es row us → ClosesRow s es row goal us us
+barred_closes s es row goal us h = record { grows = grows_same s us us refl; closed = λ xs all e deny. h.at xs all e }

@@ -6,3 +6,5 @@ pub mod Tables
 pub mod Excluding
 pub mod Tasks
 pub mod Missing
+pub mod Answering
+pub mod Meeting

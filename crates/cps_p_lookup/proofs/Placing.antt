@@ -9,7 +9,7 @@ use Rattle.cps_domain.specs.Window.{Window, contains, equals}
 use Rattle.cps_domain.proofs.Tests.{true_le}
 use Rattle.cps_literal.specs.declared.atom.Atom.{Atom}
 use Rattle.cps_literal.specs.declared.atom.Op.TheVariants.{Le, Ge, Ne}
-use Rattle.cps_literal.specs.Truth.{value_at, atom_holds, meets}
+use Rattle.cps_literal.specs.Truth.{value_at, atom_holds}
 use Rattle.cps_instance.specs.declared.task.Body.{Body}
 use Rattle.cps_instance.specs.declared.task.Body.TheVariants.{Element}
 use Rattle.cps_trail.specs.Trail.{Trail, Domains, IsAdmitted, admits}

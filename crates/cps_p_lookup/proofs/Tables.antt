@@ -82,6 +82,10 @@ row_inside n w row p l = (le-div_iff_mul-le p).0 (omega arith)
 pub row_before : (n w row : ℕ) → 0 < w → (row + 1) * w ≤ n → row < n / w
 row_before n w row p l = let h = (le-div_iff_mul-le {k = w} {x = row + 1} {y = n} p).1 l in omega arith
 
+pub row_short : (n w row : ℕ) → 0 < w → (row + 1) * w ≤ n → row < n
+row_short n zero row p l = absurd (omega arith)
+row_short n (suc w) row p l = omega arith
+
 -- the rows that are left, one row more
 pub live_push : (s : Trail) (es : List ℕ) (values : List ℤ) (n : ℕ) (old new : List ℕ) → new ≡ old ++ n ∷ [] → ((r : ℕ) → r < n → IsLive s es values r → Contains old r) → (r : ℕ) → r < n + 1 → IsLive s es values r → Contains new r
 live_push s es values n old new is h r l live = subst (λ (rs : List ℕ). Contains rs r) (sym is) (elim (cases_lt r n) [
@@ -97,6 +101,9 @@ live_skip s es values n rows row is dead h r l live = elim (cases_lt r n) [
 
 pub live_one : (s : Trail) (es : List ℕ) (values : List ℤ) (n : ℕ) (row : List ℤ) → row ≡ row_at (length es) values n → (n + 1) * length es ≤ length values → IsOpenRow s es row → IsLive s es values n
 live_one s es values n row is l o = record { within = l; open_row = subst (λ (w : List ℤ). IsOpenRow s es w) is o }
+
+pub live_all : (s : Trail) (es : List ℕ) (values : List ℤ) (n : ℕ) (rows : List ℕ) → 0 < length es → length values / length es ≤ n → All (IsLive s es values) rows → ((r : ℕ) → r < n → IsLive s es values r → Contains rows r) → AreLive s es values rows
+live_all s es values n rows p past each every = record { each = each; every = λ r live. let b = row_before (length values) (length es) r p live.within in every r (omega arith) live }
 
 pub live_long : (s : Trail) (es : List ℕ) (values : List ℤ) (rows : List ℕ) → AreLive s es values rows → All (λ r. (r + 1) * length es ≤ length values) rows
 live_long s es values rows h = All-weaker (IsLive s es values) (λ r. (r + 1) * length es ≤ length values) (λ r l. l.within) rows h.each

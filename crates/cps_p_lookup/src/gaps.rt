@@ -27,7 +27,7 @@ pub(crate) struct Gaps {
     /// The same as intervals, in order.
     runs: Vec<(i64, i64)>,
     /// The values that are not.
-    missing: Vec<i64>,
+    pub(crate) missing: Vec<i64>,
     /// For each number from the least value on, whether it is supported.
     marks: Vec<bool>,
 }
@@ -79,17 +79,17 @@ fn hull(values: &[i64]) -> (i64, i64) {
     (low, high)
 }
 
-/// How many different values there are, where they lie close to one another.
-fn count_distinct(values: &[i64], marks: &mut Vec<bool>) -> Result<Option<u64>, AllocError> {
-    let (low, high) = hull(values);
-    let most = values.len().saturating_mul(4).saturating_add(64);
-    let Some(span) = distance(low, high, most) else {
-        return Ok(None);
-    };
+/// So many marks, of which none is set.
+fn clear_marks(marks: &mut Vec<bool>, count: usize) -> Result<(), AllocError> {
     marks.clear();
-    for _ in 0..span.saturating_add(1) {
+    for _ in 0..count {
         marks.push(false)?;
     }
+    Ok(())
+}
+
+/// Marks values by how far each lies above the least one, and counts the marks.
+fn count_marked(values: &[i64], low: i64, marks: &mut [bool]) -> u64 {
     let mut count = 0u64;
     for value in values {
         let Some(place) = distance(low, *value, marks.len()) else {
@@ -100,7 +100,18 @@ fn count_distinct(values: &[i64], marks: &mut Vec<bool>) -> Result<Option<u64>, 
             count = count.saturating_add(1);
         }
     }
-    Ok(Some(count))
+    count
+}
+
+/// How many different values there are, where they lie close to one another.
+fn count_distinct(values: &[i64], marks: &mut Vec<bool>) -> Result<Option<u64>, AllocError> {
+    let (low, high) = hull(values);
+    let most = values.len().saturating_mul(4).saturating_add(64);
+    let Some(span) = distance(low, high, most) else {
+        return Ok(None);
+    };
+    clear_marks(marks, span.saturating_add(1))?;
+    Ok(Some(count_marked(values, low, marks.as_mut_slice())))
 }
 
 /// Makes a list that of the values as intervals.
@@ -258,7 +269,7 @@ pub(crate) fn copy_holes(
     subject: u32,
     domain: &Domain,
     other: &Domain,
-    gaps: &mut Gaps,
+    missing: &mut Vec<i64>,
     found: &mut Vec<Narrowing>,
 ) -> Result<(), AllocError>
     ensures { OnOk result (ExcludesValues subject (λ v. contains other.now v ≡ true) found.old.items found.new.items) }
@@ -266,6 +277,6 @@ pub(crate) fn copy_holes(
     if !is_worth(domain, 0) {
         return Ok(());
     }
-    list_uncovered(domain.intervals(), other.intervals(), &mut gaps.missing)?;
-    exclude_outside(subject, other, gaps.missing.as_slice(), found)
+    list_uncovered(domain.intervals(), other.intervals(), missing)?;
+    exclude_outside(subject, other, missing.as_slice(), found)
 }

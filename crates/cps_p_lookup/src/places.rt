@@ -239,7 +239,7 @@ fn align(
     store: &Store,
     lookup: &Lookup,
     scan: Scan,
-    gaps: &mut Gaps,
+    missing: &mut Vec<i64>,
     found: &mut Vec<Narrowing>,
 ) -> Result<(), AllocError>
     requires fits { IsFitElement store.now.first lookup.now.index lookup.now.target lookup.now.exprs.now }
@@ -253,8 +253,8 @@ fn align(
     let expr = lookup.exprs[scan.last];
     let target = store.domain(lookup.target);
     let other = store.domain(expr);
-    copy_holes(lookup.target, target, other, gaps, found)?;
-    copy_holes(expr, other, target, gaps, found)?;
+    copy_holes(lookup.target, target, other, missing, found)?;
+    copy_holes(expr, other, target, missing, found)?;
     Ok(())
 }
 
@@ -349,7 +349,7 @@ pub(crate) fn look_up(
     }
     bound_both(store, lookup, scan, found)?;
     if scan.open == 1 {
-        align(store, lookup, scan, gaps, found)?;
+        align(store, lookup, scan, &mut gaps.missing, found)?;
     } else {
         narrow_inside(store, lookup, gaps, found)?;
     }

@@ -1,7 +1,7 @@
 -- What two boxes give.
 use Rattle.std.specs.Prelude.{not, IsTrue, IfSome}
 use Rattle.std.specs.List.{All, AllZip}
-use Rattle.std.proofs.Common.{◌≡◌, ◌≢◌, ℕ, zero, suc, ◌<◌, ◌<ℤ◌, ◌⊎◌, inl, inr, ℤ, true, Option, None, List, [], ◌++◌, ◌+◌, length, get_or, refl, sym, ◌∙◌, ap, subst, arith}
+use Rattle.std.proofs.Common.{◌≡◌, ◌≢◌, ℕ, zero, suc, ◌<◌, ◌≤ℤ◌, ◌<ℤ◌, ◌⊎◌, inl, inr, ℤ, true, Option, None, List, [], ◌++◌, ◌+◌, length, get_or, refl, sym, ◌∙◌, ap, subst, arith}
 use Rattle.std.proofs.lemmas.Int.{ints}
 use Rattle.std.proofs.lemmas.List.{get_or_default}
 use Rattle.std.proofs.lemmas.List.Elements.{All-nil}
@@ -22,7 +22,7 @@ use Rattle.cps_p_nooverlap.specs.declared.seen.Seen.{Seen}
 use Rattle.cps_p_nooverlap.specs.declared.box_pairs.Direction.{Direction}
 use Rattle.cps_p_nooverlap.specs.Hulls.{Proposes}
 use Rattle.cps_p_nooverlap.specs.Spans.{start_at, end_at, is_present, IsBefore, AreSpans, IsSpanSeen, IsPair, IsSmallAtom, ClashesAt, AddsOrdered, no_seen}
-use Rattle.cps_p_nooverlap.specs.Boxes.{IsDirection, IsKnown, AreBoxes, ArePresent, AreDisjoint, KeepsApart, AddsGiven, LacksBox, IsLate, Overlap, MayBeApart, IsSureBox, AreBoxesAllowed, AllowsBoxes, AreAllAllowed, MakesPresent, MakesBoxPresent, IsCount, pair_of_places}
+use Rattle.cps_p_nooverlap.specs.Boxes.{IsDirection, IsKnown, AreBoxes, ArePresent, AreDisjoint, KeepsApart, AddsGiven, LacksBox, IsLate, IsOpenOrder, Overlap, MayBeApart, IsSureBox, AreBoxesAllowed, AllowsBoxes, AreAllAllowed, MakesPresent, MakesBoxPresent, IsCount, pair_of_places}
 use Rattle.cps_propagate.specs.Strength.{MayBeOrdered, IsPresentBox, HasSeparateBoxes}
 use Rattle.cps_p_nooverlap.proofs.Timing.{zip_at}
 use Rattle.cps_p_nooverlap.proofs.Pairing.{all_hold, less_or, below_or_same, are_known, swapped_pair, start_most, end_least, surely, gives_proposed}
@@ -292,3 +292,11 @@ are_across first ps qs h = are_spans first qs (record {
   sound = All-append_right (λ i. AreIntervals (domain_at first i)) (span_subjects ps) (span_subjects qs) h.sound;
   body = h.body.y_fit;
 })
+
+-- what is compared of two spans that were seen
+module _ (v w : Seen) (vs : List Seen) (pair : Pair) (is : v ≡ get_or vs pair.before no_seen) (has : w ≡ get_or vs pair.after no_seen) where
+  pub late_tells : v.times.start_high <ℤ w.times.end_low → IsLate vs pair
+  late_tells l = subst (λ (x : Seen). x.times.start_high <ℤ (get_or vs pair.after no_seen).times.end_low) is (subst (λ (y : Seen). v.times.start_high <ℤ y.times.end_low) has l)
+
+  pub open_tells : w.times.end_low ≤ℤ v.times.start_high → IsOpenOrder vs pair
+  open_tells l = subst (λ (x : Seen). (get_or vs pair.after no_seen).times.end_low ≤ℤ x.times.start_high) is (subst (λ (y : Seen). y.times.end_low ≤ℤ v.times.start_high) has l)

@@ -29,6 +29,10 @@ cites_then s a b c P Q f g = record { facts = λ h. g.facts (f.facts h); kept = 
 pub cites_as : (s : Trail) (a b : List Atom) (P Q : List ℤ → Type 0) → ((xs : List ℤ) → P xs → Q xs) → Cites s a b P → Cites s a b Q
 cites_as s a b P Q f g = record { facts = g.facts; kept = g.kept; gives = λ xs h. f xs (g.gives xs h) }
 
+-- an atom that says something of a span's times says it where it is cited
+pub cites_said : (s : Trail) (a b : List Atom) (p : Span) (u : Atom) (P : List ℤ → Type 0) → SaysOfTimes p u P → Cites s a b (λ xs. atom_holds xs u ≡ true) → Cites s a b P
+cites_said s a b p u P said g = cites_as s a b (λ xs. atom_holds xs u ≡ true) P said.says g
+
 -- two present spans of which the one is late are in order
 pub orders : (xs : List ℤ) (ps : List Span) (pair : Pair) (d : Span) → IsPair (length ps) pair → is_present xs (get_or ps pair.before d) ≡ true → is_present xs (get_or ps pair.after d) ≡ true
     → start_at xs (get_or ps pair.before d) <ℤ end_at xs (get_or ps pair.after d) → IsNoOverlap (span_runs xs ps) → IsBefore xs (get_or ps pair.before d) (get_or ps pair.after d)
@@ -73,6 +77,20 @@ presence_of first ps k x us h l e = subst (λ (vs : List Atom). All (λ u. u.sub
 
 pub small_of : (first : Domains) (ps : List Span) (k : ℕ) (x : Span) (us : List Atom) → AreSpans first ps → k < length ps → us ≡ (get_or ps k x).presence → All IsSmallAtom us
 small_of first ps k x us h l e = subst (λ (vs : List Atom). All IsSmallAtom vs) (sym e) (literals_small first (get_or ps k x).presence (h k x l).literals)
+
+-- the atoms of a span's presence are about subjects, and stand for literals
+pub presence_slice : (first : Domains) (p : Span) (us : List Atom) → us ≡ p.presence → IsSpan first p → All (λ u. u.subject < length first) us
+presence_slice first p us e h = subst (λ (vs : List Atom). All (λ u. u.subject < length first) vs) (sym e) h.presence
+
+pub small_slice : (first : Domains) (p : Span) (us : List Atom) → us ≡ p.presence → IsSpan first p → All IsSmallAtom us
+small_slice first p us e h = subst (λ (vs : List Atom). All IsSmallAtom vs) (sym e) (literals_small first p.presence h.literals)
+
+-- two spans of which all atoms are cited are present
+pub cites_present : (s : Trail) (a b c : List Atom) (p q : Span) (us vs : List Atom) → us ≡ p.presence → vs ≡ q.presence → Cites s a b (λ xs. list_all (atom_holds xs) us ≡ true) → Cites s b c (λ xs. list_all (atom_holds xs) vs ≡ true)
+    → Cites s a c (λ xs. (is_present xs p ≡ true) × (is_present xs q ≡ true))
+cites_present s a b c p q us vs e f g h =
+    cites_then s a b c (λ xs. is_present xs p ≡ true) (λ xs. is_present xs q ≡ true)
+    (subst (λ (ws : List Atom). Cites s a b (λ xs. list_all (atom_holds xs) ws ≡ true)) e g) (subst (λ (ws : List Atom). Cites s b c (λ xs. list_all (atom_holds xs) ws ≡ true)) f h)
 
 rest_whole : (us : List Atom) (m : ℕ) → take (length us - m) (drop m us) ≡ drop m us
 rest_whole us m = take_all (length us - m) (drop m us) (let l = length-drop m us in omega arith)

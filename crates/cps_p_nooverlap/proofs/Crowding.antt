@@ -9,9 +9,10 @@ use Rattle.cps_instance.specs.declared.task.Span.{Span}
 use Rattle.cps_instance.specs.Parts.{span_runs}
 use Rattle.cps_p_nooverlap.specs.Spans.{is_present}
 use Rattle.cps_p_nooverlap.specs.Packing.{Run, LieWithin, AreRunsApart}
+use Rattle.cps_p_nooverlap.specs.declared.crowd.Crowd.{Crowd}
 use Rattle.cps_p_nooverlap.specs.declared.crowd.Ends.{Ends}
 use Rattle.cps_p_nooverlap.specs.declared.crowd.Ends.TheVariants.{Both, Start, End}
-use Rattle.cps_p_nooverlap.specs.Crowds.{near_at, far_at, low_at, high_at, LastsAt, IsRun, AreRunsUpTo, AreRuns}
+use Rattle.cps_p_nooverlap.specs.Crowds.{near_at, far_at, low_at, high_at, LastsAt, IsRun, AreRunsUpTo, AreRuns, IsSpanCount, IsCrowd}
 use Rattle.cps_p_nooverlap.proofs.Turning.{le_or, turned_apart, lasts_turned}
 use Rattle.cps_p_nooverlap.proofs.Packing_laws.{packing}
 
@@ -206,3 +207,17 @@ runs_all n s r xs ps ws a b m are = λ k l. are k (omega arith)
 -- a run, from what was cited of it
 pub run_is : (s : Ends) (r : Bool) (xs : List ℤ) (p : Span) (w : ℕ) (a b : ℤ) → LastsAt xs p w → is_present xs p ≡ true → a ≤ℤ low_at s r xs p → high_at s r xs p ≤ℤ b → IsRun s r xs p w a b
 run_is s r xs p w a b lasts present from to = record { present = present; lasts = lasts; from = from; to = to }
+
+-- what is counted of marks is a crowd
+pub crowd_of_marks : (n : ℕ) (whole part ws us : List ℕ) (c : Crowd) (all late : ℕ) → ws ≡ whole → us ≡ part → c.place < n → length ws ≡ n → IsSpanCount n us late → get_or ws c.place 0 ≡ 0 → get_or us c.place 0 ≡ 0 → 0 < c.weight
+    → all ≡ sum ws → c.to <ℤ (c.from +ℤ pos (all + c.weight)) → IsCrowd n whole part c late
+crowd_of_marks n whole part ws us c all late e f place every count aside aside_too takes is full =
+    subst (λ (vs : List ℕ). IsCrowd n vs part c late) e (subst (λ (vs : List ℕ). IsCrowd n ws vs c late) f (record {
+      place = place;
+      every = every;
+      late = count;
+      aside = aside;
+      aside_too = aside_too;
+      takes = takes;
+      full = subst (λ (m : ℕ). c.to <ℤ (c.from +ℤ pos (m + c.weight))) is full;
+    }))

@@ -15,3 +15,6 @@ pub mod Box_facts
 pub mod Refusing
 pub mod Presences
 pub mod Opposing
+pub mod Lasting
+pub mod Copying
+pub mod Widening

@@ -18,10 +18,19 @@ use cps_trail::Store;
 use std::alloc::AllocError;
 
 /// One direction of boxes: their spans there, and what a store leaves to each. Its memory is kept for the next look.
-#[derive(Drop)]
 pub(crate) struct Direction {
     pub(crate) spans: Listed<Span>,
     pub(crate) seen: Vec<Seen>,
+}
+
+// Written out, so that what drops a direction does not walk through its fields.
+impl Drop for Direction {
+    fn drop(self) {
+        let Direction {
+            spans: _spans,
+            seen: _seen,
+        } = self;
+    }
 }
 
 impl Direction {

@@ -5,7 +5,7 @@ ghost use Rattle.cps_p_nooverlap.specs.Boxes.{AreBoxes};
 use crate::box_pairs::{Direction, count_of, meet_all};
 use crate::box_reasons::{Claim, explain_boxes, refute_boxes};
 use crate::explain::pair_of;
-use crate::no_overlap::{copy_span, push_spans};
+use crate::no_overlap::{copy_spans, push_spans};
 use crate::pairs::Pair;
 use cps_enforce::Enforced;
 use cps_instance::{Body, Span, Task};
@@ -32,10 +32,7 @@ impl Drop for Boxes {
 fn direction_of(alloc: Global, spans: &[Span]) -> Result<Direction, AllocError>
     ensures { IfOk result (λ direction. direction.spans ≡ spans.now) }
 {
-    let mut copies = Vec::new(alloc);
-    for span in spans {
-        copies.push(copy_span(alloc, span)?)?;
-    }
+    let copies = copy_spans(alloc, spans)?;
     Ok(Direction {
         spans: Listed::from_vec(copies),
         seen: Vec::new(alloc),
@@ -50,6 +47,19 @@ fn boxes_of(hint: Hint, x: &[Span], y: &[Span]) -> Option<Pair>
 }
 
 impl Boxes {
+    /// The rule of boxes with these spans.
+    fn new(alloc: Global, x: &[Span], y: &[Span]) -> Result<Self, AllocError>
+        ensures x { IfOk result (λ rule. rule.x.spans ≡ x.now) }
+        ensures y { IfOk result (λ rule. rule.y.spans ≡ y.now) }
+    {
+        Ok(Boxes {
+            x: direction_of(alloc, x)?,
+            y: direction_of(alloc, y)?,
+        })
+    }
+}
+
+impl Boxes {
     ghost use Rattle.std.specs.Prelude.{◌≡◌, true, IfOk};
     ghost use Rattle.cps_p_nooverlap.specs.Boxes.{is_no_overlap_2d};
 
@@ -60,10 +70,7 @@ impl Boxes {
     {
         match &task.body {
             Body::NoOverlap2d { x, y } => {
-                let rule = Boxes {
-                    x: direction_of(alloc, x.as_slice())?,
-                    y: direction_of(alloc, y.as_slice())?,
-                };
+                let rule = Boxes::new(alloc, x.as_slice(), y.as_slice())?;
                 Enforced::new(alloc, task.enforcement.as_slice(), rule)
             }
             _ => unreachable!(),

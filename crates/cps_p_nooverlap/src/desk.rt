@@ -16,7 +16,6 @@ use cps_trail::Before;
 use std::alloc::{AllocError, Global};
 
 /// Room for the work on sets. Its memory is kept for the next look.
-#[derive(Drop)]
 pub(crate) struct Desk {
     pub(crate) jobs: Vec<Job>,
     /// Whether time is reversed in the jobs.
@@ -24,6 +23,19 @@ pub(crate) struct Desk {
     bench: Bench,
     pub(crate) marks: Marks,
     pub(crate) facts: Vec<Atom>,
+}
+
+// Written out, so that what drops a desk does not walk through its fields.
+impl Drop for Desk {
+    fn drop(self) {
+        let Desk {
+            jobs: _jobs,
+            is_reversed: _is_reversed,
+            bench: _bench,
+            marks: _marks,
+            facts: _facts,
+        } = self;
+    }
 }
 
 /// A window that holds too much, which no span of so many is pushed out of.

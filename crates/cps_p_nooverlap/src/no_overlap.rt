@@ -48,7 +48,7 @@ pub(crate) fn push_spans(spans: &[Span], subjects: &mut Vec<u32>) -> Result<(), 
 }
 
 /// A copy of a span.
-pub(crate) fn copy_span(alloc: Global, span: &Span) -> Result<Span, AllocError>
+fn copy_span(alloc: Global, span: &Span) -> Result<Span, AllocError>
     ensures { IfOk result (λ copy. copy ≡ span.now) }
 {
     Ok(Span {
@@ -60,15 +60,23 @@ pub(crate) fn copy_span(alloc: Global, span: &Span) -> Result<Span, AllocError>
     })
 }
 
+/// A copy of each span.
+pub(crate) fn copy_spans(alloc: Global, spans: &[Span]) -> Result<Vec<Span>, AllocError>
+    ensures { IfOk result (λ copies. copies.items ≡ spans.now) }
+{
+    let mut copies = Vec::new(alloc);
+    for span in spans {
+        copies.push(copy_span(alloc, span)?)?;
+    }
+    Ok(copies)
+}
+
 impl NoOverlap {
     /// The rule of these spans.
     pub(crate) fn new(alloc: Global, spans: &[Span]) -> Result<Self, AllocError>
         ensures { IfOk result (λ rule. rule.spans ≡ spans.now) }
     {
-        let mut copies = Vec::new(alloc);
-        for span in spans {
-            copies.push(copy_span(alloc, span)?)?;
-        }
+        let copies = copy_spans(alloc, spans)?;
         Ok(NoOverlap {
             spans: Listed::from_vec(copies),
             seen: Vec::new(alloc),

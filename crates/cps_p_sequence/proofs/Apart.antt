@@ -113,6 +113,9 @@ module _ (b : Body) (ds js : List ℕ) (p q : Body) (view : Inverse ds js ≡ b)
     body = tt;
   })
 
+pub sides_kept : (ds js : List ℕ) (p q p' q' : Body) → AreSides ds js p q → p' ≡ p → q' ≡ q → AreSides ds js p' q'
+sides_kept ds js p q p' q' sides d j = record { direct = d ∙ sides.direct; inverse = j ∙ sides.inverse }
+
 pub sides_room : (b : Body) (ds js : List ℕ) (p q : Body) → Inverse ds js ≡ b → AreSides ds js p q → (s : Trail) → IsStrongBody p s → IsStrongBody q s → HasRoomOnEachSide b s
 sides_room b ds js p q view sides s one two = subst (λ (x : Body). HasRoomOnEachSide x s) view
     (subst (λ (x : Body). IsStrongBody x s) sides.direct one, subst (λ (x : Body). IsStrongBody x s) sides.inverse two)

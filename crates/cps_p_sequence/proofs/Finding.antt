@@ -1,7 +1,7 @@
 -- What a look finds: each atom is given, and where all are true nothing is left.
 use Rattle.std.specs.Prelude.{int_le, not, All, Result, Ok, Err, IsTrue}
 use Rattle.std.specs.declared.alloc.AllocError.{AllocError}
-use Rattle.std.proofs.Common.{ℕ, ◌<◌, ◌+◌, ℤ, pos, ◌-ℤ◌, ◌≤ℤ◌, ◌<ℤ◌, ◌≡◌, ◌⊎◌, inl, inr, Bool, true, false, List, [], ◌∷◌, ◌++◌, length, get_or, refl, sym, ◌∙◌, ap, subst, arith}
+use Rattle.std.proofs.Common.{ℕ, ◌<◌, ◌≤◌, ◌+◌, ℤ, pos, ◌-ℤ◌, ◌≤ℤ◌, ◌<ℤ◌, ◌≡◌, ◌⊎◌, inl, inr, Bool, true, false, List, [], ◌∷◌, ◌++◌, length, get_or, refl, sym, ◌∙◌, ap, subst, arith}
 use Rattle.std.proofs.lemmas.Int.{ints}
 use Rattle.std.proofs.lemmas.List.{get_or_default}
 use Rattle.std.proofs.lemmas.List.Elements.{All-nil, All-cons, All-head, All-push}
@@ -17,7 +17,7 @@ use Rattle.cps_trail.specs.Trail.{Trail, IsTrueNow, IsInside}
 use Rattle.cps_propagate.specs.Now.{IsOpenTo}
 use Rattle.cps_rule.specs.declared.rule.Narrowing.{Narrowing}
 use Rattle.cps_rule.specs.Rules.{IsFact, IsGiven, IsExplained}
-use Rattle.cps_p_sequence.specs.Inverses.{AreGivenPlaces, AreTrue, HasPlace, IsMatched, ArePaired, AllPaired, IsWithinPlaces, AreMirroredAt}
+use Rattle.cps_p_sequence.specs.Inverses.{AreGivenPlaces, AreTrue, HasPlace, IsMatched, ArePaired, AllPaired, IsWithinPlaces, AreMirroredAt, AreMirrored}
 
 bool_cases : (b : Bool) → (b ≡ true) ⊎ (b ≡ false)
 bool_cases true = inl refl
@@ -121,6 +121,9 @@ pub record Mirrors (s : Trail) (direct inverse : List ℕ) (n : ℕ) (old new : 
 pub last_or : (k n : ℕ) → k < n + 1 → (k < n) ⊎ (k ≡ n)
 last_or k n l = grind arith
 
+pub within_begun : (s : Trail) (is : List ℕ) (count : ℤ) (found : List Narrowing) → KeptWithin s is count 0 found found
+within_begun s is count found = record { given = λ b places gs. gs; kept = λ all. all; within = λ all k d l m. absurd (omega (arith, l)) }
+
 -- one more step of each loop
 pub within_more : (s : Trail) (is : List ℕ) (count : ℤ) (n : ℕ) (old mid next new : List Narrowing) (i : ℕ) → n < length is → i ≡ get_or is n 0
     → ((b : Body) → (c : ℤ) → HasPlace b i c → AreGivenPlaces b s mid → AreGivenPlaces b s next) → (AreTrue s next → AreTrue s mid) → (AreTrue s next → (x : ℤ) → IsOpenTo s i x → pos 0 ≤ℤ x)
@@ -172,6 +175,13 @@ mirrors_more s direct inverse n old mid new i v l is-i is-v given kept mirrored 
         subst P (sym e) (subst (λ (u : ℕ). AreMirroredAt s u (pos n) inverse) is-i (subst (λ (z : ℤ). AreMirroredAt s i z inverse) is-v (mirrored all)))
   ];
 }
+
+-- and at its end
+pub apart_whole : (s : Trail) (i : ℕ) (m : ℤ) (others : List ℕ) (n : ℕ) (old new : List Narrowing) → length others ≤ n → KeptApart s i m others n old new → AreTrue s new → AreMirroredAt s i m others
+apart_whole s i m others n old new past p all = record { at = λ k l. p.mirrored all k (omega (arith, l, past)) }
+
+pub mirrors_whole : (s : Trail) (direct inverse : List ℕ) (n : ℕ) (old new : List Narrowing) → length direct ≤ n → Mirrors s direct inverse n old new → AreTrue s new → AreMirrored s direct inverse
+mirrors_whole s direct inverse n old new past p all = record { at = λ k l. p.mirrored all k (omega (arith, l, past)) }
 
 -- a position of a list by its subject
 pub at_subject : (b : Body) (own others : List ℕ) (k i : ℕ) (m : ℤ) → k < length own → get_or own k 0 ≡ i → m ≡ pos k → AllPaired b own others → ArePaired b i m others

@@ -1,18 +1,44 @@
 -- Values between labels that are none of them.
-use Rattle.std.specs.Prelude.{Contains, unsigned_abs}
-use Rattle.std.proofs.Common.{◌≡◌, ◌⊎◌, inl, inr, ℕ, ◌+◌, ◌-◌, ◌<◌, ◌≤◌, ℤ, pos, ◌+ℤ◌, ◌-ℤ◌, ◌≤ℤ◌, ◌<ℤ◌, true, List, length, get_or, sym, ◌∙◌, ap, subst, arith}
+use Rattle.std.specs.Prelude.{Contains, unsigned_abs, int_le, int_lt}
+use Rattle.std.proofs.Common.{◌≡◌, ◌⊎◌, inl, inr, ℕ, ◌+◌, ◌-◌, ◌<◌, ◌≤◌, ℤ, pos, ◌+ℤ◌, ◌-ℤ◌, ◌≤ℤ◌, ◌<ℤ◌, true, List, length, get_or, sym, ◌∙◌, ap, subst, arith, w64, FitsSigned}
 use Rattle.std.specs.List.{list_any}
 use Rattle.std.specs.Int.{int_max}
 use Rattle.std.proofs.lemmas.Int.{ints, int_max_is}
 use Rattle.std.proofs.lemmas.List.{get_or_default}
 use Rattle.std.proofs.lemmas.List.Folds.{Any-from_list_any}
 use Rattle.cps_domain.specs.Window.{Window, contains, intervals, within}
-use Rattle.cps_domain.proofs.Tests.{within_low, within_high}
+use Rattle.cps_domain.proofs.Tests.{true_le, within_low, within_high}
 use Rattle.cps_trail.specs.Trail.{Trail, admits}
 use Rattle.cps_propagate.specs.Now.{IsOpenTo}
 use Rattle.cps_model.specs.Rising.{IsRising}
 use Rattle.cps_p_sequence.specs.Runs.{IsNarrowAt}
 use Rattle.cps_p_sequence.proofs.Layering.{last_or}
+
+true_lt : (a b : ℤ) → int_lt a b ≡ true → a <ℤ b
+true_lt a b h = grind (arith, ints)
+
+-- a number before the end of a run is not the greatest one
+pub next_fits : (v end : ℤ) → FitsSigned w64 v → FitsSigned w64 end → int_lt v end ≡ true → FitsSigned w64 (v +ℤ pos 1)
+next_fits v end low high test = let l = true_lt v end test in omega (arith, ints)
+
+-- each value of a subject is within an end of its domain
+pub open_from : (s : Trail) (i : ℕ) (w : Window) (number least : ℤ) → ((x : ℤ) → contains w x ≡ admits s.first s.entries i x) → ((x : ℤ) → contains w x ≡ true → least ≤ℤ x) → int_le number least ≡ true → (x : ℤ) → IsOpenTo s i x → number ≤ℤ x
+open_from s i w number least shown from test x o =
+    let l = true_le number least test in
+    let h = from x (shown x ∙ o) in
+    omega (arith, ints)
+
+pub open_up_to : (s : Trail) (i : ℕ) (w : Window) (number greatest : ℤ) → ((x : ℤ) → contains w x ≡ admits s.first s.entries i x) → ((x : ℤ) → contains w x ≡ true → x ≤ℤ greatest) → int_le greatest number ≡ true → (x : ℤ) → IsOpenTo s i x → x ≤ℤ number
+open_up_to s i w number greatest shown to test x o =
+    let l = true_le greatest number test in
+    let h = to x (shown x ∙ o) in
+    omega (arith, ints)
+
+pub open_below : (s : Trail) (i : ℕ) (w : Window) (number greatest : ℤ) → ((x : ℤ) → contains w x ≡ admits s.first s.entries i x) → ((x : ℤ) → contains w x ≡ true → x ≤ℤ greatest) → int_lt greatest number ≡ true → (x : ℤ) → IsOpenTo s i x → x <ℤ number
+open_below s i w number greatest shown to test x o =
+    let l = true_lt greatest number test in
+    let h = to x (shown x ∙ o) in
+    omega (arith, ints)
 
 pub max_le : (a b x : ℤ) → a ≤ℤ x → b ≤ℤ x → int_max a b ≤ℤ x
 max_le a b x l m = let e = int_max_is a b in omega (arith, ints)
@@ -31,6 +57,9 @@ whole_more s i labels from v before here x l m o = elim (last_value x v m) [
 -- the same of the first n intervals of a domain, between two ends
 pub record AreWhole (s : Trail) (i : ℕ) (labels : List ℤ) (first last : ℤ) (parts : List (ℤ × ℤ)) (n : ℕ) : Type 0 where
   pub at : (k : ℕ) (d : ℤ × ℤ) → k < n → k < length parts → (x : ℤ) → within x (get_or parts k d) ≡ true → first ≤ℤ x → x <ℤ last → IsOpenTo s i x → Contains labels x
+
+pub wholes_begun : (s : Trail) (i : ℕ) (labels : List ℤ) (first last : ℤ) (parts : List (ℤ × ℤ)) → AreWhole s i labels first last parts 0
+wholes_begun s i labels first last parts = record { at = λ k d l m x w a b o. absurd (omega (arith, l)) }
 
 pub wholes_more : (s : Trail) (i : ℕ) (labels : List ℤ) (first last : ℤ) (parts : List (ℤ × ℤ)) (n : ℕ) (part : ℤ × ℤ) (from to : ℤ) → n < length parts → part ≡ get_or parts n part
     → ((x : ℤ) → first ≤ℤ x → part.0 ≤ℤ x → from ≤ℤ x) → ((x : ℤ) → x <ℤ last → x ≤ℤ part.1 → x <ℤ to)

@@ -1,5 +1,5 @@
 -- Rows of marks, layer by layer, and what is found at each.
-use Rattle.std.specs.Prelude.{Contains}
+use Rattle.std.specs.Prelude.{Contains, ◌==◌}
 use Rattle.std.proofs.Common.{◌≡◌, ◌⊎◌, inl, inr, ℕ, zero, suc, ◌+◌, ◌-◌, ◌<◌, ◌≤◌, ℤ, pos, ◌≤ℤ◌, Bool, true, false, List, [], ◌∷◌, ◌++◌, length, take, drop, get_or, set, refl, sym, ◌∙◌, ap, subst, arith}
 use Rattle.std.proofs.lemmas.Int.{ints}
 use Rattle.std.proofs.lemmas.List.{drop_more, drop_all, take_all, get_or_default, length-set, length-append, take-append-le, drop-append-le}
@@ -402,6 +402,20 @@ listed_ends s i labels labels' new e ends all opens v h =
 pub whole_at : (s : Trail) (i : ℕ) (labels labels' : List ℤ) (new : List Narrowing) → labels' ≡ labels → (AllTargetsTrue s new → ((v : ℤ) → Contains labels' v → IsOpenTo s i v) → IsNarrowAt s i → (x : ℤ) → IsOpenTo s i x → Contains labels' x)
     → AllTargetsTrue s new → ((v : ℤ) → Contains labels v → IsOpenTo s i v) → IsNarrowAt s i → (x : ℤ) → IsOpenTo s i x → Contains labels x
 whole_at s i labels labels' new e whole = subst (λ (vs : List ℤ). AllTargetsTrue s new → ((v : ℤ) → Contains vs v → IsOpenTo s i v) → IsNarrowAt s i → (x : ℤ) → IsOpenTo s i x → Contains vs x) e whole
+
+-- by all steps
+pub tails_whole : (s : Trail) (i : ℕ) (steps : List Step) (n : ℕ) (heads tails : List Bool) → length steps ≤ n → AreTails s i steps n heads tails → AreTails s i steps (length steps) heads tails
+tails_whole s i steps n heads tails past p = record { size = p.size; all = λ k d l m. p.all k d (omega (arith, m, past)) m; from = p.from }
+
+pub heads_whole : (s : Trail) (i : ℕ) (steps : List Step) (n : ℕ) (tails heads : List Bool) → length steps ≤ n → AreHeads s i steps n tails heads → AreHeads s i steps (length steps) tails heads
+heads_whole s i steps n tails heads past p = record { size = p.size; all = λ k d l m. p.all k d (omega (arith, m, past)) m; from = p.from }
+
+-- a list whose length is counted has items, or none
+pub some_items : (v n : ℕ) (b : Bool) → b ≡ (v == 0) → b ≡ false → v ≡ n → 0 < n
+some_items v n b e f is = grind arith
+
+pub no_items : (v n : ℕ) (b : Bool) → b ≡ (v == 0) → b ≡ true → v ≡ n → n ≡ 0
+no_items v n b e f is = grind arith
 
 pub empty_is : (labels : List ℤ) → length labels ≡ 0 → labels ≡ []
 empty_is [] e = refl

@@ -5,6 +5,9 @@
 //! with those that one can have reached; a label that no transition between both uses leaves its position. The layers
 //! are made anew at each look and not kept between looks.
 ghost use Rattle.std.specs.Prelude.{◌≡◌, IfOk, IsTrue};
+ghost use Rattle.cps_model.specs.Sequences.{transitions};
+ghost use Rattle.cps_p_sequence.specs.Networks.{IsNetwork};
+ghost use Rattle.cps_p_sequence.specs.Runs.{HasLabelsOf};
 
 use crate::cuts::cut;
 use crate::layers::{Network, Room, look_at};
@@ -78,6 +81,46 @@ impl Model for Automaton {
         r.first r.last.items r.steps.items × HasLabelsOf r.steps.items r.alphabet.items };
 }
 
+/// The states of an automaton by numbers, and what is kept of it by them.
+struct Numbered {
+    states: Vec<i64>,
+    first: usize,
+    last: Vec<bool>,
+    steps: Vec<Step>,
+    alphabet: Vec<i64>,
+}
+
+/// Numbers the states of an automaton's lists.
+fn number_states(
+    alloc: Global,
+    start: i64,
+    finals: &[i64],
+    steps: (&[i64], &[i64], &[i64]),
+) -> Result<Numbered, AllocError>
+    ensures network { IfOk result (λ made. IsNetwork
+        (transitions steps.entry.0.now steps.entry.1.now steps.entry.2.now) finals.now start made.states.items
+        made.first made.last.items made.steps.items) }
+    ensures alphabet { IfOk result (λ made. HasLabelsOf made.steps.items made.alphabet.items) }
+{
+    let raw = transitions(alloc, steps.0, steps.1, steps.2)?;
+    let listed = raw.as_slice();
+    let states = states_of(alloc, start, listed)?;
+    let named = states.as_slice();
+    let first = number_of(named, start);
+    let last = mark_finals(alloc, named, finals)?;
+    let mut numbered = steps_of(alloc, named, listed)?;
+    sort_by_label(&mut numbered);
+    let mut alphabet = Vec::from_slice(alloc, steps.2)?;
+    make_distinct(&mut alphabet);
+    Ok(Numbered {
+        states,
+        first,
+        last,
+        steps: numbered,
+        alphabet,
+    })
+}
+
 impl Automaton {
     ghost use Rattle.cps_instance.specs.declared.task.Body.TheVariants.{Automaton as AutomatonOf};
     ghost use Rattle.cps_p_sequence.specs.Networks.{is_automaton};
@@ -99,16 +142,14 @@ impl Automaton {
         let heads = Vec::from_slice(alloc, steps.1)?;
         let labels = Vec::from_slice(alloc, steps.2)?;
         let own_exprs = Vec::from_slice(alloc, exprs)?;
-        let raw = transitions(alloc, steps.0, steps.1, steps.2)?;
-        let listed = raw.as_slice();
-        let states = states_of(alloc, start, listed)?;
-        let named = states.as_slice();
-        let first = number_of(named, start);
-        let last = mark_finals(alloc, named, finals)?;
-        let mut numbered = steps_of(alloc, named, listed)?;
-        sort_by_label(&mut numbered);
-        let mut alphabet = Vec::from_slice(alloc, steps.2)?;
-        make_distinct(&mut alphabet);
+        let made = number_states(alloc, start, finals, steps)?;
+        let Numbered {
+            states,
+            first,
+            last,
+            steps: numbered,
+            alphabet,
+        } = made;
         Ok(Automaton {
             alloc,
             start,

@@ -16,7 +16,7 @@ ghost use Rattle.cps_rule.specs.Facts.{Grows, Denied};
 ghost use Rattle.cps_p_sequence.specs.Cuts.{IsOut, IsLimited, Comes, IsCut};
 
 use crate::facts::{LIMIT, atom, is_last, is_met, push_fact};
-use crate::layers::{Network, Position, mark_first, top_row};
+use crate::layers::{Network, Position, drop_top, mark_first, subject_before, top_row};
 use crate::states::{Step, blank};
 use cps_literal::{Atom, Op, Truth};
 use cps_trail::Before;
@@ -79,6 +79,26 @@ fn was_open(past: &Before, goal: Option<Atom>, subject: u32, label: i64) -> bool
     }
 }
 
+/// The label that was asked about last, and whether it was open.
+#[derive(Clone, Copy)]
+struct Asked {
+    label: Option<i64>,
+    is_open: bool,
+}
+
+/// Whether a label was open, which is known of the one that was asked about last.
+fn ask(past: &Before, goal: Option<Atom>, subject: u32, label: i64, last: Asked) -> Asked
+    requires { subject < length past.now.first }
+{
+    if last.label == Some(label) {
+        return last;
+    }
+    Asked {
+        label: Some(label),
+        is_open: was_open(past, goal, subject, label),
+    }
+}
+
 /// Marks the states from which a step whose label was open leads to a marked one.
 fn guide_back(
     past: &Before,
@@ -93,17 +113,16 @@ fn guide_back(
 {
     blank(tails, heads.len())?;
     // steps with one label stand side by side, and it is asked about once
-    let mut known = None;
-    let mut is_open = false;
+    let mut asked = Asked {
+        label: None,
+        is_open: false,
+    };
     for step in position.steps {
         if tails[step.tail] || !heads[step.head] {
             continue;
         }
-        if known != Some(step.label) {
-            known = Some(step.label);
-            is_open = was_open(past, goal, position.subject, step.label);
-        }
-        if is_open {
+        asked = ask(past, goal, position.subject, step.label, asked);
+        if asked.is_open {
             tails[step.tail] = true;
         }
     }
@@ -125,7 +144,7 @@ fn guides(
     let mut tails = Vec::new(alloc);
     for after in 0..net.subjects.len() {
         let position = Position {
-            subject: net.subjects[net.subjects.len() - 1 - after],
+            subject: subject_before(net.subjects, after),
             steps: net.steps,
         };
         let row = heads.as_slice();
@@ -152,15 +171,33 @@ fn at_most(bound: Option<i64>, number: i64) -> Option<i64> {
     }
 }
 
+/// The limits, with a label below or above the ends of what a subject could have ruled out too.
+fn tightened(limits: Limits, ends: (i64, i64), label: i64) -> Limits {
+    let (least, greatest) = ends;
+    let low = if label < least {
+        at_least(limits.low, (label + 1).max(-LIMIT))
+    } else {
+        limits.low
+    };
+    let high = if greatest < label {
+        at_most(limits.high, (label - 1).min(LIMIT))
+    } else {
+        limits.high
+    };
+    Limits { low, high }
+}
+
 /// Ends that rule out the labels, below and above what the subject could have, of steps that are to be ruled out.
 fn limits_of(past: &Before, layer: &Layer) -> Limits
     requires subject { layer.now.subject < length past.now.first }
     requires tails { All (IsStepWithin (length layer.now.tails.now)) layer.now.steps.now }
     requires guide { All (IsStepWithin (length layer.now.guide.now)) layer.now.steps.now }
 {
-    let (least, greatest) = past.ends(layer.subject);
-    let mut low = None;
-    let mut high = None;
+    let ends = past.ends(layer.subject);
+    let mut limits = Limits {
+        low: None,
+        high: None,
+    };
     for step in layer.steps {
         if !layer.tails[step.tail] || !layer.guide[step.head] {
             continue;
@@ -168,14 +205,9 @@ fn limits_of(past: &Before, layer: &Layer) -> Limits
         if is_denied(layer.goal, layer.subject, step.label) {
             continue;
         }
-        if step.label < least {
-            low = at_least(low, (step.label + 1).max(-LIMIT));
-        }
-        if greatest < step.label {
-            high = at_most(high, (step.label - 1).min(LIMIT));
-        }
+        limits = tightened(limits, ends, step.label);
     }
-    Limits { low, high }
+    limits
 }
 
 /// Adds the fact that a subject's value meets a bound, if there is one and it was so. Answers the bound then.
@@ -350,8 +382,7 @@ pub(crate) fn cut(
         };
         lead_on(past, &layer, facts, &mut row)?;
         swap(&mut reached, &mut row);
-        let below = rows.len() - count;
-        rows.truncate(below);
+        drop_top(&mut rows, count);
     }
     let marks = reached.as_slice();
     Ok(is_cut_off(marks, net.last))

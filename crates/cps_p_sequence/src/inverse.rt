@@ -215,6 +215,32 @@ fn mirror(
     Ok(())
 }
 
+/// Adds what keeps the values of both lists among the places, and each position off what the other list does not have.
+fn keep_places(
+    store: &Store,
+    direct: &[u32],
+    inverse: &[u32],
+    found: &mut Vec<Narrowing>,
+) -> Result<(), AllocError>
+    requires direct { All (λ i. i < length store.now.first) direct.now }
+    requires inverse { All (λ i. i < length store.now.first) inverse.now }
+    ensures given { OnOk result ((b : BodyOf) → All (λ i. HasPlace b i (pos (length direct.now))) direct.now
+        → All (λ i. HasPlace b i (pos (length direct.now))) inverse.now → AllPaired b direct.now inverse.now
+        → AreGivenPlaces b store.now found.old.items → AreGivenPlaces b store.now found.new.items) }
+    ensures kept { OnOk result (AreTrue store.now found.new.items → AreTrue store.now found.old.items) }
+    ensures direct { OnOk result (AreTrue store.now found.new.items
+        → All (λ i. IsWithinPlaces store.now i (pos (length direct.now))) direct.now) }
+    ensures inverse { OnOk result (AreTrue store.now found.new.items
+        → All (λ i. IsWithinPlaces store.now i (pos (length direct.now))) inverse.now) }
+    ensures mirrored { OnOk result (AreTrue store.now found.new.items → AreMirrored store.now direct.now inverse.now) }
+{
+    let count = direct.len() as i64;
+    keep_within(store, direct, count, found)?;
+    keep_within(store, inverse, count, found)?;
+    mirror(store, direct, inverse, found)?;
+    Ok(())
+}
+
 /// Whether each number of `count` places meets an atom.
 fn is_wide(target: Atom, count: i64) -> bool
     requires { pos 0 ≤ℤ count }
@@ -386,10 +412,7 @@ impl Rule for Inverse {
         }
         let direct = self.direct.as_slice();
         let inverse = self.inverse.as_slice();
-        let count = direct.len() as i64;
-        keep_within(store, direct, count, found)?;
-        keep_within(store, inverse, count, found)?;
-        mirror(store, direct, inverse, found)?;
+        keep_places(store, direct, inverse, found)?;
         Ok(Look::Possible)
     }
 

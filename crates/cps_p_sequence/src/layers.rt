@@ -3,7 +3,7 @@
 //! state of the one row and one of the other, where its label is open; only labels of such steps stay. This is the
 //! layered graph of G. Pesant, "A regular language membership constraint for finite sequences of variables" (CP
 //! 2004), with rows of marks in place of lists of arcs.
-ghost use Rattle.std.specs.Prelude.{◌≡◌, ◌↔◌, ◌-◌, ◌<◌, ◌≤◌, ℕ, false, length, drop, slice_index_or, Contains, All, OnOk, IfOk, IsTrue};
+ghost use Rattle.std.specs.Prelude.{◌≡◌, ◌↔◌, ◌-◌, ◌<◌, ◌≤◌, ℕ, false, length, take, drop, slice_index_or, Contains, All, OnOk, IfOk, IsTrue};
 ghost use Rattle.cps_p_sequence.specs.Networks.{IsStepWithin, IsMarked};
 ghost use Rattle.cps_model.specs.Rising.{IsRising};
 ghost use Rattle.cps_p_sequence.specs.Runs.{AreTails, AreHeads, AreLabels, AreEnding, AreRows, HasLabelsOf, IsNarrowed, IsRunLooked};
@@ -156,6 +156,14 @@ fn put_labels(
     Ok(())
 }
 
+/// The subject that so many others follow.
+pub(crate) fn subject_before(subjects: &[u32], after: usize) -> u32
+    requires { after < length subjects.now }
+    ensures { result ≡ slice_index_or subjects.now (length subjects.now - 1 - after) 0 }
+{
+    subjects[subjects.len() - 1 - after]
+}
+
 /// Puts the states from which a run may end, before the first position, in the place of the row in work. Before it,
 /// the same for after each position is put in the place of the rows, the last position's first.
 fn end_rows(store: &Store, net: &Network, room: &mut Room) -> Result<(), AllocError>
@@ -170,7 +178,7 @@ fn end_rows(store: &Store, net: &Network, room: &mut Room) -> Result<(), AllocEr
     room.row.clear();
     room.row.extend_from_slice(net.last)?;
     for after in 0..net.subjects.len() {
-        let subject = net.subjects[net.subjects.len() - 1 - after];
+        let subject = subject_before(net.subjects, after);
         let heads = room.row.as_slice();
         room.rows.extend_from_slice(heads)?;
         tails_of(store, subject, net.steps, heads, &mut room.reached)?;
@@ -186,6 +194,15 @@ pub(crate) fn top_row(rows: &[bool], count: usize) -> &[bool]
     ensures size { length result.now ≡ count }
 {
     &rows[rows.len() - count..]
+}
+
+/// Drops the last row of a list of rows.
+pub(crate) fn drop_top(rows: &mut Vec<bool>, count: usize)
+    requires { count ≤ length rows.old.items }
+    ensures { rows.new.items ≡ take (length rows.old.items - count) rows.old.items }
+{
+    let below = rows.len() - count;
+    rows.truncate(below);
 }
 
 /// Whether a state is marked.
@@ -244,8 +261,7 @@ fn narrow(
         let tails = room.reached.as_slice();
         heads_of(store, *subject, net.steps, tails, &mut room.row)?;
         swap(&mut room.reached, &mut room.row);
-        let below = room.rows.len() - count;
-        room.rows.truncate(below);
+        drop_top(&mut room.rows, count);
     }
     Ok(true)
 }

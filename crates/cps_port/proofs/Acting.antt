@@ -70,3 +70,19 @@ pub acts_twice : (b c d : Shared) (i : ℕ) (e f : Event) → i < actor_count b 
 acts_twice b c d i e f h l is m at =
     let count : actor_count c ≡ actor_count b = ap actor_count is ∙ same_count b.board i e in
     moved_on i i i b c d (acts b c i e h l is) (acts c d i f (omega arith) m at)
+
+-- an event keeps the model, and how many rows the board has
+same_rows : (b : BoardState) (i : ℕ) (e : Event) → length (board_after b i e).rows ≡ length b.rows
+same_rows b i Draw = refl
+same_rows b i (Publish e) = length-set b.rows e.row _
+same_rows b i Look = refl
+same_rows b i (Offer v) = refl
+same_rows b i (Raise l) = refl
+same_rows b i SeeUpper = refl
+same_rows b i SeeLower = refl
+
+pub stays_same : (c d : Shared) (i : ℕ) (e : Event) → d ≡ after c i e → (d.model ≡ c.model) × (length d.board.rows ≡ length c.board.rows)
+stays_same c d i e is = (ap (λ (x : Shared). x.model) is, ap (λ (x : Shared). length x.board.rows) is ∙ same_rows c.board i e)
+
+pub stays_same_twice : (b c d : Shared) (i : ℕ) (e f : Event) → c ≡ after b i e → d ≡ after c i f → (d.model ≡ b.model) × (length d.board.rows ≡ length b.board.rows)
+stays_same_twice b c d i e f is at = let x = stays_same b c i e is in let y = stays_same c d i f at in (y.0 ∙ x.0, y.1 ∙ x.1)

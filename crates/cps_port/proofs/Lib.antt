@@ -10,3 +10,4 @@ pub mod Seeing
 pub mod Attained
 pub mod Places
 pub mod InOrder
+pub mod Wording

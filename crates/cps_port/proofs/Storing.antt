@@ -17,7 +17,7 @@ use Rattle.cps_port.specs.declared.seat.Row.{Row}
 use Rattle.cps_port.specs.declared.seat.Seat.{Seat}
 use Rattle.cps_port.specs.Order.{lesser, greater, raised_to}
 use Rattle.cps_port.specs.Parts.{no_rows, no_bounds, with_row, with_past, with_mine, with_taken, with_misses, after_upper, after_lower, after_offer, after_raise}
-use Rattle.cps_port.specs.Shared.{Shared, first_shared, board_part, bounds_part, next_row, counted, drawn_by, looked_by, actor_count, after, IsLawful}
+use Rattle.cps_port.specs.Shared.{Shared, first_shared, board_part, bounds_part, next_row, row_drawn, counted, drawn_by, looked_by, actor_count, after, IsLawful}
 use Rattle.cps_port.specs.Sound.{IsSoundShared}
 use Rattle.cps_port.specs.Totals.{total, one_if}
 use Rattle.cps_port.specs.Kept.{full_count, IsStateKept}
@@ -164,6 +164,16 @@ module _ (m : CpModel) (rows : List Row) (next : ℕ) (seats : List Seat) (upper
     -- the count of draws stays far below its type's end
     pub next_small : next < 2 ^ 34
     next_small = let n = w.kept.board.next in let t = total_full (seat_parts rows 0 seats) in let l = length-seat_parts rows 0 seats in let a = w.stored.actors in let f = w.kept.few in omega arith
+
+    -- a row has a number of 32 bits
+    pub row_small : next < length rows → next < 2 ^ 32
+    row_small room = let f = w.kept.few in let l = length-map rows row_entry in omega arith
+
+    pub row_left : next < length rows → Some next ≡ row_drawn c.board
+    row_left room = sym (ap (λ (x : Shared). row_drawn x.board) (sym is) ∙ ap (λ (t : Bool). if t then Some next else None) (is_below next (length (map row_entry rows)) (let l = length-map rows row_entry in omega arith)))
+
+    pub no_row_left : length rows ≤ next → None ≡ row_drawn c.board
+    no_row_left past = sym (ap (λ (x : Shared). row_drawn x.board) (sym is) ∙ ap (λ (t : Bool). if t then Some next else None) (not_below next (length (map row_entry rows)) (let l = length-map rows row_entry in omega arith)))
 
     here : i < actor_count C
     here = subst (λ (x : Shared). i < actor_count x) (sym is) h

@@ -7,7 +7,7 @@
 ghost use Rattle.std.specs.Prelude.{◌≡◌, ◌<◌, ◌≤◌, ◌^◌, ◌↔◌, IfOk, IsTrue, length};
 ghost use Rattle.cps_model.specs.Start.{objective_start};
 ghost use Rattle.cps_port.specs.Entries.{most_rows};
-ghost use Rattle.cps_port.specs.Shared.{first_shared, actor_count, board_part, next_row, row_drawn, after, seen, counted, IsLawful};
+ghost use Rattle.cps_port.specs.Shared.{first_shared, actor_count, board_part, next_row, row_drawn, after, seen, drawn_now, looked_at, counted, IsLawful};
 ghost use Rattle.cps_port.specs.Sound.{IsSoundShared, StaysSound};
 ghost use Rattle.cps_port.specs.Order.{lesser, greater};
 
@@ -54,6 +54,26 @@ fn counted(count: u64) -> u64
     if count < u64::MAX { count + 1 } else { count }
 }
 
+/// What an actor sees of its draw.
+fn drawn(row: Option<u32>) -> Seen
+    ensures { result ≡ drawn_now row }
+{
+    match row {
+        Some(row) => Seen::Row(row),
+        None => Seen::Past,
+    }
+}
+
+/// What an actor sees of its look.
+fn looked(entry: Option<Entry>) -> Seen
+    ensures { result ≡ looked_at entry }
+{
+    match entry {
+        Some(entry) => Seen::Open(entry),
+        None => Seen::Shut,
+    }
+}
+
 impl<'a> CoreState<'a> {
     /// The state before the first event, of `actors` actors and `rows` rows. The upper bound begins `Infinite`, and the
     /// lower one at the least objective that the domains allow.
@@ -94,18 +114,12 @@ impl<'a> CoreState<'a> {
         ensures sound { IsSoundShared self.old × IsSoundShared self.new }
     {
         match event {
-            Event::Draw => match self.draw(actor) {
-                Some(row) => Seen::Row(row),
-                None => Seen::Past,
-            },
+            Event::Draw => drawn(self.draw(actor)),
             Event::Publish(entry) => {
                 self.publish(actor, entry);
                 Seen::Done
             }
-            Event::Look => match self.look(actor) {
-                Some(entry) => Seen::Open(entry),
-                None => Seen::Shut,
-            },
+            Event::Look => looked(self.look(actor)),
             Event::Offer(value) => Seen::Word(self.offer(actor, value)),
             Event::Raise(bound) => Seen::Word(self.raise(actor, bound)),
             Event::SeeUpper => Seen::Word(self.see_upper(actor)),

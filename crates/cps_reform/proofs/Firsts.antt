@@ -1,31 +1,29 @@
 -- The first form of an objective, term by term.
-use Rattle.std.specs.Prelude.{All, max, unsigned_abs}
-use Rattle.std.specs.Int.{int_min, int_max}
+use Rattle.std.specs.Prelude.{All, unsigned_abs}
 use Rattle.std.specs.List.{AllZip}
-use Rattle.std.proofs.Common.{◌≡◌, ℕ, ◌+◌, ◌*◌, ◌<◌, ◌≤◌, ◌^◌, false, List, [], ◌∷◌, ◌++◌, length, refl, sym, ◌∙◌, ap, subst, arith, ℤ, pos, negsuc, ◌+ℤ◌, ◌*ℤ◌, ◌≤ℤ◌}
+use Rattle.std.proofs.Common.{◌≡◌, ℕ, ◌+◌, ◌*◌, ◌<◌, ◌≤◌, ◌^◌, false, List, [], ◌∷◌, ◌++◌, length, refl, sym, ◌∙◌, ap, subst, arith, ℤ, pos, ◌+ℤ◌, ◌*ℤ◌, ◌≤ℤ◌}
 use Rattle.std.proofs.lemmas.Int.{ints}
 use Rattle.std.proofs.lemmas.List.Elements.{All-nil, All-cons, All-head, All-tail, All-weaker, All-get_or}
 use Rattle.cps_model.specs.declared.bound.Bound.{Bound}
 use Rattle.cps_model.specs.declared.model.CpModel.{CpModel}
-use Rattle.cps_model.specs.Solutions.{objective_value, IsSolution}
+use Rattle.cps_model.specs.Solutions.{IsSolution}
 use Rattle.cps_literal.specs.Truth.{value_at}
 use Rattle.cps_instance.specs.declared.term.Term.{Term}
 use Rattle.cps_instance.specs.Posting.{objective_terms}
 use Rattle.cps_instance.specs.Problem.{Problem, Defines, IsAssignment, IsInstance, variable_count}
-use Rattle.cps_instance.specs.Sums.{AreSumsFrom, DefinedSum, extended, sum_value}
-use Rattle.cps_instance.specs.Terms.{AreIntervals, Domains, Intervals, domain_at, greatest_of, least_of, magnitude, term_subjects, terms_reach, terms_value}
+use Rattle.cps_instance.specs.Sums.{DefinedSum, extended, sum_value}
+use Rattle.cps_instance.specs.Terms.{AreIntervals, Domains, Intervals, domain_at, least_of, magnitude, terms_reach, terms_value}
 use Rattle.cps_instance.proofs.Extending.{agree-append, length-extended}
 use Rattle.cps_instance.proofs.Growing.{same-append}
 use Rattle.cps_instance.proofs.Intervals.{least_of-least}
 use Rattle.cps_instance.proofs.Solving.{extended_within}
 use Rattle.cps_reform.specs.declared.held.Held.{Held}
 use Rattle.cps_reform.specs.Beginning.{StandsForTerm, IsFirstForm, IsHeldFirst}
-use Rattle.cps_reform.specs.Floors.{IsReform, OfEachBelow}
+use Rattle.cps_reform.specs.Floors.{IsReform}
 use Rattle.cps_reform.specs.Forms.{Form, IsAbove, IsHeldInDomain, FitsTypes, form_value, held_reach, with_held}
-use Rattle.cps_reform.proofs.Floors.{Reformulates-defined, defined-values, excess-longer}
-use Rattle.cps_reform.proofs.Growing.{counts, held_reach-longer, last_sum, roomy-longer}
+use Rattle.cps_reform.proofs.Floors.{defined-values, excess-longer}
+use Rattle.cps_reform.proofs.Growing.{held_reach-longer, roomy-longer}
 use Rattle.cps_reform.proofs.Objectives.{has-terms}
-use Rattle.cps_reform.proofs.Steps.{assigned}
 
 terms_value-push : (xs : List ℤ) (ts : List Term) (t : Term) → terms_value xs (ts ++ t ∷ []) ≡ terms_value xs ts +ℤ t.coeff *ℤ value_at xs t.subject
 terms_value-push xs [] t = omega (arith, ints)

@@ -9,3 +9,4 @@ pub mod Steps
 pub mod Pasts
 pub mod Growing
 pub mod Firsts
+pub mod Words

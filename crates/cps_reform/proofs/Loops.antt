@@ -1,12 +1,13 @@
 -- Loops over the terms of a core.
 use Rattle.std.specs.Prelude.{unsigned_abs, if◌then◌else◌, min}
-use Rattle.std.proofs.Common.{◌≡◌, ℕ, zero, suc, ◌+◌, ◌-◌, ◌<◌, ◌≤◌, ◌^◌, List, [], ◌∷◌, ◌++◌, true, false, length, map, set, get_or, take, drop, refl, ap, arith, add-one, ℤ, pos, ◌+ℤ◌}
+use Rattle.std.proofs.Common.{◌≡◌, ℕ, zero, suc, ◌+◌, ◌-◌, ◌<◌, ◌≤◌, ◌^◌, List, [], ◌∷◌, ◌++◌, true, false, length, map, set, get_or, take, drop, refl, sym, ◌∙◌, ap, subst, append_assoc, append-nil, arith, add-one, ℤ, pos, ◌+ℤ◌}
 use Rattle.std.proofs.lemmas.Int.{ints}
 use Rattle.std.proofs.Math.ListN.{drop_of_length-le}
 use Rattle.std.proofs.lemmas.List.{drop_more}
 use Rattle.cps_model.proofs.Sums.{unsigned_abs-add}
 use Rattle.cps_reform.specs.declared.held.Held.{Held}
-use Rattle.cps_reform.specs.Cores.{core_bound, core_size, least_weight}
+use Rattle.cps_instance.specs.declared.term.Term.{Term}
+use Rattle.cps_reform.specs.Cores.{core_bound, core_size, core_terms, least_weight, WeighAtLeast}
 
 pub least-most : (ts : List Held) → least_weight ts ≤ 2 ^ 64 - 1
 least-most [] = omega arith
@@ -52,3 +53,31 @@ pub least-last : (ts : List Held) (k least : ℕ) → length ts ≤ k → least 
 least-last ts k least l f h =
     let e : least_weight (drop k ts) ≡ 2 ^ 64 - 1 = ap least_weight (drop_of_length-le ts l) in
     omega arith
+
+-- one more term of a core
+core-cons : (t : Held) (ts : List Held) → core_terms (t ∷ ts) ≡ core_terms (t ∷ []) ++ core_terms ts
+core-cons t ts = elim (t.in_core) as (λ b. (if b then record { coeff = pos 1; subject = t.subject } ∷ core_terms ts else core_terms ts) ≡ (if b then record { coeff = pos 1; subject = t.subject } ∷ [] else []) ++ core_terms ts) [ true ↦ refl | false ↦ refl ]
+
+pub core-step : (ts us : List Held) (k : ℕ) (d : Held) (whole sofar now : List Term) → ts ≡ us → k < length ts → now ≡ sofar ++ core_terms (get_or ts k d ∷ []) → whole ≡ sofar ++ core_terms (drop k us) → whole ≡ now ++ core_terms (drop (k + 1) us)
+core-step ts us k d whole sofar now same l is h =
+    h ∙ ap (λ (vs : List Held). sofar ++ core_terms (drop k vs)) (sym same)
+    ∙ ap (λ (vs : List Held). sofar ++ core_terms vs) (drop_more ts k d l)
+    ∙ ap (λ (xs : List Term). sofar ++ xs) (core-cons (get_or ts k d) (drop (k + 1) ts))
+    ∙ sym (append_assoc sofar (core_terms (get_or ts k d ∷ [])) (core_terms (drop (k + 1) ts)))
+    ∙ ap (λ (xs : List Term). xs ++ core_terms (drop (k + 1) ts)) (sym is)
+    ∙ ap (λ (vs : List Held). now ++ core_terms (drop (k + 1) vs)) same
+
+pub core-last : (ts us : List Held) (k : ℕ) (whole sofar : List Term) → ts ≡ us → length ts ≤ k → whole ≡ sofar ++ core_terms (drop k us) → sofar ≡ whole
+core-last ts us k whole sofar same l h =
+    sym (append-nil sofar) ∙ ap (λ (vs : List Held). sofar ++ core_terms vs) (sym (drop_of_length-le ts l)) ∙ ap (λ (vs : List Held). sofar ++ core_terms (drop k vs)) same ∙ sym h
+
+-- the next term of which the weight falls has its weight still
+next_kept : (f : Held → Held) (ts : List Held) (k : ℕ) (d : Held) → k < length ts → get_or (map f (take k ts) ++ drop k ts) k d ≡ get_or ts k d
+next_kept f [] k d l = absurd (let h : k < 0 = l in omega arith)
+next_kept f (t ∷ ts) zero d l = refl
+next_kept f (t ∷ ts) (suc k) d l = next_kept f ts k d (omega arith)
+
+pub weighs_next : (f : Held → Held) (ts us : List Held) (k w : ℕ) (d : Held) → k < length ts → us ≡ map f (take k ts) ++ drop k ts → WeighAtLeast w ts → (get_or us k d).in_core ≡ true → w ≤ (get_or us k d).weight
+weighs_next f ts us k w d l is h =
+    let same : get_or us k d ≡ get_or ts k d = ap (λ (vs : List Held). get_or vs k d) is ∙ next_kept f ts k d l in
+    subst (λ (t : Held). t.in_core ≡ true → w ≤ t.weight) (sym same) (h k d l)

@@ -2,9 +2,9 @@
 use Rattle.std.specs.Option.{option_or}
 use Rattle.std.specs.List.{list_any}
 use Rattle.std.specs.Str.{bytes_eq}
-use Rattle.std.proofs.Common.{◌≡◌, ℕ, ◌+◌, ◌<◌, suc, List, [], ◌∷◌, ◌++◌, ◌||◌, ◌&&◌, Bool, true, false, not, cond, if◌then◌else◌, map, length, get_or, Option, Some, None, append_assoc, append-nil, zero-add, refl, sym, ap, ◌∙◌, arith, IsTrue, OnOk, IfErr, Result, Ok, Err}
+use Rattle.std.proofs.Common.{◌≡◌, ℕ, ◌+◌, ◌<◌, suc, List, [], ◌∷◌, ◌++◌, ◌||◌, ◌&&◌, Bool, true, false, not, if◌then◌else◌, map, length, take, get_or, Option, Some, None, append_assoc, append-nil, zero-add, refl, sym, ap, ◌∙◌, arith, OnOk, IfErr, Result, Ok, Err}
 use Rattle.std.proofs.Math.ListN.{set}
-use Rattle.std.proofs.lemmas.List.{map-append}
+use Rattle.std.proofs.lemmas.List.{map-append, take_more}
 use Rattle.std.proofs.lemmas.Slice.Eq.{bytes_eq-Decides}
 use Rattle.cps_textproto.specs.declared.tree.Field.{Field}
 use Rattle.cps_textproto.specs.Trees.{Tree, Values, no_fields, values_of}
@@ -22,13 +22,13 @@ use Rattle.cps_schema.specs.declared.gather.Line.{Line}
 use Rattle.cps_schema.specs.declared.gather.Slot.{Slot}
 use Rattle.cps_schema.specs.declared.gather.Gathered.{Gathered}
 use Rattle.cps_schema.specs.Written.{Written, token_text}
-use Rattle.cps_schema.specs.Tables.{Message, Content, Use, Table, use_in, use_of, table_of, unsupported_names, is_given}
+use Rattle.cps_schema.specs.Tables.{Message, use_in, use_of, table_of, is_given}
 use Rattle.cps_schema.specs.Faults.{refused_at, is_alone, alone_fault, is_other_form, has_other_form, values_fault, fields_fault}
 use Rattle.cps_schema.specs.Answers.{Refuses}
 use Rattle.cps_schema.specs.Steps.{field_then, Passes, Stops}
 use Rattle.cps_schema.specs.Slots.{AreGivenSlots}
 use Rattle.cps_schema.specs.Parts.{is_other}
-use Rattle.cps_schema.specs.Gathered.{content_taken, use_taken, contents_of, takes_one, form_taken, entry_of, IsTableOf, are_apart, GatheredFields, nothing, joined, found_in, found_of, found, held, lines_of, found_from, all_from, marks, IsGathered, is_mixed, line_fault, form_behind, line_place}
+use Rattle.cps_schema.specs.Gathered.{content_taken, use_taken, contents_of, form_taken, entry_of, IsTableOf, are_apart, GatheredFields, nothing, joined, found_in, found_of, found, held, lines_of, found_from, all_from, marks, IsGathered, is_mixed, line_fault, form_behind, line_place}
 use Rattle.cps_schema.proofs.Steps.{next_given, refused_stops}
 use Rattle.cps_schema.proofs.Forms.{next_form, joined_form}
 
@@ -185,6 +185,19 @@ pub record Placed (slots : List Slot) (name : List ℕ) (place : ℕ) : Type 0 w
   pub named : (d : Slot) → slot_named slots name ≡ Some (get_or slots place d)
   pub put : (new : Slot) → set slots place new ≡ put_named slots name new
 
+-- a place behind the first of these
+next_within : (slot : Slot) (slots : List Slot) (j : ℕ) → j < length slots → suc j < length (slot ∷ slots)
+next_within slot slots j h = omega arith
+
+first_within : (slot : Slot) (slots : List Slot) → 0 < length (slot ∷ slots)
+first_within slot slots = omega arith
+
+next_place : (place j k : ℕ) → place ≡ j + (k + 1) → place ≡ suc j + k
+next_place place j k e = omega arith
+
+same_place : (k place : ℕ) → Some k ≡ Some place → place ≡ 0 + k
+same_place k place e = (let same : place ≡ k = cc in same) ∙ sym (zero-add k)
+
 place_behind : (k : ℕ) (slots : List Slot) (name : List ℕ) (place : ℕ) → line_place k slots name ≡ Some place →
     (j : ℕ) × (place ≡ j + k) × Placed slots name j
 place_behind k [] name place e = cc
@@ -195,15 +208,14 @@ place_behind k (slot ∷ slots) name place e =
           (j : ℕ) × (place ≡ j + k) × Placed (slot ∷ slots) name j
       by_test true t more =
           let this : Some k ≡ Some place = rw t at e in
-          let same : place ≡ k = cc in
-          (0, same ∙ sym (zero-add k), record { within = omega arith; named = λ d. rw t refl; put = λ new. rw t refl })
+          (0, same_place k place this, record { within = first_within slot slots; named = λ d. rw t refl; put = λ new. rw t refl })
       by_test false t more =
           let other : line_place (k + 1) slots name ≡ Some place = rw t at e in
           let rest = more other in (
             suc rest.0,
-            (let same : place ≡ rest.0 + (k + 1) = rest.1 in omega arith),
+            next_place place rest.0 k rest.1,
             record {
-              within = (let below : rest.0 < length slots = rest.2.within in omega arith);
+              within = next_within slot slots rest.0 rest.2.within;
               named = λ d. rw t (rest.2.named d);
               put = λ new. rw t (ap (λ (ss : List Slot). slot ∷ ss) (rest.2.put new));
             },
@@ -393,6 +405,19 @@ all_step w f rest (s ∷ slots) old new e same added apart =
           ∙ ap (λ (hs : List GatheredFields). found_from w rest s ∷ hs) (more other))
 
 -- before any field, and behind the last
+
+-- the slot of one line more
+pub slots_more : (slots new : List Slot) (slot : Slot) (lines : List Line) (i : ℕ) (d : Line) → i < length lines → slot.line ≡ get_or lines i d → held slot ≡ nothing →
+    new ≡ slots ++ slot ∷ [] → (lines_of slots ≡ take i lines) × (map held slots ≡ map (λ (line : Line). nothing) (take i lines)) →
+    (lines_of new ≡ take (i + 1) lines) × (map held new ≡ map (λ (line : Line). nothing) (take (i + 1) lines))
+slots_more slots new slot lines i d h same empty added before =
+    let more : take (i + 1) lines ≡ take i lines ++ get_or lines i d ∷ [] = take_more lines i d h in (
+      ap lines_of added ∙ map-append (λ (s : Slot). s.line) slots (slot ∷ []) ∙ ap (λ (line : Line). lines_of slots ++ line ∷ []) same
+          ∙ ap (λ (ls : List Line). ls ++ get_or lines i d ∷ []) before.0 ∙ sym more,
+      ap (map held) added ∙ map-append held slots (slot ∷ []) ∙ ap (λ (h : GatheredFields). map held slots ++ h ∷ []) empty
+          ∙ ap (λ (hs : List GatheredFields). hs ++ nothing ∷ []) before.1
+          ∙ sym (ap (map (λ (line : Line). nothing)) more ∙ map-append (λ (line : Line). nothing) (take i lines) (get_or lines i d ∷ [])),
+    )
 
 pub all_first : (w : Written) (tree : Tree) (slots : List Slot) → map held slots ≡ map (λ (line : Line). nothing) (lines_of slots) →
     all_from w slots tree ≡ map (found w tree) (lines_of slots)

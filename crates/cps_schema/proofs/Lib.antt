@@ -11,6 +11,7 @@ pub mod GivenKinds
 pub mod ModelFields
 pub mod Laws
 pub mod Loops
+pub mod Scalars
 pub mod TruthValues
 pub mod Gatherings
 pub mod Opened

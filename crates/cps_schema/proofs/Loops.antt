@@ -1,17 +1,22 @@
 -- One field more of a message, and one value more of a list.
+use Rattle.std.specs.List.{flat_map}
 use Rattle.std.specs.Option.{option_or, unwrap_or}
-use Rattle.std.proofs.Common.{◌≡◌, ℕ, ◌+◌, ◌<◌, ◌≤◌, ◌++◌, Bool, false, List, [], ◌∷◌, ℤ, Option, Some, None, length, get_or, drop, refl, sym, ap, ◌∙◌, arith, append_assoc}
+use Rattle.std.proofs.Common.{◌≡◌, ℕ, ◌+◌, ◌<◌, ◌≤◌, ◌++◌, Bool, false, List, [], ◌∷◌, ℤ, Option, Some, None, length, get_or, drop, refl, sym, ap, ◌∙◌, arith, append_assoc, append-nil, add-one, drop-cons}
 use Rattle.std.proofs.lemmas.Grind.{common_steps}
 use Rattle.std.proofs.lemmas.List.{drop_all}
 use Rattle.cps_textproto.specs.declared.tree.Field.{Field}
 use Rattle.cps_textproto.specs.declared.tree.Nested.{Nested, out-Nested}
 use Rattle.cps_textproto.specs.declared.tree.TokenRange.{TokenRange}
-use Rattle.cps_textproto.specs.Trees.{Tree, no_fields, tree_of, field_list, Values, scalar_value, range_values}
+use Rattle.cps_textproto.specs.Trees.{Tree, no_fields, tree_of, field_list, Values, no_values, scalar_value, range_values}
+use Rattle.cps_lex.specs.declared.types.Token.{Token}
+use Rattle.cps_lex.specs.Tokens.{text_of}
+use Rattle.cps_lex.specs.Texts.{text_value}
 use Rattle.cps_model.specs.declared.fault.FaultName.{FaultName}
 use Rattle.cps_schema.specs.declared.error.SchemaError.{SchemaError}
 use Rattle.cps_schema.specs.declared.error.SchemaError.TheVariants.{Fault, OutOfMemory}
 use Rattle.cps_schema.specs.Written.{Written, token_text, number_at}
 use Rattle.cps_schema.specs.Tables.{Message, Content}
+use Rattle.cps_schema.specs.Texts.{string_value}
 use Rattle.cps_schema.specs.Truths.{truth_at}
 use Rattle.cps_schema.specs.Readings.{value_numbers, value_truths}
 use Rattle.cps_schema.specs.Faults.{refused_at, scalar_fault, values_fault, fields_fault}
@@ -106,3 +111,28 @@ pub truth_added : (d : TokenRange) (w : Written) (old new : List Bool) (list : L
     → old ++ value_truths w (range_values (drop i list)) ≡ new ++ value_truths w (range_values (drop (i + 1) list))
 truth_added d w old new list i h added =
     ap (λ (vs : Values). old ++ value_truths w vs) (cut_range d list i h) ∙ simp (added, append_assoc)
+
+-- what all scalars of a list give, behind the last of them
+pub all_added : {X : Type 0} (give : Values → List X) (old new : List X) (list : List TokenRange) (i : ℕ) → give no_values ≡ [] → length list ≤ i
+    → old ++ give (range_values list) ≡ new ++ give (range_values (drop i list)) → new ≡ old ++ give (range_values list)
+all_added {X} give old new list i none past kept =
+    sym (kept ∙ ap (λ (rs : List TokenRange). new ++ give (range_values rs)) (drop_all i list past) ∙ ap (λ (xs : List X). new ++ xs) none ∙ append-nil new)
+
+-- and all messages of one
+pub all_listed : {X : Type 0} (give : List Tree → List X) (old new : List X) (list : List Nested) (i : ℕ) → give [] ≡ [] → length list ≤ i
+    → old ++ give (nested_trees list) ≡ new ++ give (nested_trees (drop i list)) → new ≡ old ++ give (nested_trees list)
+all_listed {X} give old new list i none past kept =
+    sym (kept ∙ ap (λ (ms : List Nested). new ++ give (nested_trees ms)) (drop_all i list past) ∙ ap (λ (xs : List X). new ++ xs) none ∙ append-nil new)
+
+-- the bytes of one string more
+pub text_added : (bytes : List ℕ) (d : Token) (tokens : List Token) (i : ℕ) (old new text whole : List ℕ) → i < length tokens → text ≡ text_of bytes (get_or tokens i d)
+    → new ≡ old ++ text_value text → old ++ flat_map (string_value bytes) (drop i tokens) ≡ whole → new ++ flat_map (string_value bytes) (drop (i + 1) tokens) ≡ whole
+text_added bytes d tokens i old new text whole h is added kept =
+    let cut : drop i tokens ≡ get_or tokens i d ∷ drop (i + 1) tokens = rw (drop-cons tokens i d h, add-one) refl in
+    rw (added, is, append_assoc) (ap (λ (ts : List Token). old ++ flat_map (string_value bytes) ts) (sym cut) ∙ kept)
+
+-- and of all strings
+pub texts_joined : (bytes : List ℕ) (tokens : List Token) (i : ℕ) (value whole : List ℕ) → length tokens ≤ i
+    → value ++ flat_map (string_value bytes) (drop i tokens) ≡ whole → value ≡ whole
+texts_joined bytes tokens i value whole past kept =
+    sym (append-nil value) ∙ ap (λ (ts : List Token). value ++ flat_map (string_value bytes) ts) (sym (drop_all i tokens past)) ∙ kept

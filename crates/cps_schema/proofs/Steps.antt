@@ -1,8 +1,7 @@
 -- What a field of each use does to the first fault of a message.
 use Rattle.std.specs.Str.{bytes_eq}
 use Rattle.std.specs.Option.{option_or}
-use Rattle.std.proofs.Common.{◌≡◌, ℕ, List, ◌∷◌, ◌||◌, Bool, true, false, Option, Some, None, Result, Ok, Err, if◌then◌else◌, OnOk, IfErr, nat_eq, refl, sym, ◌∙◌}
-use Rattle.std.specs.Cmp.Lexicographic.{pointwise}
+use Rattle.std.proofs.Common.{◌≡◌, ℕ, List, ◌∷◌, ◌||◌, Bool, true, false, Option, Some, None, Result, Ok, Err, if◌then◌else◌, OnOk, IfOk, IfErr, refl, sym, ◌∙◌}
 use Rattle.std.proofs.lemmas.Slice.Eq.{bytes_eq-Decides}
 use Rattle.cps_textproto.specs.declared.tree.Field.{Field}
 use Rattle.cps_textproto.specs.Trees.{Tree, values_of}
@@ -16,17 +15,13 @@ use Rattle.cps_schema.specs.Inputs.{single_fault}
 use Rattle.cps_schema.specs.Answers.{Refuses}
 use Rattle.cps_schema.specs.Steps.{Passes, Stops, KindStops, ClosablePasses, ClosableStops, field_then}
 
--- a test of a name that came out true
-pub same_text : (a b : List ℕ) (r : Bool) → r ≡ pointwise nat_eq a b → r ≡ true → a ≡ b
-same_text a b r e t = (bytes_eq-Decides a b).0 (sym e ∙ t)
+-- a test of a text that came out true
+pub same_name : {a text name : List ℕ} {r : Bool} → r ≡ bytes_eq a name → r ≡ true → a ≡ text → text ≡ name
+same_name {a} {text} {name} e t s = sym s ∙ (bytes_eq-Decides a name).0 (sym e ∙ t)
 
--- the texts that stand for these are the same, too
-pub same_name : (a b text name : List ℕ) (r : Bool) → r ≡ pointwise nat_eq a b → r ≡ true → a ≡ text → b ≡ name → text ≡ name
-same_name a b text name r e t s n = sym s ∙ (same_text a b r e t ∙ n)
-
--- and one that came out false, of texts that are other names of these
-pub other_text : (a b text name : List ℕ) (r : Bool) → r ≡ pointwise nat_eq a b → r ≡ false → a ≡ text → b ≡ name → bytes_eq text name ≡ false
-other_text a b text name r e t s n = rw (← s, ← n) (sym e ∙ t)
+-- and one that came out false
+pub other_name : {a text : List ℕ} {r : Bool} (name : List ℕ) → r ≡ bytes_eq a name → r ≡ false → a ≡ text → bytes_eq text name ≡ false
+other_name name e t s = rw (← s) (sym e ∙ t)
 
 -- what a field takes whose name is in its message's table
 pub table_use : (m : Message) (text name : List ℕ) (takes : Use) → text ≡ name → use_in (table_of m) name ≡ Some takes → use_of m text ≡ Some takes
@@ -148,6 +143,11 @@ pub closable_refused : (w : Written) (m : Message) (f : Field) (content : Conten
     IfErr r (λ e. (before : List (List ℕ)) → Stops w m before f e)
 closable_refused w m f content (Ok x) takes stops = stops
 closable_refused w m f content (Err e) takes stops = λ before. stops m before takes
+
+-- a fact that does not depend on what is read
+pub if_read : {A E : Type 0} (r : Result A E) {P : Type 0} → P → IfOk r (λ _. P)
+if_read (Ok x) fact = fact
+if_read (Err e) fact = tt
 
 -- a kind that the table closes
 pub closed_stops : (w : Written) (m : Message) (before : List (List ℕ)) (f : Field) (k : Message) →

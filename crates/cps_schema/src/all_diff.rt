@@ -27,7 +27,7 @@ pub(crate) fn read_all_diff(alloc: Global, input: &Input, node: &Node) -> Result
     ensures err { IfErr result (Refuses (fields_fault (written_of input.now) all_diff_message [] (tree_of node.now))) }
 {
     let mut slots = match gather(alloc, input, &FIELDS, node) {
-        Ok(slots) => slots.into_iter(),
+        Ok(slots) => slots,
         Err(error) => return Err(error),
     };
     Ok(Kind::AllDiff(next_expressions(alloc, &mut slots)))

@@ -40,7 +40,7 @@ fn read_argument(alloc: Global, input: &Input, node: &Node) -> Result<Argument, 
         (fields_fault (written_of input.now) linear_argument_message [] (tree_of node.now))) }
 {
     let mut slots = match gather(alloc, input, &FIELDS, node) {
-        Ok(slots) => slots.into_iter(),
+        Ok(slots) => slots,
         Err(error) => return Err(error),
     };
     Ok(Argument {

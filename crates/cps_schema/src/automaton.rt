@@ -37,7 +37,7 @@ pub(crate) fn read_automaton(alloc: Global, input: &Input, node: &Node) -> Resul
         (fields_fault (written_of input.now) automaton_message [] (tree_of node.now))) }
 {
     let mut slots = match gather(alloc, input, &FIELDS, node) {
-        Ok(slots) => slots.into_iter(),
+        Ok(slots) => slots,
         Err(error) => return Err(error),
     };
     Ok(Kind::Automaton {

@@ -31,7 +31,7 @@ pub(crate) fn read_circuit(alloc: Global, input: &Input, node: &Node) -> Result<
     ensures err { IfErr result (Refuses (fields_fault (written_of input.now) circuit_message [] (tree_of node.now))) }
 {
     let mut slots = match gather(alloc, input, &FIELDS, node) {
-        Ok(slots) => slots.into_iter(),
+        Ok(slots) => slots,
         Err(error) => return Err(error),
     };
     Ok(Kind::Circuit {

@@ -12,7 +12,7 @@ ghost use Rattle.cps_schema.specs.Steps.{field_then, Passes, Stops};
 ghost use Rattle.cps_schema.specs.Parts.{constraint_from, IsConstraintGiven};
 
 use super::error::SchemaError;
-use super::input::{Input, token_text};
+use super::input::{Input, same_text, token_text};
 use super::kind::{GivenKind, kind_named, set_kind};
 use super::lists::add_refs;
 use super::message::Message;
@@ -51,9 +51,9 @@ fn add_field(
         Stops (written_of input.now) constraint_message before field.now e) }
 {
     let name = token_text(input, field.name as usize);
-    if name == b"name".as_slice() {
+    if same_text(name, b"name") {
         set_name(alloc, input, &mut parts.name, field)
-    } else if name == b"enforcement_literal".as_slice() {
+    } else if same_text(name, b"enforcement_literal") {
         add_refs(input, &mut parts.enforcement, field)
     } else if let Some(kind) = kind_named(name) {
         set_kind(alloc, input, &mut parts.given, kind, field)

@@ -36,7 +36,7 @@ pub(crate) fn read_cumulative(
         (fields_fault (written_of input.now) cumulative_message [] (tree_of node.now))) }
 {
     let mut slots = match gather(alloc, input, &FIELDS, node) {
-        Ok(slots) => slots.into_iter(),
+        Ok(slots) => slots,
         Err(error) => return Err(error),
     };
     Ok(Kind::Cumulative {

@@ -133,7 +133,7 @@ pub(crate) fn read_element(alloc: Global, input: &Input, node: &Node) -> Result<
     ensures err { IfErr result (Refuses (fields_fault (written_of input.now) element_message [] (tree_of node.now))) }
 {
     let mut slots = match gather(alloc, input, &FIELDS, node) {
-        Ok(slots) => slots.into_iter(),
+        Ok(slots) => slots,
         Err(error) => return Err(error),
     };
     let newer = next_newer(alloc, &mut slots);

@@ -14,7 +14,7 @@ ghost use Rattle.cps_schema.specs.Slots.{AreGivenSlots};
 ghost use Rattle.cps_schema.specs.Parts.{expression_from, expression_slots};
 
 use super::error::SchemaError;
-use super::input::{Input, token_text};
+use super::input::{Input, same_text, token_text};
 use super::lists::{add_ints, add_refs};
 use super::message::Message;
 use super::names::refused_field;
@@ -47,11 +47,11 @@ fn add_field(input: &Input, parts: &mut ExpressionParts, field: &Field) -> Resul
         Stops (written_of input.now) expression_message before field.now e) }
 {
     let name = token_text(input, field.name as usize);
-    if name == b"vars".as_slice() {
+    if same_text(name, b"vars") {
         add_refs(input, &mut parts.vars, field)
-    } else if name == b"coeffs".as_slice() {
+    } else if same_text(name, b"coeffs") {
         add_ints(input, &mut parts.coeffs, field)
-    } else if name == b"offset".as_slice() {
+    } else if same_text(name, b"offset") {
         set_number(input, Number::Int64, &mut parts.offset, field)
     } else {
         Err(refused_field(input, &UNSUPPORTED, field.name))

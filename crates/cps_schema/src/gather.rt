@@ -14,11 +14,11 @@ ghost use Rattle.cps_schema.specs.Faults.{refused_at, values_fault, fields_fault
 ghost use Rattle.cps_schema.specs.Answers.{Refuses};
 ghost use Rattle.cps_schema.specs.Steps.{field_then, Passes, Stops};
 ghost use Rattle.cps_schema.specs.Parts.{is_other};
-ghost use Rattle.cps_schema.specs.Gathered.{content_taken, contents_of, takes_one, form_taken, IsTableOf, are_apart, nothing, joined, found_in, found, held, lines_of, all_from, IsGathered, is_mixed, again_fault, many_fault, line_fault, form_behind, line_place};
+ghost use Rattle.cps_schema.specs.Gathered.{content_taken, contents_of, takes_one, form_taken, IsTableOf, are_apart, nothing, joined, found_in, found, held, lines_of, all_from, IsGathered, is_mixed, again_fault, many_fault, line_fault, form_behind, line_place, left};
 
 use super::error::SchemaError;
 use super::form::{Form, is_other};
-use super::input::{Input, token_text};
+use super::input::{Input, same_text, token_text};
 use super::lists::{add_ints, add_refs};
 use super::message::add_messages;
 use super::names::refused_field;
@@ -27,6 +27,7 @@ use super::truth::add_truths;
 use cps_model::{FaultName, LinearExpr};
 use cps_textproto::{Field, Node};
 use std::alloc::{AllocError, Global};
+use std::vec::IntoIter;
 
 /// What the values of a field are.
 #[derive(Clone, Copy)]
@@ -207,9 +208,8 @@ fn add_to(
     let one = takes_one(takes);
     check_again(one && slot.given, is_mixed(*form, takes), field)?;
     check_alone(input, one, field)?;
-    add_values(alloc, input, slot, field)?;
     *form = form_behind(*form, takes);
-    Ok(())
+    add_values(alloc, input, slot, field)
 }
 
 /// The place of the line with this name. `None` if there is no such line.
@@ -217,7 +217,7 @@ fn place_of(slots: &[Slot], name: &[u8]) -> Option<usize>
     ensures { result ≡ line_place 0 slots.now name.now }
 {
     for (i, slot) in slots.iter().enumerate() {
-        if name == slot.line.0 {
+        if same_text(name, slot.line.0) {
             return Some(i);
         }
     }
@@ -270,19 +270,19 @@ fn empty_slots(alloc: Global, lines: &[Line]) -> Result<Vec<Slot>, AllocError>
     Ok(slots)
 }
 
-/// Reads a message whose fields are those of these lines: a slot for each line, with what its fields give.
+/// Reads a message whose fields are those of these lines: a slot for each line, with what its fields give, in order.
 pub(crate) fn gather(
     alloc: Global,
     input: &Input,
     lines: &[Line],
     node: &Node,
-) -> Result<Vec<Slot>, SchemaError>
+) -> Result<IntoIter<Slot>, SchemaError>
     requires { are_apart lines.now ≡ true }
     ensures accepted { IfOk result
         (λ _. (m : Message) → IsTableOf m lines.now
         → fields_fault (written_of input.now) m [] (tree_of node.now) ≡ None) }
     ensures reading { IfOk result
-        (λ slots. map held slots.items ≡ map (found (written_of input.now) (tree_of node.now)) lines.now) }
+        (λ slots. left slots ≡ map (found (written_of input.now) (tree_of node.now)) lines.now) }
     ensures err { IfErr result (λ e. (m : Message) → IsTableOf m lines.now
         → Refuses (fields_fault (written_of input.now) m [] (tree_of node.now)) e) }
 {
@@ -297,5 +297,5 @@ pub(crate) fn gather(
         }
     }
     let Gathered { slots, .. } = parts;
-    Ok(slots)
+    Ok(slots.into_iter())
 }

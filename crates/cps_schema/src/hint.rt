@@ -10,7 +10,7 @@ ghost use Rattle.cps_schema.specs.Steps.{field_then, Passes, Stops};
 ghost use Rattle.cps_schema.specs.Parts.{hint_from};
 
 use super::error::SchemaError;
-use super::input::{Input, token_text};
+use super::input::{Input, same_text, token_text};
 use super::lists::{add_ints, add_refs};
 use super::message::Message;
 use super::names::refused_field;
@@ -40,9 +40,9 @@ fn add_field(input: &Input, parts: &mut HintParts, field: &Field) -> Result<(), 
         → Stops (written_of input.now) hint_message before field.now e) }
 {
     let name = token_text(input, field.name as usize);
-    if name == b"vars".as_slice() {
+    if same_text(name, b"vars") {
         add_refs(input, &mut parts.vars, field)
-    } else if name == b"values".as_slice() {
+    } else if same_text(name, b"values") {
         add_ints(input, &mut parts.values, field)
     } else {
         Err(refused_field(input, &UNSUPPORTED, field.name))

@@ -1,5 +1,6 @@
 //! What is written on tokens.
 ghost use Rattle.std.specs.Prelude.{◌≡◌, ◌-◌, take, drop};
+ghost use Rattle.std.specs.Str.{bytes_eq};
 ghost use Rattle.cps_schema.specs.Written.{token_text, token_kind};
 ghost use Rattle.cps_schema.specs.Inputs.{written_of};
 
@@ -22,6 +23,13 @@ pub(crate) fn token_text<'a>(input: &Input<'a>, token: usize) -> &'a [u8]
         Some(found) => span_text(input.bytes, found.start as usize, found.end as usize),
         None => &[],
     }
+}
+
+/// Whether two texts are the same.
+pub(crate) fn same_text(text: &[u8], other: &[u8]) -> bool
+    ensures { result ≡ bytes_eq text.now other.now }
+{
+    text == other
 }
 
 /// The bytes `start..end`, as far as there are any.

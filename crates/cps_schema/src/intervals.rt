@@ -9,7 +9,7 @@ ghost use Rattle.cps_schema.specs.Answers.{Refuses};
 ghost use Rattle.cps_schema.specs.Steps.{field_then, Passes, Stops};
 
 use super::error::SchemaError;
-use super::input::{Input, token_text};
+use super::input::{Input, same_text, token_text};
 use super::lists::add_refs;
 use super::names::refused_field;
 use super::single::fields_of;
@@ -30,7 +30,7 @@ fn add_field(input: &Input, intervals: &mut Vec<i32>, field: &Field) -> Result<(
     ensures err { IfErr result (λ e. (before : List (List ℕ))
         → Stops (written_of input.now) no_overlap_message before field.now e) }
 {
-    if token_text(input, field.name as usize) == b"intervals".as_slice() {
+    if same_text(token_text(input, field.name as usize), b"intervals") {
         add_refs(input, intervals, field)
     } else {
         Err(refused_field(input, &UNSUPPORTED, field.name))

@@ -30,7 +30,7 @@ pub(crate) fn read_inverse(alloc: Global, input: &Input, node: &Node) -> Result<
     ensures err { IfErr result (Refuses (fields_fault (written_of input.now) inverse_message [] (tree_of node.now))) }
 {
     let mut slots = match gather(alloc, input, &FIELDS, node) {
-        Ok(slots) => slots.into_iter(),
+        Ok(slots) => slots,
         Err(error) => return Err(error),
     };
     Ok(Kind::Inverse {

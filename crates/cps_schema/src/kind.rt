@@ -26,7 +26,7 @@ use super::circuit::read_circuit;
 use super::cumulative::read_cumulative;
 use super::element::read_element;
 use super::error::SchemaError;
-use super::input::{Input, token_text};
+use super::input::{Input, same_text, token_text};
 use super::interval::read_interval;
 use super::intervals::read_intervals;
 use super::inverse::read_inverse;
@@ -131,7 +131,7 @@ fn find_named(kinds: &[KindName], name: &[u8]) -> Option<KindName>
     ensures { result ≡ find (λ kind. bytes_eq name.now (field_name kind)) kinds.now }
 {
     for kind in kinds {
-        if name == field_name(*kind) {
+        if same_text(name, field_name(*kind)) {
             return Some(*kind);
         }
     }
@@ -150,7 +150,7 @@ fn is_given_as(given: &Option<GivenKind>, name: KindName) -> bool
     ensures { result ≡ is_given_as given.now name }
 {
     match given {
-        Some(given) => field_name(name) == field_name(given.name),
+        Some(given) => same_text(field_name(name), field_name(given.name)),
         None => false,
     }
 }
@@ -203,11 +203,11 @@ fn read_kind(alloc: Global, input: &Input, name: KindName, node: &Node) -> Resul
         (fields_fault (written_of input.now) (message_of name) [] (tree_of node.now))) }
 {
     match name {
-        KindName::BoolOr => Ok(Kind::BoolOr(read_literals(alloc, input, node)?)),
-        KindName::BoolAnd => Ok(Kind::BoolAnd(read_literals(alloc, input, node)?)),
-        KindName::AtMostOne => Ok(Kind::AtMostOne(read_literals(alloc, input, node)?)),
-        KindName::ExactlyOne => Ok(Kind::ExactlyOne(read_literals(alloc, input, node)?)),
-        KindName::BoolXor => Ok(Kind::BoolXor(read_literals(alloc, input, node)?)),
+        KindName::BoolOr => read_literals(alloc, input, node).map(Kind::BoolOr),
+        KindName::BoolAnd => read_literals(alloc, input, node).map(Kind::BoolAnd),
+        KindName::AtMostOne => read_literals(alloc, input, node).map(Kind::AtMostOne),
+        KindName::ExactlyOne => read_literals(alloc, input, node).map(Kind::ExactlyOne),
+        KindName::BoolXor => read_literals(alloc, input, node).map(Kind::BoolXor),
         KindName::IntDiv => read_int_div(alloc, input, node),
         KindName::IntMod => read_int_mod(alloc, input, node),
         KindName::IntProd => read_int_prod(alloc, input, node),
@@ -218,7 +218,7 @@ fn read_kind(alloc: Global, input: &Input, name: KindName, node: &Node) -> Resul
         KindName::Circuit => read_circuit(alloc, input, node),
         KindName::Table => read_table(alloc, input, node),
         KindName::Interval => read_interval(alloc, input, node),
-        KindName::NoOverlap => Ok(Kind::NoOverlap(read_intervals(alloc, input, node)?)),
+        KindName::NoOverlap => read_intervals(alloc, input, node).map(Kind::NoOverlap),
         KindName::Cumulative => read_cumulative(alloc, input, node),
         KindName::Automaton => read_automaton(alloc, input, node),
         KindName::Inverse => read_inverse(alloc, input, node),

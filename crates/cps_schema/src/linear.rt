@@ -10,7 +10,7 @@ ghost use Rattle.cps_schema.specs.Steps.{field_then, Passes, Stops};
 ghost use Rattle.cps_schema.specs.Parts.{linear_from};
 
 use super::error::SchemaError;
-use super::input::{Input, token_text};
+use super::input::{Input, same_text, token_text};
 use super::lists::{add_ints, add_refs};
 use super::names::refused_field;
 use super::single::fields_of;
@@ -40,11 +40,11 @@ fn add_field(input: &Input, parts: &mut LinearParts, field: &Field) -> Result<()
         → Stops (written_of input.now) linear_message before field.now e) }
 {
     let name = token_text(input, field.name as usize);
-    if name == b"vars".as_slice() {
+    if same_text(name, b"vars") {
         add_refs(input, &mut parts.vars, field)
-    } else if name == b"coeffs".as_slice() {
+    } else if same_text(name, b"coeffs") {
         add_ints(input, &mut parts.coeffs, field)
-    } else if name == b"domain".as_slice() {
+    } else if same_text(name, b"domain") {
         add_ints(input, &mut parts.domain, field)
     } else {
         Err(refused_field(input, &UNSUPPORTED, field.name))

@@ -16,6 +16,17 @@ use super::number::{Number, int32_at, number_at};
 use super::single::no_messages;
 use cps_model::FaultName;
 use cps_textproto::{Field, Item, Items, TokenRange};
+use std::alloc::AllocError;
+
+/// Makes room for so many items in a list that has none.
+fn make_room<T: Drop>(list: &mut Vec<T>, count: usize) -> Result<(), AllocError>
+    ensures { list.new.items ≡ list.old.items }
+{
+    if list.is_empty() {
+        list.reserve_exact(count)?;
+    }
+    Ok(())
+}
 
 /// Adds the number of the scalar at token `first`.
 fn add_int(input: &Input, list: &mut Vec<i64>, first: u32) -> Result<(), SchemaError>
@@ -49,9 +60,7 @@ fn add_int_ranges(
     ensures err { IfErr result (Refuses
         (values_fault (written_of input.now) (Some (number Int64)) (range_values token_ranges.now))) }
 {
-    if list.is_empty() {
-        list.reserve_exact(token_ranges.len())?;
-    }
+    make_room(list, token_ranges.len())?;
     for token_range in token_ranges {
         add_int(input, list, token_range.first)?;
     }
@@ -69,9 +78,7 @@ pub(crate) fn add_ints(input: &Input, list: &mut Vec<i64>, field: &Field) -> Res
 {
     match &field.items {
         Items::One(Item::Scalar { first, .. }) => {
-            if list.is_empty() {
-                list.reserve_exact(1)?;
-            }
+            make_room(list, 1)?;
             add_int(input, list, *first)
         }
         Items::One(Item::Message { first, .. }) => Err(SchemaError::Fault {
@@ -115,9 +122,7 @@ fn add_ref_ranges(
     ensures err { IfErr result (Refuses
         (values_fault (written_of input.now) (Some (number Int32)) (range_values token_ranges.now))) }
 {
-    if list.is_empty() {
-        list.reserve_exact(token_ranges.len())?;
-    }
+    make_room(list, token_ranges.len())?;
     for token_range in token_ranges {
         add_ref(input, list, token_range.first)?;
     }
@@ -135,9 +140,7 @@ pub(crate) fn add_refs(input: &Input, list: &mut Vec<i32>, field: &Field) -> Res
 {
     match &field.items {
         Items::One(Item::Scalar { first, .. }) => {
-            if list.is_empty() {
-                list.reserve_exact(1)?;
-            }
+            make_room(list, 1)?;
             add_ref(input, list, *first)
         }
         Items::One(Item::Message { first, .. }) => Err(SchemaError::Fault {

@@ -13,7 +13,7 @@ ghost use Rattle.cps_schema.specs.Answers.{Refuses};
 ghost use Rattle.cps_schema.specs.Steps.{SinglePasses, SingleStops};
 
 use super::error::SchemaError;
-use super::input::{Input, token_kind, token_text};
+use super::input::{Input, same_text, token_kind, token_text};
 use super::number::{Number, is_negative, whole_number};
 use super::single::{Value, alone, bracket, wrong_kind};
 use cps_lex::TokenKind;
@@ -53,7 +53,7 @@ fn place_of(names: &[&[u8]], name: &[u8]) -> Option<usize>
     ensures { result ≡ place_from 0 (names_of names.now) name.now }
 {
     for (i, known) in names.iter().enumerate() {
-        if name == *known {
+        if same_text(name, known) {
             return Some(i);
         }
     }
@@ -76,7 +76,7 @@ fn is_known_member(kind: Enum, name: &[u8]) -> bool
 {
     match kind {
         Enum::VariableSelection => false,
-        Enum::DomainReduction => name == b"SELECT_RANDOM_HALF".as_slice(),
+        Enum::DomainReduction => same_text(name, b"SELECT_RANDOM_HALF"),
     }
 }
 

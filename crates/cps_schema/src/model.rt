@@ -20,7 +20,7 @@ ghost use Rattle.cps_schema.specs.Open.{closed_names, OpenKinds, OpenAssumptions
 
 use super::closed::CLOSED;
 use super::error::SchemaError;
-use super::input::{Input, token_text};
+use super::input::{Input, same_text, token_text};
 use super::lists::add_refs;
 use super::message::{add_messages, set_once};
 use super::names::{is_given, refused_field};
@@ -83,19 +83,19 @@ fn add_field(
         Stops (written_of input.now) model_message before field.now e) }
 {
     let name = token_text(input, field.name as usize);
-    if name == b"name".as_slice() {
+    if same_text(name, b"name") {
         set_name(alloc, input, &mut parts.name, field)
-    } else if name == b"variables".as_slice() {
+    } else if same_text(name, b"variables") {
         add_messages(alloc, input, &mut parts.variables, field)
-    } else if name == b"constraints".as_slice() {
+    } else if same_text(name, b"constraints") {
         add_messages(alloc, input, &mut parts.constraints, field)
-    } else if name == b"objective".as_slice() {
+    } else if same_text(name, b"objective") {
         set_once(alloc, input, &mut parts.objective, field)
-    } else if name == b"search_strategy".as_slice() {
+    } else if same_text(name, b"search_strategy") {
         add_messages(alloc, input, &mut parts.strategies, field)
-    } else if name == b"solution_hint".as_slice() {
+    } else if same_text(name, b"solution_hint") {
         set_once(alloc, input, &mut parts.hint, field)
-    } else if name == b"assumptions".as_slice() {
+    } else if same_text(name, b"assumptions") {
         add_assumptions(input, &mut parts.assumptions, field)
     } else {
         Err(refused_field(input, &UNSUPPORTED, field.name))

@@ -5,7 +5,7 @@ ghost use Rattle.cps_schema.specs.Inputs.{written_of, names_of};
 ghost use Rattle.cps_schema.specs.Tables.{is_given};
 
 use super::error::SchemaError;
-use super::input::{Input, token_text};
+use super::input::{Input, same_text, token_text};
 use cps_model::FaultName;
 
 /// Whether the name is one of these.
@@ -14,7 +14,7 @@ pub(crate) fn is_given(names: &[&[u8]], name: &[u8]) -> bool
     ensures { result ≡ is_given (names_of names.now) name.now }
 {
     for known in names {
-        if name == *known {
+        if same_text(name, known) {
             return true;
         }
     }

@@ -13,7 +13,7 @@ ghost use Rattle.cps_schema.specs.Numbers.{fits, limit, misfit, word_fault, othe
 
 use super::digits::{decimal_value, digits_after};
 use super::float::float_value;
-use super::input::{Input, behind, token_kind, token_text};
+use super::input::{Input, behind, same_text, token_kind, token_text};
 use cps_lex::TokenKind;
 use cps_model::FaultName;
 
@@ -70,7 +70,7 @@ fn in_type(number: Number, negative: bool, size: u64) -> Option<i64>
 pub(crate) fn is_negative(input: &Input, first: u32) -> bool
     ensures { result ≡ is_negative (written_of input.now) first }
 {
-    token_text(input, first as usize) == b"-".as_slice()
+    same_text(token_text(input, first as usize), b"-")
 }
 
 /// The whole number that a token of this kind writes, or the greatest of 64 bits where it is greater, if it writes one.

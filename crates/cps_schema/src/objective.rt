@@ -11,7 +11,7 @@ ghost use Rattle.cps_schema.specs.Steps.{field_then, Passes, Stops};
 ghost use Rattle.cps_schema.specs.Parts.{objective_from, IsGivenObjective};
 
 use super::error::SchemaError;
-use super::input::{Input, token_text};
+use super::input::{Input, same_text, token_text};
 use super::lists::{add_ints, add_refs};
 use super::message::Message;
 use super::names::refused_field;
@@ -54,15 +54,15 @@ fn add_field(input: &Input, parts: &mut ObjectiveParts, field: &Field) -> Result
         Stops (written_of input.now) objective_message before field.now e) }
 {
     let name = token_text(input, field.name as usize);
-    if name == b"vars".as_slice() {
+    if same_text(name, b"vars") {
         add_refs(input, &mut parts.vars, field)
-    } else if name == b"coeffs".as_slice() {
+    } else if same_text(name, b"coeffs") {
         add_ints(input, &mut parts.coeffs, field)
-    } else if name == b"offset".as_slice() {
+    } else if same_text(name, b"offset") {
         set_number(input, Number::Exact, &mut parts.offset, field)
-    } else if name == b"scaling_factor".as_slice() {
+    } else if same_text(name, b"scaling_factor") {
         set_number(input, Number::Exact, &mut parts.scaling, field)
-    } else if name == b"domain".as_slice() {
+    } else if same_text(name, b"domain") {
         add_ints(input, &mut parts.domain, field)
     } else {
         Err(refused_field(input, &UNSUPPORTED, field.name))

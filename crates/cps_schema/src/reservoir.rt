@@ -34,7 +34,7 @@ pub(crate) fn read_reservoir(alloc: Global, input: &Input, node: &Node) -> Resul
         (fields_fault (written_of input.now) reservoir_message [] (tree_of node.now))) }
 {
     let mut slots = match gather(alloc, input, &FIELDS, node) {
-        Ok(slots) => slots.into_iter(),
+        Ok(slots) => slots,
         Err(error) => return Err(error),
     };
     Ok(Kind::Reservoir {

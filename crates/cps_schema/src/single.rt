@@ -18,7 +18,7 @@ ghost use Rattle.cps_schema.specs.Steps.{SinglePasses, SingleStops};
 ghost use Rattle.cps_schema.specs.Values.{value_of, trees_of, trees_fault};
 
 use super::error::SchemaError;
-use super::input::{Input, token_text};
+use super::input::{Input, same_text, token_text};
 use super::number::{Number, number_at};
 use cps_model::FaultName;
 use cps_textproto::{Field, Item, Items, Nested, Node, TokenRange};
@@ -37,7 +37,7 @@ pub(crate) fn bracket(input: &Input, name: u32) -> usize
     ensures { result ≡ bracket (written_of input.now) name }
 {
     let name = name as usize;
-    if token_text(input, name + 1) == b":".as_slice() {
+    if same_text(token_text(input, name + 1), b":") {
         name + 2
     } else {
         name + 1

@@ -17,7 +17,7 @@ ghost use Rattle.cps_schema.specs.Parts.{strategy_from, is_other, IsStrategyGive
 
 use super::error::SchemaError;
 use super::form::{Form, take_form};
-use super::input::{Input, token_text};
+use super::input::{Input, same_text, token_text};
 use super::lists::add_refs;
 use super::member::{set_choose, set_select};
 use super::message::{Message, add_messages};
@@ -105,13 +105,13 @@ fn add_field(
         Stops (written_of input.now) strategy_message before field.now e) }
 {
     let name = token_text(input, field.name as usize);
-    if name == b"exprs".as_slice() {
+    if same_text(name, b"exprs") {
         add_newer(alloc, input, &mut parts.form, &mut parts.exprs, field)
-    } else if name == b"variables".as_slice() {
+    } else if same_text(name, b"variables") {
         add_older(input, &mut parts.form, &mut parts.variables, field)
-    } else if name == b"variable_selection_strategy".as_slice() {
+    } else if same_text(name, b"variable_selection_strategy") {
         set_choose(input, &mut parts.choose, field)
-    } else if name == b"domain_reduction_strategy".as_slice() {
+    } else if same_text(name, b"domain_reduction_strategy") {
         set_select(input, &mut parts.select, field)
     } else {
         Err(refused_field(input, &UNSUPPORTED, field.name))

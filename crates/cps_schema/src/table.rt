@@ -33,7 +33,7 @@ pub(crate) fn read_table(alloc: Global, input: &Input, node: &Node) -> Result<Ki
     ensures err { IfErr result (Refuses (fields_fault (written_of input.now) table_message [] (tree_of node.now))) }
 {
     let mut slots = match gather(alloc, input, &FIELDS, node) {
-        Ok(slots) => slots.into_iter(),
+        Ok(slots) => slots,
         Err(error) => return Err(error),
     };
     Ok(Kind::Table {

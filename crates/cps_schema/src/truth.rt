@@ -11,7 +11,7 @@ ghost use Rattle.cps_schema.specs.Readings.{value_truths};
 ghost use Rattle.cps_schema.specs.Answers.{Refuses};
 
 use super::error::SchemaError;
-use super::input::{Input, token_kind, token_text};
+use super::input::{Input, same_text, token_kind, token_text};
 use super::number::size_of;
 use super::single::{no_messages, wrong_kind};
 use cps_lex::TokenKind;
@@ -22,7 +22,7 @@ fn names_true(name: &[u8]) -> bool
     ensures { result ≡ (bytes_eq name.now (codes "true") || bytes_eq name.now (codes "True")
         || bytes_eq name.now (codes "t")) }
 {
-    name == b"true".as_slice() || name == b"True".as_slice() || name == b"t".as_slice()
+    same_text(name, b"true") || same_text(name, b"True") || same_text(name, b"t")
 }
 
 /// Whether a word names what is false.
@@ -30,7 +30,7 @@ fn names_false(name: &[u8]) -> bool
     ensures { result ≡ (bytes_eq name.now (codes "false") || bytes_eq name.now (codes "False")
         || bytes_eq name.now (codes "f")) }
 {
-    name == b"false".as_slice() || name == b"False".as_slice() || name == b"f".as_slice()
+    same_text(name, b"false") || same_text(name, b"False") || same_text(name, b"f")
 }
 
 /// The truth value that a word names. `None` if it names none.

@@ -13,7 +13,7 @@ ghost use Rattle.cps_schema.specs.Slots.{AreGivenSlots};
 ghost use Rattle.cps_schema.specs.Parts.{variable_from, variable_slots};
 
 use super::error::SchemaError;
-use super::input::{Input, token_text};
+use super::input::{Input, same_text, token_text};
 use super::lists::add_ints;
 use super::message::Message;
 use super::names::refused_field;
@@ -50,9 +50,9 @@ fn add_field(
         Stops (written_of input.now) variable_message before field.now e) }
 {
     let name = token_text(input, field.name as usize);
-    if name == b"name".as_slice() {
+    if same_text(name, b"name") {
         set_name(alloc, input, &mut parts.name, field)
-    } else if name == b"domain".as_slice() {
+    } else if same_text(name, b"domain") {
         add_ints(input, &mut parts.domain, field)
     } else {
         Err(refused_field(input, &UNSUPPORTED, field.name))

@@ -1,4 +1,6 @@
+-- Each load tells a word of the entry that was taken, so what is read is that entry.
 use Rattle.std.proofs.Common.{rules, arith, ◌≡◌, ◌+◌, ◌<◌, ◌-◌, ◌++◌, ℕ, List, length, take, replicate, set, sym, refl, ap, ◌∙◌, subst}
+use mathlib.Core.Option.{some}
 use Rattle.atomic_table.specs.Table.{Me}
 use Rattle.cps_literal.specs.declared.atom.Atom.{Atom}
 use Rattle.cps_port.specs.declared.entry.Entry.{Entry}
@@ -6,7 +8,7 @@ use Rattle.cps_port.specs.Entries.{blank, entry_clause}
 use Rattle.cps_port.specs.Words.{bound_of}
 use Rattle.cps_board.specs.declared.view.View.{View}
 use Rattle.cps_board.proofs.Keeps.{reads}
-use Rattle.cps_board.proofs.Filling.{tells, only, head_told, number_told, head_small, atom_told, fill_next}
+use Rattle.cps_board.proofs.Filling.{tells, only, head_told, number_told, head_small, atom_told, fill_next, entry_whole}
 use Rattle.cps_board.proofs.row.read_row.Goals as goal
 
 pub load-len-requires : goal.load-len-requires
@@ -76,3 +78,11 @@ loop-i-preserved c =
       below = inv.below;
       atoms = λ d at. subst (λ (x : Entry). set c.loop-i.atoms i c.atom_of.result ≡ take (i + 1) (entry_clause x) ++ replicate (16 - (i + 1)) blank) (only old c.args.row t.0 t.1 d at) atoms;
     }
+
+pub returns-clause-entry : goal.returns-clause-entry
+returns-clause-entry c =
+    let t = c.requires.taken in
+    let inv = c.loop-i.invariant in
+    let count = inv.count t.0 t.1 in
+    let whole = entry_whole t.0 c.args.row c.bound_of.result c.load-len.result c.loop-i.i c.loop-i.atoms t.3 t.2 (c.bound_of.ensures ∙ inv.below t.0 t.1) count (omega (arith, c.loop-i-test.false, c.loop-i.auto.i-end, count)) (inv.atoms t.0 t.1) in
+    t.1 ∙ ap (λ (e : Entry). some e) whole

@@ -1,8 +1,10 @@
+-- Each atom bumps and marks its variable.
 use Rattle.std.specs.Prelude.{◌↔◌, IsTrue}
-use Rattle.std.proofs.Common.{◌≡◌, Bool, length, get_or, pos, refl, sym, subst, arith, ◌∙◌, true≢false, inl, inr}
+use Rattle.std.proofs.Common.{◌≡◌, Bool, List, length, get_or, pos, refl, sym, ap, subst, arith, ◌∙◌, true≢false, inl, inr}
+use Rattle.std.proofs.lemmas.List.{take_all}
 use Rattle.cps_literal.specs.declared.atom.Atom.{Atom}
 use Rattle.cps_literal.specs.declared.atom.Op.TheVariants.{Le}
-use Rattle.cps_branch.specs.Activities.{ReachesLimit}
+use Rattle.cps_branch.specs.Activities.{AreGained, ReachesLimit, speaks_of}
 use Rattle.cps_branch.proofs.Bumping.{are_marked-more, gains-more, reaches-one, reaches-kept}
 use Rattle.cps_branch.proofs.bump.bump.Goals as goal
 use Rattle.cps_branch.proofs.bump.bump.Goals.{then-bump_one, else-bump_one}
@@ -38,3 +40,11 @@ loop-atom-preserved c =
         )
       ];
     }
+
+pub returns-clause-gains : goal.returns-clause-gains
+returns-clause-gains c =
+    subst (λ (ts : List Atom). AreGained ts c.args.activities.now c.loop-atom.activities) (take_all c.loop-atom.atom-index c.args.clause.now (omega arith)) c.loop-atom.invariant.gains
+
+pub returns-clause-marked : goal.returns-clause-marked
+returns-clause-marked c = λ i l.
+    c.loop-atom.invariant.marked.each i l ∙ ap (λ (ts : List Atom). speaks_of ts i) (take_all c.loop-atom.atom-index c.args.clause.now (omega arith))

@@ -1,5 +1,6 @@
+-- One subject after another, the better of two is kept.
 use Rattle.std.proofs.Common.{◌≡◌, ◌+◌, ◌<◌, ℕ, List, [], ◌∷◌, ◌++◌, length, take, get_or, sym, subst, arith, ◌∙◌, ap, true≢false}
-use Rattle.std.proofs.lemmas.List.{take_more}
+use Rattle.std.proofs.lemmas.List.{take_all, take_more}
 use Rattle.cps_branch.specs.declared.strategy.Ranked.{Ranked}
 use Rattle.cps_branch.specs.Fixed.{IsFixed}
 use Rattle.cps_branch.specs.Strategies.{IsTaken, better_of}
@@ -39,3 +40,7 @@ loop-place-preserved c =
           subst (λ (b : Ranked). IsTaken c.args.choose s (take k xs ++ x ∷ []) b.subject b.rank) (sym w.best-is)
           (taken_fixed c.args.choose s (take k xs) x old (c.is_fixed.ensures.0 w.if-not-is_fixed.false) c.loop-place.invariant)
     ])
+
+pub returns : goal.returns
+returns c =
+    subst (λ (ys : List ℕ). IsTaken c.args.choose c.args.store.now ys c.loop-place.best.subject c.loop-place.best.rank) (take_all c.loop-place.place c.args.subjects.now (omega arith)) c.loop-place.invariant

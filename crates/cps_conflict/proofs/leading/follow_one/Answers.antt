@@ -1,3 +1,4 @@
+-- A marked entry that is no decision has its reason followed.
 use Rattle.std.proofs.Common.{◌≢◌, ◌<◌, length, get_or, ap, sym, subst, Ok, List}
 use Rattle.std.specs.List.{All}
 use Rattle.std.proofs.lemmas.List.Elements.{Contains-get_or}
@@ -9,7 +10,7 @@ use Rattle.cps_conflict.specs.Drafts.{IsReasonOf}
 use Rattle.cps_conflict.specs.Leading.{IsFetched}
 use Rattle.cps_conflict.proofs.Uniting.{none_view, read}
 use Rattle.cps_conflict.proofs.Drafting.{explains_read}
-use Rattle.cps_conflict.proofs.Walking.{followed-reason}
+use Rattle.cps_conflict.proofs.Walking.{followed-decision, followed-reason}
 use Rattle.cps_conflict.proofs.leading.follow_one.Goals as goal
 
 pub mark_reason-requires-clause-subjects : goal.mark_reason-requires-clause-subjects
@@ -42,3 +43,8 @@ returns-clause-followed g c =
     (subst (λ (us : List Atom). IsReasonOf holds s c.args.place us) (sym c.as_slice.ensures.value) (c.in_ok-fetch.ensures.some taken))
     (subst (λ (us : List Atom). made c.args.place us) (sym c.as_slice.ensures.value) (c.in_ok-fetch.ensures.fetched taken))
     c.if-not-marks-place.false c.mark_reason.ensures
+
+pub returns-then-not-branch-clause-followed : goal.returns-then-not-branch-clause-followed
+returns-then-not-branch-clause-followed g c =
+    let s = c.args.store.now in
+    followed-decision (IsFetched (g.E.Explain.makes c.args.explain.now s) s) (AreTrueReasons (g.E.Explain.makes c.args.explain.now s) s) s c.args.marks.now c.args.place (c.in_ok-fetch.ensures.none (ap Ok c.if-not-branch.true))

@@ -1,4 +1,5 @@
-use Rattle.std.proofs.Common.{◌+◌, ◌<◌, length, List, get_or, sym, subst, ◌∙◌, true≢false, arith}
+-- Each marked decision is picked.
+use Rattle.std.proofs.Common.{ℕ, ◌≡◌, ◌+◌, ◌<◌, length, List, get_or, sym, subst, ◌∙◌, true≢false, arith}
 use Rattle.cps_literal.specs.declared.atom.Atom.{Atom}
 use Rattle.cps_trail.specs.Trail.{Entry}
 use Rattle.cps_conflict.specs.Leading.{ArePicked}
@@ -28,3 +29,8 @@ loop-place-preserved c =
             | else-marks-place-via-else-marks-place v ↦ Picked-skip s ms k c.loop-place.decisions.items c.loop-place.invariant (λ on d _. true≢false (sym on ∙ v.if-marks-place.false))
           ])
     ]
+
+pub returns : goal.returns
+returns c =
+    let all : c.loop-place.place ≡ length c.args.store.now.entries = omega (arith, c.entries-entries.ensures.views.same_length) in
+    subst (λ (n : ℕ). ArePicked c.args.store.now c.args.marks.now n c.loop-place.decisions.items) all c.loop-place.invariant

@@ -1,4 +1,5 @@
-use Rattle.std.proofs.Common.{rules, ◌≡◌, ◌∙◌, ◌<◌, ◌*◌, ◌+◌, ◌^◌, ℕ, ℤ, pos, ◌+ℤ◌, ◌*ℤ◌, List, ap, get_or, map, subst, sym, unsigned_abs, w64, FitsSigned}
+-- The form of the terms so far stands where the subject of the next one is held.
+use Rattle.std.proofs.Common.{rules, ◌≡◌, ◌∙◌, ◌<◌, ◌*◌, ◌+◌, ◌^◌, ℕ, ℤ, pos, ◌+ℤ◌, ◌*ℤ◌, List, ap, arith, get_or, length, map, subst, sym, unsigned_abs, w64, FitsSigned}
 use Rattle.std.proofs.lemmas.Int.{to_z-of_z}
 use Rattle.std.proofs.lemmas.List.{get_or_default}
 use Rattle.cps_domain.specs.Window.{intervals}
@@ -7,7 +8,7 @@ use Rattle.cps_instance.specs.declared.term.Term.{Term}
 use Rattle.cps_instance.specs.Problem.{Problem}
 use Rattle.cps_instance.specs.Terms.{domain_at, magnitude}
 use Rattle.cps_reform.specs.Forms.{form_value, held_reach, with_held}
-use Rattle.cps_core_guided.proofs.Starting.{form-more, form-stays, next-base, next-ordered, next-room, next-roomy, next-within}
+use Rattle.cps_core_guided.proofs.Starting.{all-held, form-more, form-stays, grew-at-most, next-base, next-ordered, next-room, next-roomy, next-within}
 use Rattle.cps_core_guided.proofs.first.first_form.Goals as goal
 
 abbrev none : Term
@@ -72,3 +73,15 @@ loop-term-preserved g c =
     form-more v.subject c.args.frame.now c.loop-term.frame u ds ts k f h v j c.requires.subjects c.loop-term.invariant c.in_ok-subject.ensures.grew c.in_ok-subject.ensures.sound same c.loop-term-test.true (get_or_default ts k none v c.loop-term-test.true) c.in_ok-subject.ensures.holds
     (subst (λ (n : ℕ). h ≡ with_held ds f n j) size c.in_ok-hold.ensures.holds) c.in_ok-hold.ensures.roomy c.in_ok-hold.ensures.base
     (subst (λ (n : ℕ). (xs : List ℤ) → form_value xs h ≡ form_value xs f +ℤ pos n *ℤ value_at xs j) size c.in_ok-hold.ensures.worth)
+
+pub hold-requires-clause-subject : goal.hold-requires-clause-subject
+hold-requires-clause-subject g c =
+    let size : length c.domains.result.now ≡ length c.held_subject.new.frame.instance.domains = c.domains.ensures.count ∙ ap (λ (p : Problem). length p.domains) c.instance.ensures in
+    let within = c.in_ok-subject.ensures.holds.within in
+    omega (arith, size, within)
+
+pub returns-clause-first : goal.returns-clause-first
+returns-clause-first g c = (all-held c.args.frame.now c.loop-term.frame c.args.terms.now c.loop-term.term-index c.loop-term.reform (omega (arith, c.loop-term-test.false)) c.loop-term.invariant).first
+
+pub returns-clause-grew : goal.returns-clause-grew
+returns-clause-grew g c = grew-at-most c.args.frame.now c.loop-term.frame c.loop-term.term-index (length c.args.terms.now) (omega arith) c.loop-term.invariant.grew

@@ -1,3 +1,4 @@
+-- A term is over its own subject, or over the opposite of it where its coefficient is negative.
 use Rattle.std.proofs.Common.{◌<ℤ◌, pos, arith}
 use Rattle.std.proofs.lemmas.Int.{ints}
 use Rattle.cps_search.specs.Growing.{GrewBy}
@@ -6,7 +7,7 @@ use Rattle.cps_reform.specs.Beginning.{StandsForTerm}
 use Rattle.cps_core_guided.specs.Beginning.{opposite}
 use Rattle.cps_core_guided.proofs.Opposites.{opposite-holds}
 use Rattle.cps_core_guided.proofs.Results.{if_ok_both}
-use Rattle.cps_core_guided.proofs.Starting.{opposite-reach}
+use Rattle.cps_core_guided.proofs.Starting.{itself-holds, opposite-reach, opposite-subjects}
 use Rattle.cps_core_guided.proofs.first.held_subject.Goals as goal
 
 pub grow-requires-clause-small : goal.grow-requires-clause-small
@@ -21,3 +22,9 @@ returns-clause-holds g c =
     if_ok_both c.grow.result (λ subject. GrewBy s t (opposite v.subject) subject) (IsSoundSearch t) (StandsForTerm t.instance v)
     (λ subject grew sound. opposite-holds s.instance t.instance v subject grew.defines sound.instance c.requires.subject under)
     c.grow.ensures.grew c.grow.ensures.sound
+
+pub returns-then-term-ge0-clause-holds : goal.returns-then-term-ge0-clause-holds
+returns-then-term-ge0-clause-holds g c = itself-holds c.args.frame.now.instance c.args.term c.requires.sound.instance c.requires.subject (omega (arith, ints, c.if-term-ge0.true))
+
+pub grow-requires-clause-subjects : goal.grow-requires-clause-subjects
+grow-requires-clause-subjects g c = opposite-subjects c.args.frame.now.instance c.args.term.subject c.requires.sound.instance c.requires.subject

@@ -1,25 +1,22 @@
-use Rattle.std.proofs.Common.{◌<◌, ◌∙◌, ◌++◌, List, length, get_or, sym, subst, ap, Ok}
+-- What was drafted is put in the place of what the list held.
+use Rattle.std.proofs.Common.{◌∙◌, ◌++◌, List, sym, subst, ap, Ok}
 use Rattle.cps_literal.specs.declared.atom.Atom.{Atom}
 use Rattle.cps_instance.specs.Tasks.{HoldsTask}
-use Rattle.cps_instance.specs.Fitting.{IsFitting}
-use Rattle.cps_trail.specs.Trail.{Trail}
-use Rattle.cps_propagate.proofs.Past.{none_view, read, subject_inside}
-use Rattle.cps_enforce.specs.Reasons.{IsReasonFor, task_of}
-use Rattle.cps_enforce.proofs.Tasks.{reason_at}
+use Rattle.cps_trail.specs.Notes.{IsReason}
+use Rattle.cps_enforce.specs.Reasons.{task_of}
+use Rattle.cps_enforce.proofs.Denials.{no_yes}
 use Rattle.cps_enforce.proofs.explain.explain_by_rule.Goals as goal
 
-pub explain_before-requires-clause-fits : goal.explain_before-requires-clause-fits
-explain_before-requires-clause-fits g c = subst (λ (s : Trail). IsFitting s.first (task_of c.args.enforcement.now (g.R.Rule.body c.args.rule.now))) (sym c.before-past.ensures) c.requires.fits
+pub draft_entry-requires-clause-within : goal.draft_entry-requires-clause-within
+draft_entry-requires-clause-within g c = c.requires.within
 
-pub explain_before-requires-clause-subject : goal.explain_before-requires-clause-subject
-explain_before-requires-clause-subject g c =
-    let l = subject_inside c.args.asked.now.store.now c.args.asked.now.entry (get_or c.entries.result.now c.args.asked.now.entry none_view).atom c.entries.ensures.sound c.requires.within (read c.args.asked.now.store.now.entries c.entries.result.now c.args.asked.now.entry c.entries.ensures.views c.requires.within) in
-    subst (λ (s : Trail). (get_or c.entries.result.now c.args.asked.now.entry none_view).atom.subject < length s.first) (sym c.before-past.ensures) l
+pub draft_entry-requires-clause-fits : goal.draft_entry-requires-clause-fits
+draft_entry-requires-clause-fits g c = c.requires.fits
 
 pub returns : goal.returns
 returns g c = λ _.
-    let C = HoldsTask (task_of c.args.enforcement.now (g.R.Rule.body c.args.rule.now)) in
-    let u = (get_or c.entries.result.now c.args.asked.now.entry none_view).atom in
     let e = c.in_ok-extend_from_slice.ensures.items ∙ ap (λ (l : List Atom). l ++ c.as_slice.result.now) c.clear.ensures.items ∙ c.as_slice.ensures.value in
-    reason_at C c.args.asked.now.store.now c.args.asked.now.entry u c.explain_before.new.draft.reason.items c.extend_from_slice.new.self.items c.requires.within (read c.args.asked.now.store.now.entries c.entries.result.now c.args.asked.now.entry c.entries.ensures.views c.requires.within) e
-    (subst (λ (s : Trail). IsReasonFor C s u c.explain_before.new.draft.reason.items) c.before-past.ensures (c.in_ok-is_made.ensures (ap Ok c.if-not-is_made.false)))
+    subst (λ (l : List Atom). IsReason (HoldsTask (task_of c.args.enforcement.now (g.R.Rule.body c.args.rule.now))) c.args.asked.now.store.now c.args.asked.now.entry l) (sym e) (c.in_ok-is_made.ensures (ap Ok c.if-not-is_made.false))
+
+pub returns-then-not-is_made : goal.returns-then-not-is_made
+returns-then-not-is_made g c = λ ok. no_yes _ ok

@@ -1,7 +1,9 @@
+-- The facts that give the atom make its reason.
 use Rattle.std.proofs.Common.{List, Ok, ap, sym, subst}
 use Rattle.cps_literal.specs.declared.atom.Atom.{Atom}
 use Rattle.cps_rule.specs.Rules.{AreFacts, IsExplained}
 use Rattle.cps_enforce.proofs.Tasks.{force_rule, force_facts}
+use Rattle.cps_enforce.proofs.Denials.{no_yes}
 use Rattle.cps_enforce.proofs.explain.explain_given.Goals as goal
 
 pub explain-requires : goal.explain-requires
@@ -17,3 +19,6 @@ pub returns : goal.returns
 returns g c = λ _.
     let b = g.R.Rule.body c.args.rule.now in
     c.in_ok-give_by.ensures b (subst (λ (l : List Atom). IsExplained b c.args.past.now c.args.narrowing.now.target l) (sym c.as_slice-facts.ensures.value) (c.in_ok-is_explained.ensures (ap Ok c.if-not-is_explained.false)))
+
+pub returns-then-not-is_explained : goal.returns-then-not-is_explained
+returns-then-not-is_explained g c = λ ok. no_yes _ ok

@@ -1,3 +1,4 @@
+-- The facts beside which the body cannot hold make the reason, with the other enforcement atoms.
 use Rattle.std.proofs.Common.{List, Ok, ap, sym, subst}
 use Rattle.cps_literal.specs.declared.atom.Atom.{Atom}
 use Rattle.cps_instance.specs.Tasks.{HoldsTask}
@@ -5,6 +6,7 @@ use Rattle.cps_rule.specs.Rules.{AreFacts, IsRefuted}
 use Rattle.cps_enforce.specs.Reasons.{IsReasonFor, task_of}
 use Rattle.cps_enforce.proofs.Forces.{but_facts}
 use Rattle.cps_enforce.proofs.Tasks.{fits_rule, fits_negatable, off_reason}
+use Rattle.cps_enforce.proofs.Denials.{no_yes}
 use Rattle.cps_enforce.proofs.explain.explain_off.Goals as goal
 
 pub refute-requires : goal.refute-requires
@@ -26,3 +28,9 @@ returns g c = λ _.
     subst (λ (l : List Atom). IsReasonFor (HoldsTask (task_of c.args.waiting.now.enforcement.now b)) c.args.past.now c.args.narrowing.now.target l) (sym c.in_ok-push.ensures.items)
     (off_reason s c.args.waiting.now.enforcement.now c.args.waiting.now.place c.negate-negation.result b c.requires.open.inside c.negate-negation.ensures.subject c.negate-negation.ensures.negated
     c.as_slice-facts.result.now c.deny_others.new.reason.items t c.in_ok-deny_others.ensures c.requires.subject (c.implies.ensures.0 c.if-not-implies.false) refuted)
+
+pub returns-then-not-implies : goal.returns-then-not-implies
+returns-then-not-implies g c = λ ok. no_yes _ ok
+
+pub returns-then-not-is_refuted : goal.returns-then-not-is_refuted
+returns-then-not-is_refuted g c = λ ok. no_yes _ ok

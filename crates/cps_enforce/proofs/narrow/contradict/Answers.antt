@@ -1,10 +1,11 @@
+-- Facts that give the atom, which is false, make the conflict, or what was narrowed before.
 use Rattle.std.proofs.Common.{◌<◌, List, Ok, ap, sym, subst, length}
 use Rattle.cps_literal.specs.declared.atom.Atom.{Atom}
 use Rattle.cps_instance.specs.Tasks.{HoldsTask}
 use Rattle.cps_trail.specs.Trail.{Trail}
 use Rattle.cps_rule.specs.Rules.{IsFittingRule, AreFacts, IsExplained}
 use Rattle.cps_enforce.specs.Reasons.{task_of, IsReasonFor}
-use Rattle.cps_enforce.proofs.Denials.{conflict_of_reason}
+use Rattle.cps_enforce.proofs.Denials.{on_ok, conflict_of_reason}
 use Rattle.cps_enforce.proofs.Tasks.{force_rule, force_facts, given_false}
 use Rattle.cps_enforce.proofs.narrow.contradict.Goals as goal
 
@@ -29,8 +30,12 @@ returns-then-is_explained g c =
     let b = g.R.Rule.body c.args.rule.now in
     let t = c.args.narrowing.now.target in
     let explained = subst (λ (l : List Atom). IsExplained b c.present-past.result c.args.narrowing.now.target l) (sym c.as_slice-facts.ensures.value) (c.in_ok-is_explained.ensures (ap Ok c.if-is_explained.true)) in
-    let reason = subst (λ (s : Trail). IsReasonFor (HoldsTask (task_of c.args.enforcement.now b)) s c.args.narrowing.now.target c.give_by.new.reason.items) c.present-past.ensures (c.in_ok-give_by.ensures b explained) in
-    conflict_of_reason (HoldsTask (task_of c.args.enforcement.now b)) c.args.store.now t c.give_by.new.reason.items reason c.requires.false_now
+    on_ok c.give_by.result _ _ c.give_by.ensures (λ made.
+    conflict_of_reason (HoldsTask (task_of c.args.enforcement.now b)) c.args.store.now t c.give_by.new.reason.items
+    (subst (λ (s : Trail). IsReasonFor (HoldsTask (task_of c.args.enforcement.now b)) s c.args.narrowing.now.target c.give_by.new.reason.items) c.present-past.ensures (made b explained)) c.requires.false_now)
 
 pub conflict_by_past-requires-clause-impossible : goal.conflict_by_past-requires-clause-impossible
 conflict_by_past-requires-clause-impossible g c = given_false c.args.store.now (g.R.Rule.body c.args.rule.now) c.args.narrowing.now.target c.requires.given c.requires.false_now
+
+pub returns : goal.returns
+returns g c = c.conflict_by_past.ensures

@@ -1,5 +1,9 @@
-use Rattle.std.proofs.Common.{Ok, ap, get_or, pos}
+-- Each narrowing is made in the store that those before it left.
+use Rattle.std.specs.Prelude.{All}
+use Rattle.std.proofs.Common.{List, Ok, ap, get_or, pos, subst}
+use Rattle.std.proofs.lemmas.List.{take_all}
 use Rattle.cps_instance.specs.Tasks.{HoldsTask}
+use Rattle.cps_trail.specs.Trail.{IsTrueNow}
 use Rattle.cps_trail.specs.Notes.{ByTask}
 use Rattle.cps_trail.proofs.Inferring.{Infers-trans}
 use Rattle.cps_rule.specs.declared.rule.Narrowing.{Narrowing}
@@ -37,3 +41,6 @@ loop-narrowing-preserved g c =
     let b = g.R.Rule.body c.args.rule.now in
     Narrows-more h.number h.enforcement.now b c.args.store.now c.loop-narrowing.store c.narrow.new.store c.args.found.now c.loop-narrowing.narrowing-index no_narrowing c.loop-narrowing-test.true
     c.loop-narrowing.invariant c.in_ok-narrow.ensures.infers (c.in_ok-narrow.ensures.made (ap Ok c.in-Settled.is))
+
+pub returns-clause-made : goal.returns-clause-made
+returns-clause-made g c = λ _. subst (λ (l : List Narrowing). All (λ (n : Narrowing). IsTrueNow c.loop-narrowing.store n.target) l) (take_all c.loop-narrowing.narrowing-index c.args.found.now c.loop-narrowing-test.false) c.loop-narrowing.invariant.made

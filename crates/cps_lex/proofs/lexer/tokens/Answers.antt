@@ -1,8 +1,12 @@
+-- The tokens read so far lead up to this place, and no others do.
 use Rattle.std.proofs.Common.{◌≡◌, ◌≤◌, ◌+◌, ◌-◌, length, false, ap, ◌∙◌, subst, arith, length-drop}
 use Rattle.std.proofs.lemmas.List.{take_rest}
 use Rattle.cps_lex.specs.Tokens.{ReadsTokens, IsLongest, NoneStands, blank_length, past_blank}
 use Rattle.cps_lex.proofs.Cutting.{leads_more, token_here, tokens_once, refused_alone, leads_few, leads_within}
 use Rattle.cps_lex.proofs.lexer.tokens.Goals as goal
+
+pub returns-in_default-clause-err : goal.returns-in_default-clause-err
+returns-in_default-clause-err c = (c.loop-at.tokens.items, c.loop-at.invariant.leads, c.loop-at-test.true, subst NoneStands (take_rest c.args.bytes.now c.loop-at.at) c.in_default.ensures)
 
 pub returns-in_default-clause-only : goal.returns-in_default-clause-only
 returns-in_default-clause-only c = λ ts are.

@@ -1,6 +1,7 @@
+-- Each byte adds what it completes, and the last, or one that no string has, leaves all of it.
 use Rattle.std.proofs.Common.{arith, sym}
-use Rattle.std.proofs.lemmas.List.{drop_more}
-use Rattle.cps_lex.proofs.Stepping.{pushed_whole, pushed_behind, pushed_longer}
+use Rattle.std.proofs.lemmas.List.{drop_more, drop_all}
+use Rattle.cps_lex.proofs.Stepping.{pushed_whole, pushed_behind, pushed_longer, text_stops, text_ends}
 use Rattle.cps_lex.proofs.text.push_rest.Goals as goal
 
 pub loop-byte-preserved : goal.loop-byte-preserved
@@ -13,3 +14,12 @@ loop-byte-preserved c =
       kept = pushed_behind _ _ _ _ pushed c.loop-byte.invariant.longer c.loop-byte.invariant.kept;
       longer = pushed_longer _ _ _ _ pushed c.loop-byte.invariant.longer;
     }
+
+pub returns-in_default-clause-ok : goal.returns-in_default-clause-ok
+returns-in_default-clause-ok c =
+    let first = drop_more c.args.after.now c.loop-byte.byte-index 0 c.loop-byte-test.true in
+    text_stops c.args.quote c.loop-byte.place _ _ _ c.loop-byte.bytes.items _ (sym c.in_default.ensures) first c.loop-byte.invariant.whole
+
+pub returns-clause-ok : goal.returns-clause-ok
+returns-clause-ok c =
+    text_ends c.args.quote c.loop-byte.place _ c.loop-byte.bytes.items _ (drop_all c.loop-byte.byte-index c.args.after.now c.loop-byte-test.false) c.loop-byte.invariant.whole

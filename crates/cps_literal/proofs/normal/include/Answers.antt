@@ -1,55 +1,10 @@
-use Rattle.std.proofs.Common.{arith, refl, sym, true≢false, ◌-◌, ◌<◌, length, get_or}
-use Rattle.cps_literal.proofs.Normalizing.{none, read_is, included_none, included_pass, included_already, included_remove, included_push, free_below, free_all}
+-- The atom is added where it is still to be, behind those that are left.
+use Rattle.std.proofs.Common.{sym, subst}
+use Rattle.cps_literal.specs.Normal.{Includes}
 use Rattle.cps_literal.proofs.normal.include.Goals as goal
-use Rattle.cps_literal.proofs.normal.include.Goals.{else-loop-place-test, then-loop-place-test+then-other-atom}
 
-pub returns-then-implies-clause-includes : goal.returns-then-implies-clause-includes
-returns-then-implies-clause-includes c =
-    let s = c.loop-place.invariant.so_far in
-    let p : c.loop-place.place - 1 < length c.loop-place.kept.items = omega (arith, s.inside) in
-    let h = c.if-implies.ensures in
-    included_already c.args.kept.now.items c.loop-place.kept.items c.args.atom (get_or c.as_slice.result.now (c.loop-place.place - 1) none) c.loop-place.place (c.loop-place.place - 1) p
-    (read_is c.as_slice.result.now c.loop-place.kept.items (c.loop-place.place - 1) c.as_slice.ensures p) (c.if-implies.ensures.0 refl) s
+pub returns-in_ok-push-clause-includes : goal.returns-in_ok-push-clause-includes
+returns-in_ok-push-clause-includes c = subst (λ l. Includes c.args.kept.now.items c.args.atom l) (sym c.in_ok-push.ensures.ok) (c.clear_for.ensures.added c.if-clear_for.true)
 
-pub loop-place-preserved-then-implies-2 : goal.loop-place-preserved-then-implies-2
-loop-place-preserved-then-implies-2 c =
-    let s = c.loop-place.invariant.so_far in
-    let p : c.loop-place.place - 1 < length c.loop-place.kept.items = omega (arith, s.inside) in
-    record {
-      so_far = included_remove c.args.kept.now.items c.loop-place.kept.items c.remove.new.self.items c.args.atom (get_or c.as_slice.result.now (c.loop-place.place - 1) none) c.loop-place.place (c.loop-place.place - 1) (omega arith)
-          (read_is c.as_slice.result.now c.loop-place.kept.items (c.loop-place.place - 1) c.as_slice.ensures p) (c.if-implies-2.ensures.0 refl) c.remove.ensures.items s;
-      len = omega (arith, c.remove.ensures.len);
-      capacity = omega (arith, c.remove.ensures.capacity);
-    }
-
-pub returns-clause-includes : goal.returns-clause-includes
-returns-clause-includes c =
-    let s = c.loop-place.invariant.so_far in
-    included_push c.args.kept.now.items c.loop-place.kept.items c.push.new.self.items c.args.atom
-    (elim c.loop-place-test.branch [
-      | else-loop-place-test w ↦ free_all c.args.kept.now.items c.loop-place.kept.items c.args.atom c.loop-place.place (omega (arith, w.loop-place-test.false)) s
-      | then-loop-place-test+then-other-atom w ↦ (
-          let p : c.loop-place.place - 1 < length c.loop-place.kept.items = omega (arith, s.inside, w.loop-place-test.true) in
-          let e = read_is w.as_slice.result.now c.loop-place.kept.items (c.loop-place.place - 1) w.as_slice.ensures p in
-          free_below c.args.kept.now.items c.loop-place.kept.items c.args.atom (get_or w.as_slice.result.now (c.loop-place.place - 1) none) c.loop-place.place (c.loop-place.place - 1) (omega (arith, w.loop-place-test.true)) e
-          w.if-other-atom.true c.requires.sorted s)
-    ])
-    c.requires.sorted c.in_ok-push.ensures.ok c.loop-place.place s
-
-pub loop-place-init : goal.loop-place-init
-loop-place-init c = record {
-  so_far = included_none c.args.kept.now.items c.args.atom c.len-place.result (omega (arith, c.len-place.ensures)) c.requires.normal;
-  len = omega arith;
-  capacity = omega arith;
-}
-
-pub loop-place-preserved : goal.loop-place-preserved
-loop-place-preserved c =
-    let s = c.loop-place.invariant.so_far in
-    let p : c.loop-place.place - 1 < length c.loop-place.kept.items = omega (arith, s.inside) in
-    record {
-      so_far = included_pass c.args.kept.now.items c.loop-place.kept.items c.args.atom (get_or c.as_slice.result.now (c.loop-place.place - 1) none) c.loop-place.place (c.loop-place.place - 1) (omega arith)
-          (read_is c.as_slice.result.now c.loop-place.kept.items (c.loop-place.place - 1) c.as_slice.ensures p) (λ i. true≢false (sym (c.if-implies.ensures.1 i))) (λ i. true≢false (sym (c.if-implies-2.ensures.1 i))) s;
-      len = c.loop-place.invariant.len;
-      capacity = c.loop-place.invariant.capacity;
-    }
+pub returns-else-clear_for-clause-includes : goal.returns-else-clear_for-clause-includes
+returns-else-clear_for-clause-includes c = c.clear_for.ensures.implied c.if-clear_for.false

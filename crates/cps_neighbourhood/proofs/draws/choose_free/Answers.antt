@@ -1,7 +1,8 @@
+-- Each number is taken or passed, and what is left of the sample is still to be drawn.
 use Rattle.std.specs.Prelude.{All}
 use Rattle.std.proofs.Common.{ℕ, suc, ◌+◌, ◌++◌, ◌≤◌, ◌-◌, ◌<◌, ◌≡◌, ◌∙◌, List, length, sym, ap, subst, arith}
 use Rattle.cps_neighbourhood.specs.Drawing.{AscendsStrictly, sample, sampled}
-use Rattle.cps_neighbourhood.proofs.Sampling.{none_left, sampled_under, sampled_length, sampled_rising, step_taken, step_passed, wanted_after, room_after, words_after}
+use Rattle.cps_neighbourhood.proofs.Sampling.{none_left, sampled_under, sampled_length, sampled_rising, step_taken, step_passed, wanted_after, room_after, words_after, words_done}
 use Rattle.cps_neighbourhood.proofs.draws.choose_free.Goals as goal
 use Rattle.cps_neighbourhood.proofs.draws.choose_free.Goals.{then-is_taken+in_ok-push, else-is_taken}
 
@@ -45,3 +46,9 @@ pub returns-clause-below : goal.returns-clause-below
 returns-clause-below c =
     let i = c.loop-number.invariant in
     subst (λ (xs : List ℕ). All (λ i. i < c.args.n) xs) (sym (none_left c.loop-number.chosen.items (sample c.args.n c.args.count c.args.draws.now) _ _ _ _ (omega arith) i.drawn)) (sampled_under c.args.n c.args.count c.args.draws.now)
+
+pub returns-clause-drawn : goal.returns-clause-drawn
+returns-clause-drawn c = none_left c.loop-number.chosen.items (sample c.args.n c.args.count c.args.draws.now) _ _ _ _ (omega arith) c.loop-number.invariant.drawn
+
+pub returns-clause-after : goal.returns-clause-after
+returns-clause-after c = words_done (c.args.n - c.loop-number.number) c.loop-number.draws _ (omega arith) c.loop-number.invariant.after

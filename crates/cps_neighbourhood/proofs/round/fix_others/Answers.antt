@@ -1,8 +1,9 @@
+-- A variable is free or has its decision, and what is left is still to be decided.
 use Rattle.std.specs.Prelude.{IsTrue}
 use Rattle.std.proofs.Common.{ℕ, pos, ◌+◌, ◌≤◌, ◌<◌, ◌≡◌, ◌∙◌, false, [], ◌∷◌, ◌++◌, length, get_or, drop, refl, sym, ap, subst, arith}
 use Rattle.cps_literal.specs.declared.atom.Atom.{Atom}
 use Rattle.cps_neighbourhood.specs.Rounds.{fixed_from}
-use Rattle.cps_neighbourhood.proofs.Freeing.{after_next, after_other, before_next, step_fixed, step_free}
+use Rattle.cps_neighbourhood.proofs.Freeing.{after_next, after_other, all_fixed, before_next, step_fixed, step_free}
 use Rattle.cps_neighbourhood.proofs.round.fix_others.Goals as goal
 use Rattle.cps_neighbourhood.proofs.round.fix_others.Goals.{then-is_free, else-is_free+in_ok-push}
 
@@ -34,3 +35,6 @@ loop-variable-preserved c = elim c.if-is_free.branch [
         after = subst (λ (n : ℕ). (k : ℕ) → n ≤ k → k < length c.args.free.now → c.loop-variable.variable + 1 ≤ get_or c.args.free.now k 0) (sym place) (after_other c.args.free.now c.loop-variable.place c.loop-variable.variable c.requires.rising i.after other);
       }
 ]
+
+pub returns : goal.returns
+returns c = all_fixed c.loop-variable.decisions.items (fixed_from 0 c.args.values.now c.args.free.now) c.args.values.now c.args.free.now c.loop-variable.variable (omega arith) c.loop-variable.invariant.decided

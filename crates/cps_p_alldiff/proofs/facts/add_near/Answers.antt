@@ -1,5 +1,8 @@
-use Rattle.std.proofs.Common.{◌<◌, length, sym, subst}
-use Rattle.cps_p_alldiff.proofs.Barring.{near_by}
+-- A bound that was true, or that the atom lies in the interval itself, gives the atom beside it.
+use Rattle.std.proofs.Common.{◌≡◌, ◌<◌, length, refl, sym, subst, rules, FitsSigned, w64}
+use Rattle.cps_literal.specs.declared.atom.Op.TheVariants.{Ne}
+use Rattle.cps_p_alldiff.proofs.Reading.{read_at_most}
+use Rattle.cps_p_alldiff.proofs.Barring.{near_by, near_itself}
 use Rattle.cps_p_alldiff.proofs.facts.add_near.Goals as goal
 
 pub returns-in_ok-push-in-Yes : goal.returns-in_ok-push-in-Yes
@@ -7,3 +10,13 @@ returns-in_ok-push-in-Yes c yes' =
     let bound = c.in-Some.ensures in
     near_by c.args.past.now c.args.target c.in-Some.near c.args.hall.now c.args.facts.now.items c.push.new.self.items bound (c.truth.ensures.yes.0 c.in-Yes.is)
     (subst (λ i. i < length c.args.past.now.first) (sym bound.subject) c.requires.subject) c.in_ok-push-in-Yes.ensures.items
+
+pub returns-then-hall-target : goal.returns-then-hall-target
+returns-then-hall-target c =
+    let h = c.args.hall.now in
+    let t = c.args.target in
+    let fl : FitsSigned w64 h.low = search rules in
+    let fh : FitsSigned w64 h.high = search rules in
+    let ft : FitsSigned w64 t.value = search rules in
+    let is-ne : t.op ≡ Ne = search rules in
+    λ e. near_itself c.args.past.now t h c.args.facts.now.items c.args.facts.now.items is-ne (read_at_most h.low t.value fl ft c.if-hall-target.true) (read_at_most t.value h.high ft fh e) refl

@@ -1,3 +1,4 @@
+-- No interval so far is crowded.
 use Rattle.std.proofs.Common.{ℕ, ◌<◌, ◌≤◌, ◌≤ℤ◌, inl, inr, pos, rules, FitsSigned, w64, sym, subst, length, get_or}
 use Rattle.std.proofs.lemmas.Int.{to_z-of_z}
 use Rattle.std.proofs.lemmas.List.{get_or_default}
@@ -26,3 +27,6 @@ loop-each-preserved c k d l = elim (last_or k c.loop-each.each-index l) [
       let Q : ℕ → Type 0 = λ u. P (get_or es u d) in
       subst Q (sym i) (subst P (get_or_default es n no_ends d m) (λ o. tried (record { range = range; ordered = o })))
 ]
+
+pub returns-then-is_overfull : goal.returns-then-is_overfull
+returns-then-is_overfull c = c.is_overfull.ensures.yes c.if-is_overfull.true

@@ -1,7 +1,19 @@
-use Rattle.std.proofs.Common.{rules, ◌≡◌, ◌++◌, map}
+-- The ends of arcs are places of nodes, and their numbers and the arcs that are taken are those of the circuit.
+use Rattle.std.proofs.Common.{rules, ◌≡◌, ◌++◌, ◌<◌, map, length}
+use Rattle.std.proofs.lemmas.List.Elements.{All-from_get_or}
 use Rattle.cps_p_circuit.specs.Graphs.{number, arcs_by}
 use Rattle.cps_p_circuit.proofs.Deciding.{tails_in, heads_in}
 use Rattle.cps_p_circuit.proofs.decided.is_round.Goals as goal
+
+pub add_numbers-requires : goal.add_numbers-requires
+add_numbers-requires c =
+    let g = c.args.graph.now in
+    rw (c.as_slice.ensures.value, c.as_slice-2.ensures.value) (All-from_get_or (λ v. v < length g.nodes.items) g.from.items 0 g.numbered.tails)
+
+pub add_numbers-requires-2 : goal.add_numbers-requires-2
+add_numbers-requires-2 c =
+    let g = c.args.graph.now in
+    rw (c.as_slice-3.ensures.value, c.as_slice-4.ensures.value) (All-from_get_or (λ v. v < length g.nodes.items) g.to.items 0 g.numbered.heads)
 
 pub is_circuit-requires-clause-tails : goal.is_circuit-requires-clause-tails
 is_circuit-requires-clause-tails c =

@@ -1,7 +1,11 @@
+-- The arcs so far are those of them that are taken.
 use Rattle.std.proofs.Common.{arith, rules, sym, ◌∙◌, add-one, FitsSigned, w32}
 use Rattle.std.proofs.lemmas.Int.{to_z-of_z}
-use Rattle.cps_p_circuit.proofs.Deciding.{arcs_pushed, arcs_same, arcs_end}
+use Rattle.cps_p_circuit.proofs.Deciding.{none_taken, arcs_pushed, arcs_same, arcs_end}
 use Rattle.cps_p_circuit.proofs.decided.taken_arcs.Goals as goal
+
+pub loop-k-init : goal.loop-k-init
+loop-k-init c = c.new-arcs.ensures.items ∙ sym (none_taken c.args.graph.now.nodes.items c.args.graph.now.from.items c.args.graph.now.to.items)
 
 pub loop-k-preserved-then-not-taken-k : goal.loop-k-preserved-then-not-taken-k
 loop-k-preserved-then-not-taken-k c = c.loop-k.invariant ∙ rw add-one (sym (arcs_same c.args.graph.now.nodes.items c.args.graph.now.from.items c.args.graph.now.to.items c.args.taken.now c.loop-k.k (omega (arith, c.arcs.ensures, c.min-count.ensures)) (omega (arith, c.arcs.ensures, c.min-count.ensures)) (omega (arith, c.arcs.ensures, c.min-count.ensures)) c.if-not-taken-k.true))

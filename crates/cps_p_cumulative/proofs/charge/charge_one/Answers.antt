@@ -1,3 +1,4 @@
+-- What a span is seen to use is taken from what is left, and nothing where its demand alone is seen.
 use Rattle.std.proofs.Common.{◌≡◌, true, pos, ℤ, ◌-ℤ◌, ◌*ℤ◌, ◌≤ℤ◌, refl, sym, subst, rules, FitsSigned, w64}
 use Rattle.std.specs.Prelude.{Ok, Some, Option, Result}
 use Rattle.std.specs.declared.alloc.AllocError.{AllocError}
@@ -28,7 +29,7 @@ returns-then-branch-clause-charged c = λ after ok.
     let f : FitsSigned w128 c.args.left = search rules in
     let e = rw (to_z-of_z w128 c.args.left f) at ok in
     let same : c.args.left ≡ after = some_of c.args.left after e in
-    let one : c.rely.result ≡ Ok true = cc in
+    let one : c.rely.result ≡ Ok true = ok_true c.rely.result c.in_ok-rely.field-0 c.in_ok-rely.was c.if-branch.true in
     charge-skip c.args.past.now c.args.case.assumed c.args.case.time c.args.case.width c.args.load.now.span.now c.args.load.now.demand c.args.left after c.at_least.result c.args.facts.now.items c.rely.new.facts.items same c.at_least.ensures (c.rely.ensures one)
 
 pub returns-clause-charged : goal.returns-clause-charged
@@ -39,16 +40,12 @@ returns-clause-charged c = λ after ok.
     let h : FitsSigned w128 c.energy.result = search rules in
     let k : FitsSigned w128 c.args.left = search rules in
     let e = simp to_z-of_z at c.energy.ensures in
-    let one : c.rely_run.result ≡ Ok true = ok_true c.rely_run.result c.in_ok-rely_run.field-0 c.in_ok-rely_run.was c.if-not-branch.false in
-    let two : c.rely-2.result ≡ Ok true = ok_true c.rely-2.result c.in_ok-rely-2.field-0 c.in_ok-rely-2.was c.if-not-branch-2.false in
-    let is = rw (to_z-of_z w64 claim.demand g) at c.at_least-2.ensures in
+    let one : c.rely_claim.result ≡ Ok true = ok_true c.rely_claim.result c.in_ok-rely_claim.field-0 c.in_ok-rely_claim.was c.if-not-branch.false in
     let taken = simp to_z-of_z at c.rest_of.ensures.taken in
     let l : FitsSigned w128 c.rest_of.result = search rules in
-    let ok' = rw (to_z-of_z w128 c.rest_of.result l) at ok in
-    let got : c.rest_of.result ≡ after = some_of c.rest_of.result after ok' in
+    let got : c.rest_of.result ≡ after = some_of c.rest_of.result after (rw (to_z-of_z w128 c.rest_of.result l) at ok) in
     let taken' : (c.args.left -ℤ after) ≤ℤ (claim.stay.ticks *ℤ claim.demand) = subst (λ (z : ℤ). (c.args.left -ℤ z) ≤ℤ (claim.stay.ticks *ℤ claim.demand)) got (subst (λ (z : ℤ). (c.args.left -ℤ c.rest_of.result) ≤ℤ z) e taken) in
-    charge-run c.args.past.now c.args.case.assumed c.args.case.time c.args.case.width c.args.load.now.span.now c.args.load.now.demand c.args.left after claim c.at_least-2.result c.args.facts.now.items c.rely_run.new.facts.items c.rely-2.new.facts.items
-    c.in-Some.ensures taken' is (c.rely_run.ensures one) (c.rely-2.ensures two)
+    charge-run c.args.past.now c.args.case.assumed c.args.case.time c.args.case.width c.args.load.now.span.now c.args.load.now.demand c.args.left after (claim.stay.ticks *ℤ claim.demand) c.args.facts.now.items c.rely_claim.new.facts.items taken' (c.rely_claim.ensures one)
 
 pub returns-in_err-rely-clause-falls : goal.returns-in_err-rely-clause-falls
 returns-in_err-rely-clause-falls c = λ after ok. no_err _ _ _ ok c.from_residual.ensures.0
@@ -62,29 +59,17 @@ returns-in_default-clause-falls c = λ after ok. no_number _ _ after ok refl
 pub returns-in_default-clause-charged : goal.returns-in_default-clause-charged
 returns-in_default-clause-charged c = λ after ok. no_number _ _ after ok refl
 
-pub returns-in_err-rely_run-clause-falls : goal.returns-in_err-rely_run-clause-falls
-returns-in_err-rely_run-clause-falls c = λ after ok. no_err _ _ _ ok c.from_residual-in_err-rely_run.ensures.0
+pub returns-in_err-rely_claim-clause-falls : goal.returns-in_err-rely_claim-clause-falls
+returns-in_err-rely_claim-clause-falls c = λ after ok. no_err _ _ _ ok c.from_residual-in_err-rely_claim.ensures.0
 
-pub returns-in_err-rely_run-clause-charged : goal.returns-in_err-rely_run-clause-charged
-returns-in_err-rely_run-clause-charged c = λ after ok. no_err _ _ _ ok c.from_residual-in_err-rely_run.ensures.0
+pub returns-in_err-rely_claim-clause-charged : goal.returns-in_err-rely_claim-clause-charged
+returns-in_err-rely_claim-clause-charged c = λ after ok. no_err _ _ _ ok c.from_residual-in_err-rely_claim.ensures.0
 
 pub returns-then-not-branch-clause-falls : goal.returns-then-not-branch-clause-falls
 returns-then-not-branch-clause-falls c = λ after ok. no_number _ _ after ok refl
 
 pub returns-then-not-branch-clause-charged : goal.returns-then-not-branch-clause-charged
 returns-then-not-branch-clause-charged c = λ after ok. no_number _ _ after ok refl
-
-pub returns-in_err-rely-2-clause-falls : goal.returns-in_err-rely-2-clause-falls
-returns-in_err-rely-2-clause-falls c = λ after ok. no_err _ _ _ ok c.from_residual-in_err-rely-2.ensures.0
-
-pub returns-in_err-rely-2-clause-charged : goal.returns-in_err-rely-2-clause-charged
-returns-in_err-rely-2-clause-charged c = λ after ok. no_err _ _ _ ok c.from_residual-in_err-rely-2.ensures.0
-
-pub returns-then-not-branch-2-clause-falls : goal.returns-then-not-branch-2-clause-falls
-returns-then-not-branch-2-clause-falls c = λ after ok. no_number _ _ after ok refl
-
-pub returns-then-not-branch-2-clause-charged : goal.returns-then-not-branch-2-clause-charged
-returns-then-not-branch-2-clause-charged c = λ after ok. no_number _ _ after ok refl
 
 pub claim_of-requires-clause-span : goal.claim_of-requires-clause-span
 claim_of-requires-clause-span c = c.requires.span
@@ -98,17 +83,17 @@ rely-requires-clause-subject c = let l = c.requires.demand in rw c.at_least.ensu
 pub rely-requires-clause-facts : goal.rely-requires-clause-facts
 rely-requires-clause-facts c = c.requires.facts
 
-pub rely_run-requires-clause-span : goal.rely_run-requires-clause-span
-rely_run-requires-clause-span c = c.requires.span
+pub rely_claim-requires-clause-span : goal.rely_claim-requires-clause-span
+rely_claim-requires-clause-span c = c.requires.span
 
-pub rely_run-requires-clause-facts : goal.rely_run-requires-clause-facts
-rely_run-requires-clause-facts c = c.requires.facts
+pub rely_claim-requires-clause-demand : goal.rely_claim-requires-clause-demand
+rely_claim-requires-clause-demand c = c.requires.demand
 
-pub rely-requires-2-clause-subject : goal.rely-requires-2-clause-subject
-rely-requires-2-clause-subject c = let l = c.requires.demand in rw c.at_least-2.ensures l
+pub rely_claim-requires-clause-claim : goal.rely_claim-requires-clause-claim
+rely_claim-requires-clause-claim c = c.in-Some.ensures
 
-pub rely-requires-2-clause-facts : goal.rely-requires-2-clause-facts
-rely-requires-2-clause-facts c = (c.rely_run.ensures (ok_true c.rely_run.result c.in_ok-rely_run.field-0 c.in_ok-rely_run.was c.if-not-branch.false)).facts
+pub rely_claim-requires-clause-facts : goal.rely_claim-requires-clause-facts
+rely_claim-requires-clause-facts c = c.requires.facts
 
 pub rest_of-requires-clause-left : goal.rest_of-requires-clause-left
 rest_of-requires-clause-left c =

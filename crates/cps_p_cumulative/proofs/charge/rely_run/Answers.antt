@@ -1,9 +1,10 @@
+-- A span is present where each of its atoms is true, and lies between the two times by two atoms more.
 use Rattle.std.proofs.Common.{◌≡◌, true, refl, subst, sym, List, length, ◌<◌, rules, FitsSigned, w64}
 use Rattle.std.specs.List.{All}
 use Rattle.std.specs.Prelude.{Ok}
 use Rattle.std.proofs.lemmas.Int.{to_z-of_z}
 use Rattle.cps_literal.specs.declared.atom.Atom.{Atom}
-use Rattle.cps_p_cumulative.proofs.Running.{start-inside, time-inside, presence-inside}
+use Rattle.cps_p_cumulative.proofs.Running.{start-inside, time-inside, both-inside, presence-inside}
 use Rattle.cps_p_cumulative.proofs.Levelled.{ok_true, no_yes, no_err}
 use Rattle.cps_p_cumulative.proofs.Relied.{run-relied}
 use Rattle.cps_p_cumulative.proofs.charge.rely_run.Goals as goal
@@ -11,22 +12,27 @@ use Rattle.cps_p_cumulative.proofs.charge.rely_run.Goals as goal
 pub rely_all-requires-clause-subjects : goal.rely_all-requires-clause-subjects
 rely_all-requires-clause-subjects c = subst (λ (us : List Atom). All (λ u. u.subject < length c.args.past.now.first) us) (sym c.as_slice.ensures) (presence-inside c.args.past.now.first c.args.span.now c.requires.span)
 
-pub rely-requires-clause-subject : goal.rely-requires-clause-subject
-rely-requires-clause-subject c = let l = start-inside c.args.past.now.first c.args.span.now c.requires.span in rw c.at_most.ensures l
+pub rely_all-requires-2-clause-subjects : goal.rely_all-requires-2-clause-subjects
+rely_all-requires-2-clause-subjects c =
+    let first = c.args.past.now.first in
+    let l = start-inside first c.args.span.now c.requires.span in
+    both-inside first c.at_most.result c.in-Some.last (rw c.at_most.ensures l) (time-inside first c.args.span.now c.in-Some.last.subject c.requires.span c.in-Some.ensures.subject)
 
-pub rely-requires-2-clause-subject : goal.rely-requires-2-clause-subject
-rely-requires-2-clause-subject c = time-inside c.args.past.now.first c.args.span.now c.in-Some.last.subject c.requires.span c.in-Some.ensures.subject
+pub rely_all-requires-clause-facts : goal.rely_all-requires-clause-facts
+rely_all-requires-clause-facts c = c.requires.facts
+
+pub rely_all-requires-2-clause-facts : goal.rely_all-requires-2-clause-facts
+rely_all-requires-2-clause-facts c = (c.rely_all.ensures (ok_true c.rely_all.result c.in_ok-rely_all.field-0 c.in_ok-rely_all.was c.if-not-branch.false)).facts
 
 pub returns : goal.returns
 returns c = λ ok.
     let one : c.rely_all.result ≡ Ok true = ok_true c.rely_all.result c.in_ok-rely_all.field-0 c.in_ok-rely_all.was c.if-not-branch.false in
-    let two : c.rely.result ≡ Ok true = ok_true c.rely.result c.in_ok-rely.field-0 c.in_ok-rely.was c.if-not-branch-2.false in
     let f : FitsSigned w64 c.args.stay.latest = search rules in
     let g : FitsSigned w64 c.args.stay.after = search rules in
     let starts = rw (to_z-of_z w64 c.args.stay.latest f) at c.at_most.ensures in
     let later = rw (to_z-of_z w64 c.args.stay.after g) at c.in-Some.ensures in
-    run-relied c.args.past.now c.args.case.assumed c.args.stay.latest c.args.stay.after c.args.span.now c.as_slice.result.now c.at_most.result c.in-Some.last c.args.facts.now.items c.rely_all.new.facts.items c.rely.new.facts.items c.rely-2.new.facts.items
-    c.as_slice.ensures starts later (c.rely_all.ensures one) (c.rely.ensures two) (c.rely-2.ensures ok)
+    run-relied c.args.past.now c.args.case.assumed c.args.stay.latest c.args.stay.after c.args.span.now c.as_slice.result.now c.at_most.result c.in-Some.last c.args.facts.now.items c.rely_all.new.facts.items c.rely_all-2.new.facts.items
+    c.as_slice.ensures starts later (c.rely_all.ensures one) (c.rely_all-2.ensures ok)
 
 pub returns-in_default : goal.returns-in_default
 returns-in_default c = λ ok. no_yes _ _ ok refl
@@ -36,18 +42,3 @@ returns-in_err-rely_all c = λ ok. no_err _ _ _ ok c.from_residual.ensures.0
 
 pub returns-then-not-branch : goal.returns-then-not-branch
 returns-then-not-branch c = λ ok. no_yes _ _ ok refl
-
-pub returns-in_err-rely : goal.returns-in_err-rely
-returns-in_err-rely c = λ ok. no_err _ _ _ ok c.from_residual-in_err-rely.ensures.0
-
-pub returns-then-not-branch-2 : goal.returns-then-not-branch-2
-returns-then-not-branch-2 c = λ ok. no_yes _ _ ok refl
-
-pub rely_all-requires-clause-facts : goal.rely_all-requires-clause-facts
-rely_all-requires-clause-facts c = c.requires.facts
-
-pub rely-requires-clause-facts : goal.rely-requires-clause-facts
-rely-requires-clause-facts c = (c.rely_all.ensures (ok_true c.rely_all.result c.in_ok-rely_all.field-0 c.in_ok-rely_all.was c.if-not-branch.false)).facts
-
-pub rely-requires-2-clause-facts : goal.rely-requires-2-clause-facts
-rely-requires-2-clause-facts c = (c.rely.ensures (ok_true c.rely.result c.in_ok-rely.field-0 c.in_ok-rely.was c.if-not-branch-2.false)).facts

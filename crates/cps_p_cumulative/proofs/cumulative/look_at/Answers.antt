@@ -1,29 +1,11 @@
-use Rattle.std.specs.Prelude.{unsigned_abs}
-use Rattle.std.proofs.Common.{◌≡◌, pos, rules, FitsSigned, w64, arith}
-use Rattle.std.proofs.lemmas.Int.{ints, to_z-of_z}
-use Rattle.cps_p_cumulative.proofs.Resting.{impossible-of, capacity-of}
+-- What is overloaded cannot hold, and where nothing is the loads have room.
 use Rattle.cps_p_cumulative.proofs.cumulative.look_at.Goals as goal
 
-pub returns-in-Some-clause-impossible : goal.returns-in-Some-clause-impossible
-returns-in-Some-clause-impossible c = λ hint is.
-    let s = c.args.past.now in
-    let r = c.args.resource.now in
-    let most = c.ends-most.result.1 in
-    let f : FitsSigned w64 most = search rules in
-    let low = c.if-most-lt0.false in
-    let e : pos (unsigned_abs most) ≡ most = omega (arith, ints) in
-    let over = rw (to_z-of_z w64 most f) at c.in_ok-found_time.ensures in
-    impossible-of s r c.as_slice.result.now c.as_slice-2.result.now c.as_slice-3.result.now c.measure.new.parts.items (unsigned_abs most) most c.in-Some.time c.in_ok-found_time.found_time c.requires.inside c.as_slice.ensures c.as_slice-2.ensures c.as_slice-3.ensures.value c.in_ok-measure.ensures
-    c.in-Some.is over e c.ends-most.ensures.greatest c.requires.demands
+pub overloaded-requires-clause-inside : goal.overloaded-requires-clause-inside
+overloaded-requires-clause-inside c = c.requires.inside
 
-pub returns-clause-possible : goal.returns-clause-possible
-returns-clause-possible c = λ ok.
-    let s = c.args.past.now in
-    let r = c.args.resource.now in
-    let most = c.ends-most.result.1 in
-    let f : FitsSigned w64 most = search rules in
-    let low = c.if-most-lt0.false in
-    let e : pos (unsigned_abs most) ≡ most = omega (arith, ints) in
-    let fits = rw (to_z-of_z w64 most f) at c.in_ok-found_time.ensures in
-    capacity-of s r c.as_slice.result.now c.as_slice-2.result.now c.as_slice-3.result.now c.measure.new.parts.items (unsigned_abs most) most c.in_ok-found_time.found_time c.as_slice.ensures c.as_slice-2.ensures c.as_slice-3.ensures.value c.in_ok-measure.ensures
-    c.in_default.not-Some fits e c.ends-most.ensures.high
+pub overloaded-requires-clause-demands : goal.overloaded-requires-clause-demands
+overloaded-requires-clause-demands c = c.requires.demands
+
+pub propose-requires-clause-resource : goal.propose-requires-clause-resource
+propose-requires-clause-resource c = c.requires.inside

@@ -1,10 +1,12 @@
-use Rattle.std.proofs.Common.{subst, List, rules, FitsSigned, w64}
+-- The greatest capacity is a fact, and with it the window is overloaded.
+use Rattle.std.proofs.Common.{refl, subst, List, rules, FitsSigned, w64}
 use Rattle.std.proofs.lemmas.Int.{to_z-of_z}
 use Rattle.cps_literal.specs.declared.atom.Atom.{Atom}
 use Rattle.cps_instance.specs.Tasks.{HoldsBody}
 use Rattle.cps_p_cumulative.specs.Running.{body_of}
 use Rattle.cps_p_cumulative.specs.Relying.{Relies}
 use Rattle.cps_p_cumulative.proofs.Relied.{refuted, fact-capacity, one_fact}
+use Rattle.cps_p_cumulative.proofs.Levelled.{no_yes}
 use Rattle.cps_p_cumulative.proofs.cumulative.refute_window.Goals as goal
 
 pub charge-requires-clause-facts : goal.charge-requires-clause-facts
@@ -21,3 +23,12 @@ returns c = λ ok.
     let r = c.args.resource.now in
     refuted s (body_of r) c.at_most.result c.charge.new.facts.items
     (subst (λ (us : List Atom). Relies s c.at_most.result (λ xs. HoldsBody (body_of r) xs → ⊥) us c.charge.new.facts.items) (one_fact c.clear.new.self.items c.push.new.self.items c.at_most.result c.clear.ensures.items c.in_ok-push.ensures.items) (c.charge.ensures ok))
+
+pub returns-then-not-is_inside : goal.returns-then-not-is_inside
+returns-then-not-is_inside c = λ ok. no_yes _ _ ok refl
+
+pub ends-most-requires : goal.ends-most-requires
+ends-most-requires c = c.requires.capacity
+
+pub charge-requires-clause-resource : goal.charge-requires-clause-resource
+charge-requires-clause-resource c = c.requires

@@ -1,3 +1,4 @@
+-- Both orders have the same parts.
 use Rattle.std.proofs.Common.{◌≡◌, ◌∙◌, ◌++◌, [], List, pos, ap, sym, subst}
 use Rattle.std.specs.List.Sorted.{IsPermutation}
 use Rattle.cps_p_cumulative.specs.declared.part.Part.{Part}
@@ -28,3 +29,18 @@ pub returns-in-None : goal.returns-in-None
 returns-in-None c =
     let at = (goal.at.returns-in-None c).After-as_slice-2 in
     FitsCapacity-swept c.args.parts.now c.as_slice.result.now c.as_slice-2.result.now c.args.capacity no_part c.requires.parts (starts_moved at) (ends_moved at) (c.sweep.ensures c.in-None.is)
+
+pub sweep-requires-clause-capacity : goal.sweep-requires-clause-capacity
+sweep-requires-clause-capacity c = c.requires.capacity
+
+pub is_over-requires-clause-parts : goal.is_over-requires-clause-parts
+is_over-requires-clause-parts c = c.requires.parts
+
+pub is_over-requires-clause-capacity : goal.is_over-requires-clause-capacity
+is_over-requires-clause-capacity c = c.requires.capacity
+
+pub scan-requires-clause-parts : goal.scan-requires-clause-parts
+scan-requires-clause-parts c = c.requires.parts
+
+pub scan-requires-clause-capacity : goal.scan-requires-clause-capacity
+scan-requires-clause-capacity c = c.requires.capacity

@@ -1,8 +1,11 @@
+-- What began and what ended up to a part keep to the capacity.
 use Rattle.std.proofs.Common.{◌≤◌, ◌+◌, ◌<◌, arith, pos, rules, FitsSigned, w64, get_or, take, length}
 use Rattle.std.specs.List.{sum_by}
 use Rattle.std.proofs.lemmas.Int.{to_z-of_z}
 use Rattle.cps_p_cumulative.specs.declared.part.Part.{Part}
-use Rattle.cps_p_cumulative.proofs.Summing.{swept_more, carries}
+use Rattle.cps_p_cumulative.proofs.Levelled.{no_some}
+use Rattle.cps_p_cumulative.proofs.Running.{false_lt}
+use Rattle.cps_p_cumulative.proofs.Summing.{ended_later, swept_more, carries}
 use Rattle.cps_p_cumulative.proofs.judge.sweep.Goals as goal
 
 abbrev no_part : Part
@@ -27,3 +30,12 @@ loop-part-preserved c =
       ended = record { within = c.pass_ends-passed.ensures.ended.within; passed = c.pass_ends-passed.ensures.ended.passed };
       swept = swept_more starts ends c.args.capacity k m no_part l e.passed sum c.loop-part.invariant.swept;
     }
+
+pub pass_ends-passed-requires : goal.pass_ends-passed-requires
+pass_ends-passed-requires c = record { before = ended_later c.args.ends.now c.loop-part.ended _ _ (false_lt _ _ c.if-time-last.false) c.loop-part.invariant.ended }
+
+pub returns-then-time-last : goal.returns-then-time-last
+returns-then-time-last c = λ none. no_some _ _ none
+
+pub returns-then-capacity-level : goal.returns-then-capacity-level
+returns-then-capacity-level c = λ none. no_some _ _ none

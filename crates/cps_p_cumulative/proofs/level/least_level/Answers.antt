@@ -1,8 +1,9 @@
-use Rattle.std.proofs.Common.{◌≡◌, ◌<◌, ◌+ℤ◌, length, rules, arith, FitsSigned, w64, to_z}
+-- The sum so far is the level of the first events, and in the end of all.
+use Rattle.std.proofs.Common.{refl, ◌≡◌, ◌<◌, ◌+ℤ◌, length, rules, arith, FitsSigned, w64, to_z}
 use Rattle.std.specs.Int.{w128}
 use Rattle.std.proofs.lemmas.Int.{ints, to_z-of_z}
 use Rattle.cps_p_cumulative.specs.Levels.{moves_of}
-use Rattle.cps_p_cumulative.proofs.Levelled.{level_more, near_step}
+use Rattle.cps_p_cumulative.proofs.Levelled.{level_more, level_all, near_step}
 use Rattle.cps_p_cumulative.proofs.level.least_level.Goals as goal
 
 pub loop-k-preserved : goal.loop-k-preserved
@@ -22,3 +23,10 @@ loop-k-preserved c =
       level = level_more c.args.past.now t c.args.side (moves_of c.args.tank.now) c.loop-k.k c.move_at.result v w x l c.move_at.ensures held here step;
       near = near_step c.loop-k.k v w x step c.loop-k.invariant.near c.share.ensures.near;
     })
+
+pub returns : goal.returns
+returns c =
+    let t = c.args.time in
+    let f : FitsSigned w64 t = search rules in
+    let held = rw (to_z-of_z w64 t f) at c.loop-k.invariant.level in
+    level_all c.args.past.now t c.args.side (moves_of c.args.tank.now) c.loop-k.k _ _ (omega (arith, c.count-k-end.ensures, c.loop-k-test.false)) refl held

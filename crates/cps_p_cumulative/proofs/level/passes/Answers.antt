@@ -1,4 +1,5 @@
-use Rattle.std.proofs.Common.{◌<ℤ◌, ◌≤ℤ◌, rules, FitsSigned, w64}
+-- The level at an event's greatest time passes the limit, or leaves room there.
+use Rattle.std.proofs.Common.{true≢false, ◌<ℤ◌, ◌≤ℤ◌, rules, FitsSigned, w64}
 use Rattle.std.specs.Int.{w128}
 use Rattle.std.proofs.lemmas.Int.{ints, to_z-of_z}
 use Rattle.cps_p_cumulative.proofs.Levelled.{over_limit, room_after}
@@ -27,3 +28,9 @@ returns-clause-room c = λ e.
     let l : v ≤ℤ lim = (let o = c.if-limit-level.false in search (rules, ints)) in
     let level = rw (to_z-of_z w64 t f) at c.least_level-level.ensures in
     room_after c.args.past.now c.args.tank.now c.args.side t v lim c.args.event.now c.limit-limit.ensures l level c.ends-time.ensures.high c.ends-time.ensures.greatest
+
+pub least_level-level-requires : goal.least_level-level-requires
+least_level-level-requires c = c.requires.tank
+
+pub returns-then-limit-level-clause-room : goal.returns-then-limit-level-clause-room
+returns-then-limit-level-clause-room c = λ e. absurd (true≢false e)

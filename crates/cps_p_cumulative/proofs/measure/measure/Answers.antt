@@ -1,3 +1,4 @@
+-- Each part of a span goes into the profile, unless it demands nothing.
 use Rattle.std.proofs.Common.{◌≡◌, ◌+◌, ◌<◌, ap, subst, sym, List, length, get_or, arith}
 use Rattle.cps_instance.specs.declared.task.Span.{Span}
 use Rattle.cps_p_cumulative.specs.declared.part.Part.{Part}
@@ -5,7 +6,7 @@ use Rattle.cps_p_cumulative.specs.Running.{IsSpanOf}
 use Rattle.cps_p_cumulative.specs.Measuring.{IsPartMeasured}
 use Rattle.cps_p_cumulative.proofs.Running.{span-inside}
 use Rattle.cps_p_cumulative.proofs.Relied.{min_past}
-use Rattle.cps_p_cumulative.proofs.Profiled.{IsProfileTo, profile-more, profile-same, profile-all}
+use Rattle.cps_p_cumulative.proofs.Profiled.{IsProfileTo, profile-begun, profile-more, profile-same, profile-all}
 use Rattle.cps_p_cumulative.proofs.measure.measure.Goals as goal
 use Rattle.cps_p_cumulative.proofs.measure.measure.Goals.{then-part-gt0+in_ok-push, else-part-gt0}
 
@@ -36,3 +37,6 @@ loop-k-preserved c =
 
 pub returns : goal.returns
 returns c = profile-all c.args.past.now c.args.spans.now c.args.demands.now c.loop-k.k c.loop-k.parts.items (min_past (length c.args.spans.now) (length c.args.demands.now) c.loop-k.k c.min-count.result c.min-count.ensures c.loop-k-test.false) c.loop-k.invariant
+
+pub loop-k-init : goal.loop-k-init
+loop-k-init c = profile-begun c.args.past.now c.args.spans.now c.args.demands.now c.clear.new.self.items c.clear.ensures.items

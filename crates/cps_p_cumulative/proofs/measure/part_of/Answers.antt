@@ -1,3 +1,4 @@
+-- A part covers just the times at which its span surely runs, and demands the least that the span may.
 use Rattle.std.specs.Prelude.{unsigned_abs}
 use Rattle.std.proofs.Common.{◌≡◌, ℤ, pos, ◌≤ℤ◌, ◌<ℤ◌, List, rules, FitsSigned, w64, arith, sym, subst, length, ◌<◌}
 use Rattle.std.specs.Int.{w128}
@@ -7,6 +8,7 @@ use Rattle.cps_literal.specs.declared.atom.Atom.{Atom}
 use Rattle.cps_trail.specs.Trail.{IsTrueNow}
 use Rattle.cps_propagate.specs.Now.{IsOpenTo}
 use Rattle.cps_p_cumulative.proofs.Running.{start-inside, end-inside, presence-inside}
+use Rattle.cps_p_cumulative.proofs.Energy.{wide_same}
 use Rattle.cps_p_cumulative.proofs.Profiled.{IsSure, measured-bare, measured-some}
 use Rattle.cps_p_cumulative.proofs.measure.part_of.Goals as goal
 
@@ -17,7 +19,7 @@ pub are_true-requires : goal.are_true-requires
 are_true-requires c = subst (λ (us : List Atom). All (λ u. u.subject < length c.args.past.now.first) us) (sym c.as_slice.ensures) (presence-inside c.args.past.now.first c.args.span.now c.requires.span)
 
 pub returns-then-to-from : goal.returns-then-to-from
-returns-then-to-from c = measured-bare c.args.past.now c.args.span.now c.args.demand _ _ (search (rules, ints)) (λ t m cover l.
+returns-then-to-from c = measured-bare c.args.past.now c.args.span.now c.args.demand _ _ (wide_same c.ends-from.result.1 c.from.result (search rules) c.from.ensures) (λ t m cover l.
     let a = c.ends-from.result.1 in
     let b = c.least_end-to.result in
     let p = cover.started a c.ends-from.ensures.high in
@@ -26,13 +28,13 @@ returns-then-to-from c = measured-bare c.args.past.now c.args.span.now c.args.de
     absurd (omega (arith, ints)))
 
 pub returns-then-least-le0 : goal.returns-then-least-le0
-returns-then-least-le0 c = measured-bare c.args.past.now c.args.span.now c.args.demand _ _ (search (rules, ints)) (λ t m cover l.
+returns-then-least-le0 c = measured-bare c.args.past.now c.args.span.now c.args.demand _ _ (wide_same c.ends-from.result.1 c.from.result (search rules) c.from.ensures) (λ t m cover l.
     let q = l.below c.ends-least.result.0 c.ends-least.ensures.low in
     let r = c.if-least-le0.true in
     omega (arith, ints))
 
 pub returns-then-not-are_true : goal.returns-then-not-are_true
-returns-then-not-are_true c = measured-bare c.args.past.now c.args.span.now c.args.demand _ _ (search (rules, ints)) (λ t m cover l.
+returns-then-not-are_true c = measured-bare c.args.past.now c.args.span.now c.args.demand _ _ (wide_same c.ends-from.result.1 c.from.result (search rules) c.from.ensures) (λ t m cover l.
     absurd (c.are_true.ensures.no c.if-not-are_true.true (subst (λ (us : List Atom). All (IsTrueNow c.args.past.now) us) (sym c.as_slice.ensures) cover.present)))
 
 pub returns : goal.returns
@@ -64,3 +66,9 @@ returns c =
       ordered = omega (arith, ints);
     } in
     rw (to_z-of_z w64 a fa, to_z-of_z w128 b fb, to_z-of_z w64 m fm) (measured-some s p c.args.demand (record { from = a; to = b; demand = unsigned_abs m }) sure)
+
+pub ends-least-requires : goal.ends-least-requires
+ends-least-requires c = c.requires.demand
+
+pub least_end-to-requires : goal.least_end-to-requires
+least_end-to-requires c = c.requires.span

@@ -1,4 +1,6 @@
+-- What is pushed is an event's time.
 use Rattle.std.proofs.Common.{◌<◌, length}
+use Rattle.cps_p_cumulative.proofs.Energy.{next_fits}
 use Rattle.cps_p_cumulative.proofs.Levelled.{on_time, active_inside}
 use Rattle.cps_p_cumulative.proofs.pushes.push_time.Goals as goal
 
@@ -13,3 +15,6 @@ returns-then-bounds-lt0 c = let l = on_time (λ i. i < length c.args.past.now.fi
 
 pub returns-then-is_decided : goal.returns-then-is_decided
 returns-then-is_decided c = let l = on_time (λ i. i < length c.args.past.now.first) c.args.event.now c.requires in rw c.at_least.ensures l
+
+pub overflow_add-slack : goal.overflow_add-slack
+overflow_add-slack c = next_fits _ (c.is_inside.ensures c.if-not-is_inside.false)

@@ -1,4 +1,5 @@
-use Rattle.std.proofs.Common.{◌≡◌, true, subst, sym, List}
+-- An atom counts where its denial is seen to make the level pass a limit.
+use Rattle.std.proofs.Common.{◌≡◌, true, rules, subst, sym, List}
 use Rattle.std.specs.Prelude.{Ok}
 use Rattle.std.specs.List.{All}
 use Rattle.std.proofs.lemmas.List.Elements.{All-push}
@@ -8,7 +9,9 @@ use Rattle.cps_rule.specs.declared.rule.Narrowing.{Narrowing}
 use Rattle.cps_rule.specs.Rules.{IsGiven}
 use Rattle.cps_p_cumulative.specs.Levels.{tank_body}
 use Rattle.cps_p_cumulative.specs.Relying.{Relies}
-use Rattle.cps_p_cumulative.proofs.Relied.{explained, given}
+use Rattle.cps_p_cumulative.proofs.Levelled.{ok_true}
+use Rattle.cps_p_cumulative.proofs.Negating.{tested, negatable_low, negatable_high, negatable_above, negatable_below}
+use Rattle.cps_p_cumulative.proofs.Relied.{explained, given, no_facts}
 use Rattle.cps_p_cumulative.proofs.reservoir.offer.Goals as goal
 
 pub returns-in_ok-push : goal.returns-in_ok-push
@@ -16,9 +19,27 @@ returns-in_ok-push c =
     let s = c.args.past.now in
     let b = tank_body c.args.tank.now in
     let u = c.args.narrowing.target in
-    let ok : c.charge_level.result ≡ Ok true = cc in
+    let ok : c.charge_level.result ≡ Ok true = ok_true c.charge_level.result c.in_ok-charge_level.field-0 c.in_ok-charge_level.was c.if-branch.true in
     let facts = c.charge_level.new.facts.items in
     let e = explained s b c.negate.result u facts c.negate.ensures.subject c.negate.ensures.negated
     (subst (λ (us : List Atom). Relies s c.negate.result (λ xs. HoldsBody b xs → ⊥) us facts) c.clear.ensures.items (c.charge_level.ensures ok)) in
     subst (λ (ns : List Narrowing). All (λ n. IsGiven b s n.target) ns) (sym c.in_ok-push.ensures.items)
     (All-push (λ (n : Narrowing). IsGiven b s n.target) c.args.found.now.items c.args.narrowing c.requires.found (given s b u facts c.requires.subject e))
+
+pub negate-requires-clause-low : goal.negate-requires-clause-low
+negate-requires-clause-low c = negatable_low c.args.narrowing.target.value (tested c.args.narrowing.target.value (search rules) (c.is_inside.ensures c.if-not-is_inside.false))
+
+pub negate-requires-clause-high : goal.negate-requires-clause-high
+negate-requires-clause-high c = negatable_high c.args.narrowing.target.value (tested c.args.narrowing.target.value (search rules) (c.is_inside.ensures c.if-not-is_inside.false))
+
+pub negate-requires-clause-above : goal.negate-requires-clause-above
+negate-requires-clause-above c = λ _. negatable_above c.args.narrowing.target.value (tested c.args.narrowing.target.value (search rules) (c.is_inside.ensures c.if-not-is_inside.false))
+
+pub negate-requires-clause-below : goal.negate-requires-clause-below
+negate-requires-clause-below c = λ _. negatable_below c.args.narrowing.target.value (tested c.args.narrowing.target.value (search rules) (c.is_inside.ensures c.if-not-is_inside.false))
+
+pub charge_level-requires-clause-tank : goal.charge_level-requires-clause-tank
+charge_level-requires-clause-tank c = c.requires.tank
+
+pub charge_level-requires-clause-facts : goal.charge_level-requires-clause-facts
+charge_level-requires-clause-facts c = no_facts c.args.past.now c.clear.new.self.items c.clear.ensures.items

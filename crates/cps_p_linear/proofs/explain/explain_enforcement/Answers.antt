@@ -1,3 +1,4 @@
+-- The other enforcement atoms were true, so the negation of the one at the place follows where no sum is admitted.
 use Rattle.std.proofs.Common.{◌<◌, ◌∙◌, ℕ, List, pos, sym, subst, length}
 use Rattle.cps_literal.specs.declared.atom.Atom.{Atom}
 use Rattle.cps_literal.specs.declared.atom.Op.TheVariants.{Le}
@@ -6,6 +7,7 @@ use Rattle.cps_p_linear.specs.Supporting.{AreGrounds}
 use Rattle.cps_p_linear.specs.Measuring.{Asks}
 use Rattle.cps_p_linear.proofs.Explained.{reason_for}
 use Rattle.cps_p_linear.proofs.Forces.{but_facts, negation_given}
+use Rattle.cps_p_linear.proofs.Negating.{negatable_low, negatable_high, negatable_above, negatable_below}
 use Rattle.cps_p_linear.proofs.explain.explain_enforcement.Goals as goal
 
 abbrev no_atom : Atom
@@ -27,3 +29,15 @@ returns c _ =
     reason_for (Asks m.task) s c.args.target c.explain_none.new.facts.atoms.items c.deny_facts.new.facts.atoms.items c.deny_facts.new.facts.reason.items c.push.new.self.items
     c.in_ok-deny_facts.ensures.atoms c.in_ok-deny_facts.ensures.reason c.in_ok-push.ensures.items c.in_ok-explain_none.ensures.extends.facts inside
     (λ xs within passing all. holds_too n c.args.target xs follows (negation_given s m.task.enforcement.now c.args.place no_atom n m.task.terms.now m.task.admitted.now c.begin_without.new.facts c.explain_none.new.facts others.inside c.negate-negation.ensures.subject c.negate-negation.ensures.negated c.in_ok-begin_without.ensures c.in_ok-explain_none.ensures xs within passing all))
+
+pub negate-negation-requires-clause-low : goal.negate-negation-requires-clause-low
+negate-negation-requires-clause-low c = negatable_low (c.requires.negatable.negatable c.args.place no_atom (c.are_true_but.ensures c.if-not-are_true_but.false).inside)
+
+pub negate-negation-requires-clause-high : goal.negate-negation-requires-clause-high
+negate-negation-requires-clause-high c = negatable_high (c.requires.negatable.negatable c.args.place no_atom (c.are_true_but.ensures c.if-not-are_true_but.false).inside)
+
+pub negate-negation-requires-clause-above : goal.negate-negation-requires-clause-above
+negate-negation-requires-clause-above c = λ _. negatable_above (c.requires.negatable.negatable c.args.place no_atom (c.are_true_but.ensures c.if-not-are_true_but.false).inside)
+
+pub negate-negation-requires-clause-below : goal.negate-negation-requires-clause-below
+negate-negation-requires-clause-below c = λ _. negatable_below (c.requires.negatable.negatable c.args.place no_atom (c.are_true_but.ensures c.if-not-are_true_but.false).inside)

@@ -1,3 +1,4 @@
+-- The enforcement atom is open, so its negation is not false, and its value can be negated.
 use Rattle.std.proofs.Common.{◌<◌, pos, sym, subst, length, get_or}
 use Rattle.cps_literal.specs.declared.atom.Atom.{Atom}
 use Rattle.cps_literal.specs.declared.atom.Op.TheVariants.{Le}
@@ -9,6 +10,7 @@ use Rattle.cps_p_linear.proofs.Explained.{measured_of}
 use Rattle.cps_p_linear.proofs.Forced.{forced_off}
 use Rattle.cps_p_linear.proofs.Forces.{negation_made, aside_possible, aside_false, open_true}
 use Rattle.std.proofs.Common.{refl}
+use Rattle.cps_p_linear.proofs.Negating.{negatable_low, negatable_high, negatable_above, negatable_below}
 use Rattle.cps_p_linear.proofs.visit.disable.Goals as goal
 
 abbrev no_atom : Atom
@@ -43,3 +45,15 @@ returns-clause-aside c =
 pub unreachable-requires : goal.unreachable-requires
 unreachable-requires c =
     c.requires.open.not_true no_atom (open_true c.args.store.now (get_or c.args.task.now.enforcement.now c.args.place no_atom) c.negate-negation.result c.negate-negation.ensures.subject c.negate-negation.ensures.negated (c.in_ok-imply_later.ensures.wiped.0 c.in-Wiped.is))
+
+pub negate-negation-requires-clause-low : goal.negate-negation-requires-clause-low
+negate-negation-requires-clause-low c = negatable_low (c.requires.negatable.negatable c.args.place no_atom c.requires.open.inside)
+
+pub negate-negation-requires-clause-high : goal.negate-negation-requires-clause-high
+negate-negation-requires-clause-high c = negatable_high (c.requires.negatable.negatable c.args.place no_atom c.requires.open.inside)
+
+pub negate-negation-requires-clause-above : goal.negate-negation-requires-clause-above
+negate-negation-requires-clause-above c = λ _. negatable_above (c.requires.negatable.negatable c.args.place no_atom c.requires.open.inside)
+
+pub negate-negation-requires-clause-below : goal.negate-negation-requires-clause-below
+negate-negation-requires-clause-below c = λ _. negatable_below (c.requires.negatable.negatable c.args.place no_atom c.requires.open.inside)

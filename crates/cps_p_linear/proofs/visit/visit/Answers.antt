@@ -1,11 +1,14 @@
+-- A pass that adds no entry leaves the store as it was, in which it is strong.
 use Rattle.cps_trail.proofs.Inferring.{Infers-trans}
-use Rattle.std.proofs.Common.{subst}
+use Rattle.std.proofs.Common.{◌≡◌, Ok, inr, subst, ap, arith}
+use Rattle.cps_trail.specs.Trail.{Trail}
 use Rattle.cps_trail.specs.Notes.{ByTask}
 use Rattle.cps_trail.specs.Adds.{Answers}
 use Rattle.cps_propagate.specs.declared.propagator.Answer.{Answer}
 use Rattle.cps_propagate.specs.Conflicts.{as_step}
 use Rattle.cps_p_linear.specs.Measuring.{Asks}
 use Rattle.cps_p_linear.proofs.Explained.{facts_later}
+use Rattle.cps_propagate.proofs.Visiting.{Infers-nothing}
 use Rattle.cps_p_linear.proofs.visit.visit.Goals as goal
 
 pub pass-requires-clause-enforced : goal.pass-requires-clause-enforced
@@ -19,3 +22,12 @@ returns-in-Conflict-clause-answers c = subst (λ (a : Answer). Answers (Asks c.a
 
 pub loop-store-preserved : goal.loop-store-preserved
 loop-store-preserved c = Infers-trans (ByTask c.args.number (Asks c.args.task.now)) c.args.store.now c.loop-store.store c.pass.new.store c.loop-store.invariant c.in_ok-pass.ensures.infers
+
+pub returns-then-entries-before-clause-infers : goal.returns-then-entries-before-clause-infers
+returns-then-entries-before-clause-infers c = Infers-trans (ByTask c.args.number (Asks c.args.task.now)) c.args.store.now c.loop-store.store c.pass.new.store c.loop-store.invariant c.in_ok-pass.ensures.infers
+
+pub returns-then-entries-before-clause-settled : goal.returns-then-entries-before-clause-settled
+returns-then-entries-before-clause-settled c = λ _.
+    let p = c.in_ok-pass.ensures in
+    let same : c.pass.new.store ≡ c.loop-store.store = Infers-nothing _ _ _ p.infers (omega (arith, c.if-entries-before.true, c.entries.ensures.views.same_length, c.entries-before.ensures.views.same_length)) in
+    inr (p.strong (ap Ok c.in-Settled.is) (ap (λ (s : Trail). s.entries) same))

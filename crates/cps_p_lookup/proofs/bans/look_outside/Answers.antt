@@ -1,6 +1,10 @@
+-- Each row so far is missed, and none of them is banned.
 use Rattle.std.proofs.Common.{Ok, ap, length}
 use Rattle.cps_p_lookup.proofs.Tables.{row_inside, banned_none, missed_rest, missed_more}
 use Rattle.cps_p_lookup.proofs.bans.look_outside.Goals as goal
+
+pub visit-requires-clause-row : goal.visit-requires-clause-row
+visit-requires-clause-row c = row_inside (length c.args.grid.now.values.now) (length c.args.grid.now.exprs.now) c.loop-row.row c.requires.some c.loop-row-test.true
 
 pub returns-then-branch-clause-seen : goal.returns-then-branch-clause-seen
 returns-then-branch-clause-seen c =

@@ -1,10 +1,12 @@
+-- A row is missed where a column has another value, and its value there is taken away where all other columns have theirs.
 use Rattle.std.proofs.Common.{◌<◌, ℤ, true, pos, subst, List, get_or, arith, rules, FitsSigned, w64, length}
 use Rattle.std.proofs.lemmas.Int.{to_z-of_z}
 use Rattle.cps_instance.specs.declared.task.Body.TheVariants.{Table}
 use Rattle.cps_model.specs.Lookups.{row_at}
 use Rattle.cps_p_lookup.specs.Tabling.{IsBanned, IsMissed}
+use Rattle.cps_p_lookup.proofs.Answering.{no_not_yes}
 use Rattle.cps_p_lookup.proofs.Placing.{more_given}
-use Rattle.cps_p_lookup.proofs.Tables.{banned_by, missed_by, ban_given}
+use Rattle.cps_p_lookup.proofs.Tables.{row_short, banned_by, missed_by, ban_given}
 use Rattle.cps_p_lookup.proofs.bans.visit.Goals as goal
 use Rattle.cps_p_lookup.proofs.bans.visit.Goals.{After-truth}
 
@@ -28,6 +30,9 @@ returns-then-column-width-clause-banned c = λ e.
 pub returns-in-Yes-clause-missed : goal.returns-in-Yes-clause-missed
 returns-in-Yes-clause-missed c = λ e. missed (goal.at.returns-in-Yes-clause-missed c).After-truth
 
+pub overflow_cast-hint : goal.overflow_cast-hint
+overflow_cast-hint c = let l = row_short (length c.args.grid.now.values.now) (length c.args.grid.now.exprs.now) c.args.row c.requires.some c.requires.row in search rules
+
 pub returns-in_ok-push : goal.returns-in_ok-push
 returns-in_ok-push c =
     let s = c.args.store.now in
@@ -45,9 +50,9 @@ returns-in_ok-push c =
       given = more_given (Table es vs true) s c.args.found.now.items c.push.new.self.items _ c.in_ok-push.ensures.items
           (ban_given s es vs c.args.row k row c.atom-target.result l c.requires.fits c.requires.row c.row_at-values.ensures.same (rw (to_z-of_z w64 z f) at c.atom-target.ensures)
           (λ j m. c.first_open-column.ensures.passed j (omega arith) m) (λ j a m. c.first_open.ensures.passed j a (omega arith))) c.requires.given;
-      banned = λ e. absurd (cc);
+      banned = λ e. no_not_yes _ e;
       missed = λ e. missed (goal.at.returns-in_ok-push c).After-truth;
     }
 
 pub returns-else-first_open-width : goal.returns-else-first_open-width
-returns-else-first_open-width c = record { given = c.requires.given; banned = λ e. absurd (cc); missed = λ e. missed (goal.at.returns-else-first_open-width c).After-truth }
+returns-else-first_open-width c = record { given = c.requires.given; banned = λ e. no_not_yes _ e; missed = λ e. missed (goal.at.returns-else-first_open-width c).After-truth }

@@ -1,7 +1,12 @@
-use Rattle.std.proofs.Common.{Ok, ap}
+-- Each row so far is ruled out, or gives the atom.
+use Rattle.std.proofs.Common.{Ok, ap, length}
 use Rattle.cps_p_lookup.proofs.Growing.{grows_trans}
+use Rattle.cps_p_lookup.proofs.Tables.{row_inside}
 use Rattle.cps_p_lookup.proofs.Excluding.{excluded_more, excluded_all}
 use Rattle.cps_p_lookup.proofs.denials.exclude.Goals as goal
+
+pub row_at-requires : goal.row_at-requires
+row_at-requires c = row_inside (length c.args.grid.now.values.now) (length c.args.grid.now.exprs.now) c.loop-row.row c.requires.some c.loop-row-test.true
 
 pub loop-row-preserved : goal.loop-row-preserved
 loop-row-preserved c =

@@ -1,7 +1,8 @@
+-- Each column so far has the row's value, or the atom that is to be given says that it has not.
 use Rattle.std.proofs.Common.{Ok, ap, pos, get_or, rules, FitsSigned, w64}
 use Rattle.std.proofs.lemmas.Int.{to_z-of_z}
 use Rattle.cps_p_lookup.proofs.Growing.{grows_trans}
-use Rattle.cps_p_lookup.proofs.Excluding.{sure_more}
+use Rattle.cps_p_lookup.proofs.Excluding.{sure_more, sure_all}
 use Rattle.cps_p_lookup.proofs.denials.fix_row.Goals as goal
 
 pub loop-k-preserved : goal.loop-k-preserved
@@ -16,3 +17,6 @@ loop-k-preserved c =
       grows = grows_trans s c.args.facts.now.items c.loop-k.facts.items c.hold.new.facts.items c.loop-k.invariant.grows h.grows;
       sure = sure_more s c.args.exprs.now row k c.args.goal c.loop-k.facts.items c.hold.new.facts.items c.loop-k.invariant.sure h;
     }
+
+pub returns : goal.returns
+returns c = λ _. sure_all c.args.past.now c.args.exprs.now c.args.row.now c.loop-k.k c.args.goal c.args.facts.now.items c.loop-k.facts.items c.loop-k-test.false c.loop-k.invariant.grows c.loop-k.invariant.sure

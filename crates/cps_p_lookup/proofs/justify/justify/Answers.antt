@@ -1,4 +1,6 @@
+-- Each place of the window so far is closed.
 use Rattle.std.proofs.Common.{Ok, ap}
+use Rattle.cps_p_lookup.proofs.Answering.{no_not_yes}
 use Rattle.cps_p_lookup.proofs.Growing.{grows_trans, no_facts}
 use Rattle.cps_p_lookup.proofs.Placing.{closed_more, gives_all}
 use Rattle.cps_p_lookup.proofs.justify.justify.Goals as goal
@@ -20,3 +22,9 @@ returns c = λ e.
     let s = c.args.past.now in
     gives_all s c.args.lookup.now.index c.args.lookup.now.target c.args.lookup.now.exprs.now c.args.goal c.clear.new.self.items c.places_left.new.facts.items c.loop-place.facts.items c.in-Some.window c.loop-place.place
     (no_facts s c.clear.new.self.items c.clear.ensures.items) (c.in_ok-window.ensures c.in-Some.window (ap Ok c.in-Some.is)) c.loop-place.invariant.grows c.loop-place-test.false c.loop-place.invariant.closed
+
+pub returns-then-not-branch : goal.returns-then-not-branch
+returns-then-not-branch c = λ e. no_not_yes _ e
+
+pub returns-in_default : goal.returns-in_default
+returns-in_default c = λ e. no_not_yes _ e

@@ -1,7 +1,9 @@
+-- Where one of the domains has a single value the other is asked for it, and else their ends are compared.
 use Rattle.std.specs.Prelude.{int_le}
-use Rattle.std.proofs.Common.{◌≡◌, ℤ, ◌≤ℤ◌, false, arith, rules, FitsSigned, w64}
+use Rattle.std.proofs.Common.{◌≡◌, ◌∙◌, ℤ, ◌≤ℤ◌, false, sym, ap, of_z, arith, rules, FitsSigned, w64}
 use Rattle.std.proofs.lemmas.Int.{to_z-of_z, ints}
 use Rattle.cps_domain.proofs.Tests.{false_le}
+use Rattle.cps_p_lookup.proofs.Meeting.{read_same, single_apart, several}
 use Rattle.cps_p_lookup.proofs.places.can_meet.Goals as goal
 
 between : (a b x : ℤ) → int_le a b ≡ false → a ≤ℤ x → x ≤ℤ b → ⊥
@@ -22,3 +24,22 @@ returns-else-low-greatest-clause-apart c =
     let fa : FitsSigned w64 a = search rules in
     let fb : FitsSigned w64 b = search rules in
     rw (to_z-of_z w64 a fa, to_z-of_z w64 b fb) (λ e x p q. between a b x e (c.min-low.ensures.least x p) (c.max-greatest.ensures.greatest x q))
+
+pub returns-then-low-high-clause-apart : goal.returns-then-low-high-clause-apart
+returns-then-low-high-clause-apart c =
+    let a = c.min-low.result in
+    let b = c.max-high.result in
+    let fa : FitsSigned w64 a = search rules in
+    let fb : FitsSigned w64 b = search rules in
+    λ no x p q. single_apart c.args.target.now c.args.expr.now a b (read_same a b fa fb c.if-low-high.true) c.min-low.ensures.least c.max-high.ensures.greatest (rw (to_z-of_z w64 a fa) at (sym c.contains.ensures ∙ no)) x p q
+
+pub returns-then-least-greatest-clause-apart : goal.returns-then-least-greatest-clause-apart
+returns-then-least-greatest-clause-apart c =
+    let a = c.min-least.result in
+    let b = c.max-greatest.result in
+    let fa : FitsSigned w64 a = search rules in
+    let fb : FitsSigned w64 b = search rules in
+    λ no x p q. single_apart c.args.expr.now c.args.target.now a b (read_same a b fa fb c.if-least-greatest.true) c.min-least.ensures.least c.max-greatest.ensures.greatest (rw (to_z-of_z w64 a fa) at (sym c.contains-then-least-greatest.ensures ∙ no)) x q p
+
+pub returns-then-low-greatest-clause-meet : goal.returns-then-low-greatest-clause-meet
+returns-then-low-greatest-clause-meet c = λ _ x _ alone. several c.args.expr.now _ c.min-low.result c.max-high.result (λ e. c.if-low-high.false (ap (of_z w64) e)) c.min-low.ensures.within c.max-high.ensures.within x alone

@@ -1,4 +1,6 @@
+-- Each place so far is listed.
 use Rattle.std.proofs.Common.{Ok, ap, arith}
+use Rattle.cps_p_lookup.proofs.Answering.{no_not_yes}
 use Rattle.cps_p_lookup.proofs.Missing.{lists_more}
 use Rattle.cps_p_lookup.proofs.places.list_values.Goals as goal
 
@@ -8,3 +10,6 @@ loop-place-preserved c = lists_more c.args.store.now c.args.lookup.now.index c.a
 
 pub returns : goal.returns
 returns c = λ e. record { at = λ k l. c.loop-place.invariant k (omega arith) }
+
+pub returns-then-not-branch : goal.returns-then-not-branch
+returns-then-not-branch c = λ e. no_not_yes _ e

@@ -1,10 +1,17 @@
+-- The rows so far that are open are listed, and no other.
 use Rattle.std.proofs.Common.{ℕ, ◌∙◌, List, sym, ap, subst, length}
 use Rattle.std.specs.List.{All, Contains}
 use Rattle.std.proofs.lemmas.List.Elements.{All-push}
 use Rattle.cps_p_lookup.specs.Tabling.{IsLive}
-use Rattle.cps_p_lookup.proofs.Tables.{row_inside, live_one, live_push, live_skip}
+use Rattle.cps_p_lookup.proofs.Tables.{row_inside, live_all, live_one, live_push, live_skip}
 use Rattle.cps_p_lookup.proofs.rows.collect.Goals as goal
 use Rattle.cps_p_lookup.proofs.rows.collect.Goals.{then-is_open+in_ok-push, else-is_open}
+
+pub row_at-requires : goal.row_at-requires
+row_at-requires c = row_inside (length c.args.values.now) (length c.args.exprs.now) c.loop-row.row c.requires.some c.loop-row-test.true
+
+pub returns : goal.returns
+returns c = live_all c.args.store.now c.args.exprs.now c.args.values.now c.loop-row.row c.loop-row.rows.items c.requires.some c.loop-row-test.false c.loop-row.invariant.each c.loop-row.invariant.every
 
 pub loop-row-preserved : goal.loop-row-preserved
 loop-row-preserved c =

@@ -1,9 +1,11 @@
+-- Each atom but those that the target denies is cited; all were seen at the end.
 use Rattle.std.proofs.Common.{pos, refl, rules}
 use Rattle.std.proofs.lemmas.List.{take_all}
 use Rattle.cps_literal.specs.declared.atom.Atom.{Atom}
 use Rattle.cps_literal.specs.declared.atom.Op.TheVariants.{Le}
 use Rattle.cps_p_nooverlap.proofs.Citing.{cites_none}
 use Rattle.cps_p_nooverlap.proofs.Box_facts.{others_more, others_whole}
+use Rattle.cps_p_nooverlap.proofs.Refusing.{refused}
 use Rattle.cps_p_nooverlap.proofs.box_reasons.cite_others.Goals as goal
 
 abbrev no_atom : Atom
@@ -17,3 +19,6 @@ loop-atom-preserved c = others_more c.args.past.now c.args.facts.now.items c.loo
 
 pub returns : goal.returns
 returns c e = others_whole c.args.past.now c.args.facts.now.items c.loop-atom.facts.items c.args.atoms.now c.loop-atom.atom-index c.args.target (take_all c.loop-atom.atom-index c.args.atoms.now c.loop-atom-test.false) c.loop-atom.invariant
+
+pub returns-then-not-branch : goal.returns-then-not-branch
+returns-then-not-branch c e = refused e

@@ -1,8 +1,10 @@
+-- The one ends at a time or later, and the other starts before it.
 use Rattle.std.proofs.Common.{Ok, ◌≡◌, true, ◌≤ℤ◌, ◌<ℤ◌, rules, FitsSigned, arith}
 use Rattle.std.proofs.lemmas.Int.{ints, to_z-of_z}
 use mir.Syntax.{w128}
 use Rattle.cps_p_nooverlap.specs.Spans.{start_at, end_at}
 use Rattle.cps_p_nooverlap.proofs.Citing.{cites_then, cites_as}
+use Rattle.cps_p_nooverlap.proofs.Refusing.{refused}
 use Rattle.cps_p_nooverlap.proofs.explain.cite_late.Goals as goal
 
 pub returns-else-not-branch : goal.returns-else-not-branch
@@ -22,3 +24,9 @@ returns-else-not-branch c e =
     cites_as s a d (λ xs. (c.least_end-end.result ≤ℤ end_at xs c.args.late.now) × (start_at xs c.args.early.now ≤ℤ c.in-Some.start)) (λ xs. start_at xs c.args.early.now <ℤ end_at xs c.args.late.now)
     (λ xs h. (let p = h.0 in let q = h.1 in omega (arith, ints)))
     (cites_then s a b d (λ xs. c.least_end-end.result ≤ℤ end_at xs c.args.late.now) (λ xs. start_at xs c.args.early.now ≤ℤ c.in-Some.start) first second)
+
+pub returns-in-None : goal.returns-in-None
+returns-in-None c e = refused e
+
+pub returns-then-not-branch : goal.returns-then-not-branch
+returns-then-not-branch c e = refused e

@@ -1,8 +1,9 @@
 -- Each of the two atoms was cited.
-use Rattle.std.proofs.Common.{Ok, ◌≡◌, true, rules}
+use Rattle.std.proofs.Common.{Ok, ◌≡◌, true, rules, subst}
 use Rattle.cps_literal.specs.Truth.{atom_holds}
-use Rattle.cps_p_nooverlap.proofs.Citing.{cites_then}
+use Rattle.cps_p_nooverlap.proofs.Citing.{cites_then, cites_as}
 use Rattle.cps_p_nooverlap.proofs.Refusing.{refused}
+use Rattle.cps_literal.specs.declared.atom.Atom.{Atom}
 use Rattle.cps_p_nooverlap.proofs.interval.cite_both.Goals as goal
 
 pub returns : goal.returns
@@ -12,3 +13,10 @@ returns c e =
 
 pub returns-then-not-branch : goal.returns-then-not-branch
 returns-then-not-branch c e = refused e
+
+pub returns-then-eq : goal.returns-then-eq
+returns-then-eq c e =
+    let one : c.cite.result ≡ Ok true = search rules in
+    let same : c.args.support.one ≡ c.args.support.other = search rules in
+    cites_as c.args.past.now c.args.facts.now.items c.cite.new.facts.items (λ xs. atom_holds xs c.args.support.one ≡ true) (λ xs. (atom_holds xs c.args.support.one ≡ true) × (atom_holds xs c.args.support.other ≡ true))
+    (λ xs h. (h, subst (λ (u : Atom). atom_holds xs u ≡ true) same h)) (c.cite.ensures one)

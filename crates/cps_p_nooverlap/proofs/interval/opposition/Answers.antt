@@ -1,22 +1,23 @@
+-- The end lies past what the bounds of the start and of the size allow, or the size is below 0.
 use Rattle.std.proofs.Common.{arith}
 use Rattle.std.proofs.lemmas.Int.{ints}
-use Rattle.cps_p_nooverlap.proofs.Bounding.{below_of, least_of, most_of}
+use mir.Val.{to_z, of_z}
+use mir.Syntax.{w64}
+use Rattle.cps_p_nooverlap.proofs.Opposing.{opposed_below, opposed_above, opposed_negative}
+use Rattle.cps_p_nooverlap.proofs.Widening.{one_below, one_above}
 use Rattle.cps_p_nooverlap.proofs.interval.opposition.Goals as goal
 
+pub returns-then-hint-eq0 : goal.returns-then-hint-eq0
+returns-then-hint-eq0 c = opposed_negative _ c.args.places c.requires c.at_most-negative.result _ c.at_most-negative.ensures (omega (arith, ints))
+
 pub returns-then-hint-eq1 : goal.returns-then-hint-eq1
-returns-then-hint-eq1 c = record {
-  one = below_of _ _ _ _ _ c.at_least.ensures c.requires.start;
-  other = below_of _ _ _ _ _ c.at_least-then-hint-eq1.ensures c.requires.size;
-  third = below_of _ _ _ _ _ c.at_most.ensures c.requires.end;
-  excludes = λ xs a b d i. (let s = i.1 in let k = c.in_ok-sum.ensures in let m = c.in_ok-checked_sub.ensures in
-      absurd (omega (arith, ints, least_of xs c.at_least.result _ _ c.at_least.ensures a, least_of xs c.at_least-then-hint-eq1.result _ _ c.at_least-then-hint-eq1.ensures b, most_of xs c.at_most.result _ _ c.at_most.ensures d)));
-}
+returns-then-hint-eq1 c =
+    let k = c.in_ok-sum.ensures in
+    let m = c.in_ok-checked_sub.ensures in
+    opposed_below _ c.args.places c.requires c.at_least.result c.at_least-then-hint-eq1.result c.at_most.result _ _ _ c.at_least.ensures c.at_least-then-hint-eq1.ensures c.at_most.ensures (one_below (to_z w64 (of_z w64 c.ends-start_low.result.0)) (to_z w64 (of_z w64 c.ends-size_low.result.0)) c.in_ok-sum.sum c.in_ok-checked_sub.field-0 k.0 k.1 m.0 m.1)
 
 pub returns : goal.returns
-returns c = record {
-  one = below_of _ _ _ _ _ c.at_most-2.ensures c.requires.start;
-  other = below_of _ _ _ _ _ c.at_most-3.ensures c.requires.size;
-  third = below_of _ _ _ _ _ c.at_least-2.ensures c.requires.end;
-  excludes = λ xs a b d i. (let s = i.1 in let k = c.in_ok-sum-2.ensures in let m = c.in_ok-checked_add.ensures in
-      absurd (omega (arith, ints, most_of xs c.at_most-2.result _ _ c.at_most-2.ensures a, most_of xs c.at_most-3.result _ _ c.at_most-3.ensures b, least_of xs c.at_least-2.result _ _ c.at_least-2.ensures d)));
-}
+returns c =
+    let k = c.in_ok-sum-2.ensures in
+    let m = c.in_ok-checked_add.ensures in
+    opposed_above _ c.args.places c.requires c.at_most-2.result c.at_most-3.result c.at_least-2.result _ _ _ c.at_most-2.ensures c.at_most-3.ensures c.at_least-2.ensures (one_above (to_z w64 (of_z w64 c.ends-start_low.result.1)) (to_z w64 (of_z w64 c.ends-size_low.result.1)) c.in_ok-sum-2.sum c.in_ok-checked_add.field-0 k.0 k.1 m.0 m.1)

@@ -1,4 +1,5 @@
-use Rattle.std.proofs.Common.{Ok, ◌≡◌, None, rules}
+-- What the spans before a place allow, all allow at the end.
+use Rattle.std.proofs.Common.{Ok, ◌≡◌, None, rules, arith}
 use Rattle.cps_p_nooverlap.proofs.Pairing.{adds_then, allowed_more}
 use Rattle.cps_p_nooverlap.proofs.pairs.meet_all.Goals as goal
 
@@ -12,3 +13,6 @@ loop-place-preserved c =
       given = adds_then c.args.spans.now c.args.seen.now c.args.found.now.items c.loop-place.found.items c.meet_below.new.found.items c.loop-place.invariant.given c.in_ok-pair.ensures.given;
       allowed = allowed_more c.args.seen.now c.loop-place.place c.loop-place.invariant.allowed (c.meet_below.ensures.allowed none);
     }
+
+pub returns-clause-allowed : goal.returns-clause-allowed
+returns-clause-allowed c = λ e i j b l. c.loop-place.invariant.allowed i j b (omega (arith, l, c.loop-place-test.false))

@@ -1,4 +1,5 @@
-use Rattle.std.proofs.Common.{Ok, ◌≡◌, false, rules}
+-- What those before a place allow, all allow at the end.
+use Rattle.std.proofs.Common.{Ok, ◌≡◌, false, rules, arith}
 use Rattle.cps_p_nooverlap.proofs.Pairing.{adds_then, first_more}
 use Rattle.cps_p_nooverlap.proofs.pairs.meet_below.Goals as goal
 
@@ -12,3 +13,6 @@ loop-other-preserved c =
       given = adds_then c.args.spans.now c.args.seen.now c.args.found.now.items c.loop-other.found.items c.meet.new.found.items c.loop-other.invariant.given c.in_ok-meet.ensures.given;
       allowed = first_more c.args.seen.now c.args.place c.loop-other.other c.loop-other.invariant.allowed (c.meet.ensures.allowed none);
     }
+
+pub returns-clause-allowed : goal.returns-clause-allowed
+returns-clause-allowed c = λ e i l. c.loop-other.invariant.allowed i (omega (arith, l, c.loop-other-test.false))

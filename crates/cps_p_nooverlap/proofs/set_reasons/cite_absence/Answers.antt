@@ -1,3 +1,4 @@
+-- Where the target is false the span is present, and it starts before the time.
 use Rattle.std.proofs.Common.{Ok, ◌≡◌, ◌≤ℤ◌, ◌<ℤ◌, true, false, List, subst, rules, arith, FitsSigned}
 use Rattle.std.specs.List.{list_all}
 use Rattle.std.proofs.lemmas.Int.{ints, to_z-of_z}
@@ -7,7 +8,8 @@ use Rattle.cps_literal.specs.Truth.{atom_holds}
 use Rattle.cps_p_nooverlap.specs.Citing.{Cites}
 use Rattle.cps_p_nooverlap.specs.Spans.{is_present}
 use Rattle.cps_p_nooverlap.specs.Crowds.{near_at, StartsBeforeUnless}
-use Rattle.cps_p_nooverlap.proofs.Citing.{cites_as, cites_then}
+use Rattle.cps_p_nooverlap.proofs.Citing.{cites_as, cites_then, presence_slice, small_slice}
+use Rattle.cps_p_nooverlap.proofs.Refusing.{refused}
 use Rattle.cps_p_nooverlap.proofs.set_reasons.cite_absence.Goals as goal
 
 pub returns : goal.returns
@@ -27,3 +29,12 @@ returns c e =
     cites_as s a d (λ xs. (atom_holds xs u ≡ false → is_present xs p ≡ true) × (near_at r xs p ≤ℤ c.saturating_sub-sooner.result)) (λ xs. StartsBeforeUnless r xs p c.args.crowd.time u)
     (λ xs h n. (h.0 n, (let k = h.1 in omega (arith, ints))))
     (cites_then s a b d (λ xs. atom_holds xs u ≡ false → is_present xs p ≡ true) (λ xs. near_at r xs p ≤ℤ c.saturating_sub-sooner.result) others high)
+
+pub returns-then-not-branch : goal.returns-then-not-branch
+returns-then-not-branch c e = refused e
+
+pub cite_others-requires-clause-subjects : goal.cite_others-requires-clause-subjects
+cite_others-requires-clause-subjects c = presence_slice c.args.past.now.first c.args.span.now c.as_slice.result.now c.as_slice.ensures c.requires
+
+pub cite_others-requires-clause-small : goal.cite_others-requires-clause-small
+cite_others-requires-clause-small c = small_slice c.args.past.now.first c.args.span.now c.as_slice.result.now c.as_slice.ensures c.requires

@@ -1,9 +1,11 @@
+-- The length is fixed, or follows from the least end and a greatest start.
 use Rattle.std.proofs.Common.{Ok, ◌≡◌, true, ◌≤ℤ◌, rules, FitsSigned, arith}
 use Rattle.std.proofs.lemmas.Int.{ints, to_z-of_z}
 use mir.Syntax.{w128}
 use Rattle.cps_p_nooverlap.specs.Spans.{start_at, end_at}
 use Rattle.cps_p_nooverlap.specs.Crowds.{LastsAt}
 use Rattle.cps_p_nooverlap.proofs.Citing.{cites_none, cites_then, cites_as}
+use Rattle.cps_p_nooverlap.proofs.Refusing.{refused}
 use Rattle.cps_p_nooverlap.proofs.windows.cite_length.Goals as goal
 
 pub returns-then-lasts : goal.returns-then-lasts
@@ -24,3 +26,9 @@ returns-else-not-branch c e =
     cites_as s a d (λ xs. (c.least_end-end.result ≤ℤ end_at xs c.args.span.now) × (start_at xs c.args.span.now ≤ℤ c.in-Some.start)) (λ xs. LastsAt xs c.args.span.now c.args.weight)
     (λ xs h. (let p = h.0 in let q = h.1 in omega (arith, ints)))
     (cites_then s a b d (λ xs. c.least_end-end.result ≤ℤ end_at xs c.args.span.now) (λ xs. start_at xs c.args.span.now ≤ℤ c.in-Some.start) first second)
+
+pub returns-in-None : goal.returns-in-None
+returns-in-None c e = refused e
+
+pub returns-then-not-branch : goal.returns-then-not-branch
+returns-then-not-branch c e = refused e

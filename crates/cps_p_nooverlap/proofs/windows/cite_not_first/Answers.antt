@@ -38,3 +38,6 @@ returns-then-not-is_overfull c e = refused e
 
 pub returns-then-not-branch : goal.returns-then-not-branch
 returns-then-not-branch c e = refused e
+
+pub returns-in-None : goal.returns-in-None
+returns-in-None c e = refused e

@@ -42,3 +42,6 @@ returns-then-crowd c e = refused e
 
 pub returns-then-not-branch : goal.returns-then-not-branch
 returns-then-not-branch c e = refused e
+
+pub returns-in-None : goal.returns-in-None
+returns-in-None c e = refused e

@@ -1,3 +1,4 @@
+-- The span is present, takes so long, and lies in the window.
 use Rattle.std.proofs.Common.{Ok, ◌≡◌, ◌≤ℤ◌, true, List, subst, rules}
 use Rattle.std.specs.List.{list_all}
 use Rattle.cps_literal.specs.declared.atom.Atom.{Atom}
@@ -7,6 +8,7 @@ use Rattle.cps_p_nooverlap.specs.Spans.{is_present}
 use Rattle.cps_p_nooverlap.specs.Crowds.{low_at, high_at, LastsAt, IsRun}
 use Rattle.cps_p_nooverlap.proofs.Citing.{cites_as, cites_then}
 use Rattle.cps_p_nooverlap.proofs.Crowding.{run_is}
+use Rattle.cps_p_nooverlap.proofs.Refusing.{refused}
 use Rattle.cps_p_nooverlap.proofs.windows.cite_run.Goals as goal
 
 pub returns : goal.returns
@@ -28,3 +30,12 @@ returns c e =
     (cites_then s a d g (λ xs. (is_present xs p ≡ true) × LastsAt xs p c.args.weight) (λ xs. (w.from ≤ℤ low_at w.ends w.is_reversed xs p) × (high_at w.ends w.is_reversed xs p ≤ℤ w.to))
     (cites_then s a b d (λ xs. is_present xs p ≡ true) (λ xs. LastsAt xs p c.args.weight) present (c.cite_length.ensures two))
     (cites_then s d f g (λ xs. w.from ≤ℤ low_at w.ends w.is_reversed xs p) (λ xs. high_at w.ends w.is_reversed xs p ≤ℤ w.to) (c.cite_low.ensures three) (c.cite_high.ensures e)))
+
+pub returns-then-not-branch : goal.returns-then-not-branch
+returns-then-not-branch c e = refused e
+
+pub returns-then-not-branch-2 : goal.returns-then-not-branch-2
+returns-then-not-branch-2 c e = refused e
+
+pub returns-then-not-branch-3 : goal.returns-then-not-branch-3
+returns-then-not-branch-3 c e = refused e

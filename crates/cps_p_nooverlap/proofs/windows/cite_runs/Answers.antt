@@ -1,7 +1,9 @@
+-- Each span that was seen is cited; all were seen at the end.
 use Rattle.std.proofs.Common.{◌<◌, ◌+◌, length, get_or, arith, rules}
 use Rattle.cps_p_nooverlap.specs.Crowds.{AreRunsUpTo, IsRun}
 use Rattle.cps_p_nooverlap.proofs.Citing.{cites_none, cites_as, cites_then}
 use Rattle.cps_p_nooverlap.proofs.Crowding.{runs_more, runs_all}
+use Rattle.cps_p_nooverlap.proofs.Refusing.{refused}
 use Rattle.cps_p_nooverlap.proofs.windows.cite_runs.Goals as goal
 
 pub loop-place-init : goal.loop-place-init
@@ -27,3 +29,6 @@ pub returns : goal.returns
 returns c e =
     cites_as c.args.past.now c.args.facts.now.items c.loop-place.facts.items (λ xs. AreRunsUpTo c.loop-place.place c.args.window.ends c.args.window.is_reversed xs c.args.spans.now c.args.weights.now c.args.window.from c.args.window.to) _
     (λ xs h. runs_all c.loop-place.place c.args.window.ends c.args.window.is_reversed xs c.args.spans.now c.args.weights.now c.args.window.from c.args.window.to c.loop-place-test.false h) c.loop-place.invariant
+
+pub returns-then-not-branch : goal.returns-then-not-branch
+returns-then-not-branch c e = refused e

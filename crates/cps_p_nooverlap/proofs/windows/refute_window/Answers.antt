@@ -1,3 +1,4 @@
+-- The counted spans are more than the window holds.
 use Rattle.std.proofs.Common.{◌<◌, ◌<ℤ◌, ◌+ℤ◌, pos, arith, rules}
 use Rattle.std.specs.List.{sum}
 use Rattle.std.proofs.lemmas.Int.{ints}
@@ -7,6 +8,7 @@ use Rattle.cps_p_nooverlap.specs.declared.crowd.Ends.TheVariants.{Both}
 use Rattle.cps_p_nooverlap.specs.Crowds.{AreRuns}
 use Rattle.cps_p_nooverlap.proofs.Citing.{cites_as}
 use Rattle.cps_p_nooverlap.proofs.Crowding.{overfull}
+use Rattle.cps_p_nooverlap.proofs.Refusing.{refused}
 use Rattle.cps_p_nooverlap.proofs.windows.refute_window.Goals as goal
 
 pub cite_runs-requires-clause-each : goal.cite_runs-requires-clause-each
@@ -25,3 +27,9 @@ returns-else-not-is_overfull c e =
     let much : 0 < sum ws = omega arith in
     cites_as c.args.past.now c.args.facts.now.items c.cite_runs.new.facts.items (λ xs. AreRuns Both w.is_reversed xs ps ws w.from w.to) (λ xs. IsNoOverlap (span_runs xs ps) → ⊥)
     (λ xs are h. overfull w.is_reversed xs ps ws w.from w.to count.each much full are h) (search rules)
+
+pub returns-then-not-is_overfull : goal.returns-then-not-is_overfull
+returns-then-not-is_overfull c e = refused e
+
+pub returns-in-None : goal.returns-in-None
+returns-in-None c e = refused e

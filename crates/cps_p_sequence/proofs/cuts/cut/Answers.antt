@@ -1,7 +1,9 @@
-use Rattle.std.proofs.Common.{◌≡◌, ℕ, Bool, true, List, length, get_or, refl, sym, ◌∙◌, ap, subst, arith}
+-- The states that are marked are those to which the labels of so many subjects lead beside the facts.
+use Rattle.std.proofs.Common.{◌≡◌, ℕ, Bool, List, length, get_or, refl, sym, ◌∙◌, ap, subst, arith, true≢false}
 use Rattle.cps_p_sequence.specs.Networks.{IsStepWithin}
 use Rattle.cps_p_sequence.specs.Cuts.{Comes}
 use Rattle.cps_p_sequence.proofs.Cutting.{come_begun, come_more, come_cut}
+use Rattle.cps_p_sequence.proofs.Finding.{is_yes}
 use Rattle.cps_p_sequence.proofs.cuts.cut.Goals as goal
 
 pub loop-subject-init : goal.loop-subject-init
@@ -17,6 +19,12 @@ lead_on-requires-clause-tails c =
 pub lead_on-requires-clause-guide : goal.lead_on-requires-clause-guide
 lead_on-requires-clause-guide c =
     λ k d l. subst (λ (n : ℕ). IsStepWithin n (get_or c.args.net.now.steps.now k d)) (sym c.top_row-guide.ensures.size) (c.requires.steps k d l)
+
+pub lead_on-requires-clause-subject : goal.lead_on-requires-clause-subject
+lead_on-requires-clause-subject c = c.requires.subjects c.loop-subject.subject-index 0 c.loop-subject-test.true
+
+pub returns-then-len-count : goal.returns-then-len-count
+returns-then-len-count c e = absurd (true≢false (sym (is_yes _ e)))
 
 pub loop-subject-preserved : goal.loop-subject-preserved
 loop-subject-preserved c =
@@ -42,6 +50,5 @@ returns c e =
     let n = c.loop-subject.subject-index in
     let past = c.loop-subject-test.false in
     let whole : n ≡ length is = omega arith in
-    let cut' : c.is_cut_off.result ≡ true = cc in
     let off = rw c.as_slice-marks.ensures.value at c.is_cut_off.ensures in
-    come_cut c.args.past.now c.args.goal net.steps.now net.first (length net.last.now) is n c.loop-subject.facts.items c.loop-subject.reached.items net.last.now whole (off cut') c.loop-subject.invariant
+    come_cut c.args.past.now c.args.goal net.steps.now net.first (length net.last.now) is n c.loop-subject.facts.items c.loop-subject.reached.items net.last.now whole (off (is_yes _ e)) c.loop-subject.invariant

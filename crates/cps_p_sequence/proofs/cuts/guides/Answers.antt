@@ -1,3 +1,4 @@
+-- Each row has a mark for each state.
 use Rattle.std.proofs.Common.{◌≡◌, ◌-◌, ℕ, Bool, List, length, get_or, sym, ◌∙◌, ap, subst, arith}
 use Rattle.cps_p_sequence.specs.Networks.{IsStepWithin}
 use Rattle.cps_p_sequence.proofs.cuts.guides.Goals as goal
@@ -6,7 +7,7 @@ pub loop-after-init : goal.loop-after-init
 loop-after-init c = ap (λ (xs : List Bool). length xs) c.in_ok-heads.ensures.items
 
 pub guide_back-requires-clause-subject : goal.guide_back-requires-clause-subject
-guide_back-requires-clause-subject c = let l = c.loop-after-test.true in c.requires.subjects (length c.args.net.now.subjects.now - 1 - c.loop-after.after) 0 (omega arith)
+guide_back-requires-clause-subject c = rw c.subject_before.ensures (c.requires.subjects (length c.args.net.now.subjects.now - 1 - c.loop-after.after) 0 (omega (arith, c.loop-after-test.true)))
 
 pub guide_back-requires-clause-steps : goal.guide_back-requires-clause-steps
 guide_back-requires-clause-steps c =

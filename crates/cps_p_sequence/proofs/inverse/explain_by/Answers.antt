@@ -1,4 +1,5 @@
-use Rattle.std.proofs.Common.{◌≡◌, ◌<◌, ◌^◌, ◌∙◌, ◌++◌, ◌∷◌, [], List, pos, refl, sym, ap, rules, w64, to_z, FitsSigned, arith, get_or}
+-- The place that the atom denies is that of one position, whose fact was true.
+use Rattle.std.proofs.Common.{◌≡◌, ◌<◌, ◌^◌, ◌∙◌, ◌++◌, ◌∷◌, [], List, pos, refl, sym, ap, rules, w64, to_z, FitsSigned, arith, get_or, true≢false}
 use Rattle.std.proofs.lemmas.Int.{ints, to_z_pos, to_z-of_z}
 use Rattle.cps_literal.specs.declared.atom.Atom.{Atom}
 use Rattle.cps_trail.specs.Trail.{IsInside}
@@ -24,3 +25,9 @@ returns-in-Yes c yes' b paired =
     let are : c.push.new.self.items ≡ other j m ∷ [] = items ∙ ap (λ (us : List Atom). us ++ other j m ∷ []) c.clear.ensures.items in
     let now = rw (to_z-of_z w64 m fm) at (c.truth.ensures.yes.0 c.in-Yes.is) in
     off_explained b s t m j (pos k) (other j m) c.push.new.self.items c.requires.op is-n refl are (c.requires.others k 0 l) inside now (paired.forth k l)
+
+pub returns-in_default : goal.returns-in_default
+returns-in_default c = λ no' b paired. absurd (true≢false (sym no'))
+
+pub returns : goal.returns
+returns c = λ no' b paired. absurd (true≢false (sym no'))

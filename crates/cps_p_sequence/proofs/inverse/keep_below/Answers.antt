@@ -1,6 +1,8 @@
+-- Each value is below the number already, or is kept below it.
 use Rattle.std.proofs.Common.{◌≡◌, pos, ◌-ℤ◌, refl, rules, w64, FitsSigned, arith}
 use Rattle.std.proofs.lemmas.Int.{ints, to_z-of_z}
 use Rattle.cps_p_sequence.proofs.Finding.{at_most, more_given, more_kept, more_true, high_given, high_true}
+use Rattle.cps_p_sequence.proofs.Keeping.{open_below}
 use Rattle.cps_p_sequence.proofs.inverse.keep_below.Goals as goal
 
 pub returns : goal.returns
@@ -21,3 +23,9 @@ returns c =
       kept = λ all. more_kept s old new n t c.in_ok-push.ensures.items is-t all;
       below = λ all x o. high_true s i c.args.count v refl (more_true s old new n t c.in_ok-push.ensures.items is-t all) x o;
     }
+
+pub returns-then-max-count-clause-below : goal.returns-then-max-count-clause-below
+returns-then-max-count-clause-below c =
+    let number : FitsSigned w64 c.args.count = c.ranges.count in
+    let fits : FitsSigned w64 c.max.result = search rules in
+    λ all. open_below c.args.store.now c.args.subject c.domain.result.now c.args.count c.max.result c.domain.ensures c.max.ensures.greatest (simp to_z-of_z at c.if-max-count.true)

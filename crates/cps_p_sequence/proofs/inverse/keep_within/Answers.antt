@@ -1,7 +1,11 @@
+-- Each subject so far is kept among the places.
 use Rattle.std.proofs.Common.{refl, rules, w64, FitsSigned, arith}
 use Rattle.std.proofs.lemmas.Int.{to_z-of_z}
-use Rattle.cps_p_sequence.proofs.Finding.{within_more}
+use Rattle.cps_p_sequence.proofs.Finding.{within_begun, within_more}
 use Rattle.cps_p_sequence.proofs.inverse.keep_within.Goals as goal
+
+pub loop-subject-init : goal.loop-subject-init
+loop-subject-init c = within_begun _ _ _ _
 
 pub loop-subject-preserved : goal.loop-subject-preserved
 loop-subject-preserved c =

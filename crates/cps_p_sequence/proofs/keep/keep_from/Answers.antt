@@ -1,6 +1,8 @@
+-- Each value is within the bound already, or is kept within it.
 use Rattle.std.proofs.Common.{rules, w64, FitsSigned}
 use Rattle.std.proofs.lemmas.Int.{to_z-of_z}
 use Rattle.cps_p_sequence.proofs.Layering.{more_kept, from_given, from_true}
+use Rattle.cps_p_sequence.proofs.Keeping.{open_from}
 use Rattle.cps_p_sequence.proofs.keep.keep_from.Goals as goal
 
 pub returns : goal.returns
@@ -18,3 +20,9 @@ returns c =
       kept = more_kept s old new n c.in_ok-push.ensures.items;
       from = from_true s old new n c.in_ok-push.ensures.items i v c.given.ensures.subject value c.given.ensures.op;
     }
+
+pub returns-then-least-min-clause-from : goal.returns-then-least-min-clause-from
+returns-then-least-min-clause-from c =
+    let number : FitsSigned w64 c.args.least = c.ranges.least in
+    let fits : FitsSigned w64 c.min.result = search rules in
+    λ all. open_from c.args.store.now c.args.subject c.domain.result.now c.args.least c.min.result c.domain.ensures c.min.ensures.least (simp to_z-of_z at c.if-least-min.true)

@@ -1,4 +1,5 @@
-use Rattle.std.proofs.Common.{◌∙◌, sym, pos, get_or, rules, arith, w64, FitsSigned}
+-- Each label of the alphabet so far is one of the labels, or is not open, or is kept off.
+use Rattle.std.proofs.Common.{◌∙◌, sym, pos, get_or, rules, arith, w64, FitsSigned, true≢false}
 use Rattle.std.proofs.lemmas.Int.{to_z-of_z}
 use Rattle.cps_p_sequence.proofs.Layering.{hole_given, hole_true, more_kept, closed_more, closed_whole}
 use Rattle.cps_p_sequence.proofs.keep.keep_off_others.Goals as goal
@@ -20,7 +21,7 @@ loop-label-preserved-then-not-is_open c =
     let f : FitsSigned w64 v = search rules in
     let decided = simp to_z-of_z at c.is_open.ensures in
     let p = c.loop-label.invariant in
-    record { given = p.given; kept = p.kept; closed = λ all. closed_more c.args.store.now c.args.subject c.args.alphabet.now c.args.labels.now c.loop-label.label-index (p.closed all) (λ o. absurd (let shut = c.if-not-is_open.true in let e = sym shut ∙ decided.1 o in cc e)) }
+    record { given = p.given; kept = p.kept; closed = λ all. closed_more c.args.store.now c.args.subject c.args.alphabet.now c.args.labels.now c.loop-label.label-index (p.closed all) (λ o. absurd (true≢false (sym (decided.1 o) ∙ c.if-not-is_open.true))) }
 
 pub loop-label-preserved : goal.loop-label-preserved
 loop-label-preserved c =

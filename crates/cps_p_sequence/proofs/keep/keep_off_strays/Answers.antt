@@ -1,8 +1,12 @@
+-- Each interval of the domain is walked through between the first and the last label.
 use Rattle.std.proofs.Common.{◌-◌, length, pos, get_or, rules, w64, FitsSigned}
 use Rattle.std.proofs.lemmas.Int.{to_z-of_z}
 use Rattle.std.proofs.lemmas.List.{get_or_default}
-use Rattle.cps_p_sequence.proofs.Keeping.{wholes_more, wholes_all, last_listed}
+use Rattle.cps_p_sequence.proofs.Keeping.{wholes_begun, wholes_more, wholes_all, last_listed}
 use Rattle.cps_p_sequence.proofs.keep.keep_off_strays.Goals as goal
+
+pub loop-part-init : goal.loop-part-init
+loop-part-init c = record { given = λ b h gs. gs; kept = λ all. all; whole = λ all. wholes_begun _ _ _ _ _ _ }
 
 pub loop-part-preserved : goal.loop-part-preserved
 loop-part-preserved c =

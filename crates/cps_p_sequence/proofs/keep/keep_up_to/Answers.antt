@@ -1,6 +1,8 @@
+-- Each value is within the bound already, or is kept within it.
 use Rattle.std.proofs.Common.{rules, w64, FitsSigned}
 use Rattle.std.proofs.lemmas.Int.{to_z-of_z}
 use Rattle.cps_p_sequence.proofs.Layering.{more_kept, up_to_given, up_to_true}
+use Rattle.cps_p_sequence.proofs.Keeping.{open_up_to}
 use Rattle.cps_p_sequence.proofs.keep.keep_up_to.Goals as goal
 
 pub returns : goal.returns
@@ -18,3 +20,9 @@ returns c =
       kept = more_kept s old new n c.in_ok-push.ensures.items;
       up_to = up_to_true s old new n c.in_ok-push.ensures.items i v c.given.ensures.subject value c.given.ensures.op;
     }
+
+pub returns-then-max-greatest-clause-up_to : goal.returns-then-max-greatest-clause-up_to
+returns-then-max-greatest-clause-up_to c =
+    let number : FitsSigned w64 c.args.greatest = c.ranges.greatest in
+    let fits : FitsSigned w64 c.max.result = search rules in
+    λ all. open_up_to c.args.store.now c.args.subject c.domain.result.now c.args.greatest c.max.result c.domain.ensures c.max.ensures.greatest (simp to_z-of_z at c.if-max-greatest.true)

@@ -1,4 +1,5 @@
-use Rattle.std.proofs.Common.{◌≡◌, pos, true, false, get_or, sym, ◌∙◌, rules, arith, w64, FitsSigned}
+-- The labels so far are those of open steps between marked states.
+use Rattle.std.proofs.Common.{pos, get_or, sym, ◌∙◌, rules, arith, w64, FitsSigned, true≢false}
 use Rattle.std.proofs.lemmas.Int.{to_z-of_z}
 use Rattle.std.proofs.lemmas.List.{get_or_default}
 use Rattle.cps_p_sequence.specs.declared.states.Step.{Step}
@@ -24,7 +25,7 @@ loop-step-preserved-then-not-tails-step c =
     let t = get_or y.steps.now n no_step in
     let l = c.loop-step-test.true in
     labels_passed c.args.store.now y.subject y.steps.now c.args.tails.now c.args.heads.now n c.loop-step.labels.items t l (get_or_default y.steps.now n no_step t l)
-    (λ o a b. (let no' = c.if-not-tails-step.true in let e : false ≡ true = sym no' ∙ a in cc e)) c.loop-step.invariant
+    (λ o a b. absurd (true≢false (sym a ∙ c.if-not-tails-step.true))) c.loop-step.invariant
 
 pub loop-step-preserved-then-not-heads-step : goal.loop-step-preserved-then-not-heads-step
 loop-step-preserved-then-not-heads-step c =
@@ -33,7 +34,7 @@ loop-step-preserved-then-not-heads-step c =
     let t = get_or y.steps.now n no_step in
     let l = c.loop-step-test.true in
     labels_passed c.args.store.now y.subject y.steps.now c.args.tails.now c.args.heads.now n c.loop-step.labels.items t l (get_or_default y.steps.now n no_step t l)
-    (λ o a b. (let no' = c.if-not-heads-step.true in let e : false ≡ true = sym no' ∙ b in cc e)) c.loop-step.invariant
+    (λ o a b. absurd (true≢false (sym b ∙ c.if-not-heads-step.true))) c.loop-step.invariant
 
 pub loop-step-preserved-then-not-is_open : goal.loop-step-preserved-then-not-is_open
 loop-step-preserved-then-not-is_open c =
@@ -44,7 +45,7 @@ loop-step-preserved-then-not-is_open c =
     let f : FitsSigned w64 t.label = search rules in
     let decided = simp to_z-of_z at c.is_open.ensures in
     labels_passed c.args.store.now y.subject y.steps.now c.args.tails.now c.args.heads.now n c.loop-step.labels.items t l (get_or_default y.steps.now n no_step t l)
-    (λ o a b. (let no' = c.if-not-is_open.true in let e : false ≡ true = sym no' ∙ decided.1 o in cc e)) c.loop-step.invariant
+    (λ o a b. absurd (true≢false (sym (decided.1 o) ∙ c.if-not-is_open.true))) c.loop-step.invariant
 
 pub loop-step-preserved-then-is_last_label : goal.loop-step-preserved-then-is_last_label
 loop-step-preserved-then-is_last_label c =

@@ -1,10 +1,11 @@
+-- An entry by = or != wakes who stands on either side.
 use Rattle.std.proofs.Common.{◌≡◌, ◌⊎◌, ℕ, ◌<◌, true, Result, Ok, Err, List, ◌++◌, length, sym, ap, subst, inl, inr, arith}
 use Rattle.std.specs.Prelude.{OnOk}
 use Rattle.std.specs.List.{All}
 use Rattle.std.proofs.lemmas.List.Elements.{All-append, All-weaker}
 use Rattle.cps_literal.specs.declared.atom.Op.{Op}
 use Rattle.cps_literal.specs.declared.atom.Op.TheVariants.{Eq, Ne}
-use Rattle.cps_instance.proofs.Agreeing.{All-append_right}
+use Rattle.cps_instance.proofs.Agreeing.{All-append_left, All-append_right}
 use Rattle.cps_propagate.specs.Waiting.{is_waiting, StillWait}
 use Rattle.cps_propagate.specs.Readers.{BySide, readers_at, woken_by}
 use Rattle.cps_propagate.proofs.Visiting.{All-still}
@@ -13,6 +14,10 @@ use Rattle.cps_propagate.proofs.waking.wake_for.Goals as goal
 both : (r : BySide) (op : Op) (i : ℕ) → (op ≡ Eq) ⊎ (op ≡ Ne) → woken_by r op i ≡ readers_at r.rises i ++ readers_at r.falls i
 both r op i (inl e) = ap (λ (o : Op). woken_by r o i) e
 both r op i (inr e) = ap (λ (o : Op). woken_by r o i) e
+
+rising_part : (P : ℕ → Type 0) (r : BySide) (op : Op) (i : ℕ) (numbers : List ℕ) → (op ≡ Eq) ⊎ (op ≡ Ne) → numbers ≡ readers_at r.rises i → All P (woken_by r op i) → All P numbers
+rising_part P r op i numbers is e h =
+    subst (λ (l : List ℕ). All P l) (sym e) (All-append_left P (readers_at r.rises i) (readers_at r.falls i) (subst (λ (l : List ℕ). All P l) (both r op i is) h))
 
 falling_part : (P : ℕ → Type 0) (r : BySide) (op : Op) (i : ℕ) (numbers : List ℕ) → (op ≡ Eq) ⊎ (op ≡ Ne) → numbers ≡ readers_at r.falls i → All P (woken_by r op i) → All P numbers
 falling_part P r op i numbers is e h =
@@ -26,6 +31,9 @@ both_parts P r op i rising falling is e f h k =
 on_both_ok : {A E P Q R : Type 0} (r : Result A E) → (P → Q → R) → OnOk r P → OnOk r Q → OnOk r R
 on_both_ok (Ok x) f p q = f p q
 on_both_ok (Err e) f p q = tt
+
+pub wake_each-requires-in-Eq : goal.wake_each-requires-in-Eq
+wake_each-requires-in-Eq c = rising_part (λ k. k < length c.args.queue.now.waits) c.args.readers.now c.args.atom.op c.args.atom.subject c.rising-in-Eq.result.now c.in-Eq.is c.rising-in-Eq.ensures c.requires
 
 pub wake_each-requires-in-Eq-2 : goal.wake_each-requires-in-Eq-2
 wake_each-requires-in-Eq-2 c =

@@ -1,5 +1,6 @@
+-- A field of a name is read as that name says, one that names a kind as that kind, and any other is refused.
 use Rattle.std.specs.Option.{option_to_list}
-use Rattle.std.proofs.Common.{◌≡◌, ◌++◌, List, ℕ, codes, Some, None, true, is_some, refl, arith, append_assoc}
+use Rattle.std.proofs.Common.{◌≡◌, ◌++◌, List, ℕ, codes, Some, None, true, is_some, refl, append_assoc}
 use Rattle.std.proofs.lemmas.Result.{on_ok_weaker}
 use Rattle.cps_textproto.specs.Trees.{values_of}
 use Rattle.cps_schema.specs.declared.number.Number.TheVariants.{Int32}
@@ -8,16 +9,16 @@ use Rattle.cps_schema.specs.Written.{token_text}
 use Rattle.cps_schema.specs.Tables.{constraint_message, number, text}
 use Rattle.cps_schema.specs.Readings.{value_numbers, value_texts}
 use Rattle.cps_schema.specs.Parts.{IsConstraintGiven}
-use Rattle.cps_schema.proofs.Steps.{same_name, other_text, table_use, repeated_passes, repeated_stops, refused_stops, if_passes, if_stops}
+use Rattle.cps_schema.proofs.Steps.{same_name, other_name, table_use, repeated_passes, repeated_stops, refused_stops, if_passes, if_stops}
 use Rattle.cps_schema.proofs.GivenKinds.{no_constraint_field, constraint_kept, name_given_first, kind_field_passes, kind_field_read, kind_field_stops, named_as}
 use Rattle.cps_schema.proofs.Slots.{slot_passes, slot_stops}
 use Rattle.cps_schema.proofs.constraint.add_field.Goals as goal
 
-pub returns-then-eq-clause-passes : goal.returns-then-eq-clause-passes
-returns-then-eq-clause-passes c =
+pub returns-then-same_text-clause-passes : goal.returns-then-same_text-clause-passes
+returns-then-same_text-clause-passes c =
     let w = written_of c.args.input.now in
     let f = c.args.field.now in
-    let name : token_text w f.name ≡ codes "name" = same_name _ _ _ _ c.eq.result c.eq.ensures c.if-eq.true c.token_text-name.ensures c.as_slice.ensures in
+    let name : token_text w f.name ≡ codes "name" = same_name c.same_text.ensures c.if-same_text.true c.token_text-name.ensures in
     slot_passes w constraint_message f text c.set_name.result (λ (before : List (List ℕ)). IsConstraintGiven c.args.parts.now before)
     (λ (before : List (List ℕ)). IsConstraintGiven (record c.args.parts.now { name = c.set_name.new.slot }) before)
     (is_some c.args.parts.now.name) (table_use _ _ _ _ name refl) c.set_name.ensures.passes
@@ -27,48 +28,48 @@ returns-then-eq-clause-passes c =
     name_given_first c.args.parts.now (record c.args.parts.now { name = c.set_name.new.slot }) refl some (token_text w f.name) name before given)
     c.set_name.ensures.some)
 
-pub returns-then-eq-clause-read : goal.returns-then-eq-clause-read
-returns-then-eq-clause-read c =
+pub returns-then-same_text-clause-read : goal.returns-then-same_text-clause-read
+returns-then-same_text-clause-read c =
     let w = written_of c.args.input.now in
     let f = c.args.field.now in
-    let name : token_text w f.name ≡ codes "name" = same_name _ _ _ _ c.eq.result c.eq.ensures c.if-eq.true c.token_text-name.ensures c.as_slice.ensures in
+    let name : token_text w f.name ≡ codes "name" = same_name c.same_text.ensures c.if-same_text.true c.token_text-name.ensures in
     on_ok_weaker c.set_name.result
     (λ (added : option_to_list c.set_name.new.slot ≡ option_to_list c.args.parts.now.name ++ value_texts w (values_of f.items)) rest.
-    simp (name, added, append_assoc))
+    rw (name, added, append_assoc) refl)
     c.set_name.ensures.added
 
-pub returns-then-eq-clause-err : goal.returns-then-eq-clause-err
-returns-then-eq-clause-err c =
+pub returns-then-same_text-clause-err : goal.returns-then-same_text-clause-err
+returns-then-same_text-clause-err c =
     let w = written_of c.args.input.now in
     let f = c.args.field.now in
-    let name : token_text w f.name ≡ codes "name" = same_name _ _ _ _ c.eq.result c.eq.ensures c.if-eq.true c.token_text-name.ensures c.as_slice.ensures in
+    let name : token_text w f.name ≡ codes "name" = same_name c.same_text.ensures c.if-same_text.true c.token_text-name.ensures in
     slot_stops w constraint_message f text c.set_name.result (λ (before : List (List ℕ)). IsConstraintGiven c.args.parts.now before)
     (is_some c.args.parts.now.name) (table_use _ _ _ _ name refl) c.set_name.ensures.err (λ before given. rw name given.name)
 
-pub returns-then-eq-2-clause-passes : goal.returns-then-eq-2-clause-passes
-returns-then-eq-2-clause-passes c =
+pub returns-then-same_text-2-clause-passes : goal.returns-then-same_text-2-clause-passes
+returns-then-same_text-2-clause-passes c =
     let w = written_of c.args.input.now in
     let f = c.args.field.now in
-    let name : token_text w f.name ≡ codes "enforcement_literal" = same_name _ _ _ _ c.eq-else-eq.result c.eq-else-eq.ensures c.if-eq-2.true c.token_text-name.ensures c.as_slice-else-eq.ensures in
+    let name : token_text w f.name ≡ codes "enforcement_literal" = same_name c.same_text-else-same_text.ensures c.if-same_text-2.true c.token_text-name.ensures in
     if_passes w constraint_message f (IsConstraintGiven c.args.parts.now) (IsConstraintGiven (record c.args.parts.now { enforcement = c.add_refs.new.list })) c.add_refs.result
     (repeated_passes w constraint_message f (number Int32) c.add_refs.result (table_use _ _ _ _ name refl) c.add_refs.ensures.fault)
     (constraint_kept c.args.parts.now (record c.args.parts.now { enforcement = c.add_refs.new.list }) refl refl (token_text w f.name) name)
 
-pub returns-then-eq-2-clause-read : goal.returns-then-eq-2-clause-read
-returns-then-eq-2-clause-read c =
+pub returns-then-same_text-2-clause-read : goal.returns-then-same_text-2-clause-read
+returns-then-same_text-2-clause-read c =
     let w = written_of c.args.input.now in
     let f = c.args.field.now in
-    let name : token_text w f.name ≡ codes "enforcement_literal" = same_name _ _ _ _ c.eq-else-eq.result c.eq-else-eq.ensures c.if-eq-2.true c.token_text-name.ensures c.as_slice-else-eq.ensures in
+    let name : token_text w f.name ≡ codes "enforcement_literal" = same_name c.same_text-else-same_text.ensures c.if-same_text-2.true c.token_text-name.ensures in
     on_ok_weaker c.add_refs.result
     (λ (added : c.add_refs.new.list.items ≡ c.args.parts.now.enforcement.items ++ value_numbers w (values_of f.items)) rest.
-    simp (name, added, append_assoc))
+    rw (name, added, append_assoc) refl)
     c.add_refs.ensures.added
 
-pub returns-then-eq-2-clause-err : goal.returns-then-eq-2-clause-err
-returns-then-eq-2-clause-err c =
+pub returns-then-same_text-2-clause-err : goal.returns-then-same_text-2-clause-err
+returns-then-same_text-2-clause-err c =
     let w = written_of c.args.input.now in
     let f = c.args.field.now in
-    let name : token_text w f.name ≡ codes "enforcement_literal" = same_name _ _ _ _ c.eq-else-eq.result c.eq-else-eq.ensures c.if-eq-2.true c.token_text-name.ensures c.as_slice-else-eq.ensures in
+    let name : token_text w f.name ≡ codes "enforcement_literal" = same_name c.same_text-else-same_text.ensures c.if-same_text-2.true c.token_text-name.ensures in
     if_stops w constraint_message f (IsConstraintGiven c.args.parts.now) c.add_refs.result
     (repeated_stops w constraint_message f (number Int32) c.add_refs.result (table_use _ _ _ _ name refl) c.add_refs.ensures.err)
 
@@ -101,6 +102,6 @@ returns-in_default-clause-err c = λ before given.
     let name = c.token_text-name in
     let none = named_as name.result.now text None name.ensures c.in_default.ensures in
     let other = no_constraint_field text
-    (other_text name.result.now c.as_slice.result.now text (codes "name") c.eq.result c.eq.ensures c.if-eq.false name.ensures c.as_slice.ensures)
-    (other_text name.result.now c.as_slice-else-eq.result.now text (codes "enforcement_literal") c.eq-else-eq.result c.eq-else-eq.ensures c.if-eq-2.false name.ensures c.as_slice-else-eq.ensures) none in
+    (other_name (codes "name") c.same_text.ensures c.if-same_text.false name.ensures)
+    (other_name (codes "enforcement_literal") c.same_text-else-same_text.ensures c.if-same_text-2.false name.ensures) none in
     rw c.refused_field.ensures (refused_stops w constraint_message f other before)

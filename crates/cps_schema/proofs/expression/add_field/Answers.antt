@@ -1,5 +1,6 @@
+-- A field of a name adds what that name takes, and any other is refused.
 use Rattle.std.specs.Option.{option_to_list}
-use Rattle.std.proofs.Common.{◌≡◌, ◌++◌, List, ℕ, codes, None, true, is_some, refl, arith, append_assoc}
+use Rattle.std.proofs.Common.{◌≡◌, ◌++◌, List, ℕ, codes, None, true, is_some, refl, append_assoc}
 use Rattle.std.proofs.lemmas.Result.{on_ok_weaker}
 use Rattle.cps_textproto.specs.Trees.{values_of}
 use Rattle.cps_schema.specs.declared.number.Number.TheVariants.{Int32, Int64}
@@ -8,70 +9,70 @@ use Rattle.cps_schema.specs.Written.{token_text}
 use Rattle.cps_schema.specs.Tables.{expression_message, number, use_in, table_of}
 use Rattle.cps_schema.specs.Readings.{value_numbers}
 use Rattle.cps_schema.specs.Parts.{expression_slots}
-use Rattle.cps_schema.proofs.Steps.{same_name, table_use, repeated_passes, repeated_stops, refused_stops, if_passes, if_stops}
+use Rattle.cps_schema.proofs.Steps.{same_name, table_use, repeated_passes, repeated_stops, refused_stops, if_passes, if_stops, other_name}
 use Rattle.cps_schema.specs.Slots.{AreGivenSlots}
 use Rattle.cps_schema.proofs.Slots.{given_after, slot_passes, slot_stops}
 use Rattle.cps_schema.proofs.expression.add_field.Goals as goal
 
-pub returns-then-eq-clause-passes : goal.returns-then-eq-clause-passes
-returns-then-eq-clause-passes c =
+pub returns-then-same_text-clause-passes : goal.returns-then-same_text-clause-passes
+returns-then-same_text-clause-passes c =
     let w = written_of c.args.input.now in
     let f = c.args.field.now in
-    let name : token_text w f.name ≡ codes "vars" = same_name _ _ _ _ c.eq.result c.eq.ensures c.if-eq.true c.token_text-name.ensures c.as_slice.ensures in
+    let name : token_text w f.name ≡ codes "vars" = same_name c.same_text.ensures c.if-same_text.true c.token_text-name.ensures in
     if_passes w expression_message f (λ (before : List (List ℕ)). AreGivenSlots (expression_slots c.args.parts.now) before) (λ (before : List (List ℕ)). AreGivenSlots (expression_slots c.args.parts.now) before) c.add_refs.result
     (repeated_passes w expression_message f (number Int32) c.add_refs.result (table_use _ _ _ _ name refl) c.add_refs.ensures.fault)
     (λ before given. given_after (token_text w f.name) (codes "vars") (expression_slots c.args.parts.now) before name given)
 
-pub returns-then-eq-clause-read : goal.returns-then-eq-clause-read
-returns-then-eq-clause-read c =
+pub returns-then-same_text-clause-read : goal.returns-then-same_text-clause-read
+returns-then-same_text-clause-read c =
     let w = written_of c.args.input.now in
     let f = c.args.field.now in
-    let name : token_text w f.name ≡ codes "vars" = same_name _ _ _ _ c.eq.result c.eq.ensures c.if-eq.true c.token_text-name.ensures c.as_slice.ensures in
+    let name : token_text w f.name ≡ codes "vars" = same_name c.same_text.ensures c.if-same_text.true c.token_text-name.ensures in
     on_ok_weaker c.add_refs.result
     (λ (added : c.add_refs.new.list.items ≡ c.args.parts.now.vars.items ++ value_numbers w (values_of f.items)) rest.
-    simp (name, added, append_assoc))
+    rw (name, added, append_assoc) refl)
     c.add_refs.ensures.added
 
-pub returns-then-eq-clause-err : goal.returns-then-eq-clause-err
-returns-then-eq-clause-err c =
+pub returns-then-same_text-clause-err : goal.returns-then-same_text-clause-err
+returns-then-same_text-clause-err c =
     let w = written_of c.args.input.now in
     let f = c.args.field.now in
-    let name : token_text w f.name ≡ codes "vars" = same_name _ _ _ _ c.eq.result c.eq.ensures c.if-eq.true c.token_text-name.ensures c.as_slice.ensures in
+    let name : token_text w f.name ≡ codes "vars" = same_name c.same_text.ensures c.if-same_text.true c.token_text-name.ensures in
     if_stops w expression_message f (λ (before : List (List ℕ)). AreGivenSlots (expression_slots c.args.parts.now) before) c.add_refs.result
     (repeated_stops w expression_message f (number Int32) c.add_refs.result (table_use _ _ _ _ name refl) c.add_refs.ensures.err)
 
-pub returns-then-eq-2-clause-passes : goal.returns-then-eq-2-clause-passes
-returns-then-eq-2-clause-passes c =
+pub returns-then-same_text-2-clause-passes : goal.returns-then-same_text-2-clause-passes
+returns-then-same_text-2-clause-passes c =
     let w = written_of c.args.input.now in
     let f = c.args.field.now in
-    let name : token_text w f.name ≡ codes "coeffs" = same_name _ _ _ _ c.eq-else-eq.result c.eq-else-eq.ensures c.if-eq-2.true c.token_text-name.ensures c.as_slice-else-eq.ensures in
+    let name : token_text w f.name ≡ codes "coeffs" = same_name c.same_text-else-same_text.ensures c.if-same_text-2.true c.token_text-name.ensures in
     if_passes w expression_message f (λ (before : List (List ℕ)). AreGivenSlots (expression_slots c.args.parts.now) before) (λ (before : List (List ℕ)). AreGivenSlots (expression_slots c.args.parts.now) before) c.add_ints.result
     (repeated_passes w expression_message f (number Int64) c.add_ints.result (table_use _ _ _ _ name refl) c.add_ints.ensures.fault)
     (λ before given. given_after (token_text w f.name) (codes "coeffs") (expression_slots c.args.parts.now) before name given)
 
-pub returns-then-eq-2-clause-read : goal.returns-then-eq-2-clause-read
-returns-then-eq-2-clause-read c =
+pub returns-then-same_text-2-clause-read : goal.returns-then-same_text-2-clause-read
+returns-then-same_text-2-clause-read c =
     let w = written_of c.args.input.now in
     let f = c.args.field.now in
-    let name : token_text w f.name ≡ codes "coeffs" = same_name _ _ _ _ c.eq-else-eq.result c.eq-else-eq.ensures c.if-eq-2.true c.token_text-name.ensures c.as_slice-else-eq.ensures in
+    let name : token_text w f.name ≡ codes "coeffs" = same_name c.same_text-else-same_text.ensures c.if-same_text-2.true c.token_text-name.ensures in
     on_ok_weaker c.add_ints.result
     (λ (added : c.add_ints.new.list.items ≡ c.args.parts.now.coeffs.items ++ value_numbers w (values_of f.items)) rest.
-    simp (name, added, append_assoc))
+    rw (name, added, append_assoc) refl)
     c.add_ints.ensures.added
 
-pub returns-then-eq-2-clause-err : goal.returns-then-eq-2-clause-err
-returns-then-eq-2-clause-err c =
+pub returns-then-same_text-2-clause-err : goal.returns-then-same_text-2-clause-err
+returns-then-same_text-2-clause-err c =
     let w = written_of c.args.input.now in
     let f = c.args.field.now in
-    let name : token_text w f.name ≡ codes "coeffs" = same_name _ _ _ _ c.eq-else-eq.result c.eq-else-eq.ensures c.if-eq-2.true c.token_text-name.ensures c.as_slice-else-eq.ensures in
+    let name : token_text w f.name ≡ codes "coeffs" = same_name c.same_text-else-same_text.ensures c.if-same_text-2.true c.token_text-name.ensures in
     if_stops w expression_message f (λ (before : List (List ℕ)). AreGivenSlots (expression_slots c.args.parts.now) before) c.add_ints.result
     (repeated_stops w expression_message f (number Int64) c.add_ints.result (table_use _ _ _ _ name refl) c.add_ints.ensures.err)
 
-pub returns-then-eq-3-clause-passes : goal.returns-then-eq-3-clause-passes
-returns-then-eq-3-clause-passes c =
+pub returns-then-same_text-3-clause-passes : goal.returns-then-same_text-3-clause-passes
+returns-then-same_text-3-clause-passes c =
     let w = written_of c.args.input.now in
     let f = c.args.field.now in
-    let name : token_text w f.name ≡ codes "offset" = same_name _ _ _ _ c.eq-else-eq-2.result c.eq-else-eq-2.ensures c.if-eq-3.true c.token_text-name.ensures c.as_slice-else-eq-2.ensures in
+    let name : token_text w f.name ≡ codes "offset" = same_name c.same_text-else-same_text-2.ensures c.if-same_text-3.true c.token_text-name.ensures in
     slot_passes w expression_message f (number Int64) c.set_number.result (λ (before : List (List ℕ)). AreGivenSlots (expression_slots c.args.parts.now) before) (λ (before : List (List ℕ)). AreGivenSlots (expression_slots (record c.args.parts.now { offset = c.set_number.new.slot })) before)
     (is_some c.args.parts.now.offset) (table_use _ _ _ _ name refl) c.set_number.ensures.passes
     (λ before given. rw name given.0)
@@ -80,27 +81,27 @@ returns-then-eq-3-clause-passes c =
     rw some (given_after (token_text w f.name) (codes "offset") (expression_slots c.args.parts.now) before name given))
     c.set_number.ensures.some)
 
-pub returns-then-eq-3-clause-read : goal.returns-then-eq-3-clause-read
-returns-then-eq-3-clause-read c =
+pub returns-then-same_text-3-clause-read : goal.returns-then-same_text-3-clause-read
+returns-then-same_text-3-clause-read c =
     let w = written_of c.args.input.now in
     let f = c.args.field.now in
-    let name : token_text w f.name ≡ codes "offset" = same_name _ _ _ _ c.eq-else-eq-2.result c.eq-else-eq-2.ensures c.if-eq-3.true c.token_text-name.ensures c.as_slice-else-eq-2.ensures in
+    let name : token_text w f.name ≡ codes "offset" = same_name c.same_text-else-same_text-2.ensures c.if-same_text-3.true c.token_text-name.ensures in
     on_ok_weaker c.set_number.result
     (λ (added : option_to_list c.set_number.new.slot ≡ option_to_list c.args.parts.now.offset ++ value_numbers w (values_of f.items)) rest.
-    simp (name, added, append_assoc))
+    rw (name, added, append_assoc) refl)
     c.set_number.ensures.added
 
-pub returns-then-eq-3-clause-err : goal.returns-then-eq-3-clause-err
-returns-then-eq-3-clause-err c =
+pub returns-then-same_text-3-clause-err : goal.returns-then-same_text-3-clause-err
+returns-then-same_text-3-clause-err c =
     let w = written_of c.args.input.now in
     let f = c.args.field.now in
-    let name : token_text w f.name ≡ codes "offset" = same_name _ _ _ _ c.eq-else-eq-2.result c.eq-else-eq-2.ensures c.if-eq-3.true c.token_text-name.ensures c.as_slice-else-eq-2.ensures in
+    let name : token_text w f.name ≡ codes "offset" = same_name c.same_text-else-same_text-2.ensures c.if-same_text-3.true c.token_text-name.ensures in
     slot_stops w expression_message f (number Int64) c.set_number.result (λ (before : List (List ℕ)). AreGivenSlots (expression_slots c.args.parts.now) before)
     (is_some c.args.parts.now.offset) (table_use _ _ _ _ name refl) c.set_number.ensures.err (λ before given. rw name given.0)
 
-pub returns-else-eq-3-clause-err : goal.returns-else-eq-3-clause-err
-returns-else-eq-3-clause-err c = λ before given.
+pub returns-else-same_text-3-clause-err : goal.returns-else-same_text-3-clause-err
+returns-else-same_text-3-clause-err c = λ before given.
     let w = written_of c.args.input.now in
     let f = c.args.field.now in
-    let other : use_in (table_of expression_message) (token_text w f.name) ≡ None = grind (arith) in
+    let other : use_in (table_of expression_message) (token_text w f.name) ≡ None = rw (other_name (codes "vars") c.same_text.ensures c.if-same_text.false c.token_text-name.ensures, other_name (codes "coeffs") c.same_text-else-same_text.ensures c.if-same_text-2.false c.token_text-name.ensures, other_name (codes "offset") c.same_text-else-same_text-2.ensures c.if-same_text-3.false c.token_text-name.ensures) refl in
     rw c.refused_field.ensures (refused_stops w expression_message f other before)

@@ -1,9 +1,9 @@
-use Rattle.std.proofs.Common.{◌≡◌, ◌<◌, List, ℕ, [], Option, Some, None, ap, sym, ◌∙◌, arith}
+use Rattle.std.proofs.Common.{◌≡◌, List, ℕ, Some, None, ap, sym, ◌∙◌}
 use Rattle.std.specs.Vec.{with_item}
 use Rattle.cps_schema.specs.declared.gather.Slot.{Slot}
 use Rattle.cps_schema.specs.declared.gather.Gathered.{Gathered}
 use Rattle.cps_schema.specs.Inputs.{written_of}
-use Rattle.cps_schema.specs.Written.{Written, token_text}
+use Rattle.cps_schema.specs.Written.{token_text}
 use Rattle.cps_schema.specs.Tables.{is_given}
 use Rattle.cps_schema.specs.Gathered.{line_place}
 use Rattle.cps_schema.proofs.Gatherings.{slot_named, placed, unplaced, Placed, field_passes, field_read, field_lines, field_stops, no_field_stops}

@@ -1,5 +1,7 @@
-use Rattle.std.proofs.Common.{◌≡◌, ◌+◌, ◌<◌, List, ℕ, [], ◌∷◌, map, length, drop, refl, ap, sym, ◌∙◌, arith}
-use Rattle.std.proofs.lemmas.Grind.{common_steps}
+-- Each field is added to the slot of its line, and the last leaves what all give.
+use Rattle.std.specs.Vec.Iter.{into_iter_items}
+use Rattle.std.proofs.Common.{rules, ◌≡◌, ◌+◌, ◌<◌, List, [], ◌∷◌, map, length, drop, refl, ap, sym, ◌∙◌, arith}
+use Rattle.std.proofs.lemmas.List.{drop_all}
 use Rattle.cps_textproto.specs.Trees.{Tree, field_list, tree_of}
 use Rattle.cps_schema.specs.declared.gather.Line.{Line}
 use Rattle.cps_schema.specs.declared.gather.Slot.{Slot}
@@ -76,6 +78,8 @@ returns-clause-reading c =
     let w = written_of c.args.input.now in
     let items = c.fields_of-field-items.result.now in
     let slots = c.loop-field.parts.slots.items in
-    let past : drop c.loop-field.field-index items ≡ [] = grind (arith, common_steps) in
-    sym (c.loop-field.invariant.reading ∙ ap (λ fs. all_from w slots (field_list fs)) past ∙ all_last w slots)
+    let handed : into_iter_items c.into_iter.result ≡ slots = search rules in
+    let past : drop c.loop-field.field-index items ≡ [] = drop_all c.loop-field.field-index items c.loop-field-test.false in
+    ap (λ (rest : List Slot). map held rest) handed
+    ∙ sym (c.loop-field.invariant.reading ∙ ap (λ fs. all_from w slots (field_list fs)) past ∙ all_last w slots)
     ∙ ap (λ (tree : Tree). map (found w tree) c.args.lines.now) c.fields_of-field-items.ensures

@@ -1,4 +1,5 @@
-use Rattle.std.proofs.Common.{◌+◌, ◌<◌, ◌∷◌, ◌∙◌, ap, length, arith, drop, []}
+-- Each field adds what it gives, and the last leaves what all give.
+use Rattle.std.proofs.Common.{◌+◌, ◌<◌, ◌∷◌, ◌∙◌, ap, sym, append-nil, refl, length, arith, drop, []}
 use Rattle.std.proofs.lemmas.Result.{err_from_is_err_and}
 use Rattle.cps_textproto.specs.Trees.{field_list, Tree, tree_of}
 use Rattle.cps_schema.specs.Written.{token_text}
@@ -6,6 +7,7 @@ use Rattle.cps_schema.specs.Inputs.{written_of}
 use Rattle.cps_schema.specs.Tables.{hint_message}
 use Rattle.cps_schema.specs.Faults.{fields_fault}
 use Rattle.cps_schema.specs.Parts.{hint_from}
+use Rattle.cps_schema.specs.Readings.{read_hint}
 use Rattle.cps_schema.proofs.Loops.{cut_field, field_refused, all_read}
 use Rattle.cps_schema.proofs.hint.read_hint.Goals as goal
 
@@ -40,3 +42,11 @@ returns-clause-accepted c =
     let w = written_of c.args.input.now in
     all_read (λ (t : Tree). fields_fault w hint_message [] t) (λ (t : Tree). fields_fault w hint_message c.loop-field.invariant.0.0 t) c.fields_of-field-items.result.now (tree_of c.args.node.now)
     c.loop-field.field-index (omega arith) c.fields_of-field-items.ensures c.loop-field.invariant.0.1
+
+pub returns-clause-reading : goal.returns-clause-reading
+returns-clause-reading c =
+    let w = written_of c.args.input.now in
+    rw (c.from_vec.ensures, c.from_vec-2.ensures)
+    (sym (all_read (read_hint w) (hint_from w c.loop-field.parts) c.fields_of-field-items.result.now (tree_of c.args.node.now)
+    c.loop-field.field-index c.loop-field-test.false c.fields_of-field-items.ensures c.loop-field.invariant.1
+    ∙ rw (append-nil c.loop-field.parts.vars.items, append-nil c.loop-field.parts.values.items) refl))

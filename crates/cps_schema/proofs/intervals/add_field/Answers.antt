@@ -1,25 +1,38 @@
-use Rattle.std.proofs.Common.{◌≡◌, codes, None, refl, arith}
+-- A field of the one name adds its numbers, and any other is refused.
+use Rattle.std.proofs.Common.{◌≡◌, ◌++◌, codes, None, refl, append_assoc}
+use Rattle.std.proofs.lemmas.Result.{on_ok_weaker}
+use Rattle.cps_textproto.specs.Trees.{values_of}
 use Rattle.cps_schema.specs.declared.number.Number.TheVariants.{Int32}
 use Rattle.cps_schema.specs.Inputs.{written_of}
 use Rattle.cps_schema.specs.Written.{token_text}
 use Rattle.cps_schema.specs.Tables.{no_overlap_message, number, use_in, table_of}
-use Rattle.cps_schema.proofs.Steps.{same_text, table_use, repeated_passes, repeated_stops, refused_stops}
+use Rattle.cps_schema.specs.Readings.{value_numbers}
+use Rattle.cps_schema.proofs.Steps.{same_name, table_use, repeated_passes, repeated_stops, refused_stops, other_name}
 use Rattle.cps_schema.proofs.intervals.add_field.Goals as goal
 
-pub returns-then-eq-clause-passes : goal.returns-then-eq-clause-passes
-returns-then-eq-clause-passes c =
+pub returns-then-same_text-clause-passes : goal.returns-then-same_text-clause-passes
+returns-then-same_text-clause-passes c =
     let w = written_of c.args.input.now in
-    let name : token_text w c.args.field.now.name ≡ codes "intervals" = grind (arith, same_text c.token_text.result.now c.as_slice.result.now c.eq.result) in
+    let name : token_text w c.args.field.now.name ≡ codes "intervals" = same_name c.same_text.ensures c.if-same_text.true c.token_text.ensures in
     repeated_passes w no_overlap_message c.args.field.now (number Int32) c.add_refs.result (table_use _ _ _ _ name refl) c.add_refs.ensures.fault
 
-pub returns-then-eq-clause-err : goal.returns-then-eq-clause-err
-returns-then-eq-clause-err c =
+pub returns-then-same_text-clause-err : goal.returns-then-same_text-clause-err
+returns-then-same_text-clause-err c =
     let w = written_of c.args.input.now in
-    let name : token_text w c.args.field.now.name ≡ codes "intervals" = grind (arith, same_text c.token_text.result.now c.as_slice.result.now c.eq.result) in
+    let name : token_text w c.args.field.now.name ≡ codes "intervals" = same_name c.same_text.ensures c.if-same_text.true c.token_text.ensures in
     repeated_stops w no_overlap_message c.args.field.now (number Int32) c.add_refs.result (table_use _ _ _ _ name refl) c.add_refs.ensures.err
 
-pub returns-else-eq-clause-err : goal.returns-else-eq-clause-err
-returns-else-eq-clause-err c =
+pub returns-else-same_text-clause-err : goal.returns-else-same_text-clause-err
+returns-else-same_text-clause-err c =
     let w = written_of c.args.input.now in
-    let other : use_in (table_of no_overlap_message) (token_text w c.args.field.now.name) ≡ None = grind (arith) in
+    let other : use_in (table_of no_overlap_message) (token_text w c.args.field.now.name) ≡ None = rw (other_name (codes "intervals") c.same_text.ensures c.if-same_text.false c.token_text.ensures) refl in
     rw c.refused_field.ensures (refused_stops w no_overlap_message c.args.field.now other)
+
+pub returns-then-same_text-clause-read : goal.returns-then-same_text-clause-read
+returns-then-same_text-clause-read c =
+    let w = written_of c.args.input.now in
+    let name : token_text w c.args.field.now.name ≡ codes "intervals" = same_name c.same_text.ensures c.if-same_text.true c.token_text.ensures in
+    on_ok_weaker c.add_refs.result
+    (λ (added : c.add_refs.new.list.items ≡ c.args.intervals.now.items ++ value_numbers w (values_of c.args.field.now.items)) rest.
+    rw (name, added, append_assoc) refl)
+    c.add_refs.ensures.added

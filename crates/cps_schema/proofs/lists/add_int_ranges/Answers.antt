@@ -1,9 +1,12 @@
-use Rattle.std.proofs.Common.{◌∙◌, ◌<◌, length, arith}
+-- Each scalar adds its number, and the list is as it was before room for all of them was made.
+use Rattle.std.proofs.Common.{◌∙◌, ◌<◌, ◌++◌, List, ℤ, ap, refl, length, arith}
 use Rattle.std.proofs.lemmas.Result.{err_from_is_err_and}
 use Rattle.cps_schema.specs.declared.number.Number.TheVariants.{Int64}
 use Rattle.cps_schema.specs.Tables.{number}
 use Rattle.cps_schema.specs.Inputs.{written_of}
-use Rattle.cps_schema.proofs.Loops.{no_fault_at, range_passed, range_refused, ranges_passed, number_added}
+use Rattle.cps_textproto.specs.Trees.{range_values}
+use Rattle.cps_schema.specs.Readings.{value_numbers}
+use Rattle.cps_schema.proofs.Loops.{no_fault_at, range_passed, range_refused, ranges_passed, number_added, all_added}
 use Rattle.cps_schema.proofs.lists.add_int_ranges.Goals as goal
 
 pub loop-token_range-preserved : goal.loop-token_range-preserved
@@ -28,3 +31,10 @@ pub returns-clause-fault : goal.returns-clause-fault
 returns-clause-fault c =
     ranges_passed (written_of c.args.input.now) (number Int64) c.args.token_ranges.now c.loop-token_range.token_range-index (omega arith)
     c.loop-token_range.invariant.0
+
+pub returns-clause-added : goal.returns-clause-added
+returns-clause-added c =
+    let w = written_of c.args.input.now in
+    let list = c.args.token_ranges.now in
+    all_added (value_numbers w) c.make_room.new.list.items c.loop-token_range.list.items list c.loop-token_range.token_range-index refl c.loop-token_range-test.false c.loop-token_range.invariant.1
+    ∙ ap (λ (before : List ℤ). before ++ value_numbers w (range_values list)) c.make_room.ensures

@@ -1,4 +1,5 @@
-use Rattle.std.proofs.Common.{◌+◌, arith, drop, ◌<◌, [], ◌∷◌, ◌∙◌, length, ap, ◌++◌, codes}
+-- Each field adds its numbers, and the last leaves the numbers of all.
+use Rattle.std.proofs.Common.{◌+◌, arith, drop, ◌<◌, [], ◌∷◌, ◌∙◌, length, ap, sym, ◌++◌, append-nil, codes}
 use Rattle.std.proofs.lemmas.Result.{err_from_is_err_and}
 use Rattle.cps_textproto.specs.Trees.{field_list, Tree, tree_of}
 use Rattle.cps_schema.specs.Inputs.{written_of}
@@ -39,3 +40,10 @@ loop-field-preserved c =
       c.loop-field.invariant.1 ∙ ap (λ (t : Tree). c.loop-field.literals.items ++ numbers w (codes "literals") t) (cut_field items i h c.field-item.is)
           ∙ c.in_ok-add_field.ensures.read (field_list (drop (i + 1) items)),
     )
+
+pub returns-clause-reading : goal.returns-clause-reading
+returns-clause-reading c =
+    let w = written_of c.args.input.now in
+    c.from_vec.ensures
+    ∙ sym (all_read (numbers w (codes "literals")) (λ (t : Tree). c.loop-field.literals.items ++ numbers w (codes "literals") t) c.fields_of-field-items.result.now (tree_of c.args.node.now)
+    c.loop-field.field-index c.loop-field-test.false c.fields_of-field-items.ensures c.loop-field.invariant.1 ∙ append-nil c.loop-field.literals.items)

@@ -1,9 +1,10 @@
 -- One message more.
-use Rattle.std.proofs.Common.{◌∙◌, ◌<◌, length, arith}
+use Rattle.std.proofs.Common.{◌∙◌, ◌<◌, List, map, refl, length, arith}
+use Rattle.cps_textproto.specs.Trees.{Tree}
 use Rattle.std.proofs.lemmas.Result.{err_from_is_err_and}
 use Rattle.cps_schema.specs.Inputs.{written_of}
 use Rattle.cps_schema.proofs.Values.{fault_step, added_step}
-use Rattle.cps_schema.proofs.Loops.{nested_refused, nested_passed}
+use Rattle.cps_schema.proofs.Loops.{nested_refused, nested_passed, all_listed}
 use Rattle.cps_schema.proofs.message.add_listed.Goals as goal
 
 pub loop-nested-preserved : goal.loop-nested-preserved
@@ -26,3 +27,8 @@ returns-in_err-add_message-clause-err g c =
 pub returns-clause-fault : goal.returns-clause-fault
 returns-clause-fault g c =
     nested_passed (written_of c.args.input.now) g.M.Message.fields c.args.list.now c.loop-nested.nested-index (omega arith) c.loop-nested.invariant.0
+
+pub returns-clause-added : goal.returns-clause-added
+returns-clause-added g c =
+    all_listed (λ (trees : List Tree). map (g.M.Message.reads (written_of c.args.input.now)) trees) c.args.values.now.items c.loop-nested.values.items c.args.list.now c.loop-nested.nested-index refl c.loop-nested-test.false
+    c.loop-nested.invariant.1

@@ -1,8 +1,10 @@
-use Rattle.std.proofs.Common.{◌∙◌, ◌<◌, length, arith}
+-- Each scalar adds its truth value.
+use Rattle.std.proofs.Common.{◌∙◌, ◌<◌, refl, length, arith}
 use Rattle.std.proofs.lemmas.Result.{err_from_is_err_and}
 use Rattle.cps_schema.specs.Tables.{truth}
 use Rattle.cps_schema.specs.Inputs.{written_of}
-use Rattle.cps_schema.proofs.Loops.{no_fault_at, range_passed, range_refused, ranges_passed, truth_added}
+use Rattle.cps_schema.specs.Readings.{value_truths}
+use Rattle.cps_schema.proofs.Loops.{no_fault_at, range_passed, range_refused, ranges_passed, truth_added, all_added}
 use Rattle.cps_schema.proofs.truth.add_truth_ranges.Goals as goal
 
 pub loop-token_range-preserved : goal.loop-token_range-preserved
@@ -27,3 +29,8 @@ pub returns-clause-fault : goal.returns-clause-fault
 returns-clause-fault c =
     ranges_passed (written_of c.args.input.now) truth c.args.token_ranges.now c.loop-token_range.token_range-index (omega arith)
     c.loop-token_range.invariant.0
+
+pub returns-clause-added : goal.returns-clause-added
+returns-clause-added c =
+    all_added (value_truths (written_of c.args.input.now)) c.args.list.now.items c.loop-token_range.list.items c.args.token_ranges.now c.loop-token_range.token_range-index refl c.loop-token_range-test.false
+    c.loop-token_range.invariant.1

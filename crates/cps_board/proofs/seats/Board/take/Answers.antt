@@ -1,4 +1,6 @@
-use Rattle.std.proofs.Common.{rules, arith, sym, ap, ◌∙◌}
+-- A seat that found a row open has taken its entry, and knows no more than that beside what it knew.
+use Rattle.std.proofs.Common.{rules, arith, ◌∷◌, [], length, sym, ap, ◌∙◌}
+use Rattle.std.proofs.lemmas.List.{length-append}
 use lib.ListN.{get_elem?}
 use Rattle.cps_board.proofs.Keeps.{looks}
 use Rattle.cps_board.proofs.Filling.{Token, found_closed, taken_here, took_entry}
@@ -26,3 +28,20 @@ returns-clause-said c =
     let same = c.read_row-entry.ensures.own.2 in
     took_entry c.args.self.now.table.shared.key c.args.seat.now.seat.me c.read_row-entry.new.seat.me c.args.self.now.rows c.args.seat.now.taken looked.0 c.read_row-entry.result c.requires.1 (omega arith) at (same ∙ looked.1) looked.2
     (ap (λ (z : Token). get_elem? z.0.part.taken c.args.seat.now.taken) same ∙ c.read_row-entry.ensures.entry)
+
+pub invariant_of-seat-2 : goal.invariant_of-seat-2
+invariant_of-seat-2 c =
+    let looked = c.load-gate.ensures.2.1 c.if-gate-eq0.false in
+    let old = c.args.seat.now in
+    let same = c.read_row-entry.ensures.own.2 ∙ looked.1 in
+    let taken = ap (λ (z : Token). length z.0.part.taken) same in
+    let more = length-append c.args.seat.now.seat.me.0.part.taken (looked.0 ∷ []) in
+    record {
+      same_splits = old.same_splits ∙ sym (ap (λ (z : Token). z.0.splits) same);
+      some_part = old.some_part;
+      not_more = old.not_more;
+      same_taken = omega (arith, taken, more, old.same_taken);
+      same_full = old.same_full ∙ sym (ap (λ (z : Token). z.0.part.full) same);
+      none_drawn = ap (λ (z : Token). z.0.part.drawn) same ∙ old.none_drawn;
+      holds_none = ap (λ (z : Token). z.1) same ∙ old.holds_none;
+    }

@@ -1,12 +1,27 @@
 -- Past the strategies the first open variable is taken.
 use Rattle.std.specs.Prelude.{All, Some}
-use Rattle.std.proofs.Common.{◌≡◌, ◌<◌, ◌≤◌, ℕ, List, length, get_or, sym, ap, subst, ◌∙◌, arith}
+use Rattle.std.proofs.Common.{◌≡◌, ◌<◌, ◌≤◌, ℕ, List, length, take, get_or, sym, ap, subst, ◌∙◌, arith}
 use Rattle.std.proofs.lemmas.List.{get_or_default}
 use Rattle.std.proofs.lemmas.List.Elements.{All-get_or}
 use Rattle.cps_instance.specs.declared.steering.Steering.{Steering}
+use Rattle.cps_branch.specs.Fixed.{IsFixed}
 use Rattle.cps_branch.specs.Strategies.{ChoosesSteered, IsDone, IsOpenPlace, Planned, listed, order_in, order_of}
-use Rattle.cps_branch.proofs.Planning.{chooses_variable, order_within}
+use Rattle.cps_branch.proofs.Planning.{chooses_variable, listed_before, listed_open, order_within}
 use Rattle.cps_branch.proofs.plan.Plan.decided.Goals as goal
+
+pub decided_at-requires-clause-before : goal.decided_at-requires-clause-before
+decided_at-requires-clause-before c =
+    let i = c.self.inside in
+    let s = c.args.store.now in
+    let place : IsOpenPlace s (order_of i.strategies.items i.variables) c.args.place = subst (λ (p : Planned). IsOpenPlace s (order_in p) c.args.place) (sym c.self.view_is) c.requires.place in
+    subst (λ (gs : List Steering). All (IsFixed s) (take c.args.place (listed gs))) (sym c.deref.ensures.value) (listed_before s i.strategies.items i.variables c.args.place place)
+
+pub decided_at-requires-clause-open_there : goal.decided_at-requires-clause-open_there
+decided_at-requires-clause-open_there c =
+    let i = c.self.inside in
+    let s = c.args.store.now in
+    let place : IsOpenPlace s (order_of i.strategies.items i.variables) c.args.place = subst (λ (p : Planned). IsOpenPlace s (order_in p) c.args.place) (sym c.self.view_is) c.requires.place in
+    subst (λ (gs : List Steering). c.args.place < length (listed gs) → IsFixed s (get_or (listed gs) c.args.place 0) → ⊥) (sym c.deref.ensures.value) (listed_open s i.strategies.items i.variables c.args.place place)
 
 pub take_least-requires-clause-subject : goal.take_least-requires-clause-subject
 take_least-requires-clause-subject c =

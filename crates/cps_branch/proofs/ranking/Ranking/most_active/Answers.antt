@@ -1,3 +1,4 @@
+-- The winner is set aside while it is fixed.
 use Rattle.std.proofs.Common.{ℕ, ◌≡◌, ◌∙◌, Option, length, sym, subst, refl, true≢false}
 use Rattle.std.specs.Prelude.{IfSome, IsNone}
 use Rattle.cps_branch.specs.declared.ranking.Aside.{Aside}
@@ -49,3 +50,8 @@ returns-then-not-is_fixed-clause-choice c = λ activities count have.
     let leads = subst (λ (o : Option ℕ). IfSome o (λ v. LeadsInPlay (size_of mid) mid.nodes.items v)) c.in-Some.is c.top.ensures.some in
     leader_most (size_of mid) v mid.nodes.items (aside_of mid) c.args.store.now activities i.ranking.tournament i.fixed leads (λ f. true≢false (sym (c.is_fixed.ensures.1 f) ∙ c.if-not-is_fixed.true)) (count ∙ sym i.count)
     (have_still activities old mid (size_of old) (sym count) i.same have)
+
+pub returns-then-not-is_fixed-clause-leads : goal.returns-then-not-is_fixed-clause-leads
+returns-then-not-is_fixed-clause-leads c =
+    let mid = c.variables.self in
+    subst (λ (o : Option ℕ). IfSome o (λ v. LeadsInPlay (size_of mid) mid.nodes.items v)) c.in-Some.is c.top.ensures.some

@@ -1,8 +1,11 @@
+-- Each atom gives its variable the activity.
 use Rattle.std.proofs.Common.{ℕ, ◌+◌, ◌≡◌, ◌⊎◌, ◌∙◌, inl, inr, List, length, get_or, pos, refl, sym, ap, subst, arith}
+use Rattle.std.proofs.lemmas.List.{drop_all}
 use Rattle.cps_literal.specs.declared.atom.Atom.{Atom}
 use Rattle.cps_literal.specs.declared.atom.Op.TheVariants.{Le}
 use Rattle.cps_branch.specs.declared.tournament.Contender.{Contender}
 use Rattle.cps_branch.specs.declared.ranking.Aside.{Aside}
+use Rattle.cps_branch.specs.Activities.{speaks_of}
 use Rattle.cps_branch.specs.Tournament.{stands_at}
 use Rattle.cps_branch.specs.SetAside.{size_of}
 use Rattle.cps_branch.proofs.Aside.{aside_next, speaks_on}
@@ -37,3 +40,7 @@ loop-atom-preserved c =
             ∙ subst (λ (n : ℕ). (stands_at mid.nodes.items (n + j)).activity ≡ get_or c.args.activities.now j 0) (sym count) (i.others j l (speaks_on c.args.clause.now k t none j (omega arith) refl ne quiet))
       ]);
     }
+
+pub returns-clause-activities : goal.returns-clause-activities
+returns-clause-activities c = λ i l.
+    c.loop-atom.invariant.others i l (ap (λ (ts : List Atom). speaks_of ts i) (drop_all c.loop-atom.atom-index c.args.clause.now (omega arith)))

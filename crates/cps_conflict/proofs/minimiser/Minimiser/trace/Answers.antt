@@ -1,13 +1,17 @@
-use Rattle.std.proofs.Common.{◌≡◌, ◌<◌, ◌∙◌, ◌+◌, length, get_or, ap, sym, subst, refl, inl, rules, arith}
+-- What leads back is what the atoms of the reason lead to, one after another.
+use Rattle.std.proofs.Common.{◌≡◌, ◌<◌, ◌∙◌, ◌+◌, List, length, get_or, ap, sym, subst, refl, inl, arith}
+use Rattle.std.proofs.lemmas.List.{take_all}
+use Rattle.cps_literal.specs.declared.atom.Atom.{Atom}
 use Rattle.cps_conflict.specs.declared.minimiser.Minimiser.{Minimiser}
-use Rattle.cps_conflict.specs.Nodes.{TraceSoFar}
+use Rattle.cps_conflict.specs.Nodes.{Traces, TraceSoFar}
+use Rattle.cps_conflict.proofs.Uniting.{found_equal}
 use Rattle.cps_conflict.proofs.Minimising.{traced_back, TraceSoFar-back, TraceSoFar-on}
 use Rattle.cps_conflict.proofs.minimiser.Minimiser.trace.Goals as goal
 use Rattle.cps_conflict.proofs.minimiser.Minimiser.trace.Goals.{in-Back, in-On+in_ok-push-in-On}
 
 pub loop-index-preserved-then-eq : goal.loop-index-preserved-then-eq
 loop-index-preserved-then-eq c =
-    let same : c.index.result.now ≡ c.args.entry = search rules in
+    let same : c.index.result.now ≡ c.args.entry = found_equal c.index.result.now c.args.entry c.eq.result c.eq.ensures c.if-eq.true in
     let l : c.loop-index.index < length c.args.self.now.reason.items = omega (arith, c.loop-index-test.true, c.len-index-end.ensures) in
     TraceSoFar-back c.args.store.now c.args.resolvent.now.earlier c.args.entry c.args.self.now c.loop-index.self c.loop-index.latest c.loop-index.latest c.loop-index.index c.index.result.now l
     (c.index.ensures ∙ ap (λ v. get_or v.items c.loop-index.index c.index.result.now) c.loop-index.invariant.reason) (omega arith) (inl same) c.loop-index.invariant
@@ -30,3 +34,8 @@ loop-index-preserved c =
           (TraceSoFar-on c.args.store.now c.args.resolvent.now.earlier c.args.entry c.args.self.now c.loop-index.self new c.loop-index.latest c.loop-index.index (record { atom = c.index.result.now; from = w.in-On.from }) l is refl refl refl
           w.in_ok-push-in-On.ensures.items c.loop-index.invariant))
     ]
+
+pub returns-clause-traces : goal.returns-clause-traces
+returns-clause-traces c =
+    let all = take_all c.loop-index.index c.args.self.now.reason.items (omega (arith, c.loop-index-test.false, c.len-index-end.ensures)) in
+    subst (λ (ts : List Atom). Traces c.args.store.now c.args.resolvent.now.earlier c.args.self.now c.args.entry c.loop-index.self.pending.items c.loop-index.latest ts) all c.loop-index.invariant.traces

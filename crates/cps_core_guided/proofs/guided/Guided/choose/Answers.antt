@@ -1,4 +1,5 @@
-use Rattle.std.proofs.Common.{◌≡◌, ap, arith, inr, length, refl, subst, sym}
+-- What the brancher chooses is decided where no assumption is undecided.
+use Rattle.std.proofs.Common.{◌≡◌, ap, arith, inr, length, subst, sym}
 use Rattle.cps_trail.specs.Trail.{Trail}
 use Rattle.cps_branch.specs.Scope.{AreSameUpTo}
 use Rattle.cps_search.specs.Searches.{Search}
@@ -7,19 +8,15 @@ use Rattle.cps_core_guided.proofs.Assumptions.{chosen_where_none_open}
 use Rattle.cps_core_guided.specs.CoreTurns.{a_choice}
 use Rattle.cps_core_guided.specs.Guiding.{core_search_of}
 use Rattle.cps_core_guided.proofs.CoreWorking.{works-decided}
+use Rattle.cps_core_guided.proofs.Deciding.{decides-from}
 use Rattle.cps_core_guided.proofs.guided.Guided.choose.Goals as goal
 
-pub returns-clause-goes_on : goal.returns-clause-goes_on
-returns-clause-goes_on g c = λ part.
+pub returns-clause-decides : goal.returns-clause-decides
+returns-clause-decides g c =
     let s = core_search_of c.args.self.now in
     let d = c.in_ok-decide_next.ensures.decided in
-    record {
-      atom = d.atom;
-      undecided = d.undecided;
-      chosen = a_choice c.requires.none_open c.requires.assumed (chosen_where_none_open (g.B.Brancher.chooses c.args.self.now.brancher) s.search d.atom c.requires.none_open d.next);
-      is = ap (λ (x : Search). record s { search = x }) d.is;
-      part = refl;
-    }
+    let chooses = g.B.Brancher.chooses c.args.self.now.brancher in
+    decides-from chooses s c.decide_next.new.frame d.atom d.undecided (a_choice c.requires.none_open c.requires.assumed (chosen_where_none_open chooses s.search d.atom c.requires.none_open d.next)) d.is
 
 pub returns-clause-works : goal.returns-clause-works
 returns-clause-works g c =

@@ -1,6 +1,8 @@
-use Rattle.std.specs.Prelude.{IsTrue}
-use Rattle.std.proofs.Common.{◌≡◌, ◌∙◌, Bool, true, false, true≢false, ap, arith, inl, inr, length, List, min, refl, subst, sym}
+-- A reform is tried at level 0 by the decisions behind the assumption that failed, and what it came to is told.
+use Rattle.std.proofs.Common.{◌≡◌, ◌∙◌, ◌<◌, false, ap, arith, inl, inr, length, List, min, refl, subst, sym}
+use Rattle.cps_model.specs.declared.bound.Bound.{Bound}
 use Rattle.cps_model.specs.declared.bound.Bound.TheVariants.{At}
+use Rattle.cps_instance.specs.Problem.{Problem}
 use Rattle.cps_literal.specs.declared.atom.Atom.{Atom}
 use Rattle.cps_trail.specs.Trail.{IsSoundTrail, Trail}
 use Rattle.cps_trail.proofs.Falls.{bool_cases}
@@ -13,20 +15,15 @@ use Rattle.cps_search.proofs.Keeps.{keeps_none}
 use Rattle.cps_search.proofs.Turning.{back_only}
 use Rattle.cps_search.proofs.Working.{same_back}
 use Rattle.cps_reform.specs.declared.held.Held.{Held}
-use Rattle.cps_reform.specs.Forms.{term_at}
+use Rattle.cps_reform.specs.Forms.{no_term, term_at}
 use Rattle.cps_reform.specs.Marks.{assumed}
 use Rattle.cps_core_guided.specs.CoreTurns.{ExhaustsFrom, GoesOn, IsCoreWorking, RaisesTo, ReformsFrom}
 use Rattle.cps_core_guided.specs.Guiding.{HasFailed, Tried, core_search_of}
-use Rattle.cps_core_guided.specs.Reforming.{CoreSearch, IsSoundCore}
-use Rattle.cps_core_guided.proofs.CoreWorking.{works-concluded, works-core}
+use Rattle.cps_core_guided.specs.Reforming.{CoreSearch, IsSoundCore, whole_core}
+use Rattle.cps_core_guided.proofs.CoreWorking.{terms-inside, works-concluded, works-core}
 use Rattle.cps_core_guided.proofs.Failing.{exhausts-from, has-failed, none-after, reforms-from, sound-bottom, tried-bound}
+use Rattle.cps_core_guided.proofs.Results.{not-refused}
 use Rattle.cps_core_guided.proofs.guided.Guided.reform_at.Goals as goal
-
-not_refused : (b : Bool) → (IsTrue b → false ≡ true) → b ≡ false
-not_refused b h = elim (bool_cases b) [
-  | inl on ↦ absurd (true≢false (sym (h on)))
-  | inr off ↦ off
-]
 
 pub reform_by-requires-clause-works : goal.reform_by-requires-clause-works
 reform_by-requires-clause-works g c =
@@ -38,7 +35,7 @@ reform_by-requires-clause-works g c =
     let kept_same : c.decisions_behind.new.self ≡ s.search = c.in_ok-decisions.ensures.same in
     let is : r ≡ moved s.search r.store r.rested = c.restart.ensures.is ∙ ap (λ (x : Search). moved x r.store r.rested) kept_same in
     let back : GoesBack s.search.store r.store 0 = subst (λ (x : Search). GoesBack x.store r.store 0) kept_same c.restart.ensures.back in
-    let running : c.decisions_behind.new.self.refused ≡ false = ap (λ (x : Search). x.refused) kept_same ∙ not_refused s.search.refused c.in_ok-decisions.ensures.stays in
+    let running : c.decisions_behind.new.self.refused ≡ false = ap (λ (x : Search). x.refused) kept_same ∙ not-refused s.search.refused c.in_ok-decisions.ensures.stays in
     let store : IsSoundTrail r.store = subst (λ (x : Trail). IsSoundTrail x) c.store-2.ensures c.entries-2.ensures.sound in
     let level : r.store.level ≡ 0 = ap (λ (x : Trail). x.level) c.restart.ensures.back.is in
     let b = c.args.self.now.brancher in
@@ -64,7 +61,7 @@ reform_by-requires-clause-bottom g c =
     let kept_same : c.decisions_behind.new.self ≡ s.search = c.in_ok-decisions.ensures.same in
     let is : r ≡ moved s.search r.store r.rested = c.restart.ensures.is ∙ ap (λ (x : Search). moved x r.store r.rested) kept_same in
     let back : GoesBack s.search.store r.store 0 = subst (λ (x : Search). GoesBack x.store r.store 0) kept_same c.restart.ensures.back in
-    let running : c.decisions_behind.new.self.refused ≡ false = ap (λ (x : Search). x.refused) kept_same ∙ not_refused s.search.refused c.in_ok-decisions.ensures.stays in
+    let running : c.decisions_behind.new.self.refused ≡ false = ap (λ (x : Search). x.refused) kept_same ∙ not-refused s.search.refused c.in_ok-decisions.ensures.stays in
     c.restart.ensures.bottom running
 
 pub reform_by-requires-clause-failed : goal.reform_by-requires-clause-failed
@@ -128,7 +125,7 @@ conclude-requires-clause-none g c =
     λ off. none-after (core_search_of c.reform_by.new.self) c.restart.new.self.instance.model c.restart.new.self.z h.setting.model h.z (h.none_below off)
 
 pub conclude-requires-clause-core : goal.conclude-requires-clause-core
-conclude-requires-clause-core g c = c.in_ok-core.ensures
+conclude-requires-clause-core g c = c.in_ok-core.ensures ∙ ap (λ (p : Problem). whole_core p.model c.z.result) c.instance.ensures ∙ ap (λ (z : Bound). whole_core c.reform_by.new.self.frame.instance.model z) c.z.ensures
 
 pub returns-clause-keeps : goal.returns-clause-keeps
 returns-clause-keeps g c = c.conclude.ensures.keeps
@@ -177,5 +174,12 @@ returns-clause-goes_on g c =
           let e = c.conclude.ensures.exhausted off in
           let raises = subst (λ (x : CoreSearch). RaisesTo v.search.z v x p q) same e.1 in
           subst (λ (turn : Turn). GoesOn chooses s t p q turn) (sym e.0) (subst (λ (x : CoreSearch). ExhaustsFrom s x p q) (sym same)
-          (exhausts-from s v r.store r.rested i decisions done h t.raised t.ended t.core p q c.requires.few c.requires.failed behind back off raises e.2 (e.3 ∙ c.in_ok-core.ensures)))
+          (exhausts-from s v r.store r.rested i decisions done h t.raised t.ended t.core p q c.requires.few c.requires.failed behind back off raises e.2 (e.3 ∙ c.in_ok-core.ensures ∙ ap (λ (p : Problem). whole_core p.model c.z.result) c.instance.ensures ∙ ap (λ (z : Bound). whole_core c.reform_by.new.self.frame.instance.model z) c.z.ensures)))
     ]
+
+pub decisions_behind-requires-clause-subject : goal.decisions_behind-requires-clause-subject
+decisions_behind-requires-clause-subject g c =
+    let s = core_search_of c.args.self.now in
+    let i = c.args.place in
+    let atom : c.assumption-atom.result ≡ assumed (term_at s.form.terms i) = c.assumption-atom.ensures ∙ ap (λ (ts : List Held). assumed (term_at ts i)) c.terms.ensures in
+    subst (λ (a : Atom). a.subject < length s.search.store.first) (sym atom) (terms-inside s s.search.store s.form.terms c.requires.works.sound refl refl i no_term c.requires.failed.within)

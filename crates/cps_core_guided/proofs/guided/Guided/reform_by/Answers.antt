@@ -1,3 +1,4 @@
+-- At level 0 a false assumption lifts its term to the subject's least value, and else the core is lifted.
 use Rattle.std.proofs.Common.{rules, ◌≡◌, ◌<◌, ℕ, ℤ, ◌≤ℤ◌, ap, arith, length, of_z, refl, subst, sym, to_z, w64, FitsSigned}
 use Rattle.std.proofs.lemmas.Int.{ints, to_z-of_z}
 use Rattle.cps_domain.specs.Window.{contains}
@@ -10,6 +11,7 @@ use Rattle.cps_reform.specs.Forms.{lifted, no_term, term_at}
 use Rattle.cps_core_guided.specs.Guiding.{core_search_of}
 use Rattle.cps_core_guided.specs.Reforming.{CoreSearch, IsLeastAdmitted, at_bottom}
 use Rattle.cps_core_guided.proofs.Lifting.{lift-same, tried-lifted, works-form}
+use Rattle.cps_core_guided.proofs.Openings.{not-no}
 use Rattle.cps_core_guided.proofs.Reforming.{base-rises, least-above, least-now, risen-least}
 use Rattle.cps_core_guided.proofs.guided.Guided.reform_by.Goals as goal
 
@@ -67,3 +69,12 @@ returns-in-No-clause-works g c =
     works-form s t (g.B.Brancher.scope old.brancher) (g.B.Brancher.scope n.brancher) (g.B.Brancher.agrees old.brancher s.search.store) (g.B.Brancher.agrees n.brancher t.search.store) old.kept n.kept w c.lift.ensures.sound same
     (ap (λ (x : _). g.B.Brancher.scope x) k.0) k.1
     (subst (λ (x : _). g.B.Brancher.agrees x t.search.store n.kept) (sym k.0) (subst (λ (x : Trail). g.B.Brancher.agrees old.brancher x n.kept) (sym trail) (subst (λ (m : ℕ). g.B.Brancher.agrees old.brancher s.search.store m) (sym k.1) w.agreed)))
+
+pub lift_core-requires : goal.lift_core-requires
+lift_core-requires g c = record {
+  works = c.requires.works;
+  not_false = λ falls. not-no c.truth.result c.in-Yes.is (c.truth.ensures.no.1 (subst (λ (x : Trail). IsFalseNow x c.args.atom) (sym c.store.ensures) falls));
+  running = c.requires.running;
+  failed = c.requires.failed;
+  atom = c.requires.atom;
+}

@@ -1,4 +1,6 @@
-use Rattle.std.proofs.Common.{◌≡◌, ◌∙◌, ◌+◌, List, Option, Some, ap, arith, length, min, refl, subst, length-append}
+-- A turn is one of the frame, which the brancher hears, or goes on where a decision is due.
+use Rattle.std.proofs.Common.{◌≡◌, ◌∙◌, ◌+◌, List, Option, Some, ap, arith, length, min, refl, subst, sym, length-append}
+use Rattle.cps_instance.specs.Problem.{Problem}
 use Rattle.cps_trail.specs.Trail.{Entry, Trail}
 use Rattle.cps_search.specs.declared.turn.Turn.{Turn}
 use Rattle.cps_search.specs.Ends.{BrancherTurn, DecidedBy, HeardOne}
@@ -11,6 +13,7 @@ use Rattle.cps_core_guided.specs.Guiding.{core_search_of}
 use Rattle.cps_core_guided.proofs.CoreTurning.{frame-not-decided, not-ended, turn-frame, turn-on}
 use Rattle.cps_core_guided.proofs.CoreWorking.{core-room, works-frame}
 use Rattle.cps_core_guided.proofs.Hearing.{heard-brancher}
+use Rattle.cps_core_guided.proofs.Results.{not-refused}
 use Rattle.cps_core_guided.proofs.guided.Guided.turn.Goals as goal
 
 pub steps-requires-clause-model : goal.steps-requires-clause-model
@@ -134,3 +137,15 @@ returns-in-None-clause-brancher g c =
     let chose = DecidedBy (g.B.Brancher.stays b new) (new ≡ b) in
     let heard = HeardOne (λ clause restart. g.B.Brancher.hears b clause restart new) s t in
     if_ok_weaker c.go_on.result (λ turn. BrancherTurn turn ⊥ chose (new ≡ b)) (λ turn. BrancherTurn turn heard chose (new ≡ b)) (λ turn h. heard-brancher turn heard chose (new ≡ b) h) c.go_on.ensures.brancher
+
+pub hear_turn-requires : goal.hear_turn-requires
+hear_turn-requires g c = record { running = c.in_ok-turn.ensures.steps.setting.refused ∙ not-refused c.args.self.now.frame.refused c.in_ok-turn.ensures.stays }
+
+pub go_on-requires-clause-model : goal.go_on-requires-clause-model
+go_on-requires-clause-model g c =
+    c.in_ok-turn.ensures.keeps.model ∙ c.requires.model ∙ ap (λ (p : Problem). p.model) (sym c.in_ok-turn.ensures.steps.setting.instance)
+
+pub go_on-requires-clause-due : goal.go_on-requires-clause-due
+go_on-requires-clause-due g c =
+    let steps = subst (λ (x : Option Turn). Steps c.args.self.now.frame c.steps.new.self (g.Q.Port.rows c.args.port.now) (g.Q.Port.part c.args.port.now) (g.Q.Port.part c.steps.new.port) x) c.in-None.is c.in_ok-turn.ensures.steps in
+    record { phase = steps.cause.phase; settled = steps.cause.settled; left_open = steps.cause.left_open }

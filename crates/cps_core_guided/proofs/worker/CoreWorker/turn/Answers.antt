@@ -1,3 +1,4 @@
+-- A worker that was not refused is seen as it is, before its turn and after it.
 use Rattle.std.proofs.Common.{◌≡◌, ◌∙◌, false, refl, sym, subst}
 use Rattle.cps_search.specs.Ends.{BrancherTurn, DecidedBy, HeardOne}
 use Rattle.cps_core_guided.specs.CoreTurns.{TakesCoreTurn}
@@ -42,3 +43,6 @@ returns-clause-sound g c =
 
 pub returns-then-self-clause-keeps : goal.returns-then-self-clause-keeps
 returns-then-self-clause-keeps g c = keeps_none _ _ _ g.met.Q.Port.unmoved _
+
+pub turn-requires-clause-works : goal.turn-requires-clause-works
+turn-requires-clause-works g c = (c.self.invariant c.if-self.false).1

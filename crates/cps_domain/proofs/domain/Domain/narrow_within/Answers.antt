@@ -1,11 +1,21 @@
+-- The two cuts of the ends make the cut of the interval.
 use Rattle.std.proofs.Common.{rules, ap, sym, subst, ◌∙◌, ◌≡◌, w64, FitsSigned}
 use Rattle.std.specs.Prelude.{int_le}
 use Rattle.std.proofs.lemmas.Int.{to_z-of_z}
 use Rattle.cps_domain.specs.Window.{within}
-use Rattle.cps_domain.specs.Cuts.{CutsTo, cut_of, restored}
+use Rattle.cps_domain.specs.Cuts.{CutsTo, CanUndo, cut_of, restored}
 use Rattle.cps_domain.specs.declared.cut.Cut.TheVariants as cuts
-use Rattle.cps_domain.proofs.Composing.{first_keeps, second_wipes, both_narrow}
+use Rattle.cps_domain.proofs.Composing.{first_wipes, first_keeps, second_wipes, both_narrow}
 use Rattle.cps_domain.proofs.domain.Domain.narrow_within.Goals as goal
+
+pub returns-in-Wiped : goal.returns-in-Wiped
+returns-in-Wiped c =
+    let f0 : FitsSigned w64 c.args.interval.0 = search rules in
+    first_wipes (λ x. int_le c.args.interval.0 x) (λ x. int_le x c.args.interval.1) c.args.self.now c.narrow_ge.new.self c.min-least.result c.min-least.ensures.within
+    (subst (λ z. CutsTo (λ x. int_le z x) c.args.self.now c.narrow_ge.new.self cuts.Wiped) (to_z-of_z w64 c.args.interval.0 f0) c.in-Wiped.ensures.cuts)
+
+pub undo-requires : goal.undo-requires
+undo-requires c = subst (λ w. CanUndo c.in-Narrowed.undo w) (sym (c.in-Wiped-narrow_le.ensures.cuts.kept (λ e. cc))) c.in-Narrowed.ensures.undo.can
 
 pub returns-in-NoChange : goal.returns-in-NoChange
 returns-in-NoChange c =

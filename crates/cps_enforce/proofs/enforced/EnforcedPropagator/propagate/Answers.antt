@@ -1,8 +1,11 @@
+-- The task is that of the enforcement atoms and the rule, so what a visit does for these it does for the task.
 use Rattle.std.proofs.Common.{◌∙◌, List, Ok, ap, sym, subst}
 use Rattle.cps_literal.specs.declared.atom.Atom.{Atom}
 use Rattle.cps_instance.specs.declared.task.Task.{Task}
+use Rattle.cps_instance.specs.Fitting.{IsFitting}
 use Rattle.cps_instance.specs.Tasks.{HoldsTask}
-use Rattle.cps_trail.specs.Adds.{IsConflict, Answers}
+use Rattle.cps_trail.specs.Adds.{IsConflict, Answers, Infers}
+use Rattle.cps_trail.specs.Notes.{ByTask}
 use Rattle.cps_propagate.specs.declared.propagator.Answer.{Answer}
 use Rattle.cps_propagate.specs.Conflicts.{as_step}
 use Rattle.cps_propagate.specs.Laws.{IsDecided}
@@ -29,3 +32,18 @@ returns-in-Conflict-clause-answers g c =
     let met = subst (λ (a : Answer). Answers (HoldsTask (task_of c.as_slice.result.now b)) c.visit.new.store (as_step a c.visit.new.room.conflict.items)) c.in-Conflict.is c.in_ok-visit.ensures.answers in
     let handed = subst (λ (l : List Atom). IsConflict (HoldsTask (task_of c.as_slice.result.now b)) c.visit.new.store l) (sym (ap (λ (v : _). v.items) c.swap.ensures.y_after)) met in
     subst (λ (t : Task). IsConflict (HoldsTask t) c.visit.new.store c.swap.new.y.items) (ap (λ (us : List Atom). task_of us b) c.as_slice.ensures.value ∙ c.self.view_is) handed
+
+pub returns-in-Settled-clause-infers : goal.returns-in-Settled-clause-infers
+returns-in-Settled-clause-infers g c =
+    let b = g.R.Rule.body c.self.inside.rule in
+    subst (λ (t : Task). Infers (ByTask c.args.number (HoldsTask t)) c.args.store.now c.visit.new.store) (ap (λ (us : List Atom). task_of us b) c.as_slice.ensures.value ∙ c.self.view_is) c.in_ok-visit.ensures.infers
+
+pub returns-in-Conflict-clause-infers : goal.returns-in-Conflict-clause-infers
+returns-in-Conflict-clause-infers g c =
+    let b = g.R.Rule.body c.self.inside.rule in
+    subst (λ (t : Task). Infers (ByTask c.args.number (HoldsTask t)) c.args.store.now c.visit.new.store) (ap (λ (us : List Atom). task_of us b) c.as_slice.ensures.value ∙ c.self.view_is) c.in_ok-visit.ensures.infers
+
+pub visit-requires : goal.visit-requires
+visit-requires g c =
+    let b = g.R.Rule.body c.self.inside.rule in
+    record { fits = subst (λ (t : Task). IsFitting c.args.store.now.first t) (sym (ap (λ (us : List Atom). task_of us b) c.as_slice.ensures.value ∙ c.self.view_is)) c.requires }

@@ -1,3 +1,4 @@
+-- A run is its turns one after another, the last of which ends it.
 use Rattle.std.proofs.Common.{◌∙◌, ◌+◌, ◌<◌, ℕ, [], Option, sym, subst}
 use Rattle.cps_instance.specs.Problem.{Problem}
 use Rattle.cps_trail.specs.Trail.{open_values}
@@ -61,3 +62,7 @@ turns-preserved g c =
 
 pub returns-in-Some-clause-keeps : goal.returns-in-Some-clause-keeps
 returns-in-Some-clause-keeps g c = keeps_then _ _ _ g.met.Q.Port.moved_on _ _ _ c.turns.invariant.keeps c.in_ok-turn.ensures.keeps
+
+pub returns-in_err-turn-clause-keeps : goal.returns-in_err-turn-clause-keeps
+returns-in_err-turn-clause-keeps g c =
+    keeps_then _ _ _ g.met.Q.Port.moved_on _ _ _ c.turns.invariant.keeps c.turn.ensures.keeps

@@ -1,3 +1,4 @@
+-- A worker whose memory was not refused is seen as it is, before its turn and after it.
 use Rattle.std.proofs.Common.{◌≡◌, ◌∙◌, false, sym, subst}
 use Rattle.cps_search.specs.Searches.{IsSoundSearch}
 use Rattle.cps_neighbourhood.specs.Exploring.{near_as, near_of}
@@ -28,3 +29,6 @@ returns-clause-sound g c =
 
 pub returns-then-self-clause-keeps : goal.returns-then-self-clause-keeps
 returns-then-self-clause-keeps g c = keeps_none _ _ _ g.met.Q.Port.unmoved _
+
+pub turn-requires-clause-exploring : goal.turn-requires-clause-exploring
+turn-requires-clause-exploring g c = c.self.invariant c.if-self.false

@@ -1,3 +1,4 @@
+-- The subject of each literal is one that there is.
 use Rattle.std.proofs.Common.{arith, ◌<◌, length}
 use Rattle.cps_p_circuit.proofs.Deciding.{subject_holds}
 use Rattle.cps_p_circuit.proofs.find.Finder.exclude_all.Goals as goal

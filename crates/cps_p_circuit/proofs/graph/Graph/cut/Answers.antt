@@ -1,7 +1,15 @@
+-- A node inside and one outside are on the circuit, and the arcs that are taken do not lead out.
 use Rattle.std.proofs.Common.{arith, Ok, ap, sym, subst, ◌∙◌, ◌≡◌, ◌≢◌, ℕ, slice_index}
 use Rattle.cps_p_circuit.specs.Clashes.{AreChosen}
 use Rattle.cps_p_circuit.proofs.Clashing.{cut_clash, tour_grows, chosen_grows, least}
+use Rattle.cps_p_circuit.proofs.Answering.{no_not_yes}
 use Rattle.cps_p_circuit.proofs.graph.Graph.cut.Goals as goal
+
+pub push_left-requires : goal.push_left-requires
+push_left-requires c = omega (arith, c.if-via-len.false)
+
+pub returns-then-not-branch-3 : goal.returns-then-not-branch-3
+returns-then-not-branch-3 c = λ e. no_not_yes _ e
 
 pub returns : goal.returns
 returns c = λ ok.

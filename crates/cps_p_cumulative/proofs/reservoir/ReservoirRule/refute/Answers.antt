@@ -1,10 +1,11 @@
-use Rattle.std.proofs.Common.{◌≡◌, ◌<◌, ◌∙◌, ◌++◌, ◌∷◌, [], ap, subst, length, List, rules, arith, FitsSigned, w64}
+-- The last time of one event is a fact, and with it the level passes a limit.
+use Rattle.std.proofs.Common.{◌≡◌, ◌<◌, ◌∙◌, ◌++◌, ◌∷◌, [], ap, refl, subst, length, List, rules, arith, FitsSigned, w64}
 use Rattle.std.proofs.lemmas.Int.{to_z-of_z}
 use Rattle.cps_literal.specs.declared.atom.Atom.{Atom}
 use Rattle.cps_instance.specs.Tasks.{HoldsBody}
 use Rattle.cps_p_cumulative.specs.Levels.{moves_of, tank_body}
 use Rattle.cps_p_cumulative.specs.Relying.{Relies}
-use Rattle.cps_p_cumulative.proofs.Levelled.{tank_inside, move_inside, on_time}
+use Rattle.cps_p_cumulative.proofs.Levelled.{tank_inside, move_inside, on_time, no_yes}
 use Rattle.cps_p_cumulative.proofs.Relied.{refuted, fact-capacity}
 use Rattle.cps_p_cumulative.proofs.reservoir.ReservoirRule.refute.Goals as goal
 
@@ -39,3 +40,9 @@ returns c = λ ok.
     let b = tank_body c.args.self.now.tank in
     refuted s b c.at_most.result c.charge_level.new.facts.items
     (subst (λ (us : List Atom). Relies s c.at_most.result (λ xs. HoldsBody b xs → ⊥) us c.charge_level.new.facts.items) (one c.clear.new.self.items c.push.new.self.items c.at_most.result c.clear.ensures.items c.in_ok-push.ensures.items) (c.charge_level.ensures ok))
+
+pub returns-then-not-is_inside : goal.returns-then-not-is_inside
+returns-then-not-is_inside c = λ ok. no_yes _ _ ok refl
+
+pub returns-then-count-point : goal.returns-then-count-point
+returns-then-count-point c = λ ok. no_yes _ _ ok refl

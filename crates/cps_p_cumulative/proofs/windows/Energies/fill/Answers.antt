@@ -1,3 +1,4 @@
+-- Each span that is taken down is one of the resource's.
 use Rattle.std.proofs.Common.{◌<◌, subst, sym, List, length, get_or, arith}
 use Rattle.cps_instance.specs.declared.task.Span.{Span}
 use Rattle.cps_p_cumulative.specs.Running.{IsSpanOf}

@@ -2,6 +2,3 @@ use Rattle.cps_p_cumulative.proofs.windows.Energies.fill.Given as goal
 
 abbrev pub invariant-loop-k : goal.invariant-loop-k
 invariant-loop-k l = Unit {0}
-
-abbrev pub invariant-loop-place : goal.invariant-loop-place
-invariant-loop-place l = Unit {0}

@@ -1,4 +1,5 @@
-use Rattle.std.proofs.Common.{ℤ, Option, subst, rules}
+-- The bounds that are offered follow from the ends that were measured.
+use Rattle.std.proofs.Common.{ℤ, Option, refl, subst}
 use Rattle.std.specs.Prelude.{IfSome}
 use Rattle.cps_p_nooverlap.specs.Intervals.{body_of, LeavesNoInterval}
 use Rattle.cps_p_nooverlap.proofs.Bounding.{inside_of, places_of, gives_three, may_be, at_rest}
@@ -30,7 +31,7 @@ returns-clause-given c =
     c.clear.ensures.items (c.in_ok-offer_size.ensures s l m) (c.in_ok-offer_end.ensures s l m) (c.in_ok-offer_start.ensures s l m)
 
 pub returns-clause-rest : goal.returns-clause-rest
-returns-clause-rest c e all = at_rest c.args.store.now c.args.self.now.places c.measure-hulls.result c.measure-hulls.ensures (search rules)
+returns-clause-rest c e all = at_rest c.args.store.now c.args.self.now.places c.measure-hulls.result c.measure-hulls.ensures (c.in_default.ensures.none refl)
 
 pub returns-clause-seen : goal.returns-clause-seen
-returns-clause-seen c = λ excluded. excluded (may_be c.args.store.now c.args.self.now.places c.measure-hulls.result c.measure-hulls.ensures (search rules))
+returns-clause-seen c = λ excluded. excluded (may_be c.args.store.now c.args.self.now.places c.measure-hulls.result c.measure-hulls.ensures (c.in_default.ensures.none refl))

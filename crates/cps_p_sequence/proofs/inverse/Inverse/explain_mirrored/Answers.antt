@@ -1,4 +1,5 @@
-use Rattle.std.proofs.Common.{◌<◌, ◌^◌, ℤ, length, sym, subst, pos, rules, w64}
+-- An atom is given by a fact of the other list, or by the number of places.
+use Rattle.std.proofs.Common.{◌<◌, ◌^◌, ℤ, length, sym, subst, pos, rules, w64, true≢false}
 use Rattle.std.proofs.lemmas.Int.{to_z_pos}
 use Rattle.cps_p_sequence.specs.Inverses.{HasPlace}
 use Rattle.cps_p_sequence.proofs.Finding.{is_yes, place_explained}
@@ -48,3 +49,6 @@ returns-else-is_among c e =
     let place = placed b (pos (length ds)) js t.subject (c.is_among-in_default.ensures (is_yes c.is_among-in_default.result e))
     (seen_inverse_places b c.self.inside.direct.items c.self.inside.inverse.items ds js c.self.view_is c.as_slice-direct.ensures.value c.as_slice-inverse.ensures.value (even_of c.args.self.now c.self.inside.direct.items c.self.inside.inverse.items (sym c.self.view_is) c.args.past.now.first c.requires.fits)) in
     place_explained b c.args.past.now t _ c.clear.new.self.items c.clear.ensures.items (c.is_wide.ensures c.if-not-is_wide.false) (subst (λ (z : ℤ). HasPlace b t.subject z) (sym count) place)
+
+pub returns-then-not-is_wide : goal.returns-then-not-is_wide
+returns-then-not-is_wide c e = absurd (true≢false (sym (is_yes _ e)))

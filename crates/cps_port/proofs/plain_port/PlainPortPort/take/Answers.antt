@@ -1,5 +1,6 @@
+-- A look is one event, and keeps the model and the rows.
 use Rattle.cps_port.proofs.Porting.{took, found_closed}
-use Rattle.cps_port.proofs.Acting.{acts}
+use Rattle.cps_port.proofs.Acting.{acts, stays_same}
 use Rattle.cps_port.specs.declared.event.Event.TheVariants.{Look}
 use Rattle.cps_port.proofs.plain_port.PlainPortPort.take.Goals as goal
 
@@ -16,3 +17,9 @@ returns-in-Some-clause-others c = acts c.args.self.now.core.now c.look.new.self 
 
 pub returns-in-None-clause-others : goal.returns-in-None-clause-others
 returns-in-None-clause-others c = acts c.args.self.now.core.now c.look.new.self c.args.self.now.actor Look c.args.self.now.known (c.has_more.ensures.more.0 c.if-not-has_more.false) c.in-None.ensures.state
+
+pub returns-in-Some-clause-same : goal.returns-in-Some-clause-same
+returns-in-Some-clause-same c = stays_same c.args.self.now.core.now c.look.new.self c.args.self.now.actor Look c.in-Some.ensures.state
+
+pub returns-in-None-clause-same : goal.returns-in-None-clause-same
+returns-in-None-clause-same c = stays_same c.args.self.now.core.now c.look.new.self c.args.self.now.actor Look c.in-None.ensures.state

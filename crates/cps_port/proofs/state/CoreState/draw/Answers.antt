@@ -1,5 +1,6 @@
+-- A row is drawn where one is left, and else the actor is past the last.
 use Rattle.std.proofs.Common.{arith}
-use Rattle.cps_port.proofs.Storing.{among, next_small, draws_row, draws_past}
+use Rattle.cps_port.proofs.Storing.{among, next_small, row_small, row_left, no_row_left, draws_row, draws_past}
 use Rattle.cps_port.proofs.state.CoreState.draw.Goals as goal
 
 pub index-seat-requires : goal.index-seat-requires
@@ -31,3 +32,15 @@ returns-clause-state c = let s = c.self.inside in let k = draws_row s.model.now 
 
 pub returns-clause-sound : goal.returns-clause-sound
 returns-clause-sound c = let s = c.self.inside in let k = draws_row s.model.now s.rows.items s.next s.seats.items s.upper s.lower s.bounds.items c.args.self.now c.self.view_is c.self.invariant c.args.actor c.requires.actor c.index-seat.result.now c.index-seat.ensures c.requires.lawful (omega arith) in k.sound
+
+pub overflow_cast-seat : goal.overflow_cast-seat
+overflow_cast-seat c = let s = c.self.inside in let n = row_small s.model.now s.rows.items s.next s.seats.items s.upper s.lower s.bounds.items c.args.self.now c.self.view_is c.self.invariant c.args.actor c.requires.actor (omega arith) in omega arith
+
+pub overflow_cast-result : goal.overflow_cast-result
+overflow_cast-result c = let s = c.self.inside in let n = row_small s.model.now s.rows.items s.next s.seats.items s.upper s.lower s.bounds.items c.args.self.now c.self.view_is c.self.invariant c.args.actor c.requires.actor (omega arith) in omega arith
+
+pub returns-then-row-len-clause-row : goal.returns-then-row-len-clause-row
+returns-then-row-len-clause-row c = let s = c.self.inside in no_row_left s.model.now s.rows.items s.next s.seats.items s.upper s.lower s.bounds.items c.args.self.now c.self.view_is c.self.invariant c.args.actor c.requires.actor (omega arith)
+
+pub returns-clause-row : goal.returns-clause-row
+returns-clause-row c = let s = c.self.inside in row_left s.model.now s.rows.items s.next s.seats.items s.upper s.lower s.bounds.items c.args.self.now c.self.view_is c.self.invariant c.args.actor c.requires.actor (omega arith)

@@ -1,10 +1,12 @@
-use Rattle.std.proofs.Common.{◌≡◌, ℕ, ℤ, pos, ◌+ℤ◌, ◌*ℤ◌, [], ◌∷◌, ◌++◌, false, ◌∙◌, ap, arith, rules, map, w64, FitsSigned}
+-- The subject is held at its least value, for which the base has room.
+use Rattle.std.proofs.Common.{◌≡◌, ℕ, ℤ, pos, ◌+ℤ◌, ◌*ℤ◌, [], ◌∷◌, ◌++◌, false, ◌∙◌, ◌*◌, ◌<◌, ◌^◌, ap, arith, rules, map, subst, sym, unsigned_abs, w64, FitsSigned}
 use Rattle.std.proofs.lemmas.List.{length-map}
 use Rattle.std.proofs.lemmas.Int.{to_z-of_z}
 use Rattle.cps_domain.specs.Window.{intervals}
 use Rattle.cps_instance.specs.Terms.{Domains, domain_at, least_of}
 use Rattle.cps_reform.specs.Forms.{Form, with_held}
 use Rattle.cps_reform.proofs.Rooms.{roomy-held, base-held, worth-held, above-held}
+use Rattle.cps_reform.proofs.Words.{held-small, part-small}
 use Rattle.cps_reform.proofs.reform.Reform.hold.Goals as goal
 
 made : (ds : Domains) (f g : Form) (w subject : ℕ) (part bound part' bound' : ℤ) → g ≡ record { base = f.base +ℤ part'; terms = f.terms ++ record { weight = w; subject = subject; bound = bound'; in_core = false } ∷ [] }
@@ -40,3 +42,20 @@ returns-clause-above c = λ xs h v.
     let fb : FitsSigned w64 c.least_at-bound.result = search rules in
     let is = made (map intervals c.args.domains.now) c.args.self.now c.add.new.self c.args.weight c.args.subject c.product-part.result c.least_at-bound.result _ _ c.in_ok-add.ensures.adds (to_z-of_z w64 c.product-part.result fp) (to_z-of_z w64 c.least_at-bound.result fb) (simp to_z-of_z at c.product-part.ensures.is) c.least_at-bound.ensures in
     rw is (above-held xs (map intervals c.args.domains.now) c.args.self.now c.args.weight c.args.subject h v)
+
+pub product-part-requires : goal.product-part-requires
+product-part-requires c =
+    let b = c.least_at-bound.result in
+    let fb : FitsSigned w64 b = search rules in
+    let d = domain_at (map intervals c.args.domains.now) c.args.subject in
+    subst (λ (x : ℤ). c.args.weight * unsigned_abs x < 2 ^ 62) (sym (to_z-of_z w64 b fb)) (part-small c.args.weight _ d b c.least_at-bound.ensures c.requires.small)
+
+pub add-requires : goal.add-requires
+add-requires c =
+    let b = c.least_at-bound.result in
+    let fb : FitsSigned w64 b = search rules in
+    let d = domain_at (map intervals c.args.domains.now) c.args.subject in
+    let p = c.product-part.result in
+    let fp : FitsSigned w64 p = search rules in
+    subst (λ (x : ℤ). unsigned_abs (c.args.self.now.base +ℤ x) < 2 ^ 62) (sym (to_z-of_z w64 p fp))
+    (held-small c.args.self.now.base p c.args.weight _ d b c.least_at-bound.ensures c.requires.base (c.product-part.ensures.size ∙ ap (λ (x : ℤ). c.args.weight * unsigned_abs x) (to_z-of_z w64 b fb)) c.requires.small)

@@ -1,4 +1,5 @@
-use Rattle.std.proofs.Common.{◌≡◌, ◌≤ℤ◌, ℕ, map, refl, ap, ◌∙◌, arith, ℤ, w64}
+-- Where the bound can rise it does, and else no value is within the limit.
+use Rattle.std.proofs.Common.{◌≡◌, ◌≤ℤ◌, ℕ, map, refl, ap, ◌∙◌, arith, true≢false, ℤ, pos, ◌+ℤ◌, subst, sym, w64}
 use Rattle.std.proofs.lemmas.Int.{ints, to_z-of_z}
 use Rattle.cps_domain.specs.Window.{intervals}
 use Rattle.cps_instance.specs.Terms.{domain_at, greatest_of}
@@ -38,3 +39,14 @@ returns-in-None-clause-none c = λ r xs h v g.
     let fb = c.ranges.bound in
     let fl = c.ranges.limit in
     none-lifted (map intervals c.args.domains.now) xs c.args.self.now c.args.place c.args.bound c.args.limit c.requires.place (rw (← to_z-of_z w64 c.args.bound fb, ← to_z-of_z w64 c.args.limit fl) (c.in-None.ensures.none refl)) h v g
+
+pub returns-in-Some-clause-none : goal.returns-in-Some-clause-none
+returns-in-Some-clause-none c =
+    λ off. absurd (true≢false off)
+
+pub returns-in-Some-clause-within : goal.returns-in-Some-clause-within
+returns-in-Some-clause-within c =
+    let f = c.args.self.now in
+    let some = c.in-Some.ensures.some in
+    λ _. subst (λ (g : Form). g.base ≤ℤ c.args.limit) (sym c.apply_lift.ensures)
+    (subst (λ (x : ℤ). (f.base +ℤ x) ≤ℤ c.args.limit) some.is (subst (λ (v : ℤ). (f.base +ℤ pos c.in-Some.amount) ≤ℤ v) (to_z-of_z w64 c.args.limit c.ranges.limit) some.within))

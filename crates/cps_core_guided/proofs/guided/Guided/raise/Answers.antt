@@ -1,4 +1,0 @@
-use Rattle.cps_core_guided.proofs.guided.Guided.raise.Goals as goal
-
-pub returns-clause-keeps : goal.returns-clause-keeps
-returns-clause-keeps g c = record { model = c.raise.ensures.same.0; rows = c.raise.ensures.same.1; others = c.raise.ensures.others }

@@ -1,0 +1,70 @@
+-- What contracts see of an engine whose fields change.
+use Rattle.std.specs.Prelude.{false, OnErr}
+use Rattle.std.proofs.Common.{Result, Ok, Err, ℕ, ◌+◌, ◌≤◌, ◌<◌, ◌^◌, ℤ, ◌≡◌, Bool, true, List, [], ◌∷◌, ◌++◌, length, take, drop, map, refl, sym, ◌∙◌, ap, subst, arith, true≢false}
+use Rattle.std.proofs.lemmas.List.{length-map}
+use Rattle.cps_instance.specs.declared.task.Task.{Task}
+use Rattle.cps_instance.specs.Tasks.{lowered}
+use Rattle.cps_literal.specs.declared.atom.Atom.{Atom}
+use Rattle.cps_trail.specs.declared.step.Step.{Step}
+use Rattle.cps_trail.specs.declared.step.Step.TheVariants.{Settled}
+use Rattle.cps_propagate.specs.declared.propagator.Answer.{Answer}
+use Rattle.cps_propagate.specs.declared.propagator.Answer.TheVariants as answers
+use Rattle.cps_propagate.specs.Agenda.{Agenda}
+use Rattle.cps_propagate.specs.Conflicts.{as_step}
+use Rattle.cps_propagate.specs.Readers.{BySide}
+use Rattle.cps_propagate.specs.Wiring.{IsPlanned}
+use Rattle.cps_propagate.proofs.Planning.{lowered_whole, map-push}
+
+abbrev pub agenda : List Task → Bool → Agenda
+agenda tasks refused = record { tasks = tasks; refused = refused }
+
+-- an engine that was refused memory stands by no plan
+pub no_plan : (P : Type 0) → true ≡ false → P
+no_plan P e = absurd (true≢false e)
+
+pub on_err : {A E : Type 0} (r : Result A E) (P : Type 0) → P → OnErr r P
+on_err (Ok x) P h = tt
+on_err (Err e) P h = h
+
+module _ {X : Type 0} (f : X → Task) (old : Agenda) (refused : Bool) (before after : List X) (was : agenda (map f before) refused ≡ old) where
+  -- the tasks are those of before, and memory was refused
+  pub refused_now : map f after ≡ map f before → agenda (map f after) true ≡ agenda old.tasks true
+  refused_now same = ap (λ (ts : List Task). agenda ts true) same ∙ ap (λ (a : Agenda). agenda a.tasks true) was
+
+  -- nothing is other than before
+  pub as_before : map f after ≡ map f before → refused ≡ false → agenda (map f after) false ≡ old
+  as_before same not = ap (λ (ts : List Task). agenda ts false) same ∙ ap (λ (b : Bool). agenda (map f before) b) (sym not) ∙ was
+
+  -- one more task
+  pub added : (x : X) → map f after ≡ map f before ++ f x ∷ [] → refused ≡ false → agenda (map f after) false ≡ agenda (old.tasks ++ f x ∷ []) old.refused
+  added x more not =
+      ap (λ (ts : List Task). agenda ts false) more ∙ ap (λ (b : Bool). agenda (map f before ++ f x ∷ []) b) (sym not) ∙ ap (λ (a : Agenda). agenda (a.tasks ++ f x ∷ []) a.refused) was
+
+  -- the number of propagators
+  pub few_before : length old.tasks + 1 < 2 ^ 32 → (n : ℕ) → n ≡ length before → n + 1 < 2 ^ 32
+  few_before few n is = omega (arith, few, is, length-map before f, ap (λ (a : Agenda). length a.tasks) was)
+
+-- an engine to which a task is added has the tasks of one propagator more
+pub one_added : {X : Type 0} (f : X → Task) (old new : Agenda) (xs : List X) (x : X) → old ≡ agenda (map f xs) false → new ≡ agenda (old.tasks ++ f x ∷ []) old.refused → new ≡ agenda (map f (xs ++ x ∷ [])) false
+one_added f old new xs x was more =
+    more ∙ ap (λ (a : Agenda). agenda (a.tasks ++ f x ∷ []) a.refused) was ∙ ap (λ (ts : List Task). agenda ts false) (sym (map-push f xs xs (xs ++ x ∷ []) x refl refl))
+
+-- lists of one length
+pub same_count : {X : Type 0} (f : X → Task) (xs ys : List X) (n : ℕ) → map f ys ≡ map f xs → n ≡ length xs → n ≡ length ys
+same_count f xs ys n keeps is = omega (arith, is, ap (λ (ts : List Task). length ts) keeps, length-map ys f, length-map xs f)
+
+-- the end of each task has fallen
+pub lowered_agenda : (upper : ℤ) (tasks tasks' : List Task) (i : ℕ) (refused refused' : Bool) → tasks' ≡ map (lowered upper) (take i tasks) ++ drop i tasks → length tasks ≤ i → refused' ≡ refused
+    → agenda tasks' refused' ≡ agenda (map (lowered upper) tasks) refused
+lowered_agenda upper tasks tasks' i refused refused' e l same =
+    ap (λ (ts : List Task). agenda ts refused') (lowered_whole upper tasks tasks' i e l) ∙ ap (λ (b : Bool). agenda (map (lowered upper) tasks) b) same
+
+-- what is planned for tasks is so whichever of them wait
+pub planned_again : (tasks tasks' : List Task) (readers : BySide) (cuts : List ℕ) (waits waits' : List Bool) → tasks' ≡ tasks → length waits' ≡ length waits → IsPlanned tasks readers cuts waits → IsPlanned tasks' readers cuts waits'
+planned_again tasks tasks' readers cuts waits waits' same count h =
+    subst (λ (ts : List Task). IsPlanned ts readers cuts waits') (sym same) (record { wired = h.wired; are_cuts = h.are_cuts; count = count ∙ h.count; few = h.few })
+
+-- an answer whose step is no conflict is none
+pub settled_of : {E : Type 0} (answer : Answer) (clause : List Atom) (step : Step) → step ≡ as_step answer clause → ◌≡◌ {A = Result Step E} (Ok step) (Ok Settled) → answer ≡ answers.Settled
+settled_of answers.Settled clause step is e = refl
+settled_of answers.Conflict clause step is e = absurd (cc (is, e))
