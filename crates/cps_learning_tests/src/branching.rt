@@ -1,4 +1,7 @@
 //! What branchers choose one after another, over a store of three subjects, and when they restart.
+//!
+//! Each run is in helpers that own the model, the instance and the store one inside the other, so that a test holds none
+//! of them where a call may fail; the rows that are wanted are written out.
 
 ghost use Rattle.std.specs.Prelude.{◌≡◌, ◌≤◌, length, IfOk};
 

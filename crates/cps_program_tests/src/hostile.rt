@@ -1,5 +1,8 @@
 //! Runs against a source and a sink that fail, and on texts that are cut off, too deep, too long or at the limits of
 //! their numbers.
+//!
+//! The source hands out pieces of chosen sizes and fails at chosen calls, and the sink takes so many bytes at once: so
+//! each read and each write fails in turn, and what was written before it is seen.
 use crate::known_answers::{COMMANDS, PRODUCTION, PRODUCTION_TEXT, Solving};
 use crate::running::{Given, Seen, assert_solved, run, unhindered};
 use std::alloc::{AllocError, Global};

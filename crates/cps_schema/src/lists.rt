@@ -1,4 +1,7 @@
 //! The numbers of repeated fields.
+//!
+//! A field adds its numbers behind those of the fields before it, whether it has one or a list. The first field makes
+//! room for exactly its own, so that a list which one field gives has no room to spare; later ones let it grow.
 ghost use Rattle.std.specs.Prelude.{◌≡◌, ◌++◌, [], ◌∷◌, Some, None, OnOk, IfErr};
 ghost use Rattle.cps_textproto.specs.Trees.{range_values, values_of};
 ghost use Rattle.cps_schema.specs.declared.number.Number.TheVariants.{Int64, Int32};
