@@ -3,7 +3,7 @@
 //! An enum and not a trait object: there are few kinds, each turn is a match, and the contract of a turn can say of
 //! each kind what it owes. Turns are taken here one by one, in threads too, since a solution goes into the pool after
 //! the turn that found it, and a neighbourhood worker is aimed before its turn.
-ghost use Rattle.std.specs.Prelude.{◌≡◌, ◌↔◌, ◌+◌, ◌≤◌, ◌^◌, length, false, OnOk, IfOk, IfSome, IsTrue, Some, is_some};
+ghost use Rattle.std.specs.Prelude.{◌≡◌, ◌+◌, ◌≤◌, ◌^◌, length, false, OnOk, IfOk, IfSome, Some, is_some};
 ghost use Rattle.cps_model.specs.Solutions.{IsSolution};
 ghost use Rattle.cps_branch.specs.Guidances.{AreHintsOf, IsPlanOf};
 ghost use Rattle.cps_kinds.specs.Kinds.{AreAllPropagated};
@@ -12,11 +12,10 @@ ghost use Rattle.cps_search.specs.Keeps.{Keeps};
 ghost use Rattle.cps_search.specs.Ends.{IsOver, end_of};
 ghost use Rattle.cps_core_guided.specs.Reforming.{whole};
 ghost use Rattle.cps_neighbourhood.specs.Drawing.{draws_of};
-ghost use Rattle.cps_portfolio.specs.Workers.{Begins, BeginsCores, BeginsRounds, IsAimed, SearchesNear, TurnedBy, TurnedByCores, TurnedNear};
+ghost use Rattle.cps_crew.specs.Workers.{Begins, BeginsCores, BeginsRounds, IsAimed, TurnedBy, TurnedByCores, TurnedNear};
 
-use crate::ended::AnyEnded;
-use crate::member::{Member, Recruit};
 use cps_core_guided::CoreWorker;
+use cps_crew::{AnyEnded, Member, Recruit};
 use cps_instance::Instance;
 use cps_kinds::{AnyPropagator, engine_of};
 use cps_neighbourhood::NearWorker;
@@ -238,14 +237,9 @@ fn near_turn_of<P: Propagator, Q: Port, F: Pool>(
     note_turn(pool, &turn, near.worker.best())
 }
 
-/// Whether one of so many workers searches near solutions: number 3 is the first.
-pub fn reads_pool(workers: u32) -> bool
-    ensures { IsTrue result ↔ SearchesNear workers }
-{
-    workers > 3
-}
-
 impl<'a> Recruit<'a> for AnyWorker<'a> {
+    ghost suits = { AreAllPropagated };
+
     /// Number 0 follows the strategies; after it number 1 goes by activity, number 2 by cores and number 3 near
     /// solutions, and so on in turn.
     fn of(

@@ -17,8 +17,8 @@ use Rattle.cps_search.specs.Following.{best_bound}
 use Rattle.cps_print.specs.Demonstrations.{IsReadySolution}
 use Rattle.cps_print.specs.Responses.{HasFiniteBound, IsFinite, IsSummable, IsSolved}
 use Rattle.cps_options.specs.declared.options.Options.{Options}
-use Rattle.cps_portfolio.specs.declared.outcome.Outcome.{Outcome}
-use Rattle.cps_portfolio.specs.Outcomes.{IsGoodOutcome, DidItsPart, better, best_of}
+use Rattle.cps_crew.specs.declared.outcome.Outcome.{Outcome}
+use Rattle.cps_crew.specs.Outcomes.{IsGoodOutcome, DidItsPart, better, best_of}
 use Rattle.cps_program.specs.Outcomes.{KeepsPromise}
 
 -- ---- the best of what the workers found is a solution

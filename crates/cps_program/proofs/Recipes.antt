@@ -16,9 +16,9 @@ use Rattle.cps_print.specs.Demonstrations.{demo_text}
 use Rattle.cps_options.specs.declared.options.Options.{Options}
 use Rattle.cps_options.specs.Ranges.{AreInRange}
 use Rattle.cps_command.specs.declared.recipe.Recipe.{Recipe}
-use Rattle.cps_portfolio.specs.declared.outcome.Outcome.{Outcome}
-use Rattle.cps_portfolio.specs.Outcomes.{IsGoodOutcome}
-use Rattle.cps_portfolio.specs.Turning.{IsDrawnRun}
+use Rattle.cps_crew.specs.declared.outcome.Outcome.{Outcome}
+use Rattle.cps_crew.specs.Outcomes.{IsGoodOutcome}
+use Rattle.cps_portfolio.specs.Workers.{IsDrawnRun}
 use Rattle.cps_program.specs.declared.answer.Answer.{Answer}
 use Rattle.cps_program.specs.Answers.{model_of, demo_options, Demonstrates}
 use Rattle.cps_program.proofs.Outcomes.{promise_kept}

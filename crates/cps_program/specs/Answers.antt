@@ -20,9 +20,9 @@ use Rattle.cps_command.specs.Lines.{CommandLine, IsUsageFault}
 use Rattle.cps_gen.specs.Families.{is_in_range}
 use Rattle.cps_gen.specs.Generated.{generated}
 use Rattle.cps_model.specs.Validity.{IsValid}
-use Rattle.cps_portfolio.specs.declared.outcome.Outcome.{Outcome}
-use Rattle.cps_portfolio.specs.Outcomes.{IsGoodOutcome}
-use Rattle.cps_portfolio.specs.Turning.{IsDrawnRun}
+use Rattle.cps_crew.specs.declared.outcome.Outcome.{Outcome}
+use Rattle.cps_crew.specs.Outcomes.{IsGoodOutcome}
+use Rattle.cps_portfolio.specs.Workers.{IsDrawnRun}
 use Rattle.cps_program.specs.Inputs.{HasFault, HasNo, IsInput, IsModelText}
 use Rattle.cps_program.specs.Outcomes.{KeepsPromise}
 

@@ -7,8 +7,8 @@ use Rattle.cps_model.specs.Solutions.{objective_value, IsSolution, IsBest, HasNo
 use Rattle.cps_model.specs.Statuses.{is_closed, IsAtMost}
 use Rattle.cps_search.specs.Assumptions.{IsSufficient}
 use Rattle.cps_options.specs.declared.options.Options.{Options}
-use Rattle.cps_portfolio.specs.declared.outcome.Outcome.{Outcome}
-use Rattle.cps_portfolio.specs.Outcomes.{DidItsPart}
+use Rattle.cps_crew.specs.declared.outcome.Outcome.{Outcome}
+use Rattle.cps_crew.specs.Outcomes.{DidItsPart}
 
 -- a solution that none beats by more than the gap, with a lower bound that is at most its objective and within the gap
 -- of it

@@ -11,8 +11,8 @@ ghost use Rattle.cps_print.specs.ReadBack.{IsReadAs};
 ghost use Rattle.cps_print.specs.Responses.{HasShowableLimits};
 ghost use Rattle.cps_kinds.specs.Kinds.{AreAllPropagated};
 ghost use Rattle.cps_options.specs.Ranges.{AreInRange};
-ghost use Rattle.cps_portfolio.specs.Outcomes.{IsGoodOutcome};
-ghost use Rattle.cps_portfolio.specs.Turning.{IsDrawnRun};
+ghost use Rattle.cps_crew.specs.Outcomes.{IsGoodOutcome};
+ghost use Rattle.cps_portfolio.specs.Workers.{IsDrawnRun};
 ghost use Rattle.cps_program.specs.Inputs.{most_bytes, IsModelText, IsInput};
 ghost use Rattle.cps_program.specs.Answers.{usage_text, valid_text, IsText, IsFaultText, Solves, Validates, Prints, AnswersInput, Does, IsCommandInRange};
 

@@ -6,7 +6,7 @@ ghost use Rattle.std.specs.Prelude.{◌≡◌, ◌≤◌, ◌^◌, length, false
 ghost use Rattle.cps_search.specs.Keeps.{Keeps};
 ghost use Rattle.cps_search.specs.Ends.{IsOver, end_of};
 ghost use Rattle.cps_kinds.specs.Kinds.{AreAllPropagated};
-ghost use Rattle.cps_portfolio.specs.Workers.{Begins};
+ghost use Rattle.cps_crew.specs.Workers.{Begins};
 
 use crate::models::{sum, three};
 use cps_instance::Instance;

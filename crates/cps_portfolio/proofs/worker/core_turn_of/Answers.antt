@@ -7,8 +7,8 @@ use Rattle.cps_branch.specs.Guidances.{ChoosesBy}
 use Rattle.cps_branch.specs.declared.guidance.Guidance.{Guidance}
 use Rattle.cps_core_guided.specs.CoreTurns.{OneCoreTurn}
 use Rattle.cps_core_guided.proofs.CoreRunning.{one-core-turn}
-use Rattle.cps_portfolio.specs.Workers.{TurnedByCores}
-use Rattle.cps_portfolio.proofs.Going.{found_is}
+use Rattle.cps_crew.specs.Workers.{TurnedByCores}
+use Rattle.cps_portfolio.proofs.Found.{found_is}
 use Rattle.cps_portfolio.proofs.Guiding.{core_turn_by}
 use Rattle.cps_portfolio.proofs.worker.core_turn_of.Goals as goal
 

@@ -6,7 +6,7 @@ use Rattle.cps_search.specs.Ends.{OneTurn, end_of}
 use Rattle.cps_branch.specs.Guidances.{ChoosesBy}
 use Rattle.cps_branch.specs.declared.guidance.Guidance.{Guidance}
 use Rattle.cps_search.proofs.Guiding.{turn_by}
-use Rattle.cps_portfolio.specs.Workers.{TurnedBy}
+use Rattle.cps_crew.specs.Workers.{TurnedBy}
 use Rattle.cps_portfolio.proofs.worker.turn_of.Goals as goal
 
 pub returns-clause-turn : goal.returns-clause-turn

@@ -1,0 +1,346 @@
+-- What turns of a worker of any kind come to, and why they come to an end.
+use Rattle.std.specs.Prelude.{Option, Some, None, is_some, true, false, List}
+use Rattle.std.proofs.Common.{◌≡◌, refl, sym, ap, subst, ◌∙◌, ℕ, ◌+◌, ◌<◌, inl, inr, []}
+use Rattle.cps_model.specs.declared.model.CpModel.{CpModel}
+use Rattle.cps_model.specs.declared.bound.Bound.TheVariants.{Infinite}
+use Rattle.cps_instance.specs.Strategies.{model_sums}
+use Rattle.cps_instance.specs.Sums.{DefinedSum}
+use Rattle.cps_instance.specs.Problem.{Problem}
+use Rattle.cps_trail.specs.Trail.{open_values}
+use Rattle.cps_port.specs.declared.part.BoardPart.{BoardPart}
+use Rattle.cps_port.specs.declared.part.Part.{Part}
+use Rattle.cps_branch.specs.declared.guidance.Guidance.{Guidance}
+use Rattle.cps_branch.specs.Guidances.{ChoosesBy}
+use Rattle.cps_search.specs.declared.end.End.{End}
+use Rattle.cps_search.specs.declared.end.Phase.{Phase}
+use Rattle.cps_search.specs.declared.end.WorkerKind.{WorkerKind}
+use Rattle.cps_search.specs.declared.end.WorkerKind.TheVariants as kinds
+use Rattle.cps_search.specs.declared.turn.Turn.{Turn}
+use Rattle.cps_search.specs.Searches.{Search, IsSoundSearch}
+use Rattle.cps_search.specs.Following.{MovesWith}
+use Rattle.cps_search.specs.Guided.{IsGuidedBy, RunsBy}
+use Rattle.cps_search.specs.Ends.{EndsAs, IsComplete, IsHonestEnding, IsOver, RunsTo, TakesTurns, none_yet, one_more, end_of, ending}
+use Rattle.cps_search.proofs.Ending.{honest_ending}
+use Rattle.cps_search.proofs.Weighing.{left_of, lowered}
+use Rattle.cps_search.proofs.Working.{HasRun, run_begins, run_goes_on, run_ends}
+use Rattle.cps_core_guided.specs.Reforming.{CoreSearch}
+use Rattle.cps_core_guided.specs.CoreTurns.{TakesCoreTurns, core_ending, no_turn, one_turn_more}
+use Rattle.cps_core_guided.proofs.CoreEnding.{core-honest}
+use Rattle.cps_core_guided.proofs.CoreLasting.{core_left, core_lowered}
+use Rattle.cps_core_guided.proofs.CoreRunning.{HasCoreRun, core-begins, core-goes-on, core-turns-run}
+use Rattle.cps_core_guided.proofs.CoreTurning.{phase-search}
+use Rattle.cps_neighbourhood.specs.Nears.{Near, NearRunsInTurns, TakesNearTurn, TakesNearTurns, aimed}
+use Rattle.cps_neighbourhood.specs.Nears.{none_yet as near_none_yet, one_more as near_one_more}
+use Rattle.cps_neighbourhood.proofs.Counting.{HasNearRun, near_begins, near_goes_on, near_honest, near_turns_run}
+use Rattle.cps_neighbourhood.proofs.Lasting.{near_left, near_lowered}
+use Rattle.cps_crew.specs.Workers.{AnySearch, by_guidance, by_cores, in_rounds, search_in, GoesByGuidance, BeginsGuided, BeginsByCores, BeginsRounds, BeginsAs, IsAimed, TakesTurnsBy, TakesCoreTurnsBy, RunsByCores, TurnedBy, TurnedByCores, TurnedNear, HasTurned, TakesTurnsAs, HasEnded}
+use Rattle.cps_crew.specs.Outcomes.{HasSums}
+use Rattle.cps_crew.specs.Crews.{IsHonestlyDone}
+
+pub none_of : (o : Option End) → false ≡ is_some o → o ≡ None
+none_of None e = refl
+none_of (Some x) e = absurd cc
+
+pub some_of : (o : Option End) → true ≡ is_some o → (end : End) × (o ≡ Some end)
+some_of None e = absurd cc
+some_of (Some x) e = (x, refl)
+
+-- ---- a worker that begins
+
+-- of a model, with memory, with nothing imported, and about to step
+pub record HasBegun (m : CpModel) (s : Search) : Type 0 where
+  pub model : s.instance.model ≡ m
+  pub refused : s.refused ≡ false
+  pub imported : s.imported ≡ 0
+  pub running : IsOver s.phase → ⊥
+
+pub has_begun : (m : CpModel) (gap conflicts : ℕ) (s : AnySearch) → BeginsAs m gap conflicts s → HasBegun m (search_in s)
+has_begun m gap conflicts (by_guidance kind guidance s) h =
+    let is = h.begins.is in
+    record {
+      model = ap (λ (x : Search). x.instance.model) is ∙ h.begins.first.model;
+      refused = ap (λ (x : Search). x.refused) is;
+      imported = ap (λ (x : Search). x.imported) is;
+      running = λ over. subst (λ (x : Search). IsOver x.phase) is over;
+    }
+has_begun m gap conflicts (by_cores guidance s) h =
+    let b = h.begins.is in
+    record {
+      model = b.instance ∙ h.begins.first.model;
+      refused = ap (λ (x : Search). x.refused) b.search;
+      imported = ap (λ (x : Search). x.imported) b.search;
+      running = λ over. subst (λ (x : Phase). IsOver x) (phase-search s b.ended ∙ ap (λ (x : Search). x.phase) b.search) over;
+    }
+has_begun m gap conflicts (in_rounds n) h =
+    let is = h.is.search in
+    record {
+      model = ap (λ (x : Search). x.instance.model) is ∙ h.first.model;
+      refused = ap (λ (x : Search). x.refused) is;
+      imported = ap (λ (x : Search). x.imported) is;
+      running = λ over. subst (λ (x : Search). IsOver x.phase) is over;
+    }
+
+-- ---- a worker that is handed a solution
+
+pub aimed_search : (m n : Near) → IsAimed m n → n.search ≡ m.search
+aimed_search m n (inl e) = ap (λ (x : Near). x.search) e
+aimed_search m n (inr x) = ap (λ (x : Near). x.search) x.2
+
+aimed_turns : (rows : ℕ) (s : Near) (p : Part) (t n : Near) (q : Part) → TakesNearTurns rows s p t q → IsAimed t n → TakesNearTurns rows s p n q
+aimed_turns rows s p t n q turns (inl e) = subst (λ (x : Near). TakesNearTurns rows s p x q) (sym e) turns
+aimed_turns rows s p t n q turns (inr x) = subst (λ (x : Near). TakesNearTurns rows s p x q) (sym x.2) (aimed t q x.0 turns x.1)
+
+-- ---- what was done by any turns that did not end the worker
+
+has_run : (rows : ℕ) (s : Search × Guidance) (p : Part) (t : Search × Guidance) (q : Part) → TakesTurns ChoosesBy (λ before clause restart after. after ≡ before) (λ before after. after ≡ before) rows s p t q → HasRun s.0 t.0 p q
+has_run rows s p t q none_yet = run_begins s.0 p
+has_run rows s p t q (one_more m u n r turn before goes_on last) = run_goes_on (ChoosesBy m.1) s.0 m.0 u.0 rows p n r turn goes_on (has_run rows s p m n before) last.search
+
+near_run : (rows : ℕ) (s : Near) (p : Part) (t : Near) (q : Part) → TakesNearTurns rows s p t q → HasNearRun s t p q
+near_run rows s p t q near_none_yet = near_begins s p
+near_run rows s p t q (near_one_more m u n r turn before going last) = near_goes_on s m u rows p n r turn going (near_run rows s p m n before) last
+near_run rows s p t q (aimed u r solution before is) = (let k = near_run rows s p u r before in record { run = k.run; conflicts = k.conflicts })
+
+core_run : (rows : ℕ) (s : CoreSearch × Guidance) (p : Part) (t : CoreSearch × Guidance) (q : Part) → TakesCoreTurns ChoosesBy (λ before clause restart after. after ≡ before) (λ before after. after ≡ before) rows s p t q → HasCoreRun s.0 t.0 p q
+core_run rows s p t q no_turn = core-begins s.0 p
+core_run rows s p t q (one_turn_more m u n r turn before going one) = core-goes-on (ChoosesBy m.1) s.0 m.0 u.0 rows p n r turn (core_run rows s p m n before) one.search going
+
+-- a core-guided worker's problem may have grown
+pub record HasKept (s t : Search) (p q : Part) : Type 0 where
+  pub model : t.instance.model ≡ s.instance.model
+  pub refused : t.refused ≡ s.refused
+  pub moves : MovesWith s t p q
+
+pub has_kept : (rows : ℕ) (s t : AnySearch) (p q : Part) → TakesTurnsAs rows s t p q → HasKept (search_in s) (search_in t) p q
+has_kept rows (by_guidance kind g s) (by_guidance same h t) p q turns =
+    let run = has_run rows (s, g) p (t, g) q turns.2 in
+    record { model = ap (λ (x : Problem). x.model) run.setting.instance; refused = run.setting.refused; moves = run.moves }
+has_kept rows (by_cores g s) (by_cores h t) p q turns =
+    let run = core_run rows (s, g) p (t, g) q turns.1 in
+    record { model = run.setting.model; refused = run.setting.refused; moves = run.moves }
+has_kept rows (in_rounds m) (in_rounds n) p q turns =
+    let run = near_run rows m p n q turns in
+    record { model = ap (λ (x : Problem). x.model) run.run.setting.instance; refused = run.run.setting.refused; moves = run.run.moves }
+has_kept rows s t p q turns = absurd turns
+
+-- no turn yet
+pub none_taken : (rows : ℕ) (s : AnySearch) (p : Part) → TakesTurnsAs rows s s p p
+none_taken rows (by_guidance kind g s) p = (refl, refl, none_yet)
+none_taken rows (by_cores g s) p = (refl, no_turn)
+none_taken rows (in_rounds n) p = near_none_yet
+
+-- one turn more that did not end the worker
+pub turned_on : (rows : ℕ) (first s t : AnySearch) (start p q : Part) → TakesTurnsAs rows first s start p → HasTurned rows s t p q false → TakesTurnsAs rows first t start q
+turned_on rows (by_guidance k g f) (by_guidance l h s) (by_guidance o i t) start p q turns turn =
+    let last = subst (λ (x : Guidance). TurnedBy x rows s t p q false) turns.1 turn.2 in
+    (turn.0 ∙ turns.0, turn.1 ∙ turns.1, one_more (s, g) (t, g) p q last.turn turns.2 (none_of (end_of last.turn) last.last) last.takes)
+turned_on rows (by_cores g f) (by_cores h s) (by_cores i t) start p q turns turn =
+    let last = subst (λ (x : Guidance). TurnedByCores x rows s t p q false) turns.0 turn.1 in
+    (turn.0 ∙ turns.0, one_turn_more (s, g) (t, g) p q last.turn turns.1 (none_of (end_of last.turn) last.last) last.takes)
+turned_on rows (in_rounds f) (in_rounds m) (in_rounds n) start p q turns turn =
+    near_one_more turn.aimed n p q turn.turn (aimed_turns rows f start m turn.aimed p turns turn.aims) (none_of (end_of turn.turn) turn.last) turn.takes
+turned_on rows (by_guidance k g f) (by_guidance l h s) (by_cores i t) start p q turns turn = absurd turn
+turned_on rows (by_guidance k g f) (by_guidance l h s) (in_rounds t) start p q turns turn = absurd turn
+turned_on rows (by_guidance k g f) (by_cores h s) t start p q turns turn = absurd turns
+turned_on rows (by_guidance k g f) (in_rounds s) t start p q turns turn = absurd turns
+turned_on rows (by_cores g f) (by_cores h s) (by_guidance l i t) start p q turns turn = absurd turn
+turned_on rows (by_cores g f) (by_cores h s) (in_rounds t) start p q turns turn = absurd turn
+turned_on rows (by_cores g f) (by_guidance l h s) t start p q turns turn = absurd turns
+turned_on rows (by_cores g f) (in_rounds s) t start p q turns turn = absurd turns
+turned_on rows (in_rounds f) (in_rounds m) (by_guidance o i t) start p q turns turn = absurd turn
+turned_on rows (in_rounds f) (in_rounds m) (by_cores i t) start p q turns turn = absurd turn
+turned_on rows (in_rounds f) (by_guidance l h s) t start p q turns turn = absurd turns
+turned_on rows (in_rounds f) (by_cores h s) t start p q turns turn = absurd turns
+
+pub still_runs : (rows : ℕ) (s t : AnySearch) (p q : Part) → HasTurned rows s t p q false → IsOver (search_in t).phase → ⊥
+still_runs rows (by_guidance k g s) (by_guidance l h t) p q turn = (let last = turn.2 in subst (λ (o : Option End). EndsAs o t) (none_of (end_of last.turn) last.last) last.takes.search.ends)
+still_runs rows (by_cores g s) (by_cores h t) p q turn = (let last = turn.1 in subst (λ (o : Option End). EndsAs o (search_in (by_cores h t))) (none_of (end_of last.turn) last.last) last.takes.search.ends)
+still_runs rows (in_rounds m) (in_rounds n) p q turn = subst (λ (o : Option End). EndsAs o n.search) (none_of (end_of turn.turn) turn.last) turn.takes.ends
+still_runs rows s t p q turn = absurd turn
+
+pub ends_over : (rows : ℕ) (s t : AnySearch) (p q : Part) → HasTurned rows s t p q true → IsOver (search_in t).phase
+ends_over rows (by_guidance k g s) (by_guidance l h t) p q turn =
+    let last = turn.2 in
+    let e = some_of (end_of last.turn) last.last in
+    subst (λ (x : Phase). IsOver x) (sym (subst (λ (o : Option End). EndsAs o t) e.1 last.takes.search.ends)) tt
+ends_over rows (by_cores g s) (by_cores h t) p q turn =
+    let last = turn.1 in
+    let e = some_of (end_of last.turn) last.last in
+    subst (λ (x : Phase). IsOver x) (sym (subst (λ (o : Option End). EndsAs o (search_in (by_cores h t))) e.1 last.takes.search.ends)) tt
+ends_over rows (in_rounds m) (in_rounds n) p q turn =
+    let e = some_of (end_of turn.turn) turn.last in
+    subst (λ (x : Phase). IsOver x) (sym (subst (λ (o : Option End). EndsAs o n.search) e.1 turn.takes.ends)) tt
+ends_over rows (by_guidance k g s) (by_cores h t) p q turn = absurd turn
+ends_over rows (by_guidance k g s) (in_rounds t) p q turn = absurd turn
+ends_over rows (by_cores g s) (by_guidance l h t) p q turn = absurd turn
+ends_over rows (by_cores g s) (in_rounds t) p q turn = absurd turn
+ends_over rows (in_rounds m) (by_guidance l h t) p q turn = absurd turn
+ends_over rows (in_rounds m) (by_cores h t) p q turn = absurd turn
+
+-- ---- why turns come to an end
+
+-- what a worker has left to do
+abbrev pub left_in : AnySearch → ℕ → BoardPart → ℕ
+left_in (by_guidance kind g s) rows b = left_of (open_values s.instance.domains [] + 1) s rows b
+left_in (by_cores g s) rows b = core_left s rows b
+left_in (in_rounds n) rows b = near_left (open_values n.search.instance.domains [] + 1) n rows b
+
+guided_lighter : (rows : ℕ) (g : Guidance) (s t : Search) (p q : Part) → TurnedBy g rows s t p q false → left_of (open_values t.instance.domains [] + 1) t rows q.board < left_of (open_values s.instance.domains [] + 1) s rows p.board
+guided_lighter rows g s t p q turn =
+    let setting = turn.takes.search.setting in
+    let less = lowered s t rows p.board q.board turn.before turn.after setting (turn.takes.search.lowers (none_of (end_of turn.turn) turn.last)) in
+    subst (λ (x : Problem). left_of (open_values x.domains [] + 1) t rows q.board < left_of (open_values s.instance.domains [] + 1) s rows p.board) (sym setting.instance) less
+
+core_lighter : (rows : ℕ) (g : Guidance) (s t : CoreSearch) (p q : Part) → TurnedByCores g rows s t p q false → core_left t rows q.board < core_left s rows p.board
+core_lighter rows g s t p q turn =
+    let takes = turn.takes in
+    core_lowered s t rows p.board q.board takes.before takes.after takes.search.setting (takes.search.lowers (none_of (end_of turn.turn) turn.last))
+
+near_lighter_by : (rows : ℕ) (m n : Near) (p q : Part) (turn : Turn) → IsSoundSearch m.search → IsSoundSearch n.search → m.search.budget ≡ None → end_of turn ≡ None → TakesNearTurn m n rows p q turn
+    → near_left (open_values n.search.instance.domains [] + 1) n rows q.board < near_left (open_values m.search.instance.domains [] + 1) m rows p.board
+near_lighter_by rows m n p q turn before after budget going takes =
+    let less = near_lowered m n rows p.board q.board before after takes.setting takes.conflicts budget (takes.lowers going) in
+    subst (λ (x : Problem). near_left (open_values x.domains [] + 1) n rows q.board < near_left (open_values m.search.instance.domains [] + 1) m rows p.board) (sym takes.setting.instance) less
+
+near_lighter : (rows : ℕ) (m n : Near) (p q : Part) → TurnedNear rows m n p q false → near_left (open_values n.search.instance.domains [] + 1) n rows q.board < near_left (open_values m.search.instance.domains [] + 1) m rows p.board
+near_lighter rows m n p q turn = go turn.aimed turn.aims turn.takes
+  where
+    going : end_of turn.turn ≡ None
+    going = none_of (end_of turn.turn) turn.last
+
+    -- what it aims at is no part of what is left
+    go : (a : Near) → IsAimed m a → TakesNearTurn a n rows p q turn.turn → near_left (open_values n.search.instance.domains [] + 1) n rows q.board < near_left (open_values m.search.instance.domains [] + 1) m rows p.board
+    go a (inl e) takes = near_lighter_by rows m n p q turn.turn turn.before turn.after turn.no_budget going (subst (λ (x : Near). TakesNearTurn x n rows p q turn.turn) e takes)
+    go a (inr x) takes = near_lighter_by rows (record m { aim = Some x.0 }) n p q turn.turn turn.before turn.after turn.no_budget going (subst (λ (y : Near). TakesNearTurn y n rows p q turn.turn) x.2 takes)
+
+pub lighter_in : (rows : ℕ) (s t : AnySearch) (p q : Part) → HasTurned rows s t p q false → left_in t rows q.board < left_in s rows p.board
+lighter_in rows (by_guidance k g s) (by_guidance l h t) p q turn = guided_lighter rows g s t p q turn.2
+lighter_in rows (by_cores g s) (by_cores h t) p q turn = core_lighter rows g s t p q turn.1
+lighter_in rows (in_rounds m) (in_rounds n) p q turn = near_lighter rows m n p q turn
+lighter_in rows s t p q turn = absurd turn
+
+-- ---- a worker that knew nothing at first has ended
+
+complete_of : (kind : WorkerKind) → GoesByGuidance kind → IsComplete kind
+complete_of kinds.Fixed h = tt
+complete_of kinds.Activity h = tt
+complete_of kinds.CoreGuided h = tt
+complete_of kinds.Near h = absurd h
+
+sums_of : (kind : WorkerKind) (m : CpModel) (defs : List DefinedSum) → defs ≡ model_sums m → HasSums kind m defs
+sums_of kinds.Fixed m defs h = h
+sums_of kinds.Activity m defs h = h
+sums_of kinds.CoreGuided m defs h = tt
+sums_of kinds.Near m defs h = h
+
+-- one that went by a guidance that is what the model says
+guided_done : (m : CpModel) (gap conflicts rows : ℕ) (kind : WorkerKind) (g : Guidance) (s u t : Search) (p n q : Part) → BeginsGuided m gap conflicts kind g s → TakesTurnsBy g rows s u p n → TurnedBy g rows u t n q true
+    → p.bounds.offered ≡ Infinite → p.bounds.raised ≡ None → IsHonestlyDone m gap conflicts q.bounds (by_guidance kind g t)
+guided_done m gap conflicts rows kind g s u t p n q begins turns last offered raised =
+    let e = some_of (end_of last.turn) last.last in
+    let b = begins.begins in
+    let ends = run_ends (ChoosesBy g) s u t rows p n q last.turn e.0 last.before (has_run rows (s, g) p (u, g) n turns) last.takes.search e.1 in
+    let runs = subst (λ (x : Search). RunsTo x t p q e.0) b.is ends in
+    let guided : RunsBy g rows s t p q e.0 = record { before = (u, g); part = n; turns = turns; turn = last.turn; last = last.takes; ended = e.1 } in
+    record {
+      end = e.0;
+      over = ends.phase;
+      honest = subst (λ (x : CpModel). IsHonestEnding x gap conflicts q.bounds (ending kind (Some g) e.0 t)) b.first.model
+          (honest_ending b.instance gap conflicts t p q kind (Some g) e.0 (complete_of kind begins.guided) runs last.after offered raised);
+      sums = sums_of kind m t.instance.defs (ap (λ (x : Problem). x.defs) runs.setting.instance ∙ b.first.sums);
+      goes = record {
+        instance = b.instance;
+        is_instance = b.first.sound;
+        model = b.first.model;
+        sums = sym (ap (λ (x : Problem). x.defs) runs.setting.instance);
+        guide = subst (λ (x : Search). IsGuidedBy kind x.instance (Some g)) b.is begins.guide;
+        decisions = record {
+          rows = rows;
+          done = t;
+          before = p;
+          after = q;
+          runs = subst (λ (x : Search). RunsBy g rows x t p q e.0) b.is guided;
+          seen = refl;
+        };
+        cores = λ is. absurd (subst GoesByGuidance is begins.guided);
+        rounds = λ is. absurd (subst GoesByGuidance is begins.guided);
+      };
+    }
+
+-- one that went by cores
+core_done : (m : CpModel) (gap conflicts rows : ℕ) (g : Guidance) (s u t : CoreSearch) (p n q : Part) → BeginsByCores m gap conflicts g s → TakesCoreTurnsBy g rows s u p n → TurnedByCores g rows u t n q true
+    → p.bounds.offered ≡ Infinite → p.bounds.raised ≡ None → IsHonestlyDone m gap conflicts q.bounds (by_cores g t)
+core_done m gap conflicts rows g s u t p n q begins turns last offered raised =
+    let e = some_of (end_of last.turn) last.last in
+    let b = begins.begins in
+    let runs : RunsByCores g rows s t p q e.0 = record { before = (u, g); part = n; turns = turns; turn = last.turn; last = last.takes; ended = e.1 } in
+    let run = core-turns-run ChoosesBy (λ before clause restart after. after ≡ before) (λ before after. after ≡ before) rows (s, g) (t, g) p q e.0 runs last.takes.before in
+    record {
+      end = e.0;
+      over = run.phase;
+      honest = subst (λ (x : CpModel). IsHonestEnding x gap conflicts q.bounds (core_ending e.0 t)) b.first.model
+          (core-honest ChoosesBy (λ before clause restart after. after ≡ before) (λ before after. after ≡ before) b.instance gap conflicts rows (s, g) (t, g) p q e.0 b.is runs last.takes.before last.takes.after offered raised);
+      sums = tt;
+      goes = record {
+        instance = t.search.instance;
+        is_instance = last.takes.after.search.instance;
+        model = run.setting.model ∙ b.is.instance ∙ b.first.model;
+        sums = refl;
+        guide = tt;
+        decisions = tt;
+        cores = λ is. record { rows = rows; guidance = g; first = s; begins = begins; done = t; before = p; after = q; runs = runs; seen = refl };
+        rounds = λ is. absurd (cc is);
+      };
+    }
+
+-- one that went in rounds
+near_done : (m : CpModel) (gap conflicts rows : ℕ) (s u t : Near) (p n q : Part) → BeginsRounds m gap conflicts s → TakesNearTurns rows s p u n → TurnedNear rows u t n q true
+    → p.bounds.offered ≡ Infinite → p.bounds.raised ≡ None → IsHonestlyDone m gap conflicts q.bounds (in_rounds t)
+near_done m gap conflicts rows s u t p n q begins turns last offered raised =
+    let e = some_of (end_of last.turn) last.last in
+    let runs : NearRunsInTurns rows s t p q e.0 = record { before = last.aimed; part = n; turns = aimed_turns rows s p u last.aimed n turns last.aims; turn = last.turn; last = last.takes; ended = e.1 } in
+    let sound = subst IsSoundSearch (sym (aimed_search u last.aimed last.aims)) last.before in
+    let run = near_turns_run rows s t p q e.0 runs sound in
+    let instance : t.search.instance ≡ begins.instance = run.setting.instance ∙ ap (λ (x : Search). x.instance) begins.is.search in
+    record {
+      end = e.0;
+      over = run.phase;
+      honest = subst (λ (x : CpModel). IsHonestEnding x gap conflicts q.bounds (ending kinds.Near None e.0 t.search)) begins.first.model
+          (near_honest begins.instance gap conflicts rows begins.draws s t p q e.0 begins.is runs sound last.after offered raised);
+      sums = ap (λ (x : Problem). x.defs) instance ∙ begins.first.sums;
+      goes = record {
+        instance = begins.instance;
+        is_instance = begins.first.sound;
+        model = begins.first.model;
+        sums = sym (ap (λ (x : Problem). x.defs) instance);
+        guide = tt;
+        decisions = tt;
+        cores = λ is. absurd (cc is);
+        rounds = λ is. record { rows = rows; draws = begins.draws; first = s; begins = begins.is; done = t; before = p; after = q; runs = runs; seen = refl };
+      };
+    }
+
+done_by : (m : CpModel) (gap conflicts rows : ℕ) (s u t : AnySearch) (p n q : Part) → BeginsAs m gap conflicts s → TakesTurnsAs rows s u p n → HasTurned rows u t n q true → p.bounds.offered ≡ Infinite → p.bounds.raised ≡ None
+    → IsHonestlyDone m gap conflicts q.bounds t
+done_by m gap conflicts rows (by_guidance k g s) (by_guidance l h u) (by_guidance o i t) p n q begins turns last offered raised =
+    let done = guided_done m gap conflicts rows k g s u t p n q begins turns.2 (subst (λ (x : Guidance). TurnedBy x rows u t n q true) turns.1 last.2) offered raised in
+    subst (λ (x : WorkerKind). IsHonestlyDone m gap conflicts q.bounds (by_guidance x i t)) (sym (last.0 ∙ turns.0)) (subst (λ (x : Guidance). IsHonestlyDone m gap conflicts q.bounds (by_guidance k x t)) (sym (last.1 ∙ turns.1)) done)
+done_by m gap conflicts rows (by_cores g s) (by_cores h u) (by_cores i t) p n q begins turns last offered raised =
+    let done = core_done m gap conflicts rows g s u t p n q begins turns.1 (subst (λ (x : Guidance). TurnedByCores x rows u t n q true) turns.0 last.1) offered raised in
+    subst (λ (x : Guidance). IsHonestlyDone m gap conflicts q.bounds (by_cores x t)) (sym (last.0 ∙ turns.0)) done
+done_by m gap conflicts rows (in_rounds s) (in_rounds u) (in_rounds t) p n q begins turns last offered raised = near_done m gap conflicts rows s u t p n q begins turns last offered raised
+done_by m gap conflicts rows (by_guidance k g s) (by_guidance l h u) (by_cores i t) p n q begins turns last offered raised = absurd last
+done_by m gap conflicts rows (by_guidance k g s) (by_guidance l h u) (in_rounds t) p n q begins turns last offered raised = absurd last
+done_by m gap conflicts rows (by_guidance k g s) (by_cores h u) t p n q begins turns last offered raised = absurd turns
+done_by m gap conflicts rows (by_guidance k g s) (in_rounds u) t p n q begins turns last offered raised = absurd turns
+done_by m gap conflicts rows (by_cores g s) (by_cores h u) (by_guidance o i t) p n q begins turns last offered raised = absurd last
+done_by m gap conflicts rows (by_cores g s) (by_cores h u) (in_rounds t) p n q begins turns last offered raised = absurd last
+done_by m gap conflicts rows (by_cores g s) (by_guidance l h u) t p n q begins turns last offered raised = absurd turns
+done_by m gap conflicts rows (by_cores g s) (in_rounds u) t p n q begins turns last offered raised = absurd turns
+done_by m gap conflicts rows (in_rounds s) (in_rounds u) (by_guidance o i t) p n q begins turns last offered raised = absurd last
+done_by m gap conflicts rows (in_rounds s) (in_rounds u) (by_cores i t) p n q begins turns last offered raised = absurd last
+done_by m gap conflicts rows (in_rounds s) (by_guidance l h u) t p n q begins turns last offered raised = absurd turns
+done_by m gap conflicts rows (in_rounds s) (by_cores h u) t p n q begins turns last offered raised = absurd turns
+
+pub done_from : (m : CpModel) (gap conflicts rows : ℕ) (s t : AnySearch) (p q : Part) → BeginsAs m gap conflicts s → p.bounds.offered ≡ Infinite → p.bounds.raised ≡ None → HasEnded rows s t p q → IsHonestlyDone m gap conflicts q.bounds t
+done_from m gap conflicts rows s t p q begins offered raised h = done_by m gap conflicts rows s h.before t p h.part q begins h.turns h.last offered raised

@@ -1,0 +1,4 @@
+pub mod Outcomes
+pub mod Going
+pub mod Crews
+pub mod Turning

@@ -1,0 +1,97 @@
+-- All workers have ended, and the words are those of the state.
+use Rattle.std.proofs.Common.{rules, ◌≡◌, ℕ, length, map, sym, ap, subst, ◌∙◌, List, All}
+use Rattle.std.proofs.lemmas.Result.{IfOk-weaker}
+use Rattle.cps_model.specs.declared.model.CpModel.{CpModel}
+use Rattle.cps_model.specs.declared.bound.Bound.{Bound}
+use Rattle.cps_pool.specs.Pools.{Found}
+use Rattle.cps_port.specs.Shared.{Shared, actor_count, first_shared}
+use Rattle.cps_search.specs.Ends.{Ending, IsOver}
+use Rattle.cps_crew.specs.declared.interleaved.Turning.{Turning}
+use Rattle.cps_crew.specs.declared.outcome.Outcome.{Outcome}
+use Rattle.cps_crew.specs.Workers.{search_in}
+use Rattle.cps_crew.specs.Outcomes.{CameTo}
+use Rattle.cps_crew.specs.Turning.{AreFresh, AreTurning, IsDrawnBy, TakesDrawnTurns, ended_of, words_of_seed}
+use Rattle.cps_crew.proofs.Crews.{written}
+use Rattle.cps_crew.proofs.Turning.{all_fresh, first_rows, each_over, came_in_turns}
+use Rattle.cps_crew.proofs.interleaved.solve_in_turns.Goals as goal
+
+pub take_turns-turns-requires-clause-crew : goal.take_turns-turns-requires-clause-crew
+take_turns-turns-requires-clause-crew g c =
+    let o = c.args.options.now in
+    let m = c.args.model.now in
+    let core = c.in_ok-core.core in
+    let first = c.in_ok-core.ensures.first in
+    let model : core.model ≡ m = ap (λ (x : Shared). x.model) first in
+    let crew = subst (λ (l : List (Turning _)). AreFresh g.W.Member.known m o.gap o.conflicts o.seed l) (sym c.as_mut_slice.ensures.value) c.in_ok-crew.ensures.each in
+    subst (λ (x : CpModel). AreTurning g.W.Member.known x o.gap o.conflicts (length core.board.rows) core c.as_mut_slice.result.now) (sym model)
+    (all_fresh g.W.Member.known m o.gap o.conflicts o.seed (length core.board.rows) o.workers 4096 core c.as_mut_slice.result.now first crew)
+
+pub take_turns-turns-requires-clause-pool : goal.take_turns-turns-requires-clause-pool
+take_turns-turns-requires-clause-pool g c = ap (λ (x : Found). x.model) c.new-pool.ensures ∙ sym (ap (λ (x : Shared). x.model) c.in_ok-core.ensures.first)
+
+pub finish_all-requires : goal.finish_all-requires
+finish_all-requires g c =
+    let o = c.args.options.now in
+    let xs : List (Turning _) = c.in_ok-crew.crew.items in
+    let ys : List (Turning _) = c.take_turns-turns.new.crew in
+    let len : length ys ≡ length xs = c.take_turns-turns.ensures.len ∙ ap (λ (l : List (Turning _)). length l) c.as_mut_slice.ensures.value in
+    let full : c.in_ok-crew.crew.len ≡ length xs = search rules in
+    let w = written c.in_ok-crew.crew.len xs ys full len in
+    let t = c.in_ok-turns.ensures in
+    subst (λ (l : List (Turning _)). All (λ (x : Turning _). IsOver (search_in (g.W.Member.known x.worker)).phase) l) (sym w) (each_over g.W.Member.known c.in_ok-core.core.model o.gap o.conflicts _ c.take_turns-turns.new.port.core.now ys t.crew t.over)
+
+pub outcome_of-requires : goal.outcome_of-requires
+outcome_of-requires g c =
+    let o = c.args.options.now in
+    let m = c.args.model.now in
+    let first = c.in_ok-core.ensures.first in
+    let model : c.in_ok-core.core.model ≡ m = ap (λ (x : Shared). x.model) first in
+    let xs : List (Turning _) = c.in_ok-crew.crew.items in
+    let ys : List (Turning _) = c.take_turns-turns.new.crew in
+    let same : c.as_mut_slice.result.now ≡ xs = c.as_mut_slice.ensures.value in
+    let len : length ys ≡ length xs = c.take_turns-turns.ensures.len ∙ ap (λ (l : List (Turning _)). length l) same in
+    let full : c.in_ok-crew.crew.len ≡ length xs = search rules in
+    let w = written c.in_ok-crew.crew.len xs ys full len in
+    let t = c.in_ok-turns.ensures in
+    let core = c.take_turns-turns.new.port.core.now in
+    let rows = length c.in_ok-core.core.board.rows in
+    let workers : length ys ≡ o.workers = len ∙ sym full ∙ c.in_ok-crew.ensures.count in
+    let actors : actor_count core ≡ length ys = t.count ∙ c.take_turns-turns.ensures.actors in
+    let turning = subst (λ (x : CpModel). AreTurning g.W.Member.known x o.gap o.conflicts rows core ys) model t.crew in
+    let ends : c.in_ok-ends.ends.items ≡ map (ended_of g.W.Member.known) ys = c.in_ok-ends.ensures ∙ ap (map (ended_of g.W.Member.known)) w in
+    let came = came_in_turns g.W.Member.known m o.gap o.conflicts rows o.workers core ys c.upper_of-upper.ensures.sound (t.same ∙ model) workers actors turning t.over in
+    let upper = c.upper_of-upper.ensures.bound in
+    let lower : c.lower_of-lower.result ≡ core.bounds.lower = c.lower_of-lower.ensures ∙ ap (λ (x : Shared). x.bounds.lower) c.upper_of-upper.ensures.after in
+    subst (λ (es : List Ending). CameTo m o.gap o.conflicts o.workers c.upper_of-upper.result c.lower_of-lower.result es) (sym ends)
+    (subst (λ (u : Bound). CameTo m o.gap o.conflicts o.workers u c.lower_of-lower.result (map (ended_of g.W.Member.known) ys)) (sym upper)
+    (subst (λ (l : Bound). CameTo m o.gap o.conflicts o.workers core.bounds.upper l (map (ended_of g.W.Member.known) ys)) (sym lower) came))
+
+pub returns-clause-drawn : goal.returns-clause-drawn
+returns-clause-drawn g c =
+    let o = c.args.options.now in
+    let m = c.args.model.now in
+    let first = c.in_ok-core.ensures.first in
+    let xs : List (Turning _) = c.in_ok-crew.crew.items in
+    let ys : List (Turning _) = c.take_turns-turns.new.crew in
+    let same : c.as_mut_slice.result.now ≡ xs = c.as_mut_slice.ensures.value in
+    let len : length ys ≡ length xs = c.take_turns-turns.ensures.len ∙ ap (λ (l : List (Turning _)). length l) same in
+    let full : c.in_ok-crew.crew.len ≡ length xs = search rules in
+    let w = written c.in_ok-crew.crew.len xs ys full len in
+    let t = c.in_ok-turns.ensures in
+    let core = c.take_turns-turns.new.port.core.now in
+    let seed = words_of_seed o.seed in
+    let rows : length c.in_ok-core.core.board.rows ≡ 4096 = ap (λ (x : Shared). length x.board.rows) first ∙ first_rows m o.workers 4096 in
+    let by_rows = subst (λ (n : ℕ). TakesDrawnTurns g.W.Member.known n c.in_ok-core.core c.as_mut_slice.result.now seed core ys t.drawn.0) rows t.drawn.1 in
+    let by_core = subst (λ (x : Shared). TakesDrawnTurns g.W.Member.known 4096 x c.as_mut_slice.result.now seed core ys t.drawn.0) first by_rows in
+    let run : IsDrawnBy g.W.Member.known m o 4096 c.in_ok-ends.ends.items = record {
+      crew = xs;
+      count = sym full ∙ c.in_ok-crew.ensures.count;
+      begins = c.in_ok-crew.ensures.each;
+      core = core;
+      last = ys;
+      words = t.drawn.0;
+      turns = subst (λ (l : List (Turning _)). TakesDrawnTurns g.W.Member.known 4096 (first_shared m o.workers 4096) l seed core ys t.drawn.0) same by_core;
+      all_over = t.over;
+      seen = c.in_ok-ends.ensures ∙ ap (map (ended_of g.W.Member.known)) w;
+    } in
+    IfOk-weaker c.outcome_of.result _ (λ (x : Outcome). IsDrawnBy g.W.Member.known m o 4096 x.ends) (λ x is. subst (IsDrawnBy g.W.Member.known m o 4096) (sym is) run) c.outcome_of.ensures.ends

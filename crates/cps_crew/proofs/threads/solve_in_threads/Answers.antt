@@ -1,0 +1,70 @@
+-- All workers are back, and the words are what their seats know together.
+use Rattle.std.proofs.Common.{rules, ◌≡◌, ℕ, ◌+◌, length, sym, ap, subst, ◌∙◌, List, All}
+use Rattle.cps_board.specs.declared.seats.Board.{Board}
+use Rattle.cps_bounds.specs.declared.seats.Bounds.{Bounds}
+use Rattle.cps_model.specs.declared.bound.Bound.TheVariants.{At}
+use Rattle.cps_model.specs.declared.model.CpModel.{CpModel}
+use Rattle.cps_model.specs.Start.{objective_start}
+use Rattle.cps_port.specs.Incumbents.{IsLowerBound}
+use Rattle.cps_port.specs.Order.{raised_above}
+use Rattle.cps_port.specs.Totals.{total}
+use Rattle.cps_bounds.specs.Seats as words
+use Rattle.cps_crew.specs.declared.seats.Seated.{Seated}
+use Rattle.cps_crew.specs.Crews.{words_splits, MayWork, AreGathered}
+use Rattle.cps_crew.proofs.Crews.{written, written_back, all_at, all_ready, splits_back, came_to}
+use Rattle.cps_crew.proofs.threads.solve_in_threads.Goals as goal
+
+pub work_all-requires-clause-ready : goal.work_all-requires-clause-ready
+work_all-requires-clause-ready g c =
+    let m = c.args.model.now in
+    let o = c.args.options.now in
+    let ready = all_ready g.W.Recruit.suits m _ o c.in_ok-board.board c.in_ok-bounds.bounds c.in_ok-crew.crew.items c.in_ok-bounds.ensures.model c.in_ok-pool.ensures c.requires.range c.requires.suits c.in_ok-crew.ensures.crew in
+    λ κs outlive. subst (All (MayWork g.W.Recruit.suits m o _)) (sym c.as_mut_slice.ensures.value) ready
+
+pub gather-requires-clause-splits : goal.gather-requires-clause-splits
+gather-requires-clause-splits g c =
+    let m = c.args.model.now in
+    let o = c.args.options.now in
+    let xs : List Seated = c.in_ok-crew.crew.items in
+    let ys : List Seated = c.work_all.new.crew in
+    let same : c.as_mut_slice.result.now ≡ xs = c.as_mut_slice.ensures.value in
+    let len : length ys ≡ length xs = c.work_all.ensures.len ∙ ap (λ (l : List Seated). length l) same in
+    let full : c.in_ok-crew.crew.len ≡ length xs = search rules in
+    let w = written c.in_ok-crew.crew.len xs ys full len in
+    let k = splits_back m o.gap o.conflicts c.as_mut_slice.result.now ys c.work_all.ensures.len c.work_all.ensures.each in
+    ap (λ (l : List Seated). words.splits_of c.seat_all.new.kept.bounds_seat + total words_splits l) w ∙ ap (λ (n : ℕ). words.splits_of c.seat_all.new.kept.bounds_seat + n) (k ∙ ap (total words_splits) same) ∙ c.in_ok-crew.ensures.splits
+
+pub gather-requires-clause-crew : goal.gather-requires-clause-crew
+gather-requires-clause-crew g c =
+    let m = c.args.model.now in
+    let o = c.args.options.now in
+    let board : Board = c.seat_all.new.kept.board.now in
+    let bounds : Bounds = c.seat_all.new.kept.bounds.now in
+    let xs : List Seated = c.in_ok-crew.crew.items in
+    let same : c.as_mut_slice.result.now ≡ xs = c.as_mut_slice.ensures.value in
+    let full : c.in_ok-crew.crew.len ≡ length xs = search rules in
+    let tables = c.in_ok-crew.ensures.tables in
+    all_at m o.gap o.conflicts board bounds _
+    (written_back m o.gap o.conflicts board c.in_ok-board.board bounds c.in_ok-bounds.bounds c.in_ok-crew.crew.len xs c.as_mut_slice.result.now c.work_all.new.crew full same c.work_all.ensures.len tables.0 tables.1
+    c.in_ok-crew.ensures.crew c.work_all.ensures.each)
+
+pub outcome_of-requires : goal.outcome_of-requires
+outcome_of-requires g c =
+    let m = c.args.model.now in
+    let o = c.args.options.now in
+    let k = c.close-upper.ensures in
+    let seat = c.gather.new.kept.bounds_seat in
+    let model : words.model_of c.in_ok-bounds.bounds ≡ m = c.in_ok-bounds.ensures.model in
+    let all = c.in_ok-ends.ensures.splits in
+    let board : Board = c.seat_all.new.kept.board.now in
+    let bounds : Bounds = c.seat_all.new.kept.bounds.now in
+    let xs : List Seated = c.in_ok-crew.crew.items in
+    let same : c.as_mut_slice.result.now ≡ xs = c.as_mut_slice.ensures.value in
+    let full : c.in_ok-crew.crew.len ≡ length xs = search rules in
+    let tables = c.in_ok-crew.ensures.tables in
+    let back = written_back m o.gap o.conflicts board c.in_ok-board.board bounds c.in_ok-bounds.bounds c.in_ok-crew.crew.len xs c.as_mut_slice.result.now c.work_all.new.crew full same c.work_all.ensures.len tables.0 tables.1
+    c.in_ok-crew.ensures.crew c.work_all.ensures.each in
+    let came = subst (λ (n : ℕ). AreGathered m o.gap o.conflicts 0 n (words.part_of seat) c.in_ok-ends.ends.items) c.in_ok-crew.ensures.count (c.in_ok-ends.ensures.gathered m o.gap o.conflicts back) in
+    came_to m o.gap o.conflicts o.workers (words.part_of seat) c.close-upper.result.0 c.close-upper.result.1 c.in_ok-ends.ends.items came (k.whole_upper all)
+    (k.whole_lower all ∙ ap (λ (x : CpModel). raised_above (words.part_of seat).raised (At (objective_start x))) model)
+    (subst (λ (x : CpModel). IsLowerBound x c.close-upper.result.1) model k.lower) k.no_worse.0 k.no_worse.1

@@ -1,0 +1,6 @@
+pub mod Ports
+pub mod Endings
+pub mod Workers
+pub mod Outcomes
+pub mod Crews
+pub mod Turning

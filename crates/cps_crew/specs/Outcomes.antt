@@ -1,0 +1,199 @@
+-- What the outcome of a search says of its model.
+use Rattle.std.specs.Prelude.{◌≡◌, ◌≤◌, ⊤, ℕ, false, if◌then◌else◌, ℤ, int_lt, Option, Some, None, IfSome, List, [], ◌∷◌, ◌++◌, map, All}
+use Rattle.std.specs.List.{range_with_len}
+use Rattle.rand_pcg.specs.Lcg.{Lcg}
+use Rattle.cps_model.specs.declared.model.CpModel.{CpModel}
+use Rattle.cps_model.specs.declared.bound.Bound.{Bound}
+use Rattle.cps_model.specs.declared.bound.Bound.TheVariants.{At, Infinite}
+use Rattle.cps_model.specs.Solutions.{objective_value, IsSolution}
+use Rattle.cps_model.specs.Start.{objective_start}
+use Rattle.cps_model.specs.Statuses.{is_closed, status_of, IsAtMost}
+use Rattle.cps_literal.specs.declared.atom.Atom.{Atom}
+use Rattle.cps_instance.specs.Problem.{Problem, IsInstance}
+use Rattle.cps_instance.specs.Strategies.{model_sums}
+use Rattle.cps_instance.specs.Sums.{DefinedSum}
+use Rattle.cps_port.specs.declared.part.BoundsPart.{BoundsPart}
+use Rattle.cps_port.specs.declared.part.Part.{Part}
+use Rattle.cps_port.specs.Order.{BoundLe, IsNoLower, raised_above}
+use Rattle.cps_port.specs.Incumbents.{IsLowerBound}
+use Rattle.cps_clauses.specs.declared.journal.JournalItem.TheVariants.{Learnt}
+use Rattle.cps_search.specs.declared.end.WorkerKind.{WorkerKind}
+use Rattle.cps_search.specs.declared.end.WorkerKind.TheVariants as kinds
+use Rattle.cps_search.specs.declared.end.End.{End}
+use Rattle.cps_search.specs.declared.end.End.TheVariants.{Exhausted, SawClosed, Spent, RoundsDone}
+use Rattle.cps_model.specs.declared.status.Status.TheVariants.{Infeasible}
+use Rattle.cps_search.specs.Assumptions.{IsSufficient}
+use Rattle.cps_search.specs.Searches.{IsHonestJournal, IsItemAbove, learnt_count}
+use Rattle.cps_search.specs.Ends.{Ending, IsHonestEnding, ending, round_count}
+use Rattle.cps_search.specs.Following.{best_bound}
+use Rattle.cps_search.specs.Guided.{IsEndOfRun, IsGuidedBy}
+use Rattle.cps_branch.specs.declared.guidance.Guidance.{Guidance}
+use Rattle.cps_core_guided.specs.Reforming.{CoreSearch}
+use Rattle.cps_core_guided.specs.CoreTurns.{core_ending}
+use Rattle.cps_neighbourhood.specs.Nears.{Near, BeginsNear, NearRunsInTurns}
+use Rattle.cps_options.specs.declared.options.Options.{Options}
+use Rattle.cps_crew.specs.declared.outcome.Outcome.{Outcome}
+use Rattle.cps_crew.specs.Workers.{worker_kind, BeginsByCores, RunsByCores}
+
+-- the kinds of the workers by number
+abbrev pub kinds_of : ℕ → List WorkerKind
+kinds_of workers = map worker_kind (range_with_len 0 workers)
+
+-- the better of two solutions, and the first where the other is no better
+abbrev pub better : CpModel → Option (List ℤ) → Option (List ℤ) → Option (List ℤ)
+better m None b = b
+better m (Some a) None = Some a
+better m (Some a) (Some b) = if int_lt (objective_value m b) (objective_value m a) then Some b else Some a
+
+-- the best solution that any worker found, that of the lowest number where several are as good
+abbrev pub best_of : CpModel → List Ending → Option (List ℤ)
+best_of m [] = None
+best_of m (e ∷ es) = better m e.best (best_of m es)
+
+-- the greatest of a bound and of those to which the workers raised it
+abbrev pub greatest_raised : Bound → List Ending → Bound
+greatest_raised start [] = start
+greatest_raised start (e ∷ es) = raised_above e.raised (greatest_raised start es)
+
+-- the core of a worker that left no solution at all; where it left some, the other core
+abbrev pub core_if : End → Option Bound → List ℤ → List ℤ → List ℤ
+core_if Exhausted (Some Infinite) core other = core
+core_if Exhausted (Some (At value)) core other = other
+core_if Exhausted None core other = other
+core_if SawClosed raised core other = other
+core_if (Spent clause below) raised core other = other
+core_if RoundsDone raised core other = other
+
+-- the core of the first worker that left no solution at all; none where no worker did
+abbrev pub core_of : List Ending → List ℤ
+core_of [] = []
+core_of (e ∷ es) = core_if e.end e.raised e.core (core_of es)
+
+-- A worker spent its budget of conflicts: it learnt from as many as it may, and ended with the clause that one more
+-- teaches. Its journal with this clause at the end is honest, and no clause of it is about what is better than the
+-- least objective that was found.
+pub record SpentItsBudget (m : CpModel) (conflicts : ℕ) (upper : Bound) (e : Ending) : Type 0 where
+  pub tally : e.tally ≡ conflicts
+  pub learnt : learnt_count e.journal ≡ conflicts
+  pub clause : List Atom
+  pub below : Bound
+  pub end : e.end ≡ Spent clause below
+  -- an instance of the model with the worker's sums, over whose subjects the clauses are
+  pub instance : Problem
+  pub is_instance : IsInstance instance
+  pub model : instance.model ≡ m
+  pub sums : instance.defs ≡ e.defs
+  pub honest : IsHonestJournal instance (e.journal ++ Learnt clause below ∷ [])
+  pub above : All (IsItemAbove upper) (e.journal ++ Learnt clause below ∷ [])
+
+-- A neighbourhood worker did its rounds, and ended for no other reason. It learnt from one conflict at least in each;
+-- its journal is honest, and no clause of it is about what is better than the least objective that was found.
+pub record DidItsRounds (m : CpModel) (conflicts : ℕ) (upper : Bound) (e : Ending) : Type 0 where
+  pub end : e.end ≡ RoundsDone
+  pub learnt : round_count conflicts ≤ learnt_count e.journal
+  -- an instance of the model with the worker's sums, over whose subjects the clauses are
+  pub instance : Problem
+  pub is_instance : IsInstance instance
+  pub model : instance.model ≡ m
+  pub sums : instance.defs ≡ e.defs
+  pub honest : IsHonestJournal instance e.journal
+  pub above : All (IsItemAbove upper) e.journal
+
+-- what a worker of each kind has done where the bounds have not met: a complete one spent its budget
+abbrev pub DidItsPartAs : WorkerKind → CpModel → ℕ → Bound → Ending → Type 0
+DidItsPartAs kinds.Fixed m conflicts upper e = SpentItsBudget m conflicts upper e
+DidItsPartAs kinds.Activity m conflicts upper e = SpentItsBudget m conflicts upper e
+DidItsPartAs kinds.CoreGuided m conflicts upper e = SpentItsBudget m conflicts upper e
+DidItsPartAs kinds.Near m conflicts upper e = DidItsRounds m conflicts upper e
+
+abbrev pub DidItsPart : CpModel → ℕ → Bound → Ending → Type 0
+DidItsPart m conflicts upper e = DidItsPartAs e.kind m conflicts upper e
+
+-- A neighbourhood worker that ended is seen as turns in rounds leave it, if they began with nothing known.
+pub record IsEndOfRounds (p : Problem) (gap conflicts : ℕ) (e : Ending) : Type 0 where
+  pub rows : ℕ
+  pub draws : Lcg
+  pub first : Near
+  pub begins : BeginsNear p gap conflicts draws first
+  pub done : Near
+  pub before : Part
+  pub after : Part
+  pub runs : NearRunsInTurns rows first done before after e.end
+  pub seen : e ≡ ending kinds.Near None e.end done.search
+
+-- What is seen of a core-guided worker that ended is what turns come to that began with nothing known but the
+-- objective's first form, over an instance of the model; where nothing is left to assume, they go by the model's hint.
+pub record IsEndOfCores (m : CpModel) (gap conflicts : ℕ) (e : Ending) : Type 0 where
+  pub rows : ℕ
+  pub guidance : Guidance
+  pub first : CoreSearch
+  pub begins : BeginsByCores m gap conflicts guidance first
+  pub done : CoreSearch
+  pub before : Part
+  pub after : Part
+  pub runs : RunsByCores guidance rows first done before after e.end
+  pub seen : e ≡ core_ending e.end done
+
+-- The sums that a worker of a kind defined are those that the model writes; only a core-guided one defines more, for
+-- its form of the objective.
+abbrev pub HasSums : WorkerKind → CpModel → List DefinedSum → Type 0
+HasSums kinds.Fixed m defs = defs ≡ model_sums m
+HasSums kinds.Activity m defs = defs ≡ model_sums m
+HasSums kinds.CoreGuided m defs = ⊤
+HasSums kinds.Near m defs = defs ≡ model_sums m
+
+-- The decisions of a worker that ended went by what the model says, over an instance with the worker's sums: what is
+-- seen of one that goes by a guidance is what a run comes to that begins with nothing known, and each decision of which
+-- goes by that guidance; what is seen of a core-guided worker is what its reforms and decisions come to; and what is
+-- seen of a neighbourhood worker is what its rounds come to.
+pub record GoesByModel (m : CpModel) (gap conflicts : ℕ) (e : Ending) : Type 0 where
+  pub instance : Problem
+  pub is_instance : IsInstance instance
+  pub model : instance.model ≡ m
+  pub sums : instance.defs ≡ e.defs
+  pub guide : IsGuidedBy e.kind instance e.guidance
+  pub decisions : IfSome e.guidance (λ guidance. IsEndOfRun instance gap conflicts guidance e)
+  pub cores : e.kind ≡ kinds.CoreGuided → IsEndOfCores m gap conflicts e
+  pub rounds : e.kind ≡ kinds.Near → IsEndOfRounds instance gap conflicts e
+
+pub record IsGoodOutcome (m : CpModel) (options : Options) (o : Outcome) : Type 0 where
+  -- each worker ended, and is of the kind that its number says, with the sums that the model writes and, but for a
+  -- core-guided one, no others
+  pub workers : map (λ e. e.kind) o.ends ≡ kinds_of options.workers
+  pub sums : All (λ e. HasSums e.kind m e.defs) o.ends
+  -- a fixed worker decides by the model's strategies and then takes the variables, an activity worker by the model's
+  -- hint, a core-guided worker by assumptions and then by the hint, and a neighbourhood worker in rounds
+  pub branchers : All (GoesByModel m options.gap options.conflicts) o.ends
+  -- the status is that of the two bounds
+  pub status : o.status ≡ status_of o.upper o.lower options.gap
+  -- what a worker found is a solution, the outcome's is the best of these, and the upper bound is its objective
+  pub found : All (λ e. IfSome e.best (IsSolution m)) o.ends
+  pub solution : o.solution ≡ best_of m o.ends
+  pub upper : o.upper ≡ best_bound m o.solution
+  -- the lower bound is the greatest of the least objective by the domains and of what the workers raised it to, and no
+  -- solution is below
+  pub lower : o.lower ≡ greatest_raised (At (objective_start m)) o.ends
+  pub floor : (a : List ℤ) → IsSolution m a → IsAtMost o.lower (objective_value m a)
+  -- the core is that of the first worker that left no solution at all, and is sufficient where the model is infeasible
+  pub core : o.core ≡ core_of o.ends
+  pub sufficient : o.status ≡ Infeasible → IsSufficient m o.core
+  -- where the bounds have not met, each worker of a complete kind spent its budget, and each neighbourhood worker did
+  -- its rounds
+  pub spent : is_closed o.lower o.upper options.gap ≡ false → All (DidItsPart m options.conflicts o.upper) o.ends
+
+-- A worker ended honestly, and saw nothing better than these two bounds.
+pub record EndedWithin (m : CpModel) (gap conflicts : ℕ) (upper lower : Bound) (e : Ending) : Type 0 where
+  pub part : BoundsPart
+  pub ended : IsHonestEnding m gap conflicts part e
+  pub sums : HasSums e.kind m e.defs
+  pub goes : GoesByModel m gap conflicts e
+  pub above : BoundLe upper part.saw_upper
+  pub below : IsNoLower part.saw_lower lower
+
+-- What all workers came to: the words are what they found and raised, and each of them ended within the words.
+pub record CameTo (m : CpModel) (gap conflicts workers : ℕ) (upper lower : Bound) (ends : List Ending) : Type 0 where
+  pub kinds : map (λ (e : Ending). e.kind) ends ≡ kinds_of workers
+  pub upper_is : upper ≡ best_bound m (best_of m ends)
+  pub lower_is : lower ≡ greatest_raised (At (objective_start m)) ends
+  pub floor : IsLowerBound m lower
+  pub each : All (EndedWithin m gap conflicts upper lower) ends

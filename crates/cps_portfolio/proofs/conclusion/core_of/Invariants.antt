@@ -1,7 +1,0 @@
--- The workers so far have no core that counts.
-use Rattle.std.proofs.Common.{◌≡◌, drop}
-use Rattle.cps_portfolio.specs.Outcomes.{core_of}
-use Rattle.cps_portfolio.proofs.conclusion.core_of.Given as goal
-
-abbrev pub invariant-loop-ended : goal.invariant-loop-ended
-invariant-loop-ended l = core_of l.ends ≡ core_of (drop l.ended-index l.ends)
