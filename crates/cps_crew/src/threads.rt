@@ -111,7 +111,7 @@ pub fn solve_in_threads<'a, W: Recruit<'a>, R: Threads + Wait + Sync, G: Gate + 
     rt: &R,
     alloc: Global,
     model: &'a ValidModel,
-    options: &Options,
+    options: &'a Options,
     gate: &G,
 ) -> Result<Outcome, AllocError>
     requires range { AreInRange options.now }
