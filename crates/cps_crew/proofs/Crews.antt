@@ -237,7 +237,7 @@ has_returned m gap conflicts board bounds number a b h w = record {
 }
 
 pub all_ready : (suits : CpModel → Type 0) (m pool : CpModel) (o : Options) (board : Board) (bounds : Bounds) (crew : List Seated) → words.model_of bounds ≡ m → pool ≡ m → AreInRange o → suits m → IsCrew board bounds crew → All (MayWork suits m o pool) crew
-all_ready suits m pool o board bounds crew model found range suited h i d l = let s = h.each i d l in record { range = range; suits = suited; found = found; words = ap words.model_of s.bounds_is ∙ model }
+all_ready suits m pool o board bounds crew model found range suited h i d l = let s = h.each i d l in record { range = range; suited = suited; found = found; words = ap words.model_of s.bounds_is ∙ model }
 
 pub all_back : (m : CpModel) (gap conflicts : ℕ) (board : Board) (bounds : Bounds) (crew after : List Seated) → length after ≡ length crew → IsCrew board bounds crew
     → ((i : ℕ) (d : Seated) → i < length crew → Worked m gap conflicts (slice_index_or crew i d) (slice_index_or after i d)) → HaveReturned m gap conflicts board bounds after

@@ -54,7 +54,7 @@ IsBackAt board bounds c = (c.port.board.now ≡ board) × (c.port.bounds.now ≡
 -- seats at which a worker of the model may be made, which suits it, with a pool of the same model
 pub record MayWork (suits : CpModel → Type 0) (m : CpModel) (o : Options) (pool : CpModel) (c : Seated) : Type 0 where
   pub range : AreInRange o
-  pub suits : suits m
+  pub suited : suits m
   pub found : pool ≡ m
   pub words : words.model_of c.port.bounds.now ≡ m
 

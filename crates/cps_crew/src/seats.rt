@@ -1,20 +1,14 @@
 //! Seats at the shared tables, and the workers that search there.
-//!
-//! A worker is made, searches and ends in one thread: so workers are made side by side, and of a worker nothing passes to
-//! another thread but how it ended.
-ghost use Rattle.std.specs.Prelude.{◌≡◌, ℕ, ◌<◌, length, All, IfOk, slice_index_or};
-ghost use Rattle.cps_options.specs.Ranges.{AreInRange};
-ghost use Rattle.cps_search.specs.Keeps.{Keeps};
-ghost use Rattle.cps_crew.specs.Crews.{HasSearched, MayWork, Worked};
+ghost use Rattle.std.specs.Prelude.{◌≡◌, ℕ, ◌<◌, length, All, slice_index_or};
+ghost use Rattle.cps_crew.specs.Crews.{MayWork, Worked};
 ghost use Rattle.cps_crew.specs.declared.seats.Seated.{Seated as SeatedOf};
 
 use crate::ended::AnyEnded;
-use crate::member::{Member, Recruit, run};
+use crate::recruiter::{Order, Recruiter};
 use crate::table_port::TablePort;
 use cps_options::Options;
 use cps_outer::Gate;
-use cps_pool::{Pool, PoolHandle, SharedPool};
-use cps_port::Port;
+use cps_pool::{PoolHandle, SharedPool};
 use cps_validate::ValidModel;
 use std::alloc::{AllocError, Global};
 use std::sync::Wait;
@@ -32,54 +26,35 @@ pub struct Seated<'a> {
     pub ended: Option<AnyEnded>,
 }
 
-/// What the workers of a crew are made of.
-#[derive(Clone, Copy)]
-pub struct Brief<'a> {
+/// What the workers of a crew are made of, and who makes them.
+pub struct Brief<'a, T> {
     pub alloc: Global,
     pub model: &'a ValidModel,
     pub options: &'a Options,
+    pub recruiter: &'a T,
 }
 
-/// Makes a worker of a number, and lets it search to its end.
-fn search<'a, W: Recruit<'a>, Q: Port, F: Pool>(
-    brief: &Brief<'a>,
-    number: u32,
-    port: &mut Q,
-    pool: &mut F,
-) -> Result<AnyEnded, AllocError>
-    requires range { AreInRange brief.now.options.now }
-    requires suits { W.suits brief.now.model.now }
-    requires model { Q.model port.old ≡ brief.now.model.now }
-    requires pool { F.model pool.old ≡ brief.now.model.now }
-    ensures keeps { Keeps Q.model Q.rows Q.stays port.old port.new }
-    ensures searched { IfOk result (HasSearched brief.now.model.now brief.now.options.now.gap
-        brief.now.options.now.conflicts number (Q.rows port.old) (Q.part port.old) (Q.part port.new)) }
-{
-    let mut worker = W::of(brief.alloc, brief.model, brief.options, number)?;
-    run(&mut worker, port, pool)?;
-    Ok(worker.finish())
-}
-
-/// Passes the gate, and then makes the worker of these seats and lets it search to its end.
-fn work<'a, W: Recruit<'a>, R: Wait, G: Gate>(
+/// Passes the gate, and then has the worker of these seats made and lets it search to its end.
+fn work<T: Recruiter, R: Wait, G: Gate>(
     rt: &R,
-    brief: &Brief<'a>,
+    brief: &Brief<'_, T>,
     pool: &SharedPool<'_>,
     gate: &G,
     seated: &mut Seated<'_>,
 )
-    requires { MayWork W.suits brief.now.model.now brief.now.options.now pool.now.model.now seated.old }
+    requires { MayWork T.suits brief.now.model.now brief.now.options.now pool.now.model.now seated.old }
     ensures { Worked brief.now.model.now brief.now.options.now.gap brief.now.options.now.conflicts
         seated.old seated.new }
 {
     gate.arrive(seated.number);
+    let order = Order {
+        alloc: brief.alloc,
+        model: brief.model,
+        options: brief.options,
+        number: seated.number,
+    };
     let mut found = PoolHandle { rt, pool };
-    seated.ended = match search::<W, TablePort<'_>, PoolHandle<'_, '_, R>>(
-        brief,
-        seated.number,
-        &mut seated.port,
-        &mut found,
-    ) {
+    seated.ended = match brief.recruiter.search(&order, &mut seated.port, &mut found) {
         Ok(ended) => Some(ended),
         Err(AllocError) => None,
     };
@@ -92,15 +67,15 @@ fn work<'a, W: Recruit<'a>, R: Wait, G: Gate>(
 
 /// Makes all workers and lets them search to their ends, each in a thread of its own if one can be made. The solutions
 /// that they find go into the pool.
-pub fn work_all<'a, W: Recruit<'a>, R: Threads + Wait + Sync, G: Gate + Sync>(
+pub fn work_all<T: Recruiter + Sync, R: Threads + Wait + Sync, G: Gate + Sync>(
     rt: &R,
-    brief: &Brief<'a>,
+    brief: &Brief<'_, T>,
     crew: &mut [Seated<'_>],
     pool: &SharedPool<'_>,
     gate: &G,
 )
     requires some { 0 < length crew.old }
-    requires ready { All (MayWork W.suits brief.now.model.now brief.now.options.now pool.now.model.now) crew.old }
+    requires ready { All (MayWork T.suits brief.now.model.now brief.now.options.now pool.now.model.now) crew.old }
     ensures len { length crew.new ≡ length crew.old }
     ensures each { (i : ℕ) (d : SeatedOf) → i < length crew.old
         → Worked brief.now.model.now brief.now.options.now.gap brief.now.options.now.conflicts
@@ -110,6 +85,6 @@ pub fn work_all<'a, W: Recruit<'a>, R: Threads + Wait + Sync, G: Gate + Sync>(
         rt,
         crew,
         crew.len(),
-        &|_, seated| { work::<W, R, G>(rt, brief, pool, gate, seated) },
+        &|_, seated| { work(rt, brief, pool, gate, seated) },
     );
 }

@@ -16,19 +16,17 @@ ghost use Rattle.cps_crew.specs.Crews.{words_splits, IsBackAt, IsSeated, IsCrew,
 
 use crate::conclusion::outcome_of;
 use crate::ended::AnyEnded;
-use crate::member::Recruit;
 use crate::numbering::reads_pool;
 use crate::outcome::{Outcome, Reached};
+use crate::recruiter::Recruiter;
 use crate::seats::{Brief, Seated, work_all};
 use crate::table_port::TablePort;
 use cps_board::Board;
 use cps_bounds::Bounds;
 use cps_model::Bound;
-use cps_options::Options;
 use cps_outer::Gate;
 use cps_pool::SharedPool;
 use cps_port::MOST_ROWS;
-use cps_validate::ValidModel;
 use std::alloc::{AllocError, Global};
 use std::sync::Wait;
 use std::thread::Threads;
@@ -107,33 +105,28 @@ fn gather<'t>(
 
 /// Solves a model: `options.workers` workers search in threads until the bounds meet, or each has spent its budget or
 /// done its rounds. Each passes the gate before it begins. If a worker ran out of memory there is no outcome.
-pub fn solve_in_threads<'a, W: Recruit<'a>, R: Threads + Wait + Sync, G: Gate + Sync>(
+pub fn solve_in_threads<T: Recruiter + Sync, R: Threads + Wait + Sync, G: Gate + Sync>(
     rt: &R,
-    alloc: Global,
-    model: &'a ValidModel,
-    options: &'a Options,
+    brief: &Brief<'_, T>,
     gate: &G,
 ) -> Result<Outcome, AllocError>
-    requires range { AreInRange options.now }
-    requires suits { W.suits model.now }
-    ensures { IfOk result (IsGoodOutcome model.now options.now) }
+    requires range { AreInRange brief.now.options.now }
+    requires suits { T.suits brief.now.model.now }
+    ensures { IfOk result (IsGoodOutcome brief.now.model.now brief.now.options.now) }
 {
-    let (bounds, bounds_seat) = Bounds::new(alloc, model)?;
-    let (board, board_seat) = Board::new(alloc, model, MOST_ROWS)?;
-    let pool = SharedPool::new(alloc, model, reads_pool(options.workers))?;
+    let alloc = brief.alloc;
+    let options = brief.options;
+    let (bounds, bounds_seat) = Bounds::new(alloc, brief.model)?;
+    let (board, board_seat) = Board::new(alloc, brief.model, MOST_ROWS)?;
+    let pool = SharedPool::new(alloc, brief.model, reads_pool(options.workers))?;
     let mut kept = TablePort {
         board: &board,
         board_seat,
         bounds: &bounds,
         bounds_seat,
     };
-    let brief = Brief {
-        alloc,
-        model,
-        options,
-    };
     let mut crew = seat_all(alloc, options.workers, &mut kept)?;
-    work_all::<W, R, G>(rt, &brief, crew.as_mut_slice(), &pool, gate);
+    work_all(rt, brief, crew.as_mut_slice(), &pool, gate);
     let ends = gather(alloc, &mut kept, crew)?;
     // Taken apart for its seats, with which the tables are closed.
     let TablePort {
@@ -144,5 +137,5 @@ pub fn solve_in_threads<'a, W: Recruit<'a>, R: Threads + Wait + Sync, G: Gate + 
     } = kept;
     board.close(board_seat);
     let (upper, lower) = bounds.close(bounds_seat);
-    outcome_of(alloc, model, options, Reached { upper, lower, ends })
+    outcome_of(alloc, brief.model, options, Reached { upper, lower, ends })
 }

@@ -6,8 +6,8 @@ ghost use Rattle.cps_kinds.specs.Kinds.{AreAllPropagated};
 ghost use Rattle.cps_crew.specs.Outcomes.{IsGoodOutcome};
 ghost use Rattle.cps_portfolio.specs.Workers.{IsDrawnRun};
 
-use crate::worker::AnyWorker;
-use cps_crew::{Outcome, solve_in_threads, solve_in_turns};
+use crate::worker::{AnyWorker, EveryKind};
+use cps_crew::{Brief, Outcome, solve_in_threads, solve_in_turns};
 use cps_options::Options;
 use cps_outer::Gate;
 use cps_validate::ValidModel;
@@ -28,7 +28,13 @@ pub fn solve<R: Threads + Wait + Sync, G: Gate + Sync>(
     requires kinds { AreAllPropagated model.now }
     ensures { IfOk result (IsGoodOutcome model.now options.now) }
 {
-    solve_in_threads::<AnyWorker<'_>, R, G>(rt, alloc, model, options, gate)
+    let brief = Brief {
+        alloc,
+        model,
+        options,
+        recruiter: &EveryKind,
+    };
+    solve_in_threads(rt, &brief, gate)
 }
 
 /// Solves a model: `options.workers` workers take turns until the bounds meet, or each has spent its budget or done its

@@ -15,7 +15,7 @@ ghost use Rattle.cps_neighbourhood.specs.Drawing.{draws_of};
 ghost use Rattle.cps_crew.specs.Workers.{Begins, BeginsCores, BeginsRounds, IsAimed, TurnedBy, TurnedByCores, TurnedNear};
 
 use cps_core_guided::CoreWorker;
-use cps_crew::{AnyEnded, Member, Recruit};
+use cps_crew::{AnyEnded, Member, Order, Recruit, Recruiter, search};
 use cps_instance::Instance;
 use cps_kinds::{AnyPropagator, engine_of};
 use cps_neighbourhood::NearWorker;
@@ -286,5 +286,22 @@ impl Member for AnyWorker<'_> {
                 AnyEnded::plain(worker.finish())
             }
         }
+    }
+}
+
+/// Makes workers of all kinds.
+#[derive(Clone, Copy)]
+pub struct EveryKind;
+
+impl Recruiter for EveryKind {
+    ghost suits = { AreAllPropagated };
+
+    fn search<Q: Port, F: Pool>(
+        &self,
+        order: &Order<'_>,
+        port: &mut Q,
+        pool: &mut F,
+    ) -> Result<AnyEnded, AllocError> {
+        search::<AnyWorker<'_>, Q, F>(order, port, pool)
     }
 }

@@ -16,15 +16,15 @@ use Rattle.cps_crew.proofs.threads.solve_in_threads.Goals as goal
 
 pub work_all-requires-clause-ready : goal.work_all-requires-clause-ready
 work_all-requires-clause-ready g c =
-    let m = c.args.model.now in
-    let o = c.args.options.now in
-    let ready = all_ready g.W.Recruit.suits m _ o c.in_ok-board.board c.in_ok-bounds.bounds c.in_ok-crew.crew.items c.in_ok-bounds.ensures.model c.in_ok-pool.ensures c.requires.range c.requires.suits c.in_ok-crew.ensures.crew in
-    λ κs outlive. subst (All (MayWork g.W.Recruit.suits m o _)) (sym c.as_mut_slice.ensures.value) ready
+    let m = c.args.brief.now.model.now in
+    let o = c.args.brief.now.options.now in
+    let ready = all_ready g.T.Recruiter.suits m _ o c.in_ok-board.board c.in_ok-bounds.bounds c.in_ok-crew.crew.items c.in_ok-bounds.ensures.model c.in_ok-pool.ensures c.requires.range c.requires.suits c.in_ok-crew.ensures.crew in
+    λ κs outlive. subst (All (MayWork g.T.Recruiter.suits m o _)) (sym c.as_mut_slice.ensures.value) ready
 
 pub gather-requires-clause-splits : goal.gather-requires-clause-splits
 gather-requires-clause-splits g c =
-    let m = c.args.model.now in
-    let o = c.args.options.now in
+    let m = c.args.brief.now.model.now in
+    let o = c.args.brief.now.options.now in
     let xs : List Seated = c.in_ok-crew.crew.items in
     let ys : List Seated = c.work_all.new.crew in
     let same : c.as_mut_slice.result.now ≡ xs = c.as_mut_slice.ensures.value in
@@ -36,8 +36,8 @@ gather-requires-clause-splits g c =
 
 pub gather-requires-clause-crew : goal.gather-requires-clause-crew
 gather-requires-clause-crew g c =
-    let m = c.args.model.now in
-    let o = c.args.options.now in
+    let m = c.args.brief.now.model.now in
+    let o = c.args.brief.now.options.now in
     let board : Board = c.seat_all.new.kept.board.now in
     let bounds : Bounds = c.seat_all.new.kept.bounds.now in
     let xs : List Seated = c.in_ok-crew.crew.items in
@@ -50,8 +50,8 @@ gather-requires-clause-crew g c =
 
 pub outcome_of-requires : goal.outcome_of-requires
 outcome_of-requires g c =
-    let m = c.args.model.now in
-    let o = c.args.options.now in
+    let m = c.args.brief.now.model.now in
+    let o = c.args.brief.now.options.now in
     let k = c.close-upper.ensures in
     let seat = c.gather.new.kept.bounds_seat in
     let model : words.model_of c.in_ok-bounds.bounds ≡ m = c.in_ok-bounds.ensures.model in

@@ -1,7 +1,7 @@
 -- The worker knew nothing at first, and its last turn ended it.
 use Rattle.std.proofs.Common.{◌∙◌, sym, arith}
 use Rattle.cps_crew.proofs.Going.{has_begun, ends_over}
-use Rattle.cps_crew.proofs.seats.search.Goals as goal
+use Rattle.cps_crew.proofs.recruiter.search.Goals as goal
 
 pub run-requires-clause-memory : goal.run-requires-clause-memory
 run-requires-clause-memory g c = (has_begun _ _ _ (g.W.Member.known c.in_ok-worker.worker) c.in_ok-worker.ensures.begins).refused
