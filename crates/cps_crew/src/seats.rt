@@ -27,6 +27,7 @@ pub struct Seated<'a> {
 }
 
 /// What the workers of a crew are made of, and who makes them.
+#[derive(Clone, Copy)]
 pub struct Brief<'a, T> {
     pub alloc: Global,
     pub model: &'a ValidModel,
