@@ -83,7 +83,8 @@ def prove_all(copy, count):
         if is_refused:
             run.terminate()
     if run.returncode:
-        tell("the program is not proved:\n" + "".join(last).rstrip())
+        said = "".join(last).replace(f"{copy}/", "")
+        tell(f"the program is not proved:\n{said.rstrip()}")
     return not run.returncode
 
 
