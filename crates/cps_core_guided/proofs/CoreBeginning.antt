@@ -69,6 +69,9 @@ module _ (p : Problem) (gap budget : ℕ) (s t : Search) (ts : List Term) (f : F
   pub new-begins : BeginsCore p gap budget (beginning t f greatest)
   new-begins = record {
     instance = from_fresh.model;
+    opposites = from_fresh.opposites;
+    are_opposites = from_fresh.are_opposites;
+    defines = from_fresh.defines;
     search = new-fresh;
     first = subst (λ (us : List Term). IsFirstForm t.instance us f) terms first;
     sound = new-sound;

@@ -1,15 +1,15 @@
 -- How the first form is made, term by term, where a sum is defined for each negative coefficient.
 use Rattle.std.specs.Prelude.{All, unsigned_abs}
-use Rattle.std.proofs.Common.{◌≡◌, inl, inr, ℕ, ◌+◌, ◌*◌, ◌<◌, ◌≤◌, ◌^◌, List, [], ◌∷◌, ◌++◌, length, take, drop, get_or, refl, sym, ◌∙◌, ap, subst, arith, ℤ, pos, negsuc, ◌+ℤ◌, ◌*ℤ◌, ◌≤ℤ◌, zero, suc, length-append, take-append-drop, Option}
+use Rattle.std.proofs.Common.{◌≡◌, inl, inr, ℕ, ◌+◌, ◌*◌, ◌<◌, ◌≤◌, ◌^◌, List, [], ◌∷◌, ◌++◌, length, take, drop, get_or, refl, sym, ◌∙◌, ap, subst, arith, ℤ, pos, negsuc, ◌+ℤ◌, ◌*ℤ◌, ◌≤ℤ◌, zero, suc, length-append, take-append-drop, append-nil, append_assoc, Option}
 use Rattle.std.proofs.lemmas.Int.{ints}
 use Rattle.std.proofs.lemmas.List.{take_all, take_more}
-use Rattle.std.proofs.lemmas.List.Elements.{All-nil, All-cons, All-head, All-tail, All-get_or}
+use Rattle.std.proofs.lemmas.List.Elements.{All-nil, All-cons, All-append, All-head, All-tail, All-get_or}
 use Rattle.cps_model.specs.declared.model.CpModel.{CpModel}
 use Rattle.cps_literal.specs.Truth.{value_at}
 use Rattle.cps_instance.specs.declared.task.Task.{Task}
 use Rattle.cps_instance.specs.declared.term.Term.{Term}
 use Rattle.cps_instance.specs.Problem.{Problem, IsInstance, sum_task, variable_count}
-use Rattle.cps_instance.specs.Sums.{extended}
+use Rattle.cps_instance.specs.Sums.{DefinedSum, extended}
 use Rattle.cps_instance.specs.Terms.{AreIntervals, Domains, Intervals, domain_at, greatest_of, least_of, magnitude, terms_reach}
 use Rattle.cps_instance.proofs.Growing.{same-append}
 use Rattle.cps_instance.proofs.Intervals.{greatest_among, least_of-least, magnitude_small}
@@ -19,7 +19,7 @@ use Rattle.cps_search.specs.Searches.{IsSoundSearch, Search}
 use Rattle.cps_reform.specs.Beginning.{StandsForTerm}
 use Rattle.cps_reform.specs.Forms.{Form, FitsTypes, form_value, held_reach, with_held}
 use Rattle.cps_reform.proofs.Firsts.{FirstSoFar, first-more, first-none, first-room, first-stays}
-use Rattle.cps_core_guided.specs.Beginning.{MayHaveOpposite, OnlyGrew, opposite}
+use Rattle.cps_core_guided.specs.Beginning.{IsOpposite, MayHaveOpposite, OnlyGrew, opposite}
 
 -- ---- the subject of a term
 size_of : (c : ℤ) → pos 0 ≤ℤ c → pos (unsigned_abs c) ≡ c
@@ -50,6 +50,12 @@ pub opposite-reach : (p : Problem) (s : ℕ) → IsInstance p → s < variable_c
 opposite-reach p s i l = (let small = domain-small p s i (inside p s i l) in omega (arith, small))
 
 -- ---- a search that gained a sum, or none
+no-opposites : All IsOpposite []
+no-opposites = All-nil IsOpposite
+
+one-opposite : (of : ℕ) → All IsOpposite (opposite of ∷ [])
+one-opposite of = All-cons IsOpposite (opposite of) [] (of, refl) no-opposites
+
 one-longer : (ds : Domains) (d : Intervals) → length (ds ++ d ∷ []) ≡ length ds + 1
 one-longer ds d = length-append ds (d ∷ [])
 
@@ -57,6 +63,9 @@ pub may-grow : (of : ℕ) (s t : Search) (subject : ℕ) → MayHaveOpposite of 
 may-grow of s t subject h = elim h [
   | inl same ↦ record {
     model = ap (λ (x : Search). x.instance.model) same;
+    opposites = [];
+    are_opposites = no-opposites;
+    defines = ap (λ (x : Search). x.instance.defs) same ∙ sym (append-nil s.instance.defs);
     steering = ap (λ (x : Search). x.instance.steering) same;
     longer = (let n = ap (λ (x : Search). length x.instance.domains) same in omega (arith, n));
     few = (let n = ap (λ (x : Search). length x.instance.domains) same in omega (arith, n));
@@ -67,6 +76,9 @@ may-grow of s t subject h = elim h [
       let size : length t.instance.domains ≡ length s.instance.domains + 1 = ap (λ (ds : Domains). length ds) d.domains ∙ one-longer s.instance.domains d.added in
       record {
         model = d.model;
+        opposites = opposite of ∷ [];
+        are_opposites = one-opposite of;
+        defines = d.sums;
         steering = d.steering;
         longer = omega (arith, size);
         few = omega (arith, size);
@@ -77,11 +89,14 @@ may-grow of s t subject h = elim h [
 ]
 
 pub grew-none : (s : Search) → OnlyGrew s s 0
-grew-none s = record { model = refl; steering = refl; longer = omega arith; few = omega arith; is_fresh = λ f. f }
+grew-none s = record { model = refl; opposites = []; are_opposites = no-opposites; defines = sym (append-nil s.instance.defs); steering = refl; longer = omega arith; few = omega arith; is_fresh = λ f. f }
 
 pub grew-more : (s t u : Search) (m n : ℕ) → OnlyGrew s t m → OnlyGrew t u n → OnlyGrew s u (m + n)
 grew-more s t u m n h k = record {
   model = k.model ∙ h.model;
+  opposites = h.opposites ++ k.opposites;
+  are_opposites = All-append IsOpposite h.opposites k.opposites h.are_opposites k.are_opposites;
+  defines = k.defines ∙ ap (λ (ds : List DefinedSum). ds ++ k.opposites) h.defines ∙ append_assoc s.instance.defs h.opposites k.opposites;
   steering = k.steering ∙ h.steering;
   longer = (let a = h.longer in let b = k.longer in omega (arith, a, b));
   few = (let a = h.few in let b = k.few in omega (arith, a, b));
@@ -223,4 +238,4 @@ base-held s t terms k f l h =
     omega (arith, base, reach, small)
 
 pub grew-at-most : (s t : Search) (m n : ℕ) → m ≤ n → OnlyGrew s t m → OnlyGrew s t n
-grew-at-most s t m n l h = record { model = h.model; steering = h.steering; longer = h.longer; few = (let k = h.few in omega (arith, k, l)); is_fresh = h.is_fresh }
+grew-at-most s t m n l h = record { model = h.model; opposites = h.opposites; are_opposites = h.are_opposites; defines = h.defines; steering = h.steering; longer = h.longer; few = (let k = h.few in omega (arith, k, l)); is_fresh = h.is_fresh }

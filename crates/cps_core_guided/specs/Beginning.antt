@@ -1,5 +1,5 @@
 -- How a core-guided search begins.
-use Rattle.std.specs.Prelude.{◌≡◌, ◌⊎◌, ℕ, ℤ, ◌+◌, ◌≤◌, pos, negsuc, None, false, [], ◌∷◌, length}
+use Rattle.std.specs.Prelude.{◌≡◌, ◌⊎◌, ℕ, ℤ, ◌+◌, ◌≤◌, pos, negsuc, None, false, List, [], ◌∷◌, ◌++◌, length, All}
 use Rattle.cps_instance.specs.Sums.{DefinedSum}
 use Rattle.cps_search.specs.Growing.{GrewBy}
 use Rattle.cps_search.specs.Moves.{fresh}
@@ -11,13 +11,20 @@ use Rattle.cps_core_guided.specs.Reforming.{CoreSearch}
 abbrev pub opposite : ℕ → DefinedSum
 opposite subject = record { terms = record { coeff = negsuc 0; subject = subject } ∷ []; offset = pos 0 }
 
+-- a sum is the opposite of some subject
+abbrev pub IsOpposite : DefinedSum → Type 0
+IsOpposite sum = (subject : ℕ) × (sum ≡ opposite subject)
+
 -- a search stayed as it was, or has the opposite of a subject as one more
 abbrev pub MayHaveOpposite : ℕ → Search → Search → ℕ → Type 0
 MayHaveOpposite of s t subject = (t ≡ s) ⊎ GrewBy s t (opposite of) subject
 
--- a search that knows nothing yet gained at most so many sums
+-- a search that knows nothing yet gained at most so many sums, each of which is the opposite of a subject
 pub record OnlyGrew (s t : Search) (most : ℕ) : Type 0 where
   pub model : t.instance.model ≡ s.instance.model
+  pub opposites : List DefinedSum
+  pub are_opposites : All IsOpposite opposites
+  pub defines : t.instance.defs ≡ s.instance.defs ++ opposites
   pub steering : t.instance.steering ≡ s.instance.steering
   pub longer : length s.instance.domains ≤ length t.instance.domains
   pub few : length t.instance.domains ≤ length s.instance.domains + most

@@ -1,10 +1,11 @@
 -- What a core-guided worker does in a turn and in a run, and one that has ended, as others see it.
-use Rattle.std.specs.Prelude.{◌≡◌, ◌⊎◌, ℕ, ◌+◌, ◌<◌, ◌≤◌, ◌^◌, ℤ, ◌≤ℤ◌, ◌<ℤ◌, Bool, true, false, Option, Some, None, IfSome, IsSome, List, [], length}
+use Rattle.std.specs.Prelude.{◌≡◌, ◌⊎◌, ℕ, ◌+◌, ◌<◌, ◌≤◌, ◌^◌, ℤ, ◌≤ℤ◌, ◌<ℤ◌, Bool, true, false, Option, Some, None, IfSome, IsSome, List, [], ◌++◌, length, All}
 use Rattle.cps_model.specs.declared.bound.Bound.{Bound}
 use Rattle.cps_model.specs.declared.bound.Bound.TheVariants.{At, Infinite}
 use Rattle.cps_literal.specs.declared.atom.Atom.{Atom}
 use Rattle.cps_instance.specs.Problem.{Problem}
 use Rattle.cps_instance.specs.Posting.{objective_terms}
+use Rattle.cps_instance.specs.Sums.{DefinedSum}
 use Rattle.cps_trail.specs.Trail.{Trail, open_values}
 use Rattle.cps_branch.specs.Choice.{IsUndecided}
 use Rattle.cps_branch.specs.Scope.{Scope, IsScopeOf}
@@ -30,6 +31,7 @@ use Rattle.cps_search.specs.Turns.{DecisionDue, ExhaustedAll, FoundOne, GoesOnAn
 use Rattle.cps_reform.specs.Forms.{Form, term_at}
 use Rattle.cps_reform.specs.Beginning.{IsFirstForm}
 use Rattle.cps_reform.specs.Marks.{assumed}
+use Rattle.cps_core_guided.specs.Beginning.{IsOpposite}
 use Rattle.cps_core_guided.specs.Assuming.{AreAssumed, IsFailed, IsFirstOpenTerm, NoTermFails}
 use Rattle.cps_reform.specs.Floors.{IsFormPast}
 use Rattle.cps_core_guided.specs.Reforming.{CoreSearch, IsSoundCore, ReformsTo, most_sums, whole, whole_core}
@@ -234,6 +236,9 @@ pub record RunsCoreTo (s t : CoreSearch) (p q : Part) (end : End) : Type 0 where
 -- the opposite of each variable that the objective takes off.
 pub record BeginsCore (p : Problem) (gap budget : ℕ) (s : CoreSearch) : Type 0 where
   pub instance : s.search.instance.model ≡ p.model
+  pub opposites : List DefinedSum
+  pub are_opposites : All IsOpposite opposites
+  pub defines : s.search.instance.defs ≡ p.defs ++ opposites
   pub search : s.search ≡ fresh s.search.instance gap (Some budget)
   pub first : IsFirstForm s.search.instance (objective_terms p.model.objective) s.form
   pub sound : IsSoundCore s

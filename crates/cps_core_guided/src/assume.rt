@@ -11,8 +11,8 @@ use cps_literal::Truth;
 use cps_reform::{Held, assumption};
 use cps_trail::Store;
 
-/// The most sums that are defined for cores; after them no term is assumed any more: the model's assumptions are decided
-/// first, and then the brancher chooses. With them there are at most 2^31 subjects.
+/// The most sums that are defined for cores; after them no term is assumed any more: the model's assumptions are
+/// decided first, and then the brancher chooses. With them there are at most 2^31 subjects.
 const MOST_SUMS: u32 = 1 << 24;
 
 /// Whether terms are assumed still, after so many sums of cores.
@@ -79,7 +79,8 @@ fn first_open(store: &Store, terms: &[Held]) -> Option<usize>
     None
 }
 
-/// The place of the first term whose assumption is false, as long as terms are assumed.
+/// The place of the first term with a weight above 0 whose assumption is false, as long as terms are assumed. `sums`
+/// were defined for cores.
 pub(crate) fn failed_term(store: &Store, terms: &[Held], sums: u32) -> Option<usize>
     requires { All (λ t. t.subject < length store.now.first) terms.now }
     ensures some { IfSome result (λ place. (sums < most_sums) × IsFailed store.now terms.now place) }
@@ -91,7 +92,8 @@ pub(crate) fn failed_term(store: &Store, terms: &[Held], sums: u32) -> Option<us
     first_failed(store, terms)
 }
 
-/// The place of the first term whose assumption is undecided, as long as terms are assumed.
+/// The place of the first term with a weight above 0 whose assumption is undecided, as long as terms are assumed.
+/// `sums` were defined for cores.
 pub(crate) fn open_term(store: &Store, terms: &[Held], sums: u32) -> Option<usize>
     requires { All (λ t. t.subject < length store.now.first) terms.now }
     ensures some { IfSome result (λ place. (sums < most_sums) × IsFirstOpenTerm store.now terms.now place) }

@@ -109,13 +109,13 @@ impl<'a, P: Defining, B: Brancher + Drop> Guided<'a, P, B> {
                 self.kept = still_kept(self.frame.store(), self.kept);
                 Ok(turn)
             }
-            None => self.go_on(port),
+            None => self.reform_or_decide(port),
         }
     }
 
-    /// Goes on where a decision is due: reforms where the assumption of a term is false; decides an assumption that is
-    /// undecided, one of the model first; or decides what the brancher chooses.
-    fn go_on<Q: Port>(&mut self, port: &mut Q) -> Result<Turn, AllocError>
+    /// Where a decision is due, reforms if the assumption of a term is false, and else decides: an assumption that is
+    /// undecided, one of the model first, or what the brancher chooses.
+    fn reform_or_decide<Q: Port>(&mut self, port: &mut Q) -> Result<Turn, AllocError>
         requires works { Works B.scope B.agrees self.old }
         requires due { IsDue self.old.frame }
         requires running { self.old.ended ≡ false }

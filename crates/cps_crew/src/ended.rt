@@ -16,7 +16,7 @@ enum Finished {
     Core(CoreEnded),
 }
 
-/// A worker of any kind that has ended. It is made of what a worker's `finish` gave, and is seen as what has ended is.
+/// A worker of any kind that has ended, made of what its `finish` gave.
 #[derive(Drop)]
 pub struct AnyEnded {
     finished: Finished,

@@ -1,7 +1,7 @@
 //! What a crew asks of each of its workers.
 //!
-//! A crew is made, run and finished without a look at what its workers are: each is made by its number (`Recruit`), takes
-//! turns, and leaves what is seen of it when it has ended (`Member`). So what is proved of a crew rests on these
+//! A crew is made, run and finished without a look at what its workers are: each is made by its number (`Recruit`),
+//! takes turns, and leaves what is seen of it when it has ended (`Member`). So what is proved of a crew rests on these
 //! contracts alone.
 ghost use Rattle.std.specs.Prelude.{◌≡◌, ◌+◌, ◌≤◌, length, false, IfOk, OnOk};
 ghost use Rattle.cps_model.specs.declared.model.CpModel.{CpModel};

@@ -2,7 +2,7 @@
 ghost use Rattle.std.specs.Prelude.{◌↔◌, IsTrue};
 ghost use Rattle.cps_crew.specs.Workers.{SearchesNear};
 
-/// Whether one of so many workers searches near solutions: number 3 is the first.
+/// Whether one of so many workers searches near solutions, and so reads the pool: number 3 is the first that does.
 pub fn reads_pool(workers: u32) -> bool
     ensures { IsTrue result ↔ SearchesNear workers }
 {

@@ -1,8 +1,7 @@
 //! Who makes the workers of a crew in threads, and lets them search.
 //!
-//! A worker is made, searches and ends in one thread: so workers are made side by side, and of a worker nothing passes to
-//! another thread but how it ended. What passes is the recruiter, so that a type of workers need not be one that may
-//! be sent.
+//! A worker is made, searches and ends in one thread: so workers are made side by side, and of a worker nothing passes
+//! to another thread but how it ended. What the threads share is the recruiter, so that it alone need be `Sync`.
 ghost use Rattle.std.specs.Prelude.{◌≡◌, IfOk};
 ghost use Rattle.cps_model.specs.declared.model.CpModel.{CpModel};
 ghost use Rattle.cps_options.specs.Ranges.{AreInRange};
@@ -21,7 +20,7 @@ use std::alloc::{AllocError, Global};
 #[derive(Clone, Copy)]
 pub struct Order<'a> {
     pub alloc: Global,
-    /// The model, which is in force as long as the worker is.
+    /// The model, which outlives the worker.
     pub model: &'a ValidModel,
     pub options: &'a Options,
     /// The worker's number.

@@ -32,6 +32,7 @@ pub struct Brief<'a, T> {
     pub alloc: Global,
     pub model: &'a ValidModel,
     pub options: &'a Options,
+    /// Makes each worker in the thread in which it searches.
     pub recruiter: &'a T,
 }
 

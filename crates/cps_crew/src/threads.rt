@@ -74,8 +74,8 @@ fn seat_all<'t>(
     Ok(crew)
 }
 
-/// Joins all seats to those of one port, and answers the workers' ends by number. Of whichever model and options they are
-/// that the workers have returned, the ends are gathered.
+/// Joins all seats to those of one port, and answers the workers' ends by number. An error says that a worker left no
+/// end, since it ran out of memory, or that there was no memory for the list.
 fn gather<'t>(
     alloc: Global,
     kept: &mut TablePort<'t>,

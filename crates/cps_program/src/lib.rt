@@ -2,9 +2,9 @@
 //!
 //! The contract of `solve_main` says what the program does: OPTIMAL comes only with a solution that none beats by more
 //! than the gap that the words give, INFEASIBLE only where there is none, FEASIBLE and UNKNOWN only where each worker
-//! spent its budget of conflicts, or did its rounds near solutions, on clauses that said something new; `valid` comes only
-//! for a valid model, and a canonical text is read as the same model; and every other answer comes only where its cause is
-//! there.
+//! spent its budget of conflicts, or did its rounds near solutions, on clauses that said something new; `valid` comes
+//! only for a valid model, and a canonical text is read as the same model; and every other answer comes only where its
+//! cause is there.
 #![tactic(auto)]
 
 mod answer;

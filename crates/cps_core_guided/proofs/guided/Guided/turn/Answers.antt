@@ -24,11 +24,11 @@ steps-requires-clause-few g c =
     let x = c.args.self.now in
     core-room (core_search_of x) (g.B.Brancher.scope x.brancher) (g.B.Brancher.agrees x.brancher x.frame.store) x.kept c.requires.works
 
-pub go_on-requires-clause-running : goal.go_on-requires-clause-running
-go_on-requires-clause-running g c = not-ended (core_search_of c.args.self.now) c.requires.running
+pub reform_or_decide-requires-clause-running : goal.reform_or_decide-requires-clause-running
+reform_or_decide-requires-clause-running g c = not-ended (core_search_of c.args.self.now) c.requires.running
 
-pub go_on-requires-clause-works : goal.go_on-requires-clause-works
-go_on-requires-clause-works g c =
+pub reform_or_decide-requires-clause-works : goal.reform_or_decide-requires-clause-works
+reform_or_decide-requires-clause-works g c =
     let s = core_search_of c.args.self.now in
     let m = c.steps.new.self in
     let b = c.args.self.now.brancher in
@@ -106,46 +106,46 @@ returns-in-Some-clause-works g c =
     (c.hear_turn.ensures.saw t.store still (g.met.B.Brancher.kept_on b s.search.store t.store still kept (omega (arith, left)) (same_back scope.subjects still s.search.store t.store (omega (arith, left, within)) (omega (arith, left)) store) w.agreed))
 
 pub returns-in-None-clause-guidance : goal.returns-in-None-clause-guidance
-returns-in-None-clause-guidance g c = c.go_on.ensures.guidance
+returns-in-None-clause-guidance g c = c.reform_or_decide.ensures.guidance
 
 pub returns-in-None-clause-works : goal.returns-in-None-clause-works
-returns-in-None-clause-works g c = c.go_on.ensures.works
+returns-in-None-clause-works g c = c.reform_or_decide.ensures.works
 
 pub returns-in-None-clause-keeps : goal.returns-in-None-clause-keeps
-returns-in-None-clause-keeps g c = keeps_then _ _ _ g.met.Q.Port.moved_on _ _ _ c.in_ok-turn.ensures.keeps c.go_on.ensures.keeps
+returns-in-None-clause-keeps g c = keeps_then _ _ _ g.met.Q.Port.moved_on _ _ _ c.in_ok-turn.ensures.keeps c.reform_or_decide.ensures.keeps
 
 pub returns-in-None-clause-turn : goal.returns-in-None-clause-turn
 returns-in-None-clause-turn g c =
     let s = core_search_of c.args.self.now in
     let m = c.steps.new.self in
-    let t = core_search_of c.go_on.new.self in
+    let t = core_search_of c.reform_or_decide.new.self in
     let rows = g.Q.Port.rows c.args.port.now in
     let p = g.Q.Port.part c.args.port.now in
     let o = g.Q.Port.part c.steps.new.port in
-    let q = g.Q.Port.part c.go_on.new.port in
+    let q = g.Q.Port.part c.reform_or_decide.new.port in
     let chooses = g.B.Brancher.chooses c.args.self.now.brancher in
     let steps = subst (λ (x : Option Turn). Steps s.search m rows p o x) c.in-None.is c.in_ok-turn.ensures.steps in
-    if_ok_weaker c.go_on.result (GoesOn chooses (record s { search = m }) t o q) (TakesCoreTurn chooses s t rows p q)
-    (λ turn on. turn-on chooses s (record s { search = m }) t rows p o q turn (not-ended s c.requires.running) c.requires.works.has_budget c.in_ok-turn.ensures.sound.0 steps refl on) c.go_on.ensures.goes_on
+    if_ok_weaker c.reform_or_decide.result (GoesOn chooses (record s { search = m }) t o q) (TakesCoreTurn chooses s t rows p q)
+    (λ turn on. turn-on chooses s (record s { search = m }) t rows p o q turn (not-ended s c.requires.running) c.requires.works.has_budget c.in_ok-turn.ensures.sound.0 steps refl on) c.reform_or_decide.ensures.goes_on
 
 pub returns-in-None-clause-brancher : goal.returns-in-None-clause-brancher
 returns-in-None-clause-brancher g c =
     let s = c.args.self.now.frame in
-    let t = c.go_on.new.self.frame in
+    let t = c.reform_or_decide.new.self.frame in
     let b = c.args.self.now.brancher in
-    let new = c.go_on.new.self.brancher in
+    let new = c.reform_or_decide.new.self.brancher in
     let chose = DecidedBy (g.B.Brancher.stays b new) (new ≡ b) in
     let heard = HeardOne (λ clause restart. g.B.Brancher.hears b clause restart new) s t in
-    if_ok_weaker c.go_on.result (λ turn. BrancherTurn turn ⊥ chose (new ≡ b)) (λ turn. BrancherTurn turn heard chose (new ≡ b)) (λ turn h. heard-brancher turn heard chose (new ≡ b) h) c.go_on.ensures.brancher
+    if_ok_weaker c.reform_or_decide.result (λ turn. BrancherTurn turn ⊥ chose (new ≡ b)) (λ turn. BrancherTurn turn heard chose (new ≡ b)) (λ turn h. heard-brancher turn heard chose (new ≡ b) h) c.reform_or_decide.ensures.brancher
 
 pub hear_turn-requires : goal.hear_turn-requires
 hear_turn-requires g c = record { running = c.in_ok-turn.ensures.steps.setting.refused ∙ not-refused c.args.self.now.frame.refused c.in_ok-turn.ensures.stays }
 
-pub go_on-requires-clause-model : goal.go_on-requires-clause-model
-go_on-requires-clause-model g c =
+pub reform_or_decide-requires-clause-model : goal.reform_or_decide-requires-clause-model
+reform_or_decide-requires-clause-model g c =
     c.in_ok-turn.ensures.keeps.model ∙ c.requires.model ∙ ap (λ (p : Problem). p.model) (sym c.in_ok-turn.ensures.steps.setting.instance)
 
-pub go_on-requires-clause-due : goal.go_on-requires-clause-due
-go_on-requires-clause-due g c =
+pub reform_or_decide-requires-clause-due : goal.reform_or_decide-requires-clause-due
+reform_or_decide-requires-clause-due g c =
     let steps = subst (λ (x : Option Turn). Steps c.args.self.now.frame c.steps.new.self (g.Q.Port.rows c.args.port.now) (g.Q.Port.part c.args.port.now) (g.Q.Port.part c.steps.new.port) x) c.in-None.is c.in_ok-turn.ensures.steps in
     record { phase = steps.cause.phase; settled = steps.cause.settled; left_open = steps.cause.left_open }

@@ -9,7 +9,7 @@ use Rattle.cps_core_guided.specs.Guiding.{core_search_of}
 use Rattle.cps_core_guided.proofs.CoreWorking.{terms-inside}
 use Rattle.cps_core_guided.proofs.Deciding.{read-both}
 use Rattle.cps_core_guided.proofs.Hearing.{on-brancher}
-use Rattle.cps_core_guided.proofs.guided.Guided.go_on.Goals as goal
+use Rattle.cps_core_guided.proofs.guided.Guided.reform_or_decide.Goals as goal
 
 pub failed_term-requires : goal.failed_term-requires
 failed_term-requires g c = terms-inside (core_search_of c.args.self.now) c.store.result.now c.terms.result.now c.requires.works.sound c.store.ensures c.terms.ensures
