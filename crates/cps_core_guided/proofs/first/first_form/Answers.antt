@@ -8,11 +8,15 @@ use Rattle.cps_instance.specs.declared.term.Term.{Term}
 use Rattle.cps_instance.specs.Problem.{Problem}
 use Rattle.cps_instance.specs.Terms.{domain_at, magnitude}
 use Rattle.cps_reform.specs.Forms.{form_value, held_reach, with_held}
-use Rattle.cps_core_guided.proofs.Starting.{all-held, form-more, form-stays, grew-at-most, next-base, next-ordered, next-room, next-roomy, next-within}
+use Rattle.cps_core_guided.proofs.Starting.{all-held, form-more, form-none, form-stays, grew-at-most, next-base, next-ordered, next-room, next-roomy, next-within}
 use Rattle.cps_core_guided.proofs.first.first_form.Goals as goal
 
 abbrev none : Term
 none = record { coeff = pos 0; subject = 0 }
+
+pub loop-term-init : goal.loop-term-init
+loop-term-init g c =
+    form-none c.args.frame.now c.args.terms.now c.new-reform.result c.requires.sound c.requires.bottom c.requires.small c.new-reform.ensures.base (c.new-reform.ensures.terms ∙ c.new.ensures.items)
 
 pub hold-requires-clause-roomy : goal.hold-requires-clause-roomy
 hold-requires-clause-roomy g c =
