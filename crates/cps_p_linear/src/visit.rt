@@ -34,7 +34,7 @@ fn disable(number: u32, store: &mut Store, task: &SumTask, place: usize) -> Resu
         None => {}
     }
     let negation = task.enforcement[place].negate();
-    // The note's second number is 1 for the place of an enforcement atom, and 0 for that of a term (`explain`).
+    // The note's second number is 1 for the place of an enforcement atom, and 0 for that of a term (`explain_by_note`).
     let note = Note::Task {
         task: number,
         a: place as i64,

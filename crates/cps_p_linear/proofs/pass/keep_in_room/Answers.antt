@@ -1,8 +1,9 @@
 -- What the high end leaves stays within it where the low one is kept.
 use Rattle.std.proofs.Common.{ap, subst, Ok}
+use Rattle.std.proofs.lemmas.Result.{IfOk-at_ok, on_ok_weaker}
 use Rattle.cps_trail.proofs.Inferring.{Infers-trans}
 use Rattle.cps_trail.specs.Notes.{ByTask}
-use Rattle.cps_trail.specs.Adds.{Answers}
+use Rattle.cps_trail.specs.Adds.{Infers, Answers}
 use Rattle.cps_propagate.specs.declared.propagator.Answer.{Answer}
 use Rattle.cps_propagate.specs.Conflicts.{as_step}
 use Rattle.cps_p_linear.specs.declared.ends.Side.{Side}
@@ -37,16 +38,17 @@ pub returns-in-Conflict-clause-room : goal.returns-in-Conflict-clause-room
 returns-in-Conflict-clause-room c = λ is. absurd (not_settled is)
 
 pub returns-clause-infers : goal.returns-clause-infers
-returns-clause-infers c = Infers-trans (ByTask c.args.number (Asks c.args.high.now.measured.task)) c.args.store.now c.keep_end.new.store c.keep_end-2.new.store c.in_ok-keep_end.ensures.infers c.in_ok-answer.ensures.infers
+returns-clause-infers c = on_ok_weaker c.keep_end-2.result (λ later. Infers-trans (ByTask c.args.number (Asks c.args.high.now.measured.task)) c.args.store.now c.keep_end.new.store c.keep_end-2.new.store c.in_ok-keep_end.ensures.infers later) c.keep_end-2.ensures.infers
 
 pub returns-clause-answers : goal.returns-clause-answers
-returns-clause-answers c = c.in_ok-answer.ensures.answers
+returns-clause-answers c = c.keep_end-2.ensures.answers
 
 pub returns-clause-room : goal.returns-clause-room
 returns-clause-room c = λ is.
     let e = c.args.high.now in
     let m = e.measured in
     let u = c.keep_end-2.new.store in
+    let later = IfOk-at_ok (λ (_ : Answer). Infers (ByTask c.args.number (Asks m.task)) c.keep_end.new.store u) is c.keep_end-2.ensures.infers in
     let within = subst (λ (side : Side). IsCutAt c.keep_end.new.store side m.sum e.goal m.task.terms.now m.values.now e.place) c.requires.side (c.in_ok-keep_end.ensures.cut (ap Ok c.in-Settled.is)) in
-    room_of_cuts u m.sum e.goal m.task.terms.now m.values.now e.place (c.in_ok-answer.ensures.cut is)
-    (cut_later (ByTask c.args.number (Asks m.task)) c.keep_end.new.store u High m.sum e.goal m.task.terms.now m.values.now e.place c.in_ok-answer.ensures.infers within)
+    room_of_cuts u m.sum e.goal m.task.terms.now m.values.now e.place (c.keep_end-2.ensures.cut is)
+    (cut_later (ByTask c.args.number (Asks m.task)) c.keep_end.new.store u High m.sum e.goal m.task.terms.now m.values.now e.place later within)
