@@ -26,7 +26,7 @@ pub(crate) struct Gaps {
     pub(crate) listed: Vec<i64>,
     /// The same as intervals, in order.
     runs: Vec<(i64, i64)>,
-    /// The values that are not.
+    /// The values of a domain that the list, or another domain, has not.
     pub(crate) missing: Vec<i64>,
     /// For each number from the least value on, whether it is supported.
     marks: Vec<bool>,
@@ -79,17 +79,8 @@ fn hull(values: &[i64]) -> (i64, i64) {
     (low, high)
 }
 
-/// So many marks, of which none is set.
-fn clear_marks(marks: &mut Vec<bool>, count: usize) -> Result<(), AllocError> {
-    marks.clear();
-    for _ in 0..count {
-        marks.push(false)?;
-    }
-    Ok(())
-}
-
-/// Marks values by how far each lies above the least one, and counts the marks.
-fn count_marked(values: &[i64], low: i64, marks: &mut [bool]) -> u64 {
+/// Marks values by how far each lies above the least one. Answers how many were not marked before.
+fn mark_distinct(values: &[i64], low: i64, marks: &mut [bool]) -> u64 {
     let mut count = 0u64;
     for value in values {
         let Some(place) = distance(low, *value, marks.len()) else {
@@ -110,8 +101,9 @@ fn count_distinct(values: &[i64], marks: &mut Vec<bool>) -> Result<Option<u64>, 
     let Some(span) = distance(low, high, most) else {
         return Ok(None);
     };
-    clear_marks(marks, span.saturating_add(1))?;
-    Ok(Some(count_marked(values, low, marks.as_mut_slice())))
+    marks.clear();
+    marks.resize(span.saturating_add(1), false)?;
+    Ok(Some(mark_distinct(values, low, marks.as_mut_slice())))
 }
 
 /// Makes a list that of the values as intervals.
