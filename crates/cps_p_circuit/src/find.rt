@@ -209,7 +209,7 @@ impl Finder {
     }
 
     /// That an open arc is not taken, if it is beside a taken one or closes a chain.
-    fn exclude(&self, graph: &Graph, k: usize) -> Option<Candidate>
+    fn exclusion_of(&self, graph: &Graph, k: usize) -> Option<Candidate>
         requires tail { k < length graph.now.from.items }
         requires head { k < length graph.now.to.items }
     {
@@ -220,7 +220,7 @@ impl Finder {
         } else if into != 0 && into - 1 != k {
             Claim::TwoIn(into - 1, k)
         } else {
-            return self.avoid(graph, k);
+            return self.tour_exclusion_of(graph, k);
         };
         Some(untaken(k, claim))
     }
@@ -335,17 +335,15 @@ impl Finder {
     }
 
     /// That an open arc is not taken, if it closes a chain beside which a node is on the circuit.
-    fn avoid(&self, graph: &Graph, k: usize) -> Option<Candidate> {
+    fn tour_exclusion_of(&self, graph: &Graph, k: usize) -> Option<Candidate> {
         let start = head_of(graph, k);
         let label = slot_at(self.first.as_slice(), tail_of(graph, k));
         let by = self.next_of(graph, start);
         if label == 0 || label - 1 != start || by == 0 {
             return None;
         }
-        match self.outside(label) {
-            Some(outer) => Some(untaken(k, Claim::Tour(Subtour { arc: by - 1, outer }))),
-            None => None,
-        }
+        let outer = self.outside(label)?;
+        Some(untaken(k, Claim::Tour(Subtour { arc: by - 1, outer })))
     }
 
     /// Sees that a node is parted from one that is surely on the circuit: if it is on the circuit too, that is a
@@ -434,7 +432,7 @@ impl Finder {
         for k in 0..arcs {
             let truth = store.truth(literals[k]);
             if let Truth::Undecided = truth {
-                if let Some(candidate) = self.exclude(graph, k) {
+                if let Some(candidate) = self.exclusion_of(graph, k) {
                     self.candidates.push(candidate)?;
                 }
             }
