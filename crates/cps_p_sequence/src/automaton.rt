@@ -81,7 +81,7 @@ impl Model for Automaton {
         r.first r.last.items r.steps.items × HasLabelsOf r.steps.items r.alphabet.items };
 }
 
-/// The states of an automaton by numbers, and what is kept of it by them.
+/// What an automaton's rule keeps by numbers of states; the fields are those of `Automaton`.
 struct Numbered {
     states: Vec<i64>,
     first: usize,
@@ -90,7 +90,7 @@ struct Numbered {
     alphabet: Vec<i64>,
 }
 
-/// Numbers the states of an automaton's lists.
+/// Numbers the states of an automaton, and lists its final states, steps and labels by the numbers.
 fn number_states(
     alloc: Global,
     start: i64,
@@ -142,14 +142,13 @@ impl Automaton {
         let heads = Vec::from_slice(alloc, steps.1)?;
         let labels = Vec::from_slice(alloc, steps.2)?;
         let own_exprs = Vec::from_slice(alloc, exprs)?;
-        let made = number_states(alloc, start, finals, steps)?;
         let Numbered {
             states,
             first,
             last,
             steps: numbered,
             alphabet,
-        } = made;
+        } = number_states(alloc, start, finals, steps)?;
         Ok(Automaton {
             alloc,
             start,

@@ -86,7 +86,7 @@ struct Asked {
     is_open: bool,
 }
 
-/// Whether a label was open, which is known of the one that was asked about last.
+/// The answer for a label; the last one where it is the label that was asked about last.
 fn ask(past: &Before, goal: Option<Atom>, subject: u32, label: i64, last: Asked) -> Asked
     requires { subject < length past.now.first }
 {
@@ -112,7 +112,7 @@ fn guide_back(
     ensures { OnOk result (length tails.new.items ≡ length heads.now) }
 {
     blank(tails, heads.len())?;
-    // steps with one label stand side by side, and it is asked about once
+    // Steps with one label stand side by side, so each label is asked about once.
     let mut asked = Asked {
         label: None,
         is_open: false,

@@ -237,8 +237,7 @@ fn keep_places(
     let count = direct.len() as i64;
     keep_within(store, direct, count, found)?;
     keep_within(store, inverse, count, found)?;
-    mirror(store, direct, inverse, found)?;
-    Ok(())
+    mirror(store, direct, inverse, found)
 }
 
 /// Whether each number of `count` places meets an atom.

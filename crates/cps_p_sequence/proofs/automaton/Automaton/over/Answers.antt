@@ -6,8 +6,8 @@ use Rattle.cps_p_sequence.proofs.automaton.Automaton.over.Goals as goal
 pub invariant_of-result : goal.invariant_of-result
 invariant_of-result c =
     let fits : FitsSigned w64 c.args.start = c.ranges.start in
-    let network = rw (to_z-of_z w64 c.args.start fits) at c.in_ok-made.ensures.network in
-    (rw (to_z-of_z w64 c.args.start fits, c.in_ok-own_finals.ensures.items, c.in_ok-tails.ensures.items, c.in_ok-heads.ensures.items, c.in_ok-labels.ensures.items) network, c.in_ok-made.ensures.alphabet)
+    let network = rw (to_z-of_z w64 c.args.start fits) at c.in_ok-states.ensures.network in
+    (rw (to_z-of_z w64 c.args.start fits, c.in_ok-own_finals.ensures.items, c.in_ok-tails.ensures.items, c.in_ok-heads.ensures.items, c.in_ok-labels.ensures.items) network, c.in_ok-states.ensures.alphabet)
 
 pub returns : goal.returns
 returns c =
