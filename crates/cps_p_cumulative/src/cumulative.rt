@@ -76,7 +76,7 @@ fn refute_window(
 }
 
 /// A window that is overloaded although no time in it is.
-fn crowded(
+fn overloaded_window(
     past: &Before,
     resource: &Resource,
     energies: &mut Energies,
@@ -95,8 +95,8 @@ fn crowded(
     Ok(None)
 }
 
-/// What is overloaded: a time, or a window of times.
-fn overloaded(
+/// What is overloaded: time 0 where the capacity is below 0, another time, or a window of times.
+fn first_overload(
     past: &Before,
     resource: &Resource,
     room: &mut Room,
@@ -121,7 +121,7 @@ fn overloaded(
     if let Some(time) = found_time {
         return Ok(Some(Hint { a: time, b: 1 }));
     }
-    crowded(past, resource, &mut room.energies, &mut room.facts)
+    overloaded_window(past, resource, &mut room.energies, &mut room.facts)
 }
 
 /// Looks at a resource, and says that it cannot hold where a time is overloaded, or a window of times.
@@ -140,7 +140,7 @@ fn look_at(
         → HasCapacity past.now resource.now.capacity resource.now.spans resource.now.demands }
 {
     found.clear();
-    if let Some(hint) = overloaded(past, resource, room)? {
+    if let Some(hint) = first_overload(past, resource, room)? {
         return Ok(Look::Impossible(hint));
     }
     room.scratch.segments.fill(room.parts.as_slice())?;

@@ -114,7 +114,7 @@ impl Energies {
         Ok(())
     }
 
-    /// Brings the jobs into both orders, and makes a tree without jobs.
+    /// Brings the jobs into both orders.
     fn sort(&mut self) -> Result<(), AllocError> {
         self.jobs.sort_unstable_by_key(|job| job.from);
         self.order.clear();
@@ -122,7 +122,7 @@ impl Energies {
             self.order.push((job.to, place))?;
         }
         self.order.sort_unstable_by_key(|due| due.0);
-        self.clear_tree()
+        Ok(())
     }
 
     /// Takes down the spans of a resource, in both orders, and makes a tree without jobs.
@@ -136,7 +136,8 @@ impl Energies {
         for k in 0..count {
             self.take(past, &spans[k], demands[k])?;
         }
-        self.sort()
+        self.sort()?;
+        self.clear_tree()
     }
 
     /// Makes a tree with a leaf for each job.

@@ -10,7 +10,7 @@ use Rattle.cps_p_cumulative.specs.Profile.{AreParts}
 use Rattle.cps_p_cumulative.proofs.Levelled.{no_none}
 use Rattle.cps_p_cumulative.proofs.Resting.{impossible-none, impossible-of, capacity-of}
 use Rattle.cps_p_cumulative.proofs.Running.{true_lt}
-use Rattle.cps_p_cumulative.proofs.cumulative.overloaded.Goals as goal
+use Rattle.cps_p_cumulative.proofs.cumulative.first_overload.Goals as goal
 
 pub returns-in-Some-clause-over : goal.returns-in-Some-clause-over
 returns-in-Some-clause-over c =
@@ -45,8 +45,8 @@ returns-then-most-lt0-clause-over c =
     let f : FitsSigned w64 most = search rules in
     impossible-none c.args.past.now c.args.resource.now most c.requires.inside.capacity c.ends-most.ensures.greatest (true_lt most (pos 0) (rw (to_z-of_z w64 most f) at c.if-most-lt0.true))
 
-pub crowded-requires : goal.crowded-requires
-crowded-requires c = c.requires.inside
+pub overloaded_window-requires : goal.overloaded_window-requires
+overloaded_window-requires c = c.requires.inside
 
 pub measure-requires-clause-spans : goal.measure-requires-clause-spans
 measure-requires-clause-spans c = subst (λ (ps : List Span). All (λ i. i < length c.args.past.now.first) (span_subjects ps)) (sym c.as_slice.ensures) c.requires.inside.spans

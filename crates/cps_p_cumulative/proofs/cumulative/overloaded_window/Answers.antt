@@ -1,7 +1,7 @@
 use Rattle.cps_p_cumulative.specs.Running.{body_of}
 use Rattle.cps_p_cumulative.proofs.Levelled.{ok_true}
 use Rattle.cps_p_cumulative.proofs.Relied.{refuted-impossible}
-use Rattle.cps_p_cumulative.proofs.cumulative.crowded.Goals as goal
+use Rattle.cps_p_cumulative.proofs.cumulative.overloaded_window.Goals as goal
 
 pub returns-then-branch : goal.returns-then-branch
 returns-then-branch c =
