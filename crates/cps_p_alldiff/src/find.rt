@@ -211,15 +211,6 @@ fn add_full(full: &mut Vec<Interval>, interval: Interval) -> Result<(), AllocErr
     Ok(())
 }
 
-/// So many zeros.
-fn clear_values(values: &mut Vec<i64>, count: usize) -> Result<(), AllocError> {
-    values.clear();
-    for _ in 0..count {
-        values.push(0)?;
-    }
-    Ok(())
-}
-
 /// An interval seen from the other side of 0.
 fn mirror(interval: &Interval) -> Interval {
     Interval {
@@ -308,7 +299,8 @@ impl Finder {
     ) -> Result<Option<Interval>, AllocError> {
         self.prepare(ends, side)?;
         self.full.clear();
-        clear_values(&mut self.values, ends.len())?;
+        self.values.clear();
+        self.values.resize(ends.len(), 0)?;
         for next in 0..ends.len() {
             let job = match self.jobs.get(next) {
                 Some(job) => *job,
