@@ -109,7 +109,8 @@ DidItsPartAs kinds.Near m conflicts upper e = DidItsRounds m conflicts upper e
 abbrev pub DidItsPart : CpModel → ℕ → Bound → Ending → Type 0
 DidItsPart m conflicts upper e = DidItsPartAs e.kind m conflicts upper e
 
--- A neighbourhood worker that ended is seen as turns in rounds leave it, if they began with nothing known.
+-- A neighbourhood worker that ended is seen as turns in rounds leave it, if they began with the model's hint and with
+-- nothing else known.
 pub record IsEndOfRounds (p : Problem) (gap conflicts : ℕ) (e : Ending) : Type 0 where
   pub rows : ℕ
   pub draws : Lcg
@@ -162,7 +163,8 @@ pub record IsGoodOutcome (m : CpModel) (options : Options) (o : Outcome) : Type 
   pub workers : map (λ e. e.kind) o.ends ≡ kinds_of options.workers
   pub sums : All (λ e. HasSums e.kind m e.defs) o.ends
   -- a fixed worker decides by the model's strategies and then takes the variables, an activity worker by the model's
-  -- hint, a core-guided worker by assumptions and then by the hint, and a neighbourhood worker in rounds
+  -- hint, a core-guided worker by assumptions and then by the hint, and a neighbourhood worker in rounds and then by
+  -- the hint
   pub branchers : All (GoesByModel m options.gap options.conflicts) o.ends
   -- the status is that of the two bounds
   pub status : o.status ≡ status_of o.upper o.lower options.gap

@@ -97,7 +97,7 @@ pub record BeginsByCores (m : CpModel) (gap conflicts : ℕ) (guidance : Guidanc
   pub begins : BeginsCores m gap conflicts s
   pub guide : IsGuidedBy kinds.Activity s.search.instance (Some guidance)
 
--- one that goes in rounds, for so many conflicts
+-- one that goes in rounds, for so many conflicts, and has the model's hint
 pub record BeginsRounds (m : CpModel) (gap conflicts : ℕ) (n : Near) : Type 0 where
   pub instance : Problem
   pub first : IsFirstInstance m instance

@@ -1,5 +1,5 @@
 -- What a neighbourhood worker knows, and what it does in a turn and in a run.
-use Rattle.std.specs.Prelude.{◌≡◌, ℕ, ◌+◌, ◌<◌, ℤ, Bool, Option, Some, None, List}
+use Rattle.std.specs.Prelude.{◌≡◌, ℕ, ◌+◌, ◌<◌, ℤ, Bool, Option, Some, None, List, length, slice_index}
 use Rattle.rand_pcg.specs.Lcg.{Lcg}
 use Rattle.cps_model.specs.Solutions.{IsSolution}
 use Rattle.cps_literal.specs.declared.atom.Atom.{Atom}
@@ -8,6 +8,7 @@ use Rattle.cps_port.specs.declared.part.BoardPart.{BoardPart}
 use Rattle.cps_port.specs.declared.part.BoundsPart.{BoundsPart}
 use Rattle.cps_port.specs.declared.part.Part.{Part}
 use Rattle.cps_branch.specs.Activities.{AreBumped, ByActivity}
+use Rattle.cps_branch.specs.Guidances.{AreHintsOf}
 use Rattle.cps_branch.specs.Luby.{CountsConflict}
 use Rattle.cps_search.specs.declared.end.End.{End}
 use Rattle.cps_search.specs.declared.end.End.TheVariants as ends
@@ -37,9 +38,14 @@ pub record Near : Type 0 where
   pub rounds : ℕ
   pub round : Option Round
 
--- one that has just begun and draws by a generator: no round is under way, and no round ended
+-- one that has just begun and draws by a generator: its brancher has the model's hint and heard nothing, no round is
+-- under way, and no round ended
 pub record BeginsNear (p : Problem) (gap conflicts : ℕ) (draws : Lcg) (s : Near) : Type 0 where
   pub search : s.search ≡ fresh p gap None
+  pub hints : AreHintsOf p s.brancher.hints
+  pub places : length s.brancher.hints ≡ length s.brancher.activities
+  pub idle : (i : ℕ) → slice_index s.brancher.activities i ≡ 0
+  pub pace : s.brancher.pace ≡ record { restarts = 0; conflicts = 0 }
   pub conflicts_are : s.conflicts ≡ conflicts
   pub draws_are : s.draws ≡ draws
   pub aim : s.aim ≡ None

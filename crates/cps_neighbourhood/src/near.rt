@@ -23,9 +23,9 @@ use std::alloc::{AllocError, Global};
 use std::marker::Model;
 
 /// A worker that searches in rounds. A round frees some drawn variables, decides for the others their values in a
-/// solution, and then goes by activity; it ends after 100 conflicts, or when one sends the search back below its
-/// decisions. What it learns holds of the whole model. Once an allocation has failed, every later call that may
-/// allocate fails too.
+/// solution, and then goes by activity, at the values of the model's hint; it ends after 100 conflicts, or when one
+/// sends the search back below its decisions. What it learns holds of the whole model. Once an allocation has failed,
+/// every later call that may allocate fails too.
 pub struct NearWorker<'a, P: Propagator> {
     explorer: Explorer<'a, P>,
     /// Whether memory was refused.
@@ -56,9 +56,10 @@ impl<'a, P: Propagator> Model for NearWorker<'a, P> {
 }
 
 impl<'a, P: Propagator> NearWorker<'a, P> {
-    /// A worker that knows nothing yet, and has no solution to aim at. It does one round for every 100 `conflicts` (at
-    /// most 10^9), and one more; it draws by the words of `Lcg64Xsh32::new(seed, 16 + number)`, and ends when the two
-    /// bounds meet within the gap. The engine has the instance's tasks, in order.
+    /// A worker that has the model's hint and knows nothing else yet, with no solution to aim at. It does one round for
+    /// every 100 `conflicts` (at most 10^9), and one more; it draws by the words of
+    /// `Lcg64Xsh32::new(seed, 16 + number)`, and ends when the two bounds meet within the gap. The engine has the
+    /// instance's tasks, in order.
     pub fn new(
         alloc: Global,
         instance: Instance<'a>,
