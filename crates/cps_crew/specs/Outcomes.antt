@@ -86,8 +86,9 @@ pub record SpentItsBudget (m : CpModel) (conflicts : ℕ) (upper : Bound) (e : E
   pub honest : IsHonestJournal instance (e.journal ++ Learnt clause below ∷ [])
   pub above : All (IsItemAbove upper) (e.journal ++ Learnt clause below ∷ [])
 
--- A neighbourhood worker did its rounds, and ended for no other reason. It learnt from one conflict at least in each;
--- its journal is honest, and no clause of it is about what is better than the least objective that was found.
+-- A neighbourhood worker did its rounds, and ended for no other reason. It learnt at least as many clauses as there
+-- were rounds; its journal is honest, and no clause of it is about what is better than the least objective that was
+-- found.
 pub record DidItsRounds (m : CpModel) (conflicts : ℕ) (upper : Bound) (e : Ending) : Type 0 where
   pub end : e.end ≡ RoundsDone
   pub learnt : round_count conflicts ≤ learnt_count e.journal

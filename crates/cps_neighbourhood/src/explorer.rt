@@ -213,7 +213,7 @@ impl<'a, P: Propagator> Explorer<'a, P> {
             self.rounds += 1;
             self.in_round = false;
         } else {
-            self.round.go_on(back);
+            self.round.count_learnt(back);
         }
     }
 

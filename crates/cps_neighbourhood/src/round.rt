@@ -198,8 +198,8 @@ impl Progress {
         self.learnt + 1 == ROUND_CONFLICTS || back < self.held
     }
 
-    /// Goes on after one more clause was learnt, with what is left where the search went back to a level.
-    pub fn go_on(&mut self, level: usize)
+    /// Counts one more learnt clause, and keeps what is left where the search went back to a level.
+    pub fn count_learnt(&mut self, level: usize)
         requires few { self.old.learnt < round_conflicts }
         ensures assumed { self.new.assumed ≡ min self.old.assumed level }
         ensures held { self.new.held ≡ held_to self.old level }

@@ -31,11 +31,11 @@ returns-else-is_ended_at-clause-goes_on g c =
     λ _. record {
       rounds = refl;
       in_round = refl;
-      decisions = c.go_on.ensures.decisions;
-      learnt = c.go_on.ensures.learnt;
-      assumed = c.go_on.ensures.assumed ∙ ap (λ (n : ℕ). min x.round.assumed n) back;
-      held = c.go_on.ensures.held ∙ ap (λ (n : ℕ). held_to x.round n) back;
-      place = c.go_on.ensures.place;
+      decisions = c.count_learnt.ensures.decisions;
+      learnt = c.count_learnt.ensures.learnt;
+      assumed = c.count_learnt.ensures.assumed ∙ ap (λ (n : ℕ). min x.round.assumed n) back;
+      held = c.count_learnt.ensures.held ∙ ap (λ (n : ℕ). held_to x.round n) back;
+      place = c.count_learnt.ensures.place;
       frame = refl;
     }
 
