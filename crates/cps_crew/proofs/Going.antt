@@ -1,5 +1,5 @@
 -- What turns of a worker of any kind come to, and why they come to an end.
-use Rattle.std.specs.Prelude.{Option, Some, None, is_some, true, false, List}
+use Rattle.std.specs.Prelude.{Bool, Option, Some, None, is_some, true, false, List}
 use Rattle.std.proofs.Common.{◌≡◌, refl, sym, ap, subst, ◌∙◌, ℕ, ◌+◌, ◌<◌, inl, inr, []}
 use Rattle.cps_model.specs.declared.model.CpModel.{CpModel}
 use Rattle.cps_model.specs.declared.bound.Bound.TheVariants.{Infinite}
@@ -29,7 +29,7 @@ use Rattle.cps_core_guided.proofs.CoreEnding.{core-honest}
 use Rattle.cps_core_guided.proofs.CoreLasting.{core_left, core_lowered}
 use Rattle.cps_core_guided.proofs.CoreRunning.{HasCoreRun, core-begins, core-goes-on, core-turns-run}
 use Rattle.cps_core_guided.proofs.CoreTurning.{phase-search}
-use Rattle.cps_neighbourhood.specs.Nears.{Near, NearRunsInTurns, TakesNearTurn, TakesNearTurns, aimed}
+use Rattle.cps_neighbourhood.specs.Nears.{Near, NearRunsInTurns, OneNearTurn, TakesNearTurn, TakesNearTurns, aimed}
 use Rattle.cps_neighbourhood.specs.Nears.{none_yet as near_none_yet, one_more as near_one_more}
 use Rattle.cps_neighbourhood.proofs.Counting.{HasNearRun, near_begins, near_goes_on, near_honest, near_turns_run}
 use Rattle.cps_neighbourhood.proofs.Lasting.{near_left, near_lowered}
@@ -90,6 +90,10 @@ aimed_turns : (rows : ℕ) (s : Near) (p : Part) (t n : Near) (q : Part) → Tak
 aimed_turns rows s p t n q turns (inl e) = subst (λ (x : Near). TakesNearTurns rows s p x q) (sym e) turns
 aimed_turns rows s p t n q turns (inr x) = subst (λ (x : Near). TakesNearTurns rows s p x q) (sym x.2) (aimed t q x.0 turns x.1)
 
+-- what it aims at is no part of its search, which is sound before its turn and after it
+aimed_turn : (rows : ℕ) (m n : Near) (p q : Part) (over : Bool) → (turn : TurnedNear rows m n p q over) → OneNearTurn rows turn.aimed n p q turn.turn
+aimed_turn rows m n p q over turn = record { before = subst IsSoundSearch (sym (aimed_search m turn.aimed turn.aims)) turn.before; after = turn.after; takes = turn.takes }
+
 -- ---- what was done by any turns that did not end the worker
 
 has_run : (rows : ℕ) (s : Search × Guidance) (p : Part) (t : Search × Guidance) (q : Part) → TakesTurns ChoosesBy (λ before clause restart after. after ≡ before) (λ before after. after ≡ before) rows s p t q → HasRun s.0 t.0 p q
@@ -98,7 +102,7 @@ has_run rows s p t q (one_more m u n r turn before goes_on last) = run_goes_on (
 
 near_run : (rows : ℕ) (s : Near) (p : Part) (t : Near) (q : Part) → TakesNearTurns rows s p t q → HasNearRun s t p q
 near_run rows s p t q near_none_yet = near_begins s p
-near_run rows s p t q (near_one_more m u n r turn before going last) = near_goes_on s m u rows p n r turn going (near_run rows s p m n before) last
+near_run rows s p t q (near_one_more m u n r turn before going last) = near_goes_on s m u rows p n r turn going (near_run rows s p m n before) last.takes
 near_run rows s p t q (aimed u r solution before is) = (let k = near_run rows s p u r before in record { run = k.run; conflicts = k.conflicts })
 
 core_run : (rows : ℕ) (s : CoreSearch × Guidance) (p : Part) (t : CoreSearch × Guidance) (q : Part) → TakesCoreTurns ChoosesBy (λ before clause restart after. after ≡ before) (λ before after. after ≡ before) rows s p t q → HasCoreRun s.0 t.0 p q
@@ -138,7 +142,7 @@ turned_on rows (by_cores g f) (by_cores h s) (by_cores i t) start p q turns turn
     let last = subst (λ (x : Guidance). TurnedByCores x rows s t p q false) turns.0 turn.1 in
     (turn.0 ∙ turns.0, one_turn_more (s, g) (t, g) p q last.turn turns.1 (none_of (end_of last.turn) last.last) last.takes)
 turned_on rows (in_rounds f) (in_rounds m) (in_rounds n) start p q turns turn =
-    near_one_more turn.aimed n p q turn.turn (aimed_turns rows f start m turn.aimed p turns turn.aims) (none_of (end_of turn.turn) turn.last) turn.takes
+    near_one_more turn.aimed n p q turn.turn (aimed_turns rows f start m turn.aimed p turns turn.aims) (none_of (end_of turn.turn) turn.last) (aimed_turn rows m n p q false turn)
 turned_on rows (by_guidance k g f) (by_guidance l h s) (by_cores i t) start p q turns turn = absurd turn
 turned_on rows (by_guidance k g f) (by_guidance l h s) (in_rounds t) start p q turns turn = absurd turn
 turned_on rows (by_guidance k g f) (by_cores h s) t start p q turns turn = absurd turns
@@ -298,15 +302,14 @@ near_done : (m : CpModel) (gap conflicts rows : ℕ) (s u t : Near) (p n q : Par
     → p.bounds.offered ≡ Infinite → p.bounds.raised ≡ None → IsHonestlyDone m gap conflicts q.bounds (in_rounds t)
 near_done m gap conflicts rows s u t p n q begins turns last offered raised =
     let e = some_of (end_of last.turn) last.last in
-    let runs : NearRunsInTurns rows s t p q e.0 = record { before = last.aimed; part = n; turns = aimed_turns rows s p u last.aimed n turns last.aims; turn = last.turn; last = last.takes; ended = e.1 } in
-    let sound = subst IsSoundSearch (sym (aimed_search u last.aimed last.aims)) last.before in
-    let run = near_turns_run rows s t p q e.0 runs sound in
+    let runs : NearRunsInTurns rows s t p q e.0 = record { before = last.aimed; part = n; turns = aimed_turns rows s p u last.aimed n turns last.aims; turn = last.turn; last = aimed_turn rows u t n q true last; ended = e.1 } in
+    let run = near_turns_run rows s t p q e.0 runs in
     let instance : t.search.instance ≡ begins.instance = run.setting.instance ∙ ap (λ (x : Search). x.instance) begins.is.search in
     record {
       end = e.0;
       over = run.phase;
       honest = subst (λ (x : CpModel). IsHonestEnding x gap conflicts q.bounds (ending kinds.Near None e.0 t.search)) begins.first.model
-          (near_honest begins.instance gap conflicts rows begins.draws s t p q e.0 begins.is runs sound last.after offered raised);
+          (near_honest begins.instance gap conflicts rows begins.draws s t p q e.0 begins.is runs offered raised);
       sums = ap (λ (x : Problem). x.defs) instance ∙ begins.first.sums;
       goes = record {
         instance = begins.instance;

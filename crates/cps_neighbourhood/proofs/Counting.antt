@@ -20,7 +20,7 @@ use Rattle.cps_search.proofs.Ending.{core_of, honest_by}
 use Rattle.cps_search.proofs.Moving.{ends_by, moves_more}
 use Rattle.cps_search.proofs.Turning.{setting_trans}
 use Rattle.cps_search.proofs.Working.{HasRun, run_begins}
-use Rattle.cps_neighbourhood.specs.Nears.{BeginsNear, Near, NearCaused, NearEndsBy, NearRunsInTurns, NearRunsTo, TakesNearTurn, TakesNearTurns, aimed, learnt_in, none_yet, one_more}
+use Rattle.cps_neighbourhood.specs.Nears.{BeginsNear, Near, NearCaused, NearEndsBy, NearRunsInTurns, NearRunsTo, OneNearTurn, TakesNearTurn, TakesNearTurns, aimed, learnt_in, none_yet, one_more}
 use Rattle.cps_neighbourhood.specs.Rounds.{EndsRound, Round}
 use Rattle.cps_neighbourhood.proofs.Taking.{learnt_now}
 
@@ -80,12 +80,16 @@ counts_on s t rows p q turns.Learnt h conflicts k =
 
 counted_turns : (rows : ℕ) (s : Near) (p : Part) (t : Near) (q : Part) → TakesNearTurns rows s p t q → HasCounted s → HasCounted t
 counted_turns rows s p t q none_yet h = h
-counted_turns rows s p t q (one_more m u n r turn before going last) h = counts_on m u rows n r turn (counted_turns rows s p m n before h) last.conflicts last.cause
+counted_turns rows s p t q (one_more m u n r turn before going last) h = counts_on m u rows n r turn (counted_turns rows s p m n before h) last.takes.conflicts last.takes.cause
 counted_turns rows s p t q (aimed u r solution before is) h =
     let k = counted_turns rows s p u r before h in
     record { each = k.each; most = k.most; whole = k.whole; few = k.few }
 
 -- ---- what turns come to
+
+-- a turn on as many rows, between two sound searches
+pub one_near_turn : (rows now : ℕ) (s t : Near) (p q : Part) (turn : Turn) → now ≡ rows → IsSoundSearch s.search × IsSoundSearch t.search → TakesNearTurn s t now p q turn → OneNearTurn rows s t p q turn
+one_near_turn rows now s t p q turn same sound takes = record { before = sound.0; after = sound.1; takes = subst (λ (n : ℕ). TakesNearTurn s t n p q turn) same takes }
 
 -- what a run has done so far
 pub record HasNearRun (s t : Near) (p q : Part) : Type 0 where
@@ -168,11 +172,11 @@ near_ends s t u rows p m q turn end sound h k e = record {
 
 near_run : (rows : ℕ) (s : Near) (p : Part) (t : Near) (q : Part) → TakesNearTurns rows s p t q → HasNearRun s t p q
 near_run rows s p t q none_yet = near_begins s p
-near_run rows s p t q (one_more m u n r turn before going last) = near_goes_on s m u rows p n r turn going (near_run rows s p m n before) last
+near_run rows s p t q (one_more m u n r turn before going last) = near_goes_on s m u rows p n r turn going (near_run rows s p m n before) last.takes
 near_run rows s p t q (aimed u r solution before is) = (let k = near_run rows s p u r before in record { run = k.run; conflicts = k.conflicts })
 
-pub near_turns_run : (rows : ℕ) (s t : Near) (p q : Part) (end : End) → (h : NearRunsInTurns rows s t p q end) → IsSoundSearch h.before.search → NearRunsTo s t p q end
-near_turns_run rows s t p q end h sound = near_ends s h.before t rows p h.part q h.turn end sound (near_run rows s p h.before h.part h.turns) h.last h.ended
+pub near_turns_run : (rows : ℕ) (s t : Near) (p q : Part) (end : End) → NearRunsInTurns rows s t p q end → NearRunsTo s t p q end
+near_turns_run rows s t p q end h = near_ends s h.before t rows p h.part q h.turn end h.last.before (near_run rows s p h.before h.part h.turns) h.last.takes h.ended
 
 -- ---- a worker that has ended is honest
 
@@ -188,16 +192,16 @@ begins_counted p gap conflicts draws s h =
     let tally : s.search.tally ≡ 0 = ap (λ (x : Search). x.tally) h.search in
     record { each = omega (arith, h.rounds, tally); most = omega (arith, tally); whole = omega (arith, none, h.rounds); few = omega (arith, none) }
 
-pub near_honest : (p : Problem) (gap conflicts rows : ℕ) (draws : Lcg) (s t : Near) (part q : Part) (end : End) → BeginsNear p gap conflicts draws s → (h : NearRunsInTurns rows s t part q end) → IsSoundSearch h.before.search → IsSoundSearch t.search
+pub near_honest : (p : Problem) (gap conflicts rows : ℕ) (draws : Lcg) (s t : Near) (part q : Part) (end : End) → BeginsNear p gap conflicts draws s → NearRunsInTurns rows s t part q end
     → part.bounds.offered ≡ Infinite → part.bounds.raised ≡ None → IsHonestEnding p.model gap conflicts q.bounds (ending kinds.Near None end t.search)
-near_honest p gap conflicts rows draws s t part q end begins h before sound offered raised =
-    let runs = near_turns_run rows s t part q end h before in
-    let counted = counts_on h.before t rows h.part q h.turn (counted_turns rows s part h.before h.part h.turns (begins_counted p gap conflicts draws s begins)) h.last.conflicts h.last.cause in
+near_honest p gap conflicts rows draws s t part q end begins h offered raised =
+    let runs = near_turns_run rows s t part q end h in
+    let counted = counts_on h.before t rows h.part q h.turn (counted_turns rows s part h.before h.part h.turns (begins_counted p gap conflicts draws s begins)) h.last.takes.conflicts h.last.takes.cause in
     let same : t.conflicts ≡ conflicts = runs.conflicts ∙ begins.conflicts_are in
     honest_by p gap conflicts None t.search part q kinds.Near None end
     (runs.setting.instance ∙ ap (λ (x : Search). x.instance) begins.search)
     (core_of p kinds.Near None t.search end s.search (runs.setting.instance ∙ ap (λ (x : Search). x.instance) begins.search) (ap (λ (x : Search). x.raised) begins.search) (ap (λ (x : Search). x.core) begins.search)
     (λ e. subst (λ (x : End). NearEndsBy t q.bounds x) e runs.why) runs.raises_last)
-    (subst (λ (x : Search). MovesWith x t.search part q) begins.search runs.moves) sound offered raised
+    (subst (λ (x : Search). MovesWith x t.search part q) begins.search runs.moves) h.last.after offered raised
     (omega (arith, counted.most, counted.whole, ap round_count same))
     (why_of t gap conflicts q.bounds end end (runs.setting.gap ∙ ap (λ (x : Search). x.gap) begins.search) same counted runs.why)

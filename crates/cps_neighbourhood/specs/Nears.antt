@@ -17,7 +17,7 @@ use Rattle.cps_search.specs.declared.turn.Turn.{Turn}
 use Rattle.cps_search.specs.declared.turn.Turn.TheVariants as turns
 use Rattle.cps_search.specs.Shelves.{HasLearnt}
 use Rattle.cps_search.specs.Lessons.{IsBackLevel}
-use Rattle.cps_search.specs.Searches.{Search}
+use Rattle.cps_search.specs.Searches.{Search, IsSoundSearch}
 use Rattle.cps_search.specs.Moves.{fresh}
 use Rattle.cps_search.specs.Following.{MovesWith}
 use Rattle.cps_search.specs.Rounds.{RoundsOver}
@@ -181,12 +181,18 @@ pub record TakesNearTurn (s t : Near) (rows : ℕ) (p q : Part) (turn : Turn) : 
 
 -- ---- runs
 
+-- one turn of a neighbourhood worker whose search is sound before and after it
+pub record OneNearTurn (rows : ℕ) (s t : Near) (p q : Part) (turn : Turn) : Type 0 where
+  pub before : IsSoundSearch s.search
+  pub after : IsSoundSearch t.search
+  pub takes : TakesNearTurn s t rows p q turn
+
 -- turns one after another, none of which ended the worker; between two of them it may be handed another solution to aim
 -- at
 pub data TakesNearTurns (rows : ℕ) (s : Near) (p : Part) : Near → Part → Type 0 where
   none_yet : TakesNearTurns rows s p s p
   one_more : (m t : Near) (n q : Part) (turn : Turn) → TakesNearTurns rows s p m n → end_of turn ≡ None
-      → TakesNearTurn m t rows n q turn → TakesNearTurns rows s p t q
+      → OneNearTurn rows m t n q turn → TakesNearTurns rows s p t q
   aimed : (t : Near) (q : Part) (solution : List ℤ) → TakesNearTurns rows s p t q
       → IsSolution t.search.instance.model solution → TakesNearTurns rows s p (record t { aim = Some solution }) q
 
@@ -196,7 +202,7 @@ pub record NearRunsInTurns (rows : ℕ) (s t : Near) (p q : Part) (end : End) : 
   pub part : Part
   pub turns : TakesNearTurns rows s p before part
   pub turn : Turn
-  pub last : TakesNearTurn before t rows part q turn
+  pub last : OneNearTurn rows before t part q turn
   pub ended : end_of turn ≡ Some end
 
 -- why a run ended

@@ -2,4 +2,4 @@ use Rattle.cps_neighbourhood.proofs.Counting.{near_honest}
 use Rattle.cps_neighbourhood.proofs.laws.ended_near_workers_are_honest.Goals as goal
 
 pub returns : goal.returns
-returns c = λ p gap conflicts rows draws s t before after end begins h sound_before sound offered raised. near_honest p gap conflicts rows draws s t before after end begins h sound_before sound offered raised
+returns c = λ p gap conflicts rows draws s t before after end begins h offered raised. near_honest p gap conflicts rows draws s t before after end begins h offered raised

@@ -2,4 +2,4 @@ use Rattle.cps_neighbourhood.proofs.Counting.{near_turns_run}
 use Rattle.cps_neighbourhood.proofs.laws.near_turns_come_to_a_run.Goals as goal
 
 pub returns : goal.returns
-returns c = λ rows s t p q end h sound. near_turns_run rows s t p q end h sound
+returns c = λ rows s t p q end h. near_turns_run rows s t p q end h

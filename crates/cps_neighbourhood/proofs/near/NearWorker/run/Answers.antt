@@ -4,8 +4,8 @@ use Rattle.cps_instance.specs.Problem.{Problem}
 use Rattle.cps_trail.specs.Trail.{open_values}
 use Rattle.cps_search.specs.declared.end.End.{End}
 use Rattle.cps_search.specs.Ends.{EndsAs}
-use Rattle.cps_neighbourhood.specs.Nears.{TakesNearTurn, none_yet, one_more}
-use Rattle.cps_neighbourhood.proofs.Counting.{near_begins, near_ends, near_goes_on}
+use Rattle.cps_neighbourhood.specs.Nears.{none_yet, one_more}
+use Rattle.cps_neighbourhood.proofs.Counting.{near_begins, near_ends, near_goes_on, one_near_turn}
 use Rattle.cps_neighbourhood.proofs.Lasting.{near_left, near_lowered}
 use Rattle.cps_search.proofs.Keeps.{keeps_none, keeps_then}
 use Rattle.cps_neighbourhood.proofs.near.NearWorker.run.Goals as goal
@@ -24,7 +24,7 @@ returns-in-Some-clause-turns g c =
       part = g.Q.Port.part c.turns.port;
       turns = i.turns;
       turn = c.in_ok-turn.turn;
-      last = subst (λ (n : ℕ). TakesNearTurn c.turns.self c.turn.new.self n (g.Q.Port.part c.turns.port) (g.Q.Port.part c.turn.new.port) c.in_ok-turn.turn) i.keeps.rows k.turn;
+      last = one_near_turn _ _ c.turns.self c.turn.new.self (g.Q.Port.part c.turns.port) (g.Q.Port.part c.turn.new.port) c.in_ok-turn.turn i.keeps.rows k.sound k.turn;
       ended = sym c.end_of.ensures ∙ c.in-Some.is;
     }
 
@@ -56,7 +56,7 @@ turns-preserved g c =
       running = subst (λ (o : Option End). EndsAs o c.turn.new.self.search) (sym c.end_of.ensures ∙ c.in_default.is) k.turn.ends;
       run = near_goes_on c.args.self.now c.turns.self c.turn.new.self _ _ _ _ c.in_ok-turn.turn (sym c.end_of.ensures ∙ c.in_default.is) i.run k.turn;
       turns = one_more c.turns.self c.turn.new.self (g.Q.Port.part c.turns.port) (g.Q.Port.part c.turn.new.port) c.in_ok-turn.turn i.turns (sym c.end_of.ensures ∙ c.in_default.is)
-          (subst (λ (n : ℕ). TakesNearTurn c.turns.self c.turn.new.self n (g.Q.Port.part c.turns.port) (g.Q.Port.part c.turn.new.port) c.in_ok-turn.turn) i.keeps.rows k.turn);
+          (one_near_turn _ _ c.turns.self c.turn.new.self (g.Q.Port.part c.turns.port) (g.Q.Port.part c.turn.new.port) c.in_ok-turn.turn i.keeps.rows k.sound k.turn);
       keeps = keeps_then _ _ _ g.met.Q.Port.moved_on _ _ _ i.keeps k.keeps;
     }
 
