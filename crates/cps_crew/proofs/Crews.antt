@@ -226,39 +226,39 @@ one_gathered m gap conflicts first count k j q e ends h done joined =
 
 -- ---- a worker that was seated and then searched is back
 
-pub has_returned : (m : CpModel) (gap conflicts : ℕ) (board : Board) (bounds : Bounds) (number : ℕ) (a b : Seated) → IsSeated board bounds number a → Worked m gap conflicts a b → HasReturned m gap conflicts board bounds number b
-has_returned m gap conflicts board bounds number a b h w = record {
+pub has_returned : (m : CpModel) (o : Options) (board : Board) (bounds : Bounds) (number : ℕ) (a b : Seated) → IsSeated board bounds number a → Worked m o a b → HasReturned m o.gap o.conflicts board bounds number b
+has_returned m o board bounds number a b h w = record {
   board_is = w.seats.board ∙ h.board_is;
   bounds_is = w.seats.bounds ∙ h.bounds_is;
   done = IfSome_then b.ended w.ended (λ e s.
       let rows = boards.rows_of a.port.board.now in
-      let done = done_from m gap conflicts rows s.first s.last (part_at a) (part_at b) s.begins h.offered h.raised s.ended in
-      honest_end m gap conflicts (words_part b) number s.last e (s.kind ∙ ap worker_kind h.number_is) done s.over s.is);
+      let done = done_from m o.gap o.conflicts rows s.first s.last (part_at a) (part_at b) s.begins h.offered h.raised s.ended in
+      honest_end m o.gap o.conflicts (words_part b) number s.last e (s.kind ∙ ap worker_kind h.number_is) done s.over s.is);
 }
 
 pub all_ready : (suits : CpModel → Type 0) (m pool : CpModel) (o : Options) (board : Board) (bounds : Bounds) (crew : List Seated) → words.model_of bounds ≡ m → pool ≡ m → AreInRange o → suits m → IsCrew board bounds crew → All (MayWork suits m o pool) crew
 all_ready suits m pool o board bounds crew model found range suited h i d l = let s = h.each i d l in record { range = range; suited = suited; found = found; words = ap words.model_of s.bounds_is ∙ model }
 
-pub all_back : (m : CpModel) (gap conflicts : ℕ) (board : Board) (bounds : Bounds) (crew after : List Seated) → length after ≡ length crew → IsCrew board bounds crew
-    → ((i : ℕ) (d : Seated) → i < length crew → Worked m gap conflicts (slice_index_or crew i d) (slice_index_or after i d)) → HaveReturned m gap conflicts board bounds after
-all_back m gap conflicts board bounds crew after len h w = record { each = λ i d l. let k : i < length crew = omega (arith, l, len) in has_returned m gap conflicts board bounds i _ _ (h.each i d k) (w i d k) }
+pub all_back : (m : CpModel) (o : Options) (board : Board) (bounds : Bounds) (crew after : List Seated) → length after ≡ length crew → IsCrew board bounds crew
+    → ((i : ℕ) (d : Seated) → i < length crew → Worked m o (slice_index_or crew i d) (slice_index_or after i d)) → HaveReturned m o.gap o.conflicts board bounds after
+all_back m o board bounds crew after len h w = record { each = λ i d l. let k : i < length crew = omega (arith, l, len) in has_returned m o board bounds i _ _ (h.each i d k) (w i d k) }
 
 -- the workers that were written over the crew after they searched
-pub written_back : (m : CpModel) (gap conflicts : ℕ) (board board' : Board) (bounds bounds' : Bounds) (n : ℕ) (crew before after : List Seated) → n ≡ length crew → before ≡ crew → length after ≡ length before → board ≡ board' → bounds ≡ bounds'
-    → IsCrew board' bounds' crew → ((i : ℕ) (d : Seated) → i < length before → Worked m gap conflicts (slice_index_or before i d) (slice_index_or after i d))
-    → HaveReturned m gap conflicts board bounds (take n (after ++ drop (length after) crew))
-written_back m gap conflicts board board' bounds bounds' n crew before after full same len at_board at_bounds h w =
+pub written_back : (m : CpModel) (o : Options) (board board' : Board) (bounds bounds' : Bounds) (n : ℕ) (crew before after : List Seated) → n ≡ length crew → before ≡ crew → length after ≡ length before → board ≡ board' → bounds ≡ bounds'
+    → IsCrew board' bounds' crew → ((i : ℕ) (d : Seated) → i < length before → Worked m o (slice_index_or before i d) (slice_index_or after i d))
+    → HaveReturned m o.gap o.conflicts board bounds (take n (after ++ drop (length after) crew))
+written_back m o board board' bounds bounds' n crew before after full same len at_board at_bounds h w =
     let long : length after ≡ length crew = len ∙ ap (λ (l : List Seated). length l) same in
     let there = subst (λ (b : Bounds). IsCrew board b crew) (sym at_bounds) (subst (λ (b : Board). IsCrew b bounds' crew) (sym at_board) h) in
     let seated = subst (IsCrew board bounds) (sym same) there in
-    subst (HaveReturned m gap conflicts board bounds) (sym (written n crew after full long)) (all_back m gap conflicts board bounds before after len seated w)
+    subst (HaveReturned m o.gap o.conflicts board bounds) (sym (written n crew after full long)) (all_back m o board bounds before after len seated w)
 
 pub all_at : (m : CpModel) (gap conflicts : ℕ) (board : Board) (bounds : Bounds) (crew : List Seated) → HaveReturned m gap conflicts board bounds crew → All (IsBackAt board bounds) crew
 all_at m gap conflicts board bounds crew h i d l = let back = h.each i d l in (back.board_is, back.bounds_is)
 
-pub splits_back : (m : CpModel) (gap conflicts : ℕ) (crew after : List Seated) → length after ≡ length crew → ((i : ℕ) (d : Seated) → i < length crew → Worked m gap conflicts (slice_index_or crew i d) (slice_index_or after i d))
+pub splits_back : (m : CpModel) (o : Options) (crew after : List Seated) → length after ≡ length crew → ((i : ℕ) (d : Seated) → i < length crew → Worked m o (slice_index_or crew i d) (slice_index_or after i d))
     → total words_splits after ≡ total words_splits crew
-splits_back m gap conflicts crew after len w = total_same words_splits crew after len (λ i d l. (w i d l).seats.bounds_splits)
+splits_back m o crew after len w = total_same words_splits crew after len (λ i d l. (w i d l).seats.bounds_splits)
 
 -- ---- the words that are left
 

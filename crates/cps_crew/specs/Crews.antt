@@ -19,7 +19,7 @@ use Rattle.cps_options.specs.Ranges.{AreInRange}
 use Rattle.cps_search.specs.Following.{best_bound}
 use Rattle.cps_crew.specs.declared.seats.Seated.{Seated}
 use Rattle.cps_crew.specs.Ports.{part_of, SeatsStay}
-use Rattle.cps_crew.specs.Workers.{AnySearch, search_in, kind_in, ending_in, worker_kind, BeginsAs, HasEnded}
+use Rattle.cps_crew.specs.Workers.{AnySearch, search_in, kind_in, ending_in, worker_kind, BeginsAs, DrawsBy, HasEnded}
 use Rattle.cps_crew.specs.Outcomes.{GoesByModel, HasSums, best_of, greatest_raised}
 
 -- ---- seats
@@ -58,22 +58,23 @@ pub record MayWork (suits : CpModel → Type 0) (m : CpModel) (o : Options) (poo
   pub found : pool ≡ m
   pub words : words.model_of c.port.bounds.now ≡ m
 
--- the worker of this number, which knew nothing at first, took its turns up to its end
-pub record HasSearched (m : CpModel) (gap conflicts number rows : ℕ) (p q : Part) (e : Ending) : Type 0 where
+-- the worker of this number, which knew nothing at first, took its turns up to its end; where it draws, it does so by
+-- the seed and its number
+pub record HasSearched (m : CpModel) (o : Options) (number rows : ℕ) (p q : Part) (e : Ending) : Type 0 where
   pub first : AnySearch
   pub last : AnySearch
-  pub begins : BeginsAs m gap conflicts first
+  pub begins : BeginsAs m o.gap o.conflicts first
+  pub draws : DrawsBy o.seed number first
   pub kind : kind_in last ≡ worker_kind number
   pub ended : HasEnded rows first last p q
   pub over : (search_in last).phase ≡ Over e.end
   pub is : e ≡ ending_in last e.end
 
 -- the worker of these seats took its turns up to its end, or ran out of memory
-pub record Worked (m : CpModel) (gap conflicts : ℕ) (a b : Seated) : Type 0 where
+pub record Worked (m : CpModel) (o : Options) (a b : Seated) : Type 0 where
   pub seats : SeatsStay a.port.board.now b.port.board.now a.port.bounds.now b.port.bounds.now
       a.port.board_seat b.port.board_seat a.port.bounds_seat b.port.bounds_seat
-  pub ended : IfSome b.ended (HasSearched m gap conflicts a.number (boards.rows_of a.port.board.now)
-      (part_at a) (part_at b))
+  pub ended : IfSome b.ended (HasSearched m o a.number (boards.rows_of a.port.board.now) (part_at a) (part_at b))
 
 -- ---- workers that have ended
 

@@ -44,8 +44,8 @@ pub trait Recruiter {
         requires model { Q.model port.old ≡ order.now.model.now }
         requires pool { F.model pool.old ≡ order.now.model.now }
         ensures keeps { Keeps Q.model Q.rows Q.stays port.old port.new }
-        ensures searched { IfOk result (HasSearched order.now.model.now order.now.options.now.gap
-            order.now.options.now.conflicts order.now.number (Q.rows port.old) (Q.part port.old) (Q.part port.new)) };
+        ensures searched { IfOk result (HasSearched order.now.model.now order.now.options.now order.now.number
+            (Q.rows port.old) (Q.part port.old) (Q.part port.new)) };
 }
 
 /// Makes a worker of a type, and lets it search to its end.
@@ -59,8 +59,8 @@ pub fn search<'a, W: Recruit<'a>, Q: Port, F: Pool>(
     requires model { Q.model port.old ≡ order.now.model.now }
     requires pool { F.model pool.old ≡ order.now.model.now }
     ensures keeps { Keeps Q.model Q.rows Q.stays port.old port.new }
-    ensures searched { IfOk result (HasSearched order.now.model.now order.now.options.now.gap
-        order.now.options.now.conflicts order.now.number (Q.rows port.old) (Q.part port.old) (Q.part port.new)) }
+    ensures searched { IfOk result (HasSearched order.now.model.now order.now.options.now order.now.number
+        (Q.rows port.old) (Q.part port.old) (Q.part port.new)) }
 {
     let mut worker = W::of(order.alloc, order.model, order.options, order.number)?;
     run(&mut worker, port, pool)?;

@@ -45,8 +45,7 @@ fn work<T: Recruiter, R: Wait, G: Gate>(
     seated: &mut Seated<'_>,
 )
     requires { MayWork T.suits brief.now.model.now brief.now.options.now pool.now.model.now seated.old }
-    ensures { Worked brief.now.model.now brief.now.options.now.gap brief.now.options.now.conflicts
-        seated.old seated.new }
+    ensures { Worked brief.now.model.now brief.now.options.now seated.old seated.new }
 {
     gate.arrive(seated.number);
     let order = Order {
@@ -80,8 +79,8 @@ pub fn work_all<T: Recruiter + Sync, R: Threads + Wait + Sync, G: Gate + Sync>(
     requires ready { All (MayWork T.suits brief.now.model.now brief.now.options.now pool.now.model.now) crew.old }
     ensures len { length crew.new ≡ length crew.old }
     ensures each { (i : ℕ) (d : SeatedOf) → i < length crew.old
-        → Worked brief.now.model.now brief.now.options.now.gap brief.now.options.now.conflicts
-        (slice_index_or crew.old i d) (slice_index_or crew.new i d) }
+        → Worked brief.now.model.now brief.now.options.now (slice_index_or crew.old i d)
+        (slice_index_or crew.new i d) }
 {
     thread::for_each_mut(
         rt,

@@ -26,6 +26,7 @@ returns-clause-searched g c = record {
   first = g.W.Member.known c.in_ok-worker.worker;
   last = g.W.Member.known c.run.new.worker;
   begins = c.in_ok-worker.ensures.begins;
+  draws = c.in_ok-worker.ensures.draws;
   kind = c.run.ensures.kind ∙ c.in_ok-worker.ensures.kind;
   ended = c.in_ok-run.ensures.runs;
   over = c.finish.ensures.phase;

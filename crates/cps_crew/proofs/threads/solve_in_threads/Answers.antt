@@ -31,7 +31,7 @@ gather-requires-clause-splits g c =
     let len : length ys ≡ length xs = c.work_all.ensures.len ∙ ap (λ (l : List Seated). length l) same in
     let full : c.in_ok-crew.crew.len ≡ length xs = search rules in
     let w = written c.in_ok-crew.crew.len xs ys full len in
-    let k = splits_back m o.gap o.conflicts c.as_mut_slice.result.now ys c.work_all.ensures.len c.work_all.ensures.each in
+    let k = splits_back m o c.as_mut_slice.result.now ys c.work_all.ensures.len c.work_all.ensures.each in
     ap (λ (l : List Seated). words.splits_of c.seat_all.new.kept.bounds_seat + total words_splits l) w ∙ ap (λ (n : ℕ). words.splits_of c.seat_all.new.kept.bounds_seat + n) (k ∙ ap (total words_splits) same) ∙ c.in_ok-crew.ensures.splits
 
 pub gather-requires-clause-crew : goal.gather-requires-clause-crew
@@ -45,7 +45,7 @@ gather-requires-clause-crew g c =
     let full : c.in_ok-crew.crew.len ≡ length xs = search rules in
     let tables = c.in_ok-crew.ensures.tables in
     all_at m o.gap o.conflicts board bounds _
-    (written_back m o.gap o.conflicts board c.in_ok-board.board bounds c.in_ok-bounds.bounds c.in_ok-crew.crew.len xs c.as_mut_slice.result.now c.work_all.new.crew full same c.work_all.ensures.len tables.0 tables.1
+    (written_back m o board c.in_ok-board.board bounds c.in_ok-bounds.bounds c.in_ok-crew.crew.len xs c.as_mut_slice.result.now c.work_all.new.crew full same c.work_all.ensures.len tables.0 tables.1
     c.in_ok-crew.ensures.crew c.work_all.ensures.each)
 
 pub outcome_of-requires : goal.outcome_of-requires
@@ -62,7 +62,7 @@ outcome_of-requires g c =
     let same : c.as_mut_slice.result.now ≡ xs = c.as_mut_slice.ensures.value in
     let full : c.in_ok-crew.crew.len ≡ length xs = search rules in
     let tables = c.in_ok-crew.ensures.tables in
-    let back = written_back m o.gap o.conflicts board c.in_ok-board.board bounds c.in_ok-bounds.bounds c.in_ok-crew.crew.len xs c.as_mut_slice.result.now c.work_all.new.crew full same c.work_all.ensures.len tables.0 tables.1
+    let back = written_back m o board c.in_ok-board.board bounds c.in_ok-bounds.bounds c.in_ok-crew.crew.len xs c.as_mut_slice.result.now c.work_all.new.crew full same c.work_all.ensures.len tables.0 tables.1
     c.in_ok-crew.ensures.crew c.work_all.ensures.each in
     let came = subst (λ (n : ℕ). AreGathered m o.gap o.conflicts 0 n (words.part_of seat) c.in_ok-ends.ends.items) c.in_ok-crew.ensures.count (c.in_ok-ends.ensures.gathered m o.gap o.conflicts back) in
     came_to m o.gap o.conflicts o.workers (words.part_of seat) c.close-upper.result.0 c.close-upper.result.1 c.in_ok-ends.ends.items came (k.whole_upper all)
