@@ -2,35 +2,53 @@
 use crate::known_answers::THREE_IN_THREE;
 use crate::running::{Seen, run, run_at, unhindered};
 use cps_outer::Gate;
-use std::sync::atomic::{AtomicBool, Ordering};
+use std::sync::atomic::{AtomicBool, AtomicU32, Ordering};
 use std::test::Fail;
 
-/// How often worker 0 looks for worker 1.
+/// How often a worker looks for the other.
 const MOST_LOOKS: u32 = 100_000_000;
 
-/// A gate that holds worker 0 until worker 1 has arrived, for so many looks at most.
+/// A gate that holds each of the workers 0 and 1 until the other has arrived, for so many looks at most.
 #[derive(Drop)]
 struct MeetingGate {
-    arrived: AtomicBool,
+    /// How often worker 0 arrived.
+    first: AtomicU32,
+    /// How often worker 1 arrived.
+    second: AtomicU32,
     met_limit: AtomicBool,
 }
 
 impl MeetingGate {
-    fn hold(&self) {
+    /// Holds a worker until the other has arrived.
+    fn hold(&self, other: &AtomicU32) {
         for _ in 0..MOST_LOOKS {
-            if self.arrived.load(Ordering::SeqCst) {
+            if other.load(Ordering::SeqCst) > 0 {
                 return;
             }
         }
         self.met_limit.store(true, Ordering::SeqCst);
+    }
+
+    /// Counts a worker, and holds it.
+    fn meet(&self, own: &AtomicU32, other: &AtomicU32) {
+        own.fetch_add(1, Ordering::SeqCst);
+        self.hold(other);
+    }
+
+    /// Whether each of the two arrived once, and met the other.
+    fn is_met(&self) -> bool {
+        self.first.load(Ordering::SeqCst) == 1
+            && self.second.load(Ordering::SeqCst) == 1
+            && !self.met_limit.load(Ordering::SeqCst)
     }
 }
 
 impl Gate for MeetingGate {
     fn arrive(&self, worker: u32) {
         match worker {
-            0 => self.hold(),
-            _ => self.arrived.store(true, Ordering::SeqCst),
+            0 => self.meet(&self.first, &self.second),
+            1 => self.meet(&self.second, &self.first),
+            _ => {}
         }
     }
 }
@@ -79,12 +97,13 @@ fn turns_that_a_seed_draws_are_the_same_at_each_run(rt: HostRuntime) -> Result<(
 #[test]
 fn two_workers_search_side_by_side(rt: HostRuntime) -> Result<(), Fail> {
     let gate = MeetingGate {
-        arrived: AtomicBool::new(false),
+        first: AtomicU32::new(0),
+        second: AtomicU32::new(0),
         met_limit: AtomicBool::new(false),
     };
     let two = unhindered(&["solve", "--workers", "2"], THREE_IN_THREE);
     let seen = run_at(&rt, rt.alloc(), &two, &gate)?;
     assert!(rt; is_best_order(&seen));
-    assert!(rt; !gate.met_limit.load(Ordering::SeqCst));
+    assert!(rt; gate.is_met());
     Ok(())
 }
