@@ -1,8 +1,8 @@
-//! Three variables: no two of them equal, or one of the first two not 0.
+//! Three variables: no two of them equal, or one of the first two not 0. Two variables without constraints, and a hint.
 ghost use Rattle.std.specs.Prelude.{◌≡◌, All, IfOk, true};
 ghost use Rattle.cps_kinds.specs.Kinds.{is_propagated, AreAllPropagated};
 
-use cps_model::{Constraint, CpModel, Ints, Kind, Listed, Objective, Refs, Text, Variable};
+use cps_model::{Constraint, CpModel, Hint, Ints, Kind, Listed, Objective, Refs, Text, Variable};
 use cps_validate::{ValidModel, ValidateError, validate};
 use std::alloc::{AllocError, Global};
 
@@ -21,10 +21,10 @@ fn variable(alloc: Global, greatest: i64) -> Result<Variable, AllocError> {
     })
 }
 
-/// Three variables from 0 on.
-fn variables(alloc: Global, greatest: i64) -> Result<Listed<Variable>, AllocError> {
+/// So many variables from 0 on.
+fn variables(alloc: Global, count: usize, greatest: i64) -> Result<Listed<Variable>, AllocError> {
     let mut variables = Vec::new(alloc);
-    for _ in 0..3 {
+    for _ in 0..count {
         let variable = variable(alloc, greatest)?;
         variables.push(variable)?;
     }
@@ -77,7 +77,7 @@ pub fn three(
     ensures kinds { IfOk result AreAllPropagated }
 {
     let constraints = all_differ(alloc, greatest)?;
-    let variables = variables(alloc, greatest)?;
+    let variables = variables(alloc, 3, greatest)?;
     let model = CpModel {
         name: Text::new(alloc),
         variables,
@@ -103,11 +103,11 @@ fn one_of_two(alloc: Global) -> Result<Listed<Constraint>, AllocError>
     Ok(Listed::from_vec(constraints))
 }
 
-/// The sum of the first two variables.
-fn sum_of_two(alloc: Global) -> Result<Objective, AllocError> {
+/// The sum of the first two variables, so many times.
+fn sum_of_two(alloc: Global, times: i64) -> Result<Objective, AllocError> {
     Ok(Objective {
         vars: refs(alloc, &[0, 1])?,
-        coeffs: ints(alloc, &[1, 1])?,
+        coeffs: ints(alloc, &[times, times])?,
         offset: 0,
         scaling: 1,
         domain: Ints::new(alloc),
@@ -119,8 +119,8 @@ pub fn pair(alloc: Global) -> Result<ValidModel, ValidateError>
     ensures kinds { IfOk result AreAllPropagated }
 {
     let constraints = one_of_two(alloc)?;
-    let variables = variables(alloc, 1)?;
-    let objective = sum_of_two(alloc)?;
+    let variables = variables(alloc, 3, 1)?;
+    let objective = sum_of_two(alloc, 1)?;
     let model = CpModel {
         name: Text::new(alloc),
         variables,
@@ -128,6 +128,33 @@ pub fn pair(alloc: Global) -> Result<ValidModel, ValidateError>
         objective: Some(objective),
         strategies: Listed::new(alloc),
         hint: None,
+        assumptions: Refs::new(alloc),
+    };
+    validate(alloc, model)
+}
+
+/// The hint that the first two variables are 8 and 5.
+fn eight_and_five(alloc: Global) -> Result<Hint, AllocError> {
+    Ok(Hint {
+        vars: refs(alloc, &[0, 1])?,
+        values: ints(alloc, &[8, 5])?,
+    })
+}
+
+/// Two variables from 0 to 9 that are hinted to be 8 and 5, and their sum is to be greatest.
+pub fn hinted(alloc: Global) -> Result<ValidModel, ValidateError>
+    ensures kinds { IfOk result AreAllPropagated }
+{
+    let variables = variables(alloc, 2, 9)?;
+    let objective = sum_of_two(alloc, -1)?;
+    let hint = eight_and_five(alloc)?;
+    let model = CpModel {
+        name: Text::new(alloc),
+        variables,
+        constraints: Listed::new(alloc),
+        objective: Some(objective),
+        strategies: Listed::new(alloc),
+        hint: Some(hint),
         assumptions: Refs::new(alloc),
     };
     validate(alloc, model)
