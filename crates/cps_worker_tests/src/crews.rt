@@ -1,4 +1,10 @@
 //! Crews of four workers: what they hand each other by the pool, in turns and in threads.
+//!
+//! In turns the workers are those of the portfolio. A seed is taken by whose draws workers 0 and 1 have each found a
+//! solution before worker 3 begins, and what worker 3 then finds is near the later one of these alone. So it shows that
+//! solutions come into the pool, and at which of them a worker aims. In threads nobody can say who finds first. There
+//! the workers are stand-ins that do not search: one puts a solution into the pool, another waits for it, and each is
+//! counted at the gate before it is made.
 ghost use Rattle.std.specs.Prelude.{◌≡◌};
 ghost use Rattle.cps_kinds.specs.Kinds.{AreAllPropagated};
 
@@ -27,8 +33,8 @@ const FOUR: Options = Options {
     gap: 0,
 };
 
-/// What each worker finds, by number: the least values, those of the hint, the best ones, and near those of the hint the
-/// best ones, with the hint's second value.
+/// What each worker finds, by number: the least values, those of the hint, the best ones, and near those of the hint
+/// the best ones, with the hint's second value.
 static FOUND: [[i64; 2]; 4] = [[0, 0], [8, 5], [9, 9], [9, 5]];
 
 /// Whether these are the best solutions that workers found, by number.
