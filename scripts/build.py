@@ -18,13 +18,15 @@ from collections import deque
 from contextlib import contextmanager
 from pathlib import Path
 
-from processes import begin, end, exit_on_signals
+from processes import TO_CHECK, begin, end, exit_on_signals, free_memory, lanes
 
 TOP = Path(__file__).resolve().parent.parent
 NAME = "cpsolve"
 OUT = TOP / "crates" / NAME / "out"
 # The program, and a file whose time is when the build that made it began to read the sources.
 PROGRAM, BEGAN = OUT / NAME, OUT / f"{NAME}.began"
+# The bytes of memory from which `rt ci` by itself lets few crates wait, whatever the number of processors.
+AMPLE = 24_000_000_000
 # By how much, in seconds, the times of files may lag behind the clock.
 TICK = 0.01
 # What `rt ci` says where a crate is proved, in this run or in an earlier one, and where it is not.
@@ -83,10 +85,22 @@ def follow(said, count):
     return last, False
 
 
+def environment(room):
+    """The environment of `rt ci`, with a folder for temporary files.
+
+    By itself `rt ci` starts a check only where two to four times the memory that it takes is free. With little memory
+    the largest crates then wait until last, and so does all that stands on them, while processors are idle. With
+    RT_JOBS it reckons no memory, but gives each check one processor, and not several where few crates are left. So it is
+    slower where memory is ample.
+    """
+    few = {"RT_JOBS": str(lanes(TO_CHECK))} if free_memory() < AMPLE else {}
+    return {**few, **os.environ, "TMPDIR": str(room)}
+
+
 def prove_all(copy, room, count):
     """Proves all crates and builds the program, with a folder for temporary files. Returns whether that went well."""
     how = {"stdin": subprocess.DEVNULL, "stdout": subprocess.PIPE, "stderr": subprocess.STDOUT}
-    run = begin(["rt", "ci"], copy, text=True, errors="replace", env={**os.environ, "TMPDIR": str(room)}, **how)
+    run = begin(["rt", "ci"], copy, text=True, errors="replace", env=environment(room), **how)
     try:
         last, is_refused = follow(run.stdout, count)
         if not is_refused:
