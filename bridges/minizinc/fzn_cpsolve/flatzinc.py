@@ -229,9 +229,11 @@ class Reader:
                 break
             end = found.end()
             self.item(found[0])
-        rest = COMMENT.sub(r"\1", text[end:]).strip()
-        if rest:
-            raise Refused(f"line {self.line}: {rest[:20]!r} ends without a semicolon")
+        rest = COMMENT.sub(r"\1", text[end:])
+        body = rest.lstrip()
+        if body:
+            line = self.line + rest.count("\n", 0, len(rest) - len(body))
+            raise Refused(f"line {line}: {body[:20]!r} ends without a semicolon")
         return self.model
 
     def item(self, text: str) -> None:

@@ -30,8 +30,10 @@ def add_tour(p: Posting, has_loops: bool) -> None:
     """A list of successors is one circuit; with loops for the nodes that it leaves out, where it may leave out some."""
     parts, first = p.affines(0), p.number(1)
     if not p.enforcement:
-        for part in parts:
-            p.model.narrow(part, [(first, first + len(parts) - 1)])
+        for own, part in enumerate(parts, first):
+            last = first + len(parts) - 1
+            others = [(first, own - 1), (own + 1, last)]
+            p.model.narrow(part, [(first, last)] if has_loops else [(a, b) for a, b in others if a <= b])
     arcs = arcs_of(p, parts, first, has_loops)
     tails, heads = [arc[0] for arc in arcs], [arc[1] for arc in arcs]
     if len(set(tails)) < len(parts) or len(set(heads)) < len(parts):

@@ -1,0 +1,152 @@
+"""A program that is ended ends the solver that it started at once, and what was found is not lost."""
+
+import os
+import signal
+import subprocess
+import tempfile
+import time
+import unittest
+from pathlib import Path
+
+from fzn_cpsolve.solver import find_program
+
+from .minizinc import BRIDGE, COMMAND
+
+# Far more than the program closes in the time of this test: pigeons in holes, by differences, and a goal beside them.
+COUNT = 14
+HARD = "".join(
+    [f"array[1..{COUNT}] of var 1..{COUNT - 1}: x;\n"]
+    + [f"constraint x[{i}] != x[{j}];\n" for i in range(1, COUNT + 1) for j in range(i + 1, COUNT + 1)]
+    + ["solve satisfy;\n"]
+)
+# Solved at once, and not closed for long: the tour of many points at random distances, by a table of distances.
+LONG = """
+    include "alldifferent.mzn";
+    int: n = 60;
+    array[1..n] of var 1..n: x;
+    constraint alldifferent(x);
+    solve minimize sum(i in 1..n)(((i * x[i] * 7919 + x[i] * x[i] * 104729) mod 1009));
+"""
+# Seconds within which all has to be over.
+AT_ONCE = 2
+
+
+def running(mark: str) -> list[int]:
+    """The processes whose environment has this mark."""
+    found = []
+    for folder in Path("/proc").iterdir():
+        if folder.name.isdigit():
+            try:
+                environment = (folder / "environ").read_bytes()
+                state = (folder / "stat").read_text().rpartition(") ")[2][0]
+            except OSError:
+                continue
+            if mark.encode() in environment and state != "Z":
+                found.append(int(folder.name))
+    return found
+
+
+class Signals(unittest.TestCase):
+    """Each way in which a run may be ended from outside."""
+
+    def setUp(self) -> None:
+        self.room = tempfile.TemporaryDirectory()
+        self.addCleanup(self.room.cleanup)
+        self.mark = f"CPSOLVE_TEST={self.room.name}"
+        name, value = self.mark.split("=")
+        self.environment = {**os.environ, name: value, "MZN_SOLVER_PATH": str(BRIDGE), "CPSOLVE": find_program("")}
+
+    def start(self, model: str, *options: str) -> subprocess.Popen:
+        """Starts MiniZinc, and waits until the solver runs."""
+        path = Path(self.room.name, "model.mzn")
+        path.write_text(model)
+        process = subprocess.Popen(
+            ["minizinc", "--solver", "cpsolve", *options, str(path)],
+            env=self.environment,
+            stdout=subprocess.PIPE,
+            stderr=subprocess.PIPE,
+            text=True,
+        )
+        self.addCleanup(self.end, process)
+        self.wait_until(lambda: len(self.solvers()) == 1, 30)
+        return process
+
+    def end(self, process: subprocess.Popen) -> None:
+        """Leaves nothing behind, whatever failed."""
+        process.kill()
+        process.communicate()
+        for number in running(self.mark):
+            os.kill(number, signal.SIGKILL)
+
+    def solvers(self) -> list[int]:
+        """The runs of the program."""
+        return [n for n in running(self.mark) if Path(f"/proc/{n}/exe").resolve() == Path(find_program("")).resolve()]
+
+    def bridges(self) -> list[int]:
+        """The runs of the bridge."""
+        name = str(COMMAND).encode()
+        return [n for n in running(self.mark) if name in Path(f"/proc/{n}/cmdline").read_bytes()]
+
+    def wait_until(self, condition, seconds: float = AT_ONCE) -> None:
+        """Waits until a condition holds, and fails where that takes too long."""
+        end = time.monotonic() + seconds
+        while not condition():
+            self.assertLess(time.monotonic(), end, f"still running: {running(self.mark)}")
+            time.sleep(0.05)
+
+    def test_signals_to_minizinc(self) -> None:
+        """MiniZinc is asked to end, or is killed without a word."""
+        for number in (signal.SIGTERM, signal.SIGINT, signal.SIGKILL):
+            with self.subTest(number):
+                process = self.start(HARD)
+                process.send_signal(number)
+                process.wait(timeout=AT_ONCE)
+                self.wait_until(lambda: not running(self.mark))
+
+    def test_signals_to_bridge(self) -> None:
+        """The bridge itself is ended; its solver goes with it, and MiniZinc comes to its end."""
+        for number in (signal.SIGTERM, signal.SIGINT, signal.SIGHUP, signal.SIGKILL):
+            with self.subTest(number):
+                self.start(HARD)
+                (bridge,) = self.bridges()
+                os.kill(bridge, number)
+                self.wait_until(lambda: not running(self.mark))
+
+    def test_reader_gone(self) -> None:
+        """Nobody reads the answer any more."""
+        process = self.start(HARD)
+        (bridge,) = self.bridges()
+        os.kill(process.pid, signal.SIGSTOP)
+        os.kill(bridge, 0)
+        process.kill()
+        self.wait_until(lambda: not running(self.mark))
+
+    def test_time_limits(self) -> None:
+        """`-t` of MiniZinc: what was found is written, and nothing is left."""
+        began = time.monotonic()
+        process = self.start(LONG, "-t", "2000", "-p", "1")
+        output, errors = process.communicate(timeout=30)
+        self.assertIn("----------", output, errors)
+        self.assertNotIn("==========", output)
+        self.assertLess(time.monotonic() - began, 15)
+        self.wait_until(lambda: not running(self.mark))
+
+    def test_unknown_in_time(self) -> None:
+        """Where nothing was found in time that is said."""
+        process = self.start(HARD, "-t", "500")
+        output, _ = process.communicate(timeout=30)
+        self.assertIn("=====UNKNOWN=====", output)
+        self.wait_until(lambda: not running(self.mark))
+
+    def test_best_is_kept(self) -> None:
+        """A bridge that is asked to end writes the best solution that it has."""
+        process = self.start(LONG, "-t", "60000", "-p", "1")
+        time.sleep(2)
+        os.kill(self.bridges()[0], signal.SIGTERM)
+        output, errors = process.communicate(timeout=AT_ONCE)
+        self.assertIn("----------", output, errors)
+        self.assertNotIn("==========", output)
+
+
+if __name__ == "__main__":
+    unittest.main()
