@@ -4,6 +4,7 @@ import os
 import signal
 import subprocess
 import tempfile
+import threading
 import time
 import unittest
 from pathlib import Path
@@ -14,11 +15,10 @@ from .minizinc import BRIDGE, COMMAND
 
 # Far more than the program closes in the time of this test: pigeons in holes, by differences, and a goal beside them.
 COUNT = 14
-HARD = "".join(
-    [f"array[1..{COUNT}] of var 1..{COUNT - 1}: x;\n"]
-    + [f"constraint x[{i}] != x[{j}];\n" for i in range(1, COUNT + 1) for j in range(i + 1, COUNT + 1)]
-    + ["solve satisfy;\n"]
+PIGEONS = "".join(
+    f"constraint int_ne(x{one}, x{other});\n" for one in range(1, COUNT + 1) for other in range(one + 1, COUNT + 1)
 )
+HARD = "".join(f"var 1..{COUNT - 1}: x{one};\n" for one in range(1, COUNT + 1)) + PIGEONS + "solve satisfy;\n"
 # Solved at once, and not closed for long: the tour of many points at random distances, by a table of distances.
 LONG = """
     include "alldifferent.mzn";
@@ -27,6 +27,7 @@ LONG = """
     constraint alldifferent(x);
     solve minimize sum(i in 1..n)(((i * x[i] * 7919 + x[i] * x[i] * 104729) mod 1009));
 """
+QUICK = "var 3..5: x :: output_var;\nconstraint int_le(x, 3);\nsolve satisfy;\n"
 # Seconds within which all has to be over.
 AT_ONCE = 2
 
@@ -58,7 +59,7 @@ class Signals(unittest.TestCase):
 
     def start(self, model: str, *options: str) -> subprocess.Popen:
         """Starts MiniZinc, and waits until the solver runs."""
-        path = Path(self.room.name, "model.mzn")
+        path = Path(self.room.name, "model.fzn" if model is HARD else "model.mzn")
         path.write_text(model)
         process = subprocess.Popen(
             ["minizinc", "--solver", "cpsolve", *options, str(path)],
@@ -74,7 +75,10 @@ class Signals(unittest.TestCase):
     def end(self, process: subprocess.Popen) -> None:
         """Leaves nothing behind, whatever failed."""
         process.kill()
-        process.communicate()
+        process.wait()
+        for stream in (process.stdout, process.stderr):
+            if stream:
+                stream.close()
         for number in running(self.mark):
             os.kill(number, signal.SIGKILL)
 
@@ -112,14 +116,29 @@ class Signals(unittest.TestCase):
                 os.kill(bridge, number)
                 self.wait_until(lambda: not running(self.mark))
 
+    def start_bridge(self, model: str) -> subprocess.Popen:
+        """Starts the bridge itself."""
+        path = Path(self.room.name, "model.fzn")
+        path.write_text(model)
+        return subprocess.Popen([str(COMMAND), str(path)], env=self.environment, stdout=subprocess.PIPE, text=True)
+
     def test_reader_gone(self) -> None:
-        """Nobody reads the answer any more."""
-        process = self.start(HARD)
-        (bridge,) = self.bridges()
-        os.kill(process.pid, signal.SIGSTOP)
-        os.kill(bridge, 0)
-        process.kill()
+        """Nobody reads the answer any more, though the caller is there."""
+        process = self.start_bridge(HARD)
+        self.addCleanup(self.end, process)
+        self.wait_until(lambda: len(self.solvers()) == 1, 30)
+        process.stdout.close()
         self.wait_until(lambda: not running(self.mark))
+        process.wait()
+
+    def test_thread_gone(self) -> None:
+        """Where only the thread ended that called, the caller still gets its answer."""
+        started: list[subprocess.Popen] = []
+        thread = threading.Thread(target=lambda: started.append(self.start_bridge(QUICK)))
+        thread.start()
+        thread.join()
+        output, _ = started[0].communicate(timeout=30)
+        self.assertEqual(output, "x = 3;\n----------\n")
 
     def test_time_limits(self) -> None:
         """`-t` of MiniZinc: what was found is written, and nothing is left."""
