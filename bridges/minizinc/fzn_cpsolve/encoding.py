@@ -99,17 +99,28 @@ class Encoding:
     def define(self, literal: int, part: Affine, wanted: Domain) -> None:
         """A literal of the model's own says whether the expression's value is in a set. It is the one that is shared,
         unless there is one already."""
-        inside = domains.intersection(self.model.domain(part), wanted)
-        if part.variable is not None and part.scale in (1, -1) and inside and self.model.known(literal) is None:
-            on_variable = domains.image(inside, part.scale, -part.scale * part.offset)
-            low, high = on_variable[0][0], on_variable[-1][1]
-            is_binary = low >= 0 and self.model.domains[part.variable][-1][1] <= 1
-            key, shared = ((part.variable, low), self.values) if low == high else ((part.variable, tuple(on_variable)), self.sets)
-            if key not in shared and not is_binary:
-                shared[key] = literal
-                self.tie(literal, part, wanted)
-                return
-        self.join(literal, self.member(part, wanted))
+        domain = self.model.domain(part)
+        inside = domains.intersection(domain, wanted)
+        outside = domains.intersection(domain, domains.complement(wanted))
+        is_plain = part.variable is not None and part.scale in (1, -1) and (domain[0][0] < 0 or domain[-1][1] > 1)
+        if not (is_plain and inside and outside) or self.model.known(literal) is not None:
+            self.join(literal, self.member(part, wanted))
+        elif domains.size(outside) == 1 < domains.size(inside):
+            self.share(-literal - 1, part, outside)
+        else:
+            self.share(literal, part, inside)
+
+    def share(self, literal: int, part: Affine, inside: Domain) -> None:
+        """Keeps a literal for its pair of variable and value, or of variable and set; joins it to the one that is kept."""
+        on_variable = domains.image(inside, part.scale, -part.scale * part.offset)
+        low, high = on_variable[0][0], on_variable[-1][1]
+        shared, key = (self.values, low) if low == high else (self.sets, tuple(on_variable))
+        pair = part.variable, key
+        if pair in shared:
+            self.join(literal, shared[pair])
+        else:
+            shared[pair] = literal
+            self.tie(literal, part, inside)
 
     def define_equal(self, literal: int, first: Affine, second: Affine) -> None:
         """A literal of the model's own says whether two expressions are equal, of which none is a number."""

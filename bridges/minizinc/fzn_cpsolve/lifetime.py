@@ -49,10 +49,11 @@ class Caller:
         return os.getppid() != self.process or bool(self.reader.poll(0))
 
     def watch(self) -> None:
-        """From now on its end, and each signal that asks for an end, raises `Stopped`."""
+        """From now on its end, and each signal that asks for an end and was not to be ignored, raises `Stopped`."""
         signal.signal(CALLER_SIGNAL, self.check)
         for number in STOP_SIGNALS:
-            signal.signal(number, stop)
+            if signal.getsignal(number) != signal.SIG_IGN:
+                signal.signal(number, stop)
         ask_for_signal(CALLER_SIGNAL)
 
     def check(self, number: int, frame: FrameType | None) -> None:

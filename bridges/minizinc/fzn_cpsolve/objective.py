@@ -16,7 +16,7 @@ class Objective:
     """The sum that the program minimises, and how that is seen by the FlatZinc model: `sign * (sum + offset)`."""
 
     def __init__(self, flat: FlatModel, references: References) -> None:
-        self.model = references.model
+        self.model, self.unbounded = references.model, references.unbounded
         self.sign = -1 if flat.goal == "maximize" else 1
         self.goal = references.affine(flat.objective)
         coefficients, offset = collect(defining_sum(flat, references, self.goal))
@@ -43,13 +43,37 @@ class Objective:
         domain = f"domain: {domain_text([(domains.INT_MIN, most)])} " if most is not None else ""
         return f"objective {{ {sum_text(self.coefficients)}{offset}{factor}{domain}}}\n"
 
-    def is_improved_by(self, root: str, is_open: tuple[bool, bool]) -> bool:
-        """Whether values of a root that are left out, below or above, could be better than all that are searched."""
+    def is_improved_by(self, root: str, best: int) -> bool:
+        """Whether a solution where an unbounded root has a value that is left out could be better than one whose sum is
+        `best`."""
+        below, above = self.unbounded[root]
         scale, variable, _ = self.goal
-        if variable is None or self.model.names[variable] != root:
-            return True
-        below, above = is_open
-        return below if scale * self.sign > 0 else above
+        if variable is not None and self.model.names[variable] == root:
+            return below if scale * self.sign > 0 else above
+        is_open = {False: below, True: above}
+        return any(is_open[is_high] and not self.is_worse_beyond(root, is_high, best) for is_high in is_open)
+
+    def is_worse_beyond(self, root: str, is_high: bool, best: int) -> bool:
+        """Whether no sum is below `best` where a root is greater than its greatest value, or less than its least."""
+        variable = self.model.names.index(root)
+        k = self.coefficients.get(variable, 0)
+        rest = self.least_besides(variable)
+        if rest is None or k == 0 or (k > 0) != is_high:
+            return False
+        domain = self.model.domains[variable]
+        return k * (domain[-1][1] + 1 if is_high else domain[0][0] - 1) + rest >= best
+
+    def least_besides(self, variable: int) -> int | None:
+        """The least sum of all terms but one; None where it is not bounded."""
+        total = 0
+        for other, k in self.coefficients.items():
+            if other != variable:
+                below, above = self.unbounded.get(self.model.names[other], (False, False))
+                if below if k > 0 else above:
+                    return None
+                domain = self.model.domains[other]
+                total += k * (domain[0][0] if k > 0 else domain[-1][1])
+        return total
 
 
 def defining_sum(flat: FlatModel, references: References, goal: Affine) -> Terms:

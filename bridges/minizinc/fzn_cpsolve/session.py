@@ -16,6 +16,9 @@ from .translation import Translation
 # The conflicts of the first run where runs follow one another, and by how much each has more than the one before.
 FIRST_BUDGET = 100
 BUDGET_FACTOR = 4
+# Which share of the time that is left a run is to take at most, as fast as the one before was. What a run finds that is
+# ended by the time limit is lost.
+SHARE_OF_TIME = 0.7
 # How many of the variables that nothing bounds are named.
 MAX_NAMED = 5
 
@@ -33,13 +36,15 @@ class Options:
 
 
 class Session:
-    """A translated model and the program that answers it. `unwritten` is the best solution as long as it is not written."""
+    """A translated model and the program that answers it. `unwritten` is the best solution as long as it is not written,
+    `best` its sum, `objective` and `bound` what is called so in the FlatZinc model."""
 
     def __init__(self, translation: Translation, solver: Solver, options: Options) -> None:
         self.translation, self.solver, self.options = translation, solver, options
         self.began = time.monotonic()
         self.solutions = 0
         self.unwritten: list[int] | None = None
+        self.best: int | None = None
         self.objective: int | None = None
         self.bound: int | None = None
 
@@ -60,8 +65,7 @@ class Session:
         try:
             answer = self.solver.solve(text, conflicts, self.options.deadline)
         except InvalidModel as invalid:
-            origins = self.translation.model.origins
-            origin = None if invalid.constraint is None or invalid.constraint >= len(origins) else origins[invalid.constraint]
+            origin = None if invalid.constraint is None else self.translation.origin(invalid.constraint)
             if origin is None:
                 raise
             raise Refused(f"line {origin.line}: {origin.name}: it breaks rule {invalid.rule} of cpsolve") from None
@@ -92,16 +96,16 @@ class Session:
         objective, limit = self.translation.objective, self.options.conflicts
         in_steps = self.options.is_intermediate or self.options.deadline is not None
         budget = min(limit, FIRST_BUDGET) if in_steps else limit
-        best, values = None, None
+        values = None
         while True:
-            answer = self.ask(self.translation.text(self.options.is_free, best, values), budget)
+            answer = self.ask(self.translation.text(self.options.is_free, self.best, values), budget)
             if answer.status == "INFEASIBLE":
                 self.bound = self.objective
                 self.close()
                 return
             if answer.values is not None:
-                values, best = answer.values, objective.value(answer.values)
-                self.objective, self.unwritten = objective.shown(best), values
+                values, self.best = answer.values, objective.value(answer.values)
+                self.objective, self.unwritten = objective.shown(self.best), values
                 if self.options.is_intermediate:
                     self.write_unwritten()
             is_done = answer.status == "OPTIMAL"
@@ -111,7 +115,16 @@ class Session:
             if is_done or budget == limit:
                 self.give_up()
                 return
-            budget = min(limit, budget * BUDGET_FACTOR)
+            budget = min(limit, self.next_budget(budget, answer.seconds))
+
+    def next_budget(self, budget: int, seconds: float) -> int:
+        """The budget after one that took so long: greater by a factor, or what the time that is left allows."""
+        grown = budget * BUDGET_FACTOR
+        if self.options.deadline is None:
+            return grown
+        left = self.options.deadline - time.monotonic()
+        fitting = int(SHARE_OF_TIME * left * budget / max(seconds, 0.001))
+        return min(grown, max(fitting, FIRST_BUDGET))
 
     def write_solution(self, values: list[int]) -> None:
         """Writes a solution."""
@@ -133,14 +146,13 @@ class Session:
     def close(self) -> None:
         """Ends with the claim that there is nothing more, unless variables are unbounded and that could be wrong."""
         self.write_unwritten()
-        is_solved = self.solutions > 0
-        unclaimed = self.translation.unclaimed(is_solved)
+        unclaimed = self.translation.unclaimed(self.best)
         if unclaimed:
             names = ", ".join(unclaimed[:MAX_NAMED])
             note(f"nothing bounds {names}; searched within {WINDOW}, and nothing is claimed beyond that")
             self.give_up()
         else:
-            write(COMPLETE if is_solved else UNSATISFIABLE)
+            write(COMPLETE if self.solutions else UNSATISFIABLE)
 
     def write_statistics(self) -> None:
         """What is known of the run."""

@@ -29,11 +29,13 @@ BROKEN_RULE = re.compile(r"^# invalid (V\d+) at constraint (\d+)", re.MULTILINE)
 
 @dataclass
 class Answer:
-    """What the program answers: a status, the values of a solution, a bound on the objective as the model shows it."""
+    """What the program answers: a status, the values of a solution, a bound on the objective as the model shows it, and
+    after how many seconds."""
 
     status: str
     values: list[int] | None
     bound: int | None
+    seconds: float
 
 
 class InvalidModel(Refused):
@@ -86,8 +88,10 @@ class Solver:
             if process.poll() is None:
                 process.kill()
                 process.wait()
-            self.seconds += time.monotonic() - began
-        return self.read(process.returncode, output.decode(errors="replace"), errors.decode(errors="replace"))
+            seconds = time.monotonic() - began
+            self.seconds += seconds
+        status, values, bound = self.read(process.returncode, output.decode(), errors.decode(errors="replace"))
+        return Answer(status, values, bound, seconds)
 
     def wait(self, process: subprocess.Popen, raw: bytes, deadline: float | None) -> tuple[bytes, bytes]:
         """Gives the program its input and waits for what it writes."""
@@ -103,8 +107,8 @@ class Solver:
             if deadline is not None and time.monotonic() >= deadline:
                 raise TimeIsUp
 
-    def read(self, code: int, output: str, errors: str) -> Answer:
-        """The answer in what the program wrote."""
+    def read(self, code: int, output: str, errors: str) -> tuple[str, list[int] | None, int | None]:
+        """The status, the values and the bound that the program wrote."""
         status = STATUS.search(output)
         if code == 1:
             cause = next((line for line in output.splitlines() if line.startswith("#")), output.strip())
@@ -119,4 +123,4 @@ class Solver:
         if status[1] in ("OPTIMAL", "FEASIBLE"):
             values = [int(value) for value in SOLUTION.findall(output)]
         bound = BOUND.search(output)
-        return Answer(status[1], values, int(bound[1]) if bound else None)
+        return status[1], values, int(bound[1]) if bound else None

@@ -44,6 +44,10 @@ class Translation:
             post(self.references, self.encoding, constraint)
         self.model.origin = None
 
+    def origin(self, number: int) -> Constraint | None:
+        """The constraint of FlatZinc that a constraint of the CpModel comes from."""
+        return self.model.origins[number] if number < len(self.model.origins) else None
+
     def text(self, is_free: bool = False, below: int | None = None, hint: list[int] | None = None) -> str:
         """The CpModel. `is_free` leaves out the strategies, `below` asks for a sum below that, and `hint` are values of
         all variables to begin with."""
@@ -76,12 +80,10 @@ class Translation:
         columns = expressions("exprs", [Affine(1, variable, 0) for variable in variables])
         return f"constraints {{ table {{ {columns} values: {cells} negated: true }} }}\n"
 
-    def unclaimed(self, is_solved: bool) -> list[str]:
+    def unclaimed(self, best: int | None) -> list[str]:
         """The unbounded variables whose values beyond the window might change what is claimed: that nothing is better than
-        what was found, or that there is no solution."""
-        found = []
-        for root, is_open in self.references.unbounded.items():
-            is_worse = is_solved and self.objective and not self.objective.is_improved_by(root, is_open)
-            if not is_worse:
-                found.append(root)
-        return found
+        a solution whose sum is `best`, or, where that is None, that there are no further solutions."""
+        unbounded = self.references.unbounded
+        if best is None or self.objective is None:
+            return list(unbounded)
+        return [root for root in unbounded if self.objective.is_improved_by(root, best)]

@@ -5,7 +5,7 @@ from dataclasses import dataclass, field
 from typing import Any, NamedTuple
 
 # Most assignments of a model that is drawn.
-MAX_ASSIGNMENTS = 60
+MAX_ASSIGNMENTS = 40
 # How often an argument is a number or a truth value, how often a domain has a hole, and how often a variable comes again.
 FIXED, HOLE, AGAIN = 0.2, 0.25, 0.15
 

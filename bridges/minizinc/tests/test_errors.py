@@ -99,6 +99,18 @@ class Errors(unittest.TestCase):
         run = solve_flat("var int: x :: output_var;\nconstraint int_le(3, x);\nsolve maximize x;\n")
         self.assertNotIn("==========", run.output)
 
+    def test_unbounded_parts(self) -> None:
+        """Parts of a sum that is minimised need no greatest value where a solution shows that greater ones are worse."""
+        parts = "var int: x :: output_var;\nvar int: y :: output_var;\nvar int: z :: is_defined_var;\n"
+        parts += "constraint int_le(0, x);\nconstraint int_le(0, y);\nconstraint int_lin_le([-2, -1], [x, y], -7);\n"
+        parts += "constraint int_lin_eq([3, 2, -1], [x, y, z], 0) :: defines_var(z);\nsolve minimize z;\n"
+        run = solve_flat(parts)
+        self.assertEqual(run.output, "x = 3;\ny = 1;\n----------\n==========\n")
+        # What is no part of the sum may have any value.
+        run = solve_flat(f"var int: w :: output_var;\n{parts}")
+        self.assertNotIn("==========", run.output)
+        self.assertIn("nothing bounds w", run.errors)
+
 
 if __name__ == "__main__":
     unittest.main()

@@ -67,7 +67,8 @@ class Reading(unittest.TestCase):
 
     def test_faults(self) -> None:
         """Each is refused with its line."""
-        for text in ("var int x;", "constraint f(x;", "constraint f(x y);", "solve find x;", "array [1..2 of int: x;", ";", "\n=;"):
+        faults = ("var int x;", "constraint f(x;", "constraint f(x y);", "solve find x;", "array [1..2 of int: x;", ";", "\n=;")
+        for text in faults:
             with self.subTest(text), self.assertRaisesRegex(Refused, r"^line \d+: "):
                 flatzinc.read(text)
 

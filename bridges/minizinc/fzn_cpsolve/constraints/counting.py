@@ -119,13 +119,10 @@ def closed_bounded_cardinality(p: Posting) -> None:
     bounded_cardinality(p)
 
 
-def add_load(p: Posting, bins: list[Affine], weights: list[int], place: int, terms: Terms, wanted: Domain) -> None:
-    """The weights of the items in the bin `place`, and further terms, sum to a number of a domain."""
-    for part, weight in zip(bins, weights, strict=True):
-        literal = p.encoding.value(part, place)
-        if literal is not None:
-            terms = [*terms, (weight, of_literal(literal))]
-    p.model.add_linear(terms, wanted, p.enforcement)
+def weight_in(p: Posting, bins: list[Affine], weights: list[int], place: int) -> Terms:
+    """The weight of the items in the bin `place`."""
+    found = [(weight, p.encoding.value(part, place)) for part, weight in zip(bins, weights, strict=True)]
+    return [(weight, of_literal(literal)) for weight, literal in found if literal is not None]
 
 
 @holds("fzn_bin_packing")
@@ -136,7 +133,7 @@ def bin_packing(p: Posting) -> None:
         p.model.refuse(f"more than {MAX_PAIRS} pairs of item and bin")
     places = {value for part in bins for value in domains.values_of(p.model.domain(part))}
     for place in sorted(places):
-        add_load(p, bins, weights, place, [], [(domains.INT_MIN, capacity)])
+        p.model.add_linear(weight_in(p, bins, weights, place), [(domains.INT_MIN, capacity)], p.enforcement)
 
 
 def within_bins(p: Posting, bins: list[Affine], first: int, count_of_bins: int) -> None:
@@ -151,7 +148,7 @@ def bin_packing_by_capacities(p: Posting) -> None:
     capacities, first, bins, weights = p.numbers(0), p.number(1), p.affines(2), p.numbers(3)
     within_bins(p, bins, first, len(capacities))
     for place, capacity in enumerate(capacities, first):
-        add_load(p, bins, weights, place, [], [(domains.INT_MIN, capacity)])
+        p.model.add_linear(weight_in(p, bins, weights, place), [(domains.INT_MIN, capacity)], p.enforcement)
 
 
 @holds("cpsolve_bin_packing_load")
@@ -160,6 +157,6 @@ def bin_packing_by_loads(p: Posting) -> None:
     loads, first, bins, weights = p.affines(0), p.number(1), p.affines(2), p.numbers(3)
     within_bins(p, bins, first, len(loads))
     for place, load in enumerate(loads, first):
-        add_load(p, bins, weights, place, [(-1, load)], [(0, 0)])
+        p.model.add_linear([*weight_in(p, bins, weights, place), (-1, load)], [(0, 0)], p.enforcement)
     total = sum(weights)
     p.model.add_linear([(1, load) for load in loads], [(total, total)], p.enforcement)
