@@ -159,6 +159,7 @@ def magnitude(found: Range) -> Bound:
 
 @bounds_by("int_lin_eq", "int_lin_le")
 def linear(bounds: Bounds, arguments: list[Value], is_equal: bool = True) -> None:
+    """A sum is, or is at most, its total."""
     coefficients, values, total = arguments
     factors = [bounds.number(k) for k in bounds.array(coefficients)]
     bounds.restrict_sum(list(zip(factors, bounds.array(values))), bounds.number(total), is_equal)
@@ -197,12 +198,14 @@ RULES["int_eq"] = RULES["bool2int"] = comparison(0, True)
 
 @bounds_by("int_plus")
 def plus_rule(bounds: Bounds, arguments: list[Value]) -> None:
+    """The third is the sum of the first two."""
     first, second, total = arguments
     bounds.restrict_sum([(1, first), (1, second), (-1, total)], 0, True)
 
 
 @bounds_by("set_in")
 def membership(bounds: Bounds, arguments: list[Value]) -> None:
+    """A value is one of a fixed set."""
     value, members = arguments
     if isinstance(members, Name):
         members = bounds.model.constants.get(members)
@@ -212,6 +215,7 @@ def membership(bounds: Bounds, arguments: list[Value]) -> None:
 
 @bounds_by("int_abs")
 def absolute(bounds: Bounds, arguments: list[Value]) -> None:
+    """The second is the magnitude of the first."""
     value, result = arguments
     bounds.restrict(result, 0, magnitude(bounds.range(value)))
     high = bounds.range(result)[1]
@@ -220,6 +224,7 @@ def absolute(bounds: Bounds, arguments: list[Value]) -> None:
 
 @bounds_by("int_max")
 def maximum(bounds: Bounds, arguments: list[Value]) -> None:
+    """The third is the greater of the first two."""
     (low, high), (other_low, other_high) = map(bounds.range, arguments[:2])
     top = None if high is None or other_high is None else max(high, other_high)
     bounds.restrict(arguments[2], greater(low, other_low), top)
@@ -227,6 +232,7 @@ def maximum(bounds: Bounds, arguments: list[Value]) -> None:
 
 @bounds_by("int_min")
 def minimum(bounds: Bounds, arguments: list[Value]) -> None:
+    """The third is the lesser of the first two."""
     (low, high), (other_low, other_high) = map(bounds.range, arguments[:2])
     bottom = None if low is None or other_low is None else min(low, other_low)
     bounds.restrict(arguments[2], bottom, lesser(high, other_high))
@@ -234,6 +240,7 @@ def minimum(bounds: Bounds, arguments: list[Value]) -> None:
 
 @bounds_by("int_mod")
 def modulus(bounds: Bounds, arguments: list[Value]) -> None:
+    """The third is the remainder by the second."""
     most = magnitude(bounds.range(arguments[1]))
     if most:
         bounds.restrict(arguments[2], 1 - most, most - 1)
@@ -241,12 +248,14 @@ def modulus(bounds: Bounds, arguments: list[Value]) -> None:
 
 @bounds_by("int_div")
 def quotient(bounds: Bounds, arguments: list[Value]) -> None:
+    """The third is the first divided by the second."""
     most = magnitude(bounds.range(arguments[0]))
     bounds.restrict(arguments[2], times(most, -1), most)
 
 
 @bounds_by("int_times")
 def product(bounds: Bounds, arguments: list[Value]) -> None:
+    """The third is the product of the first two."""
     first, second = map(bounds.range, arguments[:2])
     if None not in first and None not in second:
         corners = [a * b for a in first for b in second]
@@ -255,6 +264,7 @@ def product(bounds: Bounds, arguments: list[Value]) -> None:
 
 @bounds_by("int_pow", "cpsolve_pow")
 def power(bounds: Bounds, arguments: list[Value]) -> None:
+    """The third is the first to the power of the second."""
     base, (low, high) = magnitude(bounds.range(arguments[0])), bounds.range(arguments[1])
     if base is not None and low is not None and high is not None and 0 <= high <= 62:
         most = max(base, 1) ** high
@@ -263,11 +273,13 @@ def power(bounds: Bounds, arguments: list[Value]) -> None:
 
 @bounds_by("array_int_maximum", "array_int_minimum")
 def extreme(bounds: Bounds, arguments: list[Value]) -> None:
+    """The first is one of the second."""
     bounds.restrict_to_any(arguments[0], bounds.array(arguments[1]))
 
 
 @bounds_by("array_int_element", "array_var_int_element")
 def element(bounds: Bounds, arguments: list[Value]) -> None:
+    """The third is the second's member at the first, counted from 1."""
     index, values, result = arguments
     bounds.restrict(index, 1, len(bounds.array(values)))
     bounds.restrict_to_any(result, bounds.array(values))
@@ -275,6 +287,7 @@ def element(bounds: Bounds, arguments: list[Value]) -> None:
 
 @bounds_by("cpsolve_element")
 def element_from(bounds: Bounds, arguments: list[Value]) -> None:
+    """The fourth is the third's member at the first, counted from the second."""
     index, first, values, result = arguments
     low = bounds.number(first)
     bounds.restrict(index, low, low + len(bounds.array(values)) - 1)
@@ -283,16 +296,19 @@ def element_from(bounds: Bounds, arguments: list[Value]) -> None:
 
 @bounds_by("cpsolve_element2d")
 def element_of_matrix(bounds: Bounds, arguments: list[Value]) -> None:
+    """The seventh is one of the sixth."""
     bounds.restrict_to_any(arguments[6], bounds.array(arguments[5]))
 
 
 @bounds_by("cpsolve_if_int")
 def conditional(bounds: Bounds, arguments: list[Value]) -> None:
+    """The third is one of the second."""
     bounds.restrict_to_any(arguments[2], bounds.array(arguments[1]))
 
 
 @bounds_by("cpsolve_table_int")
 def table(bounds: Bounds, arguments: list[Value]) -> None:
+    """The first are a row of the second."""
     columns = bounds.array(arguments[0])
     cells = [bounds.number(cell) for cell in bounds.array(arguments[1])]
     for place, value in enumerate(columns):
@@ -303,6 +319,7 @@ def table(bounds: Bounds, arguments: list[Value]) -> None:
 
 @bounds_by("cpsolve_automaton")
 def automaton(bounds: Bounds, arguments: list[Value]) -> None:
+    """The first are labels."""
     labels = [bounds.number(label) for label in bounds.array(arguments[4])]
     for value in bounds.array(arguments[0]) if labels else []:
         bounds.restrict(value, min(labels), max(labels))
@@ -310,11 +327,13 @@ def automaton(bounds: Bounds, arguments: list[Value]) -> None:
 
 @bounds_by("cpsolve_circuit", "cpsolve_subcircuit")
 def tour(bounds: Bounds, arguments: list[Value]) -> None:
+    """The first are places of a list as long as theirs."""
     restrict_to_places(bounds, arguments[0], arguments[1])
 
 
 @bounds_by("cpsolve_inverse")
 def inverse(bounds: Bounds, arguments: list[Value]) -> None:
+    """The first and the third are places of each other."""
     direct, first_direct, inverted, first_inverted = arguments
     restrict_to_places(bounds, direct, first_inverted)
     restrict_to_places(bounds, inverted, first_direct)
@@ -329,22 +348,26 @@ def restrict_to_places(bounds: Bounds, values: Value, first: Value) -> None:
 
 @bounds_by("fzn_count_eq", "count")
 def count(bounds: Bounds, arguments: list[Value]) -> None:
+    """The third counts members of the first."""
     bounds.restrict(arguments[2], 0, len(bounds.array(arguments[0])))
 
 
 @bounds_by("fzn_among", "fzn_nvalue")
 def count_first(bounds: Bounds, arguments: list[Value]) -> None:
+    """The first counts members of the second."""
     bounds.restrict(arguments[0], 0, len(bounds.array(arguments[1])))
 
 
 @bounds_by("fzn_global_cardinality", "fzn_global_cardinality_closed")
 def cardinalities(bounds: Bounds, arguments: list[Value]) -> None:
+    """The third count members of the first."""
     for value in bounds.array(arguments[2]):
         bounds.restrict(value, 0, len(bounds.array(arguments[0])))
 
 
 @bounds_by("cpsolve_bin_packing_load")
 def loads(bounds: Bounds, arguments: list[Value]) -> None:
+    """The first are sums of weights, and the third places among them."""
     load, first, bins, weights = arguments
     low = bounds.number(first)
     for value in bounds.array(bins):

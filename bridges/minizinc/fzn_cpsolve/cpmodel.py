@@ -20,9 +20,11 @@ class Affine(NamedTuple):
     offset: int
 
     def negated(self) -> "Affine":
+        """The opposite number."""
         return Affine(-self.scale, self.variable, -self.offset)
 
     def times(self, factor: int) -> "Affine":
+        """A multiple."""
         return Affine(self.scale * factor, self.variable, self.offset * factor)
 
 

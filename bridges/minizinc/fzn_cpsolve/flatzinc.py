@@ -90,6 +90,7 @@ class Atoms(dict):
 
     @staticmethod
     def read(token: str) -> Value:
+        """What one word stands for."""
         first = token[0]
         if first.isdigit() or first == "-" and len(token) > 1:
             if token.lstrip("-")[:2] in ("0x", "0o"):
@@ -269,6 +270,7 @@ class Reader:
         reader.take(";")
 
     def constraint(self, reader: ItemReader, line: int) -> None:
+        """`constraint NAME(..) :: ..`; a Boolean alone is one that is true."""
         reader.take()
         value = reader.value()
         if not isinstance(value, Call):
@@ -276,6 +278,7 @@ class Reader:
         self.model.constraints.append(Constraint(value.name, value.arguments, reader.annotations(), line))
 
     def solve(self, reader: ItemReader) -> None:
+        """`solve :: .. satisfy`, or `minimize` or `maximize` a value."""
         reader.take()
         self.model.search = reader.annotations()
         self.model.goal = reader.take()
@@ -285,6 +288,7 @@ class Reader:
             raise Refused(f"{self.model.goal!r} is no goal")
 
     def array(self, reader: ItemReader, line: int) -> None:
+        """`array [1..N] of TYPE: NAME :: .. = [..]`"""
         reader.take()
         reader.take("[")
         index_set = reader.values("]")[0]
@@ -307,6 +311,7 @@ class Reader:
                 self.model.outputs.append((name, note.arguments[0]))
 
     def declaration(self, reader: ItemReader, line: int) -> None:
+        """`TYPE: NAME :: .. = VALUE`"""
         is_variable, kind, domain = reader.type()
         reader.take(":")
         name = reader.name()
@@ -326,6 +331,7 @@ class Reader:
             self.model.outputs.append((name, None))
 
     def variable(self, name: Name, kind: str, domain: Domain | None, line: int) -> None:
+        """Takes in a variable."""
         if kind not in ("int", "bool"):
             raise Refused(f"variable {name} is a {kind}, and cpsolve has whole numbers and Booleans")
         self.model.variables[name] = Declaration(kind, domain, line)

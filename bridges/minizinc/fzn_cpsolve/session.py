@@ -80,8 +80,11 @@ class Session:
         while True:
             excluded = self.translation.exclusion_text(seen, found)
             answer = self.ask(self.translation.text(self.options.is_free) + excluded, self.options.conflicts)
+            if answer.status == "INFEASIBLE":
+                self.close()
+                return
             if answer.values is None:
-                self.close() if answer.status == "INFEASIBLE" else self.give_up()
+                self.give_up()
                 return
             self.write_solution(answer.values)
             if self.solutions == wanted:

@@ -29,23 +29,27 @@ def least(p: Posting, target: Affine, parts: list[Affine]) -> None:
 
 @holds("int_max")
 def greater_of_two(p: Posting) -> None:
+    """The third is the greater of the first two."""
     first, second, result = p.scalars()
     greatest(p, result, [first, second])
 
 
 @holds("int_min")
 def lesser_of_two(p: Posting) -> None:
+    """The third is the lesser of the first two."""
     first, second, result = p.scalars()
     least(p, result, [first, second])
 
 
 @holds("array_int_maximum")
 def maximum(p: Posting) -> None:
+    """The first is the greatest of the second."""
     greatest(p, p.affine(0), p.affines(1))
 
 
 @holds("array_int_minimum")
 def minimum(p: Posting) -> None:
+    """The first is the least of the second."""
     least(p, p.affine(0), p.affines(1))
 
 
