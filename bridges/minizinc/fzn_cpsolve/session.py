@@ -41,7 +41,6 @@ class Session:
 
     def __init__(self, translation: Translation, solver: Solver, options: Options) -> None:
         self.translation, self.solver, self.options = translation, solver, options
-        self.began = time.monotonic()
         self.solutions = 0
         self.unwritten: list[int] | None = None
         self.best: int | None = None

@@ -1,6 +1,13 @@
 """The options as MiniZinc means them."""
 
+import time
 import unittest
+
+from fzn_cpsolve import flatzinc
+from fzn_cpsolve.lifetime import Caller
+from fzn_cpsolve.session import Options, Session
+from fzn_cpsolve.solver import Solver
+from fzn_cpsolve.translation import Translation
 
 from .minizinc import solve, solve_flat
 
@@ -64,11 +71,32 @@ class Solutions(unittest.TestCase):
             self.assertEqual(run.last_line(), "==========")
 
     def test_budget(self) -> None:
-        """`--conflicts`: without a conflict queens on a board of 40 are not placed in all ways, and nothing is claimed."""
-        model = """include "alldifferent.mzn"; int: n = 7; array[1..n] of var 1..n - 1: x;
+        """`--conflicts`: with one conflict alone it is not shown that seven pigeons do not fit into six holes."""
+        model = """int: n = 7; array[1..n] of var 1..n - 1: x;
             constraint forall(i, j in 1..n where i < j)(x[i] != x[j]); solve satisfy;"""
         run = solve(model, "--conflicts", "1", "-p", "1")
         self.assertIn("=====UNKNOWN=====", run.output)
+
+
+class Budgets(unittest.TestCase):
+    """How many conflicts the runs have that follow one another."""
+
+    def next_budget(self, budget: int, seconds: float, left: float | None) -> int:
+        """The budget after one that took so long, with so many seconds left."""
+        deadline = None if left is None else time.monotonic() + left
+        translation = Translation(flatzinc.read(CHOICE))
+        solver = Solver("", [], Caller())
+        return Session(translation, solver, Options(deadline=deadline)).next_budget(budget, seconds)
+
+    def test_growth(self) -> None:
+        """Four times as many, as long as that fits into the time that is left."""
+        self.assertEqual(self.next_budget(100, 2.0, None), 400)
+        self.assertEqual(self.next_budget(100, 0.1, 100), 400)
+
+    def test_time(self) -> None:
+        """No more than what fits into 0.7 of it, and no less than the first budget."""
+        self.assertAlmostEqual(self.next_budget(6400, 10, 10), 4480, delta=50)
+        self.assertEqual(self.next_budget(6400, 10, 0.01), 100)
 
 
 class Statistics(unittest.TestCase):
