@@ -1,0 +1,1 @@
+predicate fzn_count_eq_reif(array[int] of var int: x, var int: y, var int: c, var bool: b);
