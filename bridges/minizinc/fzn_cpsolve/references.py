@@ -3,7 +3,7 @@
 from . import domains
 from .aliases import Aliases
 from .bounds import Bounds
-from .cpmodel import Affine, CpModel, Literals, constant
+from .cpmodel import Affine, CpModel, Literals, constant, numbers_text
 from .domains import MAX_MAGNITUDE, Domain
 from .errors import Refused
 from .flatzinc import Element, FlatModel, FloatSet, IntSet, Name, Value
@@ -22,6 +22,8 @@ class References:
         self.unbounded: dict[str, tuple[bool, bool]] = {}
         # What is known already, by name or number.
         self.known: dict[Value, Affine] = {}
+        # The texts of arrays of numbers, by name.
+        self.texts: dict[Name, str] = {}
         self.add_variables(self.domains_of_roots())
 
     # Variables
@@ -126,6 +128,14 @@ class References:
         """An array of numbers."""
         members = self.array(value)
         return members if set(map(type, members)) == {int} else [self.number(member) for member in members]
+
+    def numbers_text(self, value: Value) -> str:
+        """An array of numbers as text, which is kept where the array has a name, since tables share it."""
+        if not isinstance(value, Name):
+            return numbers_text(self.numbers(value))
+        if value not in self.texts:
+            self.texts[value] = numbers_text(self.numbers(value))
+        return self.texts[value]
 
     def set(self, value: Value) -> Domain:
         """A set of whole numbers."""

@@ -13,6 +13,8 @@ from .lifetime import Caller, ending_with_this_process
 
 REPOSITORY = Path(__file__).resolve().parents[3]
 BUILT_PROGRAM = REPOSITORY / "crates" / "cpsolve" / "out" / "cpsolve"
+# The command of this repository, which may build the program first; a run of the bridge never does.
+BUILDING_COMMAND = REPOSITORY / "cpsolve"
 
 # The most bytes that the program reads, and its most workers and conflicts.
 MAX_INPUT = 1 << 26
@@ -53,7 +55,7 @@ def find_program(named: str) -> str:
     if named:
         return named
     found = shutil.which("cpsolve")
-    if found:
+    if found and Path(found).resolve() != BUILDING_COMMAND:
         return found
     if os.access(BUILT_PROGRAM, os.X_OK):
         return str(BUILT_PROGRAM)

@@ -1,7 +1,7 @@
 """Products, quotients, powers, magnitudes, and the greatest and least of a list."""
 
 from .. import domains
-from ..cpmodel import MAX_LISTED, Affine, CpModel
+from ..cpmodel import MAX_LISTED, Affine, CpModel, numbers_text
 from ..domains import MAX_MAGNITUDE
 from .registry import Posting, holds
 from .tables import add_table
@@ -160,7 +160,7 @@ def power(p: Posting) -> None:
             value = power_of(first, second)
             if value is not None:
                 cells += [first, second, value]
-    add_table(p, [base, exponent, result], cells)
+    add_table(p, [base, exponent, result], numbers_text(cells))
 
 
 def count_of(model: CpModel, part: Affine) -> int:

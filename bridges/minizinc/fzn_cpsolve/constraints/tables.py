@@ -10,9 +10,9 @@ from .registry import FAILS, HOLDS, Posting, Rule, fails, holds
 MAX_TRANSITIONS = 1_000_000
 
 
-def add_table(p: Posting, columns: list[Affine], cells: list[int], is_negated: bool = False) -> None:
+def add_table(p: Posting, columns: list[Affine], cells: str, is_negated: bool = False) -> None:
     """The values of `columns` are a row of `cells`, or none of these."""
-    rows = f"values: {numbers_text(cells)} " if cells else ""
+    rows = f"values: {cells} " if cells != "[]" else ""
     mark = "negated: true " if is_negated else ""
     p.model.add(p.enforcement, f"table {{ {expressions('exprs', columns)} {rows}{mark}}}")
 
@@ -24,7 +24,7 @@ def table(is_negated: bool) -> Rule:
         columns = p.affines(0)
         if not columns:
             p.model.refuse("a table without columns")
-        add_table(p, columns, p.numbers(1), is_negated)
+        add_table(p, columns, p.references.numbers_text(p.arguments[1]), is_negated)
 
     return rule
 
