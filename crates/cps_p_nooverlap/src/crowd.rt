@@ -26,9 +26,9 @@ pub(crate) struct Window {
 
 /// By which rule spans push another.
 #[derive(Clone, Copy)]
-pub(crate) enum Argument {
-    /// They start before it can end, so each of them comes before it.
-    Precedences,
+pub(crate) enum SetRule {
+    /// They start before it can end, so each of them comes before it: their precedences are detectable.
+    Detectable,
     /// They end too early to come after it all, so one of them comes before it.
     NotFirst,
     /// They leave it no room in their window, so it comes after them.
@@ -38,7 +38,7 @@ pub(crate) enum Argument {
 /// A span that others push to a later start.
 #[derive(Clone, Copy)]
 pub(crate) struct Crowd {
-    pub(crate) argument: Argument,
+    pub(crate) rule: SetRule,
     pub(crate) is_reversed: bool,
     /// The span's place.
     pub(crate) place: usize,

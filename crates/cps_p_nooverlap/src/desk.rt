@@ -4,12 +4,18 @@
 ghost use Rattle.std.specs.Prelude.{All};
 ghost use Rattle.cps_p_nooverlap.specs.Spans.{AreSpans, IsSmallAtom};
 
-use crate::crowd::{Argument, Crowd, Marks};
+use crate::crowd::{Crowd, Marks, SetRule};
+use crate::detectable::find_precedences;
+use crate::edge_finding::find_edges;
 use crate::explain::denied_place;
 use crate::hints::Question;
-use crate::jobs::{Job, Push, arrange, list_jobs, mirror};
-use crate::proposals::{crowd_of, loosened, mark_crowd, overfull_from};
-use crate::survey::Bench;
+use crate::jobs::Job;
+use crate::not_first::find_not_first;
+use crate::overload::{find_overload, overfull_from};
+use crate::proposals::{crowd_of, loosened, mark_crowd};
+use crate::pushes::{Push, Pushed, arrange};
+use crate::theta_tree::{ThetaLambdaTree, ThetaTree};
+use crate::timeline::{Timeline, Timelines};
 use cps_instance::Span;
 use cps_literal::Atom;
 use cps_trail::Before;
@@ -17,10 +23,13 @@ use std::alloc::{AllocError, Global};
 
 /// Room for the work on sets. Its memory is kept for the next look.
 pub(crate) struct Desk {
-    pub(crate) jobs: Vec<Job>,
-    /// Whether time is reversed in the jobs.
+    timelines: Timelines,
+    /// Whether time is reversed.
     is_reversed: bool,
-    bench: Bench,
+    tree: ThetaTree,
+    gray_tree: ThetaLambdaTree,
+    /// What the last survey found.
+    pub(crate) pushes: Vec<Pushed>,
     pub(crate) marks: Marks,
     pub(crate) facts: Vec<Atom>,
 }
@@ -29,9 +38,11 @@ pub(crate) struct Desk {
 impl Drop for Desk {
     fn drop(self) {
         let Desk {
-            jobs: _jobs,
+            timelines: _timelines,
             is_reversed: _is_reversed,
-            bench: _bench,
+            tree: _tree,
+            gray_tree: _gray_tree,
+            pushes: _pushes,
             marks: _marks,
             facts: _facts,
         } = self;
@@ -41,7 +52,7 @@ impl Drop for Desk {
 /// A window that holds too much, which no span of so many is pushed out of.
 pub(crate) fn overload_of(from: i64, to: i64, spans: usize) -> Crowd {
     Crowd {
-        argument: Argument::EdgeFinding,
+        rule: SetRule::EdgeFinding,
         is_reversed: false,
         place: spans,
         weight: 0,
@@ -66,9 +77,11 @@ impl Desk {
     /// Room for the work.
     pub(crate) fn new(alloc: Global) -> Self {
         Desk {
-            jobs: Vec::new(alloc),
+            timelines: Timelines::new(alloc),
             is_reversed: false,
-            bench: Bench::new(alloc),
+            tree: ThetaTree::new(alloc),
+            gray_tree: ThetaLambdaTree::new(alloc),
+            pushes: Vec::new(alloc),
             marks: Marks {
                 whole: Vec::new(alloc),
                 part: Vec::new(alloc),
@@ -77,38 +90,64 @@ impl Desk {
         }
     }
 
-    /// Lists the jobs among these spans in the order of their starts.
+    /// Lists the jobs among these spans.
     pub(crate) fn begin(&mut self, past: &Before, spans: &[Span]) -> Result<(), AllocError>
         requires { AreSpans past.now.first spans.now }
     {
-        list_jobs(past, spans, &mut self.jobs)?;
-        arrange(&mut self.jobs);
         self.is_reversed = false;
-        Ok(())
+        self.timelines.list(past, spans)
+    }
+
+    /// Puts the jobs in the orders that surveys ask for.
+    pub(crate) fn prepare(&mut self) -> Result<(), AllocError> {
+        self.timelines.sort_inner_times()
     }
 
     /// Reverses time.
     pub(crate) fn reverse(&mut self) {
-        mirror(&mut self.jobs);
         self.is_reversed = !self.is_reversed;
     }
 
+    /// The jobs in the present direction of time.
+    fn timeline(&self) -> &Timeline {
+        self.timelines.facing(self.is_reversed)
+    }
+
     /// Looks for pushes by a rule.
-    pub(crate) fn survey(&mut self, argument: Argument) -> Result<(), AllocError> {
-        self.bench.survey(self.jobs.as_mut_slice(), argument)
+    fn find_pushes(&mut self, rule: SetRule) -> Result<(), AllocError> {
+        let timeline = self.timelines.facing(self.is_reversed);
+        self.pushes.clear();
+        match rule {
+            SetRule::Detectable => find_precedences(timeline, &mut self.tree, &mut self.pushes),
+            SetRule::NotFirst => {
+                let opposite = self.timelines.facing(!self.is_reversed);
+                find_not_first(timeline, opposite, &mut self.tree, &mut self.pushes)
+            }
+            SetRule::EdgeFinding => find_edges(timeline, &mut self.gray_tree, &mut self.pushes),
+        }
+    }
+
+    /// Looks for pushes by a rule, and puts them in the order in which they are counted.
+    pub(crate) fn survey(&mut self, rule: SetRule) -> Result<(), AllocError> {
+        self.find_pushes(rule)?;
+        let is_first = !self.is_reversed && matches!(rule, SetRule::Detectable);
+        arrange(&mut self.pushes, is_first);
+        Ok(())
     }
 
     /// Marks the jobs of a window among so many spans that are needed to overfill it, and answers the longest window
     /// that they overfill.
     pub(crate) fn mark_window(&mut self, crowd: Crowd, spans: usize) -> Result<Crowd, AllocError> {
-        mark_crowd(self.jobs.as_slice(), &crowd, spans, &mut self.marks)?;
-        Ok(loosened(self.jobs.as_slice(), &crowd, &mut self.marks))
+        let timeline = self.timelines.facing(self.is_reversed);
+        mark_crowd(timeline.jobs.as_slice(), &crowd, spans, &mut self.marks)?;
+        Ok(loosened(timeline, &crowd, &mut self.marks))
     }
 
     /// A window that jobs overfill, if one is found.
     pub(crate) fn find_window(&mut self, spans: usize) -> Result<Option<Crowd>, AllocError> {
-        match self.bench.find_overload(self.jobs.as_mut_slice())? {
-            Some(to) => match overfull_from(self.jobs.as_slice(), to) {
+        let timeline = self.timelines.facing(self.is_reversed);
+        match find_overload(timeline, &mut self.tree)? {
+            Some(to) => match overfull_from(timeline, to) {
                 Some(from) => Ok(Some(overload_of(from, to, spans))),
                 None => Ok(None),
             },
@@ -123,27 +162,27 @@ impl Desk {
         push: Push,
         spans: usize,
     ) -> Result<Option<Crowd>, AllocError> {
-        let jobs = self.jobs.as_slice();
-        match crowd_of(jobs, &mut self.bench, &job, push, self.is_reversed)? {
+        let timeline = self.timelines.facing(self.is_reversed);
+        match crowd_of(timeline, &job, push, self.is_reversed) {
             Some(crowd) => {
-                mark_crowd(self.jobs.as_slice(), &crowd, spans, &mut self.marks)?;
+                mark_crowd(timeline.jobs.as_slice(), &crowd, spans, &mut self.marks)?;
                 Ok(Some(crowd))
             }
             None => Ok(None),
         }
     }
 
-    /// The crowd that pushes the job at an index of the list among so many spans, if there is one. Its jobs are marked.
+    /// The crowd that gives a push of the last survey among so many spans, if there is one. Its jobs are marked.
     pub(crate) fn next_crowd(
         &mut self,
-        index: usize,
+        turn: usize,
         spans: usize,
     ) -> Result<Option<Crowd>, AllocError> {
-        match self.jobs.get(index) {
-            Some(job) => {
-                let job = *job;
-                match job.wanted() {
-                    Some(push) => self.crowd_for(job, push, spans),
+        match self.pushes.get(turn) {
+            Some(pushed) => {
+                let pushed = *pushed;
+                match self.job_at(pushed.index) {
+                    Some(job) => self.crowd_for(job, pushed.push, spans),
                     None => Ok(None),
                 }
             }
@@ -151,9 +190,17 @@ impl Desk {
         }
     }
 
+    /// The job at an index, if there is one.
+    fn job_at(&self, index: usize) -> Option<Job> {
+        match self.timeline().jobs.get(index) {
+            Some(job) => Some(*job),
+            None => None,
+        }
+    }
+
     /// The job of a place, if there is one.
     fn job_of(&self, place: usize) -> Option<Job> {
-        for job in self.jobs.as_slice() {
+        for job in self.timeline().jobs.as_slice() {
             if job.place == place {
                 return Some(*job);
             }
@@ -181,14 +228,13 @@ impl Desk {
                 let denied = denied_place(span.presence.as_slice(), question.target);
                 if denied < span.presence.as_slice().len() {
                     job.open = Some(denied);
-                    push.time = job.high.wrapping_add(1);
+                    push.time = job.latest_start.wrapping_add(1);
                 }
                 match self.crowd_for(job, push, spans)? {
-                    Some(crowd) => Ok(Some(loosened(
-                        self.jobs.as_slice(),
-                        &crowd,
-                        &mut self.marks,
-                    ))),
+                    Some(crowd) => {
+                        let timeline = self.timelines.facing(self.is_reversed);
+                        Ok(Some(loosened(timeline, &crowd, &mut self.marks)))
+                    }
                     None => Ok(None),
                 }
             }

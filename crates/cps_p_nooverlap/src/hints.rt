@@ -4,8 +4,8 @@
 //! of the window that the span is pushed past. The hint of a full window has its two ends.
 ghost use Rattle.std.specs.Prelude.{◌≡◌, IfSome};
 
-use crate::crowd::{Argument, Crowd};
-use crate::jobs::Push;
+use crate::crowd::{Crowd, SetRule};
+use crate::pushes::Push;
 use cps_literal::Atom;
 use cps_rule::{Hint, Narrowing};
 
@@ -22,20 +22,20 @@ pub(crate) struct Question {
 }
 
 /// The number of a rule.
-fn number_of(argument: Argument) -> i64 {
-    match argument {
-        Argument::Precedences => 0,
-        Argument::NotFirst => 1,
-        Argument::EdgeFinding => 2,
+fn number_of(rule: SetRule) -> i64 {
+    match rule {
+        SetRule::Detectable => 0,
+        SetRule::NotFirst => 1,
+        SetRule::EdgeFinding => 2,
     }
 }
 
 /// The rule of a number.
-fn argument_of(number: i64) -> Argument {
+fn rule_of(number: i64) -> SetRule {
     match number {
-        0 => Argument::Precedences,
-        1 => Argument::NotFirst,
-        _ => Argument::EdgeFinding,
+        0 => SetRule::Detectable,
+        1 => SetRule::NotFirst,
+        _ => SetRule::EdgeFinding,
     }
 }
 
@@ -43,7 +43,7 @@ fn argument_of(number: i64) -> Argument {
 pub(crate) fn hint_of(crowd: Crowd) -> Hint {
     let place = i64::try_from(crowd.place).unwrap_or(-1);
     let direction = if crowd.is_reversed { 1 } else { 0 };
-    let number = number_of(crowd.argument)
+    let number = number_of(crowd.rule)
         .wrapping_mul(2)
         .wrapping_add(direction);
     Hint {
@@ -70,7 +70,7 @@ pub(crate) fn question_of(wanted: Narrowing) -> Option<Question>
     Some(Question {
         place,
         push: Push {
-            argument: argument_of(rest / 2),
+            rule: rule_of(rest / 2),
             time: wanted.target.value,
             to: hint.b,
         },

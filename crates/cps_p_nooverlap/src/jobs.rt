@@ -1,63 +1,46 @@
 //! Spans as jobs: what a store leaves to each span that may be present.
 //!
-//! The algorithms on sets see jobs alone: earliest start, latest start, least length, whether the span is surely there.
-//! Time is reversed by mirroring the jobs, so that each algorithm is written once. What is found of jobs is only a
-//! proposal: it is counted once more on the store before it is used.
+//! The algorithms on sets see jobs alone: their earliest and latest starts and ends, their least lengths, and whether the
+//! span is surely there. Time is reversed by mirroring the jobs, so that each algorithm is written once. What is found of
+//! jobs is only a proposal: it is counted once more on the store before it is used.
 ghost use Rattle.std.specs.Prelude.{◌<◌, length, All};
 ghost use Rattle.cps_p_nooverlap.specs.Spans.{IsSpan, AreSpans};
 
-use crate::crowd::Argument;
 use cps_instance::Span;
 use cps_literal::{Atom, Truth};
 use cps_trail::Before;
 use std::alloc::AllocError;
 
-/// That a job is pushed.
-#[derive(Clone, Copy)]
-pub(crate) struct Push {
-    pub(crate) argument: Argument,
-    /// When it starts at the earliest.
-    pub(crate) time: i64,
-    /// By edge finding, when the jobs end at the latest that push it there.
-    pub(crate) to: i64,
-}
-
 /// A span that is present, or of which one presence atom alone is open.
 #[derive(Clone, Copy)]
 pub(crate) struct Job {
     pub(crate) place: usize,
-    /// The least start.
-    pub(crate) low: i64,
-    /// The greatest start.
-    pub(crate) high: i64,
-    pub(crate) least_end: i64,
-    pub(crate) greatest_end: i64,
+    pub(crate) earliest_start: i64,
+    pub(crate) latest_start: i64,
+    pub(crate) earliest_end: i64,
+    pub(crate) latest_end: i64,
     /// How long it is at least.
     pub(crate) length: i64,
     /// The place of its open atom.
     pub(crate) open: Option<usize>,
     /// Its leaf in a tree.
     pub(crate) leaf: usize,
-    /// What is found of it.
-    pub(crate) push: Push,
 }
 
 /// A time of a job, by which jobs are put in order.
 #[derive(Clone, Copy)]
 pub(crate) enum Key {
-    Low,
-    High,
-    LeastEnd,
-    GreatestEnd,
+    EarliestStart,
+    LatestStart,
+    EarliestEnd,
 }
 
 impl Job {
     pub(crate) fn key(&self, key: Key) -> i64 {
         match key {
-            Key::Low => self.low,
-            Key::High => self.high,
-            Key::LeastEnd => self.least_end,
-            Key::GreatestEnd => self.greatest_end,
+            Key::EarliestStart => self.earliest_start,
+            Key::LatestStart => self.latest_start,
+            Key::EarliestEnd => self.earliest_end,
         }
     }
 
@@ -72,38 +55,17 @@ impl Job {
     }
 
     /// The same with time reversed.
-    fn mirrored(&self) -> Job {
+    pub(crate) fn mirrored(&self) -> Job {
         Job {
             place: self.place,
-            low: self.greatest_end.wrapping_neg(),
-            high: self.least_end.wrapping_neg(),
-            least_end: self.high.wrapping_neg(),
-            greatest_end: self.low.wrapping_neg(),
+            earliest_start: self.latest_end.wrapping_neg(),
+            latest_start: self.earliest_end.wrapping_neg(),
+            earliest_end: self.latest_start.wrapping_neg(),
+            latest_end: self.earliest_start.wrapping_neg(),
             length: self.length,
             open: self.open,
             leaf: self.leaf,
-            push: Push {
-                argument: self.push.argument,
-                time: i64::MIN,
-                to: i64::MIN,
-            },
         }
-    }
-
-    /// Where it is pushed to, if it is pushed so far that something follows: a span that is not surely present is
-    /// absent where it would start later than it can.
-    pub(crate) fn wanted(&self) -> Option<Push> {
-        let mut push = self.push;
-        if push.time <= self.low {
-            return None;
-        }
-        if self.open.is_some() {
-            if push.time <= self.high {
-                return None;
-            }
-            push.time = self.high.wrapping_add(1);
-        }
-        Some(push)
     }
 }
 
@@ -145,28 +107,27 @@ fn job_of(past: &Before, span: &Span, place: usize) -> Option<Job>
         Standing::Open(place) => Some(place),
         Standing::Away => return None,
     };
-    let (low, high) = past.ends(span.start);
-    let (least_end, greatest_end, length) = match span.length {
-        Some(far) => (low.wrapping_add(far), high.wrapping_add(far), far),
+    let (earliest_start, latest_start) = past.ends(span.start);
+    let (earliest_end, latest_end, length) = match span.length {
+        Some(far) => (
+            earliest_start.wrapping_add(far),
+            latest_start.wrapping_add(far),
+            far,
+        ),
         None => {
             let end = past.ends(span.end);
-            (end.0, end.1, end.0.saturating_sub(high))
+            (end.0, end.1, end.0.saturating_sub(latest_start))
         }
     };
     Some(Job {
         place,
-        low,
-        high,
-        least_end,
-        greatest_end,
+        earliest_start,
+        latest_start,
+        earliest_end,
+        latest_end,
         length,
         open,
         leaf: 0,
-        push: Push {
-            argument: Argument::Precedences,
-            time: i64::MIN,
-            to: i64::MIN,
-        },
     })
 }
 
@@ -185,17 +146,4 @@ pub(crate) fn list_jobs(
         }
     }
     Ok(())
-}
-
-/// Puts jobs in the order of their least starts.
-pub(crate) fn arrange(jobs: &mut Vec<Job>) {
-    jobs.sort_unstable_by_key(|job| job.low);
-}
-
-/// Reverses time.
-pub(crate) fn mirror(jobs: &mut Vec<Job>) {
-    for job in jobs.iter_mut() {
-        *job = job.mirrored();
-    }
-    arrange(jobs);
 }

@@ -12,7 +12,7 @@ ghost use Rattle.cps_p_nooverlap.specs.Citing.{Cites, GivesMore};
 ghost use Rattle.cps_p_nooverlap.specs.Crowds.{IsReasoned};
 ghost use Rattle.cps_p_nooverlap.specs.Spans.{AreSeen, AreSpans, AreAllowed, IsPair};
 
-use crate::crowd::{Argument, Crowd};
+use crate::crowd::{Crowd, SetRule};
 use crate::desk::{Desk, overload_of};
 use crate::explain::{explain_pair, pair_of, refute_pair, same_atom};
 use crate::hints::{Question, hint_of, question_of, window_hint};
@@ -26,24 +26,20 @@ use cps_trail::{Before, Store};
 use std::alloc::{AllocError, Global};
 
 /// The rules, from the cheapest on.
-const ARGUMENTS: [Argument; 3] = [
-    Argument::Precedences,
-    Argument::NotFirst,
-    Argument::EdgeFinding,
-];
+const RULES: [SetRule; 3] = [SetRule::Detectable, SetRule::NotFirst, SetRule::EdgeFinding];
 
-/// Adds what the crowd gives that pushes the job at an index of the desk's list, if there is one.
+/// Adds what the crowd gives that makes a push of the desk's last survey, if there is one.
 fn push_next(
     past: &Before,
     spans: &[Span],
     desk: &mut Desk,
-    index: usize,
+    turn: usize,
     found: &mut Vec<Narrowing>,
 ) -> Result<(), AllocError>
     requires { AreSpans past.now.first spans.now }
     ensures { OnOk result (GivesMore (BodyOf.NoOverlap spans.now) past.now found.old.items found.new.items) }
 {
-    match desk.next_crowd(index, spans.len())? {
+    match desk.next_crowd(turn, spans.len())? {
         Some(crowd) => {
             let target = give(past, spans, desk, crowd)?;
             propose(target, hint_of(crowd), found)?;
@@ -53,21 +49,21 @@ fn push_next(
     }
 }
 
-/// Adds what crowds give of each job of the desk's list by a rule.
+/// Adds what crowds give by a rule in one direction of time.
 fn push_all(
     past: &Before,
     spans: &[Span],
     desk: &mut Desk,
-    argument: Argument,
+    rule: SetRule,
     found: &mut Vec<Narrowing>,
 ) -> Result<(), AllocError>
     requires { AreSpans past.now.first spans.now }
     ensures { OnOk result (GivesMore (BodyOf.NoOverlap spans.now) past.now found.old.items found.new.items) }
 {
-    desk.survey(argument)?;
-    let jobs = desk.jobs.len();
-    for index in 0..jobs {
-        push_next(past, spans, desk, index, found)?;
+    desk.survey(rule)?;
+    let pushes = desk.pushes.len();
+    for turn in 0..pushes {
+        push_next(past, spans, desk, turn, found)?;
     }
     Ok(())
 }
@@ -77,15 +73,15 @@ fn push_both(
     past: &Before,
     spans: &[Span],
     desk: &mut Desk,
-    argument: Argument,
+    rule: SetRule,
     found: &mut Vec<Narrowing>,
 ) -> Result<(), AllocError>
     requires { AreSpans past.now.first spans.now }
     ensures { OnOk result (GivesMore (BodyOf.NoOverlap spans.now) past.now found.old.items found.new.items) }
 {
-    push_all(past, spans, desk, argument, found)?;
+    push_all(past, spans, desk, rule, found)?;
     desk.reverse();
-    push_all(past, spans, desk, argument, found)?;
+    push_all(past, spans, desk, rule, found)?;
     desk.reverse();
     Ok(())
 }
@@ -119,11 +115,11 @@ fn push_first(
     ensures { OnOk result (GivesMore (BodyOf.NoOverlap spans.now) past.now found.old.items found.new.items) }
 {
     let known = found.len();
-    for argument in ARGUMENTS {
+    for rule in RULES {
         if found.len() != known {
             return Ok(());
         }
-        push_both(past, spans, desk, argument, found)?;
+        push_both(past, spans, desk, rule, found)?;
     }
     Ok(())
 }
@@ -144,6 +140,7 @@ fn meet_sets(
     if let Some(window) = overload(past, spans, desk)? {
         return Ok(Some(window_hint(window)));
     }
+    desk.prepare()?;
     push_first(past, spans, desk, found)?;
     Ok(None)
 }

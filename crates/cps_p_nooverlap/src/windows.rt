@@ -19,7 +19,7 @@ ghost use Rattle.cps_p_nooverlap.specs.Crowds.{low_at, far_at, IsRun, AreRuns, L
 ghost use Rattle.cps_p_nooverlap.specs.Spans.{IsSpan, AreSpans};
 
 use crate::crowd::{
-    Argument, Crowd, Ends, Marks, Window, count_beside, count_of, is_overfull, is_reached, part_of,
+    Crowd, Ends, Marks, SetRule, Window, count_beside, count_of, is_overfull, is_reached, part_of,
 };
 use crate::explain::{cite_all, cite_end_from, cite_start_up_to, least_end};
 use crate::sides::{cite_high, cite_low};
@@ -319,9 +319,9 @@ pub(crate) fn cite_push(
     ensures { result ≡ Ok true → Cites past.now facts.old.items facts.new.items
         (λ xs. StartsFrom crowd.is_reversed xs spans.now crowd.place crowd.time) }
 {
-    match crowd.argument {
-        Argument::Precedences => cite_precedences(past, spans, marks, crowd, facts),
-        Argument::NotFirst => cite_not_first(past, spans, marks, crowd, facts),
-        Argument::EdgeFinding => cite_edge(past, spans, marks, crowd, facts),
+    match crowd.rule {
+        SetRule::Detectable => cite_precedences(past, spans, marks, crowd, facts),
+        SetRule::NotFirst => cite_not_first(past, spans, marks, crowd, facts),
+        SetRule::EdgeFinding => cite_edge(past, spans, marks, crowd, facts),
     }
 }

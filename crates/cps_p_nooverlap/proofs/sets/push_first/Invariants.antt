@@ -2,5 +2,5 @@ use Rattle.cps_instance.specs.declared.task.Body.TheVariants.{NoOverlap}
 use Rattle.cps_p_nooverlap.specs.Citing.{GivesMore}
 use Rattle.cps_p_nooverlap.proofs.sets.push_first.Given as goal
 
-abbrev pub invariant-loop-argument : goal.invariant-loop-argument
-invariant-loop-argument l = GivesMore (NoOverlap l.spans) l.past l.fn.found.items l.found.items
+abbrev pub invariant-loop-rule : goal.invariant-loop-rule
+invariant-loop-rule l = GivesMore (NoOverlap l.spans) l.past l.fn.found.items l.found.items
