@@ -1,5 +1,5 @@
 -- How facts rule the rows of a table out.
-use Rattle.std.proofs.Common.{◌≡◌, ℕ, ℤ, pos, ◌+◌, ◌*◌, ◌/◌, ◌<◌, ◌≤◌, true, false, true≢false, List, [], length, get_or, refl, sym, ap, subst, ◌∙◌, Option, Some, arith, inl, inr}
+use Rattle.std.proofs.Common.{◌≡◌, ℕ, ℤ, pos, ◌+◌, ◌*◌, ◌<◌, ◌≤◌, true, true≢false, List, [], length, get_or, refl, sym, ap, subst, ◌∙◌, Option, Some, arith, inl, inr}
 use Rattle.std.proofs.lemmas.Int.{ints}
 use Rattle.std.proofs.lemmas.Bool.{cases_lt}
 use Rattle.cps_domain.specs.Window.{equals}
@@ -8,32 +8,16 @@ use Rattle.cps_literal.specs.declared.atom.Op.TheVariants.{Eq}
 use Rattle.cps_literal.specs.Truth.{value_at, atom_holds, meets}
 use Rattle.cps_model.specs.Lookups.{row_at}
 use Rattle.cps_instance.specs.declared.task.Body.TheVariants.{Table}
-use Rattle.cps_instance.specs.Parts.{values_at}
 use Rattle.cps_trail.specs.Trail.{Trail}
-use Rattle.cps_rule.specs.Rules.{AllTrueAt}
-use Rattle.cps_rule.specs.Facts.{Adds, Grows, Denied, GivesGoal}
+use Rattle.cps_rule.specs.Facts.{Adds, Grows, GivesGoal}
 use Rattle.cps_p_lookup.specs.Tabling.{ClosesRow, IsMetAt, IsRowBarred, IsOffBy, IsSure, AddsNeededFact, AreSure}
 use Rattle.cps_p_lookup.proofs.Growing.{adds_grows, adds_holds, grows_same, grows_trans, no_facts}
-use Rattle.cps_p_lookup.proofs.Tables.{row_value, same_row, in_table, not_in, row_before}
+use Rattle.cps_p_lookup.proofs.Tables.{row_value, same_row, not_in}
 
 pub off_closes : (s : Trail) (es : List ℕ) (row : List ℤ) (k : ℕ) (goal : Option Atom) (u : Atom) (old mid new : List Atom) → k < length es → IsOffBy (get_or es k 0) (get_or row k (pos 0)) u → mid ≡ old → Adds s u mid new → ClosesRow s es row goal old new
 off_closes s es row k goal u old mid new l o same a = record {
   grows = grows_trans s old mid new (grows_same s old mid same) (adds_grows s u mid new a);
   closed = λ xs all e deny. o.other (value_at xs (get_or es k 0)) (ap (λ j. meets u.op u.value (value_at xs j)) (sym o.subject) ∙ adds_holds s u mid new a xs all) (row_value xs es row k l e);
-}
-
-pub excluded_more : (s : Trail) (es : List ℕ) (values : List ℤ) (n : ℕ) (row : List ℤ) (goal : Option Atom) (old new : List Atom) → row ≡ row_at (length es) values n → ((r : ℕ) → r < n → (xs : List ℤ) → AllTrueAt xs old → values_at xs es ≡ row_at (length es) values r → Denied goal xs → ⊥) → ClosesRow s es row goal old new
-    → (r : ℕ) → r < n + 1 → (xs : List ℤ) → AllTrueAt xs new → values_at xs es ≡ row_at (length es) values r → Denied goal xs → ⊥
-excluded_more s es values n row goal old new is h c r l xs all e deny = elim (cases_lt r n) [
-  | inl before ↦ h r before xs (c.grows.kept xs all) e deny
-  | inr after ↦ (let at : r ≡ n = omega arith in c.closed xs all (e ∙ ap (λ m. row_at (length es) values m) at ∙ sym is) deny)
-]
-
-pub excluded_all : (s : Trail) (es : List ℕ) (values : List ℤ) (n : ℕ) (goal : Option Atom) (none new : List Atom) → 0 < length es → none ≡ [] → Grows s none new → length values / length es ≤ n → ((r : ℕ) → r < n → (xs : List ℤ) → AllTrueAt xs new → values_at xs es ≡ row_at (length es) values r → Denied goal xs → ⊥)
-    → GivesGoal (Table es values false) s goal new
-excluded_all s es values n goal none new p empty grows past h = record {
-  facts = grows.facts (no_facts s none empty);
-  excludes = λ xs within all holds deny. (let r = in_table xs es values p holds in let b = row_before (length values) (length es) r.0 p r.1 in h r.0 (omega arith) xs all r.2 deny);
 }
 
 equals_is : (a b : ℤ) → equals a b ≡ true → a ≡ b

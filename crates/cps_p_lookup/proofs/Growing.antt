@@ -1,5 +1,5 @@
 -- How facts grow, and what they give.
-use Rattle.std.proofs.Common.{◌≡◌, ℤ, Bool, true, List, [], ◌∷◌, sym, subst}
+use Rattle.std.proofs.Common.{◌≡◌, ℤ, Bool, true, false, List, [], ◌∷◌, refl, sym, subst}
 use Rattle.std.specs.List.{Contains}
 use Rattle.std.proofs.lemmas.List.Elements.{All-nil, All-weaker, All-push, All-contains, All-contains_itself, Contains-push, Contains-append_left}
 use Rattle.cps_literal.specs.declared.atom.Atom.{Atom}
@@ -36,3 +36,8 @@ adds_needed s needed u old new h = record { grows = adds_grows s u old new h; ho
 
 pub no_facts : (s : Trail) (us : List Atom) → us ≡ [] → AreFacts s us
 no_facts s us e = subst (λ vs. AreFacts s vs) (sym e) (All-nil (IsFact s))
+
+-- what follows in both cases
+pub either_way : (P : Type 0) (b : Bool) → (b ≡ true → P) → (b ≡ false → P) → P
+either_way P true f g = f refl
+either_way P false f g = g refl

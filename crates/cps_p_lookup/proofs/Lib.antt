@@ -8,3 +8,5 @@ pub mod Tasks
 pub mod Missing
 pub mod Answering
 pub mod Meeting
+mod Cells
+mod Seeking

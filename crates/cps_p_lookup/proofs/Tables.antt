@@ -1,12 +1,12 @@
 -- What a table says of its rows.
 use Rattle.std.specs.Prelude.{not}
-use Rattle.std.proofs.Common.{◌≡◌, ◌≢◌, ℕ, zero, suc, ℤ, pos, ◌+◌, ◌*◌, ◌/◌, ◌<◌, ◌≤◌, Bool, true, false, List, [], ◌∷◌, ◌++◌, length, get_or, refl, sym, ap, ap₂, subst, ◌∙◌, arith, inl, inr}
+use Rattle.std.proofs.Common.{◌≡◌, ◌≢◌, ℕ, zero, suc, ℤ, pos, ◌+◌, ◌*◌, ◌/◌, ◌<◌, ◌≤◌, Bool, true, false, List, [], ◌∷◌, ◌++◌, length, take, get_or, refl, sym, ap, ap₂, subst, ◌∙◌, arith, inl, inr}
 use Rattle.std.proofs.Math.Nat.{le-div_iff_mul-le}
 use Rattle.std.proofs.lemmas.Int.{ints}
 use Rattle.std.proofs.lemmas.Bool.{cases_lt}
 use Rattle.std.proofs.lemmas.List.{length-map, length-take, length-drop}
 use Rattle.std.specs.List.{All, Contains}
-use Rattle.std.proofs.lemmas.List.Elements.{All-nil, All-get_or, All-weaker, All-contains, Contains-push, Contains-append_left}
+use Rattle.std.proofs.lemmas.List.Elements.{All-nil, All-get_or, All-more, All-weaker, All-contains, Contains-push, Contains-append_left}
 use Rattle.cps_domain.specs.Window.{equals}
 use Rattle.cps_literal.specs.declared.atom.Atom.{Atom}
 use Rattle.cps_literal.specs.declared.atom.Op.TheVariants.{Ne}
@@ -19,7 +19,9 @@ use Rattle.cps_trail.specs.Trail.{Trail, IsAdmitted, admits}
 use Rattle.cps_propagate.specs.Now.{IsOpenTo, IsFixedNow, AreOpen}
 use Rattle.cps_propagate.specs.Strength.{HasOpenRow, IsExcludedBody}
 use Rattle.cps_rule.specs.Rules.{IsGiven, IsImpossible, IsAtRest}
-use Rattle.cps_p_lookup.specs.Tabling.{IsOpenRow, IsDeadRow, IsLive, AreLive, IsSingle, HasOtherValue, IsBanned, IsMissed}
+use Rattle.cps_p_lookup.specs.declared.index.Cell.{Cell}
+use Rattle.cps_p_lookup.specs.Cells.{value_in, HasCell}
+use Rattle.cps_p_lookup.specs.Tabling.{IsOpenRow, IsDeadRow, IsLive, AreLive, ListsLive, IsSingle, HasOtherValue, IsBanned, IsMissed}
 
 both_not : (b : Bool) → b ≡ true → b ≡ false → ⊥
 both_not b p q = let e : true ≡ false = sym p ∙ q in cc
@@ -86,24 +88,25 @@ pub row_short : (n w row : ℕ) → 0 < w → (row + 1) * w ≤ n → row < n
 row_short n zero row p l = absurd (omega arith)
 row_short n (suc w) row p l = omega arith
 
--- the rows that are left, one row more
-pub live_push : (s : Trail) (es : List ℕ) (values : List ℤ) (n : ℕ) (old new : List ℕ) → new ≡ old ++ n ∷ [] → ((r : ℕ) → r < n → IsLive s es values r → Contains old r) → (r : ℕ) → r < n + 1 → IsLive s es values r → Contains new r
-live_push s es values n old new is h r l live = subst (λ (rs : List ℕ). Contains rs r) (sym is) (elim (cases_lt r n) [
-  | inl before ↦ Contains-append_left old (n ∷ []) r (h r before live)
-  | inr after ↦ (let e : r ≡ n = omega arith in subst (λ m. Contains (old ++ n ∷ []) m) (sym e) (Contains-push old n))
-])
+-- the cells so far, one row more
+pub live_push : (s : Trail) (es : List ℕ) (values : List ℤ) (cells : List Cell) (k : ℕ) (d : Cell) (old new : List ℕ) → k < length cells → new ≡ old ++ (get_or cells k d).row ∷ [] → All (λ (cell : Cell). IsLive s es values cell.row → Contains old cell.row) (take k cells)
+    → All (λ (cell : Cell). IsLive s es values cell.row → Contains new cell.row) (take (k + 1) cells)
+live_push s es values cells k d old new l is h =
+    let n = (get_or cells k d).row in
+    All-more (λ (cell : Cell). IsLive s es values cell.row → Contains new cell.row) cells k d l
+    (All-weaker (λ (cell : Cell). IsLive s es values cell.row → Contains old cell.row) (λ (cell : Cell). IsLive s es values cell.row → Contains new cell.row)
+    (λ cell has live. subst (λ (rs : List ℕ). Contains rs cell.row) (sym is) (Contains-append_left old (n ∷ []) cell.row (has live))) (take k cells) h)
+    (λ live. subst (λ (rs : List ℕ). Contains rs n) (sym is) (Contains-push old n))
 
-pub live_skip : (s : Trail) (es : List ℕ) (values : List ℤ) (n : ℕ) (rows : List ℕ) (row : List ℤ) → row ≡ row_at (length es) values n → IsDeadRow s es row → ((r : ℕ) → r < n → IsLive s es values r → Contains rows r) → (r : ℕ) → r < n + 1 → IsLive s es values r → Contains rows r
-live_skip s es values n rows row is dead h r l live = elim (cases_lt r n) [
-  | inl before ↦ h r before live
-  | inr after ↦ (let e : r ≡ n = omega arith in absurd (row_not_dead s es row (subst (λ (w : List ℤ). IsOpenRow s es w) (ap (λ m. row_at (length es) values m) e ∙ sym is) live.open_row) dead))
-]
+pub live_skip : (s : Trail) (es : List ℕ) (values : List ℤ) (cells : List Cell) (k : ℕ) (d : Cell) (rows : List ℕ) (row : List ℤ) → k < length cells → row ≡ row_at (length es) values (get_or cells k d).row → IsDeadRow s es row → All (λ (cell : Cell). IsLive s es values cell.row → Contains rows cell.row) (take k cells)
+    → All (λ (cell : Cell). IsLive s es values cell.row → Contains rows cell.row) (take (k + 1) cells)
+live_skip s es values cells k d rows row l is dead h = All-more (λ (cell : Cell). IsLive s es values cell.row → Contains rows cell.row) cells k d l h (λ live. absurd (row_not_dead s es row (subst (λ (w : List ℤ). IsOpenRow s es w) (sym is) live.open_row) dead))
 
 pub live_one : (s : Trail) (es : List ℕ) (values : List ℤ) (n : ℕ) (row : List ℤ) → row ≡ row_at (length es) values n → (n + 1) * length es ≤ length values → IsOpenRow s es row → IsLive s es values n
 live_one s es values n row is l o = record { within = l; open_row = subst (λ (w : List ℤ). IsOpenRow s es w) is o }
 
-pub live_all : (s : Trail) (es : List ℕ) (values : List ℤ) (n : ℕ) (rows : List ℕ) → 0 < length es → length values / length es ≤ n → All (IsLive s es values) rows → ((r : ℕ) → r < n → IsLive s es values r → Contains rows r) → AreLive s es values rows
-live_all s es values n rows p past each every = record { each = each; every = λ r live. let b = row_before (length values) (length es) r p live.within in every r (omega arith) live }
+pub live_all : (s : Trail) (es : List ℕ) (values : List ℤ) (c : ℕ) (cells : List Cell) (rows : List ℕ) → ((r : ℕ) → IsLive s es values r → HasCell (length es) values c r cells) → ListsLive s es values cells rows → AreLive s es values rows
+live_all s es values c cells rows listed h = record { each = h.each; every = λ r live. All-contains (λ (cell : Cell). IsLive s es values cell.row → Contains rows cell.row) cells (record { column = c; value = value_in (length es) values c r; row = r }) h.every (listed r live) live }
 
 pub live_long : (s : Trail) (es : List ℕ) (values : List ℤ) (rows : List ℕ) → AreLive s es values rows → All (λ r. (r + 1) * length es ≤ length values) rows
 live_long s es values rows h = All-weaker (IsLive s es values) (λ r. (r + 1) * length es ≤ length values) (λ r l. l.within) rows h.each
@@ -134,26 +137,29 @@ row_long : (w : ℕ) (values : List ℤ) (r : ℕ) → (r + 1) * w ≤ length va
 row_long w values r l = let e : (r + 1) * w ≡ r * w + w = omega arith in simp (length-take, length-drop) (omega arith)
 
 -- a live row may be had
-live_open : (s : Trail) (es : List ℕ) (values : List ℤ) (r : ℕ) (rows : List ℕ) → AreLive s es values (r ∷ rows) → HasOpenRow s es values
-live_open s es values r rows live =
-    let is : IsLive s es values r = All-get_or (IsLive s es values) (r ∷ rows) 0 0 (omega arith) live.each in
-    record { row = r; within = is.within; possible = is.open_row.at }
+one_open : (s : Trail) (es : List ℕ) (values : List ℤ) (r : ℕ) → IsLive s es values r → HasOpenRow s es values
+one_open s es values r is = record { row = r; within = is.within; possible = is.open_row.at }
+
+pub one_seen : (s : Trail) (es : List ℕ) (values : List ℤ) (r : ℕ) → IsLive s es values r → IsExcludedBody (Table es values false) s → ⊥
+one_seen s es values r is = λ excluded. excluded (one_open s es values r is)
 
 pub live_seen : (s : Trail) (es : List ℕ) (values : List ℤ) (rows : List ℕ) → AreLive s es values rows → length rows ≢ 0 → IsExcludedBody (Table es values false) s → ⊥
 live_seen s es values [] live some = absurd (some refl)
-live_seen s es values (r ∷ rows) live some = λ excluded. excluded (live_open s es values r rows live)
+live_seen s es values (r ∷ rows) live some = one_seen s es values r (All-get_or (IsLive s es values) (r ∷ rows) 0 0 (omega arith) live.each)
 
 -- a live row is that of all values where they are fixed
-pub live_rest : (s : Trail) (es : List ℕ) (values : List ℤ) (rows : List ℕ) → AreLive s es values rows → length rows ≢ 0 → IsAtRest (Table es values false) s
-live_rest s es values [] live some = absurd (some refl)
-live_rest s es values (r ∷ rows) live some = record {
+pub one_rest : (s : Trail) (es : List ℕ) (values : List ℤ) (r : ℕ) → IsLive s es values r → IsAtRest (Table es values false) s
+one_rest s es values r is = record {
   decided = λ fixed xs left.
-      let is : IsLive s es values r = All-get_or (IsLive s es values) (r ∷ rows) 0 0 (omega arith) live.each in
       let row = row_at (length es) values r in
       table_in xs es values r is.within (same_row xs es row (row_long (length es) values r is.within) (λ k l.
       All-get_or (IsFixedNow s) es k 0 l fixed (value_at xs (get_or es k 0)) (get_or row k (pos 0)) (All-get_or (λ i. IsOpenTo s i (value_at xs i)) es k 0 l left) (is.open_row.at k l)));
-  strong = live_open s es values r rows live;
+  strong = one_open s es values r is;
 }
+
+pub live_rest : (s : Trail) (es : List ℕ) (values : List ℤ) (rows : List ℕ) → AreLive s es values rows → length rows ≢ 0 → IsAtRest (Table es values false) s
+live_rest s es values [] live some = absurd (some refl)
+live_rest s es values (r ∷ rows) live some = one_rest s es values r (All-get_or (IsLive s es values) (r ∷ rows) 0 0 (omega arith) live.each)
 
 -- negated: a row whose columns are all single, and one of whose columns is not
 pub banned_by : (s : Trail) (es : List ℕ) (row : List ℤ) → length row ≡ length es → ((k : ℕ) → k < length es → IsSingle s (get_or es k 0) (get_or row k (pos 0))) → IsBanned s es row

@@ -4,3 +4,4 @@ pub mod Tabling
 pub mod Bodies
 pub mod Gaps
 pub mod Columns
+pub mod Cells

@@ -8,6 +8,8 @@ use Rattle.cps_trail.specs.Trail.{Trail, admits}
 use Rattle.cps_propagate.specs.Now.{IsOpenTo, IsFixedNow, AreOpen}
 use Rattle.cps_rule.specs.Rules.{AllTrueAt}
 use Rattle.cps_rule.specs.Facts.{Grows, Denied}
+use Rattle.cps_p_lookup.specs.declared.index.Cell.{Cell}
+use Rattle.cps_p_lookup.specs.Cells.{IsCellIn}
 
 -- each subject may have its value of a row
 pub record IsOpenRow (s : Trail) (es : List ℕ) (row : List ℤ) : Type 0 where
@@ -29,10 +31,32 @@ pub record AreLive (s : Trail) (es : List ℕ) (values : List ℤ) (rows : List 
   pub each : All (IsLive s es values) rows
   pub every : (r : ℕ) → IsLive s es values r → Contains rows r
 
+-- a list has those rows of some cells that are open, and no row that is not
+pub record ListsLive (s : Trail) (es : List ℕ) (values : List ℤ) (cells : List Cell) (rows : List ℕ) : Type 0 where
+  pub each : All (IsLive s es values) rows
+  pub every : All (λ (cell : Cell). IsLive s es values cell.row → Contains rows cell.row) cells
+
 -- facts are added beside which the values are not a row where the atom is false
 pub record ClosesRow (s : Trail) (es : List ℕ) (row : List ℤ) (goal : Option Atom) (old new : List Atom) : Type 0 where
   pub grows : Grows s old new
   pub closed : (xs : List ℤ) → AllTrueAt xs new → values_at xs es ≡ row → Denied goal xs → ⊥
+
+-- the same, said of a row's number
+abbrev pub IsClosedRow : List ℕ → List ℤ → Option Atom → List Atom → ℕ → Type 0
+IsClosedRow es values goal facts r = (xs : List ℤ) → AllTrueAt xs facts
+    → values_at xs es ≡ row_at (length es) values r → Denied goal xs → ⊥
+
+-- a row has a cell in a list
+pub record HasRowIn (cells : List Cell) (r : ℕ) : Type 0 where
+  pub column : ℕ
+  pub value : ℤ
+  pub has : Contains cells (record { column = column; value = value; row = r })
+
+-- each row that does not give an atom has a cell in a list
+pub record AreSought (es : List ℕ) (values : List ℤ) (goal : Option Atom) (cells : List Cell) : Type 0 where
+  pub each : All (IsCellIn (length es) values) cells
+  pub every : (xs : List ℤ) → Denied goal xs → (r : ℕ) → (r + 1) * length es ≤ length values
+      → values_at xs es ≡ row_at (length es) values r → HasRowIn cells r
 
 -- a subject has no other value than this, or has one
 pub record IsSingle (s : Trail) (i : ℕ) (v : ℤ) : Type 0 where

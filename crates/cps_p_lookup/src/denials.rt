@@ -4,14 +4,17 @@
 //! bound if the value lies past an end, and a fact that is there already may rule out further rows. A negated table
 //! needs the values of one row in all columns but that of the atom.
 
-ghost use Rattle.std.specs.Prelude.{◌≡◌, ◌<◌, ◌≤◌, ◌+◌, ◌*◌, length, All, true, false, Ok, List, Some, IfSome};
+ghost use Rattle.std.specs.Prelude.{◌≡◌, ◌<◌, ◌≤◌, ◌+◌, ◌*◌, length, All, true, false, Ok, List, Some, IfSome, OnOk};
 ghost use Rattle.cps_literal.specs.declared.atom.Atom.{Atom as AtomOf};
-ghost use Rattle.cps_model.specs.Lookups.{row_at};
 ghost use Rattle.cps_instance.specs.declared.task.Body.TheVariants.{Table};
-ghost use Rattle.cps_rule.specs.Facts.{GivesGoal};
-ghost use Rattle.cps_p_lookup.specs.Tabling.{ClosesRow, IsMetAt, IsAgainst, IsRowBarred, IsSure, IsOffBy, AddsNeededFact, AreSure};
+ghost use Rattle.cps_rule.specs.Facts.{GivesGoal, Grows};
+ghost use Rattle.cps_p_lookup.specs.Cells.{IsColumnOf, CoversUnmet};
+ghost use Rattle.cps_p_lookup.specs.Tabling.{AreSought, ClosesRow, IsMetAt, IsAgainst, IsRowBarred, IsSure, IsOffBy, AddsNeededFact, AreSure};
 
+use crate::cover::{Barrier, Choice, Cover};
 use crate::facts::{atom, is_met, push_fact};
+use crate::index::{Cell, TupleSet};
+use crate::numbering::Numbering;
 use crate::rows::{Grid, row_at};
 use cps_literal::{Atom, Op};
 use cps_trail::Before;
@@ -31,29 +34,27 @@ fn has_met(exprs: &[u32], row: &[i64], atom: Atom) -> bool
 }
 
 /// Whether a column has an atom's subject and does not meet it.
-fn has_unmet(exprs: &[u32], row: &[i64], atom: Atom) -> bool
-    requires { length row.now ≡ length exprs.now }
+fn is_unmet_at(exprs: &[u32], row: &[i64], column: usize, atom: Atom) -> bool
+    requires long { length row.now ≡ length exprs.now }
+    requires column { column < length exprs.now }
     ensures { result ≡ true → IsAgainst exprs.now row.now atom }
 {
-    for (k, subject) in exprs.iter().enumerate() {
-        if *subject == atom.subject && !is_met(atom, row[k]) {
-            return true;
-        }
-    }
-    false
+    exprs[column] == atom.subject && !is_met(atom, row[column])
 }
 
-/// Whether a row goes against one of some facts.
-fn is_barred(exprs: &[u32], row: &[i64], facts: &[Atom]) -> bool
+/// Whether a row goes against the fact of a barrier.
+fn is_barred(exprs: &[u32], row: &[i64], barrier: Option<Barrier>, facts: &[Atom]) -> bool
     requires { length row.now ≡ length exprs.now }
     ensures { result ≡ true → IsRowBarred exprs.now row.now facts.now }
 {
-    for fact in facts {
-        if has_unmet(exprs, row, *fact) {
-            return true;
-        }
+    let Some(Barrier { column, fact }) = barrier else {
+        return false;
+    };
+    if fact < facts.len() && column < exprs.len() {
+        is_unmet_at(exprs, row, column, facts[fact])
+    } else {
+        false
     }
-    false
 }
 
 /// The weakest atom by which a subject that had its values between two ends lacks a value: a bound where the value is
@@ -70,7 +71,7 @@ fn off(subject: u32, value: i64, ends: (i64, i64)) -> Atom
     atom(subject, Op::Ne, value)
 }
 
-/// Adds a fact that rules a row out, unless the row gives an atom or is ruled out already.
+/// Adds a fact that rules a row out, unless the row gives an atom.
 fn close_row(
     past: &Before,
     exprs: &[u32],
@@ -87,9 +88,6 @@ fn close_row(
     {
         return Ok(true);
     }
-    if is_barred(exprs, row, facts.as_slice()) {
-        return Ok(true);
-    }
     for (k, subject) in exprs.iter().enumerate() {
         let fact = off(*subject, row[k], past.ends(*subject));
         if push_fact(past, fact, facts)? {
@@ -99,32 +97,123 @@ fn close_row(
     Ok(false)
 }
 
-/// Makes the facts those by which a table gives an atom, or by which it cannot hold where there is none to give.
-pub(crate) fn exclude(
+/// The first column that has an atom's subject.
+fn column_of(exprs: &[u32], atom: Atom) -> Option<usize>
+    ensures { IfSome result (λ column. IsColumnOf exprs.now column atom) }
+{
+    for (k, subject) in exprs.iter().enumerate() {
+        if *subject == atom.subject {
+            return Some(k);
+        }
+    }
+    None
+}
+
+/// Two values between which all values lie that do not meet an atom.
+fn unmet_between(atom: Atom) -> (i64, i64)
+    ensures { CoversUnmet atom result }
+{
+    match atom.op {
+        Op::Le => (atom.value, i64::MAX),
+        Op::Ge => (i64::MIN, atom.value),
+        Op::Eq => (i64::MIN, i64::MAX),
+        Op::Ne => (atom.value, atom.value),
+    }
+}
+
+/// Cells of all rows that do not give an atom; of all rows where none is to be given.
+fn seek(tuples: &TupleSet, goal: Option<Atom>) -> &[Cell]
+    requires some { 0 < length tuples.now.exprs }
+    ensures { AreSought tuples.now.exprs tuples.now.values goal result.now }
+{
+    let Some(atom) = goal else {
+        return tuples.cells_between(0, i64::MIN, i64::MAX);
+    };
+    let Some(column) = column_of(tuples.grid().exprs, atom) else {
+        return tuples.cells_between(0, i64::MIN, i64::MAX);
+    };
+    let (low, high) = unmet_between(atom);
+    tuples.cells_between(column, low, high)
+}
+
+/// Adds facts that are chosen, as far as they were true.
+fn push_chosen(
     past: &Before,
-    grid: &Grid,
+    exprs: &[u32],
+    choices: &[Choice],
+    facts: &mut Vec<Atom>,
+) -> Result<(), AllocError>
+    requires fits { All (λ e. e < length past.now.first) exprs.now }
+    ensures { OnOk result (Grows past.now facts.old.items facts.new.items) }
+{
+    for choice in choices {
+        if choice.column < exprs.len() {
+            let fact = atom(exprs[choice.column], choice.op, choice.value);
+            push_fact(past, fact, facts)?;
+        }
+    }
+    Ok(())
+}
+
+/// Rows to be ruled out, by a cell of each.
+#[derive(Clone, Copy)]
+struct Sought<'a> {
+    grid: Grid<'a>,
+    numbering: &'a Numbering,
+    cells: &'a [Cell],
+}
+
+/// Makes the facts those that rule some rows out, where the other rows give an atom.
+fn close_rows(
+    past: &Before,
+    rows: &Sought,
     goal: Option<Atom>,
     facts: &mut Vec<Atom>,
 ) -> Result<bool, AllocError>
-    requires fits { All (λ e. e < length past.now.first) grid.now.exprs.now }
-    requires some { 0 < length grid.now.exprs.now }
+    requires fits { All (λ e. e < length past.now.first) rows.now.grid.exprs.now }
+    requires some { 0 < length rows.now.grid.exprs.now }
+    requires sought { AreSought rows.now.grid.exprs.now rows.now.grid.values.now goal rows.now.cells.now }
     ensures { result ≡ Ok true → GivesGoal
-        (Table grid.now.exprs.now grid.now.values.now false) past.now goal facts.new.items }
+        (Table rows.now.grid.exprs.now rows.now.grid.values.now false) past.now goal facts.new.items }
 {
+    let grid = rows.grid;
+    let exprs = grid.exprs;
+    let cover = Cover::of(*facts.allocator(), past, &grid, rows.numbering, rows.cells)?;
     facts.clear();
-    let width = grid.exprs.len();
-    for row in 0..grid.values.len() / width {
-        if !close_row(
-            past,
-            grid.exprs,
-            row_at(grid.values, width, row),
-            goal,
-            facts,
-        )? {
+    push_chosen(past, exprs, cover.choices.as_slice(), facts)?;
+    for cell in rows.cells {
+        let row = cell.row;
+        let values = row_at(grid.values, exprs.len(), row);
+        let barrier = cover.barrier(rows.numbering, values, row);
+        if is_barred(exprs, values, barrier, facts.as_slice()) {
+            continue;
+        }
+        if !close_row(past, exprs, values, goal, facts)? {
             return Ok(false);
         }
     }
     Ok(true)
+}
+
+/// Makes the facts those by which a table gives an atom, or by which it cannot hold where there is none to give.
+pub(crate) fn exclude(
+    past: &Before,
+    tuples: &TupleSet,
+    numbering: &Numbering,
+    goal: Option<Atom>,
+    facts: &mut Vec<Atom>,
+) -> Result<bool, AllocError>
+    requires fits { All (λ e. e < length past.now.first) tuples.now.exprs }
+    requires some { 0 < length tuples.now.exprs }
+    ensures { result ≡ Ok true → GivesGoal
+        (Table tuples.now.exprs tuples.now.values false) past.now goal facts.new.items }
+{
+    let rows = Sought {
+        grid: tuples.grid(),
+        numbering,
+        cells: seek(tuples, goal),
+    };
+    close_rows(past, &rows, goal, facts)
 }
 
 /// Whether an atom says that a subject is not a value.

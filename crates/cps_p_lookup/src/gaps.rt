@@ -116,7 +116,7 @@ fn list_runs(values: &[i64], runs: &mut Vec<(i64, i64)>) -> Result<(), AllocErro
 }
 
 /// The place of the first interval from one on that does not end before a value; the list's length where there is none.
-fn first_reaching(cover: &[(i64, i64)], from: usize, value: i64) -> usize {
+pub(crate) fn first_reaching(cover: &[(i64, i64)], from: usize, value: i64) -> usize {
     for k in from..cover.len() {
         if value <= cover[k].1 {
             return k;

@@ -1,8 +1,9 @@
 //! The rows of a table that are left, and what they leave to each column.
 //!
-//! A look scans all rows and lists those whose values the domains still have; then each column's subject is kept
-//! between the ends of its values there, and off the values inside that no row has. No list of rows is kept between
-//! looks: the plain scan needs nothing undone, and is what the proof is about.
+//! A look first asks what is kept from the last (`supports`) whether a subject has a value to lose. Where none has, one
+//! row that is left is all that the proof needs. Else the rows are scanned whose value in some column lies between the
+//! ends of its subject, of the column where they are fewest, and those that the domains leave are listed; then each
+//! column's subject is kept between the ends of its values there, and off the values inside that no row has.
 
 ghost use Rattle.std.specs.Prelude.{ℕ, ℤ, pos, ◌≡◌, ◌<◌, ◌≤◌, ◌+◌, ◌*◌, List, length, All, IfOk, OnOk, true, false, slice_index_or, Contains};
 ghost use Rattle.cps_literal.specs.Truth.{meets};
@@ -10,12 +11,16 @@ ghost use Rattle.cps_model.specs.Lookups.{row_at};
 ghost use Rattle.cps_instance.specs.declared.task.Body.TheVariants.{Table};
 ghost use Rattle.cps_rule.specs.Rules.{IsGiven, IsSeen, IsAtRest};
 ghost use Rattle.cps_trail.specs.Trail.{Trail};
-ghost use Rattle.cps_p_lookup.specs.Tabling.{IsOpenRow, IsDeadRow, AreLive};
+ghost use Rattle.cps_p_lookup.specs.Cells.{IsCellIn, HasCell};
+ghost use Rattle.cps_p_lookup.specs.Tabling.{IsOpenRow, IsDeadRow, IsLive, AreLive, ListsLive};
 ghost use Rattle.cps_p_lookup.specs.Columns.{IsColumnIn};
 
 use crate::facts::{atom, is_met};
 use crate::gaps::{Gaps, exclude_missing, is_worth};
+use crate::index::{Cell, TupleSet};
+use crate::numbering::Numbering;
 use crate::places::NO_HINT;
+use crate::supports::Supports;
 use cps_literal::{Atom, Op, Truth};
 use cps_rule::{Look, Narrowing};
 use cps_trail::Store;
@@ -31,17 +36,19 @@ pub(crate) struct Grid<'a> {
 /// Room for the rows that are left, and for a search of gaps in their columns.
 #[derive(Drop)]
 pub(crate) struct Room {
+    supports: Supports,
     rows: Vec<usize>,
     gaps: Gaps,
 }
 
 impl Room {
-    /// Room that is empty.
-    pub(crate) fn new(alloc: Global) -> Self {
-        Room {
+    /// Room for the looks at a table before the first.
+    pub(crate) fn new(alloc: Global, numbering: &Numbering) -> Result<Self, AllocError> {
+        Ok(Room {
+            supports: Supports::new(alloc, numbering)?,
             rows: Vec::new(alloc),
             gaps: Gaps::new(alloc),
-        }
+        })
     }
 }
 
@@ -69,24 +76,70 @@ fn is_open(store: &Store, exprs: &[u32], row: &[i64]) -> bool
     true
 }
 
-/// Makes a list that of the rows that are left.
-fn collect(
+/// The cells of a column whose values lie between the ends of its subject's domain.
+fn cells_left<'a>(store: &Store, tuples: &'a TupleSet, column: usize) -> &'a [Cell]
+    requires fits { All (λ e. e < length store.now.first) tuples.now.exprs }
+    requires column { column < length tuples.now.exprs }
+    ensures each { All (IsCellIn (length tuples.now.exprs) tuples.now.values) result.now }
+    ensures every { (r : ℕ) → IsLive store.now tuples.now.exprs tuples.now.values r
+        → HasCell (length tuples.now.exprs) tuples.now.values column r result.now }
+{
+    let domain = store.domain(tuples.grid().exprs[column]);
+    tuples.cells_between(column, domain.min(), domain.max())
+}
+
+/// The column of the fewest such cells.
+fn narrowest(store: &Store, tuples: &TupleSet) -> usize
+    requires fits { All (λ e. e < length store.now.first) tuples.now.exprs }
+    requires some { 0 < length tuples.now.exprs }
+    ensures { result < length tuples.now.exprs }
+{
+    let mut best = 0;
+    let mut least = usize::MAX;
+    for column in 0..tuples.grid().exprs.len() {
+        let count = cells_left(store, tuples, column).len();
+        if count < least {
+            best = column;
+            least = count;
+        }
+    }
+    best
+}
+
+/// Makes a list that of the rows of some cells that are left.
+fn list_live(
     store: &Store,
-    exprs: &[u32],
-    values: &[i64],
+    grid: &Grid,
+    cells: &[Cell],
     rows: &mut Vec<usize>,
 ) -> Result<(), AllocError>
-    requires fits { All (λ e. e < length store.now.first) exprs.now }
-    requires some { 0 < length exprs.now }
-    ensures { OnOk result (AreLive store.now exprs.now values.now rows.new.items) }
+    requires fits { All (λ e. e < length store.now.first) grid.now.exprs.now }
+    requires cells { All (IsCellIn (length grid.now.exprs.now) grid.now.values.now) cells.now }
+    ensures { OnOk result (ListsLive store.now grid.now.exprs.now grid.now.values.now cells.now rows.new.items) }
 {
     rows.clear();
-    let width = exprs.len();
-    for row in 0..values.len() / width {
-        if is_open(store, exprs, row_at(values, width, row)) {
+    for cell in cells {
+        let row = cell.row;
+        if is_open(
+            store,
+            grid.exprs,
+            row_at(grid.values, grid.exprs.len(), row),
+        ) {
             rows.push(row)?;
         }
     }
+    Ok(())
+}
+
+/// Makes a list that of the rows that are left.
+fn collect(store: &Store, tuples: &TupleSet, rows: &mut Vec<usize>) -> Result<(), AllocError>
+    requires fits { All (λ e. e < length store.now.first) tuples.now.exprs }
+    requires some { 0 < length tuples.now.exprs }
+    ensures { OnOk result (AreLive store.now tuples.now.exprs tuples.now.values rows.new.items) }
+{
+    let column = narrowest(store, tuples);
+    let cells = cells_left(store, tuples, column);
+    list_live(store, &tuples.grid(), cells, rows)?;
     Ok(())
 }
 
@@ -265,22 +318,60 @@ fn verdict(rows: &[usize]) -> Look
     Look::Possible
 }
 
-/// What a table gives, or that it cannot hold.
-pub(crate) fn look_among(
+/// Whether a row is left.
+fn is_left(store: &Store, grid: &Grid, row: usize) -> bool
+    requires fits { All (λ e. e < length store.now.first) grid.now.exprs.now }
+    requires some { 0 < length grid.now.exprs.now }
+    ensures { result ≡ true → IsLive store.now grid.now.exprs.now grid.now.values.now row }
+{
+    let width = grid.exprs.len();
+    if row < grid.values.len() / width {
+        is_open(store, grid.exprs, row_at(grid.values, width, row))
+    } else {
+        false
+    }
+}
+
+/// What the rows that are left give, or that there is none.
+fn look_at_rows(
     store: &Store,
-    grid: &Grid,
+    tuples: &TupleSet,
     room: &mut Room,
     found: &mut Vec<Narrowing>,
 ) -> Result<Look, AllocError>
-    requires fits { All (λ e. e < length store.now.first) grid.now.exprs.now }
-    requires some { 0 < length grid.now.exprs.now }
+    requires fits { All (λ e. e < length store.now.first) tuples.now.exprs }
+    requires some { 0 < length tuples.now.exprs }
     ensures given { OnOk result (All
-        (λ n. IsGiven (Table grid.now.exprs.now grid.now.values.now false) store.now n.target) found.new.items) }
-    ensures seen { IfOk result (IsSeen (Table grid.now.exprs.now grid.now.values.now false) store.now) }
-    ensures rest { result ≡ Ok Look.Possible → IsAtRest (Table grid.now.exprs.now grid.now.values.now false) store.now }
+        (λ n. IsGiven (Table tuples.now.exprs tuples.now.values false) store.now n.target) found.new.items) }
+    ensures seen { IfOk result (IsSeen (Table tuples.now.exprs tuples.now.values false) store.now) }
+    ensures rest { result ≡ Ok Look.Possible → IsAtRest (Table tuples.now.exprs tuples.now.values false) store.now }
 {
-    collect(store, grid.exprs, grid.values, &mut room.rows)?;
+    collect(store, tuples, &mut room.rows)?;
     let live = room.rows.as_slice();
-    narrow_columns(store, grid, live, &mut room.gaps, found)?;
+    narrow_columns(store, &tuples.grid(), live, &mut room.gaps, found)?;
     Ok(verdict(live))
+}
+
+/// What a table gives, or that it cannot hold.
+pub(crate) fn look_among(
+    store: &Store,
+    tuples: &TupleSet,
+    numbering: &Numbering,
+    room: &mut Room,
+    found: &mut Vec<Narrowing>,
+) -> Result<Look, AllocError>
+    requires fits { All (λ e. e < length store.now.first) tuples.now.exprs }
+    requires some { 0 < length tuples.now.exprs }
+    ensures given { OnOk result (All
+        (λ n. IsGiven (Table tuples.now.exprs tuples.now.values false) store.now n.target) found.new.items) }
+    ensures seen { IfOk result (IsSeen (Table tuples.now.exprs tuples.now.values false) store.now) }
+    ensures rest { result ≡ Ok Look.Possible → IsAtRest (Table tuples.now.exprs tuples.now.values false) store.now }
+{
+    if let Some(row) = room.supports.find(store, tuples, numbering)?
+        && is_left(store, &tuples.grid(), row)
+    {
+        found.clear();
+        return Ok(Look::Possible);
+    }
+    look_at_rows(store, tuples, room, found)
 }

@@ -11,7 +11,9 @@ ghost use Rattle.cps_instance.specs.declared.task.Body.TheVariants.{Table as Tab
 
 use crate::bans::look_outside;
 use crate::denials::{exclude, fix};
-use crate::rows::{Grid, Room, look_among};
+use crate::index::TupleSet;
+use crate::numbering::Numbering;
+use crate::rows::{Room, look_among};
 use cps_enforce::Enforced;
 use cps_instance::{Body, Task};
 use cps_literal::Atom;
@@ -22,9 +24,9 @@ use std::alloc::{AllocError, Global};
 
 /// The rule of a table.
 pub struct Table {
-    exprs: Listed<u32>,
-    values: Listed<i64>,
+    tuples: TupleSet,
     negated: bool,
+    numbering: Numbering,
     room: Room,
 }
 
@@ -32,9 +34,9 @@ pub struct Table {
 impl Drop for Table {
     fn drop(self) {
         let Table {
-            exprs: _exprs,
-            values: _values,
+            tuples: _tuples,
             negated: _negated,
+            numbering: _numbering,
             room: _room,
         } = self;
     }
@@ -43,22 +45,36 @@ impl Drop for Table {
 impl Table {
     ghost use Rattle.cps_p_lookup.specs.Bodies.{is_table, table_of};
 
+    /// The rule of a table over subjects.
+    fn over(alloc: Global, exprs: &[u32], values: &[i64], negated: bool) -> Result<Self, AllocError>
+        ensures { IfOk result (λ rule. table_of rule.tuples.exprs rule.tuples.values rule.negated
+            ≡ table_of exprs.now values.now negated) }
+    {
+        let width = exprs.len();
+        let exprs = Listed::from_vec(Vec::from_slice(alloc, exprs)?);
+        let values = Listed::from_vec(Vec::from_slice(alloc, values)?);
+        let tuples = TupleSet::new(alloc, exprs, values)?;
+        let numbering = Numbering::new(alloc, tuples.cells(), width)?;
+        let room = Room::new(alloc, &numbering)?;
+        Ok(Table {
+            tuples,
+            negated,
+            numbering,
+            room,
+        })
+    }
+
     /// The rule of a body that is `Table`.
     fn new(alloc: Global, body: &Body) -> Result<Self, AllocError>
         requires { IsTrue (is_table body.now) }
-        ensures { IfOk result (λ rule. table_of rule.exprs rule.values rule.negated ≡ body.now) }
+        ensures { IfOk result (λ rule. table_of rule.tuples.exprs rule.tuples.values rule.negated ≡ body.now) }
     {
         match body {
             Body::Table {
                 exprs,
                 values,
                 negated,
-            } => Ok(Table {
-                exprs: Listed::from_vec(Vec::from_slice(alloc, exprs.as_slice())?),
-                values: Listed::from_vec(Vec::from_slice(alloc, values.as_slice())?),
-                negated: *negated,
-                room: Room::new(alloc),
-            }),
+            } => Table::over(alloc, exprs.as_slice(), values.as_slice(), *negated),
             _ => unreachable!(),
         }
     }
@@ -77,7 +93,8 @@ impl Table {
 /// A table whose rows are the allowed ones, or where it is negated the forbidden ones.
 #[derive(Clone, Copy)]
 struct SignedTable<'a> {
-    grid: Grid<'a>,
+    tuples: &'a TupleSet,
+    numbering: &'a Numbering,
     negated: bool,
 }
 
@@ -88,16 +105,16 @@ fn look_at(
     room: &mut Room,
     found: &mut Vec<Narrowing>,
 ) -> Result<Look, AllocError>
-    requires fits { All (λ e. e < length store.now.first) table.now.grid.exprs.now }
+    requires fits { All (λ e. e < length store.now.first) table.now.tuples.now.exprs }
     ensures given { OnOk result (All
-        (λ n. IsGiven (TableOf table.now.grid.exprs.now table.now.grid.values.now table.now.negated)
+        (λ n. IsGiven (TableOf table.now.tuples.now.exprs table.now.tuples.now.values table.now.negated)
         store.now n.target) found.new.items) }
     ensures seen { IfOk result (IsSeen
-        (TableOf table.now.grid.exprs.now table.now.grid.values.now table.now.negated) store.now) }
+        (TableOf table.now.tuples.now.exprs table.now.tuples.now.values table.now.negated) store.now) }
     ensures rest { result ≡ Ok Look.Possible
-        → IsAtRest (TableOf table.now.grid.exprs.now table.now.grid.values.now table.now.negated) store.now }
+        → IsAtRest (TableOf table.now.tuples.now.exprs table.now.tuples.now.values table.now.negated) store.now }
 {
-    let grid = table.grid;
+    let grid = table.tuples.grid();
     if grid.exprs.is_empty() {
         found.clear();
         return Ok(Look::Possible);
@@ -105,7 +122,7 @@ fn look_at(
     if table.negated {
         look_outside(store, &grid, found)
     } else {
-        look_among(store, &grid, room, found)
+        look_among(store, table.tuples, table.numbering, room, found)
     }
 }
 
@@ -117,31 +134,28 @@ fn justify_at(
     row: i64,
     facts: &mut Vec<Atom>,
 ) -> Result<bool, AllocError>
-    requires fits { All (λ e. e < length past.now.first) table.now.grid.exprs.now }
+    requires fits { All (λ e. e < length past.now.first) table.now.tuples.now.exprs }
     ensures { result ≡ Ok true → GivesGoal
-        (TableOf table.now.grid.exprs.now table.now.grid.values.now table.now.negated) past.now goal facts.new.items }
+        (TableOf table.now.tuples.now.exprs table.now.tuples.now.values table.now.negated) past.now goal facts.new.items }
 {
-    let grid = table.grid;
+    let grid = table.tuples.grid();
     if grid.exprs.is_empty() {
         return Ok(false);
     }
     if table.negated {
         fix(past, &grid, goal, row, facts)
     } else {
-        exclude(past, &grid, goal, facts)
+        exclude(past, table.tuples, table.numbering, goal, facts)
     }
 }
 
 impl Rule for Table {
-    ghost body = { λ t. TableOf t.exprs t.values t.negated };
+    ghost body = { λ t. TableOf t.tuples.exprs t.tuples.values t.negated };
 
     fn look(&mut self, store: &Store, found: &mut Vec<Narrowing>) -> Result<Look, AllocError> {
-        let grid = Grid {
-            exprs: self.exprs.as_slice(),
-            values: self.values.as_slice(),
-        };
         let table = SignedTable {
-            grid,
+            tuples: &self.tuples,
+            numbering: &self.numbering,
             negated: self.negated,
         };
         look_at(store, &table, &mut self.room, found)
@@ -154,30 +168,24 @@ impl Rule for Table {
         hint: Hint,
         facts: &mut Vec<Atom>,
     ) -> Result<bool, AllocError> {
-        let grid = Grid {
-            exprs: self.exprs.as_slice(),
-            values: self.values.as_slice(),
-        };
         let table = SignedTable {
-            grid,
+            tuples: &self.tuples,
+            numbering: &self.numbering,
             negated: self.negated,
         };
         justify_at(past, &table, Some(target), hint.a, facts)
     }
 
     fn refute(&self, past: &Before, hint: Hint, facts: &mut Vec<Atom>) -> Result<bool, AllocError> {
-        let grid = Grid {
-            exprs: self.exprs.as_slice(),
-            values: self.values.as_slice(),
-        };
         let table = SignedTable {
-            grid,
+            tuples: &self.tuples,
+            numbering: &self.numbering,
             negated: self.negated,
         };
         justify_at(past, &table, None, hint.a, facts)
     }
 
     fn push_subjects(&self, subjects: &mut Vec<u32>) -> Result<(), AllocError> {
-        subjects.extend_from_slice(self.exprs.as_slice())
+        subjects.extend_from_slice(self.tuples.grid().exprs)
     }
 }

@@ -1,9 +1,9 @@
--- A row is ruled out by the facts that there are, or by one more at some column.
+-- A row is ruled out by one more fact at some column.
 use Rattle.std.proofs.Common.{Ok, Option, sym, ap, subst, ◌∙◌, pos, get_or, rules, FitsSigned, w64}
 use Rattle.std.proofs.lemmas.Int.{to_z-of_z}
 use Rattle.cps_literal.specs.declared.atom.Atom.{Atom}
 use Rattle.cps_p_lookup.specs.Tabling.{ClosesRow}
-use Rattle.cps_p_lookup.proofs.Excluding.{off_closes, met_closes, barred_closes}
+use Rattle.cps_p_lookup.proofs.Excluding.{off_closes, met_closes}
 use Rattle.cps_p_lookup.proofs.denials.close_row.Goals as goal
 
 pub returns-then-branch : goal.returns-then-branch
@@ -14,9 +14,6 @@ returns-then-branch c = λ e.
     let f : FitsSigned w64 z = search rules in
     off_closes c.args.past.now c.args.exprs.now row k c.args.goal c.off-fact.result c.args.facts.now.items c.loop-k.facts.items c.push_fact.new.facts.items c.loop-k-test.true
     (rw (to_z-of_z w64 z f) at c.off-fact.ensures) c.loop-k.invariant (c.in_ok-push_fact.ensures.yes (ap Ok c.if-branch.true))
-
-pub returns-then-is_barred : goal.returns-then-is_barred
-returns-then-is_barred c = λ _. barred_closes c.args.past.now c.args.exprs.now c.args.row.now c.args.goal c.args.facts.now.items (rw c.as_slice.ensures.value at (c.is_barred.ensures c.if-is_barred.true))
 
 pub loop-k-preserved : goal.loop-k-preserved
 loop-k-preserved c = c.in_ok-push_fact.ensures.no (ap Ok c.if-branch.false) ∙ c.loop-k.invariant

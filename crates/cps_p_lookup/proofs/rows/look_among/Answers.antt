@@ -1,15 +1,12 @@
-use Rattle.std.proofs.Common.{ℕ, List, ◌≡◌, sym, subst}
-use Rattle.cps_rule.specs.declared.rule.Look.TheVariants.{Possible}
-use Rattle.cps_p_lookup.specs.Tabling.{AreLive}
+-- A row that is left is all that rest asks.
+use Rattle.cps_p_lookup.specs.Tabling.{IsLive}
+use Rattle.cps_p_lookup.proofs.Tables.{one_rest}
 use Rattle.cps_p_lookup.proofs.rows.look_among.Goals as goal
 
-pub returns-clause-seen : goal.returns-clause-seen
-returns-clause-seen c =
-    c.verdict.ensures.seen c.args.store.now c.args.grid.now.exprs.now c.args.grid.now.values.now c.requires.fits c.requires.some
-    (subst (λ (rs : List ℕ). AreLive c.args.store.now c.args.grid.now.exprs.now c.args.grid.now.values.now rs) (sym c.as_slice-live.ensures.value) c.in_ok-collect.ensures)
-
 pub returns-clause-rest : goal.returns-clause-rest
-returns-clause-rest c e =
-    let possible : c.verdict.result ≡ Possible = cc in
-    c.verdict.ensures.rest possible c.args.store.now c.args.grid.now.exprs.now c.args.grid.now.values.now
-    (subst (λ (rs : List ℕ). AreLive c.args.store.now c.args.grid.now.exprs.now c.args.grid.now.values.now rs) (sym c.as_slice-live.ensures.value) c.in_ok-collect.ensures)
+returns-clause-rest c = λ e.
+    let s = c.args.store.now in
+    let es = c.args.tuples.now.exprs in
+    let vs = c.args.tuples.now.values in
+    let is : IsLive s es vs c.in-Some.row = rw (c.grid.ensures.exprs, c.grid.ensures.values) at (c.is_left.ensures c.if-is_left.true) in
+    one_rest s es vs c.in-Some.row is
