@@ -1,6 +1,6 @@
 //! The rule of the kinds that compute a target of members.
 ghost use Rattle.std.specs.Prelude.{◌≡◌, IfOk, IsTrue};
-ghost use Rattle.cps_p_arith.specs.Demands.{body_by, body_of, is_arithmetic};
+ghost use Rattle.cps_p_arith.specs.Demands.{body_by, body_of, is_arithmetic, HasKnownSubjects};
 
 use crate::bounds::{Bounds, Demand};
 use crate::facts::{LIMIT, justify};
@@ -20,6 +20,8 @@ pub struct Arithmetic {
     demand: Demand,
     bounds: Bounds,
     trial: Bounds,
+    /// The ends that level 0 left.
+    root: Bounds,
 }
 
 // Written out, so that crates above do not prove it anew.
@@ -30,6 +32,7 @@ impl Drop for Arithmetic {
             demand: _demand,
             bounds: _bounds,
             trial: _trial,
+            root: _root,
         } = self;
     }
 }
@@ -72,6 +75,16 @@ fn demand_of_body(alloc: Global, body: &Body) -> Result<Demand, AllocError>
     }
 }
 
+/// Reads the ends that level 0 left: at each look of that level, and at the first look.
+fn measure_root(store: &Store, demand: &Demand, root: &mut Bounds) -> Result<(), AllocError>
+    requires { HasKnownSubjects store.now.first demand.now }
+{
+    if store.level() > 0 && !root.members.is_empty() {
+        return Ok(());
+    }
+    root.measure(&store.before(store.end_of(0)), demand)
+}
+
 impl Arithmetic {
     /// The propagator of a task whose body is `IntDiv`, `IntMod`, `IntProd` or `LinMax`.
     pub fn of(alloc: Global, task: &Task) -> Result<Enforced<Arithmetic>, AllocError>
@@ -84,6 +97,7 @@ impl Arithmetic {
             demand,
             bounds: Bounds::new(alloc),
             trial: Bounds::new(alloc),
+            root: Bounds::new(alloc),
         };
         let propagator = Enforced::new(alloc, task.enforcement.as_slice(), rule)?;
         Ok(propagator)
@@ -97,6 +111,7 @@ impl Rule for Arithmetic {
 
     fn look(&mut self, store: &Store, found: &mut Vec<Narrowing>) -> Result<Look, AllocError> {
         found.clear();
+        measure_root(store, &self.demand, &mut self.root)?;
         self.bounds.measure(&store.present(), &self.demand)?;
         if self.bounds.exclude(&self.demand) {
             return Ok(Look::Impossible(Hint { a: 0, b: 0 }));
@@ -120,7 +135,13 @@ impl Rule for Arithmetic {
         trial.measure(past, &self.demand)?;
         let mut bounds = Bounds::new(self.alloc);
         suppose(&self.demand, &trial, target, &mut bounds)?;
-        relax(&self.demand, &mut bounds, &mut trial, Some(supposed))?;
+        relax(
+            &self.demand,
+            &self.root,
+            &mut bounds,
+            &mut trial,
+            Some(supposed),
+        )?;
         justify(past, &self.demand, Some(supposed), &bounds, facts)
     }
 
@@ -128,7 +149,7 @@ impl Rule for Arithmetic {
         let mut trial = Bounds::new(self.alloc);
         let mut bounds = Bounds::new(self.alloc);
         bounds.measure(past, &self.demand)?;
-        relax(&self.demand, &mut bounds, &mut trial, None)?;
+        relax(&self.demand, &self.root, &mut bounds, &mut trial, None)?;
         justify(past, &self.demand, None, &bounds, facts)
     }
 

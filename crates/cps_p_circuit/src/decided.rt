@@ -30,16 +30,34 @@ fn known(store: &Store, atom: Atom) -> Option<bool>
     }
 }
 
-/// Lists which literals are true. Answers false where one is not known.
+/// Whether a literal at a place is not known.
+fn is_open(literals: &[Atom], store: &Store, place: usize) -> bool
+    requires { All (λ i. i < length store.now.first) (atom_subjects literals.now) }
+    ensures { IsTrue result → IsOpenStill store.now literals.now }
+{
+    if place >= literals.len() {
+        return false;
+    }
+    match known(store, literals[place]) {
+        Some(_) => false,
+        None => true,
+    }
+}
+
+/// Lists which literals are true. Answers false where one is not known: the one at a place that is proposed, or another.
 pub fn read_taken(
     literals: &[Atom],
     store: &Store,
+    proposed: usize,
     taken: &mut Vec<bool>,
 ) -> Result<bool, AllocError>
     requires { All (λ i. i < length store.now.first) (atom_subjects literals.now) }
     ensures yes { result ≡ Ok true → AreTaken store.now literals.now taken.new.items }
     ensures no { result ≡ Ok false → IsOpenStill store.now literals.now }
 {
+    if is_open(literals, store, proposed) {
+        return Ok(false);
+    }
     taken.clear();
     for literal in literals {
         match known(store, *literal) {

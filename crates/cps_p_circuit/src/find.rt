@@ -1,10 +1,11 @@
 //! The finder: what degrees, chains and reachability may give.
 //!
-//! Nothing is proved of it but that it is safe and ends; the rule tests each candidate. One pass over the arcs counts
-//! degrees and notes loops; chains of taken arcs are then followed from their first nodes; two searches from a node
-//! that is surely on the circuit find what it cannot reach and what cannot reach it; a last pass over open arcs
-//! proposes what degrees and chains exclude. Numbers are kept one higher, so that 0 stands for none, and reads past the
-//! end give 0.
+//! Nothing is proved of it but that it is safe and ends; the rule tests each candidate. One pass over the arcs reads
+//! their literals, counts degrees and notes loops; chains of taken arcs are then followed from their first nodes; a pass
+//! over open arcs proposes what degrees and chains exclude. Where all these give nothing, two searches from a node that
+//! is surely on the circuit find what it cannot reach and what cannot reach it: they are dear, and a look that narrowed
+//! something is followed by another. Numbers are kept one higher, so that 0 stands for none, and reads past the end
+//! give 0.
 
 ghost use Rattle.std.specs.Prelude.{◌<◌, All, length};
 ghost use Rattle.cps_instance.specs.Tasks.{atom_subjects};
@@ -66,6 +67,8 @@ pub struct Finder {
     loops: Vec<usize>,
     /// For each arc, 1 where it is not taken.
     shut: Vec<usize>,
+    /// The arcs that are open.
+    open: Vec<usize>,
     /// For each node on a chain of taken arcs, 1 more than the chain's first node.
     label: Vec<usize>,
     /// For the last node of a chain, 1 more than its first node.
@@ -87,35 +90,40 @@ fn degree_at(degrees: &[Degree], place: usize) -> Degree {
     }
 }
 
-/// The degree after one arc more.
-fn with_arc(degree: Degree, arc: usize, truth: Truth) -> Degree {
-    let mut next = degree;
-    let number = arc.wrapping_add(1);
-    next.any = number;
-    match truth {
-        Truth::Yes => next.taken = number,
-        Truth::No => {}
-        Truth::Undecided => {
-            next.open = number;
-            next.count = degree.count.wrapping_add(1);
-        }
-    }
-    next
-}
-
-/// Counts an arc at its end.
-fn count_arc(degrees: &mut Vec<Degree>, place: usize, arc: usize, truth: Truth) {
-    let next = with_arc(degree_at(degrees.as_slice(), place), arc, truth);
+/// Sees that an arc at a node is taken.
+fn note_taken(degrees: &mut Vec<Degree>, place: usize, arc: usize) {
     if place < degrees.len() {
-        degrees[place] = next;
+        degrees[place].taken = arc.wrapping_add(1);
     }
 }
 
-/// Forgets all degrees.
-fn reset(degrees: &mut Vec<Degree>, nodes: usize) -> Result<(), AllocError> {
+/// Counts an open arc at a node.
+fn count_open(degrees: &mut Vec<Degree>, place: usize, arc: usize) {
+    if place < degrees.len() {
+        let count = degrees[place].count;
+        degrees[place].open = arc.wrapping_add(1);
+        degrees[place].count = count.wrapping_add(1);
+    }
+}
+
+/// Forgets what was counted. Of each node a list has 1 more than an arc there, or 0.
+fn reset(degrees: &mut Vec<Degree>, any: &[usize]) -> Result<(), AllocError> {
+    if degrees.len() == any.len() {
+        for degree in degrees.iter_mut() {
+            degree.taken = 0;
+            degree.open = 0;
+            degree.count = 0;
+        }
+        return Ok(());
+    }
     degrees.clear();
-    for _ in 0..nodes {
-        degrees.push(NOTHING)?;
+    for arc in any {
+        degrees.push(Degree {
+            any: *arc,
+            taken: 0,
+            open: 0,
+            count: 0,
+        })?;
     }
     Ok(())
 }
@@ -150,6 +158,7 @@ impl Finder {
             into: Vec::new(alloc),
             loops: Vec::new(alloc),
             shut: Vec::new(alloc),
+            open: Vec::new(alloc),
             label: Vec::new(alloc),
             first: Vec::new(alloc),
             sure: UNSURE,
@@ -160,61 +169,74 @@ impl Finder {
         }
     }
 
-    /// Counts an arc that is taken, open or not at both ends, and sees two that are taken.
-    fn count(&mut self, graph: &Graph, k: usize, truth: Truth)
+    /// Notes an arc that is taken, and sees others that are taken at its ends.
+    fn take_arc(&mut self, graph: &Graph, k: usize)
         requires tail { k < length graph.now.from.items }
         requires head { k < length graph.now.to.items }
     {
         let from = graph.tail(k);
         let to = graph.head(k);
-        if let Truth::Yes = truth {
-            let out = degree_at(self.out.as_slice(), from).taken;
-            if out != 0 {
-                self.conflict = Some(hint_of(Claim::TwoOut(out - 1, k)));
-            }
-            let into = degree_at(self.into.as_slice(), to).taken;
-            if into != 0 {
-                self.conflict = Some(hint_of(Claim::TwoIn(into - 1, k)));
-            }
+        let out = degree_at(self.out.as_slice(), from).taken;
+        if out != 0 {
+            self.conflict = Some(hint_of(Claim::TwoOut(out - 1, k)));
         }
-        count_arc(&mut self.out, from, k, truth);
-        count_arc(&mut self.into, to, k, truth);
-        if let Truth::No = truth {
-            set_slot(&mut self.shut, k, 1);
-        } else if from == to {
+        let into = degree_at(self.into.as_slice(), to).taken;
+        if into != 0 {
+            self.conflict = Some(hint_of(Claim::TwoIn(into - 1, k)));
+        }
+        note_taken(&mut self.out, from, k);
+        note_taken(&mut self.into, to, k);
+        if from == to {
             set_slot(&mut self.loops, from, k.wrapping_add(1));
         }
     }
 
-    /// Counts the arcs at each node, and sees which are not taken.
+    /// Counts an open arc at both ends.
+    fn open_arc(&mut self, graph: &Graph, k: usize) -> Result<(), AllocError>
+        requires tail { k < length graph.now.from.items }
+        requires head { k < length graph.now.to.items }
+    {
+        let from = graph.tail(k);
+        let to = graph.head(k);
+        count_open(&mut self.out, from, k);
+        count_open(&mut self.into, to, k);
+        if from == to {
+            set_slot(&mut self.loops, from, k.wrapping_add(1));
+        }
+        self.open.push(k)?;
+        Ok(())
+    }
+
+    /// Counts the arcs at each node, and sees which are not taken and which are open.
     fn count_all(
         &mut self,
         graph: &Graph,
+        links: &Links,
         literals: &[Atom],
         store: &Store,
     ) -> Result<(), AllocError>
         requires { All (λ i. i < length store.now.first) (atom_subjects literals.now) }
     {
-        let nodes = graph.nodes.len();
-        reset(&mut self.out, nodes)?;
-        reset(&mut self.into, nodes)?;
-        clear_slots(&mut self.loops, nodes)?;
+        reset(&mut self.out, links.first_out())?;
+        reset(&mut self.into, links.first_into())?;
+        clear_slots(&mut self.loops, graph.nodes.len())?;
         let arcs = graph.arcs().min(literals.len());
         clear_slots(&mut self.shut, arcs)?;
+        self.open.clear();
         for k in 0..arcs {
-            let truth = store.truth(literals[k]);
-            self.count(graph, k, truth);
+            match store.truth(literals[k]) {
+                Truth::Yes => self.take_arc(graph, k),
+                Truth::No => set_slot(&mut self.shut, k, 1),
+                Truth::Undecided => self.open_arc(graph, k)?,
+            }
         }
         Ok(())
     }
 
     /// That an open arc is not taken, if it is beside a taken one or closes a chain.
-    fn exclusion_of(&self, graph: &Graph, k: usize) -> Option<Candidate>
-        requires tail { k < length graph.now.from.items }
-        requires head { k < length graph.now.to.items }
-    {
-        let out = degree_at(self.out.as_slice(), graph.tail(k)).taken;
-        let into = degree_at(self.into.as_slice(), graph.head(k)).taken;
+    fn exclusion_of(&self, graph: &Graph, k: usize) -> Option<Candidate> {
+        let out = degree_at(self.out.as_slice(), tail_of(graph, k)).taken;
+        let into = degree_at(self.into.as_slice(), head_of(graph, k)).taken;
         let claim = if out != 0 && out - 1 != k {
             Claim::TwoOut(out - 1, k)
         } else if into != 0 && into - 1 != k {
@@ -378,8 +400,11 @@ impl Finder {
         Ok(())
     }
 
-    /// Looks at the nodes that a node which is surely on the circuit does not lead to, or that do not lead there.
-    fn part(&mut self, graph: &Graph, links: &Links) -> Result<(), AllocError> {
+    /// Looks at the nodes that a node which is surely on the circuit does not lead to, or that do not lead there, as
+    /// `find` saw the arcs. The candidates are those alone.
+    pub fn part(&mut self, graph: &Graph, links: &Links) -> Result<(), AllocError> {
+        self.candidates.clear();
+        self.conflict = None;
         let Some(root) = self.sure.one else {
             return Ok(());
         };
@@ -420,27 +445,22 @@ impl Finder {
     }
 
     /// Proposes which open arcs are not taken.
-    fn exclude_all(
-        &mut self,
-        graph: &Graph,
-        literals: &[Atom],
-        store: &Store,
-    ) -> Result<(), AllocError>
-        requires { All (λ i. i < length store.now.first) (atom_subjects literals.now) }
-    {
-        let arcs = graph.arcs().min(literals.len());
-        for k in 0..arcs {
-            let truth = store.truth(literals[k]);
-            if let Truth::Undecided = truth {
-                if let Some(candidate) = self.exclusion_of(graph, k) {
-                    self.candidates.push(candidate)?;
-                }
+    fn exclude_all(&mut self, graph: &Graph) -> Result<(), AllocError> {
+        for place in 0..self.open.len() {
+            let k = slot_at(self.open.as_slice(), place);
+            if let Some(candidate) = self.exclusion_of(graph, k) {
+                self.candidates.push(candidate)?;
             }
         }
         Ok(())
     }
 
-    /// Looks for what degrees, chains and reachability give.
+    /// An arc that is open; 0 where there is none.
+    pub fn open_one(&self) -> usize {
+        slot_at(self.open.as_slice(), 0)
+    }
+
+    /// Looks for what degrees and chains give.
     pub fn find(
         &mut self,
         graph: &Graph,
@@ -452,10 +472,9 @@ impl Finder {
     {
         self.candidates.clear();
         self.conflict = None;
-        self.count_all(graph, literals, store)?;
+        self.count_all(graph, links, literals, store)?;
         self.require_all(graph.nodes.len())?;
         self.follow_all(graph)?;
-        self.part(graph, links)?;
-        self.exclude_all(graph, literals, store)
+        self.exclude_all(graph)
     }
 }

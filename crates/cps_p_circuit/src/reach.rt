@@ -61,6 +61,21 @@ impl Links {
         let into = lists_by(alloc, nodes, to, from)?;
         Ok(Links { out, into })
     }
+
+    /// For each node 1 more than the first arc that leaves it, or 0.
+    pub fn first_out(&self) -> &[usize] {
+        self.out.first.as_slice()
+    }
+
+    /// For each node 1 more than the first arc that enters it, or 0.
+    pub fn first_into(&self) -> &[usize] {
+        self.into.first.as_slice()
+    }
+
+    /// 1 more than the arc after one among those that leave its tail, or 0.
+    pub fn next_out(&self, arc: usize) -> usize {
+        slot_at(self.out.next.as_slice(), arc)
+    }
 }
 
 /// The nodes that a walk came by.
@@ -134,7 +149,7 @@ impl Reach {
         clear_slots(&mut self.marks, nodes)?;
         self.enter(start)?;
         for step in 0..nodes {
-            if step >= self.queue.len() {
+            if step >= self.queue.len() || self.queue.len() >= nodes {
                 break;
             }
             let node = self.queue[step];
@@ -156,6 +171,7 @@ fn shut_arcs(alloc: Global, literals: &[Atom], past: &Before) -> Result<Vec<usiz
     requires { All (λ i. i < length past.now.first) (atom_subjects literals.now) }
 {
     let mut shut = Vec::new(alloc);
+    shut.reserve(literals.len())?;
     for k in 0..literals.len() {
         let literal = literals[k];
         match past.truth(literal) {

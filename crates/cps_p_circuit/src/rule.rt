@@ -122,6 +122,7 @@ impl Circuit {
     {
         let arcs = Arcs {
             graph: &self.graph,
+            links: &self.links,
             literals: self.literals.as_slice(),
         };
         let marks = marks_from(self.alloc, &arcs, past, denied, subtour.arc)?;
@@ -177,20 +178,21 @@ impl Circuit {
         }
     }
 
-    /// Facts beside which, and beside an atom, the body cannot hold.
+    /// Facts beside which, and beside an atom, the body cannot hold. The signs that clash take the place of what a list
+    /// of them holds.
     fn show(
         &self,
         past: &Before,
         denied: Option<Atom>,
         hint: Hint,
+        used: &mut Vec<Sign>,
         facts: &mut Vec<Atom>,
     ) -> Result<bool, AllocError>
         requires { All (λ i. i < length past.now.first) (atom_subjects self.now.literals.items) }
         ensures { result ≡ Ok true
             → IsShown (body_of self.now.graph self.now.literals.items) past.now denied facts.new.items }
     {
-        let mut used = Vec::new(self.alloc);
-        if !self.clash(past, denied, hint, &mut used)? {
+        if !self.clash(past, denied, hint, used)? {
             return Ok(false);
         }
         keep(
@@ -208,6 +210,7 @@ impl Circuit {
         past: &Before,
         target: Atom,
         hint: Hint,
+        used: &mut Vec<Sign>,
         facts: &mut Vec<Atom>,
     ) -> Result<bool, AllocError>
         requires { All (λ i. i < length past.now.first) (atom_subjects self.now.literals.items) }
@@ -218,7 +221,7 @@ impl Circuit {
             return Ok(false);
         }
         let denied = target.negate();
-        self.show(past, Some(denied), hint, facts)
+        self.show(past, Some(denied), hint, used, facts)
     }
 
     /// Adds a candidate that the body gives and that is not true yet.
@@ -226,6 +229,7 @@ impl Circuit {
         &self,
         store: &Store,
         candidate: Candidate,
+        used: &mut Vec<Sign>,
         facts: &mut Vec<Atom>,
         found: &mut Vec<Narrowing>,
     ) -> Result<(), AllocError>
@@ -242,7 +246,7 @@ impl Circuit {
             _ => {}
         }
         let past = store.present();
-        if !self.reason(&past, target, candidate.hint, facts)? {
+        if !self.reason(&past, target, candidate.hint, used, facts)? {
             return Ok(());
         }
         found.push(Narrowing {
@@ -259,10 +263,11 @@ impl Circuit {
             All (λ n. IsGiven (body_of self.now.graph self.now.literals.items) store.now n.target) found.new.items) }
     {
         found.clear();
+        let mut used = Vec::new(self.alloc);
         let mut facts = Vec::new(self.alloc);
         for k in 0..self.finder.candidates.len() {
             let candidate = self.finder.candidates[k];
-            self.accept(store, candidate, &mut facts, found)?;
+            self.accept(store, candidate, &mut used, &mut facts, found)?;
         }
         Ok(())
     }
@@ -272,9 +277,10 @@ impl Circuit {
         requires { All (λ i. i < length store.now.first) (atom_subjects self.now.literals.items) }
         ensures { result ≡ Ok true → IsImpossible (body_of self.now.graph self.now.literals.items) store.now }
     {
+        let mut used = Vec::new(self.alloc);
         let mut facts = Vec::new(self.alloc);
         let past = store.present();
-        self.show(&past, None, hint, &mut facts)
+        self.show(&past, None, hint, &mut used, &mut facts)
     }
 }
 
@@ -293,11 +299,22 @@ impl Rule for Circuit {
                 return Ok(Look::Impossible(hint));
             }
         }
-        if read_taken(self.literals.as_slice(), store, &mut self.taken)? {
+        let open = self.finder.open_one();
+        if read_taken(self.literals.as_slice(), store, open, &mut self.taken)? {
             if is_round(self.alloc, &self.graph, self.taken.as_slice())? {
                 return Ok(Look::Possible);
             }
             return Ok(Look::Impossible(hint_of(Claim::Other)));
+        }
+        self.gather(store, found)?;
+        if !found.is_empty() {
+            return Ok(Look::Possible);
+        }
+        self.finder.part(&self.graph, &self.links)?;
+        if let Some(hint) = self.finder.conflict {
+            if self.fails(store, hint)? {
+                return Ok(Look::Impossible(hint));
+            }
         }
         self.gather(store, found)?;
         Ok(Look::Possible)
@@ -310,11 +327,13 @@ impl Rule for Circuit {
         hint: Hint,
         facts: &mut Vec<Atom>,
     ) -> Result<bool, AllocError> {
-        self.reason(past, target, hint, facts)
+        let mut used = Vec::new(self.alloc);
+        self.reason(past, target, hint, &mut used, facts)
     }
 
     fn refute(&self, past: &Before, hint: Hint, facts: &mut Vec<Atom>) -> Result<bool, AllocError> {
-        self.show(past, None, hint, facts)
+        let mut used = Vec::new(self.alloc);
+        self.show(past, None, hint, &mut used, facts)
     }
 
     fn push_subjects(&self, subjects: &mut Vec<u32>) -> Result<(), AllocError> {

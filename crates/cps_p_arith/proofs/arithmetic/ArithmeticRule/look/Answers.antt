@@ -2,6 +2,9 @@ use Rattle.std.proofs.Common.{rules}
 use Rattle.cps_p_arith.proofs.Holding.{known_of, impossible, given, at_rest}
 use Rattle.cps_p_arith.proofs.arithmetic.ArithmeticRule.look.Goals as goal
 
+pub measure_root-requires : goal.measure_root-requires
+measure_root-requires c = known_of c.args.store.now.first c.args.self.now.demand c.requires.fits
+
 pub measure-requires : goal.measure-requires
 measure-requires c = rw c.present.ensures (known_of c.args.store.now.first c.args.self.now.demand c.requires.fits)
 

@@ -3,5 +3,5 @@ use Rattle.std.proofs.Common.{arith, ◌<◌, length}
 use Rattle.cps_p_circuit.proofs.Deciding.{subject_holds}
 use Rattle.cps_p_circuit.proofs.find.Finder.count_all.Goals as goal
 
-pub truth-truth-requires : goal.truth-truth-requires
-truth-truth-requires c = subject_holds (λ i. i < length c.args.store.now.first) c.args.literals.now c.loop-k.k _ (omega arith) c.requires
+pub truth-requires : goal.truth-requires
+truth-requires c = subject_holds (λ i. i < length c.args.store.now.first) c.args.literals.now c.loop-k.k _ (omega arith) c.requires
