@@ -1,6 +1,7 @@
 //! The rule of circuits: degrees, chains and reachability, and the body itself once every literal is known.
 //!
-//! A look runs the finder and keeps those candidates whose claims are confirmed; an explanation finds the same claim by
+//! A look runs the finder and keeps those candidates whose claims are confirmed. Only where it keeps none does it ask
+//! what reachability gives: a look that narrows something is followed by another. An explanation finds the same claim by
 //! the hint and confirms it on the earlier domains. Both go through `show`: a claim becomes signs that clash (`clash`),
 //! and these become facts that were true. A candidate that is not confirmed is dropped, which costs strength and not
 //! truth. If all literals are known, a walk over the taken arcs decides.
