@@ -76,7 +76,7 @@ module _ (s : Trail) (is : List ℕ) (apart : Option ℕ) (h : Interval) (needed
       high : IsFact s (at_most i b)
       high = record { subject = inside; inside = subst (λ (z : ℤ). IsInside z) (sym is-b) range.high; true_now = λ x o. (let m = (within x o).1 in le_true x b (omega (arith, ints))) }
 
-  pub holds_begun : facts ≡ [] → HoldsSoFar s is apart h needed needed 0 facts
+  pub holds_begun : facts ≡ [] → HoldsSoFar s is apart h needed needed n facts
   holds_begun none = record { facts = subst (λ (us : List Atom). AreFacts s us) (sym none) (All-nil (IsFact s)); held = λ xs all. omega arith }
 
   pub holds_all : left ≡ 0 → HoldsSoFar s is apart h needed left n facts → AreHolding s is apart h needed facts

@@ -1,3 +1,4 @@
 pub mod Intervals
 pub mod Facts
 pub mod Bars
+pub mod Owners

@@ -7,7 +7,7 @@
 ghost use Rattle.std.specs.Prelude.{◌≡◌, IfOk, IfSome, IsTrue, Contains};
 ghost use Rattle.cps_p_alldiff.specs.Intervals.{AreEnds};
 
-use crate::bars::{clear_all, clear_fixed};
+use crate::bars::{clear_fixed, clear_halls};
 use crate::facts::{Crowd, add_near, hold};
 use crate::find::Finder;
 use crate::interval::{Interval, are_ends, measure, numbers};
@@ -112,17 +112,17 @@ impl Rule for AllDifferent {
     fn look(&mut self, store: &Store, found: &mut Vec<Narrowing>) -> Result<Look, AllocError> {
         found.clear();
         let subjects = self.subjects.as_slice();
-        measure(store, subjects, &mut self.ends)?;
+        let moved = measure(store, subjects, &mut self.ends)?;
         let ends = self.ends.as_slice();
-        match judge(ends, &mut self.finder)? {
+        self.settled.begin(store.entries(), ends)?;
+        match judge(ends, moved, &mut self.finder, &self.settled)? {
             Some(hall) => Ok(Look::Impossible(Hint {
                 a: hall.low,
                 b: hall.high,
             })),
             None => {
-                self.settled.begin(store.entries(), ends.len())?;
                 clear_fixed(store, subjects, ends, &mut self.settled, found)?;
-                clear_all(store, subjects, ends, self.finder.halls.as_slice(), found)?;
+                clear_halls(store, subjects, ends, &mut self.finder.halls, found)?;
                 Ok(Look::Possible)
             }
         }
@@ -148,7 +148,12 @@ impl Rule for AllDifferent {
             apart: Some(target.subject),
             needed,
         };
-        if !hold(past, subjects, &crowd, facts)? {
+        // A number is cited most where a position is fixed at it, and is still put there.
+        let likely = match needed {
+            1 => self.finder.placing.owner(hall.low),
+            _ => 0,
+        };
+        if !hold(past, subjects, likely, &crowd, facts)? {
             return Ok(false);
         }
         let given = add_near(past, target, &hall, facts)?;
@@ -165,7 +170,7 @@ impl Rule for AllDifferent {
             apart: None,
             needed,
         };
-        let crowded = hold(past, self.subjects.as_slice(), &crowd, facts)?;
+        let crowded = hold(past, self.subjects.as_slice(), 0, &crowd, facts)?;
         Ok(crowded)
     }
 

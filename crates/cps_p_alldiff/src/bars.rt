@@ -71,7 +71,7 @@ fn keep_out(
 }
 
 /// Adds what keeps all other positions out of each of these intervals that is full.
-pub(crate) fn clear_all(
+fn clear_all(
     store: &Store,
     subjects: &[u32],
     ends: &[Interval],
@@ -87,6 +87,27 @@ pub(crate) fn clear_all(
         if is_full(hall, ends) {
             keep_out(store, subjects, ends, hall, found)?;
         }
+    }
+    Ok(())
+}
+
+/// The same, and forgets the intervals where they give nothing: until an end moves they give nothing.
+pub(crate) fn clear_halls(
+    store: &Store,
+    subjects: &[u32],
+    ends: &[Interval],
+    halls: &mut Vec<Interval>,
+    found: &mut Vec<Narrowing>,
+) -> Result<(), AllocError>
+    requires subjects { All (λ i. i < length store.now.first) subjects.now }
+    requires bounded { AreEnclosed store.now subjects.now ends.now }
+    requires given { AreGivenBars store.now subjects.now found.old.items }
+    ensures { OnOk result (AreGivenBars store.now subjects.now found.new.items) }
+{
+    let before = found.len();
+    clear_all(store, subjects, ends, halls.as_slice(), found)?;
+    if found.len() == before {
+        halls.clear();
     }
     Ok(())
 }
@@ -109,7 +130,7 @@ pub(crate) fn clear_fixed(
             let before = found.len();
             keep_out(store, subjects, ends, each, found)?;
             if found.len() == before {
-                settled.add(place);
+                settled.add(place)?;
             }
         }
     }

@@ -36,11 +36,12 @@ pub(crate) struct Crowd {
     pub(crate) needed: u64,
 }
 
-/// Puts facts in the place of what a list holds by which there is a crowd. Answers whether there is one. Each fact is
-/// as weak as that needs.
-pub(crate) fn hold(
+/// Puts facts in the place of what a list holds by which there is a crowd among the positions from one on. Answers
+/// whether there is one. Each fact is as weak as that needs.
+fn hold_from(
     past: &Before,
     subjects: &[u32],
+    from: usize,
     crowd: &Crowd,
     facts: &mut Vec<Atom>,
 ) -> Result<bool, AllocError>
@@ -53,18 +54,19 @@ pub(crate) fn hold(
     let apart = crowd.apart;
     facts.clear();
     let mut left = crowd.needed;
-    for subject in subjects {
+    for place in from..subjects.len() {
         if left == 0 {
             return Ok(true);
         }
-        if is_other(apart, *subject) && was_within(past, *subject, &hall) {
+        let subject = subjects[place];
+        if is_other(apart, subject) && was_within(past, subject, &hall) {
             facts.push(Atom {
-                subject: *subject,
+                subject,
                 op: Op::Ge,
                 value: hall.low,
             })?;
             facts.push(Atom {
-                subject: *subject,
+                subject,
                 op: Op::Le,
                 value: hall.high,
             })?;
@@ -72,6 +74,25 @@ pub(crate) fn hold(
         }
     }
     Ok(left == 0)
+}
+
+/// The same among all positions, where the one at `likely` is tried first.
+pub(crate) fn hold(
+    past: &Before,
+    subjects: &[u32],
+    likely: usize,
+    crowd: &Crowd,
+    facts: &mut Vec<Atom>,
+) -> Result<bool, AllocError>
+    requires subjects { All (λ i. i < length past.now.first) subjects.now }
+    requires range { IsInRange crowd.now.hall }
+    ensures { IfOk result (λ enough. IsTrue enough → AreHolding past.now subjects.now
+        crowd.now.apart crowd.now.hall crowd.now.needed facts.new.items) }
+{
+    if hold_from(past, subjects, likely, crowd, facts)? {
+        return Ok(true);
+    }
+    hold_from(past, subjects, 0, crowd, facts)
 }
 
 /// The bound that, beside an interval that a subject's value is not in, gives an atom.

@@ -67,22 +67,39 @@ pub(crate) fn is_overfull(hall: &Interval, ends: &[Interval]) -> bool
     numbers(hall) < covered(hall, ends) as u64
 }
 
-/// The ends of what each subject can be now.
+/// Measures the ends of what each subject can be now. Answers whether one is not where it was.
+fn measure_all(store: &Store, subjects: &[u32], ends: &mut [Interval]) -> bool
+    requires subjects { All (λ i. i < length store.now.first) subjects.now }
+    requires size { length ends.old ≡ length subjects.now }
+    ensures { AreTightIntervals store.now subjects.now ends.new }
+{
+    let mut moved = false;
+    for (place, subject) in subjects.iter().enumerate() {
+        let domain = store.domain(*subject);
+        let now = Interval {
+            low: domain.min(),
+            high: domain.max(),
+        };
+        moved |= ends[place] != now;
+        ends[place] = now;
+    }
+    moved
+}
+
+/// The same in a list that has the ends as they were last measured, or none. Where it has none they moved.
 pub(crate) fn measure(
     store: &Store,
     subjects: &[u32],
     ends: &mut Vec<Interval>,
-) -> Result<(), AllocError>
+) -> Result<bool, AllocError>
     requires { All (λ i. i < length store.now.first) subjects.now }
     ensures { OnOk result (AreTightIntervals store.now subjects.now ends.new.items) }
 {
-    ends.clear();
-    for subject in subjects {
-        let domain = store.domain(*subject);
-        ends.push(Interval {
-            low: domain.min(),
-            high: domain.max(),
-        })?;
+    if ends.len() == subjects.len() {
+        return Ok(measure_all(store, subjects, ends.as_mut_slice()));
     }
-    Ok(())
+    ends.clear();
+    ends.resize(subjects.len(), Interval { low: 0, high: 0 })?;
+    measure_all(store, subjects, ends.as_mut_slice());
+    Ok(true)
 }

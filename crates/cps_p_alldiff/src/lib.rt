@@ -9,6 +9,11 @@
 //! fails, all pairs of ends are tried. A fixed position is full by itself, so its value leaves the others, inside their
 //! domains too.
 //!
+//! What is kept between looks is believed as little. The sweeps are made only where an end moved: else the numbers at
+//! which the positions were put are looked through again, and full intervals that gave nothing give nothing. The orders
+//! of the positions by their ends are mended and not made anew. A fixed position whose value has left the others is
+//! settled (`Settled`): as long as the trail keeps what was seen then it is not looked at, and the sweeps leave it out.
+//!
 //! The contract: no atom is given that the body does not give, the body is called impossible exactly where an interval
 //! is crowded, and fixed positions without one have different values. An explanation counts again, in the store as it
 //! was, as many positions as the interval has numbers, and says of each no more than that its value is in the interval.
@@ -23,6 +28,8 @@ mod facts;
 mod find;
 mod interval;
 mod judge;
+mod order;
+mod placing;
 mod settled;
 
 pub use all_different::AllDifferent;

@@ -2,21 +2,21 @@ use Rattle.std.proofs.Common.{ℕ, ◌≡◌, ◌+◌, ◌∙◌, ◌++◌, ◌�
 use Rattle.std.proofs.lemmas.Int.{to_z-of_z}
 use Rattle.cps_literal.specs.declared.atom.Atom.{Atom}
 use Rattle.cps_p_alldiff.proofs.Holding.{HoldsSoFar, holds_begun, holds_skip, holds_more, holds_all, at_least, at_most}
-use Rattle.cps_p_alldiff.proofs.facts.hold.Goals as goal
-use Rattle.cps_p_alldiff.proofs.facts.hold.Goals.{then-is_other+then-was_within+in_ok-push+in_ok-push-2, else-is_other}
+use Rattle.cps_p_alldiff.proofs.facts.hold_from.Goals as goal
+use Rattle.cps_p_alldiff.proofs.facts.hold_from.Goals.{then-is_other+then-was_within+in_ok-push+in_ok-push-2, else-is_other}
 
-pub loop-subject-init : goal.loop-subject-init
-loop-subject-init c = holds_begun c.args.past.now c.args.subjects.now c.args.crowd.now.apart c.args.crowd.now.hall c.args.crowd.now.needed c.args.crowd.now.needed 0 c.clear.new.self.items c.clear.ensures.items
+pub loop-place-init : goal.loop-place-init
+loop-place-init c = holds_begun c.args.past.now c.args.subjects.now c.args.crowd.now.apart c.args.crowd.now.hall c.args.crowd.now.needed c.args.crowd.now.needed c.args.from c.clear.new.self.items c.clear.ensures.items
 
-pub loop-subject-preserved : goal.loop-subject-preserved
-loop-subject-preserved c =
+pub loop-place-preserved : goal.loop-place-preserved
+loop-place-preserved c =
     let s = c.args.past.now in
     let is = c.args.subjects.now in
     let h = c.args.crowd.now.hall in
-    let k = c.loop-subject.subject-index in
-    let l = c.loop-subject-test.true in
-    let us = c.loop-subject.facts.items in
-    let left = c.loop-subject.left in
+    let k = c.loop-place.place in
+    let l = c.loop-place-test.true in
+    let us = c.loop-place.facts.items in
+    let left = c.loop-place.left in
     let i = get_or is k 0 in
     let fl : FitsSigned w64 h.low = search rules in
     let fh : FitsSigned w64 h.high = search rules in
@@ -28,17 +28,17 @@ loop-subject-preserved c =
           let some = c.if-left-eq0.false in
           let less : left ≡ c.if-is_other.left + 1 = let e = w.left-is in omega arith in
           holds_more s is c.args.crowd.now.apart h c.args.crowd.now.needed left k us c.if-is_other.left i h.low h.high c.if-is_other.facts.items l less refl refl refl pushed (c.requires.subjects k 0 l) c.requires.range (sym c.is_other.ensures ∙ w.if-is_other.true)
-          (w.was_within.ensures w.if-was_within.true) c.loop-subject.invariant
+          (w.was_within.ensures w.if-was_within.true) c.loop-place.invariant
       | else-is_other w ↦
-          let skipped = holds_skip s is c.args.crowd.now.apart h c.args.crowd.now.needed left k us l c.loop-subject.invariant in
+          let skipped = holds_skip s is c.args.crowd.now.apart h c.args.crowd.now.needed left k us l c.loop-place.invariant in
           subst (λ (vs : List Atom). HoldsSoFar s is c.args.crowd.now.apart h c.args.crowd.now.needed c.if-is_other.left (k + 1) vs) (ap (λ v. v.items) (sym w.facts-is))
           (subst (λ (n : ℕ). HoldsSoFar s is c.args.crowd.now.apart h c.args.crowd.now.needed n (k + 1) us) (sym w.left-is) skipped)
     ]
 
 pub returns-then-left-eq0 : goal.returns-then-left-eq0
-returns-then-left-eq0 c yes' = holds_all c.args.past.now c.args.subjects.now c.args.crowd.now.apart c.args.crowd.now.hall c.args.crowd.now.needed c.loop-subject.left c.loop-subject.subject-index c.loop-subject.facts.items c.if-left-eq0.true c.loop-subject.invariant
+returns-then-left-eq0 c yes' = holds_all c.args.past.now c.args.subjects.now c.args.crowd.now.apart c.args.crowd.now.hall c.args.crowd.now.needed c.loop-place.left c.loop-place.place c.loop-place.facts.items c.if-left-eq0.true c.loop-place.invariant
 
 pub returns : goal.returns
 returns c yes' =
-    let none : c.loop-subject.left ≡ 0 = search rules in
-    holds_all c.args.past.now c.args.subjects.now c.args.crowd.now.apart c.args.crowd.now.hall c.args.crowd.now.needed c.loop-subject.left c.loop-subject.subject-index c.loop-subject.facts.items none c.loop-subject.invariant
+    let none : c.loop-place.left ≡ 0 = search rules in
+    holds_all c.args.past.now c.args.subjects.now c.args.crowd.now.apart c.args.crowd.now.hall c.args.crowd.now.needed c.loop-place.left c.loop-place.place c.loop-place.facts.items none c.loop-place.invariant
