@@ -66,11 +66,7 @@ fn presence(alloc: Global, store: &Store, shape: Shape) -> Result<Vec<Atom>, All
 }
 
 /// The atoms that subjects are 1; an error where one has other values than 0 and 1.
-pub fn literals(
-    alloc: Global,
-    store: &Store,
-    subjects: &[u32],
-) -> Result<Listed<Atom>, AllocError>
+pub fn literals(alloc: Global, store: &Store, subjects: &[u32]) -> Result<Listed<Atom>, AllocError>
     requires { IsFreshStore store.now }
     ensures fit { IfOk result (λ atoms. All (IsLiteral store.now.first) atoms) }
     ensures count { IfOk result (λ atoms. length atoms ≡ length subjects.now) }
