@@ -3,7 +3,7 @@
 //! The contract asks only that a reservoir refuses, so what it leaves to times, changes and literals is seen here. A
 //! row's comment follows the level.
 
-ghost use Rattle.std.specs.Prelude.{◌≡◌, ◌⊎◌, ◌×◌, ◌≤ℤ◌, pos, IfOk, IsTrue, length};
+ghost use Rattle.std.specs.Prelude.{◌≡◌, ◌⊎◌, ◌≤ℤ◌, pos, IfOk, IsTrue, length};
 ghost use Rattle.cps_rule_tests.specs.Ready.{IsFreshStore, IsTaskReady};
 
 use crate::runs::{Left, Outcome, assert_row, ends_by, leaves, refuses, run};

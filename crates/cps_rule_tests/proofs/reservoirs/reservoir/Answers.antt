@@ -1,4 +1,4 @@
-use Rattle.std.proofs.Common.{◌≡◌, ◌∙◌, ◌⊎◌, ℕ, length, sym, subst, inl, inr}
+use Rattle.std.proofs.Common.{◌≡◌, ◌∙◌, ◌⊎◌, ℕ, sym, inl, inr}
 use Rattle.cps_rule_tests.proofs.Readiness.{ready_by}
 use Rattle.cps_rule_tests.proofs.reservoirs.reservoir.Goals as goal
 
