@@ -219,6 +219,32 @@ fn what_is_left_is_less_than_the_divisor(rt: HostRuntime) -> Result<(), Fail> {
     assert_left(&rt, rt.alloc(), &REMAINDERS)
 }
 
+static TARGETS: [Row; 3] = [
+    // 15 to 24 are 3 or 4 times 5 and something
+    Row {
+        kind: Kind::Quotient,
+        ends: [(3, 4), (0, 100), (5, 5)],
+        left: &[(0, 3, 4), (1, 15, 24), (2, 5, 5)],
+    },
+    // 4 times 3 is 12, and -1 times anything positive below 0
+    Row {
+        kind: Kind::Product,
+        ends: [(0, 12), (4, 100), (-100, 100)],
+        left: &[(0, 0, 12), (1, 4, 100), (2, 0, 3)],
+    },
+    // no member is above the greatest
+    Row {
+        kind: Kind::Greatest,
+        ends: [(0, 5), (0, 9), (0, 9)],
+        left: &[(0, 0, 5), (1, 0, 5), (2, 0, 5)],
+    },
+];
+
+#[test]
+fn what_is_computed_bounds_what_it_is_computed_of(rt: HostRuntime) -> Result<(), Fail> {
+    assert_left(&rt, rt.alloc(), &TARGETS)
+}
+
 /// A kind, ends and decisions, and the reason of what is narrowed last, or the conflict. Bounds that each first value
 /// meets are in neither.
 struct Told {

@@ -10,9 +10,15 @@ mod arithmetic;
 #[cfg(test)]
 mod boxes;
 #[cfg(test)]
+mod circuits;
+#[cfg(test)]
+mod intervals;
+#[cfg(test)]
 mod lists;
 #[cfg(test)]
 mod lookups;
+#[cfg(test)]
+mod reservoirs;
 #[cfg(test)]
 mod resources;
 #[cfg(test)]

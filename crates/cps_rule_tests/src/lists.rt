@@ -1,12 +1,16 @@
 //! Lists of values that all differ.
+//!
+//! What is left is compared, and a reason and a conflict as a whole: the contract asks that they follow, and not that
+//! they name the positions of one interval alone.
 
 ghost use Rattle.std.specs.Prelude.{IfOk};
 ghost use Rattle.cps_rule_tests.specs.Ready.{IsPlainTask};
 
-use crate::runs::{Left, Outcome, assert_row, leaves, trial};
-use crate::stores::Ends;
+use crate::runs::{Left, Outcome, assert_row, ends_by, leaves, refuses, trial};
+use crate::stores::{Comparison, Ends};
 use cps_enforce::Enforced;
 use cps_instance::{Body, Task};
+use cps_literal::Op::{Ge, Le};
 use cps_model::Listed;
 use cps_p_alldiff::AllDifferent;
 use std::alloc::{AllocError, Global};
@@ -32,14 +36,18 @@ fn all_different(alloc: Global) -> Result<Enforced<AllDifferent>, AllocError>
     Ok(propagator)
 }
 
-fn differing(alloc: Global, ends: &[Ends]) -> Result<Option<Outcome>, AllocError> {
+fn differing(
+    alloc: Global,
+    ends: &[Ends],
+    decided: &[Comparison],
+) -> Result<Option<Outcome>, AllocError> {
     let mut propagator = all_different(alloc)?;
-    trial(alloc, &mut propagator, ends, &[])
+    trial(alloc, &mut propagator, ends, decided)
 }
 
 fn assert_left(rt: &impl Abort, alloc: Global, rows: &[Row]) -> Result<(), Fail> {
     for (place, row) in rows.iter().enumerate() {
-        let found = differing(alloc, row.ends)?;
+        let found = differing(alloc, row.ends, &[])?;
         assert_row(rt, place, leaves(found, row.left));
     }
     Ok(())
@@ -75,4 +83,30 @@ static FULL: [Row; 5] = [
 #[test]
 fn full_intervals_are_left_to_their_positions(rt: HostRuntime) -> Result<(), Fail> {
     assert_left(&rt, rt.alloc(), &FULL)
+}
+
+static WIDE: [Ends; 3] = [(1, 9), (1, 9), (1, 9)];
+
+/// The first two have 1 and 2 to themselves, whatever the third is at most.
+static REASON: [Comparison; 3] = [(0, Ge, 3), (1, Ge, 3), (2, Ge, 3)];
+
+static PAIR: [Comparison; 3] = [(2, Le, 8), (0, Le, 2), (1, Le, 2)];
+
+#[test]
+fn reasons_name_the_positions_of_a_full_interval(rt: HostRuntime) -> Result<(), Fail> {
+    let found = differing(rt.alloc(), &WIDE, &PAIR)?;
+    assert!(rt; ends_by(found, &REASON));
+    Ok(())
+}
+
+/// Three have two values. That the third is at most 8 is said by the same bound.
+static CONFLICT: [Comparison; 3] = [(0, Ge, 3), (1, Ge, 3), (2, Ge, 3)];
+
+static CROWD: [Comparison; 4] = [(2, Le, 8), (0, Le, 2), (1, Le, 2), (2, Le, 2)];
+
+#[test]
+fn conflicts_name_the_positions_of_a_crowded_interval(rt: HostRuntime) -> Result<(), Fail> {
+    let found = differing(rt.alloc(), &WIDE, &CROWD)?;
+    assert!(rt; refuses(found, &CONFLICT));
+    Ok(())
 }

@@ -7,7 +7,7 @@ ghost use Rattle.std.specs.Prelude.{IfOk, All};
 ghost use Rattle.cps_instance.specs.Fitting.{IsNeverNegative};
 ghost use Rattle.cps_rule_tests.specs.Ready.{IsFreshStore, IsTaskReady};
 
-use crate::runs::{Left, Outcome, assert_row, leaves, refuses, run};
+use crate::runs::{Left, Outcome, assert_row, ends_by, leaves, refuses, run};
 use crate::spans::Shape::{Fixed, Optional, Varying};
 use crate::spans::{Shape, spans};
 use crate::stores::{Comparison, Ends, store_of};
@@ -316,6 +316,26 @@ static WINDOWS: [Row; 7] = [
 #[test]
 fn spans_that_may_run_anywhere_use_up_a_window(rt: HostRuntime) -> Result<(), Fail> {
     assert_left(&rt, rt.alloc(), &WINDOWS)
+}
+
+static PAIR: Use = Use {
+    shapes: &TWO,
+    demands: &[3, 5],
+};
+
+/// The second may start at 3 or later, and so, if it started by 5, would run at 5. It is enough that the first runs
+/// then.
+static REASON: [Comparison; 3] = [(1, Ge, 6), (2, Le, 5), (4, Ge, 6)];
+
+static APART: [Ends; 6] = [(3, 3), (0, 10), (0, 10), (2, 2), (3, 20), (2, 2)];
+
+static RUNNING: [Comparison; 2] = [(1, Le, 2), (2, Ge, 6)];
+
+#[test]
+fn reasons_ask_no_more_than_is_needed(rt: HostRuntime) -> Result<(), Fail> {
+    let found = scheduled(rt.alloc(), PAIR, &APART, &RUNNING)?;
+    assert!(rt; ends_by(found, &REASON));
+    Ok(())
 }
 
 /// 13 would be too many, and each of four that start by 3 uses 3 of them. It is enough that the last uses 1: it ends

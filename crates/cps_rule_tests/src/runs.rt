@@ -187,13 +187,25 @@ pub fn leaves(outcome: Option<Outcome>, left: &[Left]) -> bool {
     }
 }
 
-/// Whether a clause has these atoms, in this order.
-fn is_clause(clause: &[Atom], wanted: &[Comparison]) -> bool {
-    if clause.len() != wanted.len() {
-        return false;
+/// Whether an atom is among these.
+fn is_wanted(wanted: &[Comparison], atom: Atom) -> bool {
+    for comparison in wanted {
+        if atom_of(*comparison) == atom {
+            return true;
+        }
     }
-    for (place, atom) in clause.iter().enumerate() {
-        if *atom != atom_of(wanted[place]) {
+    false
+}
+
+/// Whether a clause has these atoms and no others, in any order.
+fn is_clause(clause: &[Atom], wanted: &[Comparison]) -> bool {
+    for atom in clause {
+        if !is_wanted(wanted, *atom) {
+            return false;
+        }
+    }
+    for comparison in wanted {
+        if !clause.contains(&atom_of(*comparison)) {
             return false;
         }
     }

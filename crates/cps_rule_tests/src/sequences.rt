@@ -1,7 +1,7 @@
 //! Two lists that are each other's inverse, and values that are read by an automaton.
 //!
-//! Rows give the ends of all subjects and what is left of them, worked out by hand; the automaton's reasons are
-//! compared too, since a cut may be chosen in several ways and only one is wanted.
+//! Rows give the ends of all subjects and what is left of them, worked out by hand. Reasons are compared too: an inverse
+//! has one fact of the other list, and of the cuts that an automaton may choose only one is wanted.
 
 ghost use Rattle.std.specs.Prelude.{◌≡◌, IfOk, IsTrue, length};
 ghost use Rattle.cps_instance.specs.Terms.{Domains};
@@ -9,11 +9,11 @@ ghost use Rattle.cps_instance.specs.Fitting.{IsFittingBody};
 ghost use Rattle.cps_p_sequence.specs.Networks.{is_automaton};
 ghost use Rattle.cps_rule_tests.specs.Ready.{IsPlainTask};
 
-use crate::runs::{Left, Outcome, assert_row, ends_by, leaves, trial};
+use crate::runs::{Left, Outcome, assert_row, ends_by, leaves, refuses, trial};
 use crate::stores::{Comparison, Ends};
 use cps_enforce::Enforced;
 use cps_instance::{Body, Task};
-use cps_literal::Op::{Ge, Le, Ne};
+use cps_literal::Op::{Eq, Ge, Le, Ne};
 use cps_model::{Ints, Listed};
 use cps_p_sequence::{Automaton, Inverse};
 use std::alloc::{AllocError, Global};
@@ -40,14 +40,18 @@ fn inverse(alloc: Global) -> Result<Enforced<Inverse>, AllocError>
     Ok(propagator)
 }
 
-fn inverted(alloc: Global, ends: &[Ends]) -> Result<Option<Outcome>, AllocError> {
+fn inverted(
+    alloc: Global,
+    ends: &[Ends],
+    decided: &[Comparison],
+) -> Result<Option<Outcome>, AllocError> {
     let mut propagator = inverse(alloc)?;
-    trial(alloc, &mut propagator, ends, &[])
+    trial(alloc, &mut propagator, ends, decided)
 }
 
 fn assert_inverted(rt: &impl Abort, alloc: Global, rows: &[Row]) -> Result<(), Fail> {
     for (place, row) in rows.iter().enumerate() {
-        let found = inverted(alloc, row.ends)?;
+        let found = inverted(alloc, row.ends, &[])?;
         assert_row(rt, place, leaves(found, row.left));
     }
     Ok(())
@@ -164,6 +168,42 @@ static FILLED: [Row; 3] = [
 #[test]
 fn places_that_positions_fill_are_left_to_them(rt: HostRuntime) -> Result<(), Fail> {
     assert_inverted(&rt, rt.alloc(), &FILLED)
+}
+
+static PLACES: [Ends; 8] = [
+    (0, 3),
+    (0, 3),
+    (0, 3),
+    (0, 3),
+    (0, 3),
+    (0, 3),
+    (0, 3),
+    (0, 3),
+];
+
+/// The second is not at place 2, so at place 2 is not the second.
+static MIRROR: [Comparison; 2] = [(1, Eq, 2), (6, Ne, 1)];
+
+/// The third is not at place 1, and both lists say so.
+static APART: [Comparison; 3] = [(2, Ne, 1), (5, Ne, 2), (1, Ne, 2)];
+
+#[test]
+fn what_a_list_does_not_have_is_the_reason_in_the_other(rt: HostRuntime) -> Result<(), Fail> {
+    let found = inverted(rt.alloc(), &PLACES, &APART)?;
+    assert!(rt; ends_by(found, &MIRROR));
+    Ok(())
+}
+
+/// The second is at place 2, where it is not.
+static CONFLICT: [Comparison; 2] = [(1, Ne, 2), (6, Eq, 1)];
+
+static MISPLACED: [Comparison; 4] = [(2, Ne, 1), (5, Ne, 2), (6, Ne, 1), (1, Eq, 2)];
+
+#[test]
+fn a_place_that_one_list_denies_is_the_conflict(rt: HostRuntime) -> Result<(), Fail> {
+    let found = inverted(rt.alloc(), &PLACES, &MISPLACED)?;
+    assert!(rt; refuses(found, &CONFLICT));
+    Ok(())
 }
 
 /// These numbers as a list.

@@ -1,4 +1,4 @@
-//! Spans of tasks, by their shapes.
+//! Spans of tasks, by their shapes, and literals.
 
 ghost use Rattle.std.specs.Prelude.{◌≡◌, length, IfOk, All};
 ghost use Rattle.cps_instance.specs.Fitting.{IsFittingSpan, IsLiteral};
@@ -63,6 +63,20 @@ fn presence(alloc: Global, store: &Store, shape: Shape) -> Result<Vec<Atom>, All
         atoms.push(atom)?;
     }
     Ok(atoms)
+}
+
+/// The atoms that subjects are 1; an error where one has other values than 0 and 1.
+pub fn literals(alloc: Global, store: &Store, subjects: &[u32]) -> Result<Listed<Atom>, AllocError>
+    requires { IsFreshStore store.now }
+    ensures fit { IfOk result (λ atoms. All (IsLiteral store.now.first) atoms) }
+    ensures count { IfOk result (λ atoms. length atoms ≡ length subjects.now) }
+{
+    let mut atoms = Vec::new(alloc);
+    for subject in subjects {
+        let atom = literal(store, *subject)?;
+        atoms.push(atom)?;
+    }
+    Ok(Listed::from_vec(atoms))
 }
 
 /// The span of a shape; an error where its literal is a subject with other values than 0 and 1.

@@ -1,0 +1,128 @@
+//! Intervals: the size takes the start to the end.
+//!
+//! Subject 0 is the start, 1 the end and 2 the size. The contract asks only that an interval refuses, so the table has
+//! each of the six bounds that follow from the others.
+
+ghost use Rattle.std.specs.Prelude.{IfOk};
+ghost use Rattle.cps_rule_tests.specs.Ready.{IsPlainTask};
+
+use crate::runs::{Left, Outcome, assert_row, ends_by, leaves, refuses, trial};
+use crate::stores::{Comparison, Ends};
+use cps_enforce::Enforced;
+use cps_instance::{Body, Task};
+use cps_literal::Op::{Ge, Le};
+use cps_model::Listed;
+use cps_p_nooverlap::Interval;
+use std::alloc::{AllocError, Global};
+use std::process::Abort;
+use std::test::Fail;
+
+/// The propagator of an interval.
+fn interval(alloc: Global) -> Result<Enforced<Interval>, AllocError>
+    ensures { IfOk result (λ propagator. IsPlainTask propagator) }
+{
+    let task = Task {
+        enforcement: Listed::new(alloc),
+        body: Body::Interval {
+            start: 0,
+            end: 1,
+            size: 2,
+        },
+    };
+    let propagator = Interval::of(alloc, &task)?;
+    Ok(propagator)
+}
+
+/// What an interval makes of these ends after decisions.
+fn spanned(
+    alloc: Global,
+    ends: &[Ends],
+    decided: &[Comparison],
+) -> Result<Option<Outcome>, AllocError> {
+    let mut propagator = interval(alloc)?;
+    trial(alloc, &mut propagator, ends, decided)
+}
+
+/// What is left of the start, the end and the size; empty if there is no interval.
+struct Row {
+    ends: [Ends; 3],
+    left: &'static [Left],
+}
+
+fn assert_left(rt: &impl Abort, alloc: Global, rows: &[Row]) -> Result<(), Fail> {
+    for (place, row) in rows.iter().enumerate() {
+        let found = spanned(alloc, &row.ends, &[])?;
+        assert_row(rt, place, leaves(found, row.left));
+    }
+    Ok(())
+}
+
+static BOUNDS: [Row; 7] = [
+    // at most 9 from 0 on, and a start 3 before 9
+    Row {
+        ends: [(0, 10), (8, 9), (3, 20)],
+        left: &[(0, 0, 6), (1, 8, 9), (2, 3, 9)],
+    },
+    // a start 5 before 10, and an end 5 after 20
+    Row {
+        ends: [(0, 20), (10, 30), (2, 5)],
+        left: &[(0, 5, 20), (1, 10, 25), (2, 2, 5)],
+    },
+    // an end 3 after 4, and one 5 after 9
+    Row {
+        ends: [(4, 9), (0, 20), (3, 5)],
+        left: &[(0, 4, 9), (1, 7, 14), (2, 3, 5)],
+    },
+    // from 2 to 5, and from 0 to 6
+    Row {
+        ends: [(0, 2), (5, 6), (0, 20)],
+        left: &[(0, 0, 2), (1, 5, 6), (2, 3, 6)],
+    },
+    // no size is below 0
+    Row {
+        ends: [(0, 10), (0, 10), (-5, 4)],
+        left: &[(0, 0, 10), (1, 0, 10), (2, 0, 4)],
+    },
+    Row {
+        ends: [(0, 10), (0, 10), (-5, -1)],
+        left: &[],
+    },
+    // so no end is before the start
+    Row {
+        ends: [(5, 9), (0, 3), (-5, 4)],
+        left: &[],
+    },
+];
+
+#[test]
+fn bounds_are_passed_on_in_every_direction(rt: HostRuntime) -> Result<(), Fail> {
+    assert_left(&rt, rt.alloc(), &BOUNDS)
+}
+
+/// From 5 on for 3 at least it ends at 8 or later, whatever its end is at most.
+static REASON: [Comparison; 3] = [(0, Le, 4), (2, Le, 2), (1, Ge, 8)];
+
+static NEAR: [Ends; 3] = [(0, 20), (0, 40), (0, 20)];
+
+static STARTED: [Comparison; 3] = [(1, Le, 35), (0, Ge, 5), (2, Ge, 3)];
+
+#[test]
+fn a_bound_has_one_of_each_other_as_its_reason(rt: HostRuntime) -> Result<(), Fail> {
+    let found = spanned(rt.alloc(), &NEAR, &STARTED)?;
+    assert!(rt; ends_by(found, &REASON));
+    Ok(())
+}
+
+/// From 50 on for 30 at least it ends at 80 or later, so it need not end by 70: 79 is too early too.
+static CONFLICT: [Comparison; 3] = [(0, Le, 49), (2, Le, 29), (1, Ge, 80)];
+
+static WIDE: [Ends; 3] = [(0, 100), (0, 100), (0, 100)];
+
+static TOO_LONG: [Comparison; 3] = [(0, Ge, 50), (2, Ge, 30), (1, Le, 70)];
+
+#[test]
+fn conflicts_ask_no_more_than_is_needed(rt: HostRuntime) -> Result<(), Fail> {
+    let found = spanned(rt.alloc(), &WIDE, &TOO_LONG)?;
+    assert!(rt; refuses(found, &CONFLICT));
+    Ok(())
+}
