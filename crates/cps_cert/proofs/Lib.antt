@@ -18,6 +18,7 @@ pub mod Products
 pub mod SumEnds
 pub mod Pairs
 pub mod Outside
+pub mod Rows
 pub mod Demands
 pub mod Roots
 pub mod Spanned

@@ -13,6 +13,7 @@ mod claim;
 mod definable;
 mod domains;
 mod fixed;
+mod follows;
 mod intervals;
 pub mod laws;
 mod learnt;
