@@ -1,0 +1,117 @@
+-- When an item of a log is accepted: its clause is one that each assignment makes true that would show the claim wrong.
+use Rattle.std.specs.Prelude.{◌≡◌, ℕ, ◌⊎◌, Bool, true, false, ◌&&◌, ℤ, pos, negsuc, ◌+ℤ◌, ◌<ℤ◌, int_lt, List, [], ◌∷◌, ◌++◌, Contains, Option, Some, None, IsSomeAnd, slice_get, slice_index_or}
+use Rattle.cps_model.specs.declared.model.CpModel.{CpModel}
+use Rattle.cps_model.specs.declared.model.LinearExpr.{LinearExpr}
+use Rattle.cps_model.specs.declared.model.Objective.{Objective}
+use Rattle.cps_model.specs.declared.constraint.Constraint.{Constraint}
+use Rattle.cps_model.specs.Within.{is_allowed}
+use Rattle.cps_literal.specs.declared.atom.Atom.{Atom}
+use Rattle.cps_literal.specs.declared.atom.Op.TheVariants.{Le, Ge}
+use Rattle.cps_log.specs.declared.item.LogItem.{LogItem}
+use Rattle.cps_log.specs.declared.item.LogItem.TheVariants as items
+use Rattle.cps_log.specs.Subjects.{subject_domains, subject_count, sum_at, IsDefinable, IsClauseOver}
+use Rattle.cps_log.specs.Boxes.{Box, box_of, IsEmpty, Spans, HasEnds, IsSumOutside}
+use Rattle.cps_cert.specs.Refuting.{Refutes}
+use Rattle.cps_log.specs.Propagation.{LeadsToConflict}
+use Rattle.cps_cert.specs.declared.claim.Claim.{Claim}
+use Rattle.cps_cert.specs.declared.claim.Claim.TheVariants as claims
+
+-- the sums and the clauses of a log so far
+pub record Derivation : Type 0 where
+  pub sums : List LinearExpr
+  pub clauses : List (List Atom)
+
+abbrev pub empty_derivation : Derivation
+empty_derivation = record { sums = []; clauses = [] }
+
+abbrev pub clause_box : CpModel → Derivation → List Atom → Box
+clause_box m g clause = box_of (subject_domains m.variables g.sums) clause
+
+-- a clause over the subjects so far whose box is empty, or is refuted
+pub record IsJustified (m : CpModel) (g : Derivation) (clause : List Atom) (Refuted : Type 0) : Type 0 where
+  pub over : IsClauseOver (subject_count m.variables g.sums) clause
+  pub shown : IsEmpty (subject_count m.variables g.sums) (clause_box m g clause) ⊎ Refuted
+
+-- ---- by the objective
+
+-- the objectives that a claim leaves to be refuted: for optimality those below the value
+abbrev pub is_at_issue : Claim → ℤ → Bool
+is_at_issue (claims.Optimal v) x = int_lt x v
+is_at_issue (claims.Infeasible literals) x = true
+
+-- no objective between its ends over the box is one that the model admits and the claim leaves
+abbrev pub IsObjectiveRefuted : Option Objective → Claim → Box → Type 0
+IsObjectiveRefuted None claim box = is_at_issue claim (pos 0) ≡ false
+IsObjectiveRefuted (Some o) claim box =
+    IsSumOutside box o.vars o.coeffs (λ x. is_allowed o.domain x && is_at_issue claim x)
+
+-- ---- by the ends of a sum
+
+-- a number that is left to the sum's subject lies between no ends that the sum has
+pub record AreEndsApart (box : Box) (subject : ℕ) (e : LinearExpr) : Type 0 where
+  pub low : ℤ
+  pub high : ℤ
+  pub ends : HasEnds box e.vars e.coeffs low high
+  pub least : ℤ
+  pub greatest : ℤ
+  pub domain : Spans (box subject) (λ x. x) least greatest
+  pub apart : ((high +ℤ e.offset) <ℤ least) ⊎ (greatest <ℤ (low +ℤ e.offset))
+
+-- ---- by an assumption
+
+-- the clause that says that a literal is true
+abbrev pub literal_clause : ℤ → List Atom
+literal_clause (pos i) = record { subject = i; op = Ge; value = pos 1 } ∷ []
+literal_clause (negsuc i) = record { subject = i; op = Le; value = pos 0 } ∷ []
+
+-- a claim of infeasibility rests on the literals that it lists alone
+abbrev pub MayAssume : Claim → ℤ → Type 0
+MayAssume (claims.Optimal v) r = Unit {0}
+MayAssume (claims.Infeasible literals) r = Contains literals r
+
+-- ---- each item
+
+pub record IsReasonOf (m : CpModel) (g : Derivation) (clause : List Atom) (c : Constraint) : Type 0 where
+  pub justified : IsJustified m g clause (Refutes m g.sums clause c)
+
+pub record IsEndsOf (m : CpModel) (g : Derivation) (subject : ℕ) (clause : List Atom) (e : LinearExpr) : Type 0 where
+  pub justified : IsJustified m g clause (AreEndsApart (clause_box m g clause) subject e)
+
+abbrev pub IsAccepted : CpModel → Claim → Derivation → LogItem → Type 0
+IsAccepted m claim g (items.Sum e) = IsDefinable m.variables e
+IsAccepted m claim g (items.Reason constraint clause) =
+    IsSomeAnd (slice_get m.constraints constraint) (IsReasonOf m g clause)
+IsAccepted m claim g (items.Objective clause) =
+    IsJustified m g clause (IsObjectiveRefuted m.objective claim (clause_box m g clause))
+IsAccepted m claim g (items.Ends subject clause) =
+    IsSomeAnd (sum_at m.variables g.sums subject) (IsEndsOf m g subject clause)
+IsAccepted m claim g (items.Assumed number) = IsSomeAnd (slice_get m.assumptions number) (MayAssume claim)
+IsAccepted m claim g (items.Learnt clause) =
+    IsJustified m g clause (LeadsToConflict g.clauses (clause_box m g clause))
+
+-- ---- what an item adds
+
+abbrev pub with_sum : Derivation → LinearExpr → Derivation
+with_sum g e = record { sums = g.sums ++ e ∷ []; clauses = g.clauses }
+
+abbrev pub with_clause : Derivation → List Atom → Derivation
+with_clause g clause = record { sums = g.sums; clauses = g.clauses ++ clause ∷ [] }
+
+abbrev pub after_item : CpModel → Derivation → LogItem → Derivation
+after_item m g (items.Sum e) = with_sum g e
+after_item m g (items.Reason constraint clause) = with_clause g clause
+after_item m g (items.Objective clause) = with_clause g clause
+after_item m g (items.Ends subject clause) = with_clause g clause
+after_item m g (items.Assumed number) =
+    with_clause g (literal_clause (slice_index_or m.assumptions number (pos 0)))
+after_item m g (items.Learnt clause) = with_clause g clause
+
+-- the empty clause, which closes a log
+abbrev pub is_closing : LogItem → Bool
+is_closing (items.Learnt []) = true
+is_closing (items.Learnt (t ∷ ts)) = false
+is_closing (items.Sum e) = false
+is_closing (items.Reason constraint clause) = false
+is_closing (items.Objective clause) = false
+is_closing (items.Ends subject clause) = false
+is_closing (items.Assumed number) = false

@@ -1,0 +1,10 @@
+pub mod Parts
+pub mod Intervals
+pub mod Words
+pub mod Counting
+pub mod Refuting
+pub mod Domains
+pub mod Claims
+pub mod Accepting
+pub mod Lines
+pub mod Verdicts

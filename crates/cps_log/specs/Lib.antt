@@ -1,0 +1,4 @@
+pub mod Writing
+pub mod Subjects
+pub mod Boxes
+pub mod Propagation
