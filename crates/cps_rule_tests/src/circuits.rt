@@ -76,7 +76,7 @@ fn circuit(
 fn decisions(alloc: Global, signs: &str) -> Result<Vec<Comparison>, AllocError> {
     let mut decided = Vec::new(alloc);
     for (place, sign) in signs.as_bytes().iter().enumerate() {
-        let subject = place as u32;
+        let subject = u32::try_from(place).map_err(|_| AllocError)?;
         match *sign {
             b'0' => decided.push((subject, Le, 0))?,
             b'1' => decided.push((subject, Ge, 1))?,
@@ -90,7 +90,7 @@ fn decisions(alloc: Global, signs: &str) -> Result<Vec<Comparison>, AllocError> 
 fn left_of(alloc: Global, signs: &str) -> Result<Vec<Left>, AllocError> {
     let mut left = Vec::new(alloc);
     for (place, sign) in signs.as_bytes().iter().enumerate() {
-        let subject = place as u32;
+        let subject = u32::try_from(place).map_err(|_| AllocError)?;
         match *sign {
             b'0' => left.push((subject, 0, 0))?,
             b'1' => left.push((subject, 1, 1))?,
@@ -104,8 +104,9 @@ fn left_of(alloc: Global, signs: &str) -> Result<Vec<Left>, AllocError> {
 fn routed(alloc: Global, arcs: &str, decided: &str) -> Result<Option<Outcome>, AllocError> {
     let mut subjects = Vec::new(alloc);
     let mut ends: Vec<Ends> = Vec::new(alloc);
-    for subject in 0..decided.len() {
-        subjects.push(subject as u32)?;
+    let count = u32::try_from(decided.len()).map_err(|_| AllocError)?;
+    for subject in 0..count {
+        subjects.push(subject)?;
         ends.push((0, 1))?;
     }
     let mut store = store_of(alloc, ends.as_slice())?;

@@ -30,10 +30,10 @@ struct Tank {
 }
 
 /// Whether 0 is a level.
-fn has_zero(limits: Ends) -> bool
-    ensures { IsTrue result → (limits.0 ≤ℤ pos 0) × (pos 0 ≤ℤ limits.1) }
+fn has_zero(min: i64, max: i64) -> bool
+    ensures { IsTrue result → (min ≤ℤ pos 0) × (pos 0 ≤ℤ max) }
 {
-    limits.0 <= 0 && 0 <= limits.1
+    min <= 0 && 0 <= max
 }
 
 /// Whether all events have a literal, or none.
@@ -58,7 +58,8 @@ fn reservoir(alloc: Global, store: &Store, tank: Tank) -> Result<Enforced<Reserv
     requires { IsFreshStore store.now }
     ensures { IfOk result (λ propagator. IsTaskReady store.now.first propagator) }
 {
-    let is_level = has_zero(tank.limits);
+    let (min, max) = tank.limits;
+    let is_level = has_zero(min, max);
     let is_tied = are_tied(tank.times, tank.active);
     if !is_level {
         return Err(AllocError);
@@ -72,8 +73,8 @@ fn reservoir(alloc: Global, store: &Store, tank: Tank) -> Result<Enforced<Reserv
     let task = Task {
         enforcement: Listed::new(alloc),
         body: Body::Reservoir {
-            min: tank.limits.0,
-            max: tank.limits.1,
+            min,
+            max,
             times,
             changes,
             active,
