@@ -157,7 +157,7 @@ optimal_response m bytes lines text v =
     let shown = objective_lines m.objective (objective_value m a) in
     record {
       response = r;
-      more = flat_map fed_line (codes "%log" ∷ v.more);
+      more = flat_map fed_line v.more;
       begins =
           text ∙ append-nil _
           ∙ ap (λ (bs : List ℕ). fed_line (codes "status: OPTIMAL") ++ bs) (ap (λ (ls : List (List ℕ)). flat_map fed_line ls) v.are ∙ shown_text m.objective a (codes "%log" ∷ v.more))
@@ -171,7 +171,7 @@ infeasible_response m bytes lines text l =
     let r : Response = record { status = Infeasible; solution = None; lower = Infinite; core = core } in
     record {
       response = r;
-      more = flat_map fed_line (codes "%log" ∷ l.more);
+      more = flat_map fed_line l.more;
       begins =
           text ∙ append-nil _
           ∙ ap (λ (bs : List ℕ). fed_line (codes "status: INFEASIBLE") ++ bs) (ap (λ (ls : List (List ℕ)). flat_map fed_line ls) l.are ∙ listed_text core (codes "%log" ∷ l.more))

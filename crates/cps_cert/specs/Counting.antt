@@ -4,6 +4,8 @@ use Rattle.std.specs.List.{list_any, flat_map}
 use Rattle.cps_model.specs.declared.model.LinearExpr.{LinearExpr}
 use Rattle.cps_model.specs.declared.model.Variable.{Variable}
 use Rattle.cps_model.specs.declared.constraint.Constraint.{Constraint}
+use Rattle.cps_model.specs.declared.constraint.Kind.{Kind}
+use Rattle.cps_model.specs.declared.constraint.Kind.TheVariants.{Interval}
 use Rattle.cps_model.specs.Values.{variable_of, variable_value}
 use Rattle.cps_model.specs.Rising.{IsRising}
 use Rattle.cps_model.specs.Rules.{literals_of, sums_of, references_of}
@@ -31,11 +33,17 @@ own_variables c =
     variables_of (c.enforcement ++ (literals_of c.kind ++ references_of c.kind))
     ++ flat_map variables_of_sum (sums_of c.kind)
 
+-- the variables of an interval's start and end: what names it does not see its size
+abbrev pub variables_of_run : Kind → List ℕ
+variables_of_run (Interval start end size) = variables_of_sum start ++ variables_of_sum end
+variables_of_run kind = []
+
+-- the variables that say whether and when a named interval runs
 abbrev pub variables_of_named : Option Constraint → List ℕ
 variables_of_named None = []
-variables_of_named (Some c) = own_variables c
+variables_of_named (Some c) = variables_of c.enforcement ++ variables_of_run c.kind
 
--- and those that stand in the intervals that it names
+-- the variables that stand in a constraint, and those that say when the intervals run that it names
 abbrev pub read_variables : List Constraint → Constraint → List ℕ
 read_variables cs c = own_variables c ++ flat_map (λ i. variables_of_named (constraint_at cs i)) (intervals_of c.kind)
 

@@ -1,5 +1,5 @@
 -- When a response with its log is accepted, and which line is refused first.
-use Rattle.std.specs.Prelude.{◌≡◌, ◌⊎◌, ℕ, ◌≤◌, ◌==◌, not, Bool, ℤ, IsTrue, List, [], ◌∷◌, ◌++◌, length, take, All, Contains, Some, slice_get}
+use Rattle.std.specs.Prelude.{◌≡◌, ◌⊎◌, ℕ, ◌≤◌, ◌==◌, not, Bool, ℤ, IsTrue, List, [], ◌∷◌, ◌++◌, length, take, codes, All, Contains, Some, slice_get}
 use Rattle.std.specs.List.{flat_map, list_all}
 use Rattle.cps_model.specs.declared.model.CpModel.{CpModel}
 use Rattle.cps_model.specs.declared.bound.Bound.TheVariants.{At}
@@ -57,9 +57,9 @@ pub record IsTrueInfeasible (m : CpModel) (r : Response) : Type 0 where
   pub assumed : All (Contains m.assumptions) r.core
   pub none : (a : List ℤ) → IsFree m a → IsTrue (literals_hold a r.core) → ⊥
 
--- bytes begin with the text of a response that is true of the model
+-- bytes are the text of a response that is true of the model, the line `%log`, and more
 pub record BeginsWithTrueResponse (m : CpModel) (bytes : List ℕ) : Type 0 where
   pub response : Response
   pub more : List ℕ
-  pub begins : bytes ≡ response_text m response ++ more
+  pub begins : bytes ≡ response_text m response ++ (fed_line (codes "%log") ++ more)
   pub holds : IsTrueOptimal m response ⊎ IsTrueInfeasible m response
