@@ -43,7 +43,7 @@ module _ {A : Type 0} (f : A → ℕ) where
   total_le g [] h = omega arith
   total_le g (x ∷ xs) h = let a = h x in let b = total_le g xs h in omega arith
 
-  none_of : (l : List A) → ((i : ℕ) (a : A) → get_elem? l i ≡ some a → f a ≡ 0) → total f l ≡ 0
+  pub none_of : (l : List A) → ((i : ℕ) (a : A) → get_elem? l i ≡ some a → f a ≡ 0) → total f l ≡ 0
   none_of [] h = refl
   none_of (x ∷ xs) h = let a = h 0 x refl in let b = none_of xs (λ i a e. h (suc i) a e) in omega arith
 

@@ -62,10 +62,10 @@ not_none : (a : ℕ) → ¬ (None ≡ Some a)
 not_none a e = cc
 
 -- what an open row has stays where another row changes
-data_kept : (ws ws' : List ℕ) (r0 row : ℕ) (d : List ℕ) → Away r0 ws ws' → row ≢ r0 → HasData ws row d → HasData ws' row d
+pub data_kept : (ws ws' : List ℕ) (r0 row : ℕ) (d : List ℕ) → Away r0 ws ws' → row ≢ r0 → HasData ws row d → HasData ws' row d
 data_kept ws ws' r0 row d a n h = let f = h.fits in record { fits = f; each = λ k l. a.words row k n (omega arith) ∙ h.each k l }
 
-open_kept : (n : ℕ) (ws ws' : List ℕ) (r0 row : ℕ) (e : Entry) → Away r0 ws ws' → gate ws r0 ≡ 0 → IsOpen n ws row e → IsOpen n ws' row e
+pub open_kept : (n : ℕ) (ws ws' : List ℕ) (r0 row : ℕ) (e : Entry) → Away r0 ws ws' → gate ws r0 ≡ 0 → IsOpen n ws row e → IsOpen n ws' row e
 open_kept n ws ws' r0 row e a closed o = let other : row ≢ r0 = λ q. o.gate_open (ap (gate ws) q ∙ closed) in record {
   within = o.within;
   gate_open = λ z. o.gate_open (sym (a.gates row other) ∙ z);

@@ -1,4 +1,5 @@
 pub mod Coding
 pub mod Rows
 pub mod OneList
+pub mod Events
 pub mod Seats

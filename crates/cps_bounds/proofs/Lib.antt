@@ -1,3 +1,4 @@
 pub mod Folds
 pub mod Keeps
 pub mod Offers
+pub mod Events

@@ -6,6 +6,7 @@
 //! solution's objective is below a lower bound. A seat that has all splits knows both words in the end.
 #![tactic(auto)]
 
+pub mod laws;
 mod plays;
 mod rule;
 mod seats;

@@ -1,0 +1,5 @@
+use Rattle.cps_bounds.proofs.Events as laws
+use Rattle.cps_bounds.proofs.laws.steps_are_events.Goals as goal
+
+pub returns : goal.returns
+returns c = laws.steps_are_events
