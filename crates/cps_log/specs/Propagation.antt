@@ -3,7 +3,7 @@ use Rattle.std.specs.Prelude.{◌≡◌, ◌⊎◌, List, [], ◌∷◌, All, An
 use Rattle.cps_literal.specs.declared.atom.Atom.{Atom}
 use Rattle.cps_log.specs.Boxes.{Box, with_atom, IsFalseIn}
 
--- all atoms of the clause are false but one
+-- each other atom of the clause is false
 pub record IsUnit (box : Box) (t : Atom) (clause : List Atom) : Type 0 where
   pub listed : Contains clause t
   pub others : All (λ u. (u ≡ t) ⊎ IsFalseIn box u) clause

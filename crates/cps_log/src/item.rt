@@ -1,4 +1,7 @@
 //! What a line of a log says.
+ghost use Rattle.std.specs.Prelude.{◌≡◌};
+ghost use Rattle.cps_log.specs.Deriving.{defined_sum};
+
 use cps_literal::Clause;
 use cps_model::LinearExpr;
 
@@ -16,6 +19,27 @@ pub enum LogItem {
     Assumed(u32),
     /// The clause follows from the earlier ones by unit propagation.
     Learnt(Clause),
+}
+
+impl LogItem {
+    /// The sum that the item defines, if it defines one.
+    pub fn into_sum(self) -> Option<LinearExpr>
+        ensures { result ≡ defined_sum self }
+    {
+        match self {
+            LogItem::Sum(sum) => Some(sum),
+            LogItem::Reason {
+                constraint: _constraint,
+                clause: _clause,
+            } => None,
+            LogItem::Objective(_clause) | LogItem::Learnt(_clause) => None,
+            LogItem::Ends {
+                subject: _subject,
+                clause: _clause,
+            } => None,
+            LogItem::Assumed(_assumption) => None,
+        }
+    }
 }
 
 // Written out, so that crates above do not prove it anew.
