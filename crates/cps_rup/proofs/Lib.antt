@@ -1,0 +1,9 @@
+pub mod ClauseStates
+pub mod Propagating
+pub mod Denying
+pub mod Chains
+pub mod Assuming
+pub mod Trailing
+pub mod Propagated
+pub mod Standing
+pub mod Settling
