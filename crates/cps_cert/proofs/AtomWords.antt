@@ -14,7 +14,8 @@ use Rattle.cps_literal.specs.declared.atom.Atom.{Atom}
 use Rattle.cps_literal.specs.declared.atom.Op.{Op}
 use Rattle.cps_literal.specs.declared.atom.Op.TheVariants.{Le, Ge, Eq, Ne}
 use Rattle.cps_log.specs.Writing.{op_text, atom_word}
-use Rattle.cps_cert.specs.Words.{IsRun, FitsAtom}
+use Rattle.cps_log.specs.Fitting.{FitsAtom}
+use Rattle.cps_cert.specs.Words.{IsRun}
 
 -- how long a run is
 pub run_is : (p : ℕ → Bool) (ds : List ℕ) (b : ℕ) (more : List ℕ) (count : ℕ) → list_all p ds ≡ true → p b ≡ false → IsRun p (ds ++ b ∷ more) count → count ≡ length ds

@@ -15,7 +15,8 @@ use Rattle.cps_literal.specs.declared.atom.Op.{Op}
 use Rattle.cps_literal.specs.declared.atom.Op.TheVariants.{Le, Ge, Eq, Ne}
 use Rattle.cps_log.specs.Subjects.{IsNear}
 use Rattle.cps_log.specs.Writing.{op_text, atom_word, clause_text}
-use Rattle.cps_cert.specs.Words.{is_no_blank, IsNextWord, BeginsWith, FitsAtom, FitsClause}
+use Rattle.cps_log.specs.Fitting.{FitsAtom, FitsClause}
+use Rattle.cps_cert.specs.Words.{is_no_blank, IsNextWord, BeginsWith}
 use Rattle.cps_cert.proofs.AtomWords.{decimal_digits}
 
 -- ---- an atom's word has no blank

@@ -9,7 +9,8 @@ use Rattle.cps_log.specs.declared.item.LogItem.TheVariants as items
 use Rattle.cps_log.specs.Subjects.{extended, subject_count, IsDefinable}
 use Rattle.cps_cert.specs.declared.claim.Claim.{Claim}
 use Rattle.cps_cert.specs.Claims.{Contradicts, IsTrueClaim}
-use Rattle.cps_cert.specs.Accepting.{Derivation, empty_derivation, IsAccepted, after_item, is_closing}
+use Rattle.cps_log.specs.Deriving.{Derivation, empty_derivation, after_item, is_closing}
+use Rattle.cps_cert.specs.Accepting.{IsAccepted}
 use Rattle.cps_cert.specs.Lines.{Phase, in_log, at_end, finished, Leads}
 use Rattle.cps_cert.proofs.Forced.{IsTrueOver}
 use Rattle.cps_cert.proofs.Sound.{IsKept, item_kept, empty_refused}

@@ -10,7 +10,7 @@ use Rattle.std.proofs.lemmas.Int.{ints}
 use lib.Signed.{mag, le_z}
 use mir.Syntax.{w64, w32}
 use Rattle.cps_log.specs.Subjects.{IsNear}
-use Rattle.cps_cert.specs.Words.{FitsVariable}
+use Rattle.cps_log.specs.Fitting.{FitsVariable}
 
 pub near_mag : (z : ℤ) → IsNear z → mag z < 2 ^ 63
 near_mag (pos n) h = omega arith

@@ -165,7 +165,7 @@ not_earlier m bytes j k l r s =
     let phases = leads_one m (take j r.lines) at_status taken.phase r.phase front r.leads in
     r.refused taken.line taken.next (sym (get_taken r.lines k j l) ∙ taken.here) (subst (λ (p : Phase). Takes m p taken.line taken.next) phases taken.takes)
 
-order : (j k : ℕ) → (j < k) ⊎ ((j ≡ k) ⊎ (k < j))
+pub order : (j k : ℕ) → (j < k) ⊎ ((j ≡ k) ⊎ (k < j))
 order zero zero = inr (inl refl)
 order zero (suc k) = inl (omega arith)
 order (suc j) zero = inr (inr (omega arith))

@@ -17,7 +17,7 @@ use Rattle.cps_print.specs.declared.response.Response.{Response}
 use Rattle.cps_cert.specs.declared.claim.Claim.{Claim}
 use Rattle.cps_cert.specs.declared.claim.Claim.TheVariants as claims
 use Rattle.cps_cert.specs.Claims.{IsTrueClaim}
-use Rattle.cps_cert.specs.Accepting.{empty_derivation}
+use Rattle.cps_log.specs.Deriving.{empty_derivation}
 use Rattle.cps_cert.specs.Lines.{Phase, at_status, in_solution, at_lines, in_core, in_log, finished, value_line, assumption_line, objective_lines, IsBehindValues, Leads}
 use Rattle.cps_cert.specs.Verdicts.{fed_line, Accepts, BeginsWithTrueResponse}
 use Rattle.cps_cert.proofs.Logs.{log_true}
@@ -131,16 +131,16 @@ objective_text None a = refl
 objective_text (Some o) a = ap (λ (bs : List ℕ). printed.value_lines o (Some a) ++ bs) (append-nil (printed.bound_lines o (At (objective_sum (Some o) a))))
 
 -- the lines of a solution and of what is shown of it
-shown_text : (o : Option Objective) (a : List ℤ) (rest : List (List ℕ)) → flat_map fed_line (map value_line a ++ (objective_lines o (objective_sum o a) ++ rest)) ≡ (flat_map printed.solution_line a ++ printed.objective_lines o (Some a) (At (objective_sum o a))) ++ flat_map fed_line rest
+pub shown_text : (o : Option Objective) (a : List ℤ) (rest : List (List ℕ)) → flat_map fed_line (map value_line a ++ (objective_lines o (objective_sum o a) ++ rest)) ≡ (flat_map printed.solution_line a ++ printed.objective_lines o (Some a) (At (objective_sum o a))) ++ flat_map fed_line rest
 shown_text o a rest =
     flat_map-append fed_line (map value_line a) (objective_lines o (objective_sum o a) ++ rest)
     ∙ rw (flat_map-append fed_line (objective_lines o (objective_sum o a)) rest, value_text a, objective_text o a) (sym (append_assoc (flat_map printed.solution_line a) (printed.objective_lines o (Some a) (At (objective_sum o a))) (flat_map fed_line rest)))
 
-listed_text : (literals : List ℤ) (rest : List (List ℕ)) → flat_map fed_line (map assumption_line literals ++ rest) ≡ flat_map printed.core_line literals ++ flat_map fed_line rest
+pub listed_text : (literals : List ℤ) (rest : List (List ℕ)) → flat_map fed_line (map assumption_line literals ++ rest) ≡ flat_map printed.core_line literals ++ flat_map fed_line rest
 listed_text literals rest = rw (flat_map-append fed_line (map assumption_line literals) rest, core_text literals) refl
 
 -- of an objective nothing is said without a solution
-no_lines : (o : Option Objective) → printed.objective_lines o None Infinite ≡ []
+pub no_lines : (o : Option Objective) → printed.objective_lines o None Infinite ≡ []
 no_lines None = refl
 no_lines (Some o) = refl
 

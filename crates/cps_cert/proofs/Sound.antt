@@ -32,7 +32,8 @@ use Rattle.cps_log.specs.Propagation.{LeadsToConflict}
 use Rattle.cps_cert.specs.declared.claim.Claim.{Claim}
 use Rattle.cps_cert.specs.declared.claim.Claim.TheVariants as claims
 use Rattle.cps_cert.specs.Claims.{Contradicts}
-use Rattle.cps_cert.specs.Accepting.{Derivation, clause_box, IsJustified, is_at_issue, IsObjectiveRefuted, AreEndsApart, literal_clause, MayAssume, IsReasonOf, IsEndsOf, IsAccepted, with_sum, with_clause, after_item}
+use Rattle.cps_log.specs.Deriving.{Derivation, literal_clause, with_sum, with_clause, after_item}
+use Rattle.cps_cert.specs.Accepting.{clause_box, IsJustified, is_at_issue, IsObjectiveRefuted, AreEndsApart, MayAssume, IsReasonOf, IsEndsOf, IsAccepted}
 use Rattle.cps_cert.proofs.Boxes.{lie_in_box, none_in_empty}
 use Rattle.cps_cert.proofs.SubjectDomains.{extended_within, variable_at, value_kept, sum_value_at}
 use Rattle.cps_cert.proofs.Literals.{Lies}

@@ -15,13 +15,14 @@ use Rattle.cps_model.proofs.Tests.{and_true, both_true}
 use Rattle.cps_domain.specs.Window.{Window}
 use Rattle.cps_log.specs.Boxes.{Box, Spans, HasEnds}
 use Rattle.cps_log.specs.Subjects.{IsDefinable, sum_domain}
-use Rattle.cps_cert.specs.Domains.{box_in, HasReach, IsSmallSum, HasDomainsOf}
+use Rattle.cps_rup.specs.Domains.{box_in}
+use Rattle.cps_cert.specs.Domains.{HasReach, IsSmallSum, HasDomainsOf}
 use Rattle.cps_cert.proofs.SumEnds.{IsBelowDomains, reach_left, end_bounded}
 use Rattle.cps_model.proofs.Sums.{unsigned_abs-add}
 use Rattle.cps_cert.proofs.Roots.{IsWhole, root_ends}
 
 -- what a variable below names one of more
-names_more : (n m : ℕ) (rs : List ℤ) → n ≤ m → list_all (names n) rs ≡ true → list_all (names m) rs ≡ true
+pub names_more : (n m : ℕ) (rs : List ℤ) → n ≤ m → list_all (names n) rs ≡ true → list_all (names m) rs ≡ true
 names_more n m [] l h = refl
 names_more n m (r ∷ rs) l h =
     let both = and_true (names n r) (list_all (names n) rs) h in
@@ -35,7 +36,7 @@ whole_of domains vs h = record { same = λ i l. fun_ext (h.same i l) }
 below_of : (domains : List Window) (vs : List Variable) → HasDomainsOf domains vs → IsBelowDomains vs (box_in domains)
 below_of domains vs h = record { at = λ s x l e. sym (h.same s l x) ∙ e }
 
-nat_same : (m n : ℕ) → (m == n) ≡ true → m ≡ n
+pub nat_same : (m n : ℕ) → (m == n) ≡ true → m ≡ n
 nat_same m n h = grind arith
 
 reach_is : (vs : List Variable) (e : LinearExpr) → IsDefinable vs e → reach_of vs e.vars e.coeffs + unsigned_abs e.offset < 2 ^ 62

@@ -19,7 +19,8 @@ use Rattle.cps_model.proofs.Inside.{between_of, shape_of, unsigned_abs-between}
 use Rattle.cps_model.proofs.Divisors.{times_neg}
 use Rattle.cps_validate.specs.Signs.{with_sign_of}
 use Rattle.cps_log.specs.Boxes.{Box, Spans, HasEnds}
-use Rattle.cps_cert.specs.Domains.{no_values, box_in, HasReach}
+use Rattle.cps_rup.specs.Domains.{no_values, box_in}
+use Rattle.cps_cert.specs.Domains.{HasReach}
 
 -- what is left to a subject is what its domain has
 pub box_is : (domains : List Window) (s i : ℕ) (d : Window) → s < length domains → i ≡ s → d ≡ get_or domains i d → contains d ≡ box_in domains s

@@ -8,7 +8,8 @@ use Rattle.std.proofs.lemmas.List.Elements.{All-head, All-tail, All-push}
 use Rattle.cps_model.specs.declared.model.LinearExpr.{LinearExpr}
 use Rattle.cps_log.specs.Subjects.{IsNear}
 use Rattle.cps_log.specs.Writing.{behind_blank, terms_text, sum_text}
-use Rattle.cps_cert.specs.Words.{is_no_blank, IsNextWord, BeginsWith, FitsVariable, FitTerms, FitsSum}
+use Rattle.cps_log.specs.Fitting.{FitsVariable, FitTerms, FitsSum}
+use Rattle.cps_cert.specs.Words.{is_no_blank, IsNextWord, BeginsWith}
 use Rattle.cps_cert.proofs.Numbers.{variable_near}
 use Rattle.cps_cert.proofs.Clauses.{SameCut, next_written, signed_no_blank}
 

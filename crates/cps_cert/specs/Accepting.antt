@@ -1,33 +1,26 @@
 -- When an item of a log is accepted: its clause is one that each assignment makes true that would show the claim wrong.
-use Rattle.std.specs.Prelude.{◌≡◌, ℕ, ◌⊎◌, Bool, true, false, ◌&&◌, ℤ, pos, negsuc, ◌+ℤ◌, ◌<ℤ◌, int_lt, List, [], ◌∷◌, ◌++◌, Contains, Option, Some, None, IsSomeAnd, slice_get, slice_index_or}
+use Rattle.std.specs.Prelude.{◌≡◌, ℕ, ◌⊎◌, Bool, true, false, ◌&&◌, ℤ, pos, ◌+ℤ◌, ◌<ℤ◌, int_lt, List, Contains, Option, Some, None, IsSomeAnd, slice_get}
 use Rattle.cps_model.specs.declared.model.CpModel.{CpModel}
 use Rattle.cps_model.specs.declared.model.LinearExpr.{LinearExpr}
 use Rattle.cps_model.specs.declared.model.Objective.{Objective}
 use Rattle.cps_model.specs.declared.constraint.Constraint.{Constraint}
 use Rattle.cps_model.specs.Within.{is_allowed}
 use Rattle.cps_literal.specs.declared.atom.Atom.{Atom}
-use Rattle.cps_literal.specs.declared.atom.Op.TheVariants.{Le, Ge}
 use Rattle.cps_log.specs.declared.item.LogItem.{LogItem}
 use Rattle.cps_log.specs.declared.item.LogItem.TheVariants as items
 use Rattle.cps_log.specs.Subjects.{subject_domains, subject_count, sum_at, IsDefinable, IsClauseOver}
 use Rattle.cps_log.specs.Boxes.{Box, box_of, IsEmpty, Spans, HasEnds, IsSumOutside}
-use Rattle.cps_cert.specs.Refuting.{Refutes}
 use Rattle.cps_log.specs.Propagation.{LeadsToConflict}
+use Rattle.cps_log.specs.Deriving.{Derivation}
+use Rattle.cps_cert.specs.Refuting.{Refutes}
 use Rattle.cps_cert.specs.declared.claim.Claim.{Claim}
 use Rattle.cps_cert.specs.declared.claim.Claim.TheVariants as claims
-
--- the sums and the clauses of a log so far
-pub record Derivation : Type 0 where
-  pub sums : List LinearExpr
-  pub clauses : List (List Atom)
-
-abbrev pub empty_derivation : Derivation
-empty_derivation = record { sums = []; clauses = [] }
 
 abbrev pub clause_box : CpModel → Derivation → List Atom → Box
 clause_box m g clause = box_of (subject_domains m.variables g.sums) clause
 
--- a clause over the subjects so far whose box is empty, or is refuted
+-- A clause over the subjects so far whose box is empty, or is refuted. Whatever a line names must exist where the box
+-- is empty too: a constraint, and a sum, which no variable is.
 pub record IsJustified (m : CpModel) (g : Derivation) (clause : List Atom) (Refuted : Type 0) : Type 0 where
   pub over : IsClauseOver (subject_count m.variables g.sums) clause
   pub shown : IsEmpty (subject_count m.variables g.sums) (clause_box m g clause) ⊎ Refuted
@@ -39,7 +32,8 @@ abbrev pub is_at_issue : Claim → ℤ → Bool
 is_at_issue (claims.Optimal v) x = int_lt x v
 is_at_issue (claims.Infeasible literals) x = true
 
--- no objective between its ends over the box is one that the model admits and the claim leaves
+-- No objective between its ends over the box is one that the model admits and the claim leaves. Without an objective
+-- the value is 0, and no domain limits it.
 abbrev pub IsObjectiveRefuted : Option Objective → Claim → Box → Type 0
 IsObjectiveRefuted None claim box = is_at_issue claim (pos 0) ≡ false
 IsObjectiveRefuted (Some o) claim box =
@@ -58,11 +52,6 @@ pub record AreEndsApart (box : Box) (subject : ℕ) (e : LinearExpr) : Type 0 wh
   pub apart : ((high +ℤ e.offset) <ℤ least) ⊎ (greatest <ℤ (low +ℤ e.offset))
 
 -- ---- by an assumption
-
--- the clause that says that a literal is true
-abbrev pub literal_clause : ℤ → List Atom
-literal_clause (pos i) = record { subject = i; op = Ge; value = pos 1 } ∷ []
-literal_clause (negsuc i) = record { subject = i; op = Le; value = pos 0 } ∷ []
 
 -- a claim of infeasibility rests on the literals that it lists alone
 abbrev pub MayAssume : Claim → ℤ → Type 0
@@ -88,30 +77,3 @@ IsAccepted m claim g (items.Ends subject clause) =
 IsAccepted m claim g (items.Assumed number) = IsSomeAnd (slice_get m.assumptions number) (MayAssume claim)
 IsAccepted m claim g (items.Learnt clause) =
     IsJustified m g clause (LeadsToConflict g.clauses (clause_box m g clause))
-
--- ---- what an item adds
-
-abbrev pub with_sum : Derivation → LinearExpr → Derivation
-with_sum g e = record { sums = g.sums ++ e ∷ []; clauses = g.clauses }
-
-abbrev pub with_clause : Derivation → List Atom → Derivation
-with_clause g clause = record { sums = g.sums; clauses = g.clauses ++ clause ∷ [] }
-
-abbrev pub after_item : CpModel → Derivation → LogItem → Derivation
-after_item m g (items.Sum e) = with_sum g e
-after_item m g (items.Reason constraint clause) = with_clause g clause
-after_item m g (items.Objective clause) = with_clause g clause
-after_item m g (items.Ends subject clause) = with_clause g clause
-after_item m g (items.Assumed number) =
-    with_clause g (literal_clause (slice_index_or m.assumptions number (pos 0)))
-after_item m g (items.Learnt clause) = with_clause g clause
-
--- the empty clause, which closes a log
-abbrev pub is_closing : LogItem → Bool
-is_closing (items.Learnt []) = true
-is_closing (items.Learnt (t ∷ ts)) = false
-is_closing (items.Sum e) = false
-is_closing (items.Reason constraint clause) = false
-is_closing (items.Objective clause) = false
-is_closing (items.Ends subject clause) = false
-is_closing (items.Assumed number) = false

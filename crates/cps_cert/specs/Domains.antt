@@ -1,88 +1,22 @@
--- What is left to subjects as the checker keeps it: a domain each.
-use Rattle.std.specs.Prelude.{◌≡◌, ℕ, ◌-◌, ◌<◌, ◌≤◌, Bool, true, false, not, ◌&&◌, ℤ, ◌*ℤ◌, unsigned_abs, List, [], ◌∷◌, length, map, Any, slice_index_or, ◌^◌, IsTrue, Option, Some, None}
+-- What the checker knows of the domains of subjects, and of sums over them.
+use Rattle.std.specs.Prelude.{◌≡◌, ℕ, ◌-◌, ◌≤◌, ◌<◌, true, ℤ, ◌*ℤ◌, unsigned_abs, List, [], ◌∷◌, length, map, slice_index_or, ◌^◌, IsTrue, Option, Some, None}
 use Rattle.std.specs.List.{list_all}
 use Rattle.cps_model.specs.declared.model.Objective.{Objective}
-use Rattle.cps_model.specs.Rules.{names}
 use Rattle.cps_model.specs.declared.model.Variable.{Variable}
-use Rattle.cps_log.specs.Subjects.{IsNear, variable_domain}
-use Rattle.cps_cert.specs.declared.claim.Claim.{Claim}
-use Rattle.cps_cert.specs.declared.claim.Claim.TheVariants as claims
+use Rattle.cps_model.specs.Rules.{names}
 use Rattle.cps_model.specs.Values.{variable_of}
 use Rattle.cps_model.specs.Within.{is_within}
-use Rattle.cps_domain.specs.Window.{Window, contains}
-use Rattle.cps_literal.specs.declared.atom.Atom.{Atom}
-use Rattle.cps_literal.specs.Truth.{meets}
-use Rattle.cps_log.specs.Boxes.{Box, is_made_true, IsFalseIn}
-use Rattle.cps_log.specs.Propagation.{IsUnit, IsFalseClause}
-use Rattle.cps_cert.specs.declared.propagation.ClauseState.{ClauseState}
-use Rattle.cps_cert.specs.declared.propagation.ClauseState.TheVariants as states
-use Rattle.cps_cert.specs.declared.propagation.Found.{Found}
-use Rattle.cps_cert.specs.declared.propagation.Found.TheVariants as founds
+use Rattle.cps_domain.specs.Window.{Window}
+use Rattle.cps_log.specs.Boxes.{Box}
+use Rattle.cps_log.specs.Subjects.{IsNear, variable_domain}
+use Rattle.cps_rup.specs.Domains.{box_in}
+use Rattle.cps_cert.specs.declared.claim.Claim.{Claim}
+use Rattle.cps_cert.specs.declared.claim.Claim.TheVariants as claims
 
--- a domain without values
-abbrev pub no_values : Window
-no_values = record { list = []; from = 0; to = 0 }
-
--- the box that domains are
-abbrev pub box_in : List Window → Box
-box_in domains s = contains (slice_index_or domains s no_values)
-
--- domains have the numbers that lists of bounds have
+-- domains have the numbers that lists of bounds have, one for each
 pub record AreDomains (domains : List Window) (lists : List (List ℤ)) : Type 0 where
+  pub many : length domains ≡ length lists
   pub same : (s : ℕ) (x : ℤ) → box_in domains s x ≡ is_within (slice_index_or lists s []) x
-
--- what a box leaves where each atom of a clause is false
-abbrev pub denied : Box → List Atom → Box
-denied box clause s x = box s x && not (is_made_true clause s x)
-
-abbrev pub IsTrueIn : Box → Atom → Type 0
-IsTrueIn box t = (x : ℤ) → box t.subject x ≡ true → meets t.op t.value x ≡ true
-
--- an atom is neither false nor true, whatever is left
-pub record IsOpenIn (box : Box) (t : Atom) : Type 0 where
-  pub not_false : IsFalseIn box t → ⊥
-  pub not_true : IsTrueIn box t → ⊥
-
--- a clause forces an atom that is open
-pub record ForcesOpen (box : Box) (clause : List Atom) (t : Atom) : Type 0 where
-  pub unit : IsUnit box t clause
-  pub is_open : IsOpenIn box t
-
--- a clause is not false, and what it forces is true already
-pub record IsIdle (box : Box) (clause : List Atom) : Type 0 where
-  pub not_false : IsFalseClause box clause → ⊥
-  pub forced : (t : Atom) → IsUnit box t clause → IsTrueIn box t
-
--- how a clause stands in a box
-abbrev pub HasState : Box → List Atom → ClauseState → Type 0
-HasState box clause states.False = IsFalseClause box clause
-HasState box clause (states.Unit t) = ForcesOpen box clause t
-HasState box clause states.Idle = IsIdle box clause
-
--- some atom of the clause is true, whatever is left
-abbrev pub HasTrueAtom : Box → List Atom → Type 0
-HasTrueAtom box clause = Any (IsTrueIn box) clause
-
--- a clause that is not done forces an atom that is open
-pub record IsForcedAt (box : Box) (clauses : List (List Atom)) (done : List Bool) (place : ℕ) (t : Atom) : Type 0 where
-  pub within : place < length clauses
-  pub not_done : slice_index_or done place true ≡ false
-  pub forces : (d : List Atom) → ForcesOpen box (slice_index_or clauses place d) t
-
--- each clause that is not done is idle
-abbrev pub AreIdle : Box → List (List Atom) → List Bool → Type 0
-AreIdle box clauses done = (k : ℕ) (d : List Atom) → k < length clauses → slice_index_or done k true ≡ false
-    → IsIdle box (slice_index_or clauses k d)
-
--- what a look at the clauses found that are not done
-abbrev pub IsFound : Box → List (List Atom) → List Bool → Found → Type 0
-IsFound box clauses done founds.Conflict = Any (IsFalseClause box) clauses
-IsFound box clauses done (founds.Forced place t) = IsForcedAt box clauses done place t
-IsFound box clauses done founds.Nothing = AreIdle box clauses done
-
--- each of the first subjects is left a value
-pub record HasValues (count : ℕ) (box : Box) : Type 0 where
-  pub some : (s : ℕ) → s < count → (x : ℤ) × (box s x ≡ true)
 
 -- of a sum the products of coefficients and values that are left add up to at most so much in magnitude
 abbrev pub HasReach : Box → List ℤ → List ℤ → ℕ → Type 0

@@ -3,8 +3,13 @@ pub mod Intervals
 pub mod Words
 pub mod Counting
 pub mod Refuting
+pub mod Trying
 pub mod Domains
 pub mod Claims
 pub mod Accepting
 pub mod Lines
+pub mod ResponsePhases
 pub mod Verdicts
+pub mod TakenResponses
+pub mod Progress
+pub mod Ledgers

@@ -7,10 +7,11 @@ use Rattle.cps_model.specs.Solutions.{shown_value, objective_value, IsSolution}
 use Rattle.cps_log.specs.declared.item.LogItem.{LogItem}
 use Rattle.cps_log.specs.Writing.{item_line}
 use Rattle.cps_log.specs.Subjects.{IsNear}
-use Rattle.cps_cert.specs.Words.{FitsItem}
+use Rattle.cps_log.specs.Fitting.{FitsItem}
 use Rattle.cps_cert.specs.declared.claim.Claim.{Claim}
 use Rattle.cps_cert.specs.declared.claim.Claim.TheVariants as claims
-use Rattle.cps_cert.specs.Accepting.{Derivation, empty_derivation, IsAccepted, after_item, is_closing}
+use Rattle.cps_log.specs.Deriving.{Derivation, empty_derivation, after_item, is_closing}
+use Rattle.cps_cert.specs.Accepting.{IsAccepted}
 
 -- what stands next
 pub data Phase : Type 0 where
@@ -24,7 +25,8 @@ pub data Phase : Type 0 where
   in_core : List ℤ → Phase
   -- an item
   in_log : Claim → Derivation → Phase
-  -- the line behind the empty clause
+  -- The line behind an empty clause that was learnt. Where a further item stands, that item's line is refused and not
+  -- the one of the empty clause: what a line is worth does not hang on those behind it.
   at_end : Phase
   -- nothing more
   finished : Phase
@@ -61,14 +63,14 @@ IsBehindValues m a next =
 abbrev pub phase_after : CpModel → Claim → Derivation → LogItem → Phase
 phase_after m claim g item = if is_closing item then at_end else in_log claim (after_item m g item)
 
--- a value of a solution
+-- A value of a solution. One that is too far from 0 is refused at its own line, not at the solution's last.
 pub record IsValue (m : CpModel) (a : List ℤ) (line : List ℕ) (next : Phase) : Type 0 where
   pub value : ℤ
   pub near : IsNear value
   pub is : line ≡ value_line value
   pub behind : IsBehindValues m (a ++ value ∷ []) next
 
--- an assumption of the model
+-- an assumption of the model; listed ones may repeat, and stand in any order
 pub record IsAssumption (m : CpModel) (literals : List ℤ) (line : List ℕ) (next : Phase) : Type 0 where
   pub literal : ℤ
   pub near : IsNear literal

@@ -1,5 +1,5 @@
 //! The domains of a model's variables.
-ghost use Rattle.std.specs.Prelude.{◌≡◌, ℤ, map, All, IfOk, None};
+ghost use Rattle.std.specs.Prelude.{◌≡◌, ℤ, [], map, All, IfOk, None};
 ghost use Rattle.cps_model.specs.Within.{is_within};
 ghost use Rattle.cps_model.specs.Validity.{variable_fault};
 ghost use Rattle.cps_domain.specs.Window.{contains};
@@ -8,6 +8,7 @@ ghost use Rattle.cps_cert.specs.Domains.{AreDomains};
 
 use cps_domain::Domain;
 use cps_model::Variable;
+use cps_rup::{RupChecker, TrailedDomains};
 use std::alloc::{AllocError, Global};
 
 /// The domain of a variable's values.
@@ -19,14 +20,31 @@ fn domain_of(alloc: Global, variable: &Variable) -> Result<Domain, AllocError>
     Ok(domain)
 }
 
-/// A domain for each variable.
-pub(crate) fn domains_of(alloc: Global, variables: &[Variable]) -> Result<Vec<Domain>, AllocError>
+/// The variables' domains, of which boxes are made.
+pub(crate) fn domains_of(
+    alloc: Global,
+    variables: &[Variable],
+) -> Result<TrailedDomains, AllocError>
     requires { All (λ v. variable_fault v ≡ None) variables.now }
-    ensures { IfOk result (λ domains. AreDomains domains.items (map variable_domain variables.now)) }
+    ensures first { IfOk result (λ domains. AreDomains domains.first (map variable_domain variables.now)) }
+    ensures now { IfOk result (λ domains. domains.now ≡ domains.first) }
 {
-    let mut domains = Vec::with_capacity(alloc, variables.len())?;
+    let mut domains = TrailedDomains::new(alloc);
     for variable in variables {
         domains.push(domain_of(alloc, variable)?)?;
     }
     Ok(domains)
+}
+
+/// A propagation over the variables, without a clause.
+pub(crate) fn checker_of(alloc: Global, variables: &[Variable]) -> Result<RupChecker, AllocError>
+    requires { All (λ v. variable_fault v ≡ None) variables.now }
+    ensures domains { IfOk result (λ checker. AreDomains checker.domains (map variable_domain variables.now)) }
+    ensures clauses { IfOk result (λ checker. checker.clauses ≡ []) }
+{
+    let mut checker = RupChecker::new(alloc);
+    for variable in variables {
+        checker.add_subject(domain_of(alloc, variable)?)?;
+    }
+    Ok(checker)
 }

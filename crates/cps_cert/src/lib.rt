@@ -8,24 +8,33 @@
 //! generation beside them.
 #![tactic(auto)]
 
+mod assignments;
 mod assumed;
+mod atoms;
+mod checking;
 mod claim;
+mod cursor;
 mod definable;
 mod domains;
+mod fields;
 mod fixed;
-mod follows;
 mod intervals;
 pub mod laws;
-mod learnt;
-mod narrowing;
+mod ledger;
 mod number;
 mod objective;
 mod part;
-mod propagation;
 mod reader;
 mod refuting;
+mod response;
+mod shown;
 mod sums;
+mod trying;
+mod values;
+mod verdict;
 mod words;
 
+pub use checking::check;
 pub use claim::Claim;
-pub use part::model_part;
+pub use part::{SplitInput, model_part, split};
+pub use verdict::Verdict;

@@ -2,7 +2,7 @@
 ghost use Rattle.std.specs.Prelude.{◌≡◌, ◌≢◌, ◌↔◌, ◌<◌, ◌≤◌, ◌^◌, ℕ, ℤ, IsTrue, MatchOption};
 ghost use Rattle.std.specs.Fmt.{decimal, signed_decimal};
 ghost use Rattle.cps_log.specs.Subjects.{IsNear};
-ghost use Rattle.cps_cert.specs.Words.{FitsVariable};
+ghost use Rattle.cps_log.specs.Fitting.{FitsVariable};
 
 use itoa::{Buffer, Integer};
 use std::str;
@@ -11,7 +11,7 @@ use std::str;
 pub(crate) const FARTHEST: u64 = 1 << 62;
 
 /// Whether a word is what is written of a number.
-fn is_written<N: Integer>(word: &[u8], number: N) -> bool
+pub(crate) fn is_written<N: Integer>(word: &[u8], number: N) -> bool
     ensures { IsTrue result ↔ (word.now ≡ N.text number) }
 {
     let mut buffer = Buffer::new();

@@ -3,7 +3,8 @@ ghost use Rattle.std.specs.Prelude.{◌≡◌, ◌↔◌, ◌&&◌, ◌≤ℤ◌
 ghost use Rattle.cps_model.specs.Within.{is_allowed};
 ghost use Rattle.cps_log.specs.Boxes.{NoneBetween, IsSumOutside};
 ghost use Rattle.cps_cert.specs.Accepting.{is_at_issue, IsObjectiveRefuted};
-ghost use Rattle.cps_cert.specs.Domains.{box_in, IsSmallSum, IsSmallObjective, IsNearClaim};
+ghost use Rattle.cps_rup.specs.Domains.{box_in};
+ghost use Rattle.cps_cert.specs.Domains.{IsSmallSum, IsSmallObjective, IsNearClaim};
 
 use crate::claim::Claim;
 use crate::intervals::none_between;

@@ -5,7 +5,8 @@ ghost use Rattle.cps_model.specs.declared.model.LinearExpr.{LinearExpr as SumOf}
 ghost use Rattle.cps_literal.specs.declared.atom.Atom.{Atom as AtomOf};
 ghost use Rattle.cps_log.specs.Subjects.{IsNear};
 ghost use Rattle.cps_log.specs.Writing.{behind_blank, clause_text, terms_text, sum_text, item_line};
-ghost use Rattle.cps_cert.specs.Words.{BeginsWith, FitsVariable, FitsClause, FitTerms, FitsSum, FitsItem};
+ghost use Rattle.cps_log.specs.Fitting.{FitsVariable, FitsClause, FitTerms, FitsSum, FitsItem};
+ghost use Rattle.cps_cert.specs.Words.{BeginsWith};
 ghost use Rattle.cps_log.specs.declared.item.LogItem.{LogItem as ItemOf};
 
 use crate::number::{natural_of, number_of, variable_of};

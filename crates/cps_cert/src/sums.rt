@@ -4,7 +4,8 @@ ghost use Rattle.cps_domain.specs.Window.{contains};
 ghost use Rattle.cps_model.specs.Values.{variable_of};
 ghost use Rattle.cps_validate.specs.Signs.{with_sign_of};
 ghost use Rattle.cps_log.specs.Boxes.{Spans, HasEnds};
-ghost use Rattle.cps_cert.specs.Domains.{box_in, IsSmallSum};
+ghost use Rattle.cps_rup.specs.Domains.{box_in};
+ghost use Rattle.cps_cert.specs.Domains.{IsSmallSum};
 
 use cps_domain::Domain;
 use cps_model::variable_of;

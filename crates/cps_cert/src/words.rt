@@ -5,7 +5,8 @@ ghost use Rattle.cps_literal.specs.declared.atom.Op.{Op as OpOf};
 ghost use Rattle.cps_literal.specs.declared.atom.Atom.{Atom as AtomOf};
 ghost use Rattle.cps_log.specs.Subjects.{IsNear};
 ghost use Rattle.cps_log.specs.Writing.{op_text, atom_word, clause_text};
-ghost use Rattle.cps_cert.specs.Words.{is_no_blank, IsRun, IsNextWord, FitsAtom, FitsClause};
+ghost use Rattle.cps_log.specs.Fitting.{FitsAtom, FitsClause};
+ghost use Rattle.cps_cert.specs.Words.{is_no_blank, IsRun, IsNextWord};
 
 use crate::number::{natural_of, number_of};
 use cps_literal::{Atom, Clause, Op};

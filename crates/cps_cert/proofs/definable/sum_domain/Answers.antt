@@ -3,7 +3,7 @@ use Rattle.std.proofs.Common.{List, ℤ, ◌∙◌, ap, arith, FitsSigned, w64, 
 use Rattle.std.proofs.lemmas.Int.{to_z-of_z}
 use Rattle.cps_model.specs.Within.{is_within}
 use Rattle.cps_log.specs.Boxes.{HasEnds}
-use Rattle.cps_cert.specs.Domains.{box_in}
+use Rattle.cps_rup.specs.Domains.{box_in}
 use Rattle.cps_cert.proofs.Numbers.{near_fits}
 use Rattle.cps_cert.proofs.Spanned.{small_sum, bounds_of}
 use Rattle.cps_cert.proofs.definable.sum_domain.Goals as goal

@@ -2,7 +2,7 @@
 use Rattle.std.proofs.Common.{get_or, pos, arith, rules, FitsSigned, w32}
 use Rattle.std.proofs.lemmas.Int.{to_z-of_z}
 use Rattle.cps_log.specs.Boxes.{IsFixedFalse}
-use Rattle.cps_cert.specs.Domains.{box_in}
+use Rattle.cps_rup.specs.Domains.{box_in}
 use Rattle.cps_cert.proofs.Pairs.{none_more, not_true}
 use Rattle.cps_cert.proofs.fixed.any_fixed_false.Goals as goal
 

@@ -1,7 +1,7 @@
 -- None of the literals so far is fixed to false.
 use Rattle.std.proofs.Common.{ℕ, ℤ, ◌<◌, get_or}
 use Rattle.cps_log.specs.Boxes.{IsFixedFalse}
-use Rattle.cps_cert.specs.Domains.{box_in}
+use Rattle.cps_rup.specs.Domains.{box_in}
 use Rattle.cps_cert.proofs.fixed.any_fixed_false.Given as goal
 
 abbrev pub invariant-loop-literal : goal.invariant-loop-literal

@@ -5,7 +5,7 @@ use Rattle.std.proofs.lemmas.Int.{to_z-of_z}
 use Rattle.std.proofs.lemmas.List.{drop_more, drop_all}
 use Rattle.cps_model.specs.Values.{variable_of}
 use Rattle.cps_validate.proofs.Passing.{named_within}
-use Rattle.cps_cert.specs.Domains.{box_in}
+use Rattle.cps_rup.specs.Domains.{box_in}
 use Rattle.cps_cert.proofs.Pairs.{none_counted, counted_true, counted_false, not_counted, even_if, even_only, not_true, even_test, test_even}
 use Rattle.cps_cert.proofs.fixed.has_even_count.Goals as goal
 use Rattle.cps_cert.proofs.fixed.has_even_count.Goals.{then-is_fixed_true, else-is_fixed_true+else-not-is_fixed_false}

@@ -1,6 +1,6 @@
 -- So many of the literals so far are fixed to true, and the others to false.
 use Rattle.std.proofs.Common.{◌≤◌, drop}
-use Rattle.cps_cert.specs.Domains.{box_in}
+use Rattle.cps_rup.specs.Domains.{box_in}
 use Rattle.cps_cert.proofs.Pairs.{IsCounted}
 use Rattle.cps_cert.proofs.fixed.has_even_count.Given as goal
 

@@ -3,7 +3,7 @@ use Rattle.std.proofs.Common.{◌+◌, get_or, drop, Bool, true, false, refl, su
 use Rattle.std.proofs.lemmas.Int.{to_z-of_z}
 use Rattle.std.proofs.lemmas.List.{drop_more, drop_all}
 use Rattle.cps_log.specs.Boxes.{IsFixedTrue}
-use Rattle.cps_cert.specs.Domains.{box_in}
+use Rattle.cps_rup.specs.Domains.{box_in}
 use Rattle.cps_cert.proofs.Pairs.{MoreNeeded, none_yet, passed, found_one, found_two, found_none, not_true}
 use Rattle.cps_cert.proofs.fixed.two_fixed_true.Goals as goal
 use Rattle.cps_cert.proofs.fixed.two_fixed_true.Goals.{then-is_fixed_true+else-found, else-is_fixed_true}

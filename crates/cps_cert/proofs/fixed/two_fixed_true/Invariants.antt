@@ -1,7 +1,7 @@
 -- What the literals that are left need, so that two of all are fixed to true.
 use Rattle.std.proofs.Common.{drop}
 use Rattle.cps_log.specs.Boxes.{IsFixedTrue}
-use Rattle.cps_cert.specs.Domains.{box_in}
+use Rattle.cps_rup.specs.Domains.{box_in}
 use Rattle.cps_cert.proofs.Pairs.{MoreNeeded}
 use Rattle.cps_cert.proofs.fixed.two_fixed_true.Given as goal
 

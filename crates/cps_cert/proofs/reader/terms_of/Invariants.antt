@@ -1,7 +1,7 @@
 -- The text is that of the terms so far and the rest; terms whose text it is begin with these.
 use Rattle.std.proofs.Common.{◌≡◌, ℤ, List, ◌++◌, length}
 use Rattle.cps_log.specs.Writing.{terms_text}
-use Rattle.cps_cert.specs.Words.{FitTerms}
+use Rattle.cps_log.specs.Fitting.{FitTerms}
 use Rattle.cps_cert.proofs.reader.terms_of.Given as goal
 
 abbrev pub invariant-loop-rest : goal.invariant-loop-rest

@@ -3,7 +3,7 @@ use Rattle.std.proofs.Common.{inl, inr, refl, subst, arith, Bool, ℤ, FitsSigne
 use Rattle.std.proofs.lemmas.Int.{to_z-of_z}
 use Rattle.cps_domain.specs.Window.{contains}
 use Rattle.cps_log.specs.Boxes.{HasEnds, Spans}
-use Rattle.cps_cert.specs.Domains.{box_in}
+use Rattle.cps_rup.specs.Domains.{box_in}
 use Rattle.cps_cert.proofs.Numbers.{near_fits}
 use Rattle.cps_cert.proofs.SumEnds.{box_is}
 use Rattle.cps_cert.proofs.Pairs.{not_true}

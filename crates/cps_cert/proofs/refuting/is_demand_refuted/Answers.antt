@@ -1,5 +1,5 @@
 -- What the kind says of its sum and its literals.
-use Rattle.cps_cert.specs.Domains.{box_in}
+use Rattle.cps_rup.specs.Domains.{box_in}
 use Rattle.cps_cert.proofs.Demands.{linear_small, exactly_refuted}
 use Rattle.cps_cert.proofs.refuting.is_demand_refuted.Goals as goal
 

@@ -3,7 +3,7 @@ use Rattle.std.proofs.Common.{length, get_or, arith, rules, pos, refl, FitsSigne
 use Rattle.std.proofs.lemmas.Int.{to_z-of_z}
 use Rattle.cps_model.specs.Values.{variable_of}
 use Rattle.cps_validate.proofs.Passing.{named_within}
-use Rattle.cps_cert.specs.Domains.{box_in}
+use Rattle.cps_rup.specs.Domains.{box_in}
 use Rattle.cps_cert.proofs.SumEnds.{ends_with, ends_whole, term_of, turn_of}
 use Rattle.cps_cert.proofs.sums.sum_ends.Goals as goal
 

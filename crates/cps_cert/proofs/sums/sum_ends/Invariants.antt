@@ -1,7 +1,8 @@
 -- The ends so far with those of the terms that are left are the ends of all, and the reach that is left bounds the rest.
 use Rattle.std.proofs.Common.{ℕ, ◌+◌, ◌<◌, ◌^◌, drop, unsigned_abs, ℤ, ◌+ℤ◌}
 use Rattle.cps_log.specs.Boxes.{HasEnds}
-use Rattle.cps_cert.specs.Domains.{box_in, HasReach}
+use Rattle.cps_rup.specs.Domains.{box_in}
+use Rattle.cps_cert.specs.Domains.{HasReach}
 use Rattle.cps_cert.proofs.sums.sum_ends.Given as goal
 
 abbrev pub invariant-loop-k : goal.invariant-loop-k

@@ -3,7 +3,7 @@ use Rattle.std.proofs.Common.{List, ◌≡◌, ◌++◌, length, sym, subst}
 use Rattle.std.proofs.lemmas.List.Elements.{All-push}
 use Rattle.cps_literal.specs.declared.atom.Atom.{Atom}
 use Rattle.cps_log.specs.Writing.{clause_text}
-use Rattle.cps_cert.specs.Words.{FitsAtom, FitsClause}
+use Rattle.cps_log.specs.Fitting.{FitsAtom, FitsClause}
 use Rattle.cps_cert.proofs.Clauses.{not_empty, no_word_left, no_atom_left, left_after, text_with}
 use Rattle.cps_cert.proofs.words.clause_of.Goals as goal
 

@@ -2,7 +2,7 @@
 use Rattle.std.proofs.Common.{◌≡◌, List, ◌++◌, length}
 use Rattle.cps_literal.specs.declared.atom.Atom.{Atom}
 use Rattle.cps_log.specs.Writing.{clause_text}
-use Rattle.cps_cert.specs.Words.{FitsClause}
+use Rattle.cps_log.specs.Fitting.{FitsClause}
 use Rattle.cps_cert.proofs.words.clause_of.Given as goal
 
 abbrev pub invariant-loop-rest : goal.invariant-loop-rest
