@@ -1,4 +1,4 @@
-"""Runs the program to each exit status from 0 to 4, and compares all that it writes. See scripts/exits."""
+"""Runs the program to each exit status but 5, and compares all that it writes. See scripts/exits."""
 
 import os
 import shutil
@@ -16,6 +16,7 @@ PARTS = ("cpsolve", "crates.txt", "HANDLES", "scripts")
 CLOSED = None
 INVALID = b"status: MODEL_INVALID\n"
 USAGE = b"usage: cpsolve solve|validate|print|gen|demo|check\n"
+RESPONSE = b"%response\nstatus: OPTIMAL\n%log\no\nl\n%end\n"
 DEMO = b"variables: 1\nconstraints: 1\nstatus: OPTIMAL\nobjective_value: 0\n"
 
 
@@ -36,6 +37,9 @@ CASES = [
     Case("a model without variables", "solve", 0, b"status: OPTIMAL\n"),
     Case("a text fault", "solve", 1, INVALID + b"# text fault at byte 21\n", b"variables { domain: 0"),
     Case("a broken rule", "validate", 1, INVALID + b"# invalid V1 at variable 0\n", b"variables { domain: [3, 2] }"),
+    Case("a response that its log verifies", "check", 0, b"verified\n", RESPONSE),
+    Case("a response without its log", "check", 6, b"not verified at line 1\n"),
+    Case("a fault of the model before a response", "check", 1, INVALID + b"# text fault at byte 0\n", b"x\n" + RESPONSE),
     Case("no command", "", 2, USAGE),
     Case("an option out of its range", "solve --workers 0", 2, USAGE),
     Case("a size that its family does not have", "gen tour 1 5", 2, USAGE),

@@ -18,7 +18,7 @@ from processes import CANNOT, begin, end, exit_on_signals
 CRATE = Path(__file__).resolve().parent.parent / "crates" / "cpsolve"
 INPUT, OUTPUT = 3, 1
 # The commands that read their input. The others leave it alone, and so they do not wait at a terminal.
-READING = ("solve", "validate", "print")
+READING = ("solve", "validate", "print", "check")
 # The most bytes of input that `rt try` hands on, which is also the most that the program takes.
 MOST_INPUT = 64 << 20
 PIECE = 1 << 20

@@ -11,7 +11,7 @@ use Rattle.clap.specs.declared.parser.matches.Found.{Found}
 use Rattle.clap.specs.declared.parser.matches.SubCommand.{SubCommand}
 use Rattle.clap.proofs.WalkLemmas.{first_value-rows, one_text-rows}
 use Rattle.cps_command.specs.declared.command.Command.{Command}
-use Rattle.cps_command.specs.declared.command.Command.TheVariants.{Solve, Validate, Print, Gen, Demo}
+use Rattle.cps_command.specs.declared.command.Command.TheVariants.{Solve, Validate, Print, Gen, Demo, Check}
 use Rattle.cps_gen.specs.declared.family.Family.{Family}
 use Rattle.cps_gen.specs.declared.family.Family.TheVariants.{Knapsack, Jobshop, Tour}
 use Rattle.cps_gen.specs.Families.{family_name}
@@ -114,6 +114,7 @@ name_of Validate = codes "validate"
 name_of Print = codes "print"
 name_of (Gen r) = codes "gen"
 name_of (Demo r) = codes "demo"
+name_of Check = codes "check"
 
 said_name : (says : Option (Text × List Row)) (c : Command) → Says says c → HasName (name_of c) says
 said_name says (Solve o) h = h.0
@@ -121,6 +122,7 @@ said_name says Validate h = h
 said_name says Print h = h
 said_name says (Gen r) h = h.0
 said_name says (Demo r) h = h.0
+said_name says Check h = h
 
 -- words that have one name say no command of another
 no_other : (says : Option (Text × List Row)) (name : List ℕ) (c : Command) → HasName name says → (slice_index name 0 ≡ slice_index (name_of c) 0 → ⊥) → Says says c → ⊥
@@ -205,26 +207,37 @@ one_said says Validate Validate h k = refl
 one_said says Print Print h k = refl
 one_said says (Gen r) (Gen t) h k = ap (λ (q : Recipe). Gen q) (same_recipe says r t h.1 k.1)
 one_said says (Demo r) (Demo t) h k = ap (λ (q : Recipe). Demo q) (same_recipe says r t h.1 k.1)
+one_said says Check Check h k = refl
 one_said says (Solve o) Validate h k = absurd (no_other says (name_of (Solve o)) Validate (said_name says (Solve o) h) (λ (e : 115 ≡ 118). omega arith) k)
 one_said says (Solve o) Print h k = absurd (no_other says (name_of (Solve o)) Print (said_name says (Solve o) h) (λ (e : 115 ≡ 112). omega arith) k)
 one_said says (Solve o) (Gen t) h k = absurd (no_other says (name_of (Solve o)) (Gen t) (said_name says (Solve o) h) (λ (e : 115 ≡ 103). omega arith) k)
 one_said says (Solve o) (Demo t) h k = absurd (no_other says (name_of (Solve o)) (Demo t) (said_name says (Solve o) h) (λ (e : 115 ≡ 100). omega arith) k)
+one_said says (Solve o) Check h k = absurd (no_other says (name_of (Solve o)) Check (said_name says (Solve o) h) (λ (e : 115 ≡ 99). omega arith) k)
 one_said says Validate (Solve p) h k = absurd (no_other says (name_of Validate) (Solve p) (said_name says Validate h) (λ (e : 118 ≡ 115). omega arith) k)
 one_said says Validate Print h k = absurd (no_other says (name_of Validate) Print (said_name says Validate h) (λ (e : 118 ≡ 112). omega arith) k)
 one_said says Validate (Gen t) h k = absurd (no_other says (name_of Validate) (Gen t) (said_name says Validate h) (λ (e : 118 ≡ 103). omega arith) k)
 one_said says Validate (Demo t) h k = absurd (no_other says (name_of Validate) (Demo t) (said_name says Validate h) (λ (e : 118 ≡ 100). omega arith) k)
+one_said says Validate Check h k = absurd (no_other says (name_of Validate) Check (said_name says Validate h) (λ (e : 118 ≡ 99). omega arith) k)
 one_said says Print (Solve p) h k = absurd (no_other says (name_of Print) (Solve p) (said_name says Print h) (λ (e : 112 ≡ 115). omega arith) k)
 one_said says Print Validate h k = absurd (no_other says (name_of Print) Validate (said_name says Print h) (λ (e : 112 ≡ 118). omega arith) k)
 one_said says Print (Gen t) h k = absurd (no_other says (name_of Print) (Gen t) (said_name says Print h) (λ (e : 112 ≡ 103). omega arith) k)
 one_said says Print (Demo t) h k = absurd (no_other says (name_of Print) (Demo t) (said_name says Print h) (λ (e : 112 ≡ 100). omega arith) k)
+one_said says Print Check h k = absurd (no_other says (name_of Print) Check (said_name says Print h) (λ (e : 112 ≡ 99). omega arith) k)
 one_said says (Gen r) (Solve p) h k = absurd (no_other says (name_of (Gen r)) (Solve p) (said_name says (Gen r) h) (λ (e : 103 ≡ 115). omega arith) k)
 one_said says (Gen r) Validate h k = absurd (no_other says (name_of (Gen r)) Validate (said_name says (Gen r) h) (λ (e : 103 ≡ 118). omega arith) k)
 one_said says (Gen r) Print h k = absurd (no_other says (name_of (Gen r)) Print (said_name says (Gen r) h) (λ (e : 103 ≡ 112). omega arith) k)
 one_said says (Gen r) (Demo t) h k = absurd (no_other says (name_of (Gen r)) (Demo t) (said_name says (Gen r) h) (λ (e : 103 ≡ 100). omega arith) k)
+one_said says (Gen r) Check h k = absurd (no_other says (name_of (Gen r)) Check (said_name says (Gen r) h) (λ (e : 103 ≡ 99). omega arith) k)
 one_said says (Demo r) (Solve p) h k = absurd (no_other says (name_of (Demo r)) (Solve p) (said_name says (Demo r) h) (λ (e : 100 ≡ 115). omega arith) k)
 one_said says (Demo r) Validate h k = absurd (no_other says (name_of (Demo r)) Validate (said_name says (Demo r) h) (λ (e : 100 ≡ 118). omega arith) k)
 one_said says (Demo r) Print h k = absurd (no_other says (name_of (Demo r)) Print (said_name says (Demo r) h) (λ (e : 100 ≡ 112). omega arith) k)
 one_said says (Demo r) (Gen t) h k = absurd (no_other says (name_of (Demo r)) (Gen t) (said_name says (Demo r) h) (λ (e : 100 ≡ 103). omega arith) k)
+one_said says (Demo r) Check h k = absurd (no_other says (name_of (Demo r)) Check (said_name says (Demo r) h) (λ (e : 100 ≡ 99). omega arith) k)
+one_said says Check (Solve p) h k = absurd (no_other says (name_of Check) (Solve p) (said_name says Check h) (λ (e : 99 ≡ 115). omega arith) k)
+one_said says Check Validate h k = absurd (no_other says (name_of Check) Validate (said_name says Check h) (λ (e : 99 ≡ 118). omega arith) k)
+one_said says Check Print h k = absurd (no_other says (name_of Check) Print (said_name says Check h) (λ (e : 99 ≡ 112). omega arith) k)
+one_said says Check (Gen t) h k = absurd (no_other says (name_of Check) (Gen t) (said_name says Check h) (λ (e : 99 ≡ 103). omega arith) k)
+one_said says Check (Demo t) h k = absurd (no_other says (name_of Check) (Demo t) (said_name says Check h) (λ (e : 99 ≡ 100). omega arith) k)
 
 -- words have one command
 pub one_command : (words : List (List ℕ)) → HasOneCommand words
@@ -241,6 +254,7 @@ no_options says found name rows none Validate said = no_other says (codes "solve
 no_options says found name rows none Print said = no_other says (codes "solve") Print name (λ (e : 115 ≡ 112). omega arith) said
 no_options says found name rows none (Gen r) said = no_other says (codes "solve") (Gen r) name (λ (e : 115 ≡ 103). omega arith) said
 no_options says found name rows none (Demo r) said = no_other says (codes "solve") (Demo r) name (λ (e : 115 ≡ 100). omega arith) said
+no_options says found name rows none Check said = no_other says (codes "solve") Check name (λ (e : 115 ≡ 99). omega arith) said
 
 -- what words say that pass is their command
 pub passed_command : (words : List (List ℕ)) (says : Option (Text × List Row)) (found : Option Command) → IsPassed words says

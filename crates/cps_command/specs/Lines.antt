@@ -4,7 +4,7 @@ use Rattle.std.specs.declared.string.String.{String}
 use Rattle.std.specs.declared.alloc.Global.{Global}
 use Rattle.clap.specs.Words.{Row, Text, fault_of, subcommand_of}
 use Rattle.cps_command.specs.declared.command.Command.{Command}
-use Rattle.cps_command.specs.declared.command.Command.TheVariants.{Solve, Validate, Print, Gen, Demo}
+use Rattle.cps_command.specs.declared.command.Command.TheVariants.{Solve, Validate, Print, Gen, Demo, Check}
 use Rattle.cps_options.specs.declared.options.Options.{Options}
 use Rattle.cps_command.specs.Rules.{command_table}
 use Rattle.cps_command.specs.declared.recipe.Recipe.{Recipe}
@@ -43,6 +43,7 @@ Says says Validate = HasName (codes "validate") says
 Says says Print = HasName (codes "print") says
 Says says (Gen r) = HasName (codes "gen") says × HasRecipe says r
 Says says (Demo r) = HasName (codes "demo") says × HasRecipe says r
+Says says Check = HasName (codes "check") says
 
 -- what words say is no command
 abbrev pub SaysNothing : Option (Text × List Row) → Type 0
@@ -68,6 +69,7 @@ reads Validate = true
 reads Print = true
 reads (Gen r) = false
 reads (Demo r) = false
+reads Check = true
 
 -- the words have a command that reads an input
 abbrev pub IsReadingLine : List (List ℕ) → Type 0

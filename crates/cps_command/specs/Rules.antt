@@ -85,10 +85,16 @@ validate_line = new_app (codes "validate")
 unfoldable pub print_line : App
 print_line = new_app (codes "print")
 
+-- `check`
+unfoldable pub check_line : App
+check_line = new_app (codes "check")
+
 -- a table with the lines of the commands that read a model
 unfoldable pub with_reading_lines : App → App
 with_reading_lines table =
-    with_subcommand (with_subcommand (with_subcommand table solve_line.top) validate_line.top) print_line.top
+    with_subcommand
+    (with_subcommand (with_subcommand (with_subcommand table solve_line.top) validate_line.top) print_line.top)
+    check_line.top
 
 -- a table with the lines of the commands that generate a model
 unfoldable pub with_generating_lines : App → App

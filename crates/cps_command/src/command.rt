@@ -23,6 +23,8 @@ pub enum Command {
     Gen(Recipe),
     /// Solve a generated model, and say in four lines what came of it.
     Demo(Recipe),
+    /// Read a model and a response to it with the log of its proof, and say whether the log shows the response right.
+    Check,
 }
 
 impl Command {
@@ -31,7 +33,7 @@ impl Command {
         ensures { result ≡ reads self.now }
     {
         match self {
-            Command::Solve(_) | Command::Validate | Command::Print => true,
+            Command::Solve(_) | Command::Validate | Command::Print | Command::Check => true,
             Command::Gen(_) | Command::Demo(_) => false,
         }
     }
@@ -55,6 +57,9 @@ fn command_in(line: &ArgMatches<'_>) -> Option<Command>
     }
     if let Some(line) = line.subcommand_matches("demo") {
         return Some(Command::Demo(recipe_of(line)?));
+    }
+    if line.subcommand_matches("check").is_some() {
+        return Some(Command::Check);
     }
     None
 }

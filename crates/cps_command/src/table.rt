@@ -119,14 +119,15 @@ fn generating_line<'a>(alloc: Global, name: &'a str) -> Result<Command<'a>, Allo
         .arg(drawing_argument(alloc))
 }
 
-/// A table with the lines of the commands that read a model: `solve`, `validate` and `print`.
+/// A table with the lines of the commands that read a model: `solve`, `validate`, `print` and `check`.
 fn with_reading_lines<'a>(alloc: Global, table: Command<'a>) -> Result<Command<'a>, AllocError>
     ensures { IfOk result (λ c. app_of c ≡ with_reading_lines (app_of table.entry)) }
 {
     table
         .subcommand(solve_line(alloc)?)?
         .subcommand(Command::new(alloc, "validate"))?
-        .subcommand(Command::new(alloc, "print"))
+        .subcommand(Command::new(alloc, "print"))?
+        .subcommand(Command::new(alloc, "check"))
 }
 
 /// A table with the lines of the commands that generate a model: `gen` and `demo`.

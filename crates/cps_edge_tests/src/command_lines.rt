@@ -8,7 +8,7 @@ use std::process::Abort;
 use std::test::Fail;
 
 /// Words, each with the command that they are.
-static COMMANDS: [(&str, &str); 15] = [
+static COMMANDS: [(&str, &str); 17] = [
     (
         "cpsolve solve",
         "Some(Solve(Options { workers: 4, conflicts: 10000, seed: 1, interleave: false, gap: 0 }))",
@@ -57,6 +57,8 @@ static COMMANDS: [(&str, &str); 15] = [
         "cpsolve demo jobshop 16 0",
         "Some(Demo(Recipe { family: Jobshop, size: 16, seed: 0 }))",
     ),
+    ("cpsolve check", "Some(Check)"),
+    ("x check", "Some(Check)"),
 ];
 
 /// Each line has words that are no command. The last one has none.
@@ -103,6 +105,10 @@ static OTHERS: &str = "\
     cpsolve print --conflicts 1\n\
     cpsolve print validate\n\
     cpsolve prints\n\
+    cpsolve check x\n\
+    cpsolve check --seed 1\n\
+    cpsolve check --help\n\
+    cpsolve checks\n\
     cpsolve help print\n\
     cpsolve --version\n\
     cpsolve\n\

@@ -18,7 +18,7 @@ use Rattle.cps_schema.specs.Readings as readings
 use Rattle.cps_schema.specs.Readings.{first_of, messages, read_variable, read_constraint, read_objective, read_strategy, read_hint, read_model, ReadsAs}
 use Rattle.cps_print.specs.Layout.{PrintedMessage, empty, text_of}
 use Rattle.cps_print.specs.Fields.{followed_by, list_field, text_field, repeated_field}
-use Rattle.cps_print.specs.Models.{printed_variable, printed_constraint, printed_objective, objective_field, printed_strategy, printed_hint, hint_field, printed_model, model_text}
+use Rattle.cps_print.specs.Models.{printed_variable, printed_constraint, printed_objective, objective_field, printed_strategy, printed_hint, hint_field, model_text}
 use Rattle.cps_print.specs.ReadBack.{IsReadWith}
 use Rattle.cps_print.proofs.Pieces.{Piece, spelled, tokens_at, tokens_are, symbols_are, written_are}
 use Rattle.cps_print.proofs.Cuts.{IsPlain, AreShort, pieces, fields_of, spelled-pieces, pieces_sound, symbols-pieces, fields_nest}

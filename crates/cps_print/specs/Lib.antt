@@ -8,3 +8,4 @@ pub mod ReadBack
 pub mod Responses
 pub mod Demonstrations
 pub mod Faults
+pub mod Verdicts

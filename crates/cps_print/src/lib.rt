@@ -1,5 +1,5 @@
-//! The texts that are written: a model in its canonical form, a response to it, the four lines of a demonstration, and
-//! the two lines that say why an input is no valid model.
+//! The texts that are written: a model in its canonical form, a response to it, the four lines of a demonstration, the
+//! two lines that say why an input is no valid model, and the line that says whether a response is verified.
 //!
 //! The contract of each function says its text exactly. A message is laid out by one definition for all kinds
 //! (`text_of` in `specs/Layout.antt`), and each part of a model adds only which fields it has (`specs/Models.antt`, and
@@ -21,8 +21,10 @@ mod model;
 mod objective;
 mod quoting;
 mod response;
+mod verdict;
 
 pub use demonstration::demo_text;
 pub use fault::{Fault, fault_text};
 pub use model::model_text;
 pub use response::{Response, response_text};
+pub use verdict::{refused_text, verified_text};

@@ -9,12 +9,13 @@ use Rattle.cps_print.specs.declared.fault.Fault.TheVariants.{TooLong}
 use Rattle.cps_print.specs.Faults.{fault_text}
 use Rattle.cps_program.specs.declared.answer.Answer.{Answer}
 use Rattle.cps_command.specs.declared.command.Command.{Command}
-use Rattle.cps_command.specs.declared.command.Command.TheVariants.{Solve, Validate, Print, Gen, Demo}
+use Rattle.cps_command.specs.declared.command.Command.TheVariants.{Solve, Validate, Print, Gen, Demo, Check}
 use Rattle.cps_command.specs.Lines.{CommandLine, IsUsageFault, ReadsNothing, reads}
 use Rattle.cps_program.specs.Inputs.{most_bytes, HasNo, IsModelText, IsInput}
 use Rattle.cps_program.specs.Answers.{usage_text, IsText, IsAnswerTo, Does, IsCommandInRange}
 use Rattle.cps_program.specs.Answers.IsAnswerTo.{usage, command}
 use Rattle.cps_program.specs.Answers.AnswersInput.{refused}
+use Rattle.cps_program.specs.Answers.ChecksInput.{too_long}
 use Rattle.cps_program.specs.Runs.{AreBytesLeft}
 
 -- some bytes are left
@@ -73,6 +74,7 @@ refuses_long Validate bytes answer reading long text = refused TooLong long (no_
 refuses_long Print bytes answer reading long text = refused TooLong long (no_long_text most_bytes bytes refl long) text
 refuses_long (Gen r) bytes answer reading long text = absurd cc
 refuses_long (Demo r) bytes answer reading long text = absurd cc
+refuses_long Check bytes answer reading long text = too_long long text
 
 pub long_given : (words : List (List ℕ)) (old new : Option (List ℕ)) (answer : Answer) (c : Command) → CommandLine words c → reads c ≡ true
     → IfSome old (λ bytes. ReadsAll most_bytes bytes new (Err errors.TooLong)) → IsText 1 (fault_text TooLong) answer → Given words old answer
@@ -86,6 +88,7 @@ line_in_range words Validate line = tt
 line_in_range words Print line = tt
 line_in_range words (Gen r) line = line.says.1.recipe.range
 line_in_range words (Demo r) line = line.says.1.recipe.range
+line_in_range words Check line = tt
 
 -- what a command does that reads nothing is an answer to whatever was left
 does_any : (c : Command) (some bytes : List ℕ) (answer : Answer) → reads c ≡ false → Does c some answer → Does c bytes answer
@@ -94,6 +97,7 @@ does_any Validate some bytes answer reading does = absurd cc
 does_any Print some bytes answer reading does = absurd cc
 does_any (Gen r) some bytes answer reading does = does
 does_any (Demo r) some bytes answer reading does = does
+does_any Check some bytes answer reading does = absurd cc
 
 pub unread_given : (words : List (List ℕ)) (left : Option (List ℕ)) (bytes : List ℕ) (answer : Answer) (c : Command) → CommandLine words c → reads c ≡ false
     → Does c bytes answer → Given words left answer

@@ -5,3 +5,4 @@ pub mod Answering
 pub mod Limits
 pub mod Outcomes
 pub mod Recipes
+pub mod Verdicts

@@ -1,18 +1,22 @@
 -- What the program answers to a command line and an input: an exit status, an outcome and a text.
-use Rattle.std.specs.Prelude.{◌≡◌, ℕ, List, [], ◌∷◌, ◌++◌, codes, true, IsTrue, Some, None}
+use Rattle.std.specs.Prelude.{◌≡◌, ℕ, ◌+◌, ◌<◌, ◌≤◌, List, [], ◌∷◌, ◌++◌, length, codes, true, IsTrue, Some, None}
 use Rattle.cps_model.specs.declared.model.CpModel.{CpModel}
 use Rattle.cps_print.specs.declared.fault.Fault.{Fault}
+use Rattle.cps_print.specs.declared.fault.Fault.TheVariants.{TooLong}
 use Rattle.cps_print.specs.declared.response.Response.{Response}
 use Rattle.cps_print.specs.Faults.{fault_text}
 use Rattle.cps_print.specs.Demonstrations.{demo_text}
 use Rattle.cps_print.specs.Models.{model_text}
 use Rattle.cps_print.specs.ReadBack.{IsReadAs}
 use Rattle.cps_print.specs.Responses.{response_text}
+use Rattle.cps_print.specs.Verdicts.{verified_text, refused_text}
+use Rattle.cps_cert.specs.Parts.{IsSplit}
+use Rattle.cps_cert.specs.Verdicts.{Accepts, RefusesAfter}
 use Rattle.cps_program.specs.declared.answer.Answer.{Answer}
 use Rattle.cps_program.specs.declared.input.InputError.{InputError}
 use Rattle.cps_program.specs.declared.input.InputError.TheVariants as input_error
 use Rattle.cps_command.specs.declared.command.Command.{Command}
-use Rattle.cps_command.specs.declared.command.Command.TheVariants.{Solve, Validate, Print, Gen, Demo}
+use Rattle.cps_command.specs.declared.command.Command.TheVariants.{Solve, Validate, Print, Gen, Demo, Check}
 use Rattle.cps_options.specs.declared.options.Options.{Options}
 use Rattle.cps_options.specs.Ranges.{AreInRange}
 use Rattle.cps_command.specs.declared.recipe.Recipe.{Recipe}
@@ -23,7 +27,7 @@ use Rattle.cps_model.specs.Validity.{IsValid}
 use Rattle.cps_crew.specs.declared.outcome.Outcome.{Outcome}
 use Rattle.cps_crew.specs.Outcomes.{IsGoodOutcome}
 use Rattle.cps_portfolio.specs.Workers.{IsDrawnRun}
-use Rattle.cps_program.specs.Inputs.{HasFault, HasNo, IsInput, IsModelText}
+use Rattle.cps_program.specs.Inputs.{most_bytes, HasFault, HasNo, IsInput, IsModelText}
 use Rattle.cps_program.specs.Outcomes.{KeepsPromise}
 
 abbrev pub usage_text : List ℕ
@@ -100,14 +104,30 @@ pub data AnswersInput (is_input : List ℕ → CpModel → Type 0) (does : CpMod
   refused : (fault : Fault) → HasFault bytes fault → HasNo is_input bytes → IsText 1 (fault_text fault) answer
       → AnswersInput is_input does bytes answer
 
--- What each command does. A valid model is solved, or said to be valid; `print` takes every model, so no broken rule
--- makes it refuse one. `gen` and `demo` look at no input.
+-- `check` of a response with its log to a valid model, the response's first line having this number in the input:
+-- verified where each line is accepted, and else the number of the first line that is refused, or that is missing
+pub data Checks (response : List ℕ) (first_line : ℕ) (m : CpModel) (answer : Answer) : Type 0 where
+  verified : Accepts m response → IsText 0 verified_text answer → Checks response first_line m answer
+  unverified : (count : ℕ) → RefusesAfter m response count → IsText 6 (refused_text (first_line + count)) answer
+      → Checks response first_line m answer
+
+-- `check` of an input: what it does with the model and the response that the input has, and else why it has no model.
+-- The whole input counts for its length, and the text of the model alone for every other fault.
+pub data ChecksInput (bytes : List ℕ) (answer : Answer) : Type 0 where
+  parts : (model response : List ℕ) (first_line : ℕ) → length bytes ≤ most_bytes
+      → IsSplit bytes model response first_line → AnswersInput IsInput (Checks response first_line) model answer
+      → ChecksInput bytes answer
+  too_long : most_bytes < length bytes → IsText 1 (fault_text TooLong) answer → ChecksInput bytes answer
+
+-- What each command does. A valid model is solved, or said to be valid, or a response to it is checked; `print` takes
+-- every model, so no broken rule makes it refuse one. `gen` and `demo` look at no input.
 abbrev pub Does : Command → List ℕ → Answer → Type 0
 Does (Solve options) bytes answer = AnswersInput IsInput (Solves options) bytes answer
 Does Validate bytes answer = AnswersInput IsInput Validates bytes answer
 Does Print bytes answer = AnswersInput IsModelText Prints bytes answer
 Does (Gen r) bytes answer = Generates r answer
 Does (Demo r) bytes answer = Demonstrates r answer
+Does Check bytes answer = ChecksInput bytes answer
 
 -- a command whose options are in their ranges, or whose model is of a size that its family has
 abbrev pub IsCommandInRange : Command → Type 0
@@ -116,6 +136,7 @@ IsCommandInRange Validate = Unit {0}
 IsCommandInRange Print = Unit {0}
 IsCommandInRange (Gen r) = IsTrue (is_in_range r.family r.size)
 IsCommandInRange (Demo r) = IsTrue (is_in_range r.family r.size)
+IsCommandInRange Check = Unit {0}
 
 -- the usage line for words that have no command, and else what their command does
 pub data IsAnswerTo (words : List (List ℕ)) (bytes : List ℕ) (answer : Answer) : Type 0 where

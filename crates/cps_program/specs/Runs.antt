@@ -1,15 +1,21 @@
 -- What a run did with its source and its sink.
-use Rattle.std.specs.Prelude.{◌≡◌, ◌≢◌, ◌==◌, ◌||◌, ℕ, ◌+◌, Bool, List, drop, Option, Some, None, IfSome}
+use Rattle.std.specs.Prelude.{◌≡◌, ◌≢◌, ◌==◌, ◌||◌, ◌⊎◌, ℕ, ◌+◌, ◌≤◌, Bool, List, drop, Option, Some, None, IfSome}
 use Rattle.std.specs.Io.KnownBytes.{Appends}
 use Rattle.cps_outer.specs.Transfers.{TakesPrefix}
 use Rattle.cps_program.specs.declared.answer.Answer.{Answer}
 use Rattle.cps_program.specs.declared.ran.Ran.{Ran}
+use Rattle.cps_print.specs.Verdicts.{refused_text}
 use Rattle.cps_program.specs.Inputs.{most_bytes}
 use Rattle.cps_program.specs.Answers.{IsAnswerTo}
+use Rattle.cps_program.specs.Checks.{IsVerified, IsRefusedAtLine}
 
 -- an exit status with which no text is written: a read failed, or memory ran out
 abbrev pub is_silent : ℕ → Bool
 is_silent exit = exit == 3 || exit == 5
+
+-- an exit status that an answer has
+abbrev pub IsAnswerExit : ℕ → Type 0
+IsAnswerExit exit = (exit ≤ 2) ⊎ (exit ≡ 6)
 
 -- the bytes are those that were left, where the source tells them
 abbrev pub AreBytesLeft : Option (List ℕ) → List ℕ → Type 0
@@ -29,3 +35,15 @@ pub record GivesOut (words : List (List ℕ)) (left held_before held_after : Opt
   pub outcome : ran.outcome ≡ answer.outcome
   pub whole : ran.exit ≢ 4 → (ran.exit ≡ answer.exit) × Appends held_before held_after answer.text
   pub part : ran.exit ≡ 4 → TakesPrefix held_before held_after answer.text
+
+-- the response that was left is verified, and true of its model
+abbrev pub LeavesVerified : Option (List ℕ) → Type 0
+LeavesVerified left = (bytes : List ℕ) × AreBytesLeft left bytes × IsVerified bytes
+
+-- the response that was left is refused at a line, and the sink took the text that names it
+pub record GivesRefusal (left held_before held_after : Option (List ℕ)) : Type 0 where
+  pub bytes : List ℕ
+  pub line : ℕ
+  pub input : AreBytesLeft left bytes
+  pub refused : IsRefusedAtLine bytes line
+  pub text : Appends held_before held_after (refused_text line)

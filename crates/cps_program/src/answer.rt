@@ -2,8 +2,8 @@
 //!
 //! Each command that reads has a function that takes its model from the input and one that answers the model; the
 //! faults of an input have one answer for all commands, and so have words that are no command. The commands that
-//! generate a model are answered in `generation`. The text is complete before anything is written, so a run that runs
-//! out of memory writes nothing.
+//! generate a model are answered in `generation`, and `check` in `checking`. The text is complete before anything is
+//! written, so a run that runs out of memory writes nothing.
 ghost use Rattle.std.specs.Prelude.{◌≡◌, ◌≤◌, ℕ, List, IfOk, IsTrue, length, string_bytes};
 ghost use Rattle.cps_print.specs.Faults.{fault_text};
 ghost use Rattle.cps_print.specs.Models.{model_text};
@@ -16,6 +16,7 @@ ghost use Rattle.cps_portfolio.specs.Workers.{IsDrawnRun};
 ghost use Rattle.cps_program.specs.Inputs.{most_bytes, IsModelText, IsInput};
 ghost use Rattle.cps_program.specs.Answers.{usage_text, valid_text, IsText, IsFaultText, Solves, Validates, Prints, AnswersInput, Does, IsCommandInRange};
 
+use crate::checking::check_input;
 use crate::exits::{BAD_INPUT, BAD_WORDS, DONE};
 use crate::generation::{demo_answer, gen_answer};
 use crate::input::{InputError, read_model, valid_model_of};
@@ -68,7 +69,7 @@ pub fn fault_answer(alloc: Global, fault: &Fault) -> Result<Answer, AllocError>
 }
 
 /// The answer to an input that could not be read as a model.
-fn input_error_answer(alloc: Global, input_error: InputError) -> Result<Answer, AllocError>
+pub fn input_error_answer(alloc: Global, input_error: InputError) -> Result<Answer, AllocError>
     ensures { IfOk result (IsFaultText input_error) }
 {
     match input_error {
@@ -216,5 +217,6 @@ pub fn command_answer<R: Threads + Wait + Sync, G: Gate + Sync>(
         Command::Print => print_input(alloc, bytes),
         Command::Gen(recipe) => gen_answer(alloc, &recipe),
         Command::Demo(recipe) => demo_answer(alloc, &recipe),
+        Command::Check => check_input(alloc, bytes),
     }
 }

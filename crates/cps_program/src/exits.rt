@@ -17,3 +17,6 @@ pub const WRITE_FAILED: u8 = 4;
 
 /// Memory ran out.
 pub const OUT_OF_MEMORY: u8 = 5;
+
+/// The response is not verified.
+pub const NOT_VERIFIED: u8 = 6;

@@ -3,11 +3,12 @@
 //! The contract of `solve_main` says what the program does: OPTIMAL comes only with a solution that none beats by more
 //! than the gap that the words give, INFEASIBLE only where there is none, FEASIBLE and UNKNOWN only where each worker
 //! spent its budget of conflicts, or did its rounds near solutions, on clauses that said something new; `valid` comes
-//! only for a valid model, and a canonical text is read as the same model; and every other answer comes only where its
-//! cause is there.
+//! only for a valid model, and a canonical text is read as the same model; `verified` comes only for a response that is
+//! true of its model; and every other answer comes only where its cause is there.
 #![tactic(auto)]
 
 mod answer;
+mod checking;
 mod exits;
 mod generation;
 mod input;

@@ -1,11 +1,12 @@
 //! The whole program: from words and an input to a text and an exit status.
-ghost use Rattle.std.specs.Prelude.{◌≡◌, ◌≢◌, ◌≤◌, IfOk, OnOk, IsErrOf, MatchBool, List, ℕ, None, Err, false};
+ghost use Rattle.std.specs.Prelude.{◌≡◌, ◌≢◌, ◌≤◌, ◌⊎◌, IfOk, OnOk, IsErrOf, IsSomeAnd, MatchBool, List, ℕ, None, Err, false};
 ghost use Rattle.std.specs.Io.KnownBytes.{Appends};
 ghost use Rattle.cps_outer.specs.Faults.{Rose};
 ghost use Rattle.cps_outer.specs.Transfers.{TakesPrefix};
 ghost use Rattle.cps_program.specs.Answers.{IsAnswerTo};
 ghost use Rattle.cps_command.specs.Lines.{texts_of, IsReadingLine, ReadsNothing};
-ghost use Rattle.cps_program.specs.Runs.{is_silent, AreBytesLeft, IsReadThrough, GivesOut};
+ghost use Rattle.cps_program.specs.Checks.{IsCheckLine, HasValidModel};
+ghost use Rattle.cps_program.specs.Runs.{is_silent, IsAnswerExit, AreBytesLeft, IsReadThrough, GivesOut, LeavesVerified, GivesRefusal};
 ghost use Rattle.cps_program.specs.declared.solve.Unanswered.TheVariants.{OutOfMemory};
 
 use crate::answer::{Answer, command_answer, fault_answer, usage_answer};
@@ -69,7 +70,7 @@ fn answer_of<R: Threads + Wait + Sync, S: Source, G: Gate + Sync>(
 
 /// Writes the text of an answer.
 fn write_answer<K: Sink>(sink: &mut K, answer: Answer) -> Ran
-    requires { answer.exit ≤ 2 }
+    requires { IsAnswerExit answer.exit }
     ensures text { is_silent result.exit ≡ false }
     ensures outcome { result.outcome ≡ answer.outcome }
     ensures whole { result.exit ≢ 4
@@ -94,7 +95,7 @@ fn write_answer<K: Sink>(sink: &mut K, answer: Answer) -> Ran
 /// the work, and writes the whole text after it. A run with threads holds its workers at the gate before they begin.
 ///
 /// The exit status is 0 if the command did its work, 1 if the input is no valid model, 2 if the words are a usage
-/// fault, 3 if a read failed, 4 if a write failed, and 5 if memory ran out.
+/// fault, 3 if a read failed, 4 if a write failed, 5 if memory ran out, and 6 if a response is not verified.
 pub fn solve_main<R: Threads + Wait + Sync, S: Source, K: Sink, G: Gate + Sync>(
     rt: &R,
     alloc: Global,
@@ -103,12 +104,23 @@ pub fn solve_main<R: Threads + Wait + Sync, S: Source, K: Sink, G: Gate + Sync>(
     sink: &mut K,
     gate: &G,
 ) -> Ran
-    // 0, 1, 2 and 4: there is an answer of the words to the bytes that were left, and the sink took its text; with 4 a
+    // 0, 1, 2, 4 and 6: there is an answer of the words to the bytes that were left, and the sink took its text; with 4 a
     // first part of it. 3 and 5: nothing is written.
     ensures answer { MatchBool (is_silent result.exit)
         ((result.outcome ≡ None) × (sink.new ≡ sink.old))
         (GivesOut (texts_of words.now) (S.left source.old) (K.held sink.old) (K.held sink.new) result) }
-    ensures exits { result.exit ≤ 5 }
+    ensures exits { result.exit ≤ 6 }
+
+    // `check` with 0: the response that was left is accepted with its log, and so it is true of the model.
+    ensures verified { IsCheckLine (texts_of words.now) → result.exit ≡ 0 → LeavesVerified (S.left source.old) }
+
+    // 6 comes of `check` alone, and names the first line of the input that is refused, or that is missing.
+    ensures refused { result.exit ≡ 6 → IsCheckLine (texts_of words.now)
+        × GivesRefusal (S.left source.old) (K.held sink.old) (K.held sink.new) }
+
+    // If no read or write failed and memory did not run out, `check` of a valid model's text has one of these two.
+    ensures decided { IsCheckLine (texts_of words.now) → IsSomeAnd (S.left source.old) HasValidModel
+        → is_silent result.exit ≡ false → result.exit ≢ 4 → (result.exit ≡ 0) ⊎ (result.exit ≡ 6) }
 
     // If there is a text, a command that reads has read everything, or one byte more than an input may have.
     ensures read { is_silent result.exit ≡ false → IsReadingLine (texts_of words.now)

@@ -1,7 +1,7 @@
 //! Whole runs of the program: the exit, whether there is an outcome, and every byte that is written.
 use crate::known_answers::{
-    BEGINNINGS, Beginning, COMMANDS, FAULTY_WORDS, INPUTS, LINES, Line, PRODUCTION, READINGS,
-    Reading,
+    BEGINNINGS, Beginning, CHECKS, COMMANDS, Checking, FAULTY_WORDS, INPUTS, LINES, Line,
+    PRODUCTION, READINGS, Reading,
 };
 use crate::running::{Given, assert_solved, run, run_unread, unhindered};
 use std::alloc::Global;
@@ -35,6 +35,24 @@ fn assert_read<R: Threads + Wait + Sync + Abort>(
 #[test]
 fn readings_have_their_answers(rt: HostRuntime) -> Result<(), Fail> {
     assert_read(&rt, rt.alloc(), &READINGS)
+}
+
+fn assert_checked<R: Threads + Wait + Sync + Abort>(
+    rt: &R,
+    alloc: Global,
+    rows: &[Checking],
+) -> Result<(), Fail> {
+    for row in rows {
+        let input = format!(in alloc; "{}{}", row.model, row.response)?;
+        let seen = run(rt, alloc, &unhindered(&["check"], &input))?;
+        assert!(rt; seen.is(row.exit, false, row.text), "at {input}");
+    }
+    Ok(())
+}
+
+#[test]
+fn responses_have_their_verdicts(rt: HostRuntime) -> Result<(), Fail> {
+    assert_checked(&rt, rt.alloc(), &CHECKS)
 }
 
 fn assert_lines<R: Threads + Wait + Sync + Abort>(

@@ -69,7 +69,7 @@ struct Written {
     has_outcome: bool,
 }
 
-static WRITTEN: [Written; 6] = [
+static WRITTEN: [Written; 7] = [
     Written {
         words: &["solve"],
         input: "",
@@ -86,6 +86,12 @@ static WRITTEN: [Written; 6] = [
         words: &["print"],
         input: "variables { domain: 7 }",
         text: "variables {\n  domain: [7]\n}\n",
+        has_outcome: false,
+    },
+    Written {
+        words: &["check"],
+        input: "",
+        text: "not verified at line 1\n",
         has_outcome: false,
     },
     Written {

@@ -2,11 +2,13 @@
 //!
 //! The rows are data alone, with named fields; `answers` and its neighbours run them. Each model is small enough that its
 //! answer can be found on paper, and has one answer whatever the workers do, so that whole texts are compared. Inputs
-//! that are solved are in `to_solve`, those that are only read in `to_read`; command lines and what several rows share are
-//! here.
+//! that are solved are in `to_solve`, those that are only read in `to_read`, those with a response that is checked in
+//! `to_check`; command lines and what several rows share are here.
+mod to_check;
 mod to_read;
 mod to_solve;
 
+pub use to_check::{CHECKS, Checking};
 pub use to_read::{READINGS, Reading};
 pub use to_solve::{INPUTS, Solving};
 
@@ -120,7 +122,7 @@ pub static LINES: [Line; 10] = [
 ];
 
 /// Words behind the program's name that make no command line.
-pub static FAULTY_WORDS: [&[&str]; 15] = [
+pub static FAULTY_WORDS: [&[&str]; 18] = [
     &[],
     &["solve", "--workers", "0"],
     &["solve", "--workers", "17"],
@@ -132,6 +134,9 @@ pub static FAULTY_WORDS: [&[&str]; 15] = [
     &["validate", "x"],
     &["validate", "--help"],
     &["validate", "print"],
+    &["check", "x"],
+    &["check", "--log"],
+    &["solve", "--log"],
     &["solves"],
     &["gen", "tour", "1", "5"],
     &["gen", "jobshop", "17", "5"],
@@ -139,7 +144,7 @@ pub static FAULTY_WORDS: [&[&str]; 15] = [
 ];
 
 /// The commands that read a model.
-pub static COMMANDS: [&str; 3] = ["solve", "validate", "print"];
+pub static COMMANDS: [&str; 4] = ["solve", "validate", "print", "check"];
 
 /// Words of a command and its input, the first three bytes that it writes, and whether it has an outcome.
 pub struct Beginning {
@@ -150,7 +155,7 @@ pub struct Beginning {
 }
 
 /// What is held of texts of which no more is taken.
-pub static BEGINNINGS: [Beginning; 6] = [
+pub static BEGINNINGS: [Beginning; 7] = [
     Beginning {
         words: &["solve"],
         input: "",
@@ -173,6 +178,12 @@ pub static BEGINNINGS: [Beginning; 6] = [
         words: &["print"],
         input: "variables { domain: [0, 1] }",
         held: "var",
+        has_outcome: false,
+    },
+    Beginning {
+        words: &["check"],
+        input: "",
+        held: "not",
         has_outcome: false,
     },
     Beginning {

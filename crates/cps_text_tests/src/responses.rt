@@ -1,4 +1,4 @@
-//! The texts of responses, and the two lines for an input that is no valid model.
+//! The texts of responses, the two lines for an input that is no valid model, and the line of a verdict.
 //!
 //! A test for each status, with objectives that are scaled and moved, up to the bound whose shown value has the most
 //! digits. Lines and their order follow from the printed form of a response.
@@ -7,7 +7,7 @@ ghost use Rattle.cps_print.specs.Responses.{HasShowableLimits, IsSolved, HasFini
 
 use crate::rows::assert_text;
 use cps_model::{Bound, CpModel, FaultName, Ints, Listed, Objective, Place, Refs, Status, Text};
-use cps_print::{Fault, Response, fault_text, response_text};
+use cps_print::{Fault, Response, fault_text, refused_text, response_text, verified_text};
 use std::alloc::{AllocError, Global};
 use std::process::Abort;
 use std::test::Fail;
@@ -271,4 +271,14 @@ fn assert_places(rt: &impl Abort, alloc: Global, rows: &[(u8, Place, &str)]) -> 
 #[test]
 fn places(rt: HostRuntime) -> Result<(), Fail> {
     assert_places(&rt, rt.alloc(), &PLACES)
+}
+
+#[test]
+fn verdicts(rt: HostRuntime) -> Result<(), Fail> {
+    let verified = verified_text(rt.alloc())?;
+    assert_text(&rt, "verified", &verified, "verified\n");
+    let refused = refused_text(rt.alloc(), 18_446_744_073_709_551_615)?;
+    let wanted = "not verified at line 18446744073709551615\n";
+    assert_text(&rt, "refused", &refused, wanted);
+    Ok(())
 }

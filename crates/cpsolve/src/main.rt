@@ -1,6 +1,6 @@
 //! `cpsolve` reads a constraint model in text form. It searches the model for a best solution and writes a response, or
 //! says that the model is valid, or writes it in canonical form. It also generates models, and writes them or solves
-//! them.
+//! them, and checks a response by the log of its proof.
 //!
 //! `solve_main` of `cps_program` is the whole program, and its contract says what it does. `main` hands it the words,
 //! standard input and standard output.
