@@ -75,7 +75,7 @@ linear_kept vs cs vars coeffs domain named paired small shaped = rw (named, pair
 pub interval_kept : (vs : List Variable) (cs : List Constraint) (start end size : LinearExpr) → IsKeptSum vs start → IsKeptSum vs end → IsKeptSum vs size → constraint_fault vs cs (in_force (Interval start end size)) ≡ None
 interval_kept vs cs start end size a b c = rw (a.named, b.named, c.named, a.paired, b.paired, c.paired, a.small, b.small, c.small)
 
-pub circuit_kept : (vs : List Variable) (cs : List Constraint) (tails heads literals : List ℤ) → list_all (names (length vs)) literals ≡ true → list_all (names_boolean vs) literals ≡ true → (length tails == length heads) ≡ true → (length tails == length literals) ≡ true → has_nodes (Circuit tails heads literals) ≡ true → constraint_fault vs cs (in_force (Circuit tails heads literals)) ≡ None
+pub circuit_kept : (vs : List Variable) (cs : List Constraint) (tails heads literals : List ℤ) → list_all (names (length vs)) literals ≡ true → list_all (names_boolean vs) literals ≡ true → (length tails == length heads) ≡ true → (length tails == length literals) ≡ true → has_nodes tails heads ≡ true → constraint_fault vs cs (in_force (Circuit tails heads literals)) ≡ None
 circuit_kept vs cs tails heads literals named boolean ends each nodes =
     let all : list_all (names (length vs)) ([] ++ literals) ≡ true = named in
     let both : list_all (names_boolean vs) ([] ++ literals) ≡ true = boolean in

@@ -40,8 +40,8 @@ no_loops f h (x ∷ xs) differ =
     let rest = no_loops f h xs (All-tail (λ p. (f p == h p) ≡ false) x xs differ) in
     rw (one, rest)
 
-nodes_kept : (n : ℕ) (literals : List ℤ) → has_nodes (Circuit (tails n) (heads n) literals) ≡ true
-nodes_kept n literals =
+nodes_kept : (n : ℕ) → has_nodes (tails n) (heads n) ≡ true
+nodes_kept n =
     let differ = All-weaker (λ p. is_arc n p ≡ true) (λ p. (p / n == p % n) ≡ false) (λ p e. not-true (p / n == p % n) e) (arcs n) (filter_passes (is_arc n) (first (n * n))) in
     let loops = no_loops (λ p. p / n) (λ p. p % n) (arcs n) differ in
     and_from _ _ (and_from _ _ (from_zero (λ p. p / n) (arcs n)) (from_zero (λ p. p % n) (arcs n))) (ap has_no_two_equal loops)
@@ -69,7 +69,7 @@ tour_valid g n few =
       variables = All-replicate (λ v. variable_fault v ≡ None) count (up_to 1) (up_to_kept 1 (lit< tt));
       constraints = All-cons (λ k. constraint_fault vs (c ∷ []) k ≡ None) c []
           (circuit_kept vs (c ∷ []) (tails n) (heads n) (references count) (references_named count (up_to 1)) (references_boolean count)
-          (eq-eqb _ _ (tail_count ∙ sym head_count)) (eq-eqb _ _ (tail_count ∙ sym literal_count)) (nodes_kept n (references count)))
+          (eq-eqb _ _ (tail_count ∙ sym head_count)) (eq-eqb _ _ (tail_count ∙ sym literal_count)) (nodes_kept n))
           (All-nil (λ k. constraint_fault vs (c ∷ []) k ≡ None));
       objective = least_kept vs (references count) (costs g count) (pos 1) (references_named count (up_to 1)) (equally_many count pos (λ a. pos (cost g a)))
           (small_reach count 1 100 0 (references count) (costs g count) (costs_small g count) dear);

@@ -12,8 +12,8 @@ use Rattle.cps_domain.specs.Window.{is_among}
 use Rattle.cps_literal.specs.declared.atom.Atom.{Atom}
 use Rattle.cps_literal.specs.declared.atom.Op.TheVariants.{Le, Ge}
 use Rattle.std.specs.List.{AllZip, list_all, flat_map}
-use Rattle.cps_model.specs.Rules.{is_paired, sums_of}
-use Rattle.cps_model.specs.KindRules.{names_interval, intervals_of}
+use Rattle.cps_model.specs.Rules.{is_paired, sums_of, intervals_of}
+use Rattle.cps_model.specs.KindRules.{names_interval}
 use Rattle.cps_instance.specs.Problem.{Problem}
 use Rattle.cps_instance.specs.declared.steering.Steering.{Steering}
 use Rattle.cps_instance.specs.declared.term.Term.{Term}

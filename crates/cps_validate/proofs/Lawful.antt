@@ -20,11 +20,11 @@ use Rattle.cps_model.specs.Arithmetic.{product}
 use Rattle.cps_model.specs.Scheduling.{constraint_at}
 use Rattle.cps_model.specs.Solutions.{are_within}
 use Rattle.cps_model.specs.Ranges.{least_value, magnitude_of_value}
-use Rattle.cps_model.specs.Rules.{names}
-use Rattle.cps_model.specs.KindRules.{domain_of, domain_at, has_multiple, zero_multiple, product_reach, is_never_negative, is_interval, is_some_interval, names_interval, intervals_of}
+use Rattle.cps_model.specs.Rules.{is_small, names, intervals_of}
+use Rattle.cps_model.specs.KindRules.{domain_of, domain_at, has_multiple, zero_multiple, is_never_zero, product_reach, is_never_negative, is_interval, is_some_interval, names_interval}
 use Rattle.cps_model.specs.Validity.{variable_fault, constraint_fault, IsValid}
 use Rattle.cps_model.proofs.Tests.{and_true}
-use Rattle.cps_model.proofs.Faults.{KeepsOwnRules, own_rules, parts_of, rule_kept}
+use Rattle.cps_model.proofs.Faults.{KeepsOwnRules, own_rules, intervals_named, parts_of, rule_kept}
 use Rattle.cps_model.proofs.Multiples.{multiple_from_test}
 use Rattle.cps_model.proofs.Divisors.{never_zero, times_neg}
 use Rattle.cps_model.proofs.Ranges.{value-least, value-greatest, value-magnitude}
@@ -51,7 +51,8 @@ divisors m valid a target n d w has =
     let first = and_true (list_all (names (length m.variables)) target.vars) _ own.named in
     let second = and_true (list_all (names (length m.variables)) n.vars) _ first.1 in
     let named = (and_true (list_all (names (length m.variables)) d.vars) true second.1).0 in
-    never_zero m.variables a d.vars d.coeffs d (expression_value a d) w named own.divisor (value-least m.variables a d f w) (value-greatest m.variables a d f w) refl
+    let divided = rule_kept 8 (is_never_zero m.variables d.vars d.coeffs d) _ own.own in
+    never_zero m.variables a d.vars d.coeffs d (expression_value a d) w named divided.0 (value-least m.variables a d f w) (value-greatest m.variables a d f w) refl
 
 int_le_is : (x y : ℤ) → int_le x y ≡ true → x ≤ℤ y
 int_le_is x y t = grind (arith, ints)
@@ -61,7 +62,8 @@ at_least n x y t up = let low = int_le_is n x t in omega (arith, ints)
 
 pub moduli : (m : CpModel) → IsValid m → HasPositiveModuli m
 moduli m valid a target n d w has =
-    at_least (pos 1) (least_value m.variables d) (expression_value a d) (kept m (IntMod target (n ∷ d ∷ [])) valid has).modulus (value-least m.variables a d (parts_of m valid).variables w)
+    let modulus = rule_kept 9 (int_le (pos 1) (least_value m.variables d)) _ (kept m (IntMod target (n ∷ d ∷ [])) valid has).own in
+    at_least (pos 1) (least_value m.variables d) (expression_value a d) modulus.0 (value-least m.variables a d (parts_of m valid).variables w)
 
 never_negative : (vs : List Variable) (a : List ℤ) (es : List LinearExpr) → All (λ v. variable_fault v ≡ None) vs → are_within vs a ≡ true → list_all (is_never_negative vs) es ≡ true → All (λ e. pos 0 ≤ℤ expression_value a e) es
 never_negative vs a [] f w t = All-nil (λ e. pos 0 ≤ℤ expression_value a e)
@@ -71,7 +73,8 @@ never_negative vs a (e ∷ es) f w t =
 
 pub demands : (m : CpModel) → IsValid m → HasNoNegativeDemand m
 demands m valid a capacity intervals ds w has =
-    never_negative m.variables a ds (parts_of m valid).variables w (kept m (Cumulative capacity intervals ds) valid has).demands
+    let demanded = rule_kept 11 (list_all (is_never_negative m.variables) ds) _ (kept m (Cumulative capacity intervals ds) valid has).own in
+    never_negative m.variables a ds (parts_of m valid).variables w demanded.0
 
 -- a product of values, and of the first of them, is at most the product of the factors' magnitudes
 product-reach : (vs : List Variable) (a : List ℤ) (es : List LinearExpr) (k : ℕ) → All (λ v. variable_fault v ≡ None) vs → are_within vs a ≡ true → unsigned_abs (product (values_of a (take k es))) ≤ product_reach vs es
@@ -88,8 +91,8 @@ product-reach vs a (e ∷ es) (suc k) f w =
 
 pub products : (m : CpModel) → IsValid m → HasSmallProducts m
 products m valid a target factors k w has =
-    let own = kept m (IntProd target factors) valid has in
-    let below : product_reach m.variables factors < 2 ^ 62 = ltb-true _ _ own.product in
+    let small = rule_kept 10 (is_small (product_reach m.variables factors)) _ (kept m (IntProd target factors) valid has).own in
+    let below : product_reach m.variables factors < 2 ^ 62 = ltb-true _ _ small.0 in
     let less = product-reach m.variables a factors k (parts_of m valid).variables w in
     omega arith
 
@@ -104,7 +107,7 @@ named_interval cs i (Some c) l t = interval_of cs i c c.kind l refl t
 
 pub indices : (m : CpModel) → IsValid m → NamesIntervals m
 indices m valid kind has =
-    All-weaker (λ i. names_interval m.constraints i ≡ true) (IsIntervalAt m.constraints) (λ i t. named_interval m.constraints i (constraint_at m.constraints i) refl t) (intervals_of kind) (AllPass-from_list_all (names_interval m.constraints) (intervals_of kind) (kept m kind valid has).intervals)
+    All-weaker (λ i. names_interval m.constraints i ≡ true) (IsIntervalAt m.constraints) (λ i t. named_interval m.constraints i (constraint_at m.constraints i) refl t) (intervals_of kind) (AllPass-from_list_all (names_interval m.constraints) (intervals_of kind) (intervals_named m.variables m.constraints kind (kept m kind valid has).own))
 
 -- the least value of a domain that is well shaped and not empty is in it
 int_le_same : (x : ℤ) → int_le x x ≡ true

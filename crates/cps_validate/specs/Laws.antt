@@ -12,8 +12,8 @@ use Rattle.cps_model.specs.Arithmetic.{product}
 use Rattle.cps_model.specs.Scheduling.{constraint_at}
 use Rattle.cps_model.specs.Solutions.{IsWithinDomains}
 use Rattle.cps_model.specs.Ranges.{least_value, greatest_value}
-use Rattle.cps_model.specs.Rules.{names}
-use Rattle.cps_model.specs.KindRules.{domain_at, is_never_zero, intervals_of}
+use Rattle.cps_model.specs.Rules.{names, intervals_of}
+use Rattle.cps_model.specs.KindRules.{domain_at, is_never_zero}
 use Rattle.cps_validate.specs.Signs.{with_sign_of}
 
 -- some constraint of the model has this kind
