@@ -89,7 +89,7 @@ impl<R: Rule> Propagator for Enforced<R> {
             &mut self.room,
             store,
         )? {
-            Answer::Settled => Ok(Answer::Settled),
+            Answer::NoConflict => Ok(Answer::NoConflict),
             Answer::Conflict => {
                 swap(&mut self.room.conflict, conflict);
                 Ok(Answer::Conflict)

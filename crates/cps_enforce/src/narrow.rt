@@ -130,7 +130,7 @@ fn narrow<R: Rule>(
     ensures answers { IfOk result (λ answer. Answers
         (HoldsTask (task_of header.now.enforcement.now (R.body rule.now)))
         store.new (as_step answer room.new.conflict.items)) }
-    ensures made { result ≡ Ok Answer.Settled → IsTrueNow store.new narrowing.now.target }
+    ensures made { result ≡ Ok Answer.NoConflict → IsTrueNow store.new narrowing.now.target }
 {
     let note = Note::Task {
         task: header.number,
@@ -138,7 +138,7 @@ fn narrow<R: Rule>(
         b: narrowing.hint.b,
     };
     match store.imply_later(narrowing.target, note)? {
-        Cut::Narrowed | Cut::NoChange => return Ok(Answer::Settled),
+        Cut::Narrowed | Cut::NoChange => return Ok(Answer::NoConflict),
         Cut::Wiped => {}
     }
     contradict(header.enforcement, rule, narrowing, room, store)?;
@@ -161,15 +161,15 @@ fn narrow_all<R: Rule>(
     ensures answers { IfOk result (λ answer. Answers
         (HoldsTask (task_of header.now.enforcement.now (R.body rule.now)))
         store.new (as_step answer room.new.conflict.items)) }
-    ensures made { result ≡ Ok Answer.Settled → All (λ n. IsTrueNow store.new n.target) found.now }
+    ensures made { result ≡ Ok Answer.NoConflict → All (λ n. IsTrueNow store.new n.target) found.now }
 {
     for narrowing in found {
         match narrow(header, rule, narrowing, room, store)? {
-            Answer::Settled => {}
+            Answer::NoConflict => {}
             Answer::Conflict => return Ok(Answer::Conflict),
         }
     }
-    Ok(Answer::Settled)
+    Ok(Answer::NoConflict)
 }
 
 /// Looks once, and makes true what the body gives.
@@ -188,7 +188,7 @@ pub(crate) fn pass<R: Rule>(
     ensures answers { IfOk result (λ answer. Answers
         (HoldsTask (task_of header.now.enforcement.now (R.body rule.old)))
         store.new (as_step answer room.new.conflict.items)) }
-    ensures rest { result ≡ Ok Answer.Settled → store.new.entries ≡ store.old.entries
+    ensures rest { result ≡ Ok Answer.NoConflict → store.new.entries ≡ store.old.entries
         → IsRestingBody (R.body rule.old) store.new }
 {
     match rule.look(store, found)? {

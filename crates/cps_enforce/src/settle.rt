@@ -34,16 +34,16 @@ fn settle<R: Rule>(
     ensures answers { IfOk result (λ answer. Answers
         (HoldsTask (task_of header.now.enforcement.now (R.body rule.old)))
         store.new (as_step answer room.new.conflict.items)) }
-    ensures rest { result ≡ Ok Answer.Settled → IsRestingBody (R.body rule.old) store.new }
+    ensures rest { result ≡ Ok Answer.NoConflict → IsRestingBody (R.body rule.old) store.new }
 {
     loop {
         let before = store.entries().len();
         match pass(header, rule, found, room, store)? {
-            Answer::Settled => {}
+            Answer::NoConflict => {}
             Answer::Conflict => return Ok(Answer::Conflict),
         }
         if store.entries().len() == before {
-            return Ok(Answer::Settled);
+            return Ok(Answer::NoConflict);
         }
     }
 }
@@ -101,14 +101,14 @@ pub(crate) fn visit<R: Rule>(
     ensures answers { IfOk result (λ answer. Answers
         (HoldsTask (task_of header.now.enforcement.now (R.body rule.old)))
         store.new (as_step answer room.new.conflict.items)) }
-    ensures settled { result ≡ Ok Answer.Settled
+    ensures settled { result ≡ Ok Answer.NoConflict
         → IsBodySettled store.new header.now.enforcement.now (R.body rule.old) }
 {
     match force_of(&store.present(), header.enforcement) {
-        Force::Idle => Ok(Answer::Settled),
+        Force::Idle => Ok(Answer::NoConflict),
         Force::Open(place) => {
             disable(header, place, rule, found, store)?;
-            Ok(Answer::Settled)
+            Ok(Answer::NoConflict)
         }
         Force::On => settle(header, rule, found, room, store),
     }

@@ -5,12 +5,12 @@ use Rattle.std.proofs.lemmas.List.{length-map}
 use Rattle.cps_instance.specs.declared.task.Task.{Task}
 use Rattle.cps_instance.specs.Tasks.{lowered}
 use Rattle.cps_literal.specs.declared.atom.Atom.{Atom}
-use Rattle.cps_trail.specs.declared.step.Step.{Step}
-use Rattle.cps_trail.specs.declared.step.Step.TheVariants.{Settled}
 use Rattle.cps_propagate.specs.declared.propagator.Answer.{Answer}
 use Rattle.cps_propagate.specs.declared.propagator.Answer.TheVariants as answers
+use Rattle.cps_propagate.specs.declared.engine.Traced.{Traced}
+use Rattle.cps_propagate.specs.declared.engine.Traced.TheVariants.{Settled}
 use Rattle.cps_propagate.specs.Agenda.{Agenda}
-use Rattle.cps_propagate.specs.Conflicts.{as_step}
+use Rattle.cps_propagate.specs.Conflicts.{as_traced}
 use Rattle.cps_propagate.specs.Readers.{BySide}
 use Rattle.cps_propagate.specs.Wiring.{IsPlanned}
 use Rattle.cps_propagate.proofs.Planning.{lowered_whole, map-push}
@@ -64,7 +64,7 @@ pub planned_again : (tasks tasks' : List Task) (readers : BySide) (cuts : List �
 planned_again tasks tasks' readers cuts waits waits' same count h =
     subst (λ (ts : List Task). IsPlanned ts readers cuts waits') (sym same) (record { wired = h.wired; are_cuts = h.are_cuts; count = count ∙ h.count; few = h.few })
 
--- an answer whose step is no conflict is none
-pub settled_of : {E : Type 0} (answer : Answer) (clause : List Atom) (step : Step) → step ≡ as_step answer clause → ◌≡◌ {A = Result Step E} (Ok step) (Ok Settled) → answer ≡ answers.Settled
-settled_of answers.Settled clause step is e = refl
-settled_of answers.Conflict clause step is e = absurd (cc (is, e))
+-- an answer that is traced as no conflict is none
+pub settled_of : {E : Type 0} (answer : Answer) (number : ℕ) (clause : List Atom) (traced : Traced) → traced ≡ as_traced answer number clause → ◌≡◌ {A = Result Traced E} (Ok traced) (Ok Settled) → answer ≡ answers.NoConflict
+settled_of answers.NoConflict number clause traced is e = refl
+settled_of answers.Conflict number clause traced is e = absurd (cc (is, e))

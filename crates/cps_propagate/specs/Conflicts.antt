@@ -9,19 +9,35 @@ use Rattle.cps_trail.specs.declared.step.Step.{Step}
 use Rattle.cps_trail.specs.declared.step.Step.TheVariants.{Settled, Conflict}
 use Rattle.cps_propagate.specs.declared.propagator.Answer.{Answer}
 use Rattle.cps_propagate.specs.declared.propagator.Answer.TheVariants as answers
+use Rattle.cps_propagate.specs.declared.engine.Traced.{Traced}
+use Rattle.cps_propagate.specs.declared.engine.Traced.TheVariants as traces
 
 -- an answer with the clause that was left
 abbrev pub as_step : Answer → List Atom → Step
-as_step answers.Settled clause = Settled
+as_step answers.NoConflict clause = Settled
 as_step answers.Conflict clause = Conflict clause
 
--- one of the tasks gives a conflict by itself
-pub record IsConflictOfTask (tasks : List Task) (s : Trail) (clause : List Atom) : Type 0 where
-  pub number : ℕ
+-- the task with a number gives a conflict by itself
+pub record IsConflictOf (tasks : List Task) (number : ℕ) (s : Trail) (clause : List Atom) : Type 0 where
   pub within : number < length tasks
   pub given : (d : Task) → IsConflict (HoldsTask (slice_index_or tasks number d)) s clause
+
+-- one of the tasks does
+pub record IsConflictOfTask (tasks : List Task) (s : Trail) (clause : List Atom) : Type 0 where
+  pub number : ℕ
+  pub given : IsConflictOf tasks number s clause
 
 -- what tasks answer: one of them gives the conflict, if there is one
 abbrev pub AnswersByTasks : List Task → Trail → Step → Type 0
 AnswersByTasks tasks s Settled = ⊤
 AnswersByTasks tasks s (Conflict clause) = IsConflictOfTask tasks s clause
+
+-- an answer with the number of the task that was visited last and the clause that was left
+abbrev pub as_traced : Answer → ℕ → List Atom → Traced
+as_traced answers.NoConflict number clause = traces.Settled
+as_traced answers.Conflict number clause = traces.Conflict number clause
+
+-- what a traced run answers: the task with the number gives the conflict, if there is one
+abbrev pub AnswersTraced : List Task → Trail → Traced → Type 0
+AnswersTraced tasks s traces.Settled = ⊤
+AnswersTraced tasks s (traces.Conflict number clause) = IsConflictOf tasks number s clause

@@ -43,7 +43,7 @@ impl Propagator for Idle {
         _store: &mut Store,
         _conflict: &mut Vec<Atom>,
     ) -> Result<Answer, AllocError> {
-        Ok(Answer::Settled)
+        Ok(Answer::NoConflict)
     }
 
     fn explain_into(

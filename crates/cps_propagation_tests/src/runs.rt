@@ -41,7 +41,7 @@ pub fn run<P: Propagator>(
 {
     let mut conflict = Vec::new(alloc);
     match propagator.propagate(7, store, &mut conflict)? {
-        Answer::Settled => {
+        Answer::NoConflict => {
             let reason = last_reason(alloc, propagator, store)?;
             Ok((true, reason))
         }

@@ -40,7 +40,7 @@ loop-narrowing-preserved g c =
     let h = c.args.header.now in
     let b = g.R.Rule.body c.args.rule.now in
     Narrows-more h.number h.enforcement.now b c.args.store.now c.loop-narrowing.store c.narrow.new.store c.args.found.now c.loop-narrowing.narrowing-index no_narrowing c.loop-narrowing-test.true
-    c.loop-narrowing.invariant c.in_ok-narrow.ensures.infers (c.in_ok-narrow.ensures.made (ap Ok c.in-Settled.is))
+    c.loop-narrowing.invariant c.in_ok-narrow.ensures.infers (c.in_ok-narrow.ensures.made (ap Ok c.in-NoConflict.is))
 
 pub returns-clause-made : goal.returns-clause-made
 returns-clause-made g c = λ _. subst (λ (l : List Narrowing). All (λ (n : Narrowing). IsTrueNow c.loop-narrowing.store n.target) l) (take_all c.loop-narrowing.narrowing-index c.args.found.now c.loop-narrowing-test.false) c.loop-narrowing.invariant.made

@@ -58,4 +58,4 @@ pub returns-then-entries-before-clause-rest : goal.returns-then-entries-before-c
 returns-then-entries-before-clause-rest g c = λ _.
     let infers = c.in_ok-pass.ensures.infers in
     subst (λ (x : Body). IsRestingBody x c.pass.new.store) c.loop-store.invariant.keeps
-    (c.in_ok-pass.ensures.rest (ap Ok c.in-Settled.is) (none_added c.loop-store.store.entries c.pass.new.store.entries infers.added infers.entries (omega (arith, c.if-entries-before.true, c.entries-before.ensures.views.same_length, c.entries.ensures.views.same_length))))
+    (c.in_ok-pass.ensures.rest (ap Ok c.in-NoConflict.is) (none_added c.loop-store.store.entries c.pass.new.store.entries infers.added infers.entries (omega (arith, c.if-entries-before.true, c.entries-before.ensures.views.same_length, c.entries.ensures.views.same_length))))

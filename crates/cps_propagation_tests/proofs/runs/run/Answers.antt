@@ -13,8 +13,8 @@ last_reason-requires-clause-notes g c =
     subst (λ (t : Task). AreNotesOf 7 t c.propagate.new.store) (sym h.keeps)
     (inferred_fit (ByTask 7 (HoldsTask (task c.args.propagator.now))) c.args.store.now c.propagate.new.store h.infers c.requires.notes)
 
-pub returns-in_ok-reason-in-Settled-clause-notes : goal.returns-in_ok-reason-in-Settled-clause-notes
-returns-in_ok-reason-in-Settled-clause-notes g c =
+pub returns-in_ok-reason-in-NoConflict-clause-notes : goal.returns-in_ok-reason-in-NoConflict-clause-notes
+returns-in_ok-reason-in-NoConflict-clause-notes g c =
     inferred_fit (ByTask 7 (HoldsTask (g.P.Propagator.task c.args.propagator.now))) c.args.store.now c.propagate.new.store c.in_ok-propagate.ensures.infers c.requires.notes
 
 pub returns-in-Conflict-clause-notes : goal.returns-in-Conflict-clause-notes

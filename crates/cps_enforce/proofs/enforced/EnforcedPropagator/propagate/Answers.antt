@@ -14,17 +14,17 @@ use Rattle.cps_enforce.specs.Reasons.{task_of}
 use Rattle.cps_enforce.proofs.Tasks.{settled_decided, settled_strong}
 use Rattle.cps_enforce.proofs.enforced.EnforcedPropagator.propagate.Goals as goal
 
-pub returns-in-Settled-clause-decided : goal.returns-in-Settled-clause-decided
-returns-in-Settled-clause-decided g c e =
+pub returns-in-NoConflict-clause-decided : goal.returns-in-NoConflict-clause-decided
+returns-in-NoConflict-clause-decided g c e =
     let b = g.R.Rule.body c.self.inside.rule in
     subst (λ (t : Task). IsDecided t c.visit.new.store) (ap (λ (us : List Atom). task_of us b) c.as_slice.ensures.value ∙ c.self.view_is)
-    (settled_decided c.visit.new.store c.as_slice.result.now b (c.in_ok-visit.ensures.settled (ap Ok c.in-Settled.is)))
+    (settled_decided c.visit.new.store c.as_slice.result.now b (c.in_ok-visit.ensures.settled (ap Ok c.in-NoConflict.is)))
 
-pub returns-in-Settled-clause-strong : goal.returns-in-Settled-clause-strong
-returns-in-Settled-clause-strong g c e same =
+pub returns-in-NoConflict-clause-strong : goal.returns-in-NoConflict-clause-strong
+returns-in-NoConflict-clause-strong g c e same =
     let b = g.R.Rule.body c.self.inside.rule in
     subst (λ (t : Task). IsStrong t c.visit.new.store) (ap (λ (us : List Atom). task_of us b) c.as_slice.ensures.value ∙ c.self.view_is)
-    (settled_strong c.visit.new.store c.as_slice.result.now b (c.in_ok-visit.ensures.settled (ap Ok c.in-Settled.is)))
+    (settled_strong c.visit.new.store c.as_slice.result.now b (c.in_ok-visit.ensures.settled (ap Ok c.in-NoConflict.is)))
 
 pub returns-in-Conflict-clause-answers : goal.returns-in-Conflict-clause-answers
 returns-in-Conflict-clause-answers g c =
@@ -33,8 +33,8 @@ returns-in-Conflict-clause-answers g c =
     let handed = subst (λ (l : List Atom). IsConflict (HoldsTask (task_of c.as_slice.result.now b)) c.visit.new.store l) (sym (ap (λ (v : _). v.items) c.swap.ensures.y_after)) met in
     subst (λ (t : Task). IsConflict (HoldsTask t) c.visit.new.store c.swap.new.y.items) (ap (λ (us : List Atom). task_of us b) c.as_slice.ensures.value ∙ c.self.view_is) handed
 
-pub returns-in-Settled-clause-infers : goal.returns-in-Settled-clause-infers
-returns-in-Settled-clause-infers g c =
+pub returns-in-NoConflict-clause-infers : goal.returns-in-NoConflict-clause-infers
+returns-in-NoConflict-clause-infers g c =
     let b = g.R.Rule.body c.self.inside.rule in
     subst (λ (t : Task). Infers (ByTask c.args.number (HoldsTask t)) c.args.store.now c.visit.new.store) (ap (λ (us : List Atom). task_of us b) c.as_slice.ensures.value ∙ c.self.view_is) c.in_ok-visit.ensures.infers
 
