@@ -1,14 +1,16 @@
 -- Products that are cut off past all values.
-use Rattle.std.proofs.Common.{ℕ, suc, ◌+◌, ◌^◌, ◌<◌, ◌≤◌, ℤ, pos, negsuc, ◌*ℤ◌, ◌≤ℤ◌, ◌<ℤ◌, ◌≡◌, sym, ◌∙◌, ap, arith, List, [], ◌∷◌, length, get_or, drop, drop-cons, subst, ◌-◌, ◌-ℤ◌, ◌⊎◌, inl, inr, FitsSigned, w64}
+use Rattle.std.proofs.Common.{ℕ, suc, ◌+◌, ◌^◌, ◌<◌, ◌≤◌, ℤ, pos, negsuc, ◌*ℤ◌, ◌≤ℤ◌, ◌<ℤ◌, ◌≡◌, sym, ◌∙◌, ap, arith, List, [], ◌∷◌, length, get_or, drop, drop-cons, subst, ◌-◌, ◌-ℤ◌, ◌⊎◌, inl, inr, refl, FitsSigned, w64, All}
 use Rattle.std.specs.Prelude.{unsigned_abs}
 use Rattle.std.proofs.lemmas.Int.{ints, clamps, by_lt_z}
+use Rattle.std.proofs.lemmas.List.Elements.{All-head, All-tail}
 use Rattle.std.proofs.Math.IntN.{*ℤ_comm}
 use Rattle.cps_domain.proofs.Products.{times_grows, times_shrinks}
 use Rattle.cps_model.specs.Arithmetic.{product}
 use Rattle.cps_p_arith.specs.declared.ends.Ends.{Ends}
 use Rattle.cps_p_arith.specs.declared.range.Range.{Range}
-use Rattle.cps_p_arith.specs.Ranges.{IsBetween, IsBoth, IsIn, IsAt, AreIn, AreAt}
-use Rattle.cps_p_arith.specs.Products.{clamped, IsProductRange}
+use Rattle.cps_p_arith.specs.Ranges.{IsBetween, IsBoth, IsOrdered, IsIn, IsAt, AreIn, AreAt}
+use Rattle.cps_p_arith.specs.Products.{clamped, IsCorner, IsReachedBy, IsProductRange}
+use Rattle.cps_propagate.specs.Arithmetic.{MayMultiply}
 
 far : ℤ
 far = pos (2 ^ 63 + 1)
@@ -107,6 +109,8 @@ range_of_none r l h = record {
   small = record { low = rw l (omega (arith, ints)); high = rw h (omega (arith, ints)) };
   sound = sound;
   exact = exact;
+  low = λ _. record { ns = []; within = tt; is = l };
+  high = λ _. record { ns = []; within = tt; is = h };
 }
   where
     sound : (ns : List ℤ) → AreIn [] ns → IsBetween r.low r.high (clamped (product ns))
@@ -117,15 +121,38 @@ range_of_none r l h = record {
     exact [] a = record { from = l; to = h }
     exact (n ∷ ns) a = absurd a
 
+-- an end of the range with one more is reached where those before are
+reached_more : (e : Ends) (es : List Ends) (r : Range) (x y : ℤ) → IsIn e x → IsReachedBy es y → (w z : ℤ) → w ≡ x *ℤ y → z ≡ clamped w → IsReachedBy (e ∷ es) z
+reached_more e es r x y i h w z k c = record {
+  ns = x ∷ h.ns;
+  within = (i, h.within);
+  is = c ∙ ap clamped (k ∙ ap (λ a. x *ℤ a) h.is) ∙ clamped-times x (product h.ns);
+}
+
+at_end : (e : Ends) (x : ℤ) → IsOrdered e → (x ≡ e.low) ⊎ (x ≡ e.high) → IsIn e x
+at_end e x o (inl p) = record { from = omega (arith, ints); to = omega (arith, ints) }
+at_end e x o (inr p) = record { from = omega (arith, ints); to = omega (arith, ints) }
+
+reached_end : (es : List Ends) (r : Range) (y : ℤ) → IsProductRange es r → All IsOrdered es → (y ≡ r.low) ⊎ (y ≡ r.high) → IsReachedBy es y
+reached_end es r y h o (inl p) = subst (IsReachedBy es) (sym p) (h.low o)
+reached_end es r y h o (inr p) = subst (IsReachedBy es) (sym p) (h.high o)
+
+reached_corner : (e : Ends) (es : List Ends) (r : Range) (w z : ℤ) → IsProductRange es r → IsCorner e r w → z ≡ clamped w → All IsOrdered (e ∷ es) → IsReachedBy (e ∷ es) z
+reached_corner e es r w z h k c o =
+    reached_more e es r k.x k.y (at_end e k.x (All-head IsOrdered e es o) k.of_factor) (reached_end es r k.y h (All-tail IsOrdered e es o) k.of_range) w z k.is c
+
 -- and with one more
 pub range_of_more : (e : Ends) (es : List Ends) (r w s : Range) → IsProductRange es r
     → ((x y : ℤ) → IsIn e x → IsBetween r.low r.high y → IsBetween w.low w.high (x *ℤ y))
     → ((x y : ℤ) → IsAt e x → IsBoth r.low r.high y → IsBoth w.low w.high (x *ℤ y))
+    → IsCorner e r w.low → IsCorner e r w.high
     → s.low ≡ clamped w.low → s.high ≡ clamped w.high → IsProductRange (e ∷ es) s
-range_of_more e es r w s h sound exact l g = record {
+range_of_more e es r w s h sound exact kl kh l g = record {
   small = record { low = rw l (clamped-size w.low); high = rw g (clamped-size w.high) };
   sound = more;
   exact = more_exact;
+  low = reached_corner e es r w.low s.low h kl l;
+  high = reached_corner e es r w.high s.high h kh g;
 }
   where
     more : (ns : List ℤ) → AreIn (e ∷ es) ns → IsBetween s.low s.high (clamped (product ns))
@@ -147,11 +174,12 @@ range_of_more e es r w s h sound exact l g = record {
 pub product_step : (es : List Ends) (k : ℕ) (d : Ends) (r w s : Range) → 0 < k → k ≤ length es → IsProductRange (drop k es) r
     → ((x y : ℤ) → IsIn (get_or es (k - 1) d) x → IsBetween r.low r.high y → IsBetween w.low w.high (x *ℤ y))
     → ((x y : ℤ) → IsAt (get_or es (k - 1) d) x → IsBoth r.low r.high y → IsBoth w.low w.high (x *ℤ y))
+    → IsCorner (get_or es (k - 1) d) r w.low → IsCorner (get_or es (k - 1) d) r w.high
     → s.low ≡ clamped w.low → s.high ≡ clamped w.high → IsProductRange (drop (k - 1) es) s
-product_step es k d r w s p l h sound exact low high =
+product_step es k d r w s p l h sound exact kl kh low high =
     let e : suc (k - 1) ≡ k = omega arith in
     let front : drop (k - 1) es ≡ get_or es (k - 1) d ∷ drop k es = drop-cons es (k - 1) d (omega arith) ∙ ap (λ j. get_or es (k - 1) d ∷ drop j es) e in
-    subst (λ xs. IsProductRange xs s) (sym front) (range_of_more (get_or es (k - 1) d) (drop k es) r w s h sound exact low high)
+    subst (λ xs. IsProductRange xs s) (sym front) (range_of_more (get_or es (k - 1) d) (drop k es) r w s h sound exact kl kh low high)
 
 unclamped : (p v : ℤ) → negsuc (2 ^ 63 - 1) ≤ℤ v → v ≤ℤ pos (2 ^ 63) → clamped p ≡ v → v ≡ p
 unclamped p v l h same = omega (arith, ints, clamps)
@@ -186,3 +214,20 @@ product_at es r t v ns f h l g at fixed =
     let tt' = at.to in
     let same : clamped (product ns) ≡ v = omega (arith, ints) in
     unclamped (product ns) v (low v f) (high v f) same
+
+-- a product range that is not apart from a target has products on both its sides
+pub may_multiply : (es : List Ends) (r : Range) (t : Ends) → FitsSigned w64 t.low → FitsSigned w64 t.high → IsProductRange es r → t.low ≤ℤ r.high → r.low ≤ℤ t.high
+    → IsOrdered t → All IsOrdered es → MayMultiply (AreIn es) (IsIn t)
+may_multiply es r t fl fh h l g o all =
+    let a = h.low all in
+    let b = h.high all in
+    record {
+      low = (a.ns, t.high, a.within, at_end t t.high o (inr refl), under (product a.ns) t.high (high t.high fh) (let e = a.is in omega (arith, ints)));
+      high = (b.ns, t.low, b.within, at_end t t.low o (inl refl), over (product b.ns) t.low (low t.low fl) (let e = b.is in omega (arith, ints)));
+    }
+  where
+    under : (p v : ℤ) → v ≤ℤ pos (2 ^ 63) → clamped p ≤ℤ v → p ≤ℤ v
+    under p v f c = omega (arith, ints, clamps)
+
+    over : (p v : ℤ) → negsuc (2 ^ 63 - 1) ≤ℤ v → v ≤ℤ clamped p → v ≤ℤ p
+    over p v f c = omega (arith, ints, clamps)

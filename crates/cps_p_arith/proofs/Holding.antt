@@ -14,7 +14,7 @@ use Rattle.cps_instance.specs.Terms.{AreIntervals, domain_at}
 use Rattle.cps_instance.specs.Tasks.{HoldsBody, subjects_of_body}
 use Rattle.cps_trail.specs.Trail.{Trail, Domains, IsAdmitted}
 use Rattle.cps_propagate.specs.Now.{IsOpenTo, IsFixedNow, AreOpen}
-use Rattle.cps_propagate.specs.Strength.{IsStrongBody, IsExcludedBody}
+use Rattle.cps_propagate.specs.Strength.{IsStrongBody}
 use Rattle.cps_rule.specs.declared.rule.Narrowing.{Narrowing}
 use Rattle.cps_rule.specs.Rules.{IsFittingRule, IsGiven, IsImpossible, IsAtRest, IsFact, AreFacts, IsExplained, IsRefuted}
 use Rattle.cps_p_arith.specs.declared.ends.Ends.{Ends}
@@ -43,21 +43,6 @@ subjects_by Quotient t es = refl
 subjects_by Remainder t es = refl
 subjects_by Product t es = refl
 subjects_by Greatest t es = refl
-
-strong_by : (k : Relation) (t : ℕ) (es : List ℕ) (s : Trail) → IsStrongBody (body_by k t es) s
-strong_by Quotient t es s = tt
-strong_by Remainder t es s = tt
-strong_by Product t es s = tt
-strong_by Greatest t es s = tt
-
-unseen_by : (k : Relation) (t : ℕ) (es : List ℕ) (s : Trail) → IsExcludedBody (body_by k t es) s → ⊥
-unseen_by Quotient t es s h = h
-unseen_by Remainder t es s h = h
-unseen_by Product t es s h = h
-unseen_by Greatest t es s h = h
-
-pub unseen : (d : Demand) (s : Trail) → IsExcludedBody (body_of d) s → ⊥
-unseen d s = unseen_by d.relation d.target d.exprs.items s
 
 -- the parts of what a body that fits has
 pub known_of : (first : Domains) (d : Demand) → IsFittingRule first (body_of d) → HasKnownSubjects first d
@@ -112,12 +97,12 @@ open_admitted : (s : Trail) (xs : List ℤ) (is : List ℕ) → All (λ i. i < l
 open_admitted s xs is k a j e l = a (get_or is j e) (k j e l)
 
 -- what a look says
-pub at_rest : (s : Trail) (d : Demand) (b : Bounds) → AreMeasured s d b → IsComputedBy b d → IsAtRest (body_of d) s
-at_rest s d b m c =
+pub at_rest : (s : Trail) (d : Demand) (b : Bounds) → AreMeasured s d b → IsComputedBy b d → IsStrongBody (body_of d) s → IsAtRest (body_of d) s
+at_rest s d b m c strong =
     let e = subjects_by d.relation d.target d.exprs.items in
     record {
       decided = λ fixed xs o. met_by d.relation d.target d.exprs.items xs (c.at xs (fixed_at s d b xs m (subst (All (IsFixedNow s)) e fixed) (subst (AreOpen s xs) e o)));
-      strong = strong_by d.relation d.target d.exprs.items s;
+      strong = strong;
     }
 
 pub impossible : (s : Trail) (d : Demand) (b : Bounds) → AreMeasured s d b → HasKnownSubjects s.first d → IsDemandMissed b d → IsImpossible (body_of d) s
@@ -140,11 +125,11 @@ is_member b d k i e l same is es = record {
 }
 
 -- facts
-all_but_last : {X : Type 0} (P : X → Type 0) (xs : List X) (x : X) → All P (xs ++ x ∷ []) → All P xs
+pub all_but_last : {X : Type 0} (P : X → Type 0) (xs : List X) (x : X) → All P (xs ++ x ∷ []) → All P xs
 all_but_last P [] x h = All-nil P
 all_but_last P (y ∷ ys) x h = All-cons P y ys (All-head P y (ys ++ x ∷ []) h) (all_but_last P ys x (All-tail P y (ys ++ x ∷ []) h))
 
-all_last : {X : Type 0} (P : X → Type 0) (xs : List X) (x : X) → All P (xs ++ x ∷ []) → P x
+pub all_last : {X : Type 0} (P : X → Type 0) (xs : List X) (x : X) → All P (xs ++ x ∷ []) → P x
 all_last P [] x h = All-head P x [] h
 all_last P (y ∷ ys) x h = all_last P ys x (All-tail P y (ys ++ x ∷ []) h)
 
@@ -155,7 +140,8 @@ one_more s p u fs h f = record {
   holds = λ xs t o. all_last (λ v. atom_holds xs v ≡ true) fs u t;
 }
 
-either : (b : Bool) → (b ≡ true) ⊎ (b ≡ false)
+-- a test is true or false
+pub either : (b : Bool) → (b ≡ true) ⊎ (b ≡ false)
 either true = inl refl
 either false = inr refl
 

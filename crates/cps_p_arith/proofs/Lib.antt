@@ -5,6 +5,8 @@ pub mod Clamping
 pub mod Dividing
 pub mod Rests
 pub mod Opposites
+pub mod Resting
+pub mod Reaching
 pub mod Holding
 pub mod Pairs
 pub mod Faces

@@ -5,6 +5,7 @@ use Rattle.std.proofs.lemmas.List.Elements.{All-nil, All-cons, All-tail}
 use Rattle.cps_model.specs.Arithmetic.{IsGreatest}
 use Rattle.cps_p_arith.specs.declared.ends.Ends.{Ends}
 use Rattle.cps_p_arith.specs.Ranges.{IsIn, AreIn, IsAt, AreAt}
+use Rattle.cps_p_arith.specs.Maxima.{MayReach}
 use Rattle.cps_p_arith.proofs.Zips.{zip_length, zip_at}
 
 pub passed : (high v : ℤ) (es : List Ends) (ns : List ℤ) → Any (λ e. high <ℤ e.low) es → AreIn es ns → v ≤ℤ high → IsGreatest v ns → ⊥
@@ -31,18 +32,18 @@ fallen_short low v es ns short within over g =
     let is = g.listed.2 in
     omega (arith, ints)
 
+same_or : (xs : List Ends) (i : ℕ) (d : Ends) → i < length xs → get_or xs i (get_or xs i d) ≡ get_or xs i d
+same_or [] i d l = absurd (omega arith)
+same_or (x ∷ xs) zero d l = refl
+same_or (x ∷ xs) (suc i) d l = same_or xs i d (omega arith)
+
 none_above : (v : ℤ) (es : List Ends) (ns : List ℤ) → (Any (λ e. v <ℤ e.low) es → ⊥) → AreAt es ns → All (λ n. n ≤ℤ v) ns
 none_above v es ns none fixed k d l =
     let same : length es ≡ length ns = zip_length IsAt es ns fixed in
     let m : k < length es = omega arith in
     let e : Ends = get_or es k (record { low = v; high = v }) in
     let at : IsAt e (get_or ns k d) = zip_at IsAt es ns k (record { low = v; high = v }) d fixed m in
-    by_lt_z v (get_or ns k d) (λ less. absurd (none (k, e, m, get_or_same es k (record { low = v; high = v }) m, (let f = at.from in omega (arith, ints))))) (λ h. h)
-  where
-    get_or_same : (xs : List Ends) (i : ℕ) (d : Ends) → i < length xs → get_or xs i (get_or xs i d) ≡ get_or xs i d
-    get_or_same [] i d l = absurd (omega arith)
-    get_or_same (x ∷ xs) zero d l = refl
-    get_or_same (x ∷ xs) (suc i) d l = get_or_same xs i d (omega arith)
+    by_lt_z v (get_or ns k d) (λ less. absurd (none (k, e, m, same_or es k (record { low = v; high = v }) m, (let f = at.from in omega (arith, ints))))) (λ h. h)
 
 listed_or : (v : ℤ) (es : List Ends) (ns : List ℤ) → AreAt es ns → All (λ n. n ≤ℤ v) ns → Contains ns v ⊎ All (λ e. e.high <ℤ v) es
 listed_or v [] [] h a = inr (All-nil (λ e. e.high <ℤ v))
@@ -70,3 +71,17 @@ is_fixed_greatest t v es ns at none reached fixed =
     (λ some. none (some.0, some.1, some.2, some.3, (let p = some.4 in let to = at.to in omega (arith, ints))))
     (λ short. reached (λ k d l. let p = short k d l in let from = at.from in omega (arith, ints)))
     fixed
+
+-- some member reaches where not all fall short
+some_reaches : (low : ℤ) (es : List Ends) → (All (λ e. e.high <ℤ low) es → ⊥) → (k : ℕ) × (k < length es) × ((d : Ends) → low ≤ℤ (get_or es k d).high)
+some_reaches low [] reached = absurd (reached (All-nil (λ e. e.high <ℤ low)))
+some_reaches low (e ∷ es) reached =
+    by_lt_z e.high low
+    (λ less. let r = some_reaches low es (λ all. reached (All-cons (λ e. e.high <ℤ low) e es less all)) in (suc r.0, (let l = r.1 in omega arith), r.2))
+    (λ more. (0, omega arith, λ d. more))
+
+pub may_reach : (t : Ends) (es : List Ends) → (Any (λ e. t.high <ℤ e.low) es → ⊥) → (All (λ e. e.high <ℤ t.low) es → ⊥) → MayReach t es
+may_reach t es none reached = record {
+  reached = some_reaches t.low es reached;
+  above = λ k d l. by_lt_z t.high (get_or es k d).low (λ less. absurd (none (k, get_or es k d, l, same_or es k d l, less))) (λ h. h);
+}

@@ -1,5 +1,5 @@
 -- Quotients between ends.
-use Rattle.std.proofs.Common.{zero, suc, ◌+◌, ◌^◌, ◌≤◌, ℤ, pos, negsuc, neg_ℤ, ◌+ℤ◌, ◌*ℤ◌, ◌<ℤ◌, ◌≡◌, ◌≢◌, refl, arith, List, [], ◌∷◌, length, get_or, FitsSigned, w64}
+use Rattle.std.proofs.Common.{zero, suc, ◌+◌, ◌^◌, ◌≤◌, ℤ, pos, negsuc, neg_ℤ, ◌+ℤ◌, ◌*ℤ◌, ◌<ℤ◌, ◌≡◌, ◌≢◌, refl, arith, List, [], ◌∷◌, length, get_or, FitsSigned, w64, All}
 use Rattle.std.specs.Prelude.{unsigned_abs, int_div}
 use Rattle.std.proofs.lemmas.Int.{ints, by_lt_z, fits_signed_mul, fits_signed_from_abs}
 use Rattle.std.proofs.Math.Nat.{div-le_self}
@@ -7,7 +7,9 @@ use mir.Syntax.{w128}
 use Rattle.cps_domain.proofs.Products.{size_div}
 use Rattle.cps_model.specs.Arithmetic.{IsQuotient}
 use Rattle.cps_p_arith.specs.declared.ends.Ends.{Ends}
-use Rattle.cps_p_arith.specs.Ranges.{IsBetween, IsIn, IsAt, AreIn, AreAt}
+use Rattle.cps_propagate.specs.Arithmetic.{MayDivide}
+use Rattle.cps_p_arith.specs.Demands.{MayDivideEach}
+use Rattle.cps_p_arith.specs.Ranges.{IsBetween, IsIn, IsAt, AreIn, AreAt, IsOrdered}
 use Rattle.cps_p_arith.specs.Divisions.{IsDivided}
 use Rattle.cps_p_arith.proofs.Scaling.{number_size}
 
@@ -64,3 +66,9 @@ next_size (negsuc (suc n)) h = omega (arith, ints)
 
 pub next_fits : (t : ℤ) → unsigned_abs t ≤ 2 ^ 63 + 8 → FitsSigned w128 (t +ℤ pos 1)
 next_fits t h = fits_signed_from_abs w128 (t +ℤ pos 1) (let s = next_size t h in omega arith)
+
+pub divide_two : (es : List Ends) (t a b : Ends) → length es ≡ 2 → (IsOrdered (get_or es 0 a) → MayDivide (IsIn (get_or es 0 a)) (IsIn (get_or es 1 b)) (IsIn t)) → All IsOrdered es → MayDivideEach t es
+divide_two [] t a b l h o = absurd (omega arith)
+divide_two (e ∷ []) t a b l h o = absurd (omega arith)
+divide_two (e ∷ f ∷ []) t a b l h o = h (o 0 a (omega arith))
+divide_two (e ∷ f ∷ g ∷ es) t a b l h o = absurd (omega arith)

@@ -1,10 +1,13 @@
 -- Products of numbers that lie between others.
-use Rattle.std.proofs.Common.{◌+◌, ◌^◌, ◌≤◌, ℤ, pos, negsuc, ◌*ℤ◌, ◌≤ℤ◌, ◌≡◌, ◌∙◌, ap, arith, FitsSigned, w64}
+use Rattle.std.proofs.Common.{◌+◌, ◌^◌, ◌≤◌, ℤ, pos, negsuc, ◌-ℤ◌, ◌*ℤ◌, ◌≤ℤ◌, ◌≡◌, ◌⊎◌, inl, inr, refl, ◌∙◌, ap, arith, FitsSigned, w64}
 use Rattle.std.specs.Prelude.{unsigned_abs}
 use Rattle.std.proofs.lemmas.Int.{ints, by_lt_z, fits_signed_mul, fits_signed_from_abs}
 use Rattle.std.proofs.Math.IntN.{*ℤ_comm}
 use mir.Syntax.{w128}
 use Rattle.cps_domain.proofs.Products.{times_grows, times_shrinks}
+use Rattle.cps_p_arith.specs.declared.ends.Ends.{Ends}
+use Rattle.cps_p_arith.specs.declared.range.Range.{Range}
+use Rattle.cps_p_arith.specs.Products.{IsCorner}
 use Rattle.cps_p_arith.specs.Ranges.{IsBetween, IsBoth}
 
 pub number_size : (n : ℤ) → FitsSigned w64 n → unsigned_abs n ≤ 2 ^ 63
@@ -13,6 +16,9 @@ number_size (negsuc n) f = let g = f.sfits in omega (arith, ints)
 
 pub fits_wider : (n : ℤ) → FitsSigned w64 n → FitsSigned w128 n
 fits_wider n f = fits_signed_from_abs w128 n (let s = number_size n f in omega arith)
+
+pub opposite_fits : (n : ℤ) → FitsSigned w64 n → FitsSigned w128 (pos 0 -ℤ n)
+opposite_fits n f = fits_signed_from_abs w128 (pos 0 -ℤ n) (let s = number_size n f in omega (arith, ints))
 
 pub scaled_fits : (n l : ℤ) → FitsSigned w64 n → unsigned_abs l ≤ 2 ^ 63 + 8 → FitsSigned w128 (n *ℤ l)
 scaled_fits n l f h = fits_signed_mul w128 n l (2 ^ 63) (2 ^ 63 + 8) (number_size n f) h (omega arith)
@@ -65,3 +71,10 @@ fits_between l h v fl fh b =
     fits_between' a (negsuc b) (pos v) fa fb p q = absurd (omega (arith, ints))
     fits_between' (pos a) b (negsuc v) fa fb p q = absurd (omega (arith, ints))
     fits_between' (negsuc a) b (negsuc v) fa fb p q = record { sfits = (let g = fa.sfits in omega (arith, ints)) }
+
+-- the least and the greatest of the products of ends are products of ends
+pub corner : (e : Ends) (r : Range) (z a b : ℤ) → (z ≡ a) ⊎ (z ≡ b) → (a ≡ e.low *ℤ r.low) ⊎ (a ≡ e.low *ℤ r.high) → (b ≡ e.high *ℤ r.low) ⊎ (b ≡ e.high *ℤ r.high) → IsCorner e r z
+corner e r z a b (inl p) (inl q) k = record { x = e.low; y = r.low; of_factor = inl refl; of_range = inl refl; is = p ∙ q }
+corner e r z a b (inl p) (inr q) k = record { x = e.low; y = r.high; of_factor = inl refl; of_range = inr refl; is = p ∙ q }
+corner e r z a b (inr p) q (inl k) = record { x = e.high; y = r.low; of_factor = inr refl; of_range = inl refl; is = p ∙ k }
+corner e r z a b (inr p) q (inr k) = record { x = e.high; y = r.high; of_factor = inr refl; of_range = inr refl; is = p ∙ k }

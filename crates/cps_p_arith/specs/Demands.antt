@@ -1,16 +1,17 @@
 -- What is demanded of a target and its members, and what bounds of their values say of it.
-use Rattle.std.specs.Prelude.{◌≡◌, ℕ, ◌<◌, ℤ, true, false, Bool, Option, Some, None, List, [], ◌∷◌, ◌++◌, length, All}
+use Rattle.std.specs.Prelude.{◌≡◌, ◌≢◌, ◌⊎◌, ℕ, ◌<◌, ℤ, pos, ◌≤ℤ◌, ◌<ℤ◌, true, false, Bool, Option, Some, None, List, [], ◌∷◌, ◌++◌, length, slice_index_or, All}
 use Rattle.std.specs.List.{AllZip}
 use Rattle.cps_model.specs.Arithmetic.{IsQuotient, IsRemainder, IsProduct, IsGreatest}
 use Rattle.cps_literal.specs.declared.atom.Atom.{Atom}
-use Rattle.cps_literal.specs.Truth.{value_at, atom_holds}
+use Rattle.cps_literal.specs.Truth.{value_at, atom_holds, meets}
 use Rattle.cps_instance.specs.declared.task.Body.{Body}
 use Rattle.cps_instance.specs.declared.task.Body.TheVariants.{IntDiv, IntMod, IntProd, LinMax}
 use Rattle.cps_instance.specs.Terms.{Domains, AreIntervals, domain_at}
 use Rattle.cps_instance.specs.Parts.{values_at}
-use Rattle.cps_trail.specs.Trail.{Trail, admits, IsWithin}
+use Rattle.cps_trail.specs.Trail.{Trail, admits, IsWithin, IsTrueNow}
 use Rattle.cps_trail.specs.Changes.{IsHull}
 use Rattle.cps_rule.specs.Rules.{AreFacts, AllTrueAt}
+use Rattle.cps_propagate.specs.Arithmetic.{MayMultiply, MayDivide}
 use Rattle.cps_p_arith.specs.declared.ends.Ends.{Ends}
 use Rattle.cps_p_arith.specs.declared.bounds.Bounds.{Bounds}
 use Rattle.cps_p_arith.specs.declared.bounds.Demand.{Demand}
@@ -18,7 +19,10 @@ use Rattle.cps_p_arith.specs.declared.bounds.Place.{Place}
 use Rattle.cps_rule.specs.declared.rule.Narrowing.{Narrowing}
 use Rattle.cps_p_arith.specs.declared.relation.Relation.{Relation}
 use Rattle.cps_p_arith.specs.declared.relation.Relation.TheVariants.{Quotient, Remainder, Product, Greatest}
-use Rattle.cps_p_arith.specs.Ranges.{IsIn, AreIn, IsAt, AreAt}
+use Rattle.cps_p_arith.specs.declared.narrow.Side.{Side}
+use Rattle.cps_p_arith.specs.declared.narrow.Side.TheVariants.{Low, High}
+use Rattle.cps_p_arith.specs.Ranges.{IsIn, AreIn, IsAt, AreAt, IsOrdered}
+use Rattle.cps_p_arith.specs.Maxima.{MayReach, IsAlone}
 
 abbrev pub Relates : Relation → ℤ → List ℤ → Type 0
 Relates Quotient v ns = IsQuotient v ns
@@ -43,6 +47,22 @@ IsExcludedBy k target members = (v : ℤ) (ns : List ℤ) → IsIn target v → 
 -- where all are fixed, the target's value belongs to those of the members
 abbrev pub IsComputed : Relation → Ends → List Ends → Type 0
 IsComputed k target members = (v : ℤ) (ns : List ℤ) → IsAt target v → AreAt members ns → Relates k v ns
+
+-- two ends of a quotient's members
+abbrev pub MayDivideEach : Ends → List Ends → Type 0
+MayDivideEach target (n ∷ d ∷ []) = MayDivide (IsIn n) (IsIn d) (IsIn target)
+MayDivideEach target members = ⊥
+
+-- what a kind asks of values between ends; of remainders nothing
+abbrev pub Admits : Relation → Ends → List Ends → Type 0
+Admits Quotient target members = MayDivideEach target members
+Admits Remainder target members = Unit {0}
+Admits Product target members = MayMultiply (AreIn members) (IsIn target)
+Admits Greatest target members = MayReach target members
+
+-- ends that are in order are admitted
+pub record AdmitsOrdered (k : Relation) (target : Ends) (members : List Ends) : Type 0 where
+  pub at : IsOrdered target → All IsOrdered members → Admits k target members
 
 -- a demand's subjects have domains
 pub record HasKnownSubjects (first : Domains) (d : Demand) : Type 0 where
@@ -154,3 +174,82 @@ is_arithmetic (IntMod target exprs) = true
 is_arithmetic (IntProd target exprs) = true
 is_arithmetic (LinMax target exprs) = true
 is_arithmetic body = false
+
+-- a subject's ends are those of a place that is about it, and else of what it may be now
+pub record IsCutAt (s : Trail) (p : Place) (j : ℕ) (e : Ends) : Type 0 where
+  pub own : j ≡ p.subject → e ≡ p.ends
+  pub other : j ≢ p.subject → AreEndsNow s j e
+
+pub record AreCut (s : Trail) (d : Demand) (p : Place) (b : Bounds) : Type 0 where
+  pub target : IsCutAt s p d.target b.target
+  pub members : AllZip (IsCutAt s p) d.exprs.items b.members.items
+
+-- the ends that are left are admitted, where one subject has one value alone
+pub record IsPossibleAt (s : Trail) (d : Demand) (i : ℕ) (v : ℤ) : Type 0 where
+  pub bounds : Bounds
+  pub cut : AreCut s d (record { subject = i; ends = record { low = v; high = v } }) bounds
+  pub admitted : Admits d.relation bounds.target bounds.members.items
+
+-- no values between the bounds at which a subject has a value meet the demand
+pub record IsMissedAt (b : Bounds) (d : Demand) (i : ℕ) (v : ℤ) : Type 0 where
+  pub at : (xs : List ℤ) → LieWithinBounds b d xs → value_at xs i ≡ v → IsDemandMet d xs → ⊥
+
+-- bounds that are read off a store, and that are admitted
+pub record AreAdmitted (s : Trail) (d : Demand) (b : Bounds) : Type 0 where
+  pub measured : AreMeasured s d b
+  pub admitted : Admits d.relation b.target b.members.items
+
+abbrev pub end_of : Side → Ends → ℤ
+end_of Low e = e.low
+end_of High e = e.high
+
+-- a value lies further from the end of a side than another
+abbrev pub IsPast : Side → ℤ → ℤ → Type 0
+IsPast Low from x = from <ℤ x
+IsPast High from x = x <ℤ from
+
+-- an atom about a place's subject is implied, and is false at its end
+pub record IsFoundAt (b : Bounds) (d : Demand) (p : Place) (side : Side) (u : Atom) : Type 0 where
+  pub implied : IsImplied b d u
+  pub subject : u.subject ≡ p.subject
+  pub denies : meets u.op u.value (end_of side p.ends) ≡ false
+
+-- of an end an atom is found, or it is possible
+abbrev pub IsEndTried : Bounds → Demand → Place → Side → Option Atom → Type 0
+IsEndTried b d p side None = p.ends.low <ℤ p.ends.high → (s : Trail) → AreMeasured s d b
+    → IsPossibleAt s d p.subject (end_of side p.ends)
+IsEndTried b d p side (Some u) = IsFoundAt b d p side u
+
+abbrev pub AllTrueNow : Trail → List Narrowing → Type 0
+AllTrueNow s ns = All (λ n. IsTrueNow s n.target) ns
+
+-- both ends of a place are possible
+pub record AreEndsPossible (s : Trail) (d : Demand) (p : Place) : Type 0 where
+  pub low : IsPossibleAt s d p.subject p.ends.low
+  pub high : IsPossibleAt s d p.subject p.ends.high
+
+-- after more narrowings the ends of a place are possible, where all these are true already
+pub record TriesPlace (b : Bounds) (d : Demand) (p : Place) (old new : List Narrowing) : Type 0 where
+  pub keeps : (s : Trail) → AllTrueNow s new → AllTrueNow s old
+  pub possible : (s : Trail) → AreAdmitted s d b → AreEndsNow s p.subject p.ends → AllTrueNow s new
+      → AreEndsPossible s d p
+
+-- the place of a member
+abbrev pub member_of : Demand → Bounds → ℕ → Place
+member_of d b k = record {
+  subject = slice_index_or d.exprs.items k 0;
+  ends = slice_index_or b.members.items k (record { low = pos 0; high = pos 0 });
+}
+
+-- a member may be passed over: a greatest value reaches as far, and where no other reaches the target, it does so
+-- wherever it is, or nowhere
+pub record IsPassedOver (d : Demand) (target : Ends) (members : List Ends) (k : ℕ) (own : Ends) : Type 0 where
+  pub relation : d.relation ≡ Greatest
+  pub high : own.high ≤ℤ target.high
+  pub low : IsAlone target members k → (target.low ≤ℤ own.low) ⊎ (own.high <ℤ target.low)
+
+-- the ends of all subjects are possible, but those of members that are passed over
+pub record AreTried (s : Trail) (d : Demand) (b : Bounds) : Type 0 where
+  pub target : AreEndsPossible s d (record { subject = d.target; ends = b.target })
+  pub members : (k : ℕ) → k < length d.exprs.items → AreEndsPossible s d (member_of d b k)
+      ⊎ IsPassedOver d b.target b.members.items k (member_of d b k).ends

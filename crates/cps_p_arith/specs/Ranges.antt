@@ -9,6 +9,10 @@ pub record IsBetween (low high v : ℤ) : Type 0 where
   pub from : low ≤ℤ v
   pub to : v ≤ℤ high
 
+-- ends in order
+abbrev pub IsOrdered : Ends → Type 0
+IsOrdered e = e.low ≤ℤ e.high
+
 abbrev pub IsIn : Ends → ℤ → Type 0
 IsIn e v = IsBetween e.low e.high v
 

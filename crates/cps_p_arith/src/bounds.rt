@@ -4,7 +4,7 @@ ghost use Rattle.std.specs.List.{AllZip};
 ghost use Rattle.cps_literal.specs.Truth.{value_at};
 ghost use Rattle.cps_trail.specs.Trail.{Trail};
 ghost use Rattle.cps_p_arith.specs.Ranges.{IsIn, AreIn};
-ghost use Rattle.cps_p_arith.specs.Demands.{LieWithinBounds, AreHeldEach, AreMeasured, HasKnownSubjects, AreEndsNow, IsDemandMissed, IsComputedBy};
+ghost use Rattle.cps_p_arith.specs.Demands.{LieWithinBounds, AreHeldEach, AreMeasured, HasKnownSubjects, AreEndsNow, IsDemandMissed, IsComputedBy, AdmitsOrdered, IsCutAt, AreCut};
 
 use crate::ends::Ends;
 use crate::relation::Relation;
@@ -58,8 +58,9 @@ fn measure_each(past: &Before, exprs: &[u32], ends: &mut Vec<Ends>) -> Result<()
 
 /// The ends of a subject's values: those of a place, where it is about this subject.
 fn chosen(subject: u32, ends: Ends, piece: Place) -> Ends
-    ensures { (xs : List ℤ) → IsIn ends (value_at xs subject) → IsIn piece.ends (value_at xs piece.subject)
+    ensures held { (xs : List ℤ) → IsIn ends (value_at xs subject) → IsIn piece.ends (value_at xs piece.subject)
         → IsIn result (value_at xs subject) }
+    ensures cut { (s : Trail) → AreEndsNow s subject ends → IsCutAt s piece subject result }
 {
     if subject == piece.subject {
         piece.ends
@@ -79,6 +80,8 @@ fn cut_each(
     ensures len { OnOk result (length ends.new.items ≡ length exprs.now) }
     ensures held { OnOk result ((xs : List ℤ) → AreHeldEach xs exprs.now whole.now
         → IsIn piece.ends (value_at xs piece.subject) → AreHeldEach xs exprs.now ends.new.items) }
+    ensures cut { OnOk result ((s : Trail) → AllZip (AreEndsNow s) exprs.now whole.now
+        → AllZip (IsCutAt s piece) exprs.now ends.new.items) }
 {
     ends.clear();
     for (k, subject) in exprs.iter().enumerate() {
@@ -118,6 +121,8 @@ impl Bounds {
         ensures len { OnOk result (length self.new.members.items ≡ length demand.now.exprs.items) }
         ensures held { OnOk result ((xs : List ℤ) → LieWithinBounds whole.now demand.now xs
             → IsIn piece.ends (value_at xs piece.subject) → LieWithinBounds self.new demand.now xs) }
+        ensures cut { OnOk result ((s : Trail) → AreMeasured s demand.now whole.now
+            → AreCut s demand.now piece self.new) }
     {
         self.target = chosen(demand.target, whole.target, piece);
         cut_each(
@@ -132,6 +137,8 @@ impl Bounds {
     pub(crate) fn exclude(&self, demand: &Demand) -> bool
         ensures sound { IsTrue result → IsDemandMissed self.now demand.now }
         ensures exact { result ≡ false → IsComputedBy self.now demand.now }
+        ensures possible { result ≡ false
+            → AdmitsOrdered demand.now.relation self.now.target self.now.members.items }
     {
         demand
             .relation

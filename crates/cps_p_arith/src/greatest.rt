@@ -2,6 +2,7 @@
 ghost use Rattle.std.specs.Prelude.{◌≡◌, ◌↔◌, ◌<ℤ◌, ℤ, false, List, All, Any, IsTrue};
 ghost use Rattle.cps_model.specs.Arithmetic.{IsGreatest};
 ghost use Rattle.cps_p_arith.specs.Ranges.{IsIn, AreIn, IsAt, AreAt};
+ghost use Rattle.cps_p_arith.specs.Maxima.{MayReach};
 
 use crate::ends::Ends;
 
@@ -23,6 +24,7 @@ fn all_fall_short(target: Ends, members: &[Ends]) -> bool
 pub(crate) fn excludes_greatest(target: Ends, members: &[Ends]) -> bool
     ensures sound { IsTrue result → (v : ℤ) (ns : List ℤ) → IsIn target v → AreIn members.now ns → IsGreatest v ns → ⊥ }
     ensures exact { result ≡ false → (v : ℤ) (ns : List ℤ) → IsAt target v → AreAt members.now ns → IsGreatest v ns }
+    ensures possible { result ≡ false → MayReach target members.now }
 {
     some_passes(target, members) || all_fall_short(target, members)
 }

@@ -2,10 +2,11 @@
 //!
 //! A product may be far greater than any value. It is cut off at a limit past all values, after each factor: the
 //! product with a number past the limit is past it too, or 0, and so is that with the limit itself.
-ghost use Rattle.std.specs.Prelude.{◌≡◌, ◌*ℤ◌, ℤ, false, List, IsTrue};
+ghost use Rattle.std.specs.Prelude.{◌≡◌, ◌⊎◌, ◌*ℤ◌, ℤ, false, List, All, IsTrue};
 ghost use Rattle.cps_model.specs.Arithmetic.{IsProduct};
-ghost use Rattle.cps_p_arith.specs.Ranges.{IsBetween, IsBoth, IsIn, IsAt, AreIn, AreAt, IsSmall};
-ghost use Rattle.cps_p_arith.specs.Products.{clamped, IsProductRange};
+ghost use Rattle.cps_p_arith.specs.Ranges.{IsBetween, IsBoth, IsOrdered, IsIn, IsAt, AreIn, AreAt, IsSmall};
+ghost use Rattle.cps_p_arith.specs.Products.{clamped, IsCorner, IsProductRange};
+ghost use Rattle.cps_propagate.specs.Arithmetic.{MayMultiply};
 
 use crate::ends::Ends;
 use crate::range::{Range, is_apart, joined};
@@ -29,6 +30,8 @@ fn scaled(number: i64, range: Range) -> Range
     requires { IsSmall range }
     ensures sound { (y : ℤ) → IsBetween range.low range.high y → IsBetween result.low result.high (number *ℤ y) }
     ensures exact { (y : ℤ) → IsBoth range.low range.high y → IsBoth result.low result.high (number *ℤ y) }
+    ensures low { (result.low ≡ number *ℤ range.low) ⊎ (result.low ≡ number *ℤ range.high) }
+    ensures high { (result.high ≡ number *ℤ range.low) ⊎ (result.high ≡ number *ℤ range.high) }
 {
     let factor = number as i128;
     let one = factor * range.low;
@@ -52,6 +55,8 @@ fn times(factor: Ends, range: Range) -> Range
     ensures sound { (x y : ℤ) → IsIn factor x → IsBetween range.low range.high y
         → IsBetween result.low result.high (x *ℤ y) }
     ensures exact { (x y : ℤ) → IsAt factor x → IsBoth range.low range.high y → IsBoth result.low result.high (x *ℤ y) }
+    ensures low { IsCorner factor range result.low }
+    ensures high { IsCorner factor range result.high }
 {
     let one = scaled(factor.low, range);
     let other = scaled(factor.high, range);
@@ -79,6 +84,8 @@ fn product_range(members: &[Ends]) -> Range
 pub(crate) fn excludes_product(target: Ends, members: &[Ends]) -> bool
     ensures sound { IsTrue result → (v : ℤ) (ns : List ℤ) → IsIn target v → AreIn members.now ns → IsProduct v ns → ⊥ }
     ensures exact { result ≡ false → (v : ℤ) (ns : List ℤ) → IsAt target v → AreAt members.now ns → IsProduct v ns }
+    ensures possible { result ≡ false → IsOrdered target → All IsOrdered members.now
+        → MayMultiply (AreIn members.now) (IsIn target) }
 {
     let range = product_range(members);
     is_apart(target, range) || excludes_signs(target, members)

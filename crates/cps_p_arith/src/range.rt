@@ -44,6 +44,8 @@ pub(crate) fn joined(one: Range, other: Range) -> Range
     ensures other_high { other.high ≤ℤ result.high }
     ensures exact { (x : ℤ) → IsBoth one.low one.high x → IsBoth other.low other.high x
         → IsBoth result.low result.high x }
+    ensures one_of_low { (result.low ≡ one.low) ⊎ (result.low ≡ other.low) }
+    ensures one_of_high { (result.high ≡ one.high) ⊎ (result.high ≡ other.high) }
 {
     Range {
         low: if one.low < other.low {
@@ -64,6 +66,7 @@ pub(crate) fn positive_part(ends: Ends) -> Range
     ensures positive { pos 1 ≤ℤ result.low }
     ensures small { IsSmall result }
     ensures within { (x : ℤ) → IsIn ends x → pos 1 ≤ℤ x → IsBetween result.low result.high x }
+    ensures same { (x : ℤ) → IsBetween result.low result.high x → IsIn ends x }
 {
     Range {
         low: if ends.low < 1 { 1 } else { ends.low as i128 },
@@ -76,6 +79,7 @@ pub(crate) fn negative_part(ends: Ends) -> Range
     ensures positive { pos 1 ≤ℤ result.low }
     ensures small { IsSmall result }
     ensures within { (x : ℤ) → IsIn ends x → pos 1 ≤ℤ neg_ℤ x → IsBetween result.low result.high (neg_ℤ x) }
+    ensures same { (x : ℤ) → IsBetween result.low result.high x → IsIn ends (neg_ℤ x) }
 {
     Range {
         low: if ends.high > -1 {

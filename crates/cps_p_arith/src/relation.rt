@@ -1,7 +1,7 @@
 //! What is computed of the members.
 ghost use Rattle.std.specs.Prelude.{◌≡◌, ℤ, false, List, IsTrue, length};
 ghost use Rattle.cps_p_arith.specs.Ranges.{IsIn, AreIn, IsAt, AreAt};
-ghost use Rattle.cps_p_arith.specs.Demands.{Relates, IsExcludedBy, IsComputed};
+ghost use Rattle.cps_p_arith.specs.Demands.{Relates, IsExcludedBy, IsComputed, AdmitsOrdered};
 
 use crate::ends::Ends;
 use crate::greatest::excludes_greatest;
@@ -27,6 +27,7 @@ impl Relation {
     pub(crate) fn excludes(self, target: Ends, members: &[Ends]) -> bool
         ensures sound { IsTrue result → IsExcludedBy self target members.now }
         ensures exact { result ≡ false → IsComputed self target members.now }
+        ensures possible { result ≡ false → AdmitsOrdered self target members.now }
     {
         match self {
             Relation::Quotient => excludes_quotient(target, members),

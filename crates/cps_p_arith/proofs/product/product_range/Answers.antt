@@ -15,5 +15,5 @@ loop-k-preserved c =
     let low = rw (to_z-of_z w128 c.times-wide.result.low wl) at c.clamped.ensures in
     let high = rw (to_z-of_z w128 c.times-wide.result.high wh) at c.clamped-in-loop-k.ensures in
     let step = product_step c.args.members.now c.loop-k.k (record { low = pos 0; high = pos 0 }) c.loop-k.range c.times-wide.result (record { low = l; high = h })
-    c.loop-k-test.true c.loop-k.invariant.within c.loop-k.invariant.range c.times-wide.ensures.sound c.times-wide.ensures.exact low high in
+    c.loop-k-test.true c.loop-k.invariant.within c.loop-k.invariant.range c.times-wide.ensures.sound c.times-wide.ensures.exact c.times-wide.ensures.low c.times-wide.ensures.high low high in
     record { within = omega arith; range = rw (to_z-of_z w128 l fl, to_z-of_z w128 h fh) step }

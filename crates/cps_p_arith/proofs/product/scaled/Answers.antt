@@ -1,4 +1,4 @@
-use Rattle.std.proofs.Common.{rules, FitsSigned, w64, ◌*ℤ◌, arith}
+use Rattle.std.proofs.Common.{rules, FitsSigned, w64, ◌*ℤ◌, inl, inr, refl, arith}
 use Rattle.std.proofs.lemmas.Int.{ints, to_z-of_z}
 use mir.Syntax.{w128}
 use Rattle.cps_p_arith.proofs.Scaling.{fits_wider, scaled_fits, scaled_up, scaled_down, scaled_both, scaled_back}
@@ -78,3 +78,55 @@ overflow_mul-other c =
     let fw : FitsSigned w128 n = fits_wider n fn in
     let fh : FitsSigned w128 h = search rules in
     simp to_z-of_z (scaled_fits n h fn c.requires.high)
+
+pub returns-then-number-lt0-clause-low : goal.returns-then-number-lt0-clause-low
+returns-then-number-lt0-clause-low c =
+    let n = c.args.number in
+    let l = c.args.range.low in
+    let h = c.args.range.high in
+    let fn : FitsSigned w64 n = c.ranges.number in
+    let fw : FitsSigned w128 n = fits_wider n fn in
+    let fl : FitsSigned w128 l = search rules in
+    let fh : FitsSigned w128 h = search rules in
+    let fm : FitsSigned w128 (n *ℤ l) = scaled_fits n l fn c.requires.low in
+    let fk : FitsSigned w128 (n *ℤ h) = scaled_fits n h fn c.requires.high in
+    simp to_z-of_z (inr refl)
+
+pub returns-then-number-lt0-clause-high : goal.returns-then-number-lt0-clause-high
+returns-then-number-lt0-clause-high c =
+    let n = c.args.number in
+    let l = c.args.range.low in
+    let h = c.args.range.high in
+    let fn : FitsSigned w64 n = c.ranges.number in
+    let fw : FitsSigned w128 n = fits_wider n fn in
+    let fl : FitsSigned w128 l = search rules in
+    let fh : FitsSigned w128 h = search rules in
+    let fm : FitsSigned w128 (n *ℤ l) = scaled_fits n l fn c.requires.low in
+    let fk : FitsSigned w128 (n *ℤ h) = scaled_fits n h fn c.requires.high in
+    simp to_z-of_z (inl refl)
+
+pub returns-else-number-lt0-clause-low : goal.returns-else-number-lt0-clause-low
+returns-else-number-lt0-clause-low c =
+    let n = c.args.number in
+    let l = c.args.range.low in
+    let h = c.args.range.high in
+    let fn : FitsSigned w64 n = c.ranges.number in
+    let fw : FitsSigned w128 n = fits_wider n fn in
+    let fl : FitsSigned w128 l = search rules in
+    let fh : FitsSigned w128 h = search rules in
+    let fm : FitsSigned w128 (n *ℤ l) = scaled_fits n l fn c.requires.low in
+    let fk : FitsSigned w128 (n *ℤ h) = scaled_fits n h fn c.requires.high in
+    simp to_z-of_z (inl refl)
+
+pub returns-else-number-lt0-clause-high : goal.returns-else-number-lt0-clause-high
+returns-else-number-lt0-clause-high c =
+    let n = c.args.number in
+    let l = c.args.range.low in
+    let h = c.args.range.high in
+    let fn : FitsSigned w64 n = c.ranges.number in
+    let fw : FitsSigned w128 n = fits_wider n fn in
+    let fl : FitsSigned w128 l = search rules in
+    let fh : FitsSigned w128 h = search rules in
+    let fm : FitsSigned w128 (n *ℤ l) = scaled_fits n l fn c.requires.low in
+    let fk : FitsSigned w128 (n *ℤ h) = scaled_fits n h fn c.requires.high in
+    simp to_z-of_z (inr refl)

@@ -15,3 +15,6 @@ returns-clause-exact c = λ f. record {
   at = λ xs h. (rw c.as_slice.ensures.value at c.excludes.ensures.exact f) (value_at xs c.args.demand.now.target) (values_at xs c.args.demand.now.exprs.items) h.target
       (zip_mapped IsAt (value_at xs) c.args.demand.now.exprs.items c.args.self.now.members.items h.members);
 }
+
+pub returns-clause-possible : goal.returns-clause-possible
+returns-clause-possible c = λ f. rw c.as_slice.ensures.value at c.excludes.ensures.possible f
