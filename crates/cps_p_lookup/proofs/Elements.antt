@@ -1,6 +1,6 @@
 -- What an element says of its places.
 use Rattle.std.specs.Prelude.{slice_get}
-use Rattle.std.proofs.Common.{◌≡◌, ℕ, zero, suc, ℤ, pos, negsuc, ◌<◌, ◌≤ℤ◌, true, List, [], ◌∷◌, length, get_or, refl, sym, ap, subst, ◌∙◌, Option, Some, arith}
+use Rattle.std.proofs.Common.{◌≡◌, ℕ, zero, suc, ℤ, pos, negsuc, ◌<◌, ◌≤ℤ◌, true, List, [], ◌∷◌, length, get_or, refl, sym, ap, subst, ◌∙◌, Option, Some, arith, inl}
 use Rattle.std.specs.List.{All}
 use Rattle.std.proofs.lemmas.List.Elements.{All-head, All-tail, All-get_or}
 use Rattle.cps_domain.proofs.Tests.{le_true}
@@ -13,6 +13,7 @@ use Rattle.cps_instance.specs.Tasks.{HoldsBody}
 use Rattle.cps_instance.specs.Parts.{values_at}
 use Rattle.cps_trail.specs.Trail.{Trail, Domains, IsAdmitted}
 use Rattle.cps_propagate.specs.Now.{IsOpenTo, IsFixedNow, AreOpen}
+use Rattle.cps_propagate.specs.Lookups.{IsStrongElement, MayBeElement}
 use Rattle.cps_rule.specs.Rules.{IsFittingRule, IsGiven, IsImpossible, IsAtRest, AllTrueAt, AreFacts}
 use Rattle.cps_p_lookup.specs.declared.places.Scan.{Scan}
 use Rattle.cps_rule.specs.Facts.{GivesGoal, Denied}
@@ -64,6 +65,9 @@ ge_holds xs u t low e l = subst (λ (w : Atom). atom_holds xs w ≡ true) (sym e
 pub le_holds : (xs : List ℤ) (u : Atom) (t : ℕ) (high : ℤ) → u ≡ record { subject = t; op = Le; value = high } → value_at xs t ≤ℤ high → atom_holds xs u ≡ true
 le_holds xs u t high e l = subst (λ (w : Atom). atom_holds xs w ≡ true) (sym e) (le_true (value_at xs t) high l)
 
+pub scan_seen : (s : Trail) (i t : ℕ) (es : List ℕ) (scan : Scan) → IsScanned s i t es scan → 0 < scan.open → (MayBeElement s i t es → ⊥) → ⊥
+scan_seen s i t es scan h some closed = closed (scan.last, h.last.last some)
+
 -- the target lies between the ends of what was counted
 pub target_low : (s : Trail) (i t : ℕ) (es : List ℕ) (scan : Scan) → IsFitElement s.first i t es → IsScanned s i t es scan → (low : ℤ) → low ≡ scan.least → (u : Atom) → u ≡ record { subject = t; op = Ge; value = low } → IsGiven (Element i t es) s u
 target_low s i t es scan f h low is u e = given_by s i t es u (subst (λ n. n < length s.first) (ap (λ (w : Atom). w.subject) (sym e)) f.target) (λ xs k a l c. ge_holds xs u t low e (subst (λ (v : ℤ). v ≤ℤ value_at xs t) (sym is) ((h.seen k l).at xs a c).least))
@@ -86,23 +90,24 @@ expr_high s i t es scan high f h one inside most u e = given_by s i t es u (subs
     (λ xs k a l c. le_holds xs u (get_or es scan.last 0) high e (subst (λ (v : ℤ). v ≤ℤ high) (sym (same_value s i t es scan h one xs k a l c)) (most (value_at xs t) (a t f.target))))
 
 -- where all is fixed, the last place that was counted is chosen
-pub at_rest : (s : Trail) (i t : ℕ) (es : List ℕ) (scan : Scan) → IsScanned s i t es scan → 0 < scan.open → IsAtRest (Element i t es) s
-at_rest s i t es scan h some = record { decided = fixed_holds; strong = tt }
+pub at_rest : (s : Trail) (i t : ℕ) (es : List ℕ) (scan : Scan) → IsScanned s i t es scan → 0 < scan.open → IsStrongElement s i t es → IsAtRest (Element i t es) s
+at_rest s i t es scan h some strong = record { decided = fixed_holds; strong = strong }
   where
     fixed_holds : All (IsFixedNow s) (i ∷ t ∷ es) → (xs : List ℤ) → AreOpen s xs (i ∷ t ∷ es) → HoldsBody (Element i t es) xs
     fixed_holds fixed xs left =
         let k = scan.last in
         let e = get_or es k 0 in
-        let l : k < length es = h.last.place some in
+        let l : k < length es = (h.last.last some).within in
         let oi = All-head (λ j. IsOpenTo s j (value_at xs j)) i (t ∷ es) left in
         let ot = All-head (λ j. IsOpenTo s j (value_at xs j)) t es (All-tail (λ j. IsOpenTo s j (value_at xs j)) i (t ∷ es) left) in
         let oe = All-get_or (λ j. IsOpenTo s j (value_at xs j)) es k 0 l (All-tail (λ j. IsOpenTo s j (value_at xs j)) t es (All-tail (λ j. IsOpenTo s j (value_at xs j)) i (t ∷ es) left)) in
         let fi = All-head (IsFixedNow s) i (t ∷ es) fixed in
         let ft = All-head (IsFixedNow s) t es (All-tail (IsFixedNow s) i (t ∷ es) fixed) in
         let fe = All-get_or (IsFixedNow s) es k 0 l (All-tail (IsFixedNow s) t es (All-tail (IsFixedNow s) i (t ∷ es) fixed)) in
+        let common = (h.last.last some).same.single (inl fe) in
         chosen_holds i t es xs k l (record {
-          index = fi (value_at xs i) (pos k) oi (h.last.index some);
-          same = ft (value_at xs e) (value_at xs t) ((h.last.meets some).at (value_at xs e) oe (λ y oy. fe y (value_at xs e) oy oe)) ot;
+          index = fi (value_at xs i) (pos k) oi (h.last.last some).place;
+          same = fe (value_at xs e) common.0 oe common.1 ∙ ft common.0 (value_at xs t) common.2 ot;
         })
 
 -- facts that close each place

@@ -1,4 +1,6 @@
 pub mod Growing
+pub mod Resting
+pub mod Opening
 pub mod Elements
 pub mod Closing
 pub mod Placing

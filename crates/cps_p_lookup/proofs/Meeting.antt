@@ -54,9 +54,6 @@ only a b x e l h = omega (arith, ints)
 pub single_apart : (E T : Window) (a b : ℤ) → a ≡ b → ((x : ℤ) → contains T x ≡ true → a ≤ℤ x) → ((x : ℤ) → contains T x ≡ true → x ≤ℤ b) → contains E a ≡ false → (x : ℤ) → contains T x ≡ true → contains E x ≡ true → ⊥
 single_apart E T a b same least greatest off x inside other = true≢false (sym other ∙ subst (λ (v : ℤ). contains E v ≡ false) (only a b x same (least x inside) (greatest x inside)) off)
 
-pub several : (E : Window) (P : Type 0) (a b : ℤ) → (a ≡ b → ⊥) → contains E a ≡ true → contains E b ≡ true → (x : ℤ) → ((y : ℤ) → contains E y ≡ true → y ≡ x) → P
-several E P a b apart low high x alone = absurd (apart (alone a low ∙ sym (alone b high)))
-
 pub single_by : (s : Trail) (i : ℕ) (D : Window) (a b v : ℤ) → ((x : ℤ) → contains D x ≡ admits s.first s.entries i x) → ((x : ℤ) → contains D x ≡ true → a ≤ℤ x) → ((x : ℤ) → contains D x ≡ true → x ≤ℤ b) → a ≡ v → b ≡ v → IsSingle s i v
 single_by s i D a b v of least greatest low high = record {
   at = λ x o. sym (only v v x refl (subst (λ (w : ℤ). w ≤ℤ x) low (least x (of x ∙ o))) (subst (λ (w : ℤ). x ≤ℤ w) high (greatest x (of x ∙ o))));

@@ -24,6 +24,7 @@ use Rattle.cps_p_lookup.specs.Tabling.{AreLive}
 use Rattle.cps_p_lookup.specs.Gaps.{ExcludesValues, IsListedAt, AreListed, Lists}
 use Rattle.cps_p_lookup.proofs.Elements.{given_by, same_value}
 use Rattle.cps_p_lookup.proofs.Placing.{more_given, not_off, equals_is}
+use Rattle.cps_p_lookup.proofs.Resting.{trues_before}
 use Rattle.cps_p_lookup.proofs.Tables.{column_given}
 
 equal_is_same : (x y : ℤ) → int_cmp x y ≡ Equal → x ≡ y
@@ -52,10 +53,10 @@ listed_by_search ns x (Err i) b sorted is bound found =
     no_test t = cc
 
 pub excludes_more : (subject : ℕ) (kept : ℤ → Type 0) (old mid new : List Narrowing) (n : Narrowing) (v : ℤ) → ExcludesValues subject kept old mid → new ≡ mid ++ n ∷ [] → n.target ≡ record { subject = subject; op = Ne; value = v } → (kept v → ⊥) → ExcludesValues subject kept old new
-excludes_more subject kept old mid new n v h is at off = record { at = λ body s given all. more_given body s mid new n is (given n.target v at off) (h.at body s given all) }
+excludes_more subject kept old mid new n v h is at off = record { at = λ body s given all. more_given body s mid new n is (given n.target v at off) (h.at body s given all); before = λ s trues. h.before s (trues_before s mid new n is trues) }
 
 pub excludes_weaker : (subject : ℕ) (p q : ℤ → Type 0) (old new : List Narrowing) → ((v : ℤ) → q v → p v) → ExcludesValues subject p old new → ExcludesValues subject q old new
-excludes_weaker subject p q old new w h = record { at = λ body s given all. h.at body s (λ u v at off. given u v at (λ k. off (w v k))) all }
+excludes_weaker subject p q old new w h = record { at = λ body s given all. h.at body s (λ u v at off. given u v at (λ k. off (w v k))) all; before = h.before }
 
 -- an atom that a subject is not a value holds where the value is another
 ne_holds : (xs : List ℤ) (u : Atom) (i : ℕ) (v : ℤ) → u ≡ record { subject = i; op = Ne; value = v } → (value_at xs i ≡ v → ⊥) → atom_holds xs u ≡ true

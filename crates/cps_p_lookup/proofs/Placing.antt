@@ -13,14 +13,14 @@ use Rattle.cps_literal.specs.Truth.{value_at, atom_holds}
 use Rattle.cps_instance.specs.declared.task.Body.{Body}
 use Rattle.cps_instance.specs.declared.task.Body.TheVariants.{Element}
 use Rattle.cps_trail.specs.Trail.{Trail, Domains, IsAdmitted, admits}
-use Rattle.cps_propagate.specs.Now.{IsOpenTo}
 use Rattle.cps_rule.specs.declared.rule.Narrowing.{Narrowing}
 use Rattle.cps_rule.specs.Rules.{IsFittingRule, IsGiven, AllTrueAt, AreFacts}
 use Rattle.cps_p_lookup.specs.declared.places.Scan.{Scan}
 use Rattle.cps_p_lookup.specs.Facts.{AddsWhere}
 use Rattle.cps_rule.specs.Facts.{Grows, GivesGoal}
-use Rattle.cps_p_lookup.specs.Elements.{IsFitElement, IsChosen, IsCovered, IsSeenAt, IsLastOpen, IsPlaceVisited, IsClosed, Closes, IsLeft, MayMeet}
+use Rattle.cps_p_lookup.specs.Elements.{IsFitElement, IsChosen, IsCovered, IsSeenAt, IsPlaceVisited, IsClosed, Closes, IsLeft}
 use Rattle.cps_p_lookup.proofs.Growing.{grows_trans}
+use Rattle.cps_p_lookup.proofs.Opening.{last_skipped}
 use Rattle.cps_p_lookup.proofs.Elements.{fit_of, given_by, gives_by, ge_holds, le_holds}
 
 pub more_given : (body : Body) (s : Trail) (old new : List Narrowing) (n : Narrowing) → new ≡ old ++ n ∷ [] → IsGiven body s n.target → All (λ m. IsGiven body s m.target) old → All (λ m. IsGiven body s m.target) new
@@ -34,7 +34,7 @@ apart_not s i t es k E T l f ofE ofT apart xs a c =
     apart (value_at xs e) (ofE (value_at xs e) ∙ a e (All-get_or (λ n. n < length s.first) es k 0 l f.exprs)) (ofT (value_at xs e) ∙ ap (λ v. admits s.first s.entries t v) c.same ∙ a t f.target)
 
 pub visited_none : (s : Trail) (i t : ℕ) (es : List ℕ) (k : ℕ) (scan : Scan) → ((xs : List ℤ) → IsAdmitted s.first s.entries xs → IsChosen i t (get_or es k 0) k xs → ⊥) → IsPlaceVisited s i t es k scan scan
-visited_none s i t es k scan h = record { wider = λ p v w. w; here = record { at = λ xs a c. absurd (h xs a c) }; last = λ l. l }
+visited_none s i t es k scan h = record { wider = λ p v w. w; here = record { at = λ xs a c. absurd (h xs a c) }; last = last_skipped s i t es k scan }
 
 pub equals_is : (a b : ℤ) → equals a b ≡ true → a ≡ b
 equals_is a b e = grind (arith, ints)
@@ -63,23 +63,12 @@ here_seen s i t es k E low high p q new l f ofE least greatest isp isq here = re
       subst (λ v. IsCovered k new v) c.same (here (value_at xs e) (subst (λ (v : ℤ). v ≤ℤ value_at xs e) (sym isp) (least (value_at xs e) inside)) (subst (λ (v : ℤ). value_at xs e ≤ℤ v) (sym isq) (greatest (value_at xs e) inside)));
 }
 
-pub open_last : (s : Trail) (i t : ℕ) (es : List ℕ) (k : ℕ) (I E T : Window) (new : Scan) → k < length es → new.last ≡ k → ((x : ℤ) → contains I x ≡ admits s.first s.entries i x) → ((x : ℤ) → contains E x ≡ admits s.first s.entries (get_or es k 0) x) → ((x : ℤ) → contains T x ≡ admits s.first s.entries t x)
-    → contains I (pos k) ≡ true → ((x : ℤ) → contains E x ≡ true → ((y : ℤ) → contains E y ≡ true → y ≡ x) → contains T x ≡ true) → IsLastOpen s i t es new
-open_last s i t es k I E T new l is ofI ofE ofT has meet = record {
-  place = λ z. subst (λ n. n < length es) (sym is) l;
-  index = λ z. subst (λ n. IsOpenTo s i (pos n)) (sym is) (sym (ofI (pos k)) ∙ has);
-  meets = λ z. subst (λ n. MayMeet s (get_or es n 0) t) (sym is) (record { at = λ x o one. sym (ofT x) ∙ meet x (ofE x ∙ o) (λ y oy. one y (sym (ofE y) ∙ oy)) });
-}
-
 -- the index lies among the places
 pub index_low : (s : Trail) (i t : ℕ) (es : List ℕ) → IsFitElement s.first i t es → (u : Atom) → u ≡ record { subject = i; op = Ge; value = pos 0 } → IsGiven (Element i t es) s u
 index_low s i t es f u e = given_by s i t es u (subst (λ n. n < length s.first) (ap (λ (w : Atom). w.subject) (sym e)) f.index) (λ xs k a l c. ge_holds xs u i (pos 0) e (let is = c.index in omega (arith, ints, is)))
 
 pub index_high : (s : Trail) (i t : ℕ) (es : List ℕ) → IsFitElement s.first i t es → (high : ℤ) → high ≡ pos (length es - 1) → (u : Atom) → u ≡ record { subject = i; op = Le; value = high } → IsGiven (Element i t es) s u
 index_high s i t es f high is u e = given_by s i t es u (subst (λ n. n < length s.first) (ap (λ (w : Atom). w.subject) (sym e)) f.index) (λ xs k a l c. le_holds xs u i high e (let at = c.index in omega (arith, ints, at, is)))
-
-pub last_none : (s : Trail) (i t : ℕ) (es : List ℕ) (scan : Scan) → scan.open ≡ 0 → IsLastOpen s i t es scan
-last_none s i t es scan none = record { place = λ z. absurd (omega arith); index = λ z. absurd (omega arith); meets = λ z. absurd (omega arith) }
 
 pub seen_wider : (s : Trail) (i t e k : ℕ) (old new : Scan) → ((p : ℕ) (v : ℤ) → IsCovered p old v → IsCovered p new v) → IsSeenAt s i t e k old → IsSeenAt s i t e k new
 seen_wider s i t e k old new w h = record { at = λ xs a c. w k (value_at xs t) (h.at xs a c) }

@@ -3,7 +3,7 @@ use Rattle.std.specs.Prelude.{not}
 use Rattle.std.proofs.Common.{◌≡◌, ◌≢◌, ℕ, zero, suc, ℤ, pos, ◌+◌, ◌*◌, ◌/◌, ◌<◌, ◌≤◌, Bool, true, false, List, [], ◌∷◌, ◌++◌, length, take, get_or, refl, sym, ap, ap₂, subst, ◌∙◌, arith, inl, inr}
 use Rattle.std.proofs.Math.Nat.{le-div_iff_mul-le}
 use Rattle.std.proofs.lemmas.Int.{ints}
-use Rattle.std.proofs.lemmas.Bool.{cases_lt}
+use Rattle.std.proofs.lemmas.Bool.{cases_lt, cases_eq}
 use Rattle.std.proofs.lemmas.List.{length-map, length-take, length-drop}
 use Rattle.std.specs.List.{All, Contains}
 use Rattle.std.proofs.lemmas.List.Elements.{All-nil, All-get_or, All-more, All-weaker, All-contains, Contains-push, Contains-append_left}
@@ -18,7 +18,10 @@ use Rattle.cps_instance.specs.Parts.{values_at}
 use Rattle.cps_trail.specs.Trail.{Trail, IsAdmitted, admits}
 use Rattle.cps_propagate.specs.Now.{IsOpenTo, IsFixedNow, AreOpen}
 use Rattle.cps_propagate.specs.Strength.{HasOpenRow, IsExcludedBody}
+use Rattle.cps_propagate.specs.Lookups.{cell, IsSureAt, IsRowMissed}
+use Rattle.cps_rule.specs.declared.rule.Narrowing.{Narrowing}
 use Rattle.cps_rule.specs.Rules.{IsGiven, IsImpossible, IsAtRest}
+use Rattle.cps_p_lookup.specs.Resting.{AreTrue, LeavesAtRest}
 use Rattle.cps_p_lookup.specs.declared.index.Cell.{Cell}
 use Rattle.cps_p_lookup.specs.Cells.{value_in, HasCell}
 use Rattle.cps_p_lookup.specs.Tabling.{IsOpenRow, IsDeadRow, IsLive, AreLive, ListsLive, IsSingle, HasOtherValue, IsBanned, IsMissed}
@@ -166,11 +169,45 @@ pub banned_by : (s : Trail) (es : List ℕ) (row : List ℤ) → length row ≡ 
 banned_by s es row e h = record { at = λ xs left. same_row xs es row e (λ k l. (h k l).at (value_at xs (get_or es k 0)) (All-get_or (λ i. IsOpenTo s i (value_at xs i)) es k 0 l left)) }
 
 pub missed_by : (s : Trail) (es : List ℕ) (row : List ℤ) (c : ℕ) → c < length es → HasOtherValue s (get_or es c 0) (get_or row c (pos 0)) → IsMissed s es row
-missed_by s es row c l off = record {
-  at = λ fixed xs left e.
-      let i = get_or es c 0 in
-      off.other (All-get_or (IsFixedNow s) es c 0 l fixed off.value (value_at xs i) off.reached (All-get_or (λ j. IsOpenTo s j (value_at xs j)) es c 0 l left) ∙ row_value xs es row c l e);
-}
+missed_by s es row c l off = record { column = c; within = l; other = off }
+
+-- where all is fixed, the values are not a row that is missed
+missed_fixed : (s : Trail) (es : List ℕ) (row : List ℤ) → IsMissed s es row → All (IsFixedNow s) es → (xs : List ℤ) → AreOpen s xs es → values_at xs es ≢ row
+missed_fixed s es row m fixed xs left e =
+    let c = m.column in
+    let i = get_or es c 0 in
+    let off = m.other in
+    off.other (All-get_or (IsFixedNow s) es c 0 m.within fixed off.value (value_at xs i) off.reached (All-get_or (λ j. IsOpenTo s j (value_at xs j)) es c 0 m.within left) ∙ row_value xs es row c m.within e)
+
+-- a row has no column whose value is to be taken away: one has another value, and lacks the row's or is not alone
+other_not_sure : (s : Trail) (es : List ℕ) (values : List ℤ) (r c : ℕ) → HasOtherValue s (get_or es c 0) (cell es values r c) → IsSureAt s es values r c → ⊥
+other_not_sure s es values r c off sure = off.other (sure off.value off.reached)
+
+pub row_off : (s : Trail) (es : List ℕ) (values : List ℤ) (r c : ℕ) (row : List ℤ) → row ≡ row_at (length es) values r → c < length es → HasOtherValue s (get_or es c 0) (get_or row c (pos 0)) → (IsOpenTo s (get_or es c 0) (get_or row c (pos 0)) → ⊥) → IsRowMissed s es values r
+row_off s es values r c row is l off gone k m others o = elim (cases_eq c k) [
+  | inl same ↦ gone (subst (λ (w : List ℤ). IsOpenTo s (get_or es c 0) (get_or w c (pos 0))) (sym is) (subst (λ j. IsOpenTo s (get_or es j 0) (cell es values r j)) (sym same) o))
+  | inr ne ↦ other_not_sure s es values r c (subst (λ (w : List ℤ). HasOtherValue s (get_or es c 0) (get_or w c (pos 0))) is off) (others c l ne)
+]
+
+pub row_free : (s : Trail) (es : List ℕ) (values : List ℤ) (r c d : ℕ) (row : List ℤ) → row ≡ row_at (length es) values r → c < d → d < length es → HasOtherValue s (get_or es c 0) (get_or row c (pos 0)) → HasOtherValue s (get_or es d 0) (get_or row d (pos 0)) → IsRowMissed s es values r
+row_free s es values r c d row is l m offc offd k w others o = elim (cases_eq c k) [
+  | inl same ↦ (let ne : d ≢ k = λ e. omega (arith, l, e, same) in other_not_sure s es values r d (subst (λ (v : List ℤ). HasOtherValue s (get_or es d 0) (get_or v d (pos 0))) is offd) (others d m ne))
+  | inr ne ↦ other_not_sure s es values r c (subst (λ (v : List ℤ). HasOtherValue s (get_or es c 0) (get_or v c (pos 0))) is offc) (others c (omega (arith, l, m)) ne)
+]
+
+-- a look at one row more
+pub missing_more : (s : Trail) (es : List ℕ) (values : List ℤ) (n : ℕ) (old new : List Narrowing) → (AreTrue s old → (r : ℕ) → r < n → IsRowMissed s es values r) → LeavesAtRest s (IsRowMissed s es values n) old new → AreTrue s new → (r : ℕ) → r < n + 1 → IsRowMissed s es values r
+missing_more s es values n old new h v trues r l = elim (cases_lt r n) [
+  | inl before ↦ h (v.before trues) r before
+  | inr after ↦ (let e : r ≡ n = omega arith in subst (λ j. IsRowMissed s es values j) (sym e) (v.left trues))
+]
+
+-- no row is surely listed where each has a column with another value
+pub missed_seen : (s : Trail) (es : List ℕ) (values : List ℤ) (n : ℕ) → 0 < length es → length values / length es ≤ n → ((r : ℕ) → r < n → IsMissed s es (row_at (length es) values r)) → IsExcludedBody (Table es values true) s → ⊥
+missed_seen s es values n p past h listed =
+    let b = row_before (length values) (length es) listed.row p listed.within in
+    let m = h listed.row (omega arith) in
+    other_not_sure s es values listed.row m.column m.other (listed.sure m.column m.within)
 
 equals_is : (a b : ℤ) → equals a b ≡ true → a ≡ b
 equals_is a b e = grind (arith, ints)
@@ -203,10 +240,10 @@ ban_given s es values r c row u l f within is at before after = record {
 pub banned_none : (s : Trail) (es : List ℕ) (values : List ℤ) (r : ℕ) → 0 < length es → All (λ e. e < length s.first) es → (r + 1) * length es ≤ length values → IsBanned s es (row_at (length es) values r) → IsImpossible (Table es values true) s
 banned_none s es values r p f within b = record { at = λ xs a holds. not_in xs es values r p holds within (b.at xs (admitted_open s es xs f a)) }
 
-pub missed_rest : (s : Trail) (es : List ℕ) (values : List ℤ) (n : ℕ) → 0 < length es → length values / length es ≤ n → ((r : ℕ) → r < n → IsMissed s es (row_at (length es) values r)) → IsAtRest (Table es values true) s
-missed_rest s es values n p past h = record {
-  decided = λ fixed xs left. none_in xs es values (λ r l e. (h r (let b = row_before (length values) (length es) r p l in omega arith)).at fixed xs left e);
-  strong = tt;
+pub missed_rest : (s : Trail) (es : List ℕ) (values : List ℤ) (n : ℕ) → 0 < length es → length values / length es ≤ n → ((r : ℕ) → r < n → IsMissed s es (row_at (length es) values r)) → ((r : ℕ) → r < n → IsRowMissed s es values r) → IsAtRest (Table es values true) s
+missed_rest s es values n p past h rest = record {
+  decided = λ fixed xs left. none_in xs es values (λ r l e. missed_fixed s es (row_at (length es) values r) (h r (let b = row_before (length values) (length es) r p l in omega arith)) fixed xs left e);
+  strong = record { missed = λ r l. rest r (let b = row_before (length values) (length es) r p l in omega arith) };
 }
 
 pub missed_more : (s : Trail) (es : List ℕ) (values : List ℤ) (n : ℕ) → ((r : ℕ) → r < n → IsMissed s es (row_at (length es) values r)) → IsMissed s es (row_at (length es) values n) → (r : ℕ) → r < n + 1 → IsMissed s es (row_at (length es) values r)

@@ -1,4 +1,5 @@
 pub mod Facts
+pub mod Resting
 pub mod Elements
 pub mod Tabling
 pub mod Bodies

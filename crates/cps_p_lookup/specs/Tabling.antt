@@ -5,7 +5,7 @@ use Rattle.cps_literal.specs.Truth.{value_at, meets}
 use Rattle.cps_model.specs.Lookups.{row_at}
 use Rattle.cps_instance.specs.Parts.{values_at}
 use Rattle.cps_trail.specs.Trail.{Trail, admits}
-use Rattle.cps_propagate.specs.Now.{IsOpenTo, IsFixedNow, AreOpen}
+use Rattle.cps_propagate.specs.Now.{IsOpenTo, AreOpen}
 use Rattle.cps_rule.specs.Rules.{AllTrueAt}
 use Rattle.cps_rule.specs.Facts.{Grows, Denied}
 use Rattle.cps_p_lookup.specs.declared.index.Cell.{Cell}
@@ -67,12 +67,14 @@ pub record HasOtherValue (s : Trail) (i : ℕ) (v : ℤ) : Type 0 where
   pub reached : IsOpenTo s i value
   pub other : value ≢ v
 
--- the values are this row wherever they are open, or where they are fixed they are not
+-- the values are this row wherever they are open, or a column has another value
 pub record IsBanned (s : Trail) (es : List ℕ) (row : List ℤ) : Type 0 where
   pub at : (xs : List ℤ) → AreOpen s xs es → values_at xs es ≡ row
 
 pub record IsMissed (s : Trail) (es : List ℕ) (row : List ℤ) : Type 0 where
-  pub at : All (IsFixedNow s) es → (xs : List ℤ) → AreOpen s xs es → values_at xs es ≢ row
+  pub column : ℕ
+  pub within : column < length es
+  pub other : HasOtherValue s (slice_index_or es column 0) (slice_index_or row column (pos 0))
 
 -- beside the facts a subject has its value of a row where the atom is false
 pub record IsSure (i : ℕ) (v : ℤ) (goal : Option Atom) (facts : List Atom) : Type 0 where

@@ -3,7 +3,9 @@
 ghost use Rattle.std.specs.Prelude.{ℕ, pos, ◌≡◌, ◌<◌, ◌≤◌, ◌+◌, ◌*◌, length, All, IfOk, OnOk, true, false, slice_index_or, Ok};
 ghost use Rattle.cps_model.specs.Lookups.{row_at};
 ghost use Rattle.cps_instance.specs.declared.task.Body.TheVariants.{Table};
+ghost use Rattle.cps_propagate.specs.Lookups.{IsRowMissed};
 ghost use Rattle.cps_rule.specs.Rules.{IsGiven, IsSeen, IsAtRest};
+ghost use Rattle.cps_p_lookup.specs.Resting.{AreTrue, LeavesAtRest};
 ghost use Rattle.cps_p_lookup.specs.Tabling.{IsSingle, HasOtherValue, IsBanned, IsMissed};
 
 use crate::facts::atom;
@@ -64,6 +66,8 @@ fn visit(
         → IsBanned store.now grid.now.exprs.now (row_at (length grid.now.exprs.now) grid.now.values.now row) }
     ensures missed { result ≡ Ok false
         → IsMissed store.now grid.now.exprs.now (row_at (length grid.now.exprs.now) grid.now.values.now row) }
+    ensures rests { result ≡ Ok false → LeavesAtRest store.now
+        (IsRowMissed store.now grid.now.exprs.now grid.now.values.now row) found.old.items found.new.items }
 {
     let width = grid.exprs.len();
     let values = row_at(grid.values, width, row);
@@ -97,7 +101,8 @@ pub(crate) fn look_outside(
     ensures given { OnOk result (All
         (λ n. IsGiven (Table grid.now.exprs.now grid.now.values.now true) store.now n.target) found.new.items) }
     ensures seen { IfOk result (IsSeen (Table grid.now.exprs.now grid.now.values.now true) store.now) }
-    ensures rest { result ≡ Ok Look.Possible → IsAtRest (Table grid.now.exprs.now grid.now.values.now true) store.now }
+    ensures rest { result ≡ Ok Look.Possible → AreTrue store.now found.new.items
+        → IsAtRest (Table grid.now.exprs.now grid.now.values.now true) store.now }
 {
     found.clear();
     for row in 0..grid.values.len() / grid.exprs.len() {

@@ -20,7 +20,6 @@ use std::alloc::{AllocError, Global};
 const MOST: u64 = 4096;
 
 /// Room for a search of gaps.
-#[derive(Drop)]
 pub(crate) struct Gaps {
     /// The values that are supported.
     pub(crate) listed: Vec<i64>,
@@ -30,6 +29,18 @@ pub(crate) struct Gaps {
     pub(crate) missing: Vec<i64>,
     /// For each number from the least value on, whether it is supported.
     marks: Vec<bool>,
+}
+
+// Written out, so that crates above do not prove it anew.
+impl Drop for Gaps {
+    fn drop(self) {
+        let Gaps {
+            listed: _listed,
+            runs: _runs,
+            missing: _missing,
+            marks: _marks,
+        } = self;
+    }
 }
 
 impl Gaps {

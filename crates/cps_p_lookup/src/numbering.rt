@@ -7,7 +7,6 @@ use crate::index::Cell;
 use std::alloc::{AllocError, Global};
 
 /// The number of each cell's value, and the columns by how many values they have.
-#[derive(Drop)]
 pub(crate) struct Numbering {
     width: usize,
     rows: usize,
@@ -19,6 +18,20 @@ pub(crate) struct Numbering {
     starts: Vec<usize>,
     /// The columns, those of few values first.
     pub(crate) order: Vec<usize>,
+}
+
+// Written out, so that crates above do not prove it anew.
+impl Drop for Numbering {
+    fn drop(self) {
+        let Numbering {
+            width: _width,
+            rows: _rows,
+            numbers: _numbers,
+            firsts: _firsts,
+            starts: _starts,
+            order: _order,
+        } = self;
+    }
 }
 
 /// Writes the entry at a place, if there is one.

@@ -5,11 +5,14 @@
 //! them has a single one: a full comparison would cost more than it finds. If one place is left, expression and target
 //! get the same ends, and small domains the same values.
 
-ghost use Rattle.std.specs.Prelude.{ℕ, ℤ, pos, ◌≡◌, ◌<◌, ◌≤◌, ◌≤ℤ◌, ◌^◌, ◌-◌, length, All, IfOk, OnOk, true, false};
+ghost use Rattle.std.specs.Prelude.{ℕ, ℤ, pos, ◌≡◌, ◌≢◌, ◌<◌, ◌≤◌, ◌≤ℤ◌, ◌^◌, ◌-◌, length, All, IfOk, OnOk, true, false};
 ghost use Rattle.cps_domain.specs.Window.{contains};
 ghost use Rattle.cps_instance.specs.declared.task.Body.TheVariants.{Element};
 ghost use Rattle.cps_rule.specs.Rules.{IsGiven, IsSeen, IsAtRest};
-ghost use Rattle.cps_p_lookup.specs.Elements.{IsFitElement, IsCovered, IsPlaceVisited, IsScanned};
+ghost use Rattle.cps_propagate.specs.Now.{IsOpenTo};
+ghost use Rattle.cps_propagate.specs.Lookups.{IsOpenPlace};
+ghost use Rattle.cps_p_lookup.specs.Elements.{IsFitElement, AreMeeting, IsCovered, IsEndOf, IsPlaceVisited, IsScanned, AreOpenPlaces, AreEndsKept};
+ghost use Rattle.cps_p_lookup.specs.Resting.{AreTrue, LeavesAtRest};
 ghost use Rattle.cps_p_lookup.specs.Gaps.{KeepsBetween, AreListed, Lists};
 
 use crate::facts::{LIMIT, atom};
@@ -46,8 +49,7 @@ pub(crate) struct Scan {
 /// Whether two domains may have a value in common: by their ends, and by values where one has a single one.
 pub(crate) fn can_meet(expr: &Domain, target: &Domain) -> bool
     ensures apart { result ≡ false → (x : ℤ) → contains expr.now x ≡ true → contains target.now x ≡ true → ⊥ }
-    ensures meet { result ≡ true → (x : ℤ) → contains expr.now x ≡ true
-        → ((y : ℤ) → contains expr.now y ≡ true → y ≡ x) → contains target.now x ≡ true }
+    ensures meet { result ≡ true → AreMeeting expr.now target.now }
 {
     let low = expr.min();
     let high = expr.max();
@@ -96,6 +98,9 @@ fn widened(scan: Scan, place: usize, low: i64, high: i64) -> Scan
     ensures last { result.last ≡ place }
     ensures here { (v : ℤ) → low ≤ℤ v → v ≤ℤ high → IsCovered place result v }
     ensures wider { (p : ℕ) (v : ℤ) → IsCovered p scan v → IsCovered p result v }
+    ensures several { result.open ≢ 1 → 0 < scan.open }
+    ensures least { IsEndOf scan.open low scan.least result.least }
+    ensures greatest { IsEndOf scan.open high scan.greatest result.greatest }
 {
     if scan.open == 0 {
         return Scan {
@@ -131,6 +136,9 @@ fn visit(
         found.new.items) }
     ensures visited { IfOk result
         (IsPlaceVisited store.now lookup.now.index lookup.now.target lookup.now.exprs.now place scan) }
+    ensures rests { OnOk result (LeavesAtRest store.now (IsOpenTo store.now lookup.now.index (pos place)
+        → IsOpenPlace store.now lookup.now.index lookup.now.target lookup.now.exprs.now place)
+        found.old.items found.new.items) }
 {
     let index = store.domain(lookup.index);
     if !index.contains(place as i64) {
@@ -188,11 +196,13 @@ pub(crate) fn scan_places(
         (λ n. IsGiven (Element lookup.now.index lookup.now.target lookup.now.exprs.now) store.now n.target)
         found.new.items) }
     ensures scanned { IfOk result (IsScanned store.now lookup.now.index lookup.now.target lookup.now.exprs.now) }
+    ensures rests { OnOk result (AreTrue store.now found.new.items → 0 < length lookup.now.exprs.now
+        → AreOpenPlaces store.now lookup.now.index lookup.now.target lookup.now.exprs.now) }
 {
     found.clear();
     let index = store.domain(lookup.index);
     let places = lookup.exprs.len();
-    if 0 < places && places <= LIMIT as usize {
+    if 0 < places {
         bound(store, lookup.index, 0, last_place(places), found)?;
     }
     let from = first_place(index.min());
@@ -222,8 +232,10 @@ fn bound_both(
     requires some { 0 < scan.open }
     requires given { All (λ n. IsGiven
         (Element lookup.now.index lookup.now.target lookup.now.exprs.now) store.now n.target) found.old.items }
-    ensures { OnOk result (All (λ n. IsGiven
+    ensures given { OnOk result (All (λ n. IsGiven
         (Element lookup.now.index lookup.now.target lookup.now.exprs.now) store.now n.target) found.new.items) }
+    ensures rests { OnOk result (LeavesAtRest store.now
+        (AreEndsKept store.now lookup.now.target lookup.now.exprs.now scan) found.old.items found.new.items) }
 {
     bound(store, lookup.target, scan.least, scan.greatest, found)?;
     if scan.open == 1 {
@@ -247,8 +259,9 @@ fn align(
     requires one { scan.open ≡ 1 }
     requires given { All (λ n. IsGiven
         (Element lookup.now.index lookup.now.target lookup.now.exprs.now) store.now n.target) found.old.items }
-    ensures { OnOk result (All (λ n. IsGiven
+    ensures given { OnOk result (All (λ n. IsGiven
         (Element lookup.now.index lookup.now.target lookup.now.exprs.now) store.now n.target) found.new.items) }
+    ensures before { OnOk result (AreTrue store.now found.new.items → AreTrue store.now found.old.items) }
 {
     let expr = lookup.exprs[scan.last];
     let target = store.domain(lookup.target);
@@ -314,8 +327,9 @@ fn narrow_inside(
     requires fits { IsFitElement store.now.first lookup.now.index lookup.now.target lookup.now.exprs.now }
     requires given { All (λ n. IsGiven
         (Element lookup.now.index lookup.now.target lookup.now.exprs.now) store.now n.target) found.old.items }
-    ensures { OnOk result (All (λ n. IsGiven
+    ensures given { OnOk result (All (λ n. IsGiven
         (Element lookup.now.index lookup.now.target lookup.now.exprs.now) store.now n.target) found.new.items) }
+    ensures before { OnOk result (AreTrue store.now found.new.items → AreTrue store.now found.old.items) }
 {
     let target = store.domain(lookup.target);
     if !is_worth(target, lookup.exprs.len()) {
@@ -340,7 +354,7 @@ pub(crate) fn look_up(
         (λ n. IsGiven (Element lookup.now.index lookup.now.target lookup.now.exprs.now) store.now n.target)
         found.new.items) }
     ensures seen { IfOk result (IsSeen (Element lookup.now.index lookup.now.target lookup.now.exprs.now) store.now) }
-    ensures rest { result ≡ Ok Look.Possible
+    ensures rest { result ≡ Ok Look.Possible → AreTrue store.now found.new.items
         → IsAtRest (Element lookup.now.index lookup.now.target lookup.now.exprs.now) store.now }
 {
     let scan = scan_places(store, lookup, found)?;

@@ -34,11 +34,21 @@ pub(crate) struct Grid<'a> {
 }
 
 /// Room for the rows that are left, and for a search of gaps in their columns.
-#[derive(Drop)]
 pub(crate) struct Room {
     supports: Supports,
     rows: Vec<usize>,
     gaps: Gaps,
+}
+
+// Written out, so that crates above do not prove it anew.
+impl Drop for Room {
+    fn drop(self) {
+        let Room {
+            supports: _supports,
+            rows: _rows,
+            gaps: _gaps,
+        } = self;
+    }
 }
 
 impl Room {

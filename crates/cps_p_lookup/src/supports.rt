@@ -16,14 +16,22 @@ use cps_trail::Store;
 use std::alloc::{AllocError, Global};
 
 /// A column's domain at the last look, and how many of its values the column has.
-#[derive(Drop)]
 struct Seen {
     intervals: Vec<(i64, i64)>,
     open: u64,
 }
 
+// Written out, so that crates above do not prove it anew.
+impl Drop for Seen {
+    fn drop(self) {
+        let Seen {
+            intervals: _intervals,
+            open: _open,
+        } = self;
+    }
+}
+
 /// The values that subjects have, and the rows that are left.
-#[derive(Drop)]
 pub(crate) struct Supports {
     columns: Vec<Seen>,
     /// For each value by number, whether its subject has it.
@@ -34,6 +42,19 @@ pub(crate) struct Supports {
     gone: Vec<u32>,
     /// How many rows are left.
     live: usize,
+}
+
+// Written out, so that crates above do not prove it anew.
+impl Drop for Supports {
+    fn drop(self) {
+        let Supports {
+            columns: _columns,
+            is_open: _is_open,
+            residues: _residues,
+            gone: _gone,
+            live: _live,
+        } = self;
+    }
 }
 
 /// The cells from one place to before another, as far as there are such.

@@ -7,6 +7,7 @@
 ghost use Rattle.std.specs.Prelude.{◌≡◌, ◌<◌, length, All, OnOk, IfOk, Ok, true, IsTrue};
 ghost use Rattle.cps_rule.specs.Rules.{IsGiven, IsSeen, IsAtRest};
 ghost use Rattle.cps_rule.specs.Facts.{GivesGoal};
+ghost use Rattle.cps_p_lookup.specs.Resting.{AreTrue};
 ghost use Rattle.cps_instance.specs.declared.task.Body.TheVariants.{Table as TableOf};
 
 use crate::bans::look_outside;
@@ -111,7 +112,7 @@ fn look_at(
         store.now n.target) found.new.items) }
     ensures seen { IfOk result (IsSeen
         (TableOf table.now.tuples.now.exprs table.now.tuples.now.values table.now.negated) store.now) }
-    ensures rest { result ≡ Ok Look.Possible
+    ensures rest { result ≡ Ok Look.Possible → AreTrue store.now found.new.items
         → IsAtRest (TableOf table.now.tuples.now.exprs table.now.tuples.now.values table.now.negated) store.now }
 {
     let grid = table.tuples.grid();

@@ -3,8 +3,11 @@ use Rattle.cps_instance.specs.declared.task.Body.TheVariants.{Element}
 use Rattle.cps_p_lookup.proofs.Missing.{target_off}
 use Rattle.cps_p_lookup.proofs.places.narrow_inside.Goals as goal
 
-pub returns : goal.returns
-returns c =
+pub returns-clause-before : goal.returns-clause-before
+returns-clause-before c = c.in_ok-exclude_missing.ensures.before c.args.store.now
+
+pub returns-clause-given : goal.returns-clause-given
+returns-clause-given c =
     let s = c.args.store.now in
     let i = c.args.lookup.now.index in
     let t = c.args.lookup.now.target in

@@ -12,4 +12,4 @@ look_up-requires c =
 pub returns-clause-rest : goal.returns-clause-rest
 returns-clause-rest c = λ e trues.
     let r = c.args.self.now in
-    subst (λ (b : Body). IsAtRest b c.args.store.now) (body_seen r.index r.target r.exprs r.index r.target c.as_slice.result.now refl refl c.as_slice.ensures) (c.look_up.ensures.rest e)
+    subst (λ (b : Body). IsAtRest b c.args.store.now) (body_seen r.index r.target r.exprs r.index r.target c.as_slice.result.now refl refl c.as_slice.ensures) (c.look_up.ensures.rest e trues)
