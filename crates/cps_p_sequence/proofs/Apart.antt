@@ -1,7 +1,7 @@
 -- The values of each list of an inverse differ, so what the all-different of a list gives, the inverse gives.
 use Rattle.std.specs.Prelude.{Result, Ok, Err}
 use Rattle.std.specs.declared.alloc.AllocError.{AllocError}
-use Rattle.std.proofs.Common.{◌≡◌, Bool, true, ℕ, ◌<◌, ℤ, pos, negsuc, ◌≤ℤ◌, ◌<ℤ◌, List, ◌++◌, length, get_or, sym, ◌∙◌, ap, subst, arith}
+use Rattle.std.proofs.Common.{◌≡◌, Bool, true, ℕ, ◌<◌, ℤ, pos, negsuc, ◌≤ℤ◌, ◌<ℤ◌, List, ◌++◌, length, get_or, sym, ◌∙◌, ap, subst, inl, inr, arith}
 use Rattle.std.proofs.lemmas.Int.{ints}
 use Rattle.std.proofs.lemmas.List.{get_or_default, length-map}
 use Rattle.std.proofs.lemmas.List.Elements.{All-append}
@@ -15,13 +15,13 @@ use Rattle.cps_instance.specs.Parts.{values_at}
 use Rattle.cps_instance.specs.Terms.{Domains, AreIntervals, domain_at}
 use Rattle.cps_instance.proofs.Agreeing.{All-append_left, All-append_right}
 use Rattle.cps_trail.specs.Trail.{Trail, IsTrueNow}
-use Rattle.cps_propagate.specs.Strength.{IsStrongBody}
+use Rattle.cps_propagate.specs.Strength.{HasRoom, IsStrongBody}
 use Rattle.cps_rule.specs.declared.rule.Look.{Look}
 use Rattle.cps_rule.specs.declared.rule.Look.TheVariants.{Possible, Impossible}
 use Rattle.cps_rule.specs.declared.rule.Narrowing.{Narrowing}
 use Rattle.cps_rule.specs.Rules.{IsFittingRule, IsGiven, IsImpossible, IsSeen, IsExplained, IsRefuted}
 use Rattle.cps_p_sequence.specs.Inverses.{AreGivenPlaces, AreTrue}
-use Rattle.cps_p_sequence.specs.Sides.{AreSides, ImpliesBody, IsSeenImpossible, HasRoomOnEachSide}
+use Rattle.cps_p_sequence.specs.Sides.{AreSides, ImpliesBody, IsSeenImpossible}
 
 places : (v : ℤ) (n : ℕ) → pos 0 ≤ℤ v → v <ℤ pos n → (k : ℕ) × (k < n) × (v ≡ pos k)
 places (pos k) n a b = (k, omega (arith, ints), refl_of (pos k))
@@ -116,9 +116,18 @@ module _ (b : Body) (ds js : List ℕ) (p q : Body) (view : Inverse ds js ≡ b)
 pub sides_kept : (ds js : List ℕ) (p q p' q' : Body) → AreSides ds js p q → p' ≡ p → q' ≡ q → AreSides ds js p' q'
 sides_kept ds js p q p' q' sides d j = record { direct = d ∙ sides.direct; inverse = j ∙ sides.inverse }
 
-pub sides_room : (b : Body) (ds js : List ℕ) (p q : Body) → Inverse ds js ≡ b → AreSides ds js p q → (s : Trail) → IsStrongBody p s → IsStrongBody q s → HasRoomOnEachSide b s
-sides_room b ds js p q view sides s one two = subst (λ (x : Body). HasRoomOnEachSide x s) view
-    (subst (λ (x : Body). IsStrongBody x s) sides.direct one, subst (λ (x : Body). IsStrongBody x s) sides.inverse two)
+pub sides_room : (ds js : List ℕ) (p q : Body) → AreSides ds js p q → (s : Trail) → IsStrongBody p s × IsStrongBody q s → HasRoom s ds × HasRoom s js
+sides_room ds js p q sides s both = (subst (λ (x : Body). IsStrongBody x s) sides.direct both.0, subst (λ (x : Body). IsStrongBody x s) sides.inverse both.1)
+
+-- an inverse may hold, as far as rest tells, where the all-differents of its lists may
+pub sides_seen : (b : Body) (ds js : List ℕ) (p q : Body) → Inverse ds js ≡ b → AreSides ds js p q → (s : Trail) → IsSeen p s Possible × IsSeen q s Possible → IsSeen b s Possible
+sides_seen b ds js p q view sides s both = subst (λ (x : Body). IsSeen x s Possible) view (λ none. elim none [ inl h ↦ one h | inr h ↦ two h ])
+  where
+    one : (HasRoom s ds → ⊥) → ⊥
+    one = subst (λ (x : Body). IsSeen x s Possible) sides.direct both.0
+
+    two : (HasRoom s js → ⊥) → ⊥
+    two = subst (λ (x : Body). IsSeen x s Possible) sides.inverse both.1
 
 pub denied_seen : (b : Body) (s : Trail) (l : Look) → (l ≡ Possible → ⊥) → IsSeenImpossible b s l → IsSeen b s l
 denied_seen b s Possible no' h = absurd (no' cc)

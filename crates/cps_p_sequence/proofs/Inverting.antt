@@ -1,6 +1,7 @@
 -- What it says of each position that two lists of subjects are each other's inverse.
 use Rattle.std.specs.Prelude.{All, Contains}
-use Rattle.std.proofs.Common.{ℕ, ◌<◌, ℤ, pos, ◌≤ℤ◌, ◌<ℤ◌, ◌≡◌, List, ◌++◌, length, get_or, sym, ◌∙◌, ap, subst, arith}
+use Rattle.std.proofs.Common.{ℕ, ◌<◌, ℤ, pos, ◌-ℤ◌, ◌≤ℤ◌, ◌<ℤ◌, ◌≡◌, List, ◌++◌, length, get_or, sym, ◌∙◌, ap, subst, arith}
+use Rattle.std.proofs.lemmas.Int.{ints}
 use Rattle.std.proofs.lemmas.List.{get_or-map, length-map}
 use Rattle.std.proofs.lemmas.List.Elements.{at_from_Contains}
 use Rattle.cps_model.specs.Sequences.{AreInverse}
@@ -12,7 +13,7 @@ use Rattle.cps_instance.specs.Terms.{Domains}
 use Rattle.cps_instance.proofs.Agreeing.{All-append_left, All-append_right}
 use Rattle.cps_trail.specs.Trail.{Trail}
 use Rattle.cps_propagate.specs.Now.{IsOpenTo, IsFixedNow, AreOpen}
-use Rattle.cps_propagate.specs.Strength.{IsMirrored}
+use Rattle.cps_propagate.specs.Strength.{IsHeld, HasRoom, IsMirrored, IsStrongInverse}
 use Rattle.cps_rule.specs.Rules.{IsAtRest, IsFittingRule}
 use Rattle.cps_p_sequence.specs.Inverses.{HasPlace, AllPaired, IsWithinPlaces, AreMirrored}
 
@@ -25,6 +26,13 @@ count_of xs is = length-map is (value_at xs)
 -- the lists have one length, where the body fits
 pub even_of : (b : Body) (ds js : List ℕ) → b ≡ Inverse ds js → (first : Domains) → IsFittingRule first b → length ds ≡ length js
 even_of b ds js is first h = (subst (λ (x : Body). IsFittingRule first x) is h).body
+
+-- values below a count are at most the last place
+all_held : (s : Trail) (count : ℕ) (is : List ℕ) → All (λ i. IsWithinPlaces s i (pos count)) is → All (IsHeld s (pos 0) (pos count -ℤ pos 1)) is
+all_held s count is within k d l x o = let w = within k d l in (w.least x o, last x (w.below x o))
+  where
+    last : (v : ℤ) → v <ℤ pos count → v ≤ℤ (pos count -ℤ pos 1)
+    last v h = omega (arith, ints)
 
 module _ (direct inverse : List ℕ) (same : length direct ≡ length inverse) where
   pub direct_places : All (λ i. HasPlace (Inverse direct inverse) i (pos (length direct))) direct
@@ -66,8 +74,17 @@ module _ (direct inverse : List ℕ) (same : length direct ≡ length inverse) w
 
   -- what mirrors each other, within the places, is at rest
   module _ (s : Trail) (mirrored : AreMirrored s direct inverse) (direct_within : All (λ i. IsWithinPlaces s i (pos (length direct))) direct) (inverse_within : All (λ i. IsWithinPlaces s i (pos (length direct))) inverse) where
-    strong : IsMirrored s direct inverse
-    strong = record { same = λ i j l m. (mirrored.at i l).at j m }
+    mirror : IsMirrored s direct inverse
+    mirror = record { same = λ i j l m. (mirrored.at i l).at j m }
+
+    strong : HasRoom s direct × HasRoom s inverse → IsStrongInverse s direct inverse
+    strong room = record {
+      mirrored = mirror;
+      direct_places = all_held s (length direct) direct direct_within;
+      inverse_places = all_held s (length direct) inverse inverse_within;
+      direct_room = room.0;
+      inverse_room = room.1;
+    }
 
     fixed_inverse : All (IsFixedNow s) (direct ++ inverse) → (xs : List ℤ) → AreOpen s xs (direct ++ inverse) → AreInverse (values_at xs direct) (values_at xs inverse)
     fixed_inverse fixed xs opens =
@@ -103,8 +120,8 @@ module _ (direct inverse : List ℕ) (same : length direct ≡ length inverse) w
               );
         }
 
-    pub mirrored_rests : IsAtRest (Inverse direct inverse) s
-    mirrored_rests = record { decided = fixed_inverse; strong = strong }
+    pub mirrored_rests : HasRoom s direct × HasRoom s inverse → IsAtRest (Inverse direct inverse) s
+    mirrored_rests room = record { decided = fixed_inverse; strong = strong room }
 
 -- the same of a body, which is seen through its lists
 module _ (b : Body) (ds js ds' js' : List ℕ) (view : Inverse ds js ≡ b) (d : ds' ≡ ds) (j : js' ≡ js) (same : length ds ≡ length js) where
@@ -126,8 +143,10 @@ module _ (b : Body) (ds js ds' js' : List ℕ) (view : Inverse ds js ≡ b) (d :
   pub seen_paired_back : AllPaired b js' ds'
   seen_paired_back = subst (λ (x : Body). AllPaired x js' ds') is_body (paired_back ds' js' same_length)
 
-  pub seen_rests : (s : Trail) → AreMirrored s ds' js' → All (λ i. IsWithinPlaces s i (pos (length ds'))) ds' → All (λ i. IsWithinPlaces s i (pos (length ds'))) js' → IsAtRest b s
-  seen_rests s m p q = subst (λ (x : Body). IsAtRest x s) is_body (mirrored_rests ds' js' same_length s m p q)
+  pub seen_rests : (s : Trail) → AreMirrored s ds' js' → All (λ i. IsWithinPlaces s i (pos (length ds'))) ds' → All (λ i. IsWithinPlaces s i (pos (length ds'))) js' → HasRoom s ds × HasRoom s js → IsAtRest b s
+  seen_rests s m p q room =
+      let here : HasRoom s ds' × HasRoom s js' = (subst (λ (is : List ℕ). HasRoom s is) (sym d) room.0, subst (λ (is : List ℕ). HasRoom s is) (sym j) room.1) in
+      subst (λ (x : Body). IsAtRest x s) is_body (mirrored_rests ds' js' same_length s m p q here)
 
   pub seen_direct : (first : Domains) → IsFittingRule first b → All (λ i. i < length first) ds'
   seen_direct first h = All-append_left (λ i. i < length first) ds' js' (subst (λ (x : Body). IsFittingRule first x) (sym is_body) h).subjects

@@ -11,7 +11,7 @@ use Rattle.cps_domain.proofs.Tests.{true_le, within_low, within_high}
 use Rattle.cps_trail.specs.Trail.{Trail, admits}
 use Rattle.cps_propagate.specs.Now.{IsOpenTo}
 use Rattle.cps_model.specs.Rising.{IsRising}
-use Rattle.cps_p_sequence.specs.Runs.{IsNarrowAt}
+use Rattle.cps_propagate.specs.Strength.{IsNarrowAt}
 use Rattle.cps_p_sequence.proofs.Layering.{last_or}
 
 true_lt : (a b : ℤ) → int_lt a b ≡ true → a <ℤ b

@@ -12,14 +12,14 @@ use Rattle.cps_literal.specs.Truth.{value_at}
 use Rattle.cps_instance.specs.declared.task.Body.{Body}
 use Rattle.cps_instance.proofs.Agreeing.{All-append_left, All-append_right}
 use Rattle.cps_trail.specs.Trail.{Trail, IsTrueNow}
-use Rattle.cps_propagate.specs.Now.{IsOpenTo}
-use Rattle.cps_propagate.specs.Strength.{IsEndNow}
+use Rattle.cps_propagate.specs.Now.{IsOpenTo, IsEndNow}
+use Rattle.cps_propagate.specs.Strength.{IsNarrowAt}
 use Rattle.cps_rule.specs.declared.rule.Narrowing.{Narrowing}
 use Rattle.cps_rule.specs.Rules.{IsGiven}
 use Rattle.cps_p_sequence.specs.declared.states.Step.{Step}
 use Rattle.cps_p_sequence.specs.Networks.{IsMarked}
 use Rattle.cps_model.specs.Rising.{IsRising}
-use Rattle.cps_p_sequence.specs.Runs.{CanEnd, AreEnding, AreReached, AreRows, AreTails, AreHeads, AreLabels, IsAlive, HasLabels, HasLabelsOf, AreClosed, IsFollowed, AllGiven, AllTargetsTrue, AreFound, IsFrom, IsSubjectUpTo, IsNarrowAt, IsDead, IsNarrowed, IsRunLooked}
+use Rattle.cps_p_sequence.specs.Runs.{CanEnd, AreEnding, AreReached, AreRows, AreTails, AreHeads, AreLabels, IsAlive, HasLabels, HasLabelsOf, AreClosed, IsFollowed, AllGiven, AllTargetsTrue, AreFound, IsFrom, IsSubjectUpTo, IsDead, IsNarrowed, IsRunLooked}
 use Rattle.cps_p_sequence.proofs.Finding.{unequal, off_true}
 use Rattle.cps_p_sequence.proofs.Numbering.{unmarked, marked_here, marked_still, marked_before}
 

@@ -11,11 +11,11 @@ use Rattle.cps_instance.specs.declared.task.Body.TheVariants.{Automaton}
 use Rattle.cps_instance.specs.Parts.{values_at}
 use Rattle.cps_trail.specs.Trail.{Trail, IsAdmitted}
 use Rattle.cps_propagate.specs.Now.{IsOpenTo, IsFixedNow, AreOpen}
-use Rattle.cps_propagate.specs.Strength.{IsRunNow, HasRuns}
+use Rattle.cps_propagate.specs.Strength.{IsRunNow, IsOnRun, HasRuns}
 use Rattle.cps_rule.specs.Rules.{IsAtRest}
 use Rattle.cps_p_sequence.specs.declared.states.Step.{Step}
-use Rattle.cps_p_sequence.specs.Networks.{IsNetwork, IsStepWithin, state_at}
-use Rattle.cps_p_sequence.specs.Runs.{CanEnd, CanReach, IsAlive, IsFollowed, AreEndsAlive, HasRunsOfAll}
+use Rattle.cps_p_sequence.specs.Networks.{IsNetwork, IsStepWithin, state_at, named}
+use Rattle.cps_p_sequence.specs.Runs.{CanEnd, CanReach, IsAlive, IsFollowed, AreEndsAlive}
 
 -- where each subject is fixed, what a run may have is what they have
 fixed_labels : (s : Trail) (is : List ℕ) (xs labels : List ℤ) → All (IsFixedNow s) is → AreOpen s xs is → AllZip (IsOpenTo s) is labels → labels ≡ values_at xs is
@@ -111,7 +111,7 @@ module _ (raw : List Transition) (finals : List ℤ) (start : ℤ) (states : Lis
       let r = run_to_end is first h in
       (r.0, record { possible = r.1; accepted = subst (λ (x : ℤ). Accepts raw finals x r.0) net.start_is r.2 })
 
-  pub run_through : (is : List ℕ) (k : ℕ) (v : ℤ) → k < length is → IsAlive s steps first last is k v → (labels : List ℤ) × IsRunNow s raw finals start is labels × (get_or labels k (pos 0) ≡ v)
+  pub run_through : (is : List ℕ) (k : ℕ) (v : ℤ) → k < length is → IsAlive s steps first last is k v → IsOnRun s raw finals start is k v
   run_through is k v l h =
       let t = h.0 in
       let r = run_to_end (drop (k + 1) is) t.head h.5 in
@@ -124,7 +124,17 @@ module _ (raw : List Transition) (finals : List ℤ) (start : ℤ) (states : Lis
       (x.0, record { possible = x.1; accepted = x.2 }, ap (λ (n : ℕ). get_or x.0 n (pos 0)) e ∙ x.3 0 (pos 0) ∙ h.2)
 
   pub runs_from : (is : List ℕ) → AreEndsAlive s steps first last is (length is) → HasRuns s raw finals start is
-  runs_from is alive = record { ends = λ k v l h. run_through is k v l (alive.at k v l l h) }
+  runs_from is alive = record {
+    ends = λ k v l h. run_through is k v l (alive.at k v l l h);
+    labels = λ k t l has o. label_on_run k t l (net.numbered t has) o;
+    values = λ k v l narrow o. run_through is k v l (alive.values k v l l narrow o);
+  }
+    where
+      label_on_run : (k : ℕ) (t : Transition) → k < length is → (n : Step) × Contains steps n × (named states n ≡ t) → IsOpenTo s (get_or is k 0) t.label → IsOnRun s raw finals start is k t.label
+      label_on_run k t l n o =
+          let e : n.0.label ≡ t.label = ap (λ (x : Transition). x.label) n.2 in
+          let here : IsOpenTo s (get_or is k 0) n.0.label = subst (λ (v : ℤ). IsOpenTo s (get_or is k 0) v) (sym e) o in
+          subst (λ (v : ℤ). IsOnRun s raw finals start is k v) e (run_through is k n.0.label l (alive.labels k n.0 l l n.1 here))
 
   pub decided_from : (is : List ℕ) → CanEnd s steps last is first → All (IsFixedNow s) is → (xs : List ℤ) → AreOpen s xs is → Accepts raw finals start (values_at xs is)
   decided_from is h fixed xs o =
@@ -157,6 +167,3 @@ module _ (start : ℤ) (finals tails heads labels : List ℤ) (states : List ℤ
 
   pub body_possible : CanEnd s steps last is first → ((values : List ℤ) → IsRunNow s (transitions tails heads labels) finals start is values → ⊥) → ⊥
   body_possible h none = let r = whole_run (transitions tails heads labels) finals start states first last steps net s is h in none r.0 r.1
-
-  pub body_runs : AreEndsAlive s steps first last is (length is) → HasRunsOfAll (Automaton start finals tails heads labels is) s
-  body_runs alive k v l narrow o = run_through (transitions tails heads labels) finals start states first last steps net s is k v l (alive.values k v l l narrow o)

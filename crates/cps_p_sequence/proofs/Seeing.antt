@@ -11,11 +11,11 @@ use Rattle.cps_rule.specs.Rules.{IsAtRest, IsFittingRule}
 use Rattle.cps_p_sequence.specs.declared.states.Step.{Step}
 use Rattle.cps_p_sequence.specs.Networks.{IsNetwork, IsStepWithin}
 use Rattle.cps_rule.specs.declared.rule.Narrowing.{Narrowing}
-use Rattle.cps_p_sequence.specs.Runs.{CanEnd, IsFollowed, AreEndsAlive, AreFound, IsDead, IsRunLooked, HasRunsOfAll}
+use Rattle.cps_p_sequence.specs.Runs.{CanEnd, IsFollowed, AreEndsAlive, AreFound, IsDead, IsRunLooked}
 use Rattle.cps_literal.specs.declared.atom.Atom.{Atom}
 use Rattle.cps_rule.specs.Facts.{GivesGoal}
 use Rattle.cps_p_sequence.specs.Cuts.{IsCut}
-use Rattle.cps_p_sequence.proofs.Running.{body_followed, body_rests, body_runs, body_possible}
+use Rattle.cps_p_sequence.proofs.Running.{body_followed, body_rests, body_possible}
 use Rattle.cps_p_sequence.proofs.Cutting.{cut_gives}
 
 -- what a look's answer says
@@ -50,9 +50,6 @@ module _ (b : Body) (start : ℤ) (finals tails heads labels : List ℤ) (is is'
 
     pub seen_rests : CanEnd s steps' last' is' first → AreEndsAlive s steps' first last' is' (length is') → IsAtRest b s
     seen_rests h alive = subst (λ (x : Body). IsAtRest x s) is_body (body_rests start finals tails heads labels states first last' steps' network s is' h alive)
-
-    pub seen_runs : AreEndsAlive s steps' first last' is' (length is') → HasRunsOfAll b s
-    seen_runs alive = subst (λ (x : Body). HasRunsOfAll x s) is_body (body_runs start finals tails heads labels states first last' steps' network s is' alive)
 
     pub seen_possible : CanEnd s steps' last' is' first → IsExcludedBody b s → ⊥
     seen_possible h = subst (λ (x : Body). IsExcludedBody x s → ⊥) is_body (body_possible start finals tails heads labels states first last' steps' network s is' h)

@@ -1,13 +1,11 @@
 -- Where the runs of an automaton may go, position by position.
-use Rattle.std.specs.Prelude.{◌≡◌, ℕ, zero, suc, ◌+◌, ◌<◌, ℤ, pos, ◌+ℤ◌, ◌≤ℤ◌, ◌<ℤ◌, Bool, true, false, List, [], ◌∷◌, ◌++◌, length, slice_index_or, drop, All, Contains}
+use Rattle.std.specs.Prelude.{◌≡◌, ℕ, zero, suc, ◌+◌, ◌<◌, ℤ, pos, ◌≤ℤ◌, Bool, true, false, List, [], ◌∷◌, ◌++◌, length, slice_index_or, drop, All, Contains}
 use Rattle.cps_literal.specs.Truth.{value_at}
-use Rattle.cps_model.specs.Sequences.{transitions}
 use Rattle.cps_instance.specs.declared.task.Body.{Body}
-use Rattle.cps_instance.specs.declared.task.Body.TheVariants.{Automaton}
 use Rattle.cps_instance.specs.Tasks.{HoldsBody}
 use Rattle.cps_trail.specs.Trail.{Trail, IsAdmitted, IsTrueNow}
-use Rattle.cps_propagate.specs.Now.{IsOpenTo}
-use Rattle.cps_propagate.specs.Strength.{IsEndNow, IsRunNow}
+use Rattle.cps_propagate.specs.Now.{IsOpenTo, IsEndNow}
+use Rattle.cps_propagate.specs.Strength.{IsNarrowAt}
 use Rattle.cps_rule.specs.declared.rule.Narrowing.{Narrowing}
 use Rattle.cps_rule.specs.Rules.{IsGiven}
 use Rattle.cps_p_sequence.specs.declared.states.Step.{Step}
@@ -87,10 +85,6 @@ pub record IsFollowed (b : Body) (s : Trail) (steps : List Step) (first : ℕ) (
   pub at : (k : ℕ) → k < length is → (xs : List ℤ) → IsAdmitted s.first s.entries xs → HoldsBody b xs
       → IsAlive s steps first last is k (value_at xs (slice_index_or is k 0))
 
--- the values that a subject may have now are among at most 4,096 numbers, one next to the other
-pub record IsNarrowAt (s : Trail) (i : ℕ) : Type 0 where
-  pub at : (x y : ℤ) → IsOpenTo s i x → IsOpenTo s i y → y <ℤ (x +ℤ pos 4096)
-
 -- each of these atoms is given by the body, and is true now
 abbrev pub AllGiven : Body → Trail → List Narrowing → Type 0
 AllGiven b s found = All (λ n. IsGiven b s n.target) found
@@ -144,11 +138,3 @@ abbrev pub IsRunLooked : Trail → List Step → ℕ → List Bool → List ℕ 
 IsRunLooked s steps first last is found true = CanEnd s steps last is first
     × AreFound s steps first last is (length is) found
 IsRunLooked s steps first last is found false = IsDead s steps first last is found
-
--- each value of a position whose values are among few numbers is the label there of a run
-abbrev pub HasRunsOfAll : Body → Trail → Type 0
-HasRunsOfAll (Automaton start finals tails heads labels exprs) s = (k : ℕ) (v : ℤ) → k < length exprs
-    → IsNarrowAt s (slice_index_or exprs k 0) → IsOpenTo s (slice_index_or exprs k 0) v
-    → (values : List ℤ) × IsRunNow s (transitions tails heads labels) finals start exprs values
-    × (slice_index_or values k (pos 0) ≡ v)
-HasRunsOfAll _ s = Unit {0}

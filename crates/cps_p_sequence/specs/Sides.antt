@@ -1,10 +1,9 @@
 -- The two lists of an inverse, each as positions whose values differ.
 use Rattle.std.specs.Prelude.{◌≡◌, ℕ, ℤ, List}
 use Rattle.cps_instance.specs.declared.task.Body.{Body}
-use Rattle.cps_instance.specs.declared.task.Body.TheVariants.{AllDiff, Inverse}
+use Rattle.cps_instance.specs.declared.task.Body.TheVariants.{AllDiff}
 use Rattle.cps_instance.specs.Tasks.{HoldsBody}
 use Rattle.cps_trail.specs.Trail.{Trail}
-use Rattle.cps_propagate.specs.Strength.{HasRoom}
 use Rattle.cps_rule.specs.declared.rule.Look.{Look}
 use Rattle.cps_rule.specs.declared.rule.Look.TheVariants.{Possible, Impossible}
 use Rattle.cps_rule.specs.Rules.{IsImpossible}
@@ -22,8 +21,3 @@ pub record ImpliesBody (b p : Body) : Type 0 where
 abbrev pub IsSeenImpossible : Body → Trail → Look → Type 0
 IsSeenImpossible b s Possible = Unit {0}
 IsSeenImpossible b s (Impossible hint) = IsImpossible b s
-
--- no interval of whole numbers holds the values of more positions of one list of an inverse than it has numbers
-abbrev pub HasRoomOnEachSide : Body → Trail → Type 0
-HasRoomOnEachSide (Inverse direct inverse) s = HasRoom s direct × HasRoom s inverse
-HasRoomOnEachSide _ s = Unit {0}

@@ -387,24 +387,9 @@ impl Inverse {
 }
 
 impl Rule for Inverse {
-    ghost use Rattle.std.specs.Prelude.{◌≡◌, Ok, OnOk, IfOk, All};
-    ghost use Rattle.cps_trail.specs.Trail.{IsTrueNow};
-    ghost use Rattle.cps_rule.specs.Rules.{IsFittingRule, IsGiven, IsSeen, IsAtRest};
-    ghost use Rattle.cps_p_sequence.specs.Sides.{HasRoomOnEachSide};
-
     ghost body = { λ r. r };
 
-    fn look(&mut self, store: &Store, found: &mut Vec<Narrowing>) -> Result<Look, AllocError>
-        requires fits { IsFittingRule store.now.first self.old }
-        ensures keeps { self.new ≡ self.old }
-        ensures given { OnOk result (All (λ n. IsGiven self.old store.now n.target) found.new.items) }
-        ensures seen { IfOk result (IsSeen self.old store.now) }
-        ensures rest { result ≡ Ok Look.Possible → All (λ n. IsTrueNow store.now n.target) found.new.items →
-            IsAtRest self.old store.now }
-        // beyond what is asked of the kind at rest
-        ensures room { result ≡ Ok Look.Possible → All (λ n. IsTrueNow store.now n.target) found.new.items →
-            HasRoomOnEachSide self.old store.now }
-    {
+    fn look(&mut self, store: &Store, found: &mut Vec<Narrowing>) -> Result<Look, AllocError> {
         let judged = self.sides.look(store, found)?;
         if !is_possible(&judged) {
             return Ok(judged);

@@ -5,10 +5,10 @@
 //! takes one value away, and a look is not to name thousands of them.
 ghost use Rattle.std.specs.Prelude.{◌≡◌, ◌↔◌, ◌-◌, ◌<◌, ◌≤◌, ℤ, pos, ◌-ℤ◌, ◌≤ℤ◌, ◌<ℤ◌, unsigned_abs, false, length, slice_index_or, Contains, OnOk, IsTrue};
 ghost use Rattle.cps_instance.specs.declared.task.Body.{Body as BodyOf};
-ghost use Rattle.cps_propagate.specs.Now.{IsOpenTo};
-ghost use Rattle.cps_propagate.specs.Strength.{IsEndNow};
+ghost use Rattle.cps_propagate.specs.Now.{IsOpenTo, IsEndNow};
+ghost use Rattle.cps_propagate.specs.Strength.{IsNarrowAt};
 ghost use Rattle.cps_model.specs.Rising.{IsRising};
-ghost use Rattle.cps_p_sequence.specs.Runs.{HasLabels, AreClosed, IsFrom, IsSubjectUpTo, IsNarrowAt, AllGiven, AllTargetsTrue};
+ghost use Rattle.cps_p_sequence.specs.Runs.{HasLabels, AreClosed, IsFrom, IsSubjectUpTo, AllGiven, AllTargetsTrue};
 
 use crate::states::is_listed;
 use cps_literal::{Atom, Op};

@@ -7,7 +7,7 @@ ghost use Rattle.std.specs.Prelude.{◌≡◌, Ok, true, false, OnOk, IfOk, IsTr
 ghost use Rattle.cps_instance.specs.declared.task.Body.{Body as BodyOf};
 ghost use Rattle.cps_trail.specs.Trail.{Trail};
 ghost use Rattle.cps_propagate.specs.Strength.{IsStrongBody};
-ghost use Rattle.cps_rule.specs.Rules.{IsFittingRule, IsExplained, IsRefuted};
+ghost use Rattle.cps_rule.specs.Rules.{IsFittingRule, IsSeen, IsExplained, IsRefuted};
 ghost use Rattle.cps_p_sequence.specs.Inverses.{AreGivenPlaces, AreTrue};
 ghost use Rattle.cps_p_sequence.specs.Sides.{AreSides, ImpliesBody, IsSeenImpossible};
 
@@ -60,7 +60,7 @@ fn add_apart(
     ensures given { OnOk result ((b : BodyOf) → ImpliesBody b side.old → AreGivenPlaces b store.now found.old.items →
         AreGivenPlaces b store.now found.new.items) }
     ensures kept { OnOk result (AreTrue store.now found.new.items → AreTrue store.now found.old.items) }
-    ensures denied { IfOk result (λ look. (b : BodyOf) → ImpliesBody b side.old → IsSeenImpossible b store.now look) }
+    ensures seen { IfOk result (IsSeen side.old store.now) }
     ensures strong { result ≡ Ok Look.Possible → AreTrue store.now found.new.items →
         IsStrongBody side.old store.now }
 {
@@ -96,6 +96,8 @@ impl Sides {
             AreGivenPlaces b store.now found.new.items) }
         ensures denied { IfOk result (λ look. (b : BodyOf) → ImpliesBody b self.old.direct →
             ImpliesBody b self.old.inverse → IsSeenImpossible b store.now look) }
+        ensures seen { result ≡ Ok Look.Possible → IsSeen self.old.direct store.now Look.Possible
+            × IsSeen self.old.inverse store.now Look.Possible }
         ensures strong { result ≡ Ok Look.Possible → AreTrue store.now found.new.items →
             IsStrongBody self.old.direct store.now × IsStrongBody self.old.inverse store.now }
     {

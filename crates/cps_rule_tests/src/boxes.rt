@@ -14,7 +14,7 @@ use cps_enforce::Enforced;
 use cps_instance::{Body, Task};
 use cps_literal::Op::{Ge, Le};
 use cps_model::Listed;
-use cps_p_nooverlap::Boxes;
+use cps_p_boxes::Boxes;
 use cps_trail::Store;
 use std::alloc::{AllocError, Global};
 use std::process::Abort;

@@ -12,7 +12,7 @@ use cps_enforce::Enforced;
 use cps_instance::{Body, Task};
 use cps_literal::Op::{Ge, Le};
 use cps_model::Listed;
-use cps_p_nooverlap::Interval;
+use cps_p_interval::Interval;
 use std::alloc::{AllocError, Global};
 use std::process::Abort;
 use std::test::Fail;
@@ -99,30 +99,84 @@ fn bounds_are_passed_on_in_every_direction(rt: HostRuntime) -> Result<(), Fail> 
     assert_left(&rt, rt.alloc(), &BOUNDS)
 }
 
-/// From 5 on for 3 at least it ends at 8 or later, whatever its end is at most.
-static REASON: [Comparison; 3] = [(0, Le, 4), (2, Le, 2), (1, Ge, 8)];
+/// Ends and decisions, and the reason of what is narrowed last, or the conflict. Bounds that each first value meets are
+/// in neither.
+struct Told {
+    ends: [Ends; 3],
+    decided: &'static [Comparison],
+    clause: &'static [Comparison],
+}
 
-static NEAR: [Ends; 3] = [(0, 20), (0, 40), (0, 20)];
-
-static STARTED: [Comparison; 3] = [(1, Le, 35), (0, Ge, 5), (2, Ge, 3)];
-
-#[test]
-fn a_bound_has_one_of_each_other_as_its_reason(rt: HostRuntime) -> Result<(), Fail> {
-    let found = spanned(rt.alloc(), &NEAR, &STARTED)?;
-    assert!(rt; ends_by(found, &REASON));
+fn assert_reasons(rt: &impl Abort, alloc: Global, rows: &[Told]) -> Result<(), Fail> {
+    for (place, row) in rows.iter().enumerate() {
+        let found = spanned(alloc, &row.ends, row.decided)?;
+        assert_row(rt, place, ends_by(found, row.clause));
+    }
     Ok(())
 }
 
-/// From 50 on for 30 at least it ends at 80 or later, so it need not end by 70: 79 is too early too.
-static CONFLICT: [Comparison; 3] = [(0, Le, 49), (2, Le, 29), (1, Ge, 80)];
+static REASONS: [Told; 4] = [
+    // from 5 on for 3 at least it ends at 8 or later, whatever its end is at most
+    Told {
+        ends: [(0, 20), (0, 40), (0, 20)],
+        decided: &[(1, Le, 35), (0, Ge, 5), (2, Ge, 3)],
+        clause: &[(0, Le, 4), (2, Le, 2), (1, Ge, 8)],
+    },
+    // up to 20 for 5 at least it starts by 15, whenever it starts at the earliest
+    Told {
+        ends: [(0, 100), (0, 100), (0, 100)],
+        decided: &[(0, Ge, 3), (1, Le, 20), (2, Ge, 5)],
+        clause: &[(1, Ge, 21), (2, Le, 4), (0, Le, 15)],
+    },
+    // from 2 on up to 15 it takes 13 at most
+    Told {
+        ends: [(0, 4), (2, 30), (0, 30)],
+        decided: &[(2, Le, 25), (0, Ge, 2), (1, Le, 15)],
+        clause: &[(0, Le, 1), (1, Ge, 16), (2, Le, 13)],
+    },
+    // no size is below 0, whatever the others are
+    Told {
+        ends: [(0, 10), (0, 10), (-5, 4)],
+        decided: &[(0, Le, 8)],
+        clause: &[(2, Ge, 0)],
+    },
+];
 
-static WIDE: [Ends; 3] = [(0, 100), (0, 100), (0, 100)];
+#[test]
+fn a_bound_has_one_of_each_other_as_its_reason(rt: HostRuntime) -> Result<(), Fail> {
+    assert_reasons(&rt, rt.alloc(), &REASONS)
+}
 
-static TOO_LONG: [Comparison; 3] = [(0, Ge, 50), (2, Ge, 30), (1, Le, 70)];
+fn assert_conflicts(rt: &impl Abort, alloc: Global, rows: &[Told]) -> Result<(), Fail> {
+    for (place, row) in rows.iter().enumerate() {
+        let found = spanned(alloc, &row.ends, row.decided)?;
+        assert_row(rt, place, refuses(found, row.clause));
+    }
+    Ok(())
+}
+
+static CONFLICTS: [Told; 3] = [
+    // from 50 on for 30 at least it ends at 80 or later, so it need not end by 70: 79 is too early too
+    Told {
+        ends: [(0, 100), (0, 100), (0, 100)],
+        decided: &[(0, Ge, 50), (2, Ge, 30), (1, Le, 70)],
+        clause: &[(0, Le, 49), (2, Le, 29), (1, Ge, 80)],
+    },
+    // up to 10 for 20 at most it ends by 30, and 31 is too late
+    Told {
+        ends: [(0, 100), (0, 100), (0, 100)],
+        decided: &[(0, Le, 10), (2, Le, 20), (1, Ge, 50)],
+        clause: &[(0, Ge, 11), (2, Ge, 21), (1, Le, 30)],
+    },
+    // -1 is no size
+    Told {
+        ends: [(0, 10), (0, 10), (-5, 4)],
+        decided: &[(0, Le, 8), (2, Le, -2)],
+        clause: &[(2, Ge, 0)],
+    },
+];
 
 #[test]
 fn conflicts_ask_no_more_than_is_needed(rt: HostRuntime) -> Result<(), Fail> {
-    let found = spanned(rt.alloc(), &WIDE, &TOO_LONG)?;
-    assert!(rt; refuses(found, &CONFLICT));
-    Ok(())
+    assert_conflicts(&rt, rt.alloc(), &CONFLICTS)
 }

@@ -92,7 +92,7 @@ fn settle<P: Propagator>(
 {
     let mut conflict = Vec::new(alloc);
     match propagator.propagate(7, store, &mut conflict)? {
-        Answer::Settled => {
+        Answer::NoConflict => {
             let reason = last_reason(alloc, propagator, store)?;
             Ok((true, reason))
         }
@@ -110,7 +110,7 @@ fn is_at_rest<P: Propagator>(
 {
     let count = store.entries().len();
     match propagator.propagate(7, store, &mut Vec::new(alloc))? {
-        Answer::Settled => Ok(store.entries().len() == count),
+        Answer::NoConflict => Ok(store.entries().len() == count),
         Answer::Conflict => Ok(false),
     }
 }

@@ -1,7 +1,8 @@
 //! Two lists that are each other's inverse, and values that are read by an automaton.
 //!
-//! Rows give the ends of all subjects and what is left of them, worked out by hand. Reasons are compared too: an inverse
-//! has one fact of the other list, and of the cuts that an automaton may choose only one is wanted.
+//! Rows give the ends of all subjects and what is left of them, worked out by hand. Reasons and conflicts are compared
+//! too. An inverse has one fact of the other list, or the positions that fill some places; of the cuts that an
+//! automaton may choose only one is wanted.
 
 ghost use Rattle.std.specs.Prelude.{◌≡◌, IfOk, IsTrue, length};
 ghost use Rattle.cps_instance.specs.Terms.{Domains};
@@ -170,7 +171,7 @@ fn places_that_positions_fill_are_left_to_them(rt: HostRuntime) -> Result<(), Fa
     assert_inverted(&rt, rt.alloc(), &FILLED)
 }
 
-static PLACES: [Ends; 8] = [
+const PLACES: [Ends; 8] = [
     (0, 3),
     (0, 3),
     (0, 3),
@@ -181,29 +182,104 @@ static PLACES: [Ends; 8] = [
     (0, 3),
 ];
 
-/// The second is not at place 2, so at place 2 is not the second.
-static MIRROR: [Comparison; 2] = [(1, Eq, 2), (6, Ne, 1)];
+/// Ends and decisions, and the reason of what is narrowed last, or the conflict. Bounds that each first value meets are
+/// in neither.
+struct Told {
+    ends: &'static [Ends],
+    decided: &'static [Comparison],
+    clause: &'static [Comparison],
+}
 
-/// The third is not at place 1, and both lists say so.
-static APART: [Comparison; 3] = [(2, Ne, 1), (5, Ne, 2), (1, Ne, 2)];
-
-#[test]
-fn what_a_list_does_not_have_is_the_reason_in_the_other(rt: HostRuntime) -> Result<(), Fail> {
-    let found = inverted(rt.alloc(), &PLACES, &APART)?;
-    assert!(rt; ends_by(found, &MIRROR));
+fn assert_inverse_reasons(rt: &impl Abort, alloc: Global, rows: &[Told]) -> Result<(), Fail> {
+    for (place, row) in rows.iter().enumerate() {
+        let found = inverted(alloc, row.ends, row.decided)?;
+        assert_row(rt, place, ends_by(found, row.clause));
+    }
     Ok(())
 }
 
-/// The second is at place 2, where it is not.
-static CONFLICT: [Comparison; 2] = [(1, Ne, 2), (6, Eq, 1)];
+/// The second list says that the first two are at places 0 and 1. Of the first list the second position does not yet.
+const PAIRED: [Ends; 8] = [
+    (0, 1),
+    (0, 3),
+    (0, 3),
+    (2, 3),
+    (0, 1),
+    (0, 1),
+    (2, 3),
+    (2, 3),
+];
 
-static MISPLACED: [Comparison; 4] = [(2, Ne, 1), (5, Ne, 2), (6, Ne, 1), (1, Eq, 2)];
+/// The last place has a number too many.
+const LONG: [Ends; 8] = [
+    (0, 3),
+    (0, 3),
+    (0, 3),
+    (0, 3),
+    (0, 3),
+    (0, 3),
+    (0, 3),
+    (0, 5),
+];
+
+static INVERSE_REASONS: [Told; 3] = [
+    // the second is not at place 2, so at place 2 is not the second; of the third both lists say that it is not at 1
+    Told {
+        ends: &PLACES,
+        decided: &[(2, Ne, 1), (5, Ne, 2), (1, Ne, 2)],
+        clause: &[(1, Eq, 2), (6, Ne, 1)],
+    },
+    // the first two fill places 0 and 1, so the third comes after them, whether it might be at 0 or not
+    Told {
+        ends: &PAIRED,
+        decided: &[(2, Ne, 0), (1, Le, 1)],
+        clause: &[(1, Ge, 2), (2, Ge, 2)],
+    },
+    // there is no position 4, whatever holds
+    Told {
+        ends: &LONG,
+        decided: &[(0, Ne, 3), (7, Ne, 0)],
+        clause: &[(7, Le, 3)],
+    },
+];
 
 #[test]
-fn a_place_that_one_list_denies_is_the_conflict(rt: HostRuntime) -> Result<(), Fail> {
-    let found = inverted(rt.alloc(), &PLACES, &MISPLACED)?;
-    assert!(rt; refuses(found, &CONFLICT));
+fn the_other_list_or_full_places_are_the_reason(rt: HostRuntime) -> Result<(), Fail> {
+    assert_inverse_reasons(&rt, rt.alloc(), &INVERSE_REASONS)
+}
+
+fn assert_inverse_conflicts(rt: &impl Abort, alloc: Global, rows: &[Told]) -> Result<(), Fail> {
+    for (place, row) in rows.iter().enumerate() {
+        let found = inverted(alloc, row.ends, row.decided)?;
+        assert_row(rt, place, refuses(found, row.clause));
+    }
     Ok(())
+}
+
+static INVERSE_CONFLICTS: [Told; 3] = [
+    // the second is at place 2, where it is not
+    Told {
+        ends: &PLACES,
+        decided: &[(2, Ne, 1), (5, Ne, 2), (6, Ne, 1), (1, Eq, 2)],
+        clause: &[(1, Ne, 2), (6, Eq, 1)],
+    },
+    // three have places 0 and 1, wherever the last is
+    Told {
+        ends: &PLACES,
+        decided: &[(3, Ge, 1), (0, Le, 1), (1, Le, 1), (2, Le, 1)],
+        clause: &[(0, Ge, 2), (1, Ge, 2), (2, Ge, 2)],
+    },
+    // and three places have two positions
+    Told {
+        ends: &PLACES,
+        decided: &[(0, Le, 2), (4, Ge, 2), (5, Ge, 2), (7, Ge, 2)],
+        clause: &[(4, Le, 1), (5, Le, 1), (7, Le, 1)],
+    },
+];
+
+#[test]
+fn what_a_list_denies_or_has_no_room_for_is_the_conflict(rt: HostRuntime) -> Result<(), Fail> {
+    assert_inverse_conflicts(&rt, rt.alloc(), &INVERSE_CONFLICTS)
 }
 
 /// These numbers as a list.
@@ -298,29 +374,34 @@ fn labels_of_runs_stay_alone(rt: HostRuntime) -> Result<(), Fail> {
     assert_read(&rt, rt.alloc(), &RUNS)
 }
 
-/// Decisions of three subjects between 0 and 9, and the reason of what is narrowed last.
-struct Told {
-    decided: &'static [Comparison],
-    reason: &'static [Comparison],
-}
+/// Three subjects between 0 and 9.
+const DIGITS: [Ends; 3] = [(0, 9), (0, 9), (0, 9)];
 
-static REASONS: [Told; 2] = [
+static REASONS: [Told; 3] = [
     // the last is 1, since it is not 7
     Told {
+        ends: &DIGITS,
         decided: &[(2, Le, 3)],
-        reason: &[(2, Ge, 7), (2, Le, 1)],
+        clause: &[(2, Ge, 7), (2, Le, 1)],
     },
     // the last is not 6, whatever holds: no label is
     Told {
+        ends: &DIGITS,
         decided: &[],
-        reason: &[(2, Ne, 6)],
+        clause: &[(2, Ne, 6)],
+    },
+    // the last is 1 whatever the first is, since the second is never 7
+    Told {
+        ends: &[(0, 9), (2, 3), (0, 9)],
+        decided: &[(0, Le, 6)],
+        clause: &[(2, Le, 1)],
     },
 ];
 
 fn assert_reasons(rt: &impl Abort, alloc: Global, rows: &[Told]) -> Result<(), Fail> {
     for (place, row) in rows.iter().enumerate() {
-        let found = read(alloc, &[(0, 9), (0, 9), (0, 9)], row.decided)?;
-        assert_row(rt, place, ends_by(found, row.reason));
+        let found = read(alloc, row.ends, row.decided)?;
+        assert_row(rt, place, ends_by(found, row.clause));
     }
     Ok(())
 }
@@ -328,4 +409,26 @@ fn assert_reasons(rt: &impl Abort, alloc: Global, rows: &[Told]) -> Result<(), F
 #[test]
 fn reasons_name_what_is_gone_along_a_cut(rt: HostRuntime) -> Result<(), Fail> {
     assert_reasons(&rt, rt.alloc(), &REASONS)
+}
+
+fn assert_conflicts(rt: &impl Abort, alloc: Global, rows: &[Told]) -> Result<(), Fail> {
+    for (place, row) in rows.iter().enumerate() {
+        let found = read(alloc, row.ends, row.decided)?;
+        assert_row(rt, place, refuses(found, row.clause));
+    }
+    Ok(())
+}
+
+static CONFLICTS: [Told; 1] = [
+    // without a first 7 the last is 1, whatever the second is
+    Told {
+        ends: &DIGITS,
+        decided: &[(1, Le, 8), (0, Le, 3), (2, Ge, 5)],
+        clause: &[(0, Ge, 7), (2, Le, 1)],
+    },
+];
+
+#[test]
+fn a_cut_through_every_run_is_the_conflict(rt: HostRuntime) -> Result<(), Fail> {
+    assert_conflicts(&rt, rt.alloc(), &CONFLICTS)
 }

@@ -1,7 +1,7 @@
 use Rattle.std.proofs.Common.{List, sym, subst}
 use Rattle.cps_rule.specs.declared.rule.Narrowing.{Narrowing}
 use Rattle.cps_p_sequence.specs.Inverses.{AreGivenPlaces, AreTrue}
-use Rattle.cps_p_sequence.proofs.Apart.{implied_given, implied_denied, both_given, first_true, second_true}
+use Rattle.cps_p_sequence.proofs.Apart.{implied_given, both_given, first_true, second_true}
 use Rattle.cps_p_sequence.proofs.sides.add_apart.Goals as goal
 
 pub returns-clause-given : goal.returns-clause-given
@@ -13,9 +13,6 @@ returns-clause-given c b implies gs =
 
 pub returns-clause-kept : goal.returns-clause-kept
 returns-clause-kept c all = first_true c.args.store.now c.args.found.now.items c.as_slice.result.now c.extend_from_slice.new.self.items c.in_ok-extend_from_slice.ensures.items all
-
-pub returns-clause-denied : goal.returns-clause-denied
-returns-clause-denied c b implies = implied_denied b c.args.side.now implies c.args.store.now c.in_ok-judged.judged c.in_ok-judged.ensures.seen
 
 pub returns-clause-strong : goal.returns-clause-strong
 returns-clause-strong c e all =

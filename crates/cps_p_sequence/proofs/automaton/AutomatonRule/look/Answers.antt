@@ -1,4 +1,4 @@
-use Rattle.cps_p_sequence.proofs.Seeing.{seen_subjects, seen_steps, seen_first, seen_followed, seen_rests, seen_runs, seen_possible, looked_some, looked_none}
+use Rattle.cps_p_sequence.proofs.Seeing.{seen_subjects, seen_steps, seen_first, seen_followed, seen_rests, seen_possible, looked_some, looked_none}
 use Rattle.cps_p_sequence.proofs.automaton.AutomatonRule.look.Goals as goal
 
 pub look_at-requires-clause-subjects : goal.look_at-requires-clause-subjects
@@ -44,13 +44,6 @@ returns-then-possible-clause-rest c e all =
     let both = looked_some c.args.store.now c.as_slice-steps.result.now r.first c.as_slice-last.result.now c.as_slice-subjects.result.now c.look_at.new.found.items c.in_ok-possible.possible c.if-possible.true c.in_ok-possible.ensures in
     seen_rests c.args.self.now r.start r.finals.items r.tails.items r.heads.items r.labels.items r.exprs.items c.as_slice-subjects.result.now r.states.items r.first r.last.items c.as_slice-last.result.now r.steps.items c.as_slice-steps.result.now
     c.self.view_is c.as_slice-subjects.ensures.value c.as_slice-last.ensures.value c.as_slice-steps.ensures.value c.self.invariant.0 c.args.store.now both.0 (both.1.ends all)
-
-pub returns-then-possible-clause-runs : goal.returns-then-possible-clause-runs
-returns-then-possible-clause-runs c e all =
-    let r = c.self.inside in
-    let both = looked_some c.args.store.now c.as_slice-steps.result.now r.first c.as_slice-last.result.now c.as_slice-subjects.result.now c.look_at.new.found.items c.in_ok-possible.possible c.if-possible.true c.in_ok-possible.ensures in
-    seen_runs c.args.self.now r.start r.finals.items r.tails.items r.heads.items r.labels.items r.exprs.items c.as_slice-subjects.result.now r.states.items r.first r.last.items c.as_slice-last.result.now r.steps.items c.as_slice-steps.result.now
-    c.self.view_is c.as_slice-subjects.ensures.value c.as_slice-last.ensures.value c.as_slice-steps.ensures.value c.self.invariant.0 c.args.store.now (both.1.ends all)
 
 pub returns-clause-given : goal.returns-clause-given
 returns-clause-given c =

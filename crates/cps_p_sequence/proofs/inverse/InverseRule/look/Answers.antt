@@ -1,7 +1,7 @@
 -- What the sides give is given, and so is what keeps the positions at their places.
 use Rattle.std.proofs.Common.{sym}
 use Rattle.cps_p_sequence.proofs.Inverting.{even_of, seen_direct, seen_inverse, seen_direct_places, seen_inverse_places, seen_paired, seen_rests}
-use Rattle.cps_p_sequence.proofs.Apart.{fits_direct, fits_inverse, side_direct, side_inverse, sides_room, sides_kept, denied_seen, ok_possible, possible_of}
+use Rattle.cps_p_sequence.proofs.Apart.{fits_direct, fits_inverse, side_direct, side_inverse, sides_room, sides_seen, sides_kept, denied_seen, ok_possible, possible_of}
 use Rattle.cps_p_sequence.proofs.inverse.InverseRule.look.Goals as goal
 
 pub look-requires-clause-fits_direct : goal.look-requires-clause-fits_direct
@@ -56,17 +56,16 @@ returns-clause-rest c e all =
     let even = even_of b c.self.inside.direct.items c.self.inside.inverse.items (sym c.self.view_is) c.args.store.now.first c.requires.fits in
     let k = c.in_ok-keep_places.ensures in
     seen_rests b c.self.inside.direct.items c.self.inside.inverse.items ds js c.self.view_is c.as_slice-direct.ensures.value c.as_slice-inverse.ensures.value even c.args.store.now (k.mirrored all) (k.direct all) (k.inverse all)
+    (sides_room c.self.inside.direct.items c.self.inside.inverse.items c.self.inside.sides.direct c.self.inside.sides.inverse c.self.invariant c.args.store.now
+    (c.in_ok-judged.ensures.strong (ok_possible c.in_ok-judged.judged (c.is_possible.ensures.yes c.if-not-is_possible.false)) (k.kept all)))
 
-pub returns-clause-room : goal.returns-clause-room
-returns-clause-room c e all =
-    let strong = c.in_ok-judged.ensures.strong (ok_possible c.in_ok-judged.judged (c.is_possible.ensures.yes c.if-not-is_possible.false)) (c.in_ok-keep_places.ensures.kept all) in
-    sides_room c.args.self.now c.self.inside.direct.items c.self.inside.inverse.items c.self.inside.sides.direct c.self.inside.sides.inverse c.self.view_is c.self.invariant c.args.store.now strong.0 strong.1
+pub returns-clause-seen : goal.returns-clause-seen
+returns-clause-seen c =
+    sides_seen c.args.self.now c.self.inside.direct.items c.self.inside.inverse.items c.self.inside.sides.direct c.self.inside.sides.inverse c.self.view_is c.self.invariant c.args.store.now
+    (c.in_ok-judged.ensures.seen (ok_possible c.in_ok-judged.judged (c.is_possible.ensures.yes c.if-not-is_possible.false)))
 
 pub returns-then-not-is_possible-clause-rest : goal.returns-then-not-is_possible-clause-rest
 returns-then-not-is_possible-clause-rest c e all = absurd (c.is_possible.ensures.no c.if-not-is_possible.true (possible_of _ e))
-
-pub returns-then-not-is_possible-clause-room : goal.returns-then-not-is_possible-clause-room
-returns-then-not-is_possible-clause-room c e all = absurd (c.is_possible.ensures.no c.if-not-is_possible.true (possible_of _ e))
 
 pub invariant_of-self-then-not-is_possible : goal.invariant_of-self-then-not-is_possible
 invariant_of-self-then-not-is_possible c = sides_kept _ _ _ _ _ _ c.self.invariant c.in_ok-judged.ensures.keeps_direct c.in_ok-judged.ensures.keeps_inverse

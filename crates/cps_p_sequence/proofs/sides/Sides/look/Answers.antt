@@ -1,9 +1,10 @@
 use Rattle.std.proofs.Common.{List, sym, subst}
 use Rattle.std.proofs.lemmas.List.Elements.{All-nil}
 use Rattle.cps_rule.specs.declared.rule.Narrowing.{Narrowing}
-use Rattle.cps_rule.specs.Rules.{IsGiven}
+use Rattle.cps_rule.specs.declared.rule.Look.{Look}
+use Rattle.cps_rule.specs.Rules.{IsGiven, IsSeen}
 use Rattle.cps_p_sequence.specs.Inverses.{AreGivenPlaces}
-use Rattle.cps_p_sequence.proofs.Apart.{ok_possible, possible_of}
+use Rattle.cps_p_sequence.proofs.Apart.{implied_denied, ok_possible, possible_of}
 use Rattle.cps_p_sequence.proofs.sides.Sides.look.Goals as goal
 
 pub returns-clause-given : goal.returns-clause-given
@@ -13,7 +14,16 @@ returns-clause-given c b direct inverse =
     c.in_ok-two.ensures.given b inverse (c.in_ok-one.ensures.given b direct start)
 
 pub returns-clause-denied : goal.returns-clause-denied
-returns-clause-denied c b direct inverse = c.surest.ensures.denied b c.args.store.now (c.in_ok-one.ensures.denied b direct) (c.in_ok-two.ensures.denied b inverse)
+returns-clause-denied c b direct inverse =
+    let s = c.args.store.now in
+    c.surest.ensures.denied b s (implied_denied b c.args.self.now.direct direct s c.in_ok-one.one c.in_ok-one.ensures.seen)
+    (implied_denied b c.args.self.now.inverse inverse s c.in_ok-two.two c.in_ok-two.ensures.seen)
+
+pub returns-clause-seen : goal.returns-clause-seen
+returns-clause-seen c e =
+    let s = c.args.store.now in
+    let both = c.surest.ensures.possible (possible_of c.surest.result e) in
+    (subst (λ (l : Look). IsSeen c.args.self.now.direct s l) both.0 c.in_ok-one.ensures.seen, subst (λ (l : Look). IsSeen c.args.self.now.inverse s l) both.1 c.in_ok-two.ensures.seen)
 
 pub returns-clause-strong : goal.returns-clause-strong
 returns-clause-strong c e all =
