@@ -12,12 +12,12 @@ use Rattle.cps_instance.specs.declared.task.Body.TheVariants.{NoOverlap}
 use Rattle.cps_instance.specs.Parts.{span_runs}
 use Rattle.cps_trail.specs.Trail.{Trail, IsAdmitted}
 use Rattle.cps_rule.specs.Rules.{IsFact, AreFacts, AllTrueAt, IsGiven, IsImpossible}
-use Rattle.cps_p_nooverlap.specs.declared.crowd.Crowd.{Crowd}
+use Rattle.cps_p_nooverlap.specs.declared.edge_finding.Edge.{Edge}
 use Rattle.cps_p_nooverlap.specs.declared.crowd.Ends.TheVariants.{Both, Start, End}
-use Rattle.cps_p_nooverlap.specs.Citing.{Cites}
-use Rattle.cps_p_nooverlap.specs.Spans.{is_present, IsSpan, AreSpans, SaysOfTimes}
+use Rattle.cps_p_span.specs.Citing.{Cites}
+use Rattle.cps_p_span.specs.Spans.{is_present, IsSpan, AreSpans, SaysOfTimes}
 use Rattle.cps_p_nooverlap.specs.Crowds.{near_at, far_at, LastsAt, AreRuns, IsUncounted, IsCrowd, StartsFrom, StartsBeforeUnless, IsAboutOne, IsReasoned}
-use Rattle.cps_p_nooverlap.proofs.Citing.{says_within}
+use Rattle.cps_p_span.proofs.Citing.{says_within}
 use Rattle.cps_p_nooverlap.proofs.Crowding.{comes_after_all, comes_after_one, comes_after}
 
 -- a span, which is read at a place of a list
@@ -52,18 +52,18 @@ module _ (ps : List Span) (p : ℕ) (l : p < length ps) (q : Span) (is : q ≡ g
           (λ f. subst (λ (u : Span). edge ≤ℤ far_at r xs u) (place_is f) k) much (let n = i.count.is in omega (arith, ints));
     }
 
-module _ (ps : List Span) (whole part : List ℕ) (c : Crowd) (m : ℕ) (q : Span) (i : IsCrowd (length ps) whole part c m) (is : q ≡ get_or ps c.place q) (s : Trail) (r : Bool) (a b d f : List Atom) where
-  pub cites_edge : c.time ≤ℤ (c.edge +ℤ pos m) → Cites s a b (λ xs. LastsAt xs q c.weight × (c.from ≤ℤ near_at r xs q)) → Cites s b d (λ xs. AreRuns Both r xs ps whole c.from c.to) → Cites s d f (λ xs. AreRuns Both r xs ps part c.edge c.to)
-      → Cites s a f (λ xs. StartsFrom r xs ps c.place c.time)
+module _ (ps : List Span) (whole part : List ℕ) (c : Edge) (m : ℕ) (q : Span) (i : IsCrowd (length ps) whole part c m) (is : q ≡ get_or ps c.pushed.place q) (s : Trail) (r : Bool) (a b d f : List Atom) where
+  pub cites_edge : c.pushed.time ≤ℤ (c.edge +ℤ pos m) → Cites s a b (λ xs. LastsAt xs q c.weight × (c.from ≤ℤ near_at r xs q)) → Cites s b d (λ xs. AreRuns Both r xs ps whole c.from c.to) → Cites s d f (λ xs. AreRuns Both r xs ps part c.edge c.to)
+      → Cites s a f (λ xs. StartsFrom r xs ps c.pushed.place c.pushed.time)
   cites_edge reached x y z = record {
     facts = λ h. z.facts (y.facts (x.facts h));
     kept = λ xs h. x.kept xs (y.kept xs (z.kept xs h));
     gives = λ xs h e o t.
         let k = x.gives xs (y.kept xs (z.kept xs h)) in
-        comes_after r xs ps c.place i.place (everywhere ps c.place i.place q is xs e t) o whole c.weight c.from c.to i.every i.aside i.takes i.full (y.gives xs (z.kept xs h))
-        (λ g. subst (λ (u : Span). LastsAt xs u c.weight) (place_is ps c.place i.place q is g) k.0)
-        (λ g. subst (λ (u : Span). c.from ≤ℤ near_at r xs u) (place_is ps c.place i.place q is g) k.1)
-        part c.edge c.time e i.late.each i.aside_too (z.gives xs h) (let n = i.late.is in let j = i.late.some in omega arith) (let n = i.late.is in omega (arith, ints));
+        comes_after r xs ps c.pushed.place i.place (everywhere ps c.pushed.place i.place q is xs e t) o whole c.weight c.from c.to i.every i.aside i.takes i.full (y.gives xs (z.kept xs h))
+        (λ g. subst (λ (u : Span). LastsAt xs u c.weight) (place_is ps c.pushed.place i.place q is g) k.0)
+        (λ g. subst (λ (u : Span). c.from ≤ℤ near_at r xs u) (place_is ps c.pushed.place i.place q is g) k.1)
+        part c.edge c.pushed.time e i.late.each i.aside_too (z.gives xs h) (let n = i.late.is in let j = i.late.some in omega arith) (let n = i.late.is in omega (arith, ints));
   }
 
 -- a present span's own atom, of what holds of it

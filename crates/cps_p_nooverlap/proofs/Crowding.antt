@@ -7,9 +7,9 @@ use Rattle.std.proofs.lemmas.List.Sums.{sum_by-cons, sum_by-set}
 use Rattle.cps_model.specs.Scheduling.{IsNoOverlap}
 use Rattle.cps_instance.specs.declared.task.Span.{Span}
 use Rattle.cps_instance.specs.Parts.{span_runs}
-use Rattle.cps_p_nooverlap.specs.Spans.{is_present}
+use Rattle.cps_p_span.specs.Spans.{is_present}
 use Rattle.cps_p_nooverlap.specs.Packing.{Run, LieWithin, AreRunsApart}
-use Rattle.cps_p_nooverlap.specs.declared.crowd.Crowd.{Crowd}
+use Rattle.cps_p_nooverlap.specs.declared.edge_finding.Edge.{Edge}
 use Rattle.cps_p_nooverlap.specs.declared.crowd.Ends.{Ends}
 use Rattle.cps_p_nooverlap.specs.declared.crowd.Ends.TheVariants.{Both, Start, End}
 use Rattle.cps_p_nooverlap.specs.Crowds.{near_at, far_at, low_at, high_at, LastsAt, IsRun, AreRunsUpTo, AreRuns, IsSpanCount, IsCrowd}
@@ -209,7 +209,7 @@ pub run_is : (s : Ends) (r : Bool) (xs : List ℤ) (p : Span) (w : ℕ) (a b : �
 run_is s r xs p w a b lasts present from to = record { present = present; lasts = lasts; from = from; to = to }
 
 -- what is counted of marks is a crowd
-pub crowd_of_marks : (n : ℕ) (whole part ws us : List ℕ) (c : Crowd) (all late : ℕ) → ws ≡ whole → us ≡ part → c.place < n → length ws ≡ n → IsSpanCount n us late → get_or ws c.place 0 ≡ 0 → get_or us c.place 0 ≡ 0 → 0 < c.weight
+pub crowd_of_marks : (n : ℕ) (whole part ws us : List ℕ) (c : Edge) (all late : ℕ) → ws ≡ whole → us ≡ part → c.pushed.place < n → length ws ≡ n → IsSpanCount n us late → get_or ws c.pushed.place 0 ≡ 0 → get_or us c.pushed.place 0 ≡ 0 → 0 < c.weight
     → all ≡ sum ws → c.to <ℤ (c.from +ℤ pos (all + c.weight)) → IsCrowd n whole part c late
 crowd_of_marks n whole part ws us c all late e f place every count aside aside_too takes is full =
     subst (λ (vs : List ℕ). IsCrowd n vs part c late) e (subst (λ (vs : List ℕ). IsCrowd n ws vs c late) f (record {

@@ -1,17 +1,10 @@
--- Times that are compared.
-use Rattle.std.specs.Prelude.{int_lt}
-use Rattle.std.proofs.Common.{◌≡◌, ◌≤ℤ◌, ◌<ℤ◌, true, false, ◌+ℤ◌, ℕ, ℤ, pos, Option, Some, List, sym, subst, arith}
+-- How long spans take.
+use Rattle.std.proofs.Common.{◌≡◌, ◌≤ℤ◌, ◌+ℤ◌, ℕ, ℤ, pos, Option, Some, List, sym, subst, arith}
 use Rattle.std.proofs.lemmas.Int.{ints}
 use Rattle.cps_literal.specs.Truth.{value_at}
 use Rattle.cps_instance.specs.declared.task.Span.{Span}
-use Rattle.cps_p_nooverlap.specs.Spans.{start_at, end_of}
+use Rattle.cps_p_span.specs.Spans.{start_at, end_of}
 use Rattle.cps_p_nooverlap.specs.Crowds.{LastsAt}
-
-pub lt_holds : (a b : ℤ) → int_lt a b ≡ true → a <ℤ b
-lt_holds a b h = grind (arith, ints)
-
-pub lt_fails : (a b : ℤ) → int_lt a b ≡ false → b ≤ℤ a
-lt_fails a b h = grind (arith, ints)
 
 -- a span of a fixed length takes so long
 pub lasts_far : (xs : List ℤ) (p : Span) (weight : ℕ) (far : ℤ) → p.length ≡ Some far → pos weight ≤ℤ far → LastsAt xs p weight

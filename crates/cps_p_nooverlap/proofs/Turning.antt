@@ -7,9 +7,9 @@ use Rattle.cps_literal.specs.declared.atom.Atom.{Atom}
 use Rattle.cps_instance.specs.declared.task.Span.{Span}
 use Rattle.cps_instance.specs.Parts.{span_runs}
 use Rattle.cps_model.specs.Scheduling.{IsNoOverlap}
-use Rattle.cps_p_nooverlap.specs.Spans.{start_at, end_at, is_present, SaysOfTimes}
+use Rattle.cps_p_span.specs.Spans.{start_at, end_at, is_present, SaysOfTimes}
 use Rattle.cps_p_nooverlap.specs.Crowds.{near_at, far_at, LastsAt}
-use Rattle.cps_p_nooverlap.proofs.Pairing.{pair_apart}
+use Rattle.cps_p_span.proofs.Pairing.{pair_apart}
 
 test : (b : Bool) → (b ≡ true) ⊎ (b ≡ false)
 test true = inl refl

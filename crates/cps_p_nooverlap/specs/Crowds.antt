@@ -9,9 +9,12 @@ use Rattle.cps_instance.specs.Parts.{span_runs}
 use Rattle.cps_trail.specs.Trail.{Trail}
 use Rattle.cps_p_nooverlap.specs.declared.crowd.Ends.{Ends}
 use Rattle.cps_p_nooverlap.specs.declared.crowd.Ends.TheVariants.{Both, Start, End}
+use Rattle.cps_p_nooverlap.specs.declared.crowd.PushedSpan.{PushedSpan}
 use Rattle.cps_p_nooverlap.specs.declared.crowd.Crowd.{Crowd}
-use Rattle.cps_p_nooverlap.specs.Citing.{Cites}
-use Rattle.cps_p_nooverlap.specs.Spans.{start_at, end_at, is_present}
+use Rattle.cps_p_nooverlap.specs.declared.crowd.Crowd.TheVariants.{Detectable, NotFirst, EdgeFinding}
+use Rattle.cps_p_nooverlap.specs.declared.edge_finding.Edge.{Edge}
+use Rattle.cps_p_span.specs.Citing.{Cites}
+use Rattle.cps_p_span.specs.Spans.{start_at, end_at, is_present}
 
 -- where a span starts, in time or with time reversed
 abbrev pub near_at : Bool → List ℤ → Span → ℤ
@@ -66,13 +69,19 @@ pub record IsUncounted (n : ℕ) (ws : List ℕ) (k m : ℕ) : Type 0 where
   pub place : k < n
   pub aside : slice_index_or ws k 0 ≡ 0
 
+-- the span that a crowd pushes
+abbrev pub pushed_by : Crowd → PushedSpan
+pushed_by (Detectable c) = c.pushed
+pushed_by (NotFirst c) = c.pushed
+pushed_by (EdgeFinding c) = c.pushed
+
 -- one of n spans is not counted, and the counted ones leave no room for it in the window
-pub record IsCrowd (n : ℕ) (whole part : List ℕ) (c : Crowd) (m : ℕ) : Type 0 where
-  pub place : c.place < n
+pub record IsCrowd (n : ℕ) (whole part : List ℕ) (c : Edge) (m : ℕ) : Type 0 where
+  pub place : c.pushed.place < n
   pub every : length whole ≡ n
   pub late : IsSpanCount n part m
-  pub aside : slice_index_or whole c.place 0 ≡ 0
-  pub aside_too : slice_index_or part c.place 0 ≡ 0
+  pub aside : slice_index_or whole c.pushed.place 0 ≡ 0
+  pub aside_too : slice_index_or part c.pushed.place 0 ≡ 0
   pub takes : 0 < c.weight
   pub full : c.to <ℤ (c.from +ℤ pos (sum whole + c.weight))
 

@@ -4,7 +4,12 @@
 //! rule is written once, for spans that push another to a later start.
 ghost use Rattle.std.specs.Prelude.{◌≡◌, ◌+◌, ◌<ℤ◌, ◌≤ℤ◌, ◌+ℤ◌, pos, IfSome, IsTrue};
 ghost use Rattle.std.specs.List.{sum};
-ghost use Rattle.cps_p_nooverlap.specs.Crowds.{IsSpanCount, IsUncounted, IsCrowd};
+ghost use Rattle.cps_p_nooverlap.specs.Crowds.{IsSpanCount, IsUncounted, pushed_by};
+
+use crate::detectable::Predecessors;
+use crate::edge_finding::Edge;
+use crate::jobs::Job;
+use crate::not_first::NotFirst;
 
 /// Which ends of a span lie in a window.
 #[derive(Clone, Copy)]
@@ -24,37 +29,74 @@ pub(crate) struct Window {
     pub(crate) to: i64,
 }
 
-/// By which rule spans push another.
-#[derive(Clone, Copy)]
-pub(crate) enum SetRule {
-    /// They start before it can end, so each of them comes before it: their precedences are detectable.
-    Detectable,
-    /// They end too early to come after it all, so one of them comes before it.
-    NotFirst,
-    /// They leave it no room in their window, so it comes after them.
-    EdgeFinding,
-}
-
 /// A span that others push to a later start.
 #[derive(Clone, Copy)]
-pub(crate) struct Crowd {
-    pub(crate) rule: SetRule,
+pub(crate) struct PushedSpan {
     pub(crate) is_reversed: bool,
-    /// The span's place.
     pub(crate) place: usize,
-    /// How long it is.
-    pub(crate) weight: u64,
-    /// The window of the others. By precedences they start in it, by edge finding they start and end in it, and else
-    /// they end in it.
-    pub(crate) from: i64,
-    pub(crate) to: i64,
-    /// By edge finding, from when on those start that are a part of them, and else when the span ends at the earliest.
-    pub(crate) edge: i64,
-    /// When the span starts at the earliest.
+    /// When it starts at the earliest.
     pub(crate) time: i64,
-    /// The place of the one atom of the span's presence that is open, where it is not surely present. It is absent
-    /// then.
+    /// The place of the one atom of its presence that is open, where it is not surely present. It is absent then.
     pub(crate) open: Option<usize>,
+}
+
+/// Spans that push another to a later start, by the rule that says so.
+#[derive(Clone, Copy)]
+pub(crate) enum Crowd {
+    /// They start before it can end, so each of them comes before it: their precedences are detectable.
+    Detectable(Predecessors),
+    /// They end too early to come after it all, so one of them comes before it.
+    NotFirst(NotFirst),
+    /// They leave it no room in their window, so it comes after them.
+    EdgeFinding(Edge),
+}
+
+impl Crowd {
+    /// The span that is pushed.
+    pub(crate) fn pushed(&self) -> PushedSpan
+        ensures { result ≡ pushed_by self.now }
+    {
+        match self {
+            Crowd::Detectable(crowd) => crowd.pushed,
+            Crowd::NotFirst(crowd) => crowd.pushed,
+            Crowd::EdgeFinding(crowd) => crowd.pushed,
+        }
+    }
+
+    /// Whether a job is of the crowd.
+    pub(crate) fn includes(&self, job: &Job) -> bool {
+        match self {
+            Crowd::Detectable(crowd) => crowd.includes(job),
+            Crowd::NotFirst(crowd) => crowd.includes(job),
+            Crowd::EdgeFinding(crowd) => crowd.includes(job),
+        }
+    }
+
+    /// Whether a job is of the part of an edge finding's crowd after which the pushed span starts.
+    pub(crate) fn is_part(&self, job: &Job) -> bool {
+        match self {
+            Crowd::EdgeFinding(crowd) => crowd.is_before(job),
+            _ => false,
+        }
+    }
+
+    /// By how much it is longer than it needs to be, if it is `taken` long.
+    pub(crate) fn slack(&self, taken: i64) -> i64 {
+        match self {
+            Crowd::Detectable(crowd) => crowd.slack(taken),
+            Crowd::NotFirst(crowd) => crowd.slack(taken),
+            Crowd::EdgeFinding(crowd) => crowd.slack(taken),
+        }
+    }
+
+    /// The same in longer windows, if its part is `part` long.
+    pub(crate) fn loosened(&self, slack: i64, part: i64) -> Crowd {
+        match self {
+            Crowd::Detectable(crowd) => Crowd::Detectable(crowd.loosened(slack)),
+            Crowd::NotFirst(crowd) => Crowd::NotFirst(crowd.loosened(slack)),
+            Crowd::EdgeFinding(crowd) => Crowd::EdgeFinding(crowd.loosened(slack, part)),
+        }
+    }
 }
 
 /// For each span its length if it is counted in a window, and if it is counted in a part of it; else 0. The lists are
@@ -114,25 +156,4 @@ pub(crate) fn is_reached(from: i64, counted: u64, time: i64) -> bool
     let reached = from as i128 + counted as i128;
     let wanted = time as i128;
     wanted <= reached
-}
-
-/// The sum of the part's weights, if the counted spans leave no room for the crowd's span, which is another of `spans`
-/// spans.
-pub(crate) fn part_of(marks: &Marks, crowd: Crowd, spans: usize) -> Option<u64>
-    ensures { IfSome result (λ all. IsCrowd spans marks.now.whole.items marks.now.part.items crowd all) }
-{
-    let whole = marks.whole.as_slice();
-    let part = marks.part.as_slice();
-    let all = total(whole)?;
-    let late = count_of(part, spans)?;
-    if whole.len() != spans || crowd.place >= spans || crowd.weight == 0 {
-        return None;
-    }
-    if whole[crowd.place] != 0 || part[crowd.place] != 0 {
-        return None;
-    }
-    if is_overfull(crowd.from, crowd.to, all, crowd.weight) {
-        return Some(late);
-    }
-    None
 }

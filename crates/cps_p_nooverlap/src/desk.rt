@@ -2,22 +2,22 @@
 //!
 //! Of what is found here nothing is proved but that it is safe and ends; `set_reasons` counts it again.
 ghost use Rattle.std.specs.Prelude.{All};
-ghost use Rattle.cps_p_nooverlap.specs.Spans.{AreSpans, IsSmallAtom};
+ghost use Rattle.cps_p_span.specs.Spans.{AreSpans, IsSmallAtom};
 
-use crate::crowd::{Crowd, Marks, SetRule};
+use crate::crowd::{Crowd, Marks};
 use crate::detectable::find_precedences;
 use crate::edge_finding::find_edges;
-use crate::explain::denied_place;
 use crate::hints::Question;
 use crate::jobs::Job;
 use crate::not_first::find_not_first;
-use crate::overload::{find_overload, overfull_from};
-use crate::proposals::{crowd_of, loosened, mark_crowd};
-use crate::pushes::{Push, Pushed, arrange};
+use crate::overload::{Overload, find_overload};
+use crate::proposals::{crowd_of, loosened, mark_crowd, mark_overload, widened};
+use crate::pushes::{Push, Pushed, SetRule, arrange};
 use crate::theta_tree::{ThetaLambdaTree, ThetaTree};
 use crate::timeline::{Timeline, Timelines};
 use cps_instance::Span;
 use cps_literal::Atom;
+use cps_p_span::denied_place;
 use cps_trail::Before;
 use std::alloc::{AllocError, Global};
 
@@ -46,21 +46,6 @@ impl Drop for Desk {
             marks: _marks,
             facts: _facts,
         } = self;
-    }
-}
-
-/// A window that holds too much, which no span of so many is pushed out of.
-pub(crate) fn overload_of(from: i64, to: i64, spans: usize) -> Crowd {
-    Crowd {
-        rule: SetRule::EdgeFinding,
-        is_reversed: false,
-        place: spans,
-        weight: 0,
-        from,
-        to,
-        edge: i64::MAX,
-        time: from,
-        open: None,
     }
 }
 
@@ -135,24 +120,21 @@ impl Desk {
         Ok(())
     }
 
-    /// Marks the jobs of a window among so many spans that are needed to overfill it, and answers the longest window
-    /// that they overfill.
-    pub(crate) fn mark_window(&mut self, crowd: Crowd, spans: usize) -> Result<Crowd, AllocError> {
+    /// Marks the jobs of a window among `spans` spans that are needed to overfill it. Answers the longest window that they
+    /// overfill.
+    pub(crate) fn mark_window(
+        &mut self,
+        overload: Overload,
+        spans: usize,
+    ) -> Result<Overload, AllocError> {
         let timeline = self.timelines.facing(self.is_reversed);
-        mark_crowd(timeline.jobs.as_slice(), &crowd, spans, &mut self.marks)?;
-        Ok(loosened(timeline, &crowd, &mut self.marks))
+        mark_overload(timeline.jobs.as_slice(), &overload, spans, &mut self.marks)?;
+        Ok(widened(timeline, &overload, &mut self.marks))
     }
 
     /// A window that jobs overfill, if one is found.
-    pub(crate) fn find_window(&mut self, spans: usize) -> Result<Option<Crowd>, AllocError> {
-        let timeline = self.timelines.facing(self.is_reversed);
-        match find_overload(timeline, &mut self.tree)? {
-            Some(to) => match overfull_from(timeline, to) {
-                Some(from) => Ok(Some(overload_of(from, to, spans))),
-                None => Ok(None),
-            },
-            None => Ok(None),
-        }
+    pub(crate) fn find_window(&mut self) -> Result<Option<Overload>, AllocError> {
+        find_overload(self.timelines.facing(self.is_reversed), &mut self.tree)
     }
 
     /// The crowd that gives a push, if there is one. Its jobs are marked.

@@ -4,8 +4,9 @@
 //! of the window that the span is pushed past. The hint of a full window has its two ends.
 ghost use Rattle.std.specs.Prelude.{◌≡◌, IfSome};
 
-use crate::crowd::{Crowd, SetRule};
-use crate::pushes::Push;
+use crate::crowd::Crowd;
+use crate::overload::Overload;
+use crate::pushes::{Push, SetRule};
 use cps_literal::Atom;
 use cps_rule::{Hint, Narrowing};
 
@@ -21,12 +22,12 @@ pub(crate) struct Question {
     pub(crate) target: Atom,
 }
 
-/// The number of a rule.
-fn number_of(rule: SetRule) -> i64 {
-    match rule {
-        SetRule::Detectable => 0,
-        SetRule::NotFirst => 1,
-        SetRule::EdgeFinding => 2,
+/// The number of a crowd's rule, and the end of the window past which it pushes a span by edge finding.
+fn numbers_of(crowd: &Crowd) -> (i64, i64) {
+    match crowd {
+        Crowd::Detectable(_) => (0, 0),
+        Crowd::NotFirst(_) => (1, 0),
+        Crowd::EdgeFinding(edge) => (2, edge.to),
     }
 }
 
@@ -40,19 +41,19 @@ fn rule_of(number: i64) -> SetRule {
 }
 
 /// The push of a crowd as a hint.
-pub(crate) fn hint_of(crowd: Crowd) -> Hint {
-    let place = i64::try_from(crowd.place).unwrap_or(-1);
-    let direction = if crowd.is_reversed { 1 } else { 0 };
-    let number = number_of(crowd.rule)
-        .wrapping_mul(2)
-        .wrapping_add(direction);
+pub(crate) fn hint_of(crowd: &Crowd) -> Hint {
+    let pushed = crowd.pushed();
+    let place = i64::try_from(pushed.place).unwrap_or(-1);
+    let direction = if pushed.is_reversed { 1 } else { 0 };
+    let (rule, to) = numbers_of(crowd);
+    let number = rule.wrapping_mul(2).wrapping_add(direction);
     Hint {
         a: place
             .wrapping_mul(PUSHES)
             .wrapping_add(number)
             .wrapping_add(1)
             .wrapping_neg(),
-        b: crowd.to,
+        b: to,
     }
 }
 
@@ -80,9 +81,9 @@ pub(crate) fn question_of(wanted: Narrowing) -> Option<Question>
 }
 
 /// The window as a hint.
-pub(crate) fn window_hint(crowd: Crowd) -> Hint {
+pub(crate) fn window_hint(overload: Overload) -> Hint {
     Hint {
-        a: crowd.from,
-        b: crowd.to,
+        a: overload.from,
+        b: overload.to,
     }
 }

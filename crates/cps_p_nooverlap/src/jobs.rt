@@ -4,7 +4,7 @@
 //! span is surely there. Time is reversed by mirroring the jobs, so that each algorithm is written once. What is found of
 //! jobs is only a proposal: it is counted once more on the store before it is used.
 ghost use Rattle.std.specs.Prelude.{◌<◌, length, All};
-ghost use Rattle.cps_p_nooverlap.specs.Spans.{IsSpan, AreSpans};
+ghost use Rattle.cps_p_span.specs.Spans.{IsSpan, AreSpans};
 
 use cps_instance::Span;
 use cps_literal::{Atom, Truth};

@@ -1,15 +1,13 @@
 //! Spans that do not overlap.
-ghost use Rattle.std.specs.Prelude.{◌≡◌, ◌++◌, length, OnOk, IfOk};
-ghost use Rattle.cps_instance.specs.Tasks.{span_subjects};
+ghost use Rattle.std.specs.Prelude.{◌≡◌, IfOk};
 
 use crate::desk::Desk;
-use crate::seen::{Seen, see};
 use crate::sets::{explain_both, meet_both, refute_both};
 use cps_enforce::Enforced;
 use cps_instance::{Body, Span, Task};
 use cps_literal::Atom;
 use cps_model::Listed;
-use cps_propagate::push_atom_subjects;
+use cps_p_span::{Seen, copy_spans, push_spans, see};
 use cps_rule::{Hint, Look, Narrowing, Rule};
 use cps_trail::{Before, Store};
 use std::alloc::{AllocError, Global};
@@ -35,42 +33,6 @@ impl Drop for NoOverlap {
     }
 }
 
-/// Adds the subjects of spans at the end of a list.
-pub(crate) fn push_spans(spans: &[Span], subjects: &mut Vec<u32>) -> Result<(), AllocError>
-    ensures { OnOk result (subjects.new.items ≡ subjects.old.items ++ span_subjects spans.now) }
-{
-    for span in spans {
-        subjects.push(span.start)?;
-        subjects.push(span.end)?;
-        push_atom_subjects(span.presence.as_slice(), subjects)?;
-    }
-    Ok(())
-}
-
-/// A copy of a span.
-fn copy_span(alloc: Global, span: &Span) -> Result<Span, AllocError>
-    ensures { IfOk result (λ copy. copy ≡ span.now) }
-{
-    Ok(Span {
-        start: span.start,
-        end: span.end,
-        size: span.size,
-        presence: Listed::from_vec(Vec::from_slice(alloc, span.presence.as_slice())?),
-        length: span.length,
-    })
-}
-
-/// A copy of each span.
-pub(crate) fn copy_spans(alloc: Global, spans: &[Span]) -> Result<Vec<Span>, AllocError>
-    ensures { IfOk result (λ copies. copies.items ≡ spans.now) }
-{
-    let mut copies = Vec::new(alloc);
-    for span in spans {
-        copies.push(copy_span(alloc, span)?)?;
-    }
-    Ok(copies)
-}
-
 impl NoOverlap {
     /// The rule of these spans.
     pub(crate) fn new(alloc: Global, spans: &[Span]) -> Result<Self, AllocError>
@@ -88,7 +50,7 @@ impl NoOverlap {
 
 impl NoOverlap {
     ghost use Rattle.std.specs.Prelude.{◌≡◌, true, IfOk};
-    ghost use Rattle.cps_p_nooverlap.specs.Intervals.{is_no_overlap};
+    ghost use Rattle.cps_p_span.specs.Spans.{is_no_overlap};
 
     /// The propagator of a task that asks that spans do not overlap.
     pub fn of(alloc: Global, task: &Task) -> Result<Enforced<NoOverlap>, AllocError>

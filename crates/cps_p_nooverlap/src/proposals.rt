@@ -4,29 +4,15 @@
 //! push can be counted on the store and explained: as few as do it, since each is a fact of the reason, and in windows
 //! that are widened as far as the crowd stays one, since wider windows are weaker facts. Nothing is proved of either.
 
-use crate::crowd::{Crowd, Marks, SetRule, total};
-use crate::detectable::precedences_of;
+use crate::crowd::{Crowd, Marks, PushedSpan, total};
+use crate::detectable::predecessors_of;
 use crate::edge_finding::edge_of;
 use crate::jobs::Job;
 use crate::not_first::not_first_of;
-use crate::pushes::Push;
+use crate::overload::Overload;
+use crate::pushes::{Push, SetRule};
 use crate::timeline::Timeline;
 use std::alloc::AllocError;
-
-/// A crowd that pushes a job, with a window from a time to another.
-pub(crate) fn crowd_with(job: &Job, push: Push, is_reversed: bool, from: i64, to: i64) -> Crowd {
-    Crowd {
-        rule: push.rule,
-        is_reversed,
-        place: job.place,
-        weight: job.weight(),
-        from,
-        to,
-        edge: job.earliest_end,
-        time: push.time,
-        open: job.open,
-    }
-}
 
 /// A crowd that pushes a job as far as it is said to be pushed, if there is one.
 pub(crate) fn crowd_of(
@@ -35,10 +21,16 @@ pub(crate) fn crowd_of(
     push: Push,
     is_reversed: bool,
 ) -> Option<Crowd> {
+    let pushed = PushedSpan {
+        is_reversed,
+        place: job.place,
+        time: push.time,
+        open: job.open,
+    };
     match push.rule {
-        SetRule::Detectable => precedences_of(timeline, job, push, is_reversed),
-        SetRule::NotFirst => not_first_of(timeline, job, push, is_reversed),
-        SetRule::EdgeFinding => edge_of(timeline, job, push, is_reversed),
+        SetRule::Detectable => Some(Crowd::Detectable(predecessors_of(timeline, job, pushed)?)),
+        SetRule::NotFirst => Some(Crowd::NotFirst(not_first_of(timeline, job, pushed)?)),
+        SetRule::EdgeFinding => Some(Crowd::EdgeFinding(edge_of(timeline, job, pushed, push.to)?)),
     }
 }
 
@@ -63,23 +55,6 @@ fn weight_at(weights: &[u64], place: usize) -> u64 {
     }
 }
 
-/// Whether a job lies in the window of a crowd.
-fn is_inside(job: &Job, crowd: &Crowd) -> bool {
-    match crowd.rule {
-        SetRule::Detectable => crowd.from <= job.earliest_start && job.latest_start <= crowd.to,
-        SetRule::NotFirst => crowd.from <= job.earliest_end && job.latest_end <= crowd.to,
-        SetRule::EdgeFinding => crowd.from <= job.earliest_start && job.latest_end <= crowd.to,
-    }
-}
-
-/// Whether a job is of the part of a crowd after which the pushed one starts.
-fn is_part(job: &Job, crowd: &Crowd) -> bool {
-    match crowd.rule {
-        SetRule::EdgeFinding => crowd.edge <= job.earliest_start && job.latest_end <= crowd.to,
-        _ => false,
-    }
-}
-
 /// Marks the jobs of a crowd among `spans` spans.
 pub(crate) fn mark_crowd(
     jobs: &[Job],
@@ -89,14 +64,32 @@ pub(crate) fn mark_crowd(
 ) -> Result<(), AllocError> {
     clear_weights(&mut marks.whole, spans)?;
     clear_weights(&mut marks.part, spans)?;
+    let place = crowd.pushed().place;
     for job in jobs {
-        if job.is_sure() && job.place != crowd.place {
-            if is_inside(job, crowd) {
+        if job.is_sure() && job.place != place {
+            if crowd.includes(job) {
                 set_weight(marks.whole.as_mut_slice(), job.place, job.weight());
             }
-            if is_part(job, crowd) {
+            if crowd.is_part(job) {
                 set_weight(marks.part.as_mut_slice(), job.place, job.weight());
             }
+        }
+    }
+    Ok(())
+}
+
+/// Marks the jobs of an overloaded window among `spans` spans.
+pub(crate) fn mark_overload(
+    jobs: &[Job],
+    overload: &Overload,
+    spans: usize,
+    marks: &mut Marks,
+) -> Result<(), AllocError> {
+    clear_weights(&mut marks.whole, spans)?;
+    clear_weights(&mut marks.part, spans)?;
+    for job in jobs {
+        if job.is_sure() && overload.includes(job) {
+            set_weight(marks.whole.as_mut_slice(), job.place, job.weight());
         }
     }
     Ok(())
@@ -107,30 +100,10 @@ fn length_of(weights: &[u64]) -> i64 {
     i64::try_from(total(weights).unwrap_or(0)).unwrap_or(0)
 }
 
-/// By how much the marked jobs of a crowd are longer than it needs.
-fn slack_of(crowd: &Crowd, marks: &Marks) -> i64 {
-    let taken = length_of(marks.whole.as_slice());
-    let own = i64::try_from(crowd.weight).unwrap_or(0);
-    match crowd.rule {
-        SetRule::Detectable => crowd.from.saturating_add(taken).saturating_sub(crowd.time),
-        SetRule::NotFirst => crowd
-            .edge
-            .saturating_add(taken)
-            .saturating_sub(crowd.to)
-            .saturating_sub(1),
-        SetRule::EdgeFinding => crowd
-            .from
-            .saturating_add(taken)
-            .saturating_add(own)
-            .saturating_sub(crowd.to)
-            .saturating_sub(1),
-    }
-}
-
-/// Unmarks jobs of a crowd, outside its part, that it does not need. Answers by how much the others are still longer
-/// than it needs.
-fn thin_out(timeline: &Timeline, crowd: &Crowd, marks: &mut Marks) -> i64 {
-    let mut slack = slack_of(crowd, marks);
+/// Unmarks jobs, outside the marked part, that are not needed where the marked ones are longer by a slack than they
+/// need to be. Answers what is left of it.
+fn thin_out(timeline: &Timeline, slack: i64, marks: &mut Marks) -> i64 {
+    let mut slack = slack;
     for entry in timeline.by_earliest_start.as_slice() {
         if let Some(job) = timeline.jobs.get(entry.index) {
             let is_aside = weight_at(marks.part.as_slice(), job.place) == 0;
@@ -146,16 +119,14 @@ fn thin_out(timeline: &Timeline, crowd: &Crowd, marks: &mut Marks) -> i64 {
 
 /// The same crowd, weaker: without jobs that it does not need, in the longest windows that it crowds.
 pub(crate) fn loosened(timeline: &Timeline, crowd: &Crowd, marks: &mut Marks) -> Crowd {
-    let slack = thin_out(timeline, crowd, marks);
-    let part = length_of(marks.part.as_slice());
-    let mut loose = *crowd;
-    match crowd.rule {
-        SetRule::Detectable => loose.from = crowd.from.wrapping_sub(slack),
-        SetRule::NotFirst => loose.to = crowd.to.wrapping_add(slack),
-        SetRule::EdgeFinding => {
-            loose.to = crowd.to.wrapping_add(slack);
-            loose.edge = crowd.time.wrapping_sub(part);
-        }
-    }
-    loose
+    let slack = crowd.slack(length_of(marks.whole.as_slice()));
+    let left = thin_out(timeline, slack, marks);
+    crowd.loosened(left, length_of(marks.part.as_slice()))
+}
+
+/// The longest window that jobs of an overloaded one overfill, without jobs that are not needed.
+pub(crate) fn widened(timeline: &Timeline, overload: &Overload, marks: &mut Marks) -> Overload {
+    let slack = overload.slack(length_of(marks.whole.as_slice()));
+    let left = thin_out(timeline, slack, marks);
+    overload.loosened(left)
 }

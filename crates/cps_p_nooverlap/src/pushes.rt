@@ -1,8 +1,15 @@
 //! Which jobs a rule pushes, and how far.
 
-use crate::crowd::SetRule;
 use crate::jobs::Job;
 use std::alloc::AllocError;
+
+/// By which rule spans push another.
+#[derive(Clone, Copy)]
+pub(crate) enum SetRule {
+    Detectable,
+    NotFirst,
+    EdgeFinding,
+}
 
 /// That a job is pushed.
 #[derive(Clone, Copy)]

@@ -5,18 +5,20 @@
 ghost use Rattle.std.specs.Prelude.{[], ◌≡◌, true, IfOk, IfSome, All};
 ghost use Rattle.cps_instance.specs.Parts.{span_runs};
 ghost use Rattle.cps_model.specs.Scheduling.{IsNoOverlap};
-ghost use Rattle.cps_p_nooverlap.specs.Citing.{Cites};
-ghost use Rattle.cps_p_nooverlap.specs.Crowds.{IsReasoned, IsAboutOne, StartsBeforeUnless};
-ghost use Rattle.cps_p_nooverlap.specs.Spans.{AreSpans, IsSmallAtom, IsSpan};
+ghost use Rattle.cps_p_span.specs.Citing.{Cites};
+ghost use Rattle.cps_p_nooverlap.specs.Crowds.{pushed_by, IsReasoned, IsAboutOne, StartsBeforeUnless, StartsFrom};
+ghost use Rattle.cps_p_span.specs.Spans.{AreSpans, IsSmallAtom, IsSpan};
 
-use crate::box_reasons::cite_others;
-use crate::crowd::{Crowd, Ends, Marks, Window};
+use crate::crowd::{Crowd, Ends, Marks, PushedSpan, Window};
 use crate::desk::Desk;
-use crate::explain::cite_all;
+use crate::detectable::cite_precedences;
+use crate::edge_finding::cite_edge;
+use crate::not_first::cite_not_first;
+use crate::overload::{Overload, refute_window};
 use crate::sides::{cite_high, low_atom};
-use crate::windows::{cite_push, refute_window};
 use cps_instance::Span;
 use cps_literal::Atom;
+use cps_p_span::{cite_all, cite_others};
 use cps_trail::Before;
 use std::alloc::AllocError;
 
@@ -25,14 +27,33 @@ pub(crate) fn refute_anew(
     past: &Before,
     spans: &[Span],
     weights: &[u64],
-    crowd: Crowd,
+    overload: Overload,
     facts: &mut Vec<Atom>,
 ) -> Result<bool, AllocError>
     requires { AreSpans past.now.first spans.now }
     ensures { result ≡ Ok true → Cites past.now [] facts.new.items (λ xs. IsNoOverlap (span_runs xs spans.now) → ⊥) }
 {
     facts.clear();
-    refute_window(past, spans, weights, crowd, facts)
+    refute_window(past, spans, weights, overload, facts)
+}
+
+/// Adds why the span that a crowd pushes starts at a time or later, if it is present.
+fn cite_push(
+    past: &Before,
+    spans: &[Span],
+    marks: &Marks,
+    crowd: Crowd,
+    facts: &mut Vec<Atom>,
+) -> Result<bool, AllocError>
+    requires { AreSpans past.now.first spans.now }
+    ensures { result ≡ Ok true → Cites past.now facts.old.items facts.new.items
+        (λ xs. StartsFrom (pushed_by crowd).is_reversed xs spans.now (pushed_by crowd).place (pushed_by crowd).time) }
+{
+    match crowd {
+        Crowd::Detectable(crowd) => cite_precedences(past, spans, marks, crowd, facts),
+        Crowd::NotFirst(crowd) => cite_not_first(past, spans, marks, crowd, facts),
+        Crowd::EdgeFinding(crowd) => cite_edge(past, spans, marks, crowd, facts),
+    }
 }
 
 /// Fills a list anew with the facts by which a surely present span starts at a time or later, and answers that it does.
@@ -47,10 +68,11 @@ fn give_bound(
     ensures { IfOk result (λ answer. IfSome answer (λ u. IsReasoned past.now spans.now facts.new.items u)) }
 {
     facts.clear();
-    if crowd.place >= spans.len() {
+    let pushed = crowd.pushed();
+    if pushed.place >= spans.len() {
         return Ok(None);
     }
-    let span = &spans[crowd.place];
+    let span = &spans[pushed.place];
     if !cite_push(past, spans, marks, crowd, facts)? {
         return Ok(None);
     }
@@ -59,9 +81,9 @@ fn give_bound(
     }
     let time = Window {
         ends: Ends::Start,
-        is_reversed: crowd.is_reversed,
-        from: crowd.time,
-        to: crowd.time,
+        is_reversed: pushed.is_reversed,
+        from: pushed.time,
+        to: pushed.time,
     };
     match low_atom(span, time) {
         Some(target) => Ok(Some(target)),
@@ -69,13 +91,13 @@ fn give_bound(
     }
 }
 
-/// That the atom of a span's presence is false which a crowd says is open.
-fn denied_atom(span: &Span, crowd: Crowd) -> Option<Atom>
+/// That the atom of a span's presence is false that is said to be open.
+fn denied_atom(span: &Span, pushed: PushedSpan) -> Option<Atom>
     requires { All IsSmallAtom span.now.presence }
     ensures { IfSome result (IsAboutOne span.now.presence) }
 {
     let atoms = span.presence.as_slice();
-    let open = crowd.open?;
+    let open = pushed.open?;
     if open < atoms.len() {
         return Some(atoms[open].negate());
     }
@@ -86,16 +108,16 @@ fn denied_atom(span: &Span, crowd: Crowd) -> Option<Atom>
 fn cite_absence(
     past: &Before,
     span: &Span,
-    crowd: Crowd,
+    pushed: PushedSpan,
     target: Atom,
     facts: &mut Vec<Atom>,
 ) -> Result<bool, AllocError>
     requires { IsSpan past.now.first span.now }
     ensures { result ≡ Ok true → Cites past.now facts.old.items facts.new.items
-        (λ xs. StartsBeforeUnless crowd.is_reversed xs span.now crowd.time target) }
+        (λ xs. StartsBeforeUnless pushed.is_reversed xs span.now pushed.time target) }
 {
-    let sooner = crowd.time.saturating_sub(1);
-    if crowd.time <= sooner {
+    let sooner = pushed.time.saturating_sub(1);
+    if pushed.time <= sooner {
         return Ok(false);
     }
     if !cite_others(past, span.presence.as_slice(), target, facts)? {
@@ -103,7 +125,7 @@ fn cite_absence(
     }
     let time = Window {
         ends: Ends::Start,
-        is_reversed: crowd.is_reversed,
+        is_reversed: pushed.is_reversed,
         from: sooner,
         to: sooner,
     };
@@ -123,16 +145,17 @@ fn give_absence(
     ensures { IfOk result (λ answer. IfSome answer (λ u. IsReasoned past.now spans.now facts.new.items u)) }
 {
     facts.clear();
-    if crowd.place >= spans.len() {
+    let pushed = crowd.pushed();
+    if pushed.place >= spans.len() {
         return Ok(None);
     }
-    let span = &spans[crowd.place];
-    match denied_atom(span, crowd) {
+    let span = &spans[pushed.place];
+    match denied_atom(span, pushed) {
         Some(target) => {
             if !cite_push(past, spans, marks, crowd, facts)? {
                 return Ok(None);
             }
-            if !cite_absence(past, span, crowd, target, facts)? {
+            if !cite_absence(past, span, pushed, target, facts)? {
                 return Ok(None);
             }
             Ok(Some(target))
@@ -151,7 +174,7 @@ pub(crate) fn give(
     requires { AreSpans past.now.first spans.now }
     ensures { IfOk result (λ answer. IfSome answer (λ u. IsReasoned past.now spans.now desk.new.facts.items u)) }
 {
-    if crowd.open.is_some() {
+    if crowd.pushed().open.is_some() {
         return give_absence(past, spans, &desk.marks, crowd, &mut desk.facts);
     }
     give_bound(past, spans, &desk.marks, crowd, &mut desk.facts)

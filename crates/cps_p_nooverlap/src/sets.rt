@@ -8,19 +8,18 @@ ghost use Rattle.cps_instance.specs.Parts.{span_runs};
 ghost use Rattle.cps_literal.specs.Truth.{atom_holds};
 ghost use Rattle.cps_model.specs.Scheduling.{IsNoOverlap};
 ghost use Rattle.cps_rule.specs.Rules.{IsImpossible};
-ghost use Rattle.cps_p_nooverlap.specs.Citing.{Cites, GivesMore};
+ghost use Rattle.cps_p_span.specs.Citing.{Cites, GivesMore};
 ghost use Rattle.cps_p_nooverlap.specs.Crowds.{IsReasoned};
-ghost use Rattle.cps_p_nooverlap.specs.Spans.{AreSeen, AreSpans, AreAllowed, IsPair};
+ghost use Rattle.cps_p_span.specs.Spans.{AreSeen, AreSpans, AreAllowed, IsPair};
 
-use crate::crowd::{Crowd, SetRule};
-use crate::desk::{Desk, overload_of};
-use crate::explain::{explain_pair, pair_of, refute_pair, same_atom};
+use crate::desk::Desk;
 use crate::hints::{Question, hint_of, question_of, window_hint};
-use crate::pairs::{Pair, meet_all, propose};
-use crate::seen::Seen;
+use crate::overload::Overload;
+use crate::pushes::SetRule;
 use crate::set_reasons::{give, refute_anew};
 use cps_instance::Span;
 use cps_literal::Atom;
+use cps_p_span::{Pair, Seen, explain_pair, meet_all, pair_of, propose, refute_pair, same_atom};
 use cps_rule::{Hint, Narrowing};
 use cps_trail::{Before, Store};
 use std::alloc::{AllocError, Global};
@@ -42,7 +41,7 @@ fn push_next(
     match desk.next_crowd(turn, spans.len())? {
         Some(crowd) => {
             let target = give(past, spans, desk, crowd)?;
-            propose(target, hint_of(crowd), found)?;
+            propose(target, hint_of(&crowd), found)?;
             Ok(())
         }
         None => Ok(()),
@@ -87,11 +86,11 @@ fn push_both(
 }
 
 /// A window that holds too much, if one is found.
-fn overload(past: &Before, spans: &[Span], desk: &mut Desk) -> Result<Option<Crowd>, AllocError>
+fn overload(past: &Before, spans: &[Span], desk: &mut Desk) -> Result<Option<Overload>, AllocError>
     requires { AreSpans past.now.first spans.now }
     ensures { IfOk result (λ answer. IfSome answer (λ window. IsImpossible (BodyOf.NoOverlap spans.now) past.now)) }
 {
-    match desk.find_window(spans.len())? {
+    match desk.find_window()? {
         Some(window) => {
             let loose = desk.mark_window(window, spans.len())?;
             let weights = desk.marks.whole.as_slice();
@@ -182,7 +181,10 @@ fn refute_set(
     ensures { result ≡ Ok true → Cites past.now [] facts.new.items (λ xs. IsNoOverlap (span_runs xs spans.now) → ⊥) }
 {
     desk.begin(past, spans)?;
-    let window = overload_of(hint.a, hint.b, spans.len());
+    let window = Overload {
+        from: hint.a,
+        to: hint.b,
+    };
     let loose = desk.mark_window(window, spans.len())?;
     refute_anew(past, spans, desk.marks.whole.as_slice(), loose, facts)
 }

@@ -1,14 +1,13 @@
 //! Atoms that say when a span starts or ends, in time or with time reversed.
 ghost use Rattle.std.specs.Prelude.{◌≡◌, ◌≤ℤ◌, ◌-ℤ◌, pos, IfSome, true};
-ghost use Rattle.cps_p_nooverlap.specs.Citing.{Cites};
+ghost use Rattle.cps_p_span.specs.Citing.{Cites};
 ghost use Rattle.cps_p_nooverlap.specs.Crowds.{near_at, far_at, low_at, high_at};
-ghost use Rattle.cps_p_nooverlap.specs.Spans.{SaysOfTimes, IsSpan};
+ghost use Rattle.cps_p_span.specs.Spans.{SaysOfTimes, IsSpan};
 
 use crate::crowd::{Ends, Window};
-use crate::edges::{end_from, end_up_to, start_from, start_up_to};
-use crate::facts::cite;
 use cps_instance::Span;
 use cps_literal::Atom;
+use cps_p_span::{cite, end_from, end_up_to, start_from, start_up_to};
 use cps_trail::Before;
 use std::alloc::AllocError;
 

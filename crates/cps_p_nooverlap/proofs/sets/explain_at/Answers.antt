@@ -3,7 +3,7 @@ use Rattle.std.specs.Prelude.{IfSome}
 use Rattle.std.proofs.Common.{Option, subst}
 use Rattle.cps_literal.specs.declared.atom.Atom.{Atom}
 use Rattle.cps_p_nooverlap.specs.Crowds.{IsReasoned}
-use Rattle.cps_p_nooverlap.proofs.Refusing.{refused}
+use Rattle.cps_p_span.proofs.Refusing.{refused}
 use Rattle.cps_p_nooverlap.proofs.sets.explain_at.Goals as goal
 
 pub returns-else-not-same_atom : goal.returns-else-not-same_atom

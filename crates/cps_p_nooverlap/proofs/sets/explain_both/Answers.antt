@@ -4,8 +4,8 @@ use Rattle.cps_literal.specs.declared.atom.Atom.{Atom}
 use Rattle.cps_literal.specs.Truth.{atom_holds}
 use Rattle.cps_model.specs.Scheduling.{IsNoOverlap}
 use Rattle.cps_instance.specs.Parts.{span_runs}
-use Rattle.cps_p_nooverlap.specs.Citing.{Cites}
-use Rattle.cps_p_nooverlap.proofs.Refusing.{refused}
+use Rattle.cps_p_span.specs.Citing.{Cites}
+use Rattle.cps_p_span.proofs.Refusing.{refused}
 use Rattle.cps_p_nooverlap.proofs.sets.explain_both.Goals as goal
 
 pub returns-in-Some-question_of : goal.returns-in-Some-question_of

@@ -4,9 +4,9 @@ use Rattle.cps_instance.specs.declared.task.Body.TheVariants.{NoOverlap}
 use Rattle.cps_trail.specs.Trail.{Trail}
 use Rattle.cps_rule.specs.declared.rule.Hint.{Hint}
 use Rattle.cps_rule.specs.Rules.{IsImpossible}
-use Rattle.cps_p_nooverlap.specs.Citing.{GivesMore}
-use Rattle.cps_p_nooverlap.specs.Spans.{AreSpans}
-use Rattle.cps_p_nooverlap.proofs.Pairing.{are_known}
+use Rattle.cps_p_span.specs.Citing.{GivesMore}
+use Rattle.cps_p_span.specs.Spans.{AreSpans}
+use Rattle.cps_p_span.proofs.Pairing.{are_known}
 use Rattle.cps_p_nooverlap.proofs.sets.meet_both.Goals as goal
 
 pub meet_all-requires : goal.meet_all-requires

@@ -1,5 +1,5 @@
 use Rattle.cps_instance.specs.declared.task.Body.TheVariants.{NoOverlap}
-use Rattle.cps_p_nooverlap.specs.Citing.{GivesMore}
+use Rattle.cps_p_span.specs.Citing.{GivesMore}
 use Rattle.cps_p_nooverlap.proofs.sets.push_all.Given as goal
 
 abbrev pub invariant-loop-turn : goal.invariant-loop-turn

@@ -1,6 +1,6 @@
 use Rattle.cps_instance.specs.declared.task.Body.TheVariants.{NoOverlap}
-use Rattle.cps_p_nooverlap.proofs.Timing.{IfSome-map}
-use Rattle.cps_p_nooverlap.proofs.Pairing.{gives_proposed}
+use Rattle.cps_p_span.proofs.Timing.{IfSome-map}
+use Rattle.cps_p_span.proofs.Pairing.{gives_proposed}
 use Rattle.cps_p_nooverlap.proofs.Claims.{given_reasoned}
 use Rattle.cps_p_nooverlap.proofs.sets.push_next.Goals as goal
 

@@ -3,8 +3,8 @@ use Rattle.std.specs.Prelude.{IfSome}
 use Rattle.std.proofs.lemmas.Int.{to_z-of_z}
 use mir.Syntax.{w64, w128}
 use Rattle.cps_p_nooverlap.specs.Crowds.{far_at}
-use Rattle.cps_p_nooverlap.specs.Spans.{SaysOfTimes}
-use Rattle.cps_p_nooverlap.proofs.Timing.{IfSome-map}
+use Rattle.cps_p_span.specs.Spans.{SaysOfTimes}
+use Rattle.cps_p_span.proofs.Timing.{IfSome-map}
 use Rattle.cps_p_nooverlap.proofs.Turning.{far_from}
 use Rattle.cps_p_nooverlap.proofs.sides.far_from.Goals as goal
 

@@ -1,6 +1,6 @@
 use Rattle.std.proofs.Common.{◌<◌, arith}
 use Rattle.cps_p_nooverlap.specs.Crowds.{IsRun}
-use Rattle.cps_p_nooverlap.proofs.Citing.{cites_none, cites_as}
+use Rattle.cps_p_span.proofs.Citing.{cites_none, cites_as}
 use Rattle.cps_p_nooverlap.proofs.windows.cite_counted.Goals as goal
 
 pub returns-then-weight-eq0 : goal.returns-then-weight-eq0

@@ -2,10 +2,10 @@
 use Rattle.std.proofs.Common.{Ok, ◌≡◌, true, ◌≤ℤ◌, rules, FitsSigned, arith}
 use Rattle.std.proofs.lemmas.Int.{ints, to_z-of_z}
 use mir.Syntax.{w128}
-use Rattle.cps_p_nooverlap.specs.Spans.{start_at, end_at}
+use Rattle.cps_p_span.specs.Spans.{start_at, end_at}
 use Rattle.cps_p_nooverlap.specs.Crowds.{LastsAt}
-use Rattle.cps_p_nooverlap.proofs.Citing.{cites_none, cites_then, cites_as}
-use Rattle.cps_p_nooverlap.proofs.Refusing.{refused}
+use Rattle.cps_p_span.proofs.Citing.{cites_none, cites_then, cites_as}
+use Rattle.cps_p_span.proofs.Refusing.{refused}
 use Rattle.cps_p_nooverlap.proofs.windows.cite_length.Goals as goal
 
 pub returns-then-lasts : goal.returns-then-lasts

@@ -3,12 +3,12 @@ use Rattle.std.proofs.Common.{Ok, ◌≡◌, ◌≤ℤ◌, true, List, subst, ru
 use Rattle.std.specs.List.{list_all}
 use Rattle.cps_literal.specs.declared.atom.Atom.{Atom}
 use Rattle.cps_literal.specs.Truth.{atom_holds}
-use Rattle.cps_p_nooverlap.specs.Citing.{Cites}
-use Rattle.cps_p_nooverlap.specs.Spans.{is_present}
+use Rattle.cps_p_span.specs.Citing.{Cites}
+use Rattle.cps_p_span.specs.Spans.{is_present}
 use Rattle.cps_p_nooverlap.specs.Crowds.{low_at, high_at, LastsAt, IsRun}
-use Rattle.cps_p_nooverlap.proofs.Citing.{cites_as, cites_then}
+use Rattle.cps_p_span.proofs.Citing.{cites_as, cites_then}
 use Rattle.cps_p_nooverlap.proofs.Crowding.{run_is}
-use Rattle.cps_p_nooverlap.proofs.Refusing.{refused}
+use Rattle.cps_p_span.proofs.Refusing.{refused}
 use Rattle.cps_p_nooverlap.proofs.windows.cite_run.Goals as goal
 
 pub returns : goal.returns

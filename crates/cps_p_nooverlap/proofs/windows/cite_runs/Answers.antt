@@ -1,9 +1,9 @@
 -- Each span that was seen is cited; all were seen at the end.
 use Rattle.std.proofs.Common.{◌<◌, ◌+◌, length, get_or, arith, rules}
 use Rattle.cps_p_nooverlap.specs.Crowds.{AreRunsUpTo, IsRun}
-use Rattle.cps_p_nooverlap.proofs.Citing.{cites_none, cites_as, cites_then}
+use Rattle.cps_p_span.proofs.Citing.{cites_none, cites_as, cites_then}
 use Rattle.cps_p_nooverlap.proofs.Crowding.{runs_more, runs_all}
-use Rattle.cps_p_nooverlap.proofs.Refusing.{refused}
+use Rattle.cps_p_span.proofs.Refusing.{refused}
 use Rattle.cps_p_nooverlap.proofs.windows.cite_runs.Goals as goal
 
 pub loop-place-init : goal.loop-place-init

@@ -1,4 +1,4 @@
-use Rattle.cps_p_nooverlap.specs.Citing.{Cites}
+use Rattle.cps_p_span.specs.Citing.{Cites}
 use Rattle.cps_p_nooverlap.specs.Crowds.{AreRunsUpTo}
 use Rattle.cps_p_nooverlap.proofs.windows.cite_runs.Given as goal
 

@@ -2,7 +2,7 @@
 use Rattle.std.proofs.Common.{List, sym, subst}
 use Rattle.std.specs.List.{All}
 use Rattle.cps_literal.specs.declared.atom.Atom.{Atom}
-use Rattle.cps_p_nooverlap.specs.Spans.{IsSmallAtom}
+use Rattle.cps_p_span.specs.Spans.{IsSmallAtom}
 use Rattle.cps_p_nooverlap.proofs.desk.Desk.ask_crowd.Goals as goal
 
 pub denied_place-denied-requires : goal.denied_place-denied-requires

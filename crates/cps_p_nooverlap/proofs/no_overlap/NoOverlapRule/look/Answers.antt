@@ -1,10 +1,10 @@
 use Rattle.std.proofs.Common.{◌≡◌, Ok, None, List, length, sym, subst, rules}
 use Rattle.std.specs.List.{AllZip}
 use Rattle.cps_instance.specs.declared.task.Span.{Span}
-use Rattle.cps_p_nooverlap.specs.declared.seen.Seen.{Seen}
-use Rattle.cps_p_nooverlap.specs.Spans.{AreSpans, AreSeen, IsSpanSeen, AreAllowed}
-use Rattle.cps_p_nooverlap.proofs.Ordering.{has_orders}
-use Rattle.cps_p_nooverlap.proofs.Resting.{are_spans, at_rest}
+use Rattle.cps_p_span.specs.declared.seen.Seen.{Seen}
+use Rattle.cps_p_span.specs.Spans.{AreSpans, AreSeen, IsSpanSeen, AreAllowed}
+use Rattle.cps_p_span.proofs.Ordering.{has_orders}
+use Rattle.cps_p_span.proofs.Resting.{are_spans, at_rest}
 use Rattle.cps_p_nooverlap.proofs.no_overlap.NoOverlapRule.look.Goals as goal
 
 pub see-requires : goal.see-requires

@@ -1,7 +1,7 @@
 use Rattle.std.proofs.Common.{List, sym, subst}
 use Rattle.cps_instance.specs.declared.task.Span.{Span}
-use Rattle.cps_p_nooverlap.specs.Spans.{AreSpans}
-use Rattle.cps_p_nooverlap.proofs.Resting.{are_spans}
+use Rattle.cps_p_span.specs.Spans.{AreSpans}
+use Rattle.cps_p_span.proofs.Resting.{are_spans}
 use Rattle.cps_p_nooverlap.proofs.no_overlap.NoOverlapRule.refute.Goals as goal
 
 pub refute_both-requires : goal.refute_both-requires

@@ -1,0 +1,3 @@
+pub mod Disjoint
+pub mod Boxing
+pub mod Box_facts

@@ -1,0 +1,31 @@
+use Rattle.std.proofs.Common.{arith}
+use Rattle.std.proofs.lemmas.Int.{ints, clamps}
+use Rattle.cps_p_interval.proofs.Bounding.{given, gives_offered, below_of, least_is, most_is}
+use Rattle.cps_p_interval.proofs.interval.offer_start.Goals as goal
+
+pub overflow_sub-most : goal.overflow_sub-most
+overflow_sub-most c =
+    let a = c.requires.start_low in
+    let b = c.requires.start_high in
+    let d = c.requires.end_low in
+    let e = c.requires.end_high in
+    let f = c.requires.size_low in
+    let g = c.requires.size_high in
+    omega (arith, ints, clamps)
+
+pub returns : goal.returns
+returns c = λ s l m h.
+    let p = c.args.places in
+    let u = c.args.hulls in
+    let a = m.start.low_inside in
+    let b = m.start.high_inside in
+    let d = m.end.low_inside in
+    let e = m.end.high_inside in
+    let f = m.size.low_inside in
+    let g = m.size.high_inside in
+    let low = given s p u c.at_least.result l m (below_of _ _ _ _ _ c.at_least.ensures l.start)
+    (λ xs w i. least_is xs c.at_least.result _ _ c.at_least.ensures (let q = i.0 in let r = i.1 in omega (arith, ints, clamps))) in
+    let high = given s p u c.at_most.result l m (below_of _ _ _ _ _ c.at_most.ensures l.start)
+    (λ xs w i. most_is xs c.at_most.result _ _ c.at_most.ensures (let q = i.0 in let r = i.1 in omega (arith, ints, clamps))) in
+    gives_offered _ s c.at_most.result c.offer.new.found.items c.offer-2.new.found.items high c.in_ok-offer-2.ensures
+    (gives_offered _ s c.at_least.result c.args.found.now.items c.offer.new.found.items low c.in_ok-offer.ensures h)

@@ -1,8 +1,0 @@
-use Rattle.cps_p_nooverlap.specs.Boxes.{AddsGiven, AreAllAllowed}
-use Rattle.cps_p_nooverlap.proofs.box_pairs.meet_all.Given as goal
-
-abbrev pub invariant-loop-place : goal.invariant-loop-place
-invariant-loop-place l = record {
-  given : AddsGiven l.x l.y l.fn.found.items l.found.items;
-  allowed : AreAllAllowed l.x.seen.items l.y.seen.items l.place;
-}

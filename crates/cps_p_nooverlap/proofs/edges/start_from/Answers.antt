@@ -1,7 +1,0 @@
-use Rattle.std.proofs.Common.{arith}
-use Rattle.std.proofs.lemmas.Int.{ints}
-use Rattle.cps_p_nooverlap.proofs.Timing.{says_start_from}
-use Rattle.cps_p_nooverlap.proofs.edges.start_from.Goals as goal
-
-pub returns : goal.returns
-returns c = says_start_from c.args.span.now c.args.time _ (let k = c.in_ok-value.ensures in omega (arith, ints))

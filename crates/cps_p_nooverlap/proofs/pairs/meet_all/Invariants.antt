@@ -1,8 +1,0 @@
-use Rattle.cps_p_nooverlap.specs.Spans.{AddsApart, AreAllowed}
-use Rattle.cps_p_nooverlap.proofs.pairs.meet_all.Given as goal
-
-abbrev pub invariant-loop-place : goal.invariant-loop-place
-invariant-loop-place l = record {
-  given : AddsApart l.spans l.seen l.fn.found.items l.found.items;
-  allowed : AreAllowed l.seen l.place;
-}

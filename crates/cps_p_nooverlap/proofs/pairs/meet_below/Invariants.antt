@@ -1,8 +1,0 @@
-use Rattle.cps_p_nooverlap.specs.Spans.{AddsApart, AllowsFirst}
-use Rattle.cps_p_nooverlap.proofs.pairs.meet_below.Given as goal
-
-abbrev pub invariant-loop-other : goal.invariant-loop-other
-invariant-loop-other l = record {
-  given : AddsApart l.spans l.seen l.fn.found.items l.found.items;
-  allowed : AllowsFirst l.seen l.place l.other;
-}

@@ -1,7 +1,0 @@
-use Rattle.std.proofs.Common.{take}
-use Rattle.std.specs.List.{AllZip}
-use Rattle.cps_p_nooverlap.specs.Spans.{IsSpanSeen}
-use Rattle.cps_p_nooverlap.proofs.seen.see.Given as goal
-
-abbrev pub invariant-loop-span : goal.invariant-loop-span
-invariant-loop-span l = AllZip (IsSpanSeen l.store) (take l.span-index l.spans) l.seen.items

@@ -1,0 +1,10 @@
+pub mod Apart
+pub mod Timing
+pub mod Pairing
+pub mod Ordering
+pub mod Resting
+pub mod Citing
+pub mod Refusing
+pub mod Presences
+pub mod Copying
+pub mod Widening

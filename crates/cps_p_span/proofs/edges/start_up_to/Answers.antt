@@ -1,0 +1,7 @@
+use Rattle.std.proofs.Common.{arith}
+use Rattle.std.proofs.lemmas.Int.{ints}
+use Rattle.cps_p_span.proofs.Timing.{says_start_up_to}
+use Rattle.cps_p_span.proofs.edges.start_up_to.Goals as goal
+
+pub returns : goal.returns
+returns c = says_start_up_to c.args.span.now c.args.time _ (let k = c.in_ok-value.ensures in omega (arith, ints))

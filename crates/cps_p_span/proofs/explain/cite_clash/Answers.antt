@@ -1,0 +1,25 @@
+-- Each span ends after the other starts.
+use Rattle.std.proofs.Common.{Ok, ◌≡◌, true, rules}
+use Rattle.cps_p_span.proofs.Citing.{cites_clash, span_of}
+use Rattle.cps_p_span.proofs.Refusing.{refused}
+use Rattle.cps_p_span.proofs.explain.cite_clash.Goals as goal
+
+pub cite_late-requires-clause-late : goal.cite_late-requires-clause-late
+cite_late-requires-clause-late c = span_of c.args.past.now.first c.args.spans.now c.args.pair.after c.index-spans-pair-2.result c.requires.spans c.requires.pair.after c.index-spans-pair-2.is
+
+pub cite_late-requires-clause-early : goal.cite_late-requires-clause-early
+cite_late-requires-clause-early c = span_of c.args.past.now.first c.args.spans.now c.args.pair.before c.index-spans-pair.result c.requires.spans c.requires.pair.before c.index-spans-pair.is
+
+pub cite_late-requires-2-clause-late : goal.cite_late-requires-2-clause-late
+cite_late-requires-2-clause-late c = span_of c.args.past.now.first c.args.spans.now c.args.pair.before c.index-spans-pair.result c.requires.spans c.requires.pair.before c.index-spans-pair.is
+
+pub cite_late-requires-2-clause-early : goal.cite_late-requires-2-clause-early
+cite_late-requires-2-clause-early c = span_of c.args.past.now.first c.args.spans.now c.args.pair.after c.index-spans-pair-2.result c.requires.spans c.requires.pair.after c.index-spans-pair-2.is
+
+pub returns : goal.returns
+returns c e =
+    let one : c.cite_late.result ≡ Ok true = search rules in
+    cites_clash c.args.spans.now c.args.pair c.requires.pair c.index-spans-pair.result c.index-spans-pair-2.result c.index-spans-pair.is c.index-spans-pair-2.is c.args.past.now c.args.facts.now.items c.cite_late.new.facts.items c.cite_late-2.new.facts.items (c.cite_late.ensures one) (c.cite_late-2.ensures e)
+
+pub returns-then-not-branch : goal.returns-then-not-branch
+returns-then-not-branch c e = refused e

@@ -1,0 +1,8 @@
+use Rattle.cps_p_span.specs.Spans.{AddsApart, AreAllowed}
+use Rattle.cps_p_span.proofs.pairs.meet_all.Given as goal
+
+abbrev pub invariant-loop-place : goal.invariant-loop-place
+invariant-loop-place l = record {
+  given : AddsApart l.spans l.seen l.fn.found.items l.found.items;
+  allowed : AreAllowed l.seen l.place;
+}

@@ -1,0 +1,18 @@
+-- What those before a place allow, all allow at the end.
+use Rattle.std.proofs.Common.{Ok, ◌≡◌, false, rules, arith}
+use Rattle.cps_p_span.proofs.Pairing.{adds_then, first_more}
+use Rattle.cps_p_span.proofs.pairs.meet_below.Goals as goal
+
+pub returns-then-branch-clause-given : goal.returns-then-branch-clause-given
+returns-then-branch-clause-given c = adds_then c.args.spans.now c.args.seen.now c.args.found.now.items c.loop-other.found.items c.meet.new.found.items c.loop-other.invariant.given c.in_ok-meet.ensures.given
+
+pub loop-other-preserved : goal.loop-other-preserved
+loop-other-preserved c =
+    let none : c.meet.result ≡ Ok false = search rules in
+    record {
+      given = adds_then c.args.spans.now c.args.seen.now c.args.found.now.items c.loop-other.found.items c.meet.new.found.items c.loop-other.invariant.given c.in_ok-meet.ensures.given;
+      allowed = first_more c.args.seen.now c.args.place c.loop-other.other c.loop-other.invariant.allowed (c.meet.ensures.allowed none);
+    }
+
+pub returns-clause-allowed : goal.returns-clause-allowed
+returns-clause-allowed c = λ e i l. c.loop-other.invariant.allowed i (omega (arith, l, c.loop-other-test.false))

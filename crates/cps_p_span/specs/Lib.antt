@@ -1,0 +1,3 @@
+pub mod Citing
+pub mod Hulls
+pub mod Spans
