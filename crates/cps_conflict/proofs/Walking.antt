@@ -13,7 +13,8 @@ use Rattle.cps_trail.proofs.Laws.{admits-push}
 use Rattle.cps_trail.proofs.Walks.{step_back, none_between}
 use Rattle.cps_conflict.specs.Drafts.{IsBacked, IsReasonOf}
 use Rattle.cps_conflict.specs.Conflicts.{Reasons}
-use Rattle.cps_conflict.specs.Leading.{RulesOut, IsRuledOutAt, at_once, by_reason, IsDecisionBehind, AreBehind, chosen, is_marked, AreMore, MarksBehind, MarksUnless, MarksReason, IsMarkedFalse, MarkedSoFar, IsLed, HoldsBacked, AreClosedFrom, FollowedSoFar, IsPicked, ArePicked}
+use Rattle.cps_conflict.specs.Behind.{RulesOut}
+use Rattle.cps_conflict.specs.Leading.{IsRuledOutAt, at_once, by_reason, IsDecisionBehind, AreBehind, chosen, is_marked, AreMore, MarksBehind, MarksUnless, MarksReason, IsMarkedFalse, MarkedSoFar, IsLed, HoldsBacked, AreClosedFrom, FollowedSoFar, IsPicked, ArePicked}
 use Rattle.cps_conflict.proofs.Uniting.{entry_at}
 use Rattle.cps_conflict.proofs.Choosing.{false-more, false-about, false-single, IsLed-more, more-at, more-take, chosen-push}
 

@@ -2,25 +2,12 @@
 use Rattle.std.specs.Prelude.{ℕ, ◌+◌, ◌≤◌, ◌<◌, ℤ, ◌≡◌, ◌≢◌, ◌⊎◌, ⊤, Bool, true, false, if◌then◌else◌, List, [], ◌∷◌, length, take, slice_index_or}
 use Rattle.std.specs.List.{All, Contains}
 use Rattle.cps_literal.specs.declared.atom.Atom.{Atom}
-use Rattle.cps_literal.specs.Truth.{meets, atom_holds, clause_holds}
+use Rattle.cps_literal.specs.Truth.{atom_holds, clause_holds}
 use Rattle.cps_trail.specs.Trail.{Domains, Trail, Entry, Decision, Because, Explains, IsFalseAfter, IsFalseFrom}
 use Rattle.cps_trail.specs.Changes.{IsEntryOn}
 use Rattle.cps_conflict.specs.Conflicts.{Reasons}
+use Rattle.cps_conflict.specs.Behind.{RulesOut, IsBehind}
 use Rattle.cps_conflict.specs.Drafts.{IsBacked}
-
--- both atoms are about one subject, and no value that meets the one meets the other
-pub record RulesOut (s t : Atom) : Type 0 where
-  pub subject : s.subject ≡ t.subject
-  pub never : (x : ℤ) → meets s.op s.value x ≡ true → meets t.op t.value x ≡ false
-
--- An entry is one by which an atom became false, with the first `count` entries: one about the atom's subject. Where
--- the last of these entries rules the atom out by itself, it is that one alone.
-pub record IsBehind (s : Trail) (t : Atom) (k : ℕ) : Type 0 where
-  pub count : ℕ
-  pub falls : IsFalseFrom s t count
-  pub before : k < count
-  pub about : (d : Entry) → (slice_index_or s.entries k d).atom.subject ≡ t.subject
-  pub alone : (last : ℕ) (d : Entry) → count ≡ last + 1 → RulesOut (slice_index_or s.entries last d).atom t → k ≡ last
 
 -- the last of the first `count` entries rules an atom out by itself
 pub record IsRuledOutAt (s : Trail) (count : ℕ) (t : Atom) : Type 0 where

@@ -16,7 +16,8 @@ ghost use Rattle.std.specs.List.{All};
 ghost use Rattle.cps_trail.specs.Trail.{IsFalseNow, IsInside};
 ghost use Rattle.cps_trail.specs.Notes.{AllFit};
 ghost use Rattle.cps_conflict.specs.Conflicts.{AreTrueReasons};
-ghost use Rattle.cps_conflict.specs.Leading.{RulesOut, IsRuledOutAt, IsFetched, AreBehind, IsMarkedFalse, MarksBehind};
+ghost use Rattle.cps_conflict.specs.Behind.{RulesOut};
+ghost use Rattle.cps_conflict.specs.Leading.{IsRuledOutAt, IsFetched, AreBehind, IsMarkedFalse, MarksBehind};
 ghost use Rattle.cps_conflict.specs.Leading.{MarksUnless, MarksReason, MarkedSoFar, FollowedSoFar, WalksBack, ArePicked};
 ghost use Rattle.cps_conflict.specs.Leading.{is_marked};
 

@@ -13,10 +13,10 @@ use Rattle.cps_trail.proofs.Giving.{IsGivenAt-added, IsGivenAt-kept, IsGivenAt-w
 use Rattle.cps_clauses.specs.declared.origin.Origin.{Origin}
 use Rattle.cps_clauses.specs.Quiet.{Fits, IsQuiet}
 use Rattle.cps_clauses.specs.Bases.{Base, IsBaseInStep, in_force_of, with_clause}
-use Rattle.cps_clauses.proofs.Fitting.{Fits-more, Fits-none}
-use Rattle.cps_clauses.proofs.Noting.{ByClauses-more}
-use Rattle.cps_clauses.proofs.Quieting.{IsQuiet-none, IsQuiet-decide}
-use Rattle.cps_clauses.proofs.Stepping.{IsBaseInStep-none, IsBaseInStep-added, IsBaseInStep-front}
+use Rattle.cps_clauses.proofs.ClauseSubjects.{Fits-more, Fits-none}
+use Rattle.cps_clauses.proofs.Notes.{ByClauses-more}
+use Rattle.cps_clauses.proofs.QuietClauses.{IsQuiet-none, IsQuiet-decide}
+use Rattle.cps_clauses.proofs.BasesInStep.{IsBaseInStep-none, IsBaseInStep-added, IsBaseInStep-front}
 use Rattle.cps_learning_tests.specs.Resting.{IsBaseReady, IsBaseAtRest}
 
 -- what holds where a call succeeded, and it did

@@ -16,8 +16,8 @@ use Rattle.cps_conflict.proofs.Bottom.{false_at_bottom}
 use Rattle.cps_search.specs.Giving.{IsReasonOfOne}
 use Rattle.cps_search.specs.Searches.{Search, IsSoundSearch}
 use Rattle.cps_search.specs.Growing.{AreBehindIn, IsFalseBelow}
-use Rattle.cps_search.proofs.Holding.{free_within, reasons_below}
-use Rattle.cps_search.proofs.Keeping.{reasons_of}
+use Rattle.cps_search.proofs.BelowBounds.{free_within, reasons_below}
+use Rattle.cps_search.proofs.SearchInvariants.{reasons_of}
 use Rattle.cps_search.proofs.Reasons.{notes_there, reasons_there}
 
 -- the reasons of a search hold at each free assignment below z

@@ -30,7 +30,7 @@ use Rattle.cps_port.specs.Order.{IsBelow}
 use Rattle.cps_search.specs.Assumptions.{AreOnceInOrder, IsAssumed, IsCoreBelow, IsFailedAssumption, IsInCore, IsSufficient, NoneFails, assumption_at}
 use Rattle.cps_search.specs.Searches.{Search, IsSoundSearch, NoFreeBelow, NoneBelow}
 use Rattle.cps_search.specs.Growing.{AreBehindIn}
-use Rattle.cps_search.proofs.Assuming.{behind_assumed}
+use Rattle.cps_search.proofs.AssumptionOrder.{behind_assumed}
 
 pub same_or_not : (r q : ℤ) → (r ≡ q) ⊎ (r ≢ q)
 same_or_not r q = grind (arith, ints)

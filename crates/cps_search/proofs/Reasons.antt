@@ -7,18 +7,21 @@ use Rattle.cps_literal.specs.Truth.{atom_holds}
 use Rattle.cps_instance.specs.declared.task.Task.{Task}
 use Rattle.cps_instance.specs.Sums.{extended}
 use Rattle.cps_trail.specs.declared.note.Note.TheVariants as notes
-use Rattle.cps_trail.specs.Trail.{Domains, Entry, Trail, Reason, Later, Explains, IsAdmitted, IsWithin}
+use Rattle.cps_trail.specs.Trail.{Domains, Entry, Trail, Reason, Because, Later, Explains, IsAdmitted, IsWithin}
 use Rattle.cps_trail.specs.Adds.{Follows}
 use Rattle.cps_trail.specs.Notes.{IsReason}
 use Rattle.cps_port.specs.Order.{IsBelow}
 use Rattle.cps_conflict.specs.Conflicts.{AreTrueNotes, AreTrueReasons, Premises, reason_holds}
+use Rattle.cps_conflict.specs.Behind.{ComesOfConflict}
+use Rattle.cps_conflict.specs.Leading.{IsFetched}
+use Rattle.cps_conflict.proofs.Coming.{comes_same}
 use Rattle.cps_search.specs.Giving.{ByAll, IsReasonOfOne}
 use Rattle.cps_search.specs.Forcing.{forced_by_all, reason_of_one}
 use Rattle.cps_search.specs.Resting.{AllHold}
 use Rattle.cps_search.specs.Searches.{Search, HoldsOver, IsSoundSearch}
-use Rattle.cps_search.proofs.Giving.{AreGiven-fit, has_note}
-use Rattle.cps_search.proofs.Holding.{IsBelowBound, free_within, reasons_below}
-use Rattle.cps_search.proofs.Keeping.{all_below, reasons_of}
+use Rattle.cps_search.proofs.GivenEntries.{AreGiven-fit, has_note}
+use Rattle.cps_search.proofs.BelowBounds.{IsBelowBound, free_within, reasons_below}
+use Rattle.cps_search.proofs.SearchInvariants.{all_below, reasons_of}
 
 -- where tasks and clauses hold, each reason that one of them gives does
 pub true_reasons : (tasks : List Task) (clauses : List (List Atom)) (s : Trail) (a : List ℤ) → IsWithin s.first a → AllHold tasks clauses a → AreTrueReasons (IsReasonOfOne tasks clauses s) s a
@@ -111,3 +114,8 @@ module _ (tasks : List Task) (clauses : List (List Atom)) (s t : Trail) (first :
   -- and what follows from those that are left follows from all
   pub lesson_follows : (conflict clause : List Atom) → Follows (Premises (IsReasonOfOne tasks clauses t) t conflict) t.first clause → Follows (Premises (IsReasonOfOne tasks clauses s) s conflict) s.first clause
   lesson_follows conflict clause h = record { at = λ a within p. h.at a (subst (λ (ds : Domains). IsWithin ds a) (sym first) within) (premises_back conflict a p) }
+
+  -- and what comes of a conflict by those that are left comes of it by all
+  pub lesson_comes : (level : ℕ) (conflict clause : List Atom) → ComesOfConflict (IsFetched (IsReasonOfOne tasks clauses t) t) t level conflict clause → ComesOfConflict (IsFetched (IsReasonOfOne tasks clauses s) s) s level conflict clause
+  lesson_comes level conflict clause h = comes_same (IsFetched (IsReasonOfOne tasks clauses t) t) (IsFetched (IsReasonOfOne tasks clauses s) s) s t first front
+      (λ k c l given. elim given [ inl kept ↦ inl (λ d. reason_same k d (Because c) l (kept d)) | inr one ↦ inr (one_same k c l one) ]) level conflict clause h

@@ -12,8 +12,8 @@ use Rattle.cps_search.specs.Moves.{below}
 use Rattle.cps_search.specs.Rounds.{EndsRounds}
 use Rattle.cps_search.specs.Searches.{Search}
 use Rattle.cps_search.specs.Turns.{Looks, SawOpen}
-use Rattle.cps_search.proofs.Moving.{moves_met, no_bound, quiet_moves, saw_open, some_bound}
-use Rattle.cps_search.proofs.Turning.{saw_met, setting_of}
+use Rattle.cps_search.proofs.TurnMoves.{moves_met, no_bound, quiet_moves, saw_open, some_bound}
+use Rattle.cps_search.proofs.TurnCauses.{saw_met, setting_of}
 
 -- the two bounds had met
 pub rounds_met : (s b t : Search) (p q : Part) (answer : Option Bound) → is_some answer ≡ false → Looks s.gap s.z p.bounds q.bounds answer → q.board ≡ p.board → (IsNone answer → b ≡ s)

@@ -137,7 +137,7 @@ fn pick(alloc: Global, assumptions: &[i32], marks: &mut [bool]) -> Result<Vec<i3
 
 /// The core of the assumption with number `failed`: of the assumptions that one, and those that are among the decisions
 /// behind it, each once and in their order. Their variables are among the first `variables`.
-pub(crate) fn core_of(
+pub(crate) fn core_by_decisions(
     alloc: Global,
     assumptions: &[i32],
     variables: usize,

@@ -17,7 +17,7 @@ ghost use Rattle.cps_search.specs.Moves.{below};
 ghost use Rattle.cps_search.specs.Keeps.{Keeps};
 ghost use Rattle.cps_search.specs.Stepping.{IsCausedFrom, Offers};
 
-use crate::assumptions::{atom_of, core_of, first_failed, first_open};
+use crate::assumptions::{atom_of, core_by_decisions, first_failed, first_open};
 use crate::end::Phase;
 use crate::found::{Found, read_solution};
 use crate::searcher::Searcher;
@@ -63,7 +63,13 @@ impl<'a, P: Propagator> Searcher<'a, P> {
             Bound::At(_) => Ok(Refs::new(self.alloc)),
             Bound::Infinite => {
                 let count = self.instance.variable_count();
-                let core = core_of(self.alloc, assumptions, count, failed, decisions.as_slice())?;
+                let core = core_by_decisions(
+                    self.alloc,
+                    assumptions,
+                    count,
+                    failed,
+                    decisions.as_slice(),
+                )?;
                 Ok(Refs::from_vec(core))
             }
         }

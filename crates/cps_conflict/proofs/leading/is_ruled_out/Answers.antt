@@ -1,6 +1,6 @@
 use Rattle.std.proofs.Common.{◌-◌, ◌<◌, length, get_or, arith, subst, sym}
 use Rattle.cps_literal.specs.declared.atom.Atom.{Atom}
-use Rattle.cps_conflict.specs.Leading.{RulesOut}
+use Rattle.cps_conflict.specs.Behind.{RulesOut}
 use Rattle.cps_conflict.proofs.Uniting.{none_view, entry_at, read, inside}
 use Rattle.cps_conflict.proofs.leading.is_ruled_out.Goals as goal
 

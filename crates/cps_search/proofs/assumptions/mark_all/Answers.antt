@@ -5,7 +5,7 @@ use Rattle.std.proofs.lemmas.List.{take_all}
 use Rattle.cps_literal.specs.declared.atom.Atom.{Atom}
 use Rattle.cps_instance.specs.Posting.{atom_of}
 use Rattle.cps_search.specs.Assumptions.{is_marked}
-use Rattle.cps_search.proofs.Marking.{marked_more, no_atom}
+use Rattle.cps_search.proofs.LiteralMarks.{marked_more, no_atom}
 use Rattle.cps_search.proofs.assumptions.mark_all.Goals as goal
 
 pub mark-requires : goal.mark-requires

@@ -2,7 +2,7 @@ use Rattle.std.proofs.Common.{rules, FitsSigned, w32, ◌≡◌, ◌∙◌, ◌<
 use Rattle.std.proofs.lemmas.Int.{to_z-of_z}
 use Rattle.cps_instance.specs.Posting.{atom_of}
 use Rattle.cps_search.specs.Assumptions.{mark_of}
-use Rattle.cps_search.proofs.Marking.{picks_marked, picks_unmarked, picked_all}
+use Rattle.cps_search.proofs.LiteralMarks.{picks_marked, picks_unmarked, picked_all}
 use Rattle.cps_search.proofs.assumptions.pick.Goals as goal
 use Rattle.cps_search.proofs.assumptions.pick.Goals.{then-marks-place+in_ok-push, else-marks-place}
 

@@ -1,4 +1,4 @@
-use Rattle.cps_search.proofs.Ending.{honest_ending}
+use Rattle.cps_search.proofs.RunEnds.{honest_ending}
 use Rattle.cps_search.proofs.laws.ended_workers_are_honest.Goals as goal
 
 pub returns : goal.returns

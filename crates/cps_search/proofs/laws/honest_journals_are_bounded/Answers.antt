@@ -1,4 +1,4 @@
-use Rattle.cps_search.proofs.Counting.{greatest_length}
+use Rattle.cps_search.proofs.JournalLengths.{greatest_length}
 use Rattle.cps_search.proofs.laws.honest_journals_are_bounded.Goals as goal
 
 pub returns : goal.returns

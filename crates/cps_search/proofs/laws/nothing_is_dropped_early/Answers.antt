@@ -1,5 +1,5 @@
 use Rattle.std.proofs.Common.{arith}
-use Rattle.cps_search.proofs.Forgetting.{learnt_before}
+use Rattle.cps_search.proofs.HonestJournals.{learnt_before}
 use Rattle.cps_search.proofs.laws.nothing_is_dropped_early.Goals as goal
 
 pub returns : goal.returns

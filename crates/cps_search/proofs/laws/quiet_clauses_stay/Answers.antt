@@ -1,7 +1,7 @@
 use Rattle.std.proofs.Common.{ℕ, ◌+◌, ◌≤◌, ◌≡◌, [], ◌∷◌, refl, sym, ap, subst, arith}
 use Rattle.std.proofs.lemmas.List.Elements.{All-nil, All-cons, All-weaker}
 use Rattle.cps_trail.specs.Trail.{Entry, Trail, Decision}
-use Rattle.cps_clauses.proofs.Quieting.{IsQuiet-added, IsQuiet-append, IsQuiet-back, IsQuiet-infers, IsQuiet-new_subject}
+use Rattle.cps_clauses.proofs.QuietClauses.{IsQuiet-added, IsQuiet-append, IsQuiet-back, IsQuiet-infers, IsQuiet-new_subject}
 use Rattle.cps_clauses.specs.Quiet.{IsQuiet}
 use Rattle.cps_search.specs.Giving.{ByAll}
 use Rattle.cps_search.specs.Moves.{decided}

@@ -1,4 +1,4 @@
-use Rattle.cps_search.proofs.Working.{turns_run}
+use Rattle.cps_search.proofs.WorkerInvariants.{turns_run}
 use Rattle.cps_search.proofs.laws.turns_come_to_a_run.Goals as goal
 
 pub returns : goal.returns

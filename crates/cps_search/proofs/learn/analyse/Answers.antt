@@ -2,8 +2,8 @@
 use Rattle.std.proofs.Common.{◌<◌, length, All, ap, arith, subst, sym}
 use Rattle.cps_trail.specs.Trail.{Trail}
 use Rattle.cps_search.specs.Giving.{ByAll}
-use Rattle.cps_search.proofs.Giving.{AreGiven-back, AreGiven-fit}
-use Rattle.cps_search.proofs.Lessons.{bottom_of, false_back, open_above, present_back, false_before, taught_new}
+use Rattle.cps_search.proofs.GivenEntries.{AreGiven-back, AreGiven-fit}
+use Rattle.cps_search.proofs.Lessons.{bottom_of, false_back, open_above, present_back, level_there, false_before, taught_new}
 use Rattle.cps_search.proofs.learn.analyse.Goals as goal
 
 pub analyse-requires-clause-present : goal.analyse-requires-clause-present
@@ -82,3 +82,12 @@ analyse-requires-clause-subjects g c = subst (λ (s : Trail). All (λ t. t.subje
 
 pub analyse-requires-clause-above : goal.analyse-requires-clause-above
 analyse-requires-clause-above g c = omega (arith, ap (λ (s : Trail). s.level) c.go_back.ensures.back.is, c.if-level-eq0.false)
+
+pub returns-then-level-eq0-clause-level : goal.returns-then-level-eq0-clause-level
+returns-then-level-eq0-clause-level g c = level_there c.args.store.now c.go_back.new.store c.args.conflict.now c.conflict_level-level.result c.go_back.ensures.back.is c.conflict_level-level.ensures
+
+pub returns-in_err-learnt-clause-level : goal.returns-in_err-learnt-clause-level
+returns-in_err-learnt-clause-level g c = level_there c.args.store.now c.go_back.new.store c.args.conflict.now c.conflict_level-level.result c.go_back.ensures.back.is c.conflict_level-level.ensures
+
+pub returns-clause-level : goal.returns-clause-level
+returns-clause-level g c = level_there c.args.store.now c.go_back.new.store c.args.conflict.now c.conflict_level-level.result c.go_back.ensures.back.is c.conflict_level-level.ensures

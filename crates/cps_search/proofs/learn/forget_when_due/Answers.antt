@@ -1,6 +1,6 @@
 use Rattle.std.proofs.Common.{ℕ, ◌/◌, sym, ◌∙◌, ap, true≢false}
 use Rattle.cps_search.specs.Shelves.{shelf_of}
-use Rattle.cps_search.proofs.Leaving.{forgets_none, forgets_half, forgotten_quiet, forgotten_rested, forgotten_long, forgotten_sound}
+use Rattle.cps_search.proofs.SearchesAfterDrops.{forgets_none, forgets_half, forgotten_quiet, forgotten_rested, forgotten_long, forgotten_sound}
 use Rattle.cps_search.proofs.learn.forget_when_due.Goals as goal
 
 pub returns-then-not-is_forgetting_due-clause-forgets : goal.returns-then-not-is_forgetting_due-clause-forgets

@@ -4,7 +4,7 @@ use Rattle.cps_clauses.specs.declared.origin.Origin.TheVariants.{Learnt}
 use Rattle.cps_clauses.specs.Bases.{Base, in_force_of}
 use Rattle.cps_search.specs.Shelves.{shelf_of}
 use Rattle.cps_search.proofs.Lessons.{quiet_beside, quiet_with, taught_quiet}
-use Rattle.cps_search.proofs.Resting.{resting_added}
+use Rattle.cps_search.proofs.TasksAtRest.{resting_added}
 use Rattle.cps_search.proofs.learn.learn_clause.Goals as goal
 
 pub returns-clause-learns : goal.returns-clause-learns

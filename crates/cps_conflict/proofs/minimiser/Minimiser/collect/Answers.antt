@@ -1,6 +1,7 @@
 use Rattle.std.proofs.Common.{◌+◌, List, take, get_or, inl, inr, refl, sym, ap, subst, ◌∙◌, true≢false, Ok}
-use Rattle.std.specs.List.{All}
+use Rattle.std.specs.List.{All, Contains}
 use Rattle.std.proofs.lemmas.List.{take_all}
+use Rattle.std.proofs.lemmas.List.Elements.{Contains-get_or}
 use Rattle.cps_literal.specs.declared.atom.Atom.{Atom}
 use Rattle.cps_literal.specs.Truth.{Implies}
 use Rattle.cps_conflict.specs.Conflicts.{AreTrueReasons}
@@ -38,11 +39,13 @@ pub loop-fallen-preserved : goal.loop-fallen-preserved
 loop-fallen-preserved g c =
     let earlier : IsEarlier c.args.store.now c.args.resolvent.now.start (get_or c.earlier-fallen-items.result.now c.loop-fallen.fallen-index none_fallen) =
     subst (λ (l : List Fallen). All (IsEarlier c.args.store.now c.args.resolvent.now.start) l) (sym c.earlier-fallen-items.ensures) c.requires.draft.earlier c.loop-fallen.fallen-index none_fallen c.loop-fallen-test.true in
+    let has : Contains c.args.resolvent.now.earlier (get_or c.earlier-fallen-items.result.now c.loop-fallen.fallen-index none_fallen) =
+    subst (λ (l : List Fallen). Contains l (get_or c.earlier-fallen-items.result.now c.loop-fallen.fallen-index none_fallen)) c.earlier-fallen-items.ensures (Contains-get_or c.earlier-fallen-items.result.now c.loop-fallen.fallen-index none_fallen c.loop-fallen-test.true) in
     record {
       nodes = c.in_ok-is_redundant.ensures.nodes;
       assert = c.in_ok-is_redundant.ensures.assert ∙ c.loop-fallen.invariant.assert;
       collects = subst (λ (l : List Atom). Collects (AreTrueReasons (g.E.Explain.makes c.args.explain.now c.args.store.now) c.args.store.now) c.args.store.now c.args.resolvent.now.start c.args.resolvent.now.earlier c.args.self.now.assert (take (c.loop-fallen.fallen-index + 1) c.earlier-fallen-items.result.now) l c.later-latest.result) (sym c.in_ok-push.ensures.items)
-          (Collects-push (AreTrueReasons (g.E.Explain.makes c.args.explain.now c.args.store.now) c.args.store.now) c.args.store.now c.args.resolvent.now.start c.args.resolvent.now.earlier c.args.self.now.assert c.earlier-fallen-items.result.now c.loop-fallen.fallen-index none_fallen c.loop-fallen.atoms.items c.loop-fallen.latest c.later-latest.result c.loop-fallen-test.true earlier
+          (Collects-push (AreTrueReasons (g.E.Explain.makes c.args.explain.now c.args.store.now) c.args.store.now) c.args.store.now c.args.resolvent.now.start c.args.resolvent.now.earlier c.args.self.now.assert c.earlier-fallen-items.result.now c.loop-fallen.fallen-index none_fallen c.loop-fallen.atoms.items c.loop-fallen.latest c.later-latest.result c.loop-fallen-test.true earlier has
           (λ i. true≢false (sym (c.implies.ensures.1 (subst (λ (t : Atom). Implies (get_or c.earlier-fallen-items.result.now c.loop-fallen.fallen-index none_fallen).atom t) (sym c.loop-fallen.invariant.assert) i)) ∙ c.if-implies.false)) c.later-latest.ensures.one c.later-latest.ensures.other c.later-latest.ensures.either c.loop-fallen.invariant.collects);
     }
 

@@ -7,7 +7,7 @@ use Rattle.cps_search.specs.declared.end.Phase.TheVariants.{Deciding}
 use Rattle.cps_search.specs.Moves.{decided, moved}
 use Rattle.cps_search.specs.Searches.{Search, IsSoundSearch}
 use Rattle.cps_search.proofs.Exits.{err_if, is_failure}
-use Rattle.cps_search.proofs.Viewing.{as_running}
+use Rattle.cps_search.proofs.FrameViews.{as_running}
 use Rattle.cps_search.proofs.frame.Frame.decide.Goals as goal
 
 pub returns-clause-decides : goal.returns-clause-decides

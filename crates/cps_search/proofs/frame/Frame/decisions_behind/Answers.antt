@@ -1,7 +1,7 @@
 use Rattle.std.proofs.Common.{◌≡◌, ◌∙◌, false, refl, subst, sym}
 use Rattle.cps_search.specs.Growing.{AreBehindIn}
 use Rattle.cps_search.specs.Searches.{Search}
-use Rattle.cps_search.proofs.Viewing.{as_running}
+use Rattle.cps_search.proofs.FrameViews.{as_running}
 use Rattle.cps_search.proofs.frame.Frame.decisions_behind.Goals as goal
 
 pub returns-clause-same : goal.returns-clause-same

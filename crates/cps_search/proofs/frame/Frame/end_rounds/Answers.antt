@@ -1,7 +1,7 @@
 use Rattle.std.proofs.Common.{◌≡◌, ◌∙◌, ap, subst, sym}
 use Rattle.cps_search.specs.Rounds.{EndsRounds}
 use Rattle.cps_search.specs.Searches.{Search, IsSoundSearch}
-use Rattle.cps_search.proofs.Viewing.{as_running}
+use Rattle.cps_search.proofs.FrameViews.{as_running}
 use Rattle.cps_search.proofs.frame.Frame.end_rounds.Goals as goal
 
 pub invariant_of-self : goal.invariant_of-self

@@ -2,7 +2,7 @@ use mir.Facts.{to_z-of_z}
 use Rattle.std.proofs.Common.{ℤ, ◌≡◌, ◌∙◌, false, ap, refl, subst, sym}
 use Rattle.cps_search.specs.Growing.{GrewBy}
 use Rattle.cps_search.specs.Searches.{Search, IsSoundSearch}
-use Rattle.cps_search.proofs.Viewing.{as_running}
+use Rattle.cps_search.proofs.FrameViews.{as_running}
 use Rattle.cps_search.proofs.frame.Frame.grow.Goals as goal
 
 pub returns-clause-grew : goal.returns-clause-grew

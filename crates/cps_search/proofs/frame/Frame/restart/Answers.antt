@@ -2,7 +2,7 @@ use Rattle.std.proofs.Common.{◌≡◌, ◌∙◌, ap, subst, sym}
 use Rattle.cps_search.specs.Growing.{IsFalseBelow}
 use Rattle.cps_search.specs.Moves.{moved}
 use Rattle.cps_search.specs.Searches.{Search, IsSoundSearch}
-use Rattle.cps_search.proofs.Viewing.{as_running}
+use Rattle.cps_search.proofs.FrameViews.{as_running}
 use Rattle.cps_search.proofs.frame.Frame.restart.Goals as goal
 
 pub invariant_of-self : goal.invariant_of-self

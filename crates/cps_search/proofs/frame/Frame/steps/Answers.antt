@@ -2,7 +2,7 @@ use Rattle.std.proofs.Common.{◌≡◌, ◌∙◌, false, refl, subst, sym}
 use Rattle.cps_search.specs.Searches.{Search, IsSoundSearch}
 use Rattle.cps_search.specs.Turns.{Steps}
 use Rattle.cps_search.proofs.Keeps.{keeps_none}
-use Rattle.cps_search.proofs.Viewing.{as_running}
+use Rattle.cps_search.proofs.FrameViews.{as_running}
 use Rattle.cps_search.proofs.frame.Frame.steps.Goals as goal
 
 pub returns-then-self-clause-keeps : goal.returns-then-self-clause-keeps

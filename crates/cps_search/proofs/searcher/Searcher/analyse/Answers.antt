@@ -13,8 +13,8 @@ use Rattle.cps_search.specs.Searching.{search_of}
 use Rattle.cps_search.specs.Stepping.{IsAnalysed}
 use Rattle.cps_search.proofs.Results.{ok_if, if_ok_weaker}
 use Rattle.cps_search.specs.Moves.{moved}
-use Rattle.cps_search.proofs.Stepping.{analysed, none_left, rest_at, sound_went_back}
-use Rattle.cps_search.proofs.Conflicting.{given_false}
+use Rattle.cps_search.proofs.SoundTurns.{analysed, none_left, rest_at, sound_went_back}
+use Rattle.cps_search.proofs.ConflictStores.{given_false}
 use Rattle.cps_search.proofs.searcher.Searcher.analyse.Goals as goal
 
 -- what four facts on each lesson give
@@ -61,7 +61,7 @@ returns-clause-taught g c =
     subst (λ (x : Search). IfOk c.analyse.result (λ o. IfSome o (λ l. IsAnalysed x n.store l.clause l.assert l.back_level))) c.self.view_is
     (each_lesson c.analyse.result (λ l. IsTaught (IsReasonOfOne s.tasks s.base.clauses n.store) n.store c.args.conflict.now l.clause l.assert l.back_level) (λ l. All (IsFalseNow s.store) l.clause) (λ l. IsNewTo s.store l.clause) (λ _. Any (NotFalseAtBottom s.store) c.args.conflict.now)
     (λ l. IsAnalysed s n.store l.clause l.assert l.back_level)
-    (λ l. analysed s n.store n.rested.tasks n.rested.clauses e.back.0 c.args.conflict.now sound e.back.1 e.rested e.sound_before e.sound conflict l.clause l.assert l.back_level) e.taught e.before e.new e.open_at_bottom)
+    (λ l. analysed s n.store n.rested.tasks n.rested.clauses e.back.0 c.args.conflict.now sound e.back.1 e.rested e.sound_before e.sound conflict e.level l.clause l.assert l.back_level) e.taught e.before e.new e.open_at_bottom)
 
 pub returns-clause-none : goal.returns-clause-none
 returns-clause-none g c =

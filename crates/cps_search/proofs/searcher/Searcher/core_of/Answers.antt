@@ -31,15 +31,15 @@ decisions_behind-requires-clause-false_now g c =
     let atom : c.atom_of.result ≡ assumption_at s.instance.model.assumptions c.args.failed = c.atom_of.ensures ∙ ap atom_of (to_z-of_z w32 r fits) ∙ ap (λ (rs : List ℤ). assumption_at rs c.args.failed) same in
     subst (λ (t : Atom). IsFalseNow s.store t) (sym atom) c.requires.failed.false_now
 
-pub core_of-requires-clause-variables : goal.core_of-requires-clause-variables
-core_of-requires-clause-variables g c =
+pub core_by_decisions-requires-clause-variables : goal.core_by_decisions-requires-clause-variables
+core_by_decisions-requires-clause-variables g c =
     let s = c.args.self.now in
     let same : c.assumptions-assumptions.result.now ≡ s.instance.model.assumptions = c.assumptions-assumptions.ensures ∙ ap (λ (x : Search). x.instance.model.assumptions) c.self.view_is in
     subst (λ (rs : List ℤ). All (λ r. (atom_of r).subject < c.variable_count-count.result) rs) (sym same)
     (λ k r l. (let named = assumed_variables s.instance.model c.requires.sound.instance.valid k r l in omega (arith, named, c.variable_count-count.ensures ∙ ap (λ (x : Search). variable_count x.instance) c.self.view_is)))
 
-pub core_of-requires-clause-decisions : goal.core_of-requires-clause-decisions
-core_of-requires-clause-decisions g c =
+pub core_by_decisions-requires-clause-decisions : goal.core_by_decisions-requires-clause-decisions
+core_by_decisions-requires-clause-decisions g c =
     let s = c.args.self.now in
     let same : c.assumptions-assumptions.result.now ≡ s.instance.model.assumptions = c.assumptions-assumptions.ensures ∙ ap (λ (x : Search). x.instance.model.assumptions) c.self.view_is in
     let r = get_or c.assumptions-assumptions.result.now c.args.failed (pos 0) in

@@ -5,7 +5,7 @@ use Rattle.cps_search.specs.Giving.{ByAll}
 use Rattle.cps_search.specs.Growing.{AreBehindIn}
 use Rattle.cps_search.specs.Searches.{Search, IsSoundSearch}
 use Rattle.cps_search.specs.Searching.{search_of}
-use Rattle.cps_search.proofs.Giving.{AreGiven-fit}
+use Rattle.cps_search.proofs.GivenEntries.{AreGiven-fit}
 use Rattle.cps_search.proofs.Behind.{behind_in}
 use Rattle.cps_search.proofs.Results.{if_ok_weaker}
 use Rattle.cps_search.proofs.searcher.Searcher.decisions_behind.Goals as goal

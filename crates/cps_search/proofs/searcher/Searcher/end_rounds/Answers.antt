@@ -4,7 +4,7 @@ use Rattle.cps_search.specs.declared.end.End.TheVariants as ends
 use Rattle.cps_search.specs.declared.end.Phase.TheVariants.{Over}
 use Rattle.cps_search.specs.Searches.{Search, IsSoundSearch}
 use Rattle.cps_search.specs.Searching.{search_of}
-use Rattle.cps_search.proofs.Beginning.{sound_met, sound_with_phase}
+use Rattle.cps_search.proofs.SoundDecisions.{sound_met, sound_with_phase}
 use Rattle.cps_search.proofs.RoundsOver.{rounds_met, rounds_over}
 use Rattle.cps_search.proofs.searcher.Searcher.end_rounds.Goals as goal
 

@@ -1,5 +1,5 @@
 use Rattle.std.proofs.Common.{inr}
-use Rattle.cps_search.proofs.Turning.{stays_exhausted}
+use Rattle.cps_search.proofs.TurnCauses.{stays_exhausted}
 use Rattle.cps_search.proofs.searcher.Searcher.fail.Goals as goal
 
 pub exhaust-requires-clause-none : goal.exhaust-requires-clause-none

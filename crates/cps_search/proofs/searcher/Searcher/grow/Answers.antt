@@ -13,7 +13,7 @@ use Rattle.cps_search.specs.declared.end.Phase.TheVariants.{Stepping}
 use Rattle.cps_search.specs.Growing.{GrewBy}
 use Rattle.cps_search.specs.Searches.{Search, IsSoundSearch}
 use Rattle.cps_search.specs.Searching.{search_of}
-use Rattle.cps_search.proofs.Growing.{few_and_one, grown_is, sound_grew}
+use Rattle.cps_search.proofs.GrownInstances.{few_and_one, grown_is, sound_grew}
 use Rattle.cps_search.proofs.searcher.Searcher.grow.Goals as goal
 
 pub define-requires-clause-subjects : goal.define-requires-clause-subjects

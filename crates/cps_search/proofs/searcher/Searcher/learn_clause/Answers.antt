@@ -16,7 +16,7 @@ use Rattle.cps_search.specs.Resting.{Rest}
 use Rattle.cps_search.specs.Shelves.{Learns, in_force_on, shelf_of}
 use Rattle.cps_search.specs.Turns.{IsPutOnBoard, IsShort}
 use Rattle.cps_search.specs.Searching.{search_of}
-use Rattle.cps_search.proofs.Stepping.{short_below, sound_kept}
+use Rattle.cps_search.proofs.SoundTurns.{short_below, sound_kept}
 use Rattle.cps_search.proofs.searcher.Searcher.learn_clause.Goals as goal
 
 -- what is so of the port's model and of the clause's atoms is so of the search's model and of the clause

@@ -7,7 +7,7 @@ use Rattle.cps_search.specs.Moves.{with_phase}
 use Rattle.cps_search.specs.Searches.{Search, IsNewClause, IsSoundSearch}
 use Rattle.cps_search.specs.Searching.{search_of}
 use Rattle.cps_search.specs.Shelves.{in_force_on}
-use Rattle.cps_search.proofs.Beginning.{sound_spent}
+use Rattle.cps_search.proofs.SoundDecisions.{sound_spent}
 use Rattle.cps_search.proofs.searcher.Searcher.spend.Goals as goal
 
 pub returns-clause-turn : goal.returns-clause-turn

@@ -26,7 +26,7 @@ use Rattle.cps_search.specs.Forgetting.{DropsNothing}
 use Rattle.cps_branch.specs.Strategies.{values_of}
 use Rattle.cps_search.specs.Searches.{IsHonestJournal, IsWorthy}
 use Rattle.cps_branch.proofs.Values.{among_values}
-use Rattle.cps_search.proofs.Valuing.{small_in}
+use Rattle.cps_search.proofs.AtomNumbers.{small_in}
 
 -- ---- a list without repetition is no longer than one that has its elements
 

@@ -33,15 +33,15 @@ use Rattle.cps_clauses.specs.Journals.{after_item, AreHonest}
 use Rattle.cps_clauses.specs.Quiet.{Fits}
 use Rattle.cps_clauses.specs.Watches.{clause_of, watch_of, IsGuarded}
 use Rattle.cps_clauses.specs.Bases.{Base, IsBaseInStep}
-use Rattle.cps_clauses.proofs.Quieting.{IsQuiet-new_subject}
-use Rattle.cps_clauses.proofs.Dropping.{all_held, at_held}
+use Rattle.cps_clauses.proofs.QuietClauses.{IsQuiet-new_subject}
+use Rattle.cps_clauses.proofs.DroppedClauses.{all_held, at_held}
 use Rattle.cps_search.specs.Shelves.{base_with, in_force_on}
 use Rattle.cps_search.specs.Giving.{ByAll, OrDecided, AreGiven}
 use Rattle.cps_search.specs.Searches.{Search, HoldsOver, IsFalsifiable, IsFound, IsHonestJournal, IsSatisfiable, IsSoundSearch, IsWorthy, below_bound}
 use Rattle.cps_search.specs.Growing.{GrewBy, grown}
-use Rattle.cps_search.proofs.Assuming.{first-bottom}
-use Rattle.cps_search.proofs.Completing.{fits_below}
-use Rattle.cps_search.proofs.Numbering.{few_tasks}
+use Rattle.cps_search.proofs.AssumptionOrder.{first-bottom}
+use Rattle.cps_search.proofs.FixedSolutions.{fits_below}
+use Rattle.cps_search.proofs.TaskNumbers.{few_tasks}
 
 -- more values leave a clause over the first ones as it is
 clause-longer : (xs ys : List ℤ) (c : List Atom) → All (λ t. t.subject < length xs) c → clause_holds c (xs ++ ys) ≡ clause_holds c xs

@@ -11,7 +11,7 @@ use Rattle.cps_search.specs.Resting.{AllHold}
 use Rattle.cps_search.specs.Giving.{IsGivenConflict}
 use Rattle.cps_search.specs.Searches.{Search, HoldsOver, IsInConflict, IsSoundSearch}
 use Rattle.cps_search.specs.Shelves.{in_force_on}
-use Rattle.cps_search.proofs.Teaching.{conflict_over}
+use Rattle.cps_search.proofs.ConflictLessons.{conflict_over}
 
 -- what one task gives, or one clause in force, holds below the bound
 pub given_over : (s : Search) (c : List Atom) → IsSoundSearch s → IsGivenConflict s.tasks (in_force_on s.base) s.store c → HoldsOver s.instance s.z c

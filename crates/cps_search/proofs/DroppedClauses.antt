@@ -11,7 +11,7 @@ use Rattle.cps_clauses.specs.declared.journal.JournalItem.TheVariants.{Learnt, D
 use Rattle.cps_clauses.specs.Journals.{IsHonest, AreHonest, count_standing, drops, standing_after, standing_in}
 use Rattle.cps_clauses.specs.Watches.{clause_of}
 use Rattle.cps_clauses.specs.Forgets.{IsNamed}
-use Rattle.cps_clauses.proofs.Numbering.{count_push, count_set}
+use Rattle.cps_clauses.proofs.LearntNumbers.{count_push, count_set}
 use Rattle.cps_search.specs.Forgetting.{DropsWhenDueFrom, DropsWhenDue, DroppedNoneSince, stand_after, stood_after}
 use Rattle.cps_search.specs.Searches.{learnt_count}
 use Rattle.cps_search.specs.Giving.{ByAll, OrDecided, AreGiven}

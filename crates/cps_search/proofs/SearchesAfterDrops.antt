@@ -11,15 +11,15 @@ use Rattle.cps_clauses.specs.Journals.{count_standing, drops, standing_in}
 use Rattle.cps_clauses.specs.Quiet.{Fits, IsQuiet}
 use Rattle.cps_clauses.specs.Bases.{Base, IsSoundBase, in_force_of, number_at}
 use Rattle.cps_clauses.specs.Forgets.{Forgets, HasForgotten, learnt_in_force, without}
-use Rattle.cps_clauses.proofs.Dropping.{length-blanked}
-use Rattle.cps_clauses.proofs.Numbering.{emptied_is}
-use Rattle.cps_clauses.proofs.Forgetting.{all_blanked, fewer_in_force, forgotten_stand, in_turn_apart, named_left, places_of, quiet_forgotten, IsHonest-drops, IsSoundBase-dropped}
+use Rattle.cps_clauses.proofs.DroppedClauses.{length-blanked}
+use Rattle.cps_clauses.proofs.LearntNumbers.{emptied_is}
+use Rattle.cps_clauses.proofs.ForgottenClauses.{all_blanked, fewer_in_force, forgotten_stand, in_turn_apart, named_left, places_of, quiet_forgotten, IsHonest-drops, IsSoundBase-dropped}
 use Rattle.cps_search.specs.Searches.{Search, HoldsOver, IsItemAbove, IsSoundSearch, IsWorthy, learnt_count}
 use Rattle.cps_search.specs.Shelves.{Shelf, DropsHalf, ForgetsWhenDue, IsForgettingDue, IsSoundShelf, bare_base, in_force_on, shelf_of}
-use Rattle.cps_search.proofs.Dropping.{drops_due, given_left, learnt_count-drops, learnt_count-standing}
+use Rattle.cps_search.proofs.DroppedClauses.{drops_due, given_left, learnt_count-drops, learnt_count-standing}
 use Rattle.cps_search.specs.Resting.{IsResting}
-use Rattle.cps_search.proofs.Keeping.{IsLeft}
-use Rattle.cps_search.proofs.Resting.{resting_dropped}
+use Rattle.cps_search.proofs.SearchInvariants.{IsLeft}
+use Rattle.cps_search.proofs.TasksAtRest.{resting_dropped}
 
 due_or : (b : Shelf) → IsForgettingDue b ⊎ (IsForgettingDue b → ⊥)
 due_or b = elim (cases (length b.learnt)) [ inl due ↦ inl (record { some_learnt = due.0; interval = due.1 }) | inr not ↦ inr (λ due. not (due.some_learnt, due.interval)) ]

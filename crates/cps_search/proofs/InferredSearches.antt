@@ -9,7 +9,7 @@ use Rattle.cps_search.specs.Moves.{moved}
 use Rattle.cps_search.specs.Resting.{Rest, IsResting}
 use Rattle.cps_search.specs.Searches.{Search, IsSoundSearch}
 use Rattle.cps_search.specs.Shelves.{Shelf, base_with, shelf_of}
-use Rattle.cps_search.proofs.Keeping.{sound_inferred}
+use Rattle.cps_search.proofs.SearchInvariants.{sound_inferred}
 
 -- where tasks and clauses came to rest
 abbrev pub rest_of : Base → Option ℕ → ℕ → Rest

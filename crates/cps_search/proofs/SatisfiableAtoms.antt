@@ -13,7 +13,7 @@ use Rattle.cps_trail.specs.Trail.{Domains, Trail, first_of, up_to}
 use Rattle.cps_conflict.specs.Conflicts.{NotFalseAtBottom}
 use Rattle.cps_branch.specs.Strategies.{values_of}
 use Rattle.cps_search.specs.Searches.{IsSatisfiable}
-use Rattle.cps_search.proofs.Refuting.{admitted_first}
+use Rattle.cps_search.proofs.FalseClauses.{admitted_first}
 use Rattle.cps_branch.proofs.Values.{among_values}
 
 on_or_off : (b : Bool) → (b ≡ true) ⊎ (b ≡ false)

@@ -5,8 +5,8 @@ use Rattle.std.proofs.lemmas.Int.{to_z-of_z}
 use Rattle.std.proofs.lemmas.Result.{IfOk-weaker}
 use Rattle.cps_instance.specs.Posting.{atom_of}
 use Rattle.cps_search.specs.Assumptions.{is_marked, mark_of}
-use Rattle.cps_search.proofs.Marking.{atom_apart, core_picked, mark_within, marks_written, none_marked}
-use Rattle.cps_search.proofs.assumptions.core_of.Goals as goal
+use Rattle.cps_search.proofs.LiteralMarks.{atom_apart, core_picked, mark_within, marks_written, none_marked}
+use Rattle.cps_search.proofs.assumptions.core_by_decisions.Goals as goal
 
 pub mark_all-requires : goal.mark_all-requires
 mark_all-requires c = λ k t l.
