@@ -1,5 +1,5 @@
 -- Seats that are split among workers and joined again.
-use Rattle.std.specs.Prelude.{Option, Some, None, All, int_lt, if◌then◌else◌, Bool, true, false, ℤ, slice_index_or}
+use Rattle.std.specs.Prelude.{Option, Some, None, All, int_lt, if◌then◌else◌, ◌↔◌, IsTrue, Bool, true, false, ℤ, slice_index_or}
 use Rattle.std.specs.Int.{int_min}
 use Rattle.std.proofs.Common.{◌≡◌, ℕ, zero, suc, ◌+◌, ◌-◌, ◌/◌, ◌^◌, ◌<◌, ◌≤◌, List, [], ◌∷◌, ◌++◌, length, get_or, arith, refl, sym, ap, ap₂, subst, ◌∙◌, length-append, ◌⊎◌, inl, inr, take, drop}
 use Rattle.std.proofs.Math.Nat.{two-pow-succ}
@@ -20,7 +20,7 @@ use Rattle.cps_bounds.specs.Rule.{both_parts}
 use Rattle.cps_port.specs.declared.part.BoundsPart.{BoundsPart}
 use Rattle.cps_port.specs.Order.{BoundLe, IsNoLower, lesser, greater, greater_of, raised_above}
 use Rattle.cps_port.specs.Totals.{total}
-use Rattle.cps_port.proofs.Bounding.{BoundLe-trans, lesser-first, lesser-second, greater-first, greater-exchange}
+use Rattle.cps_port.proofs.BoundLaws.{BoundLe-trans, lesser-first, lesser-second, greater-first, greater-exchange}
 use Rattle.cps_search.specs.declared.end.End.{End}
 use Rattle.cps_search.specs.declared.end.Phase.TheVariants.{Over}
 use Rattle.cps_search.specs.declared.end.WorkerKind.{WorkerKind}
@@ -29,12 +29,12 @@ use Rattle.cps_search.specs.Ends.{Ending, IsOver, IsHonestEnding}
 use Rattle.cps_search.specs.Following.{best_bound}
 use Rattle.cps_search.proofs.Bounds.{greater-second, same_bound}
 use Rattle.cps_crew.specs.declared.seats.Seated.{Seated}
-use Rattle.cps_crew.specs.Workers.{AnySearch, search_in, kind_in, ending_in, worker_kind}
+use Rattle.cps_crew.specs.Workers.{AnySearch, search_in, kind_in, ending_in, worker_kind, SearchesNear}
 use Rattle.cps_model.specs.Start.{objective_start}
 use Rattle.cps_port.specs.Incumbents.{IsLowerBound}
 use Rattle.cps_crew.specs.Outcomes.{CameTo, EndedWithin, GoesByModel, HasSums, better, best_of}
 use Rattle.cps_crew.specs.Crews.{part_at, words_part, words_splits, IsBackAt, MayWork, Worked, IsSeated, IsCrew, IsHonestlyDone, IsHonestEnd, HasReturned, HaveReturned, EndedSeen, AreGathered}
-use Rattle.cps_crew.proofs.Going.{done_from}
+use Rattle.cps_crew.proofs.MemberRuns.{done_from}
 
 -- ---- lists that grow and shrink at their end
 
@@ -236,8 +236,11 @@ has_returned m o board bounds number a b h w = record {
       honest_end m o.gap o.conflicts (words_part b) number s.last e (s.kind ∙ ap worker_kind h.number_is) done s.over s.is);
 }
 
-pub all_ready : (suits : CpModel → Type 0) (m pool : CpModel) (o : Options) (board : Board) (bounds : Bounds) (crew : List Seated) → words.model_of bounds ≡ m → pool ≡ m → AreInRange o → suits m → IsCrew board bounds crew → All (MayWork suits m o pool) crew
-all_ready suits m pool o board bounds crew model found range suited h i d l = let s = h.each i d l in record { range = range; suited = suited; found = found; words = ap words.model_of s.bounds_is ∙ model }
+pub all_ready : (suits : CpModel → Type 0) (m pool : CpModel) (is_read : Bool) (o : Options) (board : Board) (bounds : Bounds) (crew : List Seated) → words.model_of bounds ≡ m → pool ≡ m → (IsTrue is_read ↔ SearchesNear o.workers) → length crew ≡ o.workers → AreInRange o → suits m
+    → IsCrew board bounds crew → All (MayWork suits m o pool is_read) crew
+all_ready suits m pool is_read o board bounds crew model found reads count range suited h i d l =
+    let s = h.each i d l in
+    record { range = range; suited = suited; number = (let at = s.number_is in omega (arith, at, count, l)); found = found; reads = reads; words = ap words.model_of s.bounds_is ∙ model }
 
 pub all_back : (m : CpModel) (o : Options) (board : Board) (bounds : Bounds) (crew after : List Seated) → length after ≡ length crew → IsCrew board bounds crew
     → ((i : ℕ) (d : Seated) → i < length crew → Worked m o (slice_index_or crew i d) (slice_index_or after i d)) → HaveReturned m o.gap o.conflicts board bounds after

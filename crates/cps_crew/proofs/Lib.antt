@@ -1,4 +1,4 @@
 pub mod Outcomes
-pub mod Going
+pub mod MemberRuns
 pub mod Crews
-pub mod Turning
+pub mod DrawnTurns

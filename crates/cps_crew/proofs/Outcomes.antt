@@ -11,7 +11,7 @@ use Rattle.cps_model.specs.Start.{objective_start}
 use Rattle.cps_model.specs.Statuses.{is_closed, status_of, IsAtMost}
 use Rattle.cps_port.specs.Order.{BoundLe, IsNoLower, greater, raised_above}
 use Rattle.cps_port.specs.Incumbents.{IsLowerBound}
-use Rattle.cps_port.proofs.Bounding.{BoundLe-refl, BoundLe-trans, greater-first}
+use Rattle.cps_port.proofs.BoundLaws.{BoundLe-refl, BoundLe-trans, greater-first}
 use Rattle.cps_clauses.specs.declared.journal.JournalItem.{JournalItem}
 use Rattle.cps_clauses.specs.declared.journal.JournalItem.TheVariants.{Learnt, Drop}
 use Rattle.cps_search.specs.declared.end.End.{End}

@@ -1,5 +1,5 @@
 -- Seats at the shared tables, before workers search there and after it, and what the seats knew together.
-use Rattle.std.specs.Prelude.{◌≡◌, ℕ, ◌<◌, IfSome, length, List, All, slice_index_or, map, None}
+use Rattle.std.specs.Prelude.{◌≡◌, ◌↔◌, ℕ, ◌<◌, Bool, IsTrue, IfSome, length, List, All, slice_index_or, map, None}
 use Rattle.std.specs.List.{range_with_len}
 use Rattle.cps_model.specs.declared.bound.Bound.{Bound}
 use Rattle.cps_model.specs.declared.bound.Bound.TheVariants.{Infinite}
@@ -19,7 +19,7 @@ use Rattle.cps_options.specs.Ranges.{AreInRange}
 use Rattle.cps_search.specs.Following.{best_bound}
 use Rattle.cps_crew.specs.declared.seats.Seated.{Seated}
 use Rattle.cps_crew.specs.Ports.{part_of, SeatsStay}
-use Rattle.cps_crew.specs.Workers.{AnySearch, search_in, kind_in, ending_in, worker_kind, BeginsAs, DrawsBy, HasEnded}
+use Rattle.cps_crew.specs.Workers.{AnySearch, search_in, kind_in, ending_in, worker_kind, SearchesNear, BeginsAs, DrawsBy, HasEnded}
 use Rattle.cps_crew.specs.Outcomes.{GoesByModel, HasSums, best_of, greatest_raised}
 
 -- ---- seats
@@ -51,11 +51,15 @@ IsBackAt board bounds c = (c.port.board.now ≡ board) × (c.port.bounds.now ≡
 
 -- ---- workers that search
 
--- seats at which a worker of the model may be made, which suits it, with a pool of the same model
-pub record MayWork (suits : CpModel → Type 0) (m : CpModel) (o : Options) (pool : CpModel) (c : Seated) : Type 0 where
+-- seats at which a worker of the model may be made, which suits it, with a pool of the same model, which is read just
+-- where one of the workers searches near solutions
+pub record MayWork (suits : CpModel → Type 0) (m : CpModel) (o : Options) (pool : CpModel) (is_read : Bool)
+    (c : Seated) : Type 0 where
   pub range : AreInRange o
   pub suited : suits m
+  pub number : c.number < o.workers
   pub found : pool ≡ m
+  pub reads : IsTrue is_read ↔ SearchesNear o.workers
   pub words : words.model_of c.port.bounds.now ≡ m
 
 -- the worker of this number, which knew nothing at first, took its turns up to its end; where it draws, it does so by

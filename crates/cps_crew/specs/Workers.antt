@@ -1,6 +1,6 @@
 -- Workers of several kinds, seen as searches: one that goes by a guidance, one that goes by cores, or one that searches
 -- near solutions in rounds.
-use Rattle.std.specs.Prelude.{◌≡◌, ◌⊎◌, ⊤, ℕ, ◌+◌, ◌<◌, ◌%◌, ◌==◌, if◌then◌else◌, ℤ, Bool, true, Option, Some, None, List, is_some}
+use Rattle.std.specs.Prelude.{◌≡◌, ◌⊎◌, ⊤, ℕ, ◌+◌, ◌<◌, ◌%◌, ◌==◌, max, nat_lt, if◌then◌else◌, ℤ, Bool, true, Option, Some, None, List, length, is_some}
 use Rattle.rand_pcg.specs.Lcg.{Lcg}
 use Rattle.cps_model.specs.declared.model.CpModel.{CpModel}
 use Rattle.cps_model.specs.Solutions.{IsSolution}
@@ -14,6 +14,7 @@ use Rattle.cps_branch.specs.declared.guidance.Guidance.{Guidance}
 use Rattle.cps_search.specs.declared.turn.Turn.{Turn}
 use Rattle.cps_search.specs.Searches.{Search, IsSoundSearch}
 use Rattle.cps_search.specs.Moves.{fresh}
+use Rattle.cps_search.specs.Turns.{FoundOne, SameBest}
 use Rattle.cps_search.specs.Guided.{IsGuidedBy}
 use Rattle.cps_branch.specs.Guidances.{ChoosesBy}
 use Rattle.cps_search.specs.Ends.{Ending, OneTurn, TakesTurns, end_of, ending}
@@ -21,6 +22,7 @@ use Rattle.cps_core_guided.specs.Reforming.{CoreSearch, whole}
 use Rattle.cps_core_guided.specs.CoreTurns.{BeginsCore, OneCoreTurn, RunsInCoreTurns, TakesCoreTurns}
 use Rattle.cps_neighbourhood.specs.Drawing.{draws_of}
 use Rattle.cps_neighbourhood.specs.Nears.{Near, BeginsNear, TakesNearTurn, TakesNearTurns}
+use Rattle.cps_pool.specs.Pools.{last_of, with_pushed}
 
 -- what is known of a worker: a search of a kind that goes by a guidance; one that goes by cores, and by a guidance
 -- where there is nothing left to assume; or one that goes in rounds
@@ -33,6 +35,12 @@ abbrev pub search_in : AnySearch → Search
 search_in (by_guidance kind guidance s) = s
 search_in (by_cores guidance s) = whole s
 search_in (in_rounds n) = n.search
+
+-- the part of it that all workers have in common, which finds its solutions
+abbrev pub frame_in : AnySearch → Search
+frame_in (by_guidance kind guidance s) = s
+frame_in (by_cores guidance s) = s.search
+frame_in (in_rounds n) = n.search
 
 abbrev pub kind_in : AnySearch → WorkerKind
 kind_in (by_guidance kind guidance s) = kind
@@ -196,3 +204,22 @@ pub record HasEnded (rows : ℕ) (s t : AnySearch) (p q : Part) : Type 0 where
   pub part : Part
   pub turns : TakesTurnsAs rows s before p part
   pub last : HasTurned rows before t part q true
+
+-- ---- the pool
+
+-- A turn put the solution that it found into the pool, where a worker reads the pool, and nothing else.
+pub data PutsFound (is_read : Bool) (before after : List (List ℤ)) (rows : ℕ) (s t : Search) (p q : Part)
+    : Type 0 where
+  found_one : (solution : List ℤ) → FoundOne s t rows p q → t.best ≡ Some solution
+      → after ≡ with_pushed is_read before solution → PutsFound is_read before after rows s t p q
+  found_none : SameBest s t → after ≡ before → PutsFound is_read before after rows s t p q
+
+-- where a worker aims that had been handed the last of so many of these solutions: at the last of all, if there are more
+abbrev pub aim_by : List (List ℤ) → ℕ → Option (List ℤ) → Option (List ℤ)
+aim_by found handed aim = if nat_lt handed (length found) then Some (last_of found) else aim
+
+-- before its turn a worker that searches near solutions was handed the last of these, unless it had been
+abbrev pub WasHanded : List (List ℤ) → ℕ → ℕ → AnySearch → AnySearch → Type 0
+WasHanded found before after (in_rounds m) (in_rounds n) = (after ≡ max before (length found))
+    × (n.aim ≡ aim_by found before m.aim)
+WasHanded found before after s t = ⊤

@@ -4,15 +4,14 @@
 //! depends on the state alone, and no clock or thread has a part in it. One `PlainPort` serves all workers, and its
 //! actor is set before each turn. Workers keep their places in the list when they end, so that a worker's number stays
 //! its place. What is proved of the turns rests on what a crew asks of each worker (`Member`).
-ghost use Rattle.std.specs.Prelude.{◌≡◌, ℕ, ◌<◌, ◌≤◌, length, vec_len, All, IfOk, OnOk, map, false, None, slice_index_or};
+ghost use Rattle.std.specs.Prelude.{◌≡◌, ◌↔◌, ℕ, ◌<◌, ◌≤◌, length, vec_len, All, IsTrue, IfOk, OnOk, map, false, None, slice_index_or};
 ghost use Rattle.rand_pcg.specs.Lcg.{Lcg};
 ghost use Rattle.cps_options.specs.Ranges.{AreInRange};
 ghost use Rattle.cps_port.specs.Entries.{most_rows};
-ghost use Rattle.cps_port.specs.Shared.{actor_count, board_part, part_at, after};
+ghost use Rattle.cps_port.specs.Shared.{actor_count, board_part, part_at};
 ghost use Rattle.cps_port.specs.Others.{ActsAlone};
-ghost use Rattle.cps_port.specs.Sound.{IsSoundShared};
 ghost use Rattle.cps_search.specs.Ends.{IsOver};
-ghost use Rattle.cps_crew.specs.Workers.{search_in, kind_in, HasTurned};
+ghost use Rattle.cps_crew.specs.Workers.{search_in, kind_in, HasTurned, SearchesNear};
 ghost use Rattle.cps_crew.specs.Outcomes.{IsGoodOutcome};
 ghost use Rattle.cps_crew.specs.Turning.{AreTurning, AreFresh, count_at_work, ended_of, place_at_work, words_of_seed, TakesDrawnTurns, IsDrawnBy};
 ghost use Rattle.cps_crew.specs.declared.interleaved.Turning.{Turning as TurningOf};
@@ -22,10 +21,10 @@ use crate::ended::AnyEnded;
 use crate::member::{Member, Recruit};
 use crate::numbering::reads_pool;
 use crate::outcome::{Outcome, Reached};
-use cps_model::Bound;
 use cps_options::Options;
 use cps_pool::PlainPool;
-use cps_port::{CoreState, Event, MOST_ROWS, PlainPort, Seen};
+use cps_port::{CoreState, MOST_ROWS, PlainPort};
+use cps_search::WorkerKind;
 use cps_validate::ValidModel;
 use rand_core::utils::NextWord;
 use rand_pcg::Lcg64Xsh32;
@@ -109,12 +108,14 @@ fn take_turn<W: Member>(
     requires running { IsOver (search_in (W.known worker.old)).phase → ⊥ }
     requires model { port.old.core.now.model ≡ (search_in (W.known worker.old)).instance.model }
     requires pool { pool.old.model ≡ (search_in (W.known worker.old)).instance.model }
+    requires reads { kind_in (W.known worker.old) ≡ WorkerKind.Near → IsTrue pool.old.is_read }
     requires imported { (search_in (W.known worker.old)).imported ≤ length (part_at port.old.core.now actor).board.taken }
     ensures same { (port.new.core.now.model ≡ port.old.core.now.model)
         × (length port.new.core.now.board.rows ≡ length port.old.core.now.board.rows) }
     ensures idle { (board_part port.new.core.now.board actor).drawn ≡ None }
     ensures alone { ActsAlone actor actor port.old.core.now port.new.core.now }
     ensures pool { pool.new.model ≡ pool.old.model }
+    ensures is_read { pool.new.is_read ≡ pool.old.is_read }
     ensures kind { kind_in (W.known worker.new) ≡ kind_in (W.known worker.old) }
     ensures turn { IfOk result (HasTurned (length port.old.core.now.board.rows) (W.known worker.old)
         (W.known worker.new) (part_at port.old.core.now actor) (part_at port.new.core.now actor)) }
@@ -134,6 +135,7 @@ fn take_turns<W: Member>(
     requires count { (actor_count port.old.core.now ≡ length crew.old) × (length crew.old ≤ 16) }
     requires idle { (i : ℕ) → (board_part port.old.core.now.board i).drawn ≡ None }
     requires pool { pool.old.model ≡ port.old.core.now.model }
+    requires reads { IsTrue pool.old.is_read ↔ SearchesNear (length crew.old) }
     requires crew { AreTurning W.known port.old.core.now.model options.now.gap options.now.conflicts
         (length port.old.core.now.board.rows) port.old.core.now crew.old }
     ensures same { OnOk result (port.new.core.now.model ≡ port.old.core.now.model) }
@@ -157,32 +159,6 @@ fn take_turns<W: Member>(
         let place = place_of(crew, word as usize % count);
         let turning = &mut crew[place];
         turning.over = take_turn(port, &mut turning.worker, pool, place as u32)?;
-    }
-}
-
-/// The upper bound of the state.
-fn upper_of(core: &mut CoreState<'_>) -> Bound
-    requires { 0 < actor_count core.old }
-    ensures bound { result ≡ core.old.bounds.upper }
-    ensures sound { IsSoundShared core.old }
-    ensures after { core.new ≡ after core.old 0 Event.SeeUpper }
-{
-    match core.step(0, Event::SeeUpper) {
-        Seen::Word(bound) => bound,
-        // A look at a bound sees a word.
-        _ => unreachable!(),
-    }
-}
-
-/// The lower bound of the state.
-fn lower_of(core: &mut CoreState<'_>) -> Bound
-    requires { 0 < actor_count core.old }
-    ensures { result ≡ core.old.bounds.lower }
-{
-    match core.step(0, Event::SeeLower) {
-        Seen::Word(bound) => bound,
-        // A look at a bound sees a word.
-        _ => unreachable!(),
     }
 }
 
@@ -229,8 +205,8 @@ pub fn solve_in_turns<'a, W: Recruit<'a>>(
         actor: _actor,
     } = port;
     turns?;
-    let upper = upper_of(shared);
-    let lower = lower_of(shared);
+    let upper = shared.upper();
+    let lower = shared.lower();
     let ends = finish_all(alloc, crew)?;
     outcome_of(alloc, model, options, Reached { upper, lower, ends })
 }

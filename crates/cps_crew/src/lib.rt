@@ -23,6 +23,7 @@ pub use cps_options::Options;
 pub use ended::AnyEnded;
 pub use interleaved::solve_in_turns;
 pub use member::{Member, Recruit};
+pub use numbering::kind_of;
 pub use outcome::Outcome;
 pub use recruiter::{Order, Recruiter, search};
 pub use seats::Brief;

@@ -2,17 +2,19 @@
 //!
 //! A worker is made, searches and ends in one thread: so workers are made side by side, and of a worker nothing passes
 //! to another thread but how it ended. What the threads share is the recruiter, so that it alone need be `Sync`.
-ghost use Rattle.std.specs.Prelude.{◌≡◌, IfOk};
+ghost use Rattle.std.specs.Prelude.{◌≡◌, IsTrue, IfOk};
 ghost use Rattle.cps_model.specs.declared.model.CpModel.{CpModel};
 ghost use Rattle.cps_options.specs.Ranges.{AreInRange};
 ghost use Rattle.cps_search.specs.Keeps.{Keeps};
 ghost use Rattle.cps_crew.specs.Crews.{HasSearched};
+ghost use Rattle.cps_crew.specs.Workers.{worker_kind};
 
 use crate::ended::AnyEnded;
 use crate::member::{Recruit, run};
 use cps_options::Options;
 use cps_pool::Pool;
 use cps_port::Port;
+use cps_search::WorkerKind;
 use cps_validate::ValidModel;
 use std::alloc::{AllocError, Global};
 
@@ -43,6 +45,7 @@ pub trait Recruiter {
         requires suits { suits order.now.model.now }
         requires model { Q.model port.old ≡ order.now.model.now }
         requires pool { F.model pool.old ≡ order.now.model.now }
+        requires reads { worker_kind order.now.number ≡ WorkerKind.Near → IsTrue (F.is_read pool.old) }
         ensures keeps { Keeps Q.model Q.rows Q.stays port.old port.new }
         ensures searched { IfOk result (HasSearched order.now.model.now order.now.options.now order.now.number
             (Q.rows port.old) (Q.part port.old) (Q.part port.new)) };
@@ -58,6 +61,7 @@ pub fn search<'a, W: Recruit<'a>, Q: Port, F: Pool>(
     requires suits { W.suits order.now.model.now }
     requires model { Q.model port.old ≡ order.now.model.now }
     requires pool { F.model pool.old ≡ order.now.model.now }
+    requires reads { worker_kind order.now.number ≡ WorkerKind.Near → IsTrue (F.is_read pool.old) }
     ensures keeps { Keeps Q.model Q.rows Q.stays port.old port.new }
     ensures searched { IfOk result (HasSearched order.now.model.now order.now.options.now order.now.number
         (Q.rows port.old) (Q.part port.old) (Q.part port.new)) }

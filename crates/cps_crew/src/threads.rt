@@ -24,7 +24,7 @@ use crate::table_port::TablePort;
 use cps_board::Board;
 use cps_bounds::Bounds;
 use cps_model::Bound;
-use cps_outer::Gate;
+use cps_outer::{Gate, Host};
 use cps_pool::SharedPool;
 use cps_port::MOST_ROWS;
 use std::alloc::{AllocError, Global};
@@ -50,7 +50,7 @@ fn seat<'t>(number: u32, kept: &mut TablePort<'t>) -> Seated<'t>
     }
 }
 
-/// Seats of so many workers, which are split from those of one port.
+/// The seats of `workers` workers, split from those of one port.
 fn seat_all<'t>(
     alloc: Global,
     workers: u32,
@@ -106,15 +106,14 @@ fn gather<'t>(
 /// Solves a model: `options.workers` workers search in threads until the bounds meet, or each has spent its budget or
 /// done its rounds. Each passes the gate before it begins. If a worker ran out of memory there is no outcome.
 pub fn solve_in_threads<T: Recruiter + Sync, R: Threads + Wait + Sync, G: Gate + Sync>(
-    rt: &R,
+    host: &Host<'_, R, G>,
     brief: &Brief<'_, T>,
-    gate: &G,
 ) -> Result<Outcome, AllocError>
     requires range { AreInRange brief.now.options.now }
     requires suits { T.suits brief.now.model.now }
     ensures { IfOk result (IsGoodOutcome brief.now.model.now brief.now.options.now) }
 {
-    let alloc = brief.alloc;
+    let alloc = host.alloc;
     let options = brief.options;
     let (bounds, bounds_seat) = Bounds::new(alloc, brief.model)?;
     let (board, board_seat) = Board::new(alloc, brief.model, MOST_ROWS)?;
@@ -126,7 +125,7 @@ pub fn solve_in_threads<T: Recruiter + Sync, R: Threads + Wait + Sync, G: Gate +
         bounds_seat,
     };
     let mut crew = seat_all(alloc, options.workers, &mut kept)?;
-    work_all(rt, brief, crew.as_mut_slice(), &pool, gate);
+    work_all(host, brief, crew.as_mut_slice(), &pool);
     let ends = gather(alloc, &mut kept, crew)?;
     // Taken apart for its seats, with which the tables are closed.
     let TablePort {

@@ -8,6 +8,7 @@
 mod clean;
 mod copy;
 mod gate;
+mod host;
 mod memory;
 mod standard;
 mod traits;
@@ -15,6 +16,7 @@ mod transfer;
 
 pub use clean::{CleanSink, CleanSource};
 pub use gate::{Gate, OpenGate};
+pub use host::Host;
 pub use memory::{MemorySink, MemorySource};
 pub use standard::{ReaderSource, StdSink, StdSource, WriterSink};
 pub use traits::{Failed, Sink, Source};

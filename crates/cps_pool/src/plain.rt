@@ -24,7 +24,7 @@ impl<'a> Model for PlainPool<'a> {
     ghost use Rattle.std.specs.Prelude.{All};
     ghost use Rattle.cps_model.specs.Solutions.{IsSolution};
 
-    ghost view = { λ p. record { model = p.model.now; solutions = p.found.items } };
+    ghost view = { λ p. record { model = p.model.now; is_read = p.is_read; solutions = p.found.items } };
 
     ghost invariant = { λ p. All (IsSolution p.model.now) p.found.items };
 }
@@ -32,7 +32,7 @@ impl<'a> Model for PlainPool<'a> {
 impl<'a> PlainPool<'a> {
     /// A pool without solutions, which takes no memory, and whether a worker reads it.
     pub fn new(alloc: Global, model: &'a ValidModel, is_read: bool) -> Self
-        ensures { result ≡ record { model = model.now; solutions = [] } }
+        ensures { result ≡ record { model = model.now; is_read = is_read; solutions = [] } }
     {
         PlainPool {
             alloc,
@@ -44,7 +44,15 @@ impl<'a> PlainPool<'a> {
 }
 
 impl Pool for PlainPool<'_> {
+    ghost use Rattle.std.specs.Prelude.{⊤};
+
     ghost model = { λ p. p.model };
+
+    ghost is_read = { λ p. p.is_read };
+
+    ghost found = { λ p. p.solutions };
+
+    ghost IsAlone = { ⊤ };
 
     fn count(&self) -> usize {
         self.found.len()

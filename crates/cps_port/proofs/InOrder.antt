@@ -8,7 +8,7 @@ use native.Mathlib.Decide.{dec_le}
 use Rattle.cps_model.specs.declared.bound.Bound.{Bound}
 use Rattle.cps_model.specs.declared.bound.Bound.TheVariants.{At, Infinite}
 use Rattle.cps_port.specs.Order.{BoundLe, IsNoLower, IsSmallBound, lesser, greater, raised_to, raised_above, greater_of}
-use Rattle.cps_port.proofs.Bounding.{greater_is}
+use Rattle.cps_port.proofs.BoundLaws.{greater_is}
 use Rattle.cps_port.specs.Words.{top, value_word, word_of, raise_word, value_of, bound_of, HasWord, HasWords}
 
 pub word_of-bound_of : (n : ℕ) → n ≤ top → word_of (bound_of n) ≡ n

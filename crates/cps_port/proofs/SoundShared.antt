@@ -19,8 +19,8 @@ use Rattle.cps_port.specs.Parts.{no_rows, no_bounds}
 use Rattle.cps_port.specs.Shared.{BoardState, BoundsState, Shared, first_shared, board_part, bounds_part, row_at, actor_count, board_after, bounds_after, after, IsLawful}
 use Rattle.cps_port.specs.Sound.{least_offer, greatest_raise, IsSoundBounds, IsSoundShared, run, AreLawful, StaysSound}
 use Rattle.cps_port.specs.Kept.{BoardKept, IsStateKept}
-use Rattle.cps_port.proofs.Bounding.{keeps_offer, keeps_raise, keeps_upper, keeps_lower}
-use Rattle.cps_port.proofs.Boarding.{raise_sound, keeps_draw, keeps_publish, keeps_look}
+use Rattle.cps_port.proofs.BoundLaws.{keeps_offer, keeps_raise, keeps_upper, keeps_lower}
+use Rattle.cps_port.proofs.BoardEvents.{raise_sound, keeps_draw, keeps_publish, keeps_look}
 
 not_none : {X : Type 0} (x : X) → None ≡ Some x → ⊥
 not_none x e = cc

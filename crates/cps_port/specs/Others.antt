@@ -1,5 +1,6 @@
 -- What a plain port makes of the shared state: events of its actor, one after another, each lawful where it comes. So
 -- it leaves all that the other actors know.
+-- Some of its terms are proofs: an `impl` names them as ghost items (`unmoved`, `moved_on`).
 use Rattle.std.specs.Prelude.{◌≡◌, ◌≢◌, ℕ, List, [], ◌∷◌, ◌++◌, refl}
 use Rattle.std.proofs.Common.{◌∙◌, sym, ap, subst}
 use Rattle.cps_port.specs.declared.event.Event.{Event}

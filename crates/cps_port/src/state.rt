@@ -127,6 +127,21 @@ impl<'a> CoreState<'a> {
         }
     }
 
+    /// The upper bound as it stands.
+    pub fn upper(&self) -> Bound
+        ensures bound { result ≡ self.now.bounds.upper }
+        ensures sound { IsSoundShared self.now }
+    {
+        self.upper
+    }
+
+    /// The lower bound as it stands.
+    pub fn lower(&self) -> Bound
+        ensures { result ≡ self.now.bounds.lower }
+    {
+        self.lower
+    }
+
     /// Whether an actor drew past the last row.
     pub(crate) fn is_full(&self, actor: u32) -> bool
         requires { actor < actor_count self.now }

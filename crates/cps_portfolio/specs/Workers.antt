@@ -17,6 +17,13 @@ known_of (Activity w) = by_guidance kinds.Activity (Hinted w.1.hints) w.0
 known_of (Core w) = by_cores (Hinted w.1.hints) w.0
 known_of (Near w) = in_rounds w.worker
 
+-- how many solutions the pool had when it was last handed one
+abbrev pub handed_to : AnyWorker → ℕ
+handed_to (Fixed w) = 0
+handed_to (Activity w) = 0
+handed_to (Core w) = 0
+handed_to (Near w) = w.handed
+
 -- these are the ends of workers of these kinds that knew nothing at first, and took drawn turns until all had ended
 abbrev pub IsDrawnRun : CpModel → Options → ℕ → List Ending → Type 0
 IsDrawnRun m options rows es = IsDrawnBy known_of m options rows es

@@ -9,7 +9,7 @@ ghost use Rattle.cps_portfolio.specs.Workers.{IsDrawnRun};
 use crate::worker::{AnyWorker, EveryKind};
 use cps_crew::{Brief, Outcome, solve_in_threads, solve_in_turns};
 use cps_options::Options;
-use cps_outer::Gate;
+use cps_outer::{Gate, Host};
 use cps_validate::ValidModel;
 use std::alloc::{AllocError, Global};
 use std::sync::Wait;
@@ -28,13 +28,13 @@ pub fn solve<R: Threads + Wait + Sync, G: Gate + Sync>(
     requires kinds { AreAllPropagated model.now }
     ensures { IfOk result (IsGoodOutcome model.now options.now) }
 {
+    let host = Host { rt, alloc, gate };
     let brief = Brief {
-        alloc,
         model,
         options,
         recruiter: &EveryKind,
     };
-    solve_in_threads(rt, &brief, gate)
+    solve_in_threads(&host, &brief)
 }
 
 /// Solves a model: `options.workers` workers take turns until the bounds meet, or each has spent its budget or done its

@@ -3,7 +3,7 @@
 //! An enum and not a trait object: there are few kinds, each turn is a match, and the contract of a turn can say of
 //! each kind what it owes. Turns are taken here one by one, in threads too, since a solution goes into the pool after
 //! the turn that found it, and a neighbourhood worker is aimed before its turn.
-ghost use Rattle.std.specs.Prelude.{◌≡◌, ◌+◌, ◌≤◌, ◌^◌, length, false, OnOk, IfOk, IfSome, Some, is_some};
+ghost use Rattle.std.specs.Prelude.{◌≡◌, ◌+◌, ◌≤◌, ◌^◌, length, max, false, OnOk, IfOk, IfSome, Some, is_some};
 ghost use Rattle.cps_model.specs.Solutions.{IsSolution};
 ghost use Rattle.cps_branch.specs.Guidances.{AreHintsOf, IsPlanOf};
 ghost use Rattle.cps_kinds.specs.Kinds.{AreAllPropagated};
@@ -12,10 +12,11 @@ ghost use Rattle.cps_search.specs.Keeps.{Keeps};
 ghost use Rattle.cps_search.specs.Ends.{IsOver, end_of};
 ghost use Rattle.cps_core_guided.specs.Reforming.{whole};
 ghost use Rattle.cps_neighbourhood.specs.Drawing.{draws_of};
-ghost use Rattle.cps_crew.specs.Workers.{Begins, BeginsCores, BeginsRounds, IsAimed, TurnedBy, TurnedByCores, TurnedNear};
+ghost use Rattle.cps_crew.specs.Workers.{Begins, BeginsCores, BeginsRounds, IsAimed, TurnedBy, TurnedByCores, TurnedNear, PutsFound, aim_by};
+ghost use Rattle.cps_pool.specs.Pools.{with_pushed};
 
 use cps_core_guided::CoreWorker;
-use cps_crew::{AnyEnded, Member, Order, Recruit, Recruiter, search};
+use cps_crew::{AnyEnded, Member, Order, Recruit, Recruiter, kind_of, search};
 use cps_instance::Instance;
 use cps_kinds::{AnyPropagator, engine_of};
 use cps_neighbourhood::NearWorker;
@@ -31,7 +32,7 @@ use std::alloc::{AllocError, Global};
 pub enum AnyWorker<'a> {
     /// Follows the model's strategies, and then takes the variables in order.
     Fixed(Worker<'a, AnyPropagator, FixedBrancher>),
-    /// Takes the variable of which most learnt clauses spoke first, at the value of the model's hint.
+    /// Takes the variable with the greatest activity, at the value of the model's hint.
     Activity(Worker<'a, AnyPropagator, ActivityBrancher>),
     /// Assumes that each part of the objective stays at its bound, and raises the lower bound by each core.
     Core(CoreWorker<'a, AnyPropagator, ActivityBrancher>),
@@ -78,7 +79,7 @@ fn fixed_worker<'a>(
     Worker::new(alloc, instance, engine, brancher, conflicts, gap)
 }
 
-/// A worker that takes the variable of which most learnt clauses spoke first.
+/// A worker that takes the variable with the greatest activity.
 fn activity_worker<'a>(
     alloc: Global,
     model: &'a ValidModel,
@@ -126,6 +127,7 @@ fn near_worker<'a>(
     ensures begins { IfOk result (λ near.
         BeginsRounds model.entry.now options.now.gap options.now.conflicts near.worker) }
     ensures draws { IfOk result (λ near. near.worker.draws ≡ draws_of options.now.seed (16 + number)) }
+    ensures handed { IfOk result (λ near. near.handed ≡ 0) }
 {
     let Options {
         conflicts,
@@ -153,6 +155,10 @@ fn is_last(turn: &Turn) -> bool
 fn note_turn<F: Pool>(pool: &mut F, turn: &Turn, best: Option<&[i64]>) -> Result<bool, AllocError>
     requires { IfSome best (λ solution. IsSolution (F.model pool.old) solution.now) }
     ensures pool { F.model pool.new ≡ F.model pool.old }
+    ensures is_read { F.is_read pool.new ≡ F.is_read pool.old }
+    ensures found { turn.now ≡ Turn.Found → OnOk result (IfSome best.entry (λ solution.
+        F.found pool.new ≡ with_pushed (F.is_read pool.old) (F.found pool.old) solution.now)) }
+    ensures others { (turn.now ≡ Turn.Found → ⊥) → F.found pool.new ≡ F.found pool.old }
     ensures last { IfOk result (λ over. over ≡ is_some (end_of turn.now)) }
 {
     if let (Turn::Found, Some(solution)) = (turn, best) {
@@ -173,6 +179,9 @@ fn turn_of<P: Propagator, B: Brancher + Drop, Q: Port, F: Pool>(
     requires imported { worker.old.0.imported ≤ length (Q.part port.old).board.taken }
     ensures keeps { Keeps Q.model Q.rows Q.stays port.old port.new }
     ensures pool { F.model pool.new ≡ F.model pool.old }
+    ensures is_read { F.is_read pool.new ≡ F.is_read pool.old }
+    ensures found { OnOk result (PutsFound (F.is_read pool.old) (F.found pool.old) (F.found pool.new)
+        (Q.rows port.old) worker.old.0 worker.new.0 (Q.part port.old) (Q.part port.new)) }
     ensures guidance { B.guidance worker.new.1 ≡ B.guidance worker.old.1 }
     ensures turn { IfOk result (TurnedBy (B.guidance worker.old.1) (Q.rows port.old) worker.old.0 worker.new.0
         (Q.part port.old) (Q.part port.new)) }
@@ -193,6 +202,9 @@ fn core_turn_of<P: Defining, B: Brancher + Drop, Q: Port, F: Pool>(
     requires imported { worker.old.0.search.imported ≤ length (Q.part port.old).board.taken }
     ensures keeps { Keeps Q.model Q.rows Q.stays port.old port.new }
     ensures pool { F.model pool.new ≡ F.model pool.old }
+    ensures is_read { F.is_read pool.new ≡ F.is_read pool.old }
+    ensures found { OnOk result (PutsFound (F.is_read pool.old) (F.found pool.old) (F.found pool.new)
+        (Q.rows port.old) worker.old.0.search worker.new.0.search (Q.part port.old) (Q.part port.new)) }
     ensures guidance { B.guidance worker.new.1 ≡ B.guidance worker.old.1 }
     ensures turn { IfOk result (TurnedByCores (B.guidance worker.old.1) (Q.rows port.old) worker.old.0 worker.new.0
         (Q.part port.old) (Q.part port.new)) }
@@ -205,7 +217,9 @@ fn core_turn_of<P: Defining, B: Brancher + Drop, Q: Port, F: Pool>(
 fn aim<P: Propagator, F: Pool>(near: &mut AimedWorker<'_, P>, pool: &F)
     requires memory { near.old.worker.search.refused ≡ false }
     requires pool { F.model pool.now ≡ near.old.worker.search.instance.model }
-    ensures { IsAimed near.old.worker near.new.worker }
+    ensures aimed { IsAimed near.old.worker near.new.worker }
+    ensures aim { F.IsAlone → near.new.worker.aim ≡ aim_by (F.found pool.now) near.old.handed near.old.worker.aim }
+    ensures handed { F.IsAlone → near.new.handed ≡ max near.old.handed (length (F.found pool.now)) }
 {
     let count = pool.count();
     if count > near.handed {
@@ -229,6 +243,12 @@ fn near_turn_of<P: Propagator, Q: Port, F: Pool>(
     requires imported { near.old.worker.search.imported ≤ length (Q.part port.old).board.taken }
     ensures keeps { Keeps Q.model Q.rows Q.stays port.old port.new }
     ensures pool { F.model pool.new ≡ F.model pool.old }
+    ensures is_read { F.is_read pool.new ≡ F.is_read pool.old }
+    ensures found { OnOk result (PutsFound (F.is_read pool.old) (F.found pool.old) (F.found pool.new)
+        (Q.rows port.old) near.old.worker.search near.new.worker.search (Q.part port.old) (Q.part port.new)) }
+    ensures aim { F.IsAlone → OnOk result (near.new.worker.aim
+        ≡ aim_by (F.found pool.old) near.old.handed near.old.worker.aim) }
+    ensures handed { F.IsAlone → near.new.handed ≡ max near.old.handed (length (F.found pool.old)) }
     ensures turn { IfOk result (TurnedNear (Q.rows port.old) near.old.worker near.new.worker (Q.part port.old)
         (Q.part port.new)) }
 {
@@ -240,8 +260,6 @@ fn near_turn_of<P: Propagator, Q: Port, F: Pool>(
 impl<'a> Recruit<'a> for AnyWorker<'a> {
     ghost suits = { AreAllPropagated };
 
-    /// Number 0 follows the strategies; after it number 1 goes by activity, number 2 by cores and number 3 near
-    /// solutions, and so on in turn.
     fn of(
         alloc: Global,
         model: &'a ValidModel,
@@ -249,22 +267,25 @@ impl<'a> Recruit<'a> for AnyWorker<'a> {
         number: u32,
     ) -> Result<Self, AllocError> {
         let Options { conflicts, gap, .. } = *options;
-        if number == 0 {
-            Ok(AnyWorker::Fixed(fixed_worker(alloc, model, conflicts, gap)?))
-        } else if number % 3 == 0 {
-            Ok(AnyWorker::Near(near_worker(alloc, model, options, number)?))
-        } else if number % 3 == 2 {
-            Ok(AnyWorker::Core(core_worker(alloc, model, conflicts, gap)?))
-        } else {
-            Ok(AnyWorker::Activity(activity_worker(alloc, model, conflicts, gap)?))
+        match kind_of(number) {
+            WorkerKind::Fixed => Ok(AnyWorker::Fixed(fixed_worker(alloc, model, conflicts, gap)?)),
+            WorkerKind::Activity => Ok(AnyWorker::Activity(activity_worker(
+                alloc, model, conflicts, gap,
+            )?)),
+            WorkerKind::CoreGuided => Ok(AnyWorker::Core(core_worker(
+                alloc, model, conflicts, gap,
+            )?)),
+            WorkerKind::Near => Ok(AnyWorker::Near(near_worker(alloc, model, options, number)?)),
         }
     }
 }
 
 impl Member for AnyWorker<'_> {
-    ghost use Rattle.cps_portfolio.specs.Workers.{known_of};
+    ghost use Rattle.cps_portfolio.specs.Workers.{known_of, handed_to};
 
     ghost known = { known_of };
+
+    ghost handed = { handed_to };
 
     /// A neighbourhood worker is handed the pool's last solution before its turn.
     fn turn<Q: Port, F: Pool>(&mut self, port: &mut Q, pool: &mut F) -> Result<bool, AllocError> {

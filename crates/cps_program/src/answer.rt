@@ -23,7 +23,7 @@ use crate::input::{InputError, read_model, valid_model_of};
 use cps_command::Command;
 use cps_model::{CpModel, Text};
 use cps_options::Options;
-use cps_outer::Gate;
+use cps_outer::{Gate, Host};
 use cps_portfolio::{Outcome, solve, solve_interleaved};
 use cps_print::{Fault, Response, fault_text, model_text, response_text};
 use cps_validate::ValidModel;
@@ -80,11 +80,9 @@ pub fn input_error_answer(alloc: Global, input_error: InputError) -> Result<Answ
 
 /// The outcome of workers that search a model in threads, or in turns if the options say so.
 fn search_outcome<R: Threads + Wait + Sync, G: Gate + Sync>(
-    rt: &R,
-    alloc: Global,
+    host: &Host<'_, R, G>,
     model: &ValidModel,
     options: &Options,
-    gate: &G,
 ) -> Result<Outcome, AllocError>
     requires range { AreInRange options.now }
     requires kinds { AreAllPropagated model.now }
@@ -92,20 +90,18 @@ fn search_outcome<R: Threads + Wait + Sync, G: Gate + Sync>(
     ensures drawn { IsTrue options.now.interleave → IfOk result (λ o. IsDrawnRun model.now options.now 4096 o.ends) }
 {
     if options.interleave {
-        solve_interleaved(alloc, model, options)
+        solve_interleaved(host.alloc, model, options)
     } else {
-        solve(rt, alloc, model, options, gate)
+        solve(host.rt, host.alloc, model, options, host.gate)
     }
 }
 
 /// The answer of `solve` to a valid model. A response owns its solution and its core, so the outcome gives them to it
 /// and takes them back when the text is made.
 fn solve_answer<R: Threads + Wait + Sync, G: Gate + Sync>(
-    rt: &R,
-    alloc: Global,
+    host: &Host<'_, R, G>,
     model: &ValidModel,
     options: &Options,
-    gate: &G,
 ) -> Result<Answer, AllocError>
     requires showable { HasShowableLimits model.now.objective }
     requires kinds { AreAllPropagated model.now }
@@ -119,14 +115,14 @@ fn solve_answer<R: Threads + Wait + Sync, G: Gate + Sync>(
         lower,
         core,
         ends,
-    } = search_outcome(rt, alloc, model, options, gate)?;
+    } = search_outcome(host, model, options)?;
     let response = Response {
         status,
         solution,
         lower,
         core,
     };
-    let text = response_text(alloc, model.model(), &response)?;
+    let text = response_text(host.alloc, model.model(), &response)?;
     let Response { solution, core, .. } = response;
     Ok(Answer {
         exit: DONE,
@@ -144,19 +140,17 @@ fn solve_answer<R: Threads + Wait + Sync, G: Gate + Sync>(
 
 /// The answer of `solve` to an input that is not too long.
 fn solve_input<R: Threads + Wait + Sync, G: Gate + Sync>(
-    rt: &R,
-    alloc: Global,
+    host: &Host<'_, R, G>,
     options: &Options,
     bytes: &[u8],
-    gate: &G,
 ) -> Result<Answer, AllocError>
     requires short { length bytes.now ≤ most_bytes }
     requires range { AreInRange options.now }
     ensures { IfOk result (AnswersInput IsInput (Solves options.now) bytes.now) }
 {
-    match valid_model_of(alloc, bytes) {
-        Ok(model) => solve_answer(rt, alloc, &model, options, gate),
-        Err(input_error) => input_error_answer(alloc, input_error),
+    match valid_model_of(host.alloc, bytes) {
+        Ok(model) => solve_answer(host, &model, options),
+        Err(input_error) => input_error_answer(host.alloc, input_error),
     }
 }
 
@@ -201,22 +195,20 @@ fn print_input(alloc: Global, bytes: &[u8]) -> Result<Answer, AllocError>
 
 /// What a command answers to an input that is not too long. A command that generates a model looks at none.
 pub fn command_answer<R: Threads + Wait + Sync, G: Gate + Sync>(
-    rt: &R,
-    alloc: Global,
+    host: &Host<'_, R, G>,
     command: Command,
     bytes: &[u8],
-    gate: &G,
 ) -> Result<Answer, AllocError>
     requires short { length bytes.now ≤ most_bytes }
     requires range { IsCommandInRange command }
     ensures { IfOk result (Does command bytes.now) }
 {
     match command {
-        Command::Solve(options) => solve_input(rt, alloc, &options, bytes, gate),
-        Command::Validate => validate_input(alloc, bytes),
-        Command::Print => print_input(alloc, bytes),
-        Command::Gen(recipe) => gen_answer(alloc, &recipe),
-        Command::Demo(recipe) => demo_answer(alloc, &recipe),
-        Command::Check => check_input(alloc, bytes),
+        Command::Solve(options) => solve_input(host, &options, bytes),
+        Command::Validate => validate_input(host.alloc, bytes),
+        Command::Print => print_input(host.alloc, bytes),
+        Command::Gen(recipe) => gen_answer(host.alloc, &recipe),
+        Command::Demo(recipe) => demo_answer(host.alloc, &recipe),
+        Command::Check => check_input(host.alloc, bytes),
     }
 }

@@ -13,7 +13,7 @@ use crate::answer::{Answer, command_answer, fault_answer, usage_answer};
 use crate::exits::{OUT_OF_MEMORY, READ_FAILED, WRITE_FAILED};
 use crate::ran::Ran;
 use cps_command::command_of;
-use cps_outer::{Gate, ReadError, Sink, Source, WriteFault, read_all, write_all};
+use cps_outer::{Gate, Host, ReadError, Sink, Source, WriteFault, read_all, write_all};
 use cps_print::Fault;
 use std::alloc::{AllocError, Global};
 use std::sync::Wait;
@@ -39,11 +39,9 @@ impl From<AllocError> for Unanswered {
 
 /// The answer of the words to the bytes of a source.
 fn answer_of<R: Threads + Wait + Sync, S: Source, G: Gate + Sync>(
-    rt: &R,
-    alloc: Global,
+    host: &Host<'_, R, G>,
     words: &[String],
     source: &mut S,
-    gate: &G,
 ) -> Result<Answer, Unanswered>
     ensures right { IfOk result (λ answer. (bytes : List ℕ) × AreBytesLeft (S.left source.old) bytes
         × IsAnswerTo (texts_of words.now) bytes answer) }
@@ -54,15 +52,15 @@ fn answer_of<R: Threads + Wait + Sync, S: Source, G: Gate + Sync>(
     ensures fault { IsErrOf result Unanswered.ReadFault → Rose (S.faults source.old) (S.faults source.new) }
     ensures kept { result ≢ Err Unanswered.ReadFault → S.faults source.new ≡ S.faults source.old }
 {
-    let Some(command) = command_of(alloc, words)? else {
-        return Ok(usage_answer(alloc)?);
+    let Some(command) = command_of(host.alloc, words)? else {
+        return Ok(usage_answer(host.alloc)?);
     };
     if !command.reads() {
-        return Ok(command_answer(rt, alloc, command, &[], gate)?);
+        return Ok(command_answer(host, command, &[])?);
     }
-    match read_all(alloc, source, MOST_BYTES) {
-        Ok(bytes) => Ok(command_answer(rt, alloc, command, &bytes, gate)?),
-        Err(ReadError::TooLong) => Ok(fault_answer(alloc, &Fault::TooLong)?),
+    match read_all(host.alloc, source, MOST_BYTES) {
+        Ok(bytes) => Ok(command_answer(host, command, &bytes)?),
+        Err(ReadError::TooLong) => Ok(fault_answer(host.alloc, &Fault::TooLong)?),
         Err(ReadError::ReadFault) => Err(Unanswered::ReadFault),
         Err(ReadError::OutOfMemory) => Err(Unanswered::OutOfMemory),
     }
@@ -135,7 +133,8 @@ pub fn solve_main<R: Threads + Wait + Sync, S: Source, K: Sink, G: Gate + Sync>(
     ensures write_fault { result.exit ≡ 4 → Rose (K.faults sink.old) (K.faults sink.new) }
     ensures no_write_fault { result.exit ≢ 4 → K.faults sink.new ≡ K.faults sink.old }
 {
-    match answer_of(rt, alloc, words, source, gate) {
+    let host = Host { rt, alloc, gate };
+    match answer_of(&host, words, source) {
         Ok(answer) => write_answer(sink, answer),
         Err(Unanswered::ReadFault) => Ran {
             exit: READ_FAILED,

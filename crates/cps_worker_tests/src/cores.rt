@@ -17,7 +17,7 @@ use cps_validate::ValidModel;
 use std::alloc::{AllocError, Global};
 use std::test::Fail;
 
-/// A worker that learns from so many conflicts as it may where nothing is said.
+/// A core-guided worker with the default budget.
 fn core_worker_of<'a>(
     alloc: Global,
     model: &'a ValidModel,

@@ -3,8 +3,8 @@
 //! In turns the workers are those of the portfolio. A seed is taken by whose draws workers 0 and 1 have each found a
 //! solution before worker 3 begins, and what worker 3 then finds is near the later one of these alone. So it shows that
 //! solutions come into the pool, and at which of them a worker aims. In threads nobody can say who finds first. There
-//! the workers are stand-ins that do not search: one puts a solution into the pool, another waits for it, and each is
-//! counted at the gate before it is made.
+//! the workers are stand-ins that do not search: one puts a solution into the pool and waits until another has it, which
+//! waits for it meanwhile. So both are at work at once, and each is counted at the gate before it is made.
 ghost use Rattle.std.specs.Prelude.{◌≡◌};
 ghost use Rattle.cps_kinds.specs.Kinds.{AreAllPropagated};
 
@@ -12,7 +12,7 @@ use crate::models::hinted;
 use cps_crew::{AnyEnded, Brief, Order, Recruiter, solve_in_threads};
 use cps_eval::satisfies;
 use cps_options::Options;
-use cps_outer::Gate;
+use cps_outer::{Gate, Host};
 use cps_pool::Pool;
 use cps_port::Port;
 use cps_portfolio::solve_interleaved;
@@ -62,13 +62,14 @@ fn a_worker_searches_near_the_last_solution_of_the_pool(rt: HostRuntime) -> Resu
     Ok(())
 }
 
-/// How often worker 3 looks into the pool.
+/// How often worker 3 looks into the pool, and worker 0 at whether it was handed the solution.
 const MOST_LOOKS: u32 = 100_000_000;
 
 /// A solution that is put into the pool.
 static HANDED: [i64; 2] = [8, 5];
 
-/// A gate, and workers that do not search: number 0 puts a solution into the pool, for which number 3 waits.
+/// A gate, and workers that do not search: number 0 puts a solution into the pool, for which number 3 waits, and goes on
+/// once that one has it.
 #[derive(Drop)]
 struct Handing {
     /// How often each worker came by the gate.
@@ -77,6 +78,8 @@ struct Handing {
     made: AtomicU32,
     /// Whether worker 3 was handed the solution.
     received: AtomicBool,
+    /// Whether worker 0 saw that, still at its own work.
+    seen: AtomicBool,
 }
 
 impl Gate for Handing {
@@ -98,6 +101,7 @@ impl Handing {
             ],
             made: AtomicU32::new(0),
             received: AtomicBool::new(false),
+            seen: AtomicBool::new(false),
         }
     }
 
@@ -108,6 +112,26 @@ impl Handing {
                 self.made.fetch_add(1, Ordering::SeqCst);
             }
         }
+    }
+
+    /// Waits until worker 3 was handed the solution, for so many looks at most. Whether it was.
+    fn sees_receipt(&self) -> bool {
+        for _ in 0..MOST_LOOKS {
+            if self.received.load(Ordering::SeqCst) {
+                return true;
+            }
+        }
+        false
+    }
+
+    /// Whether each worker came by the gate once.
+    fn have_arrived_once(&self) -> bool {
+        for count in &self.arrivals {
+            if count.load(Ordering::SeqCst) != 1 {
+                return false;
+            }
+        }
+        true
     }
 }
 
@@ -149,7 +173,10 @@ impl Recruiter for Handing {
     ) -> Result<AnyEnded, AllocError> {
         self.make(order.number);
         match order.number {
-            0 => hand_over(order.alloc, order.model, pool)?,
+            0 => {
+                hand_over(order.alloc, order.model, pool)?;
+                self.seen.store(self.sees_receipt(), Ordering::SeqCst);
+            }
             3 => self.received.store(receives(pool), Ordering::SeqCst),
             _ => {}
         }
@@ -166,21 +193,27 @@ fn gives_up<R: Threads + Wait + Sync>(
 ) -> bool
     requires kinds { AreAllPropagated model.now }
 {
-    let brief = Brief {
+    let host = Host {
+        rt,
         alloc,
+        gate: handing,
+    };
+    let brief = Brief {
         model,
         options: &FOUR,
         recruiter: handing,
     };
-    solve_in_threads(rt, &brief, handing).is_err()
+    solve_in_threads(&host, &brief).is_err()
 }
 
 #[test]
-fn workers_in_threads_come_by_the_gate_and_have_one_pool(rt: HostRuntime) -> Result<(), Fail> {
+fn workers_in_threads_are_at_work_at_once_and_have_one_pool(rt: HostRuntime) -> Result<(), Fail> {
     let model = hinted(rt.alloc())?;
     let handing = Handing::new();
     assert!(rt; gives_up(&rt, rt.alloc(), &model, &handing));
     assert!(rt; handing.made.load(Ordering::SeqCst) == 4);
+    assert!(rt; handing.have_arrived_once());
     assert!(rt; handing.received.load(Ordering::SeqCst));
+    assert!(rt; handing.seen.load(Ordering::SeqCst));
     Ok(())
 }

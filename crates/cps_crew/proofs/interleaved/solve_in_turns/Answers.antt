@@ -1,5 +1,5 @@
 -- All workers have ended, and the words are those of the state.
-use Rattle.std.proofs.Common.{rules, ◌≡◌, ℕ, length, map, sym, ap, subst, ◌∙◌, List, All}
+use Rattle.std.proofs.Common.{rules, ◌≡◌, ◌↔◌, ℕ, Bool, IsTrue, length, map, sym, ap, subst, ◌∙◌, List, All}
 use Rattle.std.proofs.lemmas.Result.{IfOk-weaker}
 use Rattle.cps_model.specs.declared.model.CpModel.{CpModel}
 use Rattle.cps_model.specs.declared.bound.Bound.{Bound}
@@ -8,11 +8,11 @@ use Rattle.cps_port.specs.Shared.{Shared, actor_count, first_shared}
 use Rattle.cps_search.specs.Ends.{Ending, IsOver}
 use Rattle.cps_crew.specs.declared.interleaved.Turning.{Turning}
 use Rattle.cps_crew.specs.declared.outcome.Outcome.{Outcome}
-use Rattle.cps_crew.specs.Workers.{search_in}
+use Rattle.cps_crew.specs.Workers.{search_in, SearchesNear}
 use Rattle.cps_crew.specs.Outcomes.{CameTo}
 use Rattle.cps_crew.specs.Turning.{AreFresh, AreTurning, IsDrawnBy, TakesDrawnTurns, ended_of, words_of_seed}
 use Rattle.cps_crew.proofs.Crews.{written}
-use Rattle.cps_crew.proofs.Turning.{all_fresh, first_rows, each_over, came_in_turns}
+use Rattle.cps_crew.proofs.DrawnTurns.{all_fresh, first_rows, each_over, came_in_turns}
 use Rattle.cps_crew.proofs.interleaved.solve_in_turns.Goals as goal
 
 pub take_turns-turns-requires-clause-crew : goal.take_turns-turns-requires-clause-crew
@@ -28,6 +28,15 @@ take_turns-turns-requires-clause-crew g c =
 
 pub take_turns-turns-requires-clause-pool : goal.take_turns-turns-requires-clause-pool
 take_turns-turns-requires-clause-pool g c = ap (λ (x : Found). x.model) c.new-pool.ensures ∙ sym (ap (λ (x : Shared). x.model) c.in_ok-core.ensures.first)
+
+pub take_turns-turns-requires-clause-reads : goal.take_turns-turns-requires-clause-reads
+take_turns-turns-requires-clause-reads g c =
+    let o = c.args.options.now in
+    let xs : List (Turning _) = c.in_ok-crew.crew.items in
+    let full : c.in_ok-crew.crew.len ≡ length xs = search rules in
+    let workers : length c.as_mut_slice.result.now ≡ o.workers = ap (λ (l : List (Turning _)). length l) c.as_mut_slice.ensures.value ∙ sym full ∙ c.in_ok-crew.ensures.count in
+    let read = ap (λ (x : Found). x.is_read) c.new-pool.ensures in
+    subst (λ (n : ℕ). IsTrue c.new-pool.result.is_read ↔ SearchesNear n) (sym workers) (subst (λ (b : Bool). IsTrue b ↔ SearchesNear o.workers) (sym read) c.reads_pool.ensures)
 
 pub finish_all-requires : goal.finish_all-requires
 finish_all-requires g c =
@@ -59,11 +68,11 @@ outcome_of-requires g c =
     let actors : actor_count core ≡ length ys = t.count ∙ c.take_turns-turns.ensures.actors in
     let turning = subst (λ (x : CpModel). AreTurning g.W.Member.known x o.gap o.conflicts rows core ys) model t.crew in
     let ends : c.in_ok-ends.ends.items ≡ map (ended_of g.W.Member.known) ys = c.in_ok-ends.ensures ∙ ap (map (ended_of g.W.Member.known)) w in
-    let came = came_in_turns g.W.Member.known m o.gap o.conflicts rows o.workers core ys c.upper_of-upper.ensures.sound (t.same ∙ model) workers actors turning t.over in
-    let upper = c.upper_of-upper.ensures.bound in
-    let lower : c.lower_of-lower.result ≡ core.bounds.lower = c.lower_of-lower.ensures ∙ ap (λ (x : Shared). x.bounds.lower) c.upper_of-upper.ensures.after in
-    subst (λ (es : List Ending). CameTo m o.gap o.conflicts o.workers c.upper_of-upper.result c.lower_of-lower.result es) (sym ends)
-    (subst (λ (u : Bound). CameTo m o.gap o.conflicts o.workers u c.lower_of-lower.result (map (ended_of g.W.Member.known) ys)) (sym upper)
+    let came = came_in_turns g.W.Member.known m o.gap o.conflicts rows o.workers core ys c.upper-upper.ensures.sound (t.same ∙ model) workers actors turning t.over in
+    let upper = c.upper-upper.ensures.bound in
+    let lower : c.lower-lower.result ≡ core.bounds.lower = c.lower-lower.ensures in
+    subst (λ (es : List Ending). CameTo m o.gap o.conflicts o.workers c.upper-upper.result c.lower-lower.result es) (sym ends)
+    (subst (λ (u : Bound). CameTo m o.gap o.conflicts o.workers u c.lower-lower.result (map (ended_of g.W.Member.known) ys)) (sym upper)
     (subst (λ (l : Bound). CameTo m o.gap o.conflicts o.workers core.bounds.upper l (map (ended_of g.W.Member.known) ys)) (sym lower) came))
 
 pub returns-clause-drawn : goal.returns-clause-drawn

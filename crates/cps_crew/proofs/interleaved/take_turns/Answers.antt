@@ -1,15 +1,15 @@
 -- One worker's turn leaves the others as they were, and less to do.
-use Rattle.std.proofs.Common.{rules, ◌≡◌, ℕ, None, false, length, get_or, refl, sym, ap, subst, ◌∙◌, List}
+use Rattle.std.proofs.Common.{rules, ◌≡◌, ◌<◌, ℕ, IsTrue, None, false, length, get_or, refl, sym, ap, subst, ◌∙◌, List}
 use Rattle.rand_pcg.specs.Lcg.{Lcg}
 use mathlib.Core.Logic.{dite}
 use native.Mathlib.Decide.{ℕ_discrete}
-use Rattle.cps_port.proofs.Acting.{others_stay}
+use Rattle.cps_port.proofs.ActorEvents.{others_stay}
 use Rattle.cps_port.specs.declared.part.Part.{Part}
 use Rattle.cps_port.specs.Shared.{part_at, board_part}
 use Rattle.cps_crew.specs.declared.interleaved.Turning.{Turning}
 use Rattle.cps_crew.specs.Workers.{HasTurned}
 use Rattle.cps_crew.specs.Turning.{TakesDrawnTurns, none_yet, words_of_seed}
-use Rattle.cps_crew.proofs.Turning.{all_turn_on, all_lighter, at_work, drawn_more, work_imported, work_memory, work_model}
+use Rattle.cps_crew.proofs.DrawnTurns.{all_turn_on, all_lighter, at_work, drawn_length, drawn_more, work_imported, work_memory, work_model}
 use Rattle.cps_crew.proofs.interleaved.take_turns.Goals as goal
 
 pub turns-init : goal.turns-init
@@ -24,6 +24,7 @@ turns-init g c =
       rows = refl;
       idle = c.requires.idle;
       pool = c.requires.pool;
+      is_read = refl;
       crew = c.requires.crew;
       drawn = subst (λ (w : Lcg). TakesDrawnTurns g.W.Member.known rows core crew seed core crew w) (sym c.new-words.ensures) none_yet;
     }
@@ -76,6 +77,17 @@ take_turn-requires-clause-pool g c =
     let work = at_work g.W.Member.known m o.gap o.conflicts _ core crew k d i.crew c.place_of-place.ensures.within (c.place_of-place.ensures.at_work d) in
     i.pool ∙ sym (work_model m o.gap o.conflicts _ _ _ work)
 
+pub take_turn-requires-clause-reads : goal.take_turn-requires-clause-reads
+take_turn-requires-clause-reads g c =
+    let crew : List (Turning _) = c.turns.crew in
+    let k = c.place_of-place.result in
+    let d : Turning _ = c.index-crew-place.result in
+    let i = c.turns.invariant in
+    let within = c.place_of-place.ensures.within in
+    let kind = (i.crew.each k d within).kind in
+    let len = drawn_length g.W.Member.known _ _ _ _ _ _ _ i.drawn in
+    λ near. subst IsTrue (sym i.is_read) (c.requires.reads.1 (k, subst (λ (n : ℕ). k < n) len within, sym kind ∙ near))
+
 pub take_turn-requires-clause-imported : goal.take_turn-requires-clause-imported
 take_turn-requires-clause-imported g c =
     let core = c.turns.port.core.now in
@@ -127,6 +139,7 @@ turns-preserved g c =
       rows = t.same.1 ∙ i.rows;
       idle = λ j. dite (ℕ_discrete j k) (λ e. subst (λ (n : ℕ). (board_part next.board n).drawn ≡ None) (sym e) t.idle) (λ n. ap (λ (p : Part). p.board.drawn) (others j n) ∙ i.idle j);
       pool = t.pool ∙ i.pool;
+      is_read = t.is_read ∙ i.is_read;
       crew = all_turn_on g.W.Member.known c.args.port.now.core.now.model o.gap o.conflicts _ core next crew k w v i.crew c.place_of-place.ensures.within is still t.kind turn others;
       drawn = drawn_more g.W.Member.known _ c.args.port.now.core.now c.args.crew.now _ core next crew v c.turns.words c.next_word-word.new.self c.next_word-word.result c.count_at_work-count.result k d i.drawn
           c.next_word-word.ensures c.count_at_work-count.ensures.count c.if-count-eq0.false c.place_of-place.ensures.place c.place_of-place.ensures.within turn t.alone;

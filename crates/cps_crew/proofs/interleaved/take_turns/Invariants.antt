@@ -2,7 +2,7 @@
 use Rattle.std.proofs.Common.{◌≡◌, ℕ, length, None}
 use Rattle.cps_port.specs.Shared.{actor_count, board_part}
 use Rattle.cps_crew.specs.Turning.{AreTurning, TakesDrawnTurns, words_of_seed}
-use Rattle.cps_crew.proofs.Turning.{total_by, weigh}
+use Rattle.cps_crew.proofs.DrawnTurns.{total_by, weigh}
 use Rattle.cps_crew.proofs.interleaved.take_turns.Given as goal
 
 abbrev pub invariant-turns : goal.invariant-turns
@@ -12,6 +12,7 @@ invariant-turns g l = record {
   rows : length l.port.core.now.board.rows ≡ length l.initial.port.core.now.board.rows;
   idle : (i : ℕ) → (board_part l.port.core.now.board i).drawn ≡ None;
   pool : l.pool.model ≡ l.initial.port.core.now.model;
+  is_read : l.pool.is_read ≡ l.initial.pool.is_read;
   crew : AreTurning g.W.Member.known l.initial.port.core.now.model l.options.gap l.options.conflicts (length l.initial.port.core.now.board.rows) l.port.core.now l.crew;
   drawn : TakesDrawnTurns g.W.Member.known (length l.initial.port.core.now.board.rows) l.initial.port.core.now l.initial.crew (words_of_seed l.options.seed) l.port.core.now l.crew l.words;
 }

@@ -1,7 +1,7 @@
 -- One turn more, of a worker that has not ended, and that it leaves less to do.
-use Rattle.std.proofs.Common.{◌∙◌, ℕ, refl, sym, subst, false, true}
+use Rattle.std.proofs.Common.{◌∙◌, ℕ, IsTrue, refl, sym, subst, false, true}
 use Rattle.cps_crew.specs.Workers.{HasTurned}
-use Rattle.cps_crew.proofs.Going.{has_kept, lighter_in, none_taken, still_runs, turned_on}
+use Rattle.cps_crew.proofs.MemberRuns.{has_kept, lighter_in, none_taken, still_runs, turned_on}
 use Rattle.cps_search.proofs.Keeps.{keeps_none, keeps_then}
 use Rattle.cps_crew.proofs.member.run.Goals as goal
 
@@ -12,6 +12,7 @@ turns-init g c = record {
   kind = refl;
   keeps = keeps_none _ _ _ g.met.Q.Port.unmoved _;
   pool = refl;
+  is_read = refl;
 }
 
 pub turn-requires-clause-memory : goal.turn-requires-clause-memory
@@ -28,6 +29,9 @@ pub turn-requires-clause-pool : goal.turn-requires-clause-pool
 turn-requires-clause-pool g c =
     let kept = has_kept (g.Q.Port.rows c.args.port.now) (g.W.Member.known c.args.worker.now) (g.W.Member.known c.turns.worker) (g.Q.Port.part c.args.port.now) (g.Q.Port.part c.turns.port) c.turns.invariant.turns in
     c.turns.invariant.pool ∙ c.requires.pool ∙ sym kept.model
+
+pub turn-requires-clause-reads : goal.turn-requires-clause-reads
+turn-requires-clause-reads g c = let i = c.turns.invariant in λ near. subst IsTrue (sym i.is_read) (c.requires.reads (sym i.kind ∙ near))
 
 pub turn-requires-clause-imported : goal.turn-requires-clause-imported
 turn-requires-clause-imported g c =
@@ -50,6 +54,7 @@ turns-preserved g c =
       kind = k.kind ∙ i.kind;
       keeps = keeps_then _ _ _ g.met.Q.Port.moved_on _ _ _ i.keeps k.keeps;
       pool = k.pool ∙ i.pool;
+      is_read = k.is_read ∙ i.is_read;
     }
 
 pub turns-smaller : goal.turns-smaller

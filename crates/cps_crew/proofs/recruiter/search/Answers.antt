@@ -1,6 +1,6 @@
 -- The worker knew nothing at first, and its last turn ended it.
 use Rattle.std.proofs.Common.{◌∙◌, sym, arith}
-use Rattle.cps_crew.proofs.Going.{has_begun, ends_over}
+use Rattle.cps_crew.proofs.MemberRuns.{has_begun, ends_over}
 use Rattle.cps_crew.proofs.recruiter.search.Goals as goal
 
 pub run-requires-clause-memory : goal.run-requires-clause-memory
@@ -14,6 +14,9 @@ run-requires-clause-model g c = c.requires.model ∙ sym (has_begun _ _ _ (g.W.M
 
 pub run-requires-clause-pool : goal.run-requires-clause-pool
 run-requires-clause-pool g c = c.requires.pool ∙ sym (has_begun _ _ _ (g.W.Member.known c.in_ok-worker.worker) c.in_ok-worker.ensures.begins).model
+
+pub run-requires-clause-reads : goal.run-requires-clause-reads
+run-requires-clause-reads g c = λ near. c.requires.reads (sym c.in_ok-worker.ensures.kind ∙ near)
 
 pub run-requires-clause-imported : goal.run-requires-clause-imported
 run-requires-clause-imported g c = (let none = (has_begun _ _ _ (g.W.Member.known c.in_ok-worker.worker) c.in_ok-worker.ensures.begins).imported in omega (arith, none))

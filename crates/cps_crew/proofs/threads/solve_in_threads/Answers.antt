@@ -1,5 +1,5 @@
 -- All workers are back, and the words are what their seats know together.
-use Rattle.std.proofs.Common.{rules, ◌≡◌, ℕ, ◌+◌, length, sym, ap, subst, ◌∙◌, List, All}
+use Rattle.std.proofs.Common.{rules, ◌≡◌, ◌↔◌, IsTrue, Bool, ℕ, ◌+◌, length, sym, ap, subst, ◌∙◌, List, All}
 use Rattle.cps_board.specs.declared.seats.Board.{Board}
 use Rattle.cps_bounds.specs.declared.seats.Bounds.{Bounds}
 use Rattle.cps_model.specs.declared.bound.Bound.TheVariants.{At}
@@ -10,6 +10,7 @@ use Rattle.cps_port.specs.Order.{raised_above}
 use Rattle.cps_port.specs.Totals.{total}
 use Rattle.cps_bounds.specs.Seats as words
 use Rattle.cps_crew.specs.declared.seats.Seated.{Seated}
+use Rattle.cps_crew.specs.Workers.{SearchesNear}
 use Rattle.cps_crew.specs.Crews.{words_splits, MayWork, AreGathered}
 use Rattle.cps_crew.proofs.Crews.{written, written_back, all_at, all_ready, splits_back, came_to}
 use Rattle.cps_crew.proofs.threads.solve_in_threads.Goals as goal
@@ -18,8 +19,12 @@ pub work_all-requires-clause-ready : goal.work_all-requires-clause-ready
 work_all-requires-clause-ready g c =
     let m = c.args.brief.now.model.now in
     let o = c.args.brief.now.options.now in
-    let ready = all_ready g.T.Recruiter.suits m _ o c.in_ok-board.board c.in_ok-bounds.bounds c.in_ok-crew.crew.items c.in_ok-bounds.ensures.model c.in_ok-pool.ensures c.requires.range c.requires.suits c.in_ok-crew.ensures.crew in
-    λ κs outlive. subst (All (MayWork g.T.Recruiter.suits m o _)) (sym c.as_mut_slice.ensures.value) ready
+    let xs : List Seated = c.in_ok-crew.crew.items in
+    let full : c.in_ok-crew.crew.len ≡ length xs = search rules in
+    let count : length xs ≡ o.workers = sym full ∙ c.in_ok-crew.ensures.count in
+    let reads = subst (λ (b : Bool). IsTrue b ↔ SearchesNear o.workers) (sym c.in_ok-pool.ensures.is_read) c.reads_pool.ensures in
+    let ready = all_ready g.T.Recruiter.suits m _ _ o c.in_ok-board.board c.in_ok-bounds.bounds c.in_ok-crew.crew.items c.in_ok-bounds.ensures.model c.in_ok-pool.ensures.model reads count c.requires.range c.requires.suits c.in_ok-crew.ensures.crew in
+    λ κs outlive. subst (All (MayWork g.T.Recruiter.suits m o _ _)) (sym c.as_mut_slice.ensures.value) ready
 
 pub gather-requires-clause-splits : goal.gather-requires-clause-splits
 gather-requires-clause-splits g c =

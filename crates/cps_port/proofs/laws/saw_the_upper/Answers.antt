@@ -1,4 +1,4 @@
-use Rattle.cps_port.proofs.Seeing as seeing
+use Rattle.cps_port.proofs.SeenBounds as seeing
 use Rattle.cps_port.proofs.laws.saw_the_upper.Goals as goal
 
 pub returns : goal.returns

@@ -2,7 +2,7 @@
 use Rattle.std.proofs.Common.{rules, sym, ◌∙◌, ap, w64, FitsSigned}
 use Rattle.cps_model.specs.declared.bound.Bound.TheVariants.{At}
 use Rattle.cps_model.specs.Statuses.{is_closed}
-use Rattle.cps_port.proofs.Wording.{met_by}
+use Rattle.cps_port.proofs.WordValues.{met_by}
 use Rattle.cps_port.proofs.order.is_closed.Goals as goal
 
 pub returns-in-At-At : goal.returns-in-At-At

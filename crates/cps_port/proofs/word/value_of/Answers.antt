@@ -1,5 +1,5 @@
 -- A word below 2^63 stands for a value below 0.
-use Rattle.cps_port.proofs.Wording.{value_below}
+use Rattle.cps_port.proofs.WordValues.{value_below}
 use Rattle.cps_port.proofs.word.value_of.Goals as goal
 
 pub returns-else-word : goal.returns-else-word

@@ -1,7 +1,7 @@
 -- A value below 0 lies as far below -1 as its word below 2^63 - 1.
 use Rattle.std.proofs.Common.{rules, arith, sym, ap, ◌∙◌, w64, FitsSigned}
 use Rattle.cps_port.specs.Words.{word_of}
-use Rattle.cps_port.proofs.Wording.{word_below}
+use Rattle.cps_port.proofs.WordValues.{word_below}
 use Rattle.cps_port.proofs.word.word_of.Goals as goal
 
 pub overflow_cast-result-else-value-ge0 : goal.overflow_cast-result-else-value-ge0

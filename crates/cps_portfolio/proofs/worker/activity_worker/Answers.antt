@@ -3,7 +3,7 @@ use Rattle.std.specs.Prelude.{All}
 use Rattle.std.proofs.Common.{◌≡◌, true, List, sym, subst}
 use Rattle.cps_instance.specs.declared.task.Task.{Task}
 use Rattle.cps_kinds.specs.Kinds.{has_propagator}
-use Rattle.cps_kinds.proofs.Having.{first_tasks-have}
+use Rattle.cps_kinds.proofs.PropagatedTasks.{first_tasks-have}
 use Rattle.cps_portfolio.proofs.worker.activity_worker.Goals as goal
 
 pub engine_of-requires : goal.engine_of-requires

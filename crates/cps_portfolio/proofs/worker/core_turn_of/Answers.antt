@@ -2,14 +2,15 @@
 use Rattle.std.proofs.Common.{◌≡◌, ◌∙◌, refl, sym, subst}
 use Rattle.std.specs.Prelude.{is_some}
 use Rattle.std.proofs.lemmas.Result.{IfOk-weaker}
+use Rattle.cps_search.specs.declared.turn.Turn.{Turn}
 use Rattle.cps_search.specs.Ends.{end_of}
 use Rattle.cps_branch.specs.Guidances.{ChoosesBy}
 use Rattle.cps_branch.specs.declared.guidance.Guidance.{Guidance}
-use Rattle.cps_core_guided.specs.CoreTurns.{OneCoreTurn}
-use Rattle.cps_core_guided.proofs.CoreRunning.{one-core-turn}
+use Rattle.cps_core_guided.specs.CoreTurns.{CoreCaused, OneCoreTurn}
+use Rattle.cps_core_guided.proofs.CoreRuns.{one-core-turn}
 use Rattle.cps_crew.specs.Workers.{TurnedByCores}
-use Rattle.cps_portfolio.proofs.Found.{found_is}
-use Rattle.cps_portfolio.proofs.Guiding.{core_turn_by}
+use Rattle.cps_portfolio.proofs.Found.{found_is, puts_found, stays_best_by_cores}
+use Rattle.cps_portfolio.proofs.GuidedTurns.{core_turn_by}
 use Rattle.cps_portfolio.proofs.worker.core_turn_of.Goals as goal
 
 pub note_turn-requires : goal.note_turn-requires
@@ -36,3 +37,17 @@ returns-clause-turn g c =
       takes = subst (λ (x : Guidance). OneCoreTurn ChoosesBy (λ h clause restart after. after ≡ h) (λ h after. after ≡ h) rows (s.0, before) (t.0, x) p q turn) k.guidance takes;
       last = last;
     }) c.note_turn.ensures.last
+
+pub returns-clause-found : goal.returns-clause-found
+returns-clause-found g c =
+    let k = c.in_ok-turn.ensures in
+    let s = c.args.worker.now.0 in
+    let t = c.turn.new.self.0 in
+    let p = g.Q.Port.part c.args.port.now in
+    let q = g.Q.Port.part c.turn.new.port in
+    let rows = g.Q.Port.rows c.args.port.now in
+    let turn = c.in_ok-turn.turn in
+    let chooses = g.B.Brancher.chooses c.args.worker.now.1 in
+    puts_found _ _ _ rows s.search t.search p q turn c.best.result c.note_turn.result
+    (λ e. (subst (λ (x : Turn). CoreCaused chooses s t rows p q x) e k.turn.cause).caused) (λ n. stays_best_by_cores chooses s t rows p q turn n k.turn.cause)
+    c.best.ensures.none c.best.ensures.some c.note_turn.ensures.found c.note_turn.ensures.others

@@ -6,7 +6,7 @@ use Rattle.cps_branch.specs.Activities.{ByActivity}
 use Rattle.cps_instance.specs.declared.task.Task.{Task}
 use Rattle.cps_instance.specs.Strategies.{model_sums}
 use Rattle.cps_kinds.specs.Kinds.{has_propagator}
-use Rattle.cps_kinds.proofs.Having.{first_tasks-have}
+use Rattle.cps_kinds.proofs.PropagatedTasks.{first_tasks-have}
 use Rattle.cps_core_guided.specs.Reforming.{CoreSearch}
 use Rattle.cps_crew.specs.Workers.{BeginsCores, IsFirstInstance}
 use Rattle.cps_portfolio.proofs.Room.{few_subjects}

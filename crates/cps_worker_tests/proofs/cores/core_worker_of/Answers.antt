@@ -6,13 +6,13 @@ use Rattle.cps_branch.specs.Activities.{ByActivity}
 use Rattle.cps_instance.specs.declared.task.Task.{Task}
 use Rattle.cps_instance.specs.Strategies.{model_sums}
 use Rattle.cps_kinds.specs.Kinds.{has_propagator}
-use Rattle.cps_kinds.proofs.Having.{first_tasks-have}
+use Rattle.cps_kinds.proofs.PropagatedTasks.{first_tasks-have}
 use Rattle.cps_search.specs.declared.end.Phase.{Phase}
 use Rattle.cps_search.specs.Ends.{IsOver}
 use Rattle.cps_search.specs.Searches.{Search}
 use Rattle.cps_core_guided.specs.CoreTurns.{BeginsCore}
 use Rattle.cps_core_guided.specs.Reforming.{CoreSearch, whole}
-use Rattle.cps_core_guided.proofs.CoreTurning.{phase-search}
+use Rattle.cps_core_guided.proofs.CoreTurnCauses.{phase-search}
 use Rattle.cps_portfolio.proofs.Room.{few_subjects}
 use Rattle.cps_worker_tests.proofs.cores.core_worker_of.Goals as goal
 

@@ -4,7 +4,7 @@ use Rattle.std.proofs.Common.{◌≡◌, ◌∙◌, ℕ, ◌+◌, true, List, sy
 use Rattle.std.proofs.lemmas.Result.{IfOk-weaker}
 use Rattle.cps_instance.specs.declared.task.Task.{Task}
 use Rattle.cps_kinds.specs.Kinds.{has_propagator}
-use Rattle.cps_kinds.proofs.Having.{first_tasks-have}
+use Rattle.cps_kinds.proofs.PropagatedTasks.{first_tasks-have}
 use Rattle.cps_search.specs.Ends.{IsOver}
 use Rattle.cps_search.specs.Searches.{Search}
 use Rattle.cps_neighbourhood.specs.Drawing.{draws_of}

@@ -1,6 +1,6 @@
 -- What the first worker did leaves the part of the second as it was at first.
 use Rattle.std.proofs.Common.{◌≡◌, ◌∙◌, length, ap, arith}
-use Rattle.cps_port.proofs.Acting.{others_stay}
+use Rattle.cps_port.proofs.ActorEvents.{others_stay}
 use Rattle.cps_port.specs.Shared.{Shared, actor_count, board_part}
 use Rattle.cps_port.specs.declared.part.Part.{Part}
 use Rattle.cps_worker_tests.proofs.turns.one_after_the_other.Goals as goal

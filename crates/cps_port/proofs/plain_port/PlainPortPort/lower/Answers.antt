@@ -1,5 +1,5 @@
-use Rattle.cps_port.proofs.Porting.{lower_part}
-use Rattle.cps_port.proofs.Acting.{acts}
+use Rattle.cps_port.proofs.PortEvents.{lower_part}
+use Rattle.cps_port.proofs.ActorEvents.{acts}
 use Rattle.cps_port.specs.declared.event.Event.TheVariants.{SeeLower}
 use Rattle.cps_port.proofs.plain_port.PlainPortPort.lower.Goals as goal
 

@@ -4,8 +4,8 @@ use Rattle.cps_model.specs.declared.bound.Bound.TheVariants.{At}
 use Rattle.cps_port.specs.declared.event.Event.TheVariants.{Offer}
 use Rattle.cps_port.specs.Order.{lesser}
 use Rattle.cps_port.specs.Shared.{after}
-use Rattle.cps_port.proofs.Porting.{offer_part}
-use Rattle.cps_port.proofs.Acting.{acts}
+use Rattle.cps_port.proofs.PortEvents.{offer_part}
+use Rattle.cps_port.proofs.ActorEvents.{acts}
 use Rattle.cps_port.proofs.plain_port.PlainPortPort.offer.Goals as goal
 
 pub returns-clause-bounds : goal.returns-clause-bounds

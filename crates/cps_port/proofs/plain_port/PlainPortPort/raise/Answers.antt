@@ -1,5 +1,5 @@
-use Rattle.cps_port.proofs.Porting.{raise_part, may_raise}
-use Rattle.cps_port.proofs.Acting.{acts}
+use Rattle.cps_port.proofs.PortEvents.{raise_part, may_raise}
+use Rattle.cps_port.proofs.ActorEvents.{acts}
 use Rattle.cps_port.specs.declared.event.Event.TheVariants.{Raise}
 use Rattle.cps_port.proofs.plain_port.PlainPortPort.raise.Goals as goal
 

@@ -1,8 +1,8 @@
 -- The row was drawn, and then published.
 use Rattle.std.proofs.Common.{◌∙◌, sym}
 use Rattle.cps_port.specs.declared.event.Event.TheVariants.{Draw, Publish}
-use Rattle.cps_port.proofs.Porting.{may_publish}
-use Rattle.cps_port.proofs.Acting.{acts, acts_twice, stays_same, stays_same_twice}
+use Rattle.cps_port.proofs.PortEvents.{may_publish}
+use Rattle.cps_port.proofs.ActorEvents.{acts, acts_twice, stays_same, stays_same_twice}
 use Rattle.cps_port.proofs.plain_port.PlainPortPort.share.Goals as goal
 
 pub publish-requires-clause-lawful : goal.publish-requires-clause-lawful

@@ -1,6 +1,6 @@
 -- A look is one event, and keeps the model and the rows.
-use Rattle.cps_port.proofs.Porting.{took, found_closed}
-use Rattle.cps_port.proofs.Acting.{acts, stays_same}
+use Rattle.cps_port.proofs.PortEvents.{took, found_closed}
+use Rattle.cps_port.proofs.ActorEvents.{acts, stays_same}
 use Rattle.cps_port.specs.declared.event.Event.TheVariants.{Look}
 use Rattle.cps_port.proofs.plain_port.PlainPortPort.take.Goals as goal
 

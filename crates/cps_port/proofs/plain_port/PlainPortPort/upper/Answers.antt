@@ -1,5 +1,5 @@
-use Rattle.cps_port.proofs.Porting.{upper_part}
-use Rattle.cps_port.proofs.Acting.{acts}
+use Rattle.cps_port.proofs.PortEvents.{upper_part}
+use Rattle.cps_port.proofs.ActorEvents.{acts}
 use Rattle.cps_port.specs.declared.event.Event.TheVariants.{SeeUpper}
 use Rattle.cps_port.proofs.plain_port.PlainPortPort.upper.Goals as goal
 

@@ -1,6 +1,6 @@
 -- A row is drawn where one is left, and else the actor is past the last.
 use Rattle.std.proofs.Common.{arith}
-use Rattle.cps_port.proofs.Storing.{among, next_small, row_small, row_left, no_row_left, draws_row, draws_past}
+use Rattle.cps_port.proofs.StoredStates.{among, next_small, row_small, row_left, no_row_left, draws_row, draws_past}
 use Rattle.cps_port.proofs.state.CoreState.draw.Goals as goal
 
 pub index-seat-requires : goal.index-seat-requires

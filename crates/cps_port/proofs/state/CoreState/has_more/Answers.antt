@@ -1,6 +1,6 @@
 use Rattle.std.proofs.Common.{arith}
 use Rattle.std.proofs.lemmas.Bool.{lt-ltb, ltb-true}
-use Rattle.cps_port.proofs.Storing.{among, taken_is, rows_is}
+use Rattle.cps_port.proofs.StoredStates.{among, taken_is, rows_is}
 use Rattle.cps_port.proofs.state.CoreState.has_more.Goals as goal
 
 pub index-requires : goal.index-requires

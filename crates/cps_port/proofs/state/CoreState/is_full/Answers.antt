@@ -1,5 +1,5 @@
 use Rattle.std.proofs.Common.{arith}
-use Rattle.cps_port.proofs.Storing.{among, full_is}
+use Rattle.cps_port.proofs.StoredStates.{among, full_is}
 use Rattle.cps_port.proofs.state.CoreState.is_full.Goals as goal
 
 pub index-requires : goal.index-requires

@@ -1,5 +1,5 @@
 use Rattle.std.proofs.Common.{arith}
-use Rattle.cps_port.proofs.Storing.{among, looks_within, looks_few, looks_closed, looks_open}
+use Rattle.cps_port.proofs.StoredStates.{among, looks_within, looks_few, looks_closed, looks_open}
 use Rattle.cps_port.proofs.state.CoreState.look.Goals as goal
 
 pub index-seat-requires : goal.index-seat-requires

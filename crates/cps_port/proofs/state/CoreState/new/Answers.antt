@@ -3,7 +3,7 @@ use Rattle.std.proofs.Common.{◌≡◌, ◌∙◌, ◌<◌, ◌^◌, subst, ari
 use Rattle.std.proofs.lemmas.Int.{ints}
 use Rattle.cps_model.specs.Validity.{IsValid}
 use Rattle.cps_port.proofs.SoundShared.{sound_of, stays_sound}
-use Rattle.cps_port.proofs.Storing.{begins, begins_whole}
+use Rattle.cps_port.proofs.StoredStates.{begins, begins_whole}
 use Rattle.cps_port.proofs.state.CoreState.new.Goals as goal
 
 stays : (x : ℤ) → unsigned_abs x < 2 ^ 62 → to_z w64 (of_z w64 x) ≡ x

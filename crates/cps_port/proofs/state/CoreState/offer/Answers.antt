@@ -2,7 +2,7 @@ use Rattle.std.proofs.Common.{ℤ, ap, ◌∙◌}
 use mir.Facts.{to_z-of_z}
 use Rattle.cps_model.specs.declared.bound.Bound.TheVariants.{At}
 use Rattle.cps_port.specs.Order.{lesser}
-use Rattle.cps_port.proofs.Storing.{offers}
+use Rattle.cps_port.proofs.StoredStates.{offers}
 use Rattle.cps_port.proofs.state.CoreState.offer.Goals as goal
 
 pub invariant_of-self : goal.invariant_of-self

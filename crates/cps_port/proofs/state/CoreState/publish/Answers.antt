@@ -1,5 +1,5 @@
 use Rattle.std.proofs.Common.{arith}
-use Rattle.cps_port.proofs.Storing.{among, publishes_within, publishes}
+use Rattle.cps_port.proofs.StoredStates.{among, publishes_within, publishes}
 use Rattle.cps_port.proofs.state.CoreState.publish.Goals as goal
 
 pub index-seat-requires : goal.index-seat-requires

@@ -1,4 +1,4 @@
-use Rattle.cps_port.proofs.Storing.{raises}
+use Rattle.cps_port.proofs.StoredStates.{raises}
 use Rattle.cps_port.proofs.state.CoreState.raise.Goals as goal
 
 pub invariant_of-self : goal.invariant_of-self

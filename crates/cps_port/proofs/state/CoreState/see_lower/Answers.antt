@@ -1,4 +1,4 @@
-use Rattle.cps_port.proofs.Storing.{sees_lower}
+use Rattle.cps_port.proofs.StoredStates.{sees_lower}
 use Rattle.cps_port.proofs.state.CoreState.see_lower.Goals as goal
 
 pub invariant_of-self : goal.invariant_of-self

@@ -1,4 +1,4 @@
-use Rattle.cps_port.proofs.Storing.{sees_upper}
+use Rattle.cps_port.proofs.StoredStates.{sees_upper}
 use Rattle.cps_port.proofs.state.CoreState.see_upper.Goals as goal
 
 pub invariant_of-self : goal.invariant_of-self

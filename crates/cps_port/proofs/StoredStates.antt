@@ -23,7 +23,7 @@ use Rattle.cps_port.specs.Totals.{total, one_if}
 use Rattle.cps_port.specs.Kept.{full_count, IsStateKept}
 use Rattle.cps_port.specs.Views.{no_row, no_seat, row_entry, is_own, own_entries, first_entries, seat_part, seat_parts, shared_of, row_of, seat_of, IsStateStored, IsWhole}
 use Rattle.cps_port.proofs.Lists.{at_each}
-use Rattle.cps_port.proofs.Boarding.{taken_before}
+use Rattle.cps_port.proofs.BoardEvents.{taken_before}
 use Rattle.cps_port.proofs.SoundShared.{get_or-replicate, starts, keeps, sound_of}
 
 -- an element that is there does not depend on what stands for one that is not

@@ -20,19 +20,19 @@ use Rattle.cps_search.specs.Searches.{Search, IsSoundSearch}
 use Rattle.cps_search.specs.Following.{MovesWith}
 use Rattle.cps_search.specs.Guided.{IsGuidedBy, RunsBy}
 use Rattle.cps_search.specs.Ends.{EndsAs, IsComplete, IsHonestEnding, IsOver, RunsTo, TakesTurns, none_yet, one_more, end_of, ending}
-use Rattle.cps_search.proofs.Ending.{honest_ending}
-use Rattle.cps_search.proofs.Weighing.{left_of, lowered}
-use Rattle.cps_search.proofs.Working.{HasRun, run_begins, run_goes_on, run_ends}
+use Rattle.cps_search.proofs.RunEnds.{honest_ending}
+use Rattle.cps_search.proofs.TurnTermination.{left_of, lowered}
+use Rattle.cps_search.proofs.WorkerInvariants.{HasRun, run_begins, run_goes_on, run_ends}
 use Rattle.cps_core_guided.specs.Reforming.{CoreSearch}
 use Rattle.cps_core_guided.specs.CoreTurns.{TakesCoreTurns, core_ending, no_turn, one_turn_more}
-use Rattle.cps_core_guided.proofs.CoreEnding.{core-honest}
-use Rattle.cps_core_guided.proofs.CoreLasting.{core_left, core_lowered}
-use Rattle.cps_core_guided.proofs.CoreRunning.{HasCoreRun, core-begins, core-goes-on, core-turns-run}
-use Rattle.cps_core_guided.proofs.CoreTurning.{phase-search}
+use Rattle.cps_core_guided.proofs.CoreEnds.{core-honest}
+use Rattle.cps_core_guided.proofs.CoreTermination.{core_left, core_lowered}
+use Rattle.cps_core_guided.proofs.CoreRuns.{HasCoreRun, core-begins, core-goes-on, core-turns-run}
+use Rattle.cps_core_guided.proofs.CoreTurnCauses.{phase-search}
 use Rattle.cps_neighbourhood.specs.Nears.{Near, NearRunsInTurns, OneNearTurn, TakesNearTurn, TakesNearTurns, aimed}
 use Rattle.cps_neighbourhood.specs.Nears.{none_yet as near_none_yet, one_more as near_one_more}
-use Rattle.cps_neighbourhood.proofs.Counting.{HasNearRun, near_begins, near_goes_on, near_honest, near_turns_run}
-use Rattle.cps_neighbourhood.proofs.Lasting.{near_left, near_lowered}
+use Rattle.cps_neighbourhood.proofs.LearntCounts.{HasNearRun, near_begins, near_goes_on, near_honest, near_turns_run}
+use Rattle.cps_neighbourhood.proofs.RoundTermination.{near_left, near_lowered}
 use Rattle.cps_crew.specs.Workers.{AnySearch, by_guidance, by_cores, in_rounds, search_in, GoesByGuidance, BeginsGuided, BeginsByCores, BeginsRounds, BeginsAs, IsAimed, TakesTurnsBy, TakesCoreTurnsBy, RunsByCores, TurnedBy, TurnedByCores, TurnedNear, HasTurned, TakesTurnsAs, HasEnded}
 use Rattle.cps_crew.specs.Outcomes.{HasSums}
 use Rattle.cps_crew.specs.Crews.{IsHonestlyDone}

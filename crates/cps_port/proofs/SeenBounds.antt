@@ -12,7 +12,7 @@ use Rattle.cps_port.specs.Shared.{BoundsState, Shared, bounds_part, counted, bou
 use Rattle.cps_port.specs.Sound.{least_offer, run}
 use Rattle.cps_port.specs.Others.{by}
 use Rattle.cps_port.specs.Causes.{SawTheUpper}
-use Rattle.cps_port.proofs.Bounding.{BoundLe-refl, BoundLe-trans, lesser-first, lesser-second, lesser_is}
+use Rattle.cps_port.proofs.BoundLaws.{BoundLe-refl, BoundLe-trans, lesser-first, lesser-second, lesser_is}
 use Rattle.cps_port.proofs.SoundShared.{same_parts}
 
 same_number : (x y : ℤ) → x ≤ℤ y → y ≤ℤ x → x ≡ y

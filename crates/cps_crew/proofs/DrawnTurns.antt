@@ -29,8 +29,8 @@ use Rattle.cps_crew.specs.Workers.{AnySearch, search_in, kind_in, ending_in, wor
 use Rattle.cps_crew.specs.Outcomes.{CameTo, EndedWithin, GoesByModel, best_of, greatest_raised}
 use Rattle.cps_crew.specs.Crews.{IsHonestlyDone}
 use Rattle.cps_crew.specs.Turning.{AtWork, IsTurning, AreTurning, IsFresh, AreFresh, one_at_work, count_at_work, end_of_phase, ended_of, place_at_work, drawn_place, TakesTurnAt, TakesDrawnTurns}
-use Rattle.cps_crew.specs.Turning.{one_more as one_drawn}
-use Rattle.cps_crew.proofs.Going.{has_begun, has_kept, none_taken, turned_on, still_runs, left_in, lighter_in, done_from}
+use Rattle.cps_crew.specs.Turning.{none_yet as none_drawn, one_more as one_drawn}
+use Rattle.cps_crew.proofs.MemberRuns.{has_begun, has_kept, none_taken, turned_on, still_runs, left_in, lighter_in, done_from}
 use Rattle.cps_crew.proofs.Crews.{lesser_best, over_is}
 
 -- ---- one of a list changes
@@ -206,6 +206,11 @@ module _ {W : Type 0} (known : W → AnySearch) where
       } in
       let more = one_drawn d e later next words before (subst (λ (k : ℕ). TakesTurnAt known k rows d e later next) here took) in
       subst (λ (k : ℕ). TakesDrawnTurns known rows c crew begun e (set later k next) after) (sym here) (subst (λ (g : Lcg). TakesDrawnTurns known rows c crew begun e (set later (drawn_place later words) next) g) (sym after_is) more)
+
+  -- turns leave the crew as long as it was
+  pub drawn_length : (rows : ℕ) (c : Shared) (crew : List (Turning W)) (begun : Lcg) (d : Shared) (later : List (Turning W)) (words : Lcg) → TakesDrawnTurns known rows c crew begun d later words → length later ≡ length crew
+  drawn_length rows c crew begun d later words none_drawn = refl
+  drawn_length rows c crew begun core after words (one_drawn d e before next left turns took) = length-set before (drawn_place before left) next ∙ drawn_length rows c crew begun d before left turns
 
 -- ---- workers that begin
 
