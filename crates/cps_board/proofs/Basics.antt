@@ -7,7 +7,7 @@ use native.Mathlib.Decide.{dec_le, ℕ_discrete}
 use lib.ListN.{get_elem?}
 use Rattle.cps_port.specs.Totals.{total, one_if}
 use Rattle.cps_port.proofs.Lists.{one_if-same, one_if-other}
-use Rattle.cps_board.specs.Rows.{row_words, data_words, gate, datum, longer}
+use Rattle.cps_board.specs.Rows.{row_words, data_words, flag, datum, longer}
 
 module _ {A : Type 0} where
   pub at_below : (l : List A) (i : ℕ) → i < length l → (a : A) × (get_elem? l i ≡ some a)
@@ -101,24 +101,24 @@ same_list (x ∷ xs) (y ∷ ys) l h = λ i. h 0 (omega arith) i ∷ same_list xs
 
 -- all rows but r0 have the same words
 pub record Away (r0 : ℕ) (ws ws' : List ℕ) : Type 0 where
-  pub gates : (r : ℕ) → r ≢ r0 → gate ws' r ≡ gate ws r
+  pub flags : (r : ℕ) → r ≢ r0 → flag ws' r ≡ flag ws r
   pub words : (r k : ℕ) → r ≢ r0 → k < data_words → datum ws' r k ≡ datum ws r k
 
-pub away_gate : (ws : List ℕ) (r0 x : ℕ) → Away r0 ws (set ws (row_words * r0 + 1) x)
-away_gate ws r0 x = record {
-  gates = λ r n. get_or-set_other ws (row_words * r0 + 1) (row_words * r + 1) x 0 (λ e. n (omega arith));
+pub away_flag : (ws : List ℕ) (r0 x : ℕ) → Away r0 ws (set ws (row_words * r0 + 1) x)
+away_flag ws r0 x = record {
+  flags = λ r n. get_or-set_other ws (row_words * r0 + 1) (row_words * r + 1) x 0 (λ e. n (omega arith));
   words = λ r k n l. get_or-set_other ws (row_words * r0 + 1) (row_words * r + (k + 2)) x 0 (λ e. n (omega arith));
 }
 
 pub away_word : (ws : List ℕ) (r0 j x : ℕ) → j < data_words → Away r0 ws (set ws (row_words * r0 + (j + 2)) x)
 away_word ws r0 j x h = record {
-  gates = λ r n. get_or-set_other ws (row_words * r0 + (j + 2)) (row_words * r + 1) x 0 (λ e. n (omega arith));
+  flags = λ r n. get_or-set_other ws (row_words * r0 + (j + 2)) (row_words * r + 1) x 0 (λ e. n (omega arith));
   words = λ r k n l. get_or-set_other ws (row_words * r0 + (j + 2)) (row_words * r + (k + 2)) x 0 (λ e. n (omega arith));
 }
 
 pub away_claim : (ws : List ℕ) (r0 x : ℕ) → Away r0 ws (set ws 0 x)
 away_claim ws r0 x = record {
-  gates = λ r n. get_or-set_other ws 0 (row_words * r + 1) x 0 (λ e. omega arith);
+  flags = λ r n. get_or-set_other ws 0 (row_words * r + 1) x 0 (λ e. omega arith);
   words = λ r k n l. get_or-set_other ws 0 (row_words * r + (k + 2)) x 0 (λ e. omega arith);
 }
 

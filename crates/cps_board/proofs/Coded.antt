@@ -20,7 +20,7 @@ use Rattle.cps_port.specs.Incumbents.{HoldsBelow, IsIncumbent}
 use Rattle.cps_port.specs.Words.{value_word, value_of, word_of, bound_of}
 use Rattle.cps_port.proofs.Attained.{attained_small}
 use Rattle.cps_port.proofs.InOrder.{has_word_at}
-use Rattle.cps_port.proofs.Porting.{take-front}
+use Rattle.cps_port.proofs.PortEvents.{take-front}
 use Rattle.cps_board.specs.Coding.{op_code, op_of, head_word, atom_words, entry_words, atom_of, atoms_of, entry_from, IsCoded, IsCodedEntry}
 
 op_back : (o : Op) (n : ℕ) → n ≡ op_code o → op_of n ≡ o

@@ -21,11 +21,11 @@ use Rattle.cps_port.specs.Parts.{no_rows, with_row, with_past, with_mine, with_t
 use Rattle.cps_port.specs.Shared.{BoardState, Shared, board_part, row_at, next_row, actor_count, counted, drawn_by, looked_by, board_after, bounds_after, after, MayPublish, IsLawful}
 use Rattle.cps_port.specs.Totals.{total, one_if_some, times}
 use Rattle.cps_port.proofs.Places.{here, total_set}
-use Rattle.cps_port.proofs.Porting.{counted_rises}
+use Rattle.cps_port.proofs.PortEvents.{counted_rises}
 use Rattle.cps_board.specs.declared.view.View.{View}
-use Rattle.cps_board.specs.Rows.{row_words, gate, owns, past, IsOpen, KeptRows, drawing}
+use Rattle.cps_board.specs.Rows.{row_words, flag, owns, past, IsOpen, KeptRows, drawing}
 use Rattle.cps_board.specs.Events.{RowTable, Shows, Draws, Publishes, Looks, Puts, Reads, makes, puts, reads, Makes, StepsAreEvents, ShowsFirst}
-use Rattle.cps_board.proofs.Basics.{Away, away_gate, away_word, away_claim, beyond, none_of, one_below}
+use Rattle.cps_board.proofs.Basics.{Away, away_flag, away_word, away_claim, beyond, none_of, one_below}
 use Rattle.cps_board.proofs.Keeps.{data_kept, open_kept, one_entry}
 
 abbrev part_in : View → BoardPart
@@ -58,12 +58,12 @@ not_below n c h = grind (arith, nat_tests)
 
 -- open rows stay open, and no other row opens, where one row changes that is closed before and after
 away_back : (r0 : ℕ) (ws ws' : List ℕ) → Away r0 ws ws' → Away r0 ws' ws
-away_back r0 ws ws' a = record { gates = λ r n. sym (a.gates r n); words = λ r k n l. sym (a.words r k n l) }
+away_back r0 ws ws' a = record { flags = λ r n. sym (a.flags r n); words = λ r k n l. sym (a.words r k n l) }
 
 open_away : (n : ℕ) (ws ws' : List ℕ) (r0 row : ℕ) (e : Entry) → Away r0 ws ws' → row ≢ r0 → IsOpen n ws row e → IsOpen n ws' row e
 open_away n ws ws' r0 row e a other o = record {
   within = o.within;
-  gate_open = λ z. o.gate_open (sym (a.gates row other) ∙ z);
+  flag_set = λ z. o.flag_set (sym (a.flags row other) ∙ z);
   named = o.named;
   coded = o.coded;
   words = data_kept ws ws' r0 row _ a other o.words;
@@ -73,7 +73,7 @@ open_away n ws ws' r0 row e a other o = record {
 abbrev HasRow : BoardState → ℕ → List ℕ → ℕ → Entry → Type 0
 HasRow b n ws row e = (row_at b row ≡ Some e) ↔ IsOpen n ws row e
 
-closed_stays : (b : BoardState) (n : ℕ) (ws ws' : List ℕ) (r0 row : ℕ) (e : Entry) → Away r0 ws ws' → gate ws r0 ≡ 0 → gate ws' r0 ≡ 0 → HasRow b n ws row e → HasRow b n ws' row e
+closed_stays : (b : BoardState) (n : ℕ) (ws ws' : List ℕ) (r0 row : ℕ) (e : Entry) → Away r0 ws ws' → flag ws r0 ≡ 0 → flag ws' r0 ≡ 0 → HasRow b n ws row e → HasRow b n ws' row e
 closed_stays b n ws ws' r0 row e a before now h =
     ((λ q. open_kept n ws ws' r0 row e a before (h.0 q)), (λ o. h.1 (open_kept n ws' ws r0 row e (away_back r0 ws ws' a) now o)))
 
@@ -151,8 +151,8 @@ module _ (c : Shared) (s : RowTable) (id : ℕ) (k : KeptRows c.model s) (shows 
       let ws' : List ℕ = set s.words 0 ((x + 1) % 2 ^ 64) in
       let a : Away n s.words ws' = away_claim s.words n ((x + 1) % 2 ^ 64) in
       let wide = k.wide in let wide' = length-set s.words 0 ((x + 1) % 2 ^ 64) in
-      let before : gate s.words n ≡ 0 = beyond s.words (row_words * n + 1) (omega arith) in
-      let now : gate ws' n ≡ 0 = beyond ws' (row_words * n + 1) (omega arith) in
+      let before : flag s.words n ≡ 0 = beyond s.words (row_words * n + 1) (omega arith) in
+      let now : flag ws' n ≡ 0 = beyond ws' (row_words * n + 1) (omega arith) in
       let first = k.counted in let last = st.kept.counted in let more = total_set draws_of s.views id old st.new st.seat in let one = drew.1 in
       let views = ap (λ (z : RowTable). total draws_of z.views) st.state in let words = ap (λ (z : RowTable). get_or z.words 0 0) st.state in let shown = shows.next in
       record {
@@ -173,23 +173,23 @@ module _ (c : Shared) (s : RowTable) (id : ℕ) (k : KeptRows c.model s) (shows 
       let mine : get_elem? st.new.part.mine (length old.part.mine) ≡ some e = ap (λ (p : BoardPart). get_elem? p.mine (length old.part.mine)) part ∙ at_last old.part.mine e (length old.part.mine) refl in
       let there : IsOpen (length t.homes) t.words e.row e = (st.kept.each id st.new (seat_after t i 1 old st.new st.seat st.state)).mine (length old.part.mine) e mine in
       let opened : IsOpen n (set s.words i 1) e.row e = subst (λ (z : RowTable). IsOpen (length z.homes) z.words e.row e) st.state there in
-      let sound = st.kept.sound e.row there.within there.gate_open in
+      let sound = st.kept.sound e.row there.within there.flag_set in
       let good : IsSoundEntry c.model e = subst (IsSoundEntry c.model) {x = sound.0} (one_entry (length t.homes) t.words e.row sound.0 e sound.1 there) sound.2 in
       record {
         actor = among old st.seat;
         lawful = may_publish c.model P e (ap (λ (p : BoardPart). p.drawn) was ∙ made.2) good;
         shown = shows_after s t (board_after b id (Publish e)) id i 1 st.new st.state (size ∙ sym (length-set b.rows e.row (Some e)))
-            (opens_row b n s.words (set s.words i 1) e (away_gate s.words e.row 1) (omega arith) opened shows.rows)
+            (opens_row b n s.words (set s.words i 1) e (away_flag s.words e.row 1) (omega arith) opened shows.rows)
             (get_or-set_other s.words i 0 1 0 (λ q. omega arith) ∙ shows.next) (parts_now old st.seat st.new (with_mine P e) (part ∙ ap (λ (p : BoardPart). with_mine p e) (sym was)));
         bounds = refl;
         kept = st.kept;
       }
 
-  no_entry : (row : ℕ) → gate s.words row ≡ 0 → row_at c.board row ≡ None
+  no_entry : (row : ℕ) → flag s.words row ≡ 0 → row_at c.board row ≡ None
   no_entry row shut = go (row_at c.board row) refl where
     go : (r : Option Entry) → row_at c.board row ≡ r → row_at c.board row ≡ None
     go None e = e
-    go (Some x) e = absurd (((shows.rows row x).0 e).gate_open shut)
+    go (Some x) e = absurd (((shows.rows row x).0 e).flag_set shut)
 
   -- the part after a look, by what the row has
   looked_part : (t : RowTable) (made : Looks c.model s id t) → made.1.new.part ≡ looked_by P (next_row c.board id)
@@ -197,7 +197,7 @@ module _ (c : Shared) (s : RowTable) (id : ℕ) (k : KeptRows c.model s) (shows 
       let old = made.0 in let st = made.1 in let b = c.board in let row : ℕ = length old.part.taken in let i : ℕ = row_words * row + 1 in let n : ℕ = length s.homes in
       let was = knew old st.seat in
       let next : next_row b id ≡ row_at b row = ap (λ (p : BoardPart). row_at b (length p.taken)) was in
-      dite (ℕ_discrete (gate s.words row) 0)
+      dite (ℕ_discrete (flag s.words row) 0)
       (λ shut. ap (λ (z : Token). z.0.part) (st.told.0 shut).0
       ∙ (ap (with_misses old.part) (sym ((counted_rises old.part.misses).rose made.3)) ∙ (ap (λ (p : BoardPart). with_misses p (counted p.misses)) (sym was) ∙ ap (looked_by P) (sym (next ∙ no_entry row shut)))))
       (λ open_. let found = st.told.1 open_ in let e : Entry = found.0 in
@@ -230,7 +230,7 @@ module _ (c : Shared) (s : RowTable) (id : ℕ) (k : KeptRows c.model s) (shows 
   puts_word word t made =
       let old = made.0 in let row = made.1 in let st = made.2 in let b = c.board in let j : ℕ = length old.written in let i : ℕ = row_words * row + (j + 2) in
       let o = (k.each id old st.seat).drawn row made.3 in
-      let now : gate (set s.words i word) row ≡ 0 = get_or-set_other s.words i (row_words * row + 1) word 0 (λ q. omega arith) ∙ o.closed in
+      let now : flag (set s.words i word) row ≡ 0 = get_or-set_other s.words i (row_words * row + 1) word 0 (λ q. omega arith) ∙ o.closed in
       record {
         shown = shows_after s t b id i word st.new st.state shows.size
             (λ r e. closed_stays b (length s.homes) s.words (set s.words i word) row r e (away_word s.words row j word made.4) o.closed now (shows.rows r e))
@@ -295,7 +295,7 @@ pub shows_first : ShowsFirst
 shows_first m s k idle =
     let none_ = none_drawn m s k idle in record {
       size = sym (length-replicate (length s.homes) None);
-      rows = λ row e. ((λ q. absurd (none_some e (sym (no_row_at (length s.homes) row) ∙ q))), (λ o. let h = k.claimed row o.within o.gate_open in absurd (omega arith)));
+      rows = λ row e. ((λ q. absurd (none_some e (sym (no_row_at (length s.homes) row) ∙ q))), (λ o. let h = k.claimed row o.within o.flag_set in absurd (omega arith)));
       next = none_;
       parts = idle_parts s.views idle;
     }

@@ -20,8 +20,8 @@ use Rattle.cps_port.proofs.Lists.{one_if-same, times-append}
 use Rattle.cps_port.proofs.Places.{total_set, total_snoc, total_at, total_two}
 use Rattle.cps_board.specs.declared.view.View.{View}
 use Rattle.cps_board.specs.Coding.{entry_words, entry_from, IsCoded, IsCodedEntry}
-use Rattle.cps_board.specs.Rows.{all_splits, row_words, data_words, gate, datum, HasData, IsOpen, IsFilling, owns, past, FitsRowWords, HasSound, KeptRows, first_view, spent, kept_half, given_half, joined, with_part, drawing, filling, OfBoardModel, row_drawn, word_put, row_opened, row_looked_at, word_read}
-use Rattle.cps_board.proofs.Basics.{at_below, at_end, at_append, at_longer_of, total_le, alone, one_below, one_not_below, one_more, at_most_one, below_of_one, beyond, zeros, early, last, long_snoc, same_list, Away, away_gate, away_word, away_claim}
+use Rattle.cps_board.specs.Rows.{all_splits, row_words, data_words, flag, datum, HasData, IsOpen, IsFilling, owns, past, FitsRowWords, HasSound, KeptRows, first_view, spent, kept_half, given_half, joined, with_part, drawing, filling, OfBoardModel, row_drawn, word_put, row_opened, row_looked_at, word_read}
+use Rattle.cps_board.proofs.Basics.{at_below, at_end, at_append, at_longer_of, total_le, alone, one_below, one_not_below, one_more, at_most_one, below_of_one, beyond, zeros, early, last, long_snoc, same_list, Away, away_flag, away_word, away_claim}
 use Rattle.cps_board.proofs.Coded.{entry_back, coded_entry, words_of_entry, length-entry_words, same_entry}
 
 abbrev splits_of : View → ℕ
@@ -65,10 +65,10 @@ not_none a e = cc
 pub data_kept : (ws ws' : List ℕ) (r0 row : ℕ) (d : List ℕ) → Away r0 ws ws' → row ≢ r0 → HasData ws row d → HasData ws' row d
 data_kept ws ws' r0 row d a n h = let f = h.fits in record { fits = f; each = λ k l. a.words row k n (omega arith) ∙ h.each k l }
 
-pub open_kept : (n : ℕ) (ws ws' : List ℕ) (r0 row : ℕ) (e : Entry) → Away r0 ws ws' → gate ws r0 ≡ 0 → IsOpen n ws row e → IsOpen n ws' row e
-open_kept n ws ws' r0 row e a closed o = let other : row ≢ r0 = λ q. o.gate_open (ap (gate ws) q ∙ closed) in record {
+pub open_kept : (n : ℕ) (ws ws' : List ℕ) (r0 row : ℕ) (e : Entry) → Away r0 ws ws' → flag ws r0 ≡ 0 → IsOpen n ws row e → IsOpen n ws' row e
+open_kept n ws ws' r0 row e a closed o = let other : row ≢ r0 = λ q. o.flag_set (ap (flag ws) q ∙ closed) in record {
   within = o.within;
-  gate_open = λ z. o.gate_open (sym (a.gates row other) ∙ z);
+  flag_set = λ z. o.flag_set (sym (a.flags row other) ∙ z);
   named = o.named;
   coded = o.coded;
   words = data_kept ws ws' r0 row (entry_words e.below (entry_clause e)) a other o.words;
@@ -87,11 +87,11 @@ one_entry n ws row d e a b =
     same_entry d e row a.named b.named a.coded b.coded (one_list ws row (entry_words d.below (entry_clause d)) (entry_words e.below (entry_clause e)) (omega arith) a.words b.words)
 
 module _ (m : CpModel) (n : ℕ) where
-  fits_kept : (ws ws' : List ℕ) (r0 : ℕ) (v : View) → Away r0 ws ws' → gate ws r0 ≡ 0 → ¬ (v.part.drawn ≡ Some r0) → FitsRowWords m n ws v → FitsRowWords m n ws' v
+  fits_kept : (ws ws' : List ℕ) (r0 : ℕ) (v : View) → Away r0 ws ws' → flag ws r0 ≡ 0 → ¬ (v.part.drawn ≡ Some r0) → FitsRowWords m n ws v → FitsRowWords m n ws' v
   fits_kept ws ws' r0 v a closed apart f = record {
     model = f.model;
     idle = f.idle;
-    drawn = λ row e. let o = f.drawn row e in let other : row ≢ r0 = λ q. apart (e ∙ ap Some q) in record { within = o.within; closed = a.gates row other ∙ o.closed; words = data_kept ws ws' r0 row v.written a other o.words };
+    drawn = λ row e. let o = f.drawn row e in let other : row ≢ r0 = λ q. apart (e ∙ ap Some q) in record { within = o.within; closed = a.flags row other ∙ o.closed; words = data_kept ws ws' r0 row v.written a other o.words };
     mine = λ i e g. open_kept n ws ws' r0 e.row e a closed (f.mine i e g);
     taken = λ row e g. open_kept n ws ws' r0 row e a closed (f.taken row e g);
   }
@@ -106,7 +106,7 @@ of_model m v e P h q d = let same : m ≡ q = cc in subst P same h
 own_open : (m : CpModel) (n : ℕ) (ws : List ℕ) (v : View) (row : ℕ) (x : Entry) → FitsRowWords m n ws v → Contains v.part.mine x → x.row ≡ row → IsOpen n ws row x
 own_open m n ws v row x f c e = subst (λ (r : ℕ). IsOpen n ws r x) e (f.mine c.0 x (at_index v.part.mine c.0 x c.1 (sym c.2)))
 
-sound_kept : (m : CpModel) (n : ℕ) (ws ws' : List ℕ) (r0 row : ℕ) → Away r0 ws ws' → gate ws r0 ≡ 0 → row ≢ r0 → HasSound m n ws row → HasSound m n ws' row
+sound_kept : (m : CpModel) (n : ℕ) (ws ws' : List ℕ) (r0 row : ℕ) → Away r0 ws ws' → flag ws r0 ≡ 0 → row ≢ r0 → HasSound m n ws row → HasSound m n ws' row
 sound_kept m n ws ws' r0 row a closed other o = (o.0, open_kept n ws ws' r0 row o.0 a closed o.1, o.2)
 
 module _ {S : Type 0} (m : CpModel) where
@@ -149,11 +149,11 @@ module _ {S : Type 0} (m : CpModel) where
         let ws' : List ℕ = set s.words 0 ((c + 1) % 2 ^ 64) in let wide = k.wide in
         let now : get_or ws' 0 0 ≡ c + 1 = get_or-set_same s.words 0 ((c + 1) % 2 ^ 64) 0 (omega arith) ∙ up in
         let a : Away n s.words ws' = away_claim s.words n ((c + 1) % 2 ^ 64) in
-        let past_end : gate s.words n ≡ 0 = beyond s.words (row_words * n + 1) (omega arith) in
+        let past_end : flag s.words n ≡ 0 = beyond s.words (row_words * n + 1) (omega arith) in
         let others : (i : ℕ) (u : View) → i ≢ id → get_elem? s.views i ≡ some u → FitsRowWords m n ws' u = λ i u _ e. let g = k.each i u e in fits_kept m n s.words ws' n u a past_end (λ q. let h = (g.drawn n q).within in absurd (omega arith)) g in
-        let open_ : (row : ℕ) → row < n → gate ws' row ≢ 0 → gate s.words row ≢ 0 = λ row l g. let q = a.gates row (λ e. absurd (omega arith)) in λ z. g (q ∙ z) in
-        let sound : (row : ℕ) → row < n → gate ws' row ≢ 0 → HasSound m n ws' row = λ row l g. sound_kept m n s.words ws' n row a past_end (λ e. absurd (omega arith)) (k.sound row l (open_ row l g)) in
-        let claimed : (row : ℕ) → row < n → gate ws' row ≢ 0 → row < get_or ws' 0 0 = λ row l g. let h = k.claimed row l (open_ row l g) in omega arith in
+        let open_ : (row : ℕ) → row < n → flag ws' row ≢ 0 → flag s.words row ≢ 0 = λ row l g. let q = a.flags row (λ e. absurd (omega arith)) in λ z. g (q ∙ z) in
+        let sound : (row : ℕ) → row < n → flag ws' row ≢ 0 → HasSound m n ws' row = λ row l g. sound_kept m n s.words ws' n row a past_end (λ e. absurd (omega arith)) (k.sound row l (open_ row l g)) in
+        let claimed : (row : ℕ) → row < n → flag ws' row ≢ 0 → row < get_or ws' 0 0 = λ row l g. let h = k.claimed row l (open_ row l g) in omega arith in
         let mine = λ (i : ℕ) (e : Entry) (g : get_elem? v.part.mine i ≡ some e). open_kept n s.words ws' n e.row e a past_end (f.mine i e g) in
         let taken = λ (row : ℕ) (e : Entry) (g : get_elem? v.part.taken row ≡ some e). open_kept n s.words ws' n row e a past_end (f.taken row e g) in
         dite (dec_le n c)
@@ -175,7 +175,7 @@ module _ {S : Type 0} (m : CpModel) where
           ((λ h. absurd (omega arith)), (λ _. refl)),
         ))
         (λ less. let w : View = drawing v (with_row v.part c) in
-        let closed : gate s.words c ≡ 0 = dite (ℕ_discrete (gate s.words c) 0) (λ z. z) (λ z. let h = k.claimed c (omega arith) z in absurd (omega arith)) in (
+        let closed : flag s.words c ≡ 0 = dite (ℕ_discrete (flag s.words c) 0) (λ z. z) (λ z. let h = k.claimed c (omega arith) z in absurd (omega arith)) in (
           w,
           keeps,
           tt,
@@ -193,7 +193,7 @@ module _ {S : Type 0} (m : CpModel) where
               idle = λ z. absurd (omega arith);
               drawn = λ row e. let q : c ≡ row = same_row c row e in record {
                 within = omega arith;
-                closed = sym (ap (gate ws') q) ∙ (a.gates c (λ z. absurd (omega arith)) ∙ closed);
+                closed = sym (ap (flag ws') q) ∙ (a.flags c (λ z. absurd (omega arith)) ∙ closed);
                 words = record { fits = omega arith; each = λ j h. absurd (omega arith) };
               };
               mine = mine;
@@ -208,9 +208,9 @@ module _ {S : Type 0} (m : CpModel) where
         let i : ℕ = row_words * row + (j + 2) in let ws' : List ℕ = set s.words i x in let wide = k.wide in let inside = o.within in
         let a : Away row s.words ws' = away_word s.words row j x less in let w : View = filling v (v.written ++ x ∷ []) in
         let zero_ : get_or ws' 0 0 ≡ claim_of s = get_or-set_other s.words i 0 x 0 (λ e. omega arith) in
-        let gate_ : gate ws' row ≡ 0 = get_or-set_other s.words i (row_words * row + 1) x 0 (λ e. omega arith) ∙ o.closed in
+        let flag_ : flag ws' row ≡ 0 = get_or-set_other s.words i (row_words * row + 1) x 0 (λ e. omega arith) ∙ o.closed in
         let there : datum ws' row j ≡ x = get_or-set_same s.words i x 0 (omega arith) in
-        let still : (q : ℕ) → gate ws' q ≢ 0 → q ≢ row = λ q g e. g (ap (gate ws') e ∙ gate_) in (
+        let still : (q : ℕ) → flag ws' q ≢ 0 → q ≢ row = λ q g e. g (ap (flag ws') e ∙ flag_) in (
           w,
           keeps,
           tt,
@@ -220,14 +220,14 @@ module _ {S : Type 0} (m : CpModel) where
             splits = let t = total_set splits_of s.views id v w at in let e = k.splits in omega arith;
             draws = let t = total_set past s.views id v w at in let e = k.draws in omega arith;
             owned = λ q l. let t = total_set (owns q) s.views id v w at in let e = k.owned q l in let z : total (owns q) (set s.views id w) ≡ one_if (nat_lt q (claim_of s)) = omega arith in z ∙ ap (λ (y : ℕ). one_if (nat_lt q y)) (sym zero_);
-            sound = λ q l g. sound_kept m n s.words ws' row q a o.closed (still q g) (k.sound q l (λ z. g (a.gates q (still q g) ∙ z)));
-            claimed = λ q l g. let h = k.claimed q l (λ z. g (a.gates q (still q g) ∙ z)) in omega arith;
+            sound = λ q l g. sound_kept m n s.words ws' row q a o.closed (still q g) (k.sound q l (λ z. g (a.flags q (still q g) ∙ z)));
+            claimed = λ q l g. let h = k.claimed q l (λ z. g (a.flags q (still q g) ∙ z)) in omega arith;
             each = all_fit m n s.views id w s.words ws' (record {
               model = f.model;
               idle = f.idle;
               drawn = λ q e. let same : row ≡ q = same_row row q (sym drawn ∙ e) in subst (λ (z : ℕ). IsFilling n ws' z w.written) same (record {
                 within = inside;
-                closed = gate_;
+                closed = flag_;
                 words = record {
                   fits = let h = long_snoc v.written x in omega arith;
                   each = λ p l. let h = long_snoc v.written x in dite (ℕ_discrete p j)
@@ -253,11 +253,11 @@ module _ {S : Type 0} (m : CpModel) where
         let e : Entry = entry_from row v.written in
         let is : e ≡ entry_of row below c = entry_back row below c v.written whole coded in
         let words : v.written ≡ entry_words e.below (entry_clause e) = whole ∙ (sym (words_of_entry row below c) ∙ ap (λ (x : Entry). entry_words x.below (entry_clause x)) (sym is)) in
-        let a : Away row s.words ws' = away_gate s.words row 1 in let w : View = with_part v (with_mine v.part e) in
+        let a : Away row s.words ws' = away_flag s.words row 1 in let w : View = with_part v (with_mine v.part e) in
         let zero_ : get_or ws' 0 0 ≡ claim_of s = get_or-set_other s.words i 0 1 0 (λ q. omega arith) in
-        let gate_ : gate ws' row ≡ 1 = get_or-set_same s.words i 1 0 (omega arith) in
+        let flag_ : flag ws' row ≡ 1 = get_or-set_same s.words i 1 0 (omega arith) in
         let written : HasData ws' row v.written = record { fits = o.words.fits; each = λ p l. get_or-set_other s.words i (row_words * row + (p + 2)) 1 0 (λ q. omega arith) ∙ o.words.each p l } in
-        let opened : IsOpen n ws' row e = record { within = inside; gate_open = λ z. absurd (omega arith); named = refl; coded = subst IsCodedEntry (sym is) (coded_entry row below c coded); words = subst (HasData ws' row) words written } in
+        let opened : IsOpen n ws' row e = record { within = inside; flag_set = λ z. absurd (omega arith); named = refl; coded = subst IsCodedEntry (sym is) (coded_entry row below c coded); words = subst (HasData ws' row) words written } in
         let owner : row < claim_of s = let t = total_at (owns row) s.views id v at in let q = k.owned row inside in let y = drawn_some row row v drawn in let z = one_if-same row in below_of_one row (claim_of s) (omega arith) in (
           w,
           keeps,
@@ -270,8 +270,8 @@ module _ {S : Type 0} (m : CpModel) where
             owned = λ q l. let t = total_set (owns q) s.views id v w at in let g = k.owned q l in let y = drawn_some q row v drawn in let h = times-append row_of q v.part.mine (e ∷ []) in
                 let z : total (owns q) (set s.views id w) ≡ one_if (nat_lt q (claim_of s)) = omega arith in z ∙ ap (λ (y : ℕ). one_if (nat_lt q y)) (sym zero_);
             sound = λ q l g. dite (ℕ_discrete q row) (λ same. subst (HasSound m n ws') (sym same) (e, opened, subst (IsSoundEntry m) (sym is) good))
-                (λ ne. sound_kept m n s.words ws' row q a o.closed ne (k.sound q l (λ z. g (a.gates q ne ∙ z))));
-            claimed = λ q l g. dite (ℕ_discrete q row) (λ same. omega arith) (λ ne. let h = k.claimed q l (λ z. g (a.gates q ne ∙ z)) in omega arith);
+                (λ ne. sound_kept m n s.words ws' row q a o.closed ne (k.sound q l (λ z. g (a.flags q ne ∙ z))));
+            claimed = λ q l g. dite (ℕ_discrete q row) (λ same. omega arith) (λ ne. let h = k.claimed q l (λ z. g (a.flags q ne ∙ z)) in omega arith);
             each = all_fit m n s.views id w s.words ws' (record {
               model = f.model;
               idle = f.idle;
@@ -285,13 +285,13 @@ module _ {S : Type 0} (m : CpModel) where
 
     looks_next : length me.0.part.taken < slots → Allows Rule slots id me (row_words * length me.0.part.taken + 1) (λ n. n) (row_looked_at (step slots (row_words * length me.0.part.taken + 1) 0 0 none) me)
     looks_next left s k len at small = let v : View = me.0 in let n : ℕ = rows_of s in let f = k.each id v at in let t : ℕ = length v.part.taken in let i : ℕ = row_words * t + 1 in
-        dite (ℕ_discrete (gate s.words t) 0)
+        dite (ℕ_discrete (flag s.words t) 0)
         (λ shut. let w : View = with_part v (with_misses v.part (v.part.misses + 1)) in (
           w,
           keeps,
           tt,
           unmoved s k i id me.1 v w at refl refl refl refl refl (record { model = f.model; idle = f.idle; drawn = f.drawn; mine = f.mine; taken = f.taken }),
-          ((λ _. (refl, λ x c row. (own_open m n s.words v t x f c row).gate_open shut)), (λ ne. absurd (ne shut))),
+          ((λ _. (refl, λ x c row. (own_open m n s.words v t x f c row).flag_set shut)), (λ ne. absurd (ne shut))),
         ))
         (λ open_. let o = k.sound t (omega arith) open_ in let e : Entry = o.0 in let w : View = with_part v (with_taken v.part e) in (
           w,
@@ -319,7 +319,7 @@ module _ {S : Type 0} (m : CpModel) where
           ),
         ))
 
-    -- looks at the gate of the next row
+    -- looks at the flag of the next row
     pub looks : (t : ℕ) → length me.0.part.taken ≡ t → t < slots → Allows Rule slots id me (row_words * t + 1) (λ n. n) (row_looked_at (step slots (row_words * t + 1) 0 0 none) me)
     looks t is left = subst (λ (z : ℕ). Allows Rule slots id me (row_words * z + 1) (λ n. n) (row_looked_at (step slots (row_words * z + 1) 0 0 none) me)) is (looks_next (omega arith))
 
@@ -388,7 +388,7 @@ module _ {S : Type 0} (m : CpModel) where
 
   pub covers_taken : (s : State S View) → Rule s → (id : ℕ) (v : View) → get_elem? s.views id ≡ some v → length v.part.taken ≤ claim_of s
   covers_taken s k id v at = dite (dec_le (length v.part.taken) 0) (λ none_taken. omega arith)
-      (λ n. let q : ℕ = length v.part.taken - 1 in let o = at_below v.part.taken q (omega arith) in let open_ = (k.each id v at).taken q o.0 o.1 in let h = k.claimed q open_.within open_.gate_open in omega arith)
+      (λ n. let q : ℕ = length v.part.taken - 1 in let o = at_below v.part.taken q (omega arith) in let open_ = (k.each id v at).taken q o.0 o.1 in let h = k.claimed q open_.within open_.flag_set in omega arith)
 
   pub whole : (s : State S View) → Rule s → (id : ℕ) (v : View) → get_elem? s.views id ≡ some v → v.splits ≡ all_splits → claim_of s ≡ v.draws
   whole s k id v at all = let e = k.counted in let z = alone draws_of s.views id v at (λ i u h n. let t = total_two splits_of s.views id i v u at h n in let q = k.splits in (k.each i u h).idle (omega arith)) in omega arith

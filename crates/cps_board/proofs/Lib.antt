@@ -3,4 +3,4 @@ pub mod Coded
 pub mod Keeps
 pub mod OneList
 pub mod Events
-pub mod Filling
+pub mod FilledRows

@@ -30,5 +30,5 @@ takes_one_list m s i j v w k at_v at_w l =
 pub takes_sound_entries : TakesSoundEntries
 takes_sound_entries m s i row v e k at g =
     let o = taken_open m s i row v e k at g in
-    let sound = k.sound row o.within o.gate_open in
+    let sound = k.sound row o.within o.flag_set in
     (o.named, subst (IsSoundEntry m) (one_entry (length s.homes) s.words row sound.0 e sound.1 o) sound.2)

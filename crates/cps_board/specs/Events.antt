@@ -51,12 +51,12 @@ abbrev pub Draws : CpModel → RowTable → ℕ → RowTable → Type 0
 Draws m s id t = (old : View) × IsStep m row_drawn (λ n. (n + 1) % 2 ^ 64) 0 1 id old s t
     × (old.part.full ≡ false) × (old.part.drawn ≡ None)
 
--- the gate of the row that was drawn opens; the entry is that of the words that were stored
+-- the flag of the row that was drawn is set; the entry is that of the words that were stored
 abbrev pub Publishes : CpModel → RowTable → ℕ → Entry → RowTable → Type 0
 Publishes m s id e t = (old : View) × IsStep m (of_stored row_opened) (λ _. 1) (row_words * e.row + 1) 1 id old s t
     × (old.part.drawn ≡ Some e.row) × (e ≡ entry_from e.row old.written)
 
--- A look at the gate of the next row, of which one is left. The count of looks that found it closed is below the last
+-- A look at the flag of the next row, of which one is left. The count of looks that found it closed is below the last
 -- value that a plain state can store.
 abbrev pub Looks : CpModel → RowTable → ℕ → RowTable → Type 0
 Looks m s id t = (old : View)

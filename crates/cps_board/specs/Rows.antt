@@ -1,5 +1,5 @@
 -- The rule of the board, and what each step tells.
--- Word 0 counts the draws. Row r has 35 words from word 35 * r + 1 on: its gate, which is 0 while it is closed, and 34
+-- Word 0 counts the draws. Row r has 35 words from word 35 * r + 1 on: its flag, which is 0 while it is closed, and 34
 -- words of content.
 use Rattle.std.specs.Prelude.{◌≡◌, ◌≢◌, ℕ, ◌+◌, ◌-◌, ◌*◌, ◌/◌, ◌<◌, ◌≤◌, nat_lt, true, if◌then◌else◌, List, [], ◌∷◌, ◌++◌, length, min, slice_index, Some, None}
 use mathlib.Core.Option.{some}
@@ -26,8 +26,8 @@ row_words = 35
 abbrev pub data_words : ℕ
 data_words = 34
 
-abbrev pub gate : List ℕ → ℕ → ℕ
-gate ws row = slice_index ws (row_words * row + 1)
+abbrev pub flag : List ℕ → ℕ → ℕ
+flag ws row = slice_index ws (row_words * row + 1)
 
 abbrev pub datum : List ℕ → ℕ → ℕ → ℕ
 datum ws row k = slice_index ws (row_words * row + (k + 2))
@@ -40,7 +40,7 @@ pub record HasData (ws : List ℕ) (row : ℕ) (d : List ℕ) : Type 0 where
 -- an open row that has this entry, of n rows
 pub record IsOpen (n : ℕ) (ws : List ℕ) (row : ℕ) (e : Entry) : Type 0 where
   pub within : row < n
-  pub gate_open : gate ws row ≢ 0
+  pub flag_set : flag ws row ≢ 0
   pub named : e.row ≡ row
   pub coded : IsCodedEntry e
   pub words : HasData ws row (entry_words e.below (entry_clause e))
@@ -48,7 +48,7 @@ pub record IsOpen (n : ℕ) (ws : List ℕ) (row : ℕ) (e : Entry) : Type 0 whe
 -- a row that is drawn, into which these words were written
 pub record IsFilling (n : ℕ) (ws : List ℕ) (row : ℕ) (written : List ℕ) : Type 0 where
   pub within : row < n
-  pub closed : gate ws row ≡ 0
+  pub closed : flag ws row ≡ 0
   pub words : HasData ws row written
 
 -- how often a row is a view's: drawn and not yet published, or published
@@ -81,8 +81,8 @@ pub record KeptRows {S : Type 0} (m : CpModel) (s : State S View) : Type 0 where
   pub counted : slice_index s.words 0 ≡ total (λ (v : View). v.draws) s.views
   -- a row below the count of draws is one seat's, once
   pub owned : (row : ℕ) → row < length s.homes → total (owns row) s.views ≡ one_if (nat_lt row (slice_index s.words 0))
-  pub sound : (row : ℕ) → row < length s.homes → gate s.words row ≢ 0 → HasSound m (length s.homes) s.words row
-  pub claimed : (row : ℕ) → row < length s.homes → gate s.words row ≢ 0 → row < slice_index s.words 0
+  pub sound : (row : ℕ) → row < length s.homes → flag s.words row ≢ 0 → HasSound m (length s.homes) s.words row
+  pub claimed : (row : ℕ) → row < length s.homes → flag s.words row ≢ 0 → row < slice_index s.words 0
   pub each : (i : ℕ) (v : View) → get_elem? s.views i ≡ some v → FitsRowWords m (length s.homes) s.words v
 
 abbrev pub first_view : CpModel → View

@@ -25,7 +25,7 @@ impl Play<(), View> for Publish {
     ghost then = { row_opened };
 }
 
-/// Looks at the gate of the next row.
+/// Looks at the flag of the next row.
 pub struct Look;
 
 impl Play<(), View> for Look {

@@ -19,8 +19,8 @@ use cps_port::word::{bound_of, word_of};
 use cps_port::{Entry, MOST_ATOMS};
 use cps_validate::ValidModel;
 
-/// The words of a row: its gate, the clause's length, its bound, and two for each atom. Word 0 of the table counts the
-/// draws, so row r begins with its gate at word 35 r + 1.
+/// The words of a row: its flag, the clause's length, its bound, and two for each atom. Word 0 of the table counts the
+/// draws, so row r begins with its flag at word 35 r + 1.
 pub const ROW_WORDS: usize = 3 + 2 * MOST_ATOMS;
 
 /// What stands in the places that a clause leaves free.

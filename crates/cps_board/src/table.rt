@@ -2,9 +2,9 @@
 //!
 //! Each step on a word is one atomic operation, named by the step that it is in the rule (`Draw`, `Put`, `Publish`,
 //! `Look`, `Read`). A row is drawn by one `fetch_add` of the claim word, so two seats never write the same row; it is
-//! filled while its gate is closed, and opened by one store. So nothing is retried, and a reader that found a gate open
-//! reads words that never change. A seat that drew past the end remembers that, and draws no more: so the claim word
-//! cannot wrap.
+//! filled while its flag is 0, and opened by the one store that sets the flag. So nothing is retried, and a reader that
+//! found a flag set reads words that never change. A seat that drew past the end remembers that, and draws no more: so
+//! the claim word cannot wrap.
 ghost use Rattle.std.specs.Prelude.{◌≡◌, ℕ, ◌+◌, ◌-◌, ◌/◌, ◌<◌, ◌≤◌, length, min, true, if◌then◌else◌, IfOk};
 ghost use Rattle.cps_port.specs.Incumbents.{HoldsBelow, IsIncumbent};
 ghost use Rattle.cps_port.specs.Entries.{most_rows, IsShareable};
@@ -100,8 +100,8 @@ impl Board {
             return Taken::End;
         }
         let shared = &self.table.shared;
-        let gate = shared.load::<Look>(&mut seat.seat, ROW_WORDS * row as usize + 1);
-        if gate == 0 {
+        let flag = shared.load::<Look>(&mut seat.seat, ROW_WORDS * row as usize + 1);
+        if flag == 0 {
             return Taken::NotYet;
         }
         let entry = read_row(shared, &mut seat.seat, row);

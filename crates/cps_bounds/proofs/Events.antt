@@ -16,7 +16,7 @@ use Rattle.cps_port.specs.Incumbents.{IsAttained, IsLowerBound}
 use Rattle.cps_port.specs.Parts.{no_bounds, after_upper, after_lower, after_offer, after_raise}
 use Rattle.cps_port.specs.Shared.{BoardState, BoundsState, Shared, bounds_part, board_part, actor_count, counted, board_after, bounds_after, after, IsLawful}
 use Rattle.cps_port.specs.Words.{top, value_word, word_of, raise_word, bound_of}
-use Rattle.cps_port.proofs.Porting.{counted_rises, may_raise}
+use Rattle.cps_port.proofs.PortEvents.{counted_rises, may_raise}
 use Rattle.cps_bounds.specs.declared.view.View.{View}
 use Rattle.cps_bounds.specs.Rule.{KeptWords, upper_seen, lower_seen, value_offered, bound_raised}
 use Rattle.cps_bounds.specs.Events.{TwoWords, Shows, Tells, IsStep, LoadsUpper, LoadsLower, Offers, Raises, Makes, StepsAreEvents, ShowsFirst}

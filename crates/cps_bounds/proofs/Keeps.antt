@@ -14,7 +14,7 @@ use Rattle.cps_port.specs.declared.part.BoundsPart.{BoundsPart}
 use Rattle.cps_port.specs.Order.{BoundLe, IsNoLower, raised_above}
 use Rattle.cps_port.specs.Incumbents.{IsIncumbent, IsLowerBound}
 use Rattle.cps_port.specs.Parts.{after_upper, after_lower, after_offer, after_raise}
-use Rattle.cps_port.proofs.Bounding.{BoundLe-refl, BoundLe-trans, IsNoLower-trans, lesser_is}
+use Rattle.cps_port.proofs.BoundLaws.{BoundLe-refl, BoundLe-trans, IsNoLower-trans, lesser_is}
 use Rattle.cps_port.proofs.Places.{here, one_there, nothing, total_set, total_snoc, total_two}
 use Rattle.cps_bounds.specs.declared.view.View.{View}
 use Rattle.cps_port.specs.Words.{top, value_word, word_of, raise_word, bound_of, HasWord, HasWords}

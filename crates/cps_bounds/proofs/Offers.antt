@@ -8,7 +8,7 @@ use Rattle.cps_port.specs.Order.{IsSmallBound, lesser, greater}
 use Rattle.cps_port.specs.Incumbents.{IsAttained, IsIncumbent, IsLowerBound}
 use Rattle.cps_port.specs.Words.{top, word_of, bound_of, HasWord}
 use Rattle.cps_port.proofs.Attained.{attained_small}
-use Rattle.cps_port.proofs.Bounding.{attained_shown, lesser_is, greater_is}
+use Rattle.cps_port.proofs.BoundLaws.{attained_shown, lesser_is, greater_is}
 use Rattle.cps_port.proofs.InOrder.{word_of-bound_of, word_of-lesser, word_of-greater, has_word_at, has_word_small, has_word_of, same_word}
 
 -- a bound, as the word that a step is handed

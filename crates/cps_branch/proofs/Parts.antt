@@ -10,7 +10,7 @@ use Rattle.cps_branch.specs.Activities.{AreBumped, AreGained, AreSmall, ByActivi
 use Rattle.cps_branch.specs.Luby.{CountsConflict, Pace}
 use Rattle.cps_branch.specs.Tournament.{HaveActivities, stands_at}
 use Rattle.cps_branch.specs.SetAside.{AreFixedAside, IsRanking, SameAside, aside_of, size_of}
-use Rattle.cps_branch.proofs.Aside.{unspoken}
+use Rattle.cps_branch.proofs.SetAside.{unspoken}
 use Rattle.cps_branch.proofs.Lists.{alike}
 
 -- activities, marks, hints and a ranking of the same variables

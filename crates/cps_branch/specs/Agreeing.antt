@@ -1,4 +1,5 @@
 -- What was seen of one store is true of another with the same first entries.
+-- Its terms prove that, and stand here since an `impl` names them as ghost items (`none_kept`, `kept_on`).
 use Rattle.std.proofs.Common.{ℕ, ℤ, ◌≤◌, ◌<◌, ◌≡◌, true, List, take, get_or, sym, ap, ◌∙◌, ◌&&◌, arith}
 use Rattle.std.specs.List.{list_all}
 use Rattle.std.proofs.lemmas.List.{take-take}

@@ -162,7 +162,7 @@ impl Ranking {
         }
     }
 
-    /// Gives the variables their activities anew after a clause was heard: those of the clause, or all if all were
+    /// Updates the ranking by the activities after a clause was learnt: those of its variables, or all if all were
     /// halved.
     pub fn follow(&mut self, activities: &[u64], clause: &[Atom], halved: bool)
         requires count { length activities.now ≡ size_of self.old }

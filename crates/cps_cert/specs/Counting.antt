@@ -8,8 +8,7 @@ use Rattle.cps_model.specs.declared.constraint.Kind.{Kind}
 use Rattle.cps_model.specs.declared.constraint.Kind.TheVariants.{Interval}
 use Rattle.cps_model.specs.Values.{variable_of, variable_value}
 use Rattle.cps_model.specs.Rising.{IsRising}
-use Rattle.cps_model.specs.Rules.{literals_of, sums_of, references_of}
-use Rattle.cps_model.specs.KindRules.{intervals_of}
+use Rattle.cps_model.specs.Rules.{literals_of, sums_of, references_of, intervals_of}
 use Rattle.cps_model.specs.Scheduling.{constraint_at}
 use Rattle.cps_literal.specs.declared.atom.Atom.{Atom}
 use Rattle.cps_log.specs.Subjects.{sum_at}

@@ -7,7 +7,7 @@ ghost use Rattle.std.specs.List.{flat_map};
 ghost use Rattle.cps_model.specs.Solutions.{are_within, IsWithinDomains};
 ghost use Rattle.cps_model.specs.Validity.{variable_fault};
 ghost use Rattle.cps_model.specs.Within.{is_within};
-ghost use Rattle.cps_model.specs.KindRules.{intervals_of};
+ghost use Rattle.cps_model.specs.Rules.{intervals_of};
 ghost use Rattle.cps_model.specs.Scheduling.{constraint_at};
 ghost use Rattle.cps_cert.specs.Counting.{variables_of, variables_of_sum, variables_of_run, variables_of_named, read_variables};
 ghost use Rattle.cps_cert.specs.Trying.{kind_variables, named_variables, ReadsOn};

@@ -101,7 +101,7 @@ pub(crate) fn choose_watches(
     let atoms = clauses.clause(clause);
     if atoms.len() < 2 {
         watching.attached = watching.attached.max(clause + 1);
-        return settle_short(store, number, &atoms);
+        return propagate_short(store, number, &atoms);
     }
     let two = last_two(store, &atoms);
     rewatch(watching, clauses, clause, two.place, two.other)?;
@@ -109,12 +109,12 @@ pub(crate) fn choose_watches(
         // Two atoms are not false: nothing to do.
         return Ok(false);
     }
-    settle_last(store, number, &atoms, two.place)
+    propagate_unit(store, number, &atoms, two.place)
 }
 
-/// Settles a clause of at most one atom: makes the atom true, and answers whether it is false. Without an atom nothing
+/// Propagates a clause of at most one atom: makes the atom true, and answers whether it is false. Without an atom nothing
 /// is done: the clause was dropped, or the base answers it as a conflict before it reads any clause.
-fn settle_short(store: &mut Store, number: u32, atoms: &Literals<'_>) -> Result<bool, AllocError>
+fn propagate_short(store: &mut Store, number: u32, atoms: &Literals<'_>) -> Result<bool, AllocError>
     requires fits { Fits store.old.first atoms.now }
     requires short { length atoms.now < 2 }
     ensures infers { OnOk result (Infers (ByClause number atoms.now) store.old store.new) }
@@ -123,11 +123,11 @@ fn settle_short(store: &mut Store, number: u32, atoms: &Literals<'_>) -> Result<
     if atoms.len() == 0 {
         return Ok(false);
     }
-    settle_last(store, number, atoms, 0)
+    propagate_unit(store, number, atoms, 0)
 }
 
 /// Makes an atom of a clause true whose other atoms are false. Answers whether it is false too.
-fn settle_last(
+fn propagate_unit(
     store: &mut Store,
     number: u32,
     atoms: &Literals<'_>,

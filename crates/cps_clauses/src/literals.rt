@@ -65,7 +65,7 @@ impl<'a> Literals<'a> {
         Ok(())
     }
 
-    /// The clause, made anew.
+    /// A copy of the clause.
     pub(crate) fn to_clause(&self, alloc: Global) -> Result<Clause, AllocError>
         ensures { IfOk result (λ clause. clause ≡ self.now) }
     {

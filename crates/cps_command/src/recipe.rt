@@ -15,7 +15,7 @@ pub struct Recipe {
     pub family: Family,
     /// How large the model is, within the family's range.
     pub size: u32,
-    /// Where the words begin by which its numbers are drawn.
+    /// The seed of its random numbers.
     pub seed: u64,
 }
 

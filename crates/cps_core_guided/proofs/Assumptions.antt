@@ -12,7 +12,7 @@ use Rattle.cps_search.specs.Ends.{IsDecidedNext}
 use Rattle.cps_search.specs.Moves.{decided}
 use Rattle.cps_search.specs.Searches.{Search}
 use Rattle.cps_search.specs.Turns.{IsOnward, GoesOnAndBack}
-use Rattle.cps_search.proofs.Holding.{below_less}
+use Rattle.cps_search.proofs.BelowBounds.{below_less}
 use Rattle.cps_reform.specs.declared.held.Held.{Held}
 use Rattle.cps_reform.specs.Forms.{Form}
 use Rattle.cps_reform.specs.Floors.{IsReform}

@@ -12,7 +12,7 @@ use Rattle.cps_instance.specs.Terms.{Intervals, domain_at, greatest_of, least_of
 use Rattle.cps_instance.proofs.Extending.{agree-append, length-extended}
 use Rattle.cps_reform.specs.Beginning.{StandsForTerm}
 use Rattle.cps_reform.proofs.Floors.{defined-values}
-use Rattle.cps_reform.proofs.Growing.{counts, last_sum}
+use Rattle.cps_reform.proofs.GrownForms.{counts, last_sum}
 use Rattle.cps_core_guided.specs.Beginning.{opposite}
 
 turned : (c v w : ℤ) → c <ℤ pos 0 → w ≡ ((negsuc 0 *ℤ v) +ℤ pos 0) +ℤ pos 0 → pos (unsigned_abs c) *ℤ w ≡ c *ℤ v

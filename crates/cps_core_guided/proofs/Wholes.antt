@@ -9,7 +9,7 @@ use Rattle.cps_port.specs.declared.part.BoardPart.{BoardPart}
 use Rattle.cps_port.specs.declared.part.BoundsPart.{BoundsPart}
 use Rattle.cps_port.specs.declared.part.Part.{Part}
 use Rattle.cps_port.specs.Order.{BoundLe, lesser, greater, greater_of, raised_to}
-use Rattle.cps_port.proofs.Bounding.{BoundLe-refl, greater-assoc}
+use Rattle.cps_port.proofs.BoundLaws.{BoundLe-refl, greater-assoc}
 use Rattle.cps_search.specs.Following.{MovesWith, best_bound}
 use Rattle.cps_search.specs.Turns.{SameBest, SameImported, SameRaised}
 use Rattle.cps_search.proofs.Bounds.{raised_more}

@@ -15,7 +15,7 @@ use cps_trail::Store;
 /// decided first, and then the brancher chooses. With them there are at most 2^31 subjects.
 const MOST_SUMS: u32 = 1 << 24;
 
-/// Whether terms are assumed still, after so many sums of cores.
+/// Whether terms are still assumed: until `MOST_SUMS` sums are defined.
 fn assumes_terms(sums: u32) -> bool
     ensures { IsTrue result ↔ (sums < most_sums) }
 {

@@ -59,7 +59,7 @@ pub(crate) struct Explorer<'a, P: Propagator> {
     pub brancher: ActivityBrancher,
     /// How many of the store's first entries are those that the brancher saw last.
     pub kept: usize,
-    /// The number of conflicts that it was given, by which the number of its rounds goes.
+    /// The budget of conflicts that it was given. It sets the number of rounds.
     pub conflicts: u64,
     /// The generator by whose words variables are freed.
     pub draws: Lcg64Xsh32,
@@ -240,8 +240,8 @@ impl<'a, P: Propagator> Explorer<'a, P> {
         self.kept = still_kept(self.frame.store(), self.kept);
     }
 
-    /// Looks what is left after a turn that neither decided nor learnt: the store may have lost its last entries.
-    fn look_back(&mut self)
+    /// Notes what is left after a turn that neither decided nor learnt: the store may have lost its last entries.
+    fn note_backjump(&mut self)
         ensures kept { self.new.kept ≡ min self.old.kept (length self.new.frame.store.entries) }
         ensures held { (self.new.round.assumed ≡ min self.old.round.assumed self.old.frame.store.level)
             × (self.new.round.held ≡ held_to self.old.round self.old.frame.store.level) }
@@ -281,7 +281,7 @@ impl<'a, P: Propagator> Explorer<'a, P> {
                     Ok(Turn::Learnt)
                 }
                 other => {
-                    self.look_back();
+                    self.note_backjump();
                     Ok(other)
                 }
             },

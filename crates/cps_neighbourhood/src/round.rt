@@ -1,4 +1,4 @@
-//! Rounds: what each is to decide, and how far it has come.
+//! Rounds: what each decides, and how far it has come.
 //!
 //! The first levels of the trail began with assumptions of the model, as many as `assumed` says, and those after them
 //! up to `held` with the round's own decisions; the round is left with a clause that sends the search back below
@@ -28,11 +28,11 @@ pub(crate) const ROUND_CONFLICTS: u64 = 100;
 /// A round, and how far it has come.
 #[derive(Drop)]
 pub(crate) struct Progress {
-    /// What it is to decide, in order.
+    /// What it decides, in order.
     pub decisions: Vec<Atom>,
     /// How many clauses were learnt in it.
     pub learnt: u64,
-    /// The level of the last assumption on the trail: the first so many levels began with assumptions.
+    /// The level of the last assumption on the trail: all levels up to this one began with assumptions.
     pub assumed: usize,
     /// The level of its last decision on the trail, which comes after all assumptions; 0 if none is there.
     pub held: usize,
@@ -61,8 +61,7 @@ fn has_value(values: &[i64], variable: usize) -> Atom
     }
 }
 
-/// Whether a variable is free: whether it stands at `place` in the rising list of free ones, of which exactly those
-/// before `place` are less.
+/// Whether a variable is free. `free` is sorted, and `place` is where the variable would stand.
 fn is_free(free: &[u32], place: usize, variable: usize) -> bool
     requires rising { AscendsStrictly free.now }
     requires before { (k : ℕ) → k < place → k < length free.now → slice_index_or free.now k 0 < variable }

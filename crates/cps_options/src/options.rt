@@ -22,7 +22,7 @@ pub struct Options {
     /// From how many conflicts each worker may learn, at most `MOST_CONFLICTS`; one that searches near solutions does
     /// whole rounds, and may learn from up to 100 more.
     pub conflicts: u64,
-    /// Where the words begin by which rounds free variables, and by which the turns of an interleaved run are drawn.
+    /// The seed of the random numbers that choose which variables a round frees, and the turns of an interleaved run.
     pub seed: u64,
     /// Whether the workers take turns in one thread.
     pub interleave: bool,

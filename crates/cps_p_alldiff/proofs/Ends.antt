@@ -14,7 +14,7 @@ use Rattle.cps_propagate.specs.Now.{IsFixedNow, AreOpen}
 use Rattle.cps_propagate.specs.Strength.{IsHeld, AreHeld, HasRoom}
 use Rattle.cps_p_alldiff.specs.declared.interval.Interval.{Interval}
 use Rattle.cps_p_alldiff.specs.Intervals.{covers, covered, IsInRange, AreEnds, IsRoomy, IsEnclosed, IsTightInterval, AreEnclosed, AreTightIntervals}
-use Rattle.cps_p_alldiff.proofs.Counting.{is_covered, count_cons}
+use Rattle.cps_p_alldiff.proofs.IntervalCounts.{is_covered, count_cons}
 use Rattle.cps_p_alldiff.proofs.Bodies.{all_different}
 
 zip_push : {A B : Type 0} (R : A → B → Type 0) (xs : List A) (ys : List B) (x : A) (y : B) → AllZip R xs ys → R x y → AllZip R (xs ++ x ∷ []) (ys ++ y ∷ [])

@@ -1,10 +1,10 @@
-pub mod Counting
-pub mod Certifying
+pub mod IntervalCounts
+pub mod NoCrowds
 pub mod Bodies
 pub mod Ends
-pub mod Giving
-pub mod Holding
-pub mod Explaining
-pub mod Barring
+pub mod ImpliedAtoms
+pub mod FactPositions
+pub mod ExplainedFacts
+pub mod BarAtoms
 pub mod Tasks
-pub mod Reading
+pub mod NumberTests

@@ -28,7 +28,7 @@ fn was_within(past: &Before, subject: u32, hall: &Interval) -> bool
     hall.low <= low && high <= hall.high
 }
 
-/// So many positions that have values in an interval, apart from those of one subject.
+/// At least `needed` positions that have values in `hall`, without those of the subject `apart`.
 #[derive(Clone, Copy)]
 pub(crate) struct Crowd {
     pub(crate) hall: Interval,
@@ -36,8 +36,8 @@ pub(crate) struct Crowd {
     pub(crate) needed: u64,
 }
 
-/// Puts facts in the place of what a list holds by which there is a crowd among the positions from one on. Answers
-/// whether there is one. Each fact is as weak as that needs.
+/// Replaces `facts` by the weakest ones that show the crowd among the positions from `from` on. Returns false if there
+/// is none.
 fn hold_from(
     past: &Before,
     subjects: &[u32],
@@ -95,7 +95,7 @@ pub(crate) fn hold(
     hold_from(past, subjects, 0, crowd, facts)
 }
 
-/// The bound that, beside an interval that a subject's value is not in, gives an atom.
+/// The bound that implies an atom, together with an interval that the subject's value is not in.
 fn near_of(target: Atom, hall: &Interval) -> Option<Atom>
     requires { IsInRange hall.now }
     ensures { IfSome result (IsNearBound target hall.now) }

@@ -51,7 +51,7 @@ pub(crate) struct Finder {
     pub(crate) halls: Vec<Interval>,
 }
 
-/// The numbers that are not taken, from one on.
+/// The numbers from `number` on that are not taken.
 #[derive(Drop)]
 struct Untaken<'a> {
     taken: &'a [i64],
@@ -69,7 +69,7 @@ impl<'a> Untaken<'a> {
         }
     }
 
-    /// Goes on to the first number from one on that is not taken.
+    /// Goes on to the first number from `number` on that is not taken.
     fn move_to(&mut self, number: i64) {
         self.number = number;
         for _ in self.less..self.taken.len() {
@@ -126,7 +126,7 @@ fn push_slot(slots: &mut Vec<Slot>, number: i64) -> Result<(), AllocError> {
     Ok(())
 }
 
-/// The least free slot from one on. The way there becomes shorter.
+/// The least free slot from `slot` on. The way there becomes shorter.
 fn free_from(slots: &mut [Slot], slot: usize) -> usize {
     let mut free = slot;
     for _ in 0..slots.len() {
@@ -174,7 +174,7 @@ fn end_at(order: &[End], index: usize, side: Side) -> Option<End> {
     }
 }
 
-/// The first slot from one on whose number is not less than a given one.
+/// The first slot from `from` on whose number is at least `number`.
 fn slot_from(slots: &[Slot], from: usize, number: i64) -> usize {
     let mut at = from;
     for _ in from..slots.len() {
@@ -293,7 +293,7 @@ impl Finder {
         Ok(())
     }
 
-    /// The end at an index by which positions are laid out from a side.
+    /// The end at `index`, in the order in which positions are laid out from a side.
     fn least_at(&self, index: usize, side: Side) -> Option<End> {
         match side {
             Side::Below => end_at(self.by_least.as_slice(), index, side),
@@ -301,7 +301,7 @@ impl Finder {
         }
     }
 
-    /// The end at an index by which positions are swept from a side.
+    /// The end at `index`, in the order in which positions are swept from a side.
     fn greatest_at(&self, index: usize, side: Side) -> Option<End> {
         match side {
             Side::Below => end_at(self.by_greatest.as_slice(), index, side),
@@ -309,7 +309,7 @@ impl Finder {
         }
     }
 
-    /// Parts the positions into those that are to be put and those that are settled, which have their numbers.
+    /// Parts the positions into those that must be put and those that are settled, which have their numbers.
     fn part(&mut self, settled: &Settled, side: Side) -> Result<(), AllocError> {
         self.row.clear();
         self.taken.clear();

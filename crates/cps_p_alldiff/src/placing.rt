@@ -29,8 +29,8 @@ impl Placing {
         }
     }
 
-    /// Makes room for so many positions, of which the least number is `low` and the greatest `high`. Where these are
-    /// far apart no number has an owner.
+    /// Makes room for `positions`, whose numbers are between `low` and `high`. Where these are far apart no number has
+    /// an owner.
     pub(crate) fn begin(
         &mut self,
         positions: usize,

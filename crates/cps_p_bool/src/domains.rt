@@ -1,5 +1,5 @@
 //! What a rule looks at: the domains of a store as they stand, or as they stood before an entry. So one search finds
-//! what a rule gives and what a reason rests on.
+//! what a rule implies and what a reason rests on.
 
 use cps_literal::{Atom, Truth};
 use cps_trail::{Before, Store};

@@ -27,7 +27,7 @@ use std::alloc::AllocError;
 /// A task as its propagator keeps it: where the enforcement literals are true, those of `sure` are, and `rest` holds of
 /// `live`.
 #[derive(Drop)]
-pub struct Form<'a> {
+pub struct TaskForm<'a> {
     pub enforcement: &'a [Atom],
     pub sure: &'a [Atom],
     pub rest: Kind,
@@ -93,7 +93,7 @@ fn explain_as(
     Ok(false)
 }
 
-/// The reason of a literal of a list whose literals are all to be true.
+/// The reason of a literal, where all literals must be true.
 fn explain_each(
     past: &Before,
     enforcement: &[Atom],
@@ -160,7 +160,7 @@ fn deny_false(past: &Before, atoms: &[Atom], reason: &mut Vec<Atom>) -> Result<b
     Ok(true)
 }
 
-/// The reason of the one literal that was not false, where one is to be true.
+/// The reason of the one literal that was not false, where one must be true.
 fn explain_last(
     past: &Before,
     enforcement: &[Atom],
@@ -227,7 +227,7 @@ fn explain_beside(
     explain_as(past, &from, given, noted.atom, reason)
 }
 
-/// The reason of a literal or of its opposite, where one is to be true and no other.
+/// The reason of a literal or of its opposite, where exactly one must be true.
 fn explain_one(
     past: &Before,
     enforcement: &[Atom],
@@ -247,7 +247,7 @@ fn explain_one(
     explain_beside(past, enforcement, atoms, noted, reason)
 }
 
-/// The reason of the one literal that was open or of its opposite, where an odd number is to be true.
+/// The reason of the one literal that was open or of its opposite, where an odd number must be true.
 fn explain_odd(
     past: &Before,
     enforcement: &[Atom],
@@ -285,7 +285,7 @@ fn explain_odd(
 /// The reason of an atom that a kind's rule gave where the task was in force.
 fn explain_given(
     past: &Before,
-    form: &Form<'_>,
+    form: &TaskForm<'_>,
     noted: Noted,
     reason: &mut Vec<Atom>,
 ) -> Result<bool, AllocError>
@@ -307,7 +307,7 @@ fn explain_given(
     }
 }
 
-/// Denies a literal that was false, where all are to be true.
+/// Denies a literal that was false, where all must be true.
 fn deny_failed(
     past: &Before,
     enforcement: &[Atom],
@@ -330,7 +330,7 @@ fn deny_failed(
     Ok(true)
 }
 
-/// Denies all literals, where one is to be true and all were false.
+/// Denies all literals, where one must be true and all were false.
 fn deny_none(
     past: &Before,
     enforcement: &[Atom],
@@ -379,7 +379,7 @@ fn deny_two(
     Ok(true)
 }
 
-/// Denies the literals of which none or two were true, where one is to be true and no other.
+/// Denies the literals that break exactly one: two that were true, or all where none was.
 fn deny_one(
     past: &Before,
     enforcement: &[Atom],
@@ -397,7 +397,7 @@ fn deny_one(
     deny_two(past, enforcement, atoms, noted, reason)
 }
 
-/// Denies all literals, where an odd number is to be true and an even number was.
+/// Denies all literals, where an odd number must be true and an even number was.
 fn deny_even(
     past: &Before,
     enforcement: &[Atom],
@@ -419,10 +419,10 @@ fn deny_even(
     Ok(true)
 }
 
-/// Denies the literals by which a kind's rule found that its list can not be as it is to be.
+/// Denies the literals that make the list of a kind impossible.
 fn deny_ruled_out(
     past: &Before,
-    form: &Form<'_>,
+    form: &TaskForm<'_>,
     noted: Noted,
     reason: &mut Vec<Atom>,
 ) -> Result<bool, AllocError>
@@ -443,10 +443,10 @@ fn deny_ruled_out(
     }
 }
 
-/// Denies the literals by which a task's body was found to hold nowhere.
+/// Denies the literals that make a task's body impossible.
 fn deny_body(
     past: &Before,
-    form: &Form<'_>,
+    form: &TaskForm<'_>,
     noted: Noted,
     reason: &mut Vec<Atom>,
 ) -> Result<bool, AllocError>
@@ -466,7 +466,7 @@ fn deny_body(
 /// The reason of the opposite of the one enforcement literal that was open.
 fn explain_off(
     past: &Before,
-    form: &Form<'_>,
+    form: &TaskForm<'_>,
     last: usize,
     noted: Noted,
     reason: &mut Vec<Atom>,
@@ -493,7 +493,7 @@ fn explain_off(
 /// The reason of an atom that the task gave where it was in force.
 fn explain_on(
     past: &Before,
-    form: &Form<'_>,
+    form: &TaskForm<'_>,
     noted: Noted,
     reason: &mut Vec<Atom>,
 ) -> Result<bool, AllocError>
@@ -514,7 +514,7 @@ fn explain_on(
 /// The reason of an atom that the task gave.
 fn explain_noted(
     past: &Before,
-    form: &Form<'_>,
+    form: &TaskForm<'_>,
     noted: Noted,
     reason: &mut Vec<Atom>,
 ) -> Result<bool, AllocError>
@@ -534,11 +534,11 @@ fn explain_noted(
     explain_on(past, form, noted, reason)
 }
 
-/// Fills a list anew with the reason of an entry, if a rule gives its atom at the places of its note.
+/// Replaces `reason` by the reason of an entry, if a rule implies its atom at the places of its note.
 pub fn explain_entry(
     store: &Store,
     entry: usize,
-    form: &Form<'_>,
+    form: &TaskForm<'_>,
     reason: &mut Vec<Atom>,
 ) -> Result<bool, AllocError>
     requires within { entry < length store.now.entries }

@@ -13,7 +13,7 @@ use crate::boolean::Kind;
 use cps_literal::{Atom, Op};
 use cps_propagate::Wake;
 
-/// A task, and what its kind says in normal form: `rest` is to hold of `live`.
+/// A task, and what its kind says in normal form: `rest` must hold of `live`.
 #[derive(Drop)]
 pub struct Literals<'a> {
     pub enforcement: &'a [Atom],
@@ -90,7 +90,7 @@ fn where_ended(rest: Kind, live: &[Atom], subject: u32) -> Wake
 
 /// Which narrowings of a subject wake the propagator. `place` is a place in the list of enforcement atoms, or beyond it
 /// in that of the body's, at which an atom may be about the subject.
-pub fn wakes_on(task: &Literals, subject: u32, place: usize) -> Wake
+pub fn wake_of_literals(task: &Literals, subject: u32, place: usize) -> Wake
     ensures rise { result ≡ Wake.Rise
         → IsSpared task.now.enforcement.now task.now.atoms.now task.now.rest task.now.live.now subject (pos 0) }
     ensures fall { result ≡ Wake.Fall

@@ -1,9 +1,9 @@
 pub mod Arcs
-pub mod Clashing
-pub mod Sorting
-pub mod Deciding
-pub mod Showing
+pub mod Clashes
+pub mod SortedLists
+pub mod TakenArcs
+pub mod ShownFacts
 pub mod Tasks
-pub mod Passing
-pub mod Answering
+pub mod Walks
+pub mod DistinctAnswers
 pub mod Literals

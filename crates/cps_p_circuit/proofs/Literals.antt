@@ -11,7 +11,7 @@ use Rattle.cps_literal.specs.Truth.{meets}
 use Rattle.cps_trail.specs.Trail.{IsInside}
 use Rattle.cps_p_circuit.specs.declared.clash.Sign.{Sign}
 use Rattle.cps_p_circuit.specs.Showing.{IsAtomOf}
-use Rattle.cps_p_circuit.proofs.Showing.{met_by, opposite_met}
+use Rattle.cps_p_circuit.proofs.ShownFacts.{met_by, opposite_met}
 
 -- what tests of a number say
 at_least : (v w : ℤ) → lt_z v w ≡ false → w ≤ℤ v

@@ -154,7 +154,7 @@ impl Graph {
         Ok(true)
     }
 
-    /// Adds that the arcs by which nodes are marked are taken.
+    /// Adds that the arcs that marked nodes are taken.
     fn push_chosen(&self, via: &[usize], used: &mut Vec<Sign>) -> Result<bool, AllocError>
         requires { length via.now ≡ length self.now.nodes.items }
         ensures grows { IfOk result (λ u. GrowsSigns used.old.items used.new.items) }

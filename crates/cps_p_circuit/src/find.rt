@@ -136,7 +136,7 @@ fn untaken(arc: usize, claim: Claim) -> Candidate {
     }
 }
 
-/// What a node's degree alone gives: the last open arc is taken, or none is left.
+/// What a node's degree alone implies: the last open arc is taken, or none is left.
 fn last_open(degree: Degree, claim: Claim) -> Option<Candidate> {
     if degree.any == 0 || degree.taken != 0 || degree.count != 1 || degree.open == 0 {
         return None;
@@ -341,7 +341,7 @@ impl Finder {
         Ok(())
     }
 
-    /// Sees closed chains beside which a node is on the circuit.
+    /// Notes a conflict where a chain is closed and another node is on the circuit.
     fn close_all(&mut self, graph: &Graph) {
         for v in 0..graph.nodes.len() {
             let by = self.next_of(graph, v);
@@ -356,7 +356,7 @@ impl Finder {
         }
     }
 
-    /// That an open arc is not taken, if it closes a chain beside which a node is on the circuit.
+    /// That an open arc is not taken, if it closes a chain and another node is on the circuit.
     fn tour_exclusion_of(&self, graph: &Graph, k: usize) -> Option<Candidate> {
         let start = head_of(graph, k);
         let label = slot_at(self.first.as_slice(), tail_of(graph, k));

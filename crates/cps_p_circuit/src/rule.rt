@@ -179,8 +179,8 @@ impl Circuit {
         }
     }
 
-    /// Facts beside which, and beside an atom, the body cannot hold. The signs that clash take the place of what a list
-    /// of them holds.
+    /// Replaces `facts` by those that make the body impossible, together with the atom `denied`, and `used` by the
+    /// signs that clash.
     fn show(
         &self,
         past: &Before,
@@ -225,7 +225,7 @@ impl Circuit {
         self.show(past, Some(denied), hint, used, facts)
     }
 
-    /// Adds a candidate that the body gives and that is not true yet.
+    /// Adds a candidate that the body implies and that is not true yet.
     fn accept(
         &self,
         store: &Store,
@@ -257,7 +257,7 @@ impl Circuit {
         Ok(())
     }
 
-    /// Fills a list anew with what the candidates give.
+    /// Replaces `found` by what the candidates imply.
     fn gather(&self, store: &Store, found: &mut Vec<Narrowing>) -> Result<(), AllocError>
         requires { All (λ i. i < length store.now.first) (atom_subjects self.now.literals.items) }
         ensures { OnOk result (

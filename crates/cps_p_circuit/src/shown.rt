@@ -56,8 +56,8 @@ pub fn was_true(past: &Before, atom: Atom) -> bool
     }
 }
 
-/// Puts the facts that make signs true, beside an atom, in the place of what a list holds. Answers false where one
-/// was not true.
+/// Replaces `facts` by those that make the signs true, together with the atom `denied`. Returns false where a sign was
+/// not true.
 pub fn keep(
     literals: &[Atom],
     past: &Before,

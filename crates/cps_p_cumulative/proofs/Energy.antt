@@ -15,7 +15,7 @@ use Rattle.cps_p_cumulative.specs.declared.charge.Stay.{Stay}
 use Rattle.cps_p_cumulative.specs.Running.{demand_of, demands_at, energy_of, energies}
 use Rattle.cps_p_cumulative.specs.Relying.{IsLong, IsStay, IsActiveBetween}
 use Rattle.cps_p_cumulative.proofs.Moves.{le_or_lt}
-use Rattle.cps_p_cumulative.proofs.Running.{demands-cons, running, demand-runs, demand-some}
+use Rattle.cps_p_cumulative.proofs.SpanDemands.{demands-cons, running, demand-runs, demand-some}
 use Rattle.cps_p_cumulative.proofs.Profiled.{demands-past}
 
 -- one time more

@@ -31,7 +31,7 @@ use Rattle.cps_p_cumulative.specs.declared.tank.Side.TheVariants.{Over, Under}
 use Rattle.cps_p_cumulative.specs.Levels.{toward, is_active, has_acted, share_of, total, moves_of, tank_body, limit, active_subjects, move_subjects, IsMoveOf, IsTankOf, IsShareToward, MayAddUp, StaysFrom, IsShare, IsLevel, MayBeActive, IsMoveSure, IsSureFixed, IsLeastToward, AllowsZero, HasRoomAfter, HasRoomTo, IsTowardBound, IsRest, IsAdded, AreAdded, AreMovesOpen, AreMovesFixed}
 use Rattle.cps_p_cumulative.specs.Relying.{Relies}
 use Rattle.cps_p_cumulative.proofs.Moves.{moves_all, total-last, toward-none, passed, never_passed}
-use Rattle.cps_p_cumulative.proofs.Rising.{zero_limit, has_levels}
+use Rattle.cps_p_cumulative.proofs.EventTimes.{zero_limit, has_levels}
 use Rattle.cps_p_cumulative.proofs.Energy.{number_size}
 use Rattle.cps_p_cumulative.proofs.Relied.{Relies-none, Relies-then, Relies-so}
 

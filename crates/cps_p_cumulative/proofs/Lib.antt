@@ -1,10 +1,10 @@
-pub mod Running
-pub mod Resting
+pub mod SpanDemands
+pub mod RestLaw
 pub mod Energy
 pub mod Relied
 pub mod Profiled
-pub mod Summing
+pub mod DemandSums
 pub mod Moves
-pub mod Rising
+pub mod EventTimes
 pub mod Levelled
-pub mod Negating
+pub mod NegatableValues

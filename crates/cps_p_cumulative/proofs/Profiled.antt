@@ -18,7 +18,7 @@ use Rattle.cps_p_cumulative.specs.declared.part.Part.{Part}
 use Rattle.cps_p_cumulative.specs.Profile.{covers, at, height, AreParts}
 use Rattle.cps_p_cumulative.specs.Running.{demand_of, demands_at, AreSome}
 use Rattle.cps_p_cumulative.specs.Measuring.{IsPartMeasured, IsProfile}
-use Rattle.cps_p_cumulative.proofs.Running.{demands-cons, lt_true, true_lt, running, demand-runs, demand-some}
+use Rattle.cps_p_cumulative.proofs.SpanDemands.{demands-cons, lt_true, true_lt, running, demand-runs, demand-some}
 
 at_zero : (t from : ℤ) → at t (record { from = from; to = from; demand = 0 }) ≡ 0
 at_zero t from = by (covers t (record { from = from; to = from; demand = 0 }))

@@ -23,7 +23,7 @@ use Rattle.cps_p_cumulative.specs.declared.resource.Resource.{Resource}
 use Rattle.cps_p_cumulative.specs.declared.charge.Claim.{Claim}
 use Rattle.cps_p_cumulative.specs.Running.{energy_of, energies, body_of}
 use Rattle.cps_p_cumulative.specs.Relying.{Relies, IsEnergyTaken, IsCharged, IsBound, IsLater, IsClaim, IsActiveBetween}
-use Rattle.cps_p_cumulative.proofs.Running.{all_hold}
+use Rattle.cps_p_cumulative.proofs.SpanDemands.{all_hold}
 use Rattle.cps_p_cumulative.proofs.Energy.{energies-cons, energies-past, energies-within, energy-some, energy-stay}
 
 -- what is so anyhow

@@ -24,7 +24,7 @@ use std::alloc::AllocError;
 /// The greatest magnitude of a value that a subject may have.
 const MOST: i64 = (1 << 62) - 1;
 
-/// The times from one on, so many, and an atom that is assumed.
+/// `width` times from `time` on, and an atom that is assumed.
 #[derive(Clone, Copy)]
 pub(crate) struct Case {
     pub(crate) time: i64,
@@ -76,7 +76,8 @@ pub(crate) fn at_least(subject: u32, value: i64) -> Atom
     }
 }
 
-/// Sees that an atom is true: the assumed one gives it, or it is put among the facts, unless each first value meets it.
+/// Sees that an atom is true: the assumed one implies it, or it is added to the facts, unless each first value meets
+/// it.
 pub(crate) fn rely(
     past: &Before,
     case: Case,
@@ -166,7 +167,7 @@ fn rely_run(
     rely_all(past, case, &[at_most(span.start, stay.latest), last], facts)
 }
 
-/// Whether an atom was true, or the assumed one gives it.
+/// Whether an atom was true, or the assumed one implies it.
 pub(crate) fn is_known(past: &Before, case: Case, atom: Atom) -> bool
     requires { atom.subject < length past.now.first }
 {
@@ -258,7 +259,7 @@ fn stay_of(past: &Before, case: Case, span: &Span, needed: i64) -> Stay
     }
 }
 
-/// Whether a span runs for so many times of the window where it starts by one time and ends after another.
+/// Whether a span runs for `ticks` times of the window if it starts and ends as `stay` says.
 fn is_stay(case: Case, span: &Span, stay: Stay) -> bool
     ensures { IsTrue result → IsStay case.time case.width span.now.length stay }
 {
@@ -348,7 +349,7 @@ fn rely_claim(
     rely(past, case, at_least(load.demand, claim.demand), facts)
 }
 
-/// Lets one span take from what is left of the energy that is to be shown. None where it may demand less than 0.
+/// Lets one span take from the energy that is `left` to show. None where it may demand less than 0.
 fn charge_one(
     past: &Before,
     case: Case,
@@ -412,7 +413,7 @@ fn charge_all(
     Ok(true)
 }
 
-/// Adds facts beside which, with the assumed atom, the window is overloaded. Answers false where it finds none.
+/// Adds facts by which, with the assumed atom, the window is overloaded. Returns false if it finds none.
 pub(crate) fn charge(
     past: &Before,
     case: Case,

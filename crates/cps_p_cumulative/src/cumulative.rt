@@ -50,8 +50,8 @@ impl Drop for Cumulative {
     }
 }
 
-/// Makes the facts those by which a window is overloaded, the greatest capacity first. Answers false where it finds
-/// none.
+/// Replaces `facts` by those that show that a window is overloaded, the greatest capacity first. Returns false if it
+/// finds none.
 fn refute_window(
     past: &Before,
     resource: &Resource,

@@ -244,8 +244,7 @@ fn charge_moves(
     Ok(Some(sum))
 }
 
-/// Adds facts beside which, with the assumed atom, the level passes the limit of a side. Answers false where it finds
-/// none.
+/// Adds facts by which, with the assumed atom, the level passes the limit of a side. Returns false if it finds none.
 pub(crate) fn charge_level(
     past: &Before,
     case: Case,

@@ -21,7 +21,7 @@ struct Change {
     demand: i128,
 }
 
-/// The times from one on and before another, at which the parts demand the same.
+/// The times from `from` on and before `to`. The parts demand `level` at each.
 #[derive(Clone, Copy)]
 pub(crate) struct Segment {
     pub(crate) from: i64,

@@ -217,7 +217,7 @@ impl Energies {
         }
     }
 
-    /// A window of which the spans of a resource seem to use more than there is: its first time, and how many.
+    /// A window where the spans of a resource seem to use more than there is: its first time, and its width.
     pub(crate) fn used_up(
         &mut self,
         past: &Before,

@@ -63,25 +63,25 @@ pub(crate) fn visit(
     ensures infers { OnOk result (Infers (ByTask number (Asks task.now)) store.old store.new) }
     ensures answers { IfOk result (λ answer.
         Answers (Asks task.now) store.new (as_step answer scratch.new.facts.reason.items)) }
-    ensures settled { result ≡ Ok Answer.Settled
+    ensures settled { result ≡ Ok Answer.NoConflict
         → IsSumSettled store.new task.now.enforcement.now task.now.terms.now task.now.admitted.now }
 {
     match force_of(store, task.enforcement) {
-        Force::Idle => return Ok(Answer::Settled),
+        Force::Idle => return Ok(Answer::NoConflict),
         Force::Open(place) => {
             disable(number, store, task, place)?;
-            return Ok(Answer::Settled);
+            return Ok(Answer::NoConflict);
         }
         Force::On => {}
     }
     loop {
         let before = store.entries().len();
         match pass(number, store, task, scratch)? {
-            Answer::Settled => {}
+            Answer::NoConflict => {}
             Answer::Conflict => return Ok(Answer::Conflict),
         }
         if store.entries().len() == before {
-            return Ok(Answer::Settled);
+            return Ok(Answer::NoConflict);
         }
     }
 }

@@ -22,7 +22,7 @@ use Rattle.cps_reform.specs.Beginning.{StandsForTerm, IsFirstForm, IsHeldFirst}
 use Rattle.cps_reform.specs.Floors.{IsReform}
 use Rattle.cps_reform.specs.Forms.{Form, IsAbove, IsHeldInDomain, FitsTypes, form_value, held_reach, with_held}
 use Rattle.cps_reform.proofs.Floors.{defined-values, excess-longer}
-use Rattle.cps_reform.proofs.Growing.{held_reach-longer, roomy-longer}
+use Rattle.cps_reform.proofs.GrownForms.{held_reach-longer, roomy-longer}
 use Rattle.cps_reform.proofs.Objectives.{has-terms}
 
 terms_value-push : (xs : List ℤ) (ts : List Term) (t : Term) → terms_value xs (ts ++ t ∷ []) ≡ terms_value xs ts +ℤ t.coeff *ℤ value_at xs t.subject

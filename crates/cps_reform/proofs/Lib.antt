@@ -1,12 +1,12 @@
 pub mod Excesses
 pub mod Rooms
 pub mod Loops
-pub mod Marking
+pub mod CoreMarks
 pub mod Marked
 pub mod Objectives
 pub mod Floors
 pub mod Steps
 pub mod Pasts
-pub mod Growing
+pub mod GrownForms
 pub mod Firsts
 pub mod Words

@@ -5,7 +5,7 @@ use Rattle.cps_port.specs.Words.{word_of}
 use Rattle.cps_literal.specs.declared.atom.Atom.{Atom}
 use Rattle.cps_board.specs.Coding.{head_word, atom_words}
 use Rattle.cps_board.specs.Rows.{filling}
-use Rattle.cps_board.proofs.Filling.{puts_more, put_more, atom_words-more, length-atom_words-take, publishes_row, published}
+use Rattle.cps_board.proofs.FilledRows.{puts_more, put_more, atom_words-more, length-atom_words-take, publishes_row, published}
 use Rattle.cps_board.proofs.row.fill.Goals as goal
 
 pub store-requires : goal.store-requires

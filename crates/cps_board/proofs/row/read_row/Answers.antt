@@ -8,7 +8,7 @@ use Rattle.cps_port.specs.Entries.{blank, entry_clause}
 use Rattle.cps_port.specs.Words.{bound_of}
 use Rattle.cps_board.specs.declared.view.View.{View}
 use Rattle.cps_board.proofs.Keeps.{reads}
-use Rattle.cps_board.proofs.Filling.{tells, only, head_told, number_told, head_small, atom_told, fill_next, entry_whole}
+use Rattle.cps_board.proofs.FilledRows.{tells, only, head_told, number_told, head_small, atom_told, fill_next, entry_whole}
 use Rattle.cps_board.proofs.row.read_row.Goals as goal
 
 pub load-len-requires : goal.load-len-requires

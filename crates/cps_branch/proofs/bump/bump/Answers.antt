@@ -5,7 +5,7 @@ use Rattle.std.proofs.lemmas.List.{take_all}
 use Rattle.cps_literal.specs.declared.atom.Atom.{Atom}
 use Rattle.cps_literal.specs.declared.atom.Op.TheVariants.{Le}
 use Rattle.cps_branch.specs.Activities.{AreGained, ReachesLimit, speaks_of}
-use Rattle.cps_branch.proofs.Bumping.{are_marked-more, gains-more, reaches-one, reaches-kept}
+use Rattle.cps_branch.proofs.BumpedActivities.{are_marked-more, gains-more, reaches-one, reaches-kept}
 use Rattle.cps_branch.proofs.bump.bump.Goals as goal
 use Rattle.cps_branch.proofs.bump.bump.Goals.{then-bump_one, else-bump_one}
 

@@ -2,7 +2,7 @@
 use Rattle.std.specs.Prelude.{◌↔◌, IsTrue}
 use Rattle.std.proofs.Common.{◌≡◌, length, take}
 use Rattle.cps_branch.specs.Activities.{AreGained, ReachesLimit}
-use Rattle.cps_branch.proofs.Bumping.{AreMarked}
+use Rattle.cps_branch.proofs.BumpedActivities.{AreMarked}
 use Rattle.cps_branch.proofs.bump.bump.Given as goal
 
 abbrev pub invariant-loop-atom : goal.invariant-loop-atom

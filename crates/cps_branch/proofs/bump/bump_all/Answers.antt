@@ -1,7 +1,7 @@
 -- Activities that reach the limit are halved, and so they are small and not those that the clause bumped.
 use Rattle.std.proofs.Common.{sym, subst}
 use Rattle.cps_branch.specs.Activities.{AreSmall}
-use Rattle.cps_branch.proofs.Bumping.{halved_differs, small-halved}
+use Rattle.cps_branch.proofs.BumpedActivities.{halved_differs, small-halved}
 use Rattle.cps_branch.proofs.bump.bump_all.Goals as goal
 
 pub returns-then-reached-clause-small : goal.returns-then-reached-clause-small

@@ -3,7 +3,7 @@ use Rattle.std.proofs.Common.{ℕ, ◌+◌, ◌≡◌, ◌<◌, Bool, List, leng
 use Rattle.cps_literal.specs.declared.atom.Atom.{Atom}
 use Rattle.cps_literal.specs.declared.atom.Op.TheVariants.{Le}
 use Rattle.cps_branch.specs.Activities.{speaks_of}
-use Rattle.cps_branch.proofs.Bumping.{unmarked_one, unmarked_past}
+use Rattle.cps_branch.proofs.BumpedActivities.{unmarked_one, unmarked_past}
 use Rattle.cps_branch.proofs.bump.unmark.Goals as goal
 use Rattle.cps_branch.proofs.bump.unmark.Goals.{then-subject-marks, else-subject-marks}
 

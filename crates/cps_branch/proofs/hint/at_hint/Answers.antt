@@ -5,7 +5,7 @@ use Rattle.std.proofs.lemmas.Int.{to_z-of_z}
 use Rattle.cps_literal.specs.declared.atom.Op.TheVariants.{Eq}
 use Rattle.cps_branch.specs.Strategies.{Admits}
 use Rattle.cps_branch.specs.Hints.{TakesHinted}
-use Rattle.cps_branch.proofs.Selecting.{undecided_eq}
+use Rattle.cps_branch.proofs.SelectedAtoms.{undecided_eq}
 use Rattle.cps_branch.proofs.hint.at_hint.Goals as goal
 
 pub returns-then-may_have-clause-takes : goal.returns-then-may_have-clause-takes

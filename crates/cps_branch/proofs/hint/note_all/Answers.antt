@@ -1,6 +1,6 @@
 use Rattle.std.proofs.Common.{rules, ◌-◌, get_or, pos, FitsSigned, w32, w64, sym, ◌∙◌, arith}
 use Rattle.std.proofs.lemmas.Int.{to_z-of_z}
-use Rattle.cps_branch.proofs.Hinting.{noted_none, noted_more}
+use Rattle.cps_branch.proofs.HintValues.{noted_none, noted_more}
 use Rattle.cps_branch.proofs.hint.note_all.Goals as goal
 
 pub loop-place-init : goal.loop-place-init

@@ -1,7 +1,7 @@
 -- One more copy.
 use Rattle.std.proofs.Common.{arith, ◌∙◌}
 use Rattle.std.proofs.lemmas.List.{take_all}
-use Rattle.cps_branch.proofs.Planning.{copied_more}
+use Rattle.cps_branch.proofs.Plans.{copied_more}
 use Rattle.cps_branch.proofs.plan.copies_of.Goals as goal
 
 pub loop-steering-preserved : goal.loop-steering-preserved

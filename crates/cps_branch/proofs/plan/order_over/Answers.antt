@@ -2,7 +2,7 @@
 use Rattle.std.specs.List.{range_with_len}
 use Rattle.std.proofs.Common.{ℕ, ◌≡◌, ◌++◌, ap, arith, ◌∙◌}
 use Rattle.cps_branch.specs.Strategies.{listed}
-use Rattle.cps_branch.proofs.Planning.{order_more}
+use Rattle.cps_branch.proofs.Plans.{order_more}
 use Rattle.cps_branch.proofs.plan.order_over.Goals as goal
 
 pub loop-variable-preserved : goal.loop-variable-preserved

@@ -3,7 +3,7 @@ use Rattle.std.proofs.Common.{◌++◌, List, ℕ, take, ap, arith, ◌∙◌}
 use Rattle.std.proofs.lemmas.List.{take_all}
 use Rattle.cps_instance.specs.declared.steering.Steering.{Steering}
 use Rattle.cps_branch.specs.Strategies.{listed}
-use Rattle.cps_branch.proofs.Planning.{listed_more}
+use Rattle.cps_branch.proofs.Plans.{listed_more}
 use Rattle.cps_branch.proofs.plan.subjects_of.Goals as goal
 
 pub loop-strategy-preserved : goal.loop-strategy-preserved

@@ -1,6 +1,6 @@
 use Rattle.std.proofs.Common.{ℕ, ◌+◌, ◌<◌, ◌≡◌, ◌⊎◌, ◌∙◌, inl, inr, true, subst, arith}
 use Rattle.cps_branch.specs.Tournament.{nobody, stands_at}
-use Rattle.cps_branch.proofs.Playing.{won_alike}
+use Rattle.cps_branch.proofs.Tournaments.{won_alike}
 use Rattle.cps_branch.proofs.ranking.fill.Goals as goal
 
 below_or_last : (i n : ℕ) → i < n + 1 → ((i < n) × (i ≡ n → ⊥)) ⊎ (n ≡ i)

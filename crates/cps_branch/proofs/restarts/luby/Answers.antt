@@ -1,5 +1,5 @@
 use Rattle.std.proofs.Common.{◌/◌, sym, subst, arith}
-use Rattle.cps_branch.proofs.Numbering.{IsPlaceOf, place_first, place_high, place_low, place_last}
+use Rattle.cps_branch.proofs.LubyNumbers.{IsPlaceOf, place_first, place_high, place_low, place_last}
 use Rattle.cps_branch.proofs.restarts.luby.Goals as goal
 use Rattle.cps_branch.proofs.restarts.luby.Goals.{then-power-place, else-power-place}
 

@@ -1,6 +1,6 @@
 -- The place stands for the member.
 use Rattle.std.proofs.Common.{◌≤◌, ◌^◌}
-use Rattle.cps_branch.proofs.Numbering.{IsPlaceOf}
+use Rattle.cps_branch.proofs.LubyNumbers.{IsPlaceOf}
 use Rattle.cps_branch.proofs.restarts.luby.Given as goal
 
 abbrev pub invariant-loop-place : goal.invariant-loop-place

@@ -1,7 +1,7 @@
 -- The least value of a domain is the least that the store leaves, and a subject that is not fixed has others.
 use Rattle.std.proofs.Common.{rules, FitsSigned, to_z, of_z, w64}
 use Rattle.std.proofs.lemmas.Int.{to_z-of_z}
-use Rattle.cps_branch.proofs.Selecting.{takes_least, undecided_least}
+use Rattle.cps_branch.proofs.SelectedAtoms.{takes_least, undecided_least}
 use Rattle.cps_branch.proofs.scan.take_least.Goals as goal
 
 pub returns-clause-least : goal.returns-clause-least

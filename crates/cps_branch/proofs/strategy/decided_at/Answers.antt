@@ -6,8 +6,8 @@ use Rattle.std.proofs.lemmas.List.Elements.{All-get_or, All-more}
 use Rattle.cps_instance.specs.declared.steering.Steering.{Steering}
 use Rattle.cps_branch.specs.Fixed.{IsFixed}
 use Rattle.cps_branch.specs.Strategies.{IsDone, listed}
-use Rattle.cps_branch.proofs.Planning.{both_parts, first_part, listed_from}
-use Rattle.cps_branch.proofs.Taking.{follows_at}
+use Rattle.cps_branch.proofs.Plans.{both_parts, first_part, listed_from}
+use Rattle.cps_branch.proofs.StrategyChoices.{follows_at}
 use Rattle.cps_branch.proofs.strategy.decided_at.Goals as goal
 
 -- the place of the strategy at hand in the list

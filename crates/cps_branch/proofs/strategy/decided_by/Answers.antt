@@ -2,8 +2,8 @@
 use Rattle.std.proofs.Common.{◌<◌, ℕ, List, length, sym, subst}
 use Rattle.cps_branch.specs.Fixed.{IsFixed}
 use Rattle.cps_branch.specs.Strategies.{IsTaken}
-use Rattle.cps_branch.proofs.Selecting.{HasEnds, selected_undecided}
-use Rattle.cps_branch.proofs.Taking.{taken_within}
+use Rattle.cps_branch.proofs.SelectedAtoms.{HasEnds, selected_undecided}
+use Rattle.cps_branch.proofs.StrategyChoices.{taken_within}
 use Rattle.cps_branch.proofs.strategy.decided_by.Goals as goal
 use Rattle.cps_branch.proofs.strategy.decided_by.Goals.{After-taken-taken}
 

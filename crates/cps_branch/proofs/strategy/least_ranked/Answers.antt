@@ -4,7 +4,7 @@ use Rattle.std.proofs.lemmas.List.{take_all, take_more}
 use Rattle.cps_branch.specs.declared.strategy.Ranked.{Ranked}
 use Rattle.cps_branch.specs.Fixed.{IsFixed}
 use Rattle.cps_branch.specs.Strategies.{IsTaken, better_of}
-use Rattle.cps_branch.proofs.Taking.{taken_first, taken_fixed, taken_open}
+use Rattle.cps_branch.proofs.StrategyChoices.{taken_first, taken_fixed, taken_open}
 use Rattle.cps_branch.proofs.strategy.least_ranked.Goals as goal
 use Rattle.cps_branch.proofs.strategy.least_ranked.Goals.{then-not-is_fixed, else-not-is_fixed}
 

@@ -2,7 +2,7 @@
 use Rattle.std.proofs.Common.{rules, ◌∙◌, ℤ, ℕ, pos, ◌+ℤ◌, sym, ap, subst, arith, FitsSigned, w64}
 use Rattle.std.proofs.lemmas.Int.{to_z-of_z, ints}
 use Rattle.cps_domain.specs.Division.{IsFloor}
-use Rattle.cps_branch.proofs.Selecting.{apart, floor_half, half_high}
+use Rattle.cps_branch.proofs.SelectedAtoms.{apart, floor_half, half_high}
 use Rattle.cps_branch.proofs.strategy.middle.Goals as goal
 
 pub half_way-requires-clause-order : goal.half_way-requires-clause-order

@@ -2,7 +2,7 @@
 use Rattle.std.proofs.Common.{sym, subst, get_or, pos}
 use Rattle.cps_model.specs.declared.steering.Choose.{Choose}
 use Rattle.cps_branch.specs.Strategies.{IsTaken}
-use Rattle.cps_branch.proofs.Taking.{taken_listed}
+use Rattle.cps_branch.proofs.StrategyChoices.{taken_listed}
 use Rattle.cps_branch.proofs.strategy.taken.Goals as goal
 
 pub returns-in-First : goal.returns-in-First

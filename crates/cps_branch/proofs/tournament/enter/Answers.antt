@@ -1,7 +1,7 @@
 use Rattle.std.proofs.Common.{◌+◌, ◌∙◌, set, arith}
 use Rattle.std.proofs.lemmas.List.{get_or-set_other, get_or-set_same}
 use Rattle.cps_branch.specs.Tournament.{nobody}
-use Rattle.cps_branch.proofs.Playing.{others_set, won_below}
+use Rattle.cps_branch.proofs.Tournaments.{others_set, won_below}
 use Rattle.cps_branch.proofs.tournament.enter.Goals as goal
 
 pub play_up-requires-clause-below : goal.play_up-requires-clause-below

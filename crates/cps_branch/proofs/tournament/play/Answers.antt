@@ -1,5 +1,5 @@
 use Rattle.std.proofs.Common.{arith}
-use Rattle.cps_branch.proofs.Playing.{others_set, played}
+use Rattle.cps_branch.proofs.Tournaments.{others_set, played}
 use Rattle.cps_branch.proofs.tournament.play.Goals as goal
 
 pub returns-clause-won : goal.returns-clause-won

@@ -1,5 +1,5 @@
 use Rattle.std.proofs.Common.{◌/◌, ◌∙◌, arith}
-use Rattle.cps_branch.proofs.Playing.{won_all, won_up}
+use Rattle.cps_branch.proofs.Tournaments.{won_all, won_up}
 use Rattle.cps_branch.proofs.tournament.play_up.Goals as goal
 
 pub loop-node-preserved : goal.loop-node-preserved

@@ -5,7 +5,7 @@ use Rattle.cps_literal.specs.declared.atom.Atom.{Atom}
 use Rattle.cps_clauses.specs.declared.watch.Watcher.{Watcher}
 use Rattle.cps_clauses.specs.Watches.{no_atom, slot_of, list_at}
 use Rattle.cps_clauses.specs.Looks.{IsNewWatcher}
-use Rattle.cps_clauses.proofs.Attaching.{PushedTo, pushed_to, attached_push, stands_attached}
+use Rattle.cps_clauses.proofs.AttachedWatchers.{PushedTo, pushed_to, attached_push, stands_attached}
 use Rattle.cps_clauses.proofs.choose_watches.attach.Goals as goal
 use Rattle.cps_clauses.proofs.choose_watches.attach.Goals.{After-push}
 

@@ -8,7 +8,7 @@ use Rattle.cps_clauses.specs.declared.watch.Watcher.{Watcher}
 use Rattle.cps_clauses.specs.declared.watching.Watching.{Watching}
 use Rattle.cps_clauses.specs.Watches.{first_two, slot_of, clause_of, list_at, StandsInList, IsWatched, IsWatching}
 use Rattle.cps_clauses.specs.Looks.{IsAttached}
-use Rattle.cps_clauses.proofs.Attaching.{watching_attached, watching_rewatched}
+use Rattle.cps_clauses.proofs.AttachedWatchers.{watching_attached, watching_rewatched}
 use Rattle.cps_clauses.proofs.choose_watches.rewatch.Goals as goal
 use Rattle.cps_clauses.proofs.choose_watches.rewatch.Goals.{After-attach, After-attach-2, then-known, else-known, then-known-2, else-known-2}
 

@@ -4,7 +4,7 @@ use Rattle.std.proofs.lemmas.List.{get_or_default}
 use Rattle.cps_literal.specs.declared.atom.Atom.{Atom}
 use Rattle.cps_trail.specs.Trail.{Trail, IsFalseNow}
 use Rattle.cps_clauses.specs.Watches.{no_atom, IsNotFalse}
-use Rattle.cps_clauses.proofs.Quieting.{at_any, seam}
+use Rattle.cps_clauses.proofs.QuietClauses.{at_any, seam}
 use Rattle.cps_clauses.proofs.find.not_false_between.Goals as goal
 use Rattle.cps_clauses.proofs.find.not_false_between.Goals.{else-p-other-via-then-p-other+else-is_not_false, else-p-other-via-else-p-other}
 

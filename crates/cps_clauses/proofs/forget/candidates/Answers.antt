@@ -4,8 +4,8 @@ use Rattle.cps_literal.specs.declared.atom.Atom.{Atom}
 use Rattle.cps_clauses.specs.declared.forget.Candidate.{Candidate}
 use Rattle.cps_clauses.specs.Bases.{number_at}
 use Rattle.cps_clauses.specs.Forgets.{MayGo, learnt_clause}
-use Rattle.cps_clauses.proofs.Naming.{AreCandidatesTo, may_go, may_not_go}
-use Rattle.cps_clauses.proofs.Weighing.{candidates_none, candidates_more, candidates_skip, candidates_all}
+use Rattle.cps_clauses.proofs.NamedClauses.{AreCandidatesTo, may_go, may_not_go}
+use Rattle.cps_clauses.proofs.Candidates.{candidates_none, candidates_more, candidates_skip, candidates_all}
 use Rattle.cps_clauses.proofs.forget.candidates.Goals as goal
 
 pub loop-place-init : goal.loop-place-init

@@ -1,4 +1,4 @@
-use Rattle.cps_clauses.proofs.Naming.{AreCandidatesTo}
+use Rattle.cps_clauses.proofs.NamedClauses.{AreCandidatesTo}
 use Rattle.cps_clauses.proofs.forget.candidates.Given as goal
 
 abbrev pub invariant-loop-place : goal.invariant-loop-place

@@ -2,7 +2,7 @@ use Rattle.std.proofs.Common.{ℕ, List, map, sym, ◌∙◌, ap, subst}
 use Rattle.std.proofs.lemmas.List.{take_all}
 use Rattle.cps_clauses.specs.declared.forget.Candidate.{Candidate}
 use Rattle.cps_clauses.specs.Forgets.{GoInOrder}
-use Rattle.cps_clauses.proofs.Weighing.{in_turn_of}
+use Rattle.cps_clauses.proofs.Candidates.{in_turn_of}
 use Rattle.cps_clauses.proofs.forget.in_turn.Goals as goal
 
 pub sort_by_turn-requires : goal.sort_by_turn-requires

@@ -2,7 +2,7 @@ use Rattle.std.proofs.Common.{ℕ, Bool, List, true, get_or, map, set, sym, ◌�
 use Rattle.std.proofs.lemmas.List.{take_all}
 use Rattle.cps_clauses.specs.InForce.{marked}
 use Rattle.cps_clauses.specs.Bases.{number_at}
-use Rattle.cps_clauses.proofs.Dropping.{marks_more}
+use Rattle.cps_clauses.proofs.DroppedClauses.{marks_more}
 use Rattle.cps_clauses.proofs.forget.marks_with.Goals as goal
 
 pub loop-place-preserved : goal.loop-place-preserved

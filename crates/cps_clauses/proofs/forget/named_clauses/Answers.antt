@@ -1,6 +1,6 @@
 use Rattle.std.proofs.Common.{◌+◌, ◌<◌, Bool, List, length, get_or, refl, sym, subst, arith}
-use Rattle.cps_clauses.proofs.Noting.{none_view, IsView-at, named_by, names_same, names_none}
-use Rattle.cps_clauses.proofs.Naming.{AreNamed, named_first, named_all, named_more, named_none}
+use Rattle.cps_clauses.proofs.Notes.{none_view, IsView-at, named_by, names_same, names_none}
+use Rattle.cps_clauses.proofs.NamedClauses.{AreNamed, named_first, named_all, named_more, named_none}
 use Rattle.cps_clauses.proofs.forget.named_clauses.Goals as goal
 
 pub loop-view-init : goal.loop-view-init

@@ -1,4 +1,4 @@
-use Rattle.cps_clauses.proofs.Naming.{AreNamed}
+use Rattle.cps_clauses.proofs.NamedClauses.{AreNamed}
 use Rattle.cps_clauses.proofs.forget.named_clauses.Given as goal
 
 abbrev pub invariant-loop-view : goal.invariant-loop-view

@@ -1,7 +1,7 @@
 -- What a sort by rank and place ensures.
 use Rattle.std.proofs.Common.{rules}
 use Rattle.std.proofs.lemmas.List.Sorted.{answers_always}
-use Rattle.cps_clauses.proofs.Sorting.{sorted_by_turn}
+use Rattle.cps_clauses.proofs.SortedCandidates.{sorted_by_turn}
 use Rattle.cps_clauses.proofs.forget.sort_by_turn.Goals as goal
 
 pub returns : goal.returns

@@ -3,7 +3,7 @@ use Rattle.std.specs.List.{All}
 use Rattle.std.proofs.lemmas.List.{get_or_read}
 use Rattle.cps_clauses.specs.declared.watch.Watcher.{Watcher}
 use Rattle.cps_clauses.specs.Moves.{IsReleased}
-use Rattle.cps_clauses.proofs.Releasing.{released_more, released_step}
+use Rattle.cps_clauses.proofs.ReleasedWatchers.{released_more, released_step}
 use Rattle.cps_clauses.proofs.watching.release_all.Goals as goal
 
 pub loop-slot-init : goal.loop-slot-init

@@ -1,4 +1,4 @@
-use Rattle.cps_clauses.proofs.Releasing.{AreReleasedTo}
+use Rattle.cps_clauses.proofs.ReleasedWatchers.{AreReleasedTo}
 use Rattle.cps_clauses.proofs.watching.release_all.Given as goal
 
 abbrev pub invariant-loop-slot : goal.invariant-loop-slot

@@ -1,5 +1,5 @@
 -- A frame that knows nothing yet has a form over an instance that only grew.
-use Rattle.cps_core_guided.proofs.CoreBeginning.{fresh-begins}
+use Rattle.cps_core_guided.proofs.CoreStarts.{fresh-begins}
 use Rattle.cps_core_guided.proofs.first.begin.Goals as goal
 
 pub returns-clause-begins : goal.returns-clause-begins

@@ -8,7 +8,7 @@ use Rattle.cps_instance.specs.declared.term.Term.{Term}
 use Rattle.cps_instance.specs.Problem.{Problem}
 use Rattle.cps_instance.specs.Terms.{domain_at, magnitude}
 use Rattle.cps_reform.specs.Forms.{form_value, held_reach, with_held}
-use Rattle.cps_core_guided.proofs.Starting.{all-held, form-more, form-none, form-stays, grew-at-most, next-base, next-ordered, next-room, next-roomy, next-within}
+use Rattle.cps_core_guided.proofs.FirstForms.{all-held, form-more, form-none, form-stays, grew-at-most, next-base, next-ordered, next-room, next-roomy, next-within}
 use Rattle.cps_core_guided.proofs.first.first_form.Goals as goal
 
 abbrev none : Term

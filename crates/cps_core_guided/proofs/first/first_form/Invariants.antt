@@ -1,4 +1,4 @@
-use Rattle.cps_core_guided.proofs.Starting.{FormSoFar}
+use Rattle.cps_core_guided.proofs.FirstForms.{FormSoFar}
 use Rattle.cps_core_guided.proofs.first.first_form.Given as goal
 
 abbrev pub invariant-loop-term : goal.invariant-loop-term

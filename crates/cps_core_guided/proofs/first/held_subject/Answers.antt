@@ -7,7 +7,7 @@ use Rattle.cps_reform.specs.Beginning.{StandsForTerm}
 use Rattle.cps_core_guided.specs.Beginning.{opposite}
 use Rattle.cps_core_guided.proofs.Opposites.{opposite-holds}
 use Rattle.cps_core_guided.proofs.Results.{if_ok_both}
-use Rattle.cps_core_guided.proofs.Starting.{itself-holds, opposite-reach, opposite-subjects}
+use Rattle.cps_core_guided.proofs.FirstForms.{itself-holds, opposite-reach, opposite-subjects}
 use Rattle.cps_core_guided.proofs.first.held_subject.Goals as goal
 
 pub grow-requires-clause-small : goal.grow-requires-clause-small

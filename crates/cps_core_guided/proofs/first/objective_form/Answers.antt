@@ -7,7 +7,7 @@ use Rattle.cps_instance.specs.Problem.{Problem, variable_count}
 use Rattle.cps_instance.specs.Terms.{Domains, terms_reach}
 use Rattle.cps_reform.specs.Beginning.{IsFirstForm}
 use Rattle.cps_core_guided.specs.Beginning.{OnlyGrew}
-use Rattle.cps_core_guided.proofs.CoreBeginning.{greatest-read, term-subjects, terms-of}
+use Rattle.cps_core_guided.proofs.CoreStarts.{greatest-read, term-subjects, terms-of}
 use Rattle.cps_core_guided.proofs.first.objective_form.Goals as goal
 
 pub first_form-requires-clause-subjects : goal.first_form-requires-clause-subjects

@@ -1,4 +1,4 @@
-use Rattle.cps_core_guided.proofs.CoreRunning.{core-turns-run}
+use Rattle.cps_core_guided.proofs.CoreRuns.{core-turns-run}
 use Rattle.cps_core_guided.proofs.laws.core_turns_come_to_a_run.Goals as goal
 
 pub returns : goal.returns

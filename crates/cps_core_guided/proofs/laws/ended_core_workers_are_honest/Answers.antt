@@ -1,4 +1,4 @@
-use Rattle.cps_core_guided.proofs.CoreEnding.{core-honest}
+use Rattle.cps_core_guided.proofs.CoreEnds.{core-honest}
 use Rattle.cps_core_guided.proofs.laws.ended_core_workers_are_honest.Goals as goal
 
 pub returns : goal.returns

@@ -2,7 +2,7 @@
 use Rattle.std.specs.Prelude.{All}
 use Rattle.std.proofs.Common.{ℕ, suc, ◌+◌, ◌++◌, ◌≤◌, ◌-◌, ◌<◌, ◌≡◌, ◌∙◌, List, length, sym, ap, subst, arith}
 use Rattle.cps_neighbourhood.specs.Drawing.{AscendsStrictly, sample, sampled}
-use Rattle.cps_neighbourhood.proofs.Sampling.{none_left, sampled_under, sampled_length, sampled_rising, step_taken, step_passed, wanted_after, room_after, words_after, words_done}
+use Rattle.cps_neighbourhood.proofs.Samples.{none_left, sampled_under, sampled_length, sampled_rising, step_taken, step_passed, wanted_after, room_after, words_after, words_done}
 use Rattle.cps_neighbourhood.proofs.draws.choose_free.Goals as goal
 use Rattle.cps_neighbourhood.proofs.draws.choose_free.Goals.{then-is_taken+in_ok-push, else-is_taken}
 

@@ -1,4 +1,4 @@
-use Rattle.cps_neighbourhood.proofs.Counting.{near_honest}
+use Rattle.cps_neighbourhood.proofs.LearntCounts.{near_honest}
 use Rattle.cps_neighbourhood.proofs.laws.ended_near_workers_are_honest.Goals as goal
 
 pub returns : goal.returns

@@ -1,4 +1,4 @@
-use Rattle.cps_neighbourhood.proofs.Counting.{near_turns_run}
+use Rattle.cps_neighbourhood.proofs.LearntCounts.{near_turns_run}
 use Rattle.cps_neighbourhood.proofs.laws.near_turns_come_to_a_run.Goals as goal
 
 pub returns : goal.returns

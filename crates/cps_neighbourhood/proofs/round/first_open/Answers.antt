@@ -3,7 +3,7 @@ use Rattle.std.proofs.Common.{◌∙◌, arith, pos, sym, true≢false}
 use Rattle.cps_literal.specs.declared.atom.Atom.{Atom}
 use Rattle.cps_literal.specs.declared.atom.Op.TheVariants.{Le}
 use Rattle.cps_branch.specs.Choice.{IsUndecided}
-use Rattle.cps_neighbourhood.proofs.Firsts.{at_place, one_passed}
+use Rattle.cps_neighbourhood.proofs.FirstDecisions.{at_place, one_passed}
 use Rattle.cps_neighbourhood.proofs.round.first_open.Goals as goal
 use Rattle.cps_neighbourhood.proofs.round.first_open.Goals.{else-from-place-via-then-from-place+else-is_open, else-from-place-via-else-from-place}
 

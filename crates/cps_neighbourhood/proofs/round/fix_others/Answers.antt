@@ -3,7 +3,7 @@ use Rattle.std.specs.Prelude.{IsTrue}
 use Rattle.std.proofs.Common.{ℕ, pos, ◌+◌, ◌≤◌, ◌<◌, ◌≡◌, ◌∙◌, false, [], ◌∷◌, ◌++◌, length, get_or, drop, refl, sym, ap, subst, arith}
 use Rattle.cps_literal.specs.declared.atom.Atom.{Atom}
 use Rattle.cps_neighbourhood.specs.Rounds.{fixed_from}
-use Rattle.cps_neighbourhood.proofs.Freeing.{after_next, after_other, all_fixed, before_next, step_fixed, step_free}
+use Rattle.cps_neighbourhood.proofs.FreeVariables.{after_next, after_other, all_fixed, before_next, step_fixed, step_free}
 use Rattle.cps_neighbourhood.proofs.round.fix_others.Goals as goal
 use Rattle.cps_neighbourhood.proofs.round.fix_others.Goals.{then-is_free, else-is_free+in_ok-push}
 

@@ -1,6 +1,6 @@
 use Rattle.std.proofs.Common.{arith}
 use Rattle.std.proofs.lemmas.Bool.Decides.{nat_tests}
-use Rattle.cps_neighbourhood.proofs.Freeing.{is_here, is_past}
+use Rattle.cps_neighbourhood.proofs.FreeVariables.{is_here, is_past}
 use Rattle.cps_neighbourhood.proofs.round.is_free.Goals as goal
 
 pub returns-then-place-free-clause-is : goal.returns-then-place-free-clause-is

@@ -1,8 +1,8 @@
 -- An end that lies in the interval is passed, and its one number is left out.
 use Rattle.std.proofs.Common.{◌≡◌, pos, ◌+ℤ◌, ◌-ℤ◌, refl, rules, FitsSigned, w64}
 use Rattle.std.proofs.lemmas.Int.{ints, to_z-of_z}
-use Rattle.cps_p_alldiff.proofs.Reading.{read_at_most, above_fits, below_fits, down_up}
-use Rattle.cps_p_alldiff.proofs.Barring.{bar_low, bar_high, bar_one}
+use Rattle.cps_p_alldiff.proofs.NumberTests.{read_at_most, above_fits, below_fits, down_up}
+use Rattle.cps_p_alldiff.proofs.BarAtoms.{bar_low, bar_high, bar_one}
 use Rattle.cps_p_alldiff.proofs.bars.bar_of.Goals as goal
 
 pub returns-then-ends-hall : goal.returns-then-ends-hall

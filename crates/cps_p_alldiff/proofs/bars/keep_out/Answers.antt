@@ -3,8 +3,8 @@ use Rattle.cps_rule.specs.declared.rule.Narrowing.{Narrowing}
 use Rattle.cps_p_alldiff.specs.declared.interval.Interval.{Interval}
 use Rattle.cps_p_alldiff.specs.Intervals.{IsEnclosed}
 use Rattle.cps_p_alldiff.specs.Bars.{AreGivenBars}
-use Rattle.cps_p_alldiff.proofs.Certifying.{zip_length}
-use Rattle.cps_p_alldiff.proofs.Giving.{bar_given, given_more}
+use Rattle.cps_p_alldiff.proofs.NoCrowds.{zip_length}
+use Rattle.cps_p_alldiff.proofs.ImpliedAtoms.{bar_given, given_more}
 use Rattle.cps_p_alldiff.proofs.bars.keep_out.Goals as goal
 use Rattle.cps_p_alldiff.proofs.bars.keep_out.Goals.{then-not-covers+in-Some+in_ok-push-in-Some, then-not-covers+in-None, else-not-covers}
 

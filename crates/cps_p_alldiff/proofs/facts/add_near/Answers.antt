@@ -1,8 +1,8 @@
 -- A bound that was true, or that the atom lies in the interval itself, gives the atom beside it.
 use Rattle.std.proofs.Common.{◌≡◌, ◌<◌, length, refl, sym, subst, rules, FitsSigned, w64}
 use Rattle.cps_literal.specs.declared.atom.Op.TheVariants.{Ne}
-use Rattle.cps_p_alldiff.proofs.Reading.{read_at_most}
-use Rattle.cps_p_alldiff.proofs.Barring.{near_by, near_itself}
+use Rattle.cps_p_alldiff.proofs.NumberTests.{read_at_most}
+use Rattle.cps_p_alldiff.proofs.BarAtoms.{near_by, near_itself}
 use Rattle.cps_p_alldiff.proofs.facts.add_near.Goals as goal
 
 pub returns-in_ok-push-in-Yes : goal.returns-in_ok-push-in-Yes

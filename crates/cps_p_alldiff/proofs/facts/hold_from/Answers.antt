@@ -1,7 +1,7 @@
 use Rattle.std.proofs.Common.{ℕ, ◌≡◌, ◌+◌, ◌∙◌, ◌++◌, ◌∷◌, [], List, refl, w64, rules, arith, sym, ap, subst, get_or, FitsSigned}
 use Rattle.std.proofs.lemmas.Int.{to_z-of_z}
 use Rattle.cps_literal.specs.declared.atom.Atom.{Atom}
-use Rattle.cps_p_alldiff.proofs.Holding.{HoldsSoFar, holds_begun, holds_skip, holds_more, holds_all, at_least, at_most}
+use Rattle.cps_p_alldiff.proofs.FactPositions.{HoldsSoFar, holds_begun, holds_skip, holds_more, holds_all, at_least, at_most}
 use Rattle.cps_p_alldiff.proofs.facts.hold_from.Goals as goal
 use Rattle.cps_p_alldiff.proofs.facts.hold_from.Goals.{then-is_other+then-was_within+in_ok-push+in_ok-push-2, else-is_other}
 

@@ -1,4 +1,4 @@
-use Rattle.cps_p_alldiff.proofs.Holding.{HoldsSoFar}
+use Rattle.cps_p_alldiff.proofs.FactPositions.{HoldsSoFar}
 use Rattle.cps_p_alldiff.proofs.facts.hold_from.Given as goal
 
 abbrev pub invariant-loop-place : goal.invariant-loop-place

@@ -1,7 +1,7 @@
 use Rattle.std.proofs.Common.{◌≡◌, pos, ◌+ℤ◌, ◌-ℤ◌, ◌≤ℤ◌, rules, FitsSigned, w64, arith}
 use Rattle.std.proofs.lemmas.Int.{ints, to_z-of_z}
 use Rattle.cps_literal.specs.declared.atom.Op.TheVariants.{Le, Ge}
-use Rattle.cps_p_alldiff.proofs.Barring.{bound_low, bound_high}
+use Rattle.cps_p_alldiff.proofs.BarAtoms.{bound_low, bound_high}
 use Rattle.cps_p_alldiff.proofs.facts.near_of.Goals as goal
 
 pub returns-then-target-hall : goal.returns-then-target-hall

@@ -1,6 +1,6 @@
 -- The values between the ends lie in the interval.
 use Rattle.std.proofs.Common.{rules, FitsSigned, w64}
-use Rattle.cps_p_alldiff.proofs.Reading.{read_at_most, held_by}
+use Rattle.cps_p_alldiff.proofs.NumberTests.{read_at_most, held_by}
 use Rattle.cps_p_alldiff.proofs.facts.was_within.Goals as goal
 
 pub returns-then-hall-low : goal.returns-then-hall-low

@@ -3,7 +3,7 @@ use mir.Val.{to_z, of_z}
 use Rattle.std.proofs.Common.{ℕ, ℤ, pos, ◌+◌, ◌<◌, ◌≡◌, ◌∙◌, get_or, sym, subst, rules, FitsSigned, w64, arith}
 use Rattle.std.proofs.lemmas.Int.{to_z-of_z}
 use Rattle.cps_p_alldiff.specs.Owners.{owner_of}
-use Rattle.cps_p_alldiff.proofs.Certifying.{owned_more, owned_apart}
+use Rattle.cps_p_alldiff.proofs.NoCrowds.{owned_more, owned_apart}
 use Rattle.cps_p_alldiff.proofs.judge.are_owned.Goals as goal
 
 pub loop-k-preserved : goal.loop-k-preserved

@@ -4,7 +4,7 @@ use Rattle.std.proofs.lemmas.Int.{to_z-of_z}
 use Rattle.std.proofs.lemmas.List.{get_or_default}
 use Rattle.cps_p_alldiff.specs.declared.interval.Interval.{Interval}
 use Rattle.cps_p_alldiff.specs.Intervals.{covered, numbers, IsInRange}
-use Rattle.cps_p_alldiff.proofs.Certifying.{last_or}
+use Rattle.cps_p_alldiff.proofs.NoCrowds.{last_or}
 use Rattle.cps_p_alldiff.proofs.judge.scan_from.Goals as goal
 
 abbrev no_ends : Interval

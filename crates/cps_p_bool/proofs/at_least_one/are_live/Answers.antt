@@ -2,7 +2,7 @@
 use Rattle.std.proofs.Common.{◌<◌, length, arith}
 use Rattle.cps_literal.specs.declared.atom.Atom.{Atom}
 use Rattle.cps_trail.specs.Trail.{IsFalseNow}
-use Rattle.cps_p_bool.proofs.Placing.{at_place}
+use Rattle.cps_p_bool.proofs.AtomPlaces.{at_place}
 use Rattle.cps_propagate.proofs.Past.{none}
 use Rattle.cps_p_bool.proofs.at_least_one.are_live.Goals as goal
 

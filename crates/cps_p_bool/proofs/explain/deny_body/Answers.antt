@@ -1,7 +1,7 @@
 -- What rules out the sure literals or the rest of a normal form rules out the body.
 use Rattle.std.proofs.Common.{Ok, ap}
 use Rattle.cps_p_bool.specs.Bodies.{body_of}
-use Rattle.cps_p_bool.proofs.Explaining.{IsRuledOut-sure, IsRuledOut-rest}
+use Rattle.cps_p_bool.proofs.LazyReasons.{IsRuledOut-sure, IsRuledOut-rest}
 use Rattle.cps_p_bool.proofs.explain.deny_body.Goals as goal
 
 pub returns-then-branch : goal.returns-then-branch

@@ -1,7 +1,7 @@
 -- No literal was open, and an even number was true.
 use Rattle.std.proofs.Common.{arith}
 use Rattle.cps_propagate.specs.Now.{IsKnownNow}
-use Rattle.cps_p_bool.proofs.Placing.{all_passed}
+use Rattle.cps_p_bool.proofs.AtomPlaces.{all_passed}
 use Rattle.cps_p_bool.proofs.Parity.{Excludes-even}
 use Rattle.cps_p_bool.proofs.explain.deny_even.Goals as goal
 

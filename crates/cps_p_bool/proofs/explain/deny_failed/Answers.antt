@@ -4,8 +4,8 @@ use Rattle.cps_literal.specs.declared.atom.Atom.{Atom}
 use Rattle.cps_instance.specs.declared.task.Body.TheVariants.{BoolAnd}
 use Rattle.cps_propagate.proofs.Past.{none}
 use Rattle.cps_p_bool.specs.Denying.{Excludes, IsFit}
-use Rattle.cps_p_bool.proofs.Conjoining.{Excludes-and}
-use Rattle.cps_p_bool.proofs.Placing.{one_used}
+use Rattle.cps_p_bool.proofs.Conjunctions.{Excludes-and}
+use Rattle.cps_p_bool.proofs.AtomPlaces.{one_used}
 use Rattle.cps_p_bool.proofs.explain.deny_failed.Goals as goal
 
 pub returns : goal.returns

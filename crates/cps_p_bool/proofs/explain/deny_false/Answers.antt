@@ -1,7 +1,7 @@
 use Rattle.std.proofs.Common.{List, subst, ap, Ok}
 use Rattle.std.proofs.lemmas.List.{take_all}
 use Rattle.cps_literal.specs.declared.atom.Atom.{Atom}
-use Rattle.cps_p_bool.proofs.Explaining.{IsDeniedSoFar, denied_none, denied_more}
+use Rattle.cps_p_bool.proofs.LazyReasons.{IsDeniedSoFar, denied_none, denied_more}
 use Rattle.cps_p_bool.proofs.explain.deny_false.Goals as goal
 
 pub loop-atom-init : goal.loop-atom-init

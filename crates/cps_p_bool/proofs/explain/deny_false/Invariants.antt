@@ -1,5 +1,5 @@
 use Rattle.std.proofs.Common.{take}
-use Rattle.cps_p_bool.proofs.Explaining.{IsDeniedSoFar}
+use Rattle.cps_p_bool.proofs.LazyReasons.{IsDeniedSoFar}
 use Rattle.cps_p_bool.proofs.explain.deny_false.Given as goal
 
 abbrev pub invariant-loop-atom : goal.invariant-loop-atom

@@ -2,7 +2,7 @@ use Rattle.std.proofs.Common.{List, [], subst}
 use Rattle.cps_literal.specs.declared.atom.Atom.{Atom}
 use Rattle.cps_p_bool.specs.Denying.{Denies}
 use Rattle.cps_p_bool.proofs.Denials.{Denies-append}
-use Rattle.cps_p_bool.proofs.Explaining.{Excludes-none}
+use Rattle.cps_p_bool.proofs.LazyReasons.{Excludes-none}
 use Rattle.cps_p_bool.proofs.explain.deny_none.Goals as goal
 
 pub returns : goal.returns

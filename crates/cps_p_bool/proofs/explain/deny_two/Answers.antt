@@ -3,8 +3,8 @@ use Rattle.std.proofs.Common.{◌<◌, List, length, sym, subst, arith}
 use Rattle.cps_literal.specs.declared.atom.Atom.{Atom}
 use Rattle.cps_propagate.proofs.Past.{none}
 use Rattle.cps_p_bool.specs.Denying.{Excludes, IsFit}
-use Rattle.cps_p_bool.proofs.Limiting.{Excludes-two}
-use Rattle.cps_p_bool.proofs.Placing.{two_used}
+use Rattle.cps_p_bool.proofs.AtMostOne.{Excludes-two}
+use Rattle.cps_p_bool.proofs.AtomPlaces.{two_used}
 use Rattle.cps_p_bool.proofs.explain.deny_two.Goals as goal
 
 pub returns : goal.returns

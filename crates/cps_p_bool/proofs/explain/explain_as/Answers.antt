@@ -1,6 +1,6 @@
 use Rattle.std.proofs.Common.{◌≡◌, rules, arith}
 use Rattle.std.proofs.lemmas.Grind.{common_steps}
-use Rattle.cps_p_bool.proofs.Explaining.{IsExplanation-given}
+use Rattle.cps_p_bool.proofs.LazyReasons.{IsExplanation-given}
 use Rattle.cps_p_bool.proofs.explain.explain_as.Goals as goal
 
 pub returns-then-eq : goal.returns-then-eq

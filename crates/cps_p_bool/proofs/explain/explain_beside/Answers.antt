@@ -5,9 +5,9 @@ use Rattle.cps_literal.specs.declared.atom.Atom.{Atom}
 use Rattle.cps_trail.specs.Trail.{IsTrueNow}
 use Rattle.cps_propagate.proofs.Past.{none}
 use Rattle.cps_p_bool.specs.Denying.{GivesAtom, task_of, IsFit}
-use Rattle.cps_p_bool.proofs.Limiting.{Gives-not}
-use Rattle.cps_p_bool.proofs.Negating.{negatable_low, negatable_high, negatable_above, negatable_below}
-use Rattle.cps_p_bool.proofs.Placing.{one_used}
+use Rattle.cps_p_bool.proofs.AtMostOne.{Gives-not}
+use Rattle.cps_p_bool.proofs.NegatableLiterals.{negatable_low, negatable_high, negatable_above, negatable_below}
+use Rattle.cps_p_bool.proofs.AtomPlaces.{one_used}
 use Rattle.cps_p_bool.proofs.explain.explain_beside.Goals as goal
 
 pub returns : goal.returns

@@ -6,7 +6,7 @@ use Rattle.cps_trail.specs.Notes.{ByTask}
 use Rattle.cps_trail.proofs.Inferring.{Infers-refl}
 use Rattle.cps_propagate.proofs.Past.{none}
 use Rattle.cps_p_bool.specs.Denying.{task_of, IsFit}
-use Rattle.cps_p_bool.proofs.Conjoining.{GivesAtom-and}
+use Rattle.cps_p_bool.proofs.Conjunctions.{GivesAtom-and}
 use Rattle.std.proofs.lemmas.List.Elements.{All-nil}
 use Rattle.cps_p_bool.proofs.explain.explain_each.Goals as goal
 

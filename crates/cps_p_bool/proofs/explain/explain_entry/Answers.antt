@@ -3,7 +3,7 @@ use Rattle.cps_trail.specs.Trail.{Trail}
 use Rattle.cps_propagate.proofs.Past.{none_view, read}
 use Rattle.cps_p_bool.specs.Denying.{AreLiterals, task_of}
 use Rattle.cps_p_bool.specs.Explaining.{IsExplanation}
-use Rattle.cps_p_bool.proofs.Explaining.{IsReason-explained}
+use Rattle.cps_p_bool.proofs.LazyReasons.{IsReason-explained}
 use Rattle.cps_p_bool.proofs.explain.explain_entry.Goals as goal
 
 pub returns : goal.returns

@@ -1,7 +1,7 @@
 use Rattle.cps_instance.specs.declared.task.Body.TheVariants.{BoolOr, AtMostOne}
 use Rattle.cps_p_bool.specs.declared.boolean.Kind.TheVariants as kinds
-use Rattle.cps_p_bool.proofs.Explaining.{IsExplanation-kind, AsksForOne-or}
-use Rattle.cps_p_bool.proofs.Limiting.{LimitsToOne-most}
+use Rattle.cps_p_bool.proofs.LazyReasons.{IsExplanation-kind, AsksForOne-or}
+use Rattle.cps_p_bool.proofs.AtMostOne.{LimitsToOne-most}
 use Rattle.cps_p_bool.proofs.explain.explain_given.Goals as goal
 
 pub returns-in-Or : goal.returns-in-Or

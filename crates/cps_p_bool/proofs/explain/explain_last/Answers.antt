@@ -7,9 +7,9 @@ use Rattle.cps_trail.specs.Trail.{IsFalseNow}
 use Rattle.cps_propagate.proofs.Past.{none}
 use Rattle.cps_p_bool.specs.Denying.{Denies, IsDenyingReason, IsFit}
 use Rattle.cps_p_bool.proofs.Denials.{Denies-append}
-use Rattle.cps_p_bool.proofs.Giving.{IsDenyingReason-made}
-use Rattle.cps_p_bool.proofs.Explaining.{IsExplanation-given, Gives-but}
-use Rattle.cps_p_bool.proofs.Placing.{all_before, all_after}
+use Rattle.cps_p_bool.proofs.ReasonConsequences.{IsDenyingReason-made}
+use Rattle.cps_p_bool.proofs.LazyReasons.{IsExplanation-given, Gives-but}
+use Rattle.cps_p_bool.proofs.AtomPlaces.{all_before, all_after}
 use Rattle.cps_p_bool.proofs.explain.explain_last.Goals as goal
 
 pub returns : goal.returns

@@ -4,8 +4,8 @@ use Rattle.cps_instance.specs.declared.task.Body.TheVariants.{BoolXor}
 use Rattle.cps_propagate.specs.Now.{IsKnownNow}
 use Rattle.cps_propagate.proofs.Past.{none}
 use Rattle.cps_p_bool.proofs.Parity.{known_before, known_after, Gives-even, Gives-odd}
-use Rattle.cps_p_bool.proofs.Negating.{negatable_low, negatable_high, negatable_above, negatable_below}
-use Rattle.cps_p_bool.proofs.Placing.{all_before, all_after}
+use Rattle.cps_p_bool.proofs.NegatableLiterals.{negatable_low, negatable_high, negatable_above, negatable_below}
+use Rattle.cps_p_bool.proofs.AtomPlaces.{all_before, all_after}
 use Rattle.cps_p_bool.specs.Denying.{IsFit}
 use Rattle.cps_p_bool.proofs.explain.explain_odd.Goals as goal
 

@@ -1,7 +1,7 @@
 use Rattle.std.proofs.Common.{◌≡◌, Ok, ap, rules, arith}
 use Rattle.std.proofs.lemmas.Grind.{common_steps}
 use Rattle.cps_propagate.proofs.Past.{none}
-use Rattle.cps_p_bool.proofs.Explaining.{IsExplanation-off}
+use Rattle.cps_p_bool.proofs.LazyReasons.{IsExplanation-off}
 use Rattle.cps_p_bool.proofs.explain.explain_off.Goals as goal
 
 pub returns-then-branch : goal.returns-then-branch

@@ -1,6 +1,6 @@
 use Rattle.cps_instance.specs.declared.task.Body.TheVariants.{ExactlyOne}
-use Rattle.cps_p_bool.proofs.Explaining.{AsksForOne-exactly}
-use Rattle.cps_p_bool.proofs.Limiting.{LimitsToOne-exactly}
+use Rattle.cps_p_bool.proofs.LazyReasons.{AsksForOne-exactly}
+use Rattle.cps_p_bool.proofs.AtMostOne.{LimitsToOne-exactly}
 use Rattle.cps_p_bool.proofs.explain.explain_one.Goals as goal
 
 pub returns-then-noted : goal.returns-then-noted

@@ -1,8 +1,8 @@
 -- The last enforcement atom is given its opposite, or all are true and the body holds nowhere.
 use Rattle.std.proofs.Common.{arith, ℕ, ◌<◌, length, sym, subst}
 use Rattle.cps_p_bool.proofs.Results.{IfOk-map, not_settled}
-use Rattle.cps_p_bool.proofs.Giving.{GivesAtom-last, IsConflict-denied, IsOff-opposite}
-use Rattle.cps_p_bool.proofs.Negating.{negatable_low, negatable_high, negatable_above, negatable_below}
+use Rattle.cps_p_bool.proofs.ReasonConsequences.{GivesAtom-last, IsConflict-denied, IsOff-opposite}
+use Rattle.cps_p_bool.proofs.NegatableLiterals.{negatable_low, negatable_high, negatable_above, negatable_below}
 use Rattle.cps_propagate.proofs.Past.{none}
 use Rattle.cps_trail.proofs.Inferring.{Infers-refl}
 use Rattle.cps_p_bool.proofs.reasons.reject.Goals as goal

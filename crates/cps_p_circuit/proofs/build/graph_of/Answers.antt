@@ -1,5 +1,5 @@
 use Rattle.std.proofs.Common.{◌≡◌, ◌++◌, ◌∙◌, ap, List, ℤ}
-use Rattle.cps_p_circuit.proofs.Deciding.{all_left, all_right, numbering}
+use Rattle.cps_p_circuit.proofs.TakenArcs.{all_left, all_right, numbering}
 use Rattle.cps_p_circuit.proofs.build.graph_of.Goals as goal
 
 pub places_of-requires : goal.places_of-requires

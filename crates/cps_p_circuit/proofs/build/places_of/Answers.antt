@@ -4,7 +4,7 @@ use Rattle.std.proofs.Common.{arith, rules, pos, ℤ, ◌<◌, length, get_or, s
 use Rattle.std.proofs.lemmas.Int.{to_z-of_z}
 use Rattle.std.proofs.lemmas.List.{take_all}
 use Rattle.std.proofs.lemmas.List.Elements.{All-push}
-use Rattle.cps_p_circuit.proofs.Deciding.{places_more}
+use Rattle.cps_p_circuit.proofs.TakenArcs.{places_more}
 use Rattle.cps_p_circuit.proofs.build.places_of.Goals as goal
 
 pub place_in-requires : goal.place_in-requires

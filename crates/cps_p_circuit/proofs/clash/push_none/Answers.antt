@@ -1,6 +1,6 @@
 -- Each arc before the one that is looked at is left out, where it has the arc's end.
 use Rattle.std.proofs.Common.{slice_index}
-use Rattle.cps_p_circuit.proofs.Passing.{end_more, end_less, deserted}
+use Rattle.cps_p_circuit.proofs.Walks.{end_more, end_less, deserted}
 use Rattle.cps_p_circuit.proofs.clash.push_none.Goals as goal
 
 pub loop-j-preserved-then-ends-j : goal.loop-j-preserved-then-ends-j

@@ -1,7 +1,7 @@
 -- The subject of a literal that is open is not fixed.
 use Rattle.std.proofs.Common.{arith, ◌<◌, length}
 use Rattle.cps_propagate.specs.Now.{IsFixedNow}
-use Rattle.cps_p_circuit.proofs.Deciding.{subject_holds}
+use Rattle.cps_p_circuit.proofs.TakenArcs.{subject_holds}
 use Rattle.cps_p_circuit.proofs.decided.is_open.Goals as goal
 
 pub known-requires : goal.known-requires

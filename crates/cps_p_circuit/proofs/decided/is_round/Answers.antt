@@ -2,7 +2,7 @@
 use Rattle.std.proofs.Common.{rules, ◌≡◌, ◌++◌, ◌<◌, map, length}
 use Rattle.std.proofs.lemmas.List.Elements.{All-from_get_or}
 use Rattle.cps_p_circuit.specs.Graphs.{number, arcs_by}
-use Rattle.cps_p_circuit.proofs.Deciding.{tails_in, heads_in}
+use Rattle.cps_p_circuit.proofs.TakenArcs.{tails_in, heads_in}
 use Rattle.cps_p_circuit.proofs.decided.is_round.Goals as goal
 
 pub add_numbers-requires : goal.add_numbers-requires

@@ -1,4 +1,4 @@
-use Rattle.cps_p_circuit.proofs.Deciding.{fixed_decides}
+use Rattle.cps_p_circuit.proofs.TakenArcs.{fixed_decides}
 use Rattle.cps_p_circuit.proofs.decided.known.Goals as goal
 
 pub returns-in-Undecided : goal.returns-in-Undecided

@@ -5,7 +5,7 @@ use Rattle.cps_literal.specs.declared.atom.Atom.{Atom}
 use Rattle.cps_literal.specs.declared.atom.Op.TheVariants.{Le}
 use Rattle.cps_propagate.specs.Now.{IsFixedNow}
 use Rattle.cps_p_circuit.specs.Showing.{taken_at}
-use Rattle.cps_p_circuit.proofs.Deciding.{subject_holds, taken_more}
+use Rattle.cps_p_circuit.proofs.TakenArcs.{subject_holds, taken_more}
 use Rattle.cps_p_circuit.proofs.decided.read_taken.Goals as goal
 
 pub known-requires : goal.known-requires

@@ -1,7 +1,7 @@
 -- The arcs so far are those of them that are taken.
 use Rattle.std.proofs.Common.{arith, rules, sym, ◌∙◌, add-one, FitsSigned, w32}
 use Rattle.std.proofs.lemmas.Int.{to_z-of_z}
-use Rattle.cps_p_circuit.proofs.Deciding.{none_taken, arcs_pushed, arcs_same, arcs_end}
+use Rattle.cps_p_circuit.proofs.TakenArcs.{none_taken, arcs_pushed, arcs_same, arcs_end}
 use Rattle.cps_p_circuit.proofs.decided.taken_arcs.Goals as goal
 
 pub loop-k-init : goal.loop-k-init

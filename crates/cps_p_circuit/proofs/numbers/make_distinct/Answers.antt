@@ -3,7 +3,7 @@ use Rattle.std.proofs.lemmas.Cmp.{int_cmp_total, int_eq_equiv}
 use Rattle.std.proofs.lemmas.List.Filters.{dedup_is}
 use Rattle.std.proofs.lemmas.List.Kept.{Contains-dedup, Contains-from_dedup, IsStrictlySortedBy-dedup}
 use Rattle.std.proofs.lemmas.List.Sorted.{Contains-permutation, IsPermutation-sym}
-use Rattle.cps_p_circuit.proofs.Sorting.{rising_from_strict, equal_by_cmp, equal_is}
+use Rattle.cps_p_circuit.proofs.SortedLists.{rising_from_strict, equal_by_cmp, equal_is}
 use Rattle.cps_p_circuit.proofs.numbers.make_distinct.Goals as goal
 
 pub returns : goal.returns

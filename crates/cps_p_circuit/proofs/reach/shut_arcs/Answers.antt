@@ -1,5 +1,5 @@
 use Rattle.std.proofs.Common.{arith, ◌<◌, length}
-use Rattle.cps_p_circuit.proofs.Deciding.{subject_holds}
+use Rattle.cps_p_circuit.proofs.TakenArcs.{subject_holds}
 use Rattle.cps_p_circuit.proofs.reach.shut_arcs.Goals as goal
 
 pub truth-requires : goal.truth-requires

@@ -4,8 +4,8 @@ use Rattle.cps_literal.specs.declared.atom.Op.TheVariants.{Le}
 use Rattle.std.proofs.lemmas.List.{take_all}
 use Rattle.cps_p_circuit.specs.declared.clash.Sign.{Sign}
 use Rattle.cps_p_circuit.specs.Showing.{MakeSignsTrue}
-use Rattle.cps_p_circuit.proofs.Answering.{no_not_yes}
-use Rattle.cps_p_circuit.proofs.Showing.{kept_more, kept_denied, atom_inside}
+use Rattle.cps_p_circuit.proofs.DistinctAnswers.{no_not_yes}
+use Rattle.cps_p_circuit.proofs.ShownFacts.{kept_more, kept_denied, atom_inside}
 use Rattle.cps_p_circuit.proofs.shown.keep.Goals as goal
 
 pub was_true-requires : goal.was_true-requires

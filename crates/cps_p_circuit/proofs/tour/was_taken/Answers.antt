@@ -1,5 +1,5 @@
 use Rattle.std.proofs.Common.{arith, ◌<◌, length}
-use Rattle.cps_p_circuit.proofs.Deciding.{subject_holds}
+use Rattle.cps_p_circuit.proofs.TakenArcs.{subject_holds}
 use Rattle.cps_p_circuit.proofs.tour.was_taken.Goals as goal
 
 pub was_true-requires : goal.was_true-requires

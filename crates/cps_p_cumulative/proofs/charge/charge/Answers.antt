@@ -4,7 +4,7 @@ use Rattle.std.proofs.lemmas.Int.{to_z-of_z}
 use mir.Syntax.{w128}
 use Rattle.cps_p_cumulative.proofs.Energy.{energy-next-fits, times-next-some}
 use Rattle.cps_p_cumulative.proofs.Levelled.{ok_true, no_yes, no_err}
-use Rattle.cps_p_cumulative.proofs.Running.{true_lt, false_lt}
+use Rattle.cps_p_cumulative.proofs.SpanDemands.{true_lt, false_lt}
 use Rattle.cps_p_cumulative.proofs.Relied.{over-capacity, under-capacity}
 use Rattle.cps_p_cumulative.proofs.charge.charge.Goals as goal
 

@@ -5,7 +5,7 @@ use Rattle.std.specs.Int.{w128}
 use Rattle.std.proofs.lemmas.Int.{ints, to_z-of_z}
 use Rattle.cps_instance.specs.declared.task.Span.{Span}
 use Rattle.cps_p_cumulative.specs.Running.{IsSpanOf}
-use Rattle.cps_p_cumulative.proofs.Running.{span-inside}
+use Rattle.cps_p_cumulative.proofs.SpanDemands.{span-inside}
 use Rattle.cps_p_cumulative.proofs.Relied.{charge-begun, charge-step, charge-done, min_past}
 use Rattle.cps_p_cumulative.proofs.Levelled.{ok_is, no_yes}
 use Rattle.cps_p_cumulative.proofs.charge.charge_all.Goals as goal

@@ -4,7 +4,7 @@ use Rattle.std.specs.Prelude.{Some, None, int_lt, int_le, false}
 use Rattle.std.proofs.lemmas.Int.{to_z-of_z}
 use Rattle.cps_domain.proofs.Tests.{true_le}
 use Rattle.cps_p_cumulative.proofs.Energy.{stay-of, wide_sum, wide_sum_fits, wide_next, wide_next_fits}
-use Rattle.cps_p_cumulative.proofs.Running.{false_lt}
+use Rattle.cps_p_cumulative.proofs.SpanDemands.{false_lt}
 use Rattle.cps_p_cumulative.proofs.charge.is_stay.Goals as goal
 
 not_less_as : (a b x y : ℤ) → x ≡ a → y ≡ b → int_lt x y ≡ false → b ≤ℤ a

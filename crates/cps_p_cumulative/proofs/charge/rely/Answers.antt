@@ -2,7 +2,7 @@
 use Rattle.std.proofs.Common.{refl, rules, FitsSigned, w64}
 use Rattle.std.proofs.lemmas.Int.{to_z-of_z}
 use Rattle.cps_p_cumulative.proofs.Levelled.{no_yes, no_err}
-use Rattle.cps_p_cumulative.proofs.Negating.{tested}
+use Rattle.cps_p_cumulative.proofs.NegatableValues.{tested}
 use Rattle.cps_p_cumulative.proofs.Relied.{Relies-always, Relies-fact, Relies-implied}
 use Rattle.cps_p_cumulative.proofs.charge.rely.Goals as goal
 

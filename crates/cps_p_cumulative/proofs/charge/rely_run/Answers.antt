@@ -4,7 +4,7 @@ use Rattle.std.specs.List.{All}
 use Rattle.std.specs.Prelude.{Ok}
 use Rattle.std.proofs.lemmas.Int.{to_z-of_z}
 use Rattle.cps_literal.specs.declared.atom.Atom.{Atom}
-use Rattle.cps_p_cumulative.proofs.Running.{start-inside, time-inside, both-inside, presence-inside}
+use Rattle.cps_p_cumulative.proofs.SpanDemands.{start-inside, time-inside, both-inside, presence-inside}
 use Rattle.cps_p_cumulative.proofs.Levelled.{ok_true, no_yes, no_err}
 use Rattle.cps_p_cumulative.proofs.Relied.{run-relied}
 use Rattle.cps_p_cumulative.proofs.charge.rely_run.Goals as goal

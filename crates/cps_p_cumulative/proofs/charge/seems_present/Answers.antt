@@ -2,7 +2,7 @@ use Rattle.std.proofs.Common.{subst, sym, length, ◌<◌, pos, List}
 use Rattle.std.specs.List.{All}
 use Rattle.cps_literal.specs.declared.atom.Atom.{Atom}
 use Rattle.cps_literal.specs.declared.atom.Op.TheVariants.{Le}
-use Rattle.cps_p_cumulative.proofs.Running.{presence-inside}
+use Rattle.cps_p_cumulative.proofs.SpanDemands.{presence-inside}
 use Rattle.cps_p_cumulative.proofs.charge.seems_present.Goals as goal
 
 pub is_known-requires : goal.is_known-requires

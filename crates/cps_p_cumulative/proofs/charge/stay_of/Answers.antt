@@ -1,4 +1,4 @@
-use Rattle.cps_p_cumulative.proofs.Running.{start-inside, end-inside}
+use Rattle.cps_p_cumulative.proofs.SpanDemands.{start-inside, end-inside}
 use Rattle.cps_p_cumulative.proofs.charge.stay_of.Goals as goal
 
 pub greatest-requires : goal.greatest-requires

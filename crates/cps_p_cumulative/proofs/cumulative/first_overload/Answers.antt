@@ -8,8 +8,8 @@ use Rattle.cps_instance.specs.Tasks.{span_subjects}
 use Rattle.cps_p_cumulative.specs.declared.part.Part.{Part}
 use Rattle.cps_p_cumulative.specs.Profile.{AreParts}
 use Rattle.cps_p_cumulative.proofs.Levelled.{no_none}
-use Rattle.cps_p_cumulative.proofs.Resting.{impossible-none, impossible-of, capacity-of}
-use Rattle.cps_p_cumulative.proofs.Running.{true_lt}
+use Rattle.cps_p_cumulative.proofs.RestLaw.{impossible-none, impossible-of, capacity-of}
+use Rattle.cps_p_cumulative.proofs.SpanDemands.{true_lt}
 use Rattle.cps_p_cumulative.proofs.cumulative.first_overload.Goals as goal
 
 pub returns-in-Some-clause-over : goal.returns-in-Some-clause-over

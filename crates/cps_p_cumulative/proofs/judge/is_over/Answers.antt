@@ -1,7 +1,7 @@
 use Rattle.std.proofs.Common.{true≢false, refl, sym, arith, pos, get_or, rules, FitsSigned, w64}
 use Rattle.std.proofs.lemmas.Int.{to_z-of_z}
 use Rattle.cps_p_cumulative.specs.declared.part.Part.{Part}
-use Rattle.cps_p_cumulative.proofs.Summing.{at_below, room_all, height_more, over_some}
+use Rattle.cps_p_cumulative.proofs.DemandSums.{at_below, room_all, height_more, over_some}
 use Rattle.cps_p_cumulative.proofs.judge.is_over.Goals as goal
 
 abbrev no_part : Part

@@ -2,7 +2,7 @@
 use Rattle.std.proofs.Common.{◌≡◌, ◌∙◌, ◌++◌, [], List, pos, ap, sym, subst}
 use Rattle.std.specs.List.Sorted.{IsPermutation}
 use Rattle.cps_p_cumulative.specs.declared.part.Part.{Part}
-use Rattle.cps_p_cumulative.proofs.Summing.{AreParts-permutation, FitsCapacity-swept}
+use Rattle.cps_p_cumulative.proofs.DemandSums.{AreParts-permutation, FitsCapacity-swept}
 use Rattle.cps_p_cumulative.proofs.judge.overload.Goals as goal
 use Rattle.cps_p_cumulative.proofs.judge.overload.Goals.{After-as_slice-2}
 

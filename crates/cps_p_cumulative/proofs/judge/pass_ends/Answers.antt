@@ -3,7 +3,7 @@ use Rattle.std.proofs.lemmas.Int.{to_z-of_z}
 use mir.Syntax.{w128}
 use Rattle.cps_domain.proofs.Tests.{true_le}
 use Rattle.cps_p_cumulative.specs.declared.part.Part.{Part}
-use Rattle.cps_p_cumulative.proofs.Summing.{ended_more, passes_more, passes_none, fewer_left}
+use Rattle.cps_p_cumulative.proofs.DemandSums.{ended_more, passes_more, passes_none, fewer_left}
 use Rattle.cps_p_cumulative.proofs.judge.pass_ends.Goals as goal
 
 abbrev no_part : Part

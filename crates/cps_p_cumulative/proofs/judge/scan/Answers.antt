@@ -1,7 +1,7 @@
 use Rattle.std.proofs.Common.{arith, pos, rules, FitsSigned, w64, get_or}
 use Rattle.std.proofs.lemmas.Int.{to_z-of_z}
 use Rattle.cps_p_cumulative.specs.declared.part.Part.{Part}
-use Rattle.cps_p_cumulative.proofs.Summing.{tried_more, FitsCapacity-tried}
+use Rattle.cps_p_cumulative.proofs.DemandSums.{tried_more, FitsCapacity-tried}
 use Rattle.cps_p_cumulative.proofs.judge.scan.Goals as goal
 
 abbrev no_part : Part

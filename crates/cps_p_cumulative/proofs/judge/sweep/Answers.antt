@@ -4,8 +4,8 @@ use Rattle.std.specs.List.{sum_by}
 use Rattle.std.proofs.lemmas.Int.{to_z-of_z}
 use Rattle.cps_p_cumulative.specs.declared.part.Part.{Part}
 use Rattle.cps_p_cumulative.proofs.Levelled.{no_some}
-use Rattle.cps_p_cumulative.proofs.Running.{false_lt}
-use Rattle.cps_p_cumulative.proofs.Summing.{ended_later, swept_more, carries}
+use Rattle.cps_p_cumulative.proofs.SpanDemands.{false_lt}
+use Rattle.cps_p_cumulative.proofs.DemandSums.{ended_later, swept_more, carries}
 use Rattle.cps_p_cumulative.proofs.judge.sweep.Goals as goal
 
 abbrev no_part : Part

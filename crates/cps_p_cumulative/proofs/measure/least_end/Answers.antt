@@ -1,6 +1,6 @@
 -- A span of a length ends no earlier than from its least start on, any other at its least end.
 use Rattle.std.proofs.Common.{rules}
-use Rattle.cps_p_cumulative.proofs.Running.{start-inside, end-inside}
+use Rattle.cps_p_cumulative.proofs.SpanDemands.{start-inside, end-inside}
 use Rattle.cps_p_cumulative.proofs.Energy.{wide_is, wide_sum, wide_sum_fits}
 use Rattle.cps_p_cumulative.proofs.Profiled.{ends-some, ends-none, some-ends, none-ends}
 use Rattle.cps_p_cumulative.proofs.measure.least_end.Goals as goal

@@ -4,7 +4,7 @@ use Rattle.cps_instance.specs.declared.task.Span.{Span}
 use Rattle.cps_p_cumulative.specs.declared.part.Part.{Part}
 use Rattle.cps_p_cumulative.specs.Running.{IsSpanOf}
 use Rattle.cps_p_cumulative.specs.Measuring.{IsPartMeasured}
-use Rattle.cps_p_cumulative.proofs.Running.{span-inside}
+use Rattle.cps_p_cumulative.proofs.SpanDemands.{span-inside}
 use Rattle.cps_p_cumulative.proofs.Relied.{min_past}
 use Rattle.cps_p_cumulative.proofs.Profiled.{IsProfileTo, profile-begun, profile-more, profile-same, profile-all}
 use Rattle.cps_p_cumulative.proofs.measure.measure.Goals as goal

@@ -7,7 +7,7 @@ use Rattle.std.proofs.lemmas.Int.{ints, to_z-of_z}
 use Rattle.cps_literal.specs.declared.atom.Atom.{Atom}
 use Rattle.cps_trail.specs.Trail.{IsTrueNow}
 use Rattle.cps_propagate.specs.Now.{IsOpenTo}
-use Rattle.cps_p_cumulative.proofs.Running.{start-inside, end-inside, presence-inside}
+use Rattle.cps_p_cumulative.proofs.SpanDemands.{start-inside, end-inside, presence-inside}
 use Rattle.cps_p_cumulative.proofs.Energy.{wide_same}
 use Rattle.cps_p_cumulative.proofs.Profiled.{IsSure, measured-bare, measured-some}
 use Rattle.cps_p_cumulative.proofs.measure.part_of.Goals as goal

@@ -1,7 +1,7 @@
 -- The denial of an event's atom is on the same subject.
 use Rattle.std.proofs.Common.{rules, subst, sym, length, ◌<◌}
 use Rattle.cps_p_cumulative.proofs.Levelled.{on_atom, rest-absent}
-use Rattle.cps_p_cumulative.proofs.Negating.{tested, negatable_low, negatable_high, negatable_above, negatable_below}
+use Rattle.cps_p_cumulative.proofs.NegatableValues.{tested, negatable_low, negatable_high, negatable_above, negatable_below}
 use Rattle.cps_p_cumulative.proofs.passing.absence_of.Goals as goal
 
 pub returns-then-is_known : goal.returns-then-is_known

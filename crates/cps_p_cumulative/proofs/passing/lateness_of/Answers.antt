@@ -3,7 +3,7 @@ use Rattle.std.proofs.Common.{◌<◌, ◌+ℤ◌, ◌<ℤ◌, ℤ, pos, length,
 use Rattle.std.proofs.lemmas.Int.{ints, to_z-of_z}
 use Rattle.cps_p_cumulative.proofs.Energy.{next_fits}
 use Rattle.cps_p_cumulative.proofs.Levelled.{on_time, rest-later}
-use Rattle.cps_p_cumulative.proofs.Negating.{tested}
+use Rattle.cps_p_cumulative.proofs.NegatableValues.{tested}
 use Rattle.cps_p_cumulative.proofs.passing.lateness_of.Goals as goal
 
 next : (t : ℤ) → t <ℤ (t +ℤ pos 1)

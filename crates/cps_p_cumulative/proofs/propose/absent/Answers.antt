@@ -1,6 +1,6 @@
 -- The one open atom can be negated, and is on a subject of the store.
 use Rattle.std.proofs.Common.{rules}
-use Rattle.cps_p_cumulative.proofs.Negating.{tested, negatable_low, negatable_high, negatable_above, negatable_below}
+use Rattle.cps_p_cumulative.proofs.NegatableValues.{tested, negatable_low, negatable_high, negatable_above, negatable_below}
 use Rattle.cps_p_cumulative.proofs.propose.absent.Goals as goal
 
 pub negate-requires-clause-low : goal.negate-requires-clause-low

@@ -2,7 +2,7 @@
 use Rattle.std.proofs.Common.{◌<◌, length, List, sym, subst}
 use Rattle.std.specs.List.{All}
 use Rattle.cps_literal.specs.declared.atom.Atom.{Atom}
-use Rattle.cps_p_cumulative.proofs.Running.{span-read, presence-inside, demand-read, start-proposed, time-proposed, demand-proposed, three-proposed}
+use Rattle.cps_p_cumulative.proofs.SpanDemands.{span-read, presence-inside, demand-read, start-proposed, time-proposed, demand-proposed, three-proposed}
 use Rattle.cps_p_cumulative.proofs.propose.propose_span.Goals as goal
 
 pub place_of-place-requires-clause-span : goal.place_of-place-requires-clause-span

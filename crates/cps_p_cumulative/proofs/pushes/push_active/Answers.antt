@@ -1,7 +1,7 @@
 -- What is pushed is an event's own atom, or its denial.
 use Rattle.std.proofs.Common.{◌<◌, length, sym, subst, rules}
 use Rattle.cps_p_cumulative.proofs.Levelled.{on_time, on_atom, active_inside}
-use Rattle.cps_p_cumulative.proofs.Negating.{tested, negatable_low, negatable_high, negatable_above, negatable_below}
+use Rattle.cps_p_cumulative.proofs.NegatableValues.{tested, negatable_low, negatable_high, negatable_above, negatable_below}
 use Rattle.cps_p_cumulative.proofs.pushes.push_active.Goals as goal
 
 pub is_decided-requires : goal.is_decided-requires

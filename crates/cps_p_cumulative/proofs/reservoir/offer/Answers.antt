@@ -10,7 +10,7 @@ use Rattle.cps_rule.specs.Rules.{IsGiven}
 use Rattle.cps_p_cumulative.specs.Levels.{tank_body}
 use Rattle.cps_p_cumulative.specs.Relying.{Relies}
 use Rattle.cps_p_cumulative.proofs.Levelled.{ok_true}
-use Rattle.cps_p_cumulative.proofs.Negating.{tested, negatable_low, negatable_high, negatable_above, negatable_below}
+use Rattle.cps_p_cumulative.proofs.NegatableValues.{tested, negatable_low, negatable_high, negatable_above, negatable_below}
 use Rattle.cps_p_cumulative.proofs.Relied.{explained, given, no_facts}
 use Rattle.cps_p_cumulative.proofs.reservoir.offer.Goals as goal
 

@@ -1,7 +1,7 @@
 -- The copies so far are the first spans, and in the end all.
 use Rattle.std.proofs.Common.{◌∙◌}
 use Rattle.std.proofs.lemmas.List.{take_all}
-use Rattle.cps_p_cumulative.proofs.Running.{copied-more}
+use Rattle.cps_p_cumulative.proofs.SpanDemands.{copied-more}
 use Rattle.cps_p_cumulative.proofs.resource.copy_of_spans.Goals as goal
 
 pub loop-span-preserved : goal.loop-span-preserved

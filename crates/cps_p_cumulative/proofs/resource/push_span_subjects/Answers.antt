@@ -2,7 +2,7 @@
 use Rattle.std.proofs.Common.{◌∙◌, ◌++◌, ◌∷◌, [], List, ap}
 use Rattle.cps_literal.specs.declared.atom.Atom.{Atom}
 use Rattle.cps_instance.specs.Tasks.{atom_subjects}
-use Rattle.cps_p_cumulative.proofs.Running.{spread, on_ok}
+use Rattle.cps_p_cumulative.proofs.SpanDemands.{spread, on_ok}
 use Rattle.cps_p_cumulative.proofs.resource.push_span_subjects.Goals as goal
 
 pub returns : goal.returns

@@ -3,7 +3,7 @@ use Rattle.std.proofs.Common.{◌≡◌, ◌++◌, ◌∙◌, ap, sym, append_as
 use Rattle.std.proofs.lemmas.List.{take_all}
 use Rattle.cps_instance.specs.declared.task.Span.{Span}
 use Rattle.cps_instance.specs.Tasks.{subjects_of_span, span_subjects}
-use Rattle.cps_p_cumulative.proofs.Running.{subjects-more}
+use Rattle.cps_p_cumulative.proofs.SpanDemands.{subjects-more}
 use Rattle.cps_p_cumulative.proofs.resource.push_spans_subjects.Goals as goal
 
 join : (old now new a b c d : List ℕ) → now ≡ old ++ a → new ≡ now ++ b → b ≡ c → d ≡ a ++ c → new ≡ old ++ d

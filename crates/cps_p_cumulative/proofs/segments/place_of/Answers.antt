@@ -1,5 +1,5 @@
 -- The subjects of a span are those of the store.
-use Rattle.cps_p_cumulative.proofs.Running.{start-inside, end-inside}
+use Rattle.cps_p_cumulative.proofs.SpanDemands.{start-inside, end-inside}
 use Rattle.cps_p_cumulative.proofs.segments.place_of.Goals as goal
 
 pub ends-start-requires : goal.ends-start-requires

@@ -1,4 +1,4 @@
-use Rattle.cps_p_cumulative.proofs.Running.{start-inside, end-inside}
+use Rattle.cps_p_cumulative.proofs.SpanDemands.{start-inside, end-inside}
 use Rattle.cps_p_cumulative.proofs.windows.greatest_end.Goals as goal
 
 pub ends-requires : goal.ends-requires

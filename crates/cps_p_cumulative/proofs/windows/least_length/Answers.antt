@@ -1,4 +1,4 @@
-use Rattle.cps_p_cumulative.proofs.Running.{start-inside}
+use Rattle.cps_p_cumulative.proofs.SpanDemands.{start-inside}
 use Rattle.cps_p_cumulative.proofs.windows.least_length.Goals as goal
 
 pub ends-requires : goal.ends-requires

@@ -1,6 +1,6 @@
 use Rattle.std.proofs.Common.{w64, FitsSigned, rules}
 use Rattle.std.proofs.lemmas.Int.{to_z-of_z}
-use Rattle.cps_p_linear.proofs.Reaching.{hull_of}
+use Rattle.cps_p_linear.proofs.Reaches.{hull_of}
 use Rattle.cps_p_linear.proofs.ends.ends_now.Goals as goal
 
 pub returns : goal.returns

@@ -2,7 +2,7 @@ use Rattle.std.proofs.Common.{pos, get_or, arith, [], ◌∷◌, ◌++◌}
 use Rattle.std.proofs.lemmas.Int.{ints}
 use Rattle.std.proofs.lemmas.List.{get_or_default}
 use Rattle.cps_instance.specs.declared.term.Term.{Term}
-use Rattle.cps_p_linear.proofs.Reaching.{term_reach, more_room, measured_more, wider_more, spread_none, spread_all}
+use Rattle.cps_p_linear.proofs.Reaches.{term_reach, more_room, measured_more, wider_more, spread_none, spread_all}
 use Rattle.cps_p_linear.proofs.ends.spread_now.Goals as goal
 
 none : Term

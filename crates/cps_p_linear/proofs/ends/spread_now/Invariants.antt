@@ -1,4 +1,4 @@
-use Rattle.cps_p_linear.proofs.Reaching.{SpreadSoFar}
+use Rattle.cps_p_linear.proofs.Reaches.{SpreadSoFar}
 use Rattle.cps_p_linear.proofs.ends.spread_now.Given as goal
 
 abbrev pub invariant-loop-term : goal.invariant-loop-term

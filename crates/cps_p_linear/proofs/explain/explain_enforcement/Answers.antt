@@ -7,7 +7,7 @@ use Rattle.cps_p_linear.specs.Supporting.{AreGrounds}
 use Rattle.cps_p_linear.specs.Measuring.{Asks}
 use Rattle.cps_p_linear.proofs.Explained.{reason_for}
 use Rattle.cps_p_linear.proofs.Forces.{but_facts, negation_given}
-use Rattle.cps_p_linear.proofs.Negating.{negatable_low, negatable_high, negatable_above, negatable_below}
+use Rattle.cps_p_linear.proofs.NegatableAtoms.{negatable_low, negatable_high, negatable_above, negatable_below}
 use Rattle.cps_p_linear.proofs.explain.explain_enforcement.Goals as goal
 
 abbrev no_atom : Atom

@@ -4,7 +4,7 @@ use Rattle.cps_instance.specs.declared.term.Term.{Term}
 use Rattle.cps_p_linear.specs.declared.ends.Ends.{Ends}
 use Rattle.cps_p_linear.specs.declared.ends.Side.TheVariants.{Low, High}
 use Rattle.cps_p_linear.specs.Ends.{IsBounded, value_at_end, end_at}
-use Rattle.cps_p_linear.proofs.Reaching.{zip_length, zip_at, term_reach}
+use Rattle.cps_p_linear.proofs.Reaches.{zip_length, zip_at, term_reach}
 use Rattle.cps_p_linear.proofs.Explained.{cut_kept, coeff_off, goal_between, has_bits, room_small, room_is}
 use Rattle.cps_p_linear.proofs.Forced.{cut_everywhere}
 use Rattle.cps_p_linear.proofs.pass.cut_of.Goals as goal

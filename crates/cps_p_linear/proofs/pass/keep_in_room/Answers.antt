@@ -10,7 +10,7 @@ use Rattle.cps_p_linear.specs.declared.ends.Side.{Side}
 use Rattle.cps_p_linear.specs.declared.ends.Side.TheVariants.{High}
 use Rattle.cps_p_linear.specs.Measuring.{Asks}
 use Rattle.cps_p_linear.specs.Passing.{IsCutAt}
-use Rattle.cps_p_linear.proofs.Ending.{not_settled}
+use Rattle.cps_p_linear.proofs.ConflictAnswers.{not_settled}
 use Rattle.cps_p_linear.proofs.Explained.{measured_later, facts_later, cut_later, room_of_cuts}
 use Rattle.cps_p_linear.proofs.pass.keep_in_room.Goals as goal
 
@@ -49,6 +49,6 @@ returns-clause-room c = λ is.
     let m = e.measured in
     let u = c.keep_end-2.new.store in
     let later = IfOk-at_ok (λ (_ : Answer). Infers (ByTask c.args.number (Asks m.task)) c.keep_end.new.store u) is c.keep_end-2.ensures.infers in
-    let within = subst (λ (side : Side). IsCutAt c.keep_end.new.store side m.sum e.goal m.task.terms.now m.values.now e.place) c.requires.side (c.in_ok-keep_end.ensures.cut (ap Ok c.in-Settled.is)) in
+    let within = subst (λ (side : Side). IsCutAt c.keep_end.new.store side m.sum e.goal m.task.terms.now m.values.now e.place) c.requires.side (c.in_ok-keep_end.ensures.cut (ap Ok c.in-NoConflict.is)) in
     room_of_cuts u m.sum e.goal m.task.terms.now m.values.now e.place (c.keep_end-2.ensures.cut is)
     (cut_later (ByTask c.args.number (Asks m.task)) c.keep_end.new.store u High m.sum e.goal m.task.terms.now m.values.now e.place later within)

@@ -1,7 +1,7 @@
 -- The differences are small enough, by what is required of the ends.
 use Rattle.std.proofs.Common.{◌-ℤ◌, rules, FitsSigned, w64}
 use Rattle.std.proofs.lemmas.Int.{to_z-of_z}
-use Rattle.cps_p_linear.proofs.Sparing.{beside_fits, difference_fits}
+use Rattle.cps_p_linear.proofs.SpareRoom.{beside_fits, difference_fits}
 use Rattle.cps_p_linear.proofs.pass.room_beside.Goals as goal
 
 pub overflow_sub-result-2 : goal.overflow_sub-result-2

@@ -3,7 +3,7 @@ use Rattle.std.proofs.Common.{◌≡◌, sym, subst, rules, FitsSigned, w64}
 use Rattle.std.proofs.lemmas.Int.{to_z-of_z}
 use Rattle.cps_p_linear.specs.declared.ends.Side.{Side}
 use Rattle.cps_p_linear.specs.Ends.{IsWithinOf, beyond, end_at}
-use Rattle.cps_p_linear.proofs.Sparing.{spare_low, spare_high}
+use Rattle.cps_p_linear.proofs.SpareRoom.{spare_low, spare_high}
 use Rattle.cps_p_linear.proofs.pass.spare.Goals as goal
 
 pub returns-in-Some : goal.returns-in-Some

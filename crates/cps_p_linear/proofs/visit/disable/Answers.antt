@@ -10,7 +10,7 @@ use Rattle.cps_p_linear.proofs.Explained.{measured_of}
 use Rattle.cps_p_linear.proofs.Forced.{forced_off}
 use Rattle.cps_p_linear.proofs.Forces.{negation_made, aside_possible, aside_false, open_true}
 use Rattle.std.proofs.Common.{refl}
-use Rattle.cps_p_linear.proofs.Negating.{negatable_low, negatable_high, negatable_above, negatable_below}
+use Rattle.cps_p_linear.proofs.NegatableAtoms.{negatable_low, negatable_high, negatable_above, negatable_below}
 use Rattle.cps_p_linear.proofs.visit.disable.Goals as goal
 
 abbrev no_atom : Atom

@@ -30,4 +30,4 @@ pub returns-then-entries-before-clause-settled : goal.returns-then-entries-befor
 returns-then-entries-before-clause-settled c = λ _.
     let p = c.in_ok-pass.ensures in
     let same : c.pass.new.store ≡ c.loop-store.store = Infers-nothing _ _ _ p.infers (omega (arith, c.if-entries-before.true, c.entries.ensures.views.same_length, c.entries-before.ensures.views.same_length)) in
-    inr (p.strong (ap Ok c.in-Settled.is) (ap (λ (s : Trail). s.entries) same))
+    inr (p.strong (ap Ok c.in-NoConflict.is) (ap (λ (s : Trail). s.entries) same))

@@ -2,7 +2,7 @@
 use Rattle.std.proofs.Common.{◌+◌, ℤ, get_or, rules, set, subst, sym, w64, pos, false, FitsSigned}
 use Rattle.std.proofs.lemmas.Int.{to_z-of_z}
 use Rattle.cps_reform.specs.declared.held.Held.{Held}
-use Rattle.cps_reform.proofs.Marking.{MarkedUpTo, marked-more}
+use Rattle.cps_reform.proofs.CoreMarks.{MarkedUpTo, marked-more}
 use Rattle.cps_reform.proofs.mark.mark_terms.Goals as goal
 
 abbrev none : Held

@@ -1,4 +1,4 @@
-use Rattle.cps_reform.proofs.Marking.{MarkedUpTo}
+use Rattle.cps_reform.proofs.CoreMarks.{MarkedUpTo}
 use Rattle.cps_reform.proofs.mark.mark_terms.Given as goal
 
 abbrev pub invariant-loop-place : goal.invariant-loop-place

@@ -1,5 +1,5 @@
 use Rattle.std.specs.Prelude.{pos}
-use Rattle.cps_port.proofs.Bounding.{attained_shown}
+use Rattle.cps_port.proofs.BoundLaws.{attained_shown}
 use Rattle.cps_shared_tests.proofs.WorkedClauses.{six_shareable, six_holds}
 use Rattle.cps_board.specs.Seats.{model_of}
 use Rattle.cps_shared_tests.proofs.clauses.share_six.Goals as goal

@@ -7,7 +7,7 @@ use Rattle.cps_port.specs.Order.{lesser}
 use Rattle.cps_port.specs.Incumbents.{IsIncumbent}
 use Rattle.cps_port.specs.Parts.{after_offer}
 use Rattle.cps_port.specs.Words.{word_of, bound_of}
-use Rattle.cps_port.proofs.Bounding.{attained_shown, lesser_is}
+use Rattle.cps_port.proofs.BoundLaws.{attained_shown, lesser_is}
 use Rattle.cps_bounds.specs.declared.view.View.{View}
 use Rattle.cps_bounds.proofs.Keeps.{offers}
 use Rattle.cps_bounds.proofs.Offers.{handed_value, shown_word, bound_of-min}

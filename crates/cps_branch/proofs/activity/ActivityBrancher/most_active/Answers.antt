@@ -1,7 +1,7 @@
 use Rattle.std.proofs.Common.{length, subst}
 use Rattle.cps_branch.specs.Activities.{ByActivity}
 use Rattle.cps_branch.specs.SetAside.{AreFixedAside, aside_of}
-use Rattle.cps_branch.proofs.Aside.{back_fixed, choice_more, chosen_most, chosen_none, chosen_seen}
+use Rattle.cps_branch.proofs.SetAside.{back_fixed, choice_more, chosen_most, chosen_none, chosen_seen}
 use Rattle.cps_branch.proofs.activity.ActivityBrancher.most_active.Goals as goal
 
 pub most_active-requires-clause-fixed : goal.most_active-requires-clause-fixed

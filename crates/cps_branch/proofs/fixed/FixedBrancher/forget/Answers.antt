@@ -1,6 +1,6 @@
 use Rattle.std.proofs.Common.{List, ℕ, ◌-◌, ◌≤◌, get_or, sym, ap, subst}
 use Rattle.cps_branch.specs.Scope.{InOrder}
-use Rattle.cps_branch.proofs.Fixing.{forgets_to}
+use Rattle.cps_branch.proofs.FixedSubjects.{forgets_to}
 use Rattle.cps_branch.proofs.fixed.FixedBrancher.forget.Goals as goal
 
 pub returns-clause-forgets : goal.returns-clause-forgets

@@ -2,7 +2,7 @@
 use Rattle.std.proofs.Common.{◌≤◌, length, sym, ap, arith}
 use Rattle.cps_branch.specs.Scope.{InOrder}
 use Rattle.cps_branch.specs.Strategies.{order_in}
-use Rattle.cps_branch.proofs.Fixing.{notes_to}
+use Rattle.cps_branch.proofs.FixedSubjects.{notes_to}
 use Rattle.cps_branch.proofs.fixed.FixedBrancher.note.Goals as goal
 
 pub returns-clause-notes : goal.returns-clause-notes

@@ -4,8 +4,8 @@ use Rattle.cps_branch.specs.Fixed.{IsFixed, AreFixed}
 use Rattle.cps_branch.specs.Scope.{InOrder, AreFixedAfter}
 use Rattle.cps_branch.specs.Noting.{Notes}
 use Rattle.cps_branch.specs.Strategies.{ChoosesSteered, IsOpenPlace, Planned, order_in}
-use Rattle.cps_branch.proofs.Planning.{all_variables}
-use Rattle.cps_branch.proofs.Fixing.{all_before, seen_after}
+use Rattle.cps_branch.proofs.Plans.{all_variables}
+use Rattle.cps_branch.proofs.FixedSubjects.{all_before, seen_after}
 use Rattle.cps_branch.proofs.fixed.FixedBrancherBrancher.choose_from.Goals as goal
 use Rattle.cps_branch.proofs.fixed.FixedBrancherBrancher.choose_from.Goals.{After-note}
 

@@ -6,7 +6,7 @@ use Rattle.std.proofs.lemmas.List.Elements.{All-get_or}
 use Rattle.cps_instance.specs.declared.steering.Steering.{Steering}
 use Rattle.cps_branch.specs.Fixed.{IsFixed}
 use Rattle.cps_branch.specs.Strategies.{ChoosesSteered, IsDone, IsOpenPlace, Planned, listed, order_in, order_of}
-use Rattle.cps_branch.proofs.Planning.{chooses_variable, listed_before, listed_open, order_within}
+use Rattle.cps_branch.proofs.Plans.{chooses_variable, listed_before, listed_open, order_within}
 use Rattle.cps_branch.proofs.plan.Plan.decided.Goals as goal
 
 pub decided_at-requires-clause-before : goal.decided_at-requires-clause-before

@@ -3,7 +3,7 @@ use Rattle.std.specs.Prelude.{All}
 use Rattle.std.proofs.Common.{◌<◌, ◌≤◌, ℕ, length, get_or, sym, ap, subst, ◌∙◌, arith}
 use Rattle.std.proofs.lemmas.List.Elements.{All-get_or, All-weaker}
 use Rattle.cps_branch.specs.Strategies.{Planned, order_in, order_of}
-use Rattle.cps_branch.proofs.Planning.{order_within}
+use Rattle.cps_branch.proofs.Plans.{order_within}
 use Rattle.cps_branch.proofs.plan.Plan.first_open.Goals as goal
 
 pub first_open_place-requires-clause-subjects : goal.first_open_place-requires-clause-subjects

@@ -2,7 +2,7 @@
 use Rattle.std.proofs.Common.{List, length, sym, subst, ◌∙◌}
 use Rattle.cps_instance.specs.declared.steering.Steering.{Steering}
 use Rattle.cps_branch.specs.Strategies.{AreWithin}
-use Rattle.cps_branch.proofs.Taking.{steering_within}
+use Rattle.cps_branch.proofs.StrategyChoices.{steering_within}
 use Rattle.cps_branch.proofs.plan.Plan.of.Goals as goal
 
 pub over-requires-clause-within : goal.over-requires-clause-within

@@ -4,7 +4,7 @@ use Rattle.std.specs.Prelude.{IfSome, IsNone}
 use Rattle.cps_branch.specs.declared.ranking.Aside.{Aside}
 use Rattle.cps_branch.specs.Fixed.{AreFixed}
 use Rattle.cps_branch.specs.SetAside.{LeadsInPlay, aside_of, size_of}
-use Rattle.cps_branch.proofs.Aside.{all_aside_fixed, have_still, leader_most, none_open, same_next, sets_more, sets_none}
+use Rattle.cps_branch.proofs.SetAside.{all_aside_fixed, have_still, leader_most, none_open, same_next, sets_more, sets_none}
 use Rattle.cps_branch.proofs.ranking.Ranking.most_active.Goals as goal
 
 pub variables-init : goal.variables-init

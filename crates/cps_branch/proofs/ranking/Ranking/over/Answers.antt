@@ -4,7 +4,7 @@ use Rattle.std.proofs.lemmas.List.{length-replicate}
 use Rattle.cps_branch.specs.declared.tournament.Contender.{Contender}
 use Rattle.cps_branch.specs.declared.ranking.Aside.{Aside}
 use Rattle.cps_branch.specs.Tournament.{nobody, stands_at}
-use Rattle.cps_branch.proofs.Aside.{begun_ranking, no_one}
+use Rattle.cps_branch.proofs.SetAside.{begun_ranking, no_one}
 use Rattle.cps_branch.proofs.Lists.{refilled}
 use Rattle.cps_branch.proofs.ranking.Ranking.over.Goals as goal
 

@@ -2,7 +2,7 @@
 use Rattle.std.proofs.Common.{◌-◌, ◌≤◌, ◌∙◌, List, length, take, refl, sym, ap, subst, arith, true≢false}
 use Rattle.cps_branch.specs.declared.ranking.Aside.{Aside}
 use Rattle.cps_branch.specs.SetAside.{PutsBack, aside_at, aside_of, size_of}
-use Rattle.cps_branch.proofs.Aside.{back_more, only_back, puts_back, same_next}
+use Rattle.cps_branch.proofs.SetAside.{back_more, only_back, puts_back, same_next}
 use Rattle.cps_branch.proofs.ranking.Ranking.put_back.Goals as goal
 
 pub variables-init : goal.variables-init

@@ -3,7 +3,7 @@ use Rattle.std.proofs.Common.{ℕ, ◌-◌, ◌∙◌, ap, sym, arith}
 use Rattle.std.proofs.lemmas.List.{get_or_default}
 use Rattle.cps_branch.specs.declared.ranking.Aside.{Aside}
 use Rattle.cps_branch.specs.SetAside.{aside_at}
-use Rattle.cps_branch.proofs.Aside.{last_named, no_one, one_aside_fewer}
+use Rattle.cps_branch.proofs.SetAside.{last_named, no_one, one_aside_fewer}
 use Rattle.cps_branch.proofs.ranking.Ranking.put_back_last.Goals as goal
 
 pub set_in_play-requires-clause-variable : goal.set_in_play-requires-clause-variable

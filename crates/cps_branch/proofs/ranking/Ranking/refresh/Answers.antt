@@ -3,7 +3,7 @@ use Rattle.std.proofs.lemmas.List.{get_or_default}
 use Rattle.cps_branch.specs.declared.tournament.Contender.{Contender}
 use Rattle.cps_branch.specs.Tournament.{nobody, stands_at}
 use Rattle.cps_branch.specs.SetAside.{size_of}
-use Rattle.cps_branch.proofs.Aside.{refreshed_ranking}
+use Rattle.cps_branch.proofs.SetAside.{refreshed_ranking}
 use Rattle.cps_branch.proofs.ranking.Ranking.refresh.Goals as goal
 
 pub returns-clause-ranking : goal.returns-clause-ranking

@@ -3,7 +3,7 @@ use Rattle.cps_branch.specs.declared.tournament.Contender.{Contender}
 use Rattle.cps_branch.specs.declared.ranking.Aside.{Aside}
 use Rattle.cps_branch.specs.Tournament.{stands_at}
 use Rattle.cps_branch.specs.SetAside.{size_of}
-use Rattle.cps_branch.proofs.Aside.{aside_next}
+use Rattle.cps_branch.proofs.SetAside.{aside_next}
 use Rattle.cps_branch.proofs.ranking.Ranking.refresh_all.Goals as goal
 
 below_or_last : (i n : ℕ) → i < n + 1 → ((i < n) × (i ≡ n → ⊥)) ⊎ (n ≡ i)

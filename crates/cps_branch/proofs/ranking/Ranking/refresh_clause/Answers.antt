@@ -8,7 +8,7 @@ use Rattle.cps_branch.specs.declared.ranking.Aside.{Aside}
 use Rattle.cps_branch.specs.Activities.{speaks_of}
 use Rattle.cps_branch.specs.Tournament.{stands_at}
 use Rattle.cps_branch.specs.SetAside.{size_of}
-use Rattle.cps_branch.proofs.Aside.{aside_next, speaks_on}
+use Rattle.cps_branch.proofs.SetAside.{aside_next, speaks_on}
 use Rattle.cps_branch.proofs.ranking.Ranking.refresh_clause.Goals as goal
 
 -- what a read past the end would give

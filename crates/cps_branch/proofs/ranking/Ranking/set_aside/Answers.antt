@@ -1,7 +1,7 @@
 -- One more is aside, out of play.
 use Rattle.std.proofs.Common.{ℕ, ◌∙◌, List, set, ap, arith}
 use Rattle.cps_branch.specs.declared.ranking.Aside.{Aside}
-use Rattle.cps_branch.proofs.Aside.{front_more, one_aside_more}
+use Rattle.cps_branch.proofs.SetAside.{front_more, one_aside_more}
 use Rattle.cps_branch.proofs.ranking.Ranking.set_aside.Goals as goal
 
 pub returns-clause-ranking : goal.returns-clause-ranking

@@ -3,7 +3,7 @@ use Rattle.std.proofs.lemmas.List.{get_or_default}
 use Rattle.cps_branch.specs.declared.tournament.Contender.{Contender}
 use Rattle.cps_branch.specs.Tournament.{nobody, stands_at}
 use Rattle.cps_branch.specs.SetAside.{LeadsInPlay, aside_of, size_of}
-use Rattle.cps_branch.proofs.Aside.{none_plays, top_is_first, top_room}
+use Rattle.cps_branch.proofs.SetAside.{none_plays, top_is_first, top_room}
 use Rattle.cps_branch.proofs.ranking.Ranking.top.Goals as goal
 use Rattle.cps_branch.proofs.ranking.Ranking.top.Goals.{Then-top}
 

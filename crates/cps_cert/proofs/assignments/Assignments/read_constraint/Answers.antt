@@ -3,8 +3,7 @@ use Rattle.std.proofs.Common.{◌++◌, List, sym, ◌∙◌, ap, subst, ℤ, �
 use Rattle.std.specs.List.{flat_map}
 use Rattle.std.proofs.lemmas.List.{map-append, append_assoc}
 use Rattle.cps_model.specs.Values.{variable_of}
-use Rattle.cps_model.specs.Rules.{literals_of, references_of, sums_of}
-use Rattle.cps_model.specs.KindRules.{intervals_of}
+use Rattle.cps_model.specs.Rules.{literals_of, references_of, sums_of, intervals_of}
 use Rattle.cps_cert.specs.Counting.{variables_of, variables_of_sum, read_variables}
 use Rattle.cps_cert.specs.Trying.{kind_variables, named_variables, ReadsOn}
 use Rattle.cps_cert.proofs.Steps.{on_ok, reads_then, reads_same}

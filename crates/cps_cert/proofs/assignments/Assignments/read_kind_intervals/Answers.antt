@@ -2,7 +2,7 @@
 use Rattle.std.proofs.Common.{◌++◌, List, sym, ◌∙◌, ap, subst, ℤ}
 use Rattle.std.proofs.lemmas.List.Concat.{flat_map-append}
 use Rattle.cps_model.specs.declared.constraint.Kind.{Kind}
-use Rattle.cps_model.specs.KindRules.{intervals_of}
+use Rattle.cps_model.specs.Rules.{intervals_of}
 use Rattle.cps_model.specs.Scheduling.{constraint_at}
 use Rattle.cps_cert.specs.Counting.{variables_of_named}
 use Rattle.cps_cert.specs.Trying.{named_variables, ReadsOn}

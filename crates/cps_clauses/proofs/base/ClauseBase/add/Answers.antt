@@ -1,6 +1,6 @@
 use Rattle.std.proofs.Common.{◌≡◌, length, ◌∙◌, ap, subst}
 use Rattle.cps_clauses.specs.Bases.{Base, in_force_of}
-use Rattle.cps_clauses.proofs.Dropping.{in_force_pushed}
+use Rattle.cps_clauses.proofs.DroppedClauses.{in_force_pushed}
 use Rattle.cps_clauses.proofs.base.ClauseBase.add.Goals as goal
 
 pub returns-in-Ok-clause-in_force : goal.returns-in-Ok-clause-in_force

@@ -2,7 +2,7 @@ use Rattle.std.proofs.Common.{List, length, ap, subst, arith}
 use Rattle.cps_literal.specs.declared.atom.Atom.{Atom}
 use Rattle.cps_clauses.specs.InForce.{IsNumberInForce}
 use Rattle.cps_clauses.specs.Bases.{Base}
-use Rattle.cps_clauses.proofs.Holding.{some_held}
+use Rattle.cps_clauses.proofs.ClausesInForce.{some_held}
 use Rattle.cps_clauses.proofs.base.ClauseBase.atom_of.Goals as goal
 
 -- a clause that has an atom was not dropped

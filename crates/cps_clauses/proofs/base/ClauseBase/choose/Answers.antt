@@ -3,7 +3,7 @@ use Rattle.std.specs.List.{All}
 use Rattle.cps_clauses.specs.Bases.{Base, base_of}
 use Rattle.cps_clauses.specs.Forgets.{GoInOrder, Forgets}
 use Rattle.cps_clauses.specs.Journals.{count_standing, standing_in}
-use Rattle.cps_clauses.proofs.Forgetting.{forgets_first}
+use Rattle.cps_clauses.proofs.ForgottenClauses.{forgets_first}
 use Rattle.cps_clauses.proofs.base.ClauseBase.choose.Goals as goal
 
 pub in_turn-requires-clause-sizes : goal.in_turn-requires-clause-sizes

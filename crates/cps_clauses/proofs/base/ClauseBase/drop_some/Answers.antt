@@ -8,8 +8,8 @@ use Rattle.cps_clauses.specs.Journals.{drops}
 use Rattle.cps_clauses.specs.Watches.{IsWatcher, IsWatching, list_at}
 use Rattle.cps_clauses.specs.Bases.{Base, IsStored, base_of, number_at}
 use Rattle.cps_clauses.specs.Forgets.{Forgets, HasForgotten}
-use Rattle.cps_clauses.proofs.Dropping.{length-marked}
-use Rattle.cps_clauses.proofs.Forgetting.{forgotten, places_of, stored_forgotten, which_few}
+use Rattle.cps_clauses.proofs.DroppedClauses.{length-marked}
+use Rattle.cps_clauses.proofs.ForgottenClauses.{forgotten, places_of, stored_forgotten, which_few}
 use Rattle.cps_clauses.proofs.base.ClauseBase.drop_some.Goals as goal
 use Rattle.cps_clauses.proofs.base.ClauseBase.drop_some.Goals.{In_ok-which, In_ok-dropped, After-release}
 

@@ -2,7 +2,7 @@ use Rattle.std.proofs.Common.{◌≡◌, ◌<◌, ◌++◌, ◌∷◌, [], List,
 use Rattle.std.proofs.lemmas.List.{take_all}
 use Rattle.cps_literal.specs.declared.atom.Atom.{Atom}
 use Rattle.cps_clauses.specs.InForce.{is_dropped, blanked}
-use Rattle.cps_clauses.proofs.Dropping.{blanked_dropped, blanked_kept, length-blanked, take_next}
+use Rattle.cps_clauses.proofs.DroppedClauses.{blanked_dropped, blanked_kept, length-blanked, take_next}
 use Rattle.cps_clauses.proofs.clauses.Clauses.without.Goals as goal
 
 -- a clause that was dropped is added without its atoms

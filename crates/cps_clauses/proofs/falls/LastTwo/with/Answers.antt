@@ -1,4 +1,4 @@
-use Rattle.cps_clauses.proofs.Falling.{AreLastTwo-later, AreLastTwo-second, AreLastTwo-before}
+use Rattle.cps_clauses.proofs.AtomFalls.{AreLastTwo-later, AreLastTwo-second, AreLastTwo-before}
 use Rattle.cps_clauses.proofs.falls.LastTwo.with.Goals as goal
 
 pub returns-then-self-count : goal.returns-then-self-count

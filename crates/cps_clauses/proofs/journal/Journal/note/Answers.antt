@@ -8,7 +8,7 @@ use Rattle.cps_clauses.specs.declared.origin.Origin.{Origin}
 use Rattle.cps_clauses.specs.Journals.{noted}
 use Rattle.cps_clauses.specs.Lines.{item_of, IsJournalKept}
 use Rattle.cps_clauses.specs.AtomRanges.{IsAppended}
-use Rattle.cps_clauses.proofs.Recording.{items_learnt, IsJournalKept-learnt}
+use Rattle.cps_clauses.proofs.JournalLines.{items_learnt, IsJournalKept-learnt}
 use Rattle.cps_clauses.proofs.journal.Journal.note.Goals as goal
 use Rattle.cps_clauses.proofs.journal.Journal.note.Goals.{In_ok-atom_range-in-Learnt}
 

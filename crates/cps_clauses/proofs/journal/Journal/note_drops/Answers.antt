@@ -3,7 +3,7 @@ use Rattle.cps_clauses.specs.declared.journal.JournalItem.{JournalItem}
 use Rattle.cps_clauses.specs.declared.journal.Line.{Line}
 use Rattle.cps_clauses.specs.Journals.{drops}
 use Rattle.cps_clauses.specs.Lines.{item_of, drop_lines, IsJournalKept}
-use Rattle.cps_clauses.proofs.Recording.{IsJournalKept-dropped, items_dropped}
+use Rattle.cps_clauses.proofs.JournalLines.{IsJournalKept-dropped, items_dropped}
 use Rattle.cps_clauses.proofs.journal.Journal.note_drops.Goals as goal
 
 pub returns-clause-ok : goal.returns-clause-ok

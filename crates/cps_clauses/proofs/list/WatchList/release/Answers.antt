@@ -4,7 +4,7 @@ use Rattle.std.proofs.lemmas.List.Elements.{All-contains}
 use Rattle.cps_clauses.specs.declared.watch.Watcher.{Watcher}
 use Rattle.cps_clauses.specs.InForce.{is_dropped}
 use Rattle.cps_clauses.specs.Watches.{no_watcher}
-use Rattle.cps_clauses.proofs.Releasing.{IsReleasedTo, released_none, released_past, released_out, released_all}
+use Rattle.cps_clauses.proofs.ReleasedWatchers.{IsReleasedTo, released_none, released_past, released_out, released_all}
 use Rattle.cps_clauses.proofs.list.WatchList.release.Goals as goal
 
 pub loop-place-init : goal.loop-place-init

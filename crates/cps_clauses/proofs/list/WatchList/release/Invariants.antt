@@ -1,5 +1,5 @@
 use Rattle.std.proofs.Common.{◌-◌, length}
-use Rattle.cps_clauses.proofs.Releasing.{IsReleasedTo}
+use Rattle.cps_clauses.proofs.ReleasedWatchers.{IsReleasedTo}
 use Rattle.cps_clauses.proofs.list.WatchList.release.Given as goal
 
 abbrev pub invariant-loop-place : goal.invariant-loop-place

@@ -1,5 +1,5 @@
 use Rattle.cps_clauses.specs.Watches.{list_at}
-use Rattle.cps_clauses.proofs.Releasing.{watching_released}
+use Rattle.cps_clauses.proofs.ReleasedWatchers.{watching_released}
 use Rattle.cps_clauses.proofs.watching.Watching.release.Goals as goal
 
 pub returns-clause-watching : goal.returns-clause-watching

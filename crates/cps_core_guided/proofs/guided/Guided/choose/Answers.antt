@@ -3,12 +3,12 @@ use Rattle.std.proofs.Common.{◌≡◌, ap, arith, inr, length, subst, sym}
 use Rattle.cps_trail.specs.Trail.{Trail}
 use Rattle.cps_branch.specs.Scope.{AreSameUpTo}
 use Rattle.cps_search.specs.Searches.{Search}
-use Rattle.cps_search.proofs.Working.{decided_onward}
+use Rattle.cps_search.proofs.WorkerInvariants.{decided_onward}
 use Rattle.cps_core_guided.proofs.Assumptions.{chosen_where_none_open}
 use Rattle.cps_core_guided.specs.CoreTurns.{a_choice}
 use Rattle.cps_core_guided.specs.Guiding.{core_search_of}
-use Rattle.cps_core_guided.proofs.CoreWorking.{works-decided}
-use Rattle.cps_core_guided.proofs.Deciding.{decides-from}
+use Rattle.cps_core_guided.proofs.CoreInvariants.{works-decided}
+use Rattle.cps_core_guided.proofs.AssumedDecisions.{decides-from}
 use Rattle.cps_core_guided.proofs.guided.Guided.choose.Goals as goal
 
 pub returns-clause-decides : goal.returns-clause-decides

@@ -7,12 +7,12 @@ use Rattle.cps_port.specs.Order.{IsSmallBound, raised_to}
 use Rattle.cps_port.specs.Incumbents.{IsLowerBound}
 use Rattle.cps_search.specs.declared.turn.Turn.TheVariants.{Reformed}
 use Rattle.cps_search.specs.Stepping.{Raises}
-use Rattle.cps_search.proofs.Teaching.{lower_bound_of}
+use Rattle.cps_search.proofs.ConflictLessons.{lower_bound_of}
 use Rattle.cps_core_guided.specs.Guiding.{core_search_of}
 use Rattle.cps_core_guided.specs.Reforming.{IsSoundCore}
-use Rattle.cps_core_guided.proofs.Failing.{raises-to}
-use Rattle.cps_core_guided.proofs.Keeping.{sound-ended, sound-raised}
-use Rattle.cps_core_guided.proofs.Reforming.{read_back, z-small}
+use Rattle.cps_core_guided.proofs.FailedTerms.{raises-to}
+use Rattle.cps_core_guided.proofs.CoreSoundness.{sound-ended, sound-raised}
+use Rattle.cps_core_guided.proofs.Reforms.{read_back, z-small}
 use Rattle.cps_core_guided.proofs.guided.Guided.conclude.Goals as goal
 
 pub raise-requires-clause-bound : goal.raise-requires-clause-bound

@@ -5,7 +5,7 @@ use Rattle.cps_branch.specs.Choice.{IsUndecided}
 use Rattle.cps_search.specs.Ends.{DecidedBy}
 use Rattle.cps_search.proofs.Results.{ok_if}
 use Rattle.cps_core_guided.specs.Guiding.{core_search_of}
-use Rattle.cps_core_guided.proofs.Deciding.{decides-assumed, works-assumed}
+use Rattle.cps_core_guided.proofs.AssumedDecisions.{decides-assumed, works-assumed}
 use Rattle.cps_core_guided.proofs.Results.{on_ok_both, on_ok_weaker}
 use Rattle.cps_core_guided.proofs.guided.Guided.decide.Goals as goal
 

@@ -9,8 +9,8 @@ use Rattle.cps_search.specs.Ends.{DecidedBy}
 use Rattle.cps_search.proofs.Results.{ok_if}
 use Rattle.cps_core_guided.specs.Assuming.{AreAssumed, IsFirstOpenTerm, NoTermFails}
 use Rattle.cps_core_guided.specs.Guiding.{core_search_of}
-use Rattle.cps_core_guided.proofs.CoreWorking.{terms-inside}
-use Rattle.cps_core_guided.proofs.Deciding.{decides-term, read-both, works-term}
+use Rattle.cps_core_guided.proofs.CoreInvariants.{terms-inside}
+use Rattle.cps_core_guided.proofs.AssumedDecisions.{decides-term, read-both, works-term}
 use Rattle.cps_core_guided.proofs.Results.{on_ok_both, on_ok_weaker}
 use Rattle.cps_core_guided.proofs.guided.Guided.decide_by_terms.Goals as goal
 

@@ -10,8 +10,8 @@ use Rattle.cps_reform.specs.Floors.{IsFormPast, IsGreatestObjective, IsReform, N
 use Rattle.cps_reform.specs.Forms.{Form, lifted, term_at}
 use Rattle.cps_trail.specs.Trail.{Trail, IsSoundTrail}
 use Rattle.cps_core_guided.specs.Guiding.{core_search_of}
-use Rattle.cps_core_guided.proofs.Keeping.{sound-form}
-use Rattle.cps_core_guided.proofs.Reforming.{most-greatest, read-greatest, same-past, small-greatest, z-small}
+use Rattle.cps_core_guided.proofs.CoreSoundness.{sound-form}
+use Rattle.cps_core_guided.proofs.Reforms.{most-greatest, read-greatest, same-past, small-greatest, z-small}
 use Rattle.cps_core_guided.proofs.guided.Guided.lift.Goals as goal
 
 pub lift_below-requires-clause-reform : goal.lift_below-requires-clause-reform

@@ -13,8 +13,8 @@ use Rattle.cps_reform.proofs.Rooms.{bound-small}
 use Rattle.cps_core_guided.specs.Guiding.{SplitsCore, Tried, core_search_of}
 use Rattle.cps_core_guided.specs.Reforming.{CoreSearch, ReformsTo, alone}
 use Rattle.cps_core_guided.proofs.CoreLaw.{core-has-failed, core-some, core-weighs, in-core, risen-alone}
-use Rattle.cps_core_guided.proofs.Lifting.{lift-same, marked-sound, one_more, tried-lifted, tried-split, works-form}
-use Rattle.cps_core_guided.proofs.Reforming.{base-rises, read_back}
+use Rattle.cps_core_guided.proofs.Lifts.{lift-same, marked-sound, one_more, tried-lifted, tried-split, works-form}
+use Rattle.cps_core_guided.proofs.Reforms.{base-rises, read_back}
 use Rattle.cps_core_guided.proofs.guided.Guided.lift_core.Goals as goal
 
 fits_one : (v : ℤ) → unsigned_abs v < 2 ^ 62 → FitsSigned w64 (v +ℤ pos 1)

@@ -12,16 +12,16 @@ use Rattle.cps_search.specs.Lessons.{GoesBack}
 use Rattle.cps_search.specs.Moves.{moved}
 use Rattle.cps_search.specs.Searches.{IsSoundSearch, Search}
 use Rattle.cps_search.proofs.Keeps.{keeps_none}
-use Rattle.cps_search.proofs.Turning.{back_only}
-use Rattle.cps_search.proofs.Working.{same_back}
+use Rattle.cps_search.proofs.TurnCauses.{back_only}
+use Rattle.cps_search.proofs.WorkerInvariants.{same_back}
 use Rattle.cps_reform.specs.declared.held.Held.{Held}
 use Rattle.cps_reform.specs.Forms.{no_term, term_at}
 use Rattle.cps_reform.specs.Marks.{assumed}
 use Rattle.cps_core_guided.specs.CoreTurns.{ExhaustsFrom, GoesOn, IsCoreWorking, RaisesTo, ReformsFrom}
 use Rattle.cps_core_guided.specs.Guiding.{HasFailed, Tried, core_search_of}
 use Rattle.cps_core_guided.specs.Reforming.{CoreSearch, IsSoundCore, whole_core}
-use Rattle.cps_core_guided.proofs.CoreWorking.{terms-inside, works-concluded, works-core}
-use Rattle.cps_core_guided.proofs.Failing.{exhausts-from, has-failed, none-after, reforms-from, sound-bottom, tried-bound}
+use Rattle.cps_core_guided.proofs.CoreInvariants.{terms-inside, works-concluded, works-core}
+use Rattle.cps_core_guided.proofs.FailedTerms.{exhausts-from, has-failed, none-after, reforms-from, sound-bottom, tried-bound}
 use Rattle.cps_core_guided.proofs.Results.{not-refused}
 use Rattle.cps_core_guided.proofs.guided.Guided.reform_at.Goals as goal
 

@@ -10,9 +10,9 @@ use Rattle.cps_reform.specs.Floors.{OfEachBelow}
 use Rattle.cps_reform.specs.Forms.{lifted, no_term, term_at}
 use Rattle.cps_core_guided.specs.Guiding.{core_search_of}
 use Rattle.cps_core_guided.specs.Reforming.{CoreSearch, IsLeastAdmitted, at_bottom}
-use Rattle.cps_core_guided.proofs.Lifting.{lift-same, tried-lifted, works-form}
+use Rattle.cps_core_guided.proofs.Lifts.{lift-same, tried-lifted, works-form}
 use Rattle.cps_core_guided.proofs.Openings.{not-no}
-use Rattle.cps_core_guided.proofs.Reforming.{base-rises, least-above, least-now, risen-least}
+use Rattle.cps_core_guided.proofs.Reforms.{base-rises, least-above, least-now, risen-least}
 use Rattle.cps_core_guided.proofs.guided.Guided.reform_by.Goals as goal
 
 pub lift-requires-clause-rises : goal.lift-requires-clause-rises

@@ -6,9 +6,9 @@ use Rattle.cps_search.proofs.Results.{if_ok_weaker}
 use Rattle.cps_core_guided.specs.Assuming.{IsFailed, NoTermFails}
 use Rattle.cps_core_guided.specs.CoreTurns.{GoesOn}
 use Rattle.cps_core_guided.specs.Guiding.{core_search_of}
-use Rattle.cps_core_guided.proofs.CoreWorking.{terms-inside}
-use Rattle.cps_core_guided.proofs.Deciding.{read-both}
-use Rattle.cps_core_guided.proofs.Hearing.{on-brancher}
+use Rattle.cps_core_guided.proofs.CoreInvariants.{terms-inside}
+use Rattle.cps_core_guided.proofs.AssumedDecisions.{read-both}
+use Rattle.cps_core_guided.proofs.HeardClauses.{on-brancher}
 use Rattle.cps_core_guided.proofs.guided.Guided.reform_or_decide.Goals as goal
 
 pub failed_term-requires : goal.failed_term-requires

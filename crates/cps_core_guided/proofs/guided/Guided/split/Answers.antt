@@ -14,12 +14,12 @@ use Rattle.cps_search.proofs.Results.{ok_if}
 use Rattle.cps_reform.specs.Cores.{core_sum, core_terms, least_weight, split, IsSomeAbove}
 use Rattle.cps_reform.specs.Floors.{IsCoreSum, IsGreatestObjective, IsFormPast, IsReform, NoneIsBelow, OfEachBelow}
 use Rattle.cps_reform.specs.Forms.{Form}
-use Rattle.cps_reform.proofs.Growing.{core-reach, core-subjects, grown-core, grown-reform, grown-sum}
+use Rattle.cps_reform.proofs.GrownForms.{core-reach, core-subjects, grown-core, grown-reform, grown-sum}
 use Rattle.cps_core_guided.specs.CoreTurns.{IsCoreWorking}
 use Rattle.cps_core_guided.specs.Guiding.{SplitsCore, core_search_of}
 use Rattle.cps_core_guided.specs.Reforming.{CoreSearch}
-use Rattle.cps_core_guided.proofs.CoreWorking.{works-grown}
-use Rattle.cps_core_guided.proofs.Reforming.{most-greatest, read-greatest, small-greatest, z-small}
+use Rattle.cps_core_guided.proofs.CoreInvariants.{works-grown}
+use Rattle.cps_core_guided.proofs.Reforms.{most-greatest, read-greatest, small-greatest, z-small}
 use Rattle.cps_core_guided.proofs.Results.{if_ok_of}
 use Rattle.cps_core_guided.proofs.guided.Guided.split.Goals as goal
 

@@ -7,12 +7,12 @@ use Rattle.cps_search.specs.Ends.{BrancherTurn, DecidedBy, HeardOne}
 use Rattle.cps_search.specs.Turns.{Steps}
 use Rattle.cps_search.proofs.Keeps.{keeps_then}
 use Rattle.cps_search.proofs.Results.{if_ok_weaker}
-use Rattle.cps_search.proofs.Working.{brancher_heard, imported_few, same_back, same_onward, stands_imported, turn_heard}
+use Rattle.cps_search.proofs.WorkerInvariants.{brancher_heard, imported_few, same_back, same_onward, stands_imported, turn_heard}
 use Rattle.cps_core_guided.specs.CoreTurns.{GoesOn, TakesCoreTurn}
 use Rattle.cps_core_guided.specs.Guiding.{core_search_of}
-use Rattle.cps_core_guided.proofs.CoreTurning.{frame-not-decided, not-ended, turn-frame, turn-on}
-use Rattle.cps_core_guided.proofs.CoreWorking.{core-room, works-frame}
-use Rattle.cps_core_guided.proofs.Hearing.{heard-brancher}
+use Rattle.cps_core_guided.proofs.CoreTurnCauses.{frame-not-decided, not-ended, turn-frame, turn-on}
+use Rattle.cps_core_guided.proofs.CoreInvariants.{core-room, works-frame}
+use Rattle.cps_core_guided.proofs.HeardClauses.{heard-brancher}
 use Rattle.cps_core_guided.proofs.Results.{not-refused}
 use Rattle.cps_core_guided.proofs.guided.Guided.turn.Goals as goal
 

@@ -4,7 +4,7 @@ use Rattle.cps_branch.specs.Agreeing.{aside_none_kept}
 use Rattle.cps_branch.specs.Hints.{hint_for}
 use Rattle.cps_branch.specs.Scope.{Scope}
 use Rattle.cps_branch.specs.SetAside.{AreFixedAside}
-use Rattle.cps_core_guided.proofs.CoreBeginning.{made-begins, made-works, not-refused}
+use Rattle.cps_core_guided.proofs.CoreStarts.{made-begins, made-works, not-refused}
 use Rattle.cps_core_guided.proofs.worker.CoreWorker+P+ActivityBrancher.new.Goals as goal
 
 pub returns-clause-begins : goal.returns-clause-begins

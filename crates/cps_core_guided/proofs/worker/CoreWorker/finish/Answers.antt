@@ -6,7 +6,7 @@ use Rattle.cps_search.specs.declared.end.WorkerKind.TheVariants.{CoreGuided}
 use Rattle.cps_search.specs.Ends.{Ending, ending}
 use Rattle.cps_core_guided.specs.CoreTurns.{core_ending}
 use Rattle.cps_core_guided.specs.Guiding.{core_search_of, with_refused}
-use Rattle.cps_core_guided.proofs.CoreRunning.{core-of-frame, core-of-own}
+use Rattle.cps_core_guided.proofs.CoreRuns.{core-of-frame, core-of-own}
 use Rattle.cps_core_guided.proofs.worker.CoreWorker.finish.Goals as goal
 
 pub returns-then-ended-clause-is : goal.returns-then-ended-clause-is

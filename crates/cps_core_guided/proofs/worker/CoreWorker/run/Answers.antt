@@ -4,8 +4,8 @@ use Rattle.cps_search.specs.declared.end.End.{End}
 use Rattle.cps_search.specs.Ends.{EndsAs}
 use Rattle.cps_core_guided.specs.CoreTurns.{no_turn, one_turn_more}
 use Rattle.cps_core_guided.specs.Reforming.{whole}
-use Rattle.cps_core_guided.proofs.CoreLasting.{core_left, core_lowered}
-use Rattle.cps_core_guided.proofs.CoreRunning.{core-begins, core-ends, core-goes-on, one-core-turn}
+use Rattle.cps_core_guided.proofs.CoreTermination.{core_left, core_lowered}
+use Rattle.cps_core_guided.proofs.CoreRuns.{core-begins, core-ends, core-goes-on, one-core-turn}
 use Rattle.cps_search.proofs.Keeps.{keeps_none, keeps_then}
 use Rattle.cps_core_guided.proofs.worker.CoreWorker.run.Goals as goal
 

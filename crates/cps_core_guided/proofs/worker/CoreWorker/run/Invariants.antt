@@ -3,8 +3,8 @@ use Rattle.cps_search.specs.Ends.{IsOver}
 use Rattle.cps_search.specs.Keeps.{Keeps}
 use Rattle.cps_core_guided.specs.CoreTurns.{TakesCoreTurns}
 use Rattle.cps_core_guided.specs.Reforming.{whole}
-use Rattle.cps_core_guided.proofs.CoreLasting.{core_left}
-use Rattle.cps_core_guided.proofs.CoreRunning.{HasCoreRun}
+use Rattle.cps_core_guided.proofs.CoreTermination.{core_left}
+use Rattle.cps_core_guided.proofs.CoreRuns.{HasCoreRun}
 use Rattle.cps_core_guided.proofs.worker.CoreWorker.run.Given as goal
 
 abbrev pub invariant-turns : goal.invariant-turns

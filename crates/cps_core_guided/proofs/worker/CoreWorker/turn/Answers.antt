@@ -4,7 +4,7 @@ use Rattle.cps_search.specs.Ends.{BrancherTurn, DecidedBy, HeardOne}
 use Rattle.cps_core_guided.specs.CoreTurns.{TakesCoreTurn}
 use Rattle.cps_core_guided.specs.Guiding.{core_search_of, with_refused}
 use Rattle.cps_core_guided.specs.Reforming.{CoreSearch, IsSoundCore}
-use Rattle.cps_core_guided.proofs.Viewing.{as-running, seen-running}
+use Rattle.cps_core_guided.proofs.WorkerViews.{as-running, seen-running}
 use Rattle.cps_search.proofs.Keeps.{keeps_none}
 use Rattle.cps_core_guided.proofs.worker.CoreWorker.turn.Goals as goal
 

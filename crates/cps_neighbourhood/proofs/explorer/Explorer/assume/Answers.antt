@@ -4,7 +4,7 @@ use Rattle.cps_trail.specs.Trail.{Trail}
 use Rattle.cps_search.specs.Searches.{Search}
 use Rattle.cps_search.proofs.Exits.{no_not_yes, yes_not_no}
 use Rattle.cps_neighbourhood.specs.Exploring.{IsExploring}
-use Rattle.cps_neighbourhood.proofs.Exploring.{assumed_in, assumption_decided}
+use Rattle.cps_neighbourhood.proofs.ExplorerInvariants.{assumed_in, assumption_decided}
 use Rattle.cps_neighbourhood.proofs.explorer.Explorer.assume.Goals as goal
 
 pub returns-then-not-branch-clause-exploring : goal.returns-then-not-branch-clause-exploring

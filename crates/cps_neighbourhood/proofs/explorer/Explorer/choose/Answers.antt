@@ -1,7 +1,7 @@
 use Rattle.std.proofs.Common.{◌≡◌, length, refl, ap, subst, arith}
 use Rattle.cps_trail.specs.Trail.{Trail, IsSoundTrail}
 use Rattle.cps_branch.specs.Scope.{Scope}
-use Rattle.cps_neighbourhood.proofs.Exploring.{chosen_decided, chosen_hinted, chosen_in}
+use Rattle.cps_neighbourhood.proofs.ExplorerInvariants.{chosen_decided, chosen_hinted, chosen_in}
 use Rattle.cps_neighbourhood.proofs.explorer.Explorer.choose.Goals as goal
 
 pub returns-clause-decides : goal.returns-clause-decides

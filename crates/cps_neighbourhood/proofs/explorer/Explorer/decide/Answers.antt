@@ -10,7 +10,7 @@ use Rattle.cps_neighbourhood.specs.Standing.{IsUnderWay}
 use Rattle.cps_search.specs.Assumptions.{NoneIsOpen}
 use Rattle.cps_search.specs.Searches.{IsSettled, Search}
 use Rattle.cps_neighbourhood.specs.Exploring.{near_of}
-use Rattle.cps_neighbourhood.proofs.Exploring.{begun_same, decided_begun, due_runs, explores_placed, near_placed, open_in}
+use Rattle.cps_neighbourhood.proofs.ExplorerInvariants.{begun_same, decided_begun, due_runs, explores_placed, near_placed, open_in}
 use Rattle.cps_neighbourhood.proofs.explorer.Explorer.decide.Goals as goal
 
 pub returns-in-Some-clause-decides : goal.returns-in-Some-clause-decides

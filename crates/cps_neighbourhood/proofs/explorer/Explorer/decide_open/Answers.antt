@@ -3,7 +3,7 @@ use Rattle.std.proofs.Common.{◌∙◌, inr, refl, ap}
 use Rattle.cps_trail.specs.Trail.{Trail}
 use Rattle.cps_search.specs.Searches.{Search}
 use Rattle.cps_neighbourhood.specs.Exploring.{near_of}
-use Rattle.cps_neighbourhood.proofs.Exploring.{open_decided}
+use Rattle.cps_neighbourhood.proofs.ExplorerInvariants.{open_decided}
 use Rattle.cps_neighbourhood.proofs.explorer.Explorer.decide_open.Goals as goal
 
 pub returns-clause-exploring : goal.returns-clause-exploring

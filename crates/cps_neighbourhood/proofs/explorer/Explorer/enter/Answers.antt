@@ -1,7 +1,7 @@
 use Rattle.std.proofs.Common.{length, refl, subst}
 use Rattle.cps_trail.specs.Trail.{Trail, IsSoundTrail}
 use Rattle.cps_neighbourhood.specs.Rounds.{freed}
-use Rattle.cps_neighbourhood.proofs.Exploring.{begins}
+use Rattle.cps_neighbourhood.proofs.ExplorerInvariants.{begins}
 use Rattle.cps_neighbourhood.proofs.explorer.Explorer.enter.Goals as goal
 
 pub returns-in_ok-self-clause-exploring : goal.returns-in_ok-self-clause-exploring

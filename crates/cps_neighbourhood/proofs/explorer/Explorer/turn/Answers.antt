@@ -8,8 +8,8 @@ use Rattle.cps_search.specs.Turns.{Steps}
 use Rattle.cps_neighbourhood.specs.Nears.{Near}
 use Rattle.cps_neighbourhood.specs.Exploring.{near_of}
 use Rattle.cps_neighbourhood.specs.Standing.{held_to}
-use Rattle.cps_neighbourhood.proofs.Learning.{explores_learnt, few_learnt, turn_learnt}
-use Rattle.cps_neighbourhood.proofs.Taking.{explores_done, explores_due, explores_other, turn_decided, turn_done, turn_other}
+use Rattle.cps_neighbourhood.proofs.LearntTurns.{explores_learnt, few_learnt, turn_learnt}
+use Rattle.cps_neighbourhood.proofs.TurnCauses.{explores_done, explores_due, explores_other, turn_decided, turn_done, turn_other}
 use Rattle.cps_neighbourhood.proofs.explorer.Explorer.turn.Goals as goal
 
 pub decide-requires-clause-exploring : goal.decide-requires-clause-exploring
@@ -52,8 +52,8 @@ pub returns-in_default : goal.returns-in_default
 returns-in_default g c =
     let x = c.args.self.now in
     let m = c.steps.new.self in
-    let y = c.look_back.new.self in
-    let k = c.look_back.ensures in
+    let y = c.note_backjump.new.self in
+    let k = c.note_backjump.ensures in
     let turn = c.in-Some.turn in
     let steps : Steps x.frame m (g.Q.Port.rows c.args.port.now) (g.Q.Port.part c.args.port.now) (g.Q.Port.part c.steps.new.port) (Some turn) =
     subst (λ (o : Option Turn). Steps x.frame m (g.Q.Port.rows c.args.port.now) (g.Q.Port.part c.args.port.now) (g.Q.Port.part c.steps.new.port) o) c.in-Some.is c.in_ok-steps.ensures.steps in

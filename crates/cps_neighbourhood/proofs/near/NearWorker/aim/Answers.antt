@@ -1,7 +1,7 @@
 use Rattle.std.proofs.Common.{◌∙◌, ℤ, List, length, sym, ap}
 use Rattle.cps_model.proofs.Inside.{length-are_within}
 use Rattle.cps_neighbourhood.specs.Nears.{Near}
-use Rattle.cps_neighbourhood.proofs.Viewing.{explores_aimed, solved}
+use Rattle.cps_neighbourhood.proofs.WorkerViews.{explores_aimed, solved}
 use Rattle.cps_neighbourhood.proofs.near.NearWorker.aim.Goals as goal
 
 pub set-requires : goal.set-requires

@@ -2,7 +2,7 @@
 use Rattle.std.proofs.Common.{subst, sym}
 use Rattle.cps_search.specs.Searches.{IsSoundSearch}
 use Rattle.cps_neighbourhood.specs.Nears.{Near}
-use Rattle.cps_neighbourhood.proofs.Viewing.{as_running}
+use Rattle.cps_neighbourhood.proofs.WorkerViews.{as_running}
 use Rattle.cps_neighbourhood.proofs.near.NearWorker.new.Goals as goal
 
 pub returns-clause-sound : goal.returns-clause-sound

@@ -5,8 +5,8 @@ use Rattle.cps_trail.specs.Trail.{open_values}
 use Rattle.cps_search.specs.declared.end.End.{End}
 use Rattle.cps_search.specs.Ends.{EndsAs}
 use Rattle.cps_neighbourhood.specs.Nears.{none_yet, one_more}
-use Rattle.cps_neighbourhood.proofs.Counting.{near_begins, near_ends, near_goes_on, one_near_turn}
-use Rattle.cps_neighbourhood.proofs.Lasting.{near_left, near_lowered}
+use Rattle.cps_neighbourhood.proofs.LearntCounts.{near_begins, near_ends, near_goes_on, one_near_turn}
+use Rattle.cps_neighbourhood.proofs.RoundTermination.{near_left, near_lowered}
 use Rattle.cps_search.proofs.Keeps.{keeps_none, keeps_then}
 use Rattle.cps_neighbourhood.proofs.near.NearWorker.run.Goals as goal
 

@@ -3,8 +3,8 @@ use Rattle.cps_trail.specs.Trail.{open_values}
 use Rattle.cps_search.specs.Ends.{IsOver}
 use Rattle.cps_search.specs.Keeps.{Keeps}
 use Rattle.cps_neighbourhood.specs.Nears.{TakesNearTurns}
-use Rattle.cps_neighbourhood.proofs.Counting.{HasNearRun}
-use Rattle.cps_neighbourhood.proofs.Lasting.{near_left}
+use Rattle.cps_neighbourhood.proofs.LearntCounts.{HasNearRun}
+use Rattle.cps_neighbourhood.proofs.RoundTermination.{near_left}
 use Rattle.cps_neighbourhood.proofs.near.NearWorker.run.Given as goal
 
 abbrev pub invariant-turns : goal.invariant-turns

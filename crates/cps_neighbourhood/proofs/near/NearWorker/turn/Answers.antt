@@ -3,7 +3,7 @@ use Rattle.std.proofs.Common.{◌≡◌, ◌∙◌, false, sym, subst}
 use Rattle.cps_search.specs.Searches.{IsSoundSearch}
 use Rattle.cps_neighbourhood.specs.Exploring.{near_as, near_of}
 use Rattle.cps_neighbourhood.specs.Nears.{Near, TakesNearTurn}
-use Rattle.cps_neighbourhood.proofs.Viewing.{as_refused, as_running}
+use Rattle.cps_neighbourhood.proofs.WorkerViews.{as_refused, as_running}
 use Rattle.cps_search.proofs.Keeps.{keeps_none}
 use Rattle.cps_neighbourhood.proofs.near.NearWorker.turn.Goals as goal
 

@@ -3,8 +3,8 @@ use Rattle.std.proofs.Common.{refl, arith}
 use Rattle.cps_literal.specs.declared.atom.Atom.{Atom}
 use Rattle.cps_branch.specs.Choice.{IsUndecided}
 use Rattle.cps_neighbourhood.specs.Standing.{begun}
-use Rattle.cps_neighbourhood.proofs.Firsts.{first_decision, passed_all}
-use Rattle.cps_neighbourhood.proofs.Keeping.{none_open_now, way_placed}
+use Rattle.cps_neighbourhood.proofs.FirstDecisions.{first_decision, passed_all}
+use Rattle.cps_neighbourhood.proofs.RoundAgreement.{none_open_now, way_placed}
 use Rattle.cps_neighbourhood.proofs.round.Progress.next_open.Goals as goal
 
 pub returns-then-max-level-clause-none : goal.returns-then-max-level-clause-none

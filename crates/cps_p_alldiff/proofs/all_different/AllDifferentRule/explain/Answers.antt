@@ -1,8 +1,8 @@
 -- The crowd and the fact that the atom needs were true.
 use Rattle.std.proofs.lemmas.List.Elements.{at_from_Contains}
-use Rattle.cps_p_alldiff.proofs.Reading.{no_not_yes}
-use Rattle.cps_p_alldiff.proofs.Explaining.{explained, is_yes}
-use Rattle.cps_p_alldiff.proofs.Giving.{seen_explained}
+use Rattle.cps_p_alldiff.proofs.NumberTests.{no_not_yes}
+use Rattle.cps_p_alldiff.proofs.ExplainedFacts.{explained, is_yes}
+use Rattle.cps_p_alldiff.proofs.ImpliedAtoms.{seen_explained}
 use Rattle.cps_p_alldiff.proofs.all_different.AllDifferentRule.explain.Goals as goal
 
 pub returns : goal.returns

@@ -4,7 +4,7 @@ use Rattle.std.proofs.Common.{subst}
 use Rattle.cps_propagate.specs.Strength.{HasRoom}
 use Rattle.cps_p_alldiff.specs.declared.interval.Interval.{Interval}
 use Rattle.cps_p_alldiff.specs.Intervals.{IsRoomy, IsOverfull}
-use Rattle.cps_p_alldiff.proofs.Giving.{ends_read, bounds_read, room_read, crowded_impossible, seen_impossible, seen_possible, seen_rest, seen_subjects}
+use Rattle.cps_p_alldiff.proofs.ImpliedAtoms.{ends_read, bounds_read, room_read, crowded_impossible, seen_impossible, seen_possible, seen_rest, seen_subjects}
 use Rattle.cps_p_alldiff.proofs.all_different.AllDifferentRule.look.Goals as goal
 use Rattle.cps_p_alldiff.proofs.all_different.AllDifferentRule.look.Goals.{In_ok-clear_halls-in-None}
 

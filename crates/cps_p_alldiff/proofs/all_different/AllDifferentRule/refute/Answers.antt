@@ -1,6 +1,6 @@
 use Rattle.std.proofs.Common.{ap, ◌+◌}
-use Rattle.cps_p_alldiff.proofs.Explaining.{refuted, is_yes}
-use Rattle.cps_p_alldiff.proofs.Giving.{seen_refuted}
+use Rattle.cps_p_alldiff.proofs.ExplainedFacts.{refuted, is_yes}
+use Rattle.cps_p_alldiff.proofs.ImpliedAtoms.{seen_refuted}
 use Rattle.cps_p_alldiff.proofs.all_different.AllDifferentRule.refute.Goals as goal
 
 pub returns : goal.returns

@@ -1,6 +1,6 @@
 -- The subject of each literal is one that there is.
 use Rattle.std.proofs.Common.{arith, ◌<◌, length}
-use Rattle.cps_p_circuit.proofs.Deciding.{subject_holds}
+use Rattle.cps_p_circuit.proofs.TakenArcs.{subject_holds}
 use Rattle.cps_p_circuit.proofs.find.Finder.count_all.Goals as goal
 
 pub truth-requires : goal.truth-requires

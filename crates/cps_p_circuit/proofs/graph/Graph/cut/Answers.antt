@@ -1,8 +1,8 @@
 -- A node inside and one outside are on the circuit, and the arcs that are taken do not lead out.
 use Rattle.std.proofs.Common.{arith, Ok, ap, sym, subst, ◌∙◌, ◌≡◌, ◌≢◌, ℕ, slice_index}
 use Rattle.cps_p_circuit.specs.Clashes.{AreChosen}
-use Rattle.cps_p_circuit.proofs.Clashing.{cut_clash, tour_grows, chosen_grows, least}
-use Rattle.cps_p_circuit.proofs.Answering.{no_not_yes}
+use Rattle.cps_p_circuit.proofs.Clashes.{cut_clash, tour_grows, chosen_grows, least}
+use Rattle.cps_p_circuit.proofs.DistinctAnswers.{no_not_yes}
 use Rattle.cps_p_circuit.proofs.graph.Graph.cut.Goals as goal
 
 pub push_left-requires : goal.push_left-requires

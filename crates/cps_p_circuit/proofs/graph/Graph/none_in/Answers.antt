@@ -1,4 +1,4 @@
-use Rattle.cps_p_circuit.proofs.Clashing.{none_in}
+use Rattle.cps_p_circuit.proofs.Clashes.{none_in}
 use Rattle.cps_p_circuit.proofs.graph.Graph.none_in.Goals as goal
 
 pub returns : goal.returns

@@ -1,4 +1,4 @@
-use Rattle.cps_p_circuit.proofs.Clashing.{none_out}
+use Rattle.cps_p_circuit.proofs.Clashes.{none_out}
 use Rattle.cps_p_circuit.proofs.graph.Graph.none_out.Goals as goal
 
 pub returns : goal.returns

@@ -1,9 +1,9 @@
 -- Each node before the one that is looked at is marked by an arc that is taken from there, where it is marked by one.
 use Rattle.std.proofs.Common.{arith, ap, sym, ◌∙◌, ◌-◌, ◌≡◌, ◌<◌, ◌≤◌, slice_index, length, refl}
 use Rattle.cps_p_circuit.specs.Clashes.{taking}
-use Rattle.cps_p_circuit.proofs.Clashing.{lifted, chosen_more, least}
-use Rattle.cps_p_circuit.proofs.Passing.{chosen_less, chosen_all}
-use Rattle.cps_p_circuit.proofs.Answering.{no_not_yes}
+use Rattle.cps_p_circuit.proofs.Clashes.{lifted, chosen_more, least}
+use Rattle.cps_p_circuit.proofs.Walks.{chosen_less, chosen_all}
+use Rattle.cps_p_circuit.proofs.DistinctAnswers.{no_not_yes}
 use Rattle.cps_p_circuit.proofs.graph.Graph.push_chosen.Goals as goal
 
 pub loop-v-preserved-then-via-v-lt2 : goal.loop-v-preserved-then-via-v-lt2

@@ -1,8 +1,8 @@
 -- Each arc before the one that is looked at is left out, where it leads out.
 use Rattle.std.proofs.Common.{slice_index, ap, ◌∙◌, arith}
 use Rattle.cps_p_circuit.specs.Clashes.{leaving}
-use Rattle.cps_p_circuit.proofs.Clashing.{lifted, left_more, least}
-use Rattle.cps_p_circuit.proofs.Passing.{left_less, left_all}
+use Rattle.cps_p_circuit.proofs.Clashes.{lifted, left_more, least}
+use Rattle.cps_p_circuit.proofs.Walks.{left_less, left_all}
 use Rattle.cps_p_circuit.proofs.graph.Graph.push_left.Goals as goal
 use Rattle.cps_p_circuit.proofs.graph.Graph.push_left.Goals.{then-via-tail-ne1-via-then-via-tail-ne1, then-via-tail-ne1-via-else-via-tail-ne1+then-via-head-ne0}
 

@@ -1,8 +1,8 @@
 -- Each arc before the one that is looked at is left out, where it is a loop at the node.
 use Rattle.std.proofs.Common.{◌∙◌, arith}
 use Rattle.cps_p_circuit.specs.Clashes.{leaving}
-use Rattle.cps_p_circuit.proofs.Clashing.{lifted, stay_more}
-use Rattle.cps_p_circuit.proofs.Passing.{stay_less, stayed}
+use Rattle.cps_p_circuit.proofs.Clashes.{lifted, stay_more}
+use Rattle.cps_p_circuit.proofs.Walks.{stay_less, stayed}
 use Rattle.cps_p_circuit.proofs.graph.Graph.push_stay.Goals as goal
 use Rattle.cps_p_circuit.proofs.graph.Graph.push_stay.Goals.{then-tail-node-via-then-tail-node, then-tail-node-via-else-tail-node+then-head-node}
 

@@ -1,4 +1,4 @@
-use Rattle.cps_p_circuit.proofs.Clashing.{pair_in}
+use Rattle.cps_p_circuit.proofs.Clashes.{pair_in}
 use Rattle.cps_p_circuit.proofs.graph.Graph.two_in.Goals as goal
 
 pub returns : goal.returns

@@ -1,4 +1,4 @@
-use Rattle.cps_p_circuit.proofs.Clashing.{pair_out}
+use Rattle.cps_p_circuit.proofs.Clashes.{pair_out}
 use Rattle.cps_p_circuit.proofs.graph.Graph.two_out.Goals as goal
 
 pub returns : goal.returns

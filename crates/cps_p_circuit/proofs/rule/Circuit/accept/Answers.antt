@@ -6,7 +6,7 @@ use Rattle.cps_trail.proofs.Laws.{IsAdmitted-within}
 use Rattle.cps_rule.specs.declared.rule.Narrowing.{Narrowing}
 use Rattle.cps_rule.specs.Rules.{IsExplained, IsGiven}
 use Rattle.cps_p_circuit.specs.Showing.{body_by}
-use Rattle.cps_p_circuit.proofs.Showing.{atom_inside, given}
+use Rattle.cps_p_circuit.proofs.ShownFacts.{atom_inside, given}
 use Rattle.cps_p_circuit.proofs.rule.Circuit.accept.Goals as goal
 
 pub truth-requires : goal.truth-requires

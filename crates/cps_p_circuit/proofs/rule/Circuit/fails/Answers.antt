@@ -2,7 +2,7 @@ use Rattle.std.proofs.Common.{subst}
 use Rattle.std.specs.Prelude.{None}
 use Rattle.cps_trail.specs.Trail.{Trail}
 use Rattle.cps_p_circuit.specs.Showing.{IsShown, body_by}
-use Rattle.cps_p_circuit.proofs.Showing.{impossible}
+use Rattle.cps_p_circuit.proofs.ShownFacts.{impossible}
 use Rattle.cps_p_circuit.proofs.rule.Circuit.fails.Goals as goal
 
 pub returns : goal.returns

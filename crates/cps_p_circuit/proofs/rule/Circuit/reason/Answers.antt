@@ -1,4 +1,4 @@
-use Rattle.cps_p_circuit.proofs.Showing.{explained}
+use Rattle.cps_p_circuit.proofs.ShownFacts.{explained}
 use Rattle.cps_p_circuit.proofs.rule.Circuit.reason.Goals as goal
 
 pub returns : goal.returns

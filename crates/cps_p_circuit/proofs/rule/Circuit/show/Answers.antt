@@ -1,5 +1,5 @@
 use Rattle.std.proofs.Common.{Ok, ap}
-use Rattle.cps_p_circuit.proofs.Showing.{shown}
+use Rattle.cps_p_circuit.proofs.ShownFacts.{shown}
 use Rattle.cps_p_circuit.proofs.rule.Circuit.show.Goals as goal
 
 pub returns : goal.returns

@@ -2,8 +2,8 @@
 use Rattle.std.proofs.Common.{Ok, ap}
 use Rattle.cps_p_circuit.specs.Showing.{AreTaken, IsOpenStill}
 use Rattle.cps_p_circuit.proofs.Arcs.{not_both}
-use Rattle.cps_p_circuit.proofs.Answering.{impossible_not_possible}
-use Rattle.cps_p_circuit.proofs.Showing.{rest_open, rest_round, not_round}
+use Rattle.cps_p_circuit.proofs.DistinctAnswers.{impossible_not_possible}
+use Rattle.cps_p_circuit.proofs.ShownFacts.{rest_open, rest_round, not_round}
 use Rattle.cps_p_circuit.proofs.rule.CircuitRule.look.Goals as goal
 
 pub returns-then-branch-3-clause-rest : goal.returns-then-branch-3-clause-rest

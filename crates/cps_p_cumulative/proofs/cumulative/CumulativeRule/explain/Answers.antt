@@ -4,9 +4,9 @@ use Rattle.cps_literal.specs.declared.atom.Atom.{Atom}
 use Rattle.cps_instance.specs.Tasks.{HoldsBody}
 use Rattle.cps_p_cumulative.specs.Running.{body_of}
 use Rattle.cps_p_cumulative.specs.Relying.{Relies}
-use Rattle.cps_p_cumulative.proofs.Running.{resource-inside}
+use Rattle.cps_p_cumulative.proofs.SpanDemands.{resource-inside}
 use Rattle.cps_p_cumulative.proofs.Levelled.{no_yes}
-use Rattle.cps_p_cumulative.proofs.Negating.{tested, negatable_low, negatable_high, negatable_above, negatable_below}
+use Rattle.cps_p_cumulative.proofs.NegatableValues.{tested, negatable_low, negatable_high, negatable_above, negatable_below}
 use Rattle.cps_p_cumulative.proofs.Relied.{explained, no_facts}
 use Rattle.cps_p_cumulative.proofs.cumulative.CumulativeRule.explain.Goals as goal
 

@@ -5,8 +5,8 @@ use Rattle.cps_trail.specs.Trail.{Trail}
 use Rattle.cps_propagate.specs.Strength.{HasCapacity}
 use Rattle.cps_rule.specs.Rules.{IsFittingRule}
 use Rattle.cps_p_cumulative.specs.Running.{body_of}
-use Rattle.cps_p_cumulative.proofs.Running.{resource-inside}
-use Rattle.cps_p_cumulative.proofs.Resting.{at_rest}
+use Rattle.cps_p_cumulative.proofs.SpanDemands.{resource-inside}
+use Rattle.cps_p_cumulative.proofs.RestLaw.{at_rest}
 use Rattle.cps_p_cumulative.proofs.cumulative.CumulativeRule.look.Goals as goal
 
 pub look_at-requires-clause-inside : goal.look_at-requires-clause-inside

@@ -2,7 +2,7 @@
 use Rattle.std.proofs.Common.{◌∙◌, ◌++◌, List, ℕ, ap}
 use Rattle.cps_instance.specs.declared.task.Span.{Span}
 use Rattle.cps_instance.specs.Tasks.{span_subjects}
-use Rattle.cps_p_cumulative.proofs.Running.{spread}
+use Rattle.cps_p_cumulative.proofs.SpanDemands.{spread}
 use Rattle.cps_p_cumulative.proofs.cumulative.CumulativeRule.push_subjects.Goals as goal
 
 pub returns : goal.returns

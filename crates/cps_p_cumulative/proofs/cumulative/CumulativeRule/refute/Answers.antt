@@ -1,4 +1,4 @@
-use Rattle.cps_p_cumulative.proofs.Running.{resource-inside}
+use Rattle.cps_p_cumulative.proofs.SpanDemands.{resource-inside}
 use Rattle.cps_p_cumulative.proofs.cumulative.CumulativeRule.refute.Goals as goal
 
 pub refute_window-requires : goal.refute_window-requires

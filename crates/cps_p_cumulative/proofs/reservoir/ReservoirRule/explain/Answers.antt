@@ -5,7 +5,7 @@ use Rattle.cps_instance.specs.Tasks.{HoldsBody}
 use Rattle.cps_p_cumulative.specs.Levels.{tank_body}
 use Rattle.cps_p_cumulative.specs.Relying.{Relies}
 use Rattle.cps_p_cumulative.proofs.Levelled.{tank_inside, no_yes}
-use Rattle.cps_p_cumulative.proofs.Negating.{tested, negatable_low, negatable_high, negatable_above, negatable_below}
+use Rattle.cps_p_cumulative.proofs.NegatableValues.{tested, negatable_low, negatable_high, negatable_above, negatable_below}
 use Rattle.cps_p_cumulative.proofs.Relied.{explained, no_facts}
 use Rattle.cps_p_cumulative.proofs.reservoir.ReservoirRule.explain.Goals as goal
 

@@ -2,7 +2,7 @@
 use Rattle.std.proofs.Common.{◌<◌, subst, sym, List, length, get_or, arith}
 use Rattle.cps_instance.specs.declared.task.Span.{Span}
 use Rattle.cps_p_cumulative.specs.Running.{IsSpanOf}
-use Rattle.cps_p_cumulative.proofs.Running.{span-inside}
+use Rattle.cps_p_cumulative.proofs.SpanDemands.{span-inside}
 use Rattle.cps_p_cumulative.proofs.windows.Energies.fill.Goals as goal
 
 pub take-requires-clause-span : goal.take-requires-clause-span

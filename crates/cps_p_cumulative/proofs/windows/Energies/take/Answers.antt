@@ -2,7 +2,7 @@
 use Rattle.std.proofs.Common.{subst, sym, length, ◌<◌, List}
 use Rattle.std.specs.List.{All}
 use Rattle.cps_literal.specs.declared.atom.Atom.{Atom}
-use Rattle.cps_p_cumulative.proofs.Running.{start-inside, presence-inside}
+use Rattle.cps_p_cumulative.proofs.SpanDemands.{start-inside, presence-inside}
 use Rattle.cps_p_cumulative.proofs.windows.Energies.take.Goals as goal
 
 pub are_true-requires : goal.are_true-requires

@@ -6,7 +6,7 @@ use Rattle.cps_domain.proofs.Tests.{true_le}
 use Rattle.cps_propagate.specs.Strength.{IsLastUpTo}
 use Rattle.cps_p_linear.specs.declared.admitted.Admitted.{Admitted}
 use Rattle.cps_p_linear.specs.Admitting.{passes, IsShaped}
-use Rattle.cps_p_linear.proofs.Balancing.{opposite_fits, last_balanced}
+use Rattle.cps_p_linear.proofs.BalancedSums.{opposite_fits, last_balanced}
 use Rattle.cps_p_linear.proofs.admitted.Admitted.last_up_to.Goals as goal
 
 pub returns-then-offset-sum : goal.returns-then-offset-sum
