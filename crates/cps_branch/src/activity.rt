@@ -134,18 +134,20 @@ impl ActivityBrancher {
 }
 
 impl Brancher for ActivityBrancher {
-    ghost use Rattle.std.specs.Prelude.{◌≡◌, length};
+    ghost use Rattle.std.specs.Prelude.{◌≡◌, length, refl};
     ghost use Rattle.cps_branch.specs.Hints.{ChoosesHinted};
     ghost use Rattle.cps_branch.specs.Activities.{AreBumped};
     ghost use Rattle.cps_branch.specs.Luby.{CountsConflict};
     ghost use Rattle.cps_branch.specs.SetAside.{AreFixedAside};
-    ghost use Rattle.cps_branch.specs.Guidances.{hinted_same};
+    ghost use Rattle.cps_branch.specs.Guidances.{by_activity, heard_by_activity, stayed_by_activity};
     ghost use Rattle.cps_branch.specs.Agreeing.{aside_none_kept, aside_kept_on};
     ghost use Rattle.cps_branch.specs.declared.guidance.Guidance.TheVariants.{Hinted};
 
     ghost scope = { λ b. record { variables = length b.activities; subjects = length b.activities } };
 
     ghost guidance = { λ b. Hinted b.hints };
+
+    ghost branching = { λ b. by_activity b };
 
     ghost chooses = { λ b s atom. (length b.activities ≡ length b.hints) × ChoosesHinted b.activities b.hints s atom };
 
@@ -155,11 +157,13 @@ impl Brancher for ActivityBrancher {
 
     ghost stays = { λ b c. (c.activities ≡ b.activities) × (c.pace ≡ b.pace) × (c.hints ≡ b.hints) };
 
-    ghost goes_by = { λ b s choice chosen. (b.activities, chosen.0, chosen.1) };
+    ghost guided_as = { λ b. refl };
 
-    ghost stays_guided = { λ b c stays. hinted_same b.hints c.hints stays.2 };
+    ghost chooses_as = { λ b s choice chosen. chosen };
 
-    ghost hears_guided = { λ b c clause restart heard. hinted_same b.hints c.hints heard.2 };
+    ghost hears_as = { λ b c clause restart heard. heard_by_activity b c clause restart heard };
+
+    ghost stays_as = { λ b c stays. stayed_by_activity b c stays };
 
     ghost agrees = { λ b s kept. AreFixedAside (length b.activities) b.aside s kept };
 

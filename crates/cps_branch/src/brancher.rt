@@ -4,7 +4,7 @@ ghost use Rattle.cps_literal.specs.declared.atom.Atom.{Atom as AtomOf};
 ghost use Rattle.cps_trail.specs.Trail.{Trail};
 ghost use Rattle.cps_branch.specs.Fixed.{AreFixed};
 ghost use Rattle.cps_branch.specs.Choice.{IsUndecided};
-ghost use Rattle.cps_branch.specs.Guidances.{ChoosesBy};
+ghost use Rattle.cps_branch.specs.Guidances.{Branching, ChoosesAs, HearsAs, StaysAs, guidance_of};
 ghost use Rattle.cps_branch.specs.Scope.{Scope, AreSameUpTo};
 ghost use Rattle.cps_branch.specs.declared.guidance.Guidance.{Guidance as GuidanceOf};
 
@@ -20,6 +20,9 @@ pub trait Brancher {
 
     // what it goes by from its first choice to its last
     ghost guidance: { Self → GuidanceOf };
+
+    // what contracts above see of it
+    ghost branching: { Self → Branching };
 
     // the rule by which it chooses
     ghost chooses: { Self → Trail → Option AtomOf → Type 0 };
@@ -70,14 +73,16 @@ pub trait Brancher {
     fn into_guidance(self) -> Guidance
         ensures { result ≡ guidance self };
 
-    // each choice goes by the guidance, which neither a choice nor a learnt clause changes
-    ghost goes_by: { (b : Self) (s : Trail) (choice : Option AtomOf) → chooses b s choice
-        → ChoosesBy (guidance b) s choice };
+    // its guidance, its choices, what a learnt clause changes and what no choice changes are those that are seen of it
+    ghost guided_as: { (b : Self) → guidance b ≡ guidance_of (branching b) };
 
-    ghost stays_guided: { (b c : Self) → stays b c → guidance c ≡ guidance b };
+    ghost chooses_as: { (b : Self) (s : Trail) (choice : Option AtomOf) → chooses b s choice
+        → ChoosesAs (branching b) s choice };
 
-    ghost hears_guided: { (b c : Self) (clause : List AtomOf) (restart : Bool) → hears b clause restart c
-        → guidance c ≡ guidance b };
+    ghost hears_as: { (b c : Self) (clause : List AtomOf) (restart : Bool) → hears b clause restart c
+        → HearsAs (branching b) clause restart (branching c) };
+
+    ghost stays_as: { (b c : Self) → stays b c → StaysAs (branching b) (branching c) };
 
     // it agrees with each store where no entry is kept
     ghost none_kept: { (b : Self) (s : Trail) → agrees b s 0 };

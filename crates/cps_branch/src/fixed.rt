@@ -123,10 +123,10 @@ fn still_known(counts: &[usize], known: usize, kept: usize) -> usize
 }
 
 impl Brancher for FixedBrancher {
-    ghost use Rattle.std.specs.Prelude.{false};
+    ghost use Rattle.std.specs.Prelude.{false, refl};
     ghost use Rattle.cps_branch.specs.Strategies.{ChoosesSteered, order_in};
     ghost use Rattle.cps_branch.specs.Scope.{AreFixedAfter};
-    ghost use Rattle.cps_branch.specs.Guidances.{heard_same, steered_same};
+    ghost use Rattle.cps_branch.specs.Guidances.{in_order, heard_in_order};
     ghost use Rattle.cps_branch.specs.Agreeing.{none_kept, kept_on};
     ghost use Rattle.cps_branch.specs.declared.guidance.Guidance.TheVariants.{Steered};
 
@@ -134,17 +134,21 @@ impl Brancher for FixedBrancher {
 
     ghost guidance = { λ b. Steered b.plan };
 
+    ghost branching = { λ b. in_order b.plan };
+
     ghost chooses = { λ b s atom. ChoosesSteered b.plan.strategies b.plan.variables s atom };
 
     ghost hears = { λ b clause answer c. (c ≡ b) × (answer ≡ false) };
 
     ghost stays = { λ b c. c.plan ≡ b.plan };
 
-    ghost goes_by = { λ b s choice chosen. chosen };
+    ghost guided_as = { λ b. refl };
 
-    ghost stays_guided = { λ b c stays. steered_same b.plan c.plan stays };
+    ghost chooses_as = { λ b s choice chosen. chosen };
 
-    ghost hears_guided = { λ b c clause restart heard. heard_same b c heard.0 };
+    ghost hears_as = { λ b c clause restart heard. heard_in_order b c restart heard.0 heard.1 };
+
+    ghost stays_as = { λ b c stays. stays };
 
     ghost agrees = { λ b s kept. AreFixedAfter (order_in b.plan) b.plan.subjects b.fixed_after s kept };
 
