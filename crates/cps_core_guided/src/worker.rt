@@ -6,7 +6,7 @@
 //! concern it.
 
 ghost use Rattle.std.specs.Prelude.{◌≡◌, ◌≤◌, ◌<◌, ◌^◌, length, None, OnOk, OnErr, IfOk, IfSome, IsErr, IsNone, IsTrue, Some};
-ghost use Rattle.cps_branch.specs.Guidances.{AreHintsOf};
+ghost use Rattle.cps_branch.specs.Guidances.{AreHintsOf, IsIdleByActivity};
 ghost use Rattle.cps_search.specs.Keeps.{Keeps};
 ghost use Rattle.cps_search.specs.Ends.{BrancherTurn, DecidedBy, HeardOne, IsOver};
 ghost use Rattle.cps_core_guided.specs.Reforming.{IsSoundCore, whole};
@@ -73,6 +73,7 @@ impl<'a, P: Defining> CoreWorker<'a, P, ActivityBrancher> {
         requires few { length instance.domains < 2 ^ 30 }
         ensures begins { IfOk result (λ w. BeginsCore instance.entry gap budget w.0) }
         ensures hints { IfOk result (λ w. AreHintsOf w.0.search.instance w.1.hints) }
+        ensures idle { IfOk result (λ w. IsIdleByActivity w.1) }
     {
         let brancher = ActivityBrancher::of(alloc, &instance)?;
         let Beginning {

@@ -1,4 +1,4 @@
--- Runs that go by a guidance, and what the guidance of a worker is.
+-- Runs of workers by what is seen of their branchers, and what the guidance of a worker is.
 use Rattle.std.specs.Prelude.{ℕ, ◌≡◌, Option, Some, None, ⊤}
 use Rattle.cps_instance.specs.Problem.{Problem}
 use Rattle.cps_search.specs.declared.end.WorkerKind.{WorkerKind}
@@ -10,20 +10,24 @@ use Rattle.cps_search.specs.declared.end.End.{End}
 use Rattle.cps_search.specs.Searches.{Search}
 use Rattle.cps_search.specs.Moves.{fresh}
 use Rattle.cps_search.specs.Ends.{Ending, RunsInTurns, ending}
-use Rattle.cps_branch.specs.Guidances.{ChoosesBy, IsPlanOf, AreHintsOf}
+use Rattle.cps_branch.specs.Guidances.{Branching, ChoosesAs, HearsAs, StaysAs, IsIdle, IsPlanOf, AreHintsOf, guidance_of}
 
--- a run of turns each decision of which goes by one guidance
-abbrev pub RunsBy : Guidance → ℕ → Search → Search → Part → Part → End → Type 0
-RunsBy guidance rows s t p q end = RunsInTurns ChoosesBy (λ before clause restart after. after ≡ before)
-    (λ before after. after ≡ before) rows (s, guidance) (t, guidance) p q end
+-- a run of turns by a brancher: which atoms it chooses, what it counts, and when it restarts
+abbrev pub RunsBy : ℕ → Search × Branching → Search × Branching → Part → Part → End → Type 0
+RunsBy rows s t p q end = RunsInTurns ChoosesAs HearsAs StaysAs rows s t p q end
 
--- A worker that ended is seen as such a run leaves it, if the run began with nothing known.
+-- A worker that ended is seen as such a run leaves it that began with nothing known, by a brancher of this guidance that
+-- had heard nothing.
 pub record IsEndOfRun (p : Problem) (gap budget : ℕ) (guidance : Guidance) (e : Ending) : Type 0 where
   pub rows : ℕ
+  pub first : Branching
+  pub idle : IsIdle first
+  pub guided : guidance_of first ≡ guidance
+  pub last : Branching
   pub done : Search
   pub before : Part
   pub after : Part
-  pub runs : RunsBy guidance rows (fresh p gap (Some budget)) done before after e.end
+  pub runs : RunsBy rows (fresh p gap (Some budget), first) (done, last) before after e.end
   pub seen : e ≡ ending e.kind (Some guidance) e.end done
 
 -- The brancher of a fixed worker goes through the strategies and the variables of the instance, and that of an activity

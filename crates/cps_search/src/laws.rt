@@ -1,21 +1,27 @@
 //! Laws of all searches. Each is the contract of a function that does nothing.
 
-ghost use Rattle.std.specs.Prelude.{◌≡◌, ℕ, ◌+◌, ◌≤◌, ℤ, List, [], ◌∷◌, ◌++◌, length, All, Option, None};
+ghost use Rattle.std.specs.Prelude.{◌≡◌, ℕ, ◌+◌, ◌<◌, ◌≤◌, ℤ, List, [], ◌∷◌, ◌++◌, length, All, Option, Some, None};
+ghost use Rattle.cps_model.specs.declared.bound.Bound.{Bound};
 ghost use Rattle.cps_model.specs.declared.bound.Bound.TheVariants.{Infinite};
 ghost use Rattle.cps_literal.specs.declared.atom.Atom.{Atom};
 ghost use Rattle.cps_instance.specs.declared.task.Task.{Task};
-ghost use Rattle.cps_instance.specs.Problem.{Problem};
+ghost use Rattle.cps_instance.specs.Problem.{IsInstance, Problem};
 ghost use Rattle.cps_trail.specs.Trail.{Entry, Trail};
 ghost use Rattle.cps_trail.specs.Adds.{Infers};
 ghost use Rattle.cps_port.specs.declared.part.Part.{Part};
 ghost use Rattle.cps_clauses.specs.declared.journal.JournalItem.{JournalItem};
 ghost use Rattle.cps_clauses.specs.declared.journal.JournalItem.TheVariants.{Drop};
 ghost use Rattle.cps_clauses.specs.Quiet.{Fits, IsLevelFor, IsQuiet};
+ghost use Rattle.cps_branch.specs.Guidances.{Branching, in_order};
+ghost use Rattle.cps_branch.specs.Strategies.{Planned};
 ghost use Rattle.cps_search.specs.declared.end.End.{End};
+ghost use Rattle.cps_search.specs.declared.end.End.TheVariants.{Spent};
 ghost use Rattle.cps_search.specs.declared.end.WorkerKind.{WorkerKind};
 ghost use Rattle.cps_branch.specs.declared.guidance.Guidance.{Guidance};
+ghost use Rattle.cps_search.specs.Enough.{enough};
 ghost use Rattle.cps_search.specs.Forgetting.{DropsNothing};
 ghost use Rattle.cps_search.specs.Giving.{ByAll};
+ghost use Rattle.cps_search.specs.Guided.{RunsBy};
 ghost use Rattle.cps_search.specs.Lessons.{GoesBack};
 ghost use Rattle.cps_search.specs.Moves.{decided, fresh};
 ghost use Rattle.cps_search.specs.Searches.{Search, IsHonestJournal, IsSoundSearch, learnt_count};
@@ -81,4 +87,22 @@ pub fn turns_come_to_a_run<B: Brancher>()
     ensures { (rows : ℕ) (s t : Search × B) (p q : Part) (end : End)
         → (h : RunsInTurns B.chooses B.hears B.stays rows s t p q end) → IsSoundSearch h.before.0
         → RunsTo s.0 t.0 p q end }
+{}
+
+/// How many conflicts are enough the model alone determines: it is the same for each of its instances with the same
+/// sums.
+pub fn the_model_says_how_many_are_enough()
+    ensures { (p q : Problem) → IsInstance p → IsInstance q → q.model ≡ p.model → q.defs ≡ p.defs
+        → enough q ≡ enough p }
+{}
+
+/// A worker in order learns from few conflicts, whatever its budget, and whatever other actors share and raise. So it
+/// never spends a budget that is enough for its instance.
+pub fn workers_in_order_decide()
+    ensures few { (p : Problem) (gap rows : ℕ) (budget : Option ℕ) (plan : Planned) (t : Search × Branching)
+        (before after : Part) (end : End) → RunsBy rows (fresh p gap budget, in_order plan) t before after end
+        → t.0.tally < enough p }
+    ensures unspent { (p : Problem) (gap rows budget : ℕ) (plan : Planned) (t : Search × Branching)
+        (before after : Part) (clause : List Atom) (below : Bound) → enough p ≤ budget
+        → RunsBy rows (fresh p gap (Some budget), in_order plan) t before after (Spent clause below) → ⊥ }
 {}
