@@ -1,3 +1,4 @@
+pub mod Deciding
 pub mod Outcomes
 pub mod MemberRuns
 pub mod Crews

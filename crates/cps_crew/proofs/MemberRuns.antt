@@ -1,5 +1,5 @@
 -- What turns of a worker of any kind come to, and why they come to an end.
-use Rattle.std.specs.Prelude.{Bool, Option, Some, None, is_some, true, false, List}
+use Rattle.std.specs.Prelude.{Bool, Option, Some, None, is_some, true, false, List, ℤ}
 use Rattle.std.proofs.Common.{◌≡◌, refl, sym, ap, subst, ◌∙◌, ℕ, ◌+◌, ◌<◌, inl, inr, []}
 use Rattle.cps_model.specs.declared.model.CpModel.{CpModel}
 use Rattle.cps_model.specs.declared.bound.Bound.TheVariants.{Infinite}
@@ -9,22 +9,26 @@ use Rattle.cps_instance.specs.Problem.{Problem}
 use Rattle.cps_trail.specs.Trail.{open_values}
 use Rattle.cps_port.specs.declared.part.BoardPart.{BoardPart}
 use Rattle.cps_port.specs.declared.part.Part.{Part}
+use Rattle.cps_literal.specs.declared.atom.Atom.{Atom}
 use Rattle.cps_branch.specs.declared.guidance.Guidance.{Guidance}
-use Rattle.cps_branch.specs.Guidances.{ChoosesBy}
+use Rattle.cps_branch.specs.declared.guidance.Guidance.TheVariants.{Steered, Hinted}
+use Rattle.cps_branch.specs.Guidances.{Branching, in_order, by_activity, guidance_of, ChoosesAs, HearsAs, StaysAs}
+use Rattle.cps_branch.specs.Strategies.{Planned}
 use Rattle.cps_search.specs.declared.end.End.{End}
 use Rattle.cps_search.specs.declared.end.Phase.{Phase}
 use Rattle.cps_search.specs.declared.end.WorkerKind.{WorkerKind}
 use Rattle.cps_search.specs.declared.end.WorkerKind.TheVariants as kinds
 use Rattle.cps_search.specs.declared.turn.Turn.{Turn}
+use Rattle.cps_search.specs.declared.turn.Turn.TheVariants as turns
 use Rattle.cps_search.specs.Searches.{Search, IsSoundSearch}
 use Rattle.cps_search.specs.Following.{MovesWith}
 use Rattle.cps_search.specs.Guided.{IsGuidedBy, RunsBy}
-use Rattle.cps_search.specs.Ends.{EndsAs, IsComplete, IsHonestEnding, IsOver, RunsTo, TakesTurns, none_yet, one_more, end_of, ending}
+use Rattle.cps_search.specs.Ends.{BrancherTurn, DecidedBy, EndsAs, HeardOne, IsComplete, IsHonestEnding, IsOver, RunsTo, none_yet, one_more, end_of, ending}
 use Rattle.cps_search.proofs.RunEnds.{honest_ending}
 use Rattle.cps_search.proofs.TurnTermination.{left_of, lowered}
 use Rattle.cps_search.proofs.WorkerInvariants.{HasRun, run_begins, run_goes_on, run_ends}
 use Rattle.cps_core_guided.specs.Reforming.{CoreSearch}
-use Rattle.cps_core_guided.specs.CoreTurns.{TakesCoreTurns, core_ending, no_turn, one_turn_more}
+use Rattle.cps_core_guided.specs.CoreTurns.{core_ending, no_turn, one_turn_more}
 use Rattle.cps_core_guided.proofs.CoreEnds.{core-honest}
 use Rattle.cps_core_guided.proofs.CoreTermination.{core_left, core_lowered}
 use Rattle.cps_core_guided.proofs.CoreRuns.{HasCoreRun, core-begins, core-goes-on, core-turns-run}
@@ -33,7 +37,7 @@ use Rattle.cps_neighbourhood.specs.Nears.{Near, NearRunsInTurns, OneNearTurn, Ta
 use Rattle.cps_neighbourhood.specs.Nears.{none_yet as near_none_yet, one_more as near_one_more}
 use Rattle.cps_neighbourhood.proofs.LearntCounts.{HasNearRun, near_begins, near_goes_on, near_honest, near_turns_run}
 use Rattle.cps_neighbourhood.proofs.RoundTermination.{near_left, near_lowered}
-use Rattle.cps_crew.specs.Workers.{AnySearch, by_guidance, by_cores, in_rounds, search_in, GoesByGuidance, BeginsGuided, BeginsByCores, BeginsRounds, BeginsAs, IsAimed, TakesTurnsBy, TakesCoreTurnsBy, RunsByCores, TurnedBy, TurnedByCores, TurnedNear, HasTurned, TakesTurnsAs, HasEnded}
+use Rattle.cps_crew.specs.Workers.{AnySearch, by_brancher, by_cores, in_rounds, search_in, HasBrancher, BeginsGuided, BeginsByCores, BeginsRounds, BeginsAs, IsAimed, TakesTurnsBy, TakesCoreTurnsBy, RunsByCores, TurnedBy, TurnedByCores, TurnedNear, HasTurned, TakesTurnsAs, HasEnded}
 use Rattle.cps_crew.specs.Outcomes.{HasSums}
 use Rattle.cps_crew.specs.Crews.{IsHonestlyDone}
 
@@ -55,7 +59,7 @@ pub record HasBegun (m : CpModel) (s : Search) : Type 0 where
   pub running : IsOver s.phase → ⊥
 
 pub has_begun : (m : CpModel) (gap conflicts : ℕ) (s : AnySearch) → BeginsAs m gap conflicts s → HasBegun m (search_in s)
-has_begun m gap conflicts (by_guidance kind guidance s) h =
+has_begun m gap conflicts (by_brancher kind b s) h =
     let is = h.begins.is in
     record {
       model = ap (λ (x : Search). x.instance.model) is ∙ h.begins.first.model;
@@ -63,7 +67,7 @@ has_begun m gap conflicts (by_guidance kind guidance s) h =
       imported = ap (λ (x : Search). x.imported) is;
       running = λ over. subst (λ (x : Search). IsOver x.phase) is over;
     }
-has_begun m gap conflicts (by_cores guidance s) h =
+has_begun m gap conflicts (by_cores brancher s) h =
     let b = h.begins.is in
     record {
       model = b.instance ∙ h.begins.first.model;
@@ -94,20 +98,49 @@ aimed_turns rows s p t n q turns (inr x) = subst (λ (x : Near). TakesNearTurns 
 aimed_turn : (rows : ℕ) (m n : Near) (p q : Part) (over : Bool) → (turn : TurnedNear rows m n p q over) → OneNearTurn rows turn.aimed n p q turn.turn
 aimed_turn rows m n p q over turn = record { before = subst IsSoundSearch (sym (aimed_search m turn.aimed turn.aims)) turn.before; after = turn.after; takes = turn.takes }
 
+-- ---- what a brancher goes by
+
+stays_guided : (b c : Branching) → StaysAs b c → guidance_of c ≡ guidance_of b
+stays_guided (in_order plan) (in_order after) stays = ap (λ (p : Planned). Steered p) stays
+stays_guided (by_activity b) (by_activity c) stays = ap (λ (hs : List (Option ℤ)). Hinted hs) stays.hints
+stays_guided (in_order plan) (by_activity c) stays = absurd stays
+stays_guided (by_activity b) (in_order after) stays = absurd stays
+
+hears_guided : (b c : Branching) (clause : List Atom) (restart : Bool) → HearsAs b clause restart c → guidance_of c ≡ guidance_of b
+hears_guided (in_order plan) (in_order after) clause restart heard = ap (λ (p : Planned). Steered p) heard.plan_stays
+hears_guided (by_activity b) (by_activity c) clause restart heard = ap (λ (hs : List (Option ℤ)). Hinted hs) heard.hints
+hears_guided (in_order plan) (by_activity c) clause restart heard = absurd heard
+hears_guided (by_activity b) (in_order after) clause restart heard = absurd heard
+
+turn_guided : (s t : Search) (b c : Branching) (turn : Turn) → BrancherTurn turn (HeardOne (λ clause restart. HearsAs b clause restart c) s t) (DecidedBy (StaysAs b c) (c ≡ b)) (c ≡ b) → guidance_of c ≡ guidance_of b
+turn_guided s t b c turns.Imported h = ap guidance_of h
+turn_guided s t b c turns.Decided h = elim h [ inl stays ↦ stays_guided b c stays | inr same ↦ ap guidance_of same ]
+turn_guided s t b c turns.Learnt h = hears_guided b c h.clause h.heard.restart h.heard.said
+turn_guided s t b c turns.Found h = ap guidance_of h
+turn_guided s t b c turns.Exhausted h = ap guidance_of h
+turn_guided s t b c turns.SawClosed h = ap guidance_of h
+turn_guided s t b c (turns.Spent clause below) h = ap guidance_of h
+turn_guided s t b c turns.RoundsDone h = ap guidance_of h
+turn_guided s t b c (turns.Reformed base) h = ap guidance_of h
+
+turns_guided : (rows : ℕ) (s : Search × Branching) (p : Part) (t : Search × Branching) (q : Part) → TakesTurnsBy rows s t p q → guidance_of t.1 ≡ guidance_of s.1
+turns_guided rows s p t q none_yet = refl
+turns_guided rows s p t q (one_more m u n r turn before goes_on last) = turn_guided m.0 u.0 m.1 u.1 turn last.brancher ∙ turns_guided rows s p m n before
+
 -- ---- what was done by any turns that did not end the worker
 
-has_run : (rows : ℕ) (s : Search × Guidance) (p : Part) (t : Search × Guidance) (q : Part) → TakesTurns ChoosesBy (λ before clause restart after. after ≡ before) (λ before after. after ≡ before) rows s p t q → HasRun s.0 t.0 p q
+has_run : (rows : ℕ) (s : Search × Branching) (p : Part) (t : Search × Branching) (q : Part) → TakesTurnsBy rows s t p q → HasRun s.0 t.0 p q
 has_run rows s p t q none_yet = run_begins s.0 p
-has_run rows s p t q (one_more m u n r turn before goes_on last) = run_goes_on (ChoosesBy m.1) s.0 m.0 u.0 rows p n r turn goes_on (has_run rows s p m n before) last.search
+has_run rows s p t q (one_more m u n r turn before goes_on last) = run_goes_on (ChoosesAs m.1) s.0 m.0 u.0 rows p n r turn goes_on (has_run rows s p m n before) last.search
 
 near_run : (rows : ℕ) (s : Near) (p : Part) (t : Near) (q : Part) → TakesNearTurns rows s p t q → HasNearRun s t p q
 near_run rows s p t q near_none_yet = near_begins s p
 near_run rows s p t q (near_one_more m u n r turn before going last) = near_goes_on s m u rows p n r turn going (near_run rows s p m n before) last.takes
 near_run rows s p t q (aimed u r solution before is) = (let k = near_run rows s p u r before in record { run = k.run; conflicts = k.conflicts })
 
-core_run : (rows : ℕ) (s : CoreSearch × Guidance) (p : Part) (t : CoreSearch × Guidance) (q : Part) → TakesCoreTurns ChoosesBy (λ before clause restart after. after ≡ before) (λ before after. after ≡ before) rows s p t q → HasCoreRun s.0 t.0 p q
+core_run : (rows : ℕ) (s : CoreSearch × Branching) (p : Part) (t : CoreSearch × Branching) (q : Part) → TakesCoreTurnsBy rows s t p q → HasCoreRun s.0 t.0 p q
 core_run rows s p t q no_turn = core-begins s.0 p
-core_run rows s p t q (one_turn_more m u n r turn before going one) = core-goes-on (ChoosesBy m.1) s.0 m.0 u.0 rows p n r turn (core_run rows s p m n before) one.search going
+core_run rows s p t q (one_turn_more m u n r turn before going one) = core-goes-on (ChoosesAs m.1) s.0 m.0 u.0 rows p n r turn (core_run rows s p m n before) one.search going
 
 -- a core-guided worker's problem may have grown
 pub record HasKept (s t : Search) (p q : Part) : Type 0 where
@@ -116,11 +149,11 @@ pub record HasKept (s t : Search) (p q : Part) : Type 0 where
   pub moves : MovesWith s t p q
 
 pub has_kept : (rows : ℕ) (s t : AnySearch) (p q : Part) → TakesTurnsAs rows s t p q → HasKept (search_in s) (search_in t) p q
-has_kept rows (by_guidance kind g s) (by_guidance same h t) p q turns =
-    let run = has_run rows (s, g) p (t, g) q turns.2 in
+has_kept rows (by_brancher kind b s) (by_brancher same c t) p q turns =
+    let run = has_run rows (s, b) p (t, c) q turns.1 in
     record { model = ap (λ (x : Problem). x.model) run.setting.instance; refused = run.setting.refused; moves = run.moves }
-has_kept rows (by_cores g s) (by_cores h t) p q turns =
-    let run = core_run rows (s, g) p (t, g) q turns.1 in
+has_kept rows (by_cores b s) (by_cores c t) p q turns =
+    let run = core_run rows (s, b) p (t, c) q turns in
     record { model = run.setting.model; refused = run.setting.refused; moves = run.moves }
 has_kept rows (in_rounds m) (in_rounds n) p q turns =
     let run = near_run rows m p n q turns in
@@ -129,74 +162,72 @@ has_kept rows s t p q turns = absurd turns
 
 -- no turn yet
 pub none_taken : (rows : ℕ) (s : AnySearch) (p : Part) → TakesTurnsAs rows s s p p
-none_taken rows (by_guidance kind g s) p = (refl, refl, none_yet)
-none_taken rows (by_cores g s) p = (refl, no_turn)
+none_taken rows (by_brancher kind b s) p = (refl, none_yet)
+none_taken rows (by_cores b s) p = no_turn
 none_taken rows (in_rounds n) p = near_none_yet
 
 -- one turn more that did not end the worker
 pub turned_on : (rows : ℕ) (first s t : AnySearch) (start p q : Part) → TakesTurnsAs rows first s start p → HasTurned rows s t p q false → TakesTurnsAs rows first t start q
-turned_on rows (by_guidance k g f) (by_guidance l h s) (by_guidance o i t) start p q turns turn =
-    let last = subst (λ (x : Guidance). TurnedBy x rows s t p q false) turns.1 turn.2 in
-    (turn.0 ∙ turns.0, turn.1 ∙ turns.1, one_more (s, g) (t, g) p q last.turn turns.2 (none_of (end_of last.turn) last.last) last.takes)
+turned_on rows (by_brancher k g f) (by_brancher l h s) (by_brancher o i t) start p q turns turn =
+    let last = turn.1 in
+    (turn.0 ∙ turns.0, one_more (s, h) (t, i) p q last.turn turns.1 (none_of (end_of last.turn) last.last) last.takes)
 turned_on rows (by_cores g f) (by_cores h s) (by_cores i t) start p q turns turn =
-    let last = subst (λ (x : Guidance). TurnedByCores x rows s t p q false) turns.0 turn.1 in
-    (turn.0 ∙ turns.0, one_turn_more (s, g) (t, g) p q last.turn turns.1 (none_of (end_of last.turn) last.last) last.takes)
+    one_turn_more (s, h) (t, i) p q turn.turn turns (none_of (end_of turn.turn) turn.last) turn.takes
 turned_on rows (in_rounds f) (in_rounds m) (in_rounds n) start p q turns turn =
     near_one_more turn.aimed n p q turn.turn (aimed_turns rows f start m turn.aimed p turns turn.aims) (none_of (end_of turn.turn) turn.last) (aimed_turn rows m n p q false turn)
-turned_on rows (by_guidance k g f) (by_guidance l h s) (by_cores i t) start p q turns turn = absurd turn
-turned_on rows (by_guidance k g f) (by_guidance l h s) (in_rounds t) start p q turns turn = absurd turn
-turned_on rows (by_guidance k g f) (by_cores h s) t start p q turns turn = absurd turns
-turned_on rows (by_guidance k g f) (in_rounds s) t start p q turns turn = absurd turns
-turned_on rows (by_cores g f) (by_cores h s) (by_guidance l i t) start p q turns turn = absurd turn
+turned_on rows (by_brancher k g f) (by_brancher l h s) (by_cores i t) start p q turns turn = absurd turn
+turned_on rows (by_brancher k g f) (by_brancher l h s) (in_rounds t) start p q turns turn = absurd turn
+turned_on rows (by_brancher k g f) (by_cores h s) t start p q turns turn = absurd turns
+turned_on rows (by_brancher k g f) (in_rounds s) t start p q turns turn = absurd turns
+turned_on rows (by_cores g f) (by_cores h s) (by_brancher l i t) start p q turns turn = absurd turn
 turned_on rows (by_cores g f) (by_cores h s) (in_rounds t) start p q turns turn = absurd turn
-turned_on rows (by_cores g f) (by_guidance l h s) t start p q turns turn = absurd turns
+turned_on rows (by_cores g f) (by_brancher l h s) t start p q turns turn = absurd turns
 turned_on rows (by_cores g f) (in_rounds s) t start p q turns turn = absurd turns
-turned_on rows (in_rounds f) (in_rounds m) (by_guidance o i t) start p q turns turn = absurd turn
+turned_on rows (in_rounds f) (in_rounds m) (by_brancher o i t) start p q turns turn = absurd turn
 turned_on rows (in_rounds f) (in_rounds m) (by_cores i t) start p q turns turn = absurd turn
-turned_on rows (in_rounds f) (by_guidance l h s) t start p q turns turn = absurd turns
+turned_on rows (in_rounds f) (by_brancher l h s) t start p q turns turn = absurd turns
 turned_on rows (in_rounds f) (by_cores h s) t start p q turns turn = absurd turns
 
 pub still_runs : (rows : ℕ) (s t : AnySearch) (p q : Part) → HasTurned rows s t p q false → IsOver (search_in t).phase → ⊥
-still_runs rows (by_guidance k g s) (by_guidance l h t) p q turn = (let last = turn.2 in subst (λ (o : Option End). EndsAs o t) (none_of (end_of last.turn) last.last) last.takes.search.ends)
-still_runs rows (by_cores g s) (by_cores h t) p q turn = (let last = turn.1 in subst (λ (o : Option End). EndsAs o (search_in (by_cores h t))) (none_of (end_of last.turn) last.last) last.takes.search.ends)
+still_runs rows (by_brancher k g s) (by_brancher l h t) p q turn = (let last = turn.1 in subst (λ (o : Option End). EndsAs o t) (none_of (end_of last.turn) last.last) last.takes.search.ends)
+still_runs rows (by_cores g s) (by_cores h t) p q turn = (let last = turn in subst (λ (o : Option End). EndsAs o (search_in (by_cores h t))) (none_of (end_of last.turn) last.last) last.takes.search.ends)
 still_runs rows (in_rounds m) (in_rounds n) p q turn = subst (λ (o : Option End). EndsAs o n.search) (none_of (end_of turn.turn) turn.last) turn.takes.ends
 still_runs rows s t p q turn = absurd turn
 
 pub ends_over : (rows : ℕ) (s t : AnySearch) (p q : Part) → HasTurned rows s t p q true → IsOver (search_in t).phase
-ends_over rows (by_guidance k g s) (by_guidance l h t) p q turn =
-    let last = turn.2 in
+ends_over rows (by_brancher k g s) (by_brancher l h t) p q turn =
+    let last = turn.1 in
     let e = some_of (end_of last.turn) last.last in
     subst (λ (x : Phase). IsOver x) (sym (subst (λ (o : Option End). EndsAs o t) e.1 last.takes.search.ends)) tt
 ends_over rows (by_cores g s) (by_cores h t) p q turn =
-    let last = turn.1 in
-    let e = some_of (end_of last.turn) last.last in
-    subst (λ (x : Phase). IsOver x) (sym (subst (λ (o : Option End). EndsAs o (search_in (by_cores h t))) e.1 last.takes.search.ends)) tt
+    let e = some_of (end_of turn.turn) turn.last in
+    subst (λ (x : Phase). IsOver x) (sym (subst (λ (o : Option End). EndsAs o (search_in (by_cores h t))) e.1 turn.takes.search.ends)) tt
 ends_over rows (in_rounds m) (in_rounds n) p q turn =
     let e = some_of (end_of turn.turn) turn.last in
     subst (λ (x : Phase). IsOver x) (sym (subst (λ (o : Option End). EndsAs o n.search) e.1 turn.takes.ends)) tt
-ends_over rows (by_guidance k g s) (by_cores h t) p q turn = absurd turn
-ends_over rows (by_guidance k g s) (in_rounds t) p q turn = absurd turn
-ends_over rows (by_cores g s) (by_guidance l h t) p q turn = absurd turn
+ends_over rows (by_brancher k g s) (by_cores h t) p q turn = absurd turn
+ends_over rows (by_brancher k g s) (in_rounds t) p q turn = absurd turn
+ends_over rows (by_cores g s) (by_brancher l h t) p q turn = absurd turn
 ends_over rows (by_cores g s) (in_rounds t) p q turn = absurd turn
-ends_over rows (in_rounds m) (by_guidance l h t) p q turn = absurd turn
+ends_over rows (in_rounds m) (by_brancher l h t) p q turn = absurd turn
 ends_over rows (in_rounds m) (by_cores h t) p q turn = absurd turn
 
 -- ---- why turns come to an end
 
 -- what a worker has left to do
 abbrev pub left_in : AnySearch → ℕ → BoardPart → ℕ
-left_in (by_guidance kind g s) rows b = left_of (open_values s.instance.domains [] + 1) s rows b
+left_in (by_brancher kind g s) rows b = left_of (open_values s.instance.domains [] + 1) s rows b
 left_in (by_cores g s) rows b = core_left s rows b
 left_in (in_rounds n) rows b = near_left (open_values n.search.instance.domains [] + 1) n rows b
 
-guided_lighter : (rows : ℕ) (g : Guidance) (s t : Search) (p q : Part) → TurnedBy g rows s t p q false → left_of (open_values t.instance.domains [] + 1) t rows q.board < left_of (open_values s.instance.domains [] + 1) s rows p.board
-guided_lighter rows g s t p q turn =
+guided_lighter : (rows : ℕ) (s t : Search) (b c : Branching) (p q : Part) → TurnedBy rows (s, b) (t, c) p q false → left_of (open_values t.instance.domains [] + 1) t rows q.board < left_of (open_values s.instance.domains [] + 1) s rows p.board
+guided_lighter rows s t b c p q turn =
     let setting = turn.takes.search.setting in
     let less = lowered s t rows p.board q.board turn.before turn.after setting (turn.takes.search.lowers (none_of (end_of turn.turn) turn.last)) in
     subst (λ (x : Problem). left_of (open_values x.domains [] + 1) t rows q.board < left_of (open_values s.instance.domains [] + 1) s rows p.board) (sym setting.instance) less
 
-core_lighter : (rows : ℕ) (g : Guidance) (s t : CoreSearch) (p q : Part) → TurnedByCores g rows s t p q false → core_left t rows q.board < core_left s rows p.board
-core_lighter rows g s t p q turn =
+core_lighter : (rows : ℕ) (s t : CoreSearch) (b c : Branching) (p q : Part) → TurnedByCores rows (s, b) (t, c) p q false → core_left t rows q.board < core_left s rows p.board
+core_lighter rows s t b c p q turn =
     let takes = turn.takes in
     core_lowered s t rows p.board q.board takes.before takes.after takes.search.setting (takes.search.lowers (none_of (end_of turn.turn) turn.last))
 
@@ -218,14 +249,14 @@ near_lighter rows m n p q turn = go turn.aimed turn.aims turn.takes
     go a (inr x) takes = near_lighter_by rows (record m { aim = Some x.0 }) n p q turn.turn turn.before turn.after turn.no_budget going (subst (λ (y : Near). TakesNearTurn y n rows p q turn.turn) x.2 takes)
 
 pub lighter_in : (rows : ℕ) (s t : AnySearch) (p q : Part) → HasTurned rows s t p q false → left_in t rows q.board < left_in s rows p.board
-lighter_in rows (by_guidance k g s) (by_guidance l h t) p q turn = guided_lighter rows g s t p q turn.2
-lighter_in rows (by_cores g s) (by_cores h t) p q turn = core_lighter rows g s t p q turn.1
+lighter_in rows (by_brancher k b s) (by_brancher l c t) p q turn = guided_lighter rows s t b c p q turn.1
+lighter_in rows (by_cores b s) (by_cores c t) p q turn = core_lighter rows s t b c p q turn
 lighter_in rows (in_rounds m) (in_rounds n) p q turn = near_lighter rows m n p q turn
 lighter_in rows s t p q turn = absurd turn
 
 -- ---- a worker that knew nothing at first has ended
 
-complete_of : (kind : WorkerKind) → GoesByGuidance kind → IsComplete kind
+complete_of : (kind : WorkerKind) → HasBrancher kind → IsComplete kind
 complete_of kinds.Fixed h = tt
 complete_of kinds.Activity h = tt
 complete_of kinds.CoreGuided h = tt
@@ -237,62 +268,67 @@ sums_of kinds.Activity m defs h = h
 sums_of kinds.CoreGuided m defs h = tt
 sums_of kinds.Near m defs h = h
 
--- one that went by a guidance that is what the model says
-guided_done : (m : CpModel) (gap conflicts rows : ℕ) (kind : WorkerKind) (g : Guidance) (s u t : Search) (p n q : Part) → BeginsGuided m gap conflicts kind g s → TakesTurnsBy g rows s u p n → TurnedBy g rows u t n q true
-    → p.bounds.offered ≡ Infinite → p.bounds.raised ≡ None → IsHonestlyDone m gap conflicts q.bounds (by_guidance kind g t)
-guided_done m gap conflicts rows kind g s u t p n q begins turns last offered raised =
+-- one with a brancher that goes by what the model says
+guided_done : (m : CpModel) (gap conflicts rows : ℕ) (kind : WorkerKind) (b c d : Branching) (s u t : Search) (p n q : Part) → BeginsGuided m gap conflicts kind b s → TakesTurnsBy rows (s, b) (u, c) p n → TurnedBy rows (u, c) (t, d) n q true
+    → p.bounds.offered ≡ Infinite → p.bounds.raised ≡ None → IsHonestlyDone m gap conflicts q.bounds (by_brancher kind d t)
+guided_done m gap conflicts rows kind b c d s u t p n q begins turns last offered raised =
     let e = some_of (end_of last.turn) last.last in
-    let b = begins.begins in
-    let ends = run_ends (ChoosesBy g) s u t rows p n q last.turn e.0 last.before (has_run rows (s, g) p (u, g) n turns) last.takes.search e.1 in
-    let runs = subst (λ (x : Search). RunsTo x t p q e.0) b.is ends in
-    let guided : RunsBy g rows s t p q e.0 = record { before = (u, g); part = n; turns = turns; turn = last.turn; last = last.takes; ended = e.1 } in
+    let first = begins.begins in
+    let ends = run_ends (ChoosesAs c) s u t rows p n q last.turn e.0 last.before (has_run rows (s, b) p (u, c) n turns) last.takes.search e.1 in
+    let runs = subst (λ (x : Search). RunsTo x t p q e.0) first.is ends in
+    let all : RunsBy rows (s, b) (t, d) p q e.0 = record { before = (u, c); part = n; turns = turns; turn = last.turn; last = last.takes; ended = e.1 } in
+    let same : guidance_of d ≡ guidance_of b = turn_guided u t c d last.turn last.takes.brancher ∙ turns_guided rows (s, b) p (u, c) n turns in
     record {
       end = e.0;
       over = ends.phase;
-      honest = subst (λ (x : CpModel). IsHonestEnding x gap conflicts q.bounds (ending kind (Some g) e.0 t)) b.first.model
-          (honest_ending b.instance gap conflicts t p q kind (Some g) e.0 (complete_of kind begins.guided) runs last.after offered raised);
-      sums = sums_of kind m t.instance.defs (ap (λ (x : Problem). x.defs) runs.setting.instance ∙ b.first.sums);
+      honest = subst (λ (x : CpModel). IsHonestEnding x gap conflicts q.bounds (ending kind (Some (guidance_of d)) e.0 t)) first.first.model
+          (honest_ending first.instance gap conflicts t p q kind (Some (guidance_of d)) e.0 (complete_of kind begins.guided) runs last.after offered raised);
+      sums = sums_of kind m t.instance.defs (ap (λ (x : Problem). x.defs) runs.setting.instance ∙ first.first.sums);
       goes = record {
-        instance = b.instance;
-        is_instance = b.first.sound;
-        model = b.first.model;
+        instance = first.instance;
+        is_instance = first.first.sound;
+        model = first.first.model;
         sums = sym (ap (λ (x : Problem). x.defs) runs.setting.instance);
-        guide = subst (λ (x : Search). IsGuidedBy kind x.instance (Some g)) b.is begins.guide;
+        guide = subst (λ (x : Guidance). IsGuidedBy kind first.instance (Some x)) (sym same) (subst (λ (x : Search). IsGuidedBy kind x.instance (Some (guidance_of b))) first.is begins.guide);
         decisions = record {
           rows = rows;
+          first = b;
+          idle = begins.idle;
+          guided = sym same;
+          last = d;
           done = t;
           before = p;
           after = q;
-          runs = subst (λ (x : Search). RunsBy g rows x t p q e.0) b.is guided;
+          runs = subst (λ (x : Search). RunsBy rows (x, b) (t, d) p q e.0) first.is all;
           seen = refl;
         };
-        cores = λ is. absurd (subst GoesByGuidance is begins.guided);
-        rounds = λ is. absurd (subst GoesByGuidance is begins.guided);
+        cores = λ is. absurd (subst HasBrancher is begins.guided);
+        rounds = λ is. absurd (subst HasBrancher is begins.guided);
       };
     }
 
 -- one that went by cores
-core_done : (m : CpModel) (gap conflicts rows : ℕ) (g : Guidance) (s u t : CoreSearch) (p n q : Part) → BeginsByCores m gap conflicts g s → TakesCoreTurnsBy g rows s u p n → TurnedByCores g rows u t n q true
-    → p.bounds.offered ≡ Infinite → p.bounds.raised ≡ None → IsHonestlyDone m gap conflicts q.bounds (by_cores g t)
-core_done m gap conflicts rows g s u t p n q begins turns last offered raised =
+core_done : (m : CpModel) (gap conflicts rows : ℕ) (b c d : Branching) (s u t : CoreSearch) (p n q : Part) → BeginsByCores m gap conflicts b s → TakesCoreTurnsBy rows (s, b) (u, c) p n → TurnedByCores rows (u, c) (t, d) n q true
+    → p.bounds.offered ≡ Infinite → p.bounds.raised ≡ None → IsHonestlyDone m gap conflicts q.bounds (by_cores d t)
+core_done m gap conflicts rows b c d s u t p n q begins turns last offered raised =
     let e = some_of (end_of last.turn) last.last in
-    let b = begins.begins in
-    let runs : RunsByCores g rows s t p q e.0 = record { before = (u, g); part = n; turns = turns; turn = last.turn; last = last.takes; ended = e.1 } in
-    let run = core-turns-run ChoosesBy (λ before clause restart after. after ≡ before) (λ before after. after ≡ before) rows (s, g) (t, g) p q e.0 runs last.takes.before in
+    let first = begins.begins in
+    let runs : RunsByCores rows (s, b) (t, d) p q e.0 = record { before = (u, c); part = n; turns = turns; turn = last.turn; last = last.takes; ended = e.1 } in
+    let run = core-turns-run ChoosesAs HearsAs StaysAs rows (s, b) (t, d) p q e.0 runs last.takes.before in
     record {
       end = e.0;
       over = run.phase;
-      honest = subst (λ (x : CpModel). IsHonestEnding x gap conflicts q.bounds (core_ending e.0 t)) b.first.model
-          (core-honest ChoosesBy (λ before clause restart after. after ≡ before) (λ before after. after ≡ before) b.instance gap conflicts rows (s, g) (t, g) p q e.0 b.is runs last.takes.before last.takes.after offered raised);
+      honest = subst (λ (x : CpModel). IsHonestEnding x gap conflicts q.bounds (core_ending e.0 t)) first.first.model
+          (core-honest ChoosesAs HearsAs StaysAs first.instance gap conflicts rows (s, b) (t, d) p q e.0 first.is runs last.takes.before last.takes.after offered raised);
       sums = tt;
       goes = record {
         instance = t.search.instance;
         is_instance = last.takes.after.search.instance;
-        model = run.setting.model ∙ b.is.instance ∙ b.first.model;
+        model = run.setting.model ∙ first.is.instance ∙ first.first.model;
         sums = refl;
         guide = tt;
         decisions = tt;
-        cores = λ is. record { rows = rows; guidance = g; first = s; begins = begins; done = t; before = p; after = q; runs = runs; seen = refl };
+        cores = λ is. record { rows = rows; first = s; idle = b; begins = begins; done = t; last = d; before = p; after = q; runs = runs; seen = refl };
         rounds = λ is. absurd (cc is);
       };
     }
@@ -325,24 +361,23 @@ near_done m gap conflicts rows s u t p n q begins turns last offered raised =
 
 done_by : (m : CpModel) (gap conflicts rows : ℕ) (s u t : AnySearch) (p n q : Part) → BeginsAs m gap conflicts s → TakesTurnsAs rows s u p n → HasTurned rows u t n q true → p.bounds.offered ≡ Infinite → p.bounds.raised ≡ None
     → IsHonestlyDone m gap conflicts q.bounds t
-done_by m gap conflicts rows (by_guidance k g s) (by_guidance l h u) (by_guidance o i t) p n q begins turns last offered raised =
-    let done = guided_done m gap conflicts rows k g s u t p n q begins turns.2 (subst (λ (x : Guidance). TurnedBy x rows u t n q true) turns.1 last.2) offered raised in
-    subst (λ (x : WorkerKind). IsHonestlyDone m gap conflicts q.bounds (by_guidance x i t)) (sym (last.0 ∙ turns.0)) (subst (λ (x : Guidance). IsHonestlyDone m gap conflicts q.bounds (by_guidance k x t)) (sym (last.1 ∙ turns.1)) done)
+done_by m gap conflicts rows (by_brancher k g s) (by_brancher l h u) (by_brancher o i t) p n q begins turns last offered raised =
+    subst (λ (x : WorkerKind). IsHonestlyDone m gap conflicts q.bounds (by_brancher x i t)) (sym (last.0 ∙ turns.0))
+    (guided_done m gap conflicts rows k g h i s u t p n q begins turns.1 last.1 offered raised)
 done_by m gap conflicts rows (by_cores g s) (by_cores h u) (by_cores i t) p n q begins turns last offered raised =
-    let done = core_done m gap conflicts rows g s u t p n q begins turns.1 (subst (λ (x : Guidance). TurnedByCores x rows u t n q true) turns.0 last.1) offered raised in
-    subst (λ (x : Guidance). IsHonestlyDone m gap conflicts q.bounds (by_cores x t)) (sym (last.0 ∙ turns.0)) done
+    core_done m gap conflicts rows g h i s u t p n q begins turns last offered raised
 done_by m gap conflicts rows (in_rounds s) (in_rounds u) (in_rounds t) p n q begins turns last offered raised = near_done m gap conflicts rows s u t p n q begins turns last offered raised
-done_by m gap conflicts rows (by_guidance k g s) (by_guidance l h u) (by_cores i t) p n q begins turns last offered raised = absurd last
-done_by m gap conflicts rows (by_guidance k g s) (by_guidance l h u) (in_rounds t) p n q begins turns last offered raised = absurd last
-done_by m gap conflicts rows (by_guidance k g s) (by_cores h u) t p n q begins turns last offered raised = absurd turns
-done_by m gap conflicts rows (by_guidance k g s) (in_rounds u) t p n q begins turns last offered raised = absurd turns
-done_by m gap conflicts rows (by_cores g s) (by_cores h u) (by_guidance o i t) p n q begins turns last offered raised = absurd last
+done_by m gap conflicts rows (by_brancher k g s) (by_brancher l h u) (by_cores i t) p n q begins turns last offered raised = absurd last
+done_by m gap conflicts rows (by_brancher k g s) (by_brancher l h u) (in_rounds t) p n q begins turns last offered raised = absurd last
+done_by m gap conflicts rows (by_brancher k g s) (by_cores h u) t p n q begins turns last offered raised = absurd turns
+done_by m gap conflicts rows (by_brancher k g s) (in_rounds u) t p n q begins turns last offered raised = absurd turns
+done_by m gap conflicts rows (by_cores g s) (by_cores h u) (by_brancher o i t) p n q begins turns last offered raised = absurd last
 done_by m gap conflicts rows (by_cores g s) (by_cores h u) (in_rounds t) p n q begins turns last offered raised = absurd last
-done_by m gap conflicts rows (by_cores g s) (by_guidance l h u) t p n q begins turns last offered raised = absurd turns
+done_by m gap conflicts rows (by_cores g s) (by_brancher l h u) t p n q begins turns last offered raised = absurd turns
 done_by m gap conflicts rows (by_cores g s) (in_rounds u) t p n q begins turns last offered raised = absurd turns
-done_by m gap conflicts rows (in_rounds s) (in_rounds u) (by_guidance o i t) p n q begins turns last offered raised = absurd last
+done_by m gap conflicts rows (in_rounds s) (in_rounds u) (by_brancher o i t) p n q begins turns last offered raised = absurd last
 done_by m gap conflicts rows (in_rounds s) (in_rounds u) (by_cores i t) p n q begins turns last offered raised = absurd last
-done_by m gap conflicts rows (in_rounds s) (by_guidance l h u) t p n q begins turns last offered raised = absurd turns
+done_by m gap conflicts rows (in_rounds s) (by_brancher l h u) t p n q begins turns last offered raised = absurd turns
 done_by m gap conflicts rows (in_rounds s) (by_cores h u) t p n q begins turns last offered raised = absurd turns
 
 pub done_from : (m : CpModel) (gap conflicts rows : ℕ) (s t : AnySearch) (p q : Part) → BeginsAs m gap conflicts s → p.bounds.offered ≡ Infinite → p.bounds.raised ≡ None → HasEnded rows s t p q → IsHonestlyDone m gap conflicts q.bounds t

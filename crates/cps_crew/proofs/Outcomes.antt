@@ -1,6 +1,6 @@
 -- What workers came to, with the bounds that they left, is a good outcome.
 use Rattle.std.specs.Prelude.{Option, Some, None, IfSome, All, int_lt, if◌then◌else◌, Bool, true, false, ℤ}
-use Rattle.std.proofs.Common.{◌≡◌, ◌≢◌, ℕ, List, [], ◌∷◌, inl, inr, ◌⊎◌, arith, refl, sym, ap, subst, ◌∙◌}
+use Rattle.std.proofs.Common.{◌≡◌, ◌≢◌, ◌≤◌, ℕ, List, [], ◌∷◌, inl, inr, ◌⊎◌, arith, refl, sym, ap, subst, ◌∙◌}
 use Rattle.std.proofs.lemmas.Int.{ints}
 use Rattle.std.proofs.lemmas.List.Elements.{All-nil, All-cons, All-head, All-push, All-tail, All-weaker}
 use Rattle.cps_model.specs.declared.model.CpModel.{CpModel}
@@ -24,6 +24,7 @@ use Rattle.cps_search.specs.Searches.{IsItemAbove}
 use Rattle.cps_search.specs.Ends.{Ending, HasCore, IsComplete, IsHonestEnding, IsWhy}
 use Rattle.cps_search.specs.Following.{best_bound}
 use Rattle.cps_search.proofs.Bounds.{greater-second}
+use Rattle.cps_crew.proofs.Deciding.{decides}
 use Rattle.cps_options.specs.declared.options.Options.{Options}
 use Rattle.cps_crew.specs.declared.outcome.Outcome.{Outcome}
 use Rattle.cps_crew.specs.Outcomes.{IsGoodOutcome, GoesByModel, HasSums, DidItsPart, DidItsPartAs, SpentItsBudget, EndedWithin, CameTo, better, best_of, core_if, core_of, greatest_raised}
@@ -168,9 +169,14 @@ infeasible_top (At u) lower gap e = absurd (not_infeasible (is_closed lower (At 
 pub all_found : (m : CpModel) (gap conflicts workers : ℕ) (upper lower : Bound) (es : List Ending) → CameTo m gap conflicts workers upper lower es → All (λ (e : Ending). IfSome e.best (IsSolution m)) es
 all_found m gap conflicts workers upper lower es h = All-weaker (EndedWithin m gap conflicts upper lower) (λ (e : Ending). IfSome e.best (IsSolution m)) (λ e k. k.ended.best) es h.each
 
+apart_parts : (m : CpModel) (options : Options) (o : Outcome) → CameTo m options.gap options.conflicts options.workers o.upper o.lower o.ends → is_closed o.lower o.upper options.gap ≡ false → All (DidItsPart m options.conflicts o.upper) o.ends
+apart_parts m options o h apart i d l =
+    let raised = subst (λ (b : Bound). All (RaisedBelow b) o.ends) (sym h.lower_is) (raised_in (At (objective_start m)) o.ends) in
+    spent_apart m options.gap options.conflicts o.upper o.lower _ (h.each i d l) (raised i d l) apart
+
 pub good_outcome : (m : CpModel) (options : Options) (o : Outcome) → CameTo m options.gap options.conflicts options.workers o.upper o.lower o.ends → o.status ≡ status_of o.upper o.lower options.gap → o.solution ≡ best_of m o.ends → o.core ≡ core_of o.ends
-    → IsGoodOutcome m options o
-good_outcome m options o h status solution core = record {
+    → 1 ≤ options.workers → IsGoodOutcome m options o
+good_outcome m options o h status solution core some = record {
   workers = h.kinds;
   sums = All-weaker (EndedWithin m options.gap options.conflicts o.upper o.lower) (λ (e : Ending). HasSums e.kind m e.defs) (λ e k. k.sums) o.ends h.each;
   branchers = All-weaker (EndedWithin m options.gap options.conflicts o.upper o.lower) (GoesByModel m options.gap options.conflicts) (λ e k. k.goes) o.ends h.each;
@@ -184,9 +190,11 @@ good_outcome m options o h status solution core = record {
   sufficient = λ infeasible. subst (IsSufficient m) (sym core)
       (core_sufficient m (objective_start m) o.ends (All-weaker (EndedWithin m options.gap options.conflicts o.upper o.lower) (HasCore m) (λ e k. k.ended.core) o.ends h.each)
       (sym h.lower_is ∙ infeasible_top o.upper o.lower options.gap (sym status ∙ infeasible)));
-  spent = λ apart i d l.
-      let raised = subst (λ (b : Bound). All (RaisedBelow b) o.ends) (sym h.lower_is) (raised_in (At (objective_start m)) o.ends) in
-      spent_apart m options.gap options.conflicts o.upper o.lower _ (h.each i d l) (raised i d l) apart;
+  spent = apart_parts m options o h;
+  decides = decides m options o some h.kinds
+      (All-weaker (EndedWithin m options.gap options.conflicts o.upper o.lower) (λ (e : Ending). HasSums e.kind m e.defs) (λ e k. k.sums) o.ends h.each)
+      (All-weaker (EndedWithin m options.gap options.conflicts o.upper o.lower) (GoesByModel m options.gap options.conflicts) (λ e k. k.goes) o.ends h.each)
+      status (apart_parts m options o h);
 }
 
 -- ---- the first of the best solutions

@@ -27,13 +27,14 @@ use Rattle.cps_search.specs.Searches.{IsHonestJournal, IsItemAbove, learnt_count
 use Rattle.cps_search.specs.Ends.{Ending, IsHonestEnding, ending, round_count}
 use Rattle.cps_search.specs.Following.{best_bound}
 use Rattle.cps_search.specs.Guided.{IsEndOfRun, IsGuidedBy}
-use Rattle.cps_branch.specs.declared.guidance.Guidance.{Guidance}
+use Rattle.cps_branch.specs.Guidances.{Branching}
 use Rattle.cps_core_guided.specs.Reforming.{CoreSearch}
 use Rattle.cps_core_guided.specs.CoreTurns.{core_ending}
 use Rattle.cps_neighbourhood.specs.Nears.{Near, BeginsNear, NearRunsInTurns}
 use Rattle.cps_options.specs.declared.options.Options.{Options}
 use Rattle.cps_crew.specs.declared.outcome.Outcome.{Outcome}
 use Rattle.cps_crew.specs.Workers.{worker_kind, BeginsByCores, RunsByCores}
+use Rattle.cps_crew.specs.Deciding.{DecidesWhereEnough}
 
 -- the kinds of the workers by number
 abbrev pub kinds_of : ℕ → List WorkerKind
@@ -124,16 +125,18 @@ pub record IsEndOfRounds (p : Problem) (gap conflicts : ℕ) (e : Ending) : Type
   pub seen : e ≡ ending kinds.Near None e.end done.search
 
 -- What is seen of a core-guided worker that ended is what turns come to that began with nothing known but the
--- objective's first form, over an instance of the model; where nothing is left to assume, they go by the model's hint.
+-- objective's first form, over an instance of the model; where nothing is left to assume, they go by activity, at the
+-- model's hint.
 pub record IsEndOfCores (m : CpModel) (gap conflicts : ℕ) (e : Ending) : Type 0 where
   pub rows : ℕ
-  pub guidance : Guidance
   pub first : CoreSearch
-  pub begins : BeginsByCores m gap conflicts guidance first
+  pub idle : Branching
+  pub begins : BeginsByCores m gap conflicts idle first
   pub done : CoreSearch
+  pub last : Branching
   pub before : Part
   pub after : Part
-  pub runs : RunsByCores guidance rows first done before after e.end
+  pub runs : RunsByCores rows (first, idle) (done, last) before after e.end
   pub seen : e ≡ core_ending e.end done
 
 -- The sums that a worker of a kind defined are those that the model writes; only a core-guided one defines more, for
@@ -144,10 +147,10 @@ HasSums kinds.Activity m defs = defs ≡ model_sums m
 HasSums kinds.CoreGuided m defs = ⊤
 HasSums kinds.Near m defs = defs ≡ model_sums m
 
--- The decisions of a worker that ended went by what the model says, over an instance with the worker's sums: what is
--- seen of one that goes by a guidance is what a run comes to that begins with nothing known, and each decision of which
--- goes by that guidance; what is seen of a core-guided worker is what its reforms and decisions come to; and what is
--- seen of a neighbourhood worker is what its rounds come to.
+-- A worker that ended went by what the model says, over an instance with the worker's sums: what is seen of one with a
+-- brancher is what a run comes to that begins with nothing known, and whose decisions and restarts are the brancher's;
+-- what is seen of a core-guided worker is what its reforms and decisions come to; and what is seen of a neighbourhood
+-- worker is what its rounds come to.
 pub record GoesByModel (m : CpModel) (gap conflicts : ℕ) (e : Ending) : Type 0 where
   pub instance : Problem
   pub is_instance : IsInstance instance
@@ -163,9 +166,9 @@ pub record IsGoodOutcome (m : CpModel) (options : Options) (o : Outcome) : Type 
   -- core-guided one, no others
   pub workers : map (λ e. e.kind) o.ends ≡ kinds_of options.workers
   pub sums : All (λ e. HasSums e.kind m e.defs) o.ends
-  -- a fixed worker decides by the model's strategies and then takes the variables, an activity worker by the model's
-  -- hint, a core-guided worker by assumptions and then by the hint, and a neighbourhood worker in rounds and then by
-  -- the hint
+  -- a fixed worker decides by the model's strategies and then takes the variables, and never restarts; an activity
+  -- worker takes the most active variable, at the model's hint, and restarts by its pace, and a core-guided worker does
+  -- so after its assumptions; a neighbourhood worker decides in rounds and then so
   pub branchers : All (GoesByModel m options.gap options.conflicts) o.ends
   -- the status is that of the two bounds
   pub status : o.status ≡ status_of o.upper o.lower options.gap
@@ -183,6 +186,8 @@ pub record IsGoodOutcome (m : CpModel) (options : Options) (o : Outcome) : Type 
   -- where the bounds have not met, each worker of a complete kind spent its budget, and each neighbourhood worker did
   -- its rounds
   pub spent : is_closed o.lower o.upper options.gap ≡ false → All (DidItsPart m options.conflicts o.upper) o.ends
+  -- the first worker never spends a budget that is enough
+  pub decides : DecidesWhereEnough m options.conflicts o
 
 -- A worker ended honestly, and saw nothing better than these two bounds.
 pub record EndedWithin (m : CpModel) (gap conflicts : ℕ) (upper lower : Bound) (e : Ending) : Type 0 where

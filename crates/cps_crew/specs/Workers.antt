@@ -1,5 +1,5 @@
--- Workers of several kinds, seen as searches: one that goes by a guidance, one that goes by cores, or one that searches
--- near solutions in rounds.
+-- Workers of several kinds, seen as searches: one with a brancher, one that goes by cores, or one that searches near
+-- solutions in rounds.
 use Rattle.std.specs.Prelude.{◌≡◌, ◌⊎◌, ⊤, ℕ, ◌+◌, ◌<◌, ◌%◌, ◌==◌, max, nat_lt, if◌then◌else◌, ℤ, Bool, true, Option, Some, None, List, length, is_some}
 use Rattle.rand_pcg.specs.Lcg.{Lcg}
 use Rattle.cps_model.specs.declared.model.CpModel.{CpModel}
@@ -16,7 +16,7 @@ use Rattle.cps_search.specs.Searches.{Search, IsSoundSearch}
 use Rattle.cps_search.specs.Moves.{fresh}
 use Rattle.cps_search.specs.Turns.{FoundOne, SameBest}
 use Rattle.cps_search.specs.Guided.{IsGuidedBy}
-use Rattle.cps_branch.specs.Guidances.{ChoosesBy}
+use Rattle.cps_branch.specs.Guidances.{Branching, ChoosesAs, HearsAs, StaysAs, IsIdle, guidance_of}
 use Rattle.cps_search.specs.Ends.{Ending, OneTurn, TakesTurns, end_of, ending}
 use Rattle.cps_core_guided.specs.Reforming.{CoreSearch, whole}
 use Rattle.cps_core_guided.specs.CoreTurns.{BeginsCore, OneCoreTurn, RunsInCoreTurns, TakesCoreTurns}
@@ -24,33 +24,33 @@ use Rattle.cps_neighbourhood.specs.Drawing.{draws_of}
 use Rattle.cps_neighbourhood.specs.Nears.{Near, BeginsNear, TakesNearTurn, TakesNearTurns}
 use Rattle.cps_pool.specs.Pools.{last_of, with_pushed}
 
--- what is known of a worker: a search of a kind that goes by a guidance; one that goes by cores, and by a guidance
--- where there is nothing left to assume; or one that goes in rounds
+-- what is known of a worker: a search of a kind that has a brancher; one that goes by cores, and by a brancher where
+-- there is nothing left to assume; or one that goes in rounds
 pub data AnySearch : Type 0 where
-  by_guidance : WorkerKind → Guidance → Search → AnySearch
-  by_cores : Guidance → CoreSearch → AnySearch
+  by_brancher : WorkerKind → Branching → Search → AnySearch
+  by_cores : Branching → CoreSearch → AnySearch
   in_rounds : Near → AnySearch
 
 abbrev pub search_in : AnySearch → Search
-search_in (by_guidance kind guidance s) = s
-search_in (by_cores guidance s) = whole s
+search_in (by_brancher kind b s) = s
+search_in (by_cores b s) = whole s
 search_in (in_rounds n) = n.search
 
 -- the part of it that all workers have in common, which finds its solutions
 abbrev pub frame_in : AnySearch → Search
-frame_in (by_guidance kind guidance s) = s
-frame_in (by_cores guidance s) = s.search
+frame_in (by_brancher kind b s) = s
+frame_in (by_cores b s) = s.search
 frame_in (in_rounds n) = n.search
 
 abbrev pub kind_in : AnySearch → WorkerKind
-kind_in (by_guidance kind guidance s) = kind
-kind_in (by_cores guidance s) = kinds.CoreGuided
+kind_in (by_brancher kind b s) = kind
+kind_in (by_cores b s) = kinds.CoreGuided
 kind_in (in_rounds n) = kinds.Near
 
 -- the guidance that is seen of it when it has ended
 abbrev pub guidance_in : AnySearch → Option Guidance
-guidance_in (by_guidance kind guidance s) = Some guidance
-guidance_in (by_cores guidance s) = None
+guidance_in (by_brancher kind b s) = Some (guidance_of b)
+guidance_in (by_cores b s) = None
 guidance_in (in_rounds n) = None
 
 -- what is seen of it when it has ended so
@@ -66,12 +66,12 @@ worker_kind number = if number == 0 then kinds.Fixed else
 abbrev pub SearchesNear : ℕ → Type 0
 SearchesNear workers = (number : ℕ) × (number < workers) × (worker_kind number ≡ kinds.Near)
 
--- a kind whose workers go by a guidance alone
-abbrev pub GoesByGuidance : WorkerKind → Type 0
-GoesByGuidance kinds.Fixed = ⊤
-GoesByGuidance kinds.Activity = ⊤
-GoesByGuidance kinds.CoreGuided = ⊥
-GoesByGuidance kinds.Near = ⊥
+-- a kind whose workers decide by a brancher alone
+abbrev pub HasBrancher : WorkerKind → Type 0
+HasBrancher kinds.Fixed = ⊤
+HasBrancher kinds.Activity = ⊤
+HasBrancher kinds.CoreGuided = ⊥
+HasBrancher kinds.Near = ⊥
 
 -- ---- workers that begin
 
@@ -87,12 +87,13 @@ pub record Begins (m : CpModel) (gap conflicts : ℕ) (s : Search) : Type 0 wher
   pub first : IsFirstInstance m instance
   pub is : s ≡ fresh instance gap (Some conflicts)
 
--- one of a kind that goes by a guidance, which is what the model says
-pub record BeginsGuided (m : CpModel) (gap conflicts : ℕ) (kind : WorkerKind) (guidance : Guidance) (s : Search)
+-- one of a kind with a brancher, which goes by what the model says and has heard nothing yet
+pub record BeginsGuided (m : CpModel) (gap conflicts : ℕ) (kind : WorkerKind) (b : Branching) (s : Search)
     : Type 0 where
   pub begins : Begins m gap conflicts s
-  pub guided : GoesByGuidance kind
-  pub guide : IsGuidedBy kind s.instance (Some guidance)
+  pub guided : HasBrancher kind
+  pub guide : IsGuidedBy kind s.instance (Some (guidance_of b))
+  pub idle : IsIdle b
 
 -- one that goes by cores: the objective has its first form
 pub record BeginsCores (m : CpModel) (gap conflicts : ℕ) (s : CoreSearch) : Type 0 where
@@ -100,10 +101,11 @@ pub record BeginsCores (m : CpModel) (gap conflicts : ℕ) (s : CoreSearch) : Ty
   pub first : IsFirstInstance m instance
   pub is : BeginsCore instance gap conflicts s
 
--- and its guidance is the model's hint
-pub record BeginsByCores (m : CpModel) (gap conflicts : ℕ) (guidance : Guidance) (s : CoreSearch) : Type 0 where
+-- and its brancher goes by the model's hint and has heard nothing yet
+pub record BeginsByCores (m : CpModel) (gap conflicts : ℕ) (b : Branching) (s : CoreSearch) : Type 0 where
   pub begins : BeginsCores m gap conflicts s
-  pub guide : IsGuidedBy kinds.Activity s.search.instance (Some guidance)
+  pub guide : IsGuidedBy kinds.Activity s.search.instance (Some (guidance_of b))
+  pub idle : IsIdle b
 
 -- one that goes in rounds, for so many conflicts, and has the model's hint
 pub record BeginsRounds (m : CpModel) (gap conflicts : ℕ) (n : Near) : Type 0 where
@@ -113,60 +115,55 @@ pub record BeginsRounds (m : CpModel) (gap conflicts : ℕ) (n : Near) : Type 0 
   pub is : BeginsNear instance gap conflicts draws n
 
 abbrev pub BeginsAs : CpModel → ℕ → ℕ → AnySearch → Type 0
-BeginsAs m gap conflicts (by_guidance kind guidance s) = BeginsGuided m gap conflicts kind guidance s
-BeginsAs m gap conflicts (by_cores guidance s) = BeginsByCores m gap conflicts guidance s
+BeginsAs m gap conflicts (by_brancher kind b s) = BeginsGuided m gap conflicts kind b s
+BeginsAs m gap conflicts (by_cores b s) = BeginsByCores m gap conflicts b s
 BeginsAs m gap conflicts (in_rounds n) = BeginsRounds m gap conflicts n
 
 -- one that goes in rounds draws by a generator of its own
 abbrev pub DrawsBy : ℕ → ℕ → AnySearch → Type 0
-DrawsBy seed number (by_guidance kind guidance s) = ⊤
-DrawsBy seed number (by_cores guidance s) = ⊤
+DrawsBy seed number (by_brancher kind b s) = ⊤
+DrawsBy seed number (by_cores b s) = ⊤
 DrawsBy seed number (in_rounds n) = n.draws ≡ draws_of seed (16 + number)
 
 -- ---- turns
 
--- one turn, in which the decision goes by a guidance
-abbrev pub TurnsBy : Guidance → ℕ → Search → Search → Part → Part → Turn → Type 0
-TurnsBy guidance rows s t p q turn = OneTurn ChoosesBy (λ before clause restart after. after ≡ before)
-    (λ before after. after ≡ before) rows (s, guidance) (t, guidance) p q turn
-
--- turns one after another, none of which ended the worker, and each decision of which goes by a guidance
-abbrev pub TakesTurnsBy : Guidance → ℕ → Search → Search → Part → Part → Type 0
-TakesTurnsBy guidance rows s t p q = TakesTurns ChoosesBy (λ before clause restart after. after ≡ before)
-    (λ before after. after ≡ before) rows (s, guidance) p (t, guidance) q
-
--- one turn of a worker that goes by cores, in which a choice goes by a guidance
-abbrev pub CoreTurnBy : Guidance → ℕ → CoreSearch → CoreSearch → Part → Part → Turn → Type 0
-CoreTurnBy guidance rows s t p q turn = OneCoreTurn ChoosesBy (λ before clause restart after. after ≡ before)
-    (λ before after. after ≡ before) rows (s, guidance) (t, guidance) p q turn
+-- one turn of a worker with a brancher
+abbrev pub TurnsBy : ℕ → Search × Branching → Search × Branching → Part → Part → Turn → Type 0
+TurnsBy rows s t p q turn = OneTurn ChoosesAs HearsAs StaysAs rows s t p q turn
 
 -- such turns one after another, none of which ended the worker
-abbrev pub TakesCoreTurnsBy : Guidance → ℕ → CoreSearch → CoreSearch → Part → Part → Type 0
-TakesCoreTurnsBy guidance rows s t p q = TakesCoreTurns ChoosesBy (λ before clause restart after. after ≡ before)
-    (λ before after. after ≡ before) rows (s, guidance) p (t, guidance) q
+abbrev pub TakesTurnsBy : ℕ → Search × Branching → Search × Branching → Part → Part → Type 0
+TakesTurnsBy rows s t p q = TakesTurns ChoosesAs HearsAs StaysAs rows s p t q
+
+-- one turn of a worker that goes by cores
+abbrev pub CoreTurnBy : ℕ → CoreSearch × Branching → CoreSearch × Branching → Part → Part → Turn → Type 0
+CoreTurnBy rows s t p q turn = OneCoreTurn ChoosesAs HearsAs StaysAs rows s t p q turn
+
+-- such turns one after another, none of which ended the worker
+abbrev pub TakesCoreTurnsBy : ℕ → CoreSearch × Branching → CoreSearch × Branching → Part → Part → Type 0
+TakesCoreTurnsBy rows s t p q = TakesCoreTurns ChoosesAs HearsAs StaysAs rows s p t q
 
 -- such turns, of which the last ended it so
-abbrev pub RunsByCores : Guidance → ℕ → CoreSearch → CoreSearch → Part → Part → End → Type 0
-RunsByCores guidance rows s t p q end = RunsInCoreTurns ChoosesBy (λ before clause restart after. after ≡ before)
-    (λ before after. after ≡ before) rows (s, guidance) (t, guidance) p q end
+abbrev pub RunsByCores : ℕ → CoreSearch × Branching → CoreSearch × Branching → Part → Part → End → Type 0
+RunsByCores rows s t p q end = RunsInCoreTurns ChoosesAs HearsAs StaysAs rows s t p q end
 
 -- it is aimed at a solution of its model, or aims where it did
 abbrev pub IsAimed : Near → Near → Type 0
 IsAimed n aimed = (aimed ≡ n)
     ⊎ ((solution : List ℤ) × IsSolution n.search.instance.model solution × (aimed ≡ record n { aim = Some solution }))
 
--- one turn of a worker that goes by a guidance, which was its last or not
-pub record TurnedBy (guidance : Guidance) (rows : ℕ) (s t : Search) (p q : Part) (over : Bool) : Type 0 where
-  pub before : IsSoundSearch s
-  pub after : IsSoundSearch t
+-- one turn of a worker with a brancher, which was its last or not
+pub record TurnedBy (rows : ℕ) (s t : Search × Branching) (p q : Part) (over : Bool) : Type 0 where
+  pub before : IsSoundSearch s.0
+  pub after : IsSoundSearch t.0
   pub turn : Turn
-  pub takes : TurnsBy guidance rows s t p q turn
+  pub takes : TurnsBy rows s t p q turn
   pub last : over ≡ is_some (end_of turn)
 
 -- one turn of a worker that goes by cores, which was its last or not
-pub record TurnedByCores (guidance : Guidance) (rows : ℕ) (s t : CoreSearch) (p q : Part) (over : Bool) : Type 0 where
+pub record TurnedByCores (rows : ℕ) (s t : CoreSearch × Branching) (p q : Part) (over : Bool) : Type 0 where
   pub turn : Turn
-  pub takes : CoreTurnBy guidance rows s t p q turn
+  pub takes : CoreTurnBy rows s t p q turn
   pub last : over ≡ is_some (end_of turn)
 
 -- one turn of a worker that goes in rounds, which was handed a solution before it or was not
@@ -182,19 +179,17 @@ pub record TurnedNear (rows : ℕ) (m n : Near) (p q : Part) (over : Bool) : Typ
 
 -- a worker took one turn, which was its last or not
 abbrev pub HasTurned : ℕ → AnySearch → AnySearch → Part → Part → Bool → Type 0
-HasTurned rows (by_guidance kind guidance s) (by_guidance same_kind same t) p q over = (same_kind ≡ kind)
-    × (same ≡ guidance) × TurnedBy guidance rows s t p q over
-HasTurned rows (by_cores guidance s) (by_cores same t) p q over = (same ≡ guidance)
-    × TurnedByCores guidance rows s t p q over
+HasTurned rows (by_brancher kind b s) (by_brancher same c t) p q over = (same ≡ kind)
+    × TurnedBy rows (s, b) (t, c) p q over
+HasTurned rows (by_cores b s) (by_cores c t) p q over = TurnedByCores rows (s, b) (t, c) p q over
 HasTurned rows (in_rounds m) (in_rounds n) p q over = TurnedNear rows m n p q over
 HasTurned rows s t p q over = ⊥
 
 -- turns one after another, none of which ended the worker
 abbrev pub TakesTurnsAs : ℕ → AnySearch → AnySearch → Part → Part → Type 0
-TakesTurnsAs rows (by_guidance kind guidance s) (by_guidance same_kind same t) p q = (same_kind ≡ kind)
-    × (same ≡ guidance) × TakesTurnsBy guidance rows s t p q
-TakesTurnsAs rows (by_cores guidance s) (by_cores same t) p q = (same ≡ guidance)
-    × TakesCoreTurnsBy guidance rows s t p q
+TakesTurnsAs rows (by_brancher kind b s) (by_brancher same c t) p q = (same ≡ kind)
+    × TakesTurnsBy rows (s, b) (t, c) p q
+TakesTurnsAs rows (by_cores b s) (by_cores c t) p q = TakesCoreTurnsBy rows (s, b) (t, c) p q
 TakesTurnsAs rows (in_rounds m) (in_rounds n) p q = TakesNearTurns rows m p n q
 TakesTurnsAs rows s t p q = ⊥
 

@@ -1,5 +1,5 @@
 //! The outcome of workers that ended, from the bounds that they left and the end of each.
-ghost use Rattle.std.specs.Prelude.{◌≡◌, ℤ, List, All, IfOk, IfSome, IsTrue, false};
+ghost use Rattle.std.specs.Prelude.{◌≡◌, ◌≤◌, ℤ, List, All, IfOk, IfSome, IsTrue, false};
 ghost use Rattle.cps_model.specs.Statuses.{status_of};
 ghost use Rattle.cps_model.specs.Solutions.{IsSolution};
 ghost use Rattle.cps_search.specs.Following.{best_bound};
@@ -80,7 +80,8 @@ pub fn outcome_of(
     options: &Options,
     reached: Reached,
 ) -> Result<Outcome, AllocError>
-    requires { CameTo model.now options.now.gap options.now.conflicts options.now.workers
+    requires some { 1 ≤ options.now.workers }
+    requires came { CameTo model.now options.now.gap options.now.conflicts options.now.workers
         reached.upper reached.lower reached.ends.items }
     ensures good { IfOk result (IsGoodOutcome model.now options.now) }
     ensures ends { IfOk result (λ o. o.ends ≡ reached.ends.items) }

@@ -1,11 +1,10 @@
--- Turns of a core-guided worker go by its brancher's guidance.
+-- Turns of a core-guided worker go by what is seen of its brancher.
 use Rattle.std.specs.Prelude.{Bool}
 use Rattle.std.proofs.Common.{ℕ, ◌≡◌, ◌⊎◌, inl, inr, Option, Some, List, ap}
 use Rattle.cps_literal.specs.declared.atom.Atom.{Atom}
 use Rattle.cps_trail.specs.Trail.{Trail}
 use Rattle.cps_port.specs.declared.part.Part.{Part}
-use Rattle.cps_branch.specs.declared.guidance.Guidance.{Guidance}
-use Rattle.cps_branch.specs.Guidances.{ChoosesBy}
+use Rattle.cps_branch.specs.Guidances.{Branching, ChoosesAs, HearsAs, StaysAs}
 use Rattle.cps_search.specs.declared.turn.Turn.{Turn}
 use Rattle.cps_search.specs.declared.turn.Turn.TheVariants as turns
 use Rattle.cps_search.specs.Searches.{Search}
@@ -57,22 +56,22 @@ brancher_by (turns.Spent clause below) heard heard' chose chose' same same' f g 
 brancher_by turns.RoundsDone heard heard' chose chose' same same' f g h k = h k
 brancher_by (turns.Reformed base) heard heard' chose chose' same same' f g h k = h k
 
-either_by : (a b c : Type 0) → (a → c) → (b → c) → a ⊎ b → c ⊎ c
-either_by a b c f g (inl x) = inl (f x)
-either_by a b c f g (inr x) = inr (g x)
+either_by : (a b c d : Type 0) → (a → c) → (b → d) → a ⊎ b → c ⊎ d
+either_by a b c d f g (inl x) = inl (f x)
+either_by a b c d f g (inr x) = inr (g x)
 
-module _ {B : Type 0} (guidance : B → Guidance) (chooses : B → Trail → Option Atom → Type 0) (hears : B → List Atom → Bool → B → Type 0) (stays : B → B → Type 0)
-    (goes_by : (b : B) (s : Trail) (choice : Option Atom) → chooses b s choice → ChoosesBy (guidance b) s choice)
-    (stays_guided : (b c : B) → stays b c → guidance c ≡ guidance b)
-    (hears_guided : (b c : B) (clause : List Atom) (restart : Bool) → hears b clause restart c → guidance c ≡ guidance b)
+module _ {B : Type 0} (branching : B → Branching) (chooses : B → Trail → Option Atom → Type 0) (hears : B → List Atom → Bool → B → Type 0) (stays : B → B → Type 0)
+    (chooses_as : (b : B) (s : Trail) (choice : Option Atom) → chooses b s choice → ChoosesAs (branching b) s choice)
+    (hears_as : (b c : B) (clause : List Atom) (restart : Bool) → hears b clause restart c → HearsAs (branching b) clause restart (branching c))
+    (stays_as : (b c : B) → stays b c → StaysAs (branching b) (branching c))
     (rows : ℕ) where
   pub core_turn_by : (s t : CoreSearch × B) (p q : Part) (turn : Turn) → OneCoreTurn chooses hears stays rows s t p q turn
-      → OneCoreTurn ChoosesBy (λ before clause restart after. after ≡ before) (λ before after. after ≡ before) rows (s.0, guidance s.1) (t.0, guidance t.1) p q turn
+      → OneCoreTurn ChoosesAs HearsAs StaysAs rows (s.0, branching s.1) (t.0, branching t.1) p q turn
   core_turn_by s t p q turn h = record {
     before = h.before;
     after = h.after;
-    search = takes_by (chooses s.1) (ChoosesBy (guidance s.1)) (goes_by s.1) s.0 t.0 rows p q turn h.search;
+    search = takes_by (chooses s.1) (ChoosesAs (branching s.1)) (chooses_as s.1) s.0 t.0 rows p q turn h.search;
     brancher = brancher_by turn _ _ _ _ _ _
-        (heard_by (λ clause restart. hears s.1 clause restart t.1) (λ clause restart. guidance t.1 ≡ guidance s.1) (λ clause restart. hears_guided s.1 t.1 clause restart) s.0.search t.0.search)
-        (either_by (stays s.1 t.1) (t.1 ≡ s.1) (guidance t.1 ≡ guidance s.1) (stays_guided s.1 t.1) (λ same. ap guidance same)) (λ same. ap guidance same) h.brancher;
+        (heard_by (λ clause restart. hears s.1 clause restart t.1) (λ clause restart. HearsAs (branching s.1) clause restart (branching t.1)) (λ clause restart. hears_as s.1 t.1 clause restart) s.0.search t.0.search)
+        (either_by (stays s.1 t.1) (t.1 ≡ s.1) (StaysAs (branching s.1) (branching t.1)) (branching t.1 ≡ branching s.1) (stays_as s.1 t.1) (λ same. ap branching same)) (λ same. ap branching same) h.brancher;
   }

@@ -2,19 +2,19 @@
 use Rattle.std.specs.Prelude.{ℕ, List}
 use Rattle.cps_model.specs.declared.model.CpModel.{CpModel}
 use Rattle.cps_options.specs.declared.options.Options.{Options}
-use Rattle.cps_branch.specs.declared.guidance.Guidance.TheVariants.{Steered, Hinted}
+use Rattle.cps_branch.specs.Guidances.{in_order, by_activity}
 use Rattle.cps_search.specs.declared.end.WorkerKind.TheVariants as kinds
 use Rattle.cps_search.specs.Ends.{Ending}
-use Rattle.cps_crew.specs.Workers.{AnySearch, by_guidance, by_cores, in_rounds}
+use Rattle.cps_crew.specs.Workers.{AnySearch, by_brancher, by_cores, in_rounds}
 use Rattle.cps_crew.specs.Turning.{IsDrawnBy}
 use Rattle.cps_portfolio.specs.declared.worker.AnyWorker.{AnyWorker}
 use Rattle.cps_portfolio.specs.declared.worker.AnyWorker.TheVariants.{Fixed, Activity, Core, Near}
 
--- a worker of each kind; the brancher's plan or hints are what it goes by
+-- a worker of each kind
 abbrev pub known_of : AnyWorker → AnySearch
-known_of (Fixed w) = by_guidance kinds.Fixed (Steered w.1.plan) w.0
-known_of (Activity w) = by_guidance kinds.Activity (Hinted w.1.hints) w.0
-known_of (Core w) = by_cores (Hinted w.1.hints) w.0
+known_of (Fixed w) = by_brancher kinds.Fixed (in_order w.1.plan) w.0
+known_of (Activity w) = by_brancher kinds.Activity (by_activity w.1) w.0
+known_of (Core w) = by_cores (by_activity w.1) w.0
 known_of (Near w) = in_rounds w.worker
 
 -- how many solutions the pool had when it was last handed one

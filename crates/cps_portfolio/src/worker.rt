@@ -5,7 +5,7 @@
 //! the turn that found it, and a neighbourhood worker is aimed before its turn.
 ghost use Rattle.std.specs.Prelude.{◌≡◌, ◌+◌, ◌≤◌, ◌^◌, length, max, false, OnOk, IfOk, IfSome, Some, is_some};
 ghost use Rattle.cps_model.specs.Solutions.{IsSolution};
-ghost use Rattle.cps_branch.specs.Guidances.{AreHintsOf, IsPlanOf};
+ghost use Rattle.cps_branch.specs.Guidances.{AreHintsOf, IsIdleByActivity, IsPlanOf};
 ghost use Rattle.cps_kinds.specs.Kinds.{AreAllPropagated};
 ghost use Rattle.cps_options.specs.Ranges.{AreInRange};
 ghost use Rattle.cps_search.specs.Keeps.{Keeps};
@@ -90,6 +90,7 @@ fn activity_worker<'a>(
     requires kinds { AreAllPropagated model.now }
     ensures begins { IfOk result (λ worker. Begins model.entry.now gap conflicts worker.0) }
     ensures hints { IfOk result (λ worker. AreHintsOf worker.0.instance worker.1.hints) }
+    ensures idle { IfOk result (λ worker. IsIdleByActivity worker.1) }
 {
     let instance = Instance::of(alloc, model)?;
     let engine = engine_of(alloc, &instance)?;
@@ -108,6 +109,7 @@ fn core_worker<'a>(
     requires kinds { AreAllPropagated model.now }
     ensures begins { IfOk result (λ worker. BeginsCores model.entry.now gap conflicts worker.0) }
     ensures hints { IfOk result (λ worker. AreHintsOf worker.0.search.instance worker.1.hints) }
+    ensures idle { IfOk result (λ worker. IsIdleByActivity worker.1) }
 {
     let instance = Instance::of(alloc, model)?;
     let engine = engine_of(alloc, &instance)?;
@@ -182,9 +184,8 @@ fn turn_of<P: Propagator, B: Brancher + Drop, Q: Port, F: Pool>(
     ensures is_read { F.is_read pool.new ≡ F.is_read pool.old }
     ensures found { OnOk result (PutsFound (F.is_read pool.old) (F.found pool.old) (F.found pool.new)
         (Q.rows port.old) worker.old.0 worker.new.0 (Q.part port.old) (Q.part port.new)) }
-    ensures guidance { B.guidance worker.new.1 ≡ B.guidance worker.old.1 }
-    ensures turn { IfOk result (TurnedBy (B.guidance worker.old.1) (Q.rows port.old) worker.old.0 worker.new.0
-        (Q.part port.old) (Q.part port.new)) }
+    ensures turn { IfOk result (TurnedBy (Q.rows port.old) (worker.old.0, B.branching worker.old.1)
+        (worker.new.0, B.branching worker.new.1) (Q.part port.old) (Q.part port.new)) }
 {
     let turn = worker.turn(port)?;
     note_turn(pool, &turn, worker.best())
@@ -205,9 +206,8 @@ fn core_turn_of<P: Defining, B: Brancher + Drop, Q: Port, F: Pool>(
     ensures is_read { F.is_read pool.new ≡ F.is_read pool.old }
     ensures found { OnOk result (PutsFound (F.is_read pool.old) (F.found pool.old) (F.found pool.new)
         (Q.rows port.old) worker.old.0.search worker.new.0.search (Q.part port.old) (Q.part port.new)) }
-    ensures guidance { B.guidance worker.new.1 ≡ B.guidance worker.old.1 }
-    ensures turn { IfOk result (TurnedByCores (B.guidance worker.old.1) (Q.rows port.old) worker.old.0 worker.new.0
-        (Q.part port.old) (Q.part port.new)) }
+    ensures turn { IfOk result (TurnedByCores (Q.rows port.old) (worker.old.0, B.branching worker.old.1)
+        (worker.new.0, B.branching worker.new.1) (Q.part port.old) (Q.part port.new)) }
 {
     let turn = worker.turn(port)?;
     note_turn(pool, &turn, worker.best())

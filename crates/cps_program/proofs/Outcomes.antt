@@ -114,6 +114,7 @@ promise_kept m options o good =
       core = good.sufficient;
       feasible = λ e. let found = p.feasible e in (found.0, record { this = found.1; solution = found.2; below = found.3; parts = found.4 });
       unknown = λ e. let none = p.unknown e in record { nothing = none.0; parts = none.1 };
+      decides = good.decides;
     }
 
 -- ---- the objective of what was found can be summed up

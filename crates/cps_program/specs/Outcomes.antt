@@ -8,6 +8,7 @@ use Rattle.cps_model.specs.Statuses.{is_closed, IsAtMost}
 use Rattle.cps_search.specs.Assumptions.{IsSufficient}
 use Rattle.cps_options.specs.declared.options.Options.{Options}
 use Rattle.cps_crew.specs.declared.outcome.Outcome.{Outcome}
+use Rattle.cps_crew.specs.Deciding.{DecidesWhereEnough}
 use Rattle.cps_crew.specs.Outcomes.{DidItsPart}
 
 -- a solution that none beats by more than the gap, with a lower bound that is at most its objective and within the gap
@@ -30,7 +31,7 @@ pub record IsUnknown (m : CpModel) (options : Options) (o : Outcome) : Type 0 wh
   pub nothing : o.solution ≡ None
   pub parts : All (DidItsPart m options.conflicts Infinite) o.ends
 
--- what each status promises
+-- what each status promises, and when only the first two can come
 pub record KeepsPromise (m : CpModel) (options : Options) (o : Outcome) : Type 0 where
   pub optimal : o.status ≡ Optimal → (a : List ℤ) × IsOptimal m options.gap o a
   pub infeasible : o.status ≡ Infeasible → HasNoSolution m
@@ -38,3 +39,5 @@ pub record KeepsPromise (m : CpModel) (options : Options) (o : Outcome) : Type 0
   pub core : o.status ≡ Infeasible → IsSufficient m o.core
   pub feasible : o.status ≡ Feasible → (a : List ℤ) × IsFeasible m options o a
   pub unknown : o.status ≡ Unknown → IsUnknown m options o
+  -- there is a number of conflicts, which the model alone determines, from which on the outcome is decided
+  pub decides : DecidesWhereEnough m options.conflicts o

@@ -49,8 +49,11 @@ finish_all-requires g c =
     let t = c.in_ok-turns.ensures in
     subst (λ (l : List (Turning _)). All (λ (x : Turning _). IsOver (search_in (g.W.Member.known x.worker)).phase) l) (sym w) (each_over g.W.Member.known c.in_ok-core.core.model o.gap o.conflicts _ c.take_turns-turns.new.port.core.now ys t.crew t.over)
 
-pub outcome_of-requires : goal.outcome_of-requires
-outcome_of-requires g c =
+pub outcome_of-requires-clause-some : goal.outcome_of-requires-clause-some
+outcome_of-requires-clause-some g c = c.requires.range.some_worker
+
+pub outcome_of-requires-clause-came : goal.outcome_of-requires-clause-came
+outcome_of-requires-clause-came g c =
     let o = c.args.options.now in
     let m = c.args.model.now in
     let first = c.in_ok-core.ensures.first in

@@ -53,8 +53,11 @@ gather-requires-clause-crew g c =
     (written_back m o board c.in_ok-board.board bounds c.in_ok-bounds.bounds c.in_ok-crew.crew.len xs c.as_mut_slice.result.now c.work_all.new.crew full same c.work_all.ensures.len tables.0 tables.1
     c.in_ok-crew.ensures.crew c.work_all.ensures.each)
 
-pub outcome_of-requires : goal.outcome_of-requires
-outcome_of-requires g c =
+pub outcome_of-requires-clause-some : goal.outcome_of-requires-clause-some
+outcome_of-requires-clause-some g c = c.requires.range.some_worker
+
+pub outcome_of-requires-clause-came : goal.outcome_of-requires-clause-came
+outcome_of-requires-clause-came g c =
     let m = c.args.brief.now.model.now in
     let o = c.args.brief.now.options.now in
     let k = c.close-upper.ensures in

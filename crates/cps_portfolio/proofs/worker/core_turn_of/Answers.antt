@@ -1,12 +1,10 @@
--- The turn goes by the brancher's guidance, which it leaves; what is found is a solution of the pool's model.
+-- The turn goes by what is seen of the brancher; what is found is a solution of the pool's model.
 use Rattle.std.proofs.Common.{◌≡◌, ◌∙◌, refl, sym, subst}
 use Rattle.std.specs.Prelude.{is_some}
 use Rattle.std.proofs.lemmas.Result.{IfOk-weaker}
 use Rattle.cps_search.specs.declared.turn.Turn.{Turn}
 use Rattle.cps_search.specs.Ends.{end_of}
-use Rattle.cps_branch.specs.Guidances.{ChoosesBy}
-use Rattle.cps_branch.specs.declared.guidance.Guidance.{Guidance}
-use Rattle.cps_core_guided.specs.CoreTurns.{CoreCaused, OneCoreTurn}
+use Rattle.cps_core_guided.specs.CoreTurns.{CoreCaused}
 use Rattle.cps_core_guided.proofs.CoreRuns.{one-core-turn}
 use Rattle.cps_crew.specs.Workers.{TurnedByCores}
 use Rattle.cps_portfolio.proofs.Found.{found_is, puts_found, stays_best_by_cores}
@@ -28,13 +26,12 @@ returns-clause-turn g c =
     let q = g.Q.Port.part c.turn.new.port in
     let rows = g.Q.Port.rows c.args.port.now in
     let turn = c.in_ok-turn.turn in
-    let before = g.B.Brancher.guidance s.1 in
     let one = one-core-turn g.B.Brancher.chooses g.B.Brancher.hears g.B.Brancher.stays rows rows s t p q turn refl k.sound k.turn k.brancher in
-    let takes = core_turn_by g.B.Brancher.guidance g.B.Brancher.chooses g.B.Brancher.hears g.B.Brancher.stays g.met.B.Brancher.goes_by g.met.B.Brancher.stays_guided g.met.B.Brancher.hears_guided
+    let takes = core_turn_by g.B.Brancher.branching g.B.Brancher.chooses g.B.Brancher.hears g.B.Brancher.stays g.met.B.Brancher.chooses_as g.met.B.Brancher.hears_as g.met.B.Brancher.stays_as
     rows s t p q turn one in
-    IfOk-weaker c.note_turn.result (λ over. over ≡ is_some (end_of turn)) (TurnedByCores before rows s.0 t.0 p q) (λ over last. record {
+    IfOk-weaker c.note_turn.result (λ over. over ≡ is_some (end_of turn)) (TurnedByCores rows (s.0, g.B.Brancher.branching s.1) (t.0, g.B.Brancher.branching t.1) p q) (λ over last. record {
       turn = turn;
-      takes = subst (λ (x : Guidance). OneCoreTurn ChoosesBy (λ h clause restart after. after ≡ h) (λ h after. after ≡ h) rows (s.0, before) (t.0, x) p q turn) k.guidance takes;
+      takes = takes;
       last = last;
     }) c.note_turn.ensures.last
 

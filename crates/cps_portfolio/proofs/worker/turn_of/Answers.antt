@@ -1,11 +1,9 @@
--- The turn goes by the brancher's guidance, which it leaves; what is found is a solution of the pool's model.
+-- The turn goes by what is seen of the brancher; what is found is a solution of the pool's model.
 use Rattle.std.proofs.Common.{◌≡◌, subst}
 use Rattle.std.specs.Prelude.{is_some}
 use Rattle.std.proofs.lemmas.Result.{IfOk-weaker}
 use Rattle.cps_search.specs.declared.turn.Turn.{Turn}
-use Rattle.cps_search.specs.Ends.{OneTurn, TurnCaused, end_of}
-use Rattle.cps_branch.specs.Guidances.{ChoosesBy}
-use Rattle.cps_branch.specs.declared.guidance.Guidance.{Guidance}
+use Rattle.cps_search.specs.Ends.{TurnCaused, end_of}
 use Rattle.cps_search.proofs.GuidedRuns.{turn_by}
 use Rattle.cps_crew.specs.Workers.{TurnedBy}
 use Rattle.cps_portfolio.proofs.Found.{puts_found, stays_best}
@@ -19,14 +17,13 @@ returns-clause-turn g c =
     let p = g.Q.Port.part c.args.port.now in
     let q = g.Q.Port.part c.turn.new.port in
     let rows = g.Q.Port.rows c.args.port.now in
-    let before = g.B.Brancher.guidance s.1 in
-    let takes = turn_by g.B.Brancher.guidance g.B.Brancher.chooses g.B.Brancher.hears g.B.Brancher.stays g.met.B.Brancher.goes_by g.met.B.Brancher.stays_guided g.met.B.Brancher.hears_guided
+    let takes = turn_by g.B.Brancher.branching g.B.Brancher.chooses g.B.Brancher.hears g.B.Brancher.stays g.met.B.Brancher.chooses_as g.met.B.Brancher.hears_as g.met.B.Brancher.stays_as
     rows s t p q c.in_ok-turn.turn (record { before = k.sound.0; after = k.sound.1; search = k.turn; brancher = k.brancher }) in
-    IfOk-weaker c.note_turn.result (λ over. over ≡ is_some (end_of c.in_ok-turn.turn)) (TurnedBy before rows s.0 t.0 p q) (λ over last. record {
+    IfOk-weaker c.note_turn.result (λ over. over ≡ is_some (end_of c.in_ok-turn.turn)) (TurnedBy rows (s.0, g.B.Brancher.branching s.1) (t.0, g.B.Brancher.branching t.1) p q) (λ over last. record {
       before = k.sound.0;
       after = k.sound.1;
       turn = c.in_ok-turn.turn;
-      takes = subst (λ (x : Guidance). OneTurn ChoosesBy (λ h clause restart after. after ≡ h) (λ h after. after ≡ h) rows (s.0, before) (t.0, x) p q c.in_ok-turn.turn) k.guidance takes;
+      takes = takes;
       last = last;
     }) c.note_turn.ensures.last
 
