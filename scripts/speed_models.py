@@ -212,19 +212,19 @@ def queens(order: int) -> str:
 
 
 def tables(rows: int, seed: int) -> str:
-    """Two tables of four columns, of which two are shared, and sums that rule out most rows."""
-    draw = random.Random(seed)
-    lines = ["variables { domain: [0, 99] }"] * 6
-    for columns in ((0, 1, 2, 3), (2, 3, 4, 5)):
-        exprs = " ".join(f"exprs {{ vars: {v} coeffs: 1 }}" for v in columns)
-        values = [draw.randrange(100) for _ in range(4 * rows)]
+    """Tables of four columns in a ring, each of which shares two columns with the next, and a sum to minimise."""
+    draw, count = random.Random(seed), 12
+    lines = ["variables { domain: [0, 29] }"] * count
+    for first in range(0, count, 2):
+        exprs = " ".join(f"exprs {{ vars: {(first + place) % count} coeffs: 1 }}" for place in range(4))
+        values = [draw.randrange(30) for _ in range(4 * rows)]
         lines.append(f"constraints {{ table {{ {exprs} values: {values} }} }}")
-    lines.append("objective { vars: [0, 1, 2, 3, 4, 5] coeffs: [3, -2, 5, -7, 2, -3] }")
+    lines.append(f"objective {{ {listed([(draw.randint(-9, 9), v) for v in range(count)])} }}")
     return "\n".join(lines) + "\n"
 
 
 def products(count: int, seed: int) -> str:
-    """A chain of products of two factors, the sum of which lies in a small interval."""
+    """A chain of products of two factors, of which the sum lies in a small interval, and a sum to minimise."""
     draw = random.Random(seed)
     lines = ["variables { domain: [2, 40] }"] * (count + 1) + ["variables { domain: [0, 1600] }"] * count
     for one in range(count):
@@ -234,6 +234,7 @@ def products(count: int, seed: int) -> str:
     terms = [(draw.choice((1, -1)) * draw.randint(3, 9), count + 1 + one) for one in range(count)]
     middle = sum(weight for weight, _ in terms) * 200
     lines.append(f"constraints {{ linear {{ {listed(terms)} domain: [{middle}, {middle + 1}] }} }}")
+    lines.append(f"objective {{ {listed([(draw.randint(-9, 9), v) for v in range(count + 1)])} }}")
     return "\n".join(lines) + "\n"
 
 
