@@ -1,6 +1,6 @@
 -- What the judges of the ledger say of items.
 use Rattle.std.specs.Prelude.{◌&&◌, not, None, Some, Option, IsSomeAnd, slice_get}
-use Rattle.std.proofs.Common.{◌≡◌, ℕ, zero, suc, ◌-◌, ◌<◌, ◌≤◌, List, [], ◌∷◌, length, get_or, map, Bool, true, false, ◌⊎◌, inl, inr, refl, sym, ◌∙◌, ap, subst, arith, ℤ}
+use Rattle.std.proofs.Common.{◌≡◌, ℕ, zero, suc, ◌<◌, ◌≤◌, List, [], ◌∷◌, length, get_or, map, Bool, true, false, ◌⊎◌, inl, inr, refl, sym, ◌∙◌, ap, subst, arith, ℤ}
 use Rattle.std.proofs.Math.Path.{fun_ext}
 use Rattle.std.proofs.lemmas.List.{length-append, length-map}
 use Rattle.std.proofs.lemmas.Option.{slice_get_past, get_or_from_slice_get}
@@ -10,14 +10,16 @@ use Rattle.cps_model.specs.declared.constraint.Constraint.{Constraint}
 use Rattle.cps_model.specs.declared.model.Variable.{Variable}
 use Rattle.cps_domain.specs.Window.{Window}
 use Rattle.cps_literal.specs.declared.atom.Atom.{Atom}
-use Rattle.cps_log.specs.Boxes.{Box, is_made_true, box_of, IsEmpty}
+use Rattle.cps_unit.specs.Boxes.{Box, is_made_true, IsEmpty, denied, HasValues}
+use Rattle.cps_log.specs.Boxes.{box_of}
 use Rattle.cps_log.specs.Deriving.{Derivation}
-use Rattle.cps_log.specs.Propagation.{LeadsToConflict}
+use Rattle.cps_unit.specs.Propagation.{LeadsToConflict}
 use Rattle.cps_log.specs.declared.item.LogItem.TheVariants as items
 use Rattle.cps_log.specs.Subjects.{variable_domain, sum_domain, subject_domains, subject_count, sum_at, IsClauseOver}
-use Rattle.cps_rup.specs.Domains.{box_in, denied, HasValues}
+use Rattle.cps_rup.specs.Domains.{box_in}
 use Rattle.cps_cert.specs.declared.claim.Claim.{Claim}
-use Rattle.cps_cert.specs.Accepting.{clause_box, IsJustified, IsObjectiveRefuted, AreEndsApart, IsReasonOf, IsEndsOf, IsAccepted}
+use Rattle.cps_log.specs.Rows.{clause_box, IsJustified}
+use Rattle.cps_cert.specs.Accepting.{IsObjectiveRefuted, AreEndsApart, IsReasonOf, IsEndsOf, IsAccepted}
 use Rattle.cps_cert.specs.Refuting.{Refutes}
 use Rattle.cps_cert.specs.Domains.{AreDomains}
 

@@ -21,7 +21,8 @@ use Rattle.cps_model.proofs.Faults.{rule_kept, parts_of}
 use Rattle.cps_model.proofs.Tests.{and_true}
 use Rattle.cps_domain.specs.Window.{Window}
 use Rattle.cps_literal.specs.declared.atom.Atom.{Atom}
-use Rattle.cps_log.specs.Boxes.{Box, is_made_true, box_of}
+use Rattle.cps_unit.specs.Boxes.{Box, is_made_true}
+use Rattle.cps_log.specs.Boxes.{box_of}
 use Rattle.cps_log.specs.Deriving.{literal_clause}
 use Rattle.cps_log.specs.Subjects.{IsDefinable, IsAtomOver, IsClauseOver, variable_domain, sum_domain, subject_domains, subject_count}
 use Rattle.cps_rup.specs.Domains.{box_in}

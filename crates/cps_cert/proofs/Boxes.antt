@@ -8,7 +8,8 @@ use Rattle.cps_model.specs.Within.{is_within}
 use Rattle.cps_literal.specs.declared.atom.Atom.{Atom}
 use Rattle.cps_literal.specs.Truth.{meets, value_at, atom_holds, clause_holds}
 use Rattle.cps_log.specs.Subjects.{IsClauseOver}
-use Rattle.cps_log.specs.Boxes.{Box, is_made_true, box_of, with_atom, IsEmpty, LieIn, IsFalseIn}
+use Rattle.cps_unit.specs.Boxes.{Box, is_made_true, with_atom, IsEmpty, LieIn, IsFalseIn}
+use Rattle.cps_log.specs.Boxes.{box_of}
 
 -- one part of a disjunction that is false, or both
 pub or_false : (a b : Bool) → (a || b) ≡ false → (a ≡ false) × (b ≡ false)

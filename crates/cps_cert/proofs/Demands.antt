@@ -5,7 +5,8 @@ use Rattle.cps_model.specs.declared.model.LinearExpr.{LinearExpr}
 use Rattle.cps_model.specs.declared.constraint.Kind.{Kind}
 use Rattle.cps_model.specs.declared.constraint.Kind.TheVariants.{Linear, ExactlyOne}
 use Rattle.cps_model.specs.Rules.{sums_of}
-use Rattle.cps_log.specs.Boxes.{Box, IsFixedTrue, IsFixedFalse}
+use Rattle.cps_unit.specs.Boxes.{Box}
+use Rattle.cps_log.specs.Boxes.{IsFixedTrue, IsFixedFalse}
 use Rattle.cps_cert.specs.Domains.{IsSmallSum}
 use Rattle.cps_cert.specs.Refuting.{AtTwo, is_direct, IsDemandRefuted}
 

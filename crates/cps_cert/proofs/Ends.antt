@@ -8,7 +8,8 @@ use Rattle.cps_model.specs.Values.{variable_of, variable_value, reference_value,
 use Rattle.cps_model.specs.Rules.{names}
 use Rattle.cps_model.proofs.Tests.{and_true}
 use Rattle.cps_validate.specs.Signs.{with_sign_of}
-use Rattle.cps_log.specs.Boxes.{Box, HasEnds, IsSumOutside}
+use Rattle.cps_unit.specs.Boxes.{Box}
+use Rattle.cps_log.specs.Boxes.{HasEnds, IsSumOutside}
 use Rattle.cps_cert.proofs.Literals.{Lies, variable_left}
 
 reference_is : (a : List ℤ) (r : ℤ) → reference_value a r ≡ with_sign_of r (variable_value a (variable_of r))

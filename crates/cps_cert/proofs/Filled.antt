@@ -13,13 +13,15 @@ use Rattle.cps_model.specs.Validity.{IsValid}
 use Rattle.cps_model.proofs.Faults.{parts_of}
 use Rattle.cps_domain.specs.Window.{Window}
 use Rattle.cps_literal.specs.declared.atom.Atom.{Atom}
-use Rattle.cps_log.specs.Boxes.{Box, box_of}
+use Rattle.cps_unit.specs.Boxes.{Box, HasValues}
+use Rattle.cps_log.specs.Boxes.{box_of}
 use Rattle.cps_log.specs.Deriving.{Derivation}
 use Rattle.cps_log.specs.Subjects.{IsDefinable, IsNear, IsClauseOver, subject_domains, subject_count, sum_at}
 use Rattle.cps_log.specs.declared.item.LogItem.TheVariants as items
-use Rattle.cps_rup.specs.Domains.{box_in, HasValues}
+use Rattle.cps_rup.specs.Domains.{box_in}
 use Rattle.cps_cert.specs.declared.claim.Claim.{Claim}
-use Rattle.cps_cert.specs.Accepting.{clause_box, IsObjectiveRefuted, AreEndsApart, IsAccepted}
+use Rattle.cps_log.specs.Rows.{clause_box}
+use Rattle.cps_cert.specs.Accepting.{IsObjectiveRefuted, AreEndsApart, IsAccepted}
 use Rattle.cps_cert.specs.Domains.{AreDomains, IsSmallSum, IsSmallObjective}
 use Rattle.cps_cert.specs.Refuting.{Refutes}
 use Rattle.cps_cert.specs.Trying.{IsBoxOf}

@@ -5,8 +5,8 @@ use Rattle.std.proofs.lemmas.List.Folds.{Any-from_list_any}
 use Rattle.cps_literal.specs.declared.atom.Atom.{Atom}
 use Rattle.cps_literal.specs.Truth.{atom_holds, clause_holds}
 use Rattle.cps_log.specs.Subjects.{IsClauseOver}
-use Rattle.cps_log.specs.Boxes.{Box, with_atom, LieIn}
-use Rattle.cps_log.specs.Propagation.{IsUnit, Forces}
+use Rattle.cps_unit.specs.Boxes.{Box, with_atom, LieIn}
+use Rattle.cps_unit.specs.Propagation.{IsUnit, Forces}
 use Rattle.cps_cert.proofs.Boxes.{false_in_box, clause_false_in_box, lie_with_atom}
 
 -- a clause over the subjects so far that is true

@@ -8,7 +8,7 @@ use Rattle.std.proofs.lemmas.List.{append_cancel_left}
 use Rattle.cps_model.specs.declared.model.CpModel.{CpModel}
 use Rattle.cps_log.specs.Subjects.{IsNear}
 use Rattle.cps_cert.specs.declared.response.NextPhase.{NextPhase}
-use Rattle.cps_cert.specs.Lines.{Phase, at_status, in_solution, in_core, optimal_line, infeasible_line, value_line, assumption_line, IsBehindValues, IsAssumption, Takes}
+use Rattle.cps_cert.specs.Lines.{Phase, at_status, in_solution, in_core, optimal_line, infeasible_line, value_line, assumption_line, IsBehindValues, Takes}
 use Rattle.cps_cert.specs.ResponsePhases.{phase_of_next, IsJudged}
 use Rattle.cps_cert.proofs.Numbers.{near_mag}
 

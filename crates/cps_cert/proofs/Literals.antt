@@ -11,7 +11,8 @@ use Rattle.cps_model.specs.Rules.{names}
 use Rattle.cps_model.specs.Booleans.{true_count}
 use Rattle.cps_model.proofs.Tests.{and_true, both_true}
 use Rattle.cps_log.specs.Subjects.{extended}
-use Rattle.cps_log.specs.Boxes.{Box, LieIn, literal_at, IsFixedTrue, IsFixedFalse}
+use Rattle.cps_unit.specs.Boxes.{Box, LieIn}
+use Rattle.cps_log.specs.Boxes.{literal_at, IsFixedTrue, IsFixedFalse}
 use Rattle.cps_cert.specs.Refuting.{AtTwo, HasTrueCount}
 use Rattle.cps_cert.proofs.SubjectDomains.{variable_at}
 

@@ -6,7 +6,8 @@ use Rattle.cps_model.specs.declared.model.LinearExpr.{LinearExpr}
 use Rattle.cps_model.specs.Values.{variable_of}
 use Rattle.cps_model.specs.Within.{is_within, is_allowed}
 use Rattle.cps_validate.specs.Signs.{with_sign_of}
-use Rattle.cps_log.specs.Boxes.{Box, Spans, HasEnds, NoneBetween, IsSumOutside}
+use Rattle.cps_unit.specs.Boxes.{Box}
+use Rattle.cps_log.specs.Boxes.{Spans, HasEnds, NoneBetween, IsSumOutside}
 use Rattle.cps_cert.specs.Accepting.{AreEndsApart}
 
 -- two numbers that are the same

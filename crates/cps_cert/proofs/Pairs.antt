@@ -5,7 +5,8 @@ use Rattle.std.proofs.lemmas.List.{get_or_default}
 use Rattle.std.proofs.lemmas.Bool.{cases_eq}
 use Rattle.std.proofs.lemmas.Bool.Decides.{nat_tests}
 use Rattle.cps_model.specs.Values.{variable_of}
-use Rattle.cps_log.specs.Boxes.{Box, IsFixedTrue, IsFixedFalse}
+use Rattle.cps_unit.specs.Boxes.{Box}
+use Rattle.cps_log.specs.Boxes.{IsFixedTrue, IsFixedFalse}
 use Rattle.cps_cert.specs.Refuting.{AtTwo, HasTrueCount, HasEvenCount}
 
 -- ---- at two places

@@ -1,34 +1,26 @@
 -- The assignments that are tried stand for all that agree with them on what is read.
-use Rattle.std.specs.Prelude.{Contains, All, None, Some, Option, IfSome, ◌||◌, ◌&&◌, ◌==◌, not, nat_lt, slice_get, if◌then◌else◌}
-use Rattle.std.specs.List.{list_any}
-use Rattle.std.proofs.Common.{◌≡◌, ℕ, zero, suc, ◌+◌, ◌-◌, ◌<◌, ◌≤◌, List, [], ◌∷◌, ◌++◌, length, get_or, set, map, Bool, true, false, ◌⊎◌, inl, inr, refl, sym, ◌∙◌, ap, subst, arith, ℤ, pos}
+use Rattle.std.specs.Prelude.{Contains, ◌||◌, ◌==◌, not}
+use Rattle.std.proofs.Common.{◌≡◌, ℕ, zero, suc, ◌+◌, ◌<◌, ◌≤◌, List, [], ◌∷◌, ◌++◌, length, get_or, set, map, Bool, true, false, ◌⊎◌, inl, inr, refl, sym, ◌∙◌, ap, subst, arith, ℤ, pos}
 use Rattle.std.proofs.lemmas.Bool.{cases_lt}
-use Rattle.std.proofs.lemmas.Bool.Decides.{nat_tests}
 use Rattle.std.proofs.lemmas.List.{get_or_append_left, length-map, get_or-set_same, get_or-set_other, length-set}
-use Rattle.std.proofs.lemmas.List.Elements.{Contains-append_left, Contains-append_right}
+use Rattle.std.proofs.lemmas.List.Elements.{Contains-append_right}
 use Rattle.std.proofs.Math.ListN.{get_or-eq_default}
 use Rattle.cps_model.specs.declared.model.CpModel.{CpModel}
 use Rattle.cps_model.specs.declared.model.LinearExpr.{LinearExpr}
 use Rattle.cps_model.specs.declared.model.Variable.{Variable}
 use Rattle.cps_model.specs.declared.constraint.Constraint.{Constraint}
-use Rattle.cps_model.specs.Values.{variable_value, expression_value}
+use Rattle.cps_model.specs.Values.{variable_value}
 use Rattle.cps_model.specs.Within.{is_within}
 use Rattle.cps_model.specs.Solutions.{are_within}
-use Rattle.cps_model.specs.Meaning.{IsSatisfied}
-use Rattle.cps_model.specs.Validity.{variable_fault}
 use Rattle.cps_model.proofs.Tests.{and_true}
-use Rattle.cps_model.proofs.Inside.{length-are_within}
 use Rattle.cps_domain.specs.Window.{Window}
 use Rattle.cps_literal.specs.declared.atom.Atom.{Atom}
-use Rattle.cps_literal.specs.Truth.{value_at, meets}
-use Rattle.cps_log.specs.Subjects.{extended, subject_domains, subject_count, sum_at, variable_domain, sum_domain, IsClauseOver}
-use Rattle.cps_log.specs.Boxes.{Box, box_of, is_made_true, LieIn}
+use Rattle.cps_log.specs.Subjects.{subject_domains, variable_domain, sum_domain}
+use Rattle.cps_unit.specs.Boxes.{Box, is_made_true}
+use Rattle.cps_log.specs.Boxes.{box_of}
 use Rattle.cps_cert.specs.Counting.{is_listed, most_assignments, HasAssignments, HaveSame, read_variables, sum_variables}
-use Rattle.cps_rup.specs.Domains.{box_in, HasValues}
-use Rattle.cps_cert.specs.Refuting.{LiesInBox, IsRefutedByAll}
-use Rattle.cps_cert.specs.Trying.{IsBoxOf, IsInDomains, IsOnly, IsRead, IsTooMuch, LiesIn, IsGood, IsReached, CanReach}
-use Rattle.cps_cert.proofs.SubjectDomains.{extended_within, variable_at}
-use Rattle.cps_cert.proofs.Depending.{same_satisfied, clause_sum_same}
+use Rattle.cps_cert.specs.Refuting.{IsRefutedByAll}
+use Rattle.cps_cert.specs.Trying.{IsBoxOf, IsInDomains, IsOnly, IsRead, IsReached}
 use Rattle.cps_cert.proofs.Counted.{same_number, differs, listed_of, contains_of}
 
 -- ---- too many

@@ -16,7 +16,8 @@ use Rattle.cps_model.specs.Ready.{is_ready, is_ready_constraint}
 use Rattle.cps_model.proofs.Tests.{and_true}
 use Rattle.cps_literal.specs.declared.atom.Atom.{Atom}
 use Rattle.cps_log.specs.Subjects.{subject_count}
-use Rattle.cps_log.specs.Boxes.{Box, IsFixedTrue, IsFixedFalse}
+use Rattle.cps_unit.specs.Boxes.{Box}
+use Rattle.cps_log.specs.Boxes.{IsFixedTrue, IsFixedFalse}
 use Rattle.cps_cert.specs.Refuting.{AtTwo, IsRefutedInForce, LiesInBox, IsRefutedAs}
 use Rattle.cps_cert.proofs.Literals.{Lies, all_true, none_true, not_all_true, none_counted, two_true, true_count_is}
 use Rattle.cps_cert.proofs.Ends.{sum_outside}

@@ -17,7 +17,8 @@ use Rattle.cps_model.proofs.Tests.{and_true}
 use Rattle.cps_model.proofs.Inside.{between_of, shape_of}
 use Rattle.cps_model.proofs.Divisors.{times_neg}
 use Rattle.cps_validate.specs.Signs.{with_sign_of}
-use Rattle.cps_log.specs.Boxes.{Box, Spans, HasEnds}
+use Rattle.cps_unit.specs.Boxes.{Box}
+use Rattle.cps_log.specs.Boxes.{Spans, HasEnds}
 use Rattle.cps_cert.proofs.Bounds.{shaped_of}
 use Rattle.cps_cert.proofs.Products.{HasRange, product_spans, opposite_spans}
 use Rattle.cps_cert.proofs.Outside.{AreSame, spans_unique}

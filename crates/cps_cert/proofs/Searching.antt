@@ -1,11 +1,11 @@
 -- One variable more that is given its values, one after another.
 use Rattle.std.specs.Prelude.{Contains}
-use Rattle.std.proofs.Common.{◌≡◌, ℕ, zero, suc, ◌+◌, ◌<◌, List, [], ◌∷◌, ◌++◌, length, get_or, set, Bool, true, false, refl, sym, ◌∙◌, ap, subst, arith, ℤ, pos}
+use Rattle.std.proofs.Common.{◌≡◌, ℕ, zero, suc, ◌<◌, List, [], ◌∷◌, length, get_or, set, Bool, true, false, refl, sym, ◌∙◌, ap, subst, arith, ℤ, pos}
 use Rattle.std.proofs.lemmas.List.{get_or-set_same, get_or-set_other, length-set}
 use Rattle.std.proofs.lemmas.List.Elements.{Contains-append_right}
 use Rattle.std.specs.Prelude.{◌==◌}
 use Rattle.cps_model.specs.Values.{variable_value}
-use Rattle.cps_log.specs.Boxes.{Box}
+use Rattle.cps_unit.specs.Boxes.{Box}
 use Rattle.cps_cert.specs.Counting.{is_listed}
 use Rattle.cps_cert.specs.Trying.{IsReached, CanReach}
 use Rattle.cps_cert.proofs.Counted.{same_number, differs, listed_of, contains_of}

@@ -27,13 +27,14 @@ use Rattle.cps_literal.specs.Truth.{value_at, clause_holds}
 use Rattle.cps_log.specs.declared.item.LogItem.{LogItem}
 use Rattle.cps_log.specs.declared.item.LogItem.TheVariants as items
 use Rattle.cps_log.specs.Subjects.{extended, subject_domains, subject_count, sum_at, IsDefinable, IsAtomOver, IsClauseOver}
-use Rattle.cps_log.specs.Boxes.{Box, LieIn}
-use Rattle.cps_log.specs.Propagation.{LeadsToConflict}
+use Rattle.cps_unit.specs.Boxes.{Box, LieIn}
+use Rattle.cps_unit.specs.Propagation.{LeadsToConflict}
 use Rattle.cps_cert.specs.declared.claim.Claim.{Claim}
 use Rattle.cps_cert.specs.declared.claim.Claim.TheVariants as claims
 use Rattle.cps_cert.specs.Claims.{Contradicts}
 use Rattle.cps_log.specs.Deriving.{Derivation, literal_clause, with_sum, with_clause, after_item}
-use Rattle.cps_cert.specs.Accepting.{clause_box, IsJustified, is_at_issue, IsObjectiveRefuted, AreEndsApart, MayAssume, IsReasonOf, IsEndsOf, IsAccepted}
+use Rattle.cps_log.specs.Rows.{clause_box, IsJustified}
+use Rattle.cps_cert.specs.Accepting.{is_at_issue, IsObjectiveRefuted, AreEndsApart, MayAssume, IsReasonOf, IsEndsOf, IsAccepted}
 use Rattle.cps_cert.proofs.Boxes.{lie_in_box, none_in_empty}
 use Rattle.cps_cert.proofs.SubjectDomains.{extended_within, variable_at, value_kept, sum_value_at}
 use Rattle.cps_cert.proofs.Literals.{Lies}

@@ -13,7 +13,8 @@ use Rattle.cps_model.specs.Rules.{names}
 use Rattle.cps_model.specs.Validity.{variable_fault}
 use Rattle.cps_model.proofs.Tests.{and_true, both_true}
 use Rattle.cps_domain.specs.Window.{Window}
-use Rattle.cps_log.specs.Boxes.{Box, Spans, HasEnds}
+use Rattle.cps_unit.specs.Boxes.{Box}
+use Rattle.cps_log.specs.Boxes.{Spans, HasEnds}
 use Rattle.cps_log.specs.Subjects.{IsDefinable, sum_domain}
 use Rattle.cps_rup.specs.Domains.{box_in}
 use Rattle.cps_cert.specs.Domains.{HasReach, IsSmallSum, HasDomainsOf}

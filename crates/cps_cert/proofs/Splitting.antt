@@ -2,7 +2,7 @@
 use Rattle.std.specs.Prelude.{codes}
 use Rattle.std.proofs.Common.{◌≡◌, ℕ, ◌+◌, ◌-◌, ◌<◌, ◌≤◌, ◌^◌, List, [], ◌∷◌, ◌++◌, length, take, drop, ◌⊎◌, inl, inr, refl, sym, ◌∙◌, ap, subst, arith}
 use Rattle.std.proofs.lemmas.List.{append_assoc, take-append-drop, take_at, drop_all, length-append, length-take-le, length-take}
-use Rattle.cps_cert.specs.Parts.{BeginsLine, HasMark, IsModelPart, IsMark, IsMarked, IsSplit, feed_count}
+use Rattle.cps_cert.specs.Parts.{HasMark, IsModelPart, IsMarked, IsSplit, feed_count}
 use Rattle.cps_cert.proofs.Feeds.{feed_count-length}
 
 pub with_feed : (bytes response : List ℕ) → bytes ≡ (codes "%response" ++ 10 ∷ []) ++ response → IsMarked bytes response

@@ -1,8 +1,7 @@
 -- What one variable more that is read does to what was read.
-use Rattle.std.specs.Prelude.{Contains, Result, Ok, Err, OnOk, min, ◌||◌, ◌==◌, ◌^◌, ◌-◌}
+use Rattle.std.specs.Prelude.{Contains, Result, Ok, Err, OnOk, min, ◌==◌, ◌^◌, ◌-◌}
 use Rattle.std.specs.List.{flat_map}
-use Rattle.std.proofs.Common.{drop, ◌≡◌, ℕ, zero, suc, ◌+◌, ◌*◌, ◌<◌, ◌≤◌, List, [], ◌∷◌, ◌++◌, length, get_or, set, map, Bool, true, false, ◌&&◌, ◌⊎◌, inl, inr, refl, sym, ◌∙◌, ap, subst, arith, ℤ, pos}
-use Rattle.std.proofs.Math.Nat.{mul-le-mul_left, mul-le-mul_right}
+use Rattle.std.proofs.Common.{drop, ◌≡◌, ℕ, zero, suc, ◌+◌, ◌*◌, ◌<◌, ◌≤◌, List, [], ◌∷◌, ◌++◌, length, get_or, set, map, Bool, true, false, ◌⊎◌, inl, inr, refl, sym, ◌∙◌, ap, subst, arith, ℤ, pos}
 use Rattle.std.proofs.lemmas.Bool.{cases_lt}
 use Rattle.std.proofs.lemmas.List.{drop_more, drop_all, append_assoc, append-nil, get_or-set_same, get_or-set_other}
 use Rattle.std.proofs.lemmas.List.Elements.{Contains-append_left, Contains-append_right, Contains-append_cases}
@@ -15,13 +14,12 @@ use Rattle.cps_model.specs.Within.{is_within}
 use Rattle.cps_model.specs.Solutions.{are_within}
 use Rattle.cps_model.proofs.Tests.{and_true}
 use Rattle.cps_log.specs.Subjects.{variable_domain}
-use Rattle.cps_log.specs.Boxes.{Box}
+use Rattle.cps_unit.specs.Boxes.{Box}
 use Rattle.cps_cert.specs.Counting.{variables_of, variables_of_sum, most_assignments, is_listed, HasCount, HasAssignments}
 use Rattle.cps_domain.specs.Window.{Window}
 use Rattle.cps_cert.specs.declared.assignments.Assignments.{Assignments}
 use Rattle.cps_rup.specs.Domains.{box_in}
 use Rattle.cps_cert.specs.Trying.{IsOnly, IsRead, IsTooMuch, HasRead, ReadsOn}
-use Rattle.cps_cert.proofs.Rises.{count_some}
 use Rattle.cps_cert.proofs.Counted.{same_number, differs, listed_of, contains_of, listed_append, added, again, beyond, no_fewer}
 
 -- a value that lies in its variable's domain may be written

@@ -18,7 +18,8 @@ use Rattle.cps_model.proofs.Sums.{unsigned_abs-add}
 use Rattle.cps_model.proofs.Inside.{between_of, shape_of, unsigned_abs-between}
 use Rattle.cps_model.proofs.Divisors.{times_neg}
 use Rattle.cps_validate.specs.Signs.{with_sign_of}
-use Rattle.cps_log.specs.Boxes.{Box, Spans, HasEnds}
+use Rattle.cps_unit.specs.Boxes.{Box}
+use Rattle.cps_log.specs.Boxes.{Spans, HasEnds}
 use Rattle.cps_rup.specs.Domains.{no_values, box_in}
 use Rattle.cps_cert.specs.Domains.{HasReach}
 

@@ -1,6 +1,5 @@
 -- What becomes of a line of the log.
-use Rattle.std.specs.Prelude.{if◌then◌else◌}
-use Rattle.std.proofs.Common.{◌≡◌, ℕ, List, Bool, true, false, refl, sym, ◌∙◌, ap, subst}
+use Rattle.std.proofs.Common.{◌≡◌, ℕ, List, true, false, refl, sym, ◌∙◌, subst}
 use Rattle.cps_model.specs.declared.model.CpModel.{CpModel}
 use Rattle.cps_log.specs.declared.item.LogItem.{LogItem}
 use Rattle.cps_log.specs.Deriving.{Derivation, after_item, is_closing}
@@ -10,7 +9,7 @@ use Rattle.cps_cert.specs.declared.claim.Claim.{Claim}
 use Rattle.cps_cert.specs.declared.response.ResponsePhase.{ResponsePhase}
 use Rattle.cps_cert.specs.declared.response.ResponsePhase.TheVariants as phases
 use Rattle.cps_cert.specs.Accepting.{IsAccepted}
-use Rattle.cps_cert.specs.Lines.{Phase, in_log, at_end, finished, IsItem, phase_after}
+use Rattle.cps_cert.specs.Lines.{Phase, in_log, at_end, finished, IsItem}
 use Rattle.cps_cert.specs.ResponsePhases.{phase_of}
 use Rattle.cps_cert.proofs.OneItem.{one_item}
 

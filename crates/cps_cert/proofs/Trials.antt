@@ -1,5 +1,5 @@
 -- The steps of trying a constraint: what is read of it, and the values that a variable is given.
-use Rattle.std.specs.Prelude.{Contains, All, None, Some, Option, if◌then◌else◌, nat_lt, slice_get, ◌||◌}
+use Rattle.std.specs.Prelude.{Contains, All, None, Some, Option, if◌then◌else◌, nat_lt, slice_get}
 use Rattle.std.proofs.Common.{◌≡◌, ℕ, zero, suc, ◌+◌, ◌-◌, ◌<◌, ◌≤◌, ◌<ℤ◌, ◌≤ℤ◌, ◌+ℤ◌, List, [], ◌∷◌, ◌++◌, length, drop, get_or, set, Bool, true, false, ◌⊎◌, inl, inr, refl, sym, ◌∙◌, ap, subst, arith, ℤ, pos, negsuc, ◌^◌, w64, FitsSigned, to_z, of_z}
 use Rattle.std.proofs.lemmas.List.{drop_more, drop_all}
 use Rattle.std.proofs.lemmas.List.Folds.{list_any_at}
@@ -22,7 +22,7 @@ use Rattle.cps_domain.specs.Window.{Window, contains, intervals, within, is_amon
 use Rattle.cps_domain.proofs.Rising.{rising_at}
 use Rattle.cps_domain.proofs.Tests.{within_low, within_high, is_within, or_cases}
 use Rattle.cps_literal.specs.declared.atom.Atom.{Atom}
-use Rattle.cps_log.specs.Boxes.{Box}
+use Rattle.cps_unit.specs.Boxes.{Box}
 use Rattle.cps_log.specs.Subjects.{IsDefinable, sum_at}
 use Rattle.cps_cert.specs.declared.assignments.Assignments.{Assignments}
 use Rattle.cps_cert.specs.Counting.{HasAssignments, read_variables, sum_variables, variables_of_some_sum}
@@ -33,10 +33,9 @@ use Rattle.cps_cert.specs.Counting.{most_assignments}
 use Rattle.cps_cert.specs.Refuting.{IsRefutedByAll}
 use Rattle.cps_cert.specs.Trying.{IsBoxOf, IsTooMuch, IsGood}
 use Rattle.cps_log.specs.Subjects.{IsClauseOver, subject_count}
-use Rattle.cps_model.specs.Validity.{variable_fault}
 use Rattle.std.specs.Prelude.{int_lt}
 use Rattle.cps_cert.proofs.SumEnds.{box_is}
-use Rattle.cps_cert.proofs.Reached.{too_much_to_try, in_domains_of}
+use Rattle.cps_cert.proofs.Reached.{too_much_to_try}
 use Rattle.cps_cert.proofs.AllTried.{counted_same, reached_not_refuted, not_reached_refuted}
 use Rattle.cps_cert.proofs.Searching.{reach_at, reach_more, reach_here, here_reached}
 

@@ -8,22 +8,14 @@ use Rattle.cps_model.specs.Within.{is_allowed}
 use Rattle.cps_literal.specs.declared.atom.Atom.{Atom}
 use Rattle.cps_log.specs.declared.item.LogItem.{LogItem}
 use Rattle.cps_log.specs.declared.item.LogItem.TheVariants as items
-use Rattle.cps_log.specs.Subjects.{subject_domains, subject_count, sum_at, IsDefinable, IsClauseOver}
-use Rattle.cps_log.specs.Boxes.{Box, box_of, IsEmpty, Spans, HasEnds, IsSumOutside}
-use Rattle.cps_log.specs.Propagation.{LeadsToConflict}
+use Rattle.cps_log.specs.Subjects.{sum_at, IsDefinable}
+use Rattle.cps_unit.specs.Boxes.{Box}
+use Rattle.cps_log.specs.Boxes.{Spans, HasEnds, IsSumOutside}
 use Rattle.cps_log.specs.Deriving.{Derivation}
+use Rattle.cps_log.specs.Rows.{clause_box, IsJustified, IsLearntRow}
 use Rattle.cps_cert.specs.Refuting.{Refutes}
 use Rattle.cps_cert.specs.declared.claim.Claim.{Claim}
 use Rattle.cps_cert.specs.declared.claim.Claim.TheVariants as claims
-
-abbrev pub clause_box : CpModel → Derivation → List Atom → Box
-clause_box m g clause = box_of (subject_domains m.variables g.sums) clause
-
--- A clause over the subjects so far whose box is empty, or is refuted. Whatever a line names must exist where the box
--- is empty too: a constraint, and a sum, which no variable is.
-pub record IsJustified (m : CpModel) (g : Derivation) (clause : List Atom) (Refuted : Type 0) : Type 0 where
-  pub over : IsClauseOver (subject_count m.variables g.sums) clause
-  pub shown : IsEmpty (subject_count m.variables g.sums) (clause_box m g clause) ⊎ Refuted
 
 -- ---- by the objective
 
@@ -75,5 +67,4 @@ IsAccepted m claim g (items.Objective clause) =
 IsAccepted m claim g (items.Ends subject clause) =
     IsSomeAnd (sum_at m.variables g.sums subject) (IsEndsOf m g subject clause)
 IsAccepted m claim g (items.Assumed number) = IsSomeAnd (slice_get m.assumptions number) (MayAssume claim)
-IsAccepted m claim g (items.Learnt clause) =
-    IsJustified m g clause (LeadsToConflict g.clauses (clause_box m g clause))
+IsAccepted m claim g (items.Learnt clause) = IsLearntRow m g clause

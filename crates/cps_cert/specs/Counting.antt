@@ -12,7 +12,7 @@ use Rattle.cps_model.specs.Rules.{literals_of, sums_of, references_of, intervals
 use Rattle.cps_model.specs.Scheduling.{constraint_at}
 use Rattle.cps_literal.specs.declared.atom.Atom.{Atom}
 use Rattle.cps_log.specs.Subjects.{sum_at}
-use Rattle.cps_log.specs.Boxes.{Box}
+use Rattle.cps_unit.specs.Boxes.{Box}
 
 -- the most assignments that are tried
 abbrev pub most_assignments : ℕ

@@ -7,7 +7,7 @@ use Rattle.cps_model.specs.Rules.{names}
 use Rattle.cps_model.specs.Values.{variable_of}
 use Rattle.cps_model.specs.Within.{is_within}
 use Rattle.cps_domain.specs.Window.{Window}
-use Rattle.cps_log.specs.Boxes.{Box}
+use Rattle.cps_unit.specs.Boxes.{Box}
 use Rattle.cps_log.specs.Subjects.{IsNear, variable_domain}
 use Rattle.cps_rup.specs.Domains.{box_in}
 use Rattle.cps_cert.specs.declared.claim.Claim.{Claim}

@@ -3,7 +3,7 @@ use Rattle.std.specs.Prelude.{◌≡◌, ℕ, List, length, All}
 use Rattle.cps_model.specs.declared.model.CpModel.{CpModel}
 use Rattle.cps_model.specs.Solutions.{IsWithinDomains}
 use Rattle.cps_log.specs.Deriving.{Derivation}
-use Rattle.cps_log.specs.Subjects.{subject_domains, subject_count, IsDefinable}
+use Rattle.cps_log.specs.Subjects.{subject_domains, IsDefinable}
 use Rattle.cps_cert.specs.declared.claim.Claim.{Claim}
 use Rattle.cps_cert.specs.declared.ledger.Ledger.{Ledger}
 use Rattle.cps_cert.specs.declared.ledger.Taken.{Taken}

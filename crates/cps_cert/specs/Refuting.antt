@@ -11,7 +11,8 @@ use Rattle.cps_model.specs.Within.{is_within}
 use Rattle.cps_model.specs.Meaning.{IsSatisfied}
 use Rattle.cps_literal.specs.declared.atom.Atom.{Atom}
 use Rattle.cps_log.specs.Subjects.{extended, subject_domains, subject_count}
-use Rattle.cps_log.specs.Boxes.{Box, box_of, LieIn, IsFixedTrue, IsFixedFalse, IsSumOutside}
+use Rattle.cps_unit.specs.Boxes.{Box, LieIn}
+use Rattle.cps_log.specs.Boxes.{box_of, IsFixedTrue, IsFixedFalse, IsSumOutside}
 use Rattle.cps_cert.specs.Counting.{most_assignments, read_variables, sum_variables, HasAssignments}
 
 -- at two positions

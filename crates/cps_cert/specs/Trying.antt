@@ -15,10 +15,11 @@ use Rattle.cps_model.specs.Solutions.{are_within}
 use Rattle.cps_domain.specs.Window.{Window}
 use Rattle.cps_literal.specs.declared.atom.Atom.{Atom}
 use Rattle.cps_log.specs.Subjects.{subject_domains, subject_count, sum_at, variable_domain}
-use Rattle.cps_log.specs.Boxes.{Box, box_of}
+use Rattle.cps_unit.specs.Boxes.{Box, HasValues}
+use Rattle.cps_log.specs.Boxes.{box_of}
 use Rattle.cps_cert.specs.declared.assignments.Assignments.{Assignments}
 use Rattle.cps_cert.specs.Counting.{most_assignments, HasAssignments, variables_of, variables_of_sum, variables_of_named}
-use Rattle.cps_rup.specs.Domains.{box_in, HasValues}
+use Rattle.cps_rup.specs.Domains.{box_in}
 
 -- domains are the box of a clause, and leave each subject a value
 pub record IsBoxOf (m : CpModel) (sums : List LinearExpr) (clause : List Atom) (domains : List Window) : Type 0 where

@@ -1,8 +1,7 @@
 //! Which sums a log may define, and the domain of each.
-ghost use Rattle.std.specs.Prelude.{◌≡◌, ◌↔◌, ◌+◌, ◌<◌, ◌^◌, ◌+ℤ◌, ◌≤ℤ◌, [], ◌∷◌, ℤ, pos, None, IsTrue, All, IfOk, length, unsigned_abs};
+ghost use Rattle.std.specs.Prelude.{◌≡◌, ◌↔◌, ◌+◌, ◌<◌, ◌^◌, ◌+ℤ◌, ◌≤ℤ◌, [], ◌∷◌, ℤ, pos, None, IsTrue, All, IfOk, unsigned_abs};
 ghost use Rattle.std.specs.List.{list_all};
-ghost use Rattle.cps_model.specs.Reach.{magnitude_of, reach_of};
-ghost use Rattle.cps_model.specs.Rules.{is_small, names};
+ghost use Rattle.cps_model.specs.Rules.{names};
 ghost use Rattle.cps_domain.specs.Window.{contains};
 ghost use Rattle.cps_model.specs.Validity.{variable_fault};
 ghost use Rattle.cps_model.specs.Within.{is_within};
@@ -13,38 +12,8 @@ use crate::number::FARTHEST;
 use crate::sums::sum_ends;
 use cps_domain::Domain;
 use cps_model::{LinearExpr, Variable, variable_of};
+use cps_validate::has_small_reach;
 use std::alloc::{AllocError, Global};
-
-/// The magnitude that no sum reaches.
-const LIMIT: u128 = 1 << 62;
-
-/// The greatest magnitude of a variable's bounds.
-fn magnitude_of(variable: &Variable) -> u64
-    ensures { result ≡ magnitude_of variable.now }
-{
-    let domain = variable.domain.as_slice();
-    match (domain.first(), domain.last()) {
-        (Some(low), Some(high)) => low.unsigned_abs().max(high.unsigned_abs()),
-        _ => 0,
-    }
-}
-
-/// Whether a sum stays below 2^62 in magnitude. It stops where the limit is met, so the count cannot overflow.
-fn has_small_reach(variables: &[Variable], vars: &[i32], coeffs: &[i64], offset: i64) -> bool
-    requires named { IsTrue (list_all (names (length variables.now)) vars.now) }
-    requires paired { length vars.now ≡ length coeffs.now }
-    ensures { result ≡ is_small (reach_of variables.now vars.now coeffs.now + unsigned_abs offset) }
-{
-    let mut reach = u128::from(offset.unsigned_abs());
-    for (k, variable) in vars.iter().enumerate() {
-        if reach >= LIMIT {
-            return false;
-        }
-        let magnitude = magnitude_of(&variables[variable_of(*variable)]);
-        reach += u128::from(coeffs[k].unsigned_abs()) * u128::from(magnitude);
-    }
-    reach < LIMIT
-}
 
 /// Whether each reference is that of a variable itself.
 fn are_variables(vars: &[i32]) -> bool

@@ -5,7 +5,8 @@ ghost use Rattle.cps_domain.specs.Window.{contains};
 ghost use Rattle.cps_model.specs.Rules.{names};
 ghost use Rattle.cps_model.specs.Values.{variable_of};
 ghost use Rattle.cps_log.specs.Boxes.{literal_at, IsFixedTrue, IsFixedFalse};
-ghost use Rattle.cps_rup.specs.Domains.{box_in, HasValues};
+ghost use Rattle.cps_unit.specs.Boxes.{HasValues};
+ghost use Rattle.cps_rup.specs.Domains.{box_in};
 ghost use Rattle.cps_cert.specs.Refuting.{AtTwo, HasEvenCount};
 
 use cps_domain::Domain;

@@ -7,7 +7,8 @@ ghost use Rattle.std.specs.Prelude.{◌≡◌, ◌↔◌, ◌⊎◌, ◌+◌, �
 ghost use Rattle.cps_model.specs.declared.constraint.Constraint.{Constraint as ConstraintOf};
 ghost use Rattle.cps_model.specs.declared.model.Variable.{Variable as VariableOf};
 ghost use Rattle.cps_model.specs.Solutions.{IsWithinDomains};
-ghost use Rattle.cps_log.specs.Boxes.{box_of, IsEmpty};
+ghost use Rattle.cps_unit.specs.Boxes.{IsEmpty};
+ghost use Rattle.cps_log.specs.Boxes.{box_of};
 ghost use Rattle.cps_log.specs.Deriving.{empty_derivation, with_sum, with_clause, after_item, is_closing};
 ghost use Rattle.cps_log.specs.Subjects.{IsDefinable, IsClauseOver, subject_count, sum_at};
 ghost use Rattle.cps_log.specs.declared.item.LogItem.TheVariants as items;

@@ -9,7 +9,8 @@ ghost use Rattle.cps_literal.specs.declared.atom.Atom.{Atom};
 ghost use Rattle.cps_log.specs.Boxes.{IsFixedFalse, IsFixedTrue, IsSumOutside};
 ghost use Rattle.cps_log.specs.Subjects.{IsNear};
 ghost use Rattle.cps_cert.specs.Accepting.{AreEndsApart};
-ghost use Rattle.cps_rup.specs.Domains.{box_in, HasValues};
+ghost use Rattle.cps_unit.specs.Boxes.{HasValues};
+ghost use Rattle.cps_rup.specs.Domains.{box_in};
 ghost use Rattle.cps_cert.specs.Domains.{IsSmallSum};
 ghost use Rattle.cps_cert.specs.Refuting.{AtTwo, is_direct, IsDemandRefuted, IsRefutedAs};
 

@@ -27,7 +27,7 @@ use cps_trail::{EntryView, Explain, ReasonView, Store};
 use std::alloc::{AllocError, Global};
 
 /// Whether two atoms are about one subject, and no value meets both.
-fn rules_out(one: Atom, other: Atom) -> bool
+pub(crate) fn rules_out(one: Atom, other: Atom) -> bool
     requires { IsInside one.value }
     ensures { IsTrue result ↔ RulesOut one other }
 {
@@ -35,7 +35,7 @@ fn rules_out(one: Atom, other: Atom) -> bool
 }
 
 /// Whether the last of the first `count` entries rules an atom out by itself.
-fn is_ruled_out(store: &Store, count: usize, atom: Atom) -> bool
+pub(crate) fn is_ruled_out(store: &Store, count: usize, atom: Atom) -> bool
     requires { count ≤ length store.now.entries }
     ensures { IsTrue result ↔ IsRuledOutAt store.now count atom }
 {

@@ -1,7 +1,7 @@
 //! Which atoms learnt clauses keep when they are minimised.
 //!
 //! The clauses that are wanted were found by hand, by following reasons. Contracts say only that a minimised clause
-//! follows; that these atoms go, and those stay, is seen here.
+//! follows; that these atoms go, and those stay, is seen here. So is that antecedents of each clause are found.
 
 use crate::conflicts::{Nobody, Step, all_false, lead};
 use crate::small::zero_or_one;
@@ -55,7 +55,7 @@ fn is_of(learnt: &Learnt, row: &Row) -> bool {
         && learnt.assert == row.assert
 }
 
-/// Whether the conflict of a row, at the present level, teaches the row's clause.
+/// Whether the conflict of a row, at the present level, teaches the row's clause, and its antecedents are found.
 fn teaches(alloc: Global, store: &Store, row: &Row) -> Result<bool, AllocError> {
     if !all_false(store, row.conflict) {
         return Ok(false);
@@ -66,7 +66,11 @@ fn teaches(alloc: Global, store: &Store, row: &Row) -> Result<bool, AllocError> 
     }
     let mut analyser = Analyser::new(alloc);
     let learnt = analyser.analyse(store, row.conflict, &Nobody)?;
-    Ok(is_of(&learnt, row))
+    if !is_of(&learnt, row) {
+        return Ok(false);
+    }
+    let found = analyser.antecedents(store, row.conflict, row.clause, &Nobody)?;
+    Ok(found.is_some())
 }
 
 fn check(alloc: Global, row: &Row) -> Result<bool, AllocError> {
@@ -83,7 +87,7 @@ fn assert_taught(rt: &impl Abort, alloc: Global, rows: &[Row]) -> Result<(), Fai
     Ok(())
 }
 
-static IMPLIED: [Row; 2] = [
+static IMPLIED: [Row; 3] = [
     Row {
         name: "through two reasons",
         steps: &[
@@ -109,6 +113,19 @@ static IMPLIED: [Row; 2] = [
         conflict: &[zero!(0), zero!(2), zero!(4), zero!(3)],
         clause: &[zero!(0), zero!(3)],
         back_level: 1,
+        assert: zero!(3),
+    },
+    Row {
+        name: "with one that implies it and fell earlier",
+        steps: &[
+            Step::Decide(atom!(WIDE, Le, 6)),
+            Step::Decide(one!(0)),
+            Step::Imply(zero!(0), atom!(WIDE, Le, 4)),
+            Step::Decide(one!(3)),
+        ],
+        conflict: &[atom!(WIDE, Ge, 5), atom!(WIDE, Ge, 7), zero!(0), zero!(3)],
+        clause: &[zero!(0), zero!(3)],
+        back_level: 2,
         assert: zero!(3),
     },
 ];

@@ -2,5 +2,6 @@ pub mod Writing
 pub mod Fitting
 pub mod Subjects
 pub mod Boxes
-pub mod Propagation
 pub mod Deriving
+pub mod Rows
+pub mod Runs

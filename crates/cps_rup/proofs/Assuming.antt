@@ -4,12 +4,11 @@ use Rattle.std.proofs.Common.{◌≡◌, ℕ, List, [], ◌∷◌, get_or, Bool,
 use Rattle.std.proofs.lemmas.Bool.Decides.{nat_tests}
 use Rattle.cps_literal.specs.declared.atom.Atom.{Atom}
 use Rattle.cps_literal.specs.Truth.{meets}
-use Rattle.cps_log.specs.Boxes.{Box, with_atom, is_made_true, IsEmpty, IsFalseIn}
-use Rattle.cps_log.specs.Propagation.{IsUnit, LeadsToConflict}
-use Rattle.cps_rup.specs.Domains.{IsBelow, denied}
-use Rattle.cps_rup.specs.Chains.{with_atoms, AreForced, Propagates}
-use Rattle.cps_rup.proofs.Propagating.{and_true}
-use Rattle.cps_rup.proofs.Chains.{forced_below, same_with_atoms, leads_after, leads_below, propagates_below, leads_at_once}
+use Rattle.cps_unit.specs.Boxes.{Box, with_atom, is_made_true, IsEmpty, IsFalseIn, IsBelow, denied}
+use Rattle.cps_unit.specs.Propagation.{IsUnit, LeadsToConflict}
+use Rattle.cps_unit.specs.Chains.{with_atoms, AreForced, Propagates}
+use Rattle.cps_unit.proofs.Below.{and_true}
+use Rattle.cps_unit.proofs.Chains.{forced_below, same_with_atoms, leads_after, leads_below, propagates_below, leads_at_once}
 
 -- ---- the box of a clause after atoms, and atoms after the box of a clause
 

@@ -11,9 +11,9 @@ use Rattle.cps_domain.specs.Cuts.{CutsTo}
 use Rattle.cps_literal.specs.declared.atom.Atom.{Atom}
 use Rattle.cps_literal.specs.declared.atom.Op.{Op}
 use Rattle.cps_literal.specs.Truth.{meets, IsTrueOn, IsFalseOn}
-use Rattle.cps_log.specs.Boxes.{Box, with_atom, IsFalseIn}
-use Rattle.cps_log.specs.Propagation.{IsFalseClause}
-use Rattle.cps_rup.specs.Domains.{box_in, no_values, IsOpenIn, IsTrueIn, ForcesOpen, IsIdle}
+use Rattle.cps_unit.specs.Boxes.{Box, with_atom, IsFalseIn, IsTrueIn}
+use Rattle.cps_unit.specs.Propagation.{IsFalseClause}
+use Rattle.cps_rup.specs.Domains.{box_in, no_values, IsOpenIn, ForcesOpen, IsIdle}
 
 abbrev pub IsThisOrFalse : Box → Atom → Atom → Type 0
 IsThisOrFalse box t u = (u ≡ t) ⊎ IsFalseIn box u

@@ -8,8 +8,7 @@ use Rattle.std.proofs.lemmas.List.Folds.{list_any-append, list_any_at}
 use Rattle.cps_literal.specs.declared.atom.Atom.{Atom}
 use Rattle.cps_literal.specs.Truth.{meets}
 use Rattle.cps_log.specs.Subjects.{IsClauseOver}
-use Rattle.cps_log.specs.Boxes.{Box, is_made_true, IsEmpty}
-use Rattle.cps_rup.specs.Domains.{IsTrueIn}
+use Rattle.cps_unit.specs.Boxes.{Box, is_made_true, IsEmpty, IsTrueIn}
 
 bool_cases : (b : Bool) → (b ≡ true) ⊎ (b ≡ false)
 bool_cases true = inl refl

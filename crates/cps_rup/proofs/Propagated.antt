@@ -3,12 +3,12 @@ use Rattle.std.specs.Prelude.{Any}
 use Rattle.std.proofs.Common.{◌≡◌, ℕ, ◌<◌, List, [], length, get_or, refl, ◌∙◌, ℤ}
 use Rattle.std.proofs.lemmas.List.{get_or_default}
 use Rattle.cps_literal.specs.declared.atom.Atom.{Atom}
-use Rattle.cps_log.specs.Boxes.{Box, with_atom}
-use Rattle.cps_log.specs.Propagation.{IsUnit, IsFalseClause}
+use Rattle.cps_unit.specs.Boxes.{Box, with_atom}
+use Rattle.cps_unit.specs.Propagation.{IsUnit, IsFalseClause}
 use Rattle.cps_rup.specs.Trailed.{Trailed}
 use Rattle.cps_rup.specs.Domains.{box_in, ForcesOpen}
 use Rattle.cps_rup.specs.Chains.{IsPropagated}
-use Rattle.cps_rup.proofs.Chains.{propagates_itself, propagates_on, propagates_atom}
+use Rattle.cps_unit.proofs.Chains.{propagates_itself, propagates_on, propagates_atom}
 
 pub propagated_itself : (clauses : List (List Atom)) (domains : Trailed) → IsPropagated clauses domains domains
 propagated_itself clauses domains = record { count = refl; narrowed = propagates_itself clauses (box_in domains.now) }

@@ -6,14 +6,16 @@ use Rattle.std.proofs.lemmas.List.Elements.{All-push, All-weaker}
 use Rattle.cps_domain.specs.Window.{Window, contains, intervals, is_among}
 use Rattle.cps_literal.specs.declared.atom.Atom.{Atom}
 use Rattle.cps_log.specs.Subjects.{IsAtomOver, IsClauseOver}
-use Rattle.cps_log.specs.Boxes.{Box, IsEmpty}
-use Rattle.cps_log.specs.Propagation.{IsFalseClause, LeadsToConflict}
+use Rattle.cps_unit.specs.Boxes.{Box, IsEmpty, denied, AreOn, HasValues}
+use Rattle.cps_unit.specs.Propagation.{IsFalseClause, LeadsToConflict}
 use Rattle.cps_rup.specs.Trailed.{Trailed}
-use Rattle.cps_rup.specs.Domains.{box_in, denied, AreOn, HasValues}
-use Rattle.cps_rup.specs.Chains.{Propagates, IsPropagated}
+use Rattle.cps_rup.specs.Domains.{box_in}
+use Rattle.cps_unit.specs.Chains.{Propagates}
+use Rattle.cps_rup.specs.Chains.{IsPropagated}
 use Rattle.cps_rup.specs.Checkers.{IsSettledIn}
 use Rattle.cps_rup.proofs.Propagating.{not_empty_box}
-use Rattle.cps_rup.proofs.Chains.{propagates_on, propagates_more, propagates_pushed, leads_after, leads_at_once, leads_below, propagates_below, above_if_same, below_if_same}
+use Rattle.cps_unit.proofs.Chains.{propagates_on, propagates_more, leads_after, leads_at_once, leads_below, propagates_below, above_if_same, below_if_same}
+use Rattle.cps_rup.proofs.Chains.{propagates_pushed}
 use Rattle.cps_rup.proofs.Assuming.{propagates_denied, implied_in, implied_out}
 
 -- an atom over the subjects is on one of them

@@ -5,9 +5,9 @@ use Rattle.std.proofs.lemmas.Bool.{cases_lt}
 use Rattle.std.proofs.Math.Seq.{get_or-append_seam}
 use Rattle.cps_domain.specs.Window.{Window, contains}
 use Rattle.cps_domain.specs.Cuts.{CanUndo, LeadsBack, restored}
-use Rattle.cps_log.specs.Boxes.{with_atom}
+use Rattle.cps_unit.specs.Boxes.{with_atom, HasValues}
 use Rattle.cps_rup.specs.declared.trailed.Change.{Change}
-use Rattle.cps_rup.specs.Domains.{no_values, box_in, HasValues}
+use Rattle.cps_rup.specs.Domains.{no_values, box_in}
 use Rattle.cps_rup.specs.Trails.{undone, all_undone, CanUndoHere, CanUndoAll, IsTrailedIn}
 use Rattle.cps_rup.proofs.Propagating.{values_next}
 

@@ -5,8 +5,9 @@ use Rattle.cps_literal.specs.declared.atom.Atom.{Atom}
 use Rattle.cps_rup.specs.declared.checker.RupChecker.TheInside.{Inside}
 use Rattle.cps_rup.specs.Known.{Known}
 use Rattle.cps_rup.specs.Trailed.{Trailed}
-use Rattle.cps_rup.specs.Domains.{box_in, AreOn}
-use Rattle.cps_rup.specs.Chains.{Propagates}
+use Rattle.cps_unit.specs.Boxes.{AreOn}
+use Rattle.cps_rup.specs.Domains.{box_in}
+use Rattle.cps_unit.specs.Chains.{Propagates}
 
 abbrev pub known_of : Inside → Known
 known_of i = record { domains = i.given.items; clauses = i.clauses }

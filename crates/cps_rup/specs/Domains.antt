@@ -1,10 +1,9 @@
 -- What is left to subjects where each has a domain, and how a clause stands in it.
-use Rattle.std.specs.Prelude.{◌≡◌, ℕ, ◌<◌, Bool, true, false, not, ◌&&◌, ℤ, List, [], length, All, Any, slice_index_or}
+use Rattle.std.specs.Prelude.{◌≡◌, ℕ, ◌<◌, Bool, true, false, List, [], length, Any, slice_index_or}
 use Rattle.cps_domain.specs.Window.{Window, contains}
 use Rattle.cps_literal.specs.declared.atom.Atom.{Atom}
-use Rattle.cps_literal.specs.Truth.{meets}
-use Rattle.cps_log.specs.Boxes.{Box, is_made_true, IsFalseIn}
-use Rattle.cps_log.specs.Propagation.{IsUnit, IsFalseClause}
+use Rattle.cps_unit.specs.Boxes.{Box, IsFalseIn, IsTrueIn}
+use Rattle.cps_unit.specs.Propagation.{IsUnit, IsFalseClause}
 use Rattle.cps_rup.specs.declared.propagation.ClauseState.{ClauseState}
 use Rattle.cps_rup.specs.declared.propagation.ClauseState.TheVariants as states
 use Rattle.cps_rup.specs.declared.scan.Found.{Found}
@@ -17,26 +16,6 @@ no_values = record { list = []; from = 0; to = 0 }
 -- the box that domains are
 abbrev pub box_in : List Window → Box
 box_in domains s = contains (slice_index_or domains s no_values)
-
--- what a box leaves where each atom of a clause is false
-abbrev pub denied : Box → List Atom → Box
-denied box clause s x = box s x && not (is_made_true clause s x)
-
--- each of the first subjects is left a value
-pub record HasValues (count : ℕ) (box : Box) : Type 0 where
-  pub some : (s : ℕ) → s < count → (x : ℤ) × (box s x ≡ true)
-
--- all that the one box leaves the other leaves too
-pub record IsBelow (box more : Box) : Type 0 where
-  pub at : (s : ℕ) (x : ℤ) → box s x ≡ true → more s x ≡ true
-
--- all atoms are on the first subjects
-abbrev pub AreOn : ℕ → List (List Atom) → Type 0
-AreOn count clauses = All (λ c. All (λ t. t.subject < count) c) clauses
-
--- an atom is true, whatever is left
-abbrev pub IsTrueIn : Box → Atom → Type 0
-IsTrueIn box t = (x : ℤ) → box t.subject x ≡ true → meets t.op t.value x ≡ true
 
 -- an atom is neither false nor true, whatever is left
 pub record IsOpenIn (box : Box) (t : Atom) : Type 0 where

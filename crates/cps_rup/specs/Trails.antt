@@ -4,7 +4,8 @@ use Rattle.cps_domain.specs.Window.{Window}
 use Rattle.cps_domain.specs.Cuts.{CanUndo, restored}
 use Rattle.cps_rup.specs.declared.trailed.Change.{Change}
 use Rattle.cps_rup.specs.declared.trailed.TrailedDomains.TheInside.{Inside}
-use Rattle.cps_rup.specs.Domains.{no_values, box_in, HasValues}
+use Rattle.cps_unit.specs.Boxes.{HasValues}
+use Rattle.cps_rup.specs.Domains.{no_values, box_in}
 use Rattle.cps_rup.specs.Trailed.{Trailed}
 
 -- the domains before a change

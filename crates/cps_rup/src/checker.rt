@@ -2,9 +2,9 @@
 
 ghost use Rattle.std.specs.Prelude.{◌≡◌, ◌↔◌, ◌⊎◌, true, [], ◌∷◌, ◌++◌, length, IfOk, OnOk, OnErr, IsTrue};
 ghost use Rattle.cps_log.specs.Subjects.{IsClauseOver};
-ghost use Rattle.cps_log.specs.Boxes.{IsEmpty};
-ghost use Rattle.cps_log.specs.Propagation.{LeadsToConflict};
-ghost use Rattle.cps_rup.specs.Domains.{box_in, denied, AreOn};
+ghost use Rattle.cps_unit.specs.Boxes.{IsEmpty, denied, AreOn};
+ghost use Rattle.cps_unit.specs.Propagation.{LeadsToConflict};
+ghost use Rattle.cps_rup.specs.Domains.{box_in};
 
 use crate::arena::Clauses;
 use crate::propagation::propagate;

@@ -5,8 +5,8 @@ ghost use Rattle.std.specs.Prelude.{◌≤◌, ◌^◌, unsigned_abs};
 ghost use Rattle.cps_domain.specs.Window.{contains};
 ghost use Rattle.cps_literal.specs.Truth.{meets, IsTrueOn};
 ghost use Rattle.cps_log.specs.Subjects.{IsAtomOver, IsClauseOver};
-ghost use Rattle.cps_log.specs.Boxes.{IsEmpty};
-ghost use Rattle.cps_rup.specs.Domains.{box_in, denied, IsTrueIn};
+ghost use Rattle.cps_unit.specs.Boxes.{IsEmpty, denied, IsTrueIn};
+ghost use Rattle.cps_rup.specs.Domains.{box_in};
 
 use crate::trailed::TrailedDomains;
 use cps_domain::Domain;

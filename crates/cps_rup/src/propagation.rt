@@ -5,8 +5,9 @@
 //! nothing is claimed: that is left to the scan of all clauses.
 
 ghost use Rattle.std.specs.Prelude.{◌≡◌, ◌↔◌, ◌<◌, IfOk, OnOk, IsTrue, IsSome, All, Any, length};
-ghost use Rattle.cps_log.specs.Propagation.{IsFalseClause};
-ghost use Rattle.cps_rup.specs.Domains.{box_in, HasState, AreOn};
+ghost use Rattle.cps_unit.specs.Propagation.{IsFalseClause};
+ghost use Rattle.cps_unit.specs.Boxes.{AreOn};
+ghost use Rattle.cps_rup.specs.Domains.{box_in, HasState};
 ghost use Rattle.cps_rup.specs.Chains.{IsPropagated};
 
 use crate::arena::Clauses;

@@ -4,8 +4,9 @@
 //! where the watches propose no more, which is once in a proof that is refused.
 
 ghost use Rattle.std.specs.Prelude.{◌≡◌, ◌↔◌, IfOk, IsTrue, length};
-ghost use Rattle.cps_log.specs.Propagation.{LeadsToConflict};
-ghost use Rattle.cps_rup.specs.Domains.{box_in, IsFound, AreOn};
+ghost use Rattle.cps_unit.specs.Propagation.{LeadsToConflict};
+ghost use Rattle.cps_unit.specs.Boxes.{AreOn};
+ghost use Rattle.cps_rup.specs.Domains.{box_in, IsFound};
 
 use crate::arena::Clauses;
 use crate::propagation::{ClauseState, state_of};

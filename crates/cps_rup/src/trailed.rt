@@ -4,8 +4,8 @@
 //! atoms cost, and no domain is copied for it.
 
 ghost use Rattle.std.specs.Prelude.{◌≡◌, ◌<◌, ℕ, ℤ, [], ◌∷◌, ◌++◌, length, OnOk, OnErr};
-ghost use Rattle.cps_log.specs.Boxes.{with_atom};
-ghost use Rattle.cps_rup.specs.Domains.{box_in, HasValues, IsOpenIn};
+ghost use Rattle.cps_unit.specs.Boxes.{with_atom, HasValues};
+ghost use Rattle.cps_rup.specs.Domains.{box_in, IsOpenIn};
 ghost use Rattle.cps_rup.specs.Trails.{CanUndoAll, all_undone};
 
 use cps_domain::{Domain, Narrowing, Undo};

@@ -116,16 +116,6 @@ fn truth(domains: &[Domain], atom: Atom) -> Truth {
     }
 }
 
-/// Whether an atom is false in the domains.
-fn is_false(domains: &[Domain], atom: Atom) -> bool {
-    matches!(truth(domains, atom), Truth::No)
-}
-
-/// Whether an atom is true in the domains.
-fn is_true(domains: &[Domain], atom: Atom) -> bool {
-    matches!(truth(domains, atom), Truth::Yes)
-}
-
 /// The place of an operator among them all.
 fn place_of(op: Op) -> usize
     ensures { result < 4 }
@@ -183,7 +173,7 @@ fn next_place(place: u32) -> u32 {
 fn find_other(domains: &[Domain], clause: &[Atom], watched: Atom) -> Option<(u32, Atom)> {
     let mut place = 0;
     for atom in clause {
-        if *atom != watched && !is_false(domains, *atom) {
+        if *atom != watched && !truth(domains, *atom).is_no() {
             return Some((place, *atom));
         }
         place = next_place(place);
@@ -424,7 +414,7 @@ impl Watches {
             let Some(watcher) = list.get(at).copied() else {
                 break;
             };
-            let stays = if is_true(domains, watcher.blocker) {
+            let stays = if truth(domains, watcher.blocker).is_yes() {
                 Visited::Stays(watcher)
             } else {
                 self.visit_watcher(domains, clauses, watcher, visited)?
@@ -466,7 +456,7 @@ impl Watches {
         };
         let tier = self.tier_of(watched);
         let is_late = visited.tier == Tier::Recent && tier == Tier::Old;
-        if is_late || is_true(domains, blocker) || !is_false(domains, own) {
+        if is_late || truth(domains, blocker).is_yes() || !truth(domains, own).is_no() {
             return self.move_to(own, tier, watcher, visited);
         }
         match find_other(domains, clause, blocker) {

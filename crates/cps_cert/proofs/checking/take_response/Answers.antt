@@ -4,8 +4,7 @@ use Rattle.cps_log.specs.Deriving.{empty_derivation}
 use Rattle.cps_cert.specs.Lines.{at_status, in_log}
 use Rattle.cps_cert.specs.Progress.{Passes}
 use Rattle.cps_cert.specs.ResponsePhases.{phase_of}
-use Rattle.cps_cert.proofs.Passed.{line_passed, still_fits, stops_here, stuck_at_line, stuck_unended}
-use Rattle.cps_cert.proofs.Taking.{not_finished}
+use Rattle.cps_cert.proofs.Passed.{line_passed, still_fits, stops_here, stuck_at_line}
 use Rattle.cps_cert.proofs.checking.take_response.Goals as goal
 
 pub next_line-requires : goal.next_line-requires

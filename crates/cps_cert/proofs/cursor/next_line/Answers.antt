@@ -1,5 +1,5 @@
 -- A line feed is there, and ends the line.
-use Rattle.std.proofs.Common.{◌≡◌, ◌+◌, ◌<◌, ◌^◌, length, take, drop, refl, sym, subst, arith, rules}
+use Rattle.std.proofs.Common.{◌+◌, ◌<◌, ◌^◌, length, take, drop, refl, sym, subst, arith, rules}
 use Rattle.std.proofs.lemmas.List.{take_rest}
 use Rattle.cps_cert.specs.Progress.{IsNextLine}
 use Rattle.cps_cert.proofs.Feeds.{line_at, feed_taken}

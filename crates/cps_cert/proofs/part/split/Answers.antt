@@ -1,7 +1,7 @@
 -- The model's part, the mark, and the response.
-use Rattle.std.proofs.Common.{◌≡◌, ◌+◌, refl, sym, ap, subst, ℕ, List}
+use Rattle.std.proofs.Common.{refl, subst, ℕ, List}
 use Rattle.std.proofs.lemmas.List.{take_rest}
-use Rattle.cps_cert.specs.Parts.{IsMarked, IsSplit}
+use Rattle.cps_cert.specs.Parts.{IsMarked}
 use Rattle.cps_cert.proofs.Splitting.{split_is}
 use Rattle.cps_cert.proofs.part.split.Goals as goal
 

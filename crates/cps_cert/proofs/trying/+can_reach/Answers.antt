@@ -1,16 +1,15 @@
 -- Each value is tried, and no other is left.
 use Rattle.std.specs.Prelude.{Contains}
-use Rattle.std.proofs.Common.{◌≡◌, ℕ, ◌+◌, ◌<◌, ◌⊎◌, ℤ, pos, ◌≤ℤ◌, ◌<ℤ◌, ◌+ℤ◌, List, length, drop, get_or, set, true, refl, sym, ◌∙◌, subst, arith, to_z, w64}
+use Rattle.std.proofs.Common.{◌≡◌, ℕ, ◌+◌, ◌<◌, ℤ, pos, List, length, drop, get_or, true, refl, sym, subst, arith, to_z, w64}
 use Rattle.std.proofs.lemmas.Int.{ints}
-use Rattle.cps_model.specs.declared.constraint.Constraint.{Constraint}
 use Rattle.cps_model.specs.Values.{variable_value}
 use Rattle.cps_model.proofs.Inside.{length-are_within}
 use Rattle.cps_domain.specs.Window.{is_among}
 use Rattle.cps_rup.specs.Domains.{box_in}
-use Rattle.cps_cert.specs.Trying.{IsGood, CanReach}
+use Rattle.cps_cert.specs.Trying.{IsGood}
 use Rattle.cps_cert.proofs.SumEnds.{box_is}
 use Rattle.cps_cert.proofs.Steps.{within_set}
-use Rattle.cps_cert.proofs.Trials.{is_tried, none_reached, at_any, if_ok, here_either, first_named, others_named, first_in, tried, reached_more, same_after, all_left, entered, passed, behind, none_left, low_bits, high_bits, end_fits, end_bits, after_bits}
+use Rattle.cps_cert.proofs.Trials.{is_tried, none_reached, at_any, if_ok, here_either, first_named, others_named, tried, reached_more, same_after, all_left, entered, passed, behind, none_left, low_bits, end_fits, end_bits}
 use Rattle.cps_cert.proofs.trying.+can_reach.Goals as goal
 
 pub returns-in_default-clause-reached : goal.returns-in_default-clause-reached

@@ -1,6 +1,6 @@
 -- What is reached has, of the variable, a value that was not tried so far.
 use Rattle.std.specs.Prelude.{Contains, slice_index_or}
-use Rattle.std.proofs.Common.{◌≡◌, ℕ, ◌+◌, ◌<◌, ◌⊎◌, ℤ, pos, ◌≤ℤ◌, ◌<ℤ◌, length, drop, get_or, true}
+use Rattle.std.proofs.Common.{◌≡◌, ℕ, ◌+◌, ◌⊎◌, pos, ◌≤ℤ◌, ◌<ℤ◌, length, drop, get_or, true}
 use Rattle.cps_model.specs.declared.constraint.Constraint.{Constraint}
 use Rattle.cps_model.specs.Values.{variable_value}
 use Rattle.cps_model.specs.Solutions.{IsWithinDomains}

@@ -1,5 +1,5 @@
 -- A sum that is defined can be evaluated at values within the domains.
-use Rattle.std.proofs.Common.{◌≡◌, subst}
+use Rattle.std.proofs.Common.{subst}
 use Rattle.cps_model.specs.Validity.{IsValid}
 use Rattle.cps_cert.proofs.Trials.{ready_sum, small_values}
 use Rattle.cps_cert.proofs.trying.lies_in.Goals as goal

@@ -1,5 +1,5 @@
 -- Nothing is read at first, then the constraint, and then the sums.
-use Rattle.std.proofs.Common.{◌≡◌, ◌∙◌, ap, subst, sym}
+use Rattle.std.proofs.Common.{◌≡◌}
 use Rattle.cps_cert.specs.Counting.{sum_variables}
 use Rattle.cps_cert.proofs.Steps.{on_ok}
 use Rattle.cps_cert.proofs.Trials.{read_all, has_read_none}

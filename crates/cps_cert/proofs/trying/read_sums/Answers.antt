@@ -1,9 +1,7 @@
 -- The variables of one atom's sum more.
-use Rattle.std.proofs.Common.{◌≡◌, [], sym, ◌∙◌, refl, ap, subst, arith}
+use Rattle.std.proofs.Common.{◌∙◌, refl, arith}
 use Rattle.std.specs.Prelude.{Some, None}
-use Rattle.cps_cert.specs.declared.assignments.Assignments.{Assignments}
-use Rattle.cps_cert.specs.Counting.{sum_variables, variables_of_sum}
-use Rattle.cps_cert.specs.Trying.{ReadsOn}
+use Rattle.cps_cert.specs.Counting.{sum_variables}
 use Rattle.cps_cert.proofs.Steps.{read_out, reads_nothing}
 use Rattle.cps_cert.proofs.Trials.{atom_step}
 use Rattle.cps_cert.proofs.trying.read_sums.Goals as goal

@@ -2,9 +2,10 @@
 use Rattle.std.specs.Prelude.{◌↔◌, IsTrue}
 use Rattle.std.proofs.Common.{rules, length, inr, refl}
 use Rattle.std.proofs.lemmas.Result.{IfOk-weaker}
-use Rattle.cps_log.specs.Propagation.{LeadsToConflict}
-use Rattle.cps_rup.specs.Domains.{box_in, HasValues}
-use Rattle.cps_rup.proofs.Chains.{leads_at_once}
+use Rattle.cps_unit.specs.Propagation.{LeadsToConflict}
+use Rattle.cps_unit.specs.Boxes.{HasValues}
+use Rattle.cps_rup.specs.Domains.{box_in}
+use Rattle.cps_unit.proofs.Chains.{leads_at_once}
 use Rattle.cps_rup.proofs.Settling.{IsImplied, leads_in_box, scanned}
 use Rattle.cps_rup.proofs.checker.follows.Goals as goal
 

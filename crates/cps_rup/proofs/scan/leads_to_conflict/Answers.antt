@@ -4,8 +4,9 @@ use Rattle.std.proofs.Common.{List, [], ◌∷◌, length, get_or, Bool, refl, s
 use Rattle.std.proofs.lemmas.List.{length-set}
 use Rattle.cps_domain.specs.Window.{Window}
 use Rattle.cps_literal.specs.declared.atom.Atom.{Atom}
-use Rattle.cps_log.specs.Propagation.{IsFalseClause}
-use Rattle.cps_rup.specs.Domains.{box_in, AreIdle, IsOpenIn, ForcesOpen, HasValues}
+use Rattle.cps_unit.specs.Propagation.{IsFalseClause}
+use Rattle.cps_unit.specs.Boxes.{HasValues}
+use Rattle.cps_rup.specs.Domains.{box_in, AreIdle, IsOpenIn, ForcesOpen}
 use Rattle.cps_rup.proofs.Propagating.{all_idle, forced_over, back_by, unit_at, none_forced, below_next, done_next}
 use Rattle.cps_rup.proofs.scan.leads_to_conflict.Goals as goal
 

@@ -2,8 +2,9 @@
 use Rattle.std.specs.Prelude.{not, count_by}
 use Rattle.std.proofs.Common.{◌≡◌, ℕ, ◌<◌, List, length, get_or, true}
 use Rattle.cps_literal.specs.declared.atom.Atom.{Atom}
-use Rattle.cps_log.specs.Propagation.{Forces, LeadsToConflict}
-use Rattle.cps_rup.specs.Domains.{box_in, HasTrueAtom, IsBelow}
+use Rattle.cps_unit.specs.Propagation.{Forces, LeadsToConflict}
+use Rattle.cps_unit.specs.Boxes.{IsBelow}
+use Rattle.cps_rup.specs.Domains.{box_in, HasTrueAtom}
 use Rattle.cps_rup.proofs.scan.leads_to_conflict.Given as goal
 
 abbrev pub invariant-loop-done : goal.invariant-loop-done

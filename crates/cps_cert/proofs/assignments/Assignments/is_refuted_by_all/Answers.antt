@@ -1,5 +1,5 @@
 -- Few assignments are all tried, and too many none.
-use Rattle.std.proofs.Common.{◌≡◌, ◌≤◌, ◌<◌, List, ℕ, ℤ, true, length, get_or, subst, sym, arith, rules}
+use Rattle.std.proofs.Common.{◌≡◌, ◌<◌, List, ℕ, ℤ, true, length, get_or, subst, sym, arith, rules}
 use Rattle.std.specs.Prelude.{All}
 use Rattle.cps_model.specs.Solutions.{are_within}
 use Rattle.cps_model.specs.Validity.{IsValid}

@@ -1,6 +1,6 @@
 -- What propagation forces without assumption stays.
 use Rattle.std.proofs.Common.{rules, subst}
-use Rattle.cps_log.specs.Propagation.{LeadsToConflict}
+use Rattle.cps_unit.specs.Propagation.{LeadsToConflict}
 use Rattle.cps_rup.specs.Known.{Known}
 use Rattle.cps_rup.specs.Domains.{box_in}
 use Rattle.cps_rup.proofs.Settling.{settled_on, settled_conflict}

@@ -3,7 +3,7 @@ use Rattle.std.proofs.Common.{◌≡◌, ◌<◌, ◌++◌, [], ◌∷◌, ℕ, 
 use Rattle.cps_domain.specs.Window.{Window}
 use Rattle.cps_domain.specs.Cuts.{cut_of, IsUndone, LeadsBack}
 use Rattle.cps_domain.specs.declared.cut.Narrowing.{Narrowing}
-use Rattle.cps_log.specs.Boxes.{with_atom}
+use Rattle.cps_unit.specs.Boxes.{with_atom}
 use Rattle.cps_rup.specs.declared.trailed.Change.{Change}
 use Rattle.cps_rup.specs.Domains.{box_in, IsOpenIn}
 use Rattle.cps_rup.specs.Trailed.{Trailed}

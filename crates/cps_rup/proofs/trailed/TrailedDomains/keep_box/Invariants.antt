@@ -1,6 +1,7 @@
 -- What is left is the box of the atoms so far.
 use Rattle.std.proofs.Common.{◌≡◌, ℕ, ℤ, length, take}
-use Rattle.cps_rup.specs.Domains.{box_in, denied}
+use Rattle.cps_unit.specs.Boxes.{denied}
+use Rattle.cps_rup.specs.Domains.{box_in}
 use Rattle.cps_rup.proofs.trailed.TrailedDomains.keep_box.Given as goal
 
 abbrev pub invariant-loop-atom : goal.invariant-loop-atom

@@ -1,7 +1,7 @@
 -- Unit propagation over clauses, as a relation: atoms that are forced one after another, until a clause is false.
 use Rattle.std.specs.Prelude.{◌≡◌, ◌⊎◌, List, [], ◌∷◌, All, Any, Contains}
 use Rattle.cps_literal.specs.declared.atom.Atom.{Atom}
-use Rattle.cps_log.specs.Boxes.{Box, with_atom, IsFalseIn}
+use Rattle.cps_unit.specs.Boxes.{Box, with_atom, IsFalseIn}
 
 -- each other atom of the clause is false
 pub record IsUnit (box : Box) (t : Atom) (clause : List Atom) : Type 0 where

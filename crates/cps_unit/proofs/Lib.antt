@@ -1,0 +1,4 @@
+pub mod Below
+pub mod Chains
+pub mod Implied
+pub mod Among
