@@ -15,4 +15,4 @@ mod scan;
 
 pub use cut::{Cut, Narrowing, Undo};
 pub use division::{ceil_div, floor_div};
-pub use domain::Domain;
+pub use domain::{DOMAIN_LIMIT, Domain};
